@@ -1,0 +1,7 @@
+pub mod CellRows
+pub mod Printed
+pub mod SessionNames
+pub mod SessionSteps
+pub mod Reading
+pub mod Fitting
+pub mod Telling

@@ -1,0 +1,10 @@
+pub mod Lines
+pub mod Commands
+pub mod Printing
+pub mod Endings
+pub mod Sessions
+pub mod SessionCodes
+pub mod Scripts
+pub mod Stepping
+pub mod Fitting
+pub mod Telling

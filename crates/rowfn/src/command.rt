@@ -1,0 +1,34 @@
+//! What a line of a script says.
+ghost use Rattle.std.specs.Prelude.{◌≡◌};
+ghost use Rattle.vortex_columns.specs.Answers.{AnswersUnlessMemory};
+
+use vortex_columns::Column;
+use vortex_kernels::Operator;
+
+/// The function that a `call` line names.
+#[derive(Clone, Copy, Debug, PartialEq, Eq)]
+pub enum Callee {
+    /// Of the last two trees, the last being on the right.
+    Binary(Operator),
+    /// Of the last tree.
+    Not,
+}
+
+/// What a line says.
+#[derive(Drop)]
+pub enum Line<'a> {
+    /// No words, or a comment.
+    Nothing,
+    /// No line of a script.
+    Malformed,
+    /// How many rows there are.
+    Rows(usize),
+    /// A name, and the column that it names from here on.
+    Column(&'a str, Column),
+    /// The column of a name.
+    Get(&'a str),
+    /// A function of the last trees.
+    Call(Callee),
+    /// The column of the last tree, printed.
+    Run,
+}

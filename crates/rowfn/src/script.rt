@@ -1,0 +1,65 @@
+//! Runs a script.
+ghost use Rattle.std.specs.Prelude.{◌≡◌};
+ghost use Rattle.vortex_functions.specs.Fixed.{fixed_meaning};
+ghost use Rattle.vortex_functions.specs.declared.custom.NoCustom.{NoCustom};
+ghost use Rattle.vortex_functions.specs.declared.custom.EmptyOptions.{EmptyOptions};
+ghost use Rattle.rowfn.specs.Sessions.{fresh};
+ghost use Rattle.rowfn.specs.Scripts.{IsOutcome};
+
+use crate::ending::End;
+use crate::session::Session;
+use crate::text::lines;
+use std::alloc::Global;
+use vortex_columns::VortexError;
+use vortex_functions::{NoCustom, ScalarFnVTable};
+
+/// What a script prints, and how it ends.
+#[derive(Drop)]
+pub struct Outcome {
+    /// The printed lines, whole.
+    pub out: Vec<u8>,
+    /// How the script ends.
+    pub ending: End,
+}
+
+/// Reads the lines one by one, up to the first that does not go on.
+fn read_lines<C: ScalarFnVTable>(alloc: Global, script: &[u8], session: &mut Session<C>) -> End
+    requires { session.old ≡ fresh }
+    ensures { IsOutcome C.meaning script.now session.new.printed result }
+{
+    let Ok(lines) = lines(alloc, script) else {
+        return End::Refused(VortexError::OutOfMemory);
+    };
+    for (i, line) in lines.iter().enumerate() {
+        if let Err(stop) = session.read_line(alloc, line) {
+            return stop.ending(i + 1);
+        }
+    }
+    End::Done
+}
+
+fn run_script<C: ScalarFnVTable>(alloc: Global, script: &[u8]) -> Outcome
+    ensures { IsOutcome C.meaning script.now result.out.items result.ending }
+{
+    let mut session = Session::<C>::new(alloc);
+    let ending = read_lines(alloc, script, &mut session);
+    Outcome {
+        out: session.into_out(),
+        ending,
+    }
+}
+
+/// Runs a script.
+///
+/// A line ends at a newline or with the script, and its words stand between spaces. A line without words, or whose first
+/// word begins with `#`, does nothing. The others are `rows n`, first and once; `col name type cells`, with n cells of
+/// the type; `get name`, which pushes the column's leaf; `call and`, `call or` and `call not`, which call the function on
+/// the last trees; and `run`, which prints the last tree's column. Any other line is malformed.
+///
+/// The script ends at the first line that is malformed or whose call is refused; E11 for `get` of an unknown name. What
+/// the lines before it printed stays. E9 where memory runs out, at whichever line.
+pub fn interpret(alloc: Global, script: &[u8]) -> Outcome
+    ensures { IsOutcome {V = NoCustom} {O = EmptyOptions} fixed_meaning script.now result.out.items result.ending }
+{
+    run_script::<NoCustom>(alloc, script)
+}

@@ -1,0 +1,21 @@
+use Rattle.std.proofs.Common.{◌≡◌, ◌+◌, ◌*◌, take}
+use denote.Param.Weighed.{most}
+use Rattle.vortex_columns.specs.LogicalTypes.{type_depth}
+use Rattle.vortex_columns.specs.declared.column.Column.TheDeep.{deep-Storage, deep-Elements}
+use Rattle.vortex_columns.proofs.column.+clone_column.Given as goal
+
+abbrev pub invariant-copy_columns-loop-column : goal.invariant-copy_columns-loop-column
+invariant-copy_columns-loop-column l = l.copies.items ≡ take l.column-index l.column-items
+
+-- each level of columns takes four steps: a column, its storage, its elements, and the columns in them
+abbrev pub decreases-Column::try_clone : goal.decreases-Column::try_clone
+decreases-Column::try_clone l = 4 * type_depth l.self.now.dtype + 3
+
+abbrev pub decreases-Storage::try_clone : goal.decreases-Storage::try_clone
+decreases-Storage::try_clone l = 4 * deep-Storage l.self.now + 2
+
+abbrev pub decreases-Elements::try_clone : goal.decreases-Elements::try_clone
+decreases-Elements::try_clone l = 4 * deep-Elements l.self.now + 1
+
+abbrev pub decreases-copy_columns : goal.decreases-copy_columns
+decreases-copy_columns l = 4 * most (λ c. type_depth c.dtype + 1) l.columns.now.items

@@ -1,0 +1,194 @@
+//! Values where they lie, in scalars and columns.
+ghost use Rattle.std.specs.Prelude.{◌≡◌, map};
+ghost use Rattle.vortex_columns.specs.Answers.{AnswersUnlessMemory};
+ghost use Rattle.vortex_columns.specs.ValueOf.{value_or_null};
+ghost use Rattle.vortex_columns.specs.Order.{compare_values};
+ghost use Rattle.vortex_columns.specs.Cells.{cell_value, sequence_value, sequence_values, IsCell, IsSequence};
+
+use crate::column::Column;
+use crate::error::VortexResult;
+use crate::scalar_value::ScalarValue;
+use std::alloc::Global;
+use std::cmp::Ordering;
+
+/// A value, or null, that is read where it lies. Takes no memory.
+#[derive(Clone, Copy)]
+pub enum Cell<'a> {
+    Null,
+    Bool(bool),
+    Int(i128),
+    Text(&'a str),
+    Bytes(&'a [u8]),
+    /// A list, a record, a map or an entry of a map.
+    Sequence(Sequence<'a>),
+}
+
+/// The values of a list, a record, a map or an entry of a map.
+#[derive(Clone, Copy)]
+pub enum Sequence<'a> {
+    /// The values of a scalar.
+    Items(&'a Vec<Option<ScalarValue>>),
+    /// One row of a struct's fields.
+    Fields(&'a Vec<Column>, usize),
+    /// A range of a list's elements: from a place on, so many.
+    Elements(&'a Column, usize, usize),
+    /// A range of a map's keys and values: from a place on, so many.
+    Entries(&'a Column, &'a Column, usize, usize),
+    /// A key and its value, in one place.
+    Entry(&'a Column, &'a Column, usize),
+}
+
+impl ScalarValue {
+    ghost use Rattle.vortex_columns.specs.ValueOf.{value_of};
+    ghost use Rattle.vortex_columns.specs.Cells.{cell_value, IsCell};
+
+    /// The value where it lies.
+    pub fn cell(&self) -> Cell<'_>
+        ensures whole { IsCell result }
+        ensures value { cell_value result ≡ value_of self.now }
+    {
+        match self {
+            ScalarValue::Bool(b) => Cell::Bool(*b),
+            ScalarValue::Int(n) => Cell::Int(*n),
+            ScalarValue::Utf8(text) => Cell::Text(text.as_str()),
+            ScalarValue::Binary(bytes) => Cell::Bytes(bytes.as_slice()),
+            ScalarValue::List(items) => Cell::Sequence(Sequence::Items(items)),
+        }
+    }
+}
+
+impl Sequence<'_> {
+    ghost use Rattle.std.specs.Prelude.{◌<◌, length};
+    ghost use Rattle.vortex_columns.specs.ColumnView.{row};
+    ghost use Rattle.vortex_columns.specs.Cells.{cell_value, sequence_values, IsCell, IsSequence};
+
+    /// How many values there are.
+    pub fn len(&self) -> usize
+        requires { IsSequence self.now }
+        ensures { result ≡ length (sequence_values self.now) }
+    {
+        match self {
+            Sequence::Items(items) => items.len(),
+            Sequence::Fields(fields, _) => fields.len(),
+            Sequence::Elements(_, _, count) => *count,
+            Sequence::Entries(_, _, _, count) => *count,
+            Sequence::Entry(_, _, _) => 2,
+        }
+    }
+
+    /// The value in place `k`.
+    pub fn get(&self, k: usize) -> Cell<'_>
+        requires whole { IsSequence self.now }
+        requires k_in { k < length (sequence_values self.now) }
+        ensures whole { IsCell result }
+        ensures value { cell_value result ≡ row (sequence_values self.now) k }
+    {
+        match self {
+            Sequence::Items(items) => match &items[k] {
+                Some(value) => value.cell(),
+                None => Cell::Null,
+            },
+            Sequence::Fields(fields, i) => fields[k].cell(*i),
+            Sequence::Elements(elements, start, _) => {
+                // so that the place is known to fit
+                let _ = elements.len();
+                elements.cell(*start + k)
+            }
+            Sequence::Entries(keys, values, start, _) => {
+                let _ = keys.len();
+                Cell::Sequence(Sequence::Entry(keys, values, *start + k))
+            }
+            Sequence::Entry(keys, values, i) => {
+                if k == 0 {
+                    keys.cell(*i)
+                } else {
+                    values.cell(*i)
+                }
+            }
+        }
+    }
+}
+
+impl Cell<'_> {
+    ghost use Rattle.vortex_columns.specs.Order.{kind_rank};
+    ghost use Rattle.vortex_columns.specs.Cells.{cell_value, IsCell};
+
+    /// The place of the value's kind among the kinds.
+    fn rank(&self) -> u8
+        ensures { result ≡ kind_rank (cell_value self.now) }
+    {
+        match self {
+            Cell::Null => 0,
+            Cell::Bool(_) => 1,
+            Cell::Int(_) => 2,
+            Cell::Text(_) => 3,
+            Cell::Bytes(_) => 4,
+            Cell::Sequence(_) => 5,
+        }
+    }
+
+    /// The order of two values. Takes no memory.
+    #[cycle(compare)]
+    pub fn compare(&self, other: &Cell<'_>) -> Ordering
+        requires self_whole { IsCell self.now }
+        requires other_whole { IsCell other.now }
+        ensures { result ≡ compare_values (cell_value self.now) (cell_value other.now) }
+    {
+        match (self, other) {
+            (Cell::Bool(a), Cell::Bool(b)) => a.cmp(b),
+            (Cell::Int(a), Cell::Int(b)) => a.cmp(b),
+            (Cell::Text(a), Cell::Text(b)) => a.cmp(b),
+            (Cell::Bytes(a), Cell::Bytes(b)) => a.cmp(b),
+            (Cell::Sequence(a), Cell::Sequence(b)) => compare_sequences(a, b),
+            _ => self.rank().cmp(&other.rank()),
+        }
+    }
+}
+
+impl Cell<'_> {
+    /// A copy that a scalar can hold; none of null.
+    #[cycle(copy)]
+    pub fn try_to_value(&self, alloc: Global) -> VortexResult<Option<ScalarValue>>
+        requires { IsCell self.now }
+        ensures { AnswersUnlessMemory result (λ v. value_or_null v ≡ cell_value self.now) }
+    {
+        match self {
+            Cell::Null => Ok(None),
+            Cell::Bool(b) => Ok(Some(ScalarValue::Bool(*b))),
+            Cell::Int(n) => Ok(Some(ScalarValue::Int(*n))),
+            Cell::Text(text) => Ok(Some(ScalarValue::Utf8(String::from_str(alloc, text)?))),
+            Cell::Bytes(bytes) => Ok(Some(ScalarValue::Binary(bytes.to_vec(alloc)?))),
+            Cell::Sequence(values) => Ok(Some(ScalarValue::List(copy_values(alloc, values)?))),
+        }
+    }
+}
+
+/// Copies of the values.
+#[cycle(copy)]
+fn copy_values(alloc: Global, values: &Sequence<'_>) -> VortexResult<Vec<Option<ScalarValue>>>
+    requires { IsSequence values.now }
+    ensures { AnswersUnlessMemory result (λ vs. map value_or_null vs.items ≡ sequence_values values.now) }
+{
+    let mut copies = Vec::new(alloc);
+    for k in 0..values.len() {
+        copies.push(values.get(k).try_to_value(alloc)?)?;
+    }
+    Ok(copies)
+}
+
+/// The order of two lists: by the first values that differ, and else the shorter one is less.
+#[cycle(compare)]
+fn compare_sequences(a: &Sequence<'_>, b: &Sequence<'_>) -> Ordering
+    requires a_whole { IsSequence a.now }
+    requires b_whole { IsSequence b.now }
+    ensures { result ≡ compare_values (sequence_value a.now) (sequence_value b.now) }
+{
+    let shared = a.len().min(b.len());
+    for k in 0..shared {
+        match a.get(k).compare(&b.get(k)) {
+            Ordering::Equal => {}
+            order => return order,
+        }
+    }
+    a.len().cmp(&b.len())
+}

@@ -1,0 +1,338 @@
+//! A value, or null, with its type.
+ghost use Rattle.std.specs.Prelude.{◌≡◌, true, false, [], IsTrue, MatchOption, option_map};
+ghost use Rattle.vortex_columns.specs.declared.error.VortexError.TheVariants.{InvalidColumn};
+ghost use Rattle.vortex_columns.specs.Answers.{AnswersWhere, AnswersUnlessMemory};
+ghost use Rattle.vortex_columns.specs.LogicalTypes.{bool_type, text_type, is_nullable};
+ghost use Rattle.vortex_columns.specs.Values.{null, truth, text, truth_of, is_null};
+ghost use Rattle.vortex_columns.specs.Cells.{cell_value, IsCell};
+ghost use Rattle.vortex_columns.specs.Typing.{HasType};
+
+use crate::cell::Cell;
+use crate::dtype::{DType, Nullability, PType};
+use crate::error::{VortexError, VortexResult};
+use crate::scalar_value::ScalarValue;
+use crate::validity::Validity;
+use std::alloc::Global;
+use std::cmp::Ordering;
+use std::marker::Model;
+
+/// A value, or null, with its type.
+#[derive(Drop)]
+pub struct Scalar {
+    dtype: DType,
+    value: Option<ScalarValue>,
+}
+
+impl Model for Scalar {
+    ghost use Rattle.vortex_columns.specs.ScalarView.{ScalarView, coded_scalar};
+
+    ghost Value = { ScalarView };
+
+    ghost coded = { coded_scalar };
+
+    ghost use Rattle.vortex_columns.specs.Scalars.{scalar_view, IsScalar};
+
+    ghost view = { scalar_view };
+
+    ghost invariant = { IsScalar };
+}
+
+impl Scalar {
+    ghost use Rattle.vortex_columns.specs.TypeOf.{type_of, allows_null};
+    ghost use Rattle.vortex_columns.specs.ValueOf.{value_of, value_or_null};
+    ghost use Rattle.vortex_columns.specs.ColumnView.{constant_form};
+    ghost use Rattle.vortex_columns.specs.ValidityView.{validity_of};
+
+    /// A value of a type, or null. E12 exactly where the value does not have the type, or the type has no null.
+    pub fn try_new(dtype: DType, value: Option<ScalarValue>) -> VortexResult<Scalar>
+        ensures { AnswersWhere result (HasType (type_of dtype) (value_or_null value)) (λ s. s ≡ record { dtype = type_of dtype; value = value_or_null value }) InvalidColumn }
+    {
+        let has_type = match &value {
+            Some(value) => value.has_type(&dtype),
+            None => dtype.is_nullable(),
+        };
+        if has_type {
+            Ok(Scalar { dtype, value })
+        } else {
+            Err(VortexError::InvalidColumn)
+        }
+    }
+
+    /// The null of a nullable type.
+    pub fn null(dtype: DType) -> Scalar
+        requires { IsTrue (is_nullable (type_of dtype)) }
+        ensures { result ≡ record { dtype = type_of dtype; value = null } }
+    {
+        Scalar { dtype, value: None }
+    }
+
+    pub fn bool(value: bool, nullability: Nullability) -> Scalar
+        ensures { result ≡ record { dtype = bool_type (allows_null nullability); value = truth value } }
+    {
+        Scalar {
+            dtype: DType::Bool(nullability),
+            value: Some(ScalarValue::Bool(value)),
+        }
+    }
+
+    pub fn dtype(&self) -> &DType
+        ensures dtype { type_of result.now ≡ self.now.dtype }
+        ensures typed { HasType self.now.dtype self.now.value }
+    {
+        &self.dtype
+    }
+
+    /// The value, unless it is null.
+    pub fn value(&self) -> Option<&ScalarValue>
+        ensures { MatchOption result (self.now.value ≡ null) (λ v. self.now.value ≡ value_of v.now) }
+    {
+        self.value.as_ref()
+    }
+
+    pub fn is_null(&self) -> bool
+        ensures { result ≡ is_null self.now.value }
+    {
+        self.value.is_none()
+    }
+
+    /// The truth value, of a Bool that is not null.
+    pub fn as_bool_opt(&self) -> Option<bool>
+        ensures { result ≡ truth_of self.now.value }
+    {
+        match &self.value {
+            Some(ScalarValue::Bool(b)) => Some(*b),
+            _ => None,
+        }
+    }
+
+    /// The value where it lies.
+    pub fn cell(&self) -> Cell<'_>
+        ensures whole { IsCell result }
+        ensures value { cell_value result ≡ self.now.value }
+    {
+        match &self.value {
+            Some(value) => value.cell(),
+            None => Cell::Null,
+        }
+    }
+
+    /// The validity of a column of this scalar alone.
+    pub(crate) fn validity(&self) -> Validity
+        ensures { validity_of result ≡ record { form = constant_form self.now.dtype self.now.value; bits = [] } }
+    {
+        if self.is_null() {
+            return Validity::AllInvalid;
+        }
+        if self.dtype.is_nullable() {
+            Validity::AllValid
+        } else {
+            Validity::NonNullable
+        }
+    }
+
+    /// A copy of a text.
+    pub fn try_from_str(alloc: Global, chars: &str) -> VortexResult<Scalar>
+        ensures { AnswersUnlessMemory result (λ s. s ≡ record { dtype = text_type false; value = text chars.now }) }
+    {
+        let value = String::from_str(alloc, chars)?;
+        Ok(Scalar {
+            dtype: DType::Utf8(Nullability::NonNullable),
+            value: Some(ScalarValue::Utf8(value)),
+        })
+    }
+
+    /// A copy that is seen as its source is.
+    pub fn try_clone(&self, alloc: Global) -> VortexResult<Scalar>
+        ensures { AnswersUnlessMemory result (λ s. s ≡ self.now) }
+    {
+        let dtype = self.dtype.try_clone(alloc)?;
+        let value = match &self.value {
+            Some(value) => Some(value.try_clone(alloc)?),
+            None => None,
+        };
+        Ok(Scalar { dtype, value })
+    }
+}
+
+/// A value of non-nullable Bool.
+impl From<bool> for Scalar {
+    ghost use Rattle.std.specs.Prelude.{◌≡◌, false};
+    ghost use Rattle.vortex_columns.specs.LogicalTypes.{bool_type};
+    ghost use Rattle.vortex_columns.specs.Values.{truth};
+
+    ghost from_gives = { λ b s. s ≡ record { dtype = bool_type false; value = truth b } };
+
+    fn from(value: bool) -> Scalar {
+        Scalar::bool(value, Nullability::NonNullable)
+    }
+}
+
+/// A value of a non-nullable integer type.
+impl From<i8> for Scalar {
+    ghost use Rattle.std.specs.Prelude.{◌≡◌, false};
+    ghost use Rattle.vortex_columns.specs.declared.dtype.PType.TheVariants.{I8};
+    ghost use Rattle.vortex_columns.specs.LogicalTypes.{integer_type};
+    ghost use Rattle.vortex_columns.specs.Values.{number};
+
+    ghost from_gives = { λ z s. s ≡ record { dtype = integer_type I8 false; value = number z } };
+
+    fn from(value: i8) -> Scalar {
+        Scalar {
+            dtype: DType::Primitive(PType::I8, Nullability::NonNullable),
+            value: Some(ScalarValue::Int(i128::from(value))),
+        }
+    }
+}
+
+/// A value of a non-nullable integer type.
+impl From<i16> for Scalar {
+    ghost use Rattle.std.specs.Prelude.{◌≡◌, false};
+    ghost use Rattle.vortex_columns.specs.declared.dtype.PType.TheVariants.{I16};
+    ghost use Rattle.vortex_columns.specs.LogicalTypes.{integer_type};
+    ghost use Rattle.vortex_columns.specs.Values.{number};
+
+    ghost from_gives = { λ z s. s ≡ record { dtype = integer_type I16 false; value = number z } };
+
+    fn from(value: i16) -> Scalar {
+        Scalar {
+            dtype: DType::Primitive(PType::I16, Nullability::NonNullable),
+            value: Some(ScalarValue::Int(i128::from(value))),
+        }
+    }
+}
+
+/// A value of a non-nullable integer type.
+impl From<i32> for Scalar {
+    ghost use Rattle.std.specs.Prelude.{◌≡◌, false};
+    ghost use Rattle.vortex_columns.specs.declared.dtype.PType.TheVariants.{I32};
+    ghost use Rattle.vortex_columns.specs.LogicalTypes.{integer_type};
+    ghost use Rattle.vortex_columns.specs.Values.{number};
+
+    ghost from_gives = { λ z s. s ≡ record { dtype = integer_type I32 false; value = number z } };
+
+    fn from(value: i32) -> Scalar {
+        Scalar {
+            dtype: DType::Primitive(PType::I32, Nullability::NonNullable),
+            value: Some(ScalarValue::Int(i128::from(value))),
+        }
+    }
+}
+
+/// A value of a non-nullable integer type.
+impl From<i64> for Scalar {
+    ghost use Rattle.std.specs.Prelude.{◌≡◌, false};
+    ghost use Rattle.vortex_columns.specs.declared.dtype.PType.TheVariants.{I64};
+    ghost use Rattle.vortex_columns.specs.LogicalTypes.{integer_type};
+    ghost use Rattle.vortex_columns.specs.Values.{number};
+
+    ghost from_gives = { λ z s. s ≡ record { dtype = integer_type I64 false; value = number z } };
+
+    fn from(value: i64) -> Scalar {
+        Scalar {
+            dtype: DType::Primitive(PType::I64, Nullability::NonNullable),
+            value: Some(ScalarValue::Int(i128::from(value))),
+        }
+    }
+}
+
+/// A value of a non-nullable integer type.
+impl From<u8> for Scalar {
+    ghost use Rattle.std.specs.Prelude.{◌≡◌, false, pos};
+    ghost use Rattle.vortex_columns.specs.declared.dtype.PType.TheVariants.{U8};
+    ghost use Rattle.vortex_columns.specs.LogicalTypes.{integer_type};
+    ghost use Rattle.vortex_columns.specs.Values.{number};
+
+    ghost from_gives = { λ z s. s ≡ record { dtype = integer_type U8 false; value = number (pos z) } };
+
+    fn from(value: u8) -> Scalar {
+        Scalar {
+            dtype: DType::Primitive(PType::U8, Nullability::NonNullable),
+            value: Some(ScalarValue::Int(i128::from(value))),
+        }
+    }
+}
+
+/// A value of a non-nullable integer type.
+impl From<u16> for Scalar {
+    ghost use Rattle.std.specs.Prelude.{◌≡◌, false, pos};
+    ghost use Rattle.vortex_columns.specs.declared.dtype.PType.TheVariants.{U16};
+    ghost use Rattle.vortex_columns.specs.LogicalTypes.{integer_type};
+    ghost use Rattle.vortex_columns.specs.Values.{number};
+
+    ghost from_gives = { λ z s. s ≡ record { dtype = integer_type U16 false; value = number (pos z) } };
+
+    fn from(value: u16) -> Scalar {
+        Scalar {
+            dtype: DType::Primitive(PType::U16, Nullability::NonNullable),
+            value: Some(ScalarValue::Int(i128::from(value))),
+        }
+    }
+}
+
+/// A value of a non-nullable integer type.
+impl From<u32> for Scalar {
+    ghost use Rattle.std.specs.Prelude.{◌≡◌, false, pos};
+    ghost use Rattle.vortex_columns.specs.declared.dtype.PType.TheVariants.{U32};
+    ghost use Rattle.vortex_columns.specs.LogicalTypes.{integer_type};
+    ghost use Rattle.vortex_columns.specs.Values.{number};
+
+    ghost from_gives = { λ z s. s ≡ record { dtype = integer_type U32 false; value = number (pos z) } };
+
+    fn from(value: u32) -> Scalar {
+        Scalar {
+            dtype: DType::Primitive(PType::U32, Nullability::NonNullable),
+            value: Some(ScalarValue::Int(i128::from(value))),
+        }
+    }
+}
+
+/// A value of a non-nullable integer type.
+impl From<u64> for Scalar {
+    ghost use Rattle.std.specs.Prelude.{◌≡◌, false, pos};
+    ghost use Rattle.vortex_columns.specs.declared.dtype.PType.TheVariants.{U64};
+    ghost use Rattle.vortex_columns.specs.LogicalTypes.{integer_type};
+    ghost use Rattle.vortex_columns.specs.Values.{number};
+
+    ghost from_gives = { λ z s. s ≡ record { dtype = integer_type U64 false; value = number (pos z) } };
+
+    fn from(value: u64) -> Scalar {
+        Scalar {
+            dtype: DType::Primitive(PType::U64, Nullability::NonNullable),
+            value: Some(ScalarValue::Int(i128::from(value))),
+        }
+    }
+}
+
+/// Equal where the types agree apart from nullability and the values are equal.
+impl PartialEq for Scalar {
+    ghost use Rattle.vortex_columns.specs.ScalarView.{scalar_eq};
+    ghost use Rattle.vortex_columns.specs.ScalarLaws.{scalar_eq-laws};
+
+    ghost eq = { scalar_eq };
+
+    ghost laws = { scalar_eq-laws };
+
+    fn eq(&self, other: &Scalar) -> bool {
+        match self.partial_cmp(other) {
+            Some(Ordering::Equal) => true,
+            _ => false,
+        }
+    }
+}
+
+/// The order of the values; none exactly where the types differ apart from nullability.
+impl PartialOrd for Scalar {
+    ghost use Rattle.vortex_columns.specs.ScalarView.{compare_scalars};
+    ghost use Rattle.vortex_columns.specs.ScalarLaws.{compare_scalars-laws};
+
+    ghost partial_cmp = { compare_scalars };
+
+    ghost laws = { compare_scalars-laws };
+
+    fn partial_cmp(&self, other: &Scalar) -> Option<Ordering> {
+        if !self.dtype.eq_ignore_nullability(&other.dtype) {
+            return None;
+        }
+        Some(self.cell().compare(&other.cell()))
+    }
+}

@@ -1,0 +1,7 @@
+pub mod InputLemmas
+pub mod Calls
+pub mod FixedColumn
+pub mod TreeLists
+pub mod Execution
+pub mod Opened
+pub mod Bound

@@ -1,0 +1,26 @@
+-- The function that a `ScalarFnRef` stands for.
+use Rattle.std.specs.Prelude.{Option, Some, None, Bool, true, false}
+use Rattle.vortex_functions.specs.declared.erased.ScalarFnRef.{ScalarFnRef}
+use Rattle.vortex_functions.specs.declared.erased.ScalarFnRef.TheVariants as ref
+use Rattle.vortex_functions.specs.declared.typed.TypedScalarFnInstance.{TypedScalarFnInstance}
+use Rattle.vortex_kernels.specs.declared.operators.Operator.{Operator}
+use Rattle.vortex_meaning.specs.Shipped.{binary, negation}
+use Rattle.vortex_meaning.specs.Functions.{Function, shipped, custom}
+
+module _ {V O : Type 0} where
+  abbrev pub function_of : ScalarFnRef V O → Function V O
+  function_of (ref.Binary o) = shipped (binary o)
+  function_of ref.Not = shipped negation
+  function_of (ref.Custom f) = custom f.vtable f.options
+
+  abbrev pub operator_in : ScalarFnRef V O → Option Operator
+  operator_in (ref.Binary o) = Some o
+  operator_in f = None
+
+  abbrev pub is_negation : ScalarFnRef V O → Bool
+  is_negation ref.Not = true
+  is_negation f = false
+
+  abbrev pub instance_in : ScalarFnRef V O → Option (TypedScalarFnInstance V O)
+  instance_in (ref.Custom f) = Some f
+  instance_in f = None

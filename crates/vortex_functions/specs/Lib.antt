@@ -1,0 +1,6 @@
+pub mod Args
+pub mod FunctionOf
+pub mod Fixed
+pub mod Nodes
+pub mod NodeFalls
+pub mod Binding

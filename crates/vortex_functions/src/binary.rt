@@ -1,0 +1,102 @@
+//! The operators of two operands.
+ghost use Rattle.std.specs.Prelude.{◌≡◌, None, Some, map};
+ghost use Rattle.vortex_columns.specs.declared.error.VortexError.TheVariants.{TypeMismatch};
+ghost use Rattle.vortex_columns.specs.Answers.{Answers};
+ghost use Rattle.vortex_columns.specs.TypeOf.{type_of};
+ghost use Rattle.vortex_kernels.specs.declared.operators.Operator.{Operator};
+ghost use Rattle.vortex_meaning.specs.Shipped.{binary, binary_id, shipped_meaning, operator_type, operator_place};
+ghost use Rattle.vortex_meaning.specs.ShippedLaws.{shipped_lawful};
+
+use crate::vtable::{ChildName, ExecutionArgs, ScalarFnId, ScalarFnVTable};
+use std::alloc::Global;
+use vortex_columns::{
+    Arity, Column, DType, ExecutionCtx, MismatchPlace, VortexError, VortexResult,
+};
+use vortex_kernels::{Operator, execute_boolean};
+
+/// And and Or of two Bool, by Kleene's tables; nullable if either operand is.
+///
+/// A comparison accepts no types yet (E3 Compare), nor does arithmetic (E3 Arithmetic).
+#[derive(Clone, Drop)]
+pub struct Binary;
+
+/// Where the types of an operator are refused.
+pub(crate) fn mismatch_place(operator: Operator) -> MismatchPlace
+    ensures { result ≡ operator_place operator }
+{
+    match operator {
+        Operator::And => MismatchPlace::Boolean,
+        Operator::Or => MismatchPlace::Boolean,
+        Operator::Add => MismatchPlace::Arithmetic,
+        Operator::Sub => MismatchPlace::Arithmetic,
+        Operator::Mul => MismatchPlace::Arithmetic,
+        Operator::Div => MismatchPlace::Arithmetic,
+        _ => MismatchPlace::Compare,
+    }
+}
+
+/// The type of an operator's answer; E3 at the operator's place for other operands.
+pub(crate) fn operator_dtype(operator: Operator, types: &[DType]) -> VortexResult<DType>
+    ensures { Answers result (λ t. operator_type operator (map type_of types.now) ≡ Some (type_of t)) (λ e. (operator_type operator (map type_of types.now) ≡ None) × (e ≡ TypeMismatch (operator_place operator))) }
+{
+    match (operator.is_boolean(), types) {
+        (true, [DType::Bool(left), DType::Bool(right)]) => Ok(DType::Bool(*left | *right)),
+        _ => Err(VortexError::TypeMismatch(mismatch_place(operator))),
+    }
+}
+
+impl ScalarFnVTable for Binary {
+    type Options = Operator;
+
+    ghost meaning = { shipped_meaning binary_id binary };
+
+    fn id(&self) -> ScalarFnId {
+        "vortex.binary"
+    }
+
+    fn arity(&self, _operator: &Operator) -> Arity {
+        Arity::Exact(2)
+    }
+
+    fn child_name(&self, _operator: &Operator, index: usize) -> ChildName {
+        if index == 0 { "lhs" } else { "rhs" }
+    }
+
+    fn return_dtype(
+        &self,
+        _alloc: Global,
+        operator: &Operator,
+        types: &[DType],
+    ) -> VortexResult<DType> {
+        operator_dtype(*operator, types)
+    }
+
+    fn execute<A: ExecutionArgs>(
+        &self,
+        operator: &Operator,
+        args: &A,
+        ctx: &mut ExecutionCtx,
+    ) -> VortexResult<Column> {
+        let lhs = args.get(0)?;
+        let rhs = args.get(1)?;
+        execute_boolean(lhs, rhs, *operator, ctx)
+    }
+
+    fn is_strict(&self, operator: &Operator) -> bool {
+        !operator.is_boolean()
+    }
+
+    fn is_infallible(&self, operator: &Operator) -> bool {
+        !operator.is_arithmetic()
+    }
+
+    fn try_clone(&self, _alloc: Global) -> VortexResult<Binary> {
+        Ok(Binary)
+    }
+
+    fn clone_options(&self, _alloc: Global, operator: &Operator) -> VortexResult<Operator> {
+        Ok(*operator)
+    }
+
+    ghost lawful = { shipped_lawful binary_id binary };
+}

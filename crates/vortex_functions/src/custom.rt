@@ -1,0 +1,94 @@
+//! The function that stands where a caller has none.
+ghost use Rattle.std.specs.Prelude.{◌≡◌, IfOk, false, replicate};
+ghost use Rattle.vortex_functions.specs.Fixed.{fixed_meaning, fixed_lawful};
+
+use crate::vtable::{ChildName, ExecutionArgs, ScalarFnId, ScalarFnVTable};
+use std::alloc::{AllocError, Global};
+use std::fmt;
+use vortex_columns::{
+    Arity, BitBuffer, Column, DType, ExecutionCtx, MismatchPlace, Nullability, Validity,
+    VortexError, VortexResult,
+};
+
+/// No options; they print as nothing.
+#[derive(Clone, Debug, PartialEq, Eq, Hash, Drop)]
+pub struct EmptyOptions;
+
+impl fmt::Display for EmptyOptions {
+    ghost use Rattle.std.specs.Prelude.{Some, []};
+
+    ghost output = { λ _. Some [] };
+
+    fn fmt<W: fmt::Write>(&self, _f: &mut fmt::Formatter<W>) -> fmt::Result {
+        Ok(())
+    }
+}
+
+/// No function of a caller's: without arguments, it answers false of non-nullable Bool.
+#[derive(Clone, Drop)]
+pub struct NoCustom;
+
+fn all_false(alloc: Global, count: usize) -> Result<Vec<bool>, AllocError>
+    ensures { IfOk result (λ bits. bits.items ≡ replicate count false) }
+{
+    vec![in alloc; false; count]
+}
+
+impl ScalarFnVTable for NoCustom {
+    type Options = EmptyOptions;
+
+    ghost meaning = { fixed_meaning };
+
+    fn id(&self) -> ScalarFnId {
+        "rowfn.none"
+    }
+
+    fn arity(&self, _options: &EmptyOptions) -> Arity {
+        Arity::Exact(0)
+    }
+
+    fn child_name(&self, _options: &EmptyOptions, _index: usize) -> ChildName {
+        ""
+    }
+
+    fn return_dtype(
+        &self,
+        _alloc: Global,
+        _options: &EmptyOptions,
+        types: &[DType],
+    ) -> VortexResult<DType> {
+        match types {
+            [] => Ok(DType::Bool(Nullability::NonNullable)),
+            _ => Err(VortexError::TypeMismatch(MismatchPlace::Boolean)),
+        }
+    }
+
+    fn execute<A: ExecutionArgs>(
+        &self,
+        _options: &EmptyOptions,
+        args: &A,
+        ctx: &mut ExecutionCtx,
+    ) -> VortexResult<Column> {
+        let bits = all_false(ctx.alloc(), args.row_count())?;
+        let bits = BitBuffer::from_bools(ctx.alloc(), &bits)?;
+        Column::try_bool(bits, Validity::NonNullable)
+    }
+
+    fn is_strict(&self, _options: &EmptyOptions) -> bool {
+        true
+    }
+
+    fn is_infallible(&self, _options: &EmptyOptions) -> bool {
+        true
+    }
+
+    fn try_clone(&self, _alloc: Global) -> VortexResult<NoCustom> {
+        Ok(NoCustom)
+    }
+
+    fn clone_options(&self, _alloc: Global, _options: &EmptyOptions) -> VortexResult<EmptyOptions> {
+        Ok(EmptyOptions)
+    }
+
+    ghost lawful = { fixed_lawful };
+}

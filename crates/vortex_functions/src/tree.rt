@@ -1,0 +1,264 @@
+//! Expression trees over the columns of a scope.
+ghost use Rattle.std.specs.Prelude.{◌≡◌, ◌<◌, ◌↔◌, None, Some, IsTrue, IsOkAnd, MatchOption, length, map, slice_get};
+ghost use Rattle.std.specs.Cow.{cow_value};
+ghost use Rattle.vortex_columns.specs.declared.error.VortexError.TheVariants.{ScopeMismatch};
+ghost use Rattle.vortex_columns.specs.Answers.{Answers, AnswersUnlessMemory};
+ghost use Rattle.vortex_columns.specs.LogicalTypes.{find_field};
+ghost use Rattle.vortex_columns.specs.TypeOf.{type_of, struct_fields};
+ghost use Rattle.vortex_meaning.specs.Trees.{trees_of, children_of, called};
+ghost use Rattle.vortex_meaning.specs.Eval.{tree_type, tree_types, HasTreeRows, IsFirstFault};
+ghost use Rattle.vortex_meaning.specs.Execution.{LeavesFit, other_length, Executes, RefusesExecution};
+ghost use Rattle.vortex_functions.specs.FunctionOf.{function_of};
+ghost use Rattle.vortex_functions.specs.Binding.{IsColumnLeaf, IsCall, RefusesCall, IsLeaf, IsLent};
+
+use crate::args::VecExecutionArgs;
+use crate::erased::ScalarFnRef;
+use crate::vtable::ScalarFnVTable;
+use std::alloc::Global;
+use std::borrow::Cow;
+use std::marker::Model;
+use vortex_columns::{Column, DType, ExecutionCtx, StructFields, VortexError, VortexResult};
+
+#[cycle(expression)]
+#[derive(Drop)]
+enum Node<C: ScalarFnVTable> {
+    /// The place of a column in the scope, and its name.
+    Column(usize, String),
+    Call(ScalarFnRef<C>, Vec<BoundExpression<C>>),
+}
+
+/// A well-typed tree of calls over column leaves.
+#[cycle(expression)]
+#[derive(Drop)]
+pub struct BoundExpression<C: ScalarFnVTable> {
+    dtype: DType,
+    node: Node<C>,
+}
+
+impl<C: ScalarFnVTable> Model for BoundExpression<C> {
+    ghost use Rattle.vortex_meaning.specs.Trees.{Tree, node_count};
+    ghost use Rattle.vortex_meaning.specs.TreeCodes.{coded_tree};
+
+    ghost Value = { Tree C C.Options };
+
+    ghost coded = { coded_tree C.code C.Options.code };
+
+    ghost use Rattle.vortex_functions.specs.Nodes.{expression_view, IsExpression};
+
+    ghost view = { expression_view };
+
+    ghost invariant = { λ a. IsExpression C.meaning a };
+
+    ghost size = { node_count };
+
+    ghost use Rattle.vortex_columns.specs.TypeOf.{type_of};
+    ghost use Rattle.vortex_functions.specs.NodeFalls.{deep_le-node_count};
+
+    ghost size_decreases = { λ a h. deep_le-node_count C C.Options C.ScalarFnVTable C.Clone C.Options.Clone C.Options.Debug C.Options.Display C.Options.PartialEq C.Options.Hash (type_of a.dtype) a.node };
+}
+
+/// The types of trees.
+fn dtypes_of<C: ScalarFnVTable>(
+    alloc: Global,
+    children: &[BoundExpression<C>],
+) -> VortexResult<Vec<DType>>
+    ensures { AnswersUnlessMemory result (λ dtypes. tree_types C.meaning (trees_of children.now) ≡ Some (map type_of dtypes.items)) }
+{
+    let mut dtypes = Vec::new(alloc);
+    for child in children {
+        dtypes.push(child.dtype().try_clone(alloc)?)?;
+    }
+    Ok(dtypes)
+}
+
+/// The length of the first column that has not so many rows.
+fn first_other_length(columns: &[Column], row_count: usize) -> Option<usize>
+    ensures { result ≡ other_length row_count columns.now }
+{
+    for column in columns {
+        if column.len() != row_count {
+            return Some(column.len());
+        }
+    }
+    None
+}
+
+impl<C: ScalarFnVTable> BoundExpression<C> {
+    /// The leaf of the column of that name. E11 exactly where the scope has none.
+    pub fn column(
+        alloc: Global,
+        scope: &StructFields,
+        name: &str,
+    ) -> VortexResult<BoundExpression<C>>
+        ensures { Answers result (IsColumnLeaf (struct_fields scope.now) name.now) (λ e. (find_field name.now (struct_fields scope.now) ≡ None) × (e ≡ ScopeMismatch)) }
+    {
+        match scope.find(name) {
+            Some((place, dtype)) => {
+                let name = String::from_str(alloc, name)?;
+                let dtype = dtype.try_clone(alloc)?;
+                Ok(BoundExpression {
+                    dtype,
+                    node: Node::Column(place, name),
+                })
+            }
+            None => Err(VortexError::ScopeMismatch),
+        }
+    }
+
+    /// The call of a function. E6 exactly where the count of children does not fit its arity, and then E3 exactly where their
+    /// types are not accepted.
+    pub fn try_new(
+        alloc: Global,
+        function: ScalarFnRef<C>,
+        children: Vec<BoundExpression<C>>,
+    ) -> VortexResult<BoundExpression<C>>
+        ensures { Answers result (IsCall C.meaning (function_of function) children.items) (RefusesCall C.meaning (function_of function) children.items) }
+    {
+        let arity = function.signature().arity;
+        let given = children.len();
+        if !arity.matches(given) {
+            return Err(VortexError::ArityMismatch { arity, given });
+        }
+        let dtypes = dtypes_of(alloc, &children)?;
+        let dtype = function.return_dtype(alloc, &dtypes)?;
+        Ok(BoundExpression {
+            dtype,
+            node: Node::Call(function, children),
+        })
+    }
+
+    /// The type of the tree's values.
+    pub fn dtype(&self) -> &DType
+        ensures { tree_type C.meaning self.now ≡ Some (type_of result.now) }
+    {
+        &self.dtype
+    }
+
+    /// The children of a call, in order; a leaf has none.
+    #[tactic(auto, using(crate::proofs::TreeLists::round_trips))]
+    pub fn children(&self) -> &[BoundExpression<C>]
+        ensures { result.now ≡ children_of self.now }
+    {
+        match &self.node {
+            Node::Call(_, children) => children,
+            Node::Column(_, _) => &[],
+        }
+    }
+
+    /// The child of that index.
+    pub fn child(&self, index: usize) -> &BoundExpression<C>
+        requires { index < length (children_of self.now) }
+        ensures { slice_get (children_of self.now) index ≡ Some result.now }
+    {
+        &self.children()[index]
+    }
+
+    /// The function of a call.
+    pub fn as_scalar(&self) -> Option<&ScalarFnRef<C>>
+        ensures { MatchOption result (called self.now ≡ None) (λ f. called self.now ≡ Some (function_of f.now)) }
+    {
+        match &self.node {
+            Node::Call(function, _) => Some(function),
+            Node::Column(_, _) => None,
+        }
+    }
+
+    /// A copy that equals its source.
+    pub fn try_clone(&self, alloc: Global) -> VortexResult<BoundExpression<C>>
+        ensures { AnswersUnlessMemory result (λ t. t ≡ self.now) }
+    {
+        match &self.node {
+            Node::Column(place, name) => {
+                let name = String::from_str(alloc, name.as_str())?;
+                let dtype = self.dtype.try_clone(alloc)?;
+                Ok(BoundExpression {
+                    dtype,
+                    node: Node::Column(*place, name),
+                })
+            }
+            Node::Call(function, children) => {
+                let mut copies = Vec::new(alloc);
+                for child in children {
+                    copies.push(child.try_clone(alloc)?)?;
+                }
+                let function = function.try_clone(alloc)?;
+                let dtype = self.dtype.try_clone(alloc)?;
+                Ok(BoundExpression {
+                    dtype,
+                    node: Node::Call(function, copies),
+                })
+            }
+        }
+    }
+
+    /// Whether each leaf's column is there, of the leaf's type.
+    fn leaves_fit(&self, columns: &[Column]) -> bool
+        ensures { IsTrue result ↔ LeavesFit columns.now self.now }
+    {
+        match &self.node {
+            Node::Column(place, _) => match columns.get(*place) {
+                Some(column) => *column.dtype() == self.dtype,
+                None => false,
+            },
+            Node::Call(_, children) => {
+                for child in children {
+                    if !child.leaves_fit(columns) {
+                        return false;
+                    }
+                }
+                true
+            }
+        }
+    }
+
+    /// From the leaves upward, children left to right.
+    fn compute<'a>(
+        &self,
+        columns: &'a [Column],
+        row_count: usize,
+        ctx: &mut ExecutionCtx,
+    ) -> VortexResult<Cow<'a, Column>>
+        requires fit { LeavesFit columns.now self.now }
+        requires lengths { other_length row_count columns.now ≡ None }
+        ensures answer { Answers result (λ c. HasTreeRows C.meaning columns.now row_count self.now (cow_value c)) (IsFirstFault C.meaning columns.now row_count self.now) }
+        ensures lent { IsLeaf self.now → IsOkAnd result IsLent }
+    {
+        match &self.node {
+            Node::Column(place, _) => Ok(Cow::Borrowed(&columns[*place])),
+            Node::Call(function, children) => {
+                let mut inputs = Vec::new(ctx.alloc());
+                for child in children {
+                    inputs.push(child.compute(columns, row_count, ctx)?)?;
+                }
+                let args = VecExecutionArgs::new(inputs, row_count);
+                Ok(Cow::Owned(function.execute(&args, ctx)?))
+            }
+        }
+    }
+
+    /// The tree's meaning, row by row, over the columns of its scope: a column of the tree's type.
+    ///
+    /// In order: E11 where a leaf's column is missing or of another type; E2 where a column has not `row_count` rows, with
+    /// `left` the row count and `right` the length of the first such column; then the fault of the first call, in post-order,
+    /// that faults in some row. A lone column leaf is lent, and takes no memory.
+    pub fn execute<'a>(
+        &self,
+        columns: &'a [Column],
+        row_count: usize,
+        ctx: &mut ExecutionCtx,
+    ) -> VortexResult<Cow<'a, Column>>
+        ensures answer { Answers result (λ c. Executes C.meaning columns.now row_count self.now (cow_value c)) (RefusesExecution C.meaning columns.now row_count self.now) }
+        ensures lent { IsLeaf self.now → LeavesFit columns.now self.now → other_length row_count columns.now ≡ None → IsOkAnd result IsLent }
+    {
+        if !self.leaves_fit(columns) {
+            return Err(VortexError::ScopeMismatch);
+        }
+        if let Some(right) = first_other_length(columns, row_count) {
+            return Err(VortexError::LengthMismatch {
+                left: row_count,
+                right,
+            });
+        }
+        self.compute(columns, row_count, ctx)
+    }
+}

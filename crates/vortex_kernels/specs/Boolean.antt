@@ -1,0 +1,36 @@
+-- And, Or and Not over whole columns.
+use Rattle.std.specs.Prelude.{◌≡◌, ◌⊎◌, ℕ, ◌||◌, ◌&&◌, Bool, true, false, length}
+use Rattle.vortex_columns.specs.declared.error.VortexError.{VortexError}
+use Rattle.vortex_columns.specs.declared.error.VortexError.TheVariants.{TypeMismatch}
+use Rattle.vortex_columns.specs.declared.error.MismatchPlace.TheVariants as place
+use Rattle.vortex_columns.specs.LogicalTypes.{LogicalType, bool_type, is_nullable, is_bool_type}
+use Rattle.vortex_columns.specs.Values.{Value, truth_of, truth_or_null}
+use Rattle.vortex_columns.specs.ColumnView.{ColumnView, row}
+use Rattle.vortex_kernels.specs.declared.operators.Operator.{Operator}
+use Rattle.vortex_kernels.specs.Operators.{is_boolean, IsNotBoolean}
+use Rattle.vortex_kernels.specs.Kleene.{kleene, kleene_not}
+use Rattle.vortex_kernels.specs.Rows.{HasRows}
+
+abbrev pub boolean_value : Operator → Value → Value → Value
+boolean_value op v w = truth_or_null (kleene op (truth_of v) (truth_of w))
+
+abbrev pub not_value : Value → Value
+not_value v = truth_or_null (kleene_not (truth_of v))
+
+abbrev pub are_bools : ColumnView → ColumnView → Bool
+are_bools l r = is_bool_type l.dtype && is_bool_type r.dtype
+
+-- in each row what Kleene's table says of the two rows, nullable if either side is
+abbrev pub HasBooleanRows : Operator → ColumnView → ColumnView → ColumnView → Type 0
+HasBooleanRows op l r =
+    HasRows (bool_type (is_nullable l.dtype || is_nullable r.dtype)) (length l.rows) (λ i. boolean_value op (row l.rows i) (row r.rows i))
+
+-- an operator that is neither And nor Or is refused before any type, and then two columns that are not both of Bool
+pub data RefusesBoolean (op : Operator) (l r : ColumnView) (e : VortexError) : Type 0 where
+  no_operator : is_boolean op ≡ false → IsNotBoolean op e → RefusesBoolean op l r e
+  no_bools : is_boolean op ≡ true → are_bools l r ≡ false → e ≡ TypeMismatch place.Boolean → RefusesBoolean op l r e
+
+pub record AnswersBoolean (op : Operator) (l r c : ColumnView) : Type 0 where
+  pub operator : is_boolean op ≡ true
+  pub bools : are_bools l r ≡ true
+  pub rows : HasBooleanRows op l r c

@@ -1,0 +1,4 @@
+pub mod Operators
+pub mod Kleene
+pub mod Rows
+pub mod Boolean

@@ -1,0 +1,12 @@
+//! Kernels over whole columns, and the operators that they are chosen by.
+#![tactic(auto)]
+
+pub mod boolean;
+pub mod operators;
+mod rows;
+
+pub use boolean::{execute_boolean, execute_not};
+pub use operators::{CompareOperator, Operator};
+
+#[cfg(test)]
+mod tests;

@@ -1,0 +1,9 @@
+pub mod Outcomes
+pub mod Meaning
+pub mod Shipped
+pub mod ShippedLaws
+pub mod Functions
+pub mod Trees
+pub mod TreeCodes
+pub mod Eval
+pub mod Execution

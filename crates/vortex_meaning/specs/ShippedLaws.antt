@@ -1,0 +1,91 @@
+-- The shipped functions are lawful.
+use Rattle.std.specs.Prelude.{◌≡◌, ℕ, zero, suc, ◌<◌, List, [], ◌∷◌, Option, Some, None, Bool, true, false, ◌||◌, not, Any, length, slice_index_or, refl}
+use Rattle.std.proofs.Common.{sym, ap, ◌∙◌, subst, arith}
+use Rattle.vortex_columns.specs.LogicalTypes.{LogicalType, bool_type, is_nullable}
+use Rattle.vortex_columns.specs.Values.{Value, null, truth_of, truth_or_null}
+use Rattle.vortex_columns.specs.Typing.{HasType}
+use Rattle.vortex_kernels.specs.declared.operators.Operator.{Operator}
+use Rattle.vortex_kernels.specs.declared.operators.Operator.TheVariants.{Eq, NotEq, Gt, Gte, Lt, Lte, And, Or, Add, Sub, Mul, Div}
+use Rattle.vortex_kernels.specs.Operators.{is_boolean}
+use Rattle.vortex_kernels.specs.Kleene.{kleene, kleene_not}
+use Rattle.vortex_kernels.specs.Boolean.{boolean_value, not_value}
+use Rattle.vortex_kernels.specs.Rows.{Allows}
+use Rattle.vortex_kernels.proofs.RowLemmas.{allowed, kleene_allowed, not_allowed}
+use Rattle.vortex_meaning.specs.Outcomes.{Outcome, gives, GivesValue, GivesType, GivesNull}
+use Rattle.vortex_meaning.specs.Meaning.{Lawful, HaveTypes}
+use Rattle.vortex_meaning.specs.Shipped.{Shipped, binary, negation, both_bool, operator_type, of_two, of_one, negation_type, shipped_type, shipped_means, is_strict, is_infallible, shipped_meaning}
+
+has_type : (n : Bool) (a : Option Bool) → Allows n a → HasType (bool_type n) (truth_or_null a)
+has_type n None h = h
+has_type n (Some b) h = tt
+
+both_typed : (op : Operator) → is_boolean op ≡ true → (ts : List LogicalType) (t : LogicalType) (vs : List Value) → both_bool ts ≡ Some t → HaveTypes ts vs → HasType t (of_two (boolean_value op) vs)
+both_typed op b (bool_type n ∷ bool_type m ∷ []) t (v ∷ w ∷ []) e h =
+    let is : bool_type (n || m) ≡ t = cc in
+    subst (λ (u : LogicalType). HasType u (boolean_value op v w)) is (has_type (n || m) (kleene op (truth_of v) (truth_of w)) (kleene_allowed op n m (truth_of v) (truth_of w) b (allowed n v h.0) (allowed m w h.1.0)))
+both_typed op b (bool_type n ∷ bool_type m ∷ []) t [] e h = absurd h
+both_typed op b (bool_type n ∷ bool_type m ∷ []) t (v ∷ []) e h = absurd h.1
+both_typed op b (bool_type n ∷ bool_type m ∷ []) t (v ∷ w ∷ x ∷ vs) e h = absurd h.1.1
+both_typed op b ts t vs e h = cc
+
+operator_typed : (op : Operator) (ts : List LogicalType) (t : LogicalType) (vs : List Value) → operator_type op ts ≡ Some t → HaveTypes ts vs → HasType t (of_two (boolean_value op) vs)
+operator_typed And ts t vs e h = both_typed And refl ts t vs e h
+operator_typed Or ts t vs e h = both_typed Or refl ts t vs e h
+operator_typed op ts t vs e h = cc
+
+negation_typed : (ts : List LogicalType) (t : LogicalType) (vs : List Value) → negation_type ts ≡ Some t → HaveTypes ts vs → HasType t (of_one not_value vs)
+negation_typed (bool_type n ∷ []) t (v ∷ []) e h =
+    let is : bool_type n ≡ t = cc in
+    subst (λ (u : LogicalType). HasType u (not_value v)) is (has_type n (kleene_not (truth_of v)) (not_allowed n (truth_of v) (allowed n v h.0)))
+negation_typed (bool_type n ∷ []) t [] e h = absurd h
+negation_typed (bool_type n ∷ []) t (v ∷ w ∷ vs) e h = absurd h.1
+negation_typed ts t vs e h = cc
+
+pub shipped_typed : (s : Shipped) (ts : List LogicalType) (t : LogicalType) (vs : List Value) → shipped_type s ts ≡ Some t → HaveTypes ts vs → GivesType t (shipped_means s vs)
+shipped_typed (binary op) ts t vs e h = operator_typed op ts t vs e h
+shipped_typed negation ts t vs e h = negation_typed ts t vs e h
+
+-- no operator that accepts types is strict yet
+not_strict : (op : Operator) (ts : List LogicalType) (t : LogicalType) → not (is_boolean op) ≡ true → operator_type op ts ≡ Some t → ⊥
+not_strict And ts t s e = cc
+not_strict Or ts t s e = cc
+not_strict op ts t s e = cc
+
+only : {A : Type 0} (P : A → Type 0) (x : A) → Any P (x ∷ []) → P x
+only {A} P x a = by a.0 a.1 a.2 a.3 a.4
+  where
+    by : (k : ℕ) (y : A) → k < 1 → slice_index_or (x ∷ []) k y ≡ y → P y → P x
+    by zero y h e p = subst P (sym e) p
+    by (suc k) y h e p = absurd (omega arith)
+
+negation_nullable : (ts : List LogicalType) (t : LogicalType) → negation_type ts ≡ Some t → Any (λ a. is_nullable a ≡ true) ts → is_nullable t ≡ true
+negation_nullable (bool_type n ∷ []) t e a =
+    let is : bool_type n ≡ t = cc in ap is_nullable (sym is) ∙ only (λ a. is_nullable a ≡ true) (bool_type n) a
+negation_nullable ts t e a = cc
+
+strict_types : (s : Shipped) (ts : List LogicalType) (t : LogicalType) → is_strict s ≡ true → shipped_type s ts ≡ Some t → Any (λ a. is_nullable a ≡ true) ts → is_nullable t ≡ true
+strict_types (binary op) ts t s e a = absurd (not_strict op ts t s e)
+strict_types negation ts t s e a = negation_nullable ts t e a
+
+negation_null : (ts : List LogicalType) (t : LogicalType) (vs : List Value) → negation_type ts ≡ Some t → HaveTypes ts vs → Any (λ v. v ≡ null) vs → of_one not_value vs ≡ null
+negation_null (bool_type n ∷ []) t (v ∷ []) e h a = ap not_value (only (λ w. w ≡ null) v a)
+negation_null (bool_type n ∷ []) t [] e h a = absurd h
+negation_null (bool_type n ∷ []) t (v ∷ w ∷ vs) e h a = absurd h.1
+negation_null ts t vs e h a = cc
+
+strict_values : (s : Shipped) (ts : List LogicalType) (t : LogicalType) (vs : List Value) → is_strict s ≡ true → shipped_type s ts ≡ Some t → HaveTypes ts vs → Any (λ v. v ≡ null) vs → GivesNull (shipped_means s vs)
+strict_values (binary op) ts t vs s e h a = absurd (not_strict op ts t s e)
+strict_values negation ts t vs s e h a = negation_null ts t vs e h a
+
+no_faults : (s : Shipped) (vs : List Value) → GivesValue (shipped_means s vs)
+no_faults (binary op) vs = tt
+no_faults negation vs = tt
+
+pub shipped_lawful : {V O : Type 0} (name : List ℕ) (of : O → Shipped) → Lawful (shipped_meaning {V = V} {O = O} name of)
+shipped_lawful name of = record {
+  typed = λ f o ts t vs e h. shipped_typed (of o) ts t vs e h;
+  alike = λ f o ts us t u vs e g a h k. refl;
+  strict_type = λ f o ts t s e a. strict_types (of o) ts t s e a;
+  strict_value = λ f o ts t vs s e h a. strict_values (of o) ts t vs s e h a;
+  never_faults = λ f o ts t vs s e h. no_faults (of o) vs;
+}
