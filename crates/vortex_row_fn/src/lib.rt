@@ -7,6 +7,7 @@ pub use vortex_columns::{
 };
 pub use vortex_functions::{
     Binary, BoundExpression, ChildName, EmptyOptions, ExecutionArgs, NoCustom, Not, ScalarFnId,
-    ScalarFnRef, ScalarFnSignature, ScalarFnVTable, ScalarFnVTableExt, TypedScalarFnInstance, VecExecutionArgs,
+    ScalarFnRef, ScalarFnSignature, ScalarFnVTable, ScalarFnVTableExt, TypedScalarFnInstance,
+    VecExecutionArgs,
 };
 pub use vortex_kernels::{CompareOperator, Operator, execute_boolean, execute_not};
