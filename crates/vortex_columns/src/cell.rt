@@ -13,10 +13,15 @@ use vortex_types::{ScalarValue, VortexResult};
 /// A value, or null, that is read where it lies. Takes no memory.
 #[derive(Clone, Copy)]
 pub enum Cell<'a> {
+    /// Null, of whatever type.
     Null,
+    /// A truth value.
     Bool(bool),
+    /// An integer of any of the eight types.
     Int(i128),
+    /// A text, lent from the scalar or the column.
     Text(&'a str),
+    /// Bytes, lent likewise.
     Bytes(&'a [u8]),
     /// A list, a record, a map or an entry of a map.
     Sequence(Sequence<'a>),
@@ -37,7 +42,7 @@ pub enum Sequence<'a> {
     Entry(&'a Column, &'a Column, usize),
 }
 
-/// The value where it lies.
+/// The value of a scalar where it lies: its text, bytes and inner values are lent. Takes no memory.
 pub fn cell_of(value: &ScalarValue) -> Cell<'_>
     ensures whole { IsCell result }
     ensures value { cell_value result ≡ value_of value.now }

@@ -7,12 +7,14 @@ ghost use Rattle.vortex_types.specs.TypeOf.{type_of};
 ghost use Rattle.vortex_types.specs.Values.{is_null, number, text, bytes};
 ghost use Rattle.vortex_types.specs.Order.{compare_values};
 ghost use Rattle.vortex_columns.specs.Cells.{cell_value, IsCell};
-ghost use Rattle.vortex_columns.specs.ColumnView.{row, AreTyped, HasBits, AreBits, HasInts, AreInts, HasBytes, bytes_value, valid_rows, constant_column, null_column, part, record_at, entries, named_columns, LieWithin, HasField, IsField, HasKind, is_list_type, is_fixed_size_list_type, is_map_type, AreLists, AreFixedSizeLists, AreMaps};
+ghost use Rattle.vortex_columns.specs.ColumnView.{row, AreTyped, HasBits, AreBits, HasInts, AreInts, HasBytes, bytes_value, valid_rows, constant_column, null_column, part, record_at, entries, named_columns, HasField, IsField, HasKind, is_list_type, is_fixed_size_list_type, is_map_type, AreLists, AreFixedSizeLists, AreMaps};
 ghost use Rattle.vortex_types.specs.ValidityView.{array};
 
 use crate::cell::{Cell, Sequence};
+use crate::lists::{
+    bytes_fit, copy_bytes, copy_texts, is_product, learn_bytes, lie_within, texts_fit,
+};
 use crate::scalar::Scalar;
-use crate::typing::are_bytes;
 use std::alloc::Global;
 use std::cmp::Ordering;
 use std::marker::Model;
@@ -80,32 +82,6 @@ impl Model for Column {
     ghost size_decreases = { λ a h. storage_falls a.len (type_of a.dtype) a.storage h };
 }
 
-/// The most bytes that a value of a column may have.
-const MOST_BYTES: usize = 4294967295;
-
-/// Whether no text is too long.
-fn texts_fit(values: &[String]) -> bool
-    ensures { IsTrue result ↔ All (λ t. length (string_bytes t) ≤ 4294967295) values.now }
-{
-    values.iter().all(|t| t.len() <= MOST_BYTES)
-}
-
-/// Whether no list of bytes is too long.
-fn bytes_fit(values: &[Vec<u8>]) -> bool
-    ensures { IsTrue result ↔ All (λ b. length b.items ≤ 4294967295) values.now }
-{
-    values.iter().all(|b| b.len() <= MOST_BYTES)
-}
-
-/// Looks at each list of bytes.
-fn learn_bytes(values: &[Vec<u8>])
-    ensures { All (λ b. All (λ n. n < 256) b.items) values.now }
-{
-    for value in values {
-        let _ = are_bytes(value);
-    }
-}
-
 /// Looks at each column, whose rows have its type.
 fn learn_types(columns: &Vec<Column>)
     ensures { All (λ c. AreTyped c.dtype c.rows) columns.now.items }
@@ -138,29 +114,6 @@ fn types_of(alloc: Global, columns: &Vec<Column>) -> VortexResult<Vec<DType>>
     Ok(types)
 }
 
-/// Whether each range lies within so many elements.
-fn lie_within(elements: usize, offsets: &[usize], sizes: &[usize]) -> bool
-    requires { length offsets.now ≡ length sizes.now }
-    ensures { IsTrue result ↔ LieWithin elements offsets.now sizes.now }
-{
-    for (offset, size) in offsets.iter().zip(sizes) {
-        if *offset > elements || *size > elements - *offset {
-            return false;
-        }
-    }
-    true
-}
-
-/// Whether there are so many elements for so many lists of one size.
-fn is_product(elements: usize, size: u32, len: usize) -> bool
-    ensures { IsTrue result ↔ elements ≡ size * len }
-{
-    match (size as usize).checked_mul(len) {
-        Some(count) => elements == count,
-        None => false,
-    }
-}
-
 /// Copies of columns.
 #[cycle(clone_column)]
 fn copy_columns(alloc: Global, columns: &Vec<Column>) -> VortexResult<Vec<Column>>
@@ -169,28 +122,6 @@ fn copy_columns(alloc: Global, columns: &Vec<Column>) -> VortexResult<Vec<Column
     let mut copies = Vec::new(alloc);
     for column in columns {
         copies.push(column.try_clone(alloc)?)?;
-    }
-    Ok(copies)
-}
-
-/// A copy of texts.
-fn copy_texts(alloc: Global, values: &[String]) -> VortexResult<Vec<String>>
-    ensures { AnswersUnlessMemory result (λ copies. map string_bytes copies.items ≡ map string_bytes values.now) }
-{
-    let mut copies = Vec::new(alloc);
-    for value in values {
-        copies.push(value.clone()?)?;
-    }
-    Ok(copies)
-}
-
-/// A copy of lists of bytes.
-fn copy_bytes(alloc: Global, values: &[Vec<u8>]) -> VortexResult<Vec<Vec<u8>>>
-    ensures { AnswersUnlessMemory result (λ copies. map (λ b. b.items) copies.items ≡ map (λ b. b.items) values.now) }
-{
-    let mut copies = Vec::new(alloc);
-    for value in values {
-        copies.push(value.as_slice().to_vec(alloc)?)?;
     }
     Ok(copies)
 }
@@ -599,6 +530,7 @@ impl Column {
         })
     }
 
+    /// The type, lent. Each row has it, null included: a row is null only where the type is nullable.
     pub fn dtype(&self) -> &DType
         ensures dtype { type_of result.now ≡ self.now.dtype }
         ensures typed { AreTyped self.now.dtype self.now.rows }

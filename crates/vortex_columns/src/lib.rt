@@ -3,6 +3,7 @@
 
 pub mod cell;
 pub mod column;
+mod lists;
 pub mod scalar;
 pub mod typing;
 

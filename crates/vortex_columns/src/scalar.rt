@@ -1,5 +1,5 @@
 //! A value, or null, with its type.
-ghost use Rattle.std.specs.Prelude.{◌≡◌, true, false, [], IsTrue, MatchOption, option_map};
+ghost use Rattle.std.specs.Prelude.{◌≡◌, true, false, [], IsTrue, MatchOption};
 ghost use Rattle.vortex_types.specs.declared.error.VortexError.TheVariants.{InvalidColumn};
 ghost use Rattle.vortex_types.specs.Answers.{AnswersWhere, AnswersUnlessMemory};
 ghost use Rattle.vortex_types.specs.LogicalTypes.{bool_type, text_type, is_nullable};
@@ -63,6 +63,7 @@ impl Scalar {
         Scalar { dtype, value: None }
     }
 
+    /// A truth value of a Bool type, nullable or not.
     pub fn bool(value: bool, nullability: Nullability) -> Scalar
         ensures { result ≡ record { dtype = bool_type (allows_null nullability); value = truth value } }
     {
@@ -72,6 +73,7 @@ impl Scalar {
         }
     }
 
+    /// The type, lent. The value has it.
     pub fn dtype(&self) -> &DType
         ensures dtype { type_of result.now ≡ self.now.dtype }
         ensures typed { HasType self.now.dtype self.now.value }
@@ -86,6 +88,7 @@ impl Scalar {
         self.value.as_ref()
     }
 
+    /// Whether the value is null.
     pub fn is_null(&self) -> bool
         ensures { result ≡ is_null self.now.value }
     {

@@ -21,6 +21,7 @@ impl Model for BitBuffer {
 }
 
 impl BitBuffer {
+    /// A copy of the slice, bit for bit and in its order. Refuses for want of memory alone (E9).
     pub fn from_bools(alloc: Global, bits: &[bool]) -> VortexResult<BitBuffer>
         ensures { AnswersUnlessMemory result (λ b. b ≡ bits.now) }
     {
@@ -28,6 +29,7 @@ impl BitBuffer {
         Ok(BitBuffer { bits })
     }
 
+    /// How many bits there are, one for each row.
     pub fn len(&self) -> usize
         ensures { result ≡ length self.now }
     {

@@ -15,7 +15,9 @@ use std::ops::BitOr;
 /// Whether a type has null.
 #[derive(Clone, Copy, Debug, PartialEq, Eq)]
 pub enum Nullability {
+    /// Null is not one of the type's values.
     NonNullable,
+    /// Null is one of the type's values.
     Nullable,
 }
 
@@ -39,6 +41,7 @@ impl BitOr for Nullability {
 impl Nullability {
     ghost use Rattle.vortex_types.specs.TypeOf.{allows_null};
 
+    /// Whether a type of this nullability has null.
     pub fn is_nullable(&self) -> bool
         ensures { result ≡ allows_null self.now }
     {
@@ -95,6 +98,7 @@ impl PType {
 pub enum DType {
     /// Null alone, which counts as nullable.
     Null,
+    /// Truth values.
     Bool(Nullability),
     /// Integers.
     Primitive(PType, Nullability),
@@ -102,7 +106,9 @@ pub enum DType {
     Utf8(Nullability),
     /// Bytes.
     Binary(Nullability),
+    /// Records, with a value for each field.
     Struct(StructFields, Nullability),
+    /// Lists of any length.
     List(Box<DType>, Nullability),
     /// Lists of that many elements.
     FixedSizeList(Box<DType>, u32, Nullability),
@@ -225,6 +231,7 @@ impl DType {
         self.agrees(other, false)
     }
 
+    /// Whether the values are truth values.
     pub fn is_boolean(&self) -> bool
         ensures { result ≡ is_bool_type (type_of self.now) }
     {
@@ -314,7 +321,7 @@ fn pairs(
 
 impl StructFields {
     ghost use Rattle.std.specs.Prelude.{◌<◌, MatchOption, Some, None};
-    ghost use Rattle.vortex_types.specs.TypeOf.{type_of, struct_fields, fields_view, named_types, AreNamed};
+    ghost use Rattle.vortex_types.specs.TypeOf.{type_of, struct_fields, named_types, AreNamed};
     ghost use Rattle.vortex_types.specs.LogicalTypes.{field_count, field_type, find_field};
 
     /// Pairs names with types. E12 exactly where their counts differ or a name stands twice.

@@ -24,6 +24,7 @@ impl Ints {
     ghost use Rattle.vortex_types.specs.Answers.{AnswersUnlessMemory};
     ghost use Rattle.vortex_types.specs.Numbers.{numbers, ptype_of};
 
+    /// The type of the integers.
     pub fn ptype(&self) -> PType
         ensures { result ≡ ptype_of self.now }
     {
@@ -90,6 +91,7 @@ pub trait NativePType: Copy + Drop {
         ensures value { result ≡ number self }
         ensures fits { FitsPType ptype (number self) };
 
+    /// The same integers, as a list of one of the eight types. Takes no memory.
     fn wrap(values: Vec<Self>) -> Ints
         ensures kind { ptype_of result ≡ ptype }
         ensures values { numbers result ≡ map number values.items };
@@ -323,7 +325,7 @@ impl NativePType for u64 {
     }
 }
 
-/// Looks at each number, which lies in the range of its type.
+/// Looks at each number, so that a caller knows that it lies in the range of its type. Changes nothing.
 pub fn learn_ranges<T: NativePType>(values: &[T])
     ensures { All (FitsPType T.ptype) (map T.number values.now) }
 {

@@ -8,9 +8,13 @@ use std::alloc::Global;
 /// A value that is not null.
 #[derive(Drop)]
 pub enum ScalarValue {
+    /// A truth value.
     Bool(bool),
+    /// An integer of any of the eight types; the type tells which.
     Int(i128),
+    /// A text.
     Utf8(String),
+    /// Bytes.
     Binary(Vec<u8>),
     /// The values of a list; the fields of a struct in order; the entries of a map, each a list of key and value.
     List(Vec<Option<ScalarValue>>),

@@ -1,5 +1,5 @@
 //! Which rows are null.
-ghost use Rattle.std.specs.Prelude.{◌≡◌, ◌≢◌, ◌<◌, ◌↔◌, IsTrue, MatchOption, length};
+ghost use Rattle.std.specs.Prelude.{◌≡◌, ◌≢◌, ◌<◌, ◌↔◌, IsTrue, MatchOption};
 ghost use Rattle.vortex_types.specs.Answers.{AnswersUnlessMemory};
 ghost use Rattle.vortex_types.specs.ValidityView.{array};
 
@@ -45,6 +45,7 @@ impl Validity {
         }
     }
 
+    /// Whether row `i` is not null.
     pub fn is_valid(&self, i: usize) -> bool
         requires { Reaches (validity_of self.now) i }
         ensures { result ≡ is_valid_row (validity_of self.now) i }
