@@ -1,6 +1,6 @@
 -- Types of the values of a list, one by one.
-use Rattle.std.proofs.Common.{◌≡◌, ℕ, zero, suc, ◌<◌, ◌+◌, Bool, true, false, IsTrue, ◌↔◌, List, [], ◌∷◌, length, refl, sym, ap, ◌∙◌, subst, arith, true≢false}
-use Rattle.vortex_types.specs.Values.{Value, null, values_of, value_count}
+use Rattle.std.proofs.Common.{◌≡◌, ℕ, zero, suc, ◌<◌, Bool, true, false, IsTrue, ◌↔◌, List, [], ◌∷◌, length, refl, sym, ap, ◌∙◌, subst, arith, true≢false}
+use Rattle.vortex_types.specs.Values.{Value, values_of, value_count}
 use Rattle.vortex_types.specs.LogicalTypes.{LogicalType, Fields, no_fields, field, field_count, field_type}
 use Rattle.vortex_columns.specs.ColumnView.{row}
 use Rattle.vortex_types.specs.Typing.{Each, HasType, HaveFields, IsPair}

@@ -1,9 +1,9 @@
 -- The fields that named columns make.
-use Rattle.std.proofs.Common.{◌≡◌, ℕ, suc, List, [], ◌∷◌, String, string_bytes, Global, length, map, refl, sym, ap, ◌∙◌, arith}
+use Rattle.std.proofs.Common.{◌≡◌, ℕ, List, [], ◌∷◌, String, Global, length, map, refl, sym, ap, ◌∙◌, arith}
 use Rattle.std.specs.Prelude.{All}
 use Rattle.std.proofs.lemmas.List.Elements.{All-head, All-tail}
 use Rattle.std.proofs.lemmas.List.{length-map}
-use Rattle.vortex_types.specs.LogicalTypes.{LogicalType, field}
+use Rattle.vortex_types.specs.LogicalTypes.{LogicalType}
 use Rattle.vortex_types.specs.TypeOf.{type_of, named_types}
 use Rattle.vortex_types.specs.declared.dtype.DType.{DType}
 use Rattle.vortex_columns.specs.ColumnView.{ColumnView, AreTyped, named_columns}

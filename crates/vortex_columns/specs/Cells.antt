@@ -1,5 +1,5 @@
 -- The value that a cell stands for.
-use Rattle.std.specs.Prelude.{◌≡◌, ℕ, ◌+◌, ◌<◌, ◌≤◌, List, [], ◌∷◌, map, take, drop, length, All, IsUtf8}
+use Rattle.std.specs.Prelude.{◌≡◌, ◌+◌, ◌<◌, ◌≤◌, List, [], ◌∷◌, map, take, drop, length, All, IsUtf8}
 use Rattle.vortex_types.specs.Values.{Value, null, truth, number, text, bytes, list, values_of}
 use Rattle.vortex_types.specs.ValueOf.{value_or_null}
 use Rattle.vortex_columns.specs.declared.cell.Cell.{Cell}

@@ -7,7 +7,7 @@ use Rattle.vortex_types.specs.declared.dtype.PType.{PType}
 use Rattle.vortex_types.specs.ScalarView.{ScalarView}
 use Rattle.std.specs.Coded.{Coded, code_by, coded×, coded_ℕ, coded_bool, coded_list}
 use Rattle.vortex_types.specs.LogicalTypes.{LogicalType, null_type, integer_type, text_type, bytes_type, struct_type, list_type, fixed_size_list_type, map_type, Fields, no_fields, field, field_count, field_type, is_bool_type, is_nullable}
-use Rattle.vortex_types.specs.Values.{Value, null, truth, number, text, bytes, list, Values, no_values, value, values_of, nth_value, is_null}
+use Rattle.vortex_types.specs.Values.{Value, null, truth, number, text, bytes, list, no_values, value, values_of, nth_value, is_null}
 use Rattle.vortex_types.specs.Typing.{HasType}
 use Rattle.vortex_types.specs.Codes.{coded_value, coded_type}
 use Rattle.vortex_types.specs.ValidityView.{ValidityForm, non_nullable, all_valid, all_invalid, array}

@@ -1,5 +1,5 @@
 -- A column's type is deeper than those of the columns inside it.
-use Rattle.std.specs.Prelude.{◌≡◌, ℕ, ◌+◌, ◌≤◌, max, Bool, List, [], ◌∷◌, length}
+use Rattle.std.specs.Prelude.{ℕ, ◌+◌, ◌≤◌, max, Bool, List, [], ◌∷◌}
 use Rattle.std.proofs.Common.{arith, ap}
 use denote.Param.Weighed.{most}
 use Rattle.vortex_types.specs.LogicalTypes.{LogicalType, type_depth, fields_depth, Fields, no_fields, field}

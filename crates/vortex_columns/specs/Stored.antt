@@ -15,7 +15,7 @@ use Rattle.std.specs.declared.alloc.Global.{Global}
 use Rattle.vortex_types.specs.TypeOf.{type_of, AllDiffer}
 use Rattle.vortex_types.specs.Numbers.{numbers, ptype_of}
 use Rattle.vortex_types.specs.ScalarView.{ScalarView}
-use Rattle.vortex_columns.specs.ColumnView.{ColumnView, AreTyped, constant_form, part, record_at, entries, LieWithin, named_columns}
+use Rattle.vortex_columns.specs.ColumnView.{ColumnView, AreTyped, constant_form, part, record_at, entries, LieWithin}
 use Rattle.vortex_types.specs.ValidityView.{all_invalid, ValidityView, validity_of, is_valid_row, form_allows_null, FitsRows, Reaches}
 
 -- values, one a row, of one kind

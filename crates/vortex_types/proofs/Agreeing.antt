@@ -1,11 +1,11 @@
 -- The test of agreement decides both equalities of types; and its steps over the fields of two structs.
-use Rattle.std.proofs.Common.{◌≡◌, ℕ, zero, suc, ◌+◌, ◌<◌, ◌≤◌, Bool, true, false, not, ◌&&◌, List, [], ◌∷◌, String, string_bytes, Global, length, get_or, drop, ap, refl, sym, ◌∙◌, arith}
+use Rattle.std.proofs.Common.{◌≡◌, ℕ, zero, suc, ◌+◌, ◌<◌, Bool, true, false, not, ◌&&◌, List, [], ◌∷◌, String, string_bytes, Global, length, get_or, drop, ap, refl, sym, ◌∙◌, arith}
 use Rattle.std.specs.Prelude.{nat_eq}
 use Rattle.std.specs.Cmp.Lexicographic.{pointwise}
 use Rattle.std.proofs.lemmas.List.{drop_more}
-use Rattle.vortex_types.specs.LogicalTypes.{LogicalType, null_type, bool_type, integer_type, text_type, bytes_type, struct_type, list_type, fixed_size_list_type, map_type, Fields, no_fields, field, without_nullability, fields_without_nullability, field_count}
-use Rattle.vortex_types.specs.TypeEquality.{bool_eq, ptype_eq, type_eq, fields_eq, alike_types}
-use Rattle.vortex_types.specs.Agreement.{nulls_agree, types_agree, fields_agree}
+use Rattle.vortex_types.specs.LogicalTypes.{LogicalType, null_type, bool_type, integer_type, text_type, bytes_type, struct_type, list_type, fixed_size_list_type, map_type, Fields, no_fields, field, fields_without_nullability, field_count}
+use Rattle.vortex_types.specs.TypeEquality.{bool_eq, type_eq, fields_eq, alike_types}
+use Rattle.vortex_types.specs.Agreement.{types_agree, fields_agree}
 use Rattle.vortex_types.specs.TypeOf.{type_of, fields_view}
 use Rattle.vortex_types.specs.TypeOf.{struct_fields}
 use Rattle.vortex_types.proofs.TypeViews.{struct_fields-out}

@@ -1,11 +1,11 @@
 -- A search for a field by its name, one field at a time.
-use Rattle.std.proofs.Common.{◌≡◌, ℕ, zero, suc, ◌+◌, ◌<◌, ◌≤◌, Bool, true, false, List, [], ◌∷◌, Option, Some, None, drop, length, get_or, refl, sym, ap, ◌∙◌, subst, arith, cond}
+use Rattle.std.proofs.Common.{◌≡◌, ℕ, zero, suc, ◌+◌, ◌<◌, ◌≤◌, Bool, true, false, List, [], ◌∷◌, Option, Some, None, drop, length, get_or, refl, sym, ap, ◌∙◌, arith, cond}
 use Rattle.std.specs.Prelude.{String, string_bytes, nat_eq}
 use Rattle.std.specs.Cmp.Lexicographic.{pointwise}
 use Rattle.std.specs.declared.alloc.Global.{Global}
 use Rattle.std.proofs.Math.Seq.{drop-cons}
 use Rattle.vortex_types.specs.declared.dtype.DType.{DType}
-use Rattle.vortex_types.specs.LogicalTypes.{LogicalType, Fields, no_fields, field, find_field, after_one}
+use Rattle.vortex_types.specs.LogicalTypes.{LogicalType, find_field, after_one}
 use Rattle.vortex_types.specs.TypeOf.{type_of, fields_view}
 
 abbrev pub Field : Type 0

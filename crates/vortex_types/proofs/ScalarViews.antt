@@ -1,7 +1,7 @@
 -- The value of a `ScalarValue`, level by level.
 use Rattle.std.proofs.Common.{◌≡◌, List, [], ◌∷◌, map, Option, None, Some, Vec, Global, refl, ap, ◌∙◌, rules}
-use Rattle.vortex_types.specs.Values.{Value, null, Values, value, list, bytes, values_of}
-use Rattle.vortex_types.specs.ValueOf.{or_null, value_of, value_or_null, values_or_null, scalar_step}
+use Rattle.vortex_types.specs.Values.{Value, value, list, bytes, values_of}
+use Rattle.vortex_types.specs.ValueOf.{or_null, value_of, values_or_null, scalar_step}
 use Rattle.vortex_types.specs.declared.scalar_value.ScalarValue.{ScalarValue, Binary, List as ListValue, the_lemmas, fold-roll-ScalarValue, roll-ScalarValue}
 use denote.Hole.Carrier.{roll}
 use Rattle.vortex_types.specs.declared.scalar_value.ScalarValue.TheOpen.{ScalarValue-F}

@@ -1,5 +1,5 @@
 -- The type that a `DType` stands for, level by level.
-use Rattle.std.proofs.Common.{◌≡◌, ℕ, Box, zero, suc, ◌<◌, List, [], ◌∷◌, ◌++◌, String, string_bytes, Global, length, get_or, ap, refl, sym, ◌∙◌, arith, rules}
+use Rattle.std.proofs.Common.{◌≡◌, ℕ, Box, zero, suc, ◌<◌, List, [], ◌∷◌, ◌++◌, String, string_bytes, Global, length, get_or, ap, refl, ◌∙◌, arith, rules}
 use Rattle.vortex_types.specs.LogicalTypes.{LogicalType, text_type, bytes_type, struct_type, fixed_size_list_type, map_type, Fields, no_fields, field, field_count, field_type}
 use Rattle.vortex_types.specs.TypeOf.{type_of, allows_null, fields_view, struct_fields, type_step, fields_step}
 use Rattle.vortex_types.specs.declared.dtype.Nullability.{Nullability}

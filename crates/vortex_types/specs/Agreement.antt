@@ -1,5 +1,5 @@
 -- Agreement of two types, with nullability or without: the test by which both equalities of types are decided.
-use Rattle.std.specs.Prelude.{ℕ, Bool, true, false, ◌&&◌, nat_eq}
+use Rattle.std.specs.Prelude.{Bool, true, false, ◌&&◌, nat_eq}
 use Rattle.std.specs.Cmp.Lexicographic.{pointwise}
 use Rattle.vortex_types.specs.LogicalTypes.{LogicalType, null_type, bool_type, integer_type, text_type, bytes_type, struct_type, list_type, fixed_size_list_type, map_type, Fields, no_fields, field}
 use Rattle.vortex_types.specs.TypeEquality.{bool_eq, ptype_eq}

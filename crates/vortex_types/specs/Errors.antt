@@ -1,5 +1,5 @@
 -- The number and the name of each refusal.
-use Rattle.std.specs.Prelude.{ℕ, List, ◌++◌, codes}
+use Rattle.std.specs.Prelude.{ℕ, List, codes}
 use Rattle.vortex_types.specs.declared.error.VortexError.{VortexError}
 use Rattle.vortex_types.specs.declared.error.VortexError.TheVariants.{IndexOutOfBounds, LengthMismatch, TypeMismatch, NotBooleanOperator, NotCompareOperator, ArityMismatch, Arithmetic, BadOptions, OutOfMemory, Custom, ScopeMismatch, InvalidColumn, NoSuchPlace}
 use Rattle.vortex_types.specs.declared.error.MismatchPlace.{MismatchPlace}

@@ -1,14 +1,13 @@
 -- Scalars are partially ordered: those of types that agree apart from nullability by their values.
 use Rattle.std.specs.Prelude.{◌≡◌, Bool, true, false, Option, Some, None, refl, if◌then◌else◌, option_map}
-use Rattle.std.proofs.Common.{sym, ap, ◌∙◌}
+use Rattle.std.proofs.Common.{ap, ◌∙◌}
 use Rattle.std.specs.declared.cmp.Ordering.{Ordering}
 use Rattle.std.specs.declared.cmp.Ordering.TheVariants.{Less, Equal, Greater}
 use Rattle.std.specs.Ordering.{is_eq, is_some_and, ordering_reverse}
 use Rattle.std.specs.Bool.{Decides}
-use Rattle.std.specs.Cmp.{IsPartialEquivalence, IsPartialOrder, IsEquivalence, IsTotalOrder, on_equiv, decided, Equal-is, alike_right, tied_back}
-use Rattle.vortex_types.specs.LogicalTypes.{LogicalType, without_nullability}
+use Rattle.std.specs.Cmp.{IsPartialEquivalence, IsPartialOrder, IsEquivalence, on_equiv, decided, Equal-is}
+use Rattle.vortex_types.specs.LogicalTypes.{without_nullability}
 use Rattle.vortex_types.specs.TypeEquality.{type_eq, type_eq-decides, alike_types}
-use Rattle.vortex_types.specs.Values.{Value}
 use Rattle.vortex_types.specs.Order.{compare_values}
 use Rattle.vortex_types.specs.OrderLaws.{compare_values_total}
 use Rattle.vortex_types.specs.ScalarView.{ScalarView, compare_scalars, scalar_eq}

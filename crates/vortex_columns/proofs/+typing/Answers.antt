@@ -1,6 +1,6 @@
-use Rattle.std.proofs.Common.{◌≡◌, ◌<◌, ℕ, ◌↔◌, IsTrue, length, sym, ap, ◌∙◌, subst, arith, rules}
+use Rattle.std.proofs.Common.{◌≡◌, length, sym, ap, ◌∙◌, subst, arith, rules}
 use Rattle.vortex_types.specs.Values.{value_depth, Value}
-use Rattle.vortex_types.specs.Typing.{Each, HasType, HaveFields, IsList, IsPair}
+use Rattle.vortex_types.specs.Typing.{HasType, IsList, IsPair}
 use Rattle.vortex_types.specs.TypeOf.{type_of, struct_fields}
 use Rattle.vortex_columns.specs.ColumnView.{row}
 use Rattle.vortex_columns.specs.Cells.{cell_value, sequence_values}

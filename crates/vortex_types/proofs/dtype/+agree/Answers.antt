@@ -1,4 +1,4 @@
-use Rattle.std.proofs.Common.{◌≡◌, ◌<◌, length, sym, ap, ◌∙◌, arith}
+use Rattle.std.proofs.Common.{◌≡◌, ◌<◌, length, sym, ◌∙◌, arith}
 use Rattle.vortex_types.specs.TypeOf.{struct_fields}
 use Rattle.vortex_types.proofs.TypeViews.{struct_count}
 use Rattle.vortex_types.proofs.Agreeing.{struct_agrees, counts_refute, agree_from_end, names_refute, types_refute}

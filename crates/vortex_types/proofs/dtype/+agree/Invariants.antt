@@ -1,4 +1,4 @@
-use Rattle.std.proofs.Common.{◌≡◌, ◌+◌, ◌*◌}
+use Rattle.std.proofs.Common.{◌≡◌}
 use Rattle.vortex_types.proofs.Agreeing.{agree_from}
 use Rattle.vortex_types.proofs.dtype.+agree.Given as goal
 

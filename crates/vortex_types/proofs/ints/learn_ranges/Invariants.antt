@@ -1,4 +1,4 @@
-use Rattle.std.proofs.Common.{ℕ, ◌<◌, map, slice_index_or, pos, ℤ}
+use Rattle.std.proofs.Common.{ℕ, ◌<◌, map, slice_index_or, ℤ}
 use Rattle.vortex_types.specs.Typing.{FitsPType}
 use Rattle.vortex_types.proofs.ints.learn_ranges.Given as goal
 

@@ -1,7 +1,5 @@
-use Rattle.std.proofs.Common.{◌≡◌, length, map, sym, ap, ◌∙◌, rules}
-use Rattle.std.proofs.lemmas.List.{length-map}
+use Rattle.std.proofs.Common.{◌∙◌, rules}
 use Rattle.vortex_types.specs.LogicalTypes.{struct_type}
-use Rattle.vortex_types.specs.TypeOf.{type_of}
 use Rattle.vortex_types.proofs.TypeViews.{type_of-Struct}
 use Rattle.vortex_columns.specs.ColumnView.{named_columns}
 use Rattle.vortex_columns.proofs.NamedColumns.{named_types_of, are_fields, same_count}

@@ -1,4 +1,4 @@
-use Rattle.std.proofs.Common.{◌≡◌, ◌<◌, length, sym, ap, ◌∙◌, arith}
+use Rattle.std.proofs.Common.{◌<◌, length, sym, ap, ◌∙◌, arith}
 use Rattle.vortex_types.specs.LogicalTypes.{field_type}
 use Rattle.vortex_types.specs.TypeOf.{type_of}
 use Rattle.vortex_types.proofs.TypeViews.{struct_fields-out, struct_count, field_at}

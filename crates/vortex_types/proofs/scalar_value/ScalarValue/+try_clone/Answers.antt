@@ -1,9 +1,8 @@
-use Rattle.std.proofs.Common.{rules, ◌≡◌, ◌∙◌, ap, sym, map, ◌≤◌}
+use Rattle.std.proofs.Common.{◌∙◌, ap, sym, map}
 use Rattle.std.proofs.lemmas.List.{take_all}
-use Rattle.std.proofs.lemmas.List.Elements.{same_from_all_zip}
-use Rattle.vortex_types.specs.Values.{bytes, list, values_of}
-use Rattle.vortex_types.specs.ValueOf.{value_of, value_or_null, values_or_null}
-use Rattle.vortex_types.proofs.ScalarViews.{view-List, view-Binary}
+use Rattle.vortex_types.specs.Values.{list, values_of}
+use Rattle.vortex_types.specs.ValueOf.{value_of, value_or_null}
+use Rattle.vortex_types.proofs.ScalarViews.{view-List}
 use Rattle.vortex_types.proofs.scalar_value.ScalarValue.+try_clone.Goals as goal
 
 pub returns-after-loop-item : goal.returns-after-loop-item
