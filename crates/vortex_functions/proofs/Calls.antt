@@ -1,13 +1,13 @@
 -- From a kernel's answer over its inputs to the answer of a call.
 use Rattle.std.proofs.Common.{◌≡◌, ℕ, zero, suc, ◌<◌, Bool, true, false, not, List, [], ◌∷◌, length, map, get_or, Option, Some, None, refl, sym, ap, ◌∙◌, subst, arith, cond}
 use Rattle.std.specs.Prelude.{IsSome, slice_get, ◌||◌, ◌&&◌, Result}
-use Rattle.vortex_columns.specs.declared.error.VortexError.{VortexError}
-use Rattle.vortex_columns.specs.LogicalTypes.{LogicalType, null_type, bool_type, integer_type, text_type, bytes_type, struct_type, list_type, fixed_size_list_type, map_type, is_nullable, is_bool_type}
-use Rattle.vortex_columns.specs.TypeEquality.{alike_types}
-use Rattle.vortex_columns.specs.Values.{Value, truth}
+use Rattle.vortex_types.specs.declared.error.VortexError.{VortexError}
+use Rattle.vortex_types.specs.LogicalTypes.{LogicalType, null_type, bool_type, integer_type, text_type, bytes_type, struct_type, list_type, fixed_size_list_type, map_type, is_nullable, is_bool_type}
+use Rattle.vortex_types.specs.TypeEquality.{alike_types}
+use Rattle.vortex_types.specs.Values.{Value, truth}
 use Rattle.vortex_columns.specs.ColumnView.{ColumnView, row}
-use Rattle.vortex_columns.specs.Answers.{Answers, AnswersUnlessMemory, UnlessMemory}
-use Rattle.vortex_columns.proofs.Answering.{Answers-weaker}
+use Rattle.vortex_types.specs.Answers.{Answers, AnswersUnlessMemory, UnlessMemory}
+use Rattle.vortex_types.proofs.Answering.{Answers-weaker}
 use Rattle.vortex_kernels.specs.declared.operators.Operator.{Operator}
 use Rattle.vortex_kernels.specs.declared.operators.Operator.TheVariants.{Eq, NotEq, Gt, Gte, Lt, Lte, And, Or, Add, Sub, Mul, Div}
 use Rattle.vortex_kernels.specs.declared.operators.CompareOperator.{CompareOperator}

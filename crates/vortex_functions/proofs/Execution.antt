@@ -5,12 +5,12 @@ use Rattle.std.specs.Option.{option_and_then}
 use borrow.Author.Tests.{eqb-true}
 use Rattle.std.proofs.lemmas.Option.{get_or_from_slice_get}
 use Rattle.std.proofs.lemmas.List.{length-map}
-use Rattle.vortex_columns.specs.declared.error.VortexError.{VortexError}
-use Rattle.vortex_columns.specs.LogicalTypes.{LogicalType}
-use Rattle.vortex_columns.specs.Values.{Value, null}
+use Rattle.vortex_types.specs.declared.error.VortexError.{VortexError}
+use Rattle.vortex_types.specs.LogicalTypes.{LogicalType}
+use Rattle.vortex_types.specs.Values.{Value, null}
 use Rattle.vortex_columns.specs.ColumnView.{ColumnView, row}
-use Rattle.vortex_columns.specs.Answers.{UnlessMemory}
-use Rattle.vortex_columns.proofs.Answering.{UnlessMemory-weaker}
+use Rattle.vortex_types.specs.Answers.{UnlessMemory}
+use Rattle.vortex_types.proofs.Answering.{UnlessMemory-weaker}
 use Rattle.vortex_meaning.specs.Outcomes.{Outcome, gives, faults, GivesValue, IsRowFault, HasCallRows, IsCallFault, call_row, types_in, values_at}
 use Rattle.vortex_meaning.specs.Meaning.{Meaning, fits}
 use Rattle.vortex_meaning.specs.Functions.{Function, function_arity, function_type, function_means, call_type}

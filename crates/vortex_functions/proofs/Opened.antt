@@ -1,9 +1,9 @@
 -- What an opened tree is.
 use Rattle.std.proofs.Common.{◌≡◌, ℕ, zero, suc, ◌≤◌, [], ◌∷◌, length, refl, arith, sym, ap, ◌∙◌, subst, Bool, true, false, IsTrue, ◌↔◌, true≢false, Some, None, Option}
 use Rattle.std.specs.Prelude.{List, string_bytes, slice_get}
-use Rattle.vortex_columns.specs.LogicalTypes.{LogicalType}
-use Rattle.vortex_columns.specs.TypeOf.{type_of}
-use Rattle.vortex_columns.specs.TypeEquality.{type_eq, type_eq-decides}
+use Rattle.vortex_types.specs.LogicalTypes.{LogicalType}
+use Rattle.vortex_types.specs.TypeOf.{type_of}
+use Rattle.vortex_types.specs.TypeEquality.{type_eq, type_eq-decides}
 use Rattle.vortex_columns.specs.ColumnView.{ColumnView}
 use Rattle.vortex_meaning.specs.Meaning.{Meaning}
 use Rattle.vortex_meaning.specs.Trees.{place, Tree, leaf, call, trees_of}

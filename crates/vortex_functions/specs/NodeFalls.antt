@@ -4,7 +4,7 @@ use Rattle.std.proofs.Common.{arith}
 use Rattle.vortex_functions.specs.declared.tree.Node.{Node}
 use Rattle.vortex_functions.specs.declared.tree.Node.TheVariants.{Column, Call}
 use Rattle.vortex_functions.specs.declared.tree.BoundExpression.TheDeep.{deep-Node}
-use Rattle.vortex_columns.specs.LogicalTypes.{LogicalType}
+use Rattle.vortex_types.specs.LogicalTypes.{LogicalType}
 use Rattle.vortex_meaning.specs.Trees.{node_count}
 use Rattle.vortex_functions.specs.Nodes.{node_tree, most_le-nodes_count}
 

@@ -1,8 +1,8 @@
 //! The operators of two operands.
 ghost use Rattle.std.specs.Prelude.{◌≡◌, None, Some, map, MatchOption};
-ghost use Rattle.vortex_columns.specs.declared.error.VortexError.TheVariants.{TypeMismatch};
-ghost use Rattle.vortex_columns.specs.Answers.{Answers};
-ghost use Rattle.vortex_columns.specs.TypeOf.{type_of};
+ghost use Rattle.vortex_types.specs.declared.error.VortexError.TheVariants.{TypeMismatch};
+ghost use Rattle.vortex_types.specs.Answers.{Answers};
+ghost use Rattle.vortex_types.specs.TypeOf.{type_of};
 ghost use Rattle.vortex_kernels.specs.declared.operators.Operator.{Operator};
 ghost use Rattle.vortex_meaning.specs.Shipped.{binary, binary_id, shipped_meaning, both_bool, compared_type, operator_type, operator_place};
 ghost use Rattle.vortex_meaning.specs.ShippedLaws.{shipped_lawful};

@@ -1,10 +1,10 @@
 //! Expression trees over the columns of a scope.
 ghost use Rattle.std.specs.Prelude.{◌≡◌, ◌<◌, ◌↔◌, None, Some, IsTrue, IsOkAnd, MatchOption, length, map, slice_get};
 ghost use Rattle.std.specs.Cow.{cow_value};
-ghost use Rattle.vortex_columns.specs.declared.error.VortexError.TheVariants.{ScopeMismatch};
-ghost use Rattle.vortex_columns.specs.Answers.{Answers, AnswersUnlessMemory};
-ghost use Rattle.vortex_columns.specs.LogicalTypes.{find_field};
-ghost use Rattle.vortex_columns.specs.TypeOf.{type_of, struct_fields};
+ghost use Rattle.vortex_types.specs.declared.error.VortexError.TheVariants.{ScopeMismatch};
+ghost use Rattle.vortex_types.specs.Answers.{Answers, AnswersUnlessMemory};
+ghost use Rattle.vortex_types.specs.LogicalTypes.{find_field};
+ghost use Rattle.vortex_types.specs.TypeOf.{type_of, struct_fields};
 ghost use Rattle.vortex_meaning.specs.Trees.{trees_of, children_of, called};
 ghost use Rattle.vortex_meaning.specs.Eval.{tree_type, tree_types, HasTreeRows, IsFirstFault};
 ghost use Rattle.vortex_meaning.specs.Execution.{LeavesFit, other_length, Executes, RefusesExecution};
@@ -51,7 +51,7 @@ impl<C: ScalarFnVTable> Model for BoundExpression<C> {
 
     ghost size = { node_count };
 
-    ghost use Rattle.vortex_columns.specs.TypeOf.{type_of};
+    ghost use Rattle.vortex_types.specs.TypeOf.{type_of};
     ghost use Rattle.vortex_functions.specs.NodeFalls.{deep_le-node_count};
 
     ghost size_decreases = { λ a h. deep_le-node_count C C.Options C.ScalarFnVTable C.Clone C.Options.Clone C.Options.Debug C.Options.Display C.Options.PartialEq C.Options.Hash (type_of a.dtype) a.node };

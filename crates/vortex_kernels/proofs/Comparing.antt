@@ -4,13 +4,14 @@ use Rattle.std.specs.Prelude.{◌||◌, ◌&&◌, nat_eq, not, ℤ, pos, Option,
 use Rattle.std.specs.declared.cmp.Ordering.{Ordering}
 use Rattle.std.specs.Ordering.{int_cmp, bool_cmp}
 use Rattle.std.proofs.lemmas.List.FromFn.{get_or-map-range_with_len, length-map-range_with_len}
-use Rattle.vortex_columns.specs.Values.{Value, null, truth, number, text, bytes, list, truth_of, is_null}
-use Rattle.vortex_columns.specs.LogicalTypes.{LogicalType, null_type, bool_type, integer_type, text_type, bytes_type, struct_type, list_type, fixed_size_list_type, map_type, is_nullable}
-use Rattle.vortex_columns.specs.TypeEquality.{alike_types}
-use Rattle.vortex_columns.specs.Typing.{HasType}
-use Rattle.vortex_columns.specs.Order.{compare_values}
-use Rattle.vortex_columns.specs.ScalarView.{ScalarView, compare_scalars}
-use Rattle.vortex_columns.specs.ColumnView.{ColumnView, row, AreTyped, constant_column, AreInts, AreBits, non_nullable, array}
+use Rattle.vortex_types.specs.Values.{Value, null, truth, number, text, bytes, list, truth_of, is_null}
+use Rattle.vortex_types.specs.LogicalTypes.{LogicalType, null_type, bool_type, integer_type, text_type, bytes_type, struct_type, list_type, fixed_size_list_type, map_type, is_nullable}
+use Rattle.vortex_types.specs.TypeEquality.{alike_types}
+use Rattle.vortex_types.specs.Typing.{HasType}
+use Rattle.vortex_types.specs.Order.{compare_values}
+use Rattle.vortex_types.specs.ScalarView.{ScalarView, compare_scalars}
+use Rattle.vortex_columns.specs.ColumnView.{ColumnView, row, AreTyped, constant_column, AreInts, AreBits}
+use Rattle.vortex_types.specs.ValidityView.{non_nullable, array}
 use Rattle.vortex_columns.specs.Stored.{bool_column}
 use Rattle.vortex_kernels.specs.declared.operators.CompareOperator.{CompareOperator}
 use Rattle.vortex_kernels.specs.Rows.{HasRows, AreAnswers}

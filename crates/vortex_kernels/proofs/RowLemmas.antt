@@ -3,10 +3,11 @@ use Rattle.std.proofs.Common.{◌≡◌, ◌⊎◌, inl, inr, ℕ, zero, suc, �
 use Rattle.std.specs.Prelude.{IsTrue, is_some, unwrap_or, ◌||◌, ◌&&◌, slice_index_or}
 use Rattle.std.proofs.lemmas.List.{get_or-map, length-map}
 use Rattle.std.proofs.lemmas.List.FromFn.{get_or-map-range_with_len, length-map-range_with_len}
-use Rattle.vortex_columns.specs.LogicalTypes.{LogicalType, null_type, bool_type, integer_type, text_type, bytes_type, struct_type, list_type, fixed_size_list_type, map_type, is_bool_type, is_nullable}
-use Rattle.vortex_columns.specs.Values.{Value, null, truth, number, text, bytes, list, truth_of, truth_or_null}
-use Rattle.vortex_columns.specs.Typing.{HasType}
-use Rattle.vortex_columns.specs.ColumnView.{ColumnView, row, AreTyped, non_nullable, array}
+use Rattle.vortex_types.specs.LogicalTypes.{LogicalType, null_type, bool_type, integer_type, text_type, bytes_type, struct_type, list_type, fixed_size_list_type, map_type, is_bool_type, is_nullable}
+use Rattle.vortex_types.specs.Values.{Value, null, truth, number, text, bytes, list, truth_of, truth_or_null}
+use Rattle.vortex_types.specs.Typing.{HasType}
+use Rattle.vortex_columns.specs.ColumnView.{ColumnView, row, AreTyped}
+use Rattle.vortex_types.specs.ValidityView.{non_nullable, array}
 use Rattle.vortex_columns.specs.Stored.{bool_column}
 use Rattle.vortex_kernels.specs.declared.operators.Operator.{Operator}
 use Rattle.vortex_kernels.specs.declared.operators.Operator.TheVariants.{And, Or}

@@ -2,15 +2,15 @@
 use Rattle.std.specs.Prelude.{◌≡◌, ◌≢◌, ℕ, ◌<◌, List, ◌||◌, ◌&&◌, Bool, true, false, length, nat_eq, slice_index_or, if◌then◌else◌}
 use Rattle.std.specs.declared.cmp.Ordering.{Ordering}
 use Rattle.std.specs.Ordering.{is_eq, is_ne, is_lt, is_le, is_gt, is_ge}
-use Rattle.vortex_columns.specs.declared.error.VortexError.{VortexError}
-use Rattle.vortex_columns.specs.declared.error.VortexError.TheVariants.{LengthMismatch, TypeMismatch}
-use Rattle.vortex_columns.specs.declared.error.MismatchPlace.{MismatchPlace}
-use Rattle.vortex_columns.specs.declared.error.MismatchPlace.TheVariants as place
-use Rattle.vortex_columns.specs.LogicalTypes.{LogicalType, bool_type, is_nullable}
-use Rattle.vortex_columns.specs.TypeEquality.{alike_types}
-use Rattle.vortex_columns.specs.Values.{Value, null, truth, is_null}
-use Rattle.vortex_columns.specs.Order.{compare_values}
-use Rattle.vortex_columns.specs.ScalarView.{ScalarView}
+use Rattle.vortex_types.specs.declared.error.VortexError.{VortexError}
+use Rattle.vortex_types.specs.declared.error.VortexError.TheVariants.{LengthMismatch, TypeMismatch}
+use Rattle.vortex_types.specs.declared.error.MismatchPlace.{MismatchPlace}
+use Rattle.vortex_types.specs.declared.error.MismatchPlace.TheVariants as place
+use Rattle.vortex_types.specs.LogicalTypes.{LogicalType, bool_type, is_nullable}
+use Rattle.vortex_types.specs.TypeEquality.{alike_types}
+use Rattle.vortex_types.specs.Values.{Value, null, truth, is_null}
+use Rattle.vortex_types.specs.Order.{compare_values}
+use Rattle.vortex_types.specs.ScalarView.{ScalarView}
 use Rattle.vortex_columns.specs.ColumnView.{ColumnView, row}
 use Rattle.vortex_kernels.specs.declared.operators.CompareOperator.{CompareOperator}
 use Rattle.vortex_kernels.specs.declared.operators.CompareOperator.TheVariants.{Eq, NotEq, Gt, Gte, Lt, Lte}

@@ -4,9 +4,9 @@ use Rattle.std.proofs.Common.{ap, ◌∙◌}
 use Rattle.std.specs.declared.cmp.Ordering.{Ordering}
 use Rattle.std.specs.declared.cmp.Ordering.TheVariants.{Less, Equal, Greater}
 use Rattle.std.specs.Ordering.{ordering_reverse}
-use Rattle.vortex_columns.specs.Values.{Value, null, truth, is_null}
-use Rattle.vortex_columns.specs.Order.{compare_values}
-use Rattle.vortex_columns.specs.OrderLaws.{compare_values_total}
+use Rattle.vortex_types.specs.Values.{Value, null, truth, is_null}
+use Rattle.vortex_types.specs.Order.{compare_values}
+use Rattle.vortex_types.specs.OrderLaws.{compare_values_total}
 use Rattle.vortex_kernels.specs.declared.operators.CompareOperator.{CompareOperator}
 use Rattle.vortex_kernels.specs.declared.operators.CompareOperator.TheVariants.{Eq, NotEq, Gt, Gte, Lt, Lte}
 use Rattle.vortex_kernels.specs.Operators.{compare_inverse, compare_swap}

@@ -1,7 +1,7 @@
 -- A column that is known by its type and its rows.
 use Rattle.std.specs.Prelude.{◌≡◌, ℕ, ◌<◌, List, length, slice_index_or, Bool, Option, Some, None, IsTrue}
-use Rattle.vortex_columns.specs.LogicalTypes.{LogicalType}
-use Rattle.vortex_columns.specs.Values.{Value}
+use Rattle.vortex_types.specs.LogicalTypes.{LogicalType}
+use Rattle.vortex_types.specs.Values.{Value}
 use Rattle.vortex_columns.specs.ColumnView.{ColumnView, row}
 
 -- the column has the type and the number of rows, and in each row the value that is given

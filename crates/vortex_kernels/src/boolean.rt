@@ -1,8 +1,8 @@
 //! And, Or and Not by Kleene's tables.
 ghost use Rattle.std.specs.Prelude.{◌≡◌, ◌<◌, ◌||◌, None, true, length};
-ghost use Rattle.vortex_columns.specs.Answers.{Answers, AnswersUnlessMemory};
-ghost use Rattle.vortex_columns.specs.LogicalTypes.{is_bool_type, is_nullable};
-ghost use Rattle.vortex_columns.specs.Values.{truth_of};
+ghost use Rattle.vortex_types.specs.Answers.{Answers, AnswersUnlessMemory};
+ghost use Rattle.vortex_types.specs.LogicalTypes.{is_bool_type, is_nullable};
+ghost use Rattle.vortex_types.specs.Values.{truth_of};
 ghost use Rattle.vortex_columns.specs.ColumnView.{row};
 ghost use Rattle.vortex_kernels.specs.declared.operators.Operator.{Operator};
 ghost use Rattle.vortex_kernels.specs.declared.operators.Operator.TheVariants.{And, Or};

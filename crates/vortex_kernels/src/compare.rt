@@ -1,11 +1,11 @@
 //! Comparison of columns and of scalars, by the order of values.
 ghost use Rattle.std.specs.Prelude.{◌≡◌, ◌<◌, ◌||◌, true, false, not, length, IsTrue, MatchResult};
-ghost use Rattle.vortex_columns.specs.declared.error.VortexError.TheVariants.{TypeMismatch};
-ghost use Rattle.vortex_columns.specs.declared.error.MismatchPlace.TheVariants.{Scalars};
-ghost use Rattle.vortex_columns.specs.Answers.{Answers, AnswersUnlessMemory};
-ghost use Rattle.vortex_columns.specs.LogicalTypes.{bool_type};
-ghost use Rattle.vortex_columns.specs.TypeOf.{allows_null};
-ghost use Rattle.vortex_columns.specs.Values.{is_null, null};
+ghost use Rattle.vortex_types.specs.declared.error.VortexError.TheVariants.{TypeMismatch};
+ghost use Rattle.vortex_types.specs.declared.error.MismatchPlace.TheVariants.{Scalars};
+ghost use Rattle.vortex_types.specs.Answers.{Answers, AnswersUnlessMemory};
+ghost use Rattle.vortex_types.specs.LogicalTypes.{bool_type};
+ghost use Rattle.vortex_types.specs.TypeOf.{allows_null};
+ghost use Rattle.vortex_types.specs.Values.{is_null, null};
 ghost use Rattle.vortex_columns.specs.ColumnView.{row};
 ghost use Rattle.vortex_kernels.specs.Rows.{HasRows, AreAnswers};
 ghost use Rattle.vortex_kernels.specs.Comparison.{are_comparable, compared_scalar, is_null_constant, IsConstantOf, HasComparisonRows, AnswersCompare, RefusesCompare, AreComparisons};

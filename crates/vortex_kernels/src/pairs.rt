@@ -2,9 +2,9 @@
 ghost use Rattle.std.specs.Prelude.{◌≡◌, ◌<◌, ℕ, pos, false, map, length, slice_index_or, IfSome};
 ghost use Rattle.std.specs.declared.cmp.Ordering.{Ordering};
 ghost use Rattle.std.specs.Ordering.{int_cmp, bool_cmp};
-ghost use Rattle.vortex_columns.specs.Answers.{AnswersUnlessMemory};
-ghost use Rattle.vortex_columns.specs.Values.{number, truth};
-ghost use Rattle.vortex_columns.specs.Order.{compare_values};
+ghost use Rattle.vortex_types.specs.Answers.{AnswersUnlessMemory};
+ghost use Rattle.vortex_types.specs.Values.{number, truth};
+ghost use Rattle.vortex_types.specs.Order.{compare_values};
 ghost use Rattle.vortex_columns.specs.ColumnView.{row};
 ghost use Rattle.vortex_kernels.specs.declared.operators.CompareOperator.{CompareOperator};
 ghost use Rattle.vortex_kernels.specs.declared.operators.CompareOperator.TheVariants.{Eq, NotEq, Gt, Gte, Lt, Lte};

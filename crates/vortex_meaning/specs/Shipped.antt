@@ -1,12 +1,12 @@
 -- The shipped functions: types, row meaning and marks.
 use Rattle.std.specs.Prelude.{ℕ, zero, suc, codes, List, [], ◌∷◌, Option, Some, None, Bool, true, false, ◌||◌, not, if◌then◌else◌}
-use Rattle.vortex_columns.specs.declared.arity.Arity.{Arity}
-use Rattle.vortex_columns.specs.declared.arity.Arity.TheVariants.{Exact}
-use Rattle.vortex_columns.specs.declared.error.MismatchPlace.{MismatchPlace}
-use Rattle.vortex_columns.specs.declared.error.MismatchPlace.TheVariants as place
-use Rattle.vortex_columns.specs.LogicalTypes.{LogicalType, bool_type}
-use Rattle.vortex_columns.specs.TypeEquality.{alike_types}
-use Rattle.vortex_columns.specs.Values.{Value, null}
+use Rattle.vortex_types.specs.declared.arity.Arity.{Arity}
+use Rattle.vortex_types.specs.declared.arity.Arity.TheVariants.{Exact}
+use Rattle.vortex_types.specs.declared.error.MismatchPlace.{MismatchPlace}
+use Rattle.vortex_types.specs.declared.error.MismatchPlace.TheVariants as place
+use Rattle.vortex_types.specs.LogicalTypes.{LogicalType, bool_type}
+use Rattle.vortex_types.specs.TypeEquality.{alike_types}
+use Rattle.vortex_types.specs.Values.{Value, null}
 use Rattle.vortex_kernels.specs.declared.operators.Operator.{Operator}
 use Rattle.vortex_kernels.specs.declared.operators.Operator.TheVariants.{Eq, NotEq, Gt, Gte, Lt, Lte, And, Or, Add, Sub, Mul, Div}
 use Rattle.vortex_kernels.specs.Operators.{is_arithmetic, is_boolean, compare_operator_of}

@@ -1,11 +1,11 @@
 -- The shipped functions are lawful.
 use Rattle.std.specs.Prelude.{◌≡◌, ◌⊎◌, ℕ, zero, suc, ◌<◌, List, [], ◌∷◌, Option, Some, None, Bool, true, false, ◌||◌, not, Any, length, slice_index_or, refl}
 use Rattle.std.proofs.Common.{sym, ap, ◌∙◌, subst, arith, cond, inl, inr}
-use Rattle.vortex_columns.specs.LogicalTypes.{LogicalType, bool_type, is_nullable}
-use Rattle.vortex_columns.specs.Values.{Value, null, truth, truth_of, truth_or_null, is_null}
-use Rattle.vortex_columns.specs.Order.{compare_values}
-use Rattle.vortex_columns.specs.TypeEquality.{alike_types}
-use Rattle.vortex_columns.specs.Typing.{HasType}
+use Rattle.vortex_types.specs.LogicalTypes.{LogicalType, bool_type, is_nullable}
+use Rattle.vortex_types.specs.Values.{Value, null, truth, truth_of, truth_or_null, is_null}
+use Rattle.vortex_types.specs.Order.{compare_values}
+use Rattle.vortex_types.specs.TypeEquality.{alike_types}
+use Rattle.vortex_types.specs.Typing.{HasType}
 use Rattle.vortex_kernels.specs.declared.operators.Operator.{Operator}
 use Rattle.vortex_kernels.specs.declared.operators.Operator.TheVariants.{Eq, NotEq, Gt, Gte, Lt, Lte, And, Or, Add, Sub, Mul, Div}
 use Rattle.vortex_kernels.specs.declared.operators.CompareOperator.{CompareOperator}

@@ -1,5 +1,5 @@
 use Rattle.std.specs.Prelude.{None}
-use Rattle.vortex_columns.specs.Values.{truth_of}
+use Rattle.vortex_types.specs.Values.{truth_of}
 use Rattle.vortex_columns.specs.ColumnView.{row}
 use Rattle.vortex_kernels.specs.Kleene.{kleene}
 use Rattle.vortex_kernels.specs.Rows.{AreAnswers}

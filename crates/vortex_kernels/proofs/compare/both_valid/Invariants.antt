@@ -1,5 +1,5 @@
 use Rattle.std.specs.Prelude.{false, not, ◌||◌}
-use Rattle.vortex_columns.specs.Values.{is_null}
+use Rattle.vortex_types.specs.Values.{is_null}
 use Rattle.vortex_columns.specs.ColumnView.{row}
 use Rattle.vortex_kernels.specs.Rows.{AreAnswers}
 use Rattle.vortex_kernels.proofs.compare.both_valid.Given as goal

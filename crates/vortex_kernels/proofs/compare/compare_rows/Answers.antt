@@ -1,12 +1,12 @@
 use Rattle.std.proofs.Common.{◌≡◌, [], ◌∙◌, length, sym, ap, subst, List, Bool}
 use Rattle.std.specs.Prelude.{◌||◌}
-use Rattle.vortex_columns.specs.declared.error.VortexError.TheVariants.{InvalidColumn}
-use Rattle.vortex_columns.specs.LogicalTypes.{is_nullable}
-use Rattle.vortex_columns.specs.TypeOf.{allows_null}
-use Rattle.vortex_columns.specs.ColumnView.{ColumnView, non_nullable, array}
-use Rattle.vortex_columns.specs.ValidityView.{ValidityView, FitsRows}
+use Rattle.vortex_types.specs.declared.error.VortexError.TheVariants.{InvalidColumn}
+use Rattle.vortex_types.specs.LogicalTypes.{is_nullable}
+use Rattle.vortex_types.specs.TypeOf.{allows_null}
+use Rattle.vortex_columns.specs.ColumnView.{ColumnView}
+use Rattle.vortex_types.specs.ValidityView.{non_nullable, array, ValidityView, FitsRows}
 use Rattle.vortex_columns.specs.Stored.{bool_column}
-use Rattle.vortex_columns.proofs.Answering.{answers_where}
+use Rattle.vortex_types.proofs.Answering.{answers_where}
 use Rattle.vortex_kernels.specs.Comparison.{HasComparisonRows, AreComparisons}
 use Rattle.vortex_kernels.proofs.Comparing.{plain_comparisons, nullable_comparisons}
 use Rattle.vortex_kernels.proofs.compare.compare_rows.Goals as goal

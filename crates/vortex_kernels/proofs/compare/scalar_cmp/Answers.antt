@@ -1,7 +1,7 @@
 use Rattle.std.proofs.Common.{◌∙◌, sym, ap}
 use Rattle.std.specs.Prelude.{◌||◌}
-use Rattle.vortex_columns.specs.LogicalTypes.{bool_type, is_nullable}
-use Rattle.vortex_columns.specs.Values.{truth}
+use Rattle.vortex_types.specs.LogicalTypes.{bool_type, is_nullable}
+use Rattle.vortex_types.specs.Values.{truth}
 use Rattle.vortex_kernels.proofs.Comparing.{scalars_compared}
 use Rattle.vortex_kernels.proofs.compare.scalar_cmp.Goals as goal
 

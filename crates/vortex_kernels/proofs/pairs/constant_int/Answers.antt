@@ -2,7 +2,7 @@ use Rattle.std.proofs.Common.{◌≡◌, sym, ap, ◌∙◌, arith, to_z-of_z}
 use Rattle.std.specs.Int.{w128}
 use mir.Val.{to_z, of_z}
 use Rattle.vortex_columns.specs.Cells.{cell_value}
-use Rattle.vortex_columns.specs.Values.{number}
+use Rattle.vortex_types.specs.Values.{number}
 use Rattle.vortex_kernels.proofs.Comparing.{constant_row}
 use Rattle.vortex_kernels.proofs.pairs.constant_int.Goals as goal
 

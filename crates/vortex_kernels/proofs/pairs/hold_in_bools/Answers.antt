@@ -1,7 +1,7 @@
 use Rattle.std.proofs.Common.{◌≡◌, length}
 use Rattle.std.specs.Prelude.{false, slice_index_or}
 use Rattle.std.specs.Ordering.{bool_cmp}
-use Rattle.vortex_columns.proofs.Answering.{AnswersUnlessMemory-weaker}
+use Rattle.vortex_types.proofs.Answering.{AnswersUnlessMemory-weaker}
 use Rattle.vortex_kernels.specs.Comparison.{AreHeld, AreComparisons}
 use Rattle.vortex_kernels.proofs.Comparing.{held_compares, bits_order, bit_order}
 use Rattle.vortex_kernels.proofs.pairs.hold_in_bools.Goals as goal

@@ -1,7 +1,7 @@
 use Rattle.std.proofs.Common.{◌≡◌, length}
-use Rattle.vortex_columns.proofs.Answering.{AnswersUnlessMemory-weaker}
+use Rattle.vortex_types.proofs.Answering.{AnswersUnlessMemory-weaker}
 use Rattle.vortex_kernels.specs.Comparison.{AreHeld, AreComparisons}
-use Rattle.vortex_columns.specs.Order.{compare_values}
+use Rattle.vortex_types.specs.Order.{compare_values}
 use Rattle.vortex_columns.specs.ColumnView.{row}
 use Rattle.vortex_kernels.proofs.Comparing.{held_compares}
 use Rattle.vortex_kernels.proofs.pairs.hold_in_cells.Goals as goal

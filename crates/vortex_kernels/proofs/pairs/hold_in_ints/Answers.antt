@@ -3,7 +3,7 @@ use Rattle.std.specs.Int.{w128}
 use mir.Val.{to_z, of_z}
 use Rattle.std.specs.Prelude.{pos, slice_index_or}
 use Rattle.std.specs.Ordering.{int_cmp}
-use Rattle.vortex_columns.proofs.Answering.{AnswersUnlessMemory-weaker}
+use Rattle.vortex_types.proofs.Answering.{AnswersUnlessMemory-weaker}
 use Rattle.vortex_kernels.specs.Comparison.{AreHeld, AreComparisons}
 use Rattle.vortex_kernels.proofs.Comparing.{held_compares, ints_order, int_order}
 use Rattle.vortex_kernels.proofs.pairs.hold_in_ints.Goals as goal

@@ -1,0 +1,17 @@
+pub mod Arities
+pub mod LogicalTypes
+pub mod TypeEquality
+pub mod Agreement
+pub mod Values
+pub mod Typing
+pub mod Order
+pub mod OrderLaws
+pub mod Codes
+pub mod ScalarView
+pub mod ScalarLaws
+pub mod Answers
+pub mod Errors
+pub mod TypeOf
+pub mod ValueOf
+pub mod ValidityView
+pub mod Numbers
