@@ -1,20 +1,22 @@
 -- From the children's columns to a call's column or its refusal.
-use Rattle.std.proofs.Common.{◌≡◌, ℕ, zero, suc, ◌+◌, ◌<◌, ◌≤◌, refl, sym, ap, subst, ◌∙◌, List, [], ◌∷◌, ◌++◌, length, get_or, take, map, inl, inr, Bool, true, false, Option, Some, None, arith, nat_eq}
-use Rattle.std.specs.Prelude.{slice_index_or, slice_get, IsSome, if◌then◌else◌, ⊤, IsTrue}
+use Rattle.std.proofs.Common.{◌≡◌, ℕ, zero, suc, ◌<◌, ◌≤◌, refl, sym, ap, subst, ◌∙◌, List, [], ◌∷◌, ◌++◌, length, get_or, take, inl, inr, Bool, true, false, Option, Some, None, arith, nat_eq}
+use Rattle.std.specs.Prelude.{slice_get, if◌then◌else◌, ⊤}
 use Rattle.std.specs.Option.{option_and_then}
 use borrow.Author.Tests.{eqb-true}
 use Rattle.std.proofs.lemmas.Option.{get_or_from_slice_get}
 use Rattle.std.proofs.lemmas.List.{length-map}
+use Rattle.std.proofs.lemmas.List.FromFn.{get_or-map-range_with_len, length-map-range_with_len}
 use Rattle.vortex_types.specs.declared.error.VortexError.{VortexError}
 use Rattle.vortex_types.specs.LogicalTypes.{LogicalType}
-use Rattle.vortex_types.specs.Values.{Value, null}
-use Rattle.vortex_columns.specs.ColumnView.{ColumnView, row}
+use Rattle.vortex_types.specs.Values.{null}
+use Rattle.vortex_columns.specs.ColumnView.{ColumnView, row, constant_column}
+use Rattle.vortex_types.specs.ScalarView.{ScalarView}
 use Rattle.vortex_types.specs.Answers.{UnlessMemory}
 use Rattle.vortex_types.proofs.Answering.{UnlessMemory-weaker}
-use Rattle.vortex_meaning.specs.Outcomes.{Outcome, gives, faults, GivesValue, IsRowFault, HasCallRows, IsCallFault, call_row, types_in, values_at}
+use Rattle.vortex_meaning.specs.Outcomes.{gives, GivesValue, HasCallRows, IsCallFault, call_row, types_in, values_at}
 use Rattle.vortex_meaning.specs.Meaning.{Meaning, fits}
 use Rattle.vortex_meaning.specs.Functions.{Function, function_arity, function_type, function_means, call_type}
-use Rattle.vortex_meaning.specs.Trees.{place, held, Tree, leaf, constant, call, Trees, no_trees, tree, trees_of, node_count, nodes_count}
+use Rattle.vortex_meaning.specs.Trees.{place, Tree, leaf, constant, call, trees_of, node_count, nodes_count}
 use Rattle.vortex_meaning.specs.Eval.{tree_type, tree_types, with_type, types_or_none, eval, eval_all, then_means, all_give, Settled, AllSettled, IsFirstFault, IsFirstFaultIn, HasTreeRows}
 use Rattle.vortex_meaning.specs.Execution.{LeavesFit, AllLeavesFit, other_length}
 
@@ -184,4 +186,14 @@ leaf_rows {V} {O} m cs n self p name k c is fit lengths e =
       dtype = ap Some (sym h.2 ∙ ap (λ (x : ColumnView). x.dtype) q);
       count = same_length n cs p c lengths found;
       each = λ i lt. rw found refl;
+    })
+
+-- a literal's column
+pub constant_rows : {V O : Type 0} (m : Meaning V O) (cs : List ColumnView) (n : ℕ) (self : Tree V O) (s : ScalarView) (c : ColumnView) → self ≡ constant s → c ≡ constant_column s n → HasTreeRows m cs n self c
+constant_rows {V} {O} m cs n self s c is e =
+    subst (λ (t : Tree V O). HasTreeRows m cs n t c) (sym is) (record {
+      dtype = ap (λ (d : ColumnView). Some d.dtype) (sym e);
+      count = ap (λ (d : ColumnView). length d.rows) e ∙ length-map-range_with_len (λ i. s.value) 0 n;
+      each = λ i lt.
+          ap gives (sym (ap (λ (d : ColumnView). row d.rows i) e ∙ get_or-map-range_with_len (λ k. s.value) 0 n i i null lt (omega arith)));
     })

@@ -1,19 +1,11 @@
 -- What an opened tree is.
-use Rattle.std.proofs.Common.{◌≡◌, ℕ, zero, suc, ◌≤◌, [], ◌∷◌, length, refl, arith, sym, ap, ◌∙◌, subst, Bool, true, false, IsTrue, ◌↔◌, true≢false, Some, None, Option}
-use Rattle.std.specs.Prelude.{List, string_bytes, slice_get}
+use Rattle.std.proofs.Common.{◌≡◌, ℕ, zero, suc, ◌≤◌, [], ◌∷◌, length, refl, arith, sym, ap, ◌∙◌, Bool, false, IsTrue, ◌↔◌, true≢false, Some, None}
+use Rattle.std.specs.Prelude.{List, slice_get}
 use Rattle.vortex_types.specs.LogicalTypes.{LogicalType}
-use Rattle.vortex_types.specs.TypeOf.{type_of}
 use Rattle.vortex_types.specs.TypeEquality.{type_eq, type_eq-decides}
 use Rattle.vortex_columns.specs.ColumnView.{ColumnView}
-use Rattle.vortex_meaning.specs.Meaning.{Meaning}
-use Rattle.vortex_meaning.specs.Trees.{place, Tree, leaf, call, trees_of}
-use Rattle.vortex_meaning.specs.Eval.{tree_type}
-use Rattle.vortex_meaning.specs.Execution.{LeavesFit, LeafFits}
-use Rattle.vortex_functions.specs.declared.tree.Node.{Node}
-use Rattle.vortex_functions.specs.declared.tree.Node.TheVariants.{Column, Call}
-use Rattle.vortex_functions.specs.declared.tree.BoundExpression.TheInside.{Inside}
-use Rattle.vortex_functions.specs.FunctionOf.{function_of}
-use Rattle.vortex_functions.specs.Nodes.{node_tree, expression_view, IsExpression}
+use Rattle.vortex_meaning.specs.Trees.{place}
+use Rattle.vortex_meaning.specs.Execution.{LeafFits}
 
 -- an answer no, by what a yes would need
 pub refuted : (b : Bool) (P Q : Type 0) → b ≡ false → (IsTrue b ↔ P) → (Q → P) → IsTrue false ↔ Q

@@ -1,11 +1,12 @@
 //! Expression trees over the columns of a scope.
 ghost use Rattle.std.specs.Prelude.{◌≡◌, ◌<◌, ◌↔◌, None, Some, IsTrue, IsOkAnd, MatchOption, length, map, slice_get};
 ghost use Rattle.std.specs.Cow.{cow_value};
+ghost use Rattle.std.specs.Option.{option_copied};
 ghost use Rattle.vortex_types.specs.declared.error.VortexError.TheVariants.{ScopeMismatch};
 ghost use Rattle.vortex_types.specs.Answers.{Answers, AnswersUnlessMemory};
 ghost use Rattle.vortex_types.specs.LogicalTypes.{find_field};
 ghost use Rattle.vortex_types.specs.TypeOf.{type_of, struct_fields};
-ghost use Rattle.vortex_meaning.specs.Trees.{trees_of, children_of, called};
+ghost use Rattle.vortex_meaning.specs.Trees.{constant, trees_of, children_of, called, literal};
 ghost use Rattle.vortex_meaning.specs.Eval.{tree_type, tree_types, HasTreeRows, IsFirstFault};
 ghost use Rattle.vortex_meaning.specs.Execution.{LeavesFit, other_length, Executes, RefusesExecution};
 ghost use Rattle.vortex_functions.specs.FunctionOf.{function_of};
@@ -17,21 +18,24 @@ use crate::vtable::ScalarFnVTable;
 use std::alloc::Global;
 use std::borrow::Cow;
 use std::marker::Model;
-use vortex_columns::{Column, DType, ExecutionCtx, StructFields, VortexError, VortexResult};
+use vortex_columns::{
+    Column, DType, ExecutionCtx, Scalar, StructFields, VortexError, VortexResult,
+};
 
 #[cycle(expression)]
 #[derive(Drop)]
 enum Node<C: ScalarFnVTable> {
-    /// The place of a column in the scope, and its name.
-    Column(usize, String),
-    Call(ScalarFnRef<C>, Vec<BoundExpression<C>>),
+    /// The place of a column in the scope, its name and its type.
+    Column(usize, String, DType),
+    Literal(Scalar),
+    /// A function, its children, and the type of its answer.
+    Call(ScalarFnRef<C>, Vec<BoundExpression<C>>, DType),
 }
 
-/// A well-typed tree of calls over column leaves.
+/// A well-typed tree of calls over column leaves and literals.
 #[cycle(expression)]
 #[derive(Drop)]
 pub struct BoundExpression<C: ScalarFnVTable> {
-    dtype: DType,
     node: Node<C>,
 }
 
@@ -51,10 +55,9 @@ impl<C: ScalarFnVTable> Model for BoundExpression<C> {
 
     ghost size = { node_count };
 
-    ghost use Rattle.vortex_types.specs.TypeOf.{type_of};
     ghost use Rattle.vortex_functions.specs.NodeFalls.{deep_le-node_count};
 
-    ghost size_decreases = { λ a h. deep_le-node_count C C.Options C.ScalarFnVTable C.Clone C.Options.Clone C.Options.Debug C.Options.Display C.Options.PartialEq C.Options.Hash (type_of a.dtype) a.node };
+    ghost size_decreases = { λ a h. deep_le-node_count C C.Options C.ScalarFnVTable C.Clone C.Options.Clone C.Options.Debug C.Options.Display C.Options.PartialEq C.Options.Hash a.node };
 }
 
 /// The types of trees.
@@ -97,11 +100,19 @@ impl<C: ScalarFnVTable> BoundExpression<C> {
                 let name = String::from_str(alloc, name)?;
                 let dtype = dtype.try_clone(alloc)?;
                 Ok(BoundExpression {
-                    dtype,
-                    node: Node::Column(place, name),
+                    node: Node::Column(place, name, dtype),
                 })
             }
             None => Err(VortexError::ScopeMismatch),
+        }
+    }
+
+    /// The leaf that has that value in every row, of the scalar's type. Takes no memory.
+    pub fn lit(scalar: Scalar) -> BoundExpression<C>
+        ensures { result ≡ constant scalar }
+    {
+        BoundExpression {
+            node: Node::Literal(scalar),
         }
     }
 
@@ -122,8 +133,7 @@ impl<C: ScalarFnVTable> BoundExpression<C> {
         let dtypes = dtypes_of(alloc, &children)?;
         let dtype = function.return_dtype(alloc, &dtypes)?;
         Ok(BoundExpression {
-            dtype,
-            node: Node::Call(function, children),
+            node: Node::Call(function, children, dtype),
         })
     }
 
@@ -131,7 +141,11 @@ impl<C: ScalarFnVTable> BoundExpression<C> {
     pub fn dtype(&self) -> &DType
         ensures { tree_type C.meaning self.now ≡ Some (type_of result.now) }
     {
-        &self.dtype
+        match &self.node {
+            Node::Column(_, _, dtype) => dtype,
+            Node::Literal(scalar) => scalar.dtype(),
+            Node::Call(_, _, dtype) => dtype,
+        }
     }
 
     /// The children of a call, in order; a leaf has none.
@@ -140,8 +154,9 @@ impl<C: ScalarFnVTable> BoundExpression<C> {
         ensures { result.now ≡ children_of self.now }
     {
         match &self.node {
-            Node::Call(_, children) => children,
-            Node::Column(_, _) => &[],
+            Node::Call(_, children, _) => children,
+            Node::Column(_, _, _) => &[],
+            Node::Literal(_) => &[],
         }
     }
 
@@ -158,8 +173,20 @@ impl<C: ScalarFnVTable> BoundExpression<C> {
         ensures { MatchOption result (called self.now ≡ None) (λ f. called self.now ≡ Some (function_of f.now)) }
     {
         match &self.node {
-            Node::Call(function, _) => Some(function),
-            Node::Column(_, _) => None,
+            Node::Call(function, _, _) => Some(function),
+            Node::Column(_, _, _) => None,
+            Node::Literal(_) => None,
+        }
+    }
+
+    /// The scalar of a literal; none of any other tree.
+    pub fn as_literal(&self) -> Option<&Scalar>
+        ensures { option_copied result ≡ literal self.now }
+    {
+        match &self.node {
+            Node::Literal(scalar) => Some(scalar),
+            Node::Column(_, _, _) => None,
+            Node::Call(_, _, _) => None,
         }
     }
 
@@ -168,24 +195,23 @@ impl<C: ScalarFnVTable> BoundExpression<C> {
         ensures { AnswersUnlessMemory result (λ t. t ≡ self.now) }
     {
         match &self.node {
-            Node::Column(place, name) => {
+            Node::Column(place, name, dtype) => {
                 let name = String::from_str(alloc, name.as_str())?;
-                let dtype = self.dtype.try_clone(alloc)?;
+                let dtype = dtype.try_clone(alloc)?;
                 Ok(BoundExpression {
-                    dtype,
-                    node: Node::Column(*place, name),
+                    node: Node::Column(*place, name, dtype),
                 })
             }
-            Node::Call(function, children) => {
+            Node::Literal(scalar) => Ok(BoundExpression::lit(scalar.try_clone(alloc)?)),
+            Node::Call(function, children, dtype) => {
                 let mut copies = Vec::new(alloc);
                 for child in children {
                     copies.push(child.try_clone(alloc)?)?;
                 }
                 let function = function.try_clone(alloc)?;
-                let dtype = self.dtype.try_clone(alloc)?;
+                let dtype = dtype.try_clone(alloc)?;
                 Ok(BoundExpression {
-                    dtype,
-                    node: Node::Call(function, copies),
+                    node: Node::Call(function, copies, dtype),
                 })
             }
         }
@@ -196,11 +222,12 @@ impl<C: ScalarFnVTable> BoundExpression<C> {
         ensures { IsTrue result ↔ LeavesFit columns.now self.now }
     {
         match &self.node {
-            Node::Column(place, _) => match columns.get(*place) {
-                Some(column) => *column.dtype() == self.dtype,
+            Node::Column(place, _, dtype) => match columns.get(*place) {
+                Some(column) => *column.dtype() == *dtype,
                 None => false,
             },
-            Node::Call(_, children) => {
+            Node::Literal(_) => true,
+            Node::Call(_, children, _) => {
                 for child in children {
                     if !child.leaves_fit(columns) {
                         return false;
@@ -224,8 +251,12 @@ impl<C: ScalarFnVTable> BoundExpression<C> {
         ensures lent { IsLeaf self.now → IsOkAnd result IsLent }
     {
         match &self.node {
-            Node::Column(place, _) => Ok(Cow::Borrowed(&columns[*place])),
-            Node::Call(function, children) => {
+            Node::Column(place, _, _) => Ok(Cow::Borrowed(&columns[*place])),
+            Node::Literal(scalar) => {
+                let scalar = scalar.try_clone(ctx.alloc())?;
+                Ok(Cow::Owned(Column::constant(ctx.alloc(), scalar, row_count)?))
+            }
+            Node::Call(function, children, _) => {
                 let mut inputs = Vec::new(ctx.alloc());
                 for child in children {
                     inputs.push(child.compute(columns, row_count, ctx)?)?;

@@ -39,6 +39,12 @@ called (leaf l) = None
 called (constant s) = None
 called (call f ts) = Some f
 
+-- the scalar of a constant
+abbrev pub literal : {V O : Type 0} → Tree V O → Option ScalarView
+literal (leaf l) = None
+literal (constant s) = Some s
+literal (call f ts) = None
+
 -- how many nodes
 abbrev mutual
   pub node_count : {V O : Type 0} → Tree V O → ℕ
