@@ -1,4 +1,6 @@
 pub mod Lines
+pub mod Ranges
+pub mod Cells
 pub mod Commands
 pub mod Printing
 pub mod Endings

@@ -1,11 +1,55 @@
 -- A script as lines, and a line as words.
-use Rattle.std.specs.Prelude.{◌==◌, ℕ, List, length, not}
-use Rattle.std.specs.List.{slice_split, filter}
+use Rattle.std.specs.Prelude.{◌==◌, ◌≢◌, ℕ, List, [], ◌∷◌, ◌++◌, Option, Some, None, if◌then◌else◌}
+use Rattle.std.specs.List.{slice_split}
+use Rattle.rowfn.specs.declared.text.Word as word
+use Rattle.rowfn.specs.declared.text.Word.TheVariants as variant
 
 -- A line ends at a newline or with the script. Where a newline ends the script, what follows it counts as a line without words.
 abbrev pub lines_of : List ℕ → List (List ℕ)
 lines_of = slice_split (λ b. b == 10)
 
--- what stands between spaces
-abbrev pub words_of : List ℕ → List (List ℕ)
-words_of line = filter (λ w. not (length w == 0)) (slice_split (λ b. b == 32) line)
+-- a word as it stands, or the text between two quotes
+pub data Word : Type 0 where
+  plain : List ℕ → Word
+  quoted : List ℕ → Word
+
+abbrev pub after_spaces : List ℕ → List ℕ
+after_spaces [] = []
+after_spaces (b ∷ bs) = if b == 32 then after_spaces bs else b ∷ bs
+
+abbrev pub with_word : Word → Option (List Word) → Option (List Word)
+with_word w None = None
+with_word w (Some ws) = Some (w ∷ ws)
+
+-- Words stand between spaces. One that begins with a quote runs to the next quote, may hold spaces, and is followed by a space
+-- or by the line's end; a line with another has no words.
+abbrev mutual
+  pub words_of : List ℕ → Option (List Word)
+  words_of [] = Some []
+  words_of (b ∷ bs) = if b == 32 then words_of bs else (if b == 34 then in_quotes [] bs else in_word (b ∷ []) bs)
+
+  pub in_word : List ℕ → List ℕ → Option (List Word)
+  in_word w [] = Some (plain w ∷ [])
+  in_word w (b ∷ bs) = if b == 32 then with_word (plain w) (words_of bs) else in_word (w ++ b ∷ []) bs
+
+  pub in_quotes : List ℕ → List ℕ → Option (List Word)
+  in_quotes w [] = None
+  in_quotes w (b ∷ bs) = if b == 34 then after_quotes w bs else in_quotes (w ++ b ∷ []) bs
+
+  pub after_quotes : List ℕ → List ℕ → Option (List Word)
+  after_quotes w [] = Some (quoted w ∷ [])
+  after_quotes w (b ∷ bs) = if b == 32 then with_word (quoted w) (words_of bs) else None
+
+-- the word that was read
+abbrev pub word_in : word.Word → Word
+word_in (variant.Plain w) = plain w.now
+word_in (variant.Quoted w) = quoted w.now
+
+-- the text begins with a word, and with one that stands in no quotes
+abbrev pub BeginsWord : List ℕ → Type 0
+BeginsWord [] = ⊥
+BeginsWord (b ∷ bs) = b ≢ 32
+
+abbrev pub BeginsPlain : List ℕ → Type 0
+BeginsPlain [] = ⊥
+BeginsPlain (b ∷ bs) = (b ≢ 32) × (b ≢ 34)

@@ -5,16 +5,17 @@ use Rattle.std.specs.Str.{bytes_eq}
 use Rattle.vortex_types.specs.declared.error.VortexError.{VortexError}
 use Rattle.vortex_types.specs.declared.error.VortexError.TheVariants.{ScopeMismatch, TypeMismatch}
 use Rattle.vortex_types.specs.LogicalTypes.{LogicalType, Fields, no_fields, field, find_field}
+use Rattle.vortex_types.specs.ScalarView.{ScalarView}
 use Rattle.vortex_columns.specs.ColumnView.{ColumnView}
 use Rattle.vortex_meaning.specs.Meaning.{Meaning}
 use Rattle.vortex_meaning.specs.Shipped.{Shipped, binary, negation, shipped_place}
 use Rattle.vortex_meaning.specs.Functions.{shipped}
-use Rattle.vortex_meaning.specs.Trees.{Tree, leaf, place, call as call_tree, trees_of}
+use Rattle.vortex_meaning.specs.Trees.{Tree, leaf, place, constant, call as call_tree, trees_of}
 use Rattle.vortex_meaning.specs.Eval.{tree_type}
 use Rattle.vortex_meaning.specs.Execution.{Executes, RefusesExecution}
 use Rattle.rowfn.specs.declared.command.Callee.{Callee}
 use Rattle.rowfn.specs.declared.command.Callee.TheVariants.{Binary, Not}
-use Rattle.rowfn.specs.Commands.{Command, nothing, malformed, rows, column, get, call, run}
+use Rattle.rowfn.specs.Commands.{Command, nothing, malformed, rows, column, get, literal, call, run}
 use Rattle.rowfn.specs.Printing.{column_text}
 
 -- the row count once it is said, the columns and their names in the order of their lines, the trees with the last one first,
@@ -73,6 +74,9 @@ module _ {V O : Type 0} where
   with_leaf name s None = refuses ScopeMismatch
   with_leaf name s (Some p) = goes_on (record s { stack = leaf (place p.0 name p.1) ∷ s.stack })
 
+  abbrev pub with_literal : ScalarView → SessionView V O → Step V O
+  with_literal l s = goes_on (record s { stack = constant l ∷ s.stack })
+
   module _ (m : Meaning V O) where
     -- a call that has no type is refused as its function refuses types
     abbrev pub with_tree : Shipped → Tree V O → SessionView V O → List (Tree V O) → Step V O
@@ -101,5 +105,6 @@ module _ {V O : Type 0} where
     StepsTo (rows n) s r = r ≡ with_rows n s s.row_count
     StepsTo (column name c) s r = r ≡ after_rows s.row_count (with_column name c s)
     StepsTo (get name) s r = r ≡ after_rows s.row_count (λ n. with_leaf name s (find_field name (fields_in s.names s.columns)))
+    StepsTo (literal l) s r = r ≡ after_rows s.row_count (λ n. with_literal l s)
     StepsTo (call f) s r = r ≡ after_rows s.row_count (λ n. with_call f s (taken f s.stack))
     StepsTo run s r = RunsTop s.row_count s.stack s r

@@ -2,7 +2,7 @@
 ghost use Rattle.std.specs.Prelude.{◌≡◌};
 ghost use Rattle.vortex_types.specs.Answers.{AnswersUnlessMemory};
 
-use vortex_columns::Column;
+use vortex_columns::{Column, Scalar};
 use vortex_kernels::Operator;
 
 /// The function that a `call` line names.
@@ -27,6 +27,8 @@ pub enum Line<'a> {
     Column(&'a str, Column),
     /// The column of a name.
     Get(&'a str),
+    /// A value in each row.
+    Literal(Scalar),
     /// A function of the last trees.
     Call(Callee),
     /// The column of the last tree, printed.

@@ -13,6 +13,7 @@ mod stop;
 #[cfg(test)]
 mod tests;
 mod text;
+mod types;
 
 use ending::{fault_line, status};
 use script::interpret;

@@ -1,13 +1,13 @@
 //! Reads a line.
 ghost use Rattle.std.specs.Prelude.{◌≡◌, map, option_map};
-ghost use Rattle.std.specs.List.{list_all};
-ghost use Rattle.std.specs.Char.{is_ascii_digit};
 ghost use Rattle.vortex_types.specs.Answers.{AnswersUnlessMemory};
-ghost use Rattle.rowfn.specs.Commands.{begins_comment, is_name, count_of, callee_of, only_word, rows_command, column_command, get_command, call_command, run_command, command_of_words, command_of, command_in};
+ghost use Rattle.rowfn.specs.Lines.{word_in};
+ghost use Rattle.rowfn.specs.Commands.{begins_comment, is_name, count_of, operator_of_word, callee_of, only_word, rows_command, column_command, get_command, literal_command, call_command, run_command, command_by, command_of_words, command_of_text, command_of, command_in};
 
-use crate::cells::{bool_column, read_truths, read_type};
+use crate::cells::{are_digits, column_said, literal_said};
 use crate::command::{Callee, Line};
-use crate::text::words;
+use crate::text::{Word, without_spaces, words};
+use crate::types::read_type;
 use std::alloc::Global;
 use std::str;
 use vortex_columns::VortexResult;
@@ -28,46 +28,62 @@ fn is_name(word: &str) -> bool
         .all(|byte| byte.is_ascii_alphanumeric() || *byte == b'_')
 }
 
-fn all_digits(word: &str) -> bool
-    ensures { result ≡ list_all is_ascii_digit word.now }
-{
-    word.as_bytes().iter().all(|byte| byte.is_ascii_digit())
-}
-
 /// The number that one to six digits say.
 fn count(word: &str) -> Option<usize>
     ensures { result ≡ count_of word.now }
 {
-    if word.is_empty() || word.len() > 6 || !all_digits(word) {
+    if word.len() > 6 || !are_digits(word) {
         return None;
     }
     word.parse::<usize>().ok()
 }
 
-fn callee(word: &str) -> Option<Callee>
-    ensures { result ≡ callee_of word.now }
+fn operator(word: &str) -> Option<Operator>
+    ensures { result ≡ operator_of_word word.now }
 {
     if word == "and" {
-        Some(Callee::Binary(Operator::And))
+        Some(Operator::And)
     } else if word == "or" {
-        Some(Callee::Binary(Operator::Or))
-    } else if word == "not" {
-        Some(Callee::Not)
+        Some(Operator::Or)
+    } else if word == "=" {
+        Some(Operator::Eq)
+    } else if word == "!=" {
+        Some(Operator::NotEq)
+    } else if word == "<" {
+        Some(Operator::Lt)
+    } else if word == "<=" {
+        Some(Operator::Lte)
+    } else if word == ">" {
+        Some(Operator::Gt)
+    } else if word == ">=" {
+        Some(Operator::Gte)
     } else {
         None
     }
 }
 
-/// The word, where there is one and no other.
-fn only<'a>(words: &[&'a str]) -> Option<&'a str>
-    ensures { option_map (λ w. w.now) result ≡ only_word (map (λ w. w.now) words.now) }
+fn callee(word: &str) -> Option<Callee>
+    ensures { result ≡ callee_of word.now }
 {
-    let (word, rest) = words.split_first()?;
-    if rest.is_empty() { Some(word) } else { None }
+    if word == "not" {
+        Some(Callee::Not)
+    } else {
+        Some(Callee::Binary(operator(word)?))
+    }
 }
 
-fn rows_line<'a>(words: &[&'a str]) -> Line<'a>
-    ensures { command_in result ≡ rows_command (map (λ w. w.now) words.now) }
+/// The word, where there is one and no other, and it stands in no quotes.
+fn only<'a>(words: &[Word<'a>]) -> Option<&'a str>
+    ensures { option_map (λ w. w.now) result ≡ only_word (map word_in words.now) }
+{
+    match words {
+        [Word::Plain(word)] => Some(word),
+        _ => None,
+    }
+}
+
+fn rows_line<'a>(words: &[Word<'a>]) -> Line<'a>
+    ensures { command_in result ≡ rows_command (map word_in words.now) }
 {
     let Some(word) = only(words) else {
         return Line::Malformed;
@@ -78,29 +94,41 @@ fn rows_line<'a>(words: &[&'a str]) -> Line<'a>
     }
 }
 
-fn column_line<'a>(alloc: Global, words: &[&'a str]) -> VortexResult<Line<'a>>
-    ensures { AnswersUnlessMemory result (λ l. command_in l ≡ column_command (map (λ w. w.now) words.now)) }
+fn column_line<'a>(alloc: Global, words: &[Word<'a>]) -> VortexResult<Line<'a>>
+    ensures { AnswersUnlessMemory result (λ l. command_in l ≡ column_command (map word_in words.now)) }
 {
-    let Some((name, words)) = words.split_first() else {
-        return Ok(Line::Malformed);
-    };
-    let Some((dtype, cells)) = words.split_first() else {
+    let [Word::Plain(name), Word::Plain(dtype), cells @ ..] = words else {
         return Ok(Line::Malformed);
     };
     if !is_name(name) {
         return Ok(Line::Malformed);
     }
-    let Some(nullability) = read_type(dtype) else {
+    let Some((kind, nullability)) = read_type(dtype) else {
         return Ok(Line::Malformed);
     };
-    match read_truths(alloc, nullability, cells)? {
-        Some(cells) => Ok(Line::Column(name, bool_column(alloc, nullability, &cells)?)),
+    match column_said(alloc, kind, nullability, cells)? {
+        Some(column) => Ok(Line::Column(name, column)),
         None => Ok(Line::Malformed),
     }
 }
 
-fn get_line<'a>(words: &[&'a str]) -> Line<'a>
-    ensures { command_in result ≡ get_command (map (λ w. w.now) words.now) }
+fn literal_line<'a>(alloc: Global, words: &[Word<'a>]) -> VortexResult<Line<'a>>
+    ensures { AnswersUnlessMemory result (λ l. command_in l ≡ literal_command (map word_in words.now)) }
+{
+    let [Word::Plain(dtype), cell] = words else {
+        return Ok(Line::Malformed);
+    };
+    let Some((kind, nullability)) = read_type(dtype) else {
+        return Ok(Line::Malformed);
+    };
+    match literal_said(alloc, kind, nullability, cell)? {
+        Some(scalar) => Ok(Line::Literal(scalar)),
+        None => Ok(Line::Malformed),
+    }
+}
+
+fn get_line<'a>(words: &[Word<'a>]) -> Line<'a>
+    ensures { command_in result ≡ get_command (map word_in words.now) }
 {
     match only(words) {
         Some(name) if is_name(name) => Line::Get(name),
@@ -108,8 +136,8 @@ fn get_line<'a>(words: &[&'a str]) -> Line<'a>
     }
 }
 
-fn call_line<'a>(words: &[&'a str]) -> Line<'a>
-    ensures { command_in result ≡ call_command (map (λ w. w.now) words.now) }
+fn call_line<'a>(words: &[Word<'a>]) -> Line<'a>
+    ensures { command_in result ≡ call_command (map word_in words.now) }
 {
     let Some(word) = only(words) else {
         return Line::Malformed;
@@ -120,8 +148,8 @@ fn call_line<'a>(words: &[&'a str]) -> Line<'a>
     }
 }
 
-fn run_line<'a>(words: &[&'a str]) -> Line<'a>
-    ensures { command_in result ≡ run_command (map (λ w. w.now) words.now) }
+fn run_line<'a>(words: &[Word<'a>]) -> Line<'a>
+    ensures { command_in result ≡ run_command (map word_in words.now) }
 {
     if words.is_empty() {
         Line::Run
@@ -130,27 +158,47 @@ fn run_line<'a>(words: &[&'a str]) -> Line<'a>
     }
 }
 
-fn words_line<'a>(alloc: Global, words: &[&'a str]) -> VortexResult<Line<'a>>
-    ensures { AnswersUnlessMemory result (λ l. command_in l ≡ command_of_words (map (λ w. w.now) words.now)) }
+/// What the words after a first word say.
+fn line_of<'a>(alloc: Global, first: &'a str, words: &[Word<'a>]) -> VortexResult<Line<'a>>
+    ensures { AnswersUnlessMemory result (λ l. command_in l ≡ command_by first.now (map word_in words.now)) }
 {
-    let Some((first, words)) = words.split_first() else {
-        return Ok(Line::Nothing);
-    };
-    let first = *first;
-    if begins_comment(first) {
-        Ok(Line::Nothing)
-    } else if first == "rows" {
+    if first == "rows" {
         Ok(rows_line(words))
     } else if first == "col" {
         column_line(alloc, words)
     } else if first == "get" {
         Ok(get_line(words))
+    } else if first == "lit" {
+        literal_line(alloc, words)
     } else if first == "call" {
         Ok(call_line(words))
     } else if first == "run" {
         Ok(run_line(words))
     } else {
         Ok(Line::Malformed)
+    }
+}
+
+fn words_line<'a>(alloc: Global, words: &[Word<'a>]) -> VortexResult<Line<'a>>
+    ensures { AnswersUnlessMemory result (λ l. command_in l ≡ command_of_words (map word_in words.now)) }
+{
+    match words {
+        [] => Ok(Line::Nothing),
+        [Word::Plain(first), words @ ..] => line_of(alloc, first, words),
+        _ => Ok(Line::Malformed),
+    }
+}
+
+/// What a text says that begins with no space.
+fn text_line<'a>(alloc: Global, text: &'a str) -> VortexResult<Line<'a>>
+    ensures { AnswersUnlessMemory result (λ l. command_in l ≡ command_of_text text.now) }
+{
+    if begins_comment(text) {
+        return Ok(Line::Nothing);
+    }
+    match words(alloc, text)? {
+        Some(words) => words_line(alloc, &words),
+        None => Ok(Line::Malformed),
     }
 }
 
@@ -161,6 +209,5 @@ pub fn parse(alloc: Global, line: &[u8]) -> VortexResult<Line<'_>>
     let Ok(line) = str::from_utf8(line) else {
         return Ok(Line::Malformed);
     };
-    let words = words(alloc, line)?;
-    words_line(alloc, &words)
+    text_line(alloc, without_spaces(line))
 }

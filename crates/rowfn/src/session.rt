@@ -6,7 +6,7 @@ ghost use Rattle.vortex_types.specs.Answers.{Answers, AnswersUnlessMemory};
 ghost use Rattle.vortex_types.specs.TypeOf.{type_of, struct_fields};
 ghost use Rattle.vortex_meaning.specs.Functions.{shipped};
 ghost use Rattle.vortex_functions.specs.FunctionOf.{function_of};
-ghost use Rattle.rowfn.specs.Commands.{rows, column, get, call, run, command_in, command_of};
+ghost use Rattle.rowfn.specs.Commands.{rows, column, get, literal, call, run, command_in, command_of};
 ghost use Rattle.rowfn.specs.Sessions.{refuses, fresh, fields_in, shipped_of, argument_count, RunsTop, StepsTo};
 ghost use Rattle.rowfn.specs.Stepping.{MakesStep, after_text};
 
@@ -16,7 +16,7 @@ use crate::printing::column_text;
 use crate::stop::Stop;
 use std::alloc::Global;
 use std::marker::Model;
-use vortex_columns::{Column, DType, ExecutionCtx, StructFields, VortexResult};
+use vortex_columns::{Column, DType, ExecutionCtx, Scalar, StructFields, VortexResult};
 use vortex_functions::{BoundExpression, ScalarFnRef, ScalarFnVTable};
 
 /// The row count, the columns by name, the trees that lines have pushed, and what was printed.
@@ -164,6 +164,16 @@ impl<C: ScalarFnVTable> Session<C> {
         Ok(())
     }
 
+    fn push_literal(&mut self, scalar: Scalar) -> Result<(), Stop>
+        ensures { MakesStep (StepsTo C.meaning (literal scalar)) self.old result self.new }
+    {
+        if self.row_count.is_none() {
+            return Err(Stop::Malformed);
+        }
+        self.stack.push(BoundExpression::lit(scalar))?;
+        Ok(())
+    }
+
     fn push_call(&mut self, alloc: Global, callee: Callee) -> Result<(), Stop>
         ensures { MakesStep (StepsTo C.meaning (call callee)) self.old result self.new }
     {
@@ -214,6 +224,7 @@ impl<C: ScalarFnVTable> Session<C> {
             Line::Rows(count) => self.begin(count),
             Line::Column(name, column) => self.add_column(alloc, name, column),
             Line::Get(name) => self.push_leaf(alloc, name),
+            Line::Literal(scalar) => self.push_literal(scalar),
             Line::Call(callee) => self.push_call(alloc, callee),
             Line::Run => self.run(alloc),
         }

@@ -77,7 +77,7 @@ impl Ints {
 
 /// One of the eight integer types.
 pub trait NativePType: Copy + Drop {
-    ghost use Rattle.std.specs.Prelude.{ℤ, map, MatchOption};
+    ghost use Rattle.std.specs.Prelude.{ℤ, pos, map, MatchOption};
     ghost use Rattle.vortex_types.specs.declared.dtype.PType.{PType};
     ghost use Rattle.vortex_types.specs.Typing.{FitsPType};
     ghost use Rattle.vortex_types.specs.Numbers.{numbers, ptype_of};
@@ -90,6 +90,14 @@ pub trait NativePType: Copy + Drop {
     fn to_i128(self) -> i128
         ensures value { result ≡ number self }
         ensures fits { FitsPType ptype (number self) };
+
+    /// Zero. Takes no memory.
+    fn zero() -> Self
+        ensures { number result ≡ pos 0 };
+
+    /// The integer of a number, where the type holds it.
+    fn from_i128(value: i128) -> Option<Self>
+        ensures { MatchOption result (¬ FitsPType ptype value) (λ x. FitsPType ptype value × (number x ≡ value)) };
 
     /// The same integers, as a list of one of the eight types. Takes no memory.
     fn wrap(values: Vec<Self>) -> Ints
@@ -112,6 +120,14 @@ impl NativePType for i8 {
 
     fn to_i128(self) -> i128 {
         i128::from(self)
+    }
+
+    fn zero() -> i8 {
+        0
+    }
+
+    fn from_i128(value: i128) -> Option<i8> {
+        i8::try_from(value).ok()
     }
 
     fn wrap(values: Vec<i8>) -> Ints
@@ -142,6 +158,14 @@ impl NativePType for i16 {
         i128::from(self)
     }
 
+    fn zero() -> i16 {
+        0
+    }
+
+    fn from_i128(value: i128) -> Option<i16> {
+        i16::try_from(value).ok()
+    }
+
     fn wrap(values: Vec<i16>) -> Ints
         ensures kind { ptype_of result ≡ I16 }
         ensures values { numbers result ≡ map (λ x. x) values.items }
@@ -168,6 +192,14 @@ impl NativePType for i32 {
 
     fn to_i128(self) -> i128 {
         i128::from(self)
+    }
+
+    fn zero() -> i32 {
+        0
+    }
+
+    fn from_i128(value: i128) -> Option<i32> {
+        i32::try_from(value).ok()
     }
 
     fn wrap(values: Vec<i32>) -> Ints
@@ -198,6 +230,14 @@ impl NativePType for i64 {
         i128::from(self)
     }
 
+    fn zero() -> i64 {
+        0
+    }
+
+    fn from_i128(value: i128) -> Option<i64> {
+        i64::try_from(value).ok()
+    }
+
     fn wrap(values: Vec<i64>) -> Ints
         ensures kind { ptype_of result ≡ I64 }
         ensures values { numbers result ≡ map (λ x. x) values.items }
@@ -224,6 +264,14 @@ impl NativePType for u8 {
 
     fn to_i128(self) -> i128 {
         i128::from(self)
+    }
+
+    fn zero() -> u8 {
+        0
+    }
+
+    fn from_i128(value: i128) -> Option<u8> {
+        u8::try_from(value).ok()
     }
 
     fn wrap(values: Vec<u8>) -> Ints
@@ -254,6 +302,14 @@ impl NativePType for u16 {
         i128::from(self)
     }
 
+    fn zero() -> u16 {
+        0
+    }
+
+    fn from_i128(value: i128) -> Option<u16> {
+        u16::try_from(value).ok()
+    }
+
     fn wrap(values: Vec<u16>) -> Ints
         ensures kind { ptype_of result ≡ U16 }
         ensures values { numbers result ≡ map pos values.items }
@@ -282,6 +338,14 @@ impl NativePType for u32 {
         i128::from(self)
     }
 
+    fn zero() -> u32 {
+        0
+    }
+
+    fn from_i128(value: i128) -> Option<u32> {
+        u32::try_from(value).ok()
+    }
+
     fn wrap(values: Vec<u32>) -> Ints
         ensures kind { ptype_of result ≡ U32 }
         ensures values { numbers result ≡ map pos values.items }
@@ -308,6 +372,14 @@ impl NativePType for u64 {
 
     fn to_i128(self) -> i128 {
         i128::from(self)
+    }
+
+    fn zero() -> u64 {
+        0
+    }
+
+    fn from_i128(value: i128) -> Option<u64> {
+        u64::try_from(value).ok()
     }
 
     fn wrap(values: Vec<u64>) -> Ints

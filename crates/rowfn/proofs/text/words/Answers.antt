@@ -1,10 +1,26 @@
-use Rattle.std.proofs.Common.{rules, ◌==◌, not, length, ap, ◌∙◌, lit<}
-use Rattle.std.specs.Str.Iter.{split_text, split_has_more, split_pattern}
-use Rattle.std.proofs.lemmas.Iterator.Consumers.{map_from_collect, YieldsList-from_filter}
-use Rattle.std.proofs.lemmas.Iterator.Splits.{YieldsList-from_str_split}
+use Rattle.std.proofs.Common.{rules, tests, ◌≡◌, ◌<◌, length, sym, ap, ◌∙◌, arith}
+use Rattle.rowfn.specs.Lines.{with_word, words_of, word_in}
+use Rattle.rowfn.proofs.Words.{no_more_spaces, same_words, no_longer, begins_here, read_nothing, words_more}
 use Rattle.rowfn.proofs.text.words.Goals as goal
 
-pub returns : goal.returns
-returns c =
-    let source = c.filter.ensures.source in
-    map_from_collect _ c.collect.ensures.ran (YieldsList-from_filter _ (λ w. not (length w == 0)) (YieldsList-from_str_split 32 c.args.line.now (lit< tt) (ap split_text source ∙ c.split.ensures.text) (ap split_has_more source ∙ c.split.ensures.has_more) (ap split_pattern source ∙ c.split.ensures.pattern)) c.filter.ensures.closure (λ x b q k. search rules))
+pub loop-rest-init : goal.loop-rest-init
+loop-rest-init c =
+    let line = c.args.line.now in
+    let rest = c.without_spaces-rest.result.now in
+    (c.without_spaces-rest.utf8, no_more_spaces line rest c.without_spaces-rest.ensures, read_nothing word_in _ c.new-words.ensures.items (words_of rest) ∙ same_words line rest c.without_spaces-rest.ensures)
+
+pub split_word-requires : goal.split_word-requires
+split_word-requires c =
+    let some : 0 < length c.loop-rest.rest.now = grind (arith, tests) in
+    begins_here c.loop-rest.rest.now c.loop-rest.invariant.1 some
+
+pub loop-rest-smaller : goal.loop-rest-smaller
+loop-rest-smaller c =
+    omega (arith, no_longer c.in-Some.after.now c.without_spaces-rest-in-loop-rest.result.now c.without_spaces-rest-in-loop-rest.ensures, c.in-Some.ensures.1)
+
+pub loop-rest-preserved : goal.loop-rest-preserved
+loop-rest-preserved c =
+    let after = c.in-Some.after.now in
+    let rest = c.without_spaces-rest-in-loop-rest.result.now in
+    let e = c.without_spaces-rest-in-loop-rest.ensures in
+    (c.without_spaces-rest-in-loop-rest.utf8, no_more_spaces after rest e, rw c.in_ok-push.ensures.items (words_more word_in c.loop-rest.words.items c.in-Some.word _ (words_of rest) _ (c.in-Some.ensures.0 ∙ ap (with_word (word_in c.in-Some.word)) (sym (same_words after rest e))) c.loop-rest.invariant.2))
