@@ -27,7 +27,8 @@ use vortex_columns::{
 enum Node<C: ScalarFnVTable> {
     /// The place of a column in the scope, its name and its type.
     Column(usize, String, DType),
-    Literal(Scalar),
+    /// A value, and the allocator for its text.
+    Literal(Scalar, Global),
     /// A function, its children, and the type of its answer.
     Call(ScalarFnRef<C>, Vec<BoundExpression<C>>, DType),
 }
@@ -107,12 +108,12 @@ impl<C: ScalarFnVTable> BoundExpression<C> {
         }
     }
 
-    /// The leaf that has that value in every row, of the scalar's type. Takes no memory.
-    pub fn lit(scalar: Scalar) -> BoundExpression<C>
+    /// The leaf that has that value in every row, of the scalar's type. Takes no memory: the allocator is kept for the text.
+    pub fn lit(alloc: Global, scalar: Scalar) -> BoundExpression<C>
         ensures { result ≡ constant scalar }
     {
         BoundExpression {
-            node: Node::Literal(scalar),
+            node: Node::Literal(scalar, alloc),
         }
     }
 
@@ -143,7 +144,7 @@ impl<C: ScalarFnVTable> BoundExpression<C> {
     {
         match &self.node {
             Node::Column(_, _, dtype) => dtype,
-            Node::Literal(scalar) => scalar.dtype(),
+            Node::Literal(scalar, _) => scalar.dtype(),
             Node::Call(_, _, dtype) => dtype,
         }
     }
@@ -156,7 +157,7 @@ impl<C: ScalarFnVTable> BoundExpression<C> {
         match &self.node {
             Node::Call(_, children, _) => children,
             Node::Column(_, _, _) => &[],
-            Node::Literal(_) => &[],
+            Node::Literal(_, _) => &[],
         }
     }
 
@@ -175,7 +176,7 @@ impl<C: ScalarFnVTable> BoundExpression<C> {
         match &self.node {
             Node::Call(function, _, _) => Some(function),
             Node::Column(_, _, _) => None,
-            Node::Literal(_) => None,
+            Node::Literal(_, _) => None,
         }
     }
 
@@ -184,7 +185,7 @@ impl<C: ScalarFnVTable> BoundExpression<C> {
         ensures { option_copied result ≡ literal self.now }
     {
         match &self.node {
-            Node::Literal(scalar) => Some(scalar),
+            Node::Literal(scalar, _) => Some(scalar),
             Node::Column(_, _, _) => None,
             Node::Call(_, _, _) => None,
         }
@@ -202,7 +203,7 @@ impl<C: ScalarFnVTable> BoundExpression<C> {
                     node: Node::Column(*place, name, dtype),
                 })
             }
-            Node::Literal(scalar) => Ok(BoundExpression::lit(scalar.try_clone(alloc)?)),
+            Node::Literal(scalar, _) => Ok(BoundExpression::lit(alloc, scalar.try_clone(alloc)?)),
             Node::Call(function, children, dtype) => {
                 let mut copies = Vec::new(alloc);
                 for child in children {
@@ -226,7 +227,7 @@ impl<C: ScalarFnVTable> BoundExpression<C> {
                 Some(column) => *column.dtype() == *dtype,
                 None => false,
             },
-            Node::Literal(_) => true,
+            Node::Literal(_, _) => true,
             Node::Call(_, children, _) => {
                 for child in children {
                     if !child.leaves_fit(columns) {
@@ -252,7 +253,7 @@ impl<C: ScalarFnVTable> BoundExpression<C> {
     {
         match &self.node {
             Node::Column(place, _, _) => Ok(Cow::Borrowed(&columns[*place])),
-            Node::Literal(scalar) => {
+            Node::Literal(scalar, _) => {
                 let scalar = scalar.try_clone(ctx.alloc())?;
                 Ok(Cow::Owned(Column::constant(ctx.alloc(), scalar, row_count)?))
             }
