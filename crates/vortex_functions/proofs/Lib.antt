@@ -6,3 +6,4 @@ pub mod Execution
 pub mod Opened
 pub mod Bound
 pub mod Texts
+pub mod TreeTexts

@@ -1,5 +1,5 @@
 -- Texts that are joined, one by one.
-use Rattle.std.proofs.Common.{◌≡◌, ℕ, zero, suc, ◌+◌, ◌<◌, ◌≤◌, List, [], ◌∷◌, ◌++◌, length, take, get_or, refl, sym, ap, ◌∙◌, arith, append_assoc, add-one, min, subst, Some, false, ◌-◌, ◌^◌}
+use Rattle.std.proofs.Common.{◌≡◌, ℕ, zero, suc, ◌+◌, ◌<◌, List, [], ◌∷◌, ◌++◌, length, take, get_or, refl, sym, ap, ◌∙◌, arith, append_assoc, add-one, min, subst, Some, false, ◌-◌, ◌^◌}
 use Rattle.std.specs.Prelude.{codes}
 use Rattle.std.specs.List.{flat_map}
 use Rattle.std.specs.Option.{option_map}
@@ -10,7 +10,7 @@ use Rattle.std.proofs.lemmas.Grind.{flat_map-append}
 use Rattle.std.proofs.lemmas.List.{append-nil}
 use Rattle.vortex_columns.specs.LogicalTypes.{LogicalType, Fields, no_fields, field, field_count, field_type}
 use Rattle.vortex_columns.specs.FieldNames.{field_name}
-use Rattle.vortex_columns.specs.Values.{Value, null, values_of}
+use Rattle.vortex_columns.specs.Values.{Value, values_of}
 use Rattle.vortex_columns.specs.ColumnView.{row}
 use Rattle.vortex_meaning.specs.Printing.{joined, separator_before, literal_text, value_texts, field_texts, hex_text}
 

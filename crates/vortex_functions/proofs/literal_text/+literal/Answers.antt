@@ -1,6 +1,5 @@
-use Rattle.std.proofs.Common.{rules, ◌≡◌, ◌++◌, string_bytes, ◌+◌, ◌<◌, ◌≤◌, length, take_all, sym, ap, ◌∙◌, arith}
-use Rattle.std.proofs.lemmas.List.{append-nil}
-use Rattle.vortex_columns.specs.Cells.{cell_value, sequence_value, sequence_values}
+use Rattle.std.proofs.Common.{rules, ◌++◌, string_bytes, ◌<◌, length, take_all, ap, ◌∙◌, arith}
+use Rattle.vortex_columns.specs.Cells.{sequence_values}
 use Rattle.vortex_columns.specs.Values.{value_depth, values_of}
 use Rattle.std.specs.Prelude.{codes}
 use Rattle.vortex_columns.specs.ColumnView.{row}
