@@ -9,6 +9,8 @@ pub mod ext;
 mod literal_text;
 pub mod not;
 mod printing;
+#[cfg(test)]
+mod tests;
 pub mod tree;
 pub mod typed;
 pub mod vtable;
