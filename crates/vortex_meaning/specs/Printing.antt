@@ -1,16 +1,16 @@
 -- How literals and trees are printed, in the bytes of UTF-8.
-use Rattle.std.specs.Prelude.{◌≡◌, ℕ, zero, suc, ◌/◌, ◌%◌, List, [], ◌∷◌, ◌++◌, Bool, true, false, Option, Some, None, codes, map}
+use Rattle.std.specs.Prelude.{◌≡◌, ℕ, zero, suc, ◌/◌, ◌%◌, List, [], ◌∷◌, ◌++◌, true, false, Option, Some, None, codes, map}
 use Rattle.std.specs.Fmt.{digit_glyph, signed_decimal}
 use Rattle.std.specs.List.{flat_map, join_by}
 use Rattle.std.specs.Option.{option_and_then}
 use Rattle.vortex_columns.specs.declared.dtype.PType.{PType}
 use Rattle.vortex_columns.specs.declared.dtype.PType.TheVariants.{I8, I16, I32, I64, U8, U16, U32, U64}
-use Rattle.vortex_columns.specs.LogicalTypes.{LogicalType, null_type, bool_type, integer_type, text_type, bytes_type, struct_type, list_type, fixed_size_list_type, map_type, Fields, no_fields, field}
+use Rattle.vortex_columns.specs.LogicalTypes.{LogicalType, integer_type, struct_type, list_type, fixed_size_list_type, map_type, Fields, no_fields, field}
 use Rattle.vortex_columns.specs.Values.{Value, null, truth, number, text, bytes, list, Values, no_values, value}
 use Rattle.vortex_kernels.specs.Operators.{text_of}
 use Rattle.vortex_meaning.specs.Shipped.{Shipped, binary, negation, negation_id}
 use Rattle.vortex_meaning.specs.Functions.{Function, shipped, custom}
-use Rattle.vortex_meaning.specs.Trees.{Leaf, place, held, Tree, leaf, constant, call, Trees, no_trees, tree}
+use Rattle.vortex_meaning.specs.Trees.{place, held, Tree, leaf, constant, call, Trees, no_trees, tree}
 
 -- texts with another between each two
 abbrev pub joined : List ℕ → List (List ℕ) → List ℕ
@@ -79,6 +79,10 @@ abbrev mutual
   field_texts no_fields (value v vs) = []
   field_texts (field name t fs) (value v vs) = (name ++ codes ": " ++ literal_text t v) ∷ field_texts fs vs
 
+-- what was there stays at the beginning
+abbrev pub Continues : List ℕ → List ℕ → Type 0
+Continues old new = (rest : List ℕ) × (new ≡ old ++ rest)
+
 -- a function's options after its arguments, where they have a text
 abbrev pub options_text : List ℕ → List ℕ
 options_text [] = []
@@ -92,10 +96,6 @@ call_text id options texts = id ++ codes "(" ++ joined comma texts ++ options_te
 abbrev pub operator_text : List ℕ → List (List ℕ) → List ℕ
 operator_text operator (left ∷ right ∷ []) = codes "(" ++ left ++ codes " " ++ operator ++ codes " " ++ right ++ codes ")"
 operator_text operator texts = []
-
--- what was there stays at the beginning
-abbrev pub Continues : List ℕ → List ℕ → Type 0
-Continues old new = (rest : List ℕ) × (new ≡ old ++ rest)
 
 abbrev pub shipped_text : Shipped → List (List ℕ) → List ℕ
 shipped_text (binary o) texts = operator_text (text_of o) texts
