@@ -205,11 +205,11 @@ column_made kind n vs valid said v c nullable cells validity fit made =
     rows_are =
         ext_get_or null c.rows (cells_from vs valid) (made.count ∙ sym (cells_count vs valid cells.items.count))
         (λ i lt.
-          let below : i < length vs = omega (arith, made.count) in
-          made.each i below
-          ∙ ap (λ u. if is_valid_row u i then slice_index_or vs i null else null) validity
-          ∙ ap (λ b. if b then slice_index_or vs i null else null) (valid_is n valid i (omega (arith, cells.items.count)) (λ e. cells.items.plain e i (omega (arith, cells.items.count))))
-          ∙ sym (cell_at vs valid i below cells.items.count))
+        let below : i < length vs = omega (arith, made.count) in
+        made.each i below
+        ∙ ap (λ u. if is_valid_row u i then slice_index_or vs i null else null) validity
+        ∙ ap (λ b. if b then slice_index_or vs i null else null) (valid_is n valid i (omega (arith, cells.items.count)) (λ e. cells.items.plain e i (omega (arith, cells.items.count))))
+        ∙ sym (cell_at vs valid i below cells.items.count))
 
     is : c ≡ column_of (kind n) (cells_from vs valid)
     is = λ j. record {
@@ -247,10 +247,11 @@ is_there f None t n w k e h = let allowed = null_allowed t w e in cc
 
 -- one more cell of the words
 pub cell_read : {W X : Type 0} (t : LogicalType) (n : Bool) (word : W → Word) (value : X → Value) (words : List W) (i : ℕ) (d : W) (items : List X) (valid : List Bool) (cell : Option X) (blank : X) (all : Option (List Value)) → is_nullable t ≡ n → i < length words → AreItems n (map value items) valid → option_map (λ ys. cells_from (map value items) valid ++ ys) (cells_of t (map word (drop i words))) ≡ all → cell_of t (word (get_or words i d)) ≡ Some (item_or_null value cell) → fits_column (value blank) ≡ true → AreItems n (map value (items ++ unwrap_or cell blank ∷ [])) (valid ++ is_some cell ∷ []) × (option_map (λ ys. cells_from (map value (items ++ unwrap_or cell blank ∷ [])) (valid ++ is_some cell ∷ []) ++ ys) (cells_of t (map word (drop (i + 1) words))) ≡ all)
-cell_read t n word value words i d items valid cell blank all nullable lt h said e fit =
-    (subst (λ (vs : List Value). AreItems n vs (valid ++ is_some cell ∷ [])) (sym more) (items_more n (map value items) valid v b h (is_there value cell t n w nullable e) (blank_fits value cell blank fit)),
-     (λ j. option_map (λ ys. cells_from (more j) (valid ++ b ∷ []) ++ ys) (cells_of t (map word (drop (add-one i j) words))))
-     ∙ one_more t (map value items) valid v (item_or_null value cell) b w (map word (drop (suc i) words)) all h.count e (item_is value cell blank) (sym (ap (λ ws. option_map (λ ys. cells_from (map value items) valid ++ ys) (cells_of t (map word ws))) (drop-cons words i d lt)) ∙ said))
+cell_read t n word value words i d items valid cell blank all nullable lt h said e fit = (
+  subst (λ (vs : List Value). AreItems n vs (valid ++ is_some cell ∷ [])) (sym more) (items_more n (map value items) valid v b h (is_there value cell t n w nullable e) (blank_fits value cell blank fit)),
+  (λ j. option_map (λ ys. cells_from (more j) (valid ++ b ∷ []) ++ ys) (cells_of t (map word (drop (add-one i j) words))))
+      ∙ one_more t (map value items) valid v (item_or_null value cell) b w (map word (drop (suc i) words)) all h.count e (item_is value cell blank) (sym (ap (λ ws. option_map (λ ys. cells_from (map value items) valid ++ ys) (cells_of t (map word ws))) (drop-cons words i d lt)) ∙ said),
+)
   where
     w : Word
     w = word (get_or words i d)

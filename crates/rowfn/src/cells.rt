@@ -199,7 +199,7 @@ impl CellKind for TextCells {
         ScalarValue::Utf8(item)
     }
 
-    fn column(_alloc: Global, values: Vec<String>, validity: Validity) -> VortexResult<Column> 
+    fn column(_alloc: Global, values: Vec<String>, validity: Validity) -> VortexResult<Column>
         ensures { AnswersWhere result (FitsRows (validity_of validity) (length values.items) × (list_all fits_column (map (λ s. text (string_bytes s)) values.items) ≡ true)) (IsMade text_type (validity_of validity) (map (λ s. text (string_bytes s)) values.items)) InvalidColumn }
     {
         Column::try_utf8(values, validity)
@@ -265,11 +265,7 @@ fn read_cells<K: CellKind>(
 }
 
 /// The validity of a column whose cells are valid as the marks say.
-fn cells_validity(
-    alloc: Global,
-    nullability: Nullability,
-    valid: &[bool],
-) -> VortexResult<Validity>
+fn cells_validity(alloc: Global, nullability: Nullability, valid: &[bool]) -> VortexResult<Validity>
     ensures { AnswersUnlessMemory result (λ v. validity_of v ≡ cells_validity (allows_null nullability) valid.now) }
 {
     match nullability {

@@ -5,3 +5,5 @@ pub mod TreeLists
 pub mod Execution
 pub mod Opened
 pub mod Bound
+pub mod Texts
+pub mod TreeTexts

@@ -4,3 +4,4 @@ pub mod Fixed
 pub mod Nodes
 pub mod NodeFalls
 pub mod Binding
+pub mod Shapes

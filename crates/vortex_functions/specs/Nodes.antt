@@ -13,7 +13,7 @@ use Rattle.vortex_functions.specs.FunctionOf.{function_of}
 
 abbrev pub node_tree : {V O : Type 0} → Node V O → Tree V O
 node_tree (Column p name t) = leaf (place p (string_bytes name) (type_of t))
-node_tree (Literal s) = constant s
+node_tree (Literal s alloc) = constant s
 node_tree (Call f children t) = call (function_of f) (trees_of children.items)
 
 abbrev pub expression_view : {V O : Type 0} → Inside V O → Tree V O
@@ -22,7 +22,7 @@ expression_view a = node_tree a.node
 -- a call is well typed, at every level, and has the type beside it
 abbrev pub IsNode : {V O : Type 0} → Meaning V O → Node V O → Type 0
 IsNode m (Column p name t) = ⊤
-IsNode m (Literal s) = ⊤
+IsNode m (Literal s alloc) = ⊤
 IsNode m (Call f children t) = tree_type m (call (function_of f) (trees_of children.items)) ≡ Some (type_of t)
 
 abbrev pub IsExpression : {V O : Type 0} → Meaning V O → Inside V O → Type 0

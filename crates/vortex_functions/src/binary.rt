@@ -1,12 +1,14 @@
 //! The operators of two operands.
-ghost use Rattle.std.specs.Prelude.{◌≡◌, None, Some, map, MatchOption};
+ghost use Rattle.std.specs.Prelude.{◌≡◌, ◌++◌, None, Some, length, map, string_bytes, MatchOption};
 ghost use Rattle.vortex_types.specs.declared.error.VortexError.TheVariants.{TypeMismatch};
-ghost use Rattle.vortex_types.specs.Answers.{Answers};
+ghost use Rattle.vortex_types.specs.Answers.{Answers, AnswersUnlessMemory};
 ghost use Rattle.vortex_types.specs.TypeOf.{type_of};
 ghost use Rattle.vortex_kernels.specs.declared.operators.Operator.{Operator};
 ghost use Rattle.vortex_meaning.specs.Shipped.{binary, binary_id, shipped_meaning, both_bool, compared_type, operator_type, operator_place};
+ghost use Rattle.vortex_meaning.specs.Printing.{shipped_text};
 ghost use Rattle.vortex_meaning.specs.ShippedLaws.{shipped_lawful};
 
+use crate::printing::write_operator;
 use crate::vtable::{ChildName, ExecutionArgs, ScalarFnId, ScalarFnVTable};
 use std::alloc::Global;
 use vortex_columns::{
@@ -115,6 +117,19 @@ impl ScalarFnVTable for Binary {
             Some(compare) => execute_compare(lhs, rhs, compare, ctx),
             None => execute_boolean(lhs, rhs, *operator, ctx),
         }
+    }
+
+    /// `(a op b)`.
+    fn fmt_sql(
+        &self,
+        operator: &Operator,
+        children: &[String],
+        out: &mut String,
+    ) -> VortexResult<()>
+        requires { length children.now ≡ 2 }
+        ensures { AnswersUnlessMemory result (λ _. string_bytes out.new ≡ string_bytes out.old ++ shipped_text (binary operator.now) (map string_bytes children.now)) }
+    {
+        write_operator(out, *operator, children)
     }
 
     fn is_strict(&self, operator: &Operator) -> bool {

@@ -1,10 +1,11 @@
 //! A function with its options: a shipped one or a caller's.
-ghost use Rattle.std.specs.Prelude.{◌≡◌, None, Some, IsTrue, IsSome, MatchOption, MatchResult, length, map};
+ghost use Rattle.std.specs.Prelude.{◌≡◌, ◌++◌, None, Some, IsTrue, IsSome, IfSome, MatchOption, MatchResult, length, map, string_bytes};
 ghost use Rattle.vortex_types.specs.Answers.{Answers, AnswersUnlessMemory};
 ghost use Rattle.vortex_types.specs.TypeOf.{type_of};
 ghost use Rattle.vortex_meaning.specs.Outcomes.{HasCallRows, IsCallFault, types_in};
 ghost use Rattle.vortex_meaning.specs.Meaning.{fits};
 ghost use Rattle.vortex_meaning.specs.Functions.{function_id, function_arity, function_child_name, function_type, function_means, function_strict, function_infallible, IsMismatchOf};
+ghost use Rattle.vortex_meaning.specs.Printing.{function_text};
 ghost use Rattle.vortex_functions.specs.Args.{HasChild};
 
 use crate::binary::{Binary, operator_dtype};
@@ -156,6 +157,18 @@ impl<C: ScalarFnVTable> ScalarFnRef<C> {
             ScalarFnRef::Binary(operator) => Binary.execute(operator, args, ctx),
             ScalarFnRef::Not => Not.execute(&EmptyOptions, args, ctx),
             ScalarFnRef::Custom(f) => f.vtable().execute(f.options(), args, ctx),
+        }
+    }
+
+    /// Appends the text of a call, by the texts of its arguments; what a caller's function writes stays open.
+    pub(crate) fn fmt_sql(&self, children: &[String], out: &mut String) -> VortexResult<()>
+        requires { IsTrue (fits (function_arity C.meaning (function_of self.now)) (length children.now)) }
+        ensures { AnswersUnlessMemory result (λ _. IfSome (function_text (function_of self.now) (map string_bytes children.now)) (λ text. string_bytes out.new ≡ string_bytes out.old ++ text)) }
+    {
+        match self {
+            ScalarFnRef::Binary(operator) => Binary.fmt_sql(operator, children, out),
+            ScalarFnRef::Not => Not.fmt_sql(&EmptyOptions, children, out),
+            ScalarFnRef::Custom(f) => f.vtable().fmt_sql(f.options(), children, out),
         }
     }
 

@@ -6,7 +6,11 @@ pub mod binary;
 pub mod custom;
 pub mod erased;
 pub mod ext;
+mod literal_text;
 pub mod not;
+mod printing;
+#[cfg(test)]
+mod tests;
 pub mod tree;
 pub mod typed;
 pub mod vtable;

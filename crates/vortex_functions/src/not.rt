@@ -1,13 +1,15 @@
 //! Kleene's Not.
-ghost use Rattle.std.specs.Prelude.{◌≡◌, None, Some, length, map};
+ghost use Rattle.std.specs.Prelude.{◌≡◌, ◌++◌, None, Some, length, map, string_bytes};
 ghost use Rattle.vortex_types.specs.declared.error.VortexError.TheVariants.{TypeMismatch};
 ghost use Rattle.vortex_types.specs.declared.error.MismatchPlace.TheVariants as place;
-ghost use Rattle.vortex_types.specs.Answers.{Answers};
+ghost use Rattle.vortex_types.specs.Answers.{Answers, AnswersUnlessMemory};
 ghost use Rattle.vortex_types.specs.TypeOf.{type_of};
 ghost use Rattle.vortex_meaning.specs.Shipped.{negation, negation_id, shipped_meaning, negation_type};
+ghost use Rattle.vortex_meaning.specs.Printing.{shipped_text};
 ghost use Rattle.vortex_meaning.specs.ShippedLaws.{shipped_lawful};
 
 use crate::custom::EmptyOptions;
+use crate::printing::write_call;
 use crate::vtable::{ChildName, ExecutionArgs, ScalarFnId, ScalarFnVTable};
 use std::alloc::Global;
 use vortex_columns::{
@@ -63,6 +65,18 @@ impl ScalarFnVTable for Not {
     ) -> VortexResult<Column> {
         let input = args.get(0)?;
         execute_not(input, ctx)
+    }
+
+    /// `vortex.not(a)`.
+    fn fmt_sql(
+        &self,
+        _options: &EmptyOptions,
+        children: &[String],
+        out: &mut String,
+    ) -> VortexResult<()>
+        ensures { AnswersUnlessMemory result (λ _. string_bytes out.new ≡ string_bytes out.old ++ shipped_text negation (map string_bytes children.now)) }
+    {
+        write_call(out, self.id(), "", children)
     }
 
     fn is_strict(&self, _options: &EmptyOptions) -> bool {

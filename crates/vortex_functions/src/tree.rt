@@ -1,5 +1,5 @@
 //! Expression trees over the columns of a scope.
-ghost use Rattle.std.specs.Prelude.{◌≡◌, ◌<◌, ◌↔◌, None, Some, IsTrue, IsOkAnd, MatchOption, length, map, slice_get};
+ghost use Rattle.std.specs.Prelude.{◌≡◌, ◌<◌, ◌↔◌, None, Some, IsTrue, IfSome, IsOkAnd, string_bytes, MatchOption, length, map, slice_get};
 ghost use Rattle.std.specs.Cow.{cow_value};
 ghost use Rattle.std.specs.Option.{option_copied};
 ghost use Rattle.vortex_types.specs.declared.error.VortexError.TheVariants.{ScopeMismatch};
@@ -9,14 +9,17 @@ ghost use Rattle.vortex_types.specs.TypeOf.{type_of, struct_fields};
 ghost use Rattle.vortex_meaning.specs.Trees.{constant, trees_of, children_of, called, literal};
 ghost use Rattle.vortex_meaning.specs.Eval.{tree_type, tree_types, HasTreeRows, IsFirstFault};
 ghost use Rattle.vortex_meaning.specs.Execution.{LeavesFit, other_length, Executes, RefusesExecution};
+ghost use Rattle.vortex_meaning.specs.Printing.{tree_text};
 ghost use Rattle.vortex_functions.specs.FunctionOf.{function_of};
 ghost use Rattle.vortex_functions.specs.Binding.{IsColumnLeaf, IsCall, RefusesCall, IsLeaf, IsLent};
 
 use crate::args::VecExecutionArgs;
 use crate::erased::ScalarFnRef;
+use crate::literal_text::{Shape, write_literal};
 use crate::vtable::ScalarFnVTable;
 use std::alloc::Global;
 use std::borrow::Cow;
+use std::fmt;
 use std::marker::Model;
 use vortex_columns::{
     Column, DType, ExecutionCtx, Scalar, StructFields, VortexError, VortexResult,
@@ -27,7 +30,8 @@ use vortex_columns::{
 enum Node<C: ScalarFnVTable> {
     /// The place of a column in the scope, its name and its type.
     Column(usize, String, DType),
-    Literal(Scalar),
+    /// A value, and the allocator for its text.
+    Literal(Scalar, Global),
     /// A function, its children, and the type of its answer.
     Call(ScalarFnRef<C>, Vec<BoundExpression<C>>, DType),
 }
@@ -107,12 +111,12 @@ impl<C: ScalarFnVTable> BoundExpression<C> {
         }
     }
 
-    /// The leaf that has that value in every row, of the scalar's type. Takes no memory.
-    pub fn lit(scalar: Scalar) -> BoundExpression<C>
+    /// The leaf that has that value in every row, of the scalar's type. Takes no memory: the allocator is kept for the text.
+    pub fn lit(alloc: Global, scalar: Scalar) -> BoundExpression<C>
         ensures { result ≡ constant scalar }
     {
         BoundExpression {
-            node: Node::Literal(scalar),
+            node: Node::Literal(scalar, alloc),
         }
     }
 
@@ -143,7 +147,7 @@ impl<C: ScalarFnVTable> BoundExpression<C> {
     {
         match &self.node {
             Node::Column(_, _, dtype) => dtype,
-            Node::Literal(scalar) => scalar.dtype(),
+            Node::Literal(scalar, _) => scalar.dtype(),
             Node::Call(_, _, dtype) => dtype,
         }
     }
@@ -156,7 +160,7 @@ impl<C: ScalarFnVTable> BoundExpression<C> {
         match &self.node {
             Node::Call(_, children, _) => children,
             Node::Column(_, _, _) => &[],
-            Node::Literal(_) => &[],
+            Node::Literal(_, _) => &[],
         }
     }
 
@@ -175,7 +179,7 @@ impl<C: ScalarFnVTable> BoundExpression<C> {
         match &self.node {
             Node::Call(function, _, _) => Some(function),
             Node::Column(_, _, _) => None,
-            Node::Literal(_) => None,
+            Node::Literal(_, _) => None,
         }
     }
 
@@ -184,7 +188,7 @@ impl<C: ScalarFnVTable> BoundExpression<C> {
         ensures { option_copied result ≡ literal self.now }
     {
         match &self.node {
-            Node::Literal(scalar) => Some(scalar),
+            Node::Literal(scalar, _) => Some(scalar),
             Node::Column(_, _, _) => None,
             Node::Call(_, _, _) => None,
         }
@@ -202,7 +206,7 @@ impl<C: ScalarFnVTable> BoundExpression<C> {
                     node: Node::Column(*place, name, dtype),
                 })
             }
-            Node::Literal(scalar) => Ok(BoundExpression::lit(scalar.try_clone(alloc)?)),
+            Node::Literal(scalar, _) => Ok(BoundExpression::lit(alloc, scalar.try_clone(alloc)?)),
             Node::Call(function, children, dtype) => {
                 let mut copies = Vec::new(alloc);
                 for child in children {
@@ -217,6 +221,44 @@ impl<C: ScalarFnVTable> BoundExpression<C> {
         }
     }
 
+    /// The tree as a text, as `(1i32 > $.a)`. Refuses for memory alone.
+    ///
+    /// A column leaf is `$.name`, a literal its value, an operator stands between its operands in parentheses, and every
+    /// other call is `id(a, b)`. What a caller's function writes of a call is its own.
+    pub fn sql_text(&self, alloc: Global) -> VortexResult<String>
+        ensures { AnswersUnlessMemory result (λ text. IfSome (tree_text self.now) (λ bytes. string_bytes text ≡ bytes)) }
+    {
+        let mut text = String::new(alloc);
+        match &self.node {
+            Node::Column(_, name, _) => {
+                text.push_str("$.")?;
+                text.push_str(name.as_str())?;
+                Ok(text)
+            }
+            Node::Literal(scalar, _) => {
+                write_literal(&mut text, Shape::Of(scalar.dtype()), &scalar.cell())?;
+                Ok(text)
+            }
+            Node::Call(function, children, _) => {
+                let mut texts = Vec::new(alloc);
+                for child in children {
+                    texts.push(child.sql_text(alloc)?)?;
+                }
+                function.fmt_sql(&texts, &mut text)?;
+                Ok(text)
+            }
+        }
+    }
+
+    /// The allocator that a part of the tree holds.
+    fn alloc(&self) -> Global {
+        match &self.node {
+            Node::Column(_, name, _) => *name.allocator(),
+            Node::Literal(_, alloc) => *alloc,
+            Node::Call(_, children, _) => *children.allocator(),
+        }
+    }
+
     /// Whether each leaf's column is there, of the leaf's type.
     fn leaves_fit(&self, columns: &[Column]) -> bool
         ensures { IsTrue result ↔ LeavesFit columns.now self.now }
@@ -226,7 +268,7 @@ impl<C: ScalarFnVTable> BoundExpression<C> {
                 Some(column) => *column.dtype() == *dtype,
                 None => false,
             },
-            Node::Literal(_) => true,
+            Node::Literal(_, _) => true,
             Node::Call(_, children, _) => {
                 for child in children {
                     if !child.leaves_fit(columns) {
@@ -252,7 +294,7 @@ impl<C: ScalarFnVTable> BoundExpression<C> {
     {
         match &self.node {
             Node::Column(place, _, _) => Ok(Cow::Borrowed(&columns[*place])),
-            Node::Literal(scalar) => {
+            Node::Literal(scalar, _) => {
                 let scalar = scalar.try_clone(ctx.alloc())?;
                 Ok(Cow::Owned(Column::constant(ctx.alloc(), scalar, row_count)?))
             }
@@ -291,5 +333,19 @@ impl<C: ScalarFnVTable> BoundExpression<C> {
             });
         }
         self.compute(columns, row_count, ctx)
+    }
+}
+
+/// The bytes of `sql_text`; want of memory is an error.
+impl<C: ScalarFnVTable> fmt::Display for BoundExpression<C> {
+    ghost use Rattle.vortex_meaning.specs.Printing.{tree_text};
+
+    ghost output = { tree_text };
+
+    fn fmt<W: fmt::Write>(&self, f: &mut fmt::Formatter<W>) -> fmt::Result {
+        match self.sql_text(self.alloc()) {
+            Ok(text) => write!(f, "{text}"),
+            Err(_) => Err(fmt::Error),
+        }
     }
 }

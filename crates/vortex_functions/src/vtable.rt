@@ -1,5 +1,5 @@
 //! The interface of a row function.
-ghost use Rattle.std.specs.Prelude.{◌≡◌, ◌≤◌, ℕ, List, length, map, IsTrue, IsSome, IfOk, MatchResult, slice_get, Some, None};
+ghost use Rattle.std.specs.Prelude.{◌≡◌, ◌≤◌, ℕ, List, length, map, IsTrue, IsSome, IfOk, MatchResult, slice_get, string_bytes, Some, None};
 ghost use Rattle.vortex_types.specs.declared.error.VortexError.TheVariants.{IndexOutOfBounds};
 ghost use Rattle.vortex_types.specs.Answers.{Answers, AnswersUnlessMemory};
 ghost use Rattle.vortex_columns.specs.ColumnView.{ColumnView};
@@ -7,7 +7,9 @@ ghost use Rattle.vortex_types.specs.TypeOf.{type_of};
 ghost use Rattle.vortex_meaning.specs.Outcomes.{HasCallRows, IsCallFault, types_in};
 ghost use Rattle.vortex_meaning.specs.Meaning.{Meaning, Lawful, fits};
 ghost use Rattle.vortex_meaning.specs.Functions.{IsTypeMismatch};
+ghost use Rattle.vortex_meaning.specs.Printing.{Continues};
 
+use crate::printing::write_call;
 use std::alloc::Global;
 use std::fmt::{Debug, Display};
 use std::hash::Hash;
@@ -76,6 +78,22 @@ pub trait ScalarFnVTable: Sized + Clone + Drop {
         requires arity { IsTrue (fits (meaning.arity self.now options.now) (length (A.inputs args.now))) }
         requires accepted { IsSome (meaning.return_type self.now options.now (types_in (A.inputs args.now))) }
         ensures { Answers result (HasCallRows (meaning.return_type self.now options.now) (meaning.means self.now options.now) (A.inputs args.now) (A.rows args.now)) (IsCallFault (meaning.means self.now options.now) (A.inputs args.now) (A.rows args.now)) };
+
+    /// Appends the text of a call, by the texts of its arguments, whose count fits. Refuses for memory alone.
+    ///
+    /// The default is `id(a, b)`; where the text of the options is not empty, `, opts=` and that text stand before the `)`.
+    fn fmt_sql(
+        &self,
+        options: &Self::Options,
+        children: &[String],
+        out: &mut String,
+    ) -> VortexResult<()>
+        requires { IsTrue (fits (meaning.arity self.now options.now) (length children.now)) }
+        ensures { AnswersUnlessMemory result (λ _. Continues (string_bytes out.old) (string_bytes out.new)) }
+    {
+        let text = options.to_string(*out.allocator())?;
+        write_call(out, self.id(), text.as_str(), children)
+    }
 
     /// Whether a null argument makes the answer null.
     fn is_strict(&self, options: &Self::Options) -> bool

@@ -7,3 +7,4 @@ pub mod Trees
 pub mod TreeCodes
 pub mod Eval
 pub mod Execution
+pub mod Printing

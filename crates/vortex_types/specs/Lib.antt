@@ -1,5 +1,6 @@
 pub mod Arities
 pub mod LogicalTypes
+pub mod FieldNames
 pub mod TypeEquality
 pub mod Agreement
 pub mod Values

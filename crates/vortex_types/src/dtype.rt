@@ -321,8 +321,9 @@ fn pairs(
 
 impl StructFields {
     ghost use Rattle.std.specs.Prelude.{◌<◌, MatchOption, Some, None};
-    ghost use Rattle.vortex_types.specs.TypeOf.{type_of, struct_fields, named_types, AreNamed};
+    ghost use Rattle.vortex_types.specs.TypeOf.{type_of, struct_fields, fields_view, named_types, AreNamed};
     ghost use Rattle.vortex_types.specs.LogicalTypes.{field_count, field_type, find_field};
+    ghost use Rattle.vortex_types.specs.FieldNames.{field_name};
 
     /// Pairs names with types. E12 exactly where their counts differ or a name stands twice.
     pub fn try_new(
@@ -353,6 +354,14 @@ impl StructFields {
         ensures { type_of result.now ≡ field_type k (struct_fields self.now) }
     {
         &self.fields[k].1
+    }
+
+    /// The name of field `k`.
+    pub fn name(&self, k: usize) -> &str
+        requires { k < field_count (struct_fields self.now) }
+        ensures { result.now ≡ field_name k (struct_fields self.now) }
+    {
+        self.fields[k].0.as_str()
     }
 
     /// Whether the names are the same and the types agree, field by field.

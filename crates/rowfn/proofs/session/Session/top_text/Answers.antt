@@ -23,3 +23,9 @@ returns g c =
     let top = sym (stack_of c.self.view_is) ∙ ap reverse (sym c.deref.ensures.value) ∙ last_is_top c.deref.result.now c.in-Some.tree.now c.in-Some.ensures.item.3.0 c.in-Some.ensures.item.1 in
     let columns = c.deref-2.ensures.value ∙ columns_of c.self.view_is in
     top_printed m c.args.count c.args.self.now c.in-Some.tree.now _ top (cow_value c.in_ok-column.column) _ (subst (λ (cs : List ColumnView). Executes m cs c.args.count c.in-Some.tree.now (cow_value c.in_ok-column.column)) columns c.in_ok-column.ensures.answer) (c.in_ok-column_text.ensures ∙ ap column_text c.deref-3.ensures)
+
+pub returns-in_err-column_text : goal.returns-in_err-column_text
+returns-in_err-column_text g c =
+    let m = g.C.ScalarFnVTable.meaning in
+    let s = c.args.self.now in
+    answers_refusal (λ text. RunsTop m (Some c.args.count) s.stack s (after_text s text)) (λ e. RunsTop m (Some c.args.count) s.stack s (refuses e)) c.from_residual-in_err-column_text.result c.in_err-column_text.field-0.0 c.from_residual-in_err-column_text.ensures.1 (UnlessMemory-weaker (λ e. ⊥) (λ e. RunsTop m (Some c.args.count) s.stack s (refuses e)) (λ e h. absurd h) c.in_err-column_text.field-0.0 c.in_err-column_text.ensures)
