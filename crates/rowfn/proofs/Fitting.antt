@@ -11,14 +11,18 @@ use Rattle.vortex_meaning.specs.Meaning.{Meaning}
 use Rattle.vortex_meaning.specs.Shipped.{shipped_place}
 use Rattle.vortex_meaning.specs.Functions.{shipped}
 use Rattle.vortex_meaning.specs.Trees.{Leaf, place, held, Tree, leaf, constant, call as call_tree, Trees, no_trees, tree, trees_of}
+use Rattle.vortex_types.specs.ScalarView.{ScalarView}
+use Rattle.std.specs.Option.{option_and_then}
+use Rattle.std.specs.Prelude.{codes, IfSome}
+use Rattle.vortex_meaning.specs.Printing.{literal_text, shipped_text, function_text, tree_texts, with_text}
 use Rattle.vortex_meaning.specs.Eval.{IsFirstFault}
 use Rattle.vortex_meaning.specs.Execution.{LeafFits, LeavesFit, AllLeavesFit, other_length, unfit, uneven, faulty}
 use Rattle.rowfn.specs.declared.command.Callee.{Callee}
 use Rattle.rowfn.specs.declared.command.Callee.TheVariants.{Binary, Not}
-use Rattle.rowfn.specs.Commands.{Command, nothing, malformed, rows, column, get, call, run}
-use Rattle.rowfn.specs.Sessions.{SessionView, goes_on, refuses, is_malformed, fields_in, shipped_of, taken, with_rows, after_rows, with_column, with_leaf, with_call, Runs, prints, refused, RunsTop, StepsTo}
+use Rattle.rowfn.specs.Commands.{Command, nothing, malformed, rows, column, get, literal, call, show, run}
+use Rattle.rowfn.specs.Sessions.{SessionView, goes_on, refuses, is_malformed, fields_in, shipped_of, taken, with_rows, after_rows, with_column, with_leaf, with_literal, with_call, shown_by, ShowsTop, Runs, prints, refused, RunsTop, StepsTo}
 use Rattle.rowfn.specs.Scripts.{Reaches, begins, one_more, command_at}
-use Rattle.rowfn.specs.Fitting.{Counted, AllFit, Fits}
+use Rattle.rowfn.specs.Fitting.{Counted, AllFit, HasText, AllShown, Fits}
 
 get_before : (cs : List ColumnView) (c d : ColumnView) (i : ℕ) → slice_get cs i ≡ Some d → slice_get (cs ++ c ∷ []) i ≡ Some d
 get_before [] c d i e = cc
@@ -78,14 +82,14 @@ module _ {V O : Type 0} (m : Meaning V O) (s : SessionView V O) (fits : Fits s) 
   after_begin n (Some k) known e = cc
   after_begin n None known e =
       let none : s.columns ≡ [] = subst (λ (r : Option ℕ). Counted r s.columns) known fits.counted in
-      as_session _ e (record { counted = ap (λ (cs : List ColumnView). other_length n cs) none; fit = fits.fit })
+      as_session _ e (record { counted = ap (λ (cs : List ColumnView). other_length n cs) none; fit = fits.fit; shown = fits.shown })
 
   after_column_by : (name : List ℕ) (c : ColumnView) (n : ℕ) (a b : Bool) → s.row_count ≡ Some n → (length c.rows == n) ≡ a → goes_on t ≡ (if a && not b then goes_on (record s { names = s.names ++ name ∷ []; columns = s.columns ++ c ∷ [] }) else is_malformed) → Fits t
   after_column_by name c n false b known h e = cc
   after_column_by name c n true true known h e = cc
   after_column_by name c n true false known h e =
       let counted : other_length n s.columns ≡ None = subst (λ (r : Option ℕ). Counted r s.columns) known fits.counted in
-      as_session _ e (record { counted = subst (λ (r : Option ℕ). Counted r (s.columns ++ c ∷ [])) (sym known) (still_counted n s.columns c counted h); fit = stack_still_fits s.columns c s.stack fits.fit })
+      as_session _ e (record { counted = subst (λ (r : Option ℕ). Counted r (s.columns ++ c ∷ [])) (sym known) (still_counted n s.columns c counted h); fit = stack_still_fits s.columns c s.stack fits.fit; shown = fits.shown })
 
   after_column : (name : List ℕ) (c : ColumnView) (r : Option ℕ) → s.row_count ≡ r → goes_on t ≡ after_rows r (with_column name c s) → Fits t
   after_column name c None known e = cc
@@ -94,7 +98,7 @@ module _ {V O : Type 0} (m : Meaning V O) (s : SessionView V O) (fits : Fits s) 
   after_leaf : (name : List ℕ) (o : Option (ℕ × LogicalType)) → find_field name (fields_in s.names s.columns) ≡ o → goes_on t ≡ with_leaf name s o → Fits t
   after_leaf name None h e = cc
   after_leaf name (Some p) h e =
-      as_session _ e (record { counted = fits.counted; fit = (found_fits name s.names s.columns p h, fits.fit) })
+      as_session _ e (record { counted = fits.counted; fit = (found_fits name s.names s.columns p h, fits.fit); shown = ((codes "$." ++ name, refl), fits.shown) })
 
   after_get : (name : List ℕ) (r : Option ℕ) → goes_on t ≡ after_rows r (λ n. with_leaf name s (find_field name (fields_in s.names s.columns))) → Fits t
   after_get name None e = cc
@@ -111,15 +115,43 @@ module _ {V O : Type 0} (m : Meaning V O) (s : SessionView V O) (fits : Fits s) 
       let same : (u ∷ [], stack) ≡ p = cc in
       subst (λ (q : List (Tree V O) × List (Tree V O)). AllLeavesFit s.columns (trees_of q.0) × AllFit s.columns q.1) same ((h.0, tt), h.1)
 
-  after_tree : (f : Callee) (u : Tree V O) (stack : List (Tree V O)) (b : Bool) → LeavesFit s.columns u → AllFit s.columns stack → goes_on t ≡ (if b then goes_on (record s { stack = u ∷ stack }) else refuses (TypeMismatch (shipped_place (shipped_of f)))) → Fits t
-  after_tree f u stack true h k e = as_session _ e (record { counted = fits.counted; fit = (h, k) })
-  after_tree f u stack false h k e = cc
+  after_push : (l : ScalarView) (r : Option ℕ) → goes_on t ≡ after_rows r (λ n. with_literal l s) → Fits t
+  after_push l None e = cc
+  after_push l (Some n) e =
+      as_session _ e (record { counted = fits.counted; fit = (tt, fits.fit); shown = ((literal_text l.dtype l.value, refl), fits.shown) })
+
+  taken_shown : (f : Callee) (stack : List (Tree V O)) (p : List (Tree V O) × List (Tree V O)) → taken f stack ≡ Some p → AllShown stack → AllShown p.0 × AllShown p.1
+  taken_shown (Binary o) [] p e h = cc
+  taken_shown (Binary o) (r ∷ []) p e h = cc
+  taken_shown (Binary o) (r ∷ l ∷ stack) p e h =
+      let same : (l ∷ r ∷ [], stack) ≡ p = cc in
+      subst (λ (q : List (Tree V O) × List (Tree V O)). AllShown q.0 × AllShown q.1) same ((h.1.0, (h.0, tt)), h.1.1)
+  taken_shown Not [] p e h = cc
+  taken_shown Not (u ∷ stack) p e h =
+      let same : (u ∷ [], stack) ≡ p = cc in
+      subst (λ (q : List (Tree V O) × List (Tree V O)). AllShown q.0 × AllShown q.1) same ((h.0, tt), h.1)
+
+  texts_shown : (ts : List (Tree V O)) → AllShown ts → (texts : List (List ℕ)) × (tree_texts (trees_of ts) ≡ Some texts)
+  texts_shown [] h = ([], refl)
+  texts_shown (u ∷ us) h =
+      let more = texts_shown us h.1 in
+      (h.0.0 ∷ more.0, λ i. with_text (h.0.1 i) (more.1 i))
+
+  call_shown : (f : Callee) (ts : List (Tree V O)) → AllShown ts → HasText (call_tree (shipped (shipped_of f)) (trees_of ts))
+  call_shown f ts h =
+      let texts = texts_shown ts h in
+      (shipped_text (shipped_of f) texts.0, ap (option_and_then (function_text {V = V} {O = O} (shipped (shipped_of f)))) texts.1)
+
+  after_tree : (f : Callee) (u : Tree V O) (stack : List (Tree V O)) (b : Bool) → LeavesFit s.columns u → AllFit s.columns stack → HasText u → AllShown stack → goes_on t ≡ (if b then goes_on (record s { stack = u ∷ stack }) else refuses (TypeMismatch (shipped_place (shipped_of f)))) → Fits t
+  after_tree f u stack true h k p q e = as_session _ e (record { counted = fits.counted; fit = (h, k); shown = (p, q) })
+  after_tree f u stack false h k p q e = cc
 
   after_taken : (f : Callee) (o : Option (List (Tree V O) × List (Tree V O))) → taken f s.stack ≡ o → goes_on t ≡ with_call m f s o → Fits t
   after_taken f None h e = cc
   after_taken f (Some p) h e =
       let k = taken_fit f s.stack p h fits.fit in
-      after_tree f (call_tree (shipped (shipped_of f)) (trees_of p.0)) p.1 _ k.0 k.1 e
+      let q = taken_shown f s.stack p h fits.shown in
+      after_tree f (call_tree (shipped (shipped_of f)) (trees_of p.0)) p.1 _ k.0 k.1 (call_shown f p.0 q.0) q.1 e
 
   after_call : (f : Callee) (r : Option ℕ) → goes_on t ≡ after_rows r (λ n. with_call m f s (taken f s.stack)) → Fits t
   after_call f None e = cc
@@ -128,8 +160,15 @@ module _ {V O : Type 0} (m : Meaning V O) (s : SessionView V O) (fits : Fits s) 
   after_run : (r : Option ℕ) (stack : List (Tree V O)) → RunsTop m r stack s (goes_on t) → Fits t
   after_run None stack e = cc
   after_run (Some n) [] e = cc
-  after_run (Some n) (u ∷ stack) (prints c h e) = as_session _ e (record { counted = fits.counted; fit = fits.fit })
+  after_run (Some n) (u ∷ stack) (prints c h e) = as_session _ e (record { counted = fits.counted; fit = fits.fit; shown = fits.shown })
   after_run (Some n) (u ∷ stack) (refused e h is) = cc
+
+  after_show : (r : Option ℕ) (stack : List (Tree V O)) → AllShown stack → ShowsTop r stack s (goes_on t) → Fits t
+  after_show None stack h e = cc
+  after_show (Some n) [] h e = cc
+  after_show (Some n) (u ∷ stack) h e =
+      let shows : goes_on t ≡ shown_by h.0.0 s = subst (λ (o : Option (List ℕ)). IfSome o (λ text. goes_on t ≡ shown_by text s)) h.0.1 e in
+      as_session _ shows (record { counted = fits.counted; fit = fits.fit; shown = fits.shown })
 
   after_line : (k : Command) → StepsTo m k s (goes_on t) → Fits t
   after_line nothing e = as_session s e fits
@@ -137,12 +176,14 @@ module _ {V O : Type 0} (m : Meaning V O) (s : SessionView V O) (fits : Fits s) 
   after_line (rows n) e = after_begin n s.row_count refl e
   after_line (column name c) e = after_column name c s.row_count refl e
   after_line (get name) e = after_get name s.row_count e
+  after_line (literal l) e = after_push l s.row_count e
   after_line (call f) e = after_call f s.row_count e
+  after_line show e = after_show s.row_count s.stack fits.shown e
   after_line run e = after_run s.row_count s.stack e
 
 module _ {V O : Type 0} (m : Meaning V O) where
-  reached_fits : (lines : List (List ℕ)) (n : ℕ) (s : SessionView V O) → Reaches m lines n s → Fits s
-  reached_fits lines k u begins = record { counted = refl; fit = tt }
+  pub reached_fits : (lines : List (List ℕ)) (n : ℕ) (s : SessionView V O) → Reaches m lines n s → Fits s
+  reached_fits lines k u begins = record { counted = refl; fit = tt; shown = tt }
   reached_fits lines k u (one_more n s t reached lt e) = after_line m s (reached_fits lines n s reached) t (command_at lines n) e
 
   run_faults : (s : SessionView V O) (n : ℕ) (t : Tree V O) (stack : List (Tree V O)) (e : VortexError) → other_length n s.columns ≡ None → LeavesFit s.columns t → Runs m n t s (refuses e) → IsFirstFault m s.columns n t e

@@ -26,7 +26,9 @@ use Rattle.rowfn.specs.declared.stop.Stop.{Stop}
 use Rattle.rowfn.specs.declared.stop.Stop.TheVariants.{Refused}
 use Rattle.rowfn.specs.Stepping.{MakesStep}
 use Rattle.rowfn.specs.Printing.{column_text}
-use Rattle.rowfn.specs.Sessions.{SessionView, Step, goes_on, refuses, is_malformed, shipped_of, argument_count, taken, after_rows, with_column, with_leaf, with_call, prints, refused, RunsTop}
+use Rattle.rowfn.specs.Sessions.{SessionView, Step, goes_on, refuses, is_malformed, shipped_of, argument_count, taken, after_rows, with_column, with_leaf, with_call, shown_by, ShowsTop, prints, refused, RunsTop}
+use Rattle.std.specs.Prelude.{IfSome}
+use Rattle.vortex_meaning.specs.Printing.{tree_text}
 
 counted_parts : (a : Option LogicalType) (b : Option (List LogicalType)) (ks : List LogicalType) → with_type a b ≡ Some ks → (us : List LogicalType) × (b ≡ Some us) × (length ks ≡ suc (length us))
 counted_parts None b ks e = cc
@@ -195,3 +197,13 @@ module _ {V O : Type 0} where
   pub stops : (P : SessionView V O → Step V O → Type 0) (s t : SessionView V O) (r : Result (Unit {0}) Stop) (e : VortexError) → IsErrAnd r (λ y. y ≡ Refused e) → UnlessMemory (λ e. P s (refuses e)) e → t.printed ≡ s.printed → MakesStep P s r t
   stops P s t r e h u kept =
       let p = err_from_is_err_and r h in rw (p.1, p.2) (u, kept)
+
+shown_where : {V O : Type 0} (s : SessionView V O) (written text : List ℕ) (o : Option (List ℕ)) → IfSome o (λ bytes. written ≡ bytes) → text ≡ written ++ 10 ∷ [] → IfSome o (λ bytes. goes_on (record s { printed = s.printed ++ text }) ≡ shown_by bytes s)
+shown_where s written text None k e = tt
+shown_where s written text (Some bytes) k e =
+    ap (λ (b : List ℕ). goes_on (record s { printed = s.printed ++ b })) (e ∙ ap (λ (b : List ℕ). b ++ 10 ∷ []) k)
+
+-- the text of the tree on top, with a newline
+pub top_shown : {V O : Type 0} (s : SessionView V O) (n : ℕ) (t : Tree V O) (rest : List (Tree V O)) (written text : List ℕ) → s.stack ≡ t ∷ rest → IfSome (tree_text t) (λ bytes. written ≡ bytes) → text ≡ written ++ 10 ∷ [] → ShowsTop (Some n) s.stack s (goes_on (record s { printed = s.printed ++ text }))
+top_shown {V} {O} s n t rest written text top h e =
+    subst (λ (ts : List (Tree V O)). ShowsTop (Some n) ts s (goes_on (record s { printed = s.printed ++ text }))) (sym top) (shown_where s written text (tree_text t) h e)

@@ -1,6 +1,8 @@
 -- The lines of a script make one session, and print one text.
 use Rattle.std.proofs.Common.{◌≡◌, ◌==◌, ◌⊎◌, inl, inr, ℕ, zero, suc, ◌<◌, ◌≤◌, Bool, true, false, Option, Some, None, List, [], ◌∷◌, ◌++◌, length, refl, sym, ap, subst, ◌∙◌, arith, append_assoc, ◌&&◌, not, if◌then◌else◌}
-use Rattle.std.specs.Prelude.{codes}
+use Rattle.std.specs.Prelude.{codes, IfSome}
+use Rattle.vortex_types.specs.ScalarView.{ScalarView}
+use Rattle.vortex_meaning.specs.Printing.{tree_text}
 use Rattle.std.specs.List.{list_any}
 use Rattle.std.specs.Str.{bytes_eq}
 use Rattle.std.specs.Option.{is_some}
@@ -23,9 +25,11 @@ use Rattle.rowfn.specs.declared.ending.End.{End}
 use Rattle.rowfn.specs.declared.ending.End.TheVariants.{Done, Refused, Malformed}
 use Rattle.rowfn.specs.Lines.{lines_of}
 use Rattle.rowfn.specs.Printing.{type_text, values_text, column_text}
-use Rattle.rowfn.specs.Commands.{Command, nothing, malformed, rows, column, get, call, run}
-use Rattle.rowfn.specs.Sessions.{SessionView, Step, goes_on, refuses, is_malformed, fresh, fields_in, shipped_of, taken, with_rows, after_rows, with_column, with_leaf, with_call, prints, refused, RunsTop, StepsTo}
+use Rattle.rowfn.specs.Commands.{Command, nothing, malformed, rows, column, get, literal, call, show, run}
+use Rattle.rowfn.specs.Sessions.{SessionView, Step, goes_on, refuses, is_malformed, fresh, fields_in, shipped_of, taken, with_rows, after_rows, with_column, with_leaf, with_literal, with_call, shown_by, ShowsTop, prints, refused, RunsTop, StepsTo}
 use Rattle.rowfn.specs.Scripts.{Reaches, begins, one_more, command_at, EndsAt, IsOutcome}
+use Rattle.rowfn.specs.Fitting.{HasText, AllShown}
+use Rattle.rowfn.proofs.Fitting.{reached_fits}
 
 -- a tree that has a value in each row has no fault
 abbrev Given : Inputs → Type 0
@@ -60,6 +64,9 @@ module _ {V O : Type 0} (m : Meaning V O) (cs : List ColumnView) (n : ℕ) (e : 
     no_faults no_trees h k = k
     no_faults (tree t ts) h (inl k) = no_fault t h.0 k
     no_faults (tree t ts) h (inr p) = no_faults ts h.1 p.1
+
+shows_text : {V O : Type 0} (s : SessionView V O) (x : Tree V O) (r : Step V O) (h : HasText x) → IfSome (tree_text x) (λ text. r ≡ shown_by text s) → r ≡ shown_by h.0 s
+shows_text s x r h e = subst (λ (o : Option (List ℕ)). IfSome o (λ text. r ≡ shown_by text s)) h.1 e
 
 module _ {V O : Type 0} (m : Meaning V O) where
   settled : (cs : List ColumnView) (n : ℕ) (t : Tree V O) (c : ColumnView) → HasTreeRows m cs n t c → Settled m cs n t
@@ -96,14 +103,23 @@ module _ {V O : Type 0} (m : Meaning V O) where
         let second : u ≡ record s { printed = s.printed ++ column_text d } = cc in
         first ∙ ap (λ (b : List ℕ). record s { printed = s.printed ++ b }) text ∙ sym second
 
-    same_step : (t u : SessionView V O) (k : Command) → StepsTo m k s (goes_on t) → StepsTo m k s (goes_on u) → t ≡ u
-    same_step t u nothing a b = cc
-    same_step t u malformed a b = cc
-    same_step t u (rows n) a b = cc
-    same_step t u (column name c) a b = cc
-    same_step t u (get name) a b = cc
-    same_step t u (call f) a b = cc
-    same_step t u run a b = same_run t u s.row_count s.stack a b
+    same_show : (t u : SessionView V O) (r : Option ℕ) (stack : List (Tree V O)) → AllShown stack → ShowsTop r stack s (goes_on t) → ShowsTop r stack s (goes_on u) → t ≡ u
+    same_show t u None stack h a b = cc
+    same_show t u (Some n) [] h a b = cc
+    same_show t u (Some n) (x ∷ stack) h a b =
+        let first = shows_text s x (goes_on t) h.0 a in
+        let second = shows_text s x (goes_on u) h.0 b in cc
+
+    same_step : AllShown s.stack → (t u : SessionView V O) (k : Command) → StepsTo m k s (goes_on t) → StepsTo m k s (goes_on u) → t ≡ u
+    same_step h t u nothing a b = cc
+    same_step h t u malformed a b = cc
+    same_step h t u (rows n) a b = cc
+    same_step h t u (column name c) a b = cc
+    same_step h t u (get name) a b = cc
+    same_step h t u (literal l) a b = cc
+    same_step h t u (call f) a b = cc
+    same_step h t u show a b = same_show t u s.row_count s.stack h a b
+    same_step h t u run a b = same_run t u s.row_count s.stack a b
 
     run_once : (t : SessionView V O) (e : VortexError) (r : Option ℕ) (stack : List (Tree V O)) → RunsTop m r stack s (goes_on t) → RunsTop m r stack s (refuses e) → ⊥
     run_once t e None stack a b = cc
@@ -112,14 +128,21 @@ module _ {V O : Type 0} (m : Meaning V O) where
     run_once t e (Some n) (x ∷ stack) (prints c h k) (prints d g q) = cc
     run_once t e (Some n) (x ∷ stack) (prints c h k) (refused d g q) = executes_or_refuses s.columns n x c d h g
 
-    no_refusal : (t : SessionView V O) (e : VortexError) (k : Command) → StepsTo m k s (goes_on t) → StepsTo m k s (refuses e) → ⊥
-    no_refusal t e nothing a b = cc
-    no_refusal t e malformed a b = cc
-    no_refusal t e (rows n) a b = cc
-    no_refusal t e (column name c) a b = cc
-    no_refusal t e (get name) a b = cc
-    no_refusal t e (call f) a b = cc
-    no_refusal t e run a b = run_once t e s.row_count s.stack a b
+    show_never_refuses : (e : VortexError) (r : Option ℕ) (stack : List (Tree V O)) → AllShown stack → ShowsTop r stack s (refuses e) → ⊥
+    show_never_refuses e None stack h b = cc
+    show_never_refuses e (Some n) [] h b = cc
+    show_never_refuses e (Some n) (x ∷ stack) h b = let shows = shows_text s x (refuses e) h.0 b in cc
+
+    no_refusal : AllShown s.stack → (t : SessionView V O) (e : VortexError) (k : Command) → StepsTo m k s (goes_on t) → StepsTo m k s (refuses e) → ⊥
+    no_refusal h t e nothing a b = cc
+    no_refusal h t e malformed a b = cc
+    no_refusal h t e (rows n) a b = cc
+    no_refusal h t e (column name c) a b = cc
+    no_refusal h t e (get name) a b = cc
+    no_refusal h t e (literal l) a b = cc
+    no_refusal h t e (call f) a b = cc
+    no_refusal h t e show a b = show_never_refuses e s.row_count s.stack h b
+    no_refusal h t e run a b = run_once t e s.row_count s.stack a b
 
     run_well : (t : SessionView V O) (r : Option ℕ) (stack : List (Tree V O)) → RunsTop m r stack s (goes_on t) → RunsTop m r stack s is_malformed → ⊥
     run_well t None stack a b = cc
@@ -127,14 +150,21 @@ module _ {V O : Type 0} (m : Meaning V O) where
     run_well t (Some n) (x ∷ stack) a (prints c h k) = cc
     run_well t (Some n) (x ∷ stack) a (refused d h k) = cc
 
-    no_malformed : (t : SessionView V O) (k : Command) → StepsTo m k s (goes_on t) → StepsTo m k s is_malformed → ⊥
-    no_malformed t nothing a b = cc
-    no_malformed t malformed a b = cc
-    no_malformed t (rows n) a b = cc
-    no_malformed t (column name c) a b = cc
-    no_malformed t (get name) a b = cc
-    no_malformed t (call f) a b = cc
-    no_malformed t run a b = run_well t s.row_count s.stack a b
+    show_well : (t : SessionView V O) (r : Option ℕ) (stack : List (Tree V O)) → AllShown stack → ShowsTop r stack s (goes_on t) → ShowsTop r stack s is_malformed → ⊥
+    show_well t None stack h a b = cc
+    show_well t (Some n) [] h a b = cc
+    show_well t (Some n) (x ∷ stack) h a b = let shows = shows_text s x is_malformed h.0 b in cc
+
+    no_malformed : AllShown s.stack → (t : SessionView V O) (k : Command) → StepsTo m k s (goes_on t) → StepsTo m k s is_malformed → ⊥
+    no_malformed h t nothing a b = cc
+    no_malformed h t malformed a b = cc
+    no_malformed h t (rows n) a b = cc
+    no_malformed h t (column name c) a b = cc
+    no_malformed h t (get name) a b = cc
+    no_malformed h t (literal l) a b = cc
+    no_malformed h t (call f) a b = cc
+    no_malformed h t show a b = show_well t s.row_count s.stack h a b
+    no_malformed h t run a b = run_well t s.row_count s.stack a b
 
 abbrev Grows : List ℕ → List ℕ → Type 0
 Grows before after = (rest : List ℕ) × (after ≡ before ++ rest)
@@ -195,14 +225,28 @@ module _ {V O : Type 0} (m : Meaning V O) (s t : SessionView V O) where
       let same : t ≡ record s { printed = s.printed ++ column_text c } = cc in
       (column_text c, ap (λ (v : SessionView V O). v.printed) same)
 
-  grows : (k : Command) → StepsTo m k s (goes_on t) → Grows s.printed t.printed
-  grows nothing e = as_printed s e refl
-  grows malformed e = cc
-  grows (rows n) e = grows_begin n s.row_count e
-  grows (column name c) e = grows_column name c s.row_count e
-  grows (get name) e = grows_get name s.row_count e
-  grows (call f) e = grows_call f s.row_count e
-  grows run e = grows_run s.row_count s.stack e
+  grows_push : (l : ScalarView) (r : Option ℕ) → goes_on t ≡ after_rows r (λ n. with_literal l s) → Grows s.printed t.printed
+  grows_push l None e = cc
+  grows_push l (Some n) e = as_printed _ e refl
+
+  grows_show : (r : Option ℕ) (stack : List (Tree V O)) → AllShown stack → ShowsTop r stack s (goes_on t) → Grows s.printed t.printed
+  grows_show None stack h e = cc
+  grows_show (Some n) [] h e = cc
+  grows_show (Some n) (x ∷ stack) h e =
+      let shows = shows_text s x (goes_on t) h.0 e in
+      let same : t ≡ record s { printed = s.printed ++ (h.0.0 ++ 10 ∷ []) } = cc in
+      (h.0.0 ++ 10 ∷ [], ap (λ (v : SessionView V O). v.printed) same)
+
+  grows : AllShown s.stack → (k : Command) → StepsTo m k s (goes_on t) → Grows s.printed t.printed
+  grows h nothing e = as_printed s e refl
+  grows h malformed e = cc
+  grows h (rows n) e = grows_begin n s.row_count e
+  grows h (column name c) e = grows_column name c s.row_count e
+  grows h (get name) e = grows_get name s.row_count e
+  grows h (literal l) e = grows_push l s.row_count e
+  grows h (call f) e = grows_call f s.row_count e
+  grows h show e = grows_show s.row_count s.stack h e
+  grows h run e = grows_run s.row_count s.stack e
 
 last_or_before : (a b : ℕ) → a ≤ suc b → (a ≤ b) ⊎ (a ≡ suc b)
 last_or_before a b h = grind arith
@@ -225,7 +269,7 @@ module _ {V O : Type 0} (m : Meaning V O) (lines : List (List ℕ)) where
       let p = before (suc n) s a in
       let q = before (suc n) t b in
       let same = one_session n q.0 p.0 q.1 p.1 in
-      same_step m p.0 s t (command_at lines n) p.3 (subst (λ (x : SessionView V O). StepsTo m (command_at lines n) x (goes_on t)) same q.3)
+      same_step m p.0 (reached_fits m lines n p.0 p.1).shown s t (command_at lines n) p.3 (subst (λ (x : SessionView V O). StepsTo m (command_at lines n) x (goes_on t)) same q.3)
 
   earlier_by : (b a : ℕ) (t : SessionView V O) (reached : Reaches m lines (suc b) t) → (a ≤ b → (s : SessionView V O) × Reaches m lines a s × Grows s.printed (before (suc b) t reached).0.printed) → (a ≤ b) ⊎ (a ≡ suc b) → (s : SessionView V O) × Reaches m lines a s × Grows s.printed t.printed
   earlier_by b a t reached sooner (inr q) =
@@ -233,7 +277,7 @@ module _ {V O : Type 0} (m : Meaning V O) (lines : List (List ℕ)) where
   earlier_by b a t reached sooner (inl k) =
       let p = before (suc b) t reached in
       let r = sooner k in
-      (r.0, r.1, grows_on r.0.printed p.0.printed t.printed r.2 (grows m p.0 t (command_at lines b) p.3))
+      (r.0, r.1, grows_on r.0.printed p.0.printed t.printed r.2 (grows m p.0 t (reached_fits m lines b p.0 p.1).shown (command_at lines b) p.3))
 
   -- the session some lines earlier
   earlier : (b a : ℕ) (t : SessionView V O) → a ≤ b → Reaches m lines b t → (s : SessionView V O) × Reaches m lines a s × Grows s.printed t.printed
@@ -255,17 +299,17 @@ module _ {V O : Type 0} (m : Meaning V O) (lines : List (List ℕ)) where
   unless Q e h u = u
 
   -- where a script ends, want of memory aside, no line goes on
-  no_more : (n : ℕ) (s t : SessionView V O) (last : End) → (last ≡ Refused OutOfMemory → ⊥) → EndsAt m lines n s last → n < length lines → StepsTo m (command_at lines n) s (goes_on t) → ⊥
-  no_more n s t Done memory ends lt step = omega arith
-  no_more n s t (Refused e) memory ends lt step =
-      no_refusal m s t e (command_at lines n) step (unless (λ (x : VortexError). (n < length lines) × StepsTo m (command_at lines n) s (refuses x)) e (λ h. memory (ap Refused h)) ends).1
-  no_more n s t (Malformed k) memory ends lt step = no_malformed m s t (command_at lines n) step ends.1
+  no_more : (n : ℕ) (s t : SessionView V O) → AllShown s.stack → (last : End) → (last ≡ Refused OutOfMemory → ⊥) → EndsAt m lines n s last → n < length lines → StepsTo m (command_at lines n) s (goes_on t) → ⊥
+  no_more n s t h Done memory ends lt step = omega arith
+  no_more n s t h (Refused e) memory ends lt step =
+      no_refusal m s h t e (command_at lines n) step (unless (λ (x : VortexError). (n < length lines) × StepsTo m (command_at lines n) s (refuses x)) e (λ q. memory (ap Refused q)) ends).1
+  no_more n s t h (Malformed k) memory ends lt step = no_malformed m s h t (command_at lines n) step ends.1
 
   ends_no_sooner : (a b : ℕ) (s t : SessionView V O) (last : End) → (last ≡ Refused OutOfMemory → ⊥) → Reaches m lines a s → Reaches m lines b t → EndsAt m lines b t last → b < a → ⊥
   ends_no_sooner a b s t last memory reached whole ends h =
       let r = next a b s h reached in
       let same = one_session b r.0 t r.2 whole in
-      no_more b t r.1 last memory ends r.3 (subst (λ (x : SessionView V O). StepsTo m (command_at lines b) x (goes_on r.1)) same r.4)
+      no_more b t r.1 (reached_fits m lines b t whole).shown last memory ends r.3 (subst (λ (x : SessionView V O). StepsTo m (command_at lines b) x (goes_on r.1)) same r.4)
 
 sooner_or_not : (a b : ℕ) → (b < a) ⊎ (a ≤ b)
 sooner_or_not a b = grind arith

@@ -28,7 +28,8 @@ use Rattle.rowfn.specs.Lines.{Word, plain, quoted, words_of, after_spaces}
 -- get: the column of a name
 -- literal: a value in each row
 -- call: a function of the last trees
--- run: the last tree
+-- show: the last tree's text
+-- run: the last tree's column
 pub data Command : Type 0 where
   nothing : Command
   malformed : Command
@@ -37,6 +38,7 @@ pub data Command : Type 0 where
   get : List ℕ → Command
   literal : ScalarView → Command
   call : Callee → Command
+  show : Command
   run : Command
 
 abbrev pub begins_comment : List ℕ → Bool
@@ -205,9 +207,10 @@ callee_of w = if bytes_eq w (codes "not") then Some Not else option_map Binary (
 abbrev pub call_command : List Word → Command
 call_command ws = or_malformed call (option_and_then callee_of (only_word ws))
 
-abbrev pub run_command : List Word → Command
-run_command [] = run
-run_command ws = malformed
+-- what a first word says that no other follows
+abbrev pub alone : Command → List Word → Command
+alone k [] = k
+alone k ws = malformed
 
 -- by the first word
 abbrev pub command_by : List ℕ → List Word → Command
@@ -217,8 +220,9 @@ command_by w ws =
     else (if bytes_eq w (codes "get") then get_command ws
     else (if bytes_eq w (codes "lit") then literal_command ws
     else (if bytes_eq w (codes "call") then call_command ws
-    else (if bytes_eq w (codes "run") then run_command ws
-    else malformed)))))
+    else (if bytes_eq w (codes "show") then alone show ws
+    else (if bytes_eq w (codes "run") then alone run ws
+    else malformed))))))
 
 abbrev pub command_of_words : List Word → Command
 command_of_words [] = nothing
@@ -241,4 +245,5 @@ command_in (line.Column name c) = column name.now c
 command_in (line.Get name) = get name.now
 command_in (line.Literal s) = literal s
 command_in (line.Call f) = call f
+command_in line.Show = show
 command_in line.Run = run

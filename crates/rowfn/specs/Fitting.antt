@@ -1,9 +1,10 @@
--- The trees of a session fit its columns: so where `run` refuses, a row faults.
+-- The trees of a session fit its columns, so where `run` refuses, a row faults; and each has a text, which `show` prints.
 use Rattle.std.specs.Prelude.{◌≡◌, ℕ, List, [], ◌∷◌, Option, Some, None, ⊤}
 use Rattle.vortex_types.specs.declared.error.VortexError.{VortexError}
 use Rattle.vortex_columns.specs.ColumnView.{ColumnView}
 use Rattle.vortex_meaning.specs.Meaning.{Meaning}
 use Rattle.vortex_meaning.specs.Trees.{Tree}
+use Rattle.vortex_meaning.specs.Printing.{tree_text}
 use Rattle.vortex_meaning.specs.Eval.{IsFirstFault}
 use Rattle.vortex_meaning.specs.Execution.{LeavesFit, other_length}
 use Rattle.rowfn.specs.Commands.{run}
@@ -19,9 +20,18 @@ abbrev pub AllFit : {V O : Type 0} → List ColumnView → List (Tree V O) → T
 AllFit cs [] = ⊤
 AllFit cs (t ∷ ts) = LeavesFit cs t × AllFit cs ts
 
+-- the tree has a text: no caller's function stands in it
+abbrev pub HasText : {V O : Type 0} → Tree V O → Type 0
+HasText t = (text : List ℕ) × (tree_text t ≡ Some text)
+
+abbrev pub AllShown : {V O : Type 0} → List (Tree V O) → Type 0
+AllShown [] = ⊤
+AllShown (t ∷ ts) = HasText t × AllShown ts
+
 pub record Fits {V O : Type 0} (s : SessionView V O) : Type 0 where
   pub counted : Counted s.row_count s.columns
   pub fit : AllFit s.columns s.stack
+  pub shown : AllShown s.stack
 
 -- in a session that lines reach, `run` is refused with the first fault of the last tree, and never for its leaves or lengths
 abbrev pub RefusesFaultsAlone : {V O : Type 0} → Meaning V O → Type 0

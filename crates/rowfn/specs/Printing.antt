@@ -1,20 +1,28 @@
--- How a column is printed.
-use Rattle.std.specs.Prelude.{ℕ, List, [], ◌∷◌, ◌++◌, true, false, codes}
+-- How a column is printed: cells in the form in which they are read.
+use Rattle.std.specs.Prelude.{ℕ, List, [], ◌∷◌, ◌++◌, true, false, codes, if◌then◌else◌}
+use Rattle.std.specs.Fmt.{signed_decimal}
 use Rattle.std.specs.List.{flat_map}
-use Rattle.vortex_types.specs.LogicalTypes.{LogicalType, bool_type}
-use Rattle.vortex_types.specs.Values.{Value, null, truth}
+use Rattle.vortex_types.specs.LogicalTypes.{LogicalType, bool_type, integer_type, text_type, is_nullable}
+use Rattle.vortex_types.specs.Values.{Value, null, truth, number, text}
 use Rattle.vortex_columns.specs.ColumnView.{ColumnView}
+use Rattle.vortex_meaning.specs.Printing.{ptype_text, quote}
 
--- types other than Bool have no text yet, nor have their values
+-- no column of a script has another type
+abbrev pub kind_text : LogicalType → List ℕ
+kind_text (bool_type n) = codes "bool"
+kind_text (integer_type p n) = ptype_text p
+kind_text (text_type n) = codes "utf8"
+kind_text t = []
+
 abbrev pub type_text : LogicalType → List ℕ
-type_text (bool_type false) = codes "bool"
-type_text (bool_type true) = codes "bool?"
-type_text t = []
+type_text t = kind_text t ++ (if is_nullable t then codes "?" else [])
 
 abbrev pub value_text : Value → List ℕ
 value_text null = codes "null"
 value_text (truth true) = codes "true"
 value_text (truth false) = codes "false"
+value_text (number z) = signed_decimal z
+value_text (text bs) = quote ++ (bs ++ quote)
 value_text v = []
 
 -- each after a space

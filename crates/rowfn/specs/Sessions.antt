@@ -1,5 +1,5 @@
 -- What a line makes of what the lines before it made.
-use Rattle.std.specs.Prelude.{◌≡◌, ◌==◌, ◌&&◌, ℕ, List, [], ◌∷◌, ◌++◌, length, not, Option, Some, None, is_some, if◌then◌else◌}
+use Rattle.std.specs.Prelude.{◌≡◌, ◌==◌, ◌&&◌, ℕ, List, [], ◌∷◌, ◌++◌, length, not, Option, Some, None, is_some, IfSome, if◌then◌else◌}
 use Rattle.std.specs.List.{list_any}
 use Rattle.std.specs.Str.{bytes_eq}
 use Rattle.vortex_types.specs.declared.error.VortexError.{VortexError}
@@ -12,10 +12,11 @@ use Rattle.vortex_meaning.specs.Shipped.{Shipped, binary, negation, shipped_plac
 use Rattle.vortex_meaning.specs.Functions.{shipped}
 use Rattle.vortex_meaning.specs.Trees.{Tree, leaf, place, constant, call as call_tree, trees_of}
 use Rattle.vortex_meaning.specs.Eval.{tree_type}
+use Rattle.vortex_meaning.specs.Printing.{tree_text}
 use Rattle.vortex_meaning.specs.Execution.{Executes, RefusesExecution}
 use Rattle.rowfn.specs.declared.command.Callee.{Callee}
 use Rattle.rowfn.specs.declared.command.Callee.TheVariants.{Binary, Not}
-use Rattle.rowfn.specs.Commands.{Command, nothing, malformed, rows, column, get, literal, call, run}
+use Rattle.rowfn.specs.Commands.{Command, nothing, malformed, rows, column, get, literal, call, show, run}
 use Rattle.rowfn.specs.Printing.{column_text}
 
 -- the row count once it is said, the columns and their names in the order of their lines, the trees with the last one first,
@@ -77,6 +78,16 @@ module _ {V O : Type 0} where
   abbrev pub with_literal : ScalarView → SessionView V O → Step V O
   with_literal l s = goes_on (record s { stack = constant l ∷ s.stack })
 
+  -- a text with a newline is printed
+  abbrev pub shown_by : List ℕ → SessionView V O → Step V O
+  shown_by text s = goes_on (record s { printed = s.printed ++ (text ++ 10 ∷ []) })
+
+  -- the tree's text, which each tree of a script has
+  abbrev pub ShowsTop : Option ℕ → List (Tree V O) → SessionView V O → Step V O → Type 0
+  ShowsTop None stack s r = r ≡ is_malformed
+  ShowsTop (Some n) [] s r = r ≡ is_malformed
+  ShowsTop (Some n) (t ∷ stack) s r = IfSome (tree_text t) (λ text. r ≡ shown_by text s)
+
   module _ (m : Meaning V O) where
     -- a call that has no type is refused as its function refuses types
     abbrev pub with_tree : Shipped → Tree V O → SessionView V O → List (Tree V O) → Step V O
@@ -107,4 +118,5 @@ module _ {V O : Type 0} where
     StepsTo (get name) s r = r ≡ after_rows s.row_count (λ n. with_leaf name s (find_field name (fields_in s.names s.columns)))
     StepsTo (literal l) s r = r ≡ after_rows s.row_count (λ n. with_literal l s)
     StepsTo (call f) s r = r ≡ after_rows s.row_count (λ n. with_call f s (taken f s.stack))
+    StepsTo show s r = ShowsTop s.row_count s.stack s r
     StepsTo run s r = RunsTop s.row_count s.stack s r

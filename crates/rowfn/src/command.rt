@@ -31,6 +31,8 @@ pub enum Line<'a> {
     Literal(Scalar),
     /// A function of the last trees.
     Call(Callee),
+    /// The text of the last tree, printed.
+    Show,
     /// The column of the last tree, printed.
     Run,
 }

@@ -2,7 +2,7 @@
 ghost use Rattle.std.specs.Prelude.{◌≡◌, map, option_map};
 ghost use Rattle.vortex_types.specs.Answers.{AnswersUnlessMemory};
 ghost use Rattle.rowfn.specs.Lines.{word_in};
-ghost use Rattle.rowfn.specs.Commands.{begins_comment, is_name, count_of, operator_of_word, callee_of, only_word, rows_command, column_command, get_command, literal_command, call_command, run_command, command_by, command_of_words, command_of_text, command_of, command_in};
+ghost use Rattle.rowfn.specs.Commands.{begins_comment, is_name, count_of, operator_of_word, callee_of, only_word, rows_command, column_command, get_command, literal_command, call_command, alone, command_by, command_of_words, command_of_text, command_of, command_in};
 
 use crate::cells::{are_digits, column_said, literal_said};
 use crate::command::{Callee, Line};
@@ -148,11 +148,12 @@ fn call_line<'a>(words: &[Word<'a>]) -> Line<'a>
     }
 }
 
-fn run_line<'a>(words: &[Word<'a>]) -> Line<'a>
-    ensures { command_in result ≡ run_command (map word_in words.now) }
+/// The line of a first word that no other follows.
+fn alone<'a>(line: Line<'a>, words: &[Word<'a>]) -> Line<'a>
+    ensures { command_in result ≡ alone (command_in line.entry) (map word_in words.now) }
 {
     if words.is_empty() {
-        Line::Run
+        line
     } else {
         Line::Malformed
     }
@@ -172,8 +173,10 @@ fn line_of<'a>(alloc: Global, first: &'a str, words: &[Word<'a>]) -> VortexResul
         literal_line(alloc, words)
     } else if first == "call" {
         Ok(call_line(words))
+    } else if first == "show" {
+        Ok(alone(Line::Show, words))
     } else if first == "run" {
-        Ok(run_line(words))
+        Ok(alone(Line::Run, words))
     } else {
         Ok(Line::Malformed)
     }

@@ -1,35 +1,72 @@
 //! Prints a column.
-ghost use Rattle.std.specs.Prelude.{◌≡◌, string_bytes};
+ghost use Rattle.std.specs.Prelude.{◌≡◌, ◌++◌, string_bytes};
 ghost use Rattle.vortex_types.specs.Answers.{AnswersUnlessMemory};
 ghost use Rattle.vortex_types.specs.TypeOf.{type_of};
-ghost use Rattle.rowfn.specs.Printing.{type_text, value_text, column_text};
+ghost use Rattle.vortex_columns.specs.Cells.{cell_value, IsCell};
+ghost use Rattle.vortex_meaning.specs.Printing.{ptype_text, quote};
+ghost use Rattle.rowfn.specs.Printing.{kind_text, type_text, value_text, column_text};
 
 use std::alloc::Global;
-use vortex_columns::{Column, DType, Scalar, VortexResult};
+use std::fmt::Write;
+use vortex_columns::{Cell, Column, DType, PType, VortexResult};
 
-fn type_text(dtype: &DType) -> &'static str
-    ensures { result.now ≡ type_text (type_of dtype.now) }
+fn ptype_text(ptype: PType) -> &'static str
+    ensures { result.now ≡ ptype_text ptype }
 {
-    if !dtype.is_boolean() {
-        ""
-    } else if dtype.is_nullable() {
-        "bool?"
-    } else {
-        "bool"
+    match ptype {
+        PType::I8 => "i8",
+        PType::I16 => "i16",
+        PType::I32 => "i32",
+        PType::I64 => "i64",
+        PType::U8 => "u8",
+        PType::U16 => "u16",
+        PType::U32 => "u32",
+        PType::U64 => "u64",
     }
 }
 
-fn value_text(scalar: &Scalar) -> &'static str
-    ensures { result.now ≡ value_text scalar.now.value }
+fn kind_text(dtype: &DType) -> &'static str
+    ensures { result.now ≡ kind_text (type_of dtype.now) }
 {
-    if scalar.is_null() {
-        return "null";
+    match dtype {
+        DType::Bool(_) => "bool",
+        DType::Primitive(ptype, _) => ptype_text(*ptype),
+        DType::Utf8(_) => "utf8",
+        _ => "",
     }
-    match scalar.as_bool_opt() {
-        Some(true) => "true",
-        Some(false) => "false",
-        None => "",
+}
+
+fn write_type(out: &mut String, dtype: &DType) -> VortexResult<()>
+    ensures { AnswersUnlessMemory result (λ _. string_bytes out.new ≡ string_bytes out.old ++ type_text (type_of dtype.now)) }
+{
+    out.push_str(kind_text(dtype))?;
+    if dtype.is_nullable() {
+        out.push_str("?")?;
     }
+    Ok(())
+}
+
+fn write_text(out: &mut String, text: &str) -> VortexResult<()>
+    ensures { AnswersUnlessMemory result (λ _. string_bytes out.new ≡ string_bytes out.old ++ (quote ++ (text.now ++ quote))) }
+{
+    out.push_str("\"")?;
+    out.push_str(text)?;
+    out.push_str("\"")?;
+    Ok(())
+}
+
+fn write_value(out: &mut String, cell: &Cell<'_>) -> VortexResult<()>
+    ensures { AnswersUnlessMemory result (λ _. string_bytes out.new ≡ string_bytes out.old ++ value_text (cell_value cell.now)) }
+{
+    match cell {
+        Cell::Null => out.push_str("null")?,
+        Cell::Bool(true) => out.push_str("true")?,
+        Cell::Bool(false) => out.push_str("false")?,
+        Cell::Int(number) => write!(out, "{number}")?,
+        Cell::Text(text) => write_text(out, text)?,
+        _ => {}
+    }
+    Ok(())
 }
 
 /// The type, a colon, each value after a space, and a newline. E9 alone.
@@ -38,12 +75,11 @@ pub fn column_text(alloc: Global, column: &Column) -> VortexResult<String>
     ensures { AnswersUnlessMemory result (λ text. string_bytes text ≡ column_text column.now) }
 {
     let mut text = String::new(alloc);
-    text.push_str(type_text(column.dtype()))?;
+    write_type(&mut text, column.dtype())?;
     text.push_str(":")?;
     for i in 0..column.len() {
-        let scalar = column.scalar_at(alloc, i)?;
         text.push_str(" ")?;
-        text.push_str(value_text(&scalar))?;
+        write_value(&mut text, &column.cell(i))?;
     }
     text.push_str("\n")?;
     Ok(text)

@@ -6,8 +6,8 @@ ghost use Rattle.vortex_types.specs.Answers.{Answers, AnswersUnlessMemory};
 ghost use Rattle.vortex_types.specs.TypeOf.{type_of, struct_fields};
 ghost use Rattle.vortex_meaning.specs.Functions.{shipped};
 ghost use Rattle.vortex_functions.specs.FunctionOf.{function_of};
-ghost use Rattle.rowfn.specs.Commands.{rows, column, get, literal, call, run, command_in, command_of};
-ghost use Rattle.rowfn.specs.Sessions.{refuses, fresh, fields_in, shipped_of, argument_count, RunsTop, StepsTo};
+ghost use Rattle.rowfn.specs.Commands.{rows, column, get, literal, call, show, run, command_in, command_of};
+ghost use Rattle.rowfn.specs.Sessions.{refuses, fresh, fields_in, shipped_of, argument_count, ShowsTop, RunsTop, StepsTo};
 ghost use Rattle.rowfn.specs.Stepping.{MakesStep, after_text};
 
 use crate::command::{Callee, Line};
@@ -164,13 +164,13 @@ impl<C: ScalarFnVTable> Session<C> {
         Ok(())
     }
 
-    fn push_literal(&mut self, scalar: Scalar) -> Result<(), Stop>
+    fn push_literal(&mut self, alloc: Global, scalar: Scalar) -> Result<(), Stop>
         ensures { MakesStep (StepsTo C.meaning (literal scalar)) self.old result self.new }
     {
         if self.row_count.is_none() {
             return Err(Stop::Malformed);
         }
-        self.stack.push(BoundExpression::lit(scalar))?;
+        self.stack.push(BoundExpression::lit(alloc, scalar))?;
         Ok(())
     }
 
@@ -215,6 +215,31 @@ impl<C: ScalarFnVTable> Session<C> {
         Ok(())
     }
 
+    /// The text of the last tree, with a newline; nothing where there is no tree.
+    fn shown_text(&self, alloc: Global, count: usize) -> VortexResult<Option<String>>
+        ensures { AnswersUnlessMemory result (λ text. ShowsTop (Some count) self.now.stack self.now (after_text self.now text)) }
+    {
+        let Some(shown) = self.stack.last() else {
+            return Ok(None);
+        };
+        let mut text = shown.sql_text(alloc)?;
+        text.push_str("\n")?;
+        Ok(Some(text))
+    }
+
+    fn show(&mut self, alloc: Global) -> Result<(), Stop>
+        ensures { MakesStep (StepsTo C.meaning show) self.old result self.new }
+    {
+        let Some(count) = self.row_count else {
+            return Err(Stop::Malformed);
+        };
+        let Some(shown) = self.shown_text(alloc, count)? else {
+            return Err(Stop::Malformed);
+        };
+        self.out.extend_from_slice(shown.as_bytes())?;
+        Ok(())
+    }
+
     fn step(&mut self, alloc: Global, line: Line<'_>) -> Result<(), Stop>
         ensures { MakesStep (StepsTo C.meaning (command_in line.entry)) self.old result self.new }
     {
@@ -224,8 +249,9 @@ impl<C: ScalarFnVTable> Session<C> {
             Line::Rows(count) => self.begin(count),
             Line::Column(name, column) => self.add_column(alloc, name, column),
             Line::Get(name) => self.push_leaf(alloc, name),
-            Line::Literal(scalar) => self.push_literal(scalar),
+            Line::Literal(scalar) => self.push_literal(alloc, scalar),
             Line::Call(callee) => self.push_call(alloc, callee),
+            Line::Show => self.show(alloc),
             Line::Run => self.run(alloc),
         }
     }

@@ -100,6 +100,83 @@ fn runs_scripts(rt: HostRuntime) -> Result<(), Fail> {
 }
 
 #[test]
+fn compares_values(rt: HostRuntime) -> Result<(), Fail> {
+    let alloc = rt.alloc();
+    for (script, wanted) in [
+        (
+            "rows 3\ncol s utf8? \"a\" null \"b c\"\nget s\nlit utf8 \"b\"\ncall <\nrun\n",
+            "bool?: true null false\n||0",
+        ),
+        (
+            "rows 4\ncol a bool false false true true\ncol b bool false true false true\nget a\nget b\ncall <\nrun\nget a\nget b\ncall >=\nrun\n",
+            "bool: false true false false\nbool: true false true true\n||0",
+        ),
+        (
+            "rows 2\ncol n i64 -9223372036854775808 9223372036854775807\nget n\nlit i64 0\ncall >\nrun\n",
+            "bool: false true\n||0",
+        ),
+        (
+            "rows 1\ncol n i32 1\nget n\nlit i64 1\ncall =\nrun\n",
+            "|error: TypeMismatch.Compare\n|1",
+        ),
+        (
+            "rows 2\ncol n u16? 1 null\nlit u16 1\nget n\ncall !=\nshow\nrun\n",
+            "(1u16 != $.n)\nbool?: false null\n||0",
+        ),
+        (
+            "rows 1\ncol a bool true\ncol b bool? null\nget a\nget b\ncall and\ncall not\nshow\n",
+            "vortex.not(($.a and $.b))\n||0",
+        ),
+    ] {
+        assert_eq!(rt; told(alloc, script.as_bytes())?.as_str(), wanted);
+    }
+    Ok(())
+}
+
+#[test]
+fn reads_numbers_and_texts(rt: HostRuntime) -> Result<(), Fail> {
+    let alloc = rt.alloc();
+    for (script, wanted) in [
+        (
+            "rows 4\ncol n i8? -128 null -0 007\nget n\nrun\n",
+            "i8?: -128 null 0 7\n||0",
+        ),
+        (
+            "rows 1\nlit u64 00000000000000000000000000000000000000000000000018446744073709551615\nrun\n",
+            "u64: 18446744073709551615\n||0",
+        ),
+        (
+            " rows 3\ncol s utf8  \"\"   \"# null\" \"caf\u{e9}\" \nget s\nrun\n",
+            "utf8: \"\" \"# null\" \"caf\u{e9}\"\n||0",
+        ),
+        ("  # \"\nrows 0\n", "||0"),
+        ("rows 1\ncol u u8 256\n", "|line 2: malformed\n|2"),
+        ("rows 1\ncol u u8 -1\n", "|line 2: malformed\n|2"),
+        ("rows 1\ncol u i8 +1\n", "|line 2: malformed\n|2"),
+        ("rows 1\ncol u i8 -\n", "|line 2: malformed\n|2"),
+        ("rows 1\ncol u i8 \"1\"\n", "|line 2: malformed\n|2"),
+        (
+            "rows 1\nlit u64 100000000000000000000000000000000000000000000000000\n",
+            "|line 2: malformed\n|2",
+        ),
+        ("rows 1\ncol s utf8 a\n", "|line 2: malformed\n|2"),
+        ("rows 1\ncol s utf8 null\n", "|line 2: malformed\n|2"),
+        ("rows 1\ncol s utf8 \"a\n", "|line 2: malformed\n|2"),
+        ("rows 1\ncol s utf8 \"a\"b\n", "|line 2: malformed\n|2"),
+        ("rows 1\ncol \"s\" utf8 \"a\"\n", "|line 2: malformed\n|2"),
+        ("rows 1\nlit i8\n", "|line 2: malformed\n|2"),
+        ("rows 1\nlit i8 1 2\n", "|line 2: malformed\n|2"),
+        ("rows 1\nlit i9 1\n", "|line 2: malformed\n|2"),
+        ("lit i8 1\n", "|line 1: malformed\n|2"),
+        ("rows 1\nshow\n", "|line 2: malformed\n|2"),
+        ("rows 1\nlit i8 1\nshow it\n", "|line 3: malformed\n|2"),
+    ] {
+        assert_eq!(rt; told(alloc, script.as_bytes())?.as_str(), wanted);
+    }
+    Ok(())
+}
+
+#[test]
 fn refuses_lines_that_are_no_text(rt: HostRuntime) -> Result<(), Fail> {
     let alloc = rt.alloc();
     assert_eq!(rt;
