@@ -2,9 +2,10 @@
 use Rattle.std.proofs.Common.{◌≡◌, ℕ, zero, suc, ◌<◌, Bool, true, false, Option, Some, None, List, [], ◌∷◌, ◌++◌, map, length, refl, sym, ap, ◌∙◌, arith, append_assoc, option_map, if◌then◌else◌}
 use Rattle.std.specs.Prelude.{slice_index_or}
 use Rattle.std.proofs.lemmas.List.{get_or-map, length-map, ext_get_or}
-use Rattle.vortex_columns.specs.LogicalTypes.{LogicalType, bool_type, is_nullable}
-use Rattle.vortex_columns.specs.Values.{Value, null, truth, truth_or_null}
-use Rattle.vortex_columns.specs.ColumnView.{ColumnView, array, non_nullable}
+use Rattle.vortex_types.specs.LogicalTypes.{LogicalType, bool_type, is_nullable}
+use Rattle.vortex_types.specs.Values.{Value, null, truth, truth_or_null}
+use Rattle.vortex_columns.specs.ColumnView.{ColumnView}
+use Rattle.vortex_types.specs.ValidityView.{array, non_nullable}
 use Rattle.vortex_kernels.specs.Rows.{HasRows, Allows, AllAllowed}
 use Rattle.rowfn.specs.Commands.{cell_of, cells_of, with_cell, column_of}
 

@@ -3,10 +3,10 @@ use Rattle.std.proofs.Common.{◌≡◌, ◌==◌, ℕ, zero, suc, Bool, true, f
 use Rattle.std.specs.Prelude.{nat_eq}
 use Rattle.std.specs.List.{slice_get}
 use Rattle.std.specs.Str.{bytes_eq}
-use Rattle.vortex_columns.specs.declared.error.VortexError.{VortexError}
-use Rattle.vortex_columns.specs.declared.error.VortexError.TheVariants.{TypeMismatch}
+use Rattle.vortex_types.specs.declared.error.VortexError.{VortexError}
+use Rattle.vortex_types.specs.declared.error.VortexError.TheVariants.{TypeMismatch}
 use Rattle.vortex_columns.specs.ColumnView.{ColumnView}
-use Rattle.vortex_columns.specs.LogicalTypes.{LogicalType, find_field, after_one}
+use Rattle.vortex_types.specs.LogicalTypes.{LogicalType, find_field, after_one}
 use Rattle.vortex_meaning.specs.Meaning.{Meaning}
 use Rattle.vortex_meaning.specs.Shipped.{shipped_place}
 use Rattle.vortex_meaning.specs.Functions.{shipped}

@@ -4,7 +4,7 @@ use Rattle.std.proofs.Math.Seq.{take-suc}
 use Rattle.std.specs.Prelude.{codes}
 use Rattle.std.proofs.lemmas.Grind.{flat_map-append}
 use Rattle.std.proofs.lemmas.List.{append-nil}
-use Rattle.vortex_columns.specs.Values.{Value, null}
+use Rattle.vortex_types.specs.Values.{Value, null}
 use Rattle.vortex_columns.specs.ColumnView.{row}
 use Rattle.rowfn.specs.Printing.{value_text, values_text}
 

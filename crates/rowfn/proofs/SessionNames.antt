@@ -9,9 +9,9 @@ use Rattle.std.proofs.lemmas.List.{length-map, map-append, length-append, length
 use Rattle.std.proofs.lemmas.List.Folds.{list_any_at}
 use Rattle.std.proofs.lemmas.List.Quantifiers.{all_pairs_push}
 use Rattle.std.proofs.lemmas.Slice.Eq.{bytes_eq-Decides}
-use Rattle.vortex_columns.specs.declared.dtype.DType.{DType}
-use Rattle.vortex_columns.specs.LogicalTypes.{field}
-use Rattle.vortex_columns.specs.TypeOf.{type_of, fields_view, named_types, AllDiffer, AreNamed}
+use Rattle.vortex_types.specs.declared.dtype.DType.{DType}
+use Rattle.vortex_types.specs.LogicalTypes.{field}
+use Rattle.vortex_types.specs.TypeOf.{type_of, fields_view, named_types, AllDiffer, AreNamed}
 use Rattle.vortex_columns.specs.ColumnView.{ColumnView}
 use Rattle.rowfn.specs.Sessions.{fields_in}
 

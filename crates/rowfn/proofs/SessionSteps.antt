@@ -8,10 +8,10 @@ use Rattle.std.specs.Str.{bytes_eq}
 use Rattle.std.proofs.Math.Seq.{take-suc}
 use Rattle.std.proofs.lemmas.Bool.{eqb-true, false_from_ne_true}
 use Rattle.std.proofs.lemmas.List.{reverse-append, take-append-drop, take_all, length-drop}
-use Rattle.vortex_columns.specs.declared.error.VortexError.{VortexError}
+use Rattle.vortex_types.specs.declared.error.VortexError.{VortexError}
 use Rattle.vortex_columns.specs.ColumnView.{ColumnView}
-use Rattle.vortex_columns.specs.LogicalTypes.{LogicalType, Fields, find_field}
-use Rattle.vortex_columns.specs.declared.error.VortexError.TheVariants.{ScopeMismatch, TypeMismatch}
+use Rattle.vortex_types.specs.LogicalTypes.{LogicalType, Fields, find_field}
+use Rattle.vortex_types.specs.declared.error.VortexError.TheVariants.{ScopeMismatch, TypeMismatch}
 use Rattle.vortex_meaning.specs.Meaning.{Meaning, fits}
 use Rattle.vortex_meaning.specs.Shipped.{binary, negation, shipped_place}
 use Rattle.vortex_meaning.specs.Functions.{Function, shipped, function_arity, function_type, call_type}
@@ -21,7 +21,7 @@ use Rattle.vortex_meaning.specs.Execution.{Executes, RefusesExecution}
 use Rattle.vortex_functions.specs.Binding.{IsCall, RefusesCall, count, types}
 use Rattle.rowfn.specs.declared.command.Callee.{Callee}
 use Rattle.rowfn.specs.declared.command.Callee.TheVariants.{Binary, Not}
-use Rattle.vortex_columns.specs.Answers.{Answers, UnlessMemory}
+use Rattle.vortex_types.specs.Answers.{Answers, UnlessMemory}
 use Rattle.rowfn.specs.declared.stop.Stop.{Stop}
 use Rattle.rowfn.specs.declared.stop.Stop.TheVariants.{Refused}
 use Rattle.rowfn.specs.Stepping.{MakesStep}

@@ -5,11 +5,11 @@ use Rattle.std.specs.List.{list_any}
 use Rattle.std.specs.Str.{bytes_eq}
 use Rattle.std.specs.Option.{is_some}
 use Rattle.std.proofs.lemmas.List.{append-nil, ext_get_or}
-use Rattle.vortex_columns.specs.declared.error.VortexError.{VortexError}
-use Rattle.vortex_columns.specs.declared.error.VortexError.TheVariants.{OutOfMemory, TypeMismatch}
-use Rattle.vortex_columns.specs.Answers.{UnlessMemory}
-use Rattle.vortex_columns.specs.Values.{Value, null}
-use Rattle.vortex_columns.specs.LogicalTypes.{LogicalType, find_field}
+use Rattle.vortex_types.specs.declared.error.VortexError.{VortexError}
+use Rattle.vortex_types.specs.declared.error.VortexError.TheVariants.{OutOfMemory, TypeMismatch}
+use Rattle.vortex_types.specs.Answers.{UnlessMemory}
+use Rattle.vortex_types.specs.Values.{Value, null}
+use Rattle.vortex_types.specs.LogicalTypes.{LogicalType, find_field}
 use Rattle.vortex_columns.specs.ColumnView.{ColumnView}
 use Rattle.vortex_meaning.specs.Outcomes.{Outcome, gives, faults, GivesValue}
 use Rattle.vortex_meaning.specs.Meaning.{Meaning}

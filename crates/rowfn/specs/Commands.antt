@@ -4,9 +4,10 @@ use Rattle.std.specs.List.{list_all}
 use Rattle.std.specs.Option.{option_and_then}
 use Rattle.std.specs.Char.{is_ascii_alphanumeric, is_ascii_digit}
 use Rattle.std.specs.Str.{is_utf8, bytes_eq}
-use Rattle.vortex_columns.specs.LogicalTypes.{LogicalType, bool_type, is_nullable}
-use Rattle.vortex_columns.specs.Values.{Value, null, truth}
-use Rattle.vortex_columns.specs.ColumnView.{ColumnView, array, non_nullable}
+use Rattle.vortex_types.specs.LogicalTypes.{LogicalType, bool_type, is_nullable}
+use Rattle.vortex_types.specs.Values.{Value, null, truth}
+use Rattle.vortex_columns.specs.ColumnView.{ColumnView}
+use Rattle.vortex_types.specs.ValidityView.{array, non_nullable}
 use Rattle.vortex_kernels.specs.declared.operators.Operator.TheVariants.{And, Or}
 use Rattle.rowfn.specs.declared.command.Callee.{Callee}
 use Rattle.rowfn.specs.declared.command.Callee.TheVariants.{Binary, Not}

@@ -1,8 +1,8 @@
 -- How a column is printed.
 use Rattle.std.specs.Prelude.{ℕ, List, [], ◌∷◌, ◌++◌, true, false, codes}
 use Rattle.std.specs.List.{flat_map}
-use Rattle.vortex_columns.specs.LogicalTypes.{LogicalType, bool_type}
-use Rattle.vortex_columns.specs.Values.{Value, null, truth}
+use Rattle.vortex_types.specs.LogicalTypes.{LogicalType, bool_type}
+use Rattle.vortex_types.specs.Values.{Value, null, truth}
 use Rattle.vortex_columns.specs.ColumnView.{ColumnView}
 
 -- types other than Bool have no text yet, nor have their values

@@ -2,9 +2,9 @@
 use Rattle.std.specs.Prelude.{◌≡◌, ◌==◌, ◌&&◌, ℕ, List, [], ◌∷◌, ◌++◌, length, not, Option, Some, None, is_some, if◌then◌else◌}
 use Rattle.std.specs.List.{list_any}
 use Rattle.std.specs.Str.{bytes_eq}
-use Rattle.vortex_columns.specs.declared.error.VortexError.{VortexError}
-use Rattle.vortex_columns.specs.declared.error.VortexError.TheVariants.{ScopeMismatch, TypeMismatch}
-use Rattle.vortex_columns.specs.LogicalTypes.{LogicalType, Fields, no_fields, field, find_field}
+use Rattle.vortex_types.specs.declared.error.VortexError.{VortexError}
+use Rattle.vortex_types.specs.declared.error.VortexError.TheVariants.{ScopeMismatch, TypeMismatch}
+use Rattle.vortex_types.specs.LogicalTypes.{LogicalType, Fields, no_fields, field, find_field}
 use Rattle.vortex_columns.specs.ColumnView.{ColumnView}
 use Rattle.vortex_meaning.specs.Meaning.{Meaning}
 use Rattle.vortex_meaning.specs.Shipped.{Shipped, binary, negation, shipped_place}

@@ -1,7 +1,7 @@
 -- When a call makes a step.
 use Rattle.std.specs.Prelude.{◌≡◌, ◌++◌, ℕ, Result, MatchResult, Option, Some, None, String, string_bytes}
 use Rattle.std.specs.declared.alloc.Global.{Global}
-use Rattle.vortex_columns.specs.Answers.{UnlessMemory}
+use Rattle.vortex_types.specs.Answers.{UnlessMemory}
 use Rattle.rowfn.specs.declared.stop.Stop.{Stop}
 use Rattle.rowfn.specs.declared.stop.Stop.TheVariants.{Refused, Malformed}
 use Rattle.rowfn.specs.declared.ending.End.{End}

@@ -1,6 +1,6 @@
 -- A script is told one way: what is printed before memory runs out is a beginning of what is printed where it does not.
 use Rattle.std.specs.Prelude.{◌≡◌, ◌++◌, ℕ, List}
-use Rattle.vortex_columns.specs.declared.error.VortexError.TheVariants.{OutOfMemory}
+use Rattle.vortex_types.specs.declared.error.VortexError.TheVariants.{OutOfMemory}
 use Rattle.vortex_meaning.specs.Meaning.{Meaning}
 use Rattle.rowfn.specs.declared.ending.End.{End}
 use Rattle.rowfn.specs.declared.ending.End.TheVariants.{Refused}

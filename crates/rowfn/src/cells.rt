@@ -1,9 +1,9 @@
 //! Columns that are read from words.
 ghost use Rattle.std.specs.Prelude.{◌≡◌, map, is_some, unwrap_or, option_map, false, IfOk};
-ghost use Rattle.vortex_columns.specs.Answers.{AnswersUnlessMemory};
-ghost use Rattle.vortex_columns.specs.LogicalTypes.{bool_type};
-ghost use Rattle.vortex_columns.specs.TypeOf.{allows_null};
-ghost use Rattle.vortex_columns.specs.Values.{truth_or_null};
+ghost use Rattle.vortex_types.specs.Answers.{AnswersUnlessMemory};
+ghost use Rattle.vortex_types.specs.LogicalTypes.{bool_type};
+ghost use Rattle.vortex_types.specs.TypeOf.{allows_null};
+ghost use Rattle.vortex_types.specs.Values.{truth_or_null};
 ghost use Rattle.vortex_kernels.specs.Rows.{AllAllowed};
 ghost use Rattle.rowfn.specs.Commands.{type_of_word, cell_of, cells_of, column_of};
 

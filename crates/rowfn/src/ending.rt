@@ -1,6 +1,6 @@
 //! How a script ends.
 ghost use Rattle.std.specs.Prelude.{◌≡◌, string_bytes};
-ghost use Rattle.vortex_columns.specs.Answers.{AnswersUnlessMemory};
+ghost use Rattle.vortex_types.specs.Answers.{AnswersUnlessMemory};
 ghost use Rattle.rowfn.specs.Endings.{status_of, fault_line_of};
 
 use std::alloc::Global;

@@ -2,7 +2,7 @@
 ghost use Rattle.std.specs.Prelude.{◌≡◌, map, option_map};
 ghost use Rattle.std.specs.List.{list_all};
 ghost use Rattle.std.specs.Char.{is_ascii_digit};
-ghost use Rattle.vortex_columns.specs.Answers.{AnswersUnlessMemory};
+ghost use Rattle.vortex_types.specs.Answers.{AnswersUnlessMemory};
 ghost use Rattle.rowfn.specs.Commands.{begins_comment, is_name, count_of, callee_of, only_word, rows_command, column_command, get_command, call_command, run_command, command_of_words, command_of, command_in};
 
 use crate::cells::{bool_column, read_truths, read_type};

@@ -1,7 +1,7 @@
 //! Prints a column.
 ghost use Rattle.std.specs.Prelude.{◌≡◌, string_bytes};
-ghost use Rattle.vortex_columns.specs.Answers.{AnswersUnlessMemory};
-ghost use Rattle.vortex_columns.specs.TypeOf.{type_of};
+ghost use Rattle.vortex_types.specs.Answers.{AnswersUnlessMemory};
+ghost use Rattle.vortex_types.specs.TypeOf.{type_of};
 ghost use Rattle.rowfn.specs.Printing.{type_text, value_text, column_text};
 
 use std::alloc::Global;

@@ -2,8 +2,8 @@
 ghost use Rattle.std.specs.Prelude.{◌≡◌, ◌≤◌, ◌<◌, Some, map, length, take, string_bytes};
 ghost use Rattle.std.specs.List.{list_any};
 ghost use Rattle.std.specs.Str.{bytes_eq};
-ghost use Rattle.vortex_columns.specs.Answers.{Answers, AnswersUnlessMemory};
-ghost use Rattle.vortex_columns.specs.TypeOf.{type_of, struct_fields};
+ghost use Rattle.vortex_types.specs.Answers.{Answers, AnswersUnlessMemory};
+ghost use Rattle.vortex_types.specs.TypeOf.{type_of, struct_fields};
 ghost use Rattle.vortex_meaning.specs.Functions.{shipped};
 ghost use Rattle.vortex_functions.specs.FunctionOf.{function_of};
 ghost use Rattle.rowfn.specs.Commands.{rows, column, get, call, run, command_in, command_of};
@@ -38,7 +38,7 @@ impl<C: ScalarFnVTable> Model for Session<C> {
     ghost coded = { coded_session C.code C.Options.code };
 
     ghost use Rattle.std.specs.Prelude.{◌≤◌, length, map, reverse, string_bytes};
-    ghost use Rattle.vortex_columns.specs.TypeOf.{AllDiffer};
+    ghost use Rattle.vortex_types.specs.TypeOf.{AllDiffer};
 
     ghost view = { λ a. record { row_count = a.row_count; names = map string_bytes a.names.items; columns = a.columns.items; stack = reverse a.stack.items; printed = a.out.items } };
 

@@ -3,8 +3,8 @@ use Rattle.std.proofs.Common.{◌≡◌, ℕ, zero, suc, ◌+◌, ◌<◌, ◌�
 use Rattle.std.specs.Ordering.{ordering_then, MatchOrdering}
 use Rattle.std.proofs.lemmas.List.{drop_more}
 use Rattle.std.specs.Cmp.{nat_cmp_is, ranks}
-use Rattle.vortex_columns.specs.Values.{Value, null, values_of, value_depth, values_depth}
-use Rattle.vortex_columns.specs.Order.{compare_values, compare_lists}
+use Rattle.vortex_types.specs.Values.{Value, null, values_of, value_depth, values_depth}
+use Rattle.vortex_types.specs.Order.{compare_values, compare_lists}
 
 -- the values of two lists from place k on
 abbrev pub compare_from : ℕ → List Value → List Value → Ordering

@@ -1,9 +1,9 @@
 -- Types of the values of a list, one by one.
-use Rattle.std.proofs.Common.{◌≡◌, ℕ, zero, suc, ◌<◌, ◌+◌, Bool, true, false, IsTrue, ◌↔◌, List, [], ◌∷◌, length, refl, sym, ap, ◌∙◌, subst, arith, true≢false}
-use Rattle.vortex_columns.specs.Values.{Value, null, values_of, value_count}
-use Rattle.vortex_columns.specs.LogicalTypes.{LogicalType, Fields, no_fields, field, field_count, field_type}
+use Rattle.std.proofs.Common.{◌≡◌, ℕ, zero, suc, ◌<◌, Bool, true, false, IsTrue, ◌↔◌, List, [], ◌∷◌, length, refl, sym, ap, ◌∙◌, subst, arith, true≢false}
+use Rattle.vortex_types.specs.Values.{Value, values_of, value_count}
+use Rattle.vortex_types.specs.LogicalTypes.{LogicalType, Fields, no_fields, field, field_count, field_type}
 use Rattle.vortex_columns.specs.ColumnView.{row}
-use Rattle.vortex_columns.specs.Typing.{Each, HasType, HaveFields, IsPair}
+use Rattle.vortex_types.specs.Typing.{Each, HasType, HaveFields, IsPair}
 
 pub each_all : (P : Value → Type 0) (vs : List Value) → ((j : ℕ) → j < length vs → P (row vs j)) → Each P (values_of vs)
 each_all P [] h = tt

@@ -1,12 +1,6 @@
 pub mod StoredRows
-pub mod Answering
-pub mod NamesDiffer
-pub mod TypeViews
-pub mod Agreeing
-pub mod ScalarViews
 pub mod Compare
 pub mod HaveTypes
 pub mod ListParts
 pub mod NamedColumns
 pub mod Parts
-pub mod FieldSearch

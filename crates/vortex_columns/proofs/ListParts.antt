@@ -1,10 +1,10 @@
 -- The part of a list that a row of a list or map column is.
-use Rattle.std.proofs.Common.{◌≡◌, ℕ, zero, suc, ◌+◌, ◌<◌, ◌≤◌, List, [], ◌∷◌, length, get_or, take, drop, refl, sym, ap, ◌∙◌, subst, arith}
+use Rattle.std.proofs.Common.{◌≡◌, ℕ, zero, suc, ◌+◌, ◌<◌, ◌≤◌, List, [], ◌∷◌, length, take, drop, refl, sym, ap, ◌∙◌, subst, arith}
 use Rattle.std.specs.Prelude.{All}
 use Rattle.std.proofs.lemmas.List.{get_or-take, get_or-drop, length-take, length-drop}
 use Rattle.std.proofs.lemmas.List.Elements.{All-nil, All-cons, All-head, All-tail}
-use Rattle.vortex_columns.specs.Values.{Value, null, values_of}
-use Rattle.vortex_columns.specs.Typing.{Each, IsList, IsPair}
+use Rattle.vortex_types.specs.Values.{Value, null, values_of}
+use Rattle.vortex_types.specs.Typing.{Each, IsList, IsPair}
 use Rattle.vortex_columns.specs.ColumnView.{row, entry, entries}
 use Rattle.vortex_columns.proofs.HaveTypes.{each_all}
 

@@ -1,18 +1,17 @@
 -- What a column's parts are to its rows.
-use Rattle.std.proofs.Common.{◌≡◌, ℕ, zero, suc, ◌+◌, ◌<◌, ℤ, pos, Bool, true, false, not, IsTrue, List, [], ◌∷◌, map, length, refl, sym, ap, ◌∙◌, subst, arith, cond}
+use Rattle.std.proofs.Common.{◌≡◌, ℕ, zero, suc, ◌<◌, ℤ, Bool, true, false, not, List, [], ◌∷◌, map, length, refl, sym, ap, ◌∙◌, subst, arith}
 use Rattle.std.specs.Prelude.{slice_index_or, Option, Some, None, MatchOption}
 use Rattle.std.specs.List.{range_with_len}
-use Rattle.vortex_columns.specs.declared.dtype.PType.{PType}
-use Rattle.vortex_columns.specs.LogicalTypes.{LogicalType, Fields, no_fields, field, field_count, field_type, bool_type, integer_type, text_type, bytes_type, list_type, fixed_size_list_type, map_type, is_bool_type, is_nullable}
-use Rattle.vortex_columns.specs.Values.{Value, null, truth, number, text, bytes, values_of, nth_value, is_null}
+use Rattle.vortex_types.specs.declared.dtype.PType.{PType}
+use Rattle.vortex_types.specs.LogicalTypes.{LogicalType, Fields, no_fields, field, field_count, field_type, list_type, fixed_size_list_type, map_type, is_bool_type, is_nullable}
+use Rattle.vortex_types.specs.Values.{values_of, nth_value, is_null}
 use Rattle.vortex_columns.specs.ColumnView.{ColumnView, row, HasBits, AreBits, HasInts, AreInts, IsIntegerType, HasBytes, is_bytes_like, bytes_value, fields_in, value_in, HasField, IsField, HasKind, is_list_type, is_fixed_size_list_type, is_map_type, AreLists, AreFixedSizeLists, AreMaps, constant_column, constant_form}
-use Rattle.vortex_columns.specs.ScalarView.{ScalarView}
-use Rattle.vortex_columns.specs.ValidityView.{ValidityView, form_allows_null}
-use Rattle.vortex_columns.specs.Stored.{Kept, bools, integers, texts, byte_strings, structs, lists, fixed_size_lists, maps, AreFields, Stored, constant_of, kept, stored_of, stored_validity, is_constant, kept_at, value_at, rows_of, row_at, AreKept, IsStored, column_view, IsColumn, HasPlace, HasRow}
-use Rattle.vortex_columns.specs.TypeOf.{type_of}
+use Rattle.vortex_types.specs.ScalarView.{ScalarView}
+use Rattle.vortex_types.specs.ValidityView.{ValidityView, form_allows_null}
+use Rattle.vortex_columns.specs.Stored.{Kept, bools, integers, texts, byte_strings, structs, lists, fixed_size_lists, maps, AreFields, Stored, constant_of, kept, stored_of, stored_validity, is_constant, kept_at, value_at, rows_of, AreKept, IsStored, column_view, IsColumn, HasPlace, HasRow}
+use Rattle.vortex_types.specs.TypeOf.{type_of}
 use Rattle.vortex_columns.specs.KeptParts.{KeptBits, KeptInts, KeptBytes, KeptField, IsKeptField, KeptLists, KeptFixedSizeLists, KeptMaps, kept_bytes}
 use Rattle.vortex_columns.specs.declared.column.Column.TheInside.{Inside}
-use Rattle.vortex_columns.specs.declared.column.Storage.{Storage}
 use Rattle.vortex_columns.proofs.StoredRows.{opened_len, opened_has_row, opened_stored, opened_value, row_constant}
 
 pub match_weaker : {X : Type 0} (P Q : Type 0) (R S : X → Type 0) (o : Option X) → (P → Q) → ((x : X) → R x → S x) → MatchOption o P R → MatchOption o Q S

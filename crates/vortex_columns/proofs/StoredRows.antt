@@ -1,30 +1,28 @@
 -- The rows of a column's storage, one by one, and those of a column that is opened.
-use Rattle.std.proofs.Common.{◌≡◌, ℕ, ◌+◌, ◌*◌, ◌<◌, ◌≤◌, suc, take, drop, ℤ, pos, Bool, true, false, not, IsTrue, List, [], ◌∷◌, map, length, refl, sym, ap, ◌∙◌, subst, arith, cond}
-use Rattle.std.specs.Prelude.{slice_index, slice_index_or, All, Option, Some, None, Result, IsUtf8, MatchOption}
-use Rattle.std.specs.List.{range_with_len}
+use Rattle.std.proofs.Common.{◌≡◌, ℕ, ◌+◌, ◌*◌, ◌<◌, ◌≤◌, suc, take, drop, pos, Bool, true, false, not, IsTrue, List, [], ◌∷◌, map, length, refl, sym, ap, ◌∙◌, subst, arith, cond}
+use Rattle.std.specs.Prelude.{slice_index, slice_index_or, All, Option, Result}
 use Rattle.std.proofs.lemmas.List.{get_or_default, same_lists, get_or-map, length-map}
 use Rattle.std.proofs.lemmas.List.FromFn.{get_or-map-range_with_len, length-map-range_with_len}
-use Rattle.vortex_columns.specs.LogicalTypes.{LogicalType, Fields, no_fields, field, bool_type, integer_type, text_type, bytes_type, is_bool_type, is_nullable}
-use Rattle.vortex_columns.specs.Values.{Value, null, truth, number, text, bytes, list, values_of, is_null}
-use Rattle.vortex_columns.specs.Typing.{HasType, HaveFields, IsList, IsPair, FitsPType}
-use Rattle.vortex_columns.specs.TypeOf.{type_of}
-use Rattle.vortex_columns.specs.ColumnView.{ColumnView, ValidityForm, non_nullable, all_valid, all_invalid, array, row, AreTyped, HasBits, AreBits, valid_rows, constant_form, entries}
-use Rattle.vortex_columns.specs.ValidityView.{ValidityView, is_valid_by, is_valid_row, form_allows_null, FitsRowsBy, FitsRows, ReachesBy, Reaches}
-use Rattle.vortex_columns.specs.Stored.{Kept, bools, integers, texts, byte_strings, structs, lists, fixed_size_lists, maps, AreFields, Stored, nulls, constant_of, kept, stored_of, stored_validity, is_constant, kept_at, value_at, row_at, rows_of, AreKept, IsStored, column_view, IsColumn, HasPlace, HasRow}
+use Rattle.vortex_types.specs.LogicalTypes.{LogicalType, Fields, no_fields, field, is_nullable}
+use Rattle.vortex_types.specs.Values.{Value, null, truth, number, text, bytes, list, values_of, is_null}
+use Rattle.vortex_types.specs.Typing.{HasType, HaveFields, IsList, IsPair}
+use Rattle.vortex_types.specs.TypeOf.{type_of}
+use Rattle.vortex_columns.specs.ColumnView.{ColumnView, row, AreTyped, valid_rows, constant_form, entries}
+use Rattle.vortex_types.specs.ValidityView.{ValidityForm, non_nullable, all_valid, all_invalid, array, ValidityView, is_valid_by, is_valid_row, form_allows_null, FitsRowsBy, FitsRows, ReachesBy}
+use Rattle.vortex_columns.specs.Stored.{Kept, bools, integers, texts, byte_strings, structs, lists, fixed_size_lists, maps, AreFields, Stored, nulls, constant_of, kept, stored_of, stored_validity, kept_at, value_at, row_at, rows_of, AreKept, IsStored, column_view, IsColumn, HasPlace, HasRow}
 use Rattle.vortex_columns.specs.declared.column.Column.TheInside.{Inside}
-use Rattle.vortex_columns.specs.declared.column.Storage.{Storage}
-use Rattle.vortex_columns.specs.declared.dtype.DType.{DType}
-use Rattle.vortex_columns.specs.declared.scalar_value.ScalarValue.{ScalarValue}
-use Rattle.vortex_columns.specs.declared.error.VortexError.{VortexError}
-use Rattle.vortex_columns.specs.declared.error.VortexError.TheVariants.{InvalidColumn}
-use Rattle.vortex_columns.specs.ValueOf.{value_or_null}
-use Rattle.vortex_columns.specs.ScalarView.{ScalarView}
-use Rattle.vortex_columns.specs.Answers.{AnswersWhere, AnswersUnlessMemory}
+use Rattle.vortex_types.specs.declared.dtype.DType.{DType}
+use Rattle.vortex_types.specs.declared.scalar_value.ScalarValue.{ScalarValue}
+use Rattle.vortex_types.specs.declared.error.VortexError.{VortexError}
+use Rattle.vortex_types.specs.declared.error.VortexError.TheVariants.{InvalidColumn}
+use Rattle.vortex_types.specs.ValueOf.{value_or_null}
+use Rattle.vortex_types.specs.ScalarView.{ScalarView}
+use Rattle.vortex_types.specs.Answers.{AnswersWhere, AnswersUnlessMemory}
 use Rattle.std.proofs.Math.Nat.{mul-suc, mul-le-mul_left}
 use Rattle.std.proofs.lemmas.List.Elements.{All-nil, All-cons}
 use Rattle.vortex_columns.proofs.HaveTypes.{value_count_of}
 use Rattle.vortex_columns.proofs.ListParts.{length_part, part_each, length_entries, entries_typed}
-use Rattle.vortex_columns.proofs.Answering.{answers_where}
+use Rattle.vortex_types.proofs.Answering.{answers_where}
 
 pub length_rows : (n : ℕ) (s : Stored) → length (rows_of n s) ≡ n
 length_rows n s = length-map-range_with_len (row_at s) 0 n

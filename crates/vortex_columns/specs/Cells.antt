@@ -1,7 +1,7 @@
 -- The value that a cell stands for.
-use Rattle.std.specs.Prelude.{◌≡◌, ℕ, ◌+◌, ◌<◌, ◌≤◌, List, [], ◌∷◌, map, take, drop, length, All, IsUtf8}
-use Rattle.vortex_columns.specs.Values.{Value, null, truth, number, text, bytes, list, values_of}
-use Rattle.vortex_columns.specs.ValueOf.{value_or_null}
+use Rattle.std.specs.Prelude.{◌≡◌, ◌+◌, ◌<◌, ◌≤◌, List, [], ◌∷◌, map, take, drop, length, All, IsUtf8}
+use Rattle.vortex_types.specs.Values.{Value, null, truth, number, text, bytes, list, values_of}
+use Rattle.vortex_types.specs.ValueOf.{value_or_null}
 use Rattle.vortex_columns.specs.declared.cell.Cell.{Cell}
 use Rattle.vortex_columns.specs.declared.cell.Cell.TheVariants as cell
 use Rattle.vortex_columns.specs.declared.cell.Sequence.{Sequence}

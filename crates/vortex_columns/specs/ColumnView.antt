@@ -3,20 +3,14 @@
 use Rattle.std.specs.Prelude.{◌≡◌, ℕ, zero, suc, ◌+◌, ◌*◌, ◌<◌, ◌≤◌, take, drop, slice_index, String, string_bytes, ℤ, pos, Bool, true, false, not, List, [], ◌∷◌, map, length, slice_index_or, if◌then◌else◌, All, refl}
 use Rattle.std.specs.List.{range_with_len}
 use Rattle.std.specs.declared.alloc.Global.{Global}
-use Rattle.vortex_columns.specs.declared.dtype.PType.{PType}
-use Rattle.vortex_columns.specs.ScalarView.{ScalarView}
+use Rattle.vortex_types.specs.declared.dtype.PType.{PType}
+use Rattle.vortex_types.specs.ScalarView.{ScalarView}
 use Rattle.std.specs.Coded.{Coded, code_by, coded×, coded_ℕ, coded_bool, coded_list}
-use Rattle.vortex_columns.specs.LogicalTypes.{LogicalType, null_type, integer_type, text_type, bytes_type, struct_type, list_type, fixed_size_list_type, map_type, Fields, no_fields, field, field_count, field_type, is_bool_type, is_nullable}
-use Rattle.vortex_columns.specs.Values.{Value, null, truth, number, text, bytes, list, Values, no_values, value, values_of, nth_value, is_null}
-use Rattle.vortex_columns.specs.Typing.{HasType}
-use Rattle.vortex_columns.specs.Codes.{coded_value, coded_type}
-
--- how a column tells its null rows: it can have none, it has none, all are null, or by a list of bits
-pub data ValidityForm : Type 0 where
-  non_nullable : ValidityForm
-  all_valid : ValidityForm
-  all_invalid : ValidityForm
-  array : ValidityForm
+use Rattle.vortex_types.specs.LogicalTypes.{LogicalType, null_type, integer_type, text_type, bytes_type, struct_type, list_type, fixed_size_list_type, map_type, Fields, no_fields, field, field_count, field_type, is_bool_type, is_nullable}
+use Rattle.vortex_types.specs.Values.{Value, null, truth, number, text, bytes, list, no_values, value, values_of, nth_value, is_null}
+use Rattle.vortex_types.specs.Typing.{HasType}
+use Rattle.vortex_types.specs.Codes.{coded_value, coded_type}
+use Rattle.vortex_types.specs.ValidityView.{ValidityForm, non_nullable, all_valid, all_invalid, array}
 
 pub record ColumnView : Type 0 where
   pub dtype : LogicalType

@@ -1,10 +1,10 @@
 -- A column's type is deeper than those of the columns inside it.
-use Rattle.std.specs.Prelude.{◌≡◌, ℕ, ◌+◌, ◌≤◌, max, Bool, List, [], ◌∷◌, length}
+use Rattle.std.specs.Prelude.{ℕ, ◌+◌, ◌≤◌, max, Bool, List, [], ◌∷◌}
 use Rattle.std.proofs.Common.{arith, ap}
 use denote.Param.Weighed.{most}
-use Rattle.vortex_columns.specs.LogicalTypes.{LogicalType, type_depth, fields_depth, Fields, no_fields, field}
+use Rattle.vortex_types.specs.LogicalTypes.{LogicalType, type_depth, fields_depth, Fields, no_fields, field}
 use Rattle.vortex_columns.specs.ColumnView.{ColumnView}
-use Rattle.vortex_columns.specs.ValidityView.{form_allows_null, validity_of}
+use Rattle.vortex_types.specs.ValidityView.{form_allows_null, validity_of}
 use Rattle.vortex_columns.specs.Stored.{AreFields, AreKept, IsStored, kept_of, stored_of}
 use Rattle.vortex_columns.specs.declared.column.Storage.{Storage}
 use Rattle.vortex_columns.specs.declared.column.Storage.TheVariants.{Null, Constant, Rows}

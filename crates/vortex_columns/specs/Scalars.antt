@@ -1,9 +1,9 @@
 -- How a scalar's parts are seen.
 use Rattle.vortex_columns.specs.declared.scalar.Scalar.TheInside.{Inside}
-use Rattle.vortex_columns.specs.Typing.{HasType}
-use Rattle.vortex_columns.specs.TypeOf.{type_of}
-use Rattle.vortex_columns.specs.ValueOf.{value_or_null}
-use Rattle.vortex_columns.specs.ScalarView.{ScalarView}
+use Rattle.vortex_types.specs.Typing.{HasType}
+use Rattle.vortex_types.specs.TypeOf.{type_of}
+use Rattle.vortex_types.specs.ValueOf.{value_or_null}
+use Rattle.vortex_types.specs.ScalarView.{ScalarView}
 
 abbrev pub scalar_view : Inside → ScalarView
 scalar_view a = record { dtype = type_of a.dtype; value = value_or_null a.value }

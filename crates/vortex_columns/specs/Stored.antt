@@ -7,17 +7,16 @@ use Rattle.vortex_columns.specs.declared.column.Storage.{Storage}
 use Rattle.vortex_columns.specs.declared.column.Storage.TheVariants as storage
 use Rattle.vortex_columns.specs.declared.column.Elements.{Elements}
 use Rattle.vortex_columns.specs.declared.column.Elements.TheVariants as elements
-use Rattle.vortex_columns.specs.declared.dtype.PType.{PType}
-use Rattle.vortex_columns.specs.LogicalTypes.{LogicalType, null_type, bool_type, integer_type, text_type, bytes_type, struct_type, list_type, fixed_size_list_type, map_type, Fields, no_fields, field}
-use Rattle.vortex_columns.specs.Values.{Value, null, truth, number, text, bytes}
-use Rattle.vortex_columns.specs.Typing.{FitsPType, HasType}
+use Rattle.vortex_types.specs.declared.dtype.PType.{PType}
+use Rattle.vortex_types.specs.LogicalTypes.{LogicalType, null_type, bool_type, integer_type, text_type, bytes_type, struct_type, list_type, fixed_size_list_type, map_type, Fields, no_fields, field}
+use Rattle.vortex_types.specs.Values.{Value, null, truth, number, text, bytes}
+use Rattle.vortex_types.specs.Typing.{FitsPType, HasType}
 use Rattle.std.specs.declared.alloc.Global.{Global}
-use Rattle.vortex_columns.specs.TypeOf.{type_of, AllDiffer}
-use Rattle.vortex_columns.specs.Numbers.{numbers, ptype_of}
-use Rattle.vortex_columns.specs.ScalarView.{ScalarView}
-use Rattle.vortex_columns.specs.ColumnView.{ColumnView, AreTyped, constant_form, part, record_at, entries, LieWithin, named_columns}
-use Rattle.vortex_columns.specs.ColumnView.{all_invalid}
-use Rattle.vortex_columns.specs.ValidityView.{ValidityView, validity_of, is_valid_row, form_allows_null, FitsRows, Reaches}
+use Rattle.vortex_types.specs.TypeOf.{type_of, AllDiffer}
+use Rattle.vortex_types.specs.Numbers.{numbers, ptype_of}
+use Rattle.vortex_types.specs.ScalarView.{ScalarView}
+use Rattle.vortex_columns.specs.ColumnView.{ColumnView, AreTyped, constant_form, part, record_at, entries, LieWithin}
+use Rattle.vortex_types.specs.ValidityView.{all_invalid, ValidityView, validity_of, is_valid_row, form_allows_null, FitsRows, Reaches}
 
 -- values, one a row, of one kind
 pub data Kept : Type 0 where

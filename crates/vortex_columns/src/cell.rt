@@ -1,23 +1,27 @@
 //! Values where they lie, in scalars and columns.
 ghost use Rattle.std.specs.Prelude.{◌≡◌, map};
-ghost use Rattle.vortex_columns.specs.Answers.{AnswersUnlessMemory};
-ghost use Rattle.vortex_columns.specs.ValueOf.{value_or_null};
-ghost use Rattle.vortex_columns.specs.Order.{compare_values};
+ghost use Rattle.vortex_types.specs.Answers.{AnswersUnlessMemory};
+ghost use Rattle.vortex_types.specs.ValueOf.{value_of, value_or_null};
+ghost use Rattle.vortex_types.specs.Order.{compare_values};
 ghost use Rattle.vortex_columns.specs.Cells.{cell_value, sequence_value, sequence_values, IsCell, IsSequence};
 
 use crate::column::Column;
-use crate::error::VortexResult;
-use crate::scalar_value::ScalarValue;
 use std::alloc::Global;
 use std::cmp::Ordering;
+use vortex_types::{ScalarValue, VortexResult};
 
 /// A value, or null, that is read where it lies. Takes no memory.
 #[derive(Clone, Copy)]
 pub enum Cell<'a> {
+    /// Null, of whatever type.
     Null,
+    /// A truth value.
     Bool(bool),
+    /// An integer of any of the eight types.
     Int(i128),
+    /// A text, lent from the scalar or the column.
     Text(&'a str),
+    /// Bytes, lent likewise.
     Bytes(&'a [u8]),
     /// A list, a record, a map or an entry of a map.
     Sequence(Sequence<'a>),
@@ -38,22 +42,17 @@ pub enum Sequence<'a> {
     Entry(&'a Column, &'a Column, usize),
 }
 
-impl ScalarValue {
-    ghost use Rattle.vortex_columns.specs.ValueOf.{value_of};
-    ghost use Rattle.vortex_columns.specs.Cells.{cell_value, IsCell};
-
-    /// The value where it lies.
-    pub fn cell(&self) -> Cell<'_>
-        ensures whole { IsCell result }
-        ensures value { cell_value result ≡ value_of self.now }
-    {
-        match self {
-            ScalarValue::Bool(b) => Cell::Bool(*b),
-            ScalarValue::Int(n) => Cell::Int(*n),
-            ScalarValue::Utf8(text) => Cell::Text(text.as_str()),
-            ScalarValue::Binary(bytes) => Cell::Bytes(bytes.as_slice()),
-            ScalarValue::List(items) => Cell::Sequence(Sequence::Items(items)),
-        }
+/// The value of a scalar where it lies: its text, bytes and inner values are lent. Takes no memory.
+pub fn cell_of(value: &ScalarValue) -> Cell<'_>
+    ensures whole { IsCell result }
+    ensures value { cell_value result ≡ value_of value.now }
+{
+    match value {
+        ScalarValue::Bool(b) => Cell::Bool(*b),
+        ScalarValue::Int(n) => Cell::Int(*n),
+        ScalarValue::Utf8(text) => Cell::Text(text.as_str()),
+        ScalarValue::Binary(bytes) => Cell::Bytes(bytes.as_slice()),
+        ScalarValue::List(items) => Cell::Sequence(Sequence::Items(items)),
     }
 }
 
@@ -85,7 +84,7 @@ impl Sequence<'_> {
     {
         match self {
             Sequence::Items(items) => match &items[k] {
-                Some(value) => value.cell(),
+                Some(value) => cell_of(value),
                 None => Cell::Null,
             },
             Sequence::Fields(fields, i) => fields[k].cell(*i),
@@ -110,7 +109,7 @@ impl Sequence<'_> {
 }
 
 impl Cell<'_> {
-    ghost use Rattle.vortex_columns.specs.Order.{kind_rank};
+    ghost use Rattle.vortex_types.specs.Order.{kind_rank};
     ghost use Rattle.vortex_columns.specs.Cells.{cell_value, IsCell};
 
     /// The place of the value's kind among the kinds.

@@ -1,25 +1,27 @@
 //! Columns.
 ghost use Rattle.std.specs.Prelude.{◌≡◌, ◌≢◌, ◌+◌, ◌*◌, ◌<◌, ◌≤◌, ◌↔◌, ℕ, pos, true, false, IsTrue, All, MatchOption, [], map, length, not, string_bytes, slice_index, slice_index_or};
-ghost use Rattle.vortex_columns.specs.declared.error.VortexError.TheVariants.{InvalidColumn};
-ghost use Rattle.vortex_columns.specs.Answers.{AnswersWhere, AnswersUnlessMemory};
-ghost use Rattle.vortex_columns.specs.LogicalTypes.{integer_type, text_type, bytes_type, struct_type, list_type, fixed_size_list_type, map_type};
-ghost use Rattle.vortex_columns.specs.TypeOf.{struct_fields};
-ghost use Rattle.vortex_columns.specs.Values.{is_null, number, text, bytes};
-ghost use Rattle.vortex_columns.specs.Order.{compare_values};
+ghost use Rattle.vortex_types.specs.declared.error.VortexError.TheVariants.{InvalidColumn};
+ghost use Rattle.vortex_types.specs.Answers.{AnswersWhere, AnswersUnlessMemory};
+ghost use Rattle.vortex_types.specs.LogicalTypes.{integer_type, text_type, bytes_type, struct_type, list_type, fixed_size_list_type, map_type};
+ghost use Rattle.vortex_types.specs.TypeOf.{type_of};
+ghost use Rattle.vortex_types.specs.Values.{is_null, number, text, bytes};
+ghost use Rattle.vortex_types.specs.Order.{compare_values};
 ghost use Rattle.vortex_columns.specs.Cells.{cell_value, IsCell};
-ghost use Rattle.vortex_columns.specs.ColumnView.{row, AreTyped, HasBits, AreBits, HasInts, AreInts, HasBytes, bytes_value, valid_rows, array, constant_column, null_column, part, record_at, entries, named_columns, LieWithin, HasField, IsField, HasKind, is_list_type, is_fixed_size_list_type, is_map_type, AreLists, AreFixedSizeLists, AreMaps};
+ghost use Rattle.vortex_columns.specs.ColumnView.{row, AreTyped, HasBits, AreBits, HasInts, AreInts, HasBytes, bytes_value, valid_rows, constant_column, null_column, part, record_at, entries, named_columns, HasField, IsField, HasKind, is_list_type, is_fixed_size_list_type, is_map_type, AreLists, AreFixedSizeLists, AreMaps};
+ghost use Rattle.vortex_types.specs.ValidityView.{array};
 
-use crate::bits::BitBuffer;
 use crate::cell::{Cell, Sequence};
-use crate::dtype::{DType, StructFields, all_differ};
-use crate::error::{VortexError, VortexResult};
-use crate::ints::{Ints, NativePType, learn_ranges};
+use crate::lists::{
+    bytes_fit, copy_bytes, copy_texts, is_product, learn_bytes, lie_within, texts_fit,
+};
 use crate::scalar::Scalar;
-use crate::typing::are_bytes;
-use crate::validity::Validity;
 use std::alloc::Global;
 use std::cmp::Ordering;
 use std::marker::Model;
+use vortex_types::ints::learn_ranges;
+use vortex_types::{
+    BitBuffer, DType, Ints, NativePType, StructFields, Validity, VortexError, VortexResult,
+};
 
 /// Rows of one type.
 #[cycle(column)]
@@ -70,40 +72,14 @@ impl Model for Column {
 
     ghost invariant = { IsColumn };
 
-    ghost use Rattle.vortex_columns.specs.LogicalTypes.{type_depth};
+    ghost use Rattle.vortex_types.specs.LogicalTypes.{type_depth};
 
     ghost size = { λ c. type_depth c.dtype };
 
-    ghost use Rattle.vortex_columns.specs.TypeOf.{type_of};
+    ghost use Rattle.vortex_types.specs.TypeOf.{type_of};
     ghost use Rattle.vortex_columns.specs.Falls.{storage_falls};
 
     ghost size_decreases = { λ a h. storage_falls a.len (type_of a.dtype) a.storage h };
-}
-
-/// The most bytes that a value of a column may have.
-const MOST_BYTES: usize = 4294967295;
-
-/// Whether no text is too long.
-fn texts_fit(values: &[String]) -> bool
-    ensures { IsTrue result ↔ All (λ t. length (string_bytes t) ≤ 4294967295) values.now }
-{
-    values.iter().all(|t| t.len() <= MOST_BYTES)
-}
-
-/// Whether no list of bytes is too long.
-fn bytes_fit(values: &[Vec<u8>]) -> bool
-    ensures { IsTrue result ↔ All (λ b. length b.items ≤ 4294967295) values.now }
-{
-    values.iter().all(|b| b.len() <= MOST_BYTES)
-}
-
-/// Looks at each list of bytes.
-fn learn_bytes(values: &[Vec<u8>])
-    ensures { All (λ b. All (λ n. n < 256) b.items) values.now }
-{
-    for value in values {
-        let _ = are_bytes(value);
-    }
 }
 
 /// Looks at each column, whose rows have its type.
@@ -127,44 +103,15 @@ fn all_have_len(fields: &Vec<Column>, len: usize) -> bool
     true
 }
 
-/// The types of named columns.
-fn field_types(
-    alloc: Global,
-    names: &Vec<String>,
-    fields: &Vec<Column>,
-) -> VortexResult<StructFields>
-    requires { length names.now.items ≡ length fields.now.items }
-    ensures { AnswersUnlessMemory result (λ f. struct_fields f ≡ named_columns names.now.items fields.now.items) }
+/// The types of columns.
+fn types_of(alloc: Global, columns: &Vec<Column>) -> VortexResult<Vec<DType>>
+    ensures { AnswersUnlessMemory result (λ types. map type_of types.items ≡ map (λ c. c.dtype) columns.now.items) }
 {
     let mut types = Vec::new(alloc);
-    for k in 0..names.len() {
-        let name = names[k].clone()?;
-        types.push((name, fields[k].dtype().try_clone(alloc)?))?;
+    for column in columns {
+        types.push(column.dtype().try_clone(alloc)?)?;
     }
-    Ok(StructFields::of(types))
-}
-
-/// Whether each range lies within so many elements.
-fn lie_within(elements: usize, offsets: &[usize], sizes: &[usize]) -> bool
-    requires { length offsets.now ≡ length sizes.now }
-    ensures { IsTrue result ↔ LieWithin elements offsets.now sizes.now }
-{
-    for (offset, size) in offsets.iter().zip(sizes) {
-        if *offset > elements || *size > elements - *offset {
-            return false;
-        }
-    }
-    true
-}
-
-/// Whether there are so many elements for so many lists of one size.
-fn is_product(elements: usize, size: u32, len: usize) -> bool
-    ensures { IsTrue result ↔ elements ≡ size * len }
-{
-    match (size as usize).checked_mul(len) {
-        Some(count) => elements == count,
-        None => false,
-    }
+    Ok(types)
 }
 
 /// Copies of columns.
@@ -175,28 +122,6 @@ fn copy_columns(alloc: Global, columns: &Vec<Column>) -> VortexResult<Vec<Column
     let mut copies = Vec::new(alloc);
     for column in columns {
         copies.push(column.try_clone(alloc)?)?;
-    }
-    Ok(copies)
-}
-
-/// A copy of texts.
-fn copy_texts(alloc: Global, values: &[String]) -> VortexResult<Vec<String>>
-    ensures { AnswersUnlessMemory result (λ copies. map string_bytes copies.items ≡ map string_bytes values.now) }
-{
-    let mut copies = Vec::new(alloc);
-    for value in values {
-        copies.push(value.clone()?)?;
-    }
-    Ok(copies)
-}
-
-/// A copy of lists of bytes.
-fn copy_bytes(alloc: Global, values: &[Vec<u8>]) -> VortexResult<Vec<Vec<u8>>>
-    ensures { AnswersUnlessMemory result (λ copies. map (λ b. b.items) copies.items ≡ map (λ b. b.items) values.now) }
-{
-    let mut copies = Vec::new(alloc);
-    for value in values {
-        copies.push(value.as_slice().to_vec(alloc)?)?;
     }
     Ok(copies)
 }
@@ -339,8 +264,7 @@ impl Elements {
 }
 
 impl Storage {
-    ghost use Rattle.vortex_columns.specs.ColumnView.{array};
-    ghost use Rattle.vortex_columns.specs.ValidityView.{is_valid_row, validity_of};
+    ghost use Rattle.vortex_types.specs.ValidityView.{array, is_valid_row, validity_of};
     ghost use Rattle.vortex_columns.specs.Stored.{stored_of, stored_validity, value_at, HasRow};
 
     fn is_valid(&self, i: usize) -> bool
@@ -404,8 +328,7 @@ impl Storage {
 }
 
 impl Column {
-    ghost use Rattle.vortex_columns.specs.TypeOf.{type_of};
-    ghost use Rattle.vortex_columns.specs.ValidityView.{validity_of, is_valid_row, FitsRows, form_allows_null};
+    ghost use Rattle.vortex_types.specs.ValidityView.{validity_of, is_valid_row, FitsRows, form_allows_null};
     ghost use Rattle.vortex_columns.specs.Stored.{bool_column, made_of, MakeStructs, MakeLists};
 
     /// The scalar in each of so many rows.
@@ -511,14 +434,11 @@ impl Column {
     ) -> VortexResult<Column>
         ensures { AnswersWhere result (MakeStructs names.items fields.items len (validity_of validity)) (λ c. c ≡ made_of (struct_type (named_columns names.items fields.items) (form_allows_null (validity_of validity).form)) (validity_of validity) len (record_at fields.items)) InvalidColumn }
     {
-        if names.len() != fields.len() || !all_differ(&names) {
-            return Err(VortexError::InvalidColumn);
-        }
         if !all_have_len(&fields, len) || !validity.fits(len) {
             return Err(VortexError::InvalidColumn);
         }
         learn_types(&fields);
-        let types = field_types(alloc, &names, &fields)?;
+        let types = StructFields::try_new(alloc, names, types_of(alloc, &fields)?)?;
         let dtype = DType::Struct(types, validity.nullability());
         Ok(Column {
             dtype,
@@ -610,6 +530,7 @@ impl Column {
         })
     }
 
+    /// The type, lent. Each row has it, null included: a row is null only where the type is nullable.
     pub fn dtype(&self) -> &DType
         ensures dtype { type_of result.now ≡ self.now.dtype }
         ensures typed { AreTyped self.now.dtype self.now.rows }

@@ -1,30 +1,20 @@
-//! Columns of typed rows: types, scalars, bit buffers, validity, columns and errors.
+//! Columns of typed rows, scalars, and cells that are lent from both; with the types that stand below.
 #![tactic(auto)]
 
-pub mod arity;
-pub mod bits;
 pub mod cell;
 pub mod column;
-pub mod context;
-pub mod dtype;
-pub mod error;
-pub mod ints;
+mod lists;
 pub mod scalar;
-pub mod scalar_value;
 pub mod typing;
-pub mod validity;
 
-pub use arity::Arity;
-pub use bits::BitBuffer;
-pub use cell::{Cell, Sequence};
+pub use cell::{Cell, Sequence, cell_of};
 pub use column::Column;
-pub use context::ExecutionCtx;
-pub use dtype::{DType, Nullability, PType, StructFields};
-pub use error::{MismatchPlace, NumericOperator, VortexError, VortexResult};
-pub use ints::{Ints, NativePType};
 pub use scalar::Scalar;
-pub use scalar_value::ScalarValue;
-pub use validity::Validity;
+pub use vortex_types::{
+    Arity, BitBuffer, DType, ExecutionCtx, Ints, MismatchPlace, NativePType, Nullability,
+    NumericOperator, PType, ScalarValue, StructFields, Validity, VortexError, VortexResult, arity,
+    bits, context, dtype, error, ints, scalar_value, validity,
+};
 
 #[cfg(test)]
 mod tests;

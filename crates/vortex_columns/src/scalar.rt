@@ -1,20 +1,17 @@
 //! A value, or null, with its type.
-ghost use Rattle.std.specs.Prelude.{◌≡◌, true, false, [], IsTrue, MatchOption, option_map};
-ghost use Rattle.vortex_columns.specs.declared.error.VortexError.TheVariants.{InvalidColumn};
-ghost use Rattle.vortex_columns.specs.Answers.{AnswersWhere, AnswersUnlessMemory};
-ghost use Rattle.vortex_columns.specs.LogicalTypes.{bool_type, text_type, is_nullable};
-ghost use Rattle.vortex_columns.specs.Values.{null, truth, text, truth_of, is_null};
+ghost use Rattle.std.specs.Prelude.{◌≡◌, true, false, [], IsTrue, MatchOption};
+ghost use Rattle.vortex_types.specs.declared.error.VortexError.TheVariants.{InvalidColumn};
+ghost use Rattle.vortex_types.specs.Answers.{AnswersWhere, AnswersUnlessMemory};
+ghost use Rattle.vortex_types.specs.LogicalTypes.{bool_type, text_type, is_nullable};
+ghost use Rattle.vortex_types.specs.Values.{null, truth, text, truth_of, is_null};
 ghost use Rattle.vortex_columns.specs.Cells.{cell_value, IsCell};
-ghost use Rattle.vortex_columns.specs.Typing.{HasType};
+ghost use Rattle.vortex_types.specs.Typing.{HasType};
 
-use crate::cell::Cell;
-use crate::dtype::{DType, Nullability, PType};
-use crate::error::{VortexError, VortexResult};
-use crate::scalar_value::ScalarValue;
-use crate::validity::Validity;
+use crate::cell::{Cell, cell_of};
 use std::alloc::Global;
 use std::cmp::Ordering;
 use std::marker::Model;
+use vortex_types::{DType, Nullability, PType, ScalarValue, Validity, VortexError, VortexResult};
 
 /// A value, or null, with its type.
 #[derive(Drop)]
@@ -24,7 +21,7 @@ pub struct Scalar {
 }
 
 impl Model for Scalar {
-    ghost use Rattle.vortex_columns.specs.ScalarView.{ScalarView, coded_scalar};
+    ghost use Rattle.vortex_types.specs.ScalarView.{ScalarView, coded_scalar};
 
     ghost Value = { ScalarView };
 
@@ -38,17 +35,17 @@ impl Model for Scalar {
 }
 
 impl Scalar {
-    ghost use Rattle.vortex_columns.specs.TypeOf.{type_of, allows_null};
-    ghost use Rattle.vortex_columns.specs.ValueOf.{value_of, value_or_null};
+    ghost use Rattle.vortex_types.specs.TypeOf.{type_of, allows_null};
+    ghost use Rattle.vortex_types.specs.ValueOf.{value_of, value_or_null};
     ghost use Rattle.vortex_columns.specs.ColumnView.{constant_form};
-    ghost use Rattle.vortex_columns.specs.ValidityView.{validity_of};
+    ghost use Rattle.vortex_types.specs.ValidityView.{validity_of};
 
     /// A value of a type, or null. E12 exactly where the value does not have the type, or the type has no null.
     pub fn try_new(dtype: DType, value: Option<ScalarValue>) -> VortexResult<Scalar>
         ensures { AnswersWhere result (HasType (type_of dtype) (value_or_null value)) (λ s. s ≡ record { dtype = type_of dtype; value = value_or_null value }) InvalidColumn }
     {
         let has_type = match &value {
-            Some(value) => value.has_type(&dtype),
+            Some(value) => cell_of(value).has_type(&dtype),
             None => dtype.is_nullable(),
         };
         if has_type {
@@ -66,6 +63,7 @@ impl Scalar {
         Scalar { dtype, value: None }
     }
 
+    /// A truth value of a Bool type, nullable or not.
     pub fn bool(value: bool, nullability: Nullability) -> Scalar
         ensures { result ≡ record { dtype = bool_type (allows_null nullability); value = truth value } }
     {
@@ -75,6 +73,7 @@ impl Scalar {
         }
     }
 
+    /// The type, lent. The value has it.
     pub fn dtype(&self) -> &DType
         ensures dtype { type_of result.now ≡ self.now.dtype }
         ensures typed { HasType self.now.dtype self.now.value }
@@ -89,6 +88,7 @@ impl Scalar {
         self.value.as_ref()
     }
 
+    /// Whether the value is null.
     pub fn is_null(&self) -> bool
         ensures { result ≡ is_null self.now.value }
     {
@@ -111,7 +111,7 @@ impl Scalar {
         ensures value { cell_value result ≡ self.now.value }
     {
         match &self.value {
-            Some(value) => value.cell(),
+            Some(value) => cell_of(value),
             None => Cell::Null,
         }
     }
@@ -157,8 +157,8 @@ impl Scalar {
 /// A value of non-nullable Bool.
 impl From<bool> for Scalar {
     ghost use Rattle.std.specs.Prelude.{◌≡◌, false};
-    ghost use Rattle.vortex_columns.specs.LogicalTypes.{bool_type};
-    ghost use Rattle.vortex_columns.specs.Values.{truth};
+    ghost use Rattle.vortex_types.specs.LogicalTypes.{bool_type};
+    ghost use Rattle.vortex_types.specs.Values.{truth};
 
     ghost from_gives = { λ b s. s ≡ record { dtype = bool_type false; value = truth b } };
 
@@ -170,9 +170,9 @@ impl From<bool> for Scalar {
 /// A value of a non-nullable integer type.
 impl From<i8> for Scalar {
     ghost use Rattle.std.specs.Prelude.{◌≡◌, false};
-    ghost use Rattle.vortex_columns.specs.declared.dtype.PType.TheVariants.{I8};
-    ghost use Rattle.vortex_columns.specs.LogicalTypes.{integer_type};
-    ghost use Rattle.vortex_columns.specs.Values.{number};
+    ghost use Rattle.vortex_types.specs.declared.dtype.PType.TheVariants.{I8};
+    ghost use Rattle.vortex_types.specs.LogicalTypes.{integer_type};
+    ghost use Rattle.vortex_types.specs.Values.{number};
 
     ghost from_gives = { λ z s. s ≡ record { dtype = integer_type I8 false; value = number z } };
 
@@ -187,9 +187,9 @@ impl From<i8> for Scalar {
 /// A value of a non-nullable integer type.
 impl From<i16> for Scalar {
     ghost use Rattle.std.specs.Prelude.{◌≡◌, false};
-    ghost use Rattle.vortex_columns.specs.declared.dtype.PType.TheVariants.{I16};
-    ghost use Rattle.vortex_columns.specs.LogicalTypes.{integer_type};
-    ghost use Rattle.vortex_columns.specs.Values.{number};
+    ghost use Rattle.vortex_types.specs.declared.dtype.PType.TheVariants.{I16};
+    ghost use Rattle.vortex_types.specs.LogicalTypes.{integer_type};
+    ghost use Rattle.vortex_types.specs.Values.{number};
 
     ghost from_gives = { λ z s. s ≡ record { dtype = integer_type I16 false; value = number z } };
 
@@ -204,9 +204,9 @@ impl From<i16> for Scalar {
 /// A value of a non-nullable integer type.
 impl From<i32> for Scalar {
     ghost use Rattle.std.specs.Prelude.{◌≡◌, false};
-    ghost use Rattle.vortex_columns.specs.declared.dtype.PType.TheVariants.{I32};
-    ghost use Rattle.vortex_columns.specs.LogicalTypes.{integer_type};
-    ghost use Rattle.vortex_columns.specs.Values.{number};
+    ghost use Rattle.vortex_types.specs.declared.dtype.PType.TheVariants.{I32};
+    ghost use Rattle.vortex_types.specs.LogicalTypes.{integer_type};
+    ghost use Rattle.vortex_types.specs.Values.{number};
 
     ghost from_gives = { λ z s. s ≡ record { dtype = integer_type I32 false; value = number z } };
 
@@ -221,9 +221,9 @@ impl From<i32> for Scalar {
 /// A value of a non-nullable integer type.
 impl From<i64> for Scalar {
     ghost use Rattle.std.specs.Prelude.{◌≡◌, false};
-    ghost use Rattle.vortex_columns.specs.declared.dtype.PType.TheVariants.{I64};
-    ghost use Rattle.vortex_columns.specs.LogicalTypes.{integer_type};
-    ghost use Rattle.vortex_columns.specs.Values.{number};
+    ghost use Rattle.vortex_types.specs.declared.dtype.PType.TheVariants.{I64};
+    ghost use Rattle.vortex_types.specs.LogicalTypes.{integer_type};
+    ghost use Rattle.vortex_types.specs.Values.{number};
 
     ghost from_gives = { λ z s. s ≡ record { dtype = integer_type I64 false; value = number z } };
 
@@ -238,9 +238,9 @@ impl From<i64> for Scalar {
 /// A value of a non-nullable integer type.
 impl From<u8> for Scalar {
     ghost use Rattle.std.specs.Prelude.{◌≡◌, false, pos};
-    ghost use Rattle.vortex_columns.specs.declared.dtype.PType.TheVariants.{U8};
-    ghost use Rattle.vortex_columns.specs.LogicalTypes.{integer_type};
-    ghost use Rattle.vortex_columns.specs.Values.{number};
+    ghost use Rattle.vortex_types.specs.declared.dtype.PType.TheVariants.{U8};
+    ghost use Rattle.vortex_types.specs.LogicalTypes.{integer_type};
+    ghost use Rattle.vortex_types.specs.Values.{number};
 
     ghost from_gives = { λ z s. s ≡ record { dtype = integer_type U8 false; value = number (pos z) } };
 
@@ -255,9 +255,9 @@ impl From<u8> for Scalar {
 /// A value of a non-nullable integer type.
 impl From<u16> for Scalar {
     ghost use Rattle.std.specs.Prelude.{◌≡◌, false, pos};
-    ghost use Rattle.vortex_columns.specs.declared.dtype.PType.TheVariants.{U16};
-    ghost use Rattle.vortex_columns.specs.LogicalTypes.{integer_type};
-    ghost use Rattle.vortex_columns.specs.Values.{number};
+    ghost use Rattle.vortex_types.specs.declared.dtype.PType.TheVariants.{U16};
+    ghost use Rattle.vortex_types.specs.LogicalTypes.{integer_type};
+    ghost use Rattle.vortex_types.specs.Values.{number};
 
     ghost from_gives = { λ z s. s ≡ record { dtype = integer_type U16 false; value = number (pos z) } };
 
@@ -272,9 +272,9 @@ impl From<u16> for Scalar {
 /// A value of a non-nullable integer type.
 impl From<u32> for Scalar {
     ghost use Rattle.std.specs.Prelude.{◌≡◌, false, pos};
-    ghost use Rattle.vortex_columns.specs.declared.dtype.PType.TheVariants.{U32};
-    ghost use Rattle.vortex_columns.specs.LogicalTypes.{integer_type};
-    ghost use Rattle.vortex_columns.specs.Values.{number};
+    ghost use Rattle.vortex_types.specs.declared.dtype.PType.TheVariants.{U32};
+    ghost use Rattle.vortex_types.specs.LogicalTypes.{integer_type};
+    ghost use Rattle.vortex_types.specs.Values.{number};
 
     ghost from_gives = { λ z s. s ≡ record { dtype = integer_type U32 false; value = number (pos z) } };
 
@@ -289,9 +289,9 @@ impl From<u32> for Scalar {
 /// A value of a non-nullable integer type.
 impl From<u64> for Scalar {
     ghost use Rattle.std.specs.Prelude.{◌≡◌, false, pos};
-    ghost use Rattle.vortex_columns.specs.declared.dtype.PType.TheVariants.{U64};
-    ghost use Rattle.vortex_columns.specs.LogicalTypes.{integer_type};
-    ghost use Rattle.vortex_columns.specs.Values.{number};
+    ghost use Rattle.vortex_types.specs.declared.dtype.PType.TheVariants.{U64};
+    ghost use Rattle.vortex_types.specs.LogicalTypes.{integer_type};
+    ghost use Rattle.vortex_types.specs.Values.{number};
 
     ghost from_gives = { λ z s. s ≡ record { dtype = integer_type U64 false; value = number (pos z) } };
 
@@ -305,8 +305,8 @@ impl From<u64> for Scalar {
 
 /// Equal where the types agree apart from nullability and the values are equal.
 impl PartialEq for Scalar {
-    ghost use Rattle.vortex_columns.specs.ScalarView.{scalar_eq};
-    ghost use Rattle.vortex_columns.specs.ScalarLaws.{scalar_eq-laws};
+    ghost use Rattle.vortex_types.specs.ScalarView.{scalar_eq};
+    ghost use Rattle.vortex_types.specs.ScalarLaws.{scalar_eq-laws};
 
     ghost eq = { scalar_eq };
 
@@ -322,8 +322,8 @@ impl PartialEq for Scalar {
 
 /// The order of the values; none exactly where the types differ apart from nullability.
 impl PartialOrd for Scalar {
-    ghost use Rattle.vortex_columns.specs.ScalarView.{compare_scalars};
-    ghost use Rattle.vortex_columns.specs.ScalarLaws.{compare_scalars-laws};
+    ghost use Rattle.vortex_types.specs.ScalarView.{compare_scalars};
+    ghost use Rattle.vortex_types.specs.ScalarLaws.{compare_scalars-laws};
 
     ghost partial_cmp = { compare_scalars };
 

@@ -63,28 +63,6 @@ fn types(alloc: std::alloc::Global, count: usize) -> VortexResult<Vec<DType>> {
 }
 
 #[test]
-fn names_fields(rt: HostRuntime) -> Result<(), Fail> {
-    let alloc = rt.alloc();
-    let fields = StructFields::try_new(alloc, names(alloc, "a", "b")?, types(alloc, 2)?)?;
-    match fields.find("b") {
-        Some((place, dtype)) => assert!(rt; place == 1 && dtype.is_nullable()),
-        None => panic!(rt; "not found"),
-    }
-    assert!(rt; fields.find("c").is_none());
-    assert!(rt; StructFields::try_new(alloc, Vec::new(alloc), Vec::new(alloc)).is_ok());
-    for refused in [
-        StructFields::try_new(alloc, names(alloc, "a", "a")?, types(alloc, 2)?),
-        StructFields::try_new(alloc, names(alloc, "a", "b")?, types(alloc, 1)?),
-    ] {
-        match refused {
-            Ok(_) => panic!(rt; "accepted"),
-            Err(error) => assert_eq!(rt; error.number(), 12),
-        }
-    }
-    Ok(())
-}
-
-#[test]
 fn orders_scalars(rt: HostRuntime) -> Result<(), Fail> {
     let alloc = rt.alloc();
     let no = Scalar::from(false);
@@ -102,69 +80,6 @@ fn orders_scalars(rt: HostRuntime) -> Result<(), Fail> {
         Ok(_) => panic!(rt; "accepted"),
         Err(error) => assert_eq!(rt; error.number(), 12),
     }
-    Ok(())
-}
-
-#[test]
-fn changes_nullability(rt: HostRuntime) -> Result<(), Fail> {
-    let alloc = rt.alloc();
-    let either = Nullability::NonNullable | Nullability::Nullable;
-    assert_eq!(rt; either, Nullability::Nullable);
-    let neither = Nullability::NonNullable | Nullability::NonNullable;
-    assert_eq!(rt; neither, Nullability::NonNullable);
-    let dtype = DType::Bool(Nullability::NonNullable).with_nullability(either);
-    assert_eq!(rt; dtype.nullability(), Nullability::Nullable);
-    assert!(rt; !dtype.try_clone(alloc)?.as_nonnullable().is_nullable());
-    Ok(())
-}
-
-#[test]
-fn prints_arities_and_faults(rt: HostRuntime) -> Result<(), Fail> {
-    let alloc = rt.alloc();
-    for (arity, text) in [
-        (Arity::Exact(2), "2"),
-        (
-            Arity::Variadic {
-                min: 1,
-                max: Some(3),
-            },
-            "1..3",
-        ),
-        (Arity::Variadic { min: 1, max: None }, "1+"),
-        (
-            Arity::Variadic {
-                min: 2,
-                max: Some(2),
-            },
-            "2",
-        ),
-    ] {
-        assert_eq!(rt; format!(in alloc; "{arity}")?.as_str(), text);
-        assert!(rt; arity.matches(2));
-        assert!(rt; !arity.matches(0));
-    }
-    let faults = [
-        (NumericOperator::Add, "integer overflow in checked add"),
-        (NumericOperator::Sub, "integer overflow in checked sub"),
-        (NumericOperator::Mul, "integer overflow in checked mul"),
-        (
-            NumericOperator::Div,
-            "integer division by zero or overflow in checked div",
-        ),
-    ];
-    for (operator, text) in faults {
-        let error = VortexError::Arithmetic(operator);
-        assert_eq!(rt; format!(in alloc; "{error}")?.as_str(), text);
-        assert_eq!(rt; error.number(), 7);
-    }
-    assert_eq!(rt;
-        VortexError::TypeMismatch(MismatchPlace::Compare).name(),
-        "TypeMismatch.Compare"
-    );
-    assert_eq!(rt;
-        VortexError::Arithmetic(NumericOperator::Div).name(),
-        "Arithmetic.Div"
-    );
     Ok(())
 }
 
@@ -215,7 +130,7 @@ fn orders_nested_values(rt: HostRuntime) -> Result<(), Fail> {
         ([].as_slice(), [None].as_slice(), Ordering::Less),
         ([].as_slice(), [].as_slice(), Ordering::Equal),
     ] {
-        assert!(rt; integers(alloc, a)?.compare(&integers(alloc, b)?) == order);
+        assert!(rt; cell_of(&integers(alloc, a)?).compare(&cell_of(&integers(alloc, b)?)) == order);
     }
     Ok(())
 }
@@ -232,14 +147,14 @@ fn orders_maps_texts_and_bytes(rt: HostRuntime) -> Result<(), Fail> {
     let none = entry(alloc, 1, None)?;
     let zero = entry(alloc, 1, Some(0))?;
     let empty = ScalarValue::List(Vec::new(alloc));
-    assert!(rt; none.compare(&zero) == Ordering::Less);
-    assert!(rt; empty.compare(&zero) == Ordering::Less);
+    assert!(rt; cell_of(&none).compare(&cell_of(&zero)) == Ordering::Less);
+    assert!(rt; cell_of(&empty).compare(&cell_of(&zero)) == Ordering::Less);
     let a = Scalar::try_from_str(alloc, "a")?;
     let longer = Scalar::try_from_str(alloc, "a\0")?;
     assert!(rt; a.partial_cmp(&longer) == Some(Ordering::Less));
     let high = ScalarValue::Binary(Vec::from_array(alloc, [255u8])?);
     let low = ScalarValue::Binary(Vec::from_array(alloc, [0u8, 1])?);
-    assert!(rt; high.compare(&low) == Ordering::Greater);
+    assert!(rt; cell_of(&high).compare(&cell_of(&low)) == Ordering::Greater);
     Ok(())
 }
 
@@ -473,8 +388,8 @@ fn lends_parts_of_lists(rt: HostRuntime) -> Result<(), Fail> {
     assert!(rt; lends(alloc, &column, LISTS)?);
     let whole = integers(alloc, &[Some(5), Some(6)])?;
     assert_eq!(rt; column.len(), 2);
-    assert!(rt; column.cell(0).compare(&whole.cell()) == Ordering::Equal);
-    assert!(rt; column.cell(1).compare(&whole.cell()) == Ordering::Less);
+    assert!(rt; column.cell(0).compare(&cell_of(&whole)) == Ordering::Equal);
+    assert!(rt; column.cell(1).compare(&cell_of(&whole)) == Ordering::Less);
     Ok(())
 }
 
@@ -506,7 +421,7 @@ fn lends_parts_of_maps(rt: HostRuntime) -> Result<(), Fail> {
     assert!(rt; lends(alloc, &column, MAPS)?);
     assert_eq!(rt; column.len(), 2);
     let six = entry(alloc, 6, Some(6))?;
-    assert!(rt; column.cell(0).compare(&six.cell()) == Ordering::Equal);
+    assert!(rt; column.cell(0).compare(&cell_of(&six)) == Ordering::Equal);
     Ok(())
 }
 

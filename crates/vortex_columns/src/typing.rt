@@ -1,39 +1,21 @@
 //! Whether values have types.
 ghost use Rattle.std.specs.Prelude.{◌≡◌, ◌↔◌, ◌<◌, IsTrue, All};
-ghost use Rattle.vortex_columns.specs.Values.{values_of, value_count};
-ghost use Rattle.vortex_columns.specs.Typing.{Each, HasType, HaveFields, IsList, IsPair};
-ghost use Rattle.vortex_columns.specs.TypeOf.{type_of, struct_fields};
+ghost use Rattle.vortex_types.specs.Values.{values_of, value_count};
+ghost use Rattle.vortex_types.specs.Typing.{Each, HasType, HaveFields, IsList, IsPair};
+ghost use Rattle.vortex_types.specs.TypeOf.{type_of, struct_fields};
 ghost use Rattle.vortex_columns.specs.Cells.{cell_value, sequence_values, IsCell, IsSequence};
 
 use crate::cell::{Cell, Sequence};
-use crate::dtype::{DType, PType, StructFields};
-
-impl PType {
-    ghost use Rattle.vortex_columns.specs.Typing.{FitsPType};
-
-    /// Whether a number lies in the range of the type.
-    pub fn holds(&self, n: i128) -> bool
-        ensures { IsTrue result ↔ FitsPType self.now n }
-    {
-        match self {
-            PType::I8 => -128 <= n && n <= 127,
-            PType::I16 => -32768 <= n && n <= 32767,
-            PType::I32 => -2147483648 <= n && n <= 2147483647,
-            PType::I64 => -9223372036854775808 <= n && n <= 9223372036854775807,
-            PType::U8 => 0 <= n && n <= 255,
-            PType::U16 => 0 <= n && n <= 65535,
-            PType::U32 => 0 <= n && n <= 4294967295,
-            PType::U64 => 0 <= n && n <= 18446744073709551615,
-        }
-    }
-}
+use vortex_types::{DType, StructFields};
 
 /// Whether each is a byte, as it always is.
 pub(crate) fn are_bytes(bytes: &[u8]) -> bool
     ensures yes { IsTrue result }
     ensures fit { All (λ b. b < 256) bytes.now }
 {
-    bytes.len() == bytes.len()
+    // the range of its items is known of a slice that the body reads
+    let _ = bytes.len();
+    true
 }
 
 impl Cell<'_> {

@@ -3,12 +3,12 @@ use Rattle.std.proofs.Common.{◌≡◌, ℕ, suc, Bool, true, false, List, [], 
 use Rattle.std.specs.Prelude.{if◌then◌else◌}
 use Rattle.std.specs.Option.{option_and_then}
 use Rattle.std.proofs.lemmas.List.{length-map}
-use Rattle.vortex_columns.specs.declared.dtype.DType.{DType}
-use Rattle.vortex_columns.specs.declared.error.VortexError.{VortexError}
-use Rattle.vortex_columns.specs.Answers.{UnlessMemory}
-use Rattle.vortex_columns.specs.LogicalTypes.{LogicalType}
-use Rattle.vortex_columns.specs.TypeOf.{type_of}
-use Rattle.vortex_columns.proofs.Answering.{UnlessMemory-weaker}
+use Rattle.vortex_types.specs.declared.dtype.DType.{DType}
+use Rattle.vortex_types.specs.declared.error.VortexError.{VortexError}
+use Rattle.vortex_types.specs.Answers.{UnlessMemory}
+use Rattle.vortex_types.specs.LogicalTypes.{LogicalType}
+use Rattle.vortex_types.specs.TypeOf.{type_of}
+use Rattle.vortex_types.proofs.Answering.{UnlessMemory-weaker}
 use Rattle.vortex_meaning.specs.Meaning.{Meaning, fits}
 use Rattle.vortex_meaning.specs.Functions.{Function, function_arity, function_type, call_type, IsMismatchOf}
 use Rattle.vortex_meaning.specs.Trees.{Tree, trees_of, call}

@@ -1,8 +1,8 @@
 -- What an opened tree is.
 use Rattle.std.proofs.Common.{◌≡◌, ℕ, zero, suc, ◌≤◌, [], ◌∷◌, length, refl, arith, sym, ap, ◌∙◌, Bool, false, IsTrue, ◌↔◌, true≢false, Some, None}
 use Rattle.std.specs.Prelude.{List, slice_get}
-use Rattle.vortex_columns.specs.LogicalTypes.{LogicalType}
-use Rattle.vortex_columns.specs.TypeEquality.{type_eq, type_eq-decides}
+use Rattle.vortex_types.specs.LogicalTypes.{LogicalType}
+use Rattle.vortex_types.specs.TypeEquality.{type_eq, type_eq-decides}
 use Rattle.vortex_columns.specs.ColumnView.{ColumnView}
 use Rattle.vortex_meaning.specs.Trees.{place}
 use Rattle.vortex_meaning.specs.Execution.{LeafFits}

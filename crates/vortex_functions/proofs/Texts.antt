@@ -8,9 +8,9 @@ use Rattle.std.proofs.lemmas.Fmt.{hex_byte}
 use Rattle.std.proofs.Math.Seq.{take-suc}
 use Rattle.std.proofs.lemmas.Grind.{flat_map-append}
 use Rattle.std.proofs.lemmas.List.{append-nil}
-use Rattle.vortex_columns.specs.LogicalTypes.{LogicalType, Fields, no_fields, field, field_count, field_type}
-use Rattle.vortex_columns.specs.FieldNames.{field_name}
-use Rattle.vortex_columns.specs.Values.{Value, values_of}
+use Rattle.vortex_types.specs.LogicalTypes.{LogicalType, Fields, no_fields, field, field_count, field_type}
+use Rattle.vortex_types.specs.FieldNames.{field_name}
+use Rattle.vortex_types.specs.Values.{Value, values_of}
 use Rattle.vortex_columns.specs.ColumnView.{row}
 use Rattle.vortex_meaning.specs.Printing.{joined, separator_before, literal_text, value_texts, field_texts, hex_text}
 

@@ -3,9 +3,9 @@ use Rattle.std.proofs.Common.{◌≡◌, ℕ, zero, suc, ◌<◌, List, [], ◌�
 use Rattle.std.proofs.lemmas.List.{length-append, length-take}
 use Rattle.std.specs.Prelude.{IfSome, if◌then◌else◌}
 use Rattle.std.specs.Option.{option_and_then}
-use Rattle.vortex_columns.specs.LogicalTypes.{LogicalType}
-use Rattle.vortex_columns.specs.Values.{Value}
-use Rattle.vortex_columns.specs.ScalarView.{ScalarView}
+use Rattle.vortex_types.specs.LogicalTypes.{LogicalType}
+use Rattle.vortex_types.specs.Values.{Value}
+use Rattle.vortex_types.specs.ScalarView.{ScalarView}
 use Rattle.vortex_meaning.specs.Meaning.{Meaning, fits}
 use Rattle.vortex_meaning.specs.Functions.{Function, function_arity, function_type, call_type}
 use Rattle.vortex_meaning.specs.Trees.{Tree, constant, call, trees_of}

@@ -1,8 +1,8 @@
 -- What is seen of a call's inputs, and which input an index may name.
 use Rattle.std.specs.Prelude.{ℕ, ◌<◌, List, Option, Some, None, refl}
 use Rattle.std.specs.Coded.{Coded, code_by, coded×, coded_ℕ, coded_list}
-use Rattle.vortex_columns.specs.declared.arity.Arity.{Arity}
-use Rattle.vortex_columns.specs.declared.arity.Arity.TheVariants.{Exact, Variadic}
+use Rattle.vortex_types.specs.declared.arity.Arity.{Arity}
+use Rattle.vortex_types.specs.declared.arity.Arity.TheVariants.{Exact, Variadic}
 use Rattle.vortex_columns.specs.ColumnView.{ColumnView, coded_column}
 
 pub record ArgsView : Type 0 where

@@ -2,9 +2,9 @@
 use Rattle.std.specs.Prelude.{◌≡◌, ℕ, List, Option, Some, None, Bool, true, false, length}
 use Rattle.std.specs.declared.borrow.Cow.{Cow}
 use Rattle.std.specs.declared.borrow.Cow.TheVariants as cow
-use Rattle.vortex_columns.specs.declared.error.VortexError.{VortexError}
-use Rattle.vortex_columns.specs.declared.error.VortexError.TheVariants.{ArityMismatch}
-use Rattle.vortex_columns.specs.LogicalTypes.{LogicalType, Fields, find_field}
+use Rattle.vortex_types.specs.declared.error.VortexError.{VortexError}
+use Rattle.vortex_types.specs.declared.error.VortexError.TheVariants.{ArityMismatch}
+use Rattle.vortex_types.specs.LogicalTypes.{LogicalType, Fields, find_field}
 use Rattle.vortex_columns.specs.ColumnView.{ColumnView}
 use Rattle.vortex_meaning.specs.Meaning.{Meaning, fits}
 use Rattle.vortex_meaning.specs.Functions.{Function, function_arity, function_type, IsMismatchOf}

@@ -1,9 +1,9 @@
 -- The function without arguments that answers false.
 use Rattle.std.specs.Prelude.{◌≡◌, codes, List, [], ◌∷◌, Option, Some, None, true, false, Any, refl}
 use Rattle.std.proofs.Common.{arith}
-use Rattle.vortex_columns.specs.declared.arity.Arity.TheVariants.{Exact}
-use Rattle.vortex_columns.specs.LogicalTypes.{LogicalType, bool_type, is_nullable}
-use Rattle.vortex_columns.specs.Values.{Value, null, truth}
+use Rattle.vortex_types.specs.declared.arity.Arity.TheVariants.{Exact}
+use Rattle.vortex_types.specs.LogicalTypes.{LogicalType, bool_type, is_nullable}
+use Rattle.vortex_types.specs.Values.{Value, null, truth}
 use Rattle.vortex_meaning.specs.Outcomes.{gives, GivesType, GivesNull}
 use Rattle.vortex_meaning.specs.Meaning.{Meaning, Lawful, HaveTypes}
 

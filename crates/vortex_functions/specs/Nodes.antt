@@ -5,7 +5,7 @@ use denote.Param.Weighed.{most}
 use Rattle.vortex_functions.specs.declared.tree.Node.{Node}
 use Rattle.vortex_functions.specs.declared.tree.Node.TheVariants.{Column, Literal, Call}
 use Rattle.vortex_functions.specs.declared.tree.BoundExpression.TheInside.{Inside}
-use Rattle.vortex_columns.specs.TypeOf.{type_of}
+use Rattle.vortex_types.specs.TypeOf.{type_of}
 use Rattle.vortex_meaning.specs.Meaning.{Meaning}
 use Rattle.vortex_meaning.specs.Trees.{place, Tree, leaf, constant, call, trees_of, node_count, nodes_count}
 use Rattle.vortex_meaning.specs.Eval.{tree_type}

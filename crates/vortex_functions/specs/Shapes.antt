@@ -1,7 +1,7 @@
 -- The type that a `Shape` stands for, and the fields of a struct.
 use Rattle.std.specs.Prelude.{Bool, true, false}
-use Rattle.vortex_columns.specs.LogicalTypes.{LogicalType, struct_type, Fields, no_fields}
-use Rattle.vortex_columns.specs.TypeOf.{type_of}
+use Rattle.vortex_types.specs.LogicalTypes.{LogicalType, struct_type, Fields, no_fields}
+use Rattle.vortex_types.specs.TypeOf.{type_of}
 use Rattle.vortex_meaning.specs.Printing.{entry_type}
 use Rattle.vortex_functions.specs.declared.literal_text.Shape.{Shape}
 use Rattle.vortex_functions.specs.declared.literal_text.Shape.TheVariants.{Of, Entry}

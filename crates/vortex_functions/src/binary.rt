@@ -1,10 +1,10 @@
 //! The operators of two operands.
-ghost use Rattle.std.specs.Prelude.{◌≡◌, ◌++◌, None, Some, length, map, string_bytes};
-ghost use Rattle.vortex_columns.specs.declared.error.VortexError.TheVariants.{TypeMismatch};
-ghost use Rattle.vortex_columns.specs.Answers.{Answers, AnswersUnlessMemory};
-ghost use Rattle.vortex_columns.specs.TypeOf.{type_of};
+ghost use Rattle.std.specs.Prelude.{◌≡◌, ◌++◌, None, Some, length, map, string_bytes, MatchOption};
+ghost use Rattle.vortex_types.specs.declared.error.VortexError.TheVariants.{TypeMismatch};
+ghost use Rattle.vortex_types.specs.Answers.{Answers, AnswersUnlessMemory};
+ghost use Rattle.vortex_types.specs.TypeOf.{type_of};
 ghost use Rattle.vortex_kernels.specs.declared.operators.Operator.{Operator};
-ghost use Rattle.vortex_meaning.specs.Shipped.{binary, binary_id, shipped_meaning, operator_type, operator_place};
+ghost use Rattle.vortex_meaning.specs.Shipped.{binary, binary_id, shipped_meaning, both_bool, compared_type, operator_type, operator_place};
 ghost use Rattle.vortex_meaning.specs.Printing.{shipped_text};
 ghost use Rattle.vortex_meaning.specs.ShippedLaws.{shipped_lawful};
 
@@ -14,11 +14,12 @@ use std::alloc::Global;
 use vortex_columns::{
     Arity, Column, DType, ExecutionCtx, MismatchPlace, VortexError, VortexResult,
 };
-use vortex_kernels::{Operator, execute_boolean};
+use vortex_kernels::{Operator, execute_boolean, execute_compare};
 
-/// And and Or of two Bool, by Kleene's tables; nullable if either operand is.
+/// And and Or of two Bool, by Kleene's tables, and the comparisons of two types that agree apart from nullability, by the
+/// order of values: Bool, nullable if either operand is.
 ///
-/// A comparison accepts no types yet (E3 Compare), nor does arithmetic (E3 Arithmetic).
+/// Arithmetic accepts no types yet (E3 Arithmetic).
 #[derive(Clone, Drop)]
 pub struct Binary;
 
@@ -37,14 +38,45 @@ pub(crate) fn mismatch_place(operator: Operator) -> MismatchPlace
     }
 }
 
+/// Bool for two Bool, nullable if either is.
+fn boolean_dtype(types: &[DType]) -> Option<DType>
+    ensures { MatchOption result (both_bool (map type_of types.now) ≡ None) (λ t. both_bool (map type_of types.now) ≡ Some (type_of t)) }
+{
+    match types {
+        [DType::Bool(left), DType::Bool(right)] => Some(DType::Bool(*left | *right)),
+        _ => None,
+    }
+}
+
+/// Bool for two types that agree apart from nullability, nullable if either is.
+fn comparison_dtype(types: &[DType]) -> Option<DType>
+    ensures { MatchOption result (compared_type (map type_of types.now) ≡ None) (λ t. compared_type (map type_of types.now) ≡ Some (type_of t)) }
+{
+    match types {
+        [left, right] => {
+            if !left.eq_ignore_nullability(right) {
+                return None;
+            }
+            Some(DType::Bool(left.nullability() | right.nullability()))
+        }
+        _ => None,
+    }
+}
+
 /// The type of an operator's answer; E3 at the operator's place for other operands.
 pub(crate) fn operator_dtype(operator: Operator, types: &[DType]) -> VortexResult<DType>
     ensures { Answers result (λ t. operator_type operator (map type_of types.now) ≡ Some (type_of t)) (λ e. (operator_type operator (map type_of types.now) ≡ None) × (e ≡ TypeMismatch (operator_place operator))) }
 {
-    match (operator.is_boolean(), types) {
-        (true, [DType::Bool(left), DType::Bool(right)]) => Ok(DType::Bool(*left | *right)),
-        _ => Err(VortexError::TypeMismatch(mismatch_place(operator))),
-    }
+    let dtype = match operator {
+        Operator::And => boolean_dtype(types),
+        Operator::Or => boolean_dtype(types),
+        Operator::Add => None,
+        Operator::Sub => None,
+        Operator::Mul => None,
+        Operator::Div => None,
+        _ => comparison_dtype(types),
+    };
+    dtype.ok_or(VortexError::TypeMismatch(mismatch_place(operator)))
 }
 
 impl ScalarFnVTable for Binary {
@@ -81,7 +113,10 @@ impl ScalarFnVTable for Binary {
     ) -> VortexResult<Column> {
         let lhs = args.get(0)?;
         let rhs = args.get(1)?;
-        execute_boolean(lhs, rhs, *operator, ctx)
+        match operator.to_compare_operator() {
+            Some(compare) => execute_compare(lhs, rhs, compare, ctx),
+            None => execute_boolean(lhs, rhs, *operator, ctx),
+        }
     }
 
     /// `(a op b)`.

@@ -1,7 +1,7 @@
 //! A function with its options: a shipped one or a caller's.
 ghost use Rattle.std.specs.Prelude.{◌≡◌, ◌++◌, None, Some, IsTrue, IsSome, IfSome, MatchOption, MatchResult, length, map, string_bytes};
-ghost use Rattle.vortex_columns.specs.Answers.{Answers, AnswersUnlessMemory};
-ghost use Rattle.vortex_columns.specs.TypeOf.{type_of};
+ghost use Rattle.vortex_types.specs.Answers.{Answers, AnswersUnlessMemory};
+ghost use Rattle.vortex_types.specs.TypeOf.{type_of};
 ghost use Rattle.vortex_meaning.specs.Outcomes.{HasCallRows, IsCallFault, types_in};
 ghost use Rattle.vortex_meaning.specs.Meaning.{fits};
 ghost use Rattle.vortex_meaning.specs.Functions.{function_id, function_arity, function_child_name, function_type, function_means, function_strict, function_infallible, IsMismatchOf};

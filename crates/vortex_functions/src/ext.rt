@@ -1,6 +1,6 @@
 //! The shipped functions as functions of any tree.
 ghost use Rattle.std.specs.Prelude.{◌≡◌};
-ghost use Rattle.vortex_columns.specs.Answers.{Answers};
+ghost use Rattle.vortex_types.specs.Answers.{Answers};
 ghost use Rattle.vortex_meaning.specs.Shipped.{Shipped};
 ghost use Rattle.vortex_meaning.specs.Functions.{shipped};
 ghost use Rattle.vortex_functions.specs.FunctionOf.{function_of};

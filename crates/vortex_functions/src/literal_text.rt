@@ -1,10 +1,10 @@
 //! The texts of literals.
 ghost use Rattle.std.specs.Prelude.{◌≡◌, ◌++◌, string_bytes};
 ghost use Rattle.std.specs.List.{flat_map};
-ghost use Rattle.vortex_columns.specs.Answers.{AnswersUnlessMemory};
+ghost use Rattle.vortex_types.specs.Answers.{AnswersUnlessMemory};
 ghost use Rattle.vortex_columns.specs.Cells.{cell_value, sequence_value, sequence_values, IsCell, IsSequence};
 ghost use Rattle.vortex_meaning.specs.Printing.{literal_text, value_texts, field_texts, joined, comma, hex_text, ptype_text, separator_before};
-ghost use Rattle.vortex_columns.specs.Values.{values_of};
+ghost use Rattle.vortex_types.specs.Values.{values_of};
 ghost use Rattle.vortex_functions.specs.Shapes.{shape_type, fields_in};
 
 use std::fmt::Write;
@@ -34,8 +34,8 @@ fn ptype_text(ptype: PType) -> &'static str
 
 impl<'a> Shape<'a> {
     ghost use Rattle.std.specs.Prelude.{◌<◌};
-    ghost use Rattle.vortex_columns.specs.LogicalTypes.{field_count, field_type};
-    ghost use Rattle.vortex_columns.specs.FieldNames.{field_name};
+    ghost use Rattle.vortex_types.specs.LogicalTypes.{field_count, field_type};
+    ghost use Rattle.vortex_types.specs.FieldNames.{field_name};
     ghost use Rattle.vortex_meaning.specs.Printing.{suffix, element_type};
     ghost use Rattle.vortex_functions.specs.Shapes.{shape_type, is_struct, fields_in};
 

@@ -1,9 +1,9 @@
 //! Kleene's Not.
 ghost use Rattle.std.specs.Prelude.{◌≡◌, ◌++◌, None, Some, length, map, string_bytes};
-ghost use Rattle.vortex_columns.specs.declared.error.VortexError.TheVariants.{TypeMismatch};
-ghost use Rattle.vortex_columns.specs.declared.error.MismatchPlace.TheVariants as place;
-ghost use Rattle.vortex_columns.specs.Answers.{Answers, AnswersUnlessMemory};
-ghost use Rattle.vortex_columns.specs.TypeOf.{type_of};
+ghost use Rattle.vortex_types.specs.declared.error.VortexError.TheVariants.{TypeMismatch};
+ghost use Rattle.vortex_types.specs.declared.error.MismatchPlace.TheVariants as place;
+ghost use Rattle.vortex_types.specs.Answers.{Answers, AnswersUnlessMemory};
+ghost use Rattle.vortex_types.specs.TypeOf.{type_of};
 ghost use Rattle.vortex_meaning.specs.Shipped.{negation, negation_id, shipped_meaning, negation_type};
 ghost use Rattle.vortex_meaning.specs.Printing.{shipped_text};
 ghost use Rattle.vortex_meaning.specs.ShippedLaws.{shipped_lawful};

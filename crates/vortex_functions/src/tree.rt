@@ -2,10 +2,10 @@
 ghost use Rattle.std.specs.Prelude.{◌≡◌, ◌<◌, ◌↔◌, None, Some, IsTrue, IfSome, IsOkAnd, string_bytes, MatchOption, length, map, slice_get};
 ghost use Rattle.std.specs.Cow.{cow_value};
 ghost use Rattle.std.specs.Option.{option_copied};
-ghost use Rattle.vortex_columns.specs.declared.error.VortexError.TheVariants.{ScopeMismatch};
-ghost use Rattle.vortex_columns.specs.Answers.{Answers, AnswersUnlessMemory};
-ghost use Rattle.vortex_columns.specs.LogicalTypes.{find_field};
-ghost use Rattle.vortex_columns.specs.TypeOf.{type_of, struct_fields};
+ghost use Rattle.vortex_types.specs.declared.error.VortexError.TheVariants.{ScopeMismatch};
+ghost use Rattle.vortex_types.specs.Answers.{Answers, AnswersUnlessMemory};
+ghost use Rattle.vortex_types.specs.LogicalTypes.{find_field};
+ghost use Rattle.vortex_types.specs.TypeOf.{type_of, struct_fields};
 ghost use Rattle.vortex_meaning.specs.Trees.{constant, trees_of, children_of, called, literal};
 ghost use Rattle.vortex_meaning.specs.Eval.{tree_type, tree_types, HasTreeRows, IsFirstFault};
 ghost use Rattle.vortex_meaning.specs.Execution.{LeavesFit, other_length, Executes, RefusesExecution};

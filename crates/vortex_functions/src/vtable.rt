@@ -1,9 +1,9 @@
 //! The interface of a row function.
 ghost use Rattle.std.specs.Prelude.{◌≡◌, ◌≤◌, ℕ, List, length, map, IsTrue, IsSome, IfOk, MatchResult, slice_get, string_bytes, Some, None};
-ghost use Rattle.vortex_columns.specs.declared.error.VortexError.TheVariants.{IndexOutOfBounds};
-ghost use Rattle.vortex_columns.specs.Answers.{Answers, AnswersUnlessMemory};
+ghost use Rattle.vortex_types.specs.declared.error.VortexError.TheVariants.{IndexOutOfBounds};
+ghost use Rattle.vortex_types.specs.Answers.{Answers, AnswersUnlessMemory};
 ghost use Rattle.vortex_columns.specs.ColumnView.{ColumnView};
-ghost use Rattle.vortex_columns.specs.TypeOf.{type_of};
+ghost use Rattle.vortex_types.specs.TypeOf.{type_of};
 ghost use Rattle.vortex_meaning.specs.Outcomes.{HasCallRows, IsCallFault, types_in};
 ghost use Rattle.vortex_meaning.specs.Meaning.{Meaning, Lawful, fits};
 ghost use Rattle.vortex_meaning.specs.Functions.{IsTypeMismatch};

@@ -1,43 +1,43 @@
 -- Rows of truth values that are built one by one, and the column that is made of them.
 use Rattle.std.proofs.Common.{◌≡◌, ◌⊎◌, inl, inr, ℕ, zero, suc, ◌+◌, ◌<◌, Bool, true, false, Option, Some, None, List, [], ◌∷◌, ◌++◌, map, length, get_or, refl, sym, ap, subst, ◌∙◌, arith, length-append, cond}
 use Rattle.std.specs.Prelude.{IsTrue, is_some, unwrap_or, ◌||◌, ◌&&◌, slice_index_or}
-use Rattle.std.specs.List.{range_with_len}
 use Rattle.std.proofs.lemmas.List.{get_or-map, length-map}
 use Rattle.std.proofs.lemmas.List.FromFn.{get_or-map-range_with_len, length-map-range_with_len}
-use Rattle.vortex_columns.specs.LogicalTypes.{LogicalType, null_type, bool_type, integer_type, text_type, bytes_type, struct_type, list_type, fixed_size_list_type, map_type, is_bool_type, is_nullable}
-use Rattle.vortex_columns.specs.Values.{Value, null, truth, number, text, bytes, list, truth_of, truth_or_null}
-use Rattle.vortex_columns.specs.Typing.{HasType}
-use Rattle.vortex_columns.specs.ColumnView.{ColumnView, row, AreTyped, non_nullable, array}
-use Rattle.vortex_columns.specs.ValidityView.{ValidityView, is_valid_row}
+use Rattle.vortex_types.specs.LogicalTypes.{LogicalType, null_type, bool_type, integer_type, text_type, bytes_type, struct_type, list_type, fixed_size_list_type, map_type, is_bool_type, is_nullable}
+use Rattle.vortex_types.specs.Values.{Value, null, truth, number, text, bytes, list, truth_of, truth_or_null}
+use Rattle.vortex_types.specs.Typing.{HasType}
+use Rattle.vortex_columns.specs.ColumnView.{ColumnView, row, AreTyped}
+use Rattle.vortex_types.specs.ValidityView.{non_nullable, array}
 use Rattle.vortex_columns.specs.Stored.{bool_column}
 use Rattle.vortex_kernels.specs.declared.operators.Operator.{Operator}
-use Rattle.vortex_kernels.specs.declared.operators.Operator.TheVariants.{Eq, NotEq, Gt, Gte, Lt, Lte, And, Or, Add, Sub, Mul, Div}
+use Rattle.vortex_kernels.specs.declared.operators.Operator.TheVariants.{And, Or}
 use Rattle.vortex_kernels.specs.Operators.{is_boolean}
 use Rattle.vortex_kernels.specs.Kleene.{kleene, kleene_and, kleene_or, kleene_not}
 use Rattle.vortex_kernels.specs.Rows.{HasRows, AreAnswers, Allows, AllAllowed}
 
-get_or-last : (xs : List (Option Bool)) (x : Option Bool) → get_or (xs ++ x ∷ []) (length xs) None ≡ x
-get_or-last [] x = refl
-get_or-last (y ∷ ys) x = get_or-last ys x
+module _ {A : Type 0} (other : A) where
+  pub get_or-last : (xs : List A) (x : A) → get_or (xs ++ x ∷ []) (length xs) other ≡ x
+  get_or-last [] x = refl
+  get_or-last (y ∷ ys) x = get_or-last ys x
 
-get_or-before : (xs : List (Option Bool)) (x : Option Bool) (k : ℕ) → k < length xs → get_or (xs ++ x ∷ []) k None ≡ get_or xs k None
-get_or-before [] x k h = absurd (omega arith)
-get_or-before (y ∷ ys) x zero h = refl
-get_or-before (y ∷ ys) x (suc k) h = get_or-before ys x k (omega arith)
+  pub get_or-before : (xs : List A) (x : A) (k : ℕ) → k < length xs → get_or (xs ++ x ∷ []) k other ≡ get_or xs k other
+  get_or-before [] x k h = absurd (omega arith)
+  get_or-before (y ∷ ys) x zero h = refl
+  get_or-before (y ∷ ys) x (suc k) h = get_or-before ys x k (omega arith)
 
--- one more answer
-pub answers_more : (n : ℕ) (f : ℕ → Option Bool) (xs : List (Option Bool)) (x : Option Bool) → AreAnswers n f xs → x ≡ f n → AreAnswers (n + 1) f (xs ++ x ∷ [])
-answers_more n f xs x h e = record {
-  count = omega (arith, length-append xs (x ∷ []), h.count);
-  each = λ k lt. by k (last_or_before k lt);
-}
-  where
-    last_or_before : (k : ℕ) → k < n + 1 → (k < n) ⊎ (k ≡ n)
-    last_or_before k lt = grind arith
+  -- one more answer
+  pub answers_more : (n : ℕ) (f : ℕ → A) (xs : List A) (x : A) → AreAnswers other n f xs → x ≡ f n → AreAnswers other (n + 1) f (xs ++ x ∷ [])
+  answers_more n f xs x h e = record {
+    count = omega (arith, length-append xs (x ∷ []), h.count);
+    each = λ k lt. by k (last_or_before k lt);
+  }
+    where
+      last_or_before : (k : ℕ) → k < n + 1 → (k < n) ⊎ (k ≡ n)
+      last_or_before k lt = grind arith
 
-    by : (k : ℕ) → (k < n) ⊎ (k ≡ n) → slice_index_or (xs ++ x ∷ []) k None ≡ f k
-    by k (inl lt) = get_or-before xs x k (omega (arith, h.count)) ∙ h.each k lt
-    by k (inr q) = rw (q, ← h.count, get_or-last) (rw h.count e)
+      by : (k : ℕ) → (k < n) ⊎ (k ≡ n) → slice_index_or (xs ++ x ∷ []) k other ≡ f k
+      by k (inl lt) = get_or-before xs x k (omega (arith, h.count)) ∙ h.each k lt
+      by k (inr q) = rw (q, ← h.count, get_or-last) (rw h.count e)
 
 pub bool_dtype : (t : LogicalType) → is_bool_type t ≡ true → t ≡ bool_type (is_nullable t)
 bool_dtype (bool_type n) h = refl
@@ -108,7 +108,7 @@ right_bool true b h = h
 right_bool false b h = cc
 
 -- answers that are allowed row by row
-pub all_allowed : (n : Bool) (count : ℕ) (f : ℕ → Option Bool) (xs : List (Option Bool)) → AreAnswers count f xs → ((i : ℕ) → i < count → Allows n (f i)) → AllAllowed n xs
+pub all_allowed : (n : Bool) (count : ℕ) (f : ℕ → Option Bool) (xs : List (Option Bool)) → AreAnswers None count f xs → ((i : ℕ) → i < count → Allows n (f i)) → AllAllowed n xs
 all_allowed n count f xs h allow i lt =
     let here : i < count = omega (arith, h.count) in
     subst (λ (o : Option Bool). Allows n o) (sym (h.each i here)) (allow i here)
@@ -163,7 +163,7 @@ plain_rows xs bits c all e is = record {
     counts = ap length e ∙ length-map xs (λ a. unwrap_or a false)
 
 -- from the answers of each row to the rows of a column
-pub rows_of_answers : (t u : LogicalType) (n : ℕ) (f : ℕ → Option Bool) (xs : List (Option Bool)) (c : ColumnView) → t ≡ u → AreAnswers n f xs → HasRows t (length xs) (λ i. truth_or_null (slice_index_or xs i None)) c → HasRows u n (λ i. truth_or_null (f i)) c
+pub rows_of_answers : (t u : LogicalType) (n : ℕ) (f : ℕ → Option Bool) (xs : List (Option Bool)) (c : ColumnView) → t ≡ u → AreAnswers None n f xs → HasRows t (length xs) (λ i. truth_or_null (slice_index_or xs i None)) c → HasRows u n (λ i. truth_or_null (f i)) c
 rows_of_answers t u n f xs c same answers h = record {
   dtype = h.dtype ∙ same;
   count = h.count ∙ answers.count;

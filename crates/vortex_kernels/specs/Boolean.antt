@@ -1,10 +1,10 @@
 -- And, Or and Not over whole columns.
-use Rattle.std.specs.Prelude.{◌≡◌, ◌⊎◌, ℕ, ◌||◌, ◌&&◌, Bool, true, false, length}
-use Rattle.vortex_columns.specs.declared.error.VortexError.{VortexError}
-use Rattle.vortex_columns.specs.declared.error.VortexError.TheVariants.{TypeMismatch}
-use Rattle.vortex_columns.specs.declared.error.MismatchPlace.TheVariants as place
-use Rattle.vortex_columns.specs.LogicalTypes.{LogicalType, bool_type, is_nullable, is_bool_type}
-use Rattle.vortex_columns.specs.Values.{Value, truth_of, truth_or_null}
+use Rattle.std.specs.Prelude.{◌≡◌, ◌||◌, ◌&&◌, Bool, true, false, length}
+use Rattle.vortex_types.specs.declared.error.VortexError.{VortexError}
+use Rattle.vortex_types.specs.declared.error.VortexError.TheVariants.{TypeMismatch}
+use Rattle.vortex_types.specs.declared.error.MismatchPlace.TheVariants as place
+use Rattle.vortex_types.specs.LogicalTypes.{bool_type, is_nullable, is_bool_type}
+use Rattle.vortex_types.specs.Values.{Value, truth_of, truth_or_null}
 use Rattle.vortex_columns.specs.ColumnView.{ColumnView, row}
 use Rattle.vortex_kernels.specs.declared.operators.Operator.{Operator}
 use Rattle.vortex_kernels.specs.Operators.{is_boolean, IsNotBoolean}

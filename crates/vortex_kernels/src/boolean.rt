@@ -1,8 +1,8 @@
 //! And, Or and Not by Kleene's tables.
-ghost use Rattle.std.specs.Prelude.{◌≡◌, ◌<◌, ◌||◌, true, length};
-ghost use Rattle.vortex_columns.specs.Answers.{Answers, AnswersUnlessMemory};
-ghost use Rattle.vortex_columns.specs.LogicalTypes.{is_bool_type, is_nullable};
-ghost use Rattle.vortex_columns.specs.Values.{truth_of};
+ghost use Rattle.std.specs.Prelude.{◌≡◌, ◌<◌, ◌||◌, None, true, length};
+ghost use Rattle.vortex_types.specs.Answers.{Answers, AnswersUnlessMemory};
+ghost use Rattle.vortex_types.specs.LogicalTypes.{is_bool_type, is_nullable};
+ghost use Rattle.vortex_types.specs.Values.{truth_of};
 ghost use Rattle.vortex_columns.specs.ColumnView.{row};
 ghost use Rattle.vortex_kernels.specs.declared.operators.Operator.{Operator};
 ghost use Rattle.vortex_kernels.specs.declared.operators.Operator.TheVariants.{And, Or};
@@ -61,7 +61,7 @@ fn kleene_answers<K: KleeneTable>(
     rhs: &Column,
 ) -> VortexResult<Vec<Option<bool>>>
     requires { length lhs.now.rows ≡ length rhs.now.rows }
-    ensures { AnswersUnlessMemory result (λ answers. AreAnswers (length lhs.now.rows) (λ i. kleene K.operator (truth_of (row lhs.now.rows i)) (truth_of (row rhs.now.rows i))) answers.items) }
+    ensures { AnswersUnlessMemory result (λ answers. AreAnswers None (length lhs.now.rows) (λ i. kleene K.operator (truth_of (row lhs.now.rows i)) (truth_of (row rhs.now.rows i))) answers.items) }
 {
     let mut answers = Vec::new(alloc);
     for i in 0..lhs.len() {
@@ -114,7 +114,7 @@ pub fn execute_boolean(
 
 /// What Not says of each row.
 fn not_answers(alloc: Global, input: &Column) -> VortexResult<Vec<Option<bool>>>
-    ensures { AnswersUnlessMemory result (λ answers. AreAnswers (length input.now.rows) (λ i. kleene_not (truth_of (row input.now.rows i))) answers.items) }
+    ensures { AnswersUnlessMemory result (λ answers. AreAnswers None (length input.now.rows) (λ i. kleene_not (truth_of (row input.now.rows i))) answers.items) }
 {
     let mut answers = Vec::new(alloc);
     for i in 0..input.len() {

@@ -2,10 +2,13 @@
 #![tactic(auto)]
 
 pub mod boolean;
+pub mod compare;
 pub mod operators;
+mod pairs;
 mod rows;
 
 pub use boolean::{execute_boolean, execute_not};
+pub use compare::{execute_compare, scalar_cmp};
 pub use operators::{CompareOperator, Operator};
 
 #[cfg(test)]

@@ -3,6 +3,7 @@ ghost use Rattle.std.specs.Prelude.{◌≡◌, IfSome};
 ghost use Rattle.vortex_kernels.specs.Operators.{text_of, operator_of, compare_operator_of, compare_inverse, compare_swap, inverse_of, logical_inverse_of, swap_of, is_arithmetic, is_boolean};
 ghost use Rattle.vortex_kernels.specs.Kleene.{AreDual};
 
+use std::cmp::Ordering;
 use std::fmt;
 use vortex_columns::{VortexError, VortexResult};
 
@@ -162,10 +163,15 @@ impl fmt::Display for Operator {
 }
 
 impl CompareOperator {
-    /// The comparison that holds where this one does not; it undoes itself.
+    ghost use Rattle.vortex_kernels.specs.Comparison.{holds};
+    ghost use Rattle.vortex_kernels.specs.ComparisonLaws.{AreInverse, AreSwapped};
+
+    /// The comparison that holds where this one does not: `not (a op b)` is `a inverse b` for all values, nulls among
+    /// them. It undoes itself.
     pub fn inverse(&self) -> CompareOperator
         ensures table { result ≡ compare_inverse self.now }
         ensures undone { compare_inverse result ≡ self.now }
+        ensures negates { AreInverse self.now result }
     {
         match self {
             CompareOperator::Eq => CompareOperator::NotEq,
@@ -177,10 +183,11 @@ impl CompareOperator {
         }
     }
 
-    /// The comparison of the operands the other way round; it undoes itself.
+    /// The comparison of the operands the other way round: `a op b` is `b swap a` for all values. It undoes itself.
     pub fn swap(&self) -> CompareOperator
         ensures table { result ≡ compare_swap self.now }
         ensures undone { compare_swap result ≡ self.now }
+        ensures turns { AreSwapped self.now result }
     {
         match self {
             CompareOperator::Eq => CompareOperator::Eq,
@@ -189,6 +196,20 @@ impl CompareOperator {
             CompareOperator::Gte => CompareOperator::Lte,
             CompareOperator::Lt => CompareOperator::Gt,
             CompareOperator::Lte => CompareOperator::Gte,
+        }
+    }
+
+    /// Whether the comparison says yes to that order of left and right.
+    pub fn holds(&self, order: Ordering) -> bool
+        ensures { result ≡ holds self.now order }
+    {
+        match self {
+            CompareOperator::Eq => order.is_eq(),
+            CompareOperator::NotEq => order.is_ne(),
+            CompareOperator::Gt => order.is_gt(),
+            CompareOperator::Gte => order.is_ge(),
+            CompareOperator::Lt => order.is_lt(),
+            CompareOperator::Lte => order.is_le(),
         }
     }
 }

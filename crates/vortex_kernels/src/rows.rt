@@ -1,9 +1,9 @@
 //! Columns of truth values that are made row by row.
 ghost use Rattle.std.specs.Prelude.{◌≡◌, ◌<◌, None, false, length, map, is_some, unwrap_or, slice_index_or, IfOk};
-ghost use Rattle.vortex_columns.specs.Answers.{AnswersUnlessMemory};
-ghost use Rattle.vortex_columns.specs.LogicalTypes.{bool_type, is_bool_type};
-ghost use Rattle.vortex_columns.specs.TypeOf.{allows_null};
-ghost use Rattle.vortex_columns.specs.Values.{truth_of, truth_or_null};
+ghost use Rattle.vortex_types.specs.Answers.{AnswersUnlessMemory};
+ghost use Rattle.vortex_types.specs.LogicalTypes.{bool_type, is_bool_type};
+ghost use Rattle.vortex_types.specs.TypeOf.{allows_null};
+ghost use Rattle.vortex_types.specs.Values.{truth_of, truth_or_null};
 ghost use Rattle.vortex_columns.specs.ColumnView.{row};
 ghost use Rattle.vortex_kernels.specs.Rows.{HasRows, AllAllowed};
 

@@ -1,10 +1,10 @@
 -- What a function means, for contracts alone, and the laws of a lawful one.
 use Rattle.std.specs.Prelude.{◌≡◌, ℕ, List, [], ◌∷◌, Option, Some, None, Bool, true, ⊤, map, Any}
-use Rattle.vortex_columns.specs.declared.arity.Arity.{Arity}
-pub use Rattle.vortex_columns.specs.Arities.{fits}
-use Rattle.vortex_columns.specs.LogicalTypes.{LogicalType, is_nullable, without_nullability}
-use Rattle.vortex_columns.specs.Values.{Value, null}
-use Rattle.vortex_columns.specs.Typing.{HasType}
+use Rattle.vortex_types.specs.declared.arity.Arity.{Arity}
+pub use Rattle.vortex_types.specs.Arities.{fits}
+use Rattle.vortex_types.specs.LogicalTypes.{LogicalType, is_nullable, without_nullability}
+use Rattle.vortex_types.specs.Values.{Value, null}
+use Rattle.vortex_types.specs.Typing.{HasType}
 use Rattle.vortex_meaning.specs.Outcomes.{Outcome, GivesValue, GivesType, GivesNull}
 
 -- of functions V with options O: the identity, how many arguments, their names, the row meaning of argument types and values,

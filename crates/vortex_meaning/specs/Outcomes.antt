@@ -1,11 +1,11 @@
 -- What a function answers in one row: a value or a fault; and when a column or a refusal answers for all rows.
 use Rattle.std.specs.Prelude.{◌≡◌, ℕ, ◌<◌, List, [], ◌∷◌, Option, Some, None, ⊤, length, map}
-use Rattle.vortex_columns.specs.declared.error.VortexError.{VortexError}
-use Rattle.vortex_columns.specs.declared.error.VortexError.TheVariants as error
-use Rattle.vortex_columns.specs.declared.error.NumericOperator.{NumericOperator}
-use Rattle.vortex_columns.specs.LogicalTypes.{LogicalType}
-use Rattle.vortex_columns.specs.Values.{Value, null}
-use Rattle.vortex_columns.specs.Typing.{HasType}
+use Rattle.vortex_types.specs.declared.error.VortexError.{VortexError}
+use Rattle.vortex_types.specs.declared.error.VortexError.TheVariants as error
+use Rattle.vortex_types.specs.declared.error.NumericOperator.{NumericOperator}
+use Rattle.vortex_types.specs.LogicalTypes.{LogicalType}
+use Rattle.vortex_types.specs.Values.{Value, null}
+use Rattle.vortex_types.specs.Typing.{HasType}
 use Rattle.vortex_columns.specs.ColumnView.{ColumnView, row}
 
 -- an overflow or a zero divisor, by its operator, or a number of a caller's own

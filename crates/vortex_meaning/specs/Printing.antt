@@ -3,10 +3,10 @@ use Rattle.std.specs.Prelude.{◌≡◌, ℕ, zero, suc, ◌/◌, ◌%◌, List,
 use Rattle.std.specs.Fmt.{digit_glyph, signed_decimal}
 use Rattle.std.specs.List.{flat_map, join_by}
 use Rattle.std.specs.Option.{option_and_then}
-use Rattle.vortex_columns.specs.declared.dtype.PType.{PType}
-use Rattle.vortex_columns.specs.declared.dtype.PType.TheVariants.{I8, I16, I32, I64, U8, U16, U32, U64}
-use Rattle.vortex_columns.specs.LogicalTypes.{LogicalType, integer_type, struct_type, list_type, fixed_size_list_type, map_type, Fields, no_fields, field}
-use Rattle.vortex_columns.specs.Values.{Value, null, truth, number, text, bytes, list, Values, no_values, value}
+use Rattle.vortex_types.specs.declared.dtype.PType.{PType}
+use Rattle.vortex_types.specs.declared.dtype.PType.TheVariants.{I8, I16, I32, I64, U8, U16, U32, U64}
+use Rattle.vortex_types.specs.LogicalTypes.{LogicalType, integer_type, struct_type, list_type, fixed_size_list_type, map_type, Fields, no_fields, field}
+use Rattle.vortex_types.specs.Values.{Value, null, truth, number, text, bytes, list, Values, no_values, value}
 use Rattle.vortex_kernels.specs.Operators.{text_of}
 use Rattle.vortex_meaning.specs.Shipped.{Shipped, binary, negation, negation_id}
 use Rattle.vortex_meaning.specs.Functions.{Function, shipped, custom}

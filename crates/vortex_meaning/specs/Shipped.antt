@@ -1,15 +1,18 @@
 -- The shipped functions: types, row meaning and marks.
-use Rattle.std.specs.Prelude.{ℕ, zero, suc, codes, List, [], ◌∷◌, Option, Some, None, Bool, true, false, ◌||◌, not}
-use Rattle.vortex_columns.specs.declared.arity.Arity.{Arity}
-use Rattle.vortex_columns.specs.declared.arity.Arity.TheVariants.{Exact}
-use Rattle.vortex_columns.specs.declared.error.MismatchPlace.{MismatchPlace}
-use Rattle.vortex_columns.specs.declared.error.MismatchPlace.TheVariants as place
-use Rattle.vortex_columns.specs.LogicalTypes.{LogicalType, bool_type}
-use Rattle.vortex_columns.specs.Values.{Value, null}
+use Rattle.std.specs.Prelude.{ℕ, zero, suc, codes, List, [], ◌∷◌, Option, Some, None, Bool, true, false, ◌||◌, not, if◌then◌else◌}
+use Rattle.vortex_types.specs.declared.arity.Arity.{Arity}
+use Rattle.vortex_types.specs.declared.arity.Arity.TheVariants.{Exact}
+use Rattle.vortex_types.specs.declared.error.MismatchPlace.{MismatchPlace}
+use Rattle.vortex_types.specs.declared.error.MismatchPlace.TheVariants as place
+use Rattle.vortex_types.specs.LogicalTypes.{LogicalType, bool_type}
+use Rattle.vortex_types.specs.TypeEquality.{alike_types}
+use Rattle.vortex_types.specs.Values.{Value, null}
 use Rattle.vortex_kernels.specs.declared.operators.Operator.{Operator}
 use Rattle.vortex_kernels.specs.declared.operators.Operator.TheVariants.{Eq, NotEq, Gt, Gte, Lt, Lte, And, Or, Add, Sub, Mul, Div}
-use Rattle.vortex_kernels.specs.Operators.{is_arithmetic, is_boolean}
+use Rattle.vortex_kernels.specs.Operators.{is_arithmetic, is_boolean, compare_operator_of}
+use Rattle.vortex_kernels.specs.declared.operators.CompareOperator.{CompareOperator}
 use Rattle.vortex_kernels.specs.Boolean.{boolean_value, not_value}
+use Rattle.vortex_kernels.specs.Comparison.{comparison_type, comparison_value}
 use Rattle.vortex_meaning.specs.Outcomes.{Outcome, gives}
 use Rattle.vortex_meaning.specs.Meaning.{Meaning}
 
@@ -17,15 +20,33 @@ pub data Shipped : Type 0 where
   binary : Operator → Shipped
   negation : Shipped
 
--- two Bool, nullable if either is; comparisons and arithmetic accept no types yet
+-- two Bool, nullable if either is
 abbrev pub both_bool : List LogicalType → Option LogicalType
 both_bool (bool_type n ∷ bool_type m ∷ []) = Some (bool_type (n || m))
 both_bool ts = None
 
+-- two types that agree apart from nullability: Bool, nullable if either is
+abbrev pub compared_type : List LogicalType → Option LogicalType
+compared_type (t ∷ u ∷ []) = if alike_types t u then Some (comparison_type t u) else None
+compared_type ts = None
+
+-- arithmetic accepts no types yet
 abbrev pub operator_type : Operator → List LogicalType → Option LogicalType
 operator_type And ts = both_bool ts
 operator_type Or ts = both_bool ts
-operator_type o ts = None
+operator_type Add ts = None
+operator_type Sub ts = None
+operator_type Mul ts = None
+operator_type Div ts = None
+operator_type o ts = compared_type ts
+
+-- Kleene's table of And and Or, and the order of values for a comparison
+abbrev pub value_by : Option CompareOperator → Operator → Value → Value → Value
+value_by None op = boolean_value op
+value_by (Some compare) op = comparison_value compare
+
+abbrev pub operator_value : Operator → Value → Value → Value
+operator_value op = value_by (compare_operator_of op) op
 
 abbrev pub of_two : (Value → Value → Value) → List Value → Value
 of_two f (v ∷ w ∷ []) = f v w
@@ -74,7 +95,7 @@ shipped_type (binary o) ts = operator_type o ts
 shipped_type negation ts = negation_type ts
 
 abbrev pub shipped_means : Shipped → List Value → Outcome
-shipped_means (binary o) vs = gives (of_two (boolean_value o) vs)
+shipped_means (binary o) vs = gives (of_two (operator_value o) vs)
 shipped_means negation vs = gives (of_one not_value vs)
 
 abbrev pub shipped_place : Shipped → MismatchPlace

@@ -3,10 +3,10 @@
 use Rattle.std.specs.Prelude.{◌≡◌, ◌⊎◌, refl, ℕ, zero, suc, List, [], ◌∷◌}
 use Rattle.std.proofs.Common.{◌∙◌, ap, inl, inr}
 use Rattle.std.specs.Coded.{Coded, code_by, coded×, coded⊎, coded_ℕ, coded_list}
-use Rattle.vortex_columns.specs.LogicalTypes.{LogicalType}
-use Rattle.vortex_columns.specs.Codes.{coded_type}
+use Rattle.vortex_types.specs.LogicalTypes.{LogicalType}
+use Rattle.vortex_types.specs.Codes.{coded_type}
 use Rattle.vortex_columns.specs.ColumnView.{ColumnView, coded_column}
-use Rattle.vortex_columns.specs.ScalarView.{ScalarView, coded_scalar}
+use Rattle.vortex_types.specs.ScalarView.{ScalarView, coded_scalar}
 use Rattle.vortex_kernels.specs.declared.operators.Operator.{Operator}
 use Rattle.vortex_kernels.specs.declared.operators.Operator.TheVariants.{Eq, NotEq, Gt, Gte, Lt, Lte, And, Or, Add, Sub, Mul, Div}
 use Rattle.vortex_meaning.specs.Shipped.{Shipped, binary, negation}

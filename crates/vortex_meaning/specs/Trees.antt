@@ -1,8 +1,8 @@
 -- Expression and array trees, as values, over a caller's functions V with options O.
 use Rattle.std.specs.Prelude.{ℕ, ◌+◌, suc, List, [], ◌∷◌, Option, Some, None}
-use Rattle.vortex_columns.specs.LogicalTypes.{LogicalType}
+use Rattle.vortex_types.specs.LogicalTypes.{LogicalType}
 use Rattle.vortex_columns.specs.ColumnView.{ColumnView}
-use Rattle.vortex_columns.specs.ScalarView.{ScalarView}
+use Rattle.vortex_types.specs.ScalarView.{ScalarView}
 use Rattle.vortex_meaning.specs.Functions.{Function}
 
 -- a leaf of an expression is a place in a scope, with a name and a type; one of an array tree is the column that it holds

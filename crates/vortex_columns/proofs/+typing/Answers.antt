@@ -1,12 +1,12 @@
-use Rattle.std.proofs.Common.{◌≡◌, ◌<◌, ℕ, ◌↔◌, IsTrue, length, sym, ap, ◌∙◌, subst, arith, rules}
-use Rattle.vortex_columns.specs.Values.{value_depth, Value}
-use Rattle.vortex_columns.specs.Typing.{Each, HasType, HaveFields, IsList, IsPair}
-use Rattle.vortex_columns.specs.TypeOf.{type_of, struct_fields}
+use Rattle.std.proofs.Common.{◌≡◌, length, sym, ap, ◌∙◌, subst, arith, rules}
+use Rattle.vortex_types.specs.Values.{value_depth, Value}
+use Rattle.vortex_types.specs.Typing.{HasType, IsList, IsPair}
+use Rattle.vortex_types.specs.TypeOf.{type_of, struct_fields}
 use Rattle.vortex_columns.specs.ColumnView.{row}
 use Rattle.vortex_columns.specs.Cells.{cell_value, sequence_values}
 use Rattle.vortex_columns.proofs.Compare.{depth_inside}
 use Rattle.vortex_columns.proofs.HaveTypes.{each_all, each_at, have_all, have_count, have_at, value_count_of, refuted, refuted_by, confirmed, pair_parts, pair_whole, along}
-use Rattle.vortex_columns.proofs.TypeViews.{type_of-FixedSizeList, type_of-Map}
+use Rattle.vortex_types.proofs.TypeViews.{type_of-FixedSizeList, type_of-Map}
 use Rattle.vortex_columns.proofs.+typing.Goals as goal
 
 pub typing::all_have_type-has_type-requires : goal.typing::all_have_type-has_type-requires

@@ -1,9 +1,9 @@
 use Rattle.std.proofs.Common.{ℕ, ◌<◌, ◌+◌, ◌*◌}
-use Rattle.vortex_columns.specs.Values.{value_depth}
+use Rattle.vortex_types.specs.Values.{value_depth}
 use Rattle.vortex_columns.specs.ColumnView.{row}
-use Rattle.vortex_columns.specs.Typing.{HasType, IsList, IsPair}
-use Rattle.vortex_columns.specs.LogicalTypes.{field_type}
-use Rattle.vortex_columns.specs.TypeOf.{type_of, struct_fields}
+use Rattle.vortex_types.specs.Typing.{HasType, IsList, IsPair}
+use Rattle.vortex_types.specs.LogicalTypes.{field_type}
+use Rattle.vortex_types.specs.TypeOf.{type_of, struct_fields}
 use Rattle.vortex_columns.specs.Cells.{cell_value, sequence_value, sequence_values}
 use Rattle.vortex_columns.proofs.+typing.Given as goal
 

@@ -1,7 +1,7 @@
 use Rattle.std.proofs.Common.{◌≡◌, map, option_map, ◌++◌, drop}
-use Rattle.vortex_columns.specs.LogicalTypes.{bool_type}
-use Rattle.vortex_columns.specs.TypeOf.{allows_null}
-use Rattle.vortex_columns.specs.Values.{truth_or_null}
+use Rattle.vortex_types.specs.LogicalTypes.{bool_type}
+use Rattle.vortex_types.specs.TypeOf.{allows_null}
+use Rattle.vortex_types.specs.Values.{truth_or_null}
 use Rattle.rowfn.specs.Commands.{cells_of}
 use Rattle.rowfn.proofs.cells.read_truths.Given as goal
 

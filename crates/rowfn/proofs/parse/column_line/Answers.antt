@@ -1,5 +1,5 @@
 use Rattle.std.proofs.Common.{List, Option, Bool, map, subst, sym}
-use Rattle.vortex_columns.specs.TypeOf.{allows_null}
+use Rattle.vortex_types.specs.TypeOf.{allows_null}
 use Rattle.vortex_kernels.specs.Rows.{AllAllowed}
 use Rattle.rowfn.proofs.CellRows.{cells_allowed}
 use Rattle.rowfn.proofs.parse.column_line.Goals as goal

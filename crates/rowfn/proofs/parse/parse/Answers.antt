@@ -2,7 +2,7 @@ use Rattle.std.proofs.Common.{◌≡◌, sym, ap, subst, ◌∙◌, map, if◌th
 use Rattle.std.specs.Str.{is_utf8}
 use Rattle.std.proofs.lemmas.Str.{IsUtf8-from_is_utf8, is_utf8-from_IsUtf8}
 use Rattle.std.proofs.lemmas.Bool.{false_from_ne_true}
-use Rattle.vortex_columns.specs.Answers.{AnswersUnlessMemory}
+use Rattle.vortex_types.specs.Answers.{AnswersUnlessMemory}
 use Rattle.rowfn.specs.Commands.{Command, malformed, command_of_words, command_in}
 use Rattle.rowfn.specs.Lines.{words_of}
 use Rattle.rowfn.proofs.parse.parse.Goals as goal

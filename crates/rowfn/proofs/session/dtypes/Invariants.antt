@@ -1,5 +1,5 @@
 use Rattle.std.proofs.Common.{◌≡◌, map, take}
-use Rattle.vortex_columns.specs.TypeOf.{type_of}
+use Rattle.vortex_types.specs.TypeOf.{type_of}
 use Rattle.rowfn.proofs.session.dtypes.Given as goal
 
 -- the types so far

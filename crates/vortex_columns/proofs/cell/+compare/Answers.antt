@@ -1,5 +1,5 @@
-use Rattle.std.proofs.Common.{◌≡◌, ◌<◌, nat_cmp, min, length, sym, ap, ◌∙◌, arith, rules}
-use Rattle.vortex_columns.specs.Values.{value_depth}
+use Rattle.std.proofs.Common.{◌≡◌, nat_cmp, min, length, sym, ap, ◌∙◌, arith, rules}
+use Rattle.vortex_types.specs.Values.{value_depth}
 use Rattle.vortex_columns.specs.Cells.{sequence_values}
 use Rattle.vortex_columns.proofs.Compare.{compare_from_ends, compare_from, depth_inside}
 use Rattle.vortex_columns.proofs.cell.+compare.Goals as goal

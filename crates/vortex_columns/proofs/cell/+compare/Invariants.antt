@@ -1,5 +1,5 @@
 use Rattle.std.proofs.Common.{◌≡◌, ◌+◌, ◌*◌}
-use Rattle.vortex_columns.specs.Values.{value_depth}
+use Rattle.vortex_types.specs.Values.{value_depth}
 use Rattle.vortex_columns.specs.Cells.{cell_value, sequence_value, sequence_values}
 use Rattle.vortex_columns.proofs.Compare.{compare_from}
 use Rattle.vortex_columns.proofs.cell.+compare.Given as goal

@@ -1,7 +1,7 @@
-use Rattle.std.proofs.Common.{◌≡◌, ◌<◌, map, length, sym, ap, ◌∙◌, arith, rules}
-use Rattle.vortex_columns.specs.Values.{value_depth, list, values_of}
+use Rattle.std.proofs.Common.{sym, ap, ◌∙◌, arith, rules}
+use Rattle.vortex_types.specs.Values.{value_depth, list, values_of}
 use Rattle.vortex_columns.specs.Cells.{cell_value, sequence_values}
-use Rattle.vortex_columns.proofs.ScalarViews.{view-List}
+use Rattle.vortex_types.proofs.ScalarViews.{view-List}
 use Rattle.vortex_columns.proofs.Compare.{depth_inside}
 use Rattle.vortex_columns.proofs.cell.+copy.Goals as goal
 

@@ -1,6 +1,6 @@
 use Rattle.std.proofs.Common.{◌≡◌, ◌+◌, ◌*◌, map, take}
-use Rattle.vortex_columns.specs.Values.{value_depth}
-use Rattle.vortex_columns.specs.ValueOf.{value_or_null}
+use Rattle.vortex_types.specs.Values.{value_depth}
+use Rattle.vortex_types.specs.ValueOf.{value_or_null}
 use Rattle.vortex_columns.specs.Cells.{cell_value, sequence_value, sequence_values}
 use Rattle.vortex_columns.proofs.cell.+copy.Given as goal
 

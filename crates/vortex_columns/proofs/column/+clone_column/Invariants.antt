@@ -1,6 +1,6 @@
 use Rattle.std.proofs.Common.{◌≡◌, ◌+◌, ◌*◌, take}
 use denote.Param.Weighed.{most}
-use Rattle.vortex_columns.specs.LogicalTypes.{type_depth}
+use Rattle.vortex_types.specs.LogicalTypes.{type_depth}
 use Rattle.vortex_columns.specs.declared.column.Column.TheDeep.{deep-Storage, deep-Elements}
 use Rattle.vortex_columns.proofs.column.+clone_column.Given as goal
 

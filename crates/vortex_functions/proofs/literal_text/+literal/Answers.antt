@@ -1,10 +1,10 @@
 use Rattle.std.proofs.Common.{rules, ◌++◌, string_bytes, ◌<◌, length, take_all, ap, ◌∙◌, arith}
 use Rattle.vortex_columns.specs.Cells.{sequence_values}
-use Rattle.vortex_columns.specs.Values.{value_depth, values_of}
+use Rattle.vortex_types.specs.Values.{value_depth, values_of}
 use Rattle.std.specs.Prelude.{codes}
 use Rattle.vortex_columns.specs.ColumnView.{row}
-use Rattle.vortex_columns.specs.LogicalTypes.{field_count, field_type}
-use Rattle.vortex_columns.specs.FieldNames.{field_name}
+use Rattle.vortex_types.specs.LogicalTypes.{field_count, field_type}
+use Rattle.vortex_types.specs.FieldNames.{field_name}
 use Rattle.vortex_columns.proofs.Compare.{depth_inside}
 use Rattle.vortex_meaning.specs.Printing.{literal_text, value_texts, field_texts, joined, comma}
 use Rattle.vortex_functions.specs.Shapes.{shape_type, fields_in}

@@ -1,5 +1,5 @@
 use Rattle.std.proofs.Common.{◌≡◌, ◌++◌, ◌+◌, ◌*◌, string_bytes, take}
-use Rattle.vortex_columns.specs.Values.{value_depth, values_of}
+use Rattle.vortex_types.specs.Values.{value_depth, values_of}
 use Rattle.vortex_columns.specs.Cells.{cell_value, sequence_value, sequence_values}
 use Rattle.vortex_meaning.specs.Printing.{joined, comma, value_texts, field_texts}
 use Rattle.vortex_functions.specs.Shapes.{shape_type, fields_in}

@@ -1,7 +1,7 @@
 use Rattle.std.proofs.Common.{◌≡◌, map, take, add-one, ap, sym, ◌∙◌}
 use Rattle.std.specs.Prelude.{Some}
 use Rattle.std.proofs.lemmas.List.{map-append}
-use Rattle.vortex_columns.specs.TypeOf.{type_of}
+use Rattle.vortex_types.specs.TypeOf.{type_of}
 use Rattle.vortex_functions.proofs.Execution.{types_more}
 use Rattle.vortex_functions.proofs.tree.dtypes_of.Goals as goal
 

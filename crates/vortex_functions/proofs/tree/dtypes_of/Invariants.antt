@@ -1,5 +1,5 @@
 use Rattle.std.proofs.Common.{◌≡◌, map, take, Some}
-use Rattle.vortex_columns.specs.TypeOf.{type_of}
+use Rattle.vortex_types.specs.TypeOf.{type_of}
 use Rattle.vortex_meaning.specs.Trees.{trees_of}
 use Rattle.vortex_meaning.specs.Eval.{tree_types}
 use Rattle.vortex_functions.proofs.tree.dtypes_of.Given as goal

@@ -1,14 +1,13 @@
-use Rattle.std.proofs.Common.{◌≡◌, [], ◌∙◌, length, refl}
+use Rattle.std.proofs.Common.{◌≡◌, [], ◌∙◌, length}
 use Rattle.std.specs.Prelude.{None, slice_index_or, true, false}
-use Rattle.vortex_columns.specs.declared.error.VortexError.TheVariants.{InvalidColumn}
-use Rattle.vortex_columns.specs.LogicalTypes.{bool_type}
-use Rattle.vortex_columns.specs.TypeOf.{allows_null}
-use Rattle.vortex_columns.specs.Values.{truth_or_null}
-use Rattle.vortex_columns.specs.ColumnView.{ColumnView, non_nullable, array}
-use Rattle.vortex_columns.specs.ValidityView.{ValidityView, FitsRows}
+use Rattle.vortex_types.specs.declared.error.VortexError.TheVariants.{InvalidColumn}
+use Rattle.vortex_types.specs.LogicalTypes.{bool_type}
+use Rattle.vortex_types.specs.Values.{truth_or_null}
+use Rattle.vortex_columns.specs.ColumnView.{ColumnView}
+use Rattle.vortex_types.specs.ValidityView.{non_nullable, array, ValidityView, FitsRows}
 use Rattle.vortex_columns.specs.Stored.{bool_column}
-use Rattle.vortex_columns.proofs.Answering.{answers_where}
-use Rattle.vortex_kernels.specs.Rows.{HasRows, AllAllowed}
+use Rattle.vortex_types.proofs.Answering.{answers_where}
+use Rattle.vortex_kernels.specs.Rows.{HasRows}
 use Rattle.vortex_kernels.proofs.RowLemmas.{plain_rows, nullable_rows, same_counts}
 use Rattle.vortex_kernels.proofs.rows.bool_column.Goals as goal
 

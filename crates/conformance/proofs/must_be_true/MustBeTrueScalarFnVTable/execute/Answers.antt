@@ -1,6 +1,6 @@
 use Rattle.std.proofs.Common.{◌≡◌, ℕ, ◌<◌, sym, ap, ◌∙◌, arith, refl, Some}
-use Rattle.vortex_columns.specs.ScalarView.{ScalarView}
-use Rattle.vortex_columns.specs.Values.{truth_of}
+use Rattle.vortex_types.specs.ScalarView.{ScalarView}
+use Rattle.vortex_types.specs.Values.{truth_of}
 use Rattle.vortex_meaning.specs.Outcomes.{custom}
 use Rattle.conformance.proofs.Faults.{OneBool, one_bool, fault_here, copy_answers}
 use Rattle.conformance.proofs.must_be_true.MustBeTrueScalarFnVTable.execute.Goals as goal

@@ -1,5 +1,5 @@
 use Rattle.std.proofs.Common.{◌≢◌, ℕ, ◌<◌, Some, false}
-use Rattle.vortex_columns.specs.Values.{truth_of}
+use Rattle.vortex_types.specs.Values.{truth_of}
 use Rattle.vortex_columns.specs.ColumnView.{row}
 use Rattle.conformance.proofs.must_be_true.MustBeTrueScalarFnVTable.execute.Given as goal
 

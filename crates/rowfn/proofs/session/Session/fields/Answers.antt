@@ -1,9 +1,9 @@
 use Rattle.std.proofs.Common.{rules, ◌≡◌, ◌∙◌, ap, map, take, length}
 use Rattle.std.specs.Prelude.{string_bytes}
-use Rattle.vortex_columns.specs.declared.error.VortexError.TheVariants.{InvalidColumn}
-use Rattle.vortex_columns.specs.declared.dtype.StructFields.{StructFields}
-use Rattle.vortex_columns.specs.TypeOf.{type_of, struct_fields, named_types, AreNamed}
-use Rattle.vortex_columns.proofs.Answering.{answers_where}
+use Rattle.vortex_types.specs.declared.error.VortexError.TheVariants.{InvalidColumn}
+use Rattle.vortex_types.specs.declared.dtype.StructFields.{StructFields}
+use Rattle.vortex_types.specs.TypeOf.{type_of, struct_fields, named_types, AreNamed}
+use Rattle.vortex_types.proofs.Answering.{answers_where}
 use Rattle.rowfn.specs.Sessions.{fields_in}
 use Rattle.rowfn.proofs.SessionNames.{copies_are_named, copied_fields}
 use Rattle.rowfn.proofs.SessionSteps.{names_of, columns_of}

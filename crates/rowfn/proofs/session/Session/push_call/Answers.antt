@@ -1,7 +1,7 @@
 use Rattle.std.proofs.Common.{rules, ◌≡◌, ◌∙◌, ◌+◌, ◌-◌, ap, sym, not, subst, length, arith, false}
 use Rattle.std.specs.Option.{is_none}
 use Rattle.std.proofs.lemmas.List.{length-drop}
-use Rattle.vortex_columns.proofs.Answering.{UnlessMemory-weaker}
+use Rattle.vortex_types.proofs.Answering.{UnlessMemory-weaker}
 use Rattle.vortex_meaning.specs.Functions.{Function}
 use Rattle.vortex_functions.specs.FunctionOf.{function_of}
 use Rattle.vortex_functions.specs.Binding.{IsCall, RefusesCall}

@@ -1,6 +1,6 @@
 use Rattle.std.proofs.Common.{◌≡◌, ◌∙◌, ap, sym, not, false}
 use Rattle.std.specs.Option.{is_none}
-use Rattle.vortex_columns.specs.LogicalTypes.{find_field}
+use Rattle.vortex_types.specs.LogicalTypes.{find_field}
 use Rattle.rowfn.specs.Sessions.{fields_in}
 use Rattle.rowfn.proofs.SessionSteps.{row_count_of, stack_of, same_stacked, same_leaf, leaf_pushed}
 use Rattle.rowfn.proofs.session.Session.push_leaf.Goals as goal

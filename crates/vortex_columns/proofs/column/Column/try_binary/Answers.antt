@@ -2,8 +2,8 @@ use Rattle.std.proofs.Common.{ap, ◌∙◌, ◌<◌, ℕ, Vec, Global, rules, a
 use Rattle.std.specs.Prelude.{All}
 use Rattle.std.proofs.lemmas.List.{length-map}
 use Rattle.std.proofs.lemmas.List.Elements.{All-map}
-use Rattle.vortex_columns.specs.LogicalTypes.{bytes_type}
-use Rattle.vortex_columns.proofs.TypeViews.{type_of-Binary}
+use Rattle.vortex_types.specs.LogicalTypes.{bytes_type}
+use Rattle.vortex_types.proofs.TypeViews.{type_of-Binary}
 use Rattle.vortex_columns.proofs.column.Column.try_binary.Goals as goal
 
 pub invariant_of-result : goal.invariant_of-result

@@ -3,8 +3,8 @@ use Rattle.std.specs.Prelude.{IsUtf8, slice_index_or}
 use Rattle.std.proofs.lemmas.List.Elements.{All-map}
 use Rattle.std.proofs.lemmas.List.{length-map}
 use Rattle.std.proofs.lemmas.Str.{IsUtf8-string_bytes}
-use Rattle.vortex_columns.specs.LogicalTypes.{text_type}
-use Rattle.vortex_columns.proofs.TypeViews.{type_of-Utf8}
+use Rattle.vortex_types.specs.LogicalTypes.{text_type}
+use Rattle.vortex_types.proofs.TypeViews.{type_of-Utf8}
 use Rattle.vortex_columns.proofs.column.Column.try_utf8.Goals as goal
 
 pub invariant_of-result : goal.invariant_of-result

@@ -1,8 +1,8 @@
 use Rattle.std.proofs.Common.{◌≡◌, refl, sym, ap, ◌∙◌, subst, add-one, IsTrue, ◌↔◌, false}
 use Rattle.std.specs.Prelude.{string_bytes}
 use Rattle.std.proofs.lemmas.Option.{slice_get_read}
-use Rattle.vortex_columns.specs.TypeOf.{type_of}
-use Rattle.vortex_columns.specs.TypeEquality.{type_eq}
+use Rattle.vortex_types.specs.TypeOf.{type_of}
+use Rattle.vortex_types.specs.TypeEquality.{type_eq}
 use Rattle.vortex_meaning.specs.Trees.{Tree, leaf, place, call, trees_of}
 use Rattle.vortex_meaning.specs.Execution.{LeavesFit}
 use Rattle.vortex_functions.specs.FunctionOf.{function_of}

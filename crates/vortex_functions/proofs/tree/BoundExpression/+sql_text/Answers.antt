@@ -1,7 +1,7 @@
 use Rattle.std.proofs.Common.{◌≡◌, sym, ap, ◌∙◌, subst, length, map, take_all, string_bytes, add-one, Some, ℕ}
 use Rattle.std.proofs.lemmas.List.{map-append, length-map}
 use Rattle.vortex_columns.specs.Cells.{cell_value}
-use Rattle.vortex_columns.specs.TypeOf.{type_of}
+use Rattle.vortex_types.specs.TypeOf.{type_of}
 use Rattle.vortex_meaning.specs.Meaning.{fits}
 use Rattle.vortex_meaning.specs.Functions.{function_arity}
 use Rattle.vortex_meaning.specs.Trees.{call, trees_of}

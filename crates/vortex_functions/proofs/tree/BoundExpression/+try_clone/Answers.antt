@@ -1,6 +1,6 @@
 use Rattle.std.proofs.Common.{◌≡◌, Some, take_all, sym, ap, ◌∙◌, subst}
 use Rattle.std.specs.Option.{option_and_then}
-use Rattle.vortex_columns.specs.TypeOf.{type_of}
+use Rattle.vortex_types.specs.TypeOf.{type_of}
 use Rattle.vortex_meaning.specs.Functions.{call_type}
 use Rattle.vortex_meaning.specs.Trees.{call, trees_of}
 use Rattle.vortex_meaning.specs.Eval.{tree_type, tree_types}

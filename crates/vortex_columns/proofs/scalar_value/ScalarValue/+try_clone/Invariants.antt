@@ -1,6 +1,0 @@
-use Rattle.std.proofs.Common.{◌≡◌, map, take}
-use Rattle.vortex_columns.specs.ValueOf.{value_or_null}
-use Rattle.vortex_columns.proofs.scalar_value.ScalarValue.+try_clone.Given as goal
-
-abbrev pub invariant-loop-item : goal.invariant-loop-item
-invariant-loop-item l = map value_or_null l.copies.items ≡ map value_or_null (take l.item-index l.item-items)

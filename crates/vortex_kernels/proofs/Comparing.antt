@@ -1,0 +1,199 @@
+-- Rows that are compared one by one, and the column that is made of the answers.
+use Rattle.std.proofs.Common.{◌≡◌, ◌⊎◌, inl, inr, ℕ, ◌+◌, ◌<◌, Bool, true, false, List, [], ◌∷◌, ◌++◌, length, refl, sym, ap, subst, ◌∙◌, arith, length-append, cond}
+use Rattle.std.specs.Prelude.{◌||◌, ◌&&◌, nat_eq, not, ℤ, pos, Option, Some, None, IfSome, slice_index_or}
+use Rattle.std.specs.declared.cmp.Ordering.{Ordering}
+use Rattle.std.specs.Ordering.{int_cmp, bool_cmp}
+use Rattle.std.proofs.lemmas.List.FromFn.{get_or-map-range_with_len, length-map-range_with_len}
+use Rattle.vortex_types.specs.Values.{Value, null, truth, number, text, bytes, list, truth_of, is_null}
+use Rattle.vortex_types.specs.LogicalTypes.{LogicalType, null_type, bool_type, integer_type, text_type, bytes_type, struct_type, list_type, fixed_size_list_type, map_type, is_nullable}
+use Rattle.vortex_types.specs.TypeEquality.{alike_types}
+use Rattle.vortex_types.specs.Typing.{HasType}
+use Rattle.vortex_types.specs.Order.{compare_values}
+use Rattle.vortex_types.specs.ScalarView.{ScalarView, compare_scalars}
+use Rattle.vortex_columns.specs.ColumnView.{ColumnView, row, AreTyped, constant_column, AreInts, AreBits}
+use Rattle.vortex_types.specs.ValidityView.{non_nullable, array}
+use Rattle.vortex_columns.specs.Stored.{bool_column}
+use Rattle.vortex_kernels.specs.declared.operators.CompareOperator.{CompareOperator}
+use Rattle.vortex_kernels.specs.Rows.{HasRows, AreAnswers}
+use Rattle.vortex_kernels.specs.Comparison.{holds, comparison_value, comparison_type, compared_scalar, are_comparable, is_settled, HasComparisonRows, AnswersCompare, AreHeld, IsConstantOf, IsOrderAt, AreComparisons}
+use Rattle.vortex_kernels.proofs.RowLemmas.{get_or-last, get_or-before}
+
+-- one more row
+pub held_more : (op : CompareOperator) (tells : ℕ → Ordering → Type 0) (n : ℕ) (bits : List Bool) (o : Ordering) (b : Bool) → AreHeld op tells n bits → tells n o → b ≡ holds op o → AreHeld op tells (n + 1) (bits ++ b ∷ [])
+held_more op tells n bits o b h told e = record {
+  count = omega (arith, length-append bits (b ∷ []), h.count);
+  each = λ k lt. by k (last_or_before k lt);
+}
+  where
+    last_or_before : (k : ℕ) → k < n + 1 → (k < n) ⊎ (k ≡ n)
+    last_or_before k lt = grind arith
+
+    by : (k : ℕ) → (k < n) ⊎ (k ≡ n) → (o : Ordering) × tells k o × (slice_index_or (bits ++ b ∷ []) k false ≡ holds op o)
+    by k (inl lt) =
+        let before = h.each k lt in
+        (before.0, before.1, get_or-before false bits b k (omega (arith, h.count)) ∙ before.2)
+    by k (inr q) = (o, subst (λ (j : ℕ). tells j o) (sym q) told, rw (q, ← h.count, get_or-last) e)
+
+-- what is known of the orders tells the comparisons
+pub held_compares : (op : CompareOperator) (tells : ℕ → Ordering → Type 0) (ls rs : List Value) (bits : List Bool) → AreHeld op tells (length ls) bits → ((i : ℕ) (o : Ordering) → i < length ls → tells i o → IsOrderAt ls rs i o) → AreComparisons op ls rs bits
+held_compares op tells ls rs bits h orders = record {
+  count = h.count;
+  each = λ i lt p q.
+      let at = h.each i lt in
+      at.2 ∙ ap (holds op) (orders i at.0 lt at.1 p q);
+}
+
+-- the rows of a constant column
+pub constant_row : (s : ScalarView) (c : ColumnView) → c ≡ constant_column s (length c.rows) → IsConstantOf s.value c
+constant_row s c e i h =
+    ap (λ (d : ColumnView). row d.rows i) e ∙ get_or-map-range_with_len (λ k. s.value) 0 (length c.rows) i i null h (omega arith)
+
+pub truth_is : (v : Value) → IfSome (truth_of v) (λ b. v ≡ truth b)
+truth_is null = tt
+truth_is (truth b) = refl
+truth_is (number z) = tt
+truth_is (text bs) = tt
+truth_is (bytes bs) = tt
+truth_is (list vs) = tt
+
+pub constant_truth : (s : ScalarView) (c : ColumnView) → c ≡ constant_column s (length c.rows) → IfSome (truth_of s.value) (λ b. IsConstantOf (truth b) c)
+constant_truth s c e = by (truth_of s.value) (truth_is s.value)
+  where
+    by : (o : Option Bool) → IfSome o (λ b. s.value ≡ truth b) → IfSome o (λ b. IsConstantOf (truth b) c)
+    by None h = tt
+    by (Some b) h = λ i lt. constant_row s c e i lt ∙ h
+
+-- numbers and truth values in the rows compare as the rows do
+pub ints_order : (l r : ColumnView) (xs ys : List ℤ) → length l.rows ≡ length r.rows → AreInts l xs → AreInts r ys → (i : ℕ) (o : Ordering) → i < length l.rows → o ≡ int_cmp (slice_index_or xs i (pos 0)) (slice_index_or ys i (pos 0)) → IsOrderAt l.rows r.rows i o
+ints_order l r xs ys same a b i o lt e p q =
+    e ∙ λ j. compare_values (sym (a.each i (omega (arith, a.count)) p) j) (sym (b.each i (omega (arith, b.count, same)) q) j)
+
+pub int_order : (l r : ColumnView) (xs : List ℤ) (z : ℤ) → length l.rows ≡ length r.rows → AreInts l xs → IsConstantOf (number z) r → (i : ℕ) (o : Ordering) → i < length l.rows → o ≡ int_cmp (slice_index_or xs i (pos 0)) z → IsOrderAt l.rows r.rows i o
+int_order l r xs z same a b i o lt e p q =
+    e ∙ λ j. compare_values (sym (a.each i (omega (arith, a.count)) p) j) (sym (b i (omega (arith, same))) j)
+
+pub bits_order : (l r : ColumnView) (xs ys : List Bool) → length l.rows ≡ length r.rows → AreBits l xs → AreBits r ys → (i : ℕ) (o : Ordering) → i < length l.rows → o ≡ bool_cmp (slice_index_or xs i false) (slice_index_or ys i false) → IsOrderAt l.rows r.rows i o
+bits_order l r xs ys same a b i o lt e p q =
+    e ∙ λ j. compare_values (sym (a.each i (omega (arith, a.count)) p) j) (sym (b.each i (omega (arith, b.count, same)) q) j)
+
+pub bit_order : (l r : ColumnView) (xs : List Bool) (z : Bool) → length l.rows ≡ length r.rows → AreBits l xs → IsConstantOf (truth z) r → (i : ℕ) (o : Ordering) → i < length l.rows → o ≡ bool_cmp (slice_index_or xs i false) z → IsOrderAt l.rows r.rows i o
+bit_order l r xs z same a b i o lt e p q =
+    e ∙ λ j. compare_values (sym (a.each i (omega (arith, a.count)) p) j) (sym (b i (omega (arith, same))) j)
+
+-- a type without null has no null among its values
+nullable_by : (t : LogicalType) → HasType t null → is_nullable t ≡ false → ⊥
+nullable_by null_type h e = cc
+nullable_by (bool_type n) h e = cc
+nullable_by (integer_type p n) h e = cc
+nullable_by (text_type n) h e = cc
+nullable_by (bytes_type n) h e = cc
+nullable_by (struct_type fs n) h e = cc
+nullable_by (list_type t n) h e = cc
+nullable_by (fixed_size_list_type t s n) h e = cc
+nullable_by (map_type k v n) h e = cc
+
+pub not_null : (t : LogicalType) (v : Value) → HasType t v → is_nullable t ≡ false → is_null v ≡ false
+not_null t null h e = absurd (nullable_by t h e)
+not_null t (truth b) h e = refl
+not_null t (number z) h e = refl
+not_null t (text bs) h e = refl
+not_null t (bytes bs) h e = refl
+not_null t (list vs) h e = refl
+
+-- the comparison of two values, by what is known of each
+pub comparison_at : (op : CompareOperator) (v w : Value) (b : Bool) → (is_null v ≡ false → is_null w ≡ false → b ≡ holds op (compare_values v w)) → cond (not (is_null v || is_null w)) (truth b) null ≡ comparison_value op v w
+comparison_at op v w b h = by (is_null v) (is_null w) refl refl
+  where
+    by : (p q : Bool) → is_null v ≡ p → is_null w ≡ q → cond (not (p || q)) (truth b) null ≡ cond (p || q) null (truth (holds op (compare_values v w)))
+    by true q e g = refl
+    by false true e g = refl
+    by false false e g = ap truth (h e g)
+
+-- the column of the comparisons, null where a side is
+pub nullable_comparisons : (op : CompareOperator) (l r c : ColumnView) (bits valid : List Bool) → (is_nullable l.dtype || is_nullable r.dtype) ≡ true → AreComparisons op l.rows r.rows bits → AreAnswers false (length l.rows) (λ i. not (is_null (row l.rows i) || is_null (row r.rows i))) valid → c ≡ bool_column bits (record { form = array; bits = valid }) → HasComparisonRows op l r c
+nullable_comparisons op l r c bits valid n b v e = record {
+  dtype = ap (λ (d : ColumnView). d.dtype) e ∙ ap bool_type (sym n);
+  count = ap (λ (d : ColumnView). length d.rows) e ∙ length-map-range_with_len (λ k. cond (slice_index_or valid k false) (truth (slice_index_or bits k false)) null) 0 (length bits) ∙ b.count;
+  each = λ i h.
+      ap (λ (d : ColumnView). row d.rows i) e
+      ∙ get_or-map-range_with_len (λ k. cond (slice_index_or valid k false) (truth (slice_index_or bits k false)) null) 0 (length bits) i i null (omega (arith, b.count)) (omega arith)
+      ∙ ap (λ p. cond p (truth (slice_index_or bits i false)) null) (v.each i h)
+      ∙ comparison_at op (row l.rows i) (row r.rows i) (slice_index_or bits i false) (b.each i h);
+}
+
+-- the same where neither type has null
+pub plain_comparisons : (op : CompareOperator) (l r c : ColumnView) (bits : List Bool) → (is_nullable l.dtype || is_nullable r.dtype) ≡ false → AreTyped l.dtype l.rows → AreTyped r.dtype r.rows → length l.rows ≡ length r.rows → AreComparisons op l.rows r.rows bits → c ≡ bool_column bits (record { form = non_nullable; bits = [] }) → HasComparisonRows op l r c
+plain_comparisons op l r c bits n s t same b e = record {
+  dtype = ap (λ (d : ColumnView). d.dtype) e ∙ ap bool_type (sym n);
+  count = ap (λ (d : ColumnView). length d.rows) e ∙ length-map-range_with_len (λ k. truth (slice_index_or bits k false)) 0 (length bits) ∙ b.count;
+  each = λ i h.
+      let p = not_null l.dtype (row l.rows i) (s i null h) (or_false_left (is_nullable l.dtype) (is_nullable r.dtype) n) in
+      let q = not_null r.dtype (row r.rows i) (t i null (omega (arith, same))) (or_false_right (is_nullable l.dtype) (is_nullable r.dtype) n) in
+      ap (λ (d : ColumnView). row d.rows i) e
+      ∙ get_or-map-range_with_len (λ k. truth (slice_index_or bits k false)) 0 (length bits) i i null (omega (arith, b.count)) (omega arith)
+      ∙ ap (λ x. cond (not x) (truth (slice_index_or bits i false)) null) (sym (λ j. p j || q j))
+      ∙ comparison_at op (row l.rows i) (row r.rows i) (slice_index_or bits i false) (b.each i h);
+}
+  where
+    or_false_left : (x y : Bool) → (x || y) ≡ false → x ≡ false
+    or_false_left true y h = h
+    or_false_left false y h = refl
+
+    or_false_right : (x y : Bool) → (x || y) ≡ false → y ≡ false
+    or_false_right true y h = cc
+    or_false_right false y h = h
+
+-- one scalar in each row
+pub constant_has_rows : (s : ScalarView) (n : ℕ) (c : ColumnView) → c ≡ constant_column s n → HasRows s.dtype n (λ i. s.value) c
+constant_has_rows s n c e = record {
+  dtype = ap (λ (d : ColumnView). d.dtype) e;
+  count = ap (λ (d : ColumnView). length d.rows) e ∙ length-map-range_with_len (λ k. s.value) 0 n;
+  each = λ i h. ap (λ (d : ColumnView). row d.rows i) e ∙ get_or-map-range_with_len (λ k. s.value) 0 n i i null h (omega arith);
+}
+
+-- two scalars of which neither is null
+pub scalars_compared : (op : CompareOperator) (a b : ScalarView) (o : Ordering) → is_null a.value ≡ false → is_null b.value ≡ false → compare_scalars a b ≡ Some o → (are_comparable a b ≡ true) × (comparison_value op a.value b.value ≡ truth (holds op o))
+scalars_compared op a b o p q e = by (alike_types a.dtype b.dtype) refl e
+  where
+    by : (x : Bool) → alike_types a.dtype b.dtype ≡ x → cond x (Some (compare_values a.value b.value)) None ≡ Some o → (are_comparable a b ≡ true) × (comparison_value op a.value b.value ≡ truth (holds op o))
+    by true h g =
+        let same : compare_values a.value b.value ≡ o = cc in
+        ((λ i. (p i || q i) || h i), (λ i. cond (p i || q i) null (truth (holds op (same i)))))
+    by false h g = cc
+
+null_is : (v : Value) → is_null v ≡ true → v ≡ null
+null_is null h = refl
+null_is (truth b) h = cc
+null_is (number z) h = cc
+null_is (text bs) h = cc
+null_is (bytes bs) h = cc
+null_is (list vs) h = cc
+
+-- the rows of a constant null
+pub null_rows : (s : ScalarView) (c : ColumnView) → c ≡ constant_column s (length c.rows) → is_null s.value ≡ true → IsConstantOf null c
+null_rows s c e h i lt = constant_row s c e i lt ∙ null_is s.value h
+
+-- settled, or of types that agree, where two scalars are comparable
+settled_or : (z p q x : Bool) → ((p || q) || x) ≡ true → ((z || (p || q)) || x) ≡ true
+settled_or true p q x h = refl
+settled_or false p q x h = h
+
+-- two constants
+pub constants_compared : (op : CompareOperator) (l r : ColumnView) (a b s : ScalarView) (d : ColumnView) → 0 < length l.rows → length l.rows ≡ length r.rows → l ≡ constant_column a (length l.rows) → r ≡ constant_column b (length r.rows) → are_comparable a b ≡ true → s ≡ compared_scalar op a b → HasRows s.dtype (length l.rows) (λ i. s.value) d → AnswersCompare op l r d
+constants_compared op l r a b s d some same e g comparable is h = record {
+  lengths = same;
+  accepted = accepted;
+  rows = record {
+    dtype = h.dtype ∙ (λ i. (is i).dtype) ∙ sym (λ i. comparison_type (e i).dtype (g i).dtype);
+    count = h.count;
+    each = λ k lt.
+        h.each k lt
+        ∙ (λ i. (is i).value)
+        ∙ sym (λ i. comparison_value op (constant_row a l e k lt i) (constant_row b r g k (omega (arith, same)) i));
+  };
+}
+  where
+    accepted : (is_settled l r || alike_types l.dtype r.dtype) ≡ true
+    accepted =
+        (λ i. (nat_eq (length l.rows) 0 || (((e i).constant && is_null (constant_row a l e 0 some i)) || ((g i).constant && is_null (constant_row b r g 0 (omega (arith, same)) i)))) || alike_types (e i).dtype (g i).dtype)
+        ∙ settled_or (nat_eq (length l.rows) 0) (is_null a.value) (is_null b.value) (alike_types a.dtype b.dtype) comparable

@@ -1,0 +1,85 @@
+-- Comparison of two values by their order, and of two whole columns.
+use Rattle.std.specs.Prelude.{◌≡◌, ◌≢◌, ℕ, ◌<◌, List, ◌||◌, ◌&&◌, Bool, true, false, length, nat_eq, slice_index_or, if◌then◌else◌}
+use Rattle.std.specs.declared.cmp.Ordering.{Ordering}
+use Rattle.std.specs.Ordering.{is_eq, is_ne, is_lt, is_le, is_gt, is_ge}
+use Rattle.vortex_types.specs.declared.error.VortexError.{VortexError}
+use Rattle.vortex_types.specs.declared.error.VortexError.TheVariants.{LengthMismatch, TypeMismatch}
+use Rattle.vortex_types.specs.declared.error.MismatchPlace.{MismatchPlace}
+use Rattle.vortex_types.specs.declared.error.MismatchPlace.TheVariants as place
+use Rattle.vortex_types.specs.LogicalTypes.{LogicalType, bool_type, is_nullable}
+use Rattle.vortex_types.specs.TypeEquality.{alike_types}
+use Rattle.vortex_types.specs.Values.{Value, null, truth, is_null}
+use Rattle.vortex_types.specs.Order.{compare_values}
+use Rattle.vortex_types.specs.ScalarView.{ScalarView}
+use Rattle.vortex_columns.specs.ColumnView.{ColumnView, row}
+use Rattle.vortex_kernels.specs.declared.operators.CompareOperator.{CompareOperator}
+use Rattle.vortex_kernels.specs.declared.operators.CompareOperator.TheVariants.{Eq, NotEq, Gt, Gte, Lt, Lte}
+use Rattle.vortex_kernels.specs.Rows.{HasRows}
+
+-- which orders of left and right the comparison says yes to
+abbrev pub holds : CompareOperator → Ordering → Bool
+holds Eq = is_eq
+holds NotEq = is_ne
+holds Gt = is_gt
+holds Gte = is_ge
+holds Lt = is_lt
+holds Lte = is_le
+
+-- null exactly where a top value is null; a null within a value is a value as others are
+abbrev pub comparison_value : CompareOperator → Value → Value → Value
+comparison_value op v w = if is_null v || is_null w then null else truth (holds op (compare_values v w))
+
+-- Bool, nullable if either side is
+abbrev pub comparison_type : LogicalType → LogicalType → LogicalType
+comparison_type t u = bool_type (is_nullable t || is_nullable u)
+
+-- two scalars, whatever their types where one is null
+abbrev pub compared_scalar : CompareOperator → ScalarView → ScalarView → ScalarView
+compared_scalar op a b = record { dtype = comparison_type a.dtype b.dtype; value = comparison_value op a.value b.value }
+
+abbrev pub are_comparable : ScalarView → ScalarView → Bool
+are_comparable a b = (is_null a.value || is_null b.value) || alike_types a.dtype b.dtype
+
+-- a constant column whose value is null
+abbrev pub is_null_constant : ColumnView → Bool
+is_null_constant c = c.constant && is_null (row c.rows 0)
+
+-- no rows, or a side that is a null constant: settled before a look at the types
+abbrev pub is_settled : ColumnView → ColumnView → Bool
+is_settled l r = nat_eq (length l.rows) 0 || (is_null_constant l || is_null_constant r)
+
+abbrev pub HasComparisonRows : CompareOperator → ColumnView → ColumnView → ColumnView → Type 0
+HasComparisonRows op l r =
+    HasRows (comparison_type l.dtype r.dtype) (length l.rows) (λ i. comparison_value op (row l.rows i) (row r.rows i))
+
+-- where types that differ apart from nullability are refused: two constants go by the comparison of scalars
+abbrev pub compare_place : ColumnView → ColumnView → MismatchPlace
+compare_place l r = if l.constant && r.constant then place.Scalars else place.Compare
+
+-- columns of two lengths are refused first, and then types that differ apart from nullability, unless all is settled without them
+pub data RefusesCompare (l r : ColumnView) (e : VortexError) : Type 0 where
+  uneven : length l.rows ≢ length r.rows → e ≡ LengthMismatch (length l.rows) (length r.rows) → RefusesCompare l r e
+  unlike : length l.rows ≡ length r.rows → is_settled l r ≡ false → alike_types l.dtype r.dtype ≡ false → e ≡ TypeMismatch (compare_place l r) → RefusesCompare l r e
+
+pub record AnswersCompare (op : CompareOperator) (l r c : ColumnView) : Type 0 where
+  pub lengths : length l.rows ≡ length r.rows
+  pub accepted : (is_settled l r || alike_types l.dtype r.dtype) ≡ true
+  pub rows : HasComparisonRows op l r c
+
+-- for each of n rows whether the comparison says yes to an order of which something is known
+pub record AreHeld (op : CompareOperator) (tells : ℕ → Ordering → Type 0) (n : ℕ) (bits : List Bool) : Type 0 where
+  pub count : length bits ≡ n
+  pub each : (i : ℕ) → i < n → (o : Ordering) × tells i o × (slice_index_or bits i false ≡ holds op o)
+
+-- the same value in each row
+abbrev pub IsConstantOf : Value → ColumnView → Type 0
+IsConstantOf v c = (i : ℕ) → i < length c.rows → row c.rows i ≡ v
+
+-- the order of two rows, where neither is null
+abbrev pub IsOrderAt : List Value → List Value → ℕ → Ordering → Type 0
+IsOrderAt ls rs i o = is_null (row ls i) ≡ false → is_null (row rs i) ≡ false → o ≡ compare_values (row ls i) (row rs i)
+
+-- for each row whether the comparison says yes, where neither side is null
+pub record AreComparisons (op : CompareOperator) (ls rs : List Value) (bits : List Bool) : Type 0 where
+  pub count : length bits ≡ length ls
+  pub each : (i : ℕ) → i < length ls → is_null (row ls i) ≡ false → is_null (row rs i) ≡ false → slice_index_or bits i false ≡ holds op (compare_values (row ls i) (row rs i))

@@ -1,0 +1,294 @@
+//! The values of two columns side by side, and the comparison that is asked of each pair.
+ghost use Rattle.std.specs.Prelude.{◌≡◌, ◌<◌, ℕ, pos, false, map, length, slice_index_or, IfSome};
+ghost use Rattle.std.specs.declared.cmp.Ordering.{Ordering};
+ghost use Rattle.std.specs.Ordering.{int_cmp, bool_cmp};
+ghost use Rattle.vortex_types.specs.Answers.{AnswersUnlessMemory};
+ghost use Rattle.vortex_types.specs.Values.{number, truth};
+ghost use Rattle.vortex_types.specs.Order.{compare_values};
+ghost use Rattle.vortex_columns.specs.ColumnView.{row};
+ghost use Rattle.vortex_kernels.specs.declared.operators.CompareOperator.{CompareOperator};
+ghost use Rattle.vortex_kernels.specs.declared.operators.CompareOperator.TheVariants.{Eq, NotEq, Gt, Gte, Lt, Lte};
+ghost use Rattle.vortex_kernels.specs.Comparison.{holds, AreHeld, IsConstantOf, AreComparisons};
+
+use std::alloc::Global;
+use std::cmp::Ordering;
+use vortex_columns::{BitBuffer, Cell, Column, DType, NativePType, PType, VortexResult};
+
+/// A comparison, as a type, so that it is chosen before the rows.
+pub(crate) trait Comparison {
+    ghost operator: { CompareOperator };
+
+    /// Whether it says yes to that order of left and right.
+    fn holds(order: Ordering) -> bool
+        ensures { result ≡ holds operator order };
+}
+
+pub(crate) struct IsEqual {}
+
+pub(crate) struct IsNotEqual {}
+
+pub(crate) struct IsGreater {}
+
+pub(crate) struct IsGreaterOrEqual {}
+
+pub(crate) struct IsLess {}
+
+pub(crate) struct IsLessOrEqual {}
+
+impl Comparison for IsEqual {
+    ghost operator = { Eq };
+
+    fn holds(order: Ordering) -> bool {
+        order.is_eq()
+    }
+}
+
+impl Comparison for IsNotEqual {
+    ghost operator = { NotEq };
+
+    fn holds(order: Ordering) -> bool {
+        order.is_ne()
+    }
+}
+
+impl Comparison for IsGreater {
+    ghost operator = { Gt };
+
+    fn holds(order: Ordering) -> bool {
+        order.is_gt()
+    }
+}
+
+impl Comparison for IsGreaterOrEqual {
+    ghost operator = { Gte };
+
+    fn holds(order: Ordering) -> bool {
+        order.is_ge()
+    }
+}
+
+impl Comparison for IsLess {
+    ghost operator = { Lt };
+
+    fn holds(order: Ordering) -> bool {
+        order.is_lt()
+    }
+}
+
+impl Comparison for IsLessOrEqual {
+    ghost operator = { Lte };
+
+    fn holds(order: Ordering) -> bool {
+        order.is_le()
+    }
+}
+
+/// Pairs of values, a left and a right one for each row.
+trait Pairs {
+    ghost has_pair: { Self → ℕ → Type 0 };
+
+    /// What is known of the order in a row: nothing, where what lies under a null is compared.
+    ghost tells: { Self → ℕ → Ordering → Type 0 };
+
+    fn order_at(&self, i: usize) -> Ordering
+        requires { has_pair self.now i }
+        ensures { tells self.now i result };
+}
+
+/// Whether the comparison says yes in each row.
+fn hold_in_pairs<P: Comparison, R: Pairs>(
+    alloc: Global,
+    pairs: &R,
+    len: usize,
+) -> VortexResult<Vec<bool>>
+    requires { (i : ℕ) → i < len → R.has_pair pairs.now i }
+    ensures { AnswersUnlessMemory result (λ bits. AreHeld P.operator (R.tells pairs.now) len bits.items) }
+{
+    let mut bits = Vec::with_capacity(alloc, len)?;
+    for i in 0..len {
+        bits.push_reserved(P::holds(pairs.order_at(i)));
+    }
+    Ok(bits)
+}
+
+/// Rows of any type, read where they lie.
+#[derive(Clone, Copy)]
+struct CellPairs<'a> {
+    left: &'a Column,
+    right: &'a Column,
+}
+
+impl Pairs for CellPairs<'_> {
+    ghost has_pair = { λ p i. (i < length p.left.now.rows) × (i < length p.right.now.rows) };
+
+    ghost tells = { λ p i o. o ≡ compare_values (row p.left.now.rows i) (row p.right.now.rows i) };
+
+    fn order_at(&self, i: usize) -> Ordering {
+        self.left.compare_rows(i, self.right, i)
+    }
+}
+
+/// The integers of two columns.
+#[derive(Clone, Copy)]
+struct IntPairs<'a, T: NativePType> {
+    left: &'a [T],
+    right: &'a [T],
+}
+
+impl<T: NativePType> Pairs for IntPairs<'_, T> {
+    ghost has_pair = { λ p i. (i < length p.left.now) × (i < length p.right.now) };
+
+    ghost tells = { λ p i o. o ≡ int_cmp (slice_index_or (map T.number p.left.now) i (pos 0)) (slice_index_or (map T.number p.right.now) i (pos 0)) };
+
+    fn order_at(&self, i: usize) -> Ordering {
+        self.left[i].to_i128().cmp(&self.right[i].to_i128())
+    }
+}
+
+/// The integers of a column beside one number.
+#[derive(Clone, Copy)]
+struct IntsAndOne<'a, T: NativePType> {
+    left: &'a [T],
+    right: i128,
+}
+
+impl<T: NativePType> Pairs for IntsAndOne<'_, T> {
+    ghost has_pair = { λ p i. i < length p.left.now };
+
+    ghost tells = { λ p i o. o ≡ int_cmp (slice_index_or (map T.number p.left.now) i (pos 0)) p.right };
+
+    fn order_at(&self, i: usize) -> Ordering {
+        self.left[i].to_i128().cmp(&self.right)
+    }
+}
+
+/// The truth values of two columns.
+#[derive(Clone, Copy)]
+struct BitPairs<'a> {
+    left: &'a BitBuffer,
+    right: &'a BitBuffer,
+}
+
+impl Pairs for BitPairs<'_> {
+    ghost has_pair = { λ p i. (i < length p.left.now) × (i < length p.right.now) };
+
+    ghost tells = { λ p i o. o ≡ bool_cmp (slice_index_or p.left.now i false) (slice_index_or p.right.now i false) };
+
+    fn order_at(&self, i: usize) -> Ordering {
+        self.left.value(i).cmp(&self.right.value(i))
+    }
+}
+
+/// The truth values of a column beside one.
+#[derive(Clone, Copy)]
+struct BitsAndOne<'a> {
+    left: &'a BitBuffer,
+    right: bool,
+}
+
+impl Pairs for BitsAndOne<'_> {
+    ghost has_pair = { λ p i. i < length p.left.now };
+
+    ghost tells = { λ p i o. o ≡ bool_cmp (slice_index_or p.left.now i false) p.right };
+
+    fn order_at(&self, i: usize) -> Ordering {
+        self.left.value(i).cmp(&self.right)
+    }
+}
+
+fn hold_in_cells<P: Comparison>(
+    alloc: Global,
+    lhs: &Column,
+    rhs: &Column,
+) -> VortexResult<Vec<bool>>
+    requires { length lhs.now.rows ≡ length rhs.now.rows }
+    ensures { AnswersUnlessMemory result (λ bits. AreComparisons P.operator lhs.now.rows rhs.now.rows bits.items) }
+{
+    let len = lhs.len();
+    let pairs = CellPairs {
+        left: lhs,
+        right: rhs,
+    };
+    hold_in_pairs::<P, CellPairs>(alloc, &pairs, len)
+}
+
+/// The number in each row of a constant column of integers.
+fn constant_int(column: &Column) -> Option<i128>
+    ensures { IfSome result (λ z. IsConstantOf (number z) column.now) }
+{
+    match column.as_constant()?.cell() {
+        Cell::Int(number) => Some(number),
+        _ => None,
+    }
+}
+
+/// The truth value in each row of a constant column of Bool.
+fn constant_bool(column: &Column) -> Option<bool>
+    ensures { IfSome result (λ b. IsConstantOf (truth b) column.now) }
+{
+    column.as_constant()?.as_bool_opt()
+}
+
+fn hold_in_ints<P: Comparison, T: NativePType>(
+    alloc: Global,
+    lhs: &Column,
+    rhs: &Column,
+) -> VortexResult<Vec<bool>>
+    requires { length lhs.now.rows ≡ length rhs.now.rows }
+    ensures { AnswersUnlessMemory result (λ bits. AreComparisons P.operator lhs.now.rows rhs.now.rows bits.items) }
+{
+    let len = lhs.len();
+    match (lhs.ints::<T>(), rhs.ints::<T>(), constant_int(rhs)) {
+        (Some(left), Some(right), _) => {
+            hold_in_pairs::<P, IntPairs<T>>(alloc, &IntPairs { left, right }, len)
+        }
+        (Some(left), None, Some(right)) => {
+            hold_in_pairs::<P, IntsAndOne<T>>(alloc, &IntsAndOne { left, right }, len)
+        }
+        _ => hold_in_cells::<P>(alloc, lhs, rhs),
+    }
+}
+
+fn hold_in_bools<P: Comparison>(
+    alloc: Global,
+    lhs: &Column,
+    rhs: &Column,
+) -> VortexResult<Vec<bool>>
+    requires { length lhs.now.rows ≡ length rhs.now.rows }
+    ensures { AnswersUnlessMemory result (λ bits. AreComparisons P.operator lhs.now.rows rhs.now.rows bits.items) }
+{
+    let len = lhs.len();
+    match (lhs.bits(), rhs.bits(), constant_bool(rhs)) {
+        (Some(left), Some(right), _) => {
+            hold_in_pairs::<P, BitPairs>(alloc, &BitPairs { left, right }, len)
+        }
+        (Some(left), None, Some(right)) => {
+            hold_in_pairs::<P, BitsAndOne>(alloc, &BitsAndOne { left, right }, len)
+        }
+        _ => hold_in_cells::<P>(alloc, lhs, rhs),
+    }
+}
+
+/// Whether the comparison says yes in each row in which both sides have a value. The kind is chosen before the rows, and
+/// so is the form of the right side; a constant on the left goes by the cells.
+pub(crate) fn hold_in_rows<P: Comparison>(
+    alloc: Global,
+    lhs: &Column,
+    rhs: &Column,
+) -> VortexResult<Vec<bool>>
+    requires { length lhs.now.rows ≡ length rhs.now.rows }
+    ensures { AnswersUnlessMemory result (λ bits. AreComparisons P.operator lhs.now.rows rhs.now.rows bits.items) }
+{
+    match lhs.dtype() {
+        DType::Bool(_) => hold_in_bools::<P>(alloc, lhs, rhs),
+        DType::Primitive(PType::I8, _) => hold_in_ints::<P, i8>(alloc, lhs, rhs),
+        DType::Primitive(PType::I16, _) => hold_in_ints::<P, i16>(alloc, lhs, rhs),
+        DType::Primitive(PType::I32, _) => hold_in_ints::<P, i32>(alloc, lhs, rhs),
+        DType::Primitive(PType::I64, _) => hold_in_ints::<P, i64>(alloc, lhs, rhs),
+        DType::Primitive(PType::U8, _) => hold_in_ints::<P, u8>(alloc, lhs, rhs),
+        DType::Primitive(PType::U16, _) => hold_in_ints::<P, u16>(alloc, lhs, rhs),
+        DType::Primitive(PType::U32, _) => hold_in_ints::<P, u32>(alloc, lhs, rhs),
+        DType::Primitive(PType::U64, _) => hold_in_ints::<P, u64>(alloc, lhs, rhs),
+        _ => hold_in_cells::<P>(alloc, lhs, rhs),
+    }
+}

@@ -1,0 +1,6 @@
+pub mod Answering
+pub mod NamesDiffer
+pub mod TypeViews
+pub mod Agreeing
+pub mod ScalarViews
+pub mod FieldSearch

@@ -1,0 +1,53 @@
+//! Lists of bits.
+ghost use Rattle.std.specs.Prelude.{◌≡◌, ◌<◌, length, false, slice_index_or};
+ghost use Rattle.vortex_types.specs.Answers.{AnswersUnlessMemory};
+
+use crate::error::VortexResult;
+use std::alloc::Global;
+use std::marker::Model;
+
+/// A list of bits.
+#[derive(Drop)]
+pub struct BitBuffer {
+    bits: Vec<bool>,
+}
+
+impl Model for BitBuffer {
+    ghost use Rattle.std.specs.Prelude.{List, Bool};
+
+    ghost Value = { List Bool };
+
+    ghost view = { λ a. a.bits.items };
+}
+
+impl BitBuffer {
+    /// A copy of the slice, bit for bit and in its order. Refuses for want of memory alone (E9).
+    pub fn from_bools(alloc: Global, bits: &[bool]) -> VortexResult<BitBuffer>
+        ensures { AnswersUnlessMemory result (λ b. b ≡ bits.now) }
+    {
+        let bits = bits.to_vec(alloc)?;
+        Ok(BitBuffer { bits })
+    }
+
+    /// How many bits there are, one for each row.
+    pub fn len(&self) -> usize
+        ensures { result ≡ length self.now }
+    {
+        self.bits.len()
+    }
+
+    /// The bit of row `i`.
+    pub fn value(&self, i: usize) -> bool
+        requires { i < length self.now }
+        ensures { result ≡ slice_index_or self.now i false }
+    {
+        self.bits[i]
+    }
+
+    /// A copy that is seen as its source is.
+    pub fn try_clone(&self, alloc: Global) -> VortexResult<BitBuffer>
+        ensures { AnswersUnlessMemory result (λ b. b ≡ self.now) }
+    {
+        BitBuffer::from_bools(alloc, self.bits.as_slice())
+    }
+}

@@ -1,0 +1,335 @@
+//! Lists of integers of one type.
+ghost use Rattle.std.specs.Prelude.{◌≡◌, All, map};
+ghost use Rattle.vortex_types.specs.Typing.{FitsPType};
+
+use crate::dtype::PType;
+use crate::error::VortexResult;
+use std::alloc::Global;
+
+/// Integers of one type.
+#[derive(Drop)]
+pub enum Ints {
+    I8(Vec<i8>),
+    I16(Vec<i16>),
+    I32(Vec<i32>),
+    I64(Vec<i64>),
+    U8(Vec<u8>),
+    U16(Vec<u16>),
+    U32(Vec<u32>),
+    U64(Vec<u64>),
+}
+
+impl Ints {
+    ghost use Rattle.std.specs.Prelude.{◌<◌, length, pos, slice_index_or};
+    ghost use Rattle.vortex_types.specs.Answers.{AnswersUnlessMemory};
+    ghost use Rattle.vortex_types.specs.Numbers.{numbers, ptype_of};
+
+    /// The type of the integers.
+    pub fn ptype(&self) -> PType
+        ensures { result ≡ ptype_of self.now }
+    {
+        match self {
+            Ints::I8(_) => PType::I8,
+            Ints::I16(_) => PType::I16,
+            Ints::I32(_) => PType::I32,
+            Ints::I64(_) => PType::I64,
+            Ints::U8(_) => PType::U8,
+            Ints::U16(_) => PType::U16,
+            Ints::U32(_) => PType::U32,
+            Ints::U64(_) => PType::U64,
+        }
+    }
+
+    /// The number in place `i`.
+    pub fn at(&self, i: usize) -> i128
+        requires { i < length (numbers self.now) }
+        ensures { result ≡ slice_index_or (numbers self.now) i (pos 0) }
+    {
+        match self {
+            Ints::I8(xs) => i128::from(xs[i]),
+            Ints::I16(xs) => i128::from(xs[i]),
+            Ints::I32(xs) => i128::from(xs[i]),
+            Ints::I64(xs) => i128::from(xs[i]),
+            Ints::U8(xs) => i128::from(xs[i]),
+            Ints::U16(xs) => i128::from(xs[i]),
+            Ints::U32(xs) => i128::from(xs[i]),
+            Ints::U64(xs) => i128::from(xs[i]),
+        }
+    }
+
+    /// A copy of the same numbers of the same type.
+    pub fn try_clone(&self, alloc: Global) -> VortexResult<Ints>
+        ensures ptype { AnswersUnlessMemory result (λ xs. ptype_of xs ≡ ptype_of self.now) }
+        ensures values { AnswersUnlessMemory result (λ xs. numbers xs ≡ numbers self.now) }
+    {
+        match self {
+            Ints::I8(xs) => Ok(Ints::I8(xs.as_slice().to_vec(alloc)?)),
+            Ints::I16(xs) => Ok(Ints::I16(xs.as_slice().to_vec(alloc)?)),
+            Ints::I32(xs) => Ok(Ints::I32(xs.as_slice().to_vec(alloc)?)),
+            Ints::I64(xs) => Ok(Ints::I64(xs.as_slice().to_vec(alloc)?)),
+            Ints::U8(xs) => Ok(Ints::U8(xs.as_slice().to_vec(alloc)?)),
+            Ints::U16(xs) => Ok(Ints::U16(xs.as_slice().to_vec(alloc)?)),
+            Ints::U32(xs) => Ok(Ints::U32(xs.as_slice().to_vec(alloc)?)),
+            Ints::U64(xs) => Ok(Ints::U64(xs.as_slice().to_vec(alloc)?)),
+        }
+    }
+}
+
+/// One of the eight integer types.
+pub trait NativePType: Copy + Drop {
+    ghost use Rattle.std.specs.Prelude.{ℤ, map, MatchOption};
+    ghost use Rattle.vortex_types.specs.declared.dtype.PType.{PType};
+    ghost use Rattle.vortex_types.specs.Typing.{FitsPType};
+    ghost use Rattle.vortex_types.specs.Numbers.{numbers, ptype_of};
+
+    ghost number: { Self → ℤ };
+
+    ghost ptype: { PType };
+
+    /// The number, which lies in the range of the type.
+    fn to_i128(self) -> i128
+        ensures value { result ≡ number self }
+        ensures fits { FitsPType ptype (number self) };
+
+    /// The same integers, as a list of one of the eight types. Takes no memory.
+    fn wrap(values: Vec<Self>) -> Ints
+        ensures kind { ptype_of result ≡ ptype }
+        ensures values { numbers result ≡ map number values.items };
+
+    /// The integers, where they are of this type.
+    fn of(ints: &Ints) -> Option<&[Self]>
+        ensures { MatchOption result (¬ (ptype_of ints.now ≡ ptype)) (λ xs. (ptype_of ints.now ≡ ptype) × (numbers ints.now ≡ map number xs.now)) };
+}
+
+impl NativePType for i8 {
+    ghost use Rattle.std.specs.Prelude.{pos, map};
+    ghost use Rattle.vortex_types.specs.Numbers.{numbers, ptype_of};
+    ghost use Rattle.vortex_types.specs.declared.dtype.PType.TheVariants.{I8};
+
+    ghost number = { λ x. x };
+
+    ghost ptype = { I8 };
+
+    fn to_i128(self) -> i128 {
+        i128::from(self)
+    }
+
+    fn wrap(values: Vec<i8>) -> Ints
+        ensures kind { ptype_of result ≡ I8 }
+        ensures values { numbers result ≡ map (λ x. x) values.items }
+    {
+        Ints::I8(values)
+    }
+
+    fn of(ints: &Ints) -> Option<&[i8]> {
+        match ints {
+            Ints::I8(xs) => Some(xs.as_slice()),
+            _ => None,
+        }
+    }
+}
+
+impl NativePType for i16 {
+    ghost use Rattle.std.specs.Prelude.{pos, map};
+    ghost use Rattle.vortex_types.specs.Numbers.{numbers, ptype_of};
+    ghost use Rattle.vortex_types.specs.declared.dtype.PType.TheVariants.{I16};
+
+    ghost number = { λ x. x };
+
+    ghost ptype = { I16 };
+
+    fn to_i128(self) -> i128 {
+        i128::from(self)
+    }
+
+    fn wrap(values: Vec<i16>) -> Ints
+        ensures kind { ptype_of result ≡ I16 }
+        ensures values { numbers result ≡ map (λ x. x) values.items }
+    {
+        Ints::I16(values)
+    }
+
+    fn of(ints: &Ints) -> Option<&[i16]> {
+        match ints {
+            Ints::I16(xs) => Some(xs.as_slice()),
+            _ => None,
+        }
+    }
+}
+
+impl NativePType for i32 {
+    ghost use Rattle.std.specs.Prelude.{pos, map};
+    ghost use Rattle.vortex_types.specs.Numbers.{numbers, ptype_of};
+    ghost use Rattle.vortex_types.specs.declared.dtype.PType.TheVariants.{I32};
+
+    ghost number = { λ x. x };
+
+    ghost ptype = { I32 };
+
+    fn to_i128(self) -> i128 {
+        i128::from(self)
+    }
+
+    fn wrap(values: Vec<i32>) -> Ints
+        ensures kind { ptype_of result ≡ I32 }
+        ensures values { numbers result ≡ map (λ x. x) values.items }
+    {
+        Ints::I32(values)
+    }
+
+    fn of(ints: &Ints) -> Option<&[i32]> {
+        match ints {
+            Ints::I32(xs) => Some(xs.as_slice()),
+            _ => None,
+        }
+    }
+}
+
+impl NativePType for i64 {
+    ghost use Rattle.std.specs.Prelude.{pos, map};
+    ghost use Rattle.vortex_types.specs.Numbers.{numbers, ptype_of};
+    ghost use Rattle.vortex_types.specs.declared.dtype.PType.TheVariants.{I64};
+
+    ghost number = { λ x. x };
+
+    ghost ptype = { I64 };
+
+    fn to_i128(self) -> i128 {
+        i128::from(self)
+    }
+
+    fn wrap(values: Vec<i64>) -> Ints
+        ensures kind { ptype_of result ≡ I64 }
+        ensures values { numbers result ≡ map (λ x. x) values.items }
+    {
+        Ints::I64(values)
+    }
+
+    fn of(ints: &Ints) -> Option<&[i64]> {
+        match ints {
+            Ints::I64(xs) => Some(xs.as_slice()),
+            _ => None,
+        }
+    }
+}
+
+impl NativePType for u8 {
+    ghost use Rattle.std.specs.Prelude.{pos, map};
+    ghost use Rattle.vortex_types.specs.Numbers.{numbers, ptype_of};
+    ghost use Rattle.vortex_types.specs.declared.dtype.PType.TheVariants.{U8};
+
+    ghost number = { pos };
+
+    ghost ptype = { U8 };
+
+    fn to_i128(self) -> i128 {
+        i128::from(self)
+    }
+
+    fn wrap(values: Vec<u8>) -> Ints
+        ensures kind { ptype_of result ≡ U8 }
+        ensures values { numbers result ≡ map pos values.items }
+    {
+        Ints::U8(values)
+    }
+
+    fn of(ints: &Ints) -> Option<&[u8]> {
+        match ints {
+            Ints::U8(xs) => Some(xs.as_slice()),
+            _ => None,
+        }
+    }
+}
+
+impl NativePType for u16 {
+    ghost use Rattle.std.specs.Prelude.{pos, map};
+    ghost use Rattle.vortex_types.specs.Numbers.{numbers, ptype_of};
+    ghost use Rattle.vortex_types.specs.declared.dtype.PType.TheVariants.{U16};
+
+    ghost number = { pos };
+
+    ghost ptype = { U16 };
+
+    fn to_i128(self) -> i128 {
+        i128::from(self)
+    }
+
+    fn wrap(values: Vec<u16>) -> Ints
+        ensures kind { ptype_of result ≡ U16 }
+        ensures values { numbers result ≡ map pos values.items }
+    {
+        Ints::U16(values)
+    }
+
+    fn of(ints: &Ints) -> Option<&[u16]> {
+        match ints {
+            Ints::U16(xs) => Some(xs.as_slice()),
+            _ => None,
+        }
+    }
+}
+
+impl NativePType for u32 {
+    ghost use Rattle.std.specs.Prelude.{pos, map};
+    ghost use Rattle.vortex_types.specs.Numbers.{numbers, ptype_of};
+    ghost use Rattle.vortex_types.specs.declared.dtype.PType.TheVariants.{U32};
+
+    ghost number = { pos };
+
+    ghost ptype = { U32 };
+
+    fn to_i128(self) -> i128 {
+        i128::from(self)
+    }
+
+    fn wrap(values: Vec<u32>) -> Ints
+        ensures kind { ptype_of result ≡ U32 }
+        ensures values { numbers result ≡ map pos values.items }
+    {
+        Ints::U32(values)
+    }
+
+    fn of(ints: &Ints) -> Option<&[u32]> {
+        match ints {
+            Ints::U32(xs) => Some(xs.as_slice()),
+            _ => None,
+        }
+    }
+}
+
+impl NativePType for u64 {
+    ghost use Rattle.std.specs.Prelude.{pos, map};
+    ghost use Rattle.vortex_types.specs.Numbers.{numbers, ptype_of};
+    ghost use Rattle.vortex_types.specs.declared.dtype.PType.TheVariants.{U64};
+
+    ghost number = { pos };
+
+    ghost ptype = { U64 };
+
+    fn to_i128(self) -> i128 {
+        i128::from(self)
+    }
+
+    fn wrap(values: Vec<u64>) -> Ints
+        ensures kind { ptype_of result ≡ U64 }
+        ensures values { numbers result ≡ map pos values.items }
+    {
+        Ints::U64(values)
+    }
+
+    fn of(ints: &Ints) -> Option<&[u64]> {
+        match ints {
+            Ints::U64(xs) => Some(xs.as_slice()),
+            _ => None,
+        }
+    }
+}
+
+/// Looks at each number, so that a caller knows that it lies in the range of its type. Changes nothing.
+pub fn learn_ranges<T: NativePType>(values: &[T])
+    ensures { All (FitsPType T.ptype) (map T.number values.now) }
+{
+    for x in values {
+        let _ = x.to_i128();
+    }
+}

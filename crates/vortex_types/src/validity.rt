@@ -1,0 +1,82 @@
+//! Which rows are null.
+ghost use Rattle.std.specs.Prelude.{◌≡◌, ◌≢◌, ◌<◌, ◌↔◌, IsTrue, MatchOption};
+ghost use Rattle.vortex_types.specs.Answers.{AnswersUnlessMemory};
+ghost use Rattle.vortex_types.specs.ValidityView.{array};
+
+use crate::bits::BitBuffer;
+use crate::dtype::Nullability;
+use crate::error::VortexResult;
+use std::alloc::Global;
+
+/// Which rows are not null. `NonNullable` goes with a non-nullable type, the others with a nullable one.
+#[derive(Drop)]
+pub enum Validity {
+    /// No row can be null.
+    NonNullable,
+    /// No row is null.
+    AllValid,
+    /// Every row is null.
+    AllInvalid,
+    /// A set bit is a row that is not null.
+    Array(BitBuffer),
+}
+
+impl Validity {
+    ghost use Rattle.vortex_types.specs.TypeOf.{allows_null};
+    ghost use Rattle.vortex_types.specs.ValidityView.{validity_of, is_valid_row, form_allows_null, FitsRows, Reaches};
+
+    /// The nullability of the types that it goes with.
+    pub fn nullability(&self) -> Nullability
+        ensures { allows_null result ≡ form_allows_null (validity_of self.now).form }
+    {
+        match self {
+            Validity::NonNullable => Nullability::NonNullable,
+            _ => Nullability::Nullable,
+        }
+    }
+
+    /// Whether it can serve so many rows: a list of bits has one for each.
+    pub fn fits(&self, len: usize) -> bool
+        ensures { IsTrue result ↔ FitsRows (validity_of self.now) len }
+    {
+        match self {
+            Validity::Array(bits) => bits.len() == len,
+            _ => true,
+        }
+    }
+
+    /// Whether row `i` is not null.
+    pub fn is_valid(&self, i: usize) -> bool
+        requires { Reaches (validity_of self.now) i }
+        ensures { result ≡ is_valid_row (validity_of self.now) i }
+    {
+        match self {
+            Validity::NonNullable => true,
+            Validity::AllValid => true,
+            Validity::AllInvalid => false,
+            Validity::Array(bits) => bits.value(i),
+        }
+    }
+
+    /// The bits of an array.
+    pub fn bits(&self) -> Option<&BitBuffer>
+        ensures { MatchOption result ((validity_of self.now).form ≢ array) (λ bits. validity_of self.now ≡ record { form = array; bits = bits.now }) }
+    {
+        match self {
+            Validity::Array(bits) => Some(bits),
+            _ => None,
+        }
+    }
+
+    /// A copy that is seen as its source is.
+    pub fn try_clone(&self, alloc: Global) -> VortexResult<Validity>
+        ensures { AnswersUnlessMemory result (λ v. validity_of v ≡ validity_of self.now) }
+    {
+        match self {
+            Validity::NonNullable => Ok(Validity::NonNullable),
+            Validity::AllValid => Ok(Validity::AllValid),
+            Validity::AllInvalid => Ok(Validity::AllInvalid),
+            Validity::Array(bits) => Ok(Validity::Array(bits.try_clone(alloc)?)),
+        }
+    }
+}
