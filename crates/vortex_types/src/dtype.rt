@@ -321,7 +321,7 @@ fn pairs(
 
 impl StructFields {
     ghost use Rattle.std.specs.Prelude.{◌<◌, MatchOption, Some, None};
-    ghost use Rattle.vortex_types.specs.TypeOf.{type_of, struct_fields, fields_view, named_types, AreNamed};
+    ghost use Rattle.vortex_types.specs.TypeOf.{type_of, struct_fields, named_types, AreNamed};
     ghost use Rattle.vortex_types.specs.LogicalTypes.{field_count, field_type, find_field};
     ghost use Rattle.vortex_types.specs.FieldNames.{field_name};
 
