@@ -2,12 +2,15 @@
 #![tactic(auto)]
 
 pub use vortex_columns::{
-    Arity, BitBuffer, Column, DType, ExecutionCtx, MismatchPlace, Nullability, NumericOperator,
-    PType, Scalar, ScalarValue, StructFields, Validity, VortexError, VortexResult,
+    Arity, BitBuffer, Cell, Column, DType, ExecutionCtx, Ints, MismatchPlace, NativePType,
+    Nullability, NumericOperator, PType, Scalar, ScalarValue, Sequence, StructFields, Validity,
+    VortexError, VortexResult, cell_of,
 };
 pub use vortex_functions::{
     Binary, BoundExpression, ChildName, EmptyOptions, ExecutionArgs, NoCustom, Not, ScalarFnId,
     ScalarFnRef, ScalarFnSignature, ScalarFnVTable, ScalarFnVTableExt, TypedScalarFnInstance,
     VecExecutionArgs,
 };
-pub use vortex_kernels::{CompareOperator, Operator, execute_boolean, execute_not};
+pub use vortex_kernels::{
+    CompareOperator, Operator, execute_boolean, execute_compare, execute_not, scalar_cmp,
+};
