@@ -2,20 +2,21 @@
 use Rattle.std.proofs.Common.{◌≡◌, ◌⊎◌, inl, inr, ℕ, ◌+◌, ◌<◌, Bool, true, false, List, [], ◌∷◌, ◌++◌, length, refl, sym, ap, subst, ◌∙◌, arith, length-append, cond}
 use Rattle.std.specs.Prelude.{◌||◌, ◌&&◌, nat_eq, not, ℤ, pos, Option, Some, None, IfSome, slice_index_or}
 use Rattle.std.specs.declared.cmp.Ordering.{Ordering}
-use Rattle.std.specs.Ordering.{int_cmp, bool_cmp}
+use Rattle.std.specs.Ordering.{nat_cmp, int_cmp, bool_cmp}
+use Rattle.std.specs.Cmp.Lexicographic.{slice_cmp}
 use Rattle.std.proofs.lemmas.List.FromFn.{get_or-map-range_with_len, length-map-range_with_len}
 use Rattle.vortex_types.specs.Values.{Value, null, truth, number, text, bytes, list, truth_of, is_null}
-use Rattle.vortex_types.specs.LogicalTypes.{LogicalType, null_type, bool_type, integer_type, text_type, bytes_type, struct_type, list_type, fixed_size_list_type, map_type, is_nullable}
+use Rattle.vortex_types.specs.LogicalTypes.{LogicalType, null_type, bool_type, integer_type, text_type, bytes_type, struct_type, list_type, fixed_size_list_type, map_type, is_nullable, is_text_type}
 use Rattle.vortex_types.specs.TypeEquality.{alike_types}
 use Rattle.vortex_types.specs.Typing.{HasType}
 use Rattle.vortex_types.specs.Order.{compare_values}
 use Rattle.vortex_types.specs.ScalarView.{ScalarView, compare_scalars}
-use Rattle.vortex_columns.specs.ColumnView.{ColumnView, row, AreTyped, constant_column, AreInts, AreBits}
+use Rattle.vortex_columns.specs.ColumnView.{ColumnView, row, AreTyped, constant_column, is_bytes_like, bytes_value, HasBytes, AreInts, AreBits}
 use Rattle.vortex_types.specs.ValidityView.{non_nullable, array}
 use Rattle.vortex_columns.specs.Stored.{bool_column}
 use Rattle.vortex_kernels.specs.declared.operators.CompareOperator.{CompareOperator}
 use Rattle.vortex_kernels.specs.Rows.{HasRows, AreAnswers}
-use Rattle.vortex_kernels.specs.Comparison.{holds, comparison_value, comparison_type, compared_scalar, are_comparable, is_settled, HasComparisonRows, AnswersCompare, AreHeld, IsConstantOf, IsOrderAt, AreComparisons}
+use Rattle.vortex_kernels.specs.Comparison.{holds, comparison_value, comparison_type, compared_scalar, are_comparable, is_settled, HasComparisonRows, AnswersCompare, AreHeld, IsConstantOf, IsConstantBytes, IsOrderAt, IsBytesOrderAt, AreComparisons}
 use Rattle.vortex_kernels.proofs.RowLemmas.{get_or-last, get_or-before}
 
 -- one more row
@@ -197,3 +198,60 @@ constants_compared op l r a b s d some same e g comparable is h = record {
     accepted =
         (λ i. (nat_eq (length l.rows) 0 || (((e i).constant && is_null (constant_row a l e 0 some i)) || ((g i).constant && is_null (constant_row b r g 0 (omega (arith, same)) i)))) || alike_types (e i).dtype (g i).dtype)
         ∙ settled_or (nat_eq (length l.rows) 0) (is_null a.value) (is_null b.value) (alike_types a.dtype b.dtype) comparable
+
+-- texts, and byte strings, compare by their bytes
+pub bytes_compare : (t u : LogicalType) (xs ys : List ℕ) → is_bytes_like t ≡ true → is_bytes_like u ≡ true → is_text_type t ≡ is_text_type u → compare_values (bytes_value t xs) (bytes_value u ys) ≡ slice_cmp nat_cmp xs ys
+bytes_compare (text_type n) (text_type m) xs ys h k e = refl
+bytes_compare (bytes_type n) (bytes_type m) xs ys h k e = refl
+bytes_compare t u xs ys h k e = cc
+
+pub bytes_order : (l r : ColumnView) (i : ℕ) (xs ys : List ℕ) (o : Ordering) → HasBytes l → HasBytes r → is_text_type l.dtype ≡ is_text_type r.dtype → (is_null (row l.rows i) ≡ false → row l.rows i ≡ bytes_value l.dtype xs) → (is_null (row r.rows i) ≡ false → row r.rows i ≡ bytes_value r.dtype ys) → o ≡ slice_cmp nat_cmp xs ys → IsOrderAt l.rows r.rows i o
+bytes_order l r i xs ys o h k kind a b e p q =
+    e ∙ sym (bytes_compare l.dtype r.dtype xs ys h.bytes_like k.bytes_like kind) ∙ (λ j. compare_values (sym (a p) j) (sym (b q) j))
+
+pub byte_order : (l : ColumnView) (i : ℕ) (xs ys : List ℕ) (o : Ordering) → HasBytes l → (is_null (row l.rows i) ≡ false → row l.rows i ≡ bytes_value l.dtype xs) → o ≡ slice_cmp nat_cmp xs ys → IsBytesOrderAt l ys i o
+byte_order l i xs ys o h a e p =
+    e ∙ sym (bytes_compare l.dtype l.dtype xs ys h.bytes_like h.bytes_like refl) ∙ (λ j. compare_values (sym (a p) j) (bytes_value l.dtype ys))
+
+same_kind : (t u : LogicalType) (bs : List ℕ) → is_bytes_like t ≡ true → is_bytes_like u ≡ true → is_text_type t ≡ is_text_type u → bytes_value t bs ≡ bytes_value u bs
+same_kind (text_type n) (text_type m) bs h k e = refl
+same_kind (bytes_type n) (bytes_type m) bs h k e = refl
+same_kind t u bs h k e = cc
+
+pub one_order : (l r : ColumnView) (bs : List ℕ) → length l.rows ≡ length r.rows → is_bytes_like l.dtype ≡ true → is_bytes_like r.dtype ≡ true → is_text_type l.dtype ≡ is_text_type r.dtype → IsConstantOf (bytes_value r.dtype bs) r → (i : ℕ) (o : Ordering) → i < length l.rows → IsBytesOrderAt l bs i o → IsOrderAt l.rows r.rows i o
+one_order l r bs same h k kind c i o lt told p q =
+    told p ∙ ap (compare_values (row l.rows i)) (same_kind l.dtype r.dtype bs h k kind ∙ sym (c i (omega (arith, same))))
+
+typed_text : (t : LogicalType) (bs : List ℕ) → HasType t (text bs) → (bytes_value t bs ≡ text bs) × (is_bytes_like t ≡ true)
+typed_text (text_type n) bs h = (refl, refl)
+typed_text null_type bs h = absurd h
+typed_text (bool_type n) bs h = absurd h
+typed_text (integer_type p n) bs h = absurd h
+typed_text (bytes_type n) bs h = absurd h
+typed_text (struct_type fs n) bs h = absurd h
+typed_text (list_type t n) bs h = absurd h
+typed_text (fixed_size_list_type t s n) bs h = absurd h
+typed_text (map_type k v n) bs h = absurd h
+
+typed_bytes : (t : LogicalType) (bs : List ℕ) → HasType t (bytes bs) → (bytes_value t bs ≡ bytes bs) × (is_bytes_like t ≡ true)
+typed_bytes (bytes_type n) bs h = (refl, refl)
+typed_bytes null_type bs h = absurd h
+typed_bytes (bool_type n) bs h = absurd h
+typed_bytes (integer_type p n) bs h = absurd h
+typed_bytes (text_type n) bs h = absurd h
+typed_bytes (struct_type fs n) bs h = absurd h
+typed_bytes (list_type t n) bs h = absurd h
+typed_bytes (fixed_size_list_type t s n) bs h = absurd h
+typed_bytes (map_type k v n) bs h = absurd h
+
+pub constant_text : (s : ScalarView) (c : ColumnView) (bs : List ℕ) → c ≡ constant_column s (length c.rows) → HasType s.dtype s.value → s.value ≡ text bs → IsConstantBytes c bs
+constant_text s c bs e h is =
+    let typed = typed_text s.dtype bs (subst (HasType s.dtype) is h) in
+    let same : c.dtype ≡ s.dtype = ap (λ (d : ColumnView). d.dtype) e in
+    record { like = ap is_bytes_like same ∙ typed.1; rows = λ i lt. constant_row s c e i lt ∙ is ∙ sym (ap (λ t. bytes_value t bs) same ∙ typed.0) }
+
+pub constant_bytes : (s : ScalarView) (c : ColumnView) (bs : List ℕ) → c ≡ constant_column s (length c.rows) → HasType s.dtype s.value → s.value ≡ bytes bs → IsConstantBytes c bs
+constant_bytes s c bs e h is =
+    let typed = typed_bytes s.dtype bs (subst (HasType s.dtype) is h) in
+    let same : c.dtype ≡ s.dtype = ap (λ (d : ColumnView). d.dtype) e in
+    record { like = ap is_bytes_like same ∙ typed.1; rows = λ i lt. constant_row s c e i lt ∙ is ∙ sym (ap (λ t. bytes_value t bs) same ∙ typed.0) }

@@ -11,7 +11,7 @@ use Rattle.vortex_types.specs.TypeEquality.{alike_types}
 use Rattle.vortex_types.specs.Values.{Value, null, truth, is_null}
 use Rattle.vortex_types.specs.Order.{compare_values}
 use Rattle.vortex_types.specs.ScalarView.{ScalarView}
-use Rattle.vortex_columns.specs.ColumnView.{ColumnView, row}
+use Rattle.vortex_columns.specs.ColumnView.{ColumnView, row, is_bytes_like, bytes_value}
 use Rattle.vortex_kernels.specs.declared.operators.CompareOperator.{CompareOperator}
 use Rattle.vortex_kernels.specs.declared.operators.CompareOperator.TheVariants.{Eq, NotEq, Gt, Gte, Lt, Lte}
 use Rattle.vortex_kernels.specs.Rows.{HasRows}
@@ -75,9 +75,18 @@ pub record AreHeld (op : CompareOperator) (tells : ℕ → Ordering → Type 0) 
 abbrev pub IsConstantOf : Value → ColumnView → Type 0
 IsConstantOf v c = (i : ℕ) → i < length c.rows → row c.rows i ≡ v
 
+-- the bytes of a constant column
+pub record IsConstantBytes (c : ColumnView) (bs : List ℕ) : Type 0 where
+  pub like : is_bytes_like c.dtype ≡ true
+  pub rows : IsConstantOf (bytes_value c.dtype bs) c
+
 -- the order of two rows, where neither is null
 abbrev pub IsOrderAt : List Value → List Value → ℕ → Ordering → Type 0
 IsOrderAt ls rs i o = is_null (row ls i) ≡ false → is_null (row rs i) ≡ false → o ≡ compare_values (row ls i) (row rs i)
+
+-- the order of a row of texts or byte strings and one of the same kind, where the row is not null
+abbrev pub IsBytesOrderAt : ColumnView → List ℕ → ℕ → Ordering → Type 0
+IsBytesOrderAt l bs i o = is_null (row l.rows i) ≡ false → o ≡ compare_values (row l.rows i) (bytes_value l.dtype bs)
 
 -- for each row whether the comparison says yes, where neither side is null
 pub record AreComparisons (op : CompareOperator) (ls rs : List Value) (bits : List Bool) : Type 0 where

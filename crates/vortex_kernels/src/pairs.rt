@@ -1,14 +1,15 @@
 //! The values of two columns side by side, and the comparison that is asked of each pair.
-ghost use Rattle.std.specs.Prelude.{◌≡◌, ◌<◌, ℕ, pos, false, map, length, slice_index_or, IfSome};
+ghost use Rattle.std.specs.Prelude.{◌≡◌, ◌<◌, ℕ, pos, true, false, map, length, slice_index_or, IfSome};
 ghost use Rattle.std.specs.declared.cmp.Ordering.{Ordering};
 ghost use Rattle.std.specs.Ordering.{int_cmp, bool_cmp};
 ghost use Rattle.vortex_types.specs.Answers.{AnswersUnlessMemory};
 ghost use Rattle.vortex_types.specs.Values.{number, truth};
 ghost use Rattle.vortex_types.specs.Order.{compare_values};
-ghost use Rattle.vortex_columns.specs.ColumnView.{row};
+ghost use Rattle.vortex_types.specs.LogicalTypes.{is_text_type};
+ghost use Rattle.vortex_columns.specs.ColumnView.{row, is_bytes_like, HasBytes};
 ghost use Rattle.vortex_kernels.specs.declared.operators.CompareOperator.{CompareOperator};
 ghost use Rattle.vortex_kernels.specs.declared.operators.CompareOperator.TheVariants.{Eq, NotEq, Gt, Gte, Lt, Lte};
-ghost use Rattle.vortex_kernels.specs.Comparison.{holds, AreHeld, IsConstantOf, AreComparisons};
+ghost use Rattle.vortex_kernels.specs.Comparison.{holds, AreHeld, IsConstantOf, IsConstantBytes, IsOrderAt, IsBytesOrderAt, AreComparisons};
 
 use std::alloc::Global;
 use std::cmp::Ordering;
@@ -196,6 +197,46 @@ impl Pairs for BitsAndOne<'_> {
     }
 }
 
+/// The texts or the byte strings of two columns of one kind.
+#[derive(Clone, Copy)]
+struct BytesPairs<'a> {
+    left: &'a Column,
+    right: &'a Column,
+}
+
+impl Pairs for BytesPairs<'_> {
+    ghost has_pair = { λ p i. (i < length p.left.now.rows) × (i < length p.right.now.rows) × (is_text_type p.left.now.dtype ≡ is_text_type p.right.now.dtype) };
+
+    ghost tells = { λ p i o. IsOrderAt p.left.now.rows p.right.now.rows i o };
+
+    fn order_at(&self, i: usize) -> Ordering {
+        match (self.left.bytes_at(i), self.right.bytes_at(i)) {
+            (Some(left), Some(right)) => left.cmp(right),
+            _ => self.left.compare_rows(i, self.right, i),
+        }
+    }
+}
+
+/// The texts or the byte strings of a column beside one.
+#[derive(Clone, Copy)]
+struct BytesAndOne<'a> {
+    left: &'a Column,
+    right: &'a [u8],
+}
+
+impl Pairs for BytesAndOne<'_> {
+    ghost has_pair = { λ p i. HasBytes p.left.now × (i < length p.left.now.rows) };
+
+    ghost tells = { λ p i o. IsBytesOrderAt p.left.now p.right.now i o };
+
+    fn order_at(&self, i: usize) -> Ordering {
+        match self.left.bytes_at(i) {
+            Some(left) => left.cmp(self.right),
+            None => Ordering::Equal,
+        }
+    }
+}
+
 fn hold_in_cells<P: Comparison>(
     alloc: Global,
     lhs: &Column,
@@ -269,6 +310,45 @@ fn hold_in_bools<P: Comparison>(
     }
 }
 
+/// The bytes of the text or byte string in each row of a constant column.
+fn constant_bytes(column: &Column) -> Option<&[u8]>
+    ensures { IfSome result (λ bs. IsConstantBytes column.now bs.now) }
+{
+    let scalar = column.as_constant()?;
+    let _ = scalar.dtype();
+    match scalar.cell() {
+        Cell::Text(text) => Some(text.as_bytes()),
+        Cell::Bytes(bytes) => Some(bytes),
+        _ => None,
+    }
+}
+
+/// Texts, or byte strings, of both columns; a constant on the left goes by the cells.
+fn hold_in_bytes<P: Comparison>(
+    alloc: Global,
+    lhs: &Column,
+    rhs: &Column,
+) -> VortexResult<Vec<bool>>
+    requires lengths { length lhs.now.rows ≡ length rhs.now.rows }
+    requires left { is_bytes_like lhs.now.dtype ≡ true }
+    requires kind { is_text_type lhs.now.dtype ≡ is_text_type rhs.now.dtype }
+    ensures { AnswersUnlessMemory result (λ bits. AreComparisons P.operator lhs.now.rows rhs.now.rows bits.items) }
+{
+    let len = lhs.len();
+    match (lhs.as_constant(), constant_bytes(rhs)) {
+        (None, Some(right)) => {
+            hold_in_pairs::<P, BytesAndOne>(alloc, &BytesAndOne { left: lhs, right }, len)
+        }
+        _ => {
+            let pairs = BytesPairs {
+                left: lhs,
+                right: rhs,
+            };
+            hold_in_pairs::<P, BytesPairs>(alloc, &pairs, len)
+        }
+    }
+}
+
 /// Whether the comparison says yes in each row in which both sides have a value. The kind is chosen before the rows, and
 /// so is the form of the right side; a constant on the left goes by the cells.
 pub(crate) fn hold_in_rows<P: Comparison>(
@@ -281,6 +361,8 @@ pub(crate) fn hold_in_rows<P: Comparison>(
 {
     match lhs.dtype() {
         DType::Bool(_) => hold_in_bools::<P>(alloc, lhs, rhs),
+        DType::Utf8(_) if rhs.dtype().is_utf8() => hold_in_bytes::<P>(alloc, lhs, rhs),
+        DType::Binary(_) if !rhs.dtype().is_utf8() => hold_in_bytes::<P>(alloc, lhs, rhs),
         DType::Primitive(PType::I8, _) => hold_in_ints::<P, i8>(alloc, lhs, rhs),
         DType::Primitive(PType::I16, _) => hold_in_ints::<P, i16>(alloc, lhs, rhs),
         DType::Primitive(PType::I32, _) => hold_in_ints::<P, i32>(alloc, lhs, rhs),
