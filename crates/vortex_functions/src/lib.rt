@@ -6,6 +6,7 @@ pub mod binary;
 pub mod custom;
 pub mod erased;
 pub mod ext;
+pub mod laws;
 mod literal_text;
 pub mod not;
 mod printing;

@@ -7,4 +7,5 @@ pub mod Trees
 pub mod TreeCodes
 pub mod Eval
 pub mod Execution
+pub mod ComparisonTrees
 pub mod Printing
