@@ -65,6 +65,7 @@ impl<C: ScalarFnVTable> ScalarFnRef<C> {
         }
     }
 
+    /// Whether it is Not.
     pub fn is_not(&self) -> bool
         ensures { result ≡ is_negation self.now }
     {

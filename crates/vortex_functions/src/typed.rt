@@ -11,18 +11,21 @@ pub struct TypedScalarFnInstance<V: ScalarFnVTable> {
 }
 
 impl<V: ScalarFnVTable> TypedScalarFnInstance<V> {
+    /// The function with its options. Takes no memory.
     pub fn new(vtable: V, options: V::Options) -> TypedScalarFnInstance<V>
         ensures { result ≡ record { vtable = vtable; options = options } }
     {
         TypedScalarFnInstance { vtable, options }
     }
 
+    /// The function, lent.
     pub fn vtable(&self) -> &V
         ensures { result.now ≡ self.now.vtable }
     {
         &self.vtable
     }
 
+    /// The options, lent.
     pub fn options(&self) -> &V::Options
         ensures { result.now ≡ self.now.options }
     {

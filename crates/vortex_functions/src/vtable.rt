@@ -32,9 +32,11 @@ pub trait ExecutionArgs {
         ensures input { MatchResult result (λ c. slice_get (inputs self.now) index ≡ Some c.now) (λ e. (length (inputs self.now) ≤ index) × (e ≡ IndexOutOfBounds index (length (inputs self.now)))) }
         ensures count { IfOk result (λ c. length c.now.rows ≡ rows self.now) };
 
+    /// How many inputs there are.
     fn num_inputs(&self) -> usize
         ensures { result ≡ length (inputs self.now) };
 
+    /// How many rows each input has.
     fn row_count(&self) -> usize
         ensures { result ≡ rows self.now };
 }
@@ -48,9 +50,11 @@ pub trait ScalarFnVTable: Sized + Clone + Drop {
 
     ghost meaning: { Meaning Self Self.Options };
 
+    /// The function's identity, as `vortex.binary`.
     fn id(&self) -> ScalarFnId
         ensures { result.now ≡ meaning.id self.now };
 
+    /// How many arguments a call takes.
     fn arity(&self, options: &Self::Options) -> Arity
         ensures { result ≡ meaning.arity self.now options.now };
 

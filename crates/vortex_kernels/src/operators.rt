@@ -106,6 +106,7 @@ impl Operator {
         }
     }
 
+    /// Whether it is Add, Sub, Mul or Div.
     pub fn is_arithmetic(&self) -> bool
         ensures { result ≡ is_arithmetic self.now }
     {
@@ -129,12 +130,14 @@ impl Operator {
         }
     }
 
+    /// Whether it is one of the six comparisons.
     pub fn is_comparison(&self) -> bool
         ensures { result ≡ is_some (compare_operator_of self.now) }
     {
         self.to_compare_operator().is_some()
     }
 
+    /// The comparison, of an operator that is one; it undoes `Operator::from`.
     pub fn to_compare_operator(&self) -> Option<CompareOperator>
         ensures table { result ≡ compare_operator_of self.now }
         ensures undone { IfSome result (λ compare. operator_of compare ≡ self.now) }
