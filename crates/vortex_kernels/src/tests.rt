@@ -1,5 +1,7 @@
 //! The tables, with values from outside, and what no clause says.
 
+mod compare;
+
 use super::*;
 use std::alloc::Global;
 use std::test::Fail;
