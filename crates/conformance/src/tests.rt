@@ -368,3 +368,97 @@ fn functions_tell_their_parts(rt: HostRuntime) -> Result<(), Fail> {
     }
     Ok(())
 }
+
+/// A call over column `a` of that type and a literal.
+fn beside_literal<C: ScalarFnVTable>(
+    alloc: Global,
+    dtype: DType,
+    operator: Operator,
+    scalar: Scalar,
+) -> VortexResult<BoundExpression<C>> {
+    let mut names = Vec::new(alloc);
+    names.push(String::from_str(alloc, "a")?)?;
+    let mut types = Vec::new(alloc);
+    types.push(dtype)?;
+    let scope = StructFields::try_new(alloc, names, types)?;
+    let mut children = Vec::new(alloc);
+    children.push(BoundExpression::column(alloc, &scope, "a")?)?;
+    children.push(BoundExpression::lit(alloc, scalar))?;
+    BoundExpression::try_new(alloc, ScalarFnRef::Binary(operator), children)
+}
+
+fn nullable_u16() -> DType {
+    DType::Primitive(PType::U16, Nullability::Nullable)
+}
+
+#[test]
+fn comparison_of_other_types_is_refused_when_bound(rt: HostRuntime) -> Result<(), Fail> {
+    let alloc = rt.alloc();
+    let null = Scalar::null(DType::Utf8(Nullability::Nullable));
+    let answer = beside_literal::<NoCustom>(alloc, nullable_u16(), Operator::Eq, null);
+    match refusal(answer) {
+        Some(VortexError::TypeMismatch(place)) => assert!(rt; place == MismatchPlace::Compare),
+        _ => panic!(rt; "another answer"),
+    }
+    Ok(())
+}
+
+/// The rows of `a < 5` over 4, 5, 6 and null.
+fn rows_below_five<C: ScalarFnVTable>(alloc: Global) -> VortexResult<Cells> {
+    let five = Scalar::from(5u16);
+    let tree = beside_literal::<C>(alloc, nullable_u16(), Operator::Lt, five)?;
+    let values = vec![in alloc; 4u16, 5, 6, 0]?;
+    let valid = BitBuffer::from_bools(alloc, &[true, true, true, false])?;
+    let mut columns = Vec::new(alloc);
+    columns.push(Column::try_primitive(values, Validity::Array(valid))?)?;
+    let mut ctx = ExecutionCtx::new(alloc);
+    let answer = tree.execute(&columns, 4, &mut ctx)?;
+    cells(alloc, &answer)
+}
+
+/// The rows of a call over a null literal and column `a` of false, true and null.
+fn rows_beside_null<C: ScalarFnVTable>(alloc: Global, operator: Operator) -> VortexResult<Cells> {
+    let nullable = DType::Bool(Nullability::Nullable);
+    let mut children = Vec::new(alloc);
+    children.push(BoundExpression::lit(alloc, Scalar::null(nullable)))?;
+    children.push(BoundExpression::column(alloc, &scope(alloc)?, "a")?)?;
+    let tree = BoundExpression::<C>::try_new(alloc, ScalarFnRef::Binary(operator), children)?;
+    let rows = [Some(false), Some(true), None];
+    let columns = columns(alloc, &rows, &rows)?;
+    let mut ctx = ExecutionCtx::new(alloc);
+    let answer = tree.execute(&columns, 3, &mut ctx)?;
+    cells(alloc, &answer)
+}
+
+#[test]
+fn trees_with_literals_execute(rt: HostRuntime) -> Result<(), Fail> {
+    let alloc = rt.alloc();
+    let below = rows_below_five::<NoCustom>(alloc)?;
+    let wanted = [Some(true), Some(false), Some(false), None];
+    assert_eq!(rt; below.as_slice(), wanted.as_slice());
+    let and = rows_beside_null::<NoCustom>(alloc, Operator::And)?;
+    assert_eq!(rt; and.as_slice(), [Some(false), None, None].as_slice());
+    let or = rows_beside_null::<NoCustom>(alloc, Operator::Or)?;
+    assert_eq!(rt; or.as_slice(), [None, Some(true), None].as_slice());
+    Ok(())
+}
+
+/// What `sql_text` and Display write of `1 > 2`.
+fn texts_of_greater<C: ScalarFnVTable>(alloc: Global) -> VortexResult<(String, String)> {
+    let mut children = Vec::new(alloc);
+    children.push(BoundExpression::lit(alloc, Scalar::from(1i32)))?;
+    children.push(BoundExpression::lit(alloc, Scalar::from(2i32)))?;
+    let tree = BoundExpression::<C>::try_new(alloc, ScalarFnRef::Binary(Operator::Gt), children)?;
+    let text = tree.sql_text(alloc)?;
+    let shown = tree.to_string(alloc)?;
+    Ok((text, shown))
+}
+
+#[test]
+fn comparison_of_literals_prints(rt: HostRuntime) -> Result<(), Fail> {
+    let alloc = rt.alloc();
+    let (text, shown) = texts_of_greater::<NoCustom>(alloc)?;
+    assert_eq!(rt; text.as_str(), "(1i32 > 2i32)");
+    assert_eq!(rt; shown.as_str(), "(1i32 > 2i32)");
+    Ok(())
+}

@@ -1,5 +1,8 @@
 //! The tables, with values from outside, and what no clause says.
 
+mod compare;
+mod nested;
+
 use super::*;
 use std::alloc::Global;
 use std::test::Fail;
