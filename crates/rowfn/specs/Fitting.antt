@@ -37,3 +37,8 @@ pub record Fits {V O : Type 0} (s : SessionView V O) : Type 0 where
 abbrev pub RefusesFaultsAlone : {V O : Type 0} → Meaning V O → Type 0
 RefusesFaultsAlone {V} {O} m =
     (lines : List (List ℕ)) (read n : ℕ) (s : SessionView V O) (t : Tree V O) (stack : List (Tree V O)) (e : VortexError) → Reaches m lines read s → s.row_count ≡ Some n → s.stack ≡ t ∷ stack → StepsTo m run s (refuses e) → IsFirstFault m s.columns n t e
+
+-- in a session that lines reach, each tree has a text, so `show` prints it
+abbrev pub TreesHaveTexts : {V O : Type 0} → Meaning V O → Type 0
+TreesHaveTexts {V} {O} m =
+    (lines : List (List ℕ)) (read : ℕ) (s : SessionView V O) → Reaches m lines read s → AllShown s.stack

@@ -1,5 +1,5 @@
 //! What follows from the meaning of scripts. These functions do nothing: their contracts are proved.
-ghost use Rattle.rowfn.specs.Fitting.{RefusesFaultsAlone};
+ghost use Rattle.rowfn.specs.Fitting.{RefusesFaultsAlone, TreesHaveTexts};
 ghost use Rattle.rowfn.specs.Telling.{PrintsABeginning};
 
 use vortex_functions::ScalarFnVTable;
@@ -8,6 +8,11 @@ use vortex_functions::ScalarFnVTable;
 #[tactic(auto, using(crate::proofs::Fitting::refuses_faults_alone))]
 pub fn run_refuses_faults_alone<C: ScalarFnVTable>()
     ensures { RefusesFaultsAlone C.meaning }
+{}
+
+/// After lines that go on, each tree has a text, which `show` prints.
+pub fn trees_have_texts<C: ScalarFnVTable>()
+    ensures { TreesHaveTexts C.meaning }
 {}
 
 /// What is printed before memory runs out is a beginning of what is printed where it does not.
