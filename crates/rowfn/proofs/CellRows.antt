@@ -5,7 +5,8 @@ use Rattle.std.proofs.Math.Seq.{drop-cons}
 use Rattle.std.specs.List.{list_all, range_with_len}
 use Rattle.std.specs.Option.{option_and_then}
 use Rattle.std.specs.declared.alloc.Global.{Global}
-use Rattle.std.proofs.lemmas.List.{get_or-map, length-map, ext_get_or}
+use Rattle.std.proofs.lemmas.Bool.{and_from, and_parts}
+use Rattle.std.proofs.lemmas.List.{get_or-map, length-map, map-append, ext_get_or}
 use Rattle.std.proofs.lemmas.List.FromFn.{get_or-map-range_with_len, length-map-range_with_len}
 use Rattle.vortex_types.specs.declared.error.VortexError.{VortexError}
 use Rattle.vortex_types.specs.Answers.{AnswersWhere}
@@ -56,27 +57,16 @@ pub all_fit : {X : Type 0} (f : X → Value) → ((x : X) → fits_column (f x) 
 all_fit f h [] = refl
 all_fit f h (x ∷ xs) = λ i. h x i && all_fit f h xs i
 
-texts_fit_by : (a b : Bool) → a ≡ true → b ≡ true → (a && b) ≡ true
-texts_fit_by a b p q = λ i. p i && q i
-
 pub texts_fit : {X : Type 0} (f : X → List ℕ) (xs : List X) → All (λ x. length (f x) ≤ 4294967295) xs → list_all fits_column (map (λ x. text (f x)) xs) ≡ true
 texts_fit f [] h = refl
 texts_fit f (x ∷ xs) h =
-    texts_fit_by _ _ (grind (arith, tests, h 0 x (omega arith))) (texts_fit f xs (λ k d lt. h (suc k) d (omega arith)))
-
-pub left_of : (a b : Bool) → (a && b) ≡ true → a ≡ true
-left_of true b h = refl
-left_of false b h = cc
-
-pub right_of : (a b : Bool) → (a && b) ≡ true → b ≡ true
-right_of true b h = h
-right_of false b h = cc
+    and_from _ _ (grind (arith, tests, h 0 x (omega arith))) (texts_fit f xs (λ k d lt. h (suc k) d (omega arith)))
 
 pub fitting_texts : {X : Type 0} (f : X → List ℕ) (xs : List X) → list_all fits_column (map (λ x. text (f x)) xs) ≡ true → All (λ x. length (f x) ≤ 4294967295) xs
 fitting_texts f [] h k d lt = absurd (omega arith)
 fitting_texts f (x ∷ xs) h zero d lt =
-    let here = left_of (fits_column (text (f x))) _ h in grind (arith, tests)
-fitting_texts f (x ∷ xs) h (suc k) d lt = fitting_texts f xs (right_of (fits_column (text (f x))) _ h) k d (omega arith)
+    let here = (and_parts (fits_column (text (f x))) _ h).0 in grind (arith, tests)
+fitting_texts f (x ∷ xs) h (suc k) d lt = fitting_texts f xs (and_parts (fits_column (text (f x))) _ h).1 k d (omega arith)
 
 cells_more : (vs : List Value) (valid : List Bool) (v : Value) (b : Bool) → length valid ≡ length vs → cells_from (vs ++ v ∷ []) (valid ++ b ∷ []) ≡ cells_from vs valid ++ (if b then v else null) ∷ []
 cells_more [] [] v b h = refl
@@ -229,10 +219,6 @@ column_unmade t n vs valid said v cells validity unfit = by (list_all fits_colum
     by false e =
         sym (ap (option_and_then (column_where t)) cells.says ∙ ap (λ b. if b then Some (column_of t (cells_from vs valid)) else None) (cells.items.fit ∙ e))
 
-map_more : {X : Type 0} (f : X → Value) (xs : List X) (x : X) → map f (xs ++ x ∷ []) ≡ map f xs ++ f x ∷ []
-map_more f [] x = refl
-map_more f (y ∷ ys) x = ap (λ zs. f y ∷ zs) (map_more f ys x)
-
 item_is : {X : Type 0} (f : X → Value) (o : Option X) (d : X) → item_or_null f o ≡ (if is_some o then f (unwrap_or o d) else null)
 item_is f None d = refl
 item_is f (Some x) d = refl
@@ -263,4 +249,4 @@ cell_read t n word value words i d items valid cell blank all nullable lt h said
     b = is_some cell
 
     more : map value (items ++ unwrap_or cell blank ∷ []) ≡ map value items ++ value (unwrap_or cell blank) ∷ []
-    more = map_more value items (unwrap_or cell blank)
+    more = map-append value items (unwrap_or cell blank ∷ [])

@@ -2,6 +2,7 @@ pub mod CellRows
 pub mod Numbers
 pub mod Marks
 pub mod Words
+pub mod WordsSaid
 pub mod Printed
 pub mod SessionNames
 pub mod SessionSteps

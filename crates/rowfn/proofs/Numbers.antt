@@ -9,16 +9,16 @@ use Rattle.std.specs.Str.Parse.{ParsesSigned}
 use Rattle.std.proofs.lemmas.Str.Parse.{IsNumeralModel, numerals_by_fold, parse_signed_digits, parse_signed_minus}
 use lib.IntN.{neg_ℤ}
 use mir.Val.{hbits}
+use Rattle.std.proofs.lemmas.Bool.{and_from, and_parts}
 use Rattle.std.proofs.lemmas.Int.{ints}
 use Rattle.std.specs.Int.Signed.{le_z}
 use Rattle.std.specs.Option.{option_and_then}
 use Rattle.vortex_types.specs.declared.dtype.PType.{PType}
 use Rattle.vortex_types.specs.declared.dtype.PType.TheVariants.{I8, I16, I32, I64, U8, U16, U32, U64}
-use Rattle.vortex_types.specs.Typing.{Within, FitsPType}
+use Rattle.vortex_types.specs.Typing.{least_of, greatest_of, FitsPType}
 use Rattle.vortex_types.specs.Values.{Value, number}
-use Rattle.rowfn.specs.Ranges.{lies_within, in_range}
+use Rattle.rowfn.specs.Ranges.{in_range}
 use Rattle.rowfn.specs.Commands.{decimal_from, digits_of, negative, integer_of, number_where, number_of}
-use Rattle.rowfn.proofs.CellRows.{left_of, right_of}
 use Rattle.rowfn.specs.Cells.{ReadsNumber}
 
 pub own : IsNumeralModel (λ ds. list_all is_ascii_digit ds ≡ true) (decimal_from 0)
@@ -107,50 +107,27 @@ integer_plain (b ∷ bs) h = by (b == 45) refl
     by true e = absurd (h bs (ap (λ c. c ∷ bs) (grind (arith, tests))))
     by false e = refl
 
-within : (low high z : ℤ) → lies_within low high z ≡ true → Within low high z
-within low high z h =
-    let a = left_of (le_z low z) (le_z z high) h in
-    let b = right_of (le_z low z) (le_z z high) h in
-    (grind (arith, ints), grind (arith, ints))
-
-lies : (low high z : ℤ) → Within low high z → lies_within low high z ≡ true
-lies low high z h =
-    let a : le_z low z ≡ true = grind (arith, ints, h.0) in
-    let b : le_z z high ≡ true = grind (arith, ints, h.1) in
-    λ i. a i && b i
-
 fits : (p : PType) (z : ℤ) → in_range p z ≡ true → FitsPType p z
-fits I8 z h = within _ _ z h
-fits I16 z h = within _ _ z h
-fits I32 z h = within _ _ z h
-fits I64 z h = within _ _ z h
-fits U8 z h = within _ _ z h
-fits U16 z h = within _ _ z h
-fits U32 z h = within _ _ z h
-fits U64 z h = within _ _ z h
+fits p z h =
+    let parts = and_parts (le_z (least_of p) z) (le_z z (greatest_of p)) h in
+    (grind (arith, ints, parts.0), grind (arith, ints, parts.1))
 
 ranged : (p : PType) (z : ℤ) → FitsPType p z → in_range p z ≡ true
-ranged I8 z h = lies _ _ z h
-ranged I16 z h = lies _ _ z h
-ranged I32 z h = lies _ _ z h
-ranged I64 z h = lies _ _ z h
-ranged U8 z h = lies _ _ z h
-ranged U16 z h = lies _ _ z h
-ranged U32 z h = lies _ _ z h
-ranged U64 z h = lies _ _ z h
+ranged p z h =
+    let low : le_z (least_of p) z ≡ true = grind (arith, ints, h.0) in
+    let high : le_z z (greatest_of p) ≡ true = grind (arith, ints, h.1) in
+    and_from _ _ low high
 
-wide : (z : ℤ) → Within (negsuc 9223372036854775807) (pos 18446744073709551615) z → FitsSigned w128 z
-wide z h = grind (arith, ints, h.0, h.1)
-
+-- each type holds no more than 64 bits and a sign do
 fits_wide : (p : PType) (z : ℤ) → FitsPType p z → FitsSigned w128 z
-fits_wide I8 z h = wide z (grind (arith, ints, h.0), grind (arith, ints, h.1))
-fits_wide I16 z h = wide z (grind (arith, ints, h.0), grind (arith, ints, h.1))
-fits_wide I32 z h = wide z (grind (arith, ints, h.0), grind (arith, ints, h.1))
-fits_wide I64 z h = wide z (h.0, grind (arith, ints, h.1))
-fits_wide U8 z h = wide z (grind (arith, ints, h.0), grind (arith, ints, h.1))
-fits_wide U16 z h = wide z (grind (arith, ints, h.0), grind (arith, ints, h.1))
-fits_wide U32 z h = wide z (grind (arith, ints, h.0), grind (arith, ints, h.1))
-fits_wide U64 z h = wide z (grind (arith, ints, h.0), h.1)
+fits_wide I8 z h = grind (arith, ints, h.0, h.1)
+fits_wide I16 z h = grind (arith, ints, h.0, h.1)
+fits_wide I32 z h = grind (arith, ints, h.0, h.1)
+fits_wide I64 z h = grind (arith, ints, h.0, h.1)
+fits_wide U8 z h = grind (arith, ints, h.0, h.1)
+fits_wide U16 z h = grind (arith, ints, h.0, h.1)
+fits_wide U32 z h = grind (arith, ints, h.0, h.1)
+fits_wide U64 z h = grind (arith, ints, h.0, h.1)
 
 not_where : (b : Bool) (z : ℤ) → (b ≡ true → ⊥) → number_where b z ≡ None
 not_where true z h = absurd (h refl)

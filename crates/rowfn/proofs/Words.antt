@@ -1,7 +1,7 @@
 -- Words that are split off one by one.
 use Rattle.std.proofs.Common.{◌≡◌, ◌≢◌, ◌==◌, ℕ, zero, suc, ◌+◌, ◌<◌, ◌≤◌, Bool, true, false, Option, Some, None, List, [], ◌∷◌, ◌++◌, map, length, get_or, refl, sym, ap, subst, ◌∙◌, arith, tests, length-append, append_assoc, option_map, if◌then◌else◌}
-use Rattle.std.proofs.lemmas.List.{append-nil}
-use Rattle.rowfn.specs.Lines.{Word, plain, quoted, after_spaces, with_word, words_of, in_word, in_quotes, after_quotes, BeginsWord, BeginsPlain}
+use Rattle.std.proofs.lemmas.List.{append-nil, map-append}
+use Rattle.rowfn.specs.Lines.{Word, plain, quoted, after_spaces, with_word, words_of, in_word, in_quotes, after_quotes, BeginsWord, BeginsPlain, Lacks}
 
 differs : (b c : ℕ) → b ≢ c → (b == c) ≡ false
 differs b c h = grind (arith, tests)
@@ -39,9 +39,6 @@ begins_word (b ∷ bs) = by (b == 32) refl (begins_word bs)
     by : (c : Bool) → (b == 32) ≡ c → (after_spaces bs ≢ [] → BeginsWord (after_spaces bs)) → (if c then after_spaces bs else b ∷ bs) ≢ [] → BeginsWord (if c then after_spaces bs else b ∷ bs)
     by true e h k = h k
     by false e h k = λ same. grind (arith, tests)
-
-abbrev pub Lacks : ℕ → List ℕ → Type 0
-Lacks c xs = (i : ℕ) → i < length xs → get_or xs i 0 ≢ c
 
 lacks_tail : (c x : ℕ) (xs : List ℕ) → Lacks c (x ∷ xs) → Lacks c xs
 lacks_tail c x xs h i lt = h (suc i) (omega arith)
@@ -148,14 +145,10 @@ pub read_nothing : {A : Type 0} (f : A → Word) (xs : List A) → xs ≡ [] →
 read_nothing f xs e None = refl
 read_nothing f xs e (Some ws) = ap (λ ys. Some (map f ys ++ ws)) e
 
-map_more : {A : Type 0} (f : A → Word) (xs : List A) (x : A) → map f (xs ++ x ∷ []) ≡ map f xs ++ f x ∷ []
-map_more f [] x = refl
-map_more f (y ∷ ys) x = ap (λ zs. f y ∷ zs) (map_more f ys x)
-
 -- the words so far, and those to come
 pub words_more : {A : Type 0} (f : A → Word) (xs : List A) (x : A) (before after : Option (List Word)) (all : Option (List Word)) → before ≡ with_word (f x) after → option_map (λ ws. map f xs ++ ws) before ≡ all → option_map (λ ws. map f (xs ++ x ∷ []) ++ ws) after ≡ all
 words_more f xs x before after all e h =
-    ap (λ (ys : List Word). option_map (λ ws. ys ++ ws) after) (map_more f xs x)
+    ap (λ (ys : List Word). option_map (λ ws. ys ++ ws) after) (map-append f xs (x ∷ []))
     ∙ sym (word_more (map f xs) (f x) after)
     ∙ ap (option_map (λ ws. map f xs ++ ws)) (sym e)
     ∙ h

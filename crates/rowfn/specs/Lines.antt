@@ -1,5 +1,5 @@
 -- A script as lines, and a line as words.
-use Rattle.std.specs.Prelude.{◌==◌, ◌≢◌, ℕ, List, [], ◌∷◌, ◌++◌, Option, Some, None, if◌then◌else◌}
+use Rattle.std.specs.Prelude.{◌≡◌, ◌==◌, ◌≢◌, ◌<◌, ℕ, List, [], ◌∷◌, ◌++◌, length, get_or, ◌↔◌, Option, Some, None, if◌then◌else◌}
 use Rattle.std.specs.List.{slice_split}
 use Rattle.rowfn.specs.declared.text.Word as word
 use Rattle.rowfn.specs.declared.text.Word.TheVariants as variant
@@ -21,8 +21,42 @@ abbrev pub with_word : Word → Option (List Word) → Option (List Word)
 with_word w None = None
 with_word w (Some ws) = Some (w ∷ ws)
 
--- Words stand between spaces. One that begins with a quote runs to the next quote, may hold spaces, and is followed by a space
--- or by the line's end; a line with another has no words.
+-- the text begins with a word, and with one that stands in no quotes
+abbrev pub BeginsWord : List ℕ → Type 0
+BeginsWord [] = ⊥
+BeginsWord (b ∷ bs) = b ≢ 32
+
+abbrev pub BeginsPlain : List ℕ → Type 0
+BeginsPlain [] = ⊥
+BeginsPlain (b ∷ bs) = (b ≢ 32) × (b ≢ 34)
+
+-- no byte is that one
+abbrev pub Lacks : ℕ → List ℕ → Type 0
+Lacks c xs = (i : ℕ) → i < length xs → get_or xs i 0 ≢ c
+
+abbrev pub AreSpaces : List ℕ → Type 0
+AreSpaces [] = Unit {0}
+AreSpaces (b ∷ bs) = (b ≡ 32) × AreSpaces bs
+
+-- a word as it stands in a line: bytes without a space, of which there is one at least and the first is no quote; or, between two
+-- quotes, bytes without a quote
+abbrev pub Spells : Word → List ℕ → Type 0
+Spells (plain w) bs = (bs ≡ w) × BeginsPlain w × Lacks 32 w
+Spells (quoted w) bs = (bs ≡ 34 ∷ w ++ 34 ∷ []) × Lacks 34 w
+
+-- nothing, or what begins with a space
+abbrev pub FollowsWord : List ℕ → Type 0
+FollowsWord [] = Unit {0}
+FollowsWord (b ∷ bs) = b ≡ 32
+
+-- A line says words: spaces, the first word as it stands, and a rest, set off by a space, that says the other words. Where it
+-- says none it is spaces.
+abbrev pub SaysWords : List ℕ → List Word → Type 0
+SaysWords line [] = AreSpaces line
+SaysWords line (w ∷ ws) =
+    (before spelling rest : List ℕ) × (line ≡ before ++ (spelling ++ rest)) × AreSpaces before × Spells w spelling × FollowsWord rest × SaysWords rest ws
+
+-- The words that a line says, byte by byte; a line that says none such has none.
 abbrev mutual
   pub words_of : List ℕ → Option (List Word)
   words_of [] = Some []
@@ -45,11 +79,6 @@ abbrev pub word_in : word.Word → Word
 word_in (variant.Plain w) = plain w.now
 word_in (variant.Quoted w) = quoted w.now
 
--- the text begins with a word, and with one that stands in no quotes
-abbrev pub BeginsWord : List ℕ → Type 0
-BeginsWord [] = ⊥
-BeginsWord (b ∷ bs) = b ≢ 32
-
-abbrev pub BeginsPlain : List ℕ → Type 0
-BeginsPlain [] = ⊥
-BeginsPlain (b ∷ bs) = (b ≢ 32) × (b ≢ 34)
+-- the words of a line are those that it says, and no others
+abbrev pub AreWordsSaid : Type 0
+AreWordsSaid = (line : List ℕ) (ws : List Word) → (words_of line ≡ Some ws) ↔ SaysWords line ws

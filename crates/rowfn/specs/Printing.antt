@@ -5,7 +5,8 @@ use Rattle.std.specs.List.{flat_map}
 use Rattle.vortex_types.specs.LogicalTypes.{LogicalType, bool_type, integer_type, text_type, is_nullable}
 use Rattle.vortex_types.specs.Values.{Value, null, truth, number, text}
 use Rattle.vortex_columns.specs.ColumnView.{ColumnView}
-use Rattle.vortex_meaning.specs.Printing.{ptype_text, quote}
+use Rattle.vortex_types.specs.TypeTexts.{ptype_text}
+use Rattle.vortex_meaning.specs.Printing.{quote}
 
 -- no column of a script has another type
 abbrev pub kind_text : LogicalType → List ℕ

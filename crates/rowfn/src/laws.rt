@@ -1,5 +1,6 @@
 //! What follows from the meaning of scripts. These functions do nothing: their contracts are proved.
 ghost use Rattle.rowfn.specs.Fitting.{RefusesFaultsAlone, TreesHaveTexts};
+ghost use Rattle.rowfn.specs.Lines.{AreWordsSaid};
 ghost use Rattle.rowfn.specs.Telling.{PrintsABeginning};
 
 use vortex_functions::ScalarFnVTable;
@@ -18,4 +19,11 @@ pub fn trees_have_texts<C: ScalarFnVTable>()
 /// What is printed before memory runs out is a beginning of what is printed where it does not.
 pub fn prints_a_beginning<C: ScalarFnVTable>()
     ensures { PrintsABeginning C.meaning }
+{}
+
+/// The words of a line stand between its spaces: each is bytes without a space that begin with no quote, or, between two
+/// quotes, bytes without a quote.
+#[tactic(auto, using(crate::proofs::WordsSaid::are_words_said))]
+pub fn words_are_said()
+    ensures { AreWordsSaid }
 {}

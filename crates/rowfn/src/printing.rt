@@ -3,34 +3,19 @@ ghost use Rattle.std.specs.Prelude.{◌≡◌, ◌++◌, string_bytes};
 ghost use Rattle.vortex_types.specs.Answers.{AnswersUnlessMemory};
 ghost use Rattle.vortex_types.specs.TypeOf.{type_of};
 ghost use Rattle.vortex_columns.specs.Cells.{cell_value, IsCell};
-ghost use Rattle.vortex_meaning.specs.Printing.{ptype_text, quote};
+ghost use Rattle.vortex_meaning.specs.Printing.{quote};
 ghost use Rattle.rowfn.specs.Printing.{kind_text, type_text, value_text, column_text};
 
 use std::alloc::Global;
 use std::fmt::Write;
-use vortex_columns::{Cell, Column, DType, PType, VortexResult};
-
-fn ptype_text(ptype: PType) -> &'static str
-    ensures { result.now ≡ ptype_text ptype }
-{
-    match ptype {
-        PType::I8 => "i8",
-        PType::I16 => "i16",
-        PType::I32 => "i32",
-        PType::I64 => "i64",
-        PType::U8 => "u8",
-        PType::U16 => "u16",
-        PType::U32 => "u32",
-        PType::U64 => "u64",
-    }
-}
+use vortex_columns::{Cell, Column, DType, VortexResult};
 
 fn kind_text(dtype: &DType) -> &'static str
     ensures { result.now ≡ kind_text (type_of dtype.now) }
 {
     match dtype {
         DType::Bool(_) => "bool",
-        DType::Primitive(ptype, _) => ptype_text(*ptype),
+        DType::Primitive(ptype, _) => ptype.text(),
         DType::Utf8(_) => "utf8",
         _ => "",
     }

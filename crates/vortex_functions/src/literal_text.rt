@@ -3,33 +3,18 @@ ghost use Rattle.std.specs.Prelude.{◌≡◌, ◌++◌, string_bytes};
 ghost use Rattle.std.specs.List.{flat_map};
 ghost use Rattle.vortex_types.specs.Answers.{AnswersUnlessMemory};
 ghost use Rattle.vortex_columns.specs.Cells.{cell_value, sequence_value, sequence_values, IsCell, IsSequence};
-ghost use Rattle.vortex_meaning.specs.Printing.{literal_text, value_texts, field_texts, joined, comma, hex_text, ptype_text, separator_before};
+ghost use Rattle.vortex_meaning.specs.Printing.{literal_text, value_texts, field_texts, joined, comma, hex_text, separator_before};
 ghost use Rattle.vortex_types.specs.Values.{values_of};
 ghost use Rattle.vortex_functions.specs.Shapes.{shape_type, fields_in};
 
 use std::fmt::Write;
-use vortex_columns::{Cell, DType, PType, Sequence, VortexResult};
+use vortex_columns::{Cell, DType, Sequence, VortexResult};
 
 /// A type where it lies: one of its own, or that of a map's entries, by key and value.
 #[derive(Clone, Copy)]
 pub(crate) enum Shape<'a> {
     Of(&'a DType),
     Entry(&'a DType, &'a DType),
-}
-
-fn ptype_text(ptype: PType) -> &'static str
-    ensures { result.now ≡ ptype_text ptype }
-{
-    match ptype {
-        PType::I8 => "i8",
-        PType::I16 => "i16",
-        PType::I32 => "i32",
-        PType::I64 => "i64",
-        PType::U8 => "u8",
-        PType::U16 => "u16",
-        PType::U32 => "u32",
-        PType::U64 => "u64",
-    }
 }
 
 impl<'a> Shape<'a> {
@@ -44,7 +29,7 @@ impl<'a> Shape<'a> {
         ensures { result.now ≡ suffix (shape_type self.entry) }
     {
         match self {
-            Shape::Of(DType::Primitive(ptype, _)) => ptype_text(*ptype),
+            Shape::Of(DType::Primitive(ptype, _)) => ptype.text(),
             _ => "",
         }
     }

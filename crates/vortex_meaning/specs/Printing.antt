@@ -3,8 +3,7 @@ use Rattle.std.specs.Prelude.{◌≡◌, ℕ, zero, suc, ◌/◌, ◌%◌, List,
 use Rattle.std.specs.Fmt.{digit_glyph, signed_decimal}
 use Rattle.std.specs.List.{flat_map, join_by}
 use Rattle.std.specs.Option.{option_and_then}
-use Rattle.vortex_types.specs.declared.dtype.PType.{PType}
-use Rattle.vortex_types.specs.declared.dtype.PType.TheVariants.{I8, I16, I32, I64, U8, U16, U32, U64}
+use Rattle.vortex_types.specs.TypeTexts.{ptype_text}
 use Rattle.vortex_types.specs.LogicalTypes.{LogicalType, integer_type, struct_type, list_type, fixed_size_list_type, map_type, Fields, no_fields, field}
 use Rattle.vortex_types.specs.Values.{Value, null, truth, number, text, bytes, list, Values, no_values, value}
 use Rattle.vortex_kernels.specs.Operators.{text_of}
@@ -23,16 +22,6 @@ separator_before separator (suc k) = separator
 
 abbrev pub comma : List ℕ
 comma = codes ", "
-
-abbrev pub ptype_text : PType → List ℕ
-ptype_text I8 = codes "i8"
-ptype_text I16 = codes "i16"
-ptype_text I32 = codes "i32"
-ptype_text I64 = codes "i64"
-ptype_text U8 = codes "u8"
-ptype_text U16 = codes "u16"
-ptype_text U32 = codes "u32"
-ptype_text U64 = codes "u64"
 
 -- what follows a whole number: its type, nullable or not
 abbrev pub suffix : LogicalType → List ℕ

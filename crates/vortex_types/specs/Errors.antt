@@ -40,6 +40,13 @@ fault_name Sub = codes "Arithmetic.Sub"
 fault_name Mul = codes "Arithmetic.Mul"
 fault_name Div = codes "Arithmetic.Div"
 
+-- what is printed of a fault
+abbrev pub fault_text : NumericOperator → List ℕ
+fault_text Add = codes "integer overflow in checked add"
+fault_text Sub = codes "integer overflow in checked sub"
+fault_text Mul = codes "integer overflow in checked mul"
+fault_text Div = codes "integer division by zero or overflow in checked div"
+
 abbrev pub name_of : VortexError → List ℕ
 name_of (IndexOutOfBounds i n) = codes "IndexOutOfBounds"
 name_of (LengthMismatch l r) = codes "LengthMismatch"

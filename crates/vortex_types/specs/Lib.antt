@@ -13,6 +13,7 @@ pub mod ScalarLaws
 pub mod Answers
 pub mod Errors
 pub mod TypeOf
+pub mod TypeTexts
 pub mod ValueOf
 pub mod ValidityView
 pub mod Numbers

@@ -5,19 +5,28 @@ use Rattle.vortex_types.specs.declared.dtype.PType.TheVariants.{I8, I16, I32, I6
 use Rattle.vortex_types.specs.LogicalTypes.{LogicalType, null_type, bool_type, integer_type, text_type, bytes_type, struct_type, list_type, fixed_size_list_type, map_type, Fields, no_fields, field}
 use Rattle.vortex_types.specs.Values.{Value, null, truth, number, text, bytes, list, Values, no_values, value, value_count}
 
-abbrev pub Within : ℤ → ℤ → ℤ → Type 0
-Within low high z = (low ≤ℤ z) × (z ≤ℤ high)
+-- the least number of an integer type
+abbrev pub least_of : PType → ℤ
+least_of I8 = negsuc 127
+least_of I16 = negsuc 32767
+least_of I32 = negsuc 2147483647
+least_of I64 = negsuc 9223372036854775807
+least_of p = pos 0
+
+-- and the greatest
+abbrev pub greatest_of : PType → ℤ
+greatest_of I8 = pos 127
+greatest_of I16 = pos 32767
+greatest_of I32 = pos 2147483647
+greatest_of I64 = pos 9223372036854775807
+greatest_of U8 = pos 255
+greatest_of U16 = pos 65535
+greatest_of U32 = pos 4294967295
+greatest_of U64 = pos 18446744073709551615
 
 -- the range of an integer type
 abbrev pub FitsPType : PType → ℤ → Type 0
-FitsPType I8 = Within (negsuc 127) (pos 127)
-FitsPType I16 = Within (negsuc 32767) (pos 32767)
-FitsPType I32 = Within (negsuc 2147483647) (pos 2147483647)
-FitsPType I64 = Within (negsuc 9223372036854775807) (pos 9223372036854775807)
-FitsPType U8 = Within (pos 0) (pos 255)
-FitsPType U16 = Within (pos 0) (pos 65535)
-FitsPType U32 = Within (pos 0) (pos 4294967295)
-FitsPType U64 = Within (pos 0) (pos 18446744073709551615)
+FitsPType p z = (least_of p ≤ℤ z) × (z ≤ℤ greatest_of p)
 
 -- null where the type has it, and else P
 abbrev pub OrNull : Bool → (Value → Type 0) → Value → Type 0

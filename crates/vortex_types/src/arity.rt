@@ -34,6 +34,11 @@ impl Arity {
 
 /// `2`; `1..3`; `1+`; `2` where the least and the greatest count are the same.
 impl fmt::Display for Arity {
+    ghost use Rattle.std.specs.Prelude.{Some};
+    ghost use Rattle.vortex_types.specs.Arities.{arity_text};
+
+    ghost output = { λ arity. Some (arity_text arity) };
+
     fn fmt<W: fmt::Write>(&self, f: &mut fmt::Formatter<W>) -> fmt::Result {
         match self {
             Arity::Exact(count) => write!(f, "{count}"),

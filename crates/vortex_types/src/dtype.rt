@@ -10,6 +10,7 @@ ghost use Rattle.vortex_types.specs.Agreement.{nulls_agree, types_agree, fields_
 
 use crate::error::{VortexError, VortexResult};
 use std::alloc::{AllocError, Global};
+use std::fmt;
 use std::ops::BitOr;
 
 /// Whether a type has null.
@@ -74,6 +75,23 @@ pub enum PType {
 
 impl PType {
     ghost use Rattle.vortex_types.specs.Typing.{FitsPType};
+    ghost use Rattle.vortex_types.specs.TypeTexts.{ptype_text};
+
+    /// The type's name, as Rust writes it: `i8` to `u64`.
+    pub fn text(&self) -> &'static str
+        ensures { result.now ≡ ptype_text self.now }
+    {
+        match self {
+            PType::I8 => "i8",
+            PType::I16 => "i16",
+            PType::I32 => "i32",
+            PType::I64 => "i64",
+            PType::U8 => "u8",
+            PType::U16 => "u16",
+            PType::U32 => "u32",
+            PType::U64 => "u64",
+        }
+    }
 
     /// Whether a number lies in the range of the type.
     pub fn holds(&self, n: i128) -> bool
@@ -89,6 +107,17 @@ impl PType {
             PType::U32 => 0 <= n && n <= 4294967295,
             PType::U64 => 0 <= n && n <= 18446744073709551615,
         }
+    }
+}
+
+impl fmt::Display for PType {
+    ghost use Rattle.std.specs.Prelude.{Some};
+    ghost use Rattle.vortex_types.specs.TypeTexts.{ptype_text};
+
+    ghost output = { λ ptype. Some (ptype_text ptype) };
+
+    fn fmt<W: fmt::Write>(&self, f: &mut fmt::Formatter<W>) -> fmt::Result {
+        write!(f, "{}", self.text())
     }
 }
 

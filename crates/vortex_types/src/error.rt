@@ -1,6 +1,7 @@
 //! Refusals by name.
 ghost use Rattle.std.specs.Prelude.{◌≡◌};
 ghost use Rattle.vortex_types.specs.declared.error.VortexError.TheVariants.{OutOfMemory};
+ghost use Rattle.vortex_types.specs.Errors.{fault_text};
 
 use crate::arity::Arity;
 use std::alloc::{AllocError, AllocFailed};
@@ -79,7 +80,9 @@ pub enum VortexError {
 }
 
 /// The text of an arithmetic fault.
-fn fault_text(operator: &NumericOperator) -> &'static str {
+fn fault_text(operator: &NumericOperator) -> &'static str
+    ensures { result.now ≡ fault_text operator.now }
+{
     match operator {
         NumericOperator::Add => "integer overflow in checked add",
         NumericOperator::Sub => "integer overflow in checked sub",
