@@ -11,12 +11,12 @@ use Rattle.vortex_types.specs.TypeEquality.{alike_types}
 use Rattle.vortex_types.specs.Typing.{HasType}
 use Rattle.vortex_types.specs.Order.{compare_values}
 use Rattle.vortex_types.specs.ScalarView.{ScalarView, compare_scalars}
-use Rattle.vortex_columns.specs.ColumnView.{ColumnView, row, AreTyped, constant_column, is_bytes_like, bytes_value, HasBytes, AreInts, AreBits}
+use Rattle.vortex_columns.specs.ColumnView.{ColumnView, row, AreTyped, constant_column, is_bytes_like, bytes_value, HasBytes, AreBytes, AreInts, AreBits}
 use Rattle.vortex_types.specs.ValidityView.{non_nullable, array}
 use Rattle.vortex_columns.specs.Stored.{bool_column}
 use Rattle.vortex_kernels.specs.declared.operators.CompareOperator.{CompareOperator}
 use Rattle.vortex_kernels.specs.Rows.{HasRows, AreAnswers}
-use Rattle.vortex_kernels.specs.Comparison.{holds, comparison_value, comparison_type, compared_scalar, are_comparable, is_settled, HasComparisonRows, AnswersCompare, AreHeld, IsConstantOf, IsConstantBytes, IsOrderAt, IsBytesOrderAt, AreComparisons}
+use Rattle.vortex_kernels.specs.Comparison.{holds, comparison_value, comparison_type, compared_scalar, are_comparable, is_settled, HasComparisonRows, AnswersCompare, AreHeld, IsConstantOf, IsConstantBytes, IsOrderAt, AreComparisons}
 use Rattle.vortex_kernels.proofs.RowLemmas.{get_or-last, get_or-before}
 
 -- one more row
@@ -205,22 +205,17 @@ bytes_compare (text_type n) (text_type m) xs ys h k e = refl
 bytes_compare (bytes_type n) (bytes_type m) xs ys h k e = refl
 bytes_compare t u xs ys h k e = cc
 
-pub bytes_order : (l r : ColumnView) (i : ℕ) (xs ys : List ℕ) (o : Ordering) → HasBytes l → HasBytes r → is_text_type l.dtype ≡ is_text_type r.dtype → (is_null (row l.rows i) ≡ false → row l.rows i ≡ bytes_value l.dtype xs) → (is_null (row r.rows i) ≡ false → row r.rows i ≡ bytes_value r.dtype ys) → o ≡ slice_cmp nat_cmp xs ys → IsOrderAt l.rows r.rows i o
-bytes_order l r i xs ys o h k kind a b e p q =
-    e ∙ sym (bytes_compare l.dtype r.dtype xs ys h.bytes_like k.bytes_like kind) ∙ (λ j. compare_values (sym (a p) j) (sym (b q) j))
+pub bytes_order : (l r : ColumnView) (xs ys : List (List ℕ)) → length l.rows ≡ length r.rows → is_text_type l.dtype ≡ is_text_type r.dtype → HasBytes l × AreBytes l xs → HasBytes r × AreBytes r ys → (i : ℕ) (o : Ordering) → i < length l.rows → o ≡ slice_cmp nat_cmp (slice_index_or xs i []) (slice_index_or ys i []) → IsOrderAt l.rows r.rows i o
+bytes_order l r xs ys same kind a b i o lt e p q =
+    e
+    ∙ sym (bytes_compare l.dtype r.dtype (slice_index_or xs i []) (slice_index_or ys i []) a.0.bytes_like b.0.bytes_like kind)
+    ∙ (λ j. compare_values (sym (a.1.each i (omega (arith, a.1.count)) p) j) (sym (b.1.each i (omega (arith, b.1.count, same)) q) j))
 
-pub byte_order : (l : ColumnView) (i : ℕ) (xs ys : List ℕ) (o : Ordering) → HasBytes l → (is_null (row l.rows i) ≡ false → row l.rows i ≡ bytes_value l.dtype xs) → o ≡ slice_cmp nat_cmp xs ys → IsBytesOrderAt l ys i o
-byte_order l i xs ys o h a e p =
-    e ∙ sym (bytes_compare l.dtype l.dtype xs ys h.bytes_like h.bytes_like refl) ∙ (λ j. compare_values (sym (a p) j) (bytes_value l.dtype ys))
-
-same_kind : (t u : LogicalType) (bs : List ℕ) → is_bytes_like t ≡ true → is_bytes_like u ≡ true → is_text_type t ≡ is_text_type u → bytes_value t bs ≡ bytes_value u bs
-same_kind (text_type n) (text_type m) bs h k e = refl
-same_kind (bytes_type n) (bytes_type m) bs h k e = refl
-same_kind t u bs h k e = cc
-
-pub one_order : (l r : ColumnView) (bs : List ℕ) → length l.rows ≡ length r.rows → is_bytes_like l.dtype ≡ true → is_bytes_like r.dtype ≡ true → is_text_type l.dtype ≡ is_text_type r.dtype → IsConstantOf (bytes_value r.dtype bs) r → (i : ℕ) (o : Ordering) → i < length l.rows → IsBytesOrderAt l bs i o → IsOrderAt l.rows r.rows i o
-one_order l r bs same h k kind c i o lt told p q =
-    told p ∙ ap (compare_values (row l.rows i)) (same_kind l.dtype r.dtype bs h k kind ∙ sym (c i (omega (arith, same))))
+pub byte_order : (l r : ColumnView) (xs : List (List ℕ)) (bs : List ℕ) → length l.rows ≡ length r.rows → is_text_type l.dtype ≡ is_text_type r.dtype → HasBytes l × AreBytes l xs → IsConstantBytes r bs → (i : ℕ) (o : Ordering) → i < length l.rows → o ≡ slice_cmp nat_cmp (slice_index_or xs i []) bs → IsOrderAt l.rows r.rows i o
+byte_order l r xs bs same kind a b i o lt e p q =
+    e
+    ∙ sym (bytes_compare l.dtype r.dtype (slice_index_or xs i []) bs a.0.bytes_like b.like kind)
+    ∙ (λ j. compare_values (sym (a.1.each i (omega (arith, a.1.count)) p) j) (sym (b.rows i (omega (arith, same))) j))
 
 typed_text : (t : LogicalType) (bs : List ℕ) → HasType t (text bs) → (bytes_value t bs ≡ text bs) × (is_bytes_like t ≡ true)
 typed_text (text_type n) bs h = (refl, refl)

@@ -84,10 +84,6 @@ pub record IsConstantBytes (c : ColumnView) (bs : List ℕ) : Type 0 where
 abbrev pub IsOrderAt : List Value → List Value → ℕ → Ordering → Type 0
 IsOrderAt ls rs i o = is_null (row ls i) ≡ false → is_null (row rs i) ≡ false → o ≡ compare_values (row ls i) (row rs i)
 
--- the order of a row of texts or byte strings and one of the same kind, where the row is not null
-abbrev pub IsBytesOrderAt : ColumnView → List ℕ → ℕ → Ordering → Type 0
-IsBytesOrderAt l bs i o = is_null (row l.rows i) ≡ false → o ≡ compare_values (row l.rows i) (bytes_value l.dtype bs)
-
 -- for each row whether the comparison says yes, where neither side is null
 pub record AreComparisons (op : CompareOperator) (ls rs : List Value) (bits : List Bool) : Type 0 where
   pub count : length bits ≡ length ls
