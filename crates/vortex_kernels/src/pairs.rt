@@ -1,10 +1,10 @@
 //! The values of two columns side by side, and the comparison that is asked of each pair.
-ghost use Rattle.std.specs.Prelude.{◌≡◌, ◌<◌, ℕ, [], pos, false, map, length, slice_index_or, IfSome};
+ghost use Rattle.std.specs.Prelude.{◌≡◌, ◌<◌, ℕ, [], pos, true, false, map, length, slice_index_or, IfSome};
 ghost use Rattle.std.specs.declared.cmp.Ordering.{Ordering};
 ghost use Rattle.std.specs.Ordering.{nat_cmp, int_cmp, bool_cmp};
 ghost use Rattle.std.specs.Cmp.Lexicographic.{slice_cmp};
 ghost use Rattle.vortex_types.specs.Answers.{AnswersUnlessMemory};
-ghost use Rattle.vortex_types.specs.Values.{number, truth};
+ghost use Rattle.vortex_types.specs.Values.{number, truth, truth_of};
 ghost use Rattle.vortex_types.specs.Order.{compare_values};
 ghost use Rattle.vortex_types.specs.LogicalTypes.{is_text_type};
 ghost use Rattle.vortex_columns.specs.ColumnView.{row};
@@ -260,8 +260,9 @@ fn constant_int(column: &Column) -> Option<i128>
 }
 
 /// The truth value in each row of a constant column of Bool.
-fn constant_bool(column: &Column) -> Option<bool>
-    ensures { IfSome result (λ b. IsConstantOf (truth b) column.now) }
+pub(crate) fn constant_bool(column: &Column) -> Option<bool>
+    ensures value { IfSome result (λ b. IsConstantOf (truth b) column.now) }
+    ensures rows { column.now.constant ≡ true → (i : ℕ) → i < length column.now.rows → truth_of (row column.now.rows i) ≡ result }
 {
     column.as_constant()?.as_bool_opt()
 }
