@@ -5,14 +5,14 @@ use Rattle.std.specs.List.{range_with_len}
 use Rattle.vortex_types.specs.declared.dtype.PType.{PType}
 use Rattle.vortex_types.specs.LogicalTypes.{LogicalType, Fields, no_fields, field, field_count, field_type, list_type, fixed_size_list_type, map_type, is_bool_type, is_nullable}
 use Rattle.vortex_types.specs.Values.{values_of, nth_value, is_null}
-use Rattle.vortex_columns.specs.ColumnView.{ColumnView, row, HasBits, AreBits, HasInts, AreInts, IsIntegerType, HasBytes, is_bytes_like, bytes_value, fields_in, value_in, HasField, IsField, HasKind, is_list_type, is_fixed_size_list_type, is_map_type, AreLists, AreFixedSizeLists, AreMaps, constant_column, constant_form}
+use Rattle.vortex_columns.specs.ColumnView.{ColumnView, row, HasBits, AreBits, HasInts, AreInts, IsIntegerType, HasBytes, AreBytes, is_bytes_like, bytes_value, fields_in, value_in, HasField, IsField, HasKind, is_list_type, is_fixed_size_list_type, is_map_type, AreLists, AreFixedSizeLists, AreMaps, constant_column, constant_form}
 use Rattle.vortex_types.specs.ScalarView.{ScalarView}
 use Rattle.vortex_types.specs.ValidityView.{ValidityView, form_allows_null}
-use Rattle.vortex_columns.specs.Stored.{Kept, bools, integers, texts, byte_strings, structs, lists, fixed_size_lists, maps, AreFields, Stored, constant_of, kept, stored_of, stored_validity, is_constant, kept_at, value_at, rows_of, AreKept, IsStored, column_view, IsColumn, HasPlace, HasRow}
+use Rattle.vortex_columns.specs.Stored.{Kept, bools, integers, texts, byte_strings, structs, lists, fixed_size_lists, maps, AreFields, Stored, constant_of, kept, stored_of, stored_validity, is_constant, kept_at, value_at, rows_of, AreKept, IsStored, column_view, IsColumn}
 use Rattle.vortex_types.specs.TypeOf.{type_of}
 use Rattle.vortex_columns.specs.KeptParts.{KeptBits, KeptInts, KeptBytes, KeptField, IsKeptField, KeptLists, KeptFixedSizeLists, KeptMaps, kept_bytes}
 use Rattle.vortex_columns.specs.declared.column.Column.TheInside.{Inside}
-use Rattle.vortex_columns.proofs.StoredRows.{opened_len, opened_has_row, opened_stored, opened_value, row_constant}
+use Rattle.vortex_columns.proofs.StoredRows.{opened_len, opened_stored, opened_value, row_constant}
 
 pub match_weaker : {X : Type 0} (P Q : Type 0) (R S : X → Type 0) (o : Option X) → (P → Q) → ((x : X) → R x → S x) → MatchOption o P R → MatchOption o Q S
 match_weaker P Q R S None f g h = f h
@@ -28,9 +28,6 @@ module _ (a : Inside) (c : ColumnView) (is : column_view a ≡ c) (ok : IsColumn
 
   pub value_here : (i : ℕ) → i < length c.rows → is_null (row c.rows i) ≡ false → row c.rows i ≡ kept_at k i
   value_here i h valid = opened_value a c is i h valid ∙ ap (λ (s : Stored). value_at s i) at
-
-  pub place_here : (i : ℕ) → i < length c.rows → HasPlace i k
-  place_here i h = (subst (λ (s : Stored). HasRow i s) at (opened_has_row a c is i ok h)).0
 
 -- a column of no values has none of these parts
 no_bits : (n : ℕ) (t : LogicalType) (m : Bool) (k : Kept) → AreKept n t m k → is_bool_type t ≡ true → KeptBits k
@@ -63,25 +60,16 @@ no_bytes n t m (lists e offsets sizes) a h = let e = ap is_bytes_like a.0 in cc
 no_bytes n t m (fixed_size_lists e size) a h = let e = ap is_bytes_like a.0 in cc
 no_bytes n t m (maps l w offsets sizes) a h = let e = ap is_bytes_like a.0 in cc
 
-bytes_like : (n : ℕ) (t : LogicalType) (m : Bool) (k : Kept) → AreKept n t m k → KeptBytes k → is_bytes_like t ≡ true
-bytes_like n t m (bools bits) a h = absurd h
-bytes_like n t m (integers q ns) a h = absurd h
-bytes_like n t m (texts ts) a h = ap is_bytes_like a.0
-bytes_like n t m (byte_strings bs) a h = ap is_bytes_like a.0
-bytes_like n t m (structs cs) a h = absurd h
-bytes_like n t m (lists e offsets sizes) a h = absurd h
-bytes_like n t m (fixed_size_lists e size) a h = absurd h
-bytes_like n t m (maps l w offsets sizes) a h = absurd h
-
-bytes_are : (n : ℕ) (t : LogicalType) (m : Bool) (k : Kept) (i : ℕ) → AreKept n t m k → KeptBytes k → kept_at k i ≡ bytes_value t (kept_bytes k i)
-bytes_are n t m (bools bits) i a h = absurd h
-bytes_are n t m (integers q ns) i a h = absurd h
-bytes_are n t m (texts ts) i a h = ap (λ (u : LogicalType). bytes_value u (slice_index_or ts i [])) (sym a.0)
-bytes_are n t m (byte_strings bs) i a h = ap (λ (u : LogicalType). bytes_value u (slice_index_or bs i [])) (sym a.0)
-bytes_are n t m (structs cs) i a h = absurd h
-bytes_are n t m (lists e offsets sizes) i a h = absurd h
-bytes_are n t m (fixed_size_lists e size) i a h = absurd h
-bytes_are n t m (maps l w offsets sizes) i a h = absurd h
+bytes_are : (n : ℕ) (t : LogicalType) (m : Bool) (k : Kept) → AreKept n t m k → KeptBytes k
+    → (is_bytes_like t ≡ true) × (length (kept_bytes k) ≡ n) × ((i : ℕ) → kept_at k i ≡ bytes_value t (slice_index_or (kept_bytes k) i []))
+bytes_are n t m (bools bits) a h = absurd h
+bytes_are n t m (integers q ns) a h = absurd h
+bytes_are n t m (texts ts) a h = (ap is_bytes_like a.0, a.1, λ i. ap (λ (u : LogicalType). bytes_value u (slice_index_or ts i [])) (sym a.0))
+bytes_are n t m (byte_strings bs) a h = (ap is_bytes_like a.0, a.1, λ i. ap (λ (u : LogicalType). bytes_value u (slice_index_or bs i [])) (sym a.0))
+bytes_are n t m (structs cs) a h = absurd h
+bytes_are n t m (lists e offsets sizes) a h = absurd h
+bytes_are n t m (fixed_size_lists e size) a h = absurd h
+bytes_are n t m (maps l w offsets sizes) a h = absurd h
 
 -- the fields of a struct column
 fields_count : (n : ℕ) (fs : Fields) (cs : List ColumnView) → AreFields n fs cs → field_count fs ≡ length cs
@@ -189,11 +177,14 @@ module _ (a : Inside) (c : ColumnView) (is : column_view a ≡ c) (ok : IsColumn
   pub bytes_none : ¬ KeptBytes k → ¬ HasBytes c
   bytes_none not h = not (no_bytes _ _ _ k (kept_here a c is ok k v at) h.bytes_like)
 
-  pub bytes_some : (i : ℕ) (bs : List ℕ) → i < length c.rows → KeptBytes k → kept_bytes k i ≡ bs → HasBytes c × (is_null (row c.rows i) ≡ false → row c.rows i ≡ bytes_value c.dtype bs)
-  bytes_some i bs h of e =
-      let here = kept_here a c is ok k v at in (
-        record { bytes_like = bytes_like _ _ _ k here of; computed = computed a c is ok k v at },
-        λ valid. value_here a c is ok k v at i h valid ∙ bytes_are _ _ _ k i here of ∙ ap (bytes_value c.dtype) e,
+  pub bytes_some : (bs : List (List ℕ)) → KeptBytes k → kept_bytes k ≡ bs → HasBytes c × AreBytes c bs
+  bytes_some bs of e =
+      let here = bytes_are _ _ _ k (kept_here a c is ok k v at) of in (
+        record { bytes_like = here.0; computed = computed a c is ok k v at },
+        record {
+          count = ap length (sym e) ∙ here.1;
+          each = λ i h valid. value_here a c is ok k v at i (omega (arith, here.1, ap length e)) valid ∙ here.2 i ∙ ap (λ (xs : List (List ℕ)). bytes_value c.dtype (slice_index_or xs i [])) e;
+        },
       )
 
 module _ (a : Inside) (c : ColumnView) (is : column_view a ≡ c) (ok : IsColumn a) (k : Kept) (v : ValidityView) (at : stored_of a.storage ≡ kept k v) where

@@ -80,6 +80,11 @@ pub record HasBytes (c : ColumnView) : Type 0 where
   pub bytes_like : is_bytes_like c.dtype ≡ true
   pub computed : c.constant ≡ false
 
+-- bytes for each row, which are the row's text or byte string where it is not null
+pub record AreBytes (c : ColumnView) (bs : List (List ℕ)) : Type 0 where
+  pub count : length bs ≡ length c.rows
+  pub each : (i : ℕ) → i < length bs → is_null (row c.rows i) ≡ false → row c.rows i ≡ bytes_value c.dtype (slice_index_or bs i [])
+
 -- one list of a list column
 abbrev pub part : List Value → ℕ → ℕ → Value
 part rows offset size = list (values_of (take size (drop offset rows)))

@@ -37,7 +37,7 @@ abbrev pub KeptMaps : Kept → Type 0
 KeptMaps (maps k v offsets sizes) = Unit {0}
 KeptMaps k = ⊥
 
-abbrev pub kept_bytes : Kept → ℕ → List ℕ
-kept_bytes (texts ts) i = slice_index_or ts i []
-kept_bytes (byte_strings bs) i = slice_index_or bs i []
-kept_bytes k i = []
+abbrev pub kept_bytes : Kept → List (List ℕ)
+kept_bytes (texts ts) = ts
+kept_bytes (byte_strings bs) = bs
+kept_bytes k = []

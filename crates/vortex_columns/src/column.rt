@@ -7,9 +7,11 @@ ghost use Rattle.vortex_types.specs.TypeOf.{type_of};
 ghost use Rattle.vortex_types.specs.Values.{is_null, number, text, bytes};
 ghost use Rattle.vortex_types.specs.Order.{compare_values};
 ghost use Rattle.vortex_columns.specs.Cells.{cell_value, IsCell};
-ghost use Rattle.vortex_columns.specs.ColumnView.{row, AreTyped, HasBits, AreBits, HasInts, AreInts, HasBytes, bytes_value, valid_rows, constant_column, null_column, part, record_at, entries, named_columns, HasField, IsField, HasKind, is_list_type, is_fixed_size_list_type, is_map_type, AreLists, AreFixedSizeLists, AreMaps};
+ghost use Rattle.vortex_columns.specs.LentBytes.{bytes_of};
+ghost use Rattle.vortex_columns.specs.ColumnView.{row, AreTyped, HasBits, AreBits, HasInts, AreInts, HasBytes, AreBytes, bytes_value, valid_rows, constant_column, null_column, part, record_at, entries, named_columns, HasField, IsField, HasKind, is_list_type, is_fixed_size_list_type, is_map_type, AreLists, AreFixedSizeLists, AreMaps};
 ghost use Rattle.vortex_types.specs.ValidityView.{array};
 
+use crate::byte_rows::ByteRows;
 use crate::cell::{Cell, Sequence};
 use crate::lists::{
     bytes_fit, copy_bytes, copy_texts, is_product, learn_bytes, lie_within, texts_fit,
@@ -181,13 +183,12 @@ impl Elements {
         }
     }
 
-    fn bytes_at(&self, i: usize) -> Option<&[u8]>
-        requires { HasPlace i (kept_of self.now) }
-        ensures { MatchOption result (¬ KeptBytes (kept_of self.now)) (λ bs. KeptBytes (kept_of self.now) × (kept_bytes (kept_of self.now) i ≡ bs.now)) }
+    fn byte_rows(&self) -> Option<ByteRows<'_>>
+        ensures { MatchOption result (¬ KeptBytes (kept_of self.now)) (λ rows. KeptBytes (kept_of self.now) × (kept_bytes (kept_of self.now) ≡ bytes_of rows)) }
     {
         match self {
-            Elements::Utf8(values) => Some(values[i].as_bytes()),
-            Elements::Binary(values) => Some(values[i].as_slice()),
+            Elements::Utf8(values) => Some(ByteRows::of_texts(values)),
+            Elements::Binary(values) => Some(ByteRows::of_byte_strings(values)),
             _ => None,
         }
     }
@@ -625,16 +626,25 @@ impl Column {
         }
     }
 
+    /// The texts or byte strings, one a row, of a column of texts or bytes that is no constant. What lies under a null
+    /// says nothing.
+    pub fn byte_rows(&self) -> Option<ByteRows<'_>>
+        ensures { MatchOption result (¬ HasBytes self.now) (λ rows. HasBytes self.now × AreBytes self.now (bytes_of rows)) }
+    {
+        match &self.storage {
+            Storage::Rows(elements, _) => elements.byte_rows(),
+            _ => None,
+        }
+    }
+
     /// The text's or the bytes' own bytes in row `i` of a column of texts or bytes that is no constant. What lies
     /// under a null says nothing.
     pub fn bytes_at(&self, i: usize) -> Option<&[u8]>
         requires { i < length self.now.rows }
         ensures { MatchOption result (¬ HasBytes self.now) (λ bs. HasBytes self.now × (is_null (row self.now.rows i) ≡ false → row self.now.rows i ≡ bytes_value self.now.dtype bs.now)) }
     {
-        match &self.storage {
-            Storage::Rows(elements, _) => elements.bytes_at(i),
-            _ => None,
-        }
+        let rows = self.byte_rows()?;
+        Some(rows.bytes(i))
     }
 
     /// The rows that are not null, where the validity's form is an array of bits.

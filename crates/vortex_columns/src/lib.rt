@@ -1,12 +1,14 @@
 //! Columns of typed rows, scalars, and cells that are lent from both; with the types that stand below.
 #![tactic(auto)]
 
+pub mod byte_rows;
 pub mod cell;
 pub mod column;
 mod lists;
 pub mod scalar;
 pub mod typing;
 
+pub use byte_rows::ByteRows;
 pub use cell::{Cell, Sequence, cell_of};
 pub use column::Column;
 pub use scalar::Scalar;

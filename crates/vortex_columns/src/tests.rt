@@ -238,7 +238,7 @@ fn parts(column: &Column) -> [bool; 7] {
     [
         column.bits().is_some(),
         column.ints::<i32>().is_some(),
-        column.bytes_at(0).is_some(),
+        column.byte_rows().is_some(),
         column.field(0).is_some(),
         column.list_parts().is_some(),
         column.fixed_parts().is_some(),
@@ -323,6 +323,15 @@ fn lends_texts(rt: HostRuntime) -> Result<(), Fail> {
     let column = Column::try_utf8(names(rt.alloc(), "a", "b")?, Validity::AllValid)?;
     assert!(rt; lends(rt.alloc(), &column, BYTES)?);
     assert!(rt; column.dtype().is_utf8());
+    match column.byte_rows() {
+        Some(rows) => {
+            assert_eq!(rt; rows.len(), 2);
+            assert_eq!(rt; column.len(), 2);
+            assert_eq!(rt; rows.bytes(1), "b".as_bytes());
+            assert!(rt; column.bytes_at(1) == Some("b".as_bytes()));
+        }
+        None => panic!(rt; "no texts"),
+    }
     Ok(())
 }
 

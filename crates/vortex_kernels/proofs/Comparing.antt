@@ -1,5 +1,5 @@
 -- Rows that are compared one by one, and the column that is made of the answers.
-use Rattle.std.proofs.Common.{◌≡◌, ◌⊎◌, inl, inr, ℕ, ◌+◌, ◌<◌, Bool, true, false, List, [], ◌∷◌, ◌++◌, length, refl, sym, ap, subst, ◌∙◌, arith, length-append, cond}
+use Rattle.std.proofs.Common.{◌≡◌, ℕ, ◌<◌, Bool, true, false, List, [], length, refl, sym, ap, subst, ◌∙◌, arith, cond}
 use Rattle.std.specs.Prelude.{◌||◌, ◌&&◌, nat_eq, not, ℤ, pos, Option, Some, None, IfSome, slice_index_or}
 use Rattle.std.specs.declared.cmp.Ordering.{Ordering}
 use Rattle.std.specs.Ordering.{nat_cmp, int_cmp, bool_cmp}
@@ -11,29 +11,10 @@ use Rattle.vortex_types.specs.TypeEquality.{alike_types}
 use Rattle.vortex_types.specs.Typing.{HasType}
 use Rattle.vortex_types.specs.Order.{compare_values}
 use Rattle.vortex_types.specs.ScalarView.{ScalarView, compare_scalars}
-use Rattle.vortex_columns.specs.ColumnView.{ColumnView, row, AreTyped, constant_column, is_bytes_like, bytes_value, HasBytes, AreInts, AreBits}
-use Rattle.vortex_types.specs.ValidityView.{non_nullable, array}
-use Rattle.vortex_columns.specs.Stored.{bool_column}
+use Rattle.vortex_columns.specs.ColumnView.{ColumnView, row, constant_column, is_bytes_like, bytes_value, HasBytes, AreBytes, AreInts, AreBits}
 use Rattle.vortex_kernels.specs.declared.operators.CompareOperator.{CompareOperator}
-use Rattle.vortex_kernels.specs.Rows.{HasRows, AreAnswers}
-use Rattle.vortex_kernels.specs.Comparison.{holds, comparison_value, comparison_type, compared_scalar, are_comparable, is_settled, HasComparisonRows, AnswersCompare, AreHeld, IsConstantOf, IsConstantBytes, IsOrderAt, IsBytesOrderAt, AreComparisons}
-use Rattle.vortex_kernels.proofs.RowLemmas.{get_or-last, get_or-before}
-
--- one more row
-pub held_more : (op : CompareOperator) (tells : ℕ → Ordering → Type 0) (n : ℕ) (bits : List Bool) (o : Ordering) (b : Bool) → AreHeld op tells n bits → tells n o → b ≡ holds op o → AreHeld op tells (n + 1) (bits ++ b ∷ [])
-held_more op tells n bits o b h told e = record {
-  count = omega (arith, length-append bits (b ∷ []), h.count);
-  each = λ k lt. by k (last_or_before k lt);
-}
-  where
-    last_or_before : (k : ℕ) → k < n + 1 → (k < n) ⊎ (k ≡ n)
-    last_or_before k lt = grind arith
-
-    by : (k : ℕ) → (k < n) ⊎ (k ≡ n) → (o : Ordering) × tells k o × (slice_index_or (bits ++ b ∷ []) k false ≡ holds op o)
-    by k (inl lt) =
-        let before = h.each k lt in
-        (before.0, before.1, get_or-before false bits b k (omega (arith, h.count)) ∙ before.2)
-    by k (inr q) = (o, subst (λ (j : ℕ). tells j o) (sym q) told, rw (q, ← h.count, get_or-last) e)
+use Rattle.vortex_kernels.specs.Rows.{HasRows}
+use Rattle.vortex_kernels.specs.Comparison.{holds, comparison_value, comparison_type, compared_scalar, are_comparable, is_settled, AnswersCompare, AreHeld, IsConstantOf, IsConstantBytes, IsOrderAt, AreComparisons}
 
 -- what is known of the orders tells the comparisons
 pub held_compares : (op : CompareOperator) (tells : ℕ → Ordering → Type 0) (ls rs : List Value) (bits : List Bool) → AreHeld op tells (length ls) bits → ((i : ℕ) (o : Ordering) → i < length ls → tells i o → IsOrderAt ls rs i o) → AreComparisons op ls rs bits
@@ -110,40 +91,6 @@ comparison_at op v w b h = by (is_null v) (is_null w) refl refl
     by false true e g = refl
     by false false e g = ap truth (h e g)
 
--- the column of the comparisons, null where a side is
-pub nullable_comparisons : (op : CompareOperator) (l r c : ColumnView) (bits valid : List Bool) → (is_nullable l.dtype || is_nullable r.dtype) ≡ true → AreComparisons op l.rows r.rows bits → AreAnswers false (length l.rows) (λ i. not (is_null (row l.rows i) || is_null (row r.rows i))) valid → c ≡ bool_column bits (record { form = array; bits = valid }) → HasComparisonRows op l r c
-nullable_comparisons op l r c bits valid n b v e = record {
-  dtype = ap (λ (d : ColumnView). d.dtype) e ∙ ap bool_type (sym n);
-  count = ap (λ (d : ColumnView). length d.rows) e ∙ length-map-range_with_len (λ k. cond (slice_index_or valid k false) (truth (slice_index_or bits k false)) null) 0 (length bits) ∙ b.count;
-  each = λ i h.
-      ap (λ (d : ColumnView). row d.rows i) e
-      ∙ get_or-map-range_with_len (λ k. cond (slice_index_or valid k false) (truth (slice_index_or bits k false)) null) 0 (length bits) i i null (omega (arith, b.count)) (omega arith)
-      ∙ ap (λ p. cond p (truth (slice_index_or bits i false)) null) (v.each i h)
-      ∙ comparison_at op (row l.rows i) (row r.rows i) (slice_index_or bits i false) (b.each i h);
-}
-
--- the same where neither type has null
-pub plain_comparisons : (op : CompareOperator) (l r c : ColumnView) (bits : List Bool) → (is_nullable l.dtype || is_nullable r.dtype) ≡ false → AreTyped l.dtype l.rows → AreTyped r.dtype r.rows → length l.rows ≡ length r.rows → AreComparisons op l.rows r.rows bits → c ≡ bool_column bits (record { form = non_nullable; bits = [] }) → HasComparisonRows op l r c
-plain_comparisons op l r c bits n s t same b e = record {
-  dtype = ap (λ (d : ColumnView). d.dtype) e ∙ ap bool_type (sym n);
-  count = ap (λ (d : ColumnView). length d.rows) e ∙ length-map-range_with_len (λ k. truth (slice_index_or bits k false)) 0 (length bits) ∙ b.count;
-  each = λ i h.
-      let p = not_null l.dtype (row l.rows i) (s i null h) (or_false_left (is_nullable l.dtype) (is_nullable r.dtype) n) in
-      let q = not_null r.dtype (row r.rows i) (t i null (omega (arith, same))) (or_false_right (is_nullable l.dtype) (is_nullable r.dtype) n) in
-      ap (λ (d : ColumnView). row d.rows i) e
-      ∙ get_or-map-range_with_len (λ k. truth (slice_index_or bits k false)) 0 (length bits) i i null (omega (arith, b.count)) (omega arith)
-      ∙ ap (λ x. cond (not x) (truth (slice_index_or bits i false)) null) (sym (λ j. p j || q j))
-      ∙ comparison_at op (row l.rows i) (row r.rows i) (slice_index_or bits i false) (b.each i h);
-}
-  where
-    or_false_left : (x y : Bool) → (x || y) ≡ false → x ≡ false
-    or_false_left true y h = h
-    or_false_left false y h = refl
-
-    or_false_right : (x y : Bool) → (x || y) ≡ false → y ≡ false
-    or_false_right true y h = cc
-    or_false_right false y h = h
-
 -- one scalar in each row
 pub constant_has_rows : (s : ScalarView) (n : ℕ) (c : ColumnView) → c ≡ constant_column s n → HasRows s.dtype n (λ i. s.value) c
 constant_has_rows s n c e = record {
@@ -151,6 +98,16 @@ constant_has_rows s n c e = record {
   count = ap (λ (d : ColumnView). length d.rows) e ∙ length-map-range_with_len (λ k. s.value) 0 n;
   each = λ i h. ap (λ (d : ColumnView). row d.rows i) e ∙ get_or-map-range_with_len (λ k. s.value) 0 n i i null h (omega arith);
 }
+
+-- a function of one scalar's value, in each row
+pub constant_image : (f : Value → Value) (c : ColumnView) (s t : ScalarView) → c ≡ constant_column s (length c.rows) → t ≡ record { dtype = s.dtype; value = f s.value } → (d : ColumnView) → d ≡ constant_column t (length c.rows) → HasRows c.dtype (length c.rows) (λ i. f (row c.rows i)) d
+constant_image f c s t is image d e =
+    let h = constant_has_rows t (length c.rows) d e in
+    record {
+      dtype = h.dtype ∙ ap (λ (x : ScalarView). x.dtype) image ∙ sym (ap (λ (x : ColumnView). x.dtype) is);
+      count = h.count;
+      each = λ i lt. h.each i lt ∙ ap (λ (x : ScalarView). x.value) image ∙ ap f (sym (constant_row s c is i lt));
+    }
 
 -- two scalars of which neither is null
 pub scalars_compared : (op : CompareOperator) (a b : ScalarView) (o : Ordering) → is_null a.value ≡ false → is_null b.value ≡ false → compare_scalars a b ≡ Some o → (are_comparable a b ≡ true) × (comparison_value op a.value b.value ≡ truth (holds op o))
@@ -205,22 +162,17 @@ bytes_compare (text_type n) (text_type m) xs ys h k e = refl
 bytes_compare (bytes_type n) (bytes_type m) xs ys h k e = refl
 bytes_compare t u xs ys h k e = cc
 
-pub bytes_order : (l r : ColumnView) (i : ℕ) (xs ys : List ℕ) (o : Ordering) → HasBytes l → HasBytes r → is_text_type l.dtype ≡ is_text_type r.dtype → (is_null (row l.rows i) ≡ false → row l.rows i ≡ bytes_value l.dtype xs) → (is_null (row r.rows i) ≡ false → row r.rows i ≡ bytes_value r.dtype ys) → o ≡ slice_cmp nat_cmp xs ys → IsOrderAt l.rows r.rows i o
-bytes_order l r i xs ys o h k kind a b e p q =
-    e ∙ sym (bytes_compare l.dtype r.dtype xs ys h.bytes_like k.bytes_like kind) ∙ (λ j. compare_values (sym (a p) j) (sym (b q) j))
+pub bytes_order : (l r : ColumnView) (xs ys : List (List ℕ)) → length l.rows ≡ length r.rows → is_text_type l.dtype ≡ is_text_type r.dtype → HasBytes l × AreBytes l xs → HasBytes r × AreBytes r ys → (i : ℕ) (o : Ordering) → i < length l.rows → o ≡ slice_cmp nat_cmp (slice_index_or xs i []) (slice_index_or ys i []) → IsOrderAt l.rows r.rows i o
+bytes_order l r xs ys same kind a b i o lt e p q =
+    e
+    ∙ sym (bytes_compare l.dtype r.dtype (slice_index_or xs i []) (slice_index_or ys i []) a.0.bytes_like b.0.bytes_like kind)
+    ∙ (λ j. compare_values (sym (a.1.each i (omega (arith, a.1.count)) p) j) (sym (b.1.each i (omega (arith, b.1.count, same)) q) j))
 
-pub byte_order : (l : ColumnView) (i : ℕ) (xs ys : List ℕ) (o : Ordering) → HasBytes l → (is_null (row l.rows i) ≡ false → row l.rows i ≡ bytes_value l.dtype xs) → o ≡ slice_cmp nat_cmp xs ys → IsBytesOrderAt l ys i o
-byte_order l i xs ys o h a e p =
-    e ∙ sym (bytes_compare l.dtype l.dtype xs ys h.bytes_like h.bytes_like refl) ∙ (λ j. compare_values (sym (a p) j) (bytes_value l.dtype ys))
-
-same_kind : (t u : LogicalType) (bs : List ℕ) → is_bytes_like t ≡ true → is_bytes_like u ≡ true → is_text_type t ≡ is_text_type u → bytes_value t bs ≡ bytes_value u bs
-same_kind (text_type n) (text_type m) bs h k e = refl
-same_kind (bytes_type n) (bytes_type m) bs h k e = refl
-same_kind t u bs h k e = cc
-
-pub one_order : (l r : ColumnView) (bs : List ℕ) → length l.rows ≡ length r.rows → is_bytes_like l.dtype ≡ true → is_bytes_like r.dtype ≡ true → is_text_type l.dtype ≡ is_text_type r.dtype → IsConstantOf (bytes_value r.dtype bs) r → (i : ℕ) (o : Ordering) → i < length l.rows → IsBytesOrderAt l bs i o → IsOrderAt l.rows r.rows i o
-one_order l r bs same h k kind c i o lt told p q =
-    told p ∙ ap (compare_values (row l.rows i)) (same_kind l.dtype r.dtype bs h k kind ∙ sym (c i (omega (arith, same))))
+pub byte_order : (l r : ColumnView) (xs : List (List ℕ)) (bs : List ℕ) → length l.rows ≡ length r.rows → is_text_type l.dtype ≡ is_text_type r.dtype → HasBytes l × AreBytes l xs → IsConstantBytes r bs → (i : ℕ) (o : Ordering) → i < length l.rows → o ≡ slice_cmp nat_cmp (slice_index_or xs i []) bs → IsOrderAt l.rows r.rows i o
+byte_order l r xs bs same kind a b i o lt e p q =
+    e
+    ∙ sym (bytes_compare l.dtype r.dtype (slice_index_or xs i []) bs a.0.bytes_like b.like kind)
+    ∙ (λ j. compare_values (sym (a.1.each i (omega (arith, a.1.count)) p) j) (sym (b.rows i (omega (arith, same))) j))
 
 typed_text : (t : LogicalType) (bs : List ℕ) → HasType t (text bs) → (bytes_value t bs ≡ text bs) × (is_bytes_like t ≡ true)
 typed_text (text_type n) bs h = (refl, refl)

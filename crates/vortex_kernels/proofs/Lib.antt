@@ -1,3 +1,4 @@
 pub mod Comparing
 pub mod Duals
 pub mod RowLemmas
+pub mod KleeneBits

@@ -1,19 +1,25 @@
 -- Rows of truth values that are built one by one, and the column that is made of them.
-use Rattle.std.proofs.Common.{◌≡◌, ◌⊎◌, inl, inr, ℕ, zero, suc, ◌+◌, ◌<◌, Bool, true, false, Option, Some, None, List, [], ◌∷◌, ◌++◌, map, length, get_or, refl, sym, ap, subst, ◌∙◌, arith, length-append, cond}
-use Rattle.std.specs.Prelude.{IsTrue, is_some, unwrap_or, ◌||◌, ◌&&◌, slice_index_or}
-use Rattle.std.proofs.lemmas.List.{get_or-map, length-map}
+use Rattle.std.proofs.Common.{◌≡◌, ◌⊎◌, inl, inr, ℕ, zero, suc, ◌+◌, ◌<◌, Bool, true, false, Option, Some, None, List, [], ◌∷◌, ◌++◌, length, get_or, refl, sym, ap, subst, ◌∙◌, arith, length-append, cond}
+use Rattle.std.specs.Prelude.{IsTrue, not, is_some, Result, ◌||◌, slice_index_or}
 use Rattle.std.proofs.lemmas.List.FromFn.{get_or-map-range_with_len, length-map-range_with_len}
 use Rattle.vortex_types.specs.LogicalTypes.{LogicalType, null_type, bool_type, integer_type, text_type, bytes_type, struct_type, list_type, fixed_size_list_type, map_type, is_bool_type, is_nullable}
-use Rattle.vortex_types.specs.Values.{Value, null, truth, number, text, bytes, list, truth_of, truth_or_null}
+use Rattle.vortex_types.specs.Values.{Value, null, truth, number, text, bytes, list, is_null, truth_of, truth_or_null}
 use Rattle.vortex_types.specs.Typing.{HasType}
-use Rattle.vortex_columns.specs.ColumnView.{ColumnView, row, AreTyped}
-use Rattle.vortex_types.specs.ValidityView.{non_nullable, array}
+use Rattle.vortex_columns.specs.ColumnView.{ColumnView, row, AreBits}
+use Rattle.vortex_types.specs.ValidityView.{ValidityView, is_valid_row, FitsRows}
+use Rattle.vortex_types.specs.declared.error.VortexError.{VortexError}
+use Rattle.vortex_types.specs.declared.error.VortexError.TheVariants.{InvalidColumn}
+use Rattle.vortex_types.specs.Answers.{AnswersUnlessMemory, AnswersWhere}
+use Rattle.vortex_types.proofs.Answering.{answers_where}
 use Rattle.vortex_columns.specs.Stored.{bool_column}
 use Rattle.vortex_kernels.specs.declared.operators.Operator.{Operator}
 use Rattle.vortex_kernels.specs.declared.operators.Operator.TheVariants.{And, Or}
 use Rattle.vortex_kernels.specs.Operators.{is_boolean}
 use Rattle.vortex_kernels.specs.Kleene.{kleene, kleene_and, kleene_or, kleene_not}
-use Rattle.vortex_kernels.specs.Rows.{HasRows, AreAnswers, Allows, AllAllowed}
+use Rattle.vortex_kernels.specs.Rows.{HasRows, AreTold, Allows}
+use Rattle.vortex_kernels.specs.Boolean.{not_value}
+use Rattle.vortex_kernels.specs.Nulls.{IsValidity}
+use Rattle.vortex_kernels.specs.Truths.{IsValueOf}
 
 module _ {A : Type 0} (other : A) where
   pub get_or-last : (xs : List A) (x : A) → get_or (xs ++ x ∷ []) (length xs) other ≡ x
@@ -25,19 +31,19 @@ module _ {A : Type 0} (other : A) where
   get_or-before (y ∷ ys) x zero h = refl
   get_or-before (y ∷ ys) x (suc k) h = get_or-before ys x k (omega arith)
 
-  -- one more answer
-  pub answers_more : (n : ℕ) (f : ℕ → A) (xs : List A) (x : A) → AreAnswers other n f xs → x ≡ f n → AreAnswers other (n + 1) f (xs ++ x ∷ [])
-  answers_more n f xs x h e = record {
-    count = omega (arith, length-append xs (x ∷ []), h.count);
-    each = λ k lt. by k (last_or_before k lt);
-  }
-    where
-      last_or_before : (k : ℕ) → k < n + 1 → (k < n) ⊎ (k ≡ n)
-      last_or_before k lt = grind arith
+-- one more bit
+pub told_more : (n : ℕ) (tells : ℕ → Bool → Type 0) (bits : List Bool) (b : Bool) → AreTold n tells bits → tells n b → AreTold (n + 1) tells (bits ++ b ∷ [])
+told_more n tells bits b h told = record {
+  count = omega (arith, length-append bits (b ∷ []), h.count);
+  each = λ k lt. by k (last_or_before k lt);
+}
+  where
+    last_or_before : (k : ℕ) → k < n + 1 → (k < n) ⊎ (k ≡ n)
+    last_or_before k lt = grind arith
 
-      by : (k : ℕ) → (k < n) ⊎ (k ≡ n) → slice_index_or (xs ++ x ∷ []) k other ≡ f k
-      by k (inl lt) = get_or-before xs x k (omega (arith, h.count)) ∙ h.each k lt
-      by k (inr q) = rw (q, ← h.count, get_or-last) (rw h.count e)
+    by : (k : ℕ) → (k < n) ⊎ (k ≡ n) → tells k (slice_index_or (bits ++ b ∷ []) k false)
+    by k (inl lt) = subst (λ (x : Bool). tells k x) (sym (get_or-before false bits b k (omega (arith, h.count)))) (h.each k lt)
+    by k (inr q) = rw (q, ← h.count, get_or-last) (rw h.count told)
 
 pub bool_dtype : (t : LogicalType) → is_bool_type t ≡ true → t ≡ bool_type (is_nullable t)
 bool_dtype (bool_type n) h = refl
@@ -58,10 +64,6 @@ allowed n (number z) h = absurd h
 allowed n (text bs) h = absurd h
 allowed n (bytes bs) h = absurd h
 allowed n (list vs) h = absurd h
-
-pub row_allowed : (c : ColumnView) (i : ℕ) → is_bool_type c.dtype ≡ true → AreTyped c.dtype c.rows → i < length c.rows → Allows (is_nullable c.dtype) (truth_of (row c.rows i))
-row_allowed c i b typed h =
-    allowed (is_nullable c.dtype) (row c.rows i) (subst (λ (t : LogicalType). HasType t (row c.rows i)) (bool_dtype c.dtype b) (typed i null h))
 
 or_left : (n m : Bool) → IsTrue n → IsTrue (n || m)
 or_left true m h = refl
@@ -99,73 +101,41 @@ pub not_allowed : (n : Bool) (a : Option Bool) → Allows n a → Allows n (klee
 not_allowed n None h = h
 not_allowed n (Some b) h = tt
 
-pub left_bool : (a b : Bool) → (a && b) ≡ true → a ≡ true
-left_bool true b h = refl
-left_bool false b h = cc
+-- a truth value that is told by a bool, and null where there is none
+pub value_row : (o : Option Bool) (b : Bool) → IsValueOf b o → cond (is_some o) (truth b) null ≡ truth_or_null o
+value_row None b h = refl
+value_row (Some v) b h = ap truth h
 
-pub right_bool : (a b : Bool) → (a && b) ≡ true → b ≡ true
-right_bool true b h = h
-right_bool false b h = cc
-
--- answers that are allowed row by row
-pub all_allowed : (n : Bool) (count : ℕ) (f : ℕ → Option Bool) (xs : List (Option Bool)) → AreAnswers None count f xs → ((i : ℕ) → i < count → Allows n (f i)) → AllAllowed n xs
-all_allowed n count f xs h allow i lt =
-    let here : i < count = omega (arith, h.count) in
-    subst (λ (o : Option Bool). Allows n o) (sym (h.each i here)) (allow i here)
-
-value_of_answer : (o : Option Bool) → cond (is_some o) (truth (unwrap_or o false)) null ≡ truth_or_null o
-value_of_answer None = refl
-value_of_answer (Some b) = refl
-
-value_of_some : (o : Option Bool) → Allows false o → truth (unwrap_or o false) ≡ truth_or_null o
-value_of_some None h = cc
-value_of_some (Some b) h = refl
-
-pub same_counts : (xs : List (Option Bool)) (bits valid : List Bool) → bits ≡ map (λ a. unwrap_or a false) xs → valid ≡ map is_some xs → length valid ≡ length bits
-same_counts xs bits valid e g =
-    ap length g ∙ length-map xs is_some ∙ sym (ap length e ∙ length-map xs (λ a. unwrap_or a false))
-
--- the column of the answers' values, null where there is no answer
-pub nullable_rows : (xs : List (Option Bool)) (bits valid : List Bool) (c : ColumnView) → bits ≡ map (λ a. unwrap_or a false) xs → valid ≡ map is_some xs → c ≡ bool_column bits (record { form = array; bits = valid }) → HasRows (bool_type true) (length xs) (λ i. truth_or_null (slice_index_or xs i None)) c
-nullable_rows xs bits valid c e g is = record {
-  dtype = ap (λ (d : ColumnView). d.dtype) is;
-  count = ap (λ (d : ColumnView). length d.rows) is ∙ length-map-range_with_len (λ k. cond (slice_index_or valid k false) (truth (slice_index_or bits k false)) null) 0 (length bits) ∙ counts;
-  each = λ i h.
-      ap (λ (d : ColumnView). row d.rows i) is
-      ∙ get_or-map-range_with_len (λ k. cond (slice_index_or valid k false) (truth (slice_index_or bits k false)) null) 0 (length bits) i i null (omega (arith, counts)) (omega arith)
-      ∙ (λ j. cond (valid_bit i h j) (truth (value_bit i h j)) null)
-      ∙ value_of_answer (get_or xs i None);
+-- the column of such bits, null where a row is not valid
+pub bool_rows : (nullable : Bool) (n : ℕ) (valid : ℕ → Bool) (f : ℕ → Value) (bits : List Bool) (v : ValidityView) (c : ColumnView) → length bits ≡ n → IsValidity nullable n valid v → ((i : ℕ) → i < n → cond (valid i) (truth (slice_index_or bits i false)) null ≡ f i) → c ≡ bool_column bits v → HasRows (bool_type nullable) n f c
+bool_rows nullable n valid f bits v c count h rows e = record {
+  dtype = ap (λ (d : ColumnView). d.dtype) e ∙ ap bool_type h.nullability;
+  count = ap (λ (d : ColumnView). length d.rows) e ∙ length-map-range_with_len (λ k. cond (is_valid_row v k) (truth (slice_index_or bits k false)) null) 0 (length bits) ∙ count;
+  each = λ i lt.
+      ap (λ (d : ColumnView). row d.rows i) e
+      ∙ get_or-map-range_with_len (λ k. cond (is_valid_row v k) (truth (slice_index_or bits k false)) null) 0 (length bits) i i null (omega (arith, count)) (omega arith)
+      ∙ ap (λ b. cond b (truth (slice_index_or bits i false)) null) (h.each i lt)
+      ∙ rows i lt;
 }
+
+pub bool_answers : (nullable : Bool) (n : ℕ) (valid : ℕ → Bool) (f : ℕ → Value) (bits : List Bool) (v : ValidityView) (r : Result ColumnView VortexError) → length bits ≡ n → IsValidity nullable n valid v → ((i : ℕ) → i < n → cond (valid i) (truth (slice_index_or bits i false)) null ≡ f i) → AnswersWhere r (FitsRows v (length bits)) (λ c. c ≡ bool_column bits v) InvalidColumn → AnswersUnlessMemory r (HasRows (bool_type nullable) n f)
+bool_answers nullable n valid f bits v r count h rows answered =
+    answers_where r (FitsRows v (length bits)) (λ c. c ≡ bool_column bits v) (HasRows (bool_type nullable) n f) InvalidColumn
+    (subst (λ (m : ℕ). FitsRows v m) (sym count) h.fits)
+    (λ c e. bool_rows nullable n valid f bits v c count h rows e)
+    answered
+
+-- a row that is turned where it is not null
+pub not_row : (c : ColumnView) (xs bits : List Bool) → AreBits c xs → AreTold (length xs) (λ i b. b ≡ not (slice_index_or xs i false)) bits → (i : ℕ) → i < length c.rows → cond (not (is_null (row c.rows i))) (truth (slice_index_or bits i false)) null ≡ not_value (row c.rows i)
+not_row c xs bits are told i lt = by (row c.rows i) (are.each i (omega (arith, are.count)))
   where
-    counts : length bits ≡ length xs
-    counts = ap length e ∙ length-map xs (λ a. unwrap_or a false)
+    turned : slice_index_or bits i false ≡ not (slice_index_or xs i false)
+    turned = told.each i (omega (arith, are.count))
 
-    valid_bit : (i : ℕ) → i < length xs → slice_index_or valid i false ≡ is_some (get_or xs i None)
-    valid_bit i h = ap (λ l. slice_index_or l i false) g ∙ get_or-map is_some xs i None false h
-
-    value_bit : (i : ℕ) → i < length xs → slice_index_or bits i false ≡ unwrap_or (get_or xs i None) false
-    value_bit i h = ap (λ l. slice_index_or l i false) e ∙ get_or-map (λ a. unwrap_or a false) xs i None false h
-
--- the same where each row has an answer
-pub plain_rows : (xs : List (Option Bool)) (bits : List Bool) (c : ColumnView) → AllAllowed false xs → bits ≡ map (λ a. unwrap_or a false) xs → c ≡ bool_column bits (record { form = non_nullable; bits = [] }) → HasRows (bool_type false) (length xs) (λ i. truth_or_null (slice_index_or xs i None)) c
-plain_rows xs bits c all e is = record {
-  dtype = ap (λ (d : ColumnView). d.dtype) is;
-  count = ap (λ (d : ColumnView). length d.rows) is ∙ length-map-range_with_len (λ i. truth (slice_index_or bits i false)) 0 (length bits) ∙ counts;
-  each = λ i h.
-      ap (λ (d : ColumnView). row d.rows i) is
-      ∙ get_or-map-range_with_len (λ i. truth (slice_index_or bits i false)) 0 (length bits) i i null (omega (arith, counts)) (omega arith)
-      ∙ ap (λ l. truth (slice_index_or l i false)) e
-      ∙ ap truth (get_or-map (λ a. unwrap_or a false) xs i None false h)
-      ∙ value_of_some (get_or xs i None) (all i h);
-}
-  where
-    counts : length bits ≡ length xs
-    counts = ap length e ∙ length-map xs (λ a. unwrap_or a false)
-
--- from the answers of each row to the rows of a column
-pub rows_of_answers : (t u : LogicalType) (n : ℕ) (f : ℕ → Option Bool) (xs : List (Option Bool)) (c : ColumnView) → t ≡ u → AreAnswers None n f xs → HasRows t (length xs) (λ i. truth_or_null (slice_index_or xs i None)) c → HasRows u n (λ i. truth_or_null (f i)) c
-rows_of_answers t u n f xs c same answers h = record {
-  dtype = h.dtype ∙ same;
-  count = h.count ∙ answers.count;
-  each = λ i lt. h.each i (omega (arith, answers.count)) ∙ ap truth_or_null (answers.each i lt);
-}
+    by : (v : Value) → (is_null v ≡ false → v ≡ truth (slice_index_or xs i false)) → cond (not (is_null v)) (truth (slice_index_or bits i false)) null ≡ not_value v
+    by null h = refl
+    by (truth b) h = ap truth turned ∙ sym (ap not_value (h refl))
+    by (number z) h = ap truth turned ∙ sym (ap not_value (h refl))
+    by (text bs) h = ap truth turned ∙ sym (ap not_value (h refl))
+    by (bytes bs) h = ap truth turned ∙ sym (ap not_value (h refl))
+    by (list vs) h = ap truth turned ∙ sym (ap not_value (h refl))

@@ -14,7 +14,7 @@ use Rattle.vortex_types.specs.ScalarView.{ScalarView}
 use Rattle.vortex_columns.specs.ColumnView.{ColumnView, row, is_bytes_like, bytes_value}
 use Rattle.vortex_kernels.specs.declared.operators.CompareOperator.{CompareOperator}
 use Rattle.vortex_kernels.specs.declared.operators.CompareOperator.TheVariants.{Eq, NotEq, Gt, Gte, Lt, Lte}
-use Rattle.vortex_kernels.specs.Rows.{HasRows}
+use Rattle.vortex_kernels.specs.Rows.{HasRows, AreTold}
 
 -- which orders of left and right the comparison says yes to
 abbrev pub holds : CompareOperator → Ordering → Bool
@@ -67,9 +67,8 @@ pub record AnswersCompare (op : CompareOperator) (l r c : ColumnView) : Type 0 w
   pub rows : HasComparisonRows op l r c
 
 -- for each of n rows whether the comparison says yes to an order of which something is known
-pub record AreHeld (op : CompareOperator) (tells : ℕ → Ordering → Type 0) (n : ℕ) (bits : List Bool) : Type 0 where
-  pub count : length bits ≡ n
-  pub each : (i : ℕ) → i < n → (o : Ordering) × tells i o × (slice_index_or bits i false ≡ holds op o)
+abbrev pub AreHeld : CompareOperator → (ℕ → Ordering → Type 0) → ℕ → List Bool → Type 0
+AreHeld op tells n bits = AreTold n (λ i b. (o : Ordering) × tells i o × (b ≡ holds op o)) bits
 
 -- the same value in each row
 abbrev pub IsConstantOf : Value → ColumnView → Type 0
@@ -83,10 +82,6 @@ pub record IsConstantBytes (c : ColumnView) (bs : List ℕ) : Type 0 where
 -- the order of two rows, where neither is null
 abbrev pub IsOrderAt : List Value → List Value → ℕ → Ordering → Type 0
 IsOrderAt ls rs i o = is_null (row ls i) ≡ false → is_null (row rs i) ≡ false → o ≡ compare_values (row ls i) (row rs i)
-
--- the order of a row of texts or byte strings and one of the same kind, where the row is not null
-abbrev pub IsBytesOrderAt : ColumnView → List ℕ → ℕ → Ordering → Type 0
-IsBytesOrderAt l bs i o = is_null (row l.rows i) ≡ false → o ≡ compare_values (row l.rows i) (bytes_value l.dtype bs)
 
 -- for each row whether the comparison says yes, where neither side is null
 pub record AreComparisons (op : CompareOperator) (ls rs : List Value) (bits : List Bool) : Type 0 where

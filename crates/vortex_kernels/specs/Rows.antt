@@ -1,5 +1,5 @@
 -- A column that is known by its type and its rows.
-use Rattle.std.specs.Prelude.{◌≡◌, ℕ, ◌<◌, List, length, slice_index_or, Bool, Option, Some, None, IsTrue}
+use Rattle.std.specs.Prelude.{◌≡◌, ℕ, ◌<◌, List, length, slice_index_or, Bool, false, Option, Some, None, IsTrue}
 use Rattle.vortex_types.specs.LogicalTypes.{LogicalType}
 use Rattle.vortex_types.specs.Values.{Value}
 use Rattle.vortex_columns.specs.ColumnView.{ColumnView, row}
@@ -10,15 +10,12 @@ pub record HasRows (t : LogicalType) (n : ℕ) (f : ℕ → Value) (c : ColumnVi
   pub count : length c.rows ≡ n
   pub each : (i : ℕ) → i < n → row c.rows i ≡ f i
 
--- what is given for each of n rows, and `other` past the end
-pub record AreAnswers {A : Type 0} (other : A) (n : ℕ) (f : ℕ → A) (answers : List A) : Type 0 where
-  pub count : length answers ≡ n
-  pub each : (i : ℕ) → i < n → slice_index_or answers i other ≡ f i
+-- a bit for each of n rows, of which so much is told
+pub record AreTold (n : ℕ) (tells : ℕ → Bool → Type 0) (bits : List Bool) : Type 0 where
+  pub count : length bits ≡ n
+  pub each : (i : ℕ) → i < n → tells i (slice_index_or bits i false)
 
 -- nothing only where null is allowed
 abbrev pub Allows : Bool → Option Bool → Type 0
 Allows n None = IsTrue n
 Allows n (Some b) = Unit {0}
-
-abbrev pub AllAllowed : Bool → List (Option Bool) → Type 0
-AllAllowed n answers = (i : ℕ) → i < length answers → Allows n (slice_index_or answers i None)

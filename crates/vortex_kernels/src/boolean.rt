@@ -1,27 +1,40 @@
 //! And, Or and Not by Kleene's tables.
-ghost use Rattle.std.specs.Prelude.{◌≡◌, ◌<◌, ◌||◌, None, true, length};
+ghost use Rattle.std.specs.Prelude.{◌≡◌, ◌<◌, ◌||◌, ℕ, Bool, true, length, is_some};
 ghost use Rattle.vortex_types.specs.Answers.{Answers, AnswersUnlessMemory};
 ghost use Rattle.vortex_types.specs.LogicalTypes.{is_bool_type, is_nullable};
+ghost use Rattle.vortex_types.specs.ValidityView.{validity_of};
 ghost use Rattle.vortex_types.specs.Values.{truth_of};
 ghost use Rattle.vortex_columns.specs.ColumnView.{row};
 ghost use Rattle.vortex_kernels.specs.declared.operators.Operator.{Operator};
 ghost use Rattle.vortex_kernels.specs.declared.operators.Operator.TheVariants.{And, Or};
-ghost use Rattle.vortex_kernels.specs.Kleene.{kleene, kleene_not};
-ghost use Rattle.vortex_kernels.specs.Rows.{AreAnswers, HasRows};
+ghost use Rattle.vortex_kernels.specs.Kleene.{kleene};
+ghost use Rattle.vortex_kernels.specs.Nulls.{IsValidity};
+ghost use Rattle.vortex_kernels.specs.Rows.{AreTold, HasRows};
+ghost use Rattle.vortex_kernels.specs.Truths.{present, IsValueOf, Reads};
 ghost use Rattle.vortex_kernels.specs.Operators.{is_boolean};
 ghost use Rattle.vortex_kernels.specs.Boolean.{are_bools, HasBooleanRows, AnswersBoolean, RefusesBoolean, not_value};
 
+use crate::nulls::same_valid;
 use crate::operators::Operator;
-use crate::rows::{bool_column, truth_at};
+use crate::rows::{TurnedBits, collect_bits};
+use crate::truths::{MaskedBits, OneTruth, Operand, PlainBits, Truths, lent_truths};
 use std::alloc::Global;
-use vortex_columns::{Column, ExecutionCtx, MismatchPlace, VortexError, VortexResult};
+use vortex_columns::{
+    BitBuffer, Column, DType, ExecutionCtx, MismatchPlace, Nullability, Scalar, Validity,
+    VortexError, VortexResult,
+};
 
-/// The table of one operator, chosen outside the loop.
+/// The table of one operator in plain bools, chosen before the rows.
 trait KleeneTable {
     ghost operator: { Operator };
 
-    fn answer(l: Option<bool>, r: Option<bool>) -> Option<bool>
-        ensures { result ≡ kleene operator l r };
+    /// The truth value where there is one, whatever lies under a null.
+    fn value(left: bool, right: bool) -> bool
+        ensures { (p q : Bool) → IsValueOf result (kleene operator (present p left) (present q right)) };
+
+    /// Whether there is a truth value.
+    fn is_valid(left: bool, left_valid: bool, right: bool, right_valid: bool) -> bool
+        ensures { result ≡ is_some (kleene operator (present left_valid left) (present right_valid right)) };
 }
 
 struct KleeneAnd {}
@@ -31,45 +44,133 @@ struct KleeneOr {}
 impl KleeneTable for KleeneAnd {
     ghost operator = { And };
 
-    fn answer(l: Option<bool>, r: Option<bool>) -> Option<bool> {
-        match (l, r) {
-            (Some(false), _) => Some(false),
-            (_, Some(false)) => Some(false),
-            (Some(true), Some(true)) => Some(true),
-            _ => None,
-        }
+    fn value(left: bool, right: bool) -> bool {
+        left & right
+    }
+
+    fn is_valid(left: bool, left_valid: bool, right: bool, right_valid: bool) -> bool {
+        (left_valid & right_valid) | (left_valid & !left) | (right_valid & !right)
     }
 }
 
 impl KleeneTable for KleeneOr {
     ghost operator = { Or };
 
-    fn answer(l: Option<bool>, r: Option<bool>) -> Option<bool> {
-        match (l, r) {
-            (Some(true), _) => Some(true),
-            (_, Some(true)) => Some(true),
-            (Some(false), Some(false)) => Some(false),
-            _ => None,
+    fn value(left: bool, right: bool) -> bool {
+        left | right
+    }
+
+    fn is_valid(left: bool, left_valid: bool, right: bool, right_valid: bool) -> bool {
+        (left_valid & right_valid) | (left_valid & left) | (right_valid & right)
+    }
+}
+
+/// The truth value in each row, by the table.
+fn kleene_values<K: KleeneTable, L: Truths, R: Truths>(
+    alloc: Global,
+    left: &L,
+    right: &R,
+    len: usize,
+) -> VortexResult<Vec<bool>>
+    requires left { (i : ℕ) → i < len → L.has_row left.now i }
+    requires right { (i : ℕ) → i < len → R.has_row right.now i }
+    ensures { AnswersUnlessMemory result (λ values. AreTold len (λ i b. IsValueOf b (kleene K.operator (L.truth left.now i) (R.truth right.now i))) values.items) }
+{
+    let mut values = Vec::with_capacity(alloc, len)?;
+    for i in 0..len {
+        values.push_reserved(K::value(left.value(i), right.value(i)));
+    }
+    Ok(values)
+}
+
+/// Whether there is a truth value in each row, by the table.
+fn kleene_valid<K: KleeneTable, L: Truths, R: Truths>(
+    alloc: Global,
+    left: &L,
+    right: &R,
+    len: usize,
+) -> VortexResult<Vec<bool>>
+    requires left { (i : ℕ) → i < len → L.has_row left.now i }
+    requires right { (i : ℕ) → i < len → R.has_row right.now i }
+    ensures { AnswersUnlessMemory result (λ valid. AreTold len (λ i b. b ≡ is_some (kleene K.operator (L.truth left.now i) (R.truth right.now i))) valid.items) }
+{
+    let mut valid = Vec::with_capacity(alloc, len)?;
+    for i in 0..len {
+        valid.push_reserved(K::is_valid(
+            left.value(i),
+            left.is_valid(i),
+            right.value(i),
+            right.is_valid(i),
+        ));
+    }
+    Ok(valid)
+}
+
+/// Which rows have a truth value, by the table: no list of bits where neither side has a null.
+fn kleene_validity<K: KleeneTable, L: Truths, R: Truths>(
+    alloc: Global,
+    left: &L,
+    right: &R,
+    lhs: &Column,
+    rhs: &Column,
+) -> VortexResult<Validity>
+    requires operator { is_boolean K.operator ≡ true }
+    requires bools { are_bools lhs.now rhs.now ≡ true }
+    requires lengths { length lhs.now.rows ≡ length rhs.now.rows }
+    requires left { Reads (L.has_row left.now) (L.truth left.now) lhs.now.rows }
+    requires right { Reads (R.has_row right.now) (R.truth right.now) rhs.now.rows }
+    ensures { AnswersUnlessMemory result (λ v. IsValidity (is_nullable lhs.now.dtype || is_nullable rhs.now.dtype) (length lhs.now.rows) (λ i. is_some (kleene K.operator (truth_of (row lhs.now.rows i)) (truth_of (row rhs.now.rows i)))) (validity_of v)) }
+{
+    match lhs.dtype().nullability() | rhs.dtype().nullability() {
+        Nullability::NonNullable => Ok(Validity::NonNullable),
+        Nullability::Nullable => {
+            if !left.has_nulls() && !right.has_nulls() {
+                return Ok(Validity::AllValid);
+            }
+            let valid = kleene_valid::<K, L, R>(alloc, left, right, lhs.len())?;
+            Ok(Validity::Array(BitBuffer::from_vec(valid)))
         }
     }
 }
 
-/// What the table says of each row.
-fn kleene_answers<K: KleeneTable>(
-    alloc: Global,
+/// The answer for each row, the form of either side being chosen.
+fn kleene_rows<K: KleeneTable, L: Truths, R: Truths>(
+    left: &L,
+    right: &R,
     lhs: &Column,
     rhs: &Column,
-) -> VortexResult<Vec<Option<bool>>>
-    requires { length lhs.now.rows ≡ length rhs.now.rows }
-    ensures { AnswersUnlessMemory result (λ answers. AreAnswers None (length lhs.now.rows) (λ i. kleene K.operator (truth_of (row lhs.now.rows i)) (truth_of (row rhs.now.rows i))) answers.items) }
+    ctx: &mut ExecutionCtx,
+) -> VortexResult<Column>
+    requires operator { is_boolean K.operator ≡ true }
+    requires bools { are_bools lhs.now rhs.now ≡ true }
+    requires lengths { length lhs.now.rows ≡ length rhs.now.rows }
+    requires left { Reads (L.has_row left.now) (L.truth left.now) lhs.now.rows }
+    requires right { Reads (R.has_row right.now) (R.truth right.now) rhs.now.rows }
+    ensures { AnswersUnlessMemory result (HasBooleanRows K.operator lhs.now rhs.now) }
 {
-    let mut answers = Vec::new(alloc);
-    for i in 0..lhs.len() {
-        let left = truth_at(alloc, lhs, i)?;
-        let right = truth_at(alloc, rhs, i)?;
-        answers.push(K::answer(left, right))?;
+    let values = kleene_values::<K, L, R>(ctx.alloc(), left, right, lhs.len())?;
+    let validity = kleene_validity::<K, L, R>(ctx.alloc(), left, right, lhs, rhs)?;
+    Column::try_bool(BitBuffer::from_vec(values), validity)
+}
+
+/// The same, the form of the left side alone being chosen.
+fn kleene_beside<K: KleeneTable, L: Truths>(
+    left: &L,
+    lhs: &Column,
+    rhs: &Column,
+    ctx: &mut ExecutionCtx,
+) -> VortexResult<Column>
+    requires operator { is_boolean K.operator ≡ true }
+    requires bools { are_bools lhs.now rhs.now ≡ true }
+    requires lengths { length lhs.now.rows ≡ length rhs.now.rows }
+    requires left { Reads (L.has_row left.now) (L.truth left.now) lhs.now.rows }
+    ensures { AnswersUnlessMemory result (HasBooleanRows K.operator lhs.now rhs.now) }
+{
+    match lent_truths(ctx.alloc(), rhs)? {
+        Operand::Plain(right) => kleene_rows::<K, L, PlainBits>(left, &right, lhs, rhs, ctx),
+        Operand::Masked(right) => kleene_rows::<K, L, MaskedBits>(left, &right, lhs, rhs, ctx),
+        Operand::One(right) => kleene_rows::<K, L, OneTruth>(left, &right, lhs, rhs, ctx),
     }
-    Ok(answers)
 }
 
 fn execute_kleene<K: KleeneTable>(
@@ -82,9 +183,11 @@ fn execute_kleene<K: KleeneTable>(
     requires lengths { length lhs.now.rows ≡ length rhs.now.rows }
     ensures { AnswersUnlessMemory result (HasBooleanRows K.operator lhs.now rhs.now) }
 {
-    let nullability = lhs.dtype().nullability() | rhs.dtype().nullability();
-    let answers = kleene_answers::<K>(ctx.alloc(), lhs, rhs)?;
-    bool_column(ctx.alloc(), &answers, nullability)
+    match lent_truths(ctx.alloc(), lhs)? {
+        Operand::Plain(left) => kleene_beside::<K, PlainBits>(&left, lhs, rhs, ctx),
+        Operand::Masked(left) => kleene_beside::<K, MaskedBits>(&left, lhs, rhs, ctx),
+        Operand::One(left) => kleene_beside::<K, OneTruth>(&left, lhs, rhs, ctx),
+    }
 }
 
 /// And or Or of two Bool columns of equal length, row by row by Kleene's table, nullable if either is.
@@ -112,19 +215,16 @@ pub fn execute_boolean(
     }
 }
 
-/// What Not says of each row.
-fn not_answers(alloc: Global, input: &Column) -> VortexResult<Vec<Option<bool>>>
-    ensures { AnswersUnlessMemory result (λ answers. AreAnswers None (length input.now.rows) (λ i. kleene_not (truth_of (row input.now.rows i))) answers.items) }
+/// Not of one scalar of Bool.
+fn not_scalar(scalar: &Scalar) -> Scalar
+    requires { is_bool_type scalar.now.dtype ≡ true }
+    ensures { result ≡ record { dtype = scalar.now.dtype; value = not_value scalar.now.value } }
 {
-    let mut answers = Vec::new(alloc);
-    for i in 0..input.len() {
-        let answer = match truth_at(alloc, input, i)? {
-            Some(value) => Some(!value),
-            None => None,
-        };
-        answers.push(answer)?;
+    let nullability = scalar.dtype().nullability();
+    match scalar.as_bool_opt() {
+        Some(value) => Scalar::bool(!value, nullability),
+        None => Scalar::null(DType::Bool(nullability)),
     }
-    Ok(answers)
 }
 
 /// Not of a Bool column, row by row; a null stays null, and the type is the input's.
@@ -132,7 +232,13 @@ pub fn execute_not(input: &Column, ctx: &mut ExecutionCtx) -> VortexResult<Colum
     requires { is_bool_type input.now.dtype ≡ true }
     ensures { AnswersUnlessMemory result (HasRows input.now.dtype (length input.now.rows) (λ i. not_value (row input.now.rows i))) }
 {
-    let nullability = input.dtype().nullability();
-    let answers = not_answers(ctx.alloc(), input)?;
-    bool_column(ctx.alloc(), &answers, nullability)
+    match (input.as_constant(), input.bits()) {
+        (Some(scalar), _) => Column::constant(ctx.alloc(), not_scalar(scalar), input.len()),
+        (None, Some(bits)) => {
+            let values = collect_bits(ctx.alloc(), &TurnedBits { bits }, bits.len())?;
+            let validity = same_valid(ctx.alloc(), input)?;
+            Column::try_bool(BitBuffer::from_vec(values), validity)
+        }
+        (None, None) => unreachable!(),
+    }
 }

@@ -1,37 +1,23 @@
 //! Comparison of columns and of scalars, by the order of values.
-ghost use Rattle.std.specs.Prelude.{◌≡◌, ◌<◌, ◌||◌, true, false, not, length, IsTrue, MatchResult};
+ghost use Rattle.std.specs.Prelude.{◌≡◌, ◌<◌, true, false, length, IsTrue, MatchResult};
 ghost use Rattle.vortex_types.specs.declared.error.VortexError.TheVariants.{TypeMismatch};
 ghost use Rattle.vortex_types.specs.declared.error.MismatchPlace.TheVariants.{Scalars};
 ghost use Rattle.vortex_types.specs.Answers.{Answers, AnswersUnlessMemory};
 ghost use Rattle.vortex_types.specs.LogicalTypes.{bool_type};
 ghost use Rattle.vortex_types.specs.TypeOf.{allows_null};
-ghost use Rattle.vortex_types.specs.Values.{is_null, null};
-ghost use Rattle.vortex_columns.specs.ColumnView.{row};
-ghost use Rattle.vortex_kernels.specs.Rows.{HasRows, AreAnswers};
+ghost use Rattle.vortex_types.specs.Values.{null};
+ghost use Rattle.vortex_kernels.specs.Rows.{HasRows};
 ghost use Rattle.vortex_kernels.specs.Comparison.{are_comparable, compared_scalar, is_null_constant, IsConstantOf, HasComparisonRows, AnswersCompare, RefusesCompare, AreComparisons};
 
+use crate::nulls::both_valid;
 use crate::operators::CompareOperator;
 use crate::pairs::{
     Comparison, IsEqual, IsGreater, IsGreaterOrEqual, IsLess, IsLessOrEqual, IsNotEqual,
     hold_in_rows,
 };
-use std::alloc::Global;
 use vortex_columns::{
-    BitBuffer, Column, DType, ExecutionCtx, MismatchPlace, Nullability, Scalar, Validity,
-    VortexError, VortexResult,
+    BitBuffer, Column, DType, ExecutionCtx, MismatchPlace, Scalar, VortexError, VortexResult,
 };
-
-/// Which rows are null on neither side.
-fn both_valid(alloc: Global, lhs: &Column, rhs: &Column) -> VortexResult<Vec<bool>>
-    requires { length lhs.now.rows ≡ length rhs.now.rows }
-    ensures { AnswersUnlessMemory result (λ valid. AreAnswers false (length lhs.now.rows) (λ i. not (is_null (row lhs.now.rows i) || is_null (row rhs.now.rows i))) valid.items) }
-{
-    let mut valid = Vec::new(alloc);
-    for i in 0..lhs.len() {
-        valid.push(lhs.is_valid(i) && rhs.is_valid(i))?;
-    }
-    Ok(valid)
-}
 
 /// The comparison of each row, of columns of equal length.
 fn compare_rows<P: Comparison>(
@@ -43,15 +29,8 @@ fn compare_rows<P: Comparison>(
     ensures { AnswersUnlessMemory result (HasComparisonRows P.operator lhs.now rhs.now) }
 {
     let bits = hold_in_rows::<P>(ctx.alloc(), lhs, rhs)?;
-    let bits = BitBuffer::from_bools(ctx.alloc(), &bits)?;
-    match lhs.dtype().nullability() | rhs.dtype().nullability() {
-        Nullability::NonNullable => Column::try_bool(bits, Validity::NonNullable),
-        Nullability::Nullable => {
-            let valid = both_valid(ctx.alloc(), lhs, rhs)?;
-            let valid = BitBuffer::from_bools(ctx.alloc(), &valid)?;
-            Column::try_bool(bits, Validity::Array(valid))
-        }
-    }
+    let validity = both_valid(ctx.alloc(), lhs, rhs)?;
+    Column::try_bool(BitBuffer::from_vec(bits), validity)
 }
 
 /// The comparison of each row, the operator being chosen before the rows.

@@ -3,9 +3,11 @@
 
 pub mod boolean;
 pub mod compare;
+mod nulls;
 pub mod operators;
 mod pairs;
 mod rows;
+mod truths;
 
 pub use boolean::{execute_boolean, execute_not};
 pub use compare::{execute_compare, scalar_cmp};

@@ -1,19 +1,21 @@
 //! The values of two columns side by side, and the comparison that is asked of each pair.
-ghost use Rattle.std.specs.Prelude.{◌≡◌, ◌<◌, ℕ, pos, true, false, map, length, slice_index_or, IfSome};
+ghost use Rattle.std.specs.Prelude.{◌≡◌, ◌<◌, ℕ, [], pos, true, false, map, length, slice_index_or, IfSome};
 ghost use Rattle.std.specs.declared.cmp.Ordering.{Ordering};
-ghost use Rattle.std.specs.Ordering.{int_cmp, bool_cmp};
+ghost use Rattle.std.specs.Ordering.{nat_cmp, int_cmp, bool_cmp};
+ghost use Rattle.std.specs.Cmp.Lexicographic.{slice_cmp};
 ghost use Rattle.vortex_types.specs.Answers.{AnswersUnlessMemory};
-ghost use Rattle.vortex_types.specs.Values.{number, truth};
+ghost use Rattle.vortex_types.specs.Values.{number, truth, truth_of};
 ghost use Rattle.vortex_types.specs.Order.{compare_values};
 ghost use Rattle.vortex_types.specs.LogicalTypes.{is_text_type};
-ghost use Rattle.vortex_columns.specs.ColumnView.{row, is_bytes_like, HasBytes};
+ghost use Rattle.vortex_columns.specs.ColumnView.{row};
+ghost use Rattle.vortex_columns.specs.LentBytes.{bytes_of};
 ghost use Rattle.vortex_kernels.specs.declared.operators.CompareOperator.{CompareOperator};
 ghost use Rattle.vortex_kernels.specs.declared.operators.CompareOperator.TheVariants.{Eq, NotEq, Gt, Gte, Lt, Lte};
-ghost use Rattle.vortex_kernels.specs.Comparison.{holds, AreHeld, IsConstantOf, IsConstantBytes, IsOrderAt, IsBytesOrderAt, AreComparisons};
+ghost use Rattle.vortex_kernels.specs.Comparison.{holds, AreHeld, IsConstantOf, IsConstantBytes, AreComparisons};
 
 use std::alloc::Global;
 use std::cmp::Ordering;
-use vortex_columns::{BitBuffer, Cell, Column, DType, NativePType, PType, VortexResult};
+use vortex_columns::{BitBuffer, ByteRows, Cell, Column, DType, NativePType, PType, VortexResult};
 
 /// A comparison, as a type, so that it is chosen before the rows.
 pub(crate) trait Comparison {
@@ -197,43 +199,37 @@ impl Pairs for BitsAndOne<'_> {
     }
 }
 
-/// The texts or the byte strings of two columns of one kind.
+/// The texts or the byte strings of two columns.
 #[derive(Clone, Copy)]
 struct BytesPairs<'a> {
-    left: &'a Column,
-    right: &'a Column,
+    left: ByteRows<'a>,
+    right: ByteRows<'a>,
 }
 
 impl Pairs for BytesPairs<'_> {
-    ghost has_pair = { λ p i. (i < length p.left.now.rows) × (i < length p.right.now.rows) × (is_text_type p.left.now.dtype ≡ is_text_type p.right.now.dtype) };
+    ghost has_pair = { λ p i. (i < length (bytes_of p.left)) × (i < length (bytes_of p.right)) };
 
-    ghost tells = { λ p i o. IsOrderAt p.left.now.rows p.right.now.rows i o };
+    ghost tells = { λ p i o. o ≡ slice_cmp nat_cmp (slice_index_or (bytes_of p.left) i []) (slice_index_or (bytes_of p.right) i []) };
 
     fn order_at(&self, i: usize) -> Ordering {
-        match (self.left.bytes_at(i), self.right.bytes_at(i)) {
-            (Some(left), Some(right)) => left.cmp(right),
-            _ => self.left.compare_rows(i, self.right, i),
-        }
+        self.left.bytes(i).cmp(self.right.bytes(i))
     }
 }
 
 /// The texts or the byte strings of a column beside one.
 #[derive(Clone, Copy)]
 struct BytesAndOne<'a> {
-    left: &'a Column,
+    left: ByteRows<'a>,
     right: &'a [u8],
 }
 
 impl Pairs for BytesAndOne<'_> {
-    ghost has_pair = { λ p i. HasBytes p.left.now × (i < length p.left.now.rows) };
+    ghost has_pair = { λ p i. i < length (bytes_of p.left) };
 
-    ghost tells = { λ p i o. IsBytesOrderAt p.left.now p.right.now i o };
+    ghost tells = { λ p i o. o ≡ slice_cmp nat_cmp (slice_index_or (bytes_of p.left) i []) p.right.now };
 
     fn order_at(&self, i: usize) -> Ordering {
-        match self.left.bytes_at(i) {
-            Some(left) => left.cmp(self.right),
-            None => Ordering::Equal,
-        }
+        self.left.bytes(i).cmp(self.right)
     }
 }
 
@@ -264,8 +260,9 @@ fn constant_int(column: &Column) -> Option<i128>
 }
 
 /// The truth value in each row of a constant column of Bool.
-fn constant_bool(column: &Column) -> Option<bool>
-    ensures { IfSome result (λ b. IsConstantOf (truth b) column.now) }
+pub(crate) fn constant_bool(column: &Column) -> Option<bool>
+    ensures value { IfSome result (λ b. IsConstantOf (truth b) column.now) }
+    ensures rows { column.now.constant ≡ true → (i : ℕ) → i < length column.now.rows → truth_of (row column.now.rows i) ≡ result }
 {
     column.as_constant()?.as_bool_opt()
 }
@@ -323,29 +320,24 @@ fn constant_bytes(column: &Column) -> Option<&[u8]>
     }
 }
 
-/// Texts, or byte strings, of both columns; a constant on the left goes by the cells.
 fn hold_in_bytes<P: Comparison>(
     alloc: Global,
     lhs: &Column,
     rhs: &Column,
 ) -> VortexResult<Vec<bool>>
     requires lengths { length lhs.now.rows ≡ length rhs.now.rows }
-    requires left { is_bytes_like lhs.now.dtype ≡ true }
     requires kind { is_text_type lhs.now.dtype ≡ is_text_type rhs.now.dtype }
     ensures { AnswersUnlessMemory result (λ bits. AreComparisons P.operator lhs.now.rows rhs.now.rows bits.items) }
 {
     let len = lhs.len();
-    match (lhs.as_constant(), constant_bytes(rhs)) {
-        (None, Some(right)) => {
-            hold_in_pairs::<P, BytesAndOne>(alloc, &BytesAndOne { left: lhs, right }, len)
+    match (lhs.byte_rows(), rhs.byte_rows(), constant_bytes(rhs)) {
+        (Some(left), Some(right), _) => {
+            hold_in_pairs::<P, BytesPairs>(alloc, &BytesPairs { left, right }, len)
         }
-        _ => {
-            let pairs = BytesPairs {
-                left: lhs,
-                right: rhs,
-            };
-            hold_in_pairs::<P, BytesPairs>(alloc, &pairs, len)
+        (Some(left), None, Some(right)) => {
+            hold_in_pairs::<P, BytesAndOne>(alloc, &BytesAndOne { left, right }, len)
         }
+        _ => hold_in_cells::<P>(alloc, lhs, rhs),
     }
 }
 

@@ -1,58 +1,68 @@
-//! Columns of truth values that are made row by row.
-ghost use Rattle.std.specs.Prelude.{◌≡◌, ◌<◌, None, false, length, map, is_some, unwrap_or, slice_index_or, IfOk};
+//! Bits that are told row by row.
+ghost use Rattle.std.specs.Prelude.{◌≡◌, ◌<◌, ◌&&◌, ℕ, Bool, false, not, length, slice_index_or};
 ghost use Rattle.vortex_types.specs.Answers.{AnswersUnlessMemory};
-ghost use Rattle.vortex_types.specs.LogicalTypes.{bool_type, is_bool_type};
-ghost use Rattle.vortex_types.specs.TypeOf.{allows_null};
-ghost use Rattle.vortex_types.specs.Values.{truth_of, truth_or_null};
-ghost use Rattle.vortex_columns.specs.ColumnView.{row};
-ghost use Rattle.vortex_kernels.specs.Rows.{HasRows, AllAllowed};
+ghost use Rattle.vortex_kernels.specs.Rows.{AreTold};
 
-use std::alloc::{AllocError, Global};
-use vortex_columns::{BitBuffer, Column, Nullability, Validity, VortexResult};
+use std::alloc::Global;
+use vortex_columns::{BitBuffer, VortexResult};
 
-/// The truth value of row `i`, or `None` where it is null or not of Bool.
-pub(crate) fn truth_at(alloc: Global, column: &Column, i: usize) -> VortexResult<Option<bool>>
-    requires { i < length column.now.rows }
-    ensures { AnswersUnlessMemory result (λ answer. answer ≡ truth_of (row column.now.rows i)) }
-{
-    let scalar = column.scalar_at(alloc, i)?;
-    Ok(scalar.as_bool_opt())
+/// A bit for each row, told from what is lent.
+pub(crate) trait RowBits {
+    ghost has_row: { Self → ℕ → Type 0 };
+
+    /// What is known of the bit of a row.
+    ghost tells: { Self → ℕ → Bool → Type 0 };
+
+    fn bit(&self, i: usize) -> bool
+        requires { has_row self.now i }
+        ensures { tells self.now i result };
 }
 
-/// The values, and false where there is none.
-fn values_of(alloc: Global, answers: &[Option<bool>]) -> Result<Vec<bool>, AllocError>
-    ensures { IfOk result (λ values. values.items ≡ map (λ a. unwrap_or a false) answers.now) }
-{
-    answers
-        .iter()
-        .map(|answer| answer.unwrap_or(false))
-        .collect(alloc)
-}
-
-/// Which rows have a value.
-fn valid_of(alloc: Global, answers: &[Option<bool>]) -> Result<Vec<bool>, AllocError>
-    ensures { IfOk result (λ valid. valid.items ≡ map is_some answers.now) }
-{
-    answers.iter().map(|answer| answer.is_some()).collect(alloc)
-}
-
-/// A column of Bool with a row for each answer, null where there is none.
-pub(crate) fn bool_column(
+/// The bit of each row.
+pub(crate) fn collect_bits<R: RowBits>(
     alloc: Global,
-    answers: &[Option<bool>],
-    nullability: Nullability,
-) -> VortexResult<Column>
-    requires { AllAllowed (allows_null nullability) answers.now }
-    ensures { AnswersUnlessMemory result (HasRows (bool_type (allows_null nullability)) (length answers.now) (λ i. truth_or_null (slice_index_or answers.now i None))) }
+    rows: &R,
+    len: usize,
+) -> VortexResult<Vec<bool>>
+    requires { (i : ℕ) → i < len → R.has_row rows.now i }
+    ensures { AnswersUnlessMemory result (λ bits. AreTold len (R.tells rows.now) bits.items) }
 {
-    let values = values_of(alloc, answers)?;
-    let bits = BitBuffer::from_bools(alloc, &values)?;
-    match nullability {
-        Nullability::NonNullable => Column::try_bool(bits, Validity::NonNullable),
-        Nullability::Nullable => {
-            let valid = valid_of(alloc, answers)?;
-            let valid = BitBuffer::from_bools(alloc, &valid)?;
-            Column::try_bool(bits, Validity::Array(valid))
-        }
+    let mut bits = Vec::with_capacity(alloc, len)?;
+    for i in 0..len {
+        bits.push_reserved(rows.bit(i));
+    }
+    Ok(bits)
+}
+
+/// The bits, each turned.
+#[derive(Clone, Copy)]
+pub(crate) struct TurnedBits<'a> {
+    pub(crate) bits: &'a BitBuffer,
+}
+
+impl RowBits for TurnedBits<'_> {
+    ghost has_row = { λ r i. i < length r.bits.now };
+
+    ghost tells = { λ r i b. b ≡ not (slice_index_or r.bits.now i false) };
+
+    fn bit(&self, i: usize) -> bool {
+        !self.bits.value(i)
+    }
+}
+
+/// The bits that are set on both sides.
+#[derive(Clone, Copy)]
+pub(crate) struct SharedBits<'a> {
+    pub(crate) left: &'a BitBuffer,
+    pub(crate) right: &'a BitBuffer,
+}
+
+impl RowBits for SharedBits<'_> {
+    ghost has_row = { λ r i. (i < length r.left.now) × (i < length r.right.now) };
+
+    ghost tells = { λ r i b. b ≡ (slice_index_or r.left.now i false && slice_index_or r.right.now i false) };
+
+    fn bit(&self, i: usize) -> bool {
+        self.left.value(i) & self.right.value(i)
     }
 }

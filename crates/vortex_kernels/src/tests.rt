@@ -1,6 +1,7 @@
 //! The tables, with values from outside, and what no clause says.
 
 mod compare;
+mod forms;
 mod nested;
 
 use super::*;

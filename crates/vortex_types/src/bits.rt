@@ -29,6 +29,13 @@ impl BitBuffer {
         Ok(BitBuffer { bits })
     }
 
+    /// The bits of the vector, in its order. Takes no memory.
+    pub fn from_vec(bits: Vec<bool>) -> BitBuffer
+        ensures { result ≡ bits.items }
+    {
+        BitBuffer { bits }
+    }
+
     /// How many bits there are, one for each row.
     pub fn len(&self) -> usize
         ensures { result ≡ length self.now }

@@ -109,6 +109,8 @@ fn reads_bits_and_validity(rt: HostRuntime) -> Result<(), Fail> {
     let bits = BitBuffer::from_bools(alloc, &[true, false])?;
     assert_eq!(rt; bits.len(), 2);
     assert!(rt; bits.value(0) && !bits.value(1));
+    let kept = BitBuffer::from_vec(vec![in alloc; false, true]?);
+    assert!(rt; kept.len() == 2 && !kept.value(0) && kept.value(1));
     let validity = Validity::Array(bits.try_clone(alloc)?);
     assert!(rt; validity.fits(2) && !validity.fits(3));
     let copy = validity.try_clone(alloc)?;

@@ -26,5 +26,5 @@ returns-in-Some-None-Some g c =
     AnswersUnlessMemory-weaker c.hold_in_pairs-in-Some-None-Some.result
     (λ bits. AreHeld g.P.Comparison.operator (λ i o. o ≡ bool_cmp (slice_index_or xs i false) c.in-Some-None-Some.right) (length l.rows) bits.items)
     (λ bits. AreComparisons g.P.Comparison.operator l.rows r.rows bits.items)
-    (λ bits h. held_compares g.P.Comparison.operator _ l.rows r.rows bits.items h (bit_order l r xs c.in-Some-None-Some.right c.requires c.in-Some-None-Some.ensures.1 c.in-Some-None-Some.ensures''))
+    (λ bits h. held_compares g.P.Comparison.operator _ l.rows r.rows bits.items h (bit_order l r xs c.in-Some-None-Some.right c.requires c.in-Some-None-Some.ensures.1 c.in-Some-None-Some.ensures''.value))
     (rw c.len-len.ensures at c.hold_in_pairs-in-Some-None-Some.ensures)

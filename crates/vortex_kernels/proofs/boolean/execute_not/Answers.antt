@@ -1,0 +1,33 @@
+use Rattle.std.proofs.Common.{◌≡◌, List, Bool, length, subst, sym, ◌∙◌}
+use Rattle.std.specs.Prelude.{false, not, slice_index_or}
+use Rattle.vortex_types.specs.Answers.{AnswersUnlessMemory}
+use Rattle.vortex_types.specs.LogicalTypes.{LogicalType, is_nullable}
+use Rattle.vortex_types.specs.ValidityView.{validity_of}
+use Rattle.vortex_types.specs.Values.{is_null}
+use Rattle.vortex_types.proofs.Answering.{AnswersUnlessMemory-weaker}
+use Rattle.vortex_columns.specs.ColumnView.{ColumnView, row, constant_column}
+use Rattle.vortex_kernels.specs.Boolean.{not_value}
+use Rattle.vortex_kernels.specs.Rows.{HasRows, AreTold}
+use Rattle.vortex_kernels.proofs.Comparing.{constant_image}
+use Rattle.vortex_kernels.proofs.RowLemmas.{bool_answers, bool_dtype, not_row}
+use Rattle.vortex_kernels.proofs.boolean.execute_not.Goals as goal
+
+pub returns-in-Some-default : goal.returns-in-Some-default
+returns-in-Some-default c =
+    let input = c.args.input.now in
+    let s = c.not_scalar.result in
+    AnswersUnlessMemory-weaker c.constant.result (λ (d : ColumnView). d ≡ constant_column s (length input.rows)) (HasRows input.dtype (length input.rows) (λ i. not_value (row input.rows i)))
+    (constant_image not_value input c.in-Some-default.scalar.now s c.in-Some-default.ensures c.not_scalar.ensures)
+    (rw c.len.ensures at c.constant.ensures)
+
+pub returns-in_ok-validity-in-None-Some : goal.returns-in_ok-validity-in-None-Some
+returns-in_ok-validity-in-None-Some c =
+    let input = c.args.input.now in
+    let xs = c.in-None-Some.bits.now in
+    let are = c.in-None-Some.ensures'.1 in
+    let bits = c.from_vec.result in
+    let told = subst (λ (bs : List Bool). AreTold (length xs) (λ i b. b ≡ not (slice_index_or xs i false)) bs) (sym c.from_vec.ensures) (rw c.len-in-None-Some.ensures at c.in_ok-values-in-None-Some.ensures) in
+    subst (λ (t : LogicalType). AnswersUnlessMemory c.try_bool.result (HasRows t (length input.rows) (λ i. not_value (row input.rows i)))) (sym (bool_dtype input.dtype c.requires))
+    (bool_answers (is_nullable input.dtype) (length input.rows) (λ i. not (is_null (row input.rows i))) (λ i. not_value (row input.rows i)) bits (validity_of c.in_ok-validity-in-None-Some.validity) c.try_bool.result (told.count ∙ are.count) c.in_ok-validity-in-None-Some.ensures
+    (not_row input xs bits are told)
+    c.try_bool.ensures)

@@ -1,0 +1,23 @@
+-- Which rows are not null.
+use Rattle.std.specs.Prelude.{◌≡◌, ℕ, ◌<◌, List, [], length, Bool, not}
+use Rattle.vortex_types.specs.Values.{Value, is_null}
+use Rattle.vortex_types.specs.ValidityView.{ValidityView, all_valid, all_invalid, array, form_allows_null, is_valid_row, FitsRows}
+use Rattle.vortex_columns.specs.ColumnView.{row}
+use Rattle.vortex_kernels.specs.declared.nulls.ValidRows.{ValidRows}
+use Rattle.vortex_kernels.specs.declared.nulls.ValidRows.TheVariants.{Every, No, Listed}
+
+abbrev pub valid_view : ValidRows → ValidityView
+valid_view Every = record { form = all_valid; bits = [] }
+valid_view No = record { form = all_invalid; bits = [] }
+valid_view (Listed bits) = record { form = array; bits = bits.now }
+
+-- tells of each row whether it is null
+pub record AreValid (v : ValidityView) (rows : List Value) : Type 0 where
+  pub fits : FitsRows v (length rows)
+  pub each : (i : ℕ) → i < length rows → is_valid_row v i ≡ not (is_null (row rows i))
+
+-- serves n rows of a type that has null or not, of which these are valid
+pub record IsValidity (nullable : Bool) (n : ℕ) (valid : ℕ → Bool) (v : ValidityView) : Type 0 where
+  pub nullability : form_allows_null v.form ≡ nullable
+  pub fits : FitsRows v n
+  pub each : (i : ℕ) → i < n → is_valid_row v i ≡ valid i

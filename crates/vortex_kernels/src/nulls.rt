@@ -1,0 +1,87 @@
+//! Which rows of one column are not null, and of two.
+ghost use Rattle.std.specs.Prelude.{◌≡◌, ◌||◌, true, not, length};
+ghost use Rattle.vortex_types.specs.Answers.{AnswersUnlessMemory};
+ghost use Rattle.vortex_types.specs.LogicalTypes.{is_nullable};
+ghost use Rattle.vortex_types.specs.ValidityView.{validity_of};
+ghost use Rattle.vortex_types.specs.Values.{is_null};
+ghost use Rattle.vortex_columns.specs.ColumnView.{row};
+ghost use Rattle.vortex_kernels.specs.Nulls.{valid_view, IsValidity, AreValid};
+
+use crate::rows::{SharedBits, collect_bits};
+use std::alloc::Global;
+use vortex_columns::{BitBuffer, Column, Nullability, Validity, VortexResult};
+
+/// The rows of a column that are not null, chosen before the rows.
+#[derive(Clone, Copy)]
+pub(crate) enum ValidRows<'a> {
+    Every,
+    No,
+    /// Those whose bit is set.
+    Listed(&'a BitBuffer),
+}
+
+impl ValidRows<'_> {
+    /// The same as the validity of a nullable type; a list of bits is copied.
+    fn to_validity(&self, alloc: Global) -> VortexResult<Validity>
+        ensures { AnswersUnlessMemory result (λ v. validity_of v ≡ valid_view self.now) }
+    {
+        match self {
+            ValidRows::Every => Ok(Validity::AllValid),
+            ValidRows::No => Ok(Validity::AllInvalid),
+            ValidRows::Listed(bits) => Ok(Validity::Array(bits.try_clone(alloc)?)),
+        }
+    }
+}
+
+/// Which rows of a column are not null. Takes no memory: where there is a list of bits it is lent.
+pub(crate) fn valid_rows(alloc: Global, column: &Column) -> VortexResult<ValidRows<'_>>
+    ensures { AnswersUnlessMemory result (λ v. AreValid (valid_view v) column.now.rows) }
+{
+    if let Some(bits) = column.valid_bits() {
+        return Ok(ValidRows::Listed(bits));
+    }
+    // no list of bits, so that nothing is copied
+    match column.validity(alloc)? {
+        Validity::AllInvalid => Ok(ValidRows::No),
+        _ => Ok(ValidRows::Every),
+    }
+}
+
+/// The validity of the rows of a column, for another of its nullability.
+pub(crate) fn same_valid(alloc: Global, column: &Column) -> VortexResult<Validity>
+    ensures { AnswersUnlessMemory result (λ v. IsValidity (is_nullable column.now.dtype) (length column.now.rows) (λ i. not (is_null (row column.now.rows i))) (validity_of v)) }
+{
+    match column.dtype().nullability() {
+        Nullability::NonNullable => Ok(Validity::NonNullable),
+        Nullability::Nullable => valid_rows(alloc, column)?.to_validity(alloc),
+    }
+}
+
+/// The validity of rows that are valid on both sides.
+pub(crate) fn both_valid(alloc: Global, lhs: &Column, rhs: &Column) -> VortexResult<Validity>
+    requires { length lhs.now.rows ≡ length rhs.now.rows }
+    ensures { AnswersUnlessMemory result (λ v. IsValidity (is_nullable lhs.now.dtype || is_nullable rhs.now.dtype) (length lhs.now.rows) (λ i. not (is_null (row lhs.now.rows i) || is_null (row rhs.now.rows i))) (validity_of v)) }
+{
+    match lhs.dtype().nullability() | rhs.dtype().nullability() {
+        Nullability::NonNullable => Ok(Validity::NonNullable),
+        Nullability::Nullable => join_valid(alloc, lhs, rhs),
+    }
+}
+
+/// The same where either type has null.
+fn join_valid(alloc: Global, lhs: &Column, rhs: &Column) -> VortexResult<Validity>
+    requires { length lhs.now.rows ≡ length rhs.now.rows }
+    ensures { AnswersUnlessMemory result (λ v. IsValidity true (length lhs.now.rows) (λ i. not (is_null (row lhs.now.rows i) || is_null (row rhs.now.rows i))) (validity_of v)) }
+{
+    let len = lhs.len();
+    match (valid_rows(alloc, lhs)?, valid_rows(alloc, rhs)?) {
+        (ValidRows::Every, right) => right.to_validity(alloc),
+        (left, ValidRows::Every) => left.to_validity(alloc),
+        (ValidRows::Listed(left), ValidRows::Listed(right)) => {
+            let shared = collect_bits(alloc, &SharedBits { left, right }, len)?;
+            Ok(Validity::Array(BitBuffer::from_vec(shared)))
+        }
+        (ValidRows::No, _) => Ok(Validity::AllInvalid),
+        (_, ValidRows::No) => Ok(Validity::AllInvalid),
+    }
+}
