@@ -238,7 +238,7 @@ fn parts(column: &Column) -> [bool; 7] {
     [
         column.bits().is_some(),
         column.ints::<i32>().is_some(),
-        column.byte_rows().is_some(),
+        column.bytes_at(0).is_some(),
         column.field(0).is_some(),
         column.list_parts().is_some(),
         column.fixed_parts().is_some(),
