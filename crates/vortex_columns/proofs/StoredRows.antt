@@ -23,6 +23,7 @@ use Rattle.std.proofs.lemmas.List.Elements.{All-nil, All-cons}
 use Rattle.vortex_columns.proofs.HaveTypes.{value_count_of}
 use Rattle.vortex_columns.proofs.ListParts.{length_part, part_each, length_entries, entries_typed}
 use Rattle.vortex_types.proofs.Answering.{answers_where}
+use Rattle.vortex_types.proofs.NullValues.{null_is}
 
 pub length_rows : (n : ℕ) (s : Stored) → length (rows_of n s) ≡ n
 length_rows n s = length-map-range_with_len (row_at s) 0 n
@@ -169,16 +170,8 @@ typed_kept n t m (maps k v offsets sizes) i h a =
 pub row_constant : (s : ScalarView) (i : ℕ) → row_at (constant_of s) i ≡ s.value
 row_constant s i = by (is_null s.value) refl
   where
-    null_is : (v : Value) → is_null v ≡ true → null ≡ v
-    null_is null h = refl
-    null_is (truth b) h = cc
-    null_is (number z) h = cc
-    null_is (text bs) h = cc
-    null_is (bytes bs) h = cc
-    null_is (list vs) h = cc
-
     by : (b : Bool) → is_null s.value ≡ b → row_at (constant_of s) i ≡ s.value
-    by true h = row_null (constant_of s) i (constant_valid s.dtype s.value i ∙ ap not h) ∙ null_is s.value h
+    by true h = row_null (constant_of s) i (constant_valid s.dtype s.value i ∙ ap not h) ∙ sym (null_is s.value h)
     by false h = row_valid (constant_of s) i (constant_valid s.dtype s.value i ∙ ap not h)
 
 typed_row : (n : ℕ) (t : LogicalType) (s : Stored) (i : ℕ) → i < n → IsStored n t s → HasType t (row_at s i)

@@ -1,16 +1,17 @@
 -- Rows that are compared one by one, and the column that is made of the answers.
 use Rattle.std.proofs.Common.{◌≡◌, ℕ, ◌<◌, Bool, true, false, List, [], length, refl, sym, ap, subst, ◌∙◌, arith, cond}
-use Rattle.std.specs.Prelude.{◌||◌, ◌&&◌, nat_eq, not, ℤ, pos, Option, Some, None, IfSome, slice_index_or}
+use Rattle.std.specs.Prelude.{◌||◌, ◌&&◌, nat_eq, not, ℤ, pos, Option, Some, None, IfSome, MatchOption, slice_index_or}
 use Rattle.std.specs.declared.cmp.Ordering.{Ordering}
 use Rattle.std.specs.Ordering.{nat_cmp, int_cmp, bool_cmp}
 use Rattle.std.specs.Cmp.Lexicographic.{slice_cmp}
 use Rattle.std.proofs.lemmas.List.FromFn.{get_or-map-range_with_len, length-map-range_with_len}
 use Rattle.vortex_types.specs.Values.{Value, null, truth, number, text, bytes, list, truth_of, is_null}
-use Rattle.vortex_types.specs.LogicalTypes.{LogicalType, null_type, bool_type, integer_type, text_type, bytes_type, struct_type, list_type, fixed_size_list_type, map_type, is_nullable, is_text_type}
+use Rattle.vortex_types.specs.LogicalTypes.{LogicalType, null_type, bool_type, integer_type, text_type, bytes_type, struct_type, list_type, fixed_size_list_type, map_type, is_text_type}
 use Rattle.vortex_types.specs.TypeEquality.{alike_types}
 use Rattle.vortex_types.specs.Typing.{HasType}
 use Rattle.vortex_types.specs.Order.{compare_values}
 use Rattle.vortex_types.specs.ScalarView.{ScalarView, compare_scalars}
+use Rattle.vortex_types.proofs.NullValues.{null_is}
 use Rattle.vortex_columns.specs.ColumnView.{ColumnView, row, constant_column, is_bytes_like, bytes_value, HasBytes, AreBytes, AreInts, AreBits}
 use Rattle.vortex_kernels.specs.declared.operators.CompareOperator.{CompareOperator}
 use Rattle.vortex_kernels.specs.Rows.{HasRows}
@@ -45,6 +46,11 @@ constant_truth s c e = by (truth_of s.value) (truth_is s.value)
     by None h = tt
     by (Some b) h = λ i lt. constant_row s c e i lt ∙ h
 
+-- the number of a constant column, as an integer of a type that holds it
+pub fitting_constant : {A : Type 0} (number_of : A → ℤ) (Fits : Type 0) (z : ℤ) (c : ColumnView) (o : Option A) → MatchOption o (¬ Fits) (λ x. Fits × (number_of x ≡ z)) → IsConstantOf (number z) c → IfSome o (λ x. IsConstantOf (number (number_of x)) c)
+fitting_constant number_of Fits z c None held rows = tt
+fitting_constant number_of Fits z c (Some x) held rows = λ i lt. rows i lt ∙ ap number (sym held.1)
+
 -- numbers and truth values in the rows compare as the rows do
 pub ints_order : (l r : ColumnView) (xs ys : List ℤ) → length l.rows ≡ length r.rows → AreInts l xs → AreInts r ys → (i : ℕ) (o : Ordering) → i < length l.rows → o ≡ int_cmp (slice_index_or xs i (pos 0)) (slice_index_or ys i (pos 0)) → IsOrderAt l.rows r.rows i o
 ints_order l r xs ys same a b i o lt e p q =
@@ -61,26 +67,6 @@ bits_order l r xs ys same a b i o lt e p q =
 pub bit_order : (l r : ColumnView) (xs : List Bool) (z : Bool) → length l.rows ≡ length r.rows → AreBits l xs → IsConstantOf (truth z) r → (i : ℕ) (o : Ordering) → i < length l.rows → o ≡ bool_cmp (slice_index_or xs i false) z → IsOrderAt l.rows r.rows i o
 bit_order l r xs z same a b i o lt e p q =
     e ∙ λ j. compare_values (sym (a.each i (omega (arith, a.count)) p) j) (sym (b i (omega (arith, same))) j)
-
--- a type without null has no null among its values
-nullable_by : (t : LogicalType) → HasType t null → is_nullable t ≡ false → ⊥
-nullable_by null_type h e = cc
-nullable_by (bool_type n) h e = cc
-nullable_by (integer_type p n) h e = cc
-nullable_by (text_type n) h e = cc
-nullable_by (bytes_type n) h e = cc
-nullable_by (struct_type fs n) h e = cc
-nullable_by (list_type t n) h e = cc
-nullable_by (fixed_size_list_type t s n) h e = cc
-nullable_by (map_type k v n) h e = cc
-
-pub not_null : (t : LogicalType) (v : Value) → HasType t v → is_nullable t ≡ false → is_null v ≡ false
-not_null t null h e = absurd (nullable_by t h e)
-not_null t (truth b) h e = refl
-not_null t (number z) h e = refl
-not_null t (text bs) h e = refl
-not_null t (bytes bs) h e = refl
-not_null t (list vs) h e = refl
 
 -- the comparison of two values, by what is known of each
 pub comparison_at : (op : CompareOperator) (v w : Value) (b : Bool) → (is_null v ≡ false → is_null w ≡ false → b ≡ holds op (compare_values v w)) → cond (not (is_null v || is_null w)) (truth b) null ≡ comparison_value op v w
@@ -118,14 +104,6 @@ scalars_compared op a b o p q e = by (alike_types a.dtype b.dtype) refl e
         let same : compare_values a.value b.value ≡ o = cc in
         ((λ i. (p i || q i) || h i), (λ i. cond (p i || q i) null (truth (holds op (same i)))))
     by false h g = cc
-
-null_is : (v : Value) → is_null v ≡ true → v ≡ null
-null_is null h = refl
-null_is (truth b) h = cc
-null_is (number z) h = cc
-null_is (text bs) h = cc
-null_is (bytes bs) h = cc
-null_is (list vs) h = cc
 
 -- the rows of a constant null
 pub null_rows : (s : ScalarView) (c : ColumnView) → c ≡ constant_column s (length c.rows) → is_null s.value ≡ true → IsConstantOf null c

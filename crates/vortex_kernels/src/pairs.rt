@@ -144,24 +144,24 @@ impl<T: NativePType> Pairs for IntPairs<'_, T> {
     ghost tells = { λ p i o. o ≡ int_cmp (slice_index_or (map T.number p.left.now) i (pos 0)) (slice_index_or (map T.number p.right.now) i (pos 0)) };
 
     fn order_at(&self, i: usize) -> Ordering {
-        self.left[i].to_i128().cmp(&self.right[i].to_i128())
+        self.left[i].total_compare(self.right[i])
     }
 }
 
-/// The integers of a column beside one number.
+/// The integers of a column beside one.
 #[derive(Clone, Copy)]
 struct IntsAndOne<'a, T: NativePType> {
     left: &'a [T],
-    right: i128,
+    right: &'a T,
 }
 
 impl<T: NativePType> Pairs for IntsAndOne<'_, T> {
     ghost has_pair = { λ p i. i < length p.left.now };
 
-    ghost tells = { λ p i o. o ≡ int_cmp (slice_index_or (map T.number p.left.now) i (pos 0)) p.right };
+    ghost tells = { λ p i o. o ≡ int_cmp (slice_index_or (map T.number p.left.now) i (pos 0)) (T.number p.right.now) };
 
     fn order_at(&self, i: usize) -> Ordering {
-        self.left[i].to_i128().cmp(&self.right)
+        self.left[i].total_compare(*self.right)
     }
 }
 
@@ -249,12 +249,12 @@ fn hold_in_cells<P: Comparison>(
     hold_in_pairs::<P, CellPairs>(alloc, &pairs, len)
 }
 
-/// The number in each row of a constant column of integers.
-fn constant_int(column: &Column) -> Option<i128>
-    ensures { IfSome result (λ z. IsConstantOf (number z) column.now) }
+/// The integer in each row of a constant column of integers, where its type holds it.
+fn constant_int<T: NativePType>(column: &Column) -> Option<T>
+    ensures { IfSome result (λ x. IsConstantOf (number (T.number x)) column.now) }
 {
     match column.as_constant()?.cell() {
-        Cell::Int(number) => Some(number),
+        Cell::Int(number) => T::from_i128(number),
         _ => None,
     }
 }
@@ -276,12 +276,19 @@ fn hold_in_ints<P: Comparison, T: NativePType>(
     ensures { AnswersUnlessMemory result (λ bits. AreComparisons P.operator lhs.now.rows rhs.now.rows bits.items) }
 {
     let len = lhs.len();
-    match (lhs.ints::<T>(), rhs.ints::<T>(), constant_int(rhs)) {
+    match (lhs.ints::<T>(), rhs.ints::<T>(), constant_int::<T>(rhs)) {
         (Some(left), Some(right), _) => {
             hold_in_pairs::<P, IntPairs<T>>(alloc, &IntPairs { left, right }, len)
         }
         (Some(left), None, Some(right)) => {
-            hold_in_pairs::<P, IntsAndOne<T>>(alloc, &IntsAndOne { left, right }, len)
+            hold_in_pairs::<P, IntsAndOne<T>>(
+                alloc,
+                &IntsAndOne {
+                    left,
+                    right: &right,
+                },
+                len,
+            )
         }
         _ => hold_in_cells::<P>(alloc, lhs, rhs),
     }

@@ -6,6 +6,7 @@ use Rattle.vortex_types.specs.Values.{Value, null, truth, truth_of, truth_or_nul
 use Rattle.vortex_types.specs.Order.{compare_values}
 use Rattle.vortex_types.specs.TypeEquality.{alike_types}
 use Rattle.vortex_types.specs.Typing.{HasType}
+use Rattle.vortex_types.proofs.NullValues.{not_null}
 use Rattle.vortex_kernels.specs.declared.operators.Operator.{Operator}
 use Rattle.vortex_kernels.specs.declared.operators.Operator.TheVariants.{Eq, NotEq, Gt, Gte, Lt, Lte, And, Or, Add, Sub, Mul, Div}
 use Rattle.vortex_kernels.specs.declared.operators.CompareOperator.{CompareOperator}
@@ -16,7 +17,6 @@ use Rattle.vortex_kernels.specs.Boolean.{boolean_value, not_value}
 use Rattle.vortex_kernels.specs.Comparison.{holds, comparison_value, comparison_type}
 use Rattle.vortex_kernels.specs.Rows.{Allows}
 use Rattle.vortex_kernels.proofs.RowLemmas.{allowed, kleene_allowed, not_allowed}
-use Rattle.vortex_kernels.proofs.Comparing.{not_null}
 use Rattle.vortex_meaning.specs.Outcomes.{Outcome, gives, GivesValue, GivesType, GivesNull}
 use Rattle.vortex_meaning.specs.Meaning.{Lawful, HaveTypes}
 use Rattle.vortex_meaning.specs.Shipped.{Shipped, binary, negation, both_bool, compared_type, operator_type, operator_value, of_two, of_one, negation_type, shipped_type, shipped_means, is_strict, is_infallible, shipped_meaning}

@@ -4,3 +4,4 @@ pub mod TypeViews
 pub mod Agreeing
 pub mod ScalarViews
 pub mod FieldSearch
+pub mod NullValues

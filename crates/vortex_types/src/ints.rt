@@ -5,6 +5,7 @@ ghost use Rattle.vortex_types.specs.Typing.{FitsPType};
 use crate::dtype::PType;
 use crate::error::VortexResult;
 use std::alloc::Global;
+use std::cmp::Ordering;
 
 /// Integers of one type.
 #[derive(Drop)]
@@ -78,6 +79,7 @@ impl Ints {
 /// One of the eight integer types.
 pub trait NativePType: Copy + Drop {
     ghost use Rattle.std.specs.Prelude.{ℤ, pos, map, MatchOption};
+    ghost use Rattle.std.specs.Ordering.{int_cmp};
     ghost use Rattle.vortex_types.specs.declared.dtype.PType.{PType};
     ghost use Rattle.vortex_types.specs.Typing.{FitsPType};
     ghost use Rattle.vortex_types.specs.Numbers.{numbers, ptype_of};
@@ -90,6 +92,10 @@ pub trait NativePType: Copy + Drop {
     fn to_i128(self) -> i128
         ensures value { result ≡ number self }
         ensures fits { FitsPType ptype (number self) };
+
+    /// The order of the numbers.
+    fn total_compare(self, other: Self) -> Ordering
+        ensures { result ≡ int_cmp (number self) (number other) };
 
     /// Zero. Takes no memory.
     fn zero() -> Self
@@ -120,6 +126,10 @@ impl NativePType for i8 {
 
     fn to_i128(self) -> i128 {
         i128::from(self)
+    }
+
+    fn total_compare(self, other: i8) -> Ordering {
+        self.cmp(&other)
     }
 
     fn zero() -> i8 {
@@ -158,6 +168,10 @@ impl NativePType for i16 {
         i128::from(self)
     }
 
+    fn total_compare(self, other: i16) -> Ordering {
+        self.cmp(&other)
+    }
+
     fn zero() -> i16 {
         0
     }
@@ -192,6 +206,10 @@ impl NativePType for i32 {
 
     fn to_i128(self) -> i128 {
         i128::from(self)
+    }
+
+    fn total_compare(self, other: i32) -> Ordering {
+        self.cmp(&other)
     }
 
     fn zero() -> i32 {
@@ -230,6 +248,10 @@ impl NativePType for i64 {
         i128::from(self)
     }
 
+    fn total_compare(self, other: i64) -> Ordering {
+        self.cmp(&other)
+    }
+
     fn zero() -> i64 {
         0
     }
@@ -264,6 +286,10 @@ impl NativePType for u8 {
 
     fn to_i128(self) -> i128 {
         i128::from(self)
+    }
+
+    fn total_compare(self, other: u8) -> Ordering {
+        self.cmp(&other)
     }
 
     fn zero() -> u8 {
@@ -302,6 +328,10 @@ impl NativePType for u16 {
         i128::from(self)
     }
 
+    fn total_compare(self, other: u16) -> Ordering {
+        self.cmp(&other)
+    }
+
     fn zero() -> u16 {
         0
     }
@@ -338,6 +368,10 @@ impl NativePType for u32 {
         i128::from(self)
     }
 
+    fn total_compare(self, other: u32) -> Ordering {
+        self.cmp(&other)
+    }
+
     fn zero() -> u32 {
         0
     }
@@ -372,6 +406,10 @@ impl NativePType for u64 {
 
     fn to_i128(self) -> i128 {
         i128::from(self)
+    }
+
+    fn total_compare(self, other: u64) -> Ordering {
+        self.cmp(&other)
     }
 
     fn zero() -> u64 {

@@ -230,6 +230,22 @@ fn compares_scalars_of_other_types_only_where_one_is_null(rt: HostRuntime) -> Re
 }
 
 #[test]
+fn scalars_answer_a_nullable_truth_value_if_a_side_is(rt: HostRuntime) -> Result<(), Fail> {
+    let one = Scalar::from(1i32);
+    let dtype = DType::Primitive(PType::I32, Nullability::Nullable);
+    let two = Scalar::try_new(dtype, Some(ScalarValue::Int(2)))?;
+    for (left, right) in [(&one, &two), (&two, &one)] {
+        let answer = scalar_cmp(left, right, CompareOperator::NotEq)?;
+        assert_eq!(rt; answer.as_bool_opt(), YES);
+        assert!(rt; *answer.dtype() == DType::Bool(Nullability::Nullable));
+    }
+    let answer = scalar_cmp(&one, &one, CompareOperator::NotEq)?;
+    assert_eq!(rt; answer.as_bool_opt(), NO);
+    assert!(rt; *answer.dtype() == DType::Bool(PLAIN));
+    Ok(())
+}
+
+#[test]
 fn compares_columns_of_null(rt: HostRuntime) -> Result<(), Fail> {
     let alloc = rt.alloc();
     let (left, right) = (Column::null(2), Column::null(2));

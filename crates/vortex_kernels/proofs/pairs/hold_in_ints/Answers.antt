@@ -1,6 +1,4 @@
-use Rattle.std.proofs.Common.{◌≡◌, map, length, arith, to_z-of_z}
-use Rattle.std.specs.Int.{w128}
-use mir.Val.{to_z, of_z}
+use Rattle.std.proofs.Common.{◌≡◌, map, length}
 use Rattle.std.specs.Prelude.{pos, slice_index_or}
 use Rattle.std.specs.Ordering.{int_cmp}
 use Rattle.vortex_types.proofs.Answering.{AnswersUnlessMemory-weaker}
@@ -25,10 +23,9 @@ returns-in-Some-None-Some g c =
     let l = c.args.lhs.now in
     let r = c.args.rhs.now in
     let xs = map g.T.NativePType.number c.in-Some-None-Some.left.now in
-    let z = c.in-Some-None-Some.right in
-    let same : to_z w128 (of_z w128 z) ≡ z = grind (arith, to_z-of_z) in
+    let z = g.T.NativePType.number c.in-Some-None-Some.right in
     AnswersUnlessMemory-weaker c.hold_in_pairs-in-Some-None-Some.result
     (λ bits. AreHeld g.P.Comparison.operator (λ i o. o ≡ int_cmp (slice_index_or xs i (pos 0)) z) (length l.rows) bits.items)
     (λ bits. AreComparisons g.P.Comparison.operator l.rows r.rows bits.items)
     (λ bits h. held_compares g.P.Comparison.operator _ l.rows r.rows bits.items h (int_order l r xs z c.requires c.in-Some-None-Some.ensures.1 c.in-Some-None-Some.ensures''))
-    (rw (c.len-len.ensures, same) at c.hold_in_pairs-in-Some-None-Some.ensures)
+    (rw c.len-len.ensures at c.hold_in_pairs-in-Some-None-Some.ensures)
