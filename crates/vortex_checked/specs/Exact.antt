@@ -1,0 +1,32 @@
+-- Exact arithmetic of whole numbers, and where a type holds the result.
+use Rattle.std.specs.Int.{w64, w128, cast_unsigned, int_wrap}
+use Rattle.std.specs.Int.Bits.{bit_xor}
+use Rattle.std.proofs.Common.{cond}
+use Rattle.std.specs.Prelude.{ℕ, zero, ◌/◌, ◌-◌, ◌^◌, ◌+ℤ◌, ◌-ℤ◌, ◌*ℤ◌, ◌≤ℤ◌, ℤ, pos, Option, Some, None, Bool, ◌||◌, int_lt, int_div}
+
+-- the numbers from the least to the greatest
+abbrev pub IsWithin : ℤ → ℤ → ℤ → Type 0
+IsWithin least greatest z = (least ≤ℤ z) × (z ≤ℤ greatest)
+
+-- the quotient, truncated toward zero; there is none by zero
+abbrev pub quotient : ℤ → ℤ → Option ℤ
+quotient a (pos zero) = None
+quotient a b = Some (int_div a b)
+
+-- there is a result, and the type holds it
+abbrev pub HasResult : ℤ → ℤ → Option ℤ → Type 0
+HasResult least greatest None = ⊥
+HasResult least greatest (Some z) = IsWithin least greatest z
+
+-- the same, as a test
+abbrev pub is_outside : ℤ → ℤ → ℤ → Bool
+is_outside least greatest z = int_lt z least || int_lt greatest z
+
+-- a word of which each bit is the sign of a number
+abbrev pub sign_word : ℤ → ℕ
+sign_word z = cond (int_lt z (pos 0)) (2 ^ 64 - 1) 0
+
+-- Of a product of two 64-bit numbers in 128 bits: the upper half, each bit turned where the lower half is negative. It is
+-- zero exactly where the lower half holds the product.
+abbrev pub wide_evidence : ℤ → ℕ
+wide_evidence z = bit_xor (cast_unsigned w128 z / 2 ^ 64) (sign_word (int_wrap w64 z))

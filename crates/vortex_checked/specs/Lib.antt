@@ -1,0 +1,4 @@
+pub mod Evidence
+pub mod EvidenceLaws
+pub mod Exact
+pub mod Kept
