@@ -1,10 +1,10 @@
 -- The evidence of a product of two 64-bit numbers.
-use Rattle.std.proofs.Common.{◌≡◌, ℕ, zero, suc, ◌+◌, ◌-◌, ◌*◌, ◌/◌, ◌%◌, ◌<◌, ◌≤◌, ◌^◌, ◌*ℤ◌, Bool, true, false, refl, sym, ap, ◌∙◌, subst, arith, cond, pos, negsuc, ℤ, FitsSigned, inl, inr}
+use Rattle.std.proofs.Common.{◌≡◌, ℕ, zero, suc, ◌-◌, ◌/◌, ◌%◌, ◌<◌, ◌≤◌, ◌^◌, ◌*ℤ◌, true, false, refl, sym, ap, ◌∙◌, subst, arith, cond, pos, negsuc, ℤ, FitsSigned, inl, inr}
 use Rattle.std.specs.Prelude.{◌⊎◌, int_lt, unsigned_abs}
 use Rattle.std.proofs.lemmas.Bool.{cases_lt}
 use Rattle.std.specs.Bool.{FalseIff}
-use Rattle.std.specs.Int.{w64, w128, cast_unsigned, cast_signed, int_wrap, int_rem_euclid, bit_at}
-use Rattle.std.specs.Int.Bits.{bit_xor, xor_zero_r}
+use Rattle.std.specs.Int.{w64, w128, cast_signed, int_wrap, int_rem_euclid, bit_at}
+use Rattle.std.specs.Int.Bits.{bit_xor}
 use Rattle.std.proofs.lemmas.Int.{ints, fits_signed_mul}
 use Rattle.std.proofs.lemmas.Nat.Bits.{bit_at-zero, bit_at-lt, bit_at_xor, same_from_bits}
 use Rattle.vortex_checked.specs.Evidence.{is_nonzero}

@@ -2,7 +2,7 @@
 use Rattle.std.specs.Int.{w64, w128, cast_unsigned, int_wrap}
 use Rattle.std.specs.Int.Bits.{bit_xor}
 use Rattle.std.proofs.Common.{cond}
-use Rattle.std.specs.Prelude.{ℕ, zero, ◌/◌, ◌-◌, ◌^◌, ◌+ℤ◌, ◌-ℤ◌, ◌*ℤ◌, ◌≤ℤ◌, ℤ, pos, Option, Some, None, Bool, ◌||◌, int_lt, int_div}
+use Rattle.std.specs.Prelude.{ℕ, zero, ◌/◌, ◌-◌, ◌^◌, ◌≤ℤ◌, ℤ, pos, Option, Some, None, Bool, ◌||◌, int_lt, int_div}
 
 -- the numbers from the least to the greatest
 abbrev pub IsWithin : ℤ → ℤ → ℤ → Type 0
@@ -21,6 +21,11 @@ HasResult least greatest (Some z) = IsWithin least greatest z
 -- the same, as a test
 abbrev pub is_outside : ℤ → ℤ → ℤ → Bool
 is_outside least greatest z = int_lt z least || int_lt greatest z
+
+-- the result, where the type holds it, else 0
+abbrev pub held_or_zero : ℤ → ℤ → Option ℤ → ℤ
+held_or_zero least greatest None = pos 0
+held_or_zero least greatest (Some z) = cond (is_outside least greatest z) (pos 0) z
 
 -- a word of which each bit is the sign of a number
 abbrev pub sign_word : ℤ → ℕ

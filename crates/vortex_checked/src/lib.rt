@@ -3,8 +3,13 @@
 
 pub mod arithmetic;
 pub mod failure;
+pub mod operations;
 mod signed;
 mod unsigned;
 
 pub use arithmetic::CheckedArithmetic;
 pub use failure::Failure;
+pub use operations::{CheckedAdd, CheckedDiv, CheckedMul, CheckedPrimitiveOp, CheckedSub};
+
+#[cfg(test)]
+mod tests;

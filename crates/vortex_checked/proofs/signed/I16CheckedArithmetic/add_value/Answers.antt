@@ -1,4 +1,3 @@
-use Rattle.std.specs.Int.{w16}
 use Rattle.std.proofs.lemmas.Int.{wraps}
 use Rattle.vortex_checked.proofs.signed.I16CheckedArithmetic.add_value.Goals as goal
 

@@ -1,4 +1,3 @@
-use Rattle.std.specs.Int.{w32}
 use Rattle.std.proofs.lemmas.Int.{wraps}
 use Rattle.vortex_checked.proofs.signed.I32CheckedArithmetic.add_value.Goals as goal
 

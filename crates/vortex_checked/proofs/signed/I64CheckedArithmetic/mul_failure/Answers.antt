@@ -5,7 +5,7 @@ use Rattle.std.specs.Bool.{FalseIff}
 use Rattle.std.proofs.lemmas.Int.{wrapping_mul_is}
 use mir.Val.{to_z, of_z}
 use Rattle.vortex_checked.specs.Evidence.{is_nonzero}
-use Rattle.vortex_checked.specs.Exact.{IsWithin, sign_word, wide_evidence}
+use Rattle.vortex_checked.specs.Exact.{IsWithin, sign_word}
 use Rattle.vortex_checked.proofs.WideProduct.{product_fits, wide_tells}
 use Rattle.vortex_checked.proofs.signed.I64CheckedArithmetic.mul_failure.Goals as goal
 

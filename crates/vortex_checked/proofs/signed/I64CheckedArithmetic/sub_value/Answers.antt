@@ -1,4 +1,3 @@
-use Rattle.std.specs.Int.{w64}
 use Rattle.std.proofs.lemmas.Int.{wraps}
 use Rattle.vortex_checked.proofs.signed.I64CheckedArithmetic.sub_value.Goals as goal
 
