@@ -18,7 +18,7 @@ abbrev pub HasResult : ℤ → ℤ → Option ℤ → Type 0
 HasResult least greatest None = ⊥
 HasResult least greatest (Some z) = IsWithin least greatest z
 
--- the same, as a test
+-- past one end or the other, as a test
 abbrev pub is_outside : ℤ → ℤ → ℤ → Bool
 is_outside least greatest z = int_lt z least || int_lt greatest z
 
