@@ -1,22 +1,7 @@
 //! Runs scripts over columns.
 #![tactic(auto)]
 
-mod cells;
-mod command;
-mod ending;
-mod laws;
-mod parse;
-mod printing;
-mod script;
-mod session;
-mod stop;
-#[cfg(test)]
-mod tests;
-mod text;
-mod types;
-
-use ending::{fault_line, status};
-use script::interpret;
+use rowfn_scripts::{fault_line, interpret, status};
 use std::io::{self, Read, Write};
 use std::process::ExitCode;
 

@@ -10,6 +10,3 @@ mod unsigned;
 pub use arithmetic::CheckedArithmetic;
 pub use failure::Failure;
 pub use operations::{CheckedAdd, CheckedDiv, CheckedMul, CheckedPrimitiveOp, CheckedSub};
-
-#[cfg(test)]
-mod tests;

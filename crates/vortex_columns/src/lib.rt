@@ -17,6 +17,3 @@ pub use vortex_types::{
     NumericOperator, PType, ScalarValue, StructFields, Validity, VortexError, VortexResult, arity,
     bits, context, dtype, error, ints, scalar_value, validity,
 };
-
-#[cfg(test)]
-mod tests;

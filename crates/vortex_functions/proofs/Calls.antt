@@ -1,22 +1,22 @@
 -- From a kernel's answer over its inputs to the answer of a call.
-use Rattle.std.proofs.Common.{◌≡◌, ℕ, zero, suc, ◌<◌, Bool, true, false, not, List, [], ◌∷◌, length, map, get_or, Option, Some, None, refl, sym, ap, ◌∙◌, subst, arith, cond}
+use Rattle.std.proofs.Common.{◌≡◌, ℕ, ◌<◌, Bool, true, false, List, [], ◌∷◌, length, map, Some, None, refl, sym, ap, ◌∙◌, subst, arith, cond}
 use Rattle.std.specs.Prelude.{IsSome, slice_get, ◌||◌, ◌&&◌, Result}
 use Rattle.vortex_types.specs.declared.error.VortexError.{VortexError}
-use Rattle.vortex_types.specs.LogicalTypes.{LogicalType, null_type, bool_type, integer_type, text_type, bytes_type, struct_type, list_type, fixed_size_list_type, map_type, is_nullable, is_bool_type}
+use Rattle.vortex_types.specs.LogicalTypes.{LogicalType, bool_type, is_nullable, is_bool_type}
 use Rattle.vortex_types.specs.TypeEquality.{alike_types}
-use Rattle.vortex_types.specs.Values.{Value, truth}
 use Rattle.vortex_columns.specs.ColumnView.{ColumnView, row}
-use Rattle.vortex_types.specs.Answers.{Answers, AnswersUnlessMemory, UnlessMemory}
+use Rattle.vortex_types.specs.Answers.{Answers, AnswersUnlessMemory}
 use Rattle.vortex_types.proofs.Answering.{Answers-weaker}
-use Rattle.vortex_kernels.specs.declared.operators.Operator.{Operator}
-use Rattle.vortex_kernels.specs.declared.operators.Operator.TheVariants.{Eq, NotEq, Gt, Gte, Lt, Lte, And, Or, Add, Sub, Mul, Div}
-use Rattle.vortex_kernels.specs.declared.operators.CompareOperator.{CompareOperator}
-use Rattle.vortex_kernels.specs.Operators.{is_boolean, compare_operator_of}
-use Rattle.vortex_kernels.specs.Comparison.{comparison_type, AnswersCompare, RefusesCompare, uneven, unlike}
+use Rattle.vortex_operators.specs.declared.operators.Operator.{Operator}
+use Rattle.vortex_operators.specs.declared.operators.Operator.TheVariants.{Eq, NotEq, Gt, Gte, Lt, Lte, And, Or}
+use Rattle.vortex_operators.specs.declared.operators.CompareOperator.{CompareOperator}
+use Rattle.vortex_operators.specs.Operators.{is_boolean, compare_operator_of}
+use Rattle.vortex_operators.specs.OperatorValues.{comparison_type}
+use Rattle.vortex_kernels.specs.Comparison.{AnswersCompare, RefusesCompare, uneven, unlike}
 use Rattle.vortex_kernels.specs.Rows.{HasRows}
-use Rattle.vortex_kernels.specs.Boolean.{are_bools, AnswersBoolean, RefusesBoolean, no_operator, no_bools, boolean_value, not_value}
-use Rattle.vortex_kernels.proofs.RowLemmas.{bool_dtype}
-use Rattle.vortex_meaning.specs.Outcomes.{Outcome, gives, HasCallRows, IsCallFault, types_in}
+use Rattle.vortex_operators.specs.OperatorValues.{boolean_value, not_value}
+use Rattle.vortex_kernels.specs.Boolean.{are_bools, AnswersBoolean, RefusesBoolean, no_operator, no_bools}
+use Rattle.vortex_meaning.specs.Outcomes.{gives, HasCallRows, IsCallFault, types_in}
 use Rattle.vortex_meaning.specs.Shipped.{binary, negation, both_bool, compared_type, operator_type, value_by, operator_value, negation_type, shipped_means}
 
 -- the two inputs of an operator that accepts them

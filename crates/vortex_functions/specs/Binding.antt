@@ -1,5 +1,5 @@
 -- What binding a leaf or a call answers, and when an answer is lent.
-use Rattle.std.specs.Prelude.{◌≡◌, ℕ, List, Option, Some, None, Bool, true, false, length}
+use Rattle.std.specs.Prelude.{◌≡◌, ℕ, List, Some, None, true, false, length}
 use Rattle.std.specs.declared.borrow.Cow.{Cow}
 use Rattle.std.specs.declared.borrow.Cow.TheVariants as cow
 use Rattle.vortex_types.specs.declared.error.VortexError.{VortexError}
@@ -8,7 +8,7 @@ use Rattle.vortex_types.specs.LogicalTypes.{LogicalType, Fields, find_field}
 use Rattle.vortex_columns.specs.ColumnView.{ColumnView}
 use Rattle.vortex_meaning.specs.Meaning.{Meaning, fits}
 use Rattle.vortex_meaning.specs.Functions.{Function, function_arity, function_type, IsMismatchOf}
-use Rattle.vortex_meaning.specs.Trees.{place, Tree, leaf, constant, call, trees_of}
+use Rattle.vortex_meaning.specs.Trees.{place, Tree, leaf, call, trees_of}
 use Rattle.vortex_meaning.specs.Eval.{tree_types}
 
 -- the leaf of the first field of that name

@@ -3,7 +3,7 @@ use Rattle.std.specs.Prelude.{Option, Some, None, Bool, true, false}
 use Rattle.vortex_functions.specs.declared.erased.ScalarFnRef.{ScalarFnRef}
 use Rattle.vortex_functions.specs.declared.erased.ScalarFnRef.TheVariants as ref
 use Rattle.vortex_functions.specs.declared.typed.TypedScalarFnInstance.{TypedScalarFnInstance}
-use Rattle.vortex_kernels.specs.declared.operators.Operator.{Operator}
+use Rattle.vortex_operators.specs.declared.operators.Operator.{Operator}
 use Rattle.vortex_meaning.specs.Shipped.{binary, negation}
 use Rattle.vortex_meaning.specs.Functions.{Function, shipped, custom}
 

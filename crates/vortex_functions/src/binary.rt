@@ -3,7 +3,7 @@ ghost use Rattle.std.specs.Prelude.{◌≡◌, ◌++◌, None, Some, length, map
 ghost use Rattle.vortex_types.specs.declared.error.VortexError.TheVariants.{TypeMismatch};
 ghost use Rattle.vortex_types.specs.Answers.{Answers, AnswersUnlessMemory};
 ghost use Rattle.vortex_types.specs.TypeOf.{type_of};
-ghost use Rattle.vortex_kernels.specs.declared.operators.Operator.{Operator};
+ghost use Rattle.vortex_operators.specs.declared.operators.Operator.{Operator};
 ghost use Rattle.vortex_meaning.specs.Shipped.{binary, binary_id, shipped_meaning, both_bool, compared_type, operator_type, operator_place};
 ghost use Rattle.vortex_meaning.specs.Printing.{shipped_text};
 ghost use Rattle.vortex_meaning.specs.ShippedLaws.{shipped_lawful};

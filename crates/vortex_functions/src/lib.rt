@@ -10,8 +10,6 @@ pub mod laws;
 mod literal_text;
 pub mod not;
 mod printing;
-#[cfg(test)]
-mod tests;
 pub mod tree;
 pub mod typed;
 pub mod vtable;

@@ -1,7 +1,7 @@
 //! The texts of calls.
 ghost use Rattle.std.specs.Prelude.{◌≡◌, ◌++◌, length, map, string_bytes};
 ghost use Rattle.vortex_types.specs.Answers.{AnswersUnlessMemory};
-ghost use Rattle.vortex_kernels.specs.Operators.{text_of};
+ghost use Rattle.vortex_operators.specs.Operators.{text_of};
 ghost use Rattle.vortex_meaning.specs.Printing.{joined, options_text, call_text, operator_text};
 
 use crate::literal_text::write_separator;

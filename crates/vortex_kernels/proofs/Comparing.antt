@@ -13,9 +13,10 @@ use Rattle.vortex_types.specs.Order.{compare_values}
 use Rattle.vortex_types.specs.ScalarView.{ScalarView, compare_scalars}
 use Rattle.vortex_types.proofs.NullValues.{null_is}
 use Rattle.vortex_columns.specs.ColumnView.{ColumnView, row, constant_column, is_bytes_like, bytes_value, HasBytes, AreBytes, AreInts, AreBits}
-use Rattle.vortex_kernels.specs.declared.operators.CompareOperator.{CompareOperator}
+use Rattle.vortex_operators.specs.declared.operators.CompareOperator.{CompareOperator}
 use Rattle.vortex_kernels.specs.Rows.{HasRows}
-use Rattle.vortex_kernels.specs.Comparison.{holds, comparison_value, comparison_type, compared_scalar, are_comparable, is_settled, AnswersCompare, AreHeld, IsConstantOf, IsConstantBytes, IsOrderAt, AreComparisons}
+use Rattle.vortex_operators.specs.OperatorValues.{holds, comparison_value, comparison_type}
+use Rattle.vortex_kernels.specs.Comparison.{compared_scalar, are_comparable, is_settled, AnswersCompare, AreHeld, IsConstantOf, IsConstantBytes, IsOrderAt, AreComparisons}
 
 -- what is known of the orders tells the comparisons
 pub held_compares : (op : CompareOperator) (tells : ℕ → Ordering → Type 0) (ls rs : List Value) (bits : List Bool) → AreHeld op tells (length ls) bits → ((i : ℕ) (o : Ordering) → i < length ls → tells i o → IsOrderAt ls rs i o) → AreComparisons op ls rs bits

@@ -1,8 +1,8 @@
 -- Kleene's tables in plain bools: what they say of two truth values, or of null.
 use Rattle.std.proofs.Common.{◌≡◌, Bool, Option, Some, None, refl, sym, ap, subst, ◌∙◌}
 use Rattle.std.specs.Prelude.{is_some}
-use Rattle.vortex_kernels.specs.declared.operators.Operator.{Operator}
-use Rattle.vortex_kernels.specs.Kleene.{kleene}
+use Rattle.vortex_operators.specs.declared.operators.Operator.{Operator}
+use Rattle.vortex_operators.specs.Kleene.{kleene}
 use Rattle.vortex_kernels.specs.Truths.{present, IsValueOf}
 
 -- a truth value is present where it is one

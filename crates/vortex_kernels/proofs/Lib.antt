@@ -1,4 +1,3 @@
 pub mod Comparing
-pub mod Duals
 pub mod RowLemmas
 pub mod KleeneBits

@@ -1,10 +1,9 @@
 -- Rows of truth values that are built one by one, and the column that is made of them.
 use Rattle.std.proofs.Common.{◌≡◌, ◌⊎◌, inl, inr, ℕ, zero, suc, ◌+◌, ◌<◌, Bool, true, false, Option, Some, None, List, [], ◌∷◌, ◌++◌, length, get_or, refl, sym, ap, subst, ◌∙◌, arith, length-append, cond}
-use Rattle.std.specs.Prelude.{IsTrue, not, is_some, Result, ◌||◌, slice_index_or}
+use Rattle.std.specs.Prelude.{not, is_some, Result, slice_index_or}
 use Rattle.std.proofs.lemmas.List.FromFn.{get_or-map-range_with_len, length-map-range_with_len}
 use Rattle.vortex_types.specs.LogicalTypes.{LogicalType, null_type, bool_type, integer_type, text_type, bytes_type, struct_type, list_type, fixed_size_list_type, map_type, is_bool_type, is_nullable}
-use Rattle.vortex_types.specs.Values.{Value, null, truth, number, text, bytes, list, is_null, truth_of, truth_or_null}
-use Rattle.vortex_types.specs.Typing.{HasType}
+use Rattle.vortex_types.specs.Values.{Value, null, truth, number, text, bytes, list, is_null, truth_or_null}
 use Rattle.vortex_columns.specs.ColumnView.{ColumnView, row, AreBits}
 use Rattle.vortex_types.specs.ValidityView.{ValidityView, is_valid_row, FitsRows}
 use Rattle.vortex_types.specs.declared.error.VortexError.{VortexError}
@@ -12,12 +11,8 @@ use Rattle.vortex_types.specs.declared.error.VortexError.TheVariants.{InvalidCol
 use Rattle.vortex_types.specs.Answers.{AnswersUnlessMemory, AnswersWhere}
 use Rattle.vortex_types.proofs.Answering.{answers_where}
 use Rattle.vortex_columns.specs.Stored.{bool_column}
-use Rattle.vortex_kernels.specs.declared.operators.Operator.{Operator}
-use Rattle.vortex_kernels.specs.declared.operators.Operator.TheVariants.{And, Or}
-use Rattle.vortex_kernels.specs.Operators.{is_boolean}
-use Rattle.vortex_kernels.specs.Kleene.{kleene, kleene_and, kleene_or, kleene_not}
-use Rattle.vortex_kernels.specs.Rows.{HasRows, AreTold, Allows}
-use Rattle.vortex_kernels.specs.Boolean.{not_value}
+use Rattle.vortex_kernels.specs.Rows.{HasRows, AreTold}
+use Rattle.vortex_operators.specs.OperatorValues.{not_value}
 use Rattle.vortex_kernels.specs.Nulls.{IsValidity}
 use Rattle.vortex_kernels.specs.Truths.{IsValueOf}
 
@@ -55,51 +50,6 @@ bool_dtype (struct_type fs n) h = cc
 bool_dtype (list_type t n) h = cc
 bool_dtype (fixed_size_list_type t s n) h = cc
 bool_dtype (map_type k v n) h = cc
-
--- a value of Bool is nothing only where null is allowed
-pub allowed : (n : Bool) (v : Value) → HasType (bool_type n) v → Allows n (truth_of v)
-allowed n null h = h
-allowed n (truth b) h = tt
-allowed n (number z) h = absurd h
-allowed n (text bs) h = absurd h
-allowed n (bytes bs) h = absurd h
-allowed n (list vs) h = absurd h
-
-or_left : (n m : Bool) → IsTrue n → IsTrue (n || m)
-or_left true m h = refl
-or_left false m h = cc
-
-or_right : (n m : Bool) → IsTrue m → IsTrue (n || m)
-or_right true m h = refl
-or_right false m h = h
-
-and_allowed : (n m : Bool) (a b : Option Bool) → Allows n a → Allows m b → Allows (n || m) (kleene_and a b)
-and_allowed n m (Some false) b h k = tt
-and_allowed n m None (Some false) h k = tt
-and_allowed n m (Some true) (Some false) h k = tt
-and_allowed n m None None h k = or_left n m h
-and_allowed n m None (Some true) h k = or_left n m h
-and_allowed n m (Some true) None h k = or_right n m k
-and_allowed n m (Some true) (Some true) h k = tt
-
-or_allowed : (n m : Bool) (a b : Option Bool) → Allows n a → Allows m b → Allows (n || m) (kleene_or a b)
-or_allowed n m (Some true) b h k = tt
-or_allowed n m None (Some true) h k = tt
-or_allowed n m (Some false) (Some true) h k = tt
-or_allowed n m None None h k = or_left n m h
-or_allowed n m None (Some false) h k = or_left n m h
-or_allowed n m (Some false) None h k = or_right n m k
-or_allowed n m (Some false) (Some false) h k = tt
-
--- the answer is nothing only where a side's null is allowed
-pub kleene_allowed : (op : Operator) (n m : Bool) (a b : Option Bool) → is_boolean op ≡ true → Allows n a → Allows m b → Allows (n || m) (kleene op a b)
-kleene_allowed And n m a b e h k = and_allowed n m a b h k
-kleene_allowed Or n m a b e h k = or_allowed n m a b h k
-kleene_allowed op n m a b e h k = cc
-
-pub not_allowed : (n : Bool) (a : Option Bool) → Allows n a → Allows n (kleene_not a)
-not_allowed n None h = h
-not_allowed n (Some b) h = tt
 
 -- a truth value that is told by a bool, and null where there is none
 pub value_row : (o : Option Bool) (b : Bool) → IsValueOf b o → cond (is_some o) (truth b) null ≡ truth_or_null o

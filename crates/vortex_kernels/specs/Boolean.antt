@@ -4,18 +4,11 @@ use Rattle.vortex_types.specs.declared.error.VortexError.{VortexError}
 use Rattle.vortex_types.specs.declared.error.VortexError.TheVariants.{TypeMismatch}
 use Rattle.vortex_types.specs.declared.error.MismatchPlace.TheVariants as place
 use Rattle.vortex_types.specs.LogicalTypes.{bool_type, is_nullable, is_bool_type}
-use Rattle.vortex_types.specs.Values.{Value, truth_of, truth_or_null}
 use Rattle.vortex_columns.specs.ColumnView.{ColumnView, row}
-use Rattle.vortex_kernels.specs.declared.operators.Operator.{Operator}
-use Rattle.vortex_kernels.specs.Operators.{is_boolean, IsNotBoolean}
-use Rattle.vortex_kernels.specs.Kleene.{kleene, kleene_not}
+use Rattle.vortex_operators.specs.declared.operators.Operator.{Operator}
+use Rattle.vortex_operators.specs.Operators.{is_boolean, IsNotBoolean}
+use Rattle.vortex_operators.specs.OperatorValues.{boolean_value}
 use Rattle.vortex_kernels.specs.Rows.{HasRows}
-
-abbrev pub boolean_value : Operator → Value → Value → Value
-boolean_value op v w = truth_or_null (kleene op (truth_of v) (truth_of w))
-
-abbrev pub not_value : Value → Value
-not_value v = truth_or_null (kleene_not (truth_of v))
 
 abbrev pub are_bools : ColumnView → ColumnView → Bool
 are_bools l r = is_bool_type l.dtype && is_bool_type r.dtype

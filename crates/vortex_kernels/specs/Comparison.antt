@@ -1,37 +1,18 @@
 -- Comparison of two values by their order, and of two whole columns.
 use Rattle.std.specs.Prelude.{◌≡◌, ◌≢◌, ℕ, ◌<◌, List, ◌||◌, ◌&&◌, Bool, true, false, length, nat_eq, slice_index_or, if◌then◌else◌}
 use Rattle.std.specs.declared.cmp.Ordering.{Ordering}
-use Rattle.std.specs.Ordering.{is_eq, is_ne, is_lt, is_le, is_gt, is_ge}
 use Rattle.vortex_types.specs.declared.error.VortexError.{VortexError}
 use Rattle.vortex_types.specs.declared.error.VortexError.TheVariants.{LengthMismatch, TypeMismatch}
 use Rattle.vortex_types.specs.declared.error.MismatchPlace.{MismatchPlace}
 use Rattle.vortex_types.specs.declared.error.MismatchPlace.TheVariants as place
-use Rattle.vortex_types.specs.LogicalTypes.{LogicalType, bool_type, is_nullable}
 use Rattle.vortex_types.specs.TypeEquality.{alike_types}
-use Rattle.vortex_types.specs.Values.{Value, null, truth, is_null}
+use Rattle.vortex_types.specs.Values.{Value, is_null}
 use Rattle.vortex_types.specs.Order.{compare_values}
 use Rattle.vortex_types.specs.ScalarView.{ScalarView}
 use Rattle.vortex_columns.specs.ColumnView.{ColumnView, row, is_bytes_like, bytes_value}
-use Rattle.vortex_kernels.specs.declared.operators.CompareOperator.{CompareOperator}
-use Rattle.vortex_kernels.specs.declared.operators.CompareOperator.TheVariants.{Eq, NotEq, Gt, Gte, Lt, Lte}
+use Rattle.vortex_operators.specs.declared.operators.CompareOperator.{CompareOperator}
+use Rattle.vortex_operators.specs.OperatorValues.{holds, comparison_value, comparison_type}
 use Rattle.vortex_kernels.specs.Rows.{HasRows, AreTold}
-
--- which orders of left and right the comparison says yes to
-abbrev pub holds : CompareOperator → Ordering → Bool
-holds Eq = is_eq
-holds NotEq = is_ne
-holds Gt = is_gt
-holds Gte = is_ge
-holds Lt = is_lt
-holds Lte = is_le
-
--- null exactly where a top value is null; a null within a value is a value as others are
-abbrev pub comparison_value : CompareOperator → Value → Value → Value
-comparison_value op v w = if is_null v || is_null w then null else truth (holds op (compare_values v w))
-
--- Bool, nullable if either side is
-abbrev pub comparison_type : LogicalType → LogicalType → LogicalType
-comparison_type t u = bool_type (is_nullable t || is_nullable u)
 
 -- two scalars, whatever their types where one is null
 abbrev pub compared_scalar : CompareOperator → ScalarView → ScalarView → ScalarView

@@ -1,5 +1,5 @@
 -- A column that is known by its type and its rows.
-use Rattle.std.specs.Prelude.{◌≡◌, ℕ, ◌<◌, List, length, slice_index_or, Bool, false, Option, Some, None, IsTrue}
+use Rattle.std.specs.Prelude.{◌≡◌, ℕ, ◌<◌, List, length, slice_index_or, Bool, false}
 use Rattle.vortex_types.specs.LogicalTypes.{LogicalType}
 use Rattle.vortex_types.specs.Values.{Value}
 use Rattle.vortex_columns.specs.ColumnView.{ColumnView, row}
@@ -14,8 +14,3 @@ pub record HasRows (t : LogicalType) (n : ℕ) (f : ℕ → Value) (c : ColumnVi
 pub record AreTold (n : ℕ) (tells : ℕ → Bool → Type 0) (bits : List Bool) : Type 0 where
   pub count : length bits ≡ n
   pub each : (i : ℕ) → i < n → tells i (slice_index_or bits i false)
-
--- nothing only where null is allowed
-abbrev pub Allows : Bool → Option Bool → Type 0
-Allows n None = IsTrue n
-Allows n (Some b) = Unit {0}

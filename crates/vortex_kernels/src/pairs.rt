@@ -9,9 +9,10 @@ ghost use Rattle.vortex_types.specs.Order.{compare_values};
 ghost use Rattle.vortex_types.specs.LogicalTypes.{is_text_type};
 ghost use Rattle.vortex_columns.specs.ColumnView.{row};
 ghost use Rattle.vortex_columns.specs.LentBytes.{bytes_of};
-ghost use Rattle.vortex_kernels.specs.declared.operators.CompareOperator.{CompareOperator};
-ghost use Rattle.vortex_kernels.specs.declared.operators.CompareOperator.TheVariants.{Eq, NotEq, Gt, Gte, Lt, Lte};
-ghost use Rattle.vortex_kernels.specs.Comparison.{holds, AreHeld, IsConstantOf, IsConstantBytes, AreComparisons};
+ghost use Rattle.vortex_operators.specs.declared.operators.CompareOperator.{CompareOperator};
+ghost use Rattle.vortex_operators.specs.declared.operators.CompareOperator.TheVariants.{Eq, NotEq, Gt, Gte, Lt, Lte};
+ghost use Rattle.vortex_operators.specs.OperatorValues.{holds};
+ghost use Rattle.vortex_kernels.specs.Comparison.{AreHeld, IsConstantOf, IsConstantBytes, AreComparisons};
 
 use std::alloc::Global;
 use std::cmp::Ordering;

@@ -3,12 +3,12 @@ use Rattle.std.specs.Prelude.{◌≡◌, ℕ, List, [], refl}
 use Rattle.std.proofs.Common.{ap, ◌∙◌, sym}
 use Rattle.vortex_types.specs.Values.{Value}
 use Rattle.vortex_columns.specs.ColumnView.{ColumnView}
-use Rattle.vortex_kernels.specs.declared.operators.CompareOperator.{CompareOperator}
-use Rattle.vortex_kernels.specs.declared.operators.CompareOperator.TheVariants.{Eq, NotEq, Gt, Gte, Lt, Lte}
-use Rattle.vortex_kernels.specs.Operators.{operator_of, compare_inverse, compare_swap}
-use Rattle.vortex_kernels.specs.Boolean.{not_value}
-use Rattle.vortex_kernels.specs.Comparison.{comparison_value}
-use Rattle.vortex_kernels.specs.ComparisonLaws.{are_inverse, are_swapped}
+use Rattle.vortex_operators.specs.declared.operators.CompareOperator.{CompareOperator}
+use Rattle.vortex_operators.specs.declared.operators.CompareOperator.TheVariants.{Eq, NotEq, Gt, Gte, Lt, Lte}
+use Rattle.vortex_operators.specs.Operators.{operator_of, compare_inverse, compare_swap}
+use Rattle.vortex_operators.specs.OperatorValues.{not_value}
+use Rattle.vortex_operators.specs.OperatorValues.{comparison_value}
+use Rattle.vortex_operators.specs.ComparisonLaws.{are_inverse, are_swapped}
 use Rattle.vortex_meaning.specs.Outcomes.{Outcome, gives, faults}
 use Rattle.vortex_meaning.specs.Meaning.{Meaning}
 use Rattle.vortex_meaning.specs.Shipped.{binary, negation, operator_value, of_two, of_one}

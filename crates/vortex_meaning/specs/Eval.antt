@@ -1,9 +1,9 @@
 -- What a tree means: its type, its outcome in each row, and the first fault over all rows.
 use Rattle.std.specs.Prelude.{◌≡◌, ℕ, ◌<◌, List, [], ◌∷◌, Option, Some, None, ⊤, ◌⊎◌, length, slice_get}
-use Rattle.std.specs.Option.{option_and_then, option_map}
+use Rattle.std.specs.Option.{option_and_then}
 use Rattle.vortex_types.specs.declared.error.VortexError.{VortexError}
 use Rattle.vortex_types.specs.LogicalTypes.{LogicalType}
-use Rattle.vortex_types.specs.Values.{Value, null}
+use Rattle.vortex_types.specs.Values.{Value}
 use Rattle.vortex_columns.specs.ColumnView.{ColumnView, row}
 use Rattle.vortex_meaning.specs.Outcomes.{Outcome, gives, faults, Fault, GivesValue, IsRowFault}
 use Rattle.vortex_meaning.specs.Meaning.{Meaning}

@@ -1,5 +1,5 @@
 -- What a function answers in one row: a value or a fault; and when a column or a refusal answers for all rows.
-use Rattle.std.specs.Prelude.{◌≡◌, ℕ, ◌<◌, List, [], ◌∷◌, Option, Some, None, ⊤, length, map}
+use Rattle.std.specs.Prelude.{◌≡◌, ℕ, ◌<◌, List, Option, Some, ⊤, length, map}
 use Rattle.vortex_types.specs.declared.error.VortexError.{VortexError}
 use Rattle.vortex_types.specs.declared.error.VortexError.TheVariants as error
 use Rattle.vortex_types.specs.declared.error.NumericOperator.{NumericOperator}

@@ -1,12 +1,12 @@
 -- How literals and trees are printed, in the bytes of UTF-8.
-use Rattle.std.specs.Prelude.{◌≡◌, ℕ, zero, suc, ◌/◌, ◌%◌, List, [], ◌∷◌, ◌++◌, true, false, Option, Some, None, codes, map}
+use Rattle.std.specs.Prelude.{◌≡◌, ℕ, zero, suc, ◌/◌, ◌%◌, List, [], ◌∷◌, ◌++◌, true, false, Option, Some, None, codes}
 use Rattle.std.specs.Fmt.{digit_glyph, signed_decimal}
 use Rattle.std.specs.List.{flat_map, join_by}
 use Rattle.std.specs.Option.{option_and_then}
 use Rattle.vortex_types.specs.TypeTexts.{ptype_text}
 use Rattle.vortex_types.specs.LogicalTypes.{LogicalType, integer_type, struct_type, list_type, fixed_size_list_type, map_type, Fields, no_fields, field}
 use Rattle.vortex_types.specs.Values.{Value, null, truth, number, text, bytes, list, Values, no_values, value}
-use Rattle.vortex_kernels.specs.Operators.{text_of}
+use Rattle.vortex_operators.specs.Operators.{text_of}
 use Rattle.vortex_meaning.specs.Shipped.{Shipped, binary, negation, negation_id}
 use Rattle.vortex_meaning.specs.Functions.{Function, shipped, custom}
 use Rattle.vortex_meaning.specs.Trees.{place, held, Tree, leaf, constant, call, Trees, no_trees, tree}

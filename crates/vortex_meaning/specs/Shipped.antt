@@ -1,5 +1,5 @@
 -- The shipped functions: types, row meaning and marks.
-use Rattle.std.specs.Prelude.{ℕ, zero, suc, codes, List, [], ◌∷◌, Option, Some, None, Bool, true, false, ◌||◌, not, if◌then◌else◌}
+use Rattle.std.specs.Prelude.{ℕ, zero, suc, codes, List, [], ◌∷◌, Option, Some, None, Bool, true, ◌||◌, not, if◌then◌else◌}
 use Rattle.vortex_types.specs.declared.arity.Arity.{Arity}
 use Rattle.vortex_types.specs.declared.arity.Arity.TheVariants.{Exact}
 use Rattle.vortex_types.specs.declared.error.MismatchPlace.{MismatchPlace}
@@ -7,12 +7,12 @@ use Rattle.vortex_types.specs.declared.error.MismatchPlace.TheVariants as place
 use Rattle.vortex_types.specs.LogicalTypes.{LogicalType, bool_type}
 use Rattle.vortex_types.specs.TypeEquality.{alike_types}
 use Rattle.vortex_types.specs.Values.{Value, null}
-use Rattle.vortex_kernels.specs.declared.operators.Operator.{Operator}
-use Rattle.vortex_kernels.specs.declared.operators.Operator.TheVariants.{Eq, NotEq, Gt, Gte, Lt, Lte, And, Or, Add, Sub, Mul, Div}
-use Rattle.vortex_kernels.specs.Operators.{is_arithmetic, is_boolean, compare_operator_of}
-use Rattle.vortex_kernels.specs.declared.operators.CompareOperator.{CompareOperator}
-use Rattle.vortex_kernels.specs.Boolean.{boolean_value, not_value}
-use Rattle.vortex_kernels.specs.Comparison.{comparison_type, comparison_value}
+use Rattle.vortex_operators.specs.declared.operators.Operator.{Operator}
+use Rattle.vortex_operators.specs.declared.operators.Operator.TheVariants.{And, Or, Add, Sub, Mul, Div}
+use Rattle.vortex_operators.specs.Operators.{is_arithmetic, is_boolean, compare_operator_of}
+use Rattle.vortex_operators.specs.declared.operators.CompareOperator.{CompareOperator}
+use Rattle.vortex_operators.specs.OperatorValues.{boolean_value, not_value}
+use Rattle.vortex_operators.specs.OperatorValues.{comparison_type, comparison_value}
 use Rattle.vortex_meaning.specs.Outcomes.{Outcome, gives}
 use Rattle.vortex_meaning.specs.Meaning.{Meaning}
 

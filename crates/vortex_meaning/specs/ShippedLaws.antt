@@ -1,5 +1,5 @@
 -- The shipped functions are lawful.
-use Rattle.std.specs.Prelude.{◌≡◌, ◌⊎◌, ℕ, zero, suc, ◌<◌, List, [], ◌∷◌, Option, Some, None, Bool, true, false, ◌||◌, not, Any, length, slice_index_or, refl}
+use Rattle.std.specs.Prelude.{◌≡◌, ◌⊎◌, ℕ, zero, suc, ◌<◌, List, [], ◌∷◌, Option, Some, None, Bool, true, false, ◌||◌, not, Any, slice_index_or, refl}
 use Rattle.std.proofs.Common.{sym, ap, ◌∙◌, subst, arith, cond, inl, inr}
 use Rattle.vortex_types.specs.LogicalTypes.{LogicalType, bool_type, is_nullable}
 use Rattle.vortex_types.specs.Values.{Value, null, truth, truth_of, truth_or_null, is_null}
@@ -7,19 +7,19 @@ use Rattle.vortex_types.specs.Order.{compare_values}
 use Rattle.vortex_types.specs.TypeEquality.{alike_types}
 use Rattle.vortex_types.specs.Typing.{HasType}
 use Rattle.vortex_types.proofs.NullValues.{not_null}
-use Rattle.vortex_kernels.specs.declared.operators.Operator.{Operator}
-use Rattle.vortex_kernels.specs.declared.operators.Operator.TheVariants.{Eq, NotEq, Gt, Gte, Lt, Lte, And, Or, Add, Sub, Mul, Div}
-use Rattle.vortex_kernels.specs.declared.operators.CompareOperator.{CompareOperator}
-use Rattle.vortex_kernels.specs.declared.operators.CompareOperator.TheVariants as compare
-use Rattle.vortex_kernels.specs.Operators.{is_boolean}
-use Rattle.vortex_kernels.specs.Kleene.{kleene, kleene_not}
-use Rattle.vortex_kernels.specs.Boolean.{boolean_value, not_value}
-use Rattle.vortex_kernels.specs.Comparison.{holds, comparison_value, comparison_type}
-use Rattle.vortex_kernels.specs.Rows.{Allows}
-use Rattle.vortex_kernels.proofs.RowLemmas.{allowed, kleene_allowed, not_allowed}
-use Rattle.vortex_meaning.specs.Outcomes.{Outcome, gives, GivesValue, GivesType, GivesNull}
+use Rattle.vortex_operators.specs.declared.operators.Operator.{Operator}
+use Rattle.vortex_operators.specs.declared.operators.Operator.TheVariants.{Eq, NotEq, Gt, Gte, Lt, Lte, And, Or}
+use Rattle.vortex_operators.specs.declared.operators.CompareOperator.{CompareOperator}
+use Rattle.vortex_operators.specs.declared.operators.CompareOperator.TheVariants as compare
+use Rattle.vortex_operators.specs.Operators.{is_boolean}
+use Rattle.vortex_operators.specs.Kleene.{kleene, kleene_not}
+use Rattle.vortex_operators.specs.OperatorValues.{boolean_value, not_value}
+use Rattle.vortex_operators.specs.OperatorValues.{holds, comparison_value, comparison_type}
+use Rattle.vortex_operators.specs.Kleene.{Allows}
+use Rattle.vortex_operators.proofs.KleeneNulls.{allowed, kleene_allowed, not_allowed}
+use Rattle.vortex_meaning.specs.Outcomes.{GivesValue, GivesType, GivesNull}
 use Rattle.vortex_meaning.specs.Meaning.{Lawful, HaveTypes}
-use Rattle.vortex_meaning.specs.Shipped.{Shipped, binary, negation, both_bool, compared_type, operator_type, operator_value, of_two, of_one, negation_type, shipped_type, shipped_means, is_strict, is_infallible, shipped_meaning}
+use Rattle.vortex_meaning.specs.Shipped.{Shipped, binary, negation, both_bool, compared_type, operator_type, operator_value, of_two, of_one, negation_type, shipped_type, shipped_means, is_strict, shipped_meaning}
 
 has_type : (n : Bool) (a : Option Bool) → Allows n a → HasType (bool_type n) (truth_or_null a)
 has_type n None h = h

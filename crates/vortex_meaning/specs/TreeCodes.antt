@@ -7,8 +7,8 @@ use Rattle.vortex_types.specs.LogicalTypes.{LogicalType}
 use Rattle.vortex_types.specs.Codes.{coded_type}
 use Rattle.vortex_columns.specs.ColumnView.{ColumnView, coded_column}
 use Rattle.vortex_types.specs.ScalarView.{ScalarView, coded_scalar}
-use Rattle.vortex_kernels.specs.declared.operators.Operator.{Operator}
-use Rattle.vortex_kernels.specs.declared.operators.Operator.TheVariants.{Eq, NotEq, Gt, Gte, Lt, Lte, And, Or, Add, Sub, Mul, Div}
+use Rattle.vortex_operators.specs.declared.operators.Operator.{Operator}
+use Rattle.vortex_operators.specs.declared.operators.Operator.TheVariants.{Eq, NotEq, Gt, Gte, Lt, Lte, And, Or, Add, Sub, Mul, Div}
 use Rattle.vortex_meaning.specs.Shipped.{Shipped, binary, negation}
 use Rattle.vortex_meaning.specs.Functions.{Function, shipped, custom}
 use Rattle.vortex_meaning.specs.Trees.{Leaf, place, held, Tree, leaf, constant, call, Trees, no_trees, tree}

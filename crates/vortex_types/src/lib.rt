@@ -18,6 +18,3 @@ pub use error::{MismatchPlace, NumericOperator, VortexError, VortexResult};
 pub use ints::{Ints, NativePType};
 pub use scalar_value::ScalarValue;
 pub use validity::Validity;
-
-#[cfg(test)]
-mod tests;

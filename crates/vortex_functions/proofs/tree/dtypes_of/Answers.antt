@@ -1,4 +1,4 @@
-use Rattle.std.proofs.Common.{◌≡◌, map, take, add-one, ap, sym, ◌∙◌}
+use Rattle.std.proofs.Common.{map, add-one, ap, sym, ◌∙◌}
 use Rattle.std.specs.Prelude.{Some}
 use Rattle.std.proofs.lemmas.List.{map-append}
 use Rattle.vortex_types.specs.TypeOf.{type_of}

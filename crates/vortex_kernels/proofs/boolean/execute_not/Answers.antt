@@ -6,7 +6,7 @@ use Rattle.vortex_types.specs.ValidityView.{validity_of}
 use Rattle.vortex_types.specs.Values.{is_null}
 use Rattle.vortex_types.proofs.Answering.{AnswersUnlessMemory-weaker}
 use Rattle.vortex_columns.specs.ColumnView.{ColumnView, row, constant_column}
-use Rattle.vortex_kernels.specs.Boolean.{not_value}
+use Rattle.vortex_operators.specs.OperatorValues.{not_value}
 use Rattle.vortex_kernels.specs.Rows.{HasRows, AreTold}
 use Rattle.vortex_kernels.proofs.Comparing.{constant_image}
 use Rattle.vortex_kernels.proofs.RowLemmas.{bool_answers, bool_dtype, not_row}

@@ -4,8 +4,8 @@ use Rattle.vortex_types.specs.LogicalTypes.{is_nullable}
 use Rattle.vortex_types.specs.ValidityView.{validity_of}
 use Rattle.vortex_types.specs.Values.{truth_of}
 use Rattle.vortex_columns.specs.ColumnView.{row}
-use Rattle.vortex_kernels.specs.Boolean.{boolean_value}
-use Rattle.vortex_kernels.specs.Kleene.{kleene}
+use Rattle.vortex_operators.specs.OperatorValues.{boolean_value}
+use Rattle.vortex_operators.specs.Kleene.{kleene}
 use Rattle.vortex_kernels.specs.Rows.{AreTold}
 use Rattle.vortex_kernels.specs.Truths.{IsValueOf}
 use Rattle.vortex_kernels.proofs.RowLemmas.{bool_answers, value_row}

@@ -1,6 +1,6 @@
 use Rattle.std.proofs.Common.{◌≡◌, ◌∙◌}
 use Rattle.std.specs.Prelude.{is_some}
-use Rattle.vortex_kernels.specs.Kleene.{kleene}
+use Rattle.vortex_operators.specs.Kleene.{kleene}
 use Rattle.vortex_kernels.proofs.RowLemmas.{told_more}
 use Rattle.vortex_kernels.proofs.KleeneBits.{table_valid}
 use Rattle.vortex_kernels.proofs.boolean.kleene_valid.Goals as goal

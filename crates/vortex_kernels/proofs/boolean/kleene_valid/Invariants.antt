@@ -1,7 +1,7 @@
 use Rattle.std.proofs.Common.{◌≡◌}
 use Rattle.std.specs.Vec.{vec_capacity}
 use Rattle.std.specs.Prelude.{is_some}
-use Rattle.vortex_kernels.specs.Kleene.{kleene}
+use Rattle.vortex_operators.specs.Kleene.{kleene}
 use Rattle.vortex_kernels.specs.Rows.{AreTold}
 use Rattle.vortex_kernels.proofs.boolean.kleene_valid.Given as goal
 

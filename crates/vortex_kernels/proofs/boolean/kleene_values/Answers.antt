@@ -1,6 +1,6 @@
 use Rattle.std.proofs.Common.{◌∙◌}
 use Rattle.vortex_kernels.specs.Truths.{IsValueOf}
-use Rattle.vortex_kernels.specs.Kleene.{kleene}
+use Rattle.vortex_operators.specs.Kleene.{kleene}
 use Rattle.vortex_kernels.proofs.RowLemmas.{told_more}
 use Rattle.vortex_kernels.proofs.KleeneBits.{table_value}
 use Rattle.vortex_kernels.proofs.boolean.kleene_values.Goals as goal

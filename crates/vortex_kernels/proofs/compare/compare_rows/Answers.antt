@@ -4,7 +4,8 @@ use Rattle.vortex_types.specs.LogicalTypes.{is_nullable}
 use Rattle.vortex_types.specs.Values.{is_null}
 use Rattle.vortex_types.specs.ValidityView.{validity_of}
 use Rattle.vortex_columns.specs.ColumnView.{row}
-use Rattle.vortex_kernels.specs.Comparison.{comparison_value, AreComparisons}
+use Rattle.vortex_operators.specs.OperatorValues.{comparison_value}
+use Rattle.vortex_kernels.specs.Comparison.{AreComparisons}
 use Rattle.vortex_kernels.proofs.Comparing.{comparison_at}
 use Rattle.vortex_kernels.proofs.RowLemmas.{bool_answers}
 use Rattle.vortex_kernels.proofs.compare.compare_rows.Goals as goal

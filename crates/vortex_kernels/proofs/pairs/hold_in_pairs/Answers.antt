@@ -1,6 +1,6 @@
 use Rattle.std.proofs.Common.{◌≡◌, ◌∙◌}
 use Rattle.std.specs.declared.cmp.Ordering.{Ordering}
-use Rattle.vortex_kernels.specs.Comparison.{holds}
+use Rattle.vortex_operators.specs.OperatorValues.{holds}
 use Rattle.vortex_kernels.proofs.RowLemmas.{told_more}
 use Rattle.vortex_kernels.proofs.pairs.hold_in_pairs.Goals as goal
 

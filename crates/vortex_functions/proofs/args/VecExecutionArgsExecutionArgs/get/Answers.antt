@@ -1,4 +1,4 @@
-use Rattle.std.proofs.Common.{length, ap, ◌∙◌, arith}
+use Rattle.std.proofs.Common.{ap, ◌∙◌, arith}
 use Rattle.vortex_functions.specs.Args.{ArgsView}
 use Rattle.vortex_functions.proofs.InputLemmas.{count_here}
 use Rattle.vortex_functions.proofs.args.VecExecutionArgsExecutionArgs.get.Goals as goal

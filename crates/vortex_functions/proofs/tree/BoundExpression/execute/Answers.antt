@@ -1,5 +1,4 @@
-use Rattle.std.proofs.Common.{◌≡◌, sym, ◌∙◌}
-use Rattle.std.specs.Prelude.{Some}
+use Rattle.std.proofs.Common.{sym}
 use Rattle.vortex_meaning.specs.Execution.{uneven}
 use Rattle.vortex_functions.proofs.tree.BoundExpression.execute.Goals as goal
 

@@ -1,0 +1,19 @@
+//! Tests of types, values, scalars and columns.
+#![tactic(auto)]
+
+#[cfg(test)]
+mod bits;
+#[cfg(test)]
+mod columns;
+#[cfg(test)]
+mod errors;
+#[cfg(test)]
+mod order;
+#[cfg(test)]
+mod parts;
+#[cfg(test)]
+mod scalars;
+#[cfg(test)]
+mod types;
+#[cfg(test)]
+mod values;

@@ -1,0 +1,168 @@
+//! Scalars.
+
+use crate::values::{entry, integers, list, typed};
+use fixtures::{boxed, fields, integer, is_refused, yes};
+use std::alloc::Global;
+use std::cmp::Ordering;
+use vortex_columns::{DType, Nullability, PType, Scalar, ScalarValue, VortexResult};
+
+const NO: Nullability = Nullability::NonNullable;
+
+const YES: Nullability = Nullability::Nullable;
+
+/// Whether two scalars stand in that order, and are equal exactly where it says so.
+fn stand(left: &Scalar, order: Ordering, right: &Scalar) -> bool {
+    left.partial_cmp(right) == Some(order) && (left == right) == order.is_eq()
+}
+
+fn null_truth() -> Scalar {
+    Scalar::null(DType::Bool(YES))
+}
+
+#[test]
+fn truth_values_are_ordered(rt: HostRuntime) {
+    let yes = Scalar::bool(true, YES);
+    assert!(rt; stand(&Scalar::from(false), Ordering::Less, &yes));
+    assert!(rt; stand(&yes, Ordering::Equal, &Scalar::from(true)));
+    assert!(rt; stand(&null_truth(), Ordering::Less, &Scalar::from(false)));
+}
+
+fn null_integer() -> Scalar {
+    Scalar::null(DType::Primitive(PType::I32, YES))
+}
+
+/// Whether a copy is equal to its source, and of the same type.
+fn copies(alloc: Global, scalar: &Scalar) -> VortexResult<bool> {
+    let copy = scalar.try_clone(alloc)?;
+    Ok(copy == *scalar && *copy.dtype() == *scalar.dtype())
+}
+
+#[test]
+fn scalars_are_read(rt: HostRuntime) {
+    let (null, no) = (null_truth(), Scalar::from(false));
+    assert!(rt; null.value().is_none() && no.value().is_some());
+    assert!(rt; null.is_null() && no.as_bool_opt() == Some(false));
+    assert!(rt; *null.dtype() != *no.dtype());
+    assert!(rt; null.dtype().eq_ignore_nullability(no.dtype()));
+    assert!(rt; yes(copies(rt.alloc(), &no)));
+}
+
+/// Whether 1 of i32 and 1 of nullable i32 are equal.
+fn nullability_is_passed_over() -> VortexResult<bool> {
+    let one = Scalar::try_new(integers(PType::I32, YES), Some(ScalarValue::Int(1)))?;
+    Ok(stand(&Scalar::from(1i32), Ordering::Equal, &one))
+}
+
+#[test]
+fn integers_are_ordered_within_a_type(rt: HostRuntime) {
+    assert!(rt; yes(nullability_is_passed_over()));
+    assert!(rt;
+        Scalar::from(1i32)
+            .partial_cmp(&Scalar::from(1i64))
+            .is_none()
+    );
+    assert!(rt; stand(&null_integer(), Ordering::Less, &Scalar::from(1i32)));
+}
+
+/// Whether a scalar has the value 1 and another type than i32.
+fn is_one_of_another_type(scalar: Scalar) -> bool {
+    let one = Scalar::from(1i32);
+    let same = scalar.cell().compare(&one.cell()) == Ordering::Equal;
+    same && scalar != one && scalar.dtype().is_primitive() && !scalar.dtype().is_utf8()
+}
+
+#[test]
+fn integers_become_scalars_of_their_types(rt: HostRuntime) {
+    assert!(rt; is_one_of_another_type(Scalar::from(1i8)));
+    assert!(rt; is_one_of_another_type(Scalar::from(1i16)));
+    assert!(rt; is_one_of_another_type(Scalar::from(1i64)));
+    assert!(rt; is_one_of_another_type(Scalar::from(1u8)));
+    assert!(rt; is_one_of_another_type(Scalar::from(1u16)));
+    assert!(rt; is_one_of_another_type(Scalar::from(1u32)));
+    assert!(rt; is_one_of_another_type(Scalar::from(1u64)));
+}
+
+/// Whether a text is less than another.
+fn text_is_less(alloc: Global, left: &str, right: &str) -> VortexResult<bool> {
+    let left = Scalar::try_from_str(alloc, left)?;
+    let right = Scalar::try_from_str(alloc, right)?;
+    Ok(stand(&left, Ordering::Less, &right))
+}
+
+#[test]
+fn a_text_is_less_than_one_that_continues_it(rt: HostRuntime) {
+    assert!(rt; yes(text_is_less(rt.alloc(), "a", "a\0")));
+}
+
+fn list_type(alloc: Global) -> VortexResult<DType> {
+    Ok(DType::List(boxed(alloc, integers(PType::U8, NO))?, NO))
+}
+
+fn pair_type(alloc: Global) -> VortexResult<DType> {
+    Ok(DType::FixedSizeList(boxed(alloc, integers(PType::U8, NO))?, 2, NO))
+}
+
+fn struct_type(alloc: Global) -> VortexResult<DType> {
+    let types = (DType::Bool(YES), DType::Bool(YES));
+    Ok(DType::Struct(fields(alloc, ("a", "b"), types)?, NO))
+}
+
+fn map_type(alloc: Global) -> VortexResult<DType> {
+    let key = boxed(alloc, integers(PType::U8, NO))?;
+    Ok(DType::Map(key, boxed(alloc, integers(PType::U8, YES))?, NO))
+}
+
+/// Whether a type takes a value, or refuses it as invalid.
+fn takes(
+    dtype: VortexResult<DType>,
+    value: VortexResult<ScalarValue>,
+    wanted: bool,
+) -> VortexResult<bool> {
+    let answer = typed(dtype?, value);
+    Ok(if wanted {
+        answer.is_ok()
+    } else {
+        is_refused(answer, "InvalidColumn")
+    })
+}
+
+#[test]
+fn flat_values_have_their_type(rt: HostRuntime) {
+    assert!(rt; is_refused(integer(PType::I8, 128), "InvalidColumn"));
+    assert!(rt; is_refused(Scalar::try_new(DType::Bool(NO), None), "InvalidColumn"));
+}
+
+#[test]
+fn lists_have_elements_of_their_type(rt: HostRuntime) {
+    let alloc = rt.alloc();
+    let (one, two) = ([Some(1), None], [Some(1), Some(2)]);
+    assert!(rt; yes(takes(list_type(alloc), list(alloc, &one), false)));
+    assert!(rt; yes(takes(list_type(alloc), list(alloc, &two), true)));
+    let three = [Some(1), Some(2), Some(3)];
+    assert!(rt; yes(takes(pair_type(alloc), list(alloc, &three), false)));
+    assert!(rt; yes(takes(pair_type(alloc), list(alloc, &two), true)));
+}
+
+#[test]
+fn structs_and_maps_have_parts_of_their_types(rt: HostRuntime) {
+    let alloc = rt.alloc();
+    assert!(rt; yes(takes(struct_type(alloc), list(alloc, &[None]), false)));
+    assert!(rt; yes(takes(map_type(alloc), list(alloc, &[Some(1)]), false)));
+    assert!(rt; yes(takes(map_type(alloc), entry(alloc, 1, None), true)));
+}
+
+/// Whether a list's copy has two items, of which the first is null.
+fn copies_nested(alloc: Global) -> VortexResult<bool> {
+    let mut items = Vec::new(alloc);
+    items.push(None)?;
+    items.push(Some(ScalarValue::Utf8(String::from_str(alloc, "a")?)))?;
+    Ok(match ScalarValue::List(items).try_clone(alloc)? {
+        ScalarValue::List(items) => items.len() == 2 && items[0].is_none(),
+        _ => false,
+    })
+}
+
+#[test]
+fn nested_values_are_copied(rt: HostRuntime) {
+    assert!(rt; yes(copies_nested(rt.alloc())));
+}

@@ -1,0 +1,118 @@
+//! Types, their nullability, and fields.
+
+use fixtures::{fields, is_refused, names, yes};
+use std::alloc::Global;
+use vortex_columns::{DType, Nullability, PType, StructFields, VortexResult};
+
+const NO: Nullability = Nullability::NonNullable;
+
+const YES: Nullability = Nullability::Nullable;
+
+/// So many types of nullable Bool.
+fn bool_types(alloc: Global, count: usize) -> VortexResult<Vec<DType>> {
+    let mut types = Vec::new(alloc);
+    for _ in 0..count {
+        types.push(DType::Bool(YES))?;
+    }
+    Ok(types)
+}
+
+/// Fields of those names, and so many types.
+fn named(alloc: Global, words: &[&str], count: usize) -> VortexResult<StructFields> {
+    StructFields::try_new(alloc, names(alloc, words)?, bool_types(alloc, count)?)
+}
+
+/// Whether the fields have a name at that place, with a nullable type.
+fn stands_at(fields: VortexResult<StructFields>, name: &str, wanted: usize) -> VortexResult<bool> {
+    let fields = fields?;
+    Ok(match fields.find(name) {
+        Some((place, dtype)) => place == wanted && dtype.is_nullable(),
+        None => false,
+    })
+}
+
+/// Whether the fields lack a name.
+fn lack(fields: VortexResult<StructFields>, name: &str) -> VortexResult<bool> {
+    Ok(fields?.find(name).is_none())
+}
+
+/// Whether there are so many fields.
+fn count_is(fields: VortexResult<StructFields>, wanted: usize) -> VortexResult<bool> {
+    Ok(fields?.len() == wanted)
+}
+
+#[test]
+fn fields_are_found_by_name(rt: HostRuntime) {
+    let alloc = rt.alloc();
+    assert!(rt; yes(stands_at(named(alloc, &["a", "b"], 2), "b", 1)));
+    assert!(rt; yes(lack(named(alloc, &["a", "b"], 2), "c")));
+    assert!(rt; yes(count_is(named(alloc, &["a", "b"], 2), 2)));
+}
+
+#[test]
+fn names_and_types_pair(rt: HostRuntime) {
+    let alloc = rt.alloc();
+    assert!(rt; yes(count_is(named(alloc, &[], 0), 0)));
+    assert!(rt; is_refused(named(alloc, &["a", "a"], 2), "InvalidColumn"));
+    assert!(rt; is_refused(named(alloc, &["a", "b"], 1), "InvalidColumn"));
+}
+
+#[test]
+fn nullability_is_joined(rt: HostRuntime) {
+    assert!(rt; NO | YES == YES);
+    assert!(rt; NO | NO == NO);
+}
+
+/// Whether a type and its copy are nullable, and the copy made non-nullable is not.
+fn loses_null(alloc: Global, dtype: DType) -> VortexResult<bool> {
+    let copy = dtype.try_clone(alloc)?;
+    let nullable = dtype.nullability() == YES && copy.is_nullable();
+    Ok(nullable && !copy.as_nonnullable().is_nullable())
+}
+
+#[test]
+fn types_change_their_nullability(rt: HostRuntime) {
+    let alloc = rt.alloc();
+    assert!(rt; yes(loses_null(alloc, DType::Bool(NO).with_nullability(YES))));
+    assert!(rt; yes(loses_null(alloc, DType::Utf8(NO).with_nullability(YES))));
+}
+
+/// Whether a struct of nullable Bool is a copy of itself, and differs from one of plain Bool by nullability alone.
+fn differ_by_null(alloc: Global) -> VortexResult<bool> {
+    let types = (DType::Bool(YES), DType::Bool(YES));
+    let nullable = DType::Struct(fields(alloc, ("a", "b"), types)?, NO);
+    let types = (DType::Bool(YES), DType::Bool(NO));
+    let plain = DType::Struct(fields(alloc, ("a", "b"), types)?, NO);
+    Ok(
+        nullable == nullable.try_clone(alloc)?
+            && nullable != plain
+            && nullable.eq_ignore_nullability(&plain),
+    )
+}
+
+#[test]
+fn types_are_compared_with_and_without_nullability(rt: HostRuntime) {
+    assert!(rt; yes(differ_by_null(rt.alloc())));
+}
+
+/// Whether the type holds these two numbers, and not those beside them.
+fn ends_at(ptype: PType, least: i128, greatest: i128) -> bool {
+    let holds = ptype.holds(least) && ptype.holds(greatest);
+    holds && !ptype.holds(least.saturating_sub(1)) && !ptype.holds(greatest.saturating_add(1))
+}
+
+#[test]
+fn signed_types_hold_their_ranges(rt: HostRuntime) {
+    assert!(rt; ends_at(PType::I8, -128, 127));
+    assert!(rt; ends_at(PType::I16, -32768, 32767));
+    assert!(rt; ends_at(PType::I32, -2147483648, 2147483647));
+    assert!(rt; ends_at(PType::I64, -9223372036854775808, 9223372036854775807));
+}
+
+#[test]
+fn unsigned_types_hold_their_ranges(rt: HostRuntime) {
+    assert!(rt; ends_at(PType::U8, 0, 255));
+    assert!(rt; ends_at(PType::U16, 0, 65535));
+    assert!(rt; ends_at(PType::U32, 0, 4294967295));
+    assert!(rt; ends_at(PType::U64, 0, 18446744073709551615));
+}

@@ -1,5 +1,0 @@
-use Rattle.rowfn.proofs.Telling.{prints_a_beginning}
-use Rattle.rowfn.proofs.laws.prints_a_beginning.Goals as goal
-
-pub returns : goal.returns
-returns g c = prints_a_beginning g.C.ScalarFnVTable.meaning

@@ -1,7 +1,0 @@
-use Rattle.rowfn.specs.Lines.{lines_of}
-use Rattle.rowfn.specs.Scripts.{Reaches}
-use Rattle.rowfn.proofs.script.read_lines.Given as goal
-
--- the lines so far went on
-abbrev pub invariant-loop-i : goal.invariant-loop-i
-invariant-loop-i g l = Reaches g.C.ScalarFnVTable.meaning (lines_of l.script) l.i l.session

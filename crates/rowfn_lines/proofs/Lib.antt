@@ -1,0 +1,6 @@
+pub mod CellRows
+pub mod Numbers
+pub mod Marks
+pub mod Words
+pub mod WordsSaid
+pub mod Printed

@@ -1,0 +1,47 @@
+-- Items that were read, with a blank under each null, and the column that is made of them.
+use Rattle.std.specs.Int.{w128}
+use Rattle.std.specs.Prelude.{◌≡◌, ℤ, MatchOption, FitsSigned, ℕ, ◌<◌, Bool, true, false, Option, Some, None, List, [], ◌∷◌, length, slice_index_or, if◌then◌else◌}
+use Rattle.vortex_types.specs.LogicalTypes.{LogicalType}
+use Rattle.vortex_types.specs.Values.{Value, null}
+use Rattle.vortex_types.specs.ValidityView.{ValidityView, is_valid_row, form_allows_null, non_nullable, array}
+use Rattle.vortex_columns.specs.ColumnView.{ColumnView, row}
+use Rattle.std.specs.List.{list_all}
+use Rattle.rowfn_lines.specs.Commands.{fits_column}
+
+-- the value of an item, and null where there is none
+abbrev pub item_or_null : {X : Type 0} → (X → Value) → Option X → Value
+item_or_null f None = null
+item_or_null f (Some x) = f x
+
+-- null where an item is not valid
+abbrev pub cells_from : List Value → List Bool → List Value
+cells_from (v ∷ vs) (b ∷ bs) = (if b then v else null) ∷ cells_from vs bs
+cells_from vs bs = []
+
+-- a column of a value for each row, by its validity
+pub record IsMade (kind : Bool → LogicalType) (v : ValidityView) (vs : List Value) (c : ColumnView) : Type 0 where
+  pub dtype : c.dtype ≡ kind (form_allows_null v.form)
+  pub count : length c.rows ≡ length vs
+  pub each : (i : ℕ) → i < length vs → row c.rows i ≡ (if is_valid_row v i then slice_index_or vs i null else null)
+  pub computed : c.constant ≡ false
+  pub form : c.form ≡ v.form
+
+-- values with marks beside them: each is valid where null is not allowed, and what stands under a null fits a column
+pub record AreItems (n : Bool) (vs : List Value) (valid : List Bool) : Type 0 where
+  pub count : length valid ≡ length vs
+  pub plain : n ≡ false → (i : ℕ) → i < length valid → slice_index_or valid i true ≡ true
+  pub fit : list_all fits_column (cells_from vs valid) ≡ list_all fits_column vs
+
+-- the values that cells said
+pub record AreCells (n : Bool) (vs : List Value) (valid : List Bool) (said : Option (List Value)) : Type 0 where
+  pub says : said ≡ Some (cells_from vs valid)
+  pub items : AreItems n vs valid
+
+-- which rows are valid, where null is allowed
+abbrev pub cells_validity : Bool → List Bool → ValidityView
+cells_validity false valid = record { form = non_nullable; bits = [] }
+cells_validity true valid = record { form = array; bits = valid }
+
+-- the number that a word says is read, but for one of more bits than 128
+abbrev pub ReadsNumber : Option ℤ → Option ℤ → Type 0
+ReadsNumber said read = MatchOption read ((z : ℤ) → said ≡ Some z → ¬ FitsSigned w128 z) (λ z. said ≡ Some z)

@@ -1,0 +1,249 @@
+-- What a line of a script says.
+use Rattle.std.specs.Prelude.{◌==◌, ℕ, zero, suc, ℤ, pos, negsuc, ◌+◌, ◌-◌, ◌*◌, ◌&&◌, ◌||◌, nat_le, nat_lt, List, [], ◌∷◌, length, Bool, true, false, Option, Some, None, codes, if◌then◌else◌}
+use Rattle.std.specs.List.{list_all}
+use Rattle.std.specs.Option.{option_and_then, option_map}
+use Rattle.std.specs.Char.{is_ascii_alphanumeric, is_ascii_digit}
+use Rattle.std.specs.Str.{is_utf8, bytes_eq}
+use Rattle.vortex_types.specs.LogicalTypes.{LogicalType, bool_type, integer_type, text_type, is_nullable}
+use Rattle.vortex_types.specs.declared.dtype.PType.{PType}
+use Rattle.vortex_types.specs.declared.dtype.PType.TheVariants.{I8, I16, I32, I64, U8, U16, U32, U64}
+use Rattle.vortex_types.specs.ScalarView.{ScalarView}
+use Rattle.rowfn_lines.specs.Ranges.{in_range}
+use Rattle.vortex_types.specs.Values.{Value, null, truth, number, text}
+use Rattle.vortex_columns.specs.ColumnView.{ColumnView}
+use Rattle.vortex_types.specs.ValidityView.{array, non_nullable}
+use Rattle.vortex_operators.specs.declared.operators.Operator.{Operator}
+use Rattle.vortex_operators.specs.declared.operators.Operator.TheVariants.{And, Or, Eq, NotEq, Lt, Lte, Gt, Gte}
+use Rattle.rowfn_lines.specs.declared.types.Kind.{Kind}
+use Rattle.rowfn_lines.specs.declared.types.Kind.TheVariants as kind
+use Rattle.rowfn_lines.specs.declared.command.Callee.{Callee}
+use Rattle.rowfn_lines.specs.declared.command.Callee.TheVariants.{Binary, Not}
+use Rattle.rowfn_lines.specs.declared.command.Line.{Line}
+use Rattle.rowfn_lines.specs.declared.command.Line.TheVariants as line
+use Rattle.rowfn_lines.specs.Lines.{Word, plain, quoted, words_of, after_spaces}
+
+-- nothing: the line is empty or a comment
+-- rows: so many rows
+-- column: a name, and the column that it names from here on
+-- get: the column of a name
+-- literal: a value in each row
+-- call: a function of the last trees
+-- show: the last tree's text
+-- run: the last tree's column
+pub data Command : Type 0 where
+  nothing : Command
+  malformed : Command
+  rows : ℕ → Command
+  column : List ℕ → ColumnView → Command
+  get : List ℕ → Command
+  literal : ScalarView → Command
+  call : Callee → Command
+  show : Command
+  run : Command
+
+abbrev pub begins_comment : List ℕ → Bool
+begins_comment [] = false
+begins_comment (b ∷ bs) = b == 35
+
+-- a word has at least one byte, and so has a name
+abbrev pub is_name : List ℕ → Bool
+is_name w = list_all (λ b. is_ascii_alphanumeric b || (b == 95)) w
+
+abbrev pub decimal_from : ℕ → List ℕ → ℕ
+decimal_from n [] = n
+decimal_from n (d ∷ ds) = decimal_from (10 * n + (d - 48)) ds
+
+-- the number that one to six digits say
+abbrev pub count_of : List ℕ → Option ℕ
+count_of w = if nat_lt 0 (length w) && (nat_le (length w) 6 && list_all is_ascii_digit w) then Some (decimal_from 0 w) else None
+
+-- a word without the mark of a nullable type at its end
+abbrev pub without_mark : List ℕ → Option (List ℕ)
+without_mark [] = None
+without_mark (b ∷ []) = if b == 63 then Some [] else None
+without_mark (b ∷ c ∷ bs) = option_map (λ w. b ∷ w) (without_mark (c ∷ bs))
+
+abbrev pub ptype_of_word : List ℕ → Option PType
+ptype_of_word w =
+    if bytes_eq w (codes "i8") then Some I8
+    else (if bytes_eq w (codes "i16") then Some I16
+    else (if bytes_eq w (codes "i32") then Some I32
+    else (if bytes_eq w (codes "i64") then Some I64
+    else (if bytes_eq w (codes "u8") then Some U8
+    else (if bytes_eq w (codes "u16") then Some U16
+    else (if bytes_eq w (codes "u32") then Some U32
+    else (if bytes_eq w (codes "u64") then Some U64
+    else None)))))))
+
+abbrev pub kind_of_word : List ℕ → Option Kind
+kind_of_word w =
+    if bytes_eq w (codes "bool") then Some kind.Bool
+    else (if bytes_eq w (codes "utf8") then Some kind.Utf8
+    else option_map kind.Integer (ptype_of_word w))
+
+abbrev pub kind_type : Kind → Bool → LogicalType
+kind_type kind.Bool = bool_type
+kind_type (kind.Integer p) = integer_type p
+kind_type kind.Utf8 = text_type
+
+abbrev pub marked_type : List ℕ → Option (List ℕ) → Option LogicalType
+marked_type w None = option_map (λ k. kind_type k false) (kind_of_word w)
+marked_type w (Some name) = option_map (λ k. kind_type k true) (kind_of_word name)
+
+abbrev pub type_of_word : List ℕ → Option LogicalType
+type_of_word w = marked_type w (without_mark w)
+
+-- the number that digits say, of which there is one at least
+abbrev pub digits_of : List ℕ → Option ℕ
+digits_of w = if nat_lt 0 (length w) && list_all is_ascii_digit w then Some (decimal_from 0 w) else None
+
+abbrev pub negative : ℕ → ℤ
+negative zero = pos 0
+negative (suc n) = negsuc n
+
+-- digits, with a minus sign before them or without
+abbrev pub integer_of : List ℕ → Option ℤ
+integer_of [] = None
+integer_of (b ∷ bs) = if b == 45 then option_map negative (digits_of bs) else option_map pos (digits_of (b ∷ bs))
+
+abbrev pub number_where : Bool → ℤ → Option Value
+number_where fits z = if fits then Some (number z) else None
+
+-- a number in the range of the type
+abbrev pub number_of : PType → List ℕ → Option Value
+number_of p w = option_and_then (λ z. number_where (in_range p z) z) (integer_of w)
+
+abbrev pub truth_of_word : List ℕ → Option Value
+truth_of_word w =
+    if bytes_eq w (codes "true") then Some (truth true)
+    else (if bytes_eq w (codes "false") then Some (truth false)
+    else None)
+
+-- the value that a word says, where it is one of the type's and not null
+abbrev pub value_said : LogicalType → Word → Option Value
+value_said (bool_type n) (plain w) = truth_of_word w
+value_said (integer_type p n) (plain w) = number_of p w
+value_said (text_type n) (quoted w) = Some (text w)
+value_said t w = None
+
+abbrev pub says_null : Word → Bool
+says_null (plain w) = bytes_eq w (codes "null")
+says_null (quoted w) = false
+
+abbrev pub cell_of : LogicalType → Word → Option Value
+cell_of t w = if says_null w then (if is_nullable t then Some null else None) else value_said t w
+
+abbrev pub with_cell : Option Value → Option (List Value) → Option (List Value)
+with_cell None vs = None
+with_cell (Some v) None = None
+with_cell (Some v) (Some vs) = Some (v ∷ vs)
+
+-- the values that the cells say, where each says one
+abbrev pub cells_of : LogicalType → List Word → Option (List Value)
+cells_of t [] = Some []
+cells_of t (w ∷ ws) = with_cell (cell_of t w) (cells_of t ws)
+
+-- a text of a column has at most 4,294,967,295 bytes
+abbrev pub fits_column : Value → Bool
+fits_column (text bs) = nat_le (length bs) 4294967295
+fits_column v = true
+
+abbrev pub column_of : LogicalType → List Value → ColumnView
+column_of t vs = record { dtype = t; rows = vs; constant = false; form = if is_nullable t then array else non_nullable }
+
+abbrev pub column_where : LogicalType → List Value → Option ColumnView
+column_where t vs = if list_all fits_column vs then Some (column_of t vs) else None
+
+-- the column that the cells say
+abbrev pub column_said : LogicalType → List Word → Option ColumnView
+column_said t ws = option_and_then (column_where t) (cells_of t ws)
+
+abbrev pub literal_said : LogicalType → Word → Option ScalarView
+literal_said t w = option_map (λ v. record { dtype = t; value = v }) (cell_of t w)
+
+-- the word, of a line that has one more, which stands in no quotes
+abbrev pub only_word : List Word → Option (List ℕ)
+only_word (plain w ∷ []) = Some w
+only_word ws = None
+
+abbrev pub or_malformed : {A : Type 0} → (A → Command) → Option A → Command
+or_malformed f None = malformed
+or_malformed f (Some x) = f x
+
+abbrev pub rows_command : List Word → Command
+rows_command ws = or_malformed rows (option_and_then count_of (only_word ws))
+
+abbrev pub name_of : List ℕ → Option (List ℕ)
+name_of w = if is_name w then Some w else None
+
+abbrev pub column_command : List Word → Command
+column_command (plain name ∷ plain t ∷ cells) =
+    if is_name name then or_malformed (column name) (option_and_then (λ u. column_said u cells) (type_of_word t))
+    else malformed
+column_command ws = malformed
+
+abbrev pub literal_command : List Word → Command
+literal_command (plain t ∷ cell ∷ []) = or_malformed literal (option_and_then (λ u. literal_said u cell) (type_of_word t))
+literal_command ws = malformed
+
+abbrev pub get_command : List Word → Command
+get_command ws = or_malformed get (option_and_then name_of (only_word ws))
+
+abbrev pub operator_of_word : List ℕ → Option Operator
+operator_of_word w =
+    if bytes_eq w (codes "and") then Some And
+    else (if bytes_eq w (codes "or") then Some Or
+    else (if bytes_eq w (codes "=") then Some Eq
+    else (if bytes_eq w (codes "!=") then Some NotEq
+    else (if bytes_eq w (codes "<") then Some Lt
+    else (if bytes_eq w (codes "<=") then Some Lte
+    else (if bytes_eq w (codes ">") then Some Gt
+    else (if bytes_eq w (codes ">=") then Some Gte
+    else None)))))))
+
+abbrev pub callee_of : List ℕ → Option Callee
+callee_of w = if bytes_eq w (codes "not") then Some Not else option_map Binary (operator_of_word w)
+
+abbrev pub call_command : List Word → Command
+call_command ws = or_malformed call (option_and_then callee_of (only_word ws))
+
+-- what a first word says that no other follows
+abbrev pub alone : Command → List Word → Command
+alone k [] = k
+alone k ws = malformed
+
+-- by the first word
+abbrev pub command_by : List ℕ → List Word → Command
+command_by w ws =
+    if bytes_eq w (codes "rows") then rows_command ws
+    else (if bytes_eq w (codes "col") then column_command ws
+    else (if bytes_eq w (codes "get") then get_command ws
+    else (if bytes_eq w (codes "lit") then literal_command ws
+    else (if bytes_eq w (codes "call") then call_command ws
+    else (if bytes_eq w (codes "show") then alone show ws
+    else (if bytes_eq w (codes "run") then alone run ws
+    else malformed))))))
+
+abbrev pub command_of_words : List Word → Command
+command_of_words [] = nothing
+command_of_words (plain w ∷ ws) = command_by w ws
+command_of_words (quoted w ∷ ws) = malformed
+
+-- of a text that begins with no space
+abbrev pub command_of_text : List ℕ → Command
+command_of_text t = if begins_comment t then nothing else or_malformed command_of_words (words_of t)
+
+abbrev pub command_of : List ℕ → Command
+command_of line = if is_utf8 line then command_of_text (after_spaces line) else malformed
+
+-- the command that a line was read as
+abbrev pub command_in : Line → Command
+command_in line.Nothing = nothing
+command_in line.Malformed = malformed
+command_in (line.Rows n) = rows n
+command_in (line.Column name c) = column name.now c
+command_in (line.Get name) = get name.now
+command_in (line.Literal s) = literal s
+command_in (line.Call f) = call f
+command_in line.Show = show
+command_in line.Run = run

@@ -1,0 +1,5 @@
+pub mod Lines
+pub mod Ranges
+pub mod Cells
+pub mod Commands
+pub mod Printing

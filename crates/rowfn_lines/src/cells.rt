@@ -1,0 +1,362 @@
+//! Columns and values that are read from words.
+ghost use Rattle.std.specs.Prelude.{◌≡◌, refl, pos, ◌∷◌, Bool, true, false, Some, None, is_some, map, option_map, length, string_bytes, MatchOption};
+ghost use Rattle.std.specs.List.{list_all};
+ghost use Rattle.std.specs.Char.{is_ascii_digit};
+ghost use Rattle.vortex_types.specs.declared.error.VortexError.TheVariants.{InvalidColumn};
+ghost use Rattle.vortex_types.specs.Answers.{AnswersUnlessMemory, AnswersWhere};
+ghost use Rattle.vortex_types.specs.LogicalTypes.{LogicalType, bool_type, integer_type, text_type, is_nullable};
+ghost use Rattle.vortex_types.specs.TypeOf.{type_of, allows_null};
+ghost use Rattle.vortex_types.specs.Values.{Value, truth, number, text};
+ghost use Rattle.vortex_types.specs.ValueOf.{value_of};
+ghost use Rattle.vortex_types.specs.Typing.{HasType};
+ghost use Rattle.vortex_types.specs.ValidityView.{validity_of, FitsRows};
+ghost use Rattle.rowfn_lines.specs.Lines.{word_in};
+ghost use Rattle.rowfn_lines.specs.Commands.{digits_of, negative, integer_of, value_said, says_null, cell_of, cells_of, fits_column, column_said, literal_said, kind_type};
+ghost use Rattle.rowfn_lines.specs.Cells.{ReadsNumber, item_or_null, IsMade, AreCells, cells_validity};
+
+use crate::text::Word;
+use crate::types::Kind;
+use std::alloc::Global;
+use std::marker::PhantomData;
+use vortex_columns::{
+    BitBuffer, Column, DType, NativePType, Nullability, PType, Scalar, ScalarValue, Validity,
+    VortexError, VortexResult,
+};
+
+fn all_digits(word: &str) -> bool
+    ensures { result ≡ list_all is_ascii_digit word.now }
+{
+    word.as_bytes().iter().all(|byte| byte.is_ascii_digit())
+}
+
+/// Whether there are digits and nothing else.
+pub fn are_digits(word: &str) -> bool
+    ensures { result ≡ is_some (digits_of word.now) }
+{
+    !word.is_empty() && all_digits(word)
+}
+
+/// The number that digits say; nothing where others stand there, and for a number past every integer type.
+fn read_plain(word: &str) -> Option<i128>
+    ensures { ReadsNumber (option_map pos (digits_of word.now)) result }
+{
+    if !are_digits(word) {
+        return None;
+    }
+    word.parse::<i128>().ok()
+}
+
+/// The same after a minus sign, which begins the word.
+fn read_negative(word: &str, digits: &str) -> Option<i128>
+    requires { word.now ≡ 45 ∷ digits.now }
+    ensures { ReadsNumber (option_map negative (digits_of digits.now)) result }
+{
+    if !are_digits(digits) {
+        return None;
+    }
+    word.parse::<i128>().ok()
+}
+
+/// The number that a word says by digits, with a minus sign before them or without; nothing where it says none, and
+/// for a number past every integer type.
+fn read_integer(word: &str) -> Option<i128>
+    ensures { ReadsNumber (integer_of word.now) result }
+{
+    match word.strip_prefix('-') {
+        Some(digits) => read_negative(word, digits),
+        None => read_plain(word),
+    }
+}
+
+/// Values of one kind, as scripts write them.
+trait CellKind {
+    type Item: Drop;
+
+    ghost value: { Self.Item → Value };
+
+    ghost kind: { Bool → LogicalType };
+
+    /// The value that a word says, null aside; nothing where it says none of this kind.
+    fn read(alloc: Global, word: &Word<'_>) -> VortexResult<Option<Self::Item>>
+        ensures { AnswersUnlessMemory result (λ item. (n : Bool) → option_map value item ≡ value_said (kind n) (word_in word.now)) };
+
+    /// What stands under a null. Takes no memory.
+    fn blank(alloc: Global) -> Self::Item
+        ensures { fits_column (value result) ≡ true };
+
+    /// The value for a scalar, of the kind's types.
+    fn scalar_value(item: Self::Item) -> ScalarValue
+        ensures value { value_of result ≡ value item }
+        ensures typed { (n : Bool) → HasType (kind n) (value item) };
+
+    /// A column of the values. E12 exactly where a list of valid bits has another length, or a text is longer than
+    /// 4,294,967,295 bytes.
+    fn column(alloc: Global, values: Vec<Self::Item>, validity: Validity) -> VortexResult<Column>
+        ensures { AnswersWhere result (FitsRows (validity_of validity) (length values.items) × (list_all fits_column (map value values.items) ≡ true)) (IsMade kind (validity_of validity) (map value values.items)) InvalidColumn };
+
+    ghost nullable: { (n : Bool) → is_nullable (kind n) ≡ n };
+}
+
+struct BoolCells {}
+
+struct IntCells<T: NativePType>(PhantomData<T>);
+
+struct TextCells {}
+
+impl CellKind for BoolCells {
+    type Item = bool;
+
+    ghost value = { truth };
+
+    ghost kind = { bool_type };
+
+    fn read(_alloc: Global, word: &Word<'_>) -> VortexResult<Option<bool>> {
+        match word {
+            Word::Plain(text) => {
+                if *text == "true" {
+                    Ok(Some(true))
+                } else if *text == "false" {
+                    Ok(Some(false))
+                } else {
+                    Ok(None)
+                }
+            }
+            Word::Quoted(_) => Ok(None),
+        }
+    }
+
+    fn blank(_alloc: Global) -> bool {
+        false
+    }
+
+    fn scalar_value(item: bool) -> ScalarValue {
+        ScalarValue::Bool(item)
+    }
+
+    fn column(alloc: Global, values: Vec<bool>, validity: Validity) -> VortexResult<Column>
+        ensures { AnswersWhere result (FitsRows (validity_of validity) (length values.items) × (list_all fits_column (map truth values.items) ≡ true)) (IsMade bool_type (validity_of validity) (map truth values.items)) InvalidColumn }
+    {
+        let bits = BitBuffer::from_bools(alloc, &values)?;
+        Column::try_bool(bits, validity)
+    }
+
+    ghost nullable = { λ n. refl };
+}
+
+impl<T: NativePType> CellKind for IntCells<T> {
+    type Item = T;
+
+    ghost value = { λ x. number (T.number x) };
+
+    ghost kind = { integer_type T.ptype };
+
+    fn read(_alloc: Global, word: &Word<'_>) -> VortexResult<Option<T>> {
+        match word {
+            Word::Plain(text) => match read_integer(text) {
+                Some(number) => Ok(T::from_i128(number)),
+                None => Ok(None),
+            },
+            Word::Quoted(_) => Ok(None),
+        }
+    }
+
+    fn blank(_alloc: Global) -> T {
+        T::zero()
+    }
+
+    fn scalar_value(item: T) -> ScalarValue {
+        ScalarValue::Int(item.to_i128())
+    }
+
+    fn column(_alloc: Global, values: Vec<T>, validity: Validity) -> VortexResult<Column>
+        ensures { AnswersWhere result (FitsRows (validity_of validity) (length values.items) × (list_all fits_column (map (λ x. number (T.number x)) values.items) ≡ true)) (IsMade (integer_type T.ptype) (validity_of validity) (map (λ x. number (T.number x)) values.items)) InvalidColumn }
+    {
+        Column::try_primitive(values, validity)
+    }
+
+    ghost nullable = { λ n. refl };
+}
+
+impl CellKind for TextCells {
+    type Item = String;
+
+    ghost value = { λ s. text (string_bytes s) };
+
+    ghost kind = { text_type };
+
+    fn read(alloc: Global, word: &Word<'_>) -> VortexResult<Option<String>> {
+        match word {
+            Word::Plain(_) => Ok(None),
+            Word::Quoted(text) => Ok(Some(String::from_str(alloc, text)?)),
+        }
+    }
+
+    fn blank(alloc: Global) -> String {
+        String::new(alloc)
+    }
+
+    fn scalar_value(item: String) -> ScalarValue {
+        ScalarValue::Utf8(item)
+    }
+
+    fn column(_alloc: Global, values: Vec<String>, validity: Validity) -> VortexResult<Column>
+        ensures { AnswersWhere result (FitsRows (validity_of validity) (length values.items) × (list_all fits_column (map (λ s. text (string_bytes s)) values.items) ≡ true)) (IsMade text_type (validity_of validity) (map (λ s. text (string_bytes s)) values.items)) InvalidColumn }
+    {
+        Column::try_utf8(values, validity)
+    }
+
+    ghost nullable = { λ n. refl };
+}
+
+fn says_null(word: &Word<'_>) -> bool
+    ensures { result ≡ says_null (word_in word.now) }
+{
+    match word {
+        Word::Plain(text) => *text == "null",
+        Word::Quoted(_) => false,
+    }
+}
+
+/// What a cell says, a null among it; nothing where it says no value of the type. E9 alone.
+fn read_cell<K: CellKind>(
+    alloc: Global,
+    nullability: Nullability,
+    word: &Word<'_>,
+) -> VortexResult<Option<Option<K::Item>>>
+    ensures { AnswersUnlessMemory result (λ cell. option_map (item_or_null K.value) cell ≡ cell_of (K.kind (allows_null nullability)) (word_in word.now)) }
+{
+    if says_null(word) {
+        if nullability.is_nullable() {
+            return Ok(Some(None));
+        }
+        return Ok(None);
+    }
+    match K::read(alloc, word)? {
+        Some(item) => Ok(Some(Some(item))),
+        None => Ok(None),
+    }
+}
+
+/// What cells say: an item for each, with a blank under each null, and which are not null.
+#[derive(Drop)]
+struct Cells<K: CellKind> {
+    items: Vec<K::Item>,
+    valid: Vec<bool>,
+}
+
+/// What each cell says; nothing where one says no value of the type. E9 alone.
+fn read_cells<K: CellKind>(
+    alloc: Global,
+    nullability: Nullability,
+    words: &[Word<'_>],
+) -> VortexResult<Option<Cells<K>>>
+    ensures { AnswersUnlessMemory result (λ cells. MatchOption cells (cells_of (K.kind (allows_null nullability)) (map word_in words.now) ≡ None) (λ c. AreCells (allows_null nullability) (map K.value c.items.items) c.valid.items (cells_of (K.kind (allows_null nullability)) (map word_in words.now)))) }
+{
+    let mut items = Vec::new(alloc);
+    let mut valid = Vec::new(alloc);
+    for word in words {
+        let Some(cell) = read_cell::<K>(alloc, nullability, word)? else {
+            return Ok(None);
+        };
+        valid.push(cell.is_some())?;
+        items.push(cell.unwrap_or(K::blank(alloc)))?;
+    }
+    Ok(Some(Cells { items, valid }))
+}
+
+/// The validity of a column whose cells are valid as the marks say.
+fn cells_validity(alloc: Global, nullability: Nullability, valid: &[bool]) -> VortexResult<Validity>
+    ensures { AnswersUnlessMemory result (λ v. validity_of v ≡ cells_validity (allows_null nullability) valid.now) }
+{
+    match nullability {
+        Nullability::NonNullable => Ok(Validity::NonNullable),
+        Nullability::Nullable => Ok(Validity::Array(BitBuffer::from_bools(alloc, valid)?)),
+    }
+}
+
+/// The column of the cells; nothing where one says no value of the type, or a text is too long for a column. E9 alone.
+fn read_column<K: CellKind>(
+    alloc: Global,
+    nullability: Nullability,
+    words: &[Word<'_>],
+) -> VortexResult<Option<Column>>
+    ensures { AnswersUnlessMemory result (λ c. c ≡ column_said (K.kind (allows_null nullability)) (map word_in words.now)) }
+{
+    let Some(Cells { items, valid }) = read_cells::<K>(alloc, nullability, words)? else {
+        return Ok(None);
+    };
+    let validity = cells_validity(alloc, nullability, &valid)?;
+    match K::column(alloc, items, validity) {
+        Ok(column) => Ok(Some(column)),
+        Err(VortexError::InvalidColumn) => Ok(None),
+        Err(error) => Err(error),
+    }
+}
+
+/// The value of the cell, with its type; nothing where it says no value of the type. E9 alone.
+fn read_value<K: CellKind>(
+    alloc: Global,
+    dtype: DType,
+    word: &Word<'_>,
+) -> VortexResult<Option<Scalar>>
+    requires { type_of dtype ≡ K.kind (is_nullable (type_of dtype)) }
+    ensures { AnswersUnlessMemory result (λ s. s ≡ literal_said (type_of dtype) (word_in word.now)) }
+{
+    match read_cell::<K>(alloc, dtype.nullability(), word)? {
+        Some(Some(item)) => Ok(Some(Scalar::try_new(dtype, Some(K::scalar_value(item)))?)),
+        Some(None) => Ok(Some(Scalar::try_new(dtype, None)?)),
+        None => Ok(None),
+    }
+}
+
+/// The column that the cells of a `col` line say; nothing where one says no value of the type, or a text is longer than
+/// 4,294,967,295 bytes. E9 alone.
+pub fn column_said(
+    alloc: Global,
+    kind: Kind,
+    nullability: Nullability,
+    words: &[Word<'_>],
+) -> VortexResult<Option<Column>>
+    ensures { AnswersUnlessMemory result (λ c. c ≡ column_said (kind_type kind (allows_null nullability)) (map word_in words.now)) }
+{
+    match kind {
+        Kind::Bool => read_column::<BoolCells>(alloc, nullability, words),
+        Kind::Utf8 => read_column::<TextCells>(alloc, nullability, words),
+        Kind::Integer(PType::I8) => read_column::<IntCells<i8>>(alloc, nullability, words),
+        Kind::Integer(PType::I16) => read_column::<IntCells<i16>>(alloc, nullability, words),
+        Kind::Integer(PType::I32) => read_column::<IntCells<i32>>(alloc, nullability, words),
+        Kind::Integer(PType::I64) => read_column::<IntCells<i64>>(alloc, nullability, words),
+        Kind::Integer(PType::U8) => read_column::<IntCells<u8>>(alloc, nullability, words),
+        Kind::Integer(PType::U16) => read_column::<IntCells<u16>>(alloc, nullability, words),
+        Kind::Integer(PType::U32) => read_column::<IntCells<u32>>(alloc, nullability, words),
+        Kind::Integer(PType::U64) => read_column::<IntCells<u64>>(alloc, nullability, words),
+    }
+}
+
+/// The value that the cell of a `lit` line says; nothing where it says no value of the type. E9 alone.
+pub fn literal_said(
+    alloc: Global,
+    kind: Kind,
+    nullability: Nullability,
+    word: &Word<'_>,
+) -> VortexResult<Option<Scalar>>
+    ensures { AnswersUnlessMemory result (λ s. s ≡ literal_said (kind_type kind (allows_null nullability)) (word_in word.now)) }
+{
+    match kind {
+        Kind::Bool => read_value::<BoolCells>(alloc, DType::Bool(nullability), word),
+        Kind::Utf8 => read_value::<TextCells>(alloc, DType::Utf8(nullability), word),
+        Kind::Integer(ptype) => {
+            let dtype = DType::Primitive(ptype, nullability);
+            match ptype {
+                PType::I8 => read_value::<IntCells<i8>>(alloc, dtype, word),
+                PType::I16 => read_value::<IntCells<i16>>(alloc, dtype, word),
+                PType::I32 => read_value::<IntCells<i32>>(alloc, dtype, word),
+                PType::I64 => read_value::<IntCells<i64>>(alloc, dtype, word),
+                PType::U8 => read_value::<IntCells<u8>>(alloc, dtype, word),
+                PType::U16 => read_value::<IntCells<u16>>(alloc, dtype, word),
+                PType::U32 => read_value::<IntCells<u32>>(alloc, dtype, word),
+                PType::U64 => read_value::<IntCells<u64>>(alloc, dtype, word),
+            }
+        }
+    }
+}

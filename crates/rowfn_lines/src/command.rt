@@ -1,0 +1,38 @@
+//! What a line of a script says.
+ghost use Rattle.std.specs.Prelude.{◌≡◌};
+ghost use Rattle.vortex_types.specs.Answers.{AnswersUnlessMemory};
+
+use vortex_columns::{Column, Scalar};
+use vortex_operators::Operator;
+
+/// The function that a `call` line names.
+#[derive(Clone, Copy, Debug, PartialEq, Eq)]
+pub enum Callee {
+    /// Of the last two trees, the last being on the right.
+    Binary(Operator),
+    /// Of the last tree.
+    Not,
+}
+
+/// What a line says.
+#[derive(Drop)]
+pub enum Line<'a> {
+    /// No words, or a comment.
+    Nothing,
+    /// No line of a script.
+    Malformed,
+    /// How many rows there are.
+    Rows(usize),
+    /// A name, and the column that it names from here on.
+    Column(&'a str, Column),
+    /// The column of a name.
+    Get(&'a str),
+    /// A value in each row.
+    Literal(Scalar),
+    /// A function of the last trees.
+    Call(Callee),
+    /// The text of the last tree, printed.
+    Show,
+    /// The column of the last tree, printed.
+    Run,
+}

@@ -1,0 +1,14 @@
+//! Lines of scripts: what they say, and how columns are printed.
+#![tactic(auto)]
+
+mod cells;
+pub mod command;
+pub mod laws;
+pub mod parse;
+pub mod printing;
+pub mod text;
+pub mod types;
+
+pub use command::{Callee, Line};
+pub use printing::column_text;
+pub use text::lines;

@@ -1,0 +1,216 @@
+//! Reads a line.
+ghost use Rattle.std.specs.Prelude.{◌≡◌, map, option_map};
+ghost use Rattle.vortex_types.specs.Answers.{AnswersUnlessMemory};
+ghost use Rattle.rowfn_lines.specs.Lines.{word_in};
+ghost use Rattle.rowfn_lines.specs.Commands.{begins_comment, is_name, count_of, operator_of_word, callee_of, only_word, rows_command, column_command, get_command, literal_command, call_command, alone, command_by, command_of_words, command_of_text, command_of, command_in};
+
+use crate::cells::{are_digits, column_said, literal_said};
+use crate::command::{Callee, Line};
+use crate::text::{Word, without_spaces, words};
+use crate::types::read_type;
+use std::alloc::Global;
+use std::str;
+use vortex_columns::VortexResult;
+use vortex_operators::Operator;
+
+fn begins_comment(word: &str) -> bool
+    ensures { result ≡ begins_comment word.now }
+{
+    word.as_bytes().first() == Some(&b'#')
+}
+
+/// Whether there are only ASCII letters, digits and `_`.
+fn is_name(word: &str) -> bool
+    ensures { result ≡ is_name word.now }
+{
+    word.as_bytes()
+        .iter()
+        .all(|byte| byte.is_ascii_alphanumeric() || *byte == b'_')
+}
+
+/// The number that one to six digits say.
+fn count(word: &str) -> Option<usize>
+    ensures { result ≡ count_of word.now }
+{
+    if word.len() > 6 || !are_digits(word) {
+        return None;
+    }
+    word.parse::<usize>().ok()
+}
+
+fn operator(word: &str) -> Option<Operator>
+    ensures { result ≡ operator_of_word word.now }
+{
+    if word == "and" {
+        Some(Operator::And)
+    } else if word == "or" {
+        Some(Operator::Or)
+    } else if word == "=" {
+        Some(Operator::Eq)
+    } else if word == "!=" {
+        Some(Operator::NotEq)
+    } else if word == "<" {
+        Some(Operator::Lt)
+    } else if word == "<=" {
+        Some(Operator::Lte)
+    } else if word == ">" {
+        Some(Operator::Gt)
+    } else if word == ">=" {
+        Some(Operator::Gte)
+    } else {
+        None
+    }
+}
+
+fn callee(word: &str) -> Option<Callee>
+    ensures { result ≡ callee_of word.now }
+{
+    if word == "not" {
+        Some(Callee::Not)
+    } else {
+        Some(Callee::Binary(operator(word)?))
+    }
+}
+
+/// The word, where there is one and no other, and it stands in no quotes.
+fn only<'a>(words: &[Word<'a>]) -> Option<&'a str>
+    ensures { option_map (λ w. w.now) result ≡ only_word (map word_in words.now) }
+{
+    match words {
+        [Word::Plain(word)] => Some(word),
+        _ => None,
+    }
+}
+
+fn rows_line<'a>(words: &[Word<'a>]) -> Line<'a>
+    ensures { command_in result ≡ rows_command (map word_in words.now) }
+{
+    let Some(word) = only(words) else {
+        return Line::Malformed;
+    };
+    match count(word) {
+        Some(rows) => Line::Rows(rows),
+        None => Line::Malformed,
+    }
+}
+
+fn column_line<'a>(alloc: Global, words: &[Word<'a>]) -> VortexResult<Line<'a>>
+    ensures { AnswersUnlessMemory result (λ l. command_in l ≡ column_command (map word_in words.now)) }
+{
+    let [Word::Plain(name), Word::Plain(dtype), cells @ ..] = words else {
+        return Ok(Line::Malformed);
+    };
+    if !is_name(name) {
+        return Ok(Line::Malformed);
+    }
+    let Some((kind, nullability)) = read_type(dtype) else {
+        return Ok(Line::Malformed);
+    };
+    match column_said(alloc, kind, nullability, cells)? {
+        Some(column) => Ok(Line::Column(name, column)),
+        None => Ok(Line::Malformed),
+    }
+}
+
+fn literal_line<'a>(alloc: Global, words: &[Word<'a>]) -> VortexResult<Line<'a>>
+    ensures { AnswersUnlessMemory result (λ l. command_in l ≡ literal_command (map word_in words.now)) }
+{
+    let [Word::Plain(dtype), cell] = words else {
+        return Ok(Line::Malformed);
+    };
+    let Some((kind, nullability)) = read_type(dtype) else {
+        return Ok(Line::Malformed);
+    };
+    match literal_said(alloc, kind, nullability, cell)? {
+        Some(scalar) => Ok(Line::Literal(scalar)),
+        None => Ok(Line::Malformed),
+    }
+}
+
+fn get_line<'a>(words: &[Word<'a>]) -> Line<'a>
+    ensures { command_in result ≡ get_command (map word_in words.now) }
+{
+    match only(words) {
+        Some(name) if is_name(name) => Line::Get(name),
+        _ => Line::Malformed,
+    }
+}
+
+fn call_line<'a>(words: &[Word<'a>]) -> Line<'a>
+    ensures { command_in result ≡ call_command (map word_in words.now) }
+{
+    let Some(word) = only(words) else {
+        return Line::Malformed;
+    };
+    match callee(word) {
+        Some(callee) => Line::Call(callee),
+        None => Line::Malformed,
+    }
+}
+
+/// The line of a first word that no other follows.
+fn alone<'a>(line: Line<'a>, words: &[Word<'a>]) -> Line<'a>
+    ensures { command_in result ≡ alone (command_in line.entry) (map word_in words.now) }
+{
+    if words.is_empty() {
+        line
+    } else {
+        Line::Malformed
+    }
+}
+
+/// What the words after a first word say.
+fn line_of<'a>(alloc: Global, first: &'a str, words: &[Word<'a>]) -> VortexResult<Line<'a>>
+    ensures { AnswersUnlessMemory result (λ l. command_in l ≡ command_by first.now (map word_in words.now)) }
+{
+    if first == "rows" {
+        Ok(rows_line(words))
+    } else if first == "col" {
+        column_line(alloc, words)
+    } else if first == "get" {
+        Ok(get_line(words))
+    } else if first == "lit" {
+        literal_line(alloc, words)
+    } else if first == "call" {
+        Ok(call_line(words))
+    } else if first == "show" {
+        Ok(alone(Line::Show, words))
+    } else if first == "run" {
+        Ok(alone(Line::Run, words))
+    } else {
+        Ok(Line::Malformed)
+    }
+}
+
+fn words_line<'a>(alloc: Global, words: &[Word<'a>]) -> VortexResult<Line<'a>>
+    ensures { AnswersUnlessMemory result (λ l. command_in l ≡ command_of_words (map word_in words.now)) }
+{
+    match words {
+        [] => Ok(Line::Nothing),
+        [Word::Plain(first), words @ ..] => line_of(alloc, first, words),
+        _ => Ok(Line::Malformed),
+    }
+}
+
+/// What a text says that begins with no space.
+fn text_line<'a>(alloc: Global, text: &'a str) -> VortexResult<Line<'a>>
+    ensures { AnswersUnlessMemory result (λ l. command_in l ≡ command_of_text text.now) }
+{
+    if begins_comment(text) {
+        return Ok(Line::Nothing);
+    }
+    match words(alloc, text)? {
+        Some(words) => words_line(alloc, &words),
+        None => Ok(Line::Malformed),
+    }
+}
+
+/// What the line says. E9 alone: a line that says nothing of a script is `Malformed`.
+pub fn parse(alloc: Global, line: &[u8]) -> VortexResult<Line<'_>>
+    ensures { AnswersUnlessMemory result (λ l. command_in l ≡ command_of line.now) }
+{
+    let Ok(line) = str::from_utf8(line) else {
+        return Ok(Line::Malformed);
+    };
+    text_line(alloc, without_spaces(line))
+}

@@ -1,0 +1,88 @@
+//! A script as lines, and a line as words.
+ghost use Rattle.std.specs.Prelude.{◌≡◌, ◌<◌, None, [], map, option_map, length, IfOk, MatchOption};
+ghost use Rattle.rowfn_lines.specs.Lines.{lines_of, after_spaces, with_word, words_of, in_quotes, word_in, BeginsWord, BeginsPlain};
+
+use std::alloc::{AllocError, Global};
+
+/// A word of a line.
+#[derive(Clone, Copy, Debug, PartialEq, Eq)]
+pub enum Word<'a> {
+    /// A word as it stands.
+    Plain(&'a str),
+    /// The text between two quotes.
+    Quoted(&'a str),
+}
+
+/// The lines, without their newlines. Refused only for want of memory.
+pub fn lines(alloc: Global, script: &[u8]) -> Result<Vec<&[u8]>, AllocError>
+    ensures { IfOk result (λ lines. map (λ l. l.now) lines.items ≡ lines_of script.now) }
+{
+    script.split(|b| *b == b'\n').collect(alloc)
+}
+
+/// The text without the spaces that it begins with.
+pub fn without_spaces(text: &str) -> &str
+    ensures { result.now ≡ after_spaces text.now }
+{
+    let mut rest = text;
+    while let Some(after) = rest.strip_prefix(' ') {
+        rest = after;
+    }
+    rest
+}
+
+/// The first word of a text that begins with one that stands in no quotes, and what follows the word.
+fn split_plain(text: &str) -> (Word<'_>, &str)
+    requires { BeginsPlain text.now }
+    ensures word { words_of text.now ≡ with_word (word_in result.0) (words_of result.1.now) }
+    ensures less { length result.1.now < length text.now }
+{
+    match text.split_once(' ') {
+        Some((word, after)) => (Word::Plain(word), after),
+        None => (Word::Plain(text), ""),
+    }
+}
+
+/// The text up to the next quote, and what follows the quote; nothing where there is no quote, or something but a space
+/// follows it.
+fn split_quoted(text: &str) -> Option<(Word<'_>, &str)>
+    ensures { MatchOption result (in_quotes [] text.now ≡ None) (λ p. (in_quotes [] text.now ≡ with_word (word_in p.0) (words_of p.1.now)) × (length p.1.now < length text.now)) }
+{
+    let Some((word, after)) = text.split_once('"') else {
+        return None;
+    };
+    if after.is_empty() {
+        return Some((Word::Quoted(word), after));
+    }
+    match after.strip_prefix(' ') {
+        Some(after) => Some((Word::Quoted(word), after)),
+        None => None,
+    }
+}
+
+/// The first word of a text that begins with one, and what follows the word; nothing where a quote stands wrong.
+fn split_word(text: &str) -> Option<(Word<'_>, &str)>
+    requires { BeginsWord text.now }
+    ensures { MatchOption result (words_of text.now ≡ None) (λ p. (words_of text.now ≡ with_word (word_in p.0) (words_of p.1.now)) × (length p.1.now < length text.now)) }
+{
+    match text.strip_prefix('"') {
+        Some(text) => split_quoted(text),
+        None => Some(split_plain(text)),
+    }
+}
+
+/// The words; nothing where a quote stands wrong. Refused only for want of memory.
+pub fn words(alloc: Global, line: &str) -> Result<Option<Vec<Word<'_>>>, AllocError>
+    ensures { IfOk result (λ words. option_map (λ ws. map word_in ws.items) words ≡ words_of line.now) }
+{
+    let mut words = Vec::new(alloc);
+    let mut rest = without_spaces(line);
+    while !rest.is_empty() {
+        let Some((word, after)) = split_word(rest) else {
+            return Ok(None);
+        };
+        words.push(word)?;
+        rest = without_spaces(after);
+    }
+    Ok(Some(words))
+}

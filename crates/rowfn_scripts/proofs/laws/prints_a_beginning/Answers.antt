@@ -1,0 +1,5 @@
+use Rattle.rowfn_scripts.proofs.Telling.{prints_a_beginning}
+use Rattle.rowfn_scripts.proofs.laws.prints_a_beginning.Goals as goal
+
+pub returns : goal.returns
+returns g c = prints_a_beginning g.C.ScalarFnVTable.meaning

@@ -1,0 +1,44 @@
+-- The trees of a session fit its columns, so where `run` refuses, a row faults; and each has a text, which `show` prints.
+use Rattle.std.specs.Prelude.{◌≡◌, ℕ, List, [], ◌∷◌, Option, Some, None, ⊤}
+use Rattle.vortex_types.specs.declared.error.VortexError.{VortexError}
+use Rattle.vortex_columns.specs.ColumnView.{ColumnView}
+use Rattle.vortex_meaning.specs.Meaning.{Meaning}
+use Rattle.vortex_meaning.specs.Trees.{Tree}
+use Rattle.vortex_meaning.specs.Printing.{tree_text}
+use Rattle.vortex_meaning.specs.Eval.{IsFirstFault}
+use Rattle.vortex_meaning.specs.Execution.{LeavesFit, other_length}
+use Rattle.rowfn_lines.specs.Commands.{run}
+use Rattle.rowfn_scripts.specs.Sessions.{SessionView, refuses, StepsTo}
+use Rattle.rowfn_scripts.specs.Scripts.{Reaches}
+
+-- no column before the row count is said, and then each has it
+abbrev pub Counted : Option ℕ → List ColumnView → Type 0
+Counted None cs = cs ≡ []
+Counted (Some n) cs = other_length n cs ≡ None
+
+abbrev pub AllFit : {V O : Type 0} → List ColumnView → List (Tree V O) → Type 0
+AllFit cs [] = ⊤
+AllFit cs (t ∷ ts) = LeavesFit cs t × AllFit cs ts
+
+-- the tree has a text: no caller's function stands in it
+abbrev pub HasText : {V O : Type 0} → Tree V O → Type 0
+HasText t = (text : List ℕ) × (tree_text t ≡ Some text)
+
+abbrev pub AllShown : {V O : Type 0} → List (Tree V O) → Type 0
+AllShown [] = ⊤
+AllShown (t ∷ ts) = HasText t × AllShown ts
+
+pub record Fits {V O : Type 0} (s : SessionView V O) : Type 0 where
+  pub counted : Counted s.row_count s.columns
+  pub fit : AllFit s.columns s.stack
+  pub shown : AllShown s.stack
+
+-- in a session that lines reach, `run` is refused with the first fault of the last tree, and never for its leaves or lengths
+abbrev pub RefusesFaultsAlone : {V O : Type 0} → Meaning V O → Type 0
+RefusesFaultsAlone {V} {O} m =
+    (lines : List (List ℕ)) (read n : ℕ) (s : SessionView V O) (t : Tree V O) (stack : List (Tree V O)) (e : VortexError) → Reaches m lines read s → s.row_count ≡ Some n → s.stack ≡ t ∷ stack → StepsTo m run s (refuses e) → IsFirstFault m s.columns n t e
+
+-- in a session that lines reach, each tree has a text, so `show` prints it
+abbrev pub TreesHaveTexts : {V O : Type 0} → Meaning V O → Type 0
+TreesHaveTexts {V} {O} m =
+    (lines : List (List ℕ)) (read : ℕ) (s : SessionView V O) → Reaches m lines read s → AllShown s.stack

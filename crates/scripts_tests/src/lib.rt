@@ -1,0 +1,11 @@
+//! Tests of scripts: what they print, and how they end.
+#![tactic(auto)]
+
+#[cfg(test)]
+mod cells;
+#[cfg(test)]
+mod endings;
+#[cfg(test)]
+mod lines;
+#[cfg(test)]
+mod trees;

@@ -1,4 +1,0 @@
--- De Morgan's laws, for the search.
-use Rattle.vortex_kernels.specs.Kleene.{and-or, or-and}
-
-pub ruleset duals = (and-or, or-and)

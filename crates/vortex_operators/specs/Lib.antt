@@ -1,0 +1,4 @@
+pub mod Operators
+pub mod Kleene
+pub mod OperatorValues
+pub mod ComparisonLaws

@@ -1,0 +1,34 @@
+-- What an operator says of two values: And, Or and Not by Kleene's tables, comparisons by the order of values.
+use Rattle.std.specs.Prelude.{◌||◌, Bool, if◌then◌else◌}
+use Rattle.std.specs.declared.cmp.Ordering.{Ordering}
+use Rattle.std.specs.Ordering.{is_eq, is_ne, is_lt, is_le, is_gt, is_ge}
+use Rattle.vortex_types.specs.LogicalTypes.{LogicalType, bool_type, is_nullable}
+use Rattle.vortex_types.specs.Values.{Value, null, truth, is_null, truth_of, truth_or_null}
+use Rattle.vortex_types.specs.Order.{compare_values}
+use Rattle.vortex_operators.specs.declared.operators.Operator.{Operator}
+use Rattle.vortex_operators.specs.declared.operators.CompareOperator.{CompareOperator}
+use Rattle.vortex_operators.specs.declared.operators.CompareOperator.TheVariants.{Eq, NotEq, Gt, Gte, Lt, Lte}
+use Rattle.vortex_operators.specs.Kleene.{kleene, kleene_not}
+
+abbrev pub boolean_value : Operator → Value → Value → Value
+boolean_value op v w = truth_or_null (kleene op (truth_of v) (truth_of w))
+
+abbrev pub not_value : Value → Value
+not_value v = truth_or_null (kleene_not (truth_of v))
+
+-- which orders of left and right the comparison says yes to
+abbrev pub holds : CompareOperator → Ordering → Bool
+holds Eq = is_eq
+holds NotEq = is_ne
+holds Gt = is_gt
+holds Gte = is_ge
+holds Lt = is_lt
+holds Lte = is_le
+
+-- null exactly where a top value is null; a null within a value is a value as others are
+abbrev pub comparison_value : CompareOperator → Value → Value → Value
+comparison_value op v w = if is_null v || is_null w then null else truth (holds op (compare_values v w))
+
+-- Bool, nullable if either side is
+abbrev pub comparison_type : LogicalType → LogicalType → LogicalType
+comparison_type t u = bool_type (is_nullable t || is_nullable u)
