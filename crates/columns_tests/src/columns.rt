@@ -1,61 +1,87 @@
 //! Columns as their makers make and refuse them.
 
-use fixtures::{copied, has_rows, is_refused, names, nullable_bools, numbers, yes};
+use fixtures::{Made, copied, has_rows, is_refused, kept, names, nullable_bools, numbers, yes};
 use std::alloc::Global;
 use vortex_columns::{BitBuffer, Column, Validity, VortexResult};
 
+/// Two integers, as an element of others.
+fn integers(alloc: Global, values: &[i32]) -> VortexResult<Column> {
+    Column::try_primitive(values.to_vec(alloc)?, Validity::NonNullable)
+}
+
+fn two_pairs(alloc: Global) -> VortexResult<Vec<Column>> {
+    let mut columns = Vec::new(alloc);
+    columns.push(integers(alloc, &[5, 6])?)?;
+    columns.push(integers(alloc, &[5, 6])?)?;
+    Ok(columns)
+}
+
 /// Two integers.
-pub fn pair(alloc: Global) -> VortexResult<Column> {
+pub fn pair(alloc: Global) -> Made {
     numbers(alloc, &[5i32, 6])
 }
 
 /// One byte string, under a null.
-pub fn byte_lists(alloc: Global) -> VortexResult<Column> {
+pub fn byte_lists(alloc: Global) -> Made {
     let mut values = Vec::new(alloc);
     values.push(Vec::from_array(alloc, [255u8])?)?;
-    Column::try_binary(values, Validity::AllInvalid)
+    kept(alloc, Column::try_binary(values, Validity::AllInvalid))
 }
 
 /// Structs of two fields of integers.
-pub fn records(alloc: Global, first: &str, second: &str, len: usize) -> VortexResult<Column> {
-    let mut fields = Vec::new(alloc);
-    fields.push(pair(alloc)?)?;
-    fields.push(pair(alloc)?)?;
+pub fn records(alloc: Global, first: &str, second: &str, len: usize) -> Made {
     let words = names(alloc, &[first, second])?;
-    Column::try_struct(alloc, words, fields, len, Validity::NonNullable)
+    let fields = two_pairs(alloc)?;
+    kept(
+        alloc,
+        Column::try_struct(alloc, words, fields, len, Validity::NonNullable),
+    )
 }
 
 /// Two lists over two integers.
-pub fn lists(alloc: Global, offsets: [usize; 2], sizes: [usize; 2]) -> VortexResult<Column> {
+pub fn lists(alloc: Global, offsets: [usize; 2], sizes: [usize; 2]) -> Made {
     let offsets = Vec::from_array(alloc, offsets)?;
     let sizes = Vec::from_array(alloc, sizes)?;
-    Column::try_list(alloc, pair(alloc)?, offsets, sizes, Validity::NonNullable)
+    let elements = integers(alloc, &[5, 6])?;
+    kept(
+        alloc,
+        Column::try_list(alloc, elements, offsets, sizes, Validity::NonNullable),
+    )
 }
 
 /// Two lists of one integer each.
-pub fn fixed(alloc: Global) -> VortexResult<Column> {
-    Column::try_fixed_size_list(alloc, pair(alloc)?, 1, 2, Validity::AllValid)
+pub fn fixed(alloc: Global) -> Made {
+    let elements = integers(alloc, &[5, 6])?;
+    kept(
+        alloc,
+        Column::try_fixed_size_list(alloc, elements, 1, 2, Validity::AllValid),
+    )
 }
 
 /// A map of the second key and value, and one of none.
-pub fn maps(alloc: Global, values: &[i32]) -> VortexResult<Column> {
+pub fn maps(alloc: Global, values: &[i32]) -> Made {
     let offsets = Vec::from_array(alloc, [1, 0])?;
     let sizes = Vec::from_array(alloc, [1, 0])?;
-    let keys = pair(alloc)?;
-    let values = numbers(alloc, values)?;
-    Column::try_map(alloc, keys, values, offsets, sizes, Validity::NonNullable)
+    let keys = integers(alloc, &[5, 6])?;
+    let values = integers(alloc, values)?;
+    kept(
+        alloc,
+        Column::try_map(alloc, keys, values, offsets, sizes, Validity::NonNullable),
+    )
 }
 
 /// Two integers beside a validity of one row.
-fn unevenly_valid(alloc: Global) -> VortexResult<Column> {
+fn unevenly_valid(alloc: Global) -> Made {
     let valid = Validity::Array(BitBuffer::from_bools(alloc, &[true])?);
-    Column::try_primitive(Vec::from_array(alloc, [5i32, 6])?, valid)
+    let values = Vec::from_array(alloc, [5i32, 6])?;
+    kept(alloc, Column::try_primitive(values, valid))
 }
 
 /// Two truth values beside a validity of one row.
-fn unevenly_valid_bits(alloc: Global) -> VortexResult<Column> {
+fn unevenly_valid_bits(alloc: Global) -> Made {
     let valid = Validity::Array(BitBuffer::from_bools(alloc, &[true])?);
-    Column::try_bool(BitBuffer::from_bools(alloc, &[true, true])?, valid)
+    let bits = BitBuffer::from_bools(alloc, &[true, true])?;
+    kept(alloc, Column::try_bool(bits, valid))
 }
 
 #[test]
@@ -70,9 +96,13 @@ fn invalid_columns_are_refused(rt: HostRuntime) {
 }
 
 /// No elements, as lists whose sizes add up to more than usize holds.
-fn past_usize(alloc: Global) -> VortexResult<Column> {
+fn past_usize(alloc: Global) -> Made {
     let (size, len) = (4294967295, 4294967298);
-    Column::try_fixed_size_list(alloc, Column::null(0), size, len, Validity::AllValid)
+    let none = Column::null(0);
+    kept(
+        alloc,
+        Column::try_fixed_size_list(alloc, none, size, len, Validity::AllValid),
+    )
 }
 
 #[test]
@@ -86,10 +116,10 @@ fn are_valid(column: &Column, wanted: (bool, bool, bool)) -> bool {
 }
 
 /// Whether a column of nullable Bool tells which of its three rows are valid.
-fn tells_validity(column: VortexResult<Column>, wanted: (bool, bool, bool)) -> VortexResult<bool> {
+fn tells_validity(column: Made, wanted: (bool, bool, bool)) -> VortexResult<bool> {
     let column = column?;
     let dtype = column.dtype();
-    Ok(dtype.is_boolean() && dtype.is_nullable() && are_valid(&column, wanted))
+    Ok(dtype.is_boolean() && dtype.is_nullable() && are_valid(&*column, wanted))
 }
 
 /// Whether three bits are lent, and a bit for each of three rows that are valid or not.
@@ -100,8 +130,8 @@ fn are_lent(column: &Column) -> bool {
     }
 }
 
-fn lends_bits(column: VortexResult<Column>) -> VortexResult<bool> {
-    Ok(are_lent(&column?))
+fn lends_bits(column: Made) -> VortexResult<bool> {
+    Ok(are_lent(&*column?))
 }
 
 /// Whether the form of a validity is a list of three rows.
@@ -112,8 +142,8 @@ fn is_listed(alloc: Global, column: &Column) -> VortexResult<bool> {
     })
 }
 
-fn lists_validity(alloc: Global, column: VortexResult<Column>) -> VortexResult<bool> {
-    is_listed(alloc, &column?)
+fn lists_validity(alloc: Global, column: Made) -> VortexResult<bool> {
+    is_listed(alloc, &*column?)
 }
 
 #[test]

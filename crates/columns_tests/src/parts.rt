@@ -2,7 +2,7 @@
 
 use crate::columns::{byte_lists, fixed, lists, maps, pair, records};
 use crate::values::{entry, list};
-use fixtures::{constant, texts, yes};
+use fixtures::{Made, constant, kept, texts, yes};
 use std::alloc::Global;
 use std::cmp::Ordering;
 use vortex_columns::{Column, PType, ScalarValue, Validity, VortexResult, cell_of};
@@ -46,13 +46,14 @@ fn rows_read(alloc: Global, copy: &Column, column: &Column) -> VortexResult<bool
 
 /// Whether a copy of the column reads as it does.
 fn copy_reads(alloc: Global, column: &Column) -> VortexResult<bool> {
-    rows_read(alloc, &column.try_clone(alloc)?, column)
+    let copy = kept(alloc, column.try_clone(alloc))?;
+    rows_read(alloc, &*copy, column)
 }
 
 /// Whether the column's copy reads as it does, and it lends these parts alone.
-fn lends(alloc: Global, column: VortexResult<Column>, wanted: [bool; 7]) -> VortexResult<bool> {
+fn lends(alloc: Global, column: Made, wanted: [bool; 7]) -> VortexResult<bool> {
     let column = column?;
-    Ok(parts(&column) == wanted && copy_reads(alloc, &column)?)
+    Ok(parts(&*column) == wanted && copy_reads(alloc, &*column)?)
 }
 
 const NONE: [bool; 7] = [false; 7];
@@ -69,14 +70,18 @@ const FIXED: [bool; 7] = [false, false, false, false, false, true, false];
 
 const MAPS: [bool; 7] = [false, false, false, false, false, false, true];
 
-fn two_texts(alloc: Global) -> VortexResult<Column> {
+fn nulls(alloc: Global) -> Made {
+    kept(alloc, Ok(Column::null(2)))
+}
+
+fn two_texts(alloc: Global) -> Made {
     texts(alloc, &["a", "b"], Validity::AllValid)
 }
 
 #[test]
 fn null_and_constants_lend_no_part(rt: HostRuntime) {
     let alloc = rt.alloc();
-    assert!(rt; yes(lends(alloc, Ok(Column::null(2)), NONE)));
+    assert!(rt; yes(lends(alloc, nulls(alloc), NONE)));
     assert!(rt; yes(lends(alloc, constant(alloc, PType::I32, 1, 2), NONE)));
 }
 
@@ -98,7 +103,7 @@ fn nested_columns_lend_their_parts(rt: HostRuntime) {
 }
 
 /// Whether a column is a constant one.
-fn is_constant(column: VortexResult<Column>) -> VortexResult<bool> {
+fn is_constant(column: Made) -> VortexResult<bool> {
     Ok(column?.as_constant().is_some())
 }
 
@@ -106,7 +111,7 @@ fn is_constant(column: VortexResult<Column>) -> VortexResult<bool> {
 fn constants_alone_are_constants(rt: HostRuntime) {
     let alloc = rt.alloc();
     assert!(rt; yes(is_constant(constant(alloc, PType::I32, 1, 2))));
-    assert!(rt; !yes(is_constant(Ok(Column::null(2)))));
+    assert!(rt; !yes(is_constant(nulls(alloc))));
     assert!(rt; !yes(is_constant(pair(alloc))));
 }
 
@@ -119,8 +124,8 @@ fn lends_integers(column: &Column, wanted: &[i32]) -> bool {
     same && column.ints::<u64>().is_none()
 }
 
-fn integers_are(column: VortexResult<Column>, wanted: &[i32]) -> VortexResult<bool> {
-    Ok(lends_integers(&column?, wanted))
+fn integers_are(column: Made, wanted: &[i32]) -> VortexResult<bool> {
+    Ok(lends_integers(&*column?, wanted))
 }
 
 #[test]
@@ -142,8 +147,8 @@ fn lends_second(column: &Column, wanted: &[u8]) -> bool {
     }
 }
 
-fn second_text_is(column: VortexResult<Column>, wanted: &str) -> VortexResult<bool> {
-    Ok(lends_second(&column?, wanted.as_bytes()))
+fn second_text_is(column: Made, wanted: &str) -> VortexResult<bool> {
+    Ok(lends_second(&*column?, wanted.as_bytes()))
 }
 
 #[test]
@@ -153,7 +158,7 @@ fn texts_are_lent(rt: HostRuntime) {
 }
 
 /// Whether there is a field at 1, and none at 2.
-fn has_two_fields(column: VortexResult<Column>) -> VortexResult<bool> {
+fn has_two_fields(column: Made) -> VortexResult<bool> {
     let column = column?;
     Ok(column.field(1).is_some() && column.field(2).is_none())
 }
@@ -169,13 +174,13 @@ fn stands(column: &Column, i: usize, order: Ordering, value: &ScalarValue) -> bo
 }
 
 fn row_stands(
-    column: VortexResult<Column>,
+    column: Made,
     i: usize,
     order: Ordering,
     value: VortexResult<ScalarValue>,
 ) -> VortexResult<bool> {
     let value = value?;
-    Ok(stands(&column?, i, order, &value))
+    Ok(stands(&*column?, i, order, &value))
 }
 
 #[test]

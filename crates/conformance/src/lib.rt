@@ -1,6 +1,17 @@
-//! Tests that cross crates, and a caller's function for them.
+//! Tests that cross crates, and callers' functions for them.
 #![tactic(auto)]
 
+#[cfg(test)]
+mod binding;
+#[cfg(test)]
+mod functions;
+pub mod levelled;
+#[cfg(test)]
+mod literals;
+#[cfg(test)]
+mod makers;
 pub mod must_be_true;
 #[cfg(test)]
-mod tests;
+mod texts;
+#[cfg(test)]
+mod trees;

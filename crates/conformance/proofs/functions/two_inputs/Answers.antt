@@ -1,6 +1,6 @@
 use Rattle.std.proofs.Common.{refl}
 use Rattle.conformance.proofs.Faults.{two_rows}
-use Rattle.conformance.proofs.tests.two_inputs.Goals as goal
+use Rattle.conformance.proofs.functions.two_inputs.Goals as goal
 
 pub new-requires : goal.new-requires
 new-requires c =

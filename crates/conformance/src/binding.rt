@@ -1,0 +1,58 @@
+//! What is refused when a tree is bound.
+
+use crate::makers::*;
+use fixtures::is_refused;
+use std::alloc::Global;
+use vortex_row_fn::*;
+
+/// Whether a count of children is refused, for that arity.
+fn is_misfit<T: Drop>(answer: VortexResult<T>, wanted: Arity, count: usize) -> bool {
+    match answer {
+        Err(VortexError::ArityMismatch { arity, given }) => arity == wanted && given == count,
+        _ => false,
+    }
+}
+
+/// The sum of so many leaves of Bool.
+fn sum_of_truths<C: ScalarFnVTable>(alloc: Global, count: usize) -> Tree<C> {
+    call_of_leaves(alloc, Binary.bind(Operator::Add), count)
+}
+
+/// An equality of a column of nullable u16 and a null text.
+fn number_is_text<C: ScalarFnVTable>(alloc: Global) -> Tree<C> {
+    between(
+        alloc,
+        leaf_of(alloc, DType::Primitive(PType::U16, YES)),
+        Operator::Eq,
+        literal(alloc, Ok(Scalar::null(DType::Utf8(YES)))),
+    )
+}
+
+#[test]
+fn arity_is_refused_before_types(rt: HostRuntime) {
+    let alloc = rt.alloc();
+    assert!(rt; is_misfit(sum_of_truths::<NoCustom>(alloc, 3), Arity::Exact(2), 3));
+}
+
+#[test]
+fn types_of_arithmetic_are_refused(rt: HostRuntime) {
+    let alloc = rt.alloc();
+    assert!(rt;
+        is_refused(
+            sum_of_truths::<NoCustom>(alloc, 2),
+            "TypeMismatch.Arithmetic"
+        )
+    );
+}
+
+#[test]
+fn a_comparison_of_other_types_is_refused(rt: HostRuntime) {
+    let alloc = rt.alloc();
+    assert!(rt; is_refused(number_is_text::<NoCustom>(alloc), "TypeMismatch.Compare"));
+}
+
+#[test]
+fn an_unknown_column_is_refused(rt: HostRuntime) {
+    let alloc = rt.alloc();
+    assert!(rt; is_refused(leaf::<NoCustom>(alloc, "c"), "ScopeMismatch"));
+}

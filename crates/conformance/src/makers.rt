@@ -1,0 +1,140 @@
+//! Trees and their columns by their parts, and questions to trees. Each function over trees stays generic in the caller's
+//! functions; the tests pick the one they run.
+
+use fixtures::{Made, fields, names, rows_of};
+use std::alloc::Global;
+use vortex_row_fn::*;
+
+pub const YES: Nullability = Nullability::Nullable;
+
+pub const NO: Nullability = Nullability::NonNullable;
+
+/// A tree on the heap, or why it could not be made.
+pub type Tree<C> = VortexResult<Box<BoundExpression<C>>>;
+
+/// A tree, put on the heap.
+fn planted<C: ScalarFnVTable>(alloc: Global, tree: VortexResult<BoundExpression<C>>) -> Tree<C> {
+    Ok(Box::new(alloc, tree?)?)
+}
+
+/// Columns `a` and `b` of nullable Bool.
+pub fn scope(alloc: Global) -> VortexResult<StructFields> {
+    fields(alloc, ("a", "b"), (DType::Bool(YES), DType::Bool(YES)))
+}
+
+/// The leaf of the column of that name.
+pub fn leaf<C: ScalarFnVTable>(alloc: Global, name: &str) -> Tree<C> {
+    let scope = scope(alloc)?;
+    planted(alloc, BoundExpression::column(alloc, &scope, name))
+}
+
+/// The leaf of column `a` of that type, alone in its scope.
+pub fn leaf_of<C: ScalarFnVTable>(alloc: Global, dtype: DType) -> Tree<C> {
+    let mut dtypes = Vec::new(alloc);
+    dtypes.push(dtype)?;
+    let scope = StructFields::try_new(alloc, names(alloc, &["a"])?, dtypes)?;
+    planted(alloc, BoundExpression::column(alloc, &scope, "a"))
+}
+
+/// The leaf of a scalar.
+pub fn literal<C: ScalarFnVTable>(alloc: Global, scalar: VortexResult<Scalar>) -> Tree<C> {
+    planted(alloc, Ok(BoundExpression::lit(alloc, scalar?)))
+}
+
+/// A call of one child.
+pub fn call_of_one<C: ScalarFnVTable>(
+    alloc: Global,
+    function: ScalarFnRef<C>,
+    child: Tree<C>,
+) -> Tree<C> {
+    let mut children = Vec::new(alloc);
+    children.push(Box::into_inner(child?))?;
+    planted(alloc, BoundExpression::try_new(alloc, function, children))
+}
+
+/// Not of a tree.
+pub fn not_of<C: ScalarFnVTable>(alloc: Global, child: Tree<C>) -> Tree<C> {
+    let mut children = Vec::new(alloc);
+    children.push(Box::into_inner(child?))?;
+    planted(alloc, Not.try_new_bound_expr(alloc, EmptyOptions, children))
+}
+
+/// An operator between two trees.
+pub fn between<C: ScalarFnVTable>(
+    alloc: Global,
+    left: Tree<C>,
+    operator: Operator,
+    right: Tree<C>,
+) -> Tree<C> {
+    let mut children = Vec::new(alloc);
+    children.push(Box::into_inner(left?))?;
+    children.push(Box::into_inner(right?))?;
+    planted(alloc, Binary.try_new_bound_expr(alloc, operator, children))
+}
+
+/// And of true and column `b`.
+pub fn true_and_b<C: ScalarFnVTable>(alloc: Global) -> Tree<C> {
+    between(
+        alloc,
+        literal(alloc, Ok(Scalar::from(true))),
+        Operator::And,
+        leaf(alloc, "b"),
+    )
+}
+
+/// A call over the first so many of the leaves `a`, `b`, `a`.
+pub fn call_of_leaves<C: ScalarFnVTable>(
+    alloc: Global,
+    function: ScalarFnRef<C>,
+    count: usize,
+) -> Tree<C> {
+    let mut children = Vec::new(alloc);
+    for i in 0..count {
+        let name = if i % 2 == 0 { "a" } else { "b" };
+        children.push(Box::into_inner(leaf(alloc, name)?))?;
+    }
+    planted(alloc, BoundExpression::try_new(alloc, function, children))
+}
+
+/// A copy of a tree.
+pub fn copied<C: ScalarFnVTable>(alloc: Global, tree: Tree<C>) -> Tree<C> {
+    planted(alloc, tree?.try_clone(alloc))
+}
+
+/// One column.
+pub fn one_column(alloc: Global, only: Made) -> VortexResult<Vec<Column>> {
+    let mut columns = Vec::new(alloc);
+    columns.push(Box::into_inner(only?))?;
+    Ok(columns)
+}
+
+/// Two columns.
+pub fn two_columns(alloc: Global, first: Made, second: Made) -> VortexResult<Vec<Column>> {
+    let mut columns = Vec::new(alloc);
+    columns.push(Box::into_inner(first?))?;
+    columns.push(Box::into_inner(second?))?;
+    Ok(columns)
+}
+
+/// The rows of Bool that a tree answers over so many rows of those columns.
+pub fn executed<C: ScalarFnVTable>(
+    alloc: Global,
+    tree: Tree<C>,
+    columns: VortexResult<Vec<Column>>,
+    row_count: usize,
+) -> VortexResult<Vec<Option<bool>>> {
+    let (tree, columns) = (tree?, columns?);
+    let mut ctx = ExecutionCtx::new(alloc);
+    let answer = Box::new(alloc, tree.execute(&columns, row_count, &mut ctx)?)?;
+    rows_of(alloc, &**answer)
+}
+
+/// Whether a tree answers these rows over those columns.
+pub fn answers<C: ScalarFnVTable>(
+    alloc: Global,
+    tree: Tree<C>,
+    columns: VortexResult<Vec<Column>>,
+    wanted: &[Option<bool>],
+) -> VortexResult<bool> {
+    Ok(executed(alloc, tree, columns, wanted.len())?.as_slice() == wanted)
+}

@@ -1,0 +1,338 @@
+//! Execution of trees.
+
+use crate::makers::*;
+use crate::must_be_true::MustBeTrue;
+use fixtures::{Made, bools, is_refused, is_uneven, kept, nullable_bools, yes};
+use std::alloc::Global;
+use std::borrow::Cow;
+use vortex_row_fn::*;
+
+const KLEENE_LEFT: [Option<bool>; 9] = [
+    Some(true),
+    Some(true),
+    Some(true),
+    Some(false),
+    Some(false),
+    Some(false),
+    None,
+    None,
+    None,
+];
+
+const KLEENE_RIGHT: [Option<bool>; 9] = [
+    Some(true),
+    Some(false),
+    None,
+    Some(true),
+    Some(false),
+    None,
+    Some(true),
+    Some(false),
+    None,
+];
+
+/// Each pair of true, false and null, as columns `a` and `b`.
+fn kleene_columns(alloc: Global) -> VortexResult<Vec<Column>> {
+    two_columns(
+        alloc,
+        nullable_bools(alloc, &KLEENE_LEFT),
+        nullable_bools(alloc, &KLEENE_RIGHT),
+    )
+}
+
+/// The same nullable Bool in columns `a` and `b`.
+fn twice(alloc: Global, rows: &[Option<bool>]) -> VortexResult<Vec<Column>> {
+    two_columns(
+        alloc,
+        nullable_bools(alloc, rows),
+        nullable_bools(alloc, rows),
+    )
+}
+
+/// An operator between columns `a` and `b`.
+fn over_both<C: ScalarFnVTable>(alloc: Global, operator: Operator) -> Tree<C> {
+    call_of_leaves(alloc, Binary.bind(operator), 2)
+}
+
+/// The caller's function that faults at false, over column `a`.
+fn must_be_true(alloc: Global) -> Tree<MustBeTrue> {
+    call_of_leaves(alloc, ScalarFnRef::custom(MustBeTrue, EmptyOptions), 1)
+}
+
+/// The function that stands where a caller has none, without arguments.
+fn none(alloc: Global) -> Tree<NoCustom> {
+    call_of_leaves(alloc, ScalarFnRef::custom(NoCustom, EmptyOptions), 0)
+}
+
+/// Whether a caller's function faults with that number.
+fn is_fault<T: Drop>(answer: VortexResult<T>, wanted: u64) -> bool {
+    match answer {
+        Err(VortexError::Custom(number)) => number == wanted,
+        _ => false,
+    }
+}
+
+/// Whether a tree answers a lent column of so many rows.
+fn is_lent<C: ScalarFnVTable>(
+    alloc: Global,
+    tree: Tree<C>,
+    columns: VortexResult<Vec<Column>>,
+    row_count: usize,
+) -> VortexResult<bool> {
+    let (tree, columns) = (tree?, columns?);
+    let mut ctx = ExecutionCtx::new(alloc);
+    match tree.execute(&columns, row_count, &mut ctx)? {
+        Cow::Borrowed(column) => Ok(column.len() == row_count),
+        Cow::Owned(_) => Ok(false),
+    }
+}
+
+/// 4, 5, 6 and null.
+fn four_to_six(alloc: Global) -> Made {
+    let values = vec![in alloc; 4u16, 5, 6, 0]?;
+    let valid = BitBuffer::from_bools(alloc, &[true, true, true, false])?;
+    kept(alloc, Column::try_primitive(values, Validity::Array(valid)))
+}
+
+/// `a < 5` over a column `a` of nullable u16.
+fn below_five<C: ScalarFnVTable>(alloc: Global) -> Tree<C> {
+    between(
+        alloc,
+        leaf_of(alloc, DType::Primitive(PType::U16, YES)),
+        Operator::Lt,
+        literal(alloc, Ok(Scalar::from(5u16))),
+    )
+}
+
+/// An operator between a null of Bool and column `a`.
+fn beside_null<C: ScalarFnVTable>(alloc: Global, operator: Operator) -> Tree<C> {
+    between(
+        alloc,
+        literal(alloc, Ok(Scalar::null(DType::Bool(YES)))),
+        operator,
+        leaf(alloc, "a"),
+    )
+}
+
+#[test]
+fn and_follows_kleenes_table(rt: HostRuntime) {
+    let alloc = rt.alloc();
+    assert!(rt;
+        yes(answers::<NoCustom>(
+            alloc,
+            copied(alloc, over_both(alloc, Operator::And)),
+            kleene_columns(alloc),
+            &[
+                Some(true),
+                Some(false),
+                None,
+                Some(false),
+                Some(false),
+                Some(false),
+                None,
+                Some(false),
+                None,
+            ],
+        ))
+    );
+}
+
+#[test]
+fn or_follows_kleenes_table(rt: HostRuntime) {
+    let alloc = rt.alloc();
+    assert!(rt;
+        yes(answers::<NoCustom>(
+            alloc,
+            copied(alloc, over_both(alloc, Operator::Or)),
+            kleene_columns(alloc),
+            &[
+                Some(true),
+                Some(true),
+                Some(true),
+                Some(true),
+                Some(false),
+                None,
+                Some(true),
+                None,
+                None,
+            ],
+        ))
+    );
+}
+
+#[test]
+fn not_of_and_follows_kleenes_table(rt: HostRuntime) {
+    let alloc = rt.alloc();
+    assert!(rt;
+        yes(answers::<NoCustom>(
+            alloc,
+            not_of(alloc, over_both(alloc, Operator::And)),
+            kleene_columns(alloc),
+            &[
+                Some(false),
+                Some(true),
+                None,
+                Some(true),
+                Some(true),
+                Some(true),
+                None,
+                Some(true),
+                None,
+            ],
+        ))
+    );
+}
+
+#[test]
+fn lengths_are_compared_with_the_row_count(rt: HostRuntime) {
+    let alloc = rt.alloc();
+    assert!(rt;
+        is_uneven(
+            executed::<NoCustom>(
+                alloc,
+                over_both(alloc, Operator::And),
+                two_columns(
+                    alloc,
+                    nullable_bools(alloc, &[Some(true), Some(true)]),
+                    nullable_bools(alloc, &[Some(true), Some(true), Some(true)]),
+                ),
+                2,
+            ),
+            (2, 3),
+        )
+    );
+}
+
+#[test]
+fn a_callers_function_answers(rt: HostRuntime) {
+    let alloc = rt.alloc();
+    assert!(rt;
+        yes(answers::<MustBeTrue>(
+            alloc,
+            not_of(alloc, must_be_true(alloc)),
+            twice(alloc, &[Some(true), None]),
+            &[Some(false), None],
+        ))
+    );
+}
+
+#[test]
+fn a_callers_function_faults(rt: HostRuntime) {
+    let alloc = rt.alloc();
+    assert!(rt;
+        is_fault(
+            executed::<MustBeTrue>(
+                alloc,
+                not_of(alloc, must_be_true(alloc)),
+                twice(alloc, &[Some(true), Some(false)]),
+                2,
+            ),
+            1,
+        )
+    );
+}
+
+#[test]
+fn a_function_without_arguments_answers_every_row(rt: HostRuntime) {
+    let alloc = rt.alloc();
+    assert!(rt;
+        yes(answers::<NoCustom>(
+            alloc,
+            not_of(alloc, none(alloc)),
+            twice(alloc, &[Some(true), None]),
+            &[Some(true), Some(true)],
+        ))
+    );
+}
+
+#[test]
+fn a_lone_leaf_is_lent(rt: HostRuntime) {
+    let alloc = rt.alloc();
+    assert!(rt;
+        yes(is_lent::<NoCustom>(
+            alloc,
+            leaf(alloc, "b"),
+            two_columns(
+                alloc,
+                nullable_bools(alloc, &[None]),
+                nullable_bools(alloc, &[Some(true)]),
+            ),
+            1,
+        ))
+    );
+}
+
+#[test]
+fn a_leaf_without_its_column_is_refused(rt: HostRuntime) {
+    let alloc = rt.alloc();
+    assert!(rt;
+        is_refused(
+            executed::<NoCustom>(
+                alloc,
+                leaf(alloc, "b"),
+                one_column(alloc, nullable_bools(alloc, &[None])),
+                1,
+            ),
+            "ScopeMismatch",
+        )
+    );
+}
+
+#[test]
+fn a_leaf_over_a_column_of_another_type_is_refused_before_lengths(rt: HostRuntime) {
+    let alloc = rt.alloc();
+    assert!(rt;
+        is_refused(
+            executed::<NoCustom>(
+                alloc,
+                leaf(alloc, "b"),
+                two_columns(
+                    alloc,
+                    nullable_bools(alloc, &[None]),
+                    bools(alloc, &[true]),
+                ),
+                2,
+            ),
+            "ScopeMismatch",
+        )
+    );
+}
+
+#[test]
+fn a_comparison_with_a_literal_executes(rt: HostRuntime) {
+    let alloc = rt.alloc();
+    assert!(rt;
+        yes(answers::<NoCustom>(
+            alloc,
+            below_five(alloc),
+            one_column(alloc, four_to_six(alloc)),
+            &[Some(true), Some(false), Some(false), None],
+        ))
+    );
+}
+
+#[test]
+fn and_with_a_null_literal_executes(rt: HostRuntime) {
+    let alloc = rt.alloc();
+    assert!(rt;
+        yes(answers::<NoCustom>(
+            alloc,
+            beside_null(alloc, Operator::And),
+            twice(alloc, &[Some(false), Some(true), None]),
+            &[Some(false), None, None],
+        ))
+    );
+}
+
+#[test]
+fn or_with_a_null_literal_executes(rt: HostRuntime) {
+    let alloc = rt.alloc();
+    assert!(rt;
+        yes(answers::<NoCustom>(
+            alloc,
+            beside_null(alloc, Operator::Or),
+            twice(alloc, &[Some(false), Some(true), None]),
+            &[None, Some(true), None],
+        ))
+    );
+}

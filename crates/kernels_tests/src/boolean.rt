@@ -1,0 +1,231 @@
+//! And, Or and Not by Kleene's tables, of each form in which a column of Bool lends its rows.
+
+use crate::questions::{
+    NO, NULL, NULLABLE, PLAIN, YES, combined, compared, has_rows, negated, says, says_or_null,
+};
+use fixtures::{Made, bools, kept, nullable_bools, yes};
+use std::alloc::Global;
+use vortex_columns::{BitBuffer, Column, DType, Nullability, Scalar, Validity, VortexResult};
+use vortex_kernels::{CompareOperator, Operator};
+
+const LEFT: [Option<bool>; 9] = [YES, YES, YES, NO, NO, NO, NULL, NULL, NULL];
+
+const RIGHT: [Option<bool>; 9] = [YES, NO, NULL, YES, NO, NULL, YES, NO, NULL];
+
+/// Each pair of Yes, No and null.
+fn table(alloc: Global, operator: Operator) -> Made {
+    combined(
+        alloc,
+        nullable_bools(alloc, &LEFT),
+        operator,
+        nullable_bools(alloc, &RIGHT),
+    )
+}
+
+#[test]
+fn follows_kleenes_tables(rt: HostRuntime) {
+    let alloc = rt.alloc();
+    let both = [YES, NO, NULL, NO, NO, NO, NULL, NO, NULL];
+    assert!(rt; yes(says_or_null(alloc, table(alloc, Operator::And), &both)));
+    let either = [YES, YES, YES, YES, NO, NULL, YES, NULL, NULL];
+    assert!(rt; yes(says_or_null(alloc, table(alloc, Operator::Or), &either)));
+    let not_both = [NO, YES, NULL, YES, YES, YES, NULL, YES, NULL];
+    assert!(rt;
+        yes(says_or_null(
+            alloc,
+            negated(alloc, table(alloc, Operator::And)),
+            &not_both
+        ))
+    );
+}
+
+/// Yes and No, beside a column of two rows.
+fn yes_and_no(alloc: Global, operator: Operator, right: Made) -> Made {
+    combined(alloc, bools(alloc, &[true, false]), operator, right)
+}
+
+#[test]
+fn is_nullable_if_a_side_is(rt: HostRuntime) {
+    let alloc = rt.alloc();
+    let both = yes_and_no(alloc, Operator::And, bools(alloc, &[true, true]));
+    assert!(rt; yes(says(alloc, both, &[true, false])));
+    let both = yes_and_no(alloc, Operator::And, bools(alloc, &[true, true]));
+    assert!(rt; yes(says(alloc, negated(alloc, both), &[false, true])));
+    let mixed = yes_and_no(alloc, Operator::Or, nullable_bools(alloc, &[NULL, NULL]));
+    assert!(rt; yes(says_or_null(alloc, mixed, &[YES, NULL])));
+}
+
+/// A form in which a column of Bool lends its rows.
+#[derive(Clone, Copy)]
+enum Form {
+    Plain,
+    AllValid,
+    Masked,
+    AllInvalid,
+    OneTruth,
+    OneNull,
+}
+
+const FORMS: [Form; 6] = [
+    Form::Plain,
+    Form::AllValid,
+    Form::Masked,
+    Form::AllInvalid,
+    Form::OneTruth,
+    Form::OneNull,
+];
+
+/// No and Yes.
+fn without_null(alloc: Global, validity: Validity) -> Made {
+    kept(
+        alloc,
+        Column::try_bool(BitBuffer::from_bools(alloc, &[false, true])?, validity),
+    )
+}
+
+fn null_truth() -> Scalar {
+    Scalar::null(DType::Bool(NULLABLE))
+}
+
+/// A column of a form.
+fn formed(alloc: Global, form: Form) -> Made {
+    match form {
+        Form::Plain => bools(alloc, &[true, false]),
+        Form::AllValid => without_null(alloc, Validity::AllValid),
+        Form::Masked => nullable_bools(alloc, &[NO, NULL]),
+        Form::AllInvalid => without_null(alloc, Validity::AllInvalid),
+        Form::OneTruth => kept(alloc, Column::constant(alloc, Scalar::from(true), 2)),
+        Form::OneNull => kept(alloc, Column::constant(alloc, null_truth(), 2)),
+    }
+}
+
+/// The rows of the column of a form.
+fn rows(form: Form) -> [Option<bool>; 2] {
+    match form {
+        Form::Plain => [YES, NO],
+        Form::AllValid => [NO, YES],
+        Form::Masked => [NO, NULL],
+        Form::AllInvalid => [NULL, NULL],
+        Form::OneTruth => [YES, YES],
+        Form::OneNull => [NULL, NULL],
+    }
+}
+
+/// The nullability of the column of a form.
+fn nullability(form: Form) -> Nullability {
+    match form {
+        Form::Plain | Form::OneTruth => PLAIN,
+        _ => NULLABLE,
+    }
+}
+
+/// And of two truth values.
+fn both(left: Option<bool>, right: Option<bool>) -> Option<bool> {
+    match (left, right) {
+        (Some(false), _) => NO,
+        (_, Some(false)) => NO,
+        (Some(true), Some(true)) => YES,
+        _ => NULL,
+    }
+}
+
+/// Not of a truth value.
+fn turned(value: Option<bool>) -> Option<bool> {
+    value.map(|b| !b)
+}
+
+/// Or of two truth values.
+fn either(left: Option<bool>, right: Option<bool>) -> Option<bool> {
+    turned(both(turned(left), turned(right)))
+}
+
+/// Whether And of two forms answers as Kleene's table does.
+fn ands(alloc: Global, left: Form, right: Form) -> VortexResult<bool> {
+    let ([a, b], [c, d]) = (rows(left), rows(right));
+    let answer = combined(
+        alloc,
+        formed(alloc, left),
+        Operator::And,
+        formed(alloc, right),
+    );
+    let nullability = nullability(left) | nullability(right);
+    has_rows(alloc, answer, nullability, &[both(a, c), both(b, d)])
+}
+
+/// Whether Or of two forms answers as Kleene's table does.
+fn ors(alloc: Global, left: Form, right: Form) -> VortexResult<bool> {
+    let ([a, b], [c, d]) = (rows(left), rows(right));
+    let answer = combined(
+        alloc,
+        formed(alloc, left),
+        Operator::Or,
+        formed(alloc, right),
+    );
+    let nullability = nullability(left) | nullability(right);
+    has_rows(alloc, answer, nullability, &[either(a, c), either(b, d)])
+}
+
+/// Whether a form answers beside each form as Kleene's tables do.
+fn answers_beside_each(alloc: Global, left: Form) -> bool {
+    for right in FORMS {
+        if !yes(ands(alloc, left, right)) || !yes(ors(alloc, left, right)) {
+            return false;
+        }
+    }
+    true
+}
+
+#[test]
+fn answers_each_pair_of_forms(rt: HostRuntime) {
+    let alloc = rt.alloc();
+    assert!(rt; answers_beside_each(alloc, Form::Plain));
+    assert!(rt; answers_beside_each(alloc, Form::AllValid));
+    assert!(rt; answers_beside_each(alloc, Form::Masked));
+    assert!(rt; answers_beside_each(alloc, Form::AllInvalid));
+    assert!(rt; answers_beside_each(alloc, Form::OneTruth));
+    assert!(rt; answers_beside_each(alloc, Form::OneNull));
+}
+
+/// Whether Not of a form answers each row turned, in a column of the same nullability.
+fn nots(alloc: Global, form: Form) -> VortexResult<bool> {
+    let [a, b] = rows(form);
+    let answer = negated(alloc, formed(alloc, form));
+    has_rows(alloc, answer, nullability(form), &[turned(a), turned(b)])
+}
+
+#[test]
+fn turns_each_form(rt: HostRuntime) {
+    let alloc = rt.alloc();
+    assert!(rt; yes(nots(alloc, Form::Plain)));
+    assert!(rt; yes(nots(alloc, Form::AllValid)));
+    assert!(rt; yes(nots(alloc, Form::Masked)));
+    assert!(rt; yes(nots(alloc, Form::AllInvalid)));
+    assert!(rt; yes(nots(alloc, Form::OneTruth)));
+    assert!(rt; yes(nots(alloc, Form::OneNull)));
+}
+
+/// No and Yes, both valid.
+fn all_valid(alloc: Global) -> Made {
+    without_null(alloc, Validity::AllValid)
+}
+
+/// Whether an answer is nullable, and lists no valid rows.
+fn lists_no_valid_rows(answer: Made) -> VortexResult<bool> {
+    let answer = answer?;
+    Ok(answer.valid_bits().is_none() && answer.dtype().nullability() == NULLABLE)
+}
+
+#[test]
+fn lists_no_valid_rows_where_none_is_null(rt: HostRuntime) {
+    let alloc = rt.alloc();
+    let and = combined(alloc, all_valid(alloc), Operator::And, all_valid(alloc));
+    assert!(rt; yes(lists_no_valid_rows(and)));
+    assert!(rt; yes(lists_no_valid_rows(negated(alloc, all_valid(alloc)))));
+    let equal = compared(
+        alloc,
+        all_valid(alloc),
+        CompareOperator::Eq,
+        all_valid(alloc),
+    );
+    assert!(rt; yes(lists_no_valid_rows(equal)));
+}

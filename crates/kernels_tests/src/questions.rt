@@ -1,0 +1,121 @@
+//! One call of a kernel each, and short questions to its answer.
+
+use fixtures::{Made, kept, rows_of, texts};
+use std::alloc::Global;
+use vortex_columns::{
+    BitBuffer, Column, DType, ExecutionCtx, Nullability, PType, Scalar, Validity, VortexError,
+    VortexResult,
+};
+use vortex_kernels::{CompareOperator, Operator, execute_boolean, execute_compare, execute_not};
+
+pub(crate) const YES: Option<bool> = Some(true);
+
+pub(crate) const NO: Option<bool> = Some(false);
+
+pub(crate) const NULL: Option<bool> = None;
+
+pub(crate) const PLAIN: Nullability = Nullability::NonNullable;
+
+pub(crate) const NULLABLE: Nullability = Nullability::Nullable;
+
+/// The six comparisons.
+pub(crate) const COMPARISONS: [CompareOperator; 6] = [
+    CompareOperator::Eq,
+    CompareOperator::NotEq,
+    CompareOperator::Gt,
+    CompareOperator::Gte,
+    CompareOperator::Lt,
+    CompareOperator::Lte,
+];
+
+/// The comparison of two columns.
+pub(crate) fn compared(alloc: Global, left: Made, operator: CompareOperator, right: Made) -> Made {
+    let (left, right) = (left?, right?);
+    kept(
+        alloc,
+        execute_compare(&*left, &*right, operator, &mut ExecutionCtx::new(alloc)),
+    )
+}
+
+/// And or Or of two columns, where they are of one length.
+fn combine(alloc: Global, left: &Column, operator: Operator, right: &Column) -> Made {
+    if left.len() != right.len() {
+        return Err(VortexError::InvalidColumn);
+    }
+    kept(
+        alloc,
+        execute_boolean(left, right, operator, &mut ExecutionCtx::new(alloc)),
+    )
+}
+
+/// And or Or of two columns of one length.
+pub(crate) fn combined(alloc: Global, left: Made, operator: Operator, right: Made) -> Made {
+    let (left, right) = (left?, right?);
+    combine(alloc, &*left, operator, &*right)
+}
+
+/// Not of a column of Bool.
+pub(crate) fn negated(alloc: Global, column: Made) -> Made {
+    let column = column?;
+    if !column.dtype().is_boolean() {
+        return Err(VortexError::InvalidColumn);
+    }
+    kept(alloc, execute_not(&*column, &mut ExecutionCtx::new(alloc)))
+}
+
+/// Whether an answer is these rows of Bool.
+pub(crate) fn has_rows(
+    alloc: Global,
+    answer: Made,
+    nullability: Nullability,
+    wanted: &[Option<bool>],
+) -> VortexResult<bool> {
+    let answer = answer?;
+    if !answer.dtype().is_boolean() || answer.dtype().nullability() != nullability {
+        return Ok(false);
+    }
+    Ok(rows_of(alloc, &*answer)?.as_slice() == wanted)
+}
+
+/// Whether an answer is these rows of non-nullable Bool.
+pub(crate) fn says(alloc: Global, answer: Made, wanted: &[bool]) -> VortexResult<bool> {
+    let mut rows = Vec::new(alloc);
+    for row in wanted {
+        rows.push(Some(*row))?;
+    }
+    has_rows(alloc, answer, PLAIN, &rows)
+}
+
+/// Whether an answer is these rows of nullable Bool.
+pub(crate) fn says_or_null(
+    alloc: Global,
+    answer: Made,
+    wanted: &[Option<bool>],
+) -> VortexResult<bool> {
+    has_rows(alloc, answer, NULLABLE, wanted)
+}
+
+/// The rows that are not null, as a list of bits.
+pub(crate) fn valid_rows(alloc: Global, valid: &[bool]) -> VortexResult<Validity> {
+    Ok(Validity::Array(BitBuffer::from_bools(alloc, valid)?))
+}
+
+/// A column of non-nullable texts.
+pub(crate) fn plain_texts(alloc: Global, words: &[&str]) -> Made {
+    texts(alloc, words, Validity::NonNullable)
+}
+
+/// A column of nullable texts, those where `valid` is false under nulls.
+pub(crate) fn nullable_texts(alloc: Global, words: &[&str], valid: &[bool]) -> Made {
+    texts(alloc, words, valid_rows(alloc, valid)?)
+}
+
+/// The null of i32.
+pub(crate) fn null_integer() -> VortexResult<Scalar> {
+    Ok(Scalar::null(DType::Primitive(PType::I32, NULLABLE)))
+}
+
+/// A scalar in each of so many rows.
+pub(crate) fn constant_of(alloc: Global, scalar: VortexResult<Scalar>, len: usize) -> Made {
+    kept(alloc, Column::constant(alloc, scalar?, len))
+}

@@ -1,0 +1,92 @@
+//! Comparisons of scalars.
+
+use crate::questions::{COMPARISONS, NO, NULL, NULLABLE, PLAIN, YES, null_integer};
+use fixtures::{is_refused, yes};
+use std::alloc::Global;
+use vortex_columns::{DType, Nullability, PType, Scalar, ScalarValue, VortexResult};
+use vortex_kernels::{CompareOperator, scalar_cmp};
+
+/// The comparison of two scalars.
+fn compared(
+    left: VortexResult<Scalar>,
+    operator: CompareOperator,
+    right: VortexResult<Scalar>,
+) -> VortexResult<Scalar> {
+    let (left, right) = (left?, right?);
+    scalar_cmp(&left, &right, operator)
+}
+
+/// Whether an answer is this truth value or null of Bool.
+fn says(
+    answer: VortexResult<Scalar>,
+    nullability: Nullability,
+    wanted: Option<bool>,
+) -> VortexResult<bool> {
+    let answer = answer?;
+    if !answer.dtype().is_boolean() || answer.dtype().nullability() != nullability {
+        return Ok(false);
+    }
+    Ok(answer.as_bool_opt() == wanted && answer.is_null() == wanted.is_none())
+}
+
+/// The text a.
+fn text(alloc: Global) -> VortexResult<Scalar> {
+    Scalar::try_from_str(alloc, "a")
+}
+
+/// The number 1 of i32.
+fn one() -> VortexResult<Scalar> {
+    Ok(Scalar::from(1i32))
+}
+
+/// The number 2 of nullable i32.
+fn nullable_two() -> VortexResult<Scalar> {
+    Scalar::try_new(
+        DType::Primitive(PType::I32, NULLABLE),
+        Some(ScalarValue::Int(2)),
+    )
+}
+
+/// Whether a null beside a text answers a null by each comparison.
+fn null_beside_text_is_null(alloc: Global) -> bool {
+    for operator in COMPARISONS {
+        if !yes(says(
+            compared(null_integer(), operator, text(alloc)),
+            NULLABLE,
+            NULL,
+        )) {
+            return false;
+        }
+    }
+    true
+}
+
+/// Whether a number beside a text is refused by each comparison.
+fn number_beside_text_is_refused(alloc: Global) -> bool {
+    for operator in COMPARISONS {
+        if !is_refused(
+            compared(one(), operator, text(alloc)),
+            "TypeMismatch.Scalars",
+        ) {
+            return false;
+        }
+    }
+    true
+}
+
+#[test]
+fn compares_other_types_only_where_one_is_null(rt: HostRuntime) {
+    let alloc = rt.alloc();
+    assert!(rt; null_beside_text_is_null(alloc));
+    assert!(rt; number_beside_text_is_refused(alloc));
+}
+
+#[test]
+fn answers_a_nullable_truth_value_if_a_side_is(rt: HostRuntime) {
+    let differ = compared(one(), CompareOperator::NotEq, nullable_two());
+    assert!(rt; yes(says(differ, NULLABLE, YES)));
+    let differ = compared(nullable_two(), CompareOperator::NotEq, one());
+    assert!(rt; yes(says(differ, NULLABLE, YES)));
+    let differ = compared(one(), CompareOperator::NotEq, one());
+    assert!(rt; yes(says(differ, PLAIN, NO)));
+}
