@@ -6,7 +6,7 @@ use vortex_columns::{BitBuffer, Column, Validity, VortexResult};
 
 /// Two integers, as an element of others.
 fn integers(alloc: Global, values: &[i32]) -> VortexResult<Column> {
-    Column::try_primitive(values.to_vec(alloc)?, Validity::NonNullable)
+    Column::try_primitive(alloc, values.to_vec(alloc)?, Validity::NonNullable)
 }
 
 fn two_pairs(alloc: Global) -> VortexResult<Vec<Column>> {
@@ -25,7 +25,10 @@ pub fn pair(alloc: Global) -> Made {
 pub fn byte_lists(alloc: Global) -> Made {
     let mut values = Vec::new(alloc);
     values.push(Vec::from_array(alloc, [255u8])?)?;
-    kept(alloc, Column::try_binary(values, Validity::AllInvalid))
+    kept(
+        alloc,
+        Column::try_binary(alloc, values, Validity::AllInvalid),
+    )
 }
 
 /// Structs of two fields of integers.
@@ -74,14 +77,14 @@ pub fn maps(alloc: Global, values: &[i32]) -> Made {
 fn unevenly_valid(alloc: Global) -> Made {
     let valid = Validity::Array(BitBuffer::from_bools(alloc, &[true])?);
     let values = Vec::from_array(alloc, [5i32, 6])?;
-    kept(alloc, Column::try_primitive(values, valid))
+    kept(alloc, Column::try_primitive(alloc, values, valid))
 }
 
 /// Two truth values beside a validity of one row.
 fn unevenly_valid_bits(alloc: Global) -> Made {
     let valid = Validity::Array(BitBuffer::from_bools(alloc, &[true])?);
     let bits = BitBuffer::from_bools(alloc, &[true, true])?;
-    kept(alloc, Column::try_bool(bits, valid))
+    kept(alloc, Column::try_bool(alloc, bits, valid))
 }
 
 #[test]

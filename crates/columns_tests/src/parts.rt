@@ -111,6 +111,7 @@ fn is_constant(column: Made) -> VortexResult<bool> {
 fn constants_alone_are_constants(rt: HostRuntime) {
     let alloc = rt.alloc();
     assert!(rt; yes(is_constant(constant(alloc, PType::I32, 1, 2))));
+    assert!(rt; yes(is_constant(constant(alloc, PType::I32, 1, 0))));
     assert!(rt; !yes(is_constant(nulls(alloc))));
     assert!(rt; !yes(is_constant(pair(alloc))));
 }

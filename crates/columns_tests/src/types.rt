@@ -90,6 +90,31 @@ fn differ_by_null(alloc: Global) -> VortexResult<bool> {
     )
 }
 
+/// Two fields of Bool, the second of that nullability.
+fn two_truths(alloc: Global, second: Nullability) -> VortexResult<StructFields> {
+    fields(alloc, ("a", "b"), (DType::Bool(YES), DType::Bool(second)))
+}
+
+/// Whether two lists of fields are equal as wanted.
+fn fields_are_equal(
+    left: VortexResult<StructFields>,
+    right: VortexResult<StructFields>,
+    wanted: bool,
+) -> VortexResult<bool> {
+    Ok((left? == right?) == wanted)
+}
+
+#[test]
+fn fields_are_compared_with_nullability(rt: HostRuntime) {
+    let alloc = rt.alloc();
+    let (left, right) = (two_truths(alloc, YES), two_truths(alloc, YES));
+    assert!(rt; yes(fields_are_equal(left, right, true)));
+    let (left, right) = (two_truths(alloc, YES), two_truths(alloc, NO));
+    assert!(rt; yes(fields_are_equal(left, right, false)));
+    let (left, right) = (two_truths(alloc, YES), named(alloc, &["a", "c"], 2));
+    assert!(rt; yes(fields_are_equal(left, right, false)));
+}
+
 #[test]
 fn types_are_compared_with_and_without_nullability(rt: HostRuntime) {
     assert!(rt; yes(differ_by_null(rt.alloc())));

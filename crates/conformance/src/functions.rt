@@ -51,12 +51,16 @@ fn is_copied<C: ScalarFnVTable>(
 }
 
 /// Whether a tree is a call of an operator with so many children.
-fn is_operator_over<C: ScalarFnVTable>(tree: Tree<C>, count: usize) -> VortexResult<bool> {
-    let tree = tree?;
+fn calls_operator<C: ScalarFnVTable>(tree: &BoundExpression<C>, count: usize) -> bool {
     match tree.as_scalar() {
-        Some(function) => Ok(function.as_binary().is_some() && tree.children().len() == count),
-        None => Ok(false),
+        Some(function) => function.as_binary().is_some() && tree.children().len() == count,
+        None => false,
     }
+}
+
+/// Whether a tree that was made is a call of an operator with so many children.
+fn is_operator_over<C: ScalarFnVTable>(tree: Tree<C>, count: usize) -> VortexResult<bool> {
+    Ok(calls_operator(&*tree?, count))
 }
 
 /// Whether a function has that name, and is a caller's of that name.
@@ -106,14 +110,23 @@ fn is_past<A: ExecutionArgs>(args: &A, wanted: usize, count: usize) -> bool {
     }
 }
 
-/// Whether two inputs of one row are two, the second has one row, and there is no third.
-fn are_two_inputs(alloc: Global, first: Made, second: Made) -> VortexResult<bool> {
-    let (first, second) = (first?, second?);
+/// Whether there are two inputs of one row, the second has one row, and there is no third.
+fn are_two<A: ExecutionArgs>(args: &A) -> bool {
+    has_counts(args, 2, 1) && has_rows(args, 1, 1) && is_past(args, 2, 2)
+}
+
+/// Whether two columns of one row are two inputs.
+fn are_inputs(alloc: Global, first: &Column, second: Column) -> VortexResult<bool> {
     if first.len() != 1 || second.len() != 1 {
         return Ok(false);
     }
-    let args = two_inputs(alloc, &*first, Box::into_inner(second))?;
-    Ok(has_counts(&args, 2, 1) && has_rows(&args, 1, 1) && is_past(&args, 2, 2))
+    Ok(are_two(&two_inputs(alloc, first, second)?))
+}
+
+/// Whether two columns that were made are two inputs.
+fn are_two_inputs(alloc: Global, first: Made, second: Made) -> VortexResult<bool> {
+    let (first, second) = (first?, second?);
+    are_inputs(alloc, &*first, Box::into_inner(second))
 }
 
 #[test]

@@ -25,38 +25,54 @@ fn has_in_each_row(
     Ok(column.len() == row_count)
 }
 
-/// Whether a tree over no columns answers that scalar in so many rows.
-fn answers_scalar<C: ScalarFnVTable>(
+/// Whether a column is a constant one of a type, with that scalar in so many rows.
+fn is_constant(
+    alloc: Global,
+    column: &Column,
+    dtype: &DType,
+    wanted: &Scalar,
+    row_count: usize,
+) -> VortexResult<bool> {
+    if column.as_constant().is_none() || *column.dtype() != *dtype {
+        return Ok(false);
+    }
+    has_in_each_row(alloc, column, wanted, row_count)
+}
+
+/// Whether a tree over no columns answers a constant column of its own type, with that scalar in so many rows.
+fn is_constant_by<C: ScalarFnVTable>(
+    alloc: Global,
+    tree: &BoundExpression<C>,
+    wanted: &Scalar,
+    row_count: usize,
+) -> VortexResult<bool> {
+    let mut ctx = ExecutionCtx::new(alloc);
+    let column = Box::new(alloc, tree.execute(&[], row_count, &mut ctx)?)?;
+    is_constant(alloc, &**column, tree.dtype(), wanted, row_count)
+}
+
+/// Whether a tree that was made answers that scalar.
+fn answers_constant<C: ScalarFnVTable>(
     alloc: Global,
     tree: Tree<C>,
     wanted: VortexResult<Scalar>,
     row_count: usize,
 ) -> VortexResult<bool> {
     let (tree, wanted) = (tree?, wanted?);
-    let mut ctx = ExecutionCtx::new(alloc);
-    let column = Box::new(alloc, tree.execute(&[], row_count, &mut ctx)?)?;
-    has_in_each_row(alloc, &**column, &wanted, row_count)
-}
-
-/// Whether a tree over no columns answers a constant column of its own type.
-fn answers_constant<C: ScalarFnVTable>(
-    alloc: Global,
-    tree: Tree<C>,
-    row_count: usize,
-) -> VortexResult<bool> {
-    let tree = tree?;
-    let mut ctx = ExecutionCtx::new(alloc);
-    let column = Box::new(alloc, tree.execute(&[], row_count, &mut ctx)?)?;
-    Ok(column.as_constant().is_some() && *column.dtype() == *tree.dtype())
+    is_constant_by(alloc, &*tree, &wanted, row_count)
 }
 
 /// Whether a tree is the literal of that value of Bool.
-fn is_literal<C: ScalarFnVTable>(tree: Tree<C>, wanted: bool) -> VortexResult<bool> {
-    let tree = tree?;
+fn has_truth<C: ScalarFnVTable>(tree: &BoundExpression<C>, wanted: bool) -> bool {
     match tree.as_literal() {
-        Some(scalar) => Ok(scalar.as_bool_opt() == Some(wanted)),
-        None => Ok(false),
+        Some(scalar) => scalar.as_bool_opt() == Some(wanted),
+        None => false,
     }
+}
+
+/// Whether a tree that was made is the literal of that value of Bool.
+fn is_literal<C: ScalarFnVTable>(tree: Tree<C>, wanted: bool) -> VortexResult<bool> {
+    Ok(has_truth(&*tree?, wanted))
 }
 
 /// Whether a tree is no literal.
@@ -65,18 +81,10 @@ fn is_no_literal<C: ScalarFnVTable>(tree: Tree<C>) -> VortexResult<bool> {
 }
 
 #[test]
-fn a_literal_is_in_each_row(rt: HostRuntime) {
-    let alloc = rt.alloc();
-    assert!(rt;
-        yes(answers_scalar::<NoCustom>(alloc, copied(alloc, literal(alloc, five())), five(), 3,))
-    );
-}
-
-#[test]
 fn a_literal_answers_a_constant_column_of_its_type(rt: HostRuntime) {
     let alloc = rt.alloc();
     assert!(rt;
-        yes(answers_constant::<NoCustom>(alloc, copied(alloc, literal(alloc, five())), 3,))
+        yes(answers_constant::<NoCustom>(alloc, copied(alloc, literal(alloc, five())), five(), 3))
     );
 }
 
@@ -100,7 +108,7 @@ fn and_with_a_literal_executes(rt: HostRuntime) {
         yes(answers::<NoCustom>(
             alloc,
             true_and_b(alloc),
-            two_columns(
+            two(
                 alloc,
                 nullable_bools(alloc, &[Some(true), Some(false), None]),
                 nullable_bools(alloc, &[Some(true), Some(false), None]),

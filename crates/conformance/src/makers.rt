@@ -1,7 +1,7 @@
 //! Trees and their columns by their parts, and questions to trees. Each function over trees stays generic in the caller's
 //! functions; the tests pick the one they run.
 
-use fixtures::{Made, fields, names, rows_of};
+use fixtures::{fields, names, rows_of};
 use std::alloc::Global;
 use vortex_row_fn::*;
 
@@ -15,6 +15,25 @@ pub type Tree<C> = VortexResult<Box<BoundExpression<C>>>;
 /// A tree, put on the heap.
 fn planted<C: ScalarFnVTable>(alloc: Global, tree: VortexResult<BoundExpression<C>>) -> Tree<C> {
     Ok(Box::new(alloc, tree?)?)
+}
+
+/// A list of one.
+pub fn one<T: Drop>(alloc: Global, only: VortexResult<Box<T>>) -> VortexResult<Vec<T>> {
+    let mut items = Vec::new(alloc);
+    items.push(Box::into_inner(only?))?;
+    Ok(items)
+}
+
+/// A list of two.
+pub fn two<T: Drop>(
+    alloc: Global,
+    first: VortexResult<Box<T>>,
+    second: VortexResult<Box<T>>,
+) -> VortexResult<Vec<T>> {
+    let mut items = Vec::new(alloc);
+    items.push(Box::into_inner(first?))?;
+    items.push(Box::into_inner(second?))?;
+    Ok(items)
 }
 
 /// Columns `a` and `b` of nullable Bool.
@@ -41,21 +60,9 @@ pub fn literal<C: ScalarFnVTable>(alloc: Global, scalar: VortexResult<Scalar>) -
     planted(alloc, Ok(BoundExpression::lit(alloc, scalar?)))
 }
 
-/// A call of one child.
-pub fn call_of_one<C: ScalarFnVTable>(
-    alloc: Global,
-    function: ScalarFnRef<C>,
-    child: Tree<C>,
-) -> Tree<C> {
-    let mut children = Vec::new(alloc);
-    children.push(Box::into_inner(child?))?;
-    planted(alloc, BoundExpression::try_new(alloc, function, children))
-}
-
 /// Not of a tree.
 pub fn not_of<C: ScalarFnVTable>(alloc: Global, child: Tree<C>) -> Tree<C> {
-    let mut children = Vec::new(alloc);
-    children.push(Box::into_inner(child?))?;
+    let children = one(alloc, child)?;
     planted(alloc, Not.try_new_bound_expr(alloc, EmptyOptions, children))
 }
 
@@ -66,9 +73,7 @@ pub fn between<C: ScalarFnVTable>(
     operator: Operator,
     right: Tree<C>,
 ) -> Tree<C> {
-    let mut children = Vec::new(alloc);
-    children.push(Box::into_inner(left?))?;
-    children.push(Box::into_inner(right?))?;
+    let children = two(alloc, left, right)?;
     planted(alloc, Binary.try_new_bound_expr(alloc, operator, children))
 }
 
@@ -101,19 +106,16 @@ pub fn copied<C: ScalarFnVTable>(alloc: Global, tree: Tree<C>) -> Tree<C> {
     planted(alloc, tree?.try_clone(alloc))
 }
 
-/// One column.
-pub fn one_column(alloc: Global, only: Made) -> VortexResult<Vec<Column>> {
-    let mut columns = Vec::new(alloc);
-    columns.push(Box::into_inner(only?))?;
-    Ok(columns)
-}
-
-/// Two columns.
-pub fn two_columns(alloc: Global, first: Made, second: Made) -> VortexResult<Vec<Column>> {
-    let mut columns = Vec::new(alloc);
-    columns.push(Box::into_inner(first?))?;
-    columns.push(Box::into_inner(second?))?;
-    Ok(columns)
+/// The rows of Bool that a tree answers.
+fn rows_by<C: ScalarFnVTable>(
+    alloc: Global,
+    tree: &BoundExpression<C>,
+    columns: &[Column],
+    row_count: usize,
+) -> VortexResult<Vec<Option<bool>>> {
+    let mut ctx = ExecutionCtx::new(alloc);
+    let answer = Box::new(alloc, tree.execute(columns, row_count, &mut ctx)?)?;
+    rows_of(alloc, &**answer)
 }
 
 /// The rows of Bool that a tree answers over so many rows of those columns.
@@ -124,9 +126,7 @@ pub fn executed<C: ScalarFnVTable>(
     row_count: usize,
 ) -> VortexResult<Vec<Option<bool>>> {
     let (tree, columns) = (tree?, columns?);
-    let mut ctx = ExecutionCtx::new(alloc);
-    let answer = Box::new(alloc, tree.execute(&columns, row_count, &mut ctx)?)?;
-    rows_of(alloc, &**answer)
+    rows_by(alloc, &*tree, &columns, row_count)
 }
 
 /// Whether a tree answers these rows over those columns.

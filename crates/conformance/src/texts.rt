@@ -6,12 +6,28 @@ use fixtures::{boxed, fields, yes};
 use std::alloc::Global;
 use vortex_row_fn::*;
 
+/// Whether `sql_text` gives that text.
+fn has_text<C: ScalarFnVTable>(
+    alloc: Global,
+    tree: &BoundExpression<C>,
+    wanted: &str,
+) -> VortexResult<bool> {
+    Ok(tree.sql_text(alloc)?.as_str() == wanted)
+}
+
+/// Whether Display writes that text.
+fn is_shown<C: ScalarFnVTable>(
+    alloc: Global,
+    tree: &BoundExpression<C>,
+    wanted: &str,
+) -> VortexResult<bool> {
+    Ok(tree.to_string(alloc)?.as_str() == wanted)
+}
+
 /// Whether a tree has that text, and Display writes the same bytes.
 fn prints<C: ScalarFnVTable>(alloc: Global, tree: Tree<C>, wanted: &str) -> VortexResult<bool> {
     let tree = tree?;
-    let text = tree.sql_text(alloc)?;
-    let shown = tree.to_string(alloc)?;
-    Ok(text.as_str() == wanted && shown.as_str() == wanted)
+    Ok(has_text(alloc, &*tree, wanted)? && is_shown(alloc, &*tree, wanted)?)
 }
 
 /// Whether the literal of a scalar has that text.

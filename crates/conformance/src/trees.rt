@@ -2,7 +2,7 @@
 
 use crate::makers::*;
 use crate::must_be_true::MustBeTrue;
-use fixtures::{Made, bools, is_refused, is_uneven, kept, nullable_bools, yes};
+use fixtures::{Made, are_rows, bools, is_refused, is_uneven, kept, nullable_bools, yes};
 use std::alloc::Global;
 use std::borrow::Cow;
 use vortex_row_fn::*;
@@ -33,7 +33,7 @@ const KLEENE_RIGHT: [Option<bool>; 9] = [
 
 /// Each pair of true, false and null, as columns `a` and `b`.
 fn kleene_columns(alloc: Global) -> VortexResult<Vec<Column>> {
-    two_columns(
+    two(
         alloc,
         nullable_bools(alloc, &KLEENE_LEFT),
         nullable_bools(alloc, &KLEENE_RIGHT),
@@ -42,7 +42,7 @@ fn kleene_columns(alloc: Global) -> VortexResult<Vec<Column>> {
 
 /// The same nullable Bool in columns `a` and `b`.
 fn twice(alloc: Global, rows: &[Option<bool>]) -> VortexResult<Vec<Column>> {
-    two_columns(
+    two(
         alloc,
         nullable_bools(alloc, rows),
         nullable_bools(alloc, rows),
@@ -72,26 +72,40 @@ fn is_fault<T: Drop>(answer: VortexResult<T>, wanted: u64) -> bool {
     }
 }
 
-/// Whether a tree answers a lent column of so many rows.
+/// Whether a tree lends a column of these rows.
+fn lends<C: ScalarFnVTable>(
+    alloc: Global,
+    tree: &BoundExpression<C>,
+    columns: &[Column],
+    wanted: &[Option<bool>],
+) -> VortexResult<bool> {
+    let mut ctx = ExecutionCtx::new(alloc);
+    let answer = Box::new(alloc, tree.execute(columns, wanted.len(), &mut ctx)?)?;
+    match &*answer {
+        Cow::Borrowed(column) => are_rows(alloc, column, wanted),
+        Cow::Owned(_) => Ok(false),
+    }
+}
+
+/// Whether a tree answers a lent column of these rows over those columns.
 fn is_lent<C: ScalarFnVTable>(
     alloc: Global,
     tree: Tree<C>,
     columns: VortexResult<Vec<Column>>,
-    row_count: usize,
+    wanted: &[Option<bool>],
 ) -> VortexResult<bool> {
     let (tree, columns) = (tree?, columns?);
-    let mut ctx = ExecutionCtx::new(alloc);
-    match tree.execute(&columns, row_count, &mut ctx)? {
-        Cow::Borrowed(column) => Ok(column.len() == row_count),
-        Cow::Owned(_) => Ok(false),
-    }
+    lends(alloc, &*tree, &columns, wanted)
 }
 
 /// 4, 5, 6 and null.
 fn four_to_six(alloc: Global) -> Made {
     let values = vec![in alloc; 4u16, 5, 6, 0]?;
     let valid = BitBuffer::from_bools(alloc, &[true, true, true, false])?;
-    kept(alloc, Column::try_primitive(values, Validity::Array(valid)))
+    kept(
+        alloc,
+        Column::try_primitive(alloc, values, Validity::Array(valid)),
+    )
 }
 
 /// `a < 5` over a column `a` of nullable u16.
@@ -191,7 +205,7 @@ fn lengths_are_compared_with_the_row_count(rt: HostRuntime) {
             executed::<NoCustom>(
                 alloc,
                 over_both(alloc, Operator::And),
-                two_columns(
+                two(
                     alloc,
                     nullable_bools(alloc, &[Some(true), Some(true)]),
                     nullable_bools(alloc, &[Some(true), Some(true), Some(true)]),
@@ -252,12 +266,12 @@ fn a_lone_leaf_is_lent(rt: HostRuntime) {
         yes(is_lent::<NoCustom>(
             alloc,
             leaf(alloc, "b"),
-            two_columns(
+            two(
                 alloc,
                 nullable_bools(alloc, &[None]),
                 nullable_bools(alloc, &[Some(true)]),
             ),
-            1,
+            &[Some(true)],
         ))
     );
 }
@@ -270,7 +284,7 @@ fn a_leaf_without_its_column_is_refused(rt: HostRuntime) {
             executed::<NoCustom>(
                 alloc,
                 leaf(alloc, "b"),
-                one_column(alloc, nullable_bools(alloc, &[None])),
+                one(alloc, nullable_bools(alloc, &[None])),
                 1,
             ),
             "ScopeMismatch",
@@ -286,7 +300,7 @@ fn a_leaf_over_a_column_of_another_type_is_refused_before_lengths(rt: HostRuntim
             executed::<NoCustom>(
                 alloc,
                 leaf(alloc, "b"),
-                two_columns(
+                two(
                     alloc,
                     nullable_bools(alloc, &[None]),
                     bools(alloc, &[true]),
@@ -305,7 +319,7 @@ fn a_comparison_with_a_literal_executes(rt: HostRuntime) {
         yes(answers::<NoCustom>(
             alloc,
             below_five(alloc),
-            one_column(alloc, four_to_six(alloc)),
+            one(alloc, four_to_six(alloc)),
             &[Some(true), Some(false), Some(false), None],
         ))
     );

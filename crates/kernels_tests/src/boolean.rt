@@ -79,7 +79,11 @@ const FORMS: [Form; 6] = [
 fn without_null(alloc: Global, validity: Validity) -> Made {
     kept(
         alloc,
-        Column::try_bool(BitBuffer::from_bools(alloc, &[false, true])?, validity),
+        Column::try_bool(
+            alloc,
+            BitBuffer::from_bools(alloc, &[false, true])?,
+            validity,
+        ),
     )
 }
 

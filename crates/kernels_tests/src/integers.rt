@@ -13,7 +13,10 @@ fn four<T: NativePType>(alloc: Global, first: T, second: T, third: T, fourth: T)
     values.push(second)?;
     values.push(third)?;
     values.push(fourth)?;
-    kept(alloc, Column::try_primitive(values, Validity::NonNullable))
+    kept(
+        alloc,
+        Column::try_primitive(alloc, values, Validity::NonNullable),
+    )
 }
 
 /// The least, the greatest, the least and the greatest value.

@@ -23,7 +23,7 @@ pub record IsMade (kind : Bool → LogicalType) (v : ValidityView) (vs : List Va
   pub dtype : c.dtype ≡ kind (form_allows_null v.form)
   pub count : length c.rows ≡ length vs
   pub each : (i : ℕ) → i < length vs → row c.rows i ≡ (if is_valid_row v i then slice_index_or vs i null else null)
-  pub computed : c.constant ≡ false
+  pub computed : c.constant ≡ None
   pub form : c.form ≡ v.form
 
 -- values with marks beside them: each is valid where null is not allowed, and what stands under a null fits a column

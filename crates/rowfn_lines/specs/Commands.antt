@@ -149,7 +149,7 @@ fits_column (text bs) = nat_le (length bs) 4294967295
 fits_column v = true
 
 abbrev pub column_of : LogicalType → List Value → ColumnView
-column_of t vs = record { dtype = t; rows = vs; constant = false; form = if is_nullable t then array else non_nullable }
+column_of t vs = record { dtype = t; rows = vs; constant = None; form = if is_nullable t then array else non_nullable }
 
 abbrev pub column_where : LogicalType → List Value → Option ColumnView
 column_where t vs = if list_all fits_column vs then Some (column_of t vs) else None

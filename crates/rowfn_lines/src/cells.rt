@@ -137,7 +137,7 @@ impl CellKind for BoolCells {
         ensures { AnswersWhere result (FitsRows (validity_of validity) (length values.items) × (list_all fits_column (map truth values.items) ≡ true)) (IsMade bool_type (validity_of validity) (map truth values.items)) InvalidColumn }
     {
         let bits = BitBuffer::from_bools(alloc, &values)?;
-        Column::try_bool(bits, validity)
+        Column::try_bool(alloc, bits, validity)
     }
 
     ghost nullable = { λ n. refl };
@@ -168,10 +168,10 @@ impl<T: NativePType> CellKind for IntCells<T> {
         ScalarValue::Int(item.to_i128())
     }
 
-    fn column(_alloc: Global, values: Vec<T>, validity: Validity) -> VortexResult<Column>
+    fn column(alloc: Global, values: Vec<T>, validity: Validity) -> VortexResult<Column>
         ensures { AnswersWhere result (FitsRows (validity_of validity) (length values.items) × (list_all fits_column (map (λ x. number (T.number x)) values.items) ≡ true)) (IsMade (integer_type T.ptype) (validity_of validity) (map (λ x. number (T.number x)) values.items)) InvalidColumn }
     {
-        Column::try_primitive(values, validity)
+        Column::try_primitive(alloc, values, validity)
     }
 
     ghost nullable = { λ n. refl };
@@ -199,10 +199,10 @@ impl CellKind for TextCells {
         ScalarValue::Utf8(item)
     }
 
-    fn column(_alloc: Global, values: Vec<String>, validity: Validity) -> VortexResult<Column>
+    fn column(alloc: Global, values: Vec<String>, validity: Validity) -> VortexResult<Column>
         ensures { AnswersWhere result (FitsRows (validity_of validity) (length values.items) × (list_all fits_column (map (λ s. text (string_bytes s)) values.items) ≡ true)) (IsMade text_type (validity_of validity) (map (λ s. text (string_bytes s)) values.items)) InvalidColumn }
     {
-        Column::try_utf8(values, validity)
+        Column::try_utf8(alloc, values, validity)
     }
 
     ghost nullable = { λ n. refl };

@@ -8,7 +8,7 @@ use Rattle.vortex_types.specs.Values.{values_of, nth_value, is_null}
 use Rattle.vortex_columns.specs.ColumnView.{ColumnView, row, HasBits, AreBits, HasInts, AreInts, IsIntegerType, HasBytes, AreBytes, is_bytes_like, bytes_value, fields_in, value_in, HasField, IsField, HasKind, is_list_type, is_fixed_size_list_type, is_map_type, AreLists, AreFixedSizeLists, AreMaps, constant_column, constant_form}
 use Rattle.vortex_types.specs.ScalarView.{ScalarView}
 use Rattle.vortex_types.specs.ValidityView.{ValidityView, form_allows_null}
-use Rattle.vortex_columns.specs.Stored.{Kept, bools, integers, texts, byte_strings, structs, lists, fixed_size_lists, maps, AreFields, Stored, constant_of, kept, stored_of, stored_validity, is_constant, kept_at, value_at, rows_of, AreKept, IsStored, column_view, IsColumn}
+use Rattle.vortex_columns.specs.Stored.{Kept, bools, integers, texts, byte_strings, structs, lists, fixed_size_lists, maps, AreFields, Stored, constant_of, kept, stored_of, stored_validity, constant_in, kept_at, value_at, rows_of, AreKept, IsStored, column_view, IsColumn}
 use Rattle.vortex_types.specs.TypeOf.{type_of}
 use Rattle.vortex_columns.specs.KeptParts.{KeptBits, KeptInts, KeptBytes, KeptField, IsKeptField, KeptLists, KeptFixedSizeLists, KeptMaps, kept_bytes}
 use Rattle.vortex_columns.specs.declared.column.Column.TheInside.{Inside}
@@ -23,8 +23,8 @@ module _ (a : Inside) (c : ColumnView) (is : column_view a ≡ c) (ok : IsColumn
   pub kept_here : AreKept (length c.rows) c.dtype (form_allows_null v.form) k
   kept_here = (subst (λ (s : Stored). IsStored (length c.rows) c.dtype s) at (opened_stored a c is ok)).0
 
-  pub computed : c.constant ≡ false
-  computed = sym (ap (λ (d : ColumnView). d.constant) is) ∙ ap is_constant at
+  pub computed : c.constant ≡ None
+  computed = sym (ap (λ (d : ColumnView). d.constant) is) ∙ ap constant_in at
 
   pub value_here : (i : ℕ) → i < length c.rows → is_null (row c.rows i) ≡ false → row c.rows i ≡ kept_at k i
   value_here i h valid = opened_value a c is i h valid ∙ ap (λ (s : Stored). value_at s i) at
@@ -254,10 +254,10 @@ pub constant_rows : (s : ScalarView) (n : ℕ) → rows_of n (constant_of s) ≡
 constant_rows s n = λ j. map (λ i. row_constant s i j) (range_with_len 0 n)
 
 pub constant_view : (s : ScalarView) (t : LogicalType) (n : ℕ) → t ≡ s.dtype
-    → record { dtype = t; rows = rows_of n (constant_of s); constant = true; form = constant_form s.dtype s.value } ≡ constant_column s n
-constant_view s t n e = λ j. record { dtype = e j; rows = constant_rows s n j; constant = true; form = constant_form s.dtype s.value }
+    → record { dtype = t; rows = rows_of n (constant_of s); constant = Some s; form = constant_form s.dtype s.value } ≡ constant_column s n
+constant_view s t n e = λ j. record { dtype = e j; rows = constant_rows s n j; constant = Some s; form = constant_form s.dtype s.value }
 
 pub opened_constant : (a : Inside) (c : ColumnView) (s : ScalarView) → column_view a ≡ c → IsColumn a → stored_of a.storage ≡ constant_of s → c ≡ constant_column s (length c.rows)
 opened_constant a c s is ok at =
     let here = subst (λ (t : Stored). IsStored a.len (type_of a.dtype) t) at ok in
-    sym is ∙ (λ j. record { dtype = here.0 j; rows = (ap (rows_of a.len) at ∙ constant_rows s a.len) j; constant = is_constant (at j); form = (stored_validity (at j)).form }) ∙ ap (constant_column s) (opened_len a c is)
+    sym is ∙ (λ j. record { dtype = here.0 j; rows = (ap (rows_of a.len) at ∙ constant_rows s a.len) j; constant = constant_in (at j); form = (stored_validity (at j)).form }) ∙ ap (constant_column s) (opened_len a c is)

@@ -17,12 +17,12 @@ use Rattle.vortex_types.specs.declared.error.VortexError.{VortexError}
 use Rattle.vortex_types.specs.declared.error.VortexError.TheVariants.{InvalidColumn}
 use Rattle.vortex_types.specs.ValueOf.{value_or_null}
 use Rattle.vortex_types.specs.ScalarView.{ScalarView}
-use Rattle.vortex_types.specs.Answers.{AnswersWhere, AnswersUnlessMemory}
+use Rattle.vortex_types.specs.Answers.{MadeWhere, AnswersUnlessMemory}
 use Rattle.std.proofs.Math.Nat.{mul-suc, mul-le-mul_left}
 use Rattle.std.proofs.lemmas.List.Elements.{All-nil, All-cons}
 use Rattle.vortex_columns.proofs.HaveTypes.{value_count_of}
 use Rattle.vortex_columns.proofs.ListParts.{length_part, part_each, length_entries, entries_typed}
-use Rattle.vortex_types.proofs.Answering.{answers_where}
+use Rattle.vortex_types.proofs.Answering.{made_where}
 use Rattle.vortex_types.proofs.NullValues.{null_is}
 
 pub length_rows : (n : ℕ) (s : Stored) → length (rows_of n s) ≡ n
@@ -243,11 +243,11 @@ module _ (a : Inside) (c : ColumnView) (is : column_view a ≡ c) where
   opened_null_row i h e = opened_row i h ∙ row_null (stored_of a.storage) i e
 
   -- a scalar of a row has the column's type
-  pub opened_scalar : (i : ℕ) (t : DType) (v : Option ScalarValue) (r : Result ScalarView VortexError) → IsColumn a → i < length c.rows → type_of t ≡ type_of a.dtype → value_or_null v ≡ row c.rows i → AnswersWhere r (HasType (type_of t) (value_or_null v)) (λ s. s ≡ record { dtype = type_of t; value = value_or_null v }) InvalidColumn → AnswersUnlessMemory r (λ s. s ≡ record { dtype = c.dtype; value = row c.rows i })
+  pub opened_scalar : (i : ℕ) (t : DType) (v : Option ScalarValue) (r : Result ScalarView VortexError) → IsColumn a → i < length c.rows → type_of t ≡ type_of a.dtype → value_or_null v ≡ row c.rows i → MadeWhere r (HasType (type_of t) (value_or_null v)) (λ s. s ≡ record { dtype = type_of t; value = value_or_null v }) InvalidColumn → AnswersUnlessMemory r (λ s. s ≡ record { dtype = c.dtype; value = row c.rows i })
   opened_scalar i t v r ok h same value answered =
       let dtype : type_of t ≡ c.dtype = same ∙ ap (λ (d : ColumnView). d.dtype) is in
       let typed : HasType c.dtype (row c.rows i) = opened_typed ok i null h in
-      answers_where r (HasType (type_of t) (value_or_null v)) (λ s. s ≡ record { dtype = type_of t; value = value_or_null v }) (λ s. s ≡ record { dtype = c.dtype; value = row c.rows i }) InvalidColumn
+      made_where r (HasType (type_of t) (value_or_null v)) (λ s. s ≡ record { dtype = type_of t; value = value_or_null v }) (λ s. s ≡ record { dtype = c.dtype; value = row c.rows i }) InvalidColumn
       (subst (λ (u : LogicalType). HasType u (value_or_null v)) (sym dtype) (subst (λ (w : Value). HasType c.dtype w) (sym value) typed))
       (λ s e. e ∙ (λ j. record { dtype = dtype j; value = value j }))
       answered

@@ -1,11 +1,11 @@
--- What is seen of a column: its type, its rows, whether it is a constant one, and the form of its validity. What lies under
--- a null is not seen.
-use Rattle.std.specs.Prelude.{◌≡◌, ℕ, zero, suc, ◌+◌, ◌*◌, ◌<◌, ◌≤◌, take, drop, slice_index, String, string_bytes, ℤ, pos, Bool, true, false, not, List, [], ◌∷◌, map, length, slice_index_or, if◌then◌else◌, All, refl}
+-- What is seen of a column: its type, its rows, the scalar that it is a constant of, if any, and the form of its validity.
+-- What lies under a null is not seen.
+use Rattle.std.specs.Prelude.{◌≡◌, ℕ, zero, suc, ◌+◌, ◌*◌, ◌<◌, ◌≤◌, take, drop, slice_index, String, string_bytes, ℤ, pos, Bool, true, false, not, List, [], ◌∷◌, map, length, slice_index_or, if◌then◌else◌, All, Option, Some, None, refl}
 use Rattle.std.specs.List.{range_with_len}
 use Rattle.std.specs.declared.alloc.Global.{Global}
 use Rattle.vortex_types.specs.declared.dtype.PType.{PType}
-use Rattle.vortex_types.specs.ScalarView.{ScalarView}
-use Rattle.std.specs.Coded.{Coded, code_by, coded×, coded_ℕ, coded_bool, coded_list}
+use Rattle.vortex_types.specs.ScalarView.{ScalarView, coded_scalar}
+use Rattle.std.specs.Coded.{Coded, code_by, coded×, coded_ℕ, coded_option, coded_list}
 use Rattle.vortex_types.specs.LogicalTypes.{LogicalType, null_type, integer_type, text_type, bytes_type, struct_type, list_type, fixed_size_list_type, map_type, Fields, no_fields, field, field_count, field_type, is_bool_type, is_nullable}
 use Rattle.vortex_types.specs.Values.{Value, null, truth, number, text, bytes, list, no_values, value, values_of, nth_value, is_null}
 use Rattle.vortex_types.specs.Typing.{HasType}
@@ -15,7 +15,7 @@ use Rattle.vortex_types.specs.ValidityView.{ValidityForm, non_nullable, all_vali
 pub record ColumnView : Type 0 where
   pub dtype : LogicalType
   pub rows : List Value
-  pub constant : Bool
+  pub constant : Option ScalarView
   pub form : ValidityForm
 
 abbrev pub row : List Value → ℕ → Value
@@ -36,16 +36,16 @@ constant_form t v = if is_nullable t then all_valid else non_nullable
 
 -- one value in each of n rows
 abbrev pub constant_column : ScalarView → ℕ → ColumnView
-constant_column s n = record { dtype = s.dtype; rows = map (λ i. s.value) (range_with_len 0 n); constant = true; form = constant_form s.dtype s.value }
+constant_column s n = record { dtype = s.dtype; rows = map (λ i. s.value) (range_with_len 0 n); constant = Some s; form = constant_form s.dtype s.value }
 
 -- null in each of n rows of type Null
 abbrev pub null_column : ℕ → ColumnView
-null_column n = record { dtype = null_type; rows = map (λ i. null) (range_with_len 0 n); constant = false; form = all_invalid }
+null_column n = record { dtype = null_type; rows = map (λ i. null) (range_with_len 0 n); constant = None; form = all_invalid }
 
 -- a column of truth values that is no constant
 pub record HasBits (c : ColumnView) : Type 0 where
   pub bool : is_bool_type c.dtype ≡ true
-  pub computed : c.constant ≡ false
+  pub computed : c.constant ≡ None
 
 -- a bit for each row, which is the row's truth value where it is not null
 pub record AreBits (c : ColumnView) (bits : List Bool) : Type 0 where
@@ -59,7 +59,7 @@ IsIntegerType p t = ⊥
 
 pub record HasInts (p : PType) (c : ColumnView) : Type 0 where
   pub integers : IsIntegerType p c.dtype
-  pub computed : c.constant ≡ false
+  pub computed : c.constant ≡ None
 
 -- a number for each row, which is the row's number where it is not null
 pub record AreInts (c : ColumnView) (ns : List ℤ) : Type 0 where
@@ -78,7 +78,7 @@ bytes_value t bs = bytes bs
 
 pub record HasBytes (c : ColumnView) : Type 0 where
   pub bytes_like : is_bytes_like c.dtype ≡ true
-  pub computed : c.constant ≡ false
+  pub computed : c.constant ≡ None
 
 -- bytes for each row, which are the row's text or byte string where it is not null
 pub record AreBytes (c : ColumnView) (bs : List (List ℕ)) : Type 0 where
@@ -121,7 +121,7 @@ value_in k v = null
 -- a struct column that is no constant and has this field
 pub record HasField (k : ℕ) (c : ColumnView) : Type 0 where
   pub present : k < field_count (fields_in c.dtype)
-  pub computed : c.constant ≡ false
+  pub computed : c.constant ≡ None
 
 -- the column of that field: in each row that is not null, the field's value
 pub record IsField (k : ℕ) (c : ColumnView) (d : ColumnView) : Type 0 where
@@ -144,7 +144,7 @@ is_map_type t = false
 -- a column of that kind that is no constant
 pub record HasKind (test : LogicalType → Bool) (c : ColumnView) : Type 0 where
   pub kind : test c.dtype ≡ true
-  pub computed : c.constant ≡ false
+  pub computed : c.constant ≡ None
 
 -- each row that is not null is the list at its place among the elements
 pub record AreLists (c : ColumnView) (e : ColumnView) (offsets sizes : List ℕ) : Type 0 where
@@ -190,5 +190,5 @@ coded_form = code_by ℕ coded_ℕ form_number form_numbered form_back
 
 abbrev pub coded_column : Coded ColumnView
 coded_column =
-    code_by (LogicalType × (List Value × (Bool × ValidityForm))) (coded× coded_type (coded× (coded_list coded_value) (coded× coded_bool coded_form)))
+    code_by (LogicalType × (List Value × (Option ScalarView × ValidityForm))) (coded× coded_type (coded× (coded_list coded_value) (coded× (coded_option coded_scalar) coded_form)))
     (λ c. (c.dtype, (c.rows, (c.constant, c.form)))) (λ p. record { dtype = p.0; rows = p.1.0; constant = p.1.1.0; form = p.1.1.1 }) (λ _. refl)

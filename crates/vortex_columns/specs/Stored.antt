@@ -1,6 +1,6 @@
 -- How a column's parts are seen. What is seen of its storage is a function of `Stored`, which forgets where lists lie: so a
 -- copy of a storage is seen as its source.
-use Rattle.std.specs.Prelude.{◌≡◌, ℕ, ◌+◌, ◌*◌, ◌<◌, ◌≤◌, ℤ, pos, Bool, true, false, List, [], ◌∷◌, map, length, String, string_bytes, slice_index, slice_index_or, if◌then◌else◌, All, IsUtf8}
+use Rattle.std.specs.Prelude.{◌≡◌, ℕ, ◌+◌, ◌*◌, ◌<◌, ◌≤◌, ℤ, pos, Bool, true, false, List, [], ◌∷◌, map, length, String, string_bytes, slice_index, slice_index_or, if◌then◌else◌, All, IsUtf8, Option, Some, None}
 use Rattle.std.specs.List.{range_with_len}
 use Rattle.vortex_columns.specs.declared.column.Column.TheInside.{Inside}
 use Rattle.vortex_columns.specs.declared.column.Storage.{Storage}
@@ -49,9 +49,10 @@ stored_of storage.Null = nulls
 stored_of (storage.Constant s) = constant_of s
 stored_of (storage.Rows e v) = kept (kept_of e) (validity_of v)
 
-abbrev pub is_constant : Stored → Bool
-is_constant (constant_of s) = true
-is_constant s = false
+-- the scalar that is in each row, if the rows are kept as one
+abbrev pub constant_in : Stored → Option ScalarView
+constant_in (constant_of s) = Some s
+constant_in s = None
 
 abbrev pub stored_validity : Stored → ValidityView
 stored_validity nulls = record { form = all_invalid; bits = [] }
@@ -105,7 +106,7 @@ IsStored n t (constant_of s) = (t ≡ s.dtype) × HasType s.dtype s.value
 IsStored n t (kept k v) = AreKept n t (form_allows_null v.form) k × FitsRows v n
 
 abbrev pub column_view : Inside → ColumnView
-column_view a = record { dtype = type_of a.dtype; rows = rows_of a.len (stored_of a.storage); constant = is_constant (stored_of a.storage); form = (stored_validity (stored_of a.storage)).form }
+column_view a = record { dtype = type_of a.dtype; rows = rows_of a.len (stored_of a.storage); constant = constant_in (stored_of a.storage); form = (stored_validity (stored_of a.storage)).form }
 
 abbrev pub IsColumn : Inside → Type 0
 IsColumn a = IsStored a.len (type_of a.dtype) (stored_of a.storage)
@@ -128,7 +129,7 @@ HasRow i s = Unit {0}
 
 -- what a constructor makes: a value in each row that is valid, and null in the others
 abbrev pub made_of : LogicalType → ValidityView → ℕ → (ℕ → Value) → ColumnView
-made_of t v n f = record { dtype = t; rows = map (λ i. if is_valid_row v i then f i else null) (range_with_len 0 n); constant = false; form = v.form }
+made_of t v n f = record { dtype = t; rows = map (λ i. if is_valid_row v i then f i else null) (range_with_len 0 n); constant = None; form = v.form }
 
 abbrev pub bool_column : List Bool → ValidityView → ColumnView
 bool_column bits v = made_of (bool_type (form_allows_null v.form)) v (length bits) (λ i. truth (slice_index_or bits i false))

@@ -328,6 +328,8 @@ impl Storage {
     }
 }
 
+/// Each call that makes a column but `null` is handed an allocator and may refuse for memory (E9), also where today's form
+/// takes what it is handed over as it is.
 impl Column {
     ghost use Rattle.vortex_types.specs.ValidityView.{validity_of, is_valid_row, FitsRows, form_allows_null};
     ghost use Rattle.vortex_columns.specs.Stored.{bool_column, made_of, MakeStructs, MakeLists};
@@ -356,7 +358,7 @@ impl Column {
     }
 
     /// A column of truth values. E12 exactly where a list of valid bits has another length.
-    pub fn try_bool(bits: BitBuffer, validity: Validity) -> VortexResult<Column>
+    pub fn try_bool(_alloc: Global, bits: BitBuffer, validity: Validity) -> VortexResult<Column>
         ensures { AnswersWhere result (FitsRows (validity_of validity) (length bits)) (λ c. c ≡ bool_column bits (validity_of validity)) InvalidColumn }
     {
         let len = bits.len();
@@ -372,7 +374,11 @@ impl Column {
     }
 
     /// A column of integers of one type. E12 exactly where a list of valid bits has another length.
-    pub fn try_primitive<T: NativePType>(values: Vec<T>, validity: Validity) -> VortexResult<Column>
+    pub fn try_primitive<T: NativePType>(
+        _alloc: Global,
+        values: Vec<T>,
+        validity: Validity,
+    ) -> VortexResult<Column>
         ensures { AnswersWhere result (FitsRows (validity_of validity) (length values.items)) (λ c. c ≡ made_of (integer_type T.ptype (form_allows_null (validity_of validity).form)) (validity_of validity) (length values.items) (λ i. number (slice_index_or (map T.number values.items) i (pos 0)))) InvalidColumn }
     {
         let len = values.len();
@@ -391,7 +397,7 @@ impl Column {
 
     /// A column of texts. E12 exactly where a list of valid bits has another length, or a text is longer than
     /// 4,294,967,295 bytes.
-    pub fn try_utf8(values: Vec<String>, validity: Validity) -> VortexResult<Column>
+    pub fn try_utf8(_alloc: Global, values: Vec<String>, validity: Validity) -> VortexResult<Column>
         ensures { AnswersWhere result (FitsRows (validity_of validity) (length values.items) × All (λ t. length (string_bytes t) ≤ 4294967295) values.items) (λ c. c ≡ made_of (text_type (form_allows_null (validity_of validity).form)) (validity_of validity) (length values.items) (λ i. text (slice_index_or (map string_bytes values.items) i []))) InvalidColumn }
     {
         let len = values.len();
@@ -408,7 +414,11 @@ impl Column {
 
     /// A column of bytes. E12 exactly where a list of valid bits has another length, or a value is longer than
     /// 4,294,967,295 bytes.
-    pub fn try_binary(values: Vec<Vec<u8>>, validity: Validity) -> VortexResult<Column>
+    pub fn try_binary(
+        _alloc: Global,
+        values: Vec<Vec<u8>>,
+        validity: Validity,
+    ) -> VortexResult<Column>
         ensures { AnswersWhere result (FitsRows (validity_of validity) (length values.items) × All (λ b. length b.items ≤ 4294967295) values.items) (λ c. c ≡ made_of (bytes_type (form_allows_null (validity_of validity).form)) (validity_of validity) (length values.items) (λ i. bytes (slice_index_or (map (λ b. b.items) values.items) i []))) InvalidColumn }
     {
         let len = values.len();
@@ -595,9 +605,9 @@ impl Column {
         self.cell(i).compare(&other.cell(j))
     }
 
-    /// The scalar of a constant column.
+    /// The scalar of a constant column, also of one of no rows.
     pub fn as_constant(&self) -> Option<&Scalar>
-        ensures { MatchOption result (self.now.constant ≡ false) (λ s. self.now ≡ constant_column s.now (length self.now.rows)) }
+        ensures { MatchOption result (self.now.constant ≡ None) (λ s. self.now ≡ constant_column s.now (length self.now.rows)) }
     {
         match &self.storage {
             Storage::Constant(scalar) => Some(scalar),

@@ -1,7 +1,7 @@
 //! A value, or null, with its type.
 ghost use Rattle.std.specs.Prelude.{◌≡◌, true, false, [], IsTrue, MatchOption};
 ghost use Rattle.vortex_types.specs.declared.error.VortexError.TheVariants.{InvalidColumn};
-ghost use Rattle.vortex_types.specs.Answers.{AnswersWhere, AnswersUnlessMemory};
+ghost use Rattle.vortex_types.specs.Answers.{MadeWhere, AnswersUnlessMemory};
 ghost use Rattle.vortex_types.specs.LogicalTypes.{bool_type, text_type, is_nullable};
 ghost use Rattle.vortex_types.specs.Values.{null, truth, text, truth_of, is_null};
 ghost use Rattle.vortex_columns.specs.Cells.{cell_value, IsCell};
@@ -40,9 +40,12 @@ impl Scalar {
     ghost use Rattle.vortex_columns.specs.ColumnView.{constant_form};
     ghost use Rattle.vortex_types.specs.ValidityView.{validity_of};
 
-    /// A value of a type, or null. E12 exactly where the value does not have the type, or the type has no null.
+    /// A value of a type, or null. E12 exactly where the value does not have the type, or the type has no null. Takes no memory.
     pub fn try_new(dtype: DType, value: Option<ScalarValue>) -> VortexResult<Scalar>
-        ensures { AnswersWhere result (HasType (type_of dtype) (value_or_null value)) (λ s. s ≡ record { dtype = type_of dtype; value = value_or_null value }) InvalidColumn }
+        ensures { MadeWhere result
+            (HasType (type_of dtype) (value_or_null value))
+            (λ s. s ≡ record { dtype = type_of dtype; value = value_or_null value })
+            InvalidColumn }
     {
         let has_type = match &value {
             Some(value) => cell_of(value).has_type(&dtype),

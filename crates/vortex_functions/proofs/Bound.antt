@@ -1,5 +1,5 @@
 -- A call that is bound.
-use Rattle.std.proofs.Common.{◌≡◌, suc, Bool, true, List, [], ◌∷◌, length, map, Option, Some, None, refl, sym, ap, ◌∙◌}
+use Rattle.std.proofs.Common.{◌≡◌, suc, Bool, true, List, [], ◌∷◌, length, map, Option, Some, None, refl, sym, ap, subst, ◌∙◌}
 use Rattle.std.specs.Prelude.{if◌then◌else◌}
 use Rattle.std.specs.Option.{option_and_then}
 use Rattle.std.proofs.lemmas.List.{length-map}
@@ -10,7 +10,7 @@ use Rattle.vortex_types.specs.LogicalTypes.{LogicalType}
 use Rattle.vortex_types.specs.TypeOf.{type_of}
 use Rattle.vortex_types.proofs.Answering.{UnlessMemory-weaker}
 use Rattle.vortex_meaning.specs.Meaning.{Meaning, fits}
-use Rattle.vortex_meaning.specs.Functions.{Function, function_arity, function_type, call_type, IsMismatchOf}
+use Rattle.vortex_meaning.specs.Functions.{Function, function_arity, shipped, custom, function_type, call_type, IsMismatchOf, RefusesTypes}
 use Rattle.vortex_meaning.specs.Trees.{Tree, trees_of, call}
 use Rattle.vortex_meaning.specs.Eval.{tree_type, tree_types, with_type}
 use Rattle.vortex_functions.specs.Binding.{RefusesCall, types}
@@ -28,6 +28,13 @@ module _ {V O : Type 0} (m : Meaning V O) where
       let p = parts (tree_type m t) (tree_types m (trees_of ts)) ks e in
       ap length p.3 ∙ ap suc (type_count ts p.1 p.2)
 
+  abbrev Mismatch : Function V O → List LogicalType → VortexError → Type 0
+  Mismatch f ks e = (function_type m f ks ≡ None) × IsMismatchOf f e
+
+  mismatch : (f : Function V O) (ks : List LogicalType) (e : VortexError) → RefusesTypes m f ks e → UnlessMemory (Mismatch f ks) e
+  mismatch (shipped s) ks e h = subst (UnlessMemory (Mismatch (shipped s) ks)) (sym h.1) (h.0, refl)
+  mismatch (custom f o) ks e h = h
+
   module _ (f : Function V O) (ts : List (Tree V O)) (dtypes : List DType) (typed : tree_types m (trees_of ts) ≡ Some (map type_of dtypes)) (arity : fits (function_arity m f) (length ts) ≡ true) where
     pub count_fits : fits (function_arity m f) (length dtypes) ≡ true
     count_fits =
@@ -39,6 +46,6 @@ module _ {V O : Type 0} (m : Meaning V O) where
         ∙ ap (λ (b : Bool). if b then function_type m f (map type_of dtypes) else None) (ap (λ c. fits (function_arity m f) c) (length-map dtypes type_of) ∙ count_fits)
         ∙ e
 
-    pub types_refused : (e : VortexError) → UnlessMemory (λ d. (function_type m f (map type_of dtypes) ≡ None) × IsMismatchOf f d) e → UnlessMemory (RefusesCall m f ts) e
+    pub types_refused : (e : VortexError) → RefusesTypes m f (map type_of dtypes) e → UnlessMemory (RefusesCall m f ts) e
     types_refused e h =
-        UnlessMemory-weaker (λ d. (function_type m f (map type_of dtypes) ≡ None) × IsMismatchOf f d) (RefusesCall m f ts) (λ d p. types (map type_of dtypes) arity typed p.0 p.1) e h
+        UnlessMemory-weaker (Mismatch f (map type_of dtypes)) (RefusesCall m f ts) (λ d p. types (map type_of dtypes) arity typed p.0 p.1) e (mismatch f (map type_of dtypes) e h)

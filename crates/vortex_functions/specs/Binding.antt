@@ -1,5 +1,5 @@
 -- What binding a leaf or a call answers, and when an answer is lent.
-use Rattle.std.specs.Prelude.{◌≡◌, ℕ, List, Some, None, true, false, length}
+use Rattle.std.specs.Prelude.{◌≡◌, ℕ, List, Some, None, true, false, length, slice_get}
 use Rattle.std.specs.declared.borrow.Cow.{Cow}
 use Rattle.std.specs.declared.borrow.Cow.TheVariants as cow
 use Rattle.vortex_types.specs.declared.error.VortexError.{VortexError}
@@ -35,6 +35,7 @@ abbrev pub IsLeaf : {V O : Type 0} → Tree V O → Type 0
 IsLeaf (leaf l) = Unit {0}
 IsLeaf t = ⊥
 
-abbrev pub IsLent : Cow ColumnView → Type 0
-IsLent (cow.Borrowed c) = Unit {0}
-IsLent (cow.Owned c) = ⊥
+-- the answer is the column at the leaf's place, lent
+abbrev pub IsLentLeaf : {V O : Type 0} → List ColumnView → Tree V O → Cow ColumnView → Type 0
+IsLentLeaf cs (leaf (place p name t)) (cow.Borrowed c) = slice_get cs p ≡ Some c.now
+IsLentLeaf cs t c = ⊥

@@ -1,7 +1,7 @@
 //! The operators of two operands.
-ghost use Rattle.std.specs.Prelude.{◌≡◌, ◌++◌, None, Some, length, map, string_bytes, MatchOption};
+ghost use Rattle.std.specs.Prelude.{◌≡◌, ◌++◌, None, Some, length, map, string_bytes, MatchOption, MatchResult};
 ghost use Rattle.vortex_types.specs.declared.error.VortexError.TheVariants.{TypeMismatch};
-ghost use Rattle.vortex_types.specs.Answers.{Answers, AnswersUnlessMemory};
+ghost use Rattle.vortex_types.specs.Answers.{AnswersUnlessMemory};
 ghost use Rattle.vortex_types.specs.TypeOf.{type_of};
 ghost use Rattle.vortex_operators.specs.declared.operators.Operator.{Operator};
 ghost use Rattle.vortex_meaning.specs.Shipped.{binary, binary_id, shipped_meaning, both_bool, compared_type, operator_type, operator_place};
@@ -65,7 +65,9 @@ fn comparison_dtype(types: &[DType]) -> Option<DType>
 
 /// The type of an operator's answer; E3 at the operator's place for other operands.
 pub(crate) fn operator_dtype(operator: Operator, types: &[DType]) -> VortexResult<DType>
-    ensures { Answers result (λ t. operator_type operator (map type_of types.now) ≡ Some (type_of t)) (λ e. (operator_type operator (map type_of types.now) ≡ None) × (e ≡ TypeMismatch (operator_place operator))) }
+    ensures { MatchResult result
+        (λ t. operator_type operator (map type_of types.now) ≡ Some (type_of t))
+        (λ e. (operator_type operator (map type_of types.now) ≡ None) × (e ≡ TypeMismatch (operator_place operator))) }
 {
     let dtype = match operator {
         Operator::And => boolean_dtype(types),
@@ -101,7 +103,11 @@ impl ScalarFnVTable for Binary {
         _alloc: Global,
         operator: &Operator,
         types: &[DType],
-    ) -> VortexResult<DType> {
+    ) -> VortexResult<DType>
+        ensures { MatchResult result
+            (λ t. operator_type operator.now (map type_of types.now) ≡ Some (type_of t))
+            (λ e. (operator_type operator.now (map type_of types.now) ≡ None) × (e ≡ TypeMismatch (operator_place operator.now))) }
+    {
         operator_dtype(*operator, types)
     }
 

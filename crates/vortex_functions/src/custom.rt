@@ -71,7 +71,7 @@ impl ScalarFnVTable for NoCustom {
     ) -> VortexResult<Column> {
         let bits = all_false(ctx.alloc(), args.row_count())?;
         let bits = BitBuffer::from_bools(ctx.alloc(), &bits)?;
-        Column::try_bool(bits, Validity::NonNullable)
+        Column::try_bool(ctx.alloc(), bits, Validity::NonNullable)
     }
 
     fn is_strict(&self, _options: &EmptyOptions) -> bool {

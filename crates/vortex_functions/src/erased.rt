@@ -4,7 +4,7 @@ ghost use Rattle.vortex_types.specs.Answers.{Answers, AnswersUnlessMemory};
 ghost use Rattle.vortex_types.specs.TypeOf.{type_of};
 ghost use Rattle.vortex_meaning.specs.Outcomes.{HasCallRows, IsCallFault, types_in};
 ghost use Rattle.vortex_meaning.specs.Meaning.{fits};
-ghost use Rattle.vortex_meaning.specs.Functions.{function_id, function_arity, function_child_name, function_type, function_means, function_strict, function_infallible, IsMismatchOf};
+ghost use Rattle.vortex_meaning.specs.Functions.{function_id, function_arity, function_child_name, function_type, function_means, function_strict, function_infallible, RefusesTypes};
 ghost use Rattle.vortex_meaning.specs.Printing.{function_text};
 ghost use Rattle.vortex_functions.specs.Args.{HasChild};
 
@@ -132,10 +132,13 @@ impl<C: ScalarFnVTable> ScalarFnRef<C> {
         }
     }
 
-    /// The type of the answer for argument types of a fitting count; E3 exactly where they are not accepted.
+    /// The type of the answer for argument types of a fitting count; E3 exactly where they are not accepted. A shipped
+    /// function takes no memory.
     pub fn return_dtype(&self, alloc: Global, types: &[DType]) -> VortexResult<DType>
         requires { IsTrue (fits (function_arity C.meaning (function_of self.now)) (length types.now)) }
-        ensures { Answers result (λ t. function_type C.meaning (function_of self.now) (map type_of types.now) ≡ Some (type_of t)) (λ e. (function_type C.meaning (function_of self.now) (map type_of types.now) ≡ None) × IsMismatchOf (function_of self.now) e) }
+        ensures { MatchResult result
+            (λ t. function_type C.meaning (function_of self.now) (map type_of types.now) ≡ Some (type_of t))
+            (RefusesTypes C.meaning (function_of self.now) (map type_of types.now)) }
     {
         match self {
             ScalarFnRef::Binary(operator) => operator_dtype(*operator, types),

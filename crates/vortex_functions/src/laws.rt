@@ -8,7 +8,8 @@ pub fn inverse_negates<C: ScalarFnVTable>()
     ensures { InverseNegates C.meaning }
 {}
 
-/// `a op b` and `b swap a` have one value in every row in which `a` and `b` have values, for each comparison.
+/// `a op b` and `b swap a` have the same value or both fault, in every row, for each operator that can be swapped and all
+/// trees `a` and `b`.
 pub fn swap_turns<C: ScalarFnVTable>()
     ensures { SwapTurns C.meaning }
 {}

@@ -1,8 +1,8 @@
 //! Kleene's Not.
-ghost use Rattle.std.specs.Prelude.{◌≡◌, ◌++◌, None, Some, length, map, string_bytes};
+ghost use Rattle.std.specs.Prelude.{◌≡◌, ◌++◌, None, Some, length, map, string_bytes, MatchResult};
 ghost use Rattle.vortex_types.specs.declared.error.VortexError.TheVariants.{TypeMismatch};
 ghost use Rattle.vortex_types.specs.declared.error.MismatchPlace.TheVariants as place;
-ghost use Rattle.vortex_types.specs.Answers.{Answers, AnswersUnlessMemory};
+ghost use Rattle.vortex_types.specs.Answers.{AnswersUnlessMemory};
 ghost use Rattle.vortex_types.specs.TypeOf.{type_of};
 ghost use Rattle.vortex_meaning.specs.Shipped.{negation, negation_id, shipped_meaning, negation_type};
 ghost use Rattle.vortex_meaning.specs.Printing.{shipped_text};
@@ -23,7 +23,9 @@ pub struct Not;
 
 /// The type of Not's answer; E3 Not for anything but a Bool.
 pub(crate) fn not_dtype(types: &[DType]) -> VortexResult<DType>
-    ensures { Answers result (λ t. negation_type (map type_of types.now) ≡ Some (type_of t)) (λ e. (negation_type (map type_of types.now) ≡ None) × (e ≡ TypeMismatch place.Not)) }
+    ensures { MatchResult result
+        (λ t. negation_type (map type_of types.now) ≡ Some (type_of t))
+        (λ e. (negation_type (map type_of types.now) ≡ None) × (e ≡ TypeMismatch place.Not)) }
 {
     match types {
         [DType::Bool(nullability)] => Ok(DType::Bool(*nullability)),
@@ -53,7 +55,11 @@ impl ScalarFnVTable for Not {
         _alloc: Global,
         _options: &EmptyOptions,
         types: &[DType],
-    ) -> VortexResult<DType> {
+    ) -> VortexResult<DType>
+        ensures { MatchResult result
+            (λ t. negation_type (map type_of types.now) ≡ Some (type_of t))
+            (λ e. (negation_type (map type_of types.now) ≡ None) × (e ≡ TypeMismatch place.Not)) }
+    {
         not_dtype(types)
     }
 

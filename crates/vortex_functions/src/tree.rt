@@ -11,7 +11,7 @@ ghost use Rattle.vortex_meaning.specs.Eval.{tree_type, tree_types, HasTreeRows, 
 ghost use Rattle.vortex_meaning.specs.Execution.{LeavesFit, other_length, Executes, RefusesExecution};
 ghost use Rattle.vortex_meaning.specs.Printing.{tree_text};
 ghost use Rattle.vortex_functions.specs.FunctionOf.{function_of};
-ghost use Rattle.vortex_functions.specs.Binding.{IsColumnLeaf, IsCall, RefusesCall, IsLeaf, IsLent};
+ghost use Rattle.vortex_functions.specs.Binding.{IsColumnLeaf, IsCall, RefusesCall, IsLeaf, IsLentLeaf};
 
 use crate::args::VecExecutionArgs;
 use crate::erased::ScalarFnRef;
@@ -290,7 +290,7 @@ impl<C: ScalarFnVTable> BoundExpression<C> {
         requires fit { LeavesFit columns.now self.now }
         requires lengths { other_length row_count columns.now ≡ None }
         ensures answer { Answers result (λ c. HasTreeRows C.meaning columns.now row_count self.now (cow_value c)) (IsFirstFault C.meaning columns.now row_count self.now) }
-        ensures lent { IsLeaf self.now → IsOkAnd result IsLent }
+        ensures lent { IsLeaf self.now → IsOkAnd result (IsLentLeaf columns.now self.now) }
     {
         match &self.node {
             Node::Column(place, _, _) => Ok(Cow::Borrowed(&columns[*place])),
@@ -321,7 +321,7 @@ impl<C: ScalarFnVTable> BoundExpression<C> {
         ctx: &mut ExecutionCtx,
     ) -> VortexResult<Cow<'a, Column>>
         ensures answer { Answers result (λ c. Executes C.meaning columns.now row_count self.now (cow_value c)) (RefusesExecution C.meaning columns.now row_count self.now) }
-        ensures lent { IsLeaf self.now → LeavesFit columns.now self.now → other_length row_count columns.now ≡ None → IsOkAnd result IsLent }
+        ensures lent { IsLeaf self.now → LeavesFit columns.now self.now → other_length row_count columns.now ≡ None → IsOkAnd result (IsLentLeaf columns.now self.now) }
     {
         if !self.leaves_fit(columns) {
             return Err(VortexError::ScopeMismatch);

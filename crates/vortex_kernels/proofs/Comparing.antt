@@ -1,6 +1,6 @@
 -- Rows that are compared one by one, and the column that is made of the answers.
 use Rattle.std.proofs.Common.{◌≡◌, ℕ, ◌<◌, Bool, true, false, List, [], length, refl, sym, ap, subst, ◌∙◌, arith, cond}
-use Rattle.std.specs.Prelude.{◌||◌, ◌&&◌, nat_eq, not, ℤ, pos, Option, Some, None, IfSome, MatchOption, slice_index_or}
+use Rattle.std.specs.Prelude.{◌||◌, nat_eq, not, ℤ, pos, Option, Some, None, IfSome, MatchOption, slice_index_or}
 use Rattle.std.specs.declared.cmp.Ordering.{Ordering}
 use Rattle.std.specs.Ordering.{nat_cmp, int_cmp, bool_cmp}
 use Rattle.std.specs.Cmp.Lexicographic.{slice_cmp}
@@ -16,7 +16,7 @@ use Rattle.vortex_columns.specs.ColumnView.{ColumnView, row, constant_column, is
 use Rattle.vortex_operators.specs.declared.operators.CompareOperator.{CompareOperator}
 use Rattle.vortex_kernels.specs.Rows.{HasRows}
 use Rattle.vortex_operators.specs.OperatorValues.{holds, comparison_value, comparison_type}
-use Rattle.vortex_kernels.specs.Comparison.{compared_scalar, are_comparable, is_settled, AnswersCompare, AreHeld, IsConstantOf, IsConstantBytes, IsOrderAt, AreComparisons}
+use Rattle.vortex_kernels.specs.Comparison.{compared_scalar, are_comparable, is_null_scalar, is_settled, AnswersCompare, AreHeld, IsConstantOf, IsConstantBytes, IsOrderAt, AreComparisons}
 
 -- what is known of the orders tells the comparisons
 pub held_compares : (op : CompareOperator) (tells : ℕ → Ordering → Type 0) (ls rs : List Value) (bits : List Bool) → AreHeld op tells (length ls) bits → ((i : ℕ) (o : Ordering) → i < length ls → tells i o → IsOrderAt ls rs i o) → AreComparisons op ls rs bits
@@ -132,7 +132,7 @@ constants_compared op l r a b s d some same e g comparable is h = record {
   where
     accepted : (is_settled l r || alike_types l.dtype r.dtype) ≡ true
     accepted =
-        (λ i. (nat_eq (length l.rows) 0 || (((e i).constant && is_null (constant_row a l e 0 some i)) || ((g i).constant && is_null (constant_row b r g 0 (omega (arith, same)) i)))) || alike_types (e i).dtype (g i).dtype)
+        (λ i. (nat_eq (length l.rows) 0 || (is_null_scalar (e i).constant || is_null_scalar (g i).constant)) || alike_types (e i).dtype (g i).dtype)
         ∙ settled_or (nat_eq (length l.rows) 0) (is_null a.value) (is_null b.value) (alike_types a.dtype b.dtype) comparable
 
 -- texts, and byte strings, compare by their bytes

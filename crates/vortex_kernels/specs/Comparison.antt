@@ -1,5 +1,5 @@
 -- Comparison of two values by their order, and of two whole columns.
-use Rattle.std.specs.Prelude.{◌≡◌, ◌≢◌, ℕ, ◌<◌, List, ◌||◌, ◌&&◌, Bool, true, false, length, nat_eq, slice_index_or, if◌then◌else◌}
+use Rattle.std.specs.Prelude.{◌≡◌, ◌≢◌, ℕ, ◌<◌, List, ◌||◌, ◌&&◌, Bool, true, false, length, nat_eq, slice_index_or, Option, Some, None, is_some, if◌then◌else◌}
 use Rattle.std.specs.declared.cmp.Ordering.{Ordering}
 use Rattle.vortex_types.specs.declared.error.VortexError.{VortexError}
 use Rattle.vortex_types.specs.declared.error.VortexError.TheVariants.{LengthMismatch, TypeMismatch}
@@ -21,9 +21,13 @@ compared_scalar op a b = record { dtype = comparison_type a.dtype b.dtype; value
 abbrev pub are_comparable : ScalarView → ScalarView → Bool
 are_comparable a b = (is_null a.value || is_null b.value) || alike_types a.dtype b.dtype
 
--- a constant column whose value is null
+-- a constant column of a null
+abbrev pub is_null_scalar : Option ScalarView → Bool
+is_null_scalar None = false
+is_null_scalar (Some s) = is_null s.value
+
 abbrev pub is_null_constant : ColumnView → Bool
-is_null_constant c = c.constant && is_null (row c.rows 0)
+is_null_constant c = is_null_scalar c.constant
 
 -- no rows, or a side that is a null constant: settled before a look at the types
 abbrev pub is_settled : ColumnView → ColumnView → Bool
@@ -35,7 +39,7 @@ HasComparisonRows op l r =
 
 -- where types that differ apart from nullability are refused: two constants go by the comparison of scalars
 abbrev pub compare_place : ColumnView → ColumnView → MismatchPlace
-compare_place l r = if l.constant && r.constant then place.Scalars else place.Compare
+compare_place l r = if is_some l.constant && is_some r.constant then place.Scalars else place.Compare
 
 -- columns of two lengths are refused first, and then types that differ apart from nullability, unless all is settled without them
 pub data RefusesCompare (l r : ColumnView) (e : VortexError) : Type 0 where

@@ -151,7 +151,7 @@ fn kleene_rows<K: KleeneTable, L: Truths, R: Truths>(
 {
     let values = kleene_values::<K, L, R>(ctx.alloc(), left, right, lhs.len())?;
     let validity = kleene_validity::<K, L, R>(ctx.alloc(), left, right, lhs, rhs)?;
-    Column::try_bool(BitBuffer::from_vec(values), validity)
+    Column::try_bool(ctx.alloc(), BitBuffer::from_vec(values), validity)
 }
 
 /// The same, the form of the left side alone being chosen.
@@ -236,9 +236,12 @@ pub fn execute_not(input: &Column, ctx: &mut ExecutionCtx) -> VortexResult<Colum
     match (input.as_constant(), input.bits()) {
         (Some(scalar), _) => Column::constant(ctx.alloc(), not_scalar(scalar), input.len()),
         (None, Some(bits)) => {
-            let values = collect_bits(ctx.alloc(), &TurnedBits { bits }, bits.len())?;
+            let turned = TurnedBits {
+                bits: bits.as_slice(),
+            };
+            let values = collect_bits(ctx.alloc(), &turned, bits.len())?;
             let validity = same_valid(ctx.alloc(), input)?;
-            Column::try_bool(BitBuffer::from_vec(values), validity)
+            Column::try_bool(ctx.alloc(), BitBuffer::from_vec(values), validity)
         }
         (None, None) => unreachable!(),
     }

@@ -30,7 +30,7 @@ fn compare_rows<P: Comparison>(
 {
     let bits = hold_in_rows::<P>(ctx.alloc(), lhs, rhs)?;
     let validity = both_valid(ctx.alloc(), lhs, rhs)?;
-    Column::try_bool(BitBuffer::from_vec(bits), validity)
+    Column::try_bool(ctx.alloc(), BitBuffer::from_vec(bits), validity)
 }
 
 /// The comparison of each row, the operator being chosen before the rows.

@@ -78,6 +78,7 @@ fn join_valid(alloc: Global, lhs: &Column, rhs: &Column) -> VortexResult<Validit
         (ValidRows::Every, right) => right.to_validity(alloc),
         (left, ValidRows::Every) => left.to_validity(alloc),
         (ValidRows::Listed(left), ValidRows::Listed(right)) => {
+            let (left, right) = (left.as_slice(), right.as_slice());
             let shared = collect_bits(alloc, &SharedBits { left, right }, len)?;
             Ok(Validity::Array(BitBuffer::from_vec(shared)))
         }

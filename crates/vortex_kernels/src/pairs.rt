@@ -1,5 +1,5 @@
 //! The values of two columns side by side, and the comparison that is asked of each pair.
-ghost use Rattle.std.specs.Prelude.{◌≡◌, ◌<◌, ℕ, [], pos, true, false, map, length, slice_index_or, IfSome};
+ghost use Rattle.std.specs.Prelude.{◌≡◌, ◌<◌, ℕ, [], pos, true, false, map, length, slice_index_or, IsSome, IfSome};
 ghost use Rattle.std.specs.declared.cmp.Ordering.{Ordering};
 ghost use Rattle.std.specs.Ordering.{nat_cmp, int_cmp, bool_cmp};
 ghost use Rattle.std.specs.Cmp.Lexicographic.{slice_cmp};
@@ -16,7 +16,7 @@ ghost use Rattle.vortex_kernels.specs.Comparison.{AreHeld, IsConstantOf, IsConst
 
 use std::alloc::Global;
 use std::cmp::Ordering;
-use vortex_columns::{BitBuffer, ByteRows, Cell, Column, DType, NativePType, PType, VortexResult};
+use vortex_columns::{ByteRows, Cell, Column, DType, NativePType, PType, VortexResult};
 
 /// A comparison, as a type, so that it is chosen before the rows.
 pub(crate) trait Comparison {
@@ -169,8 +169,8 @@ impl<T: NativePType> Pairs for IntsAndOne<'_, T> {
 /// The truth values of two columns.
 #[derive(Clone, Copy)]
 struct BitPairs<'a> {
-    left: &'a BitBuffer,
-    right: &'a BitBuffer,
+    left: &'a [bool],
+    right: &'a [bool],
 }
 
 impl Pairs for BitPairs<'_> {
@@ -179,14 +179,14 @@ impl Pairs for BitPairs<'_> {
     ghost tells = { λ p i o. o ≡ bool_cmp (slice_index_or p.left.now i false) (slice_index_or p.right.now i false) };
 
     fn order_at(&self, i: usize) -> Ordering {
-        self.left.value(i).cmp(&self.right.value(i))
+        self.left[i].cmp(&self.right[i])
     }
 }
 
 /// The truth values of a column beside one.
 #[derive(Clone, Copy)]
 struct BitsAndOne<'a> {
-    left: &'a BitBuffer,
+    left: &'a [bool],
     right: bool,
 }
 
@@ -196,7 +196,7 @@ impl Pairs for BitsAndOne<'_> {
     ghost tells = { λ p i o. o ≡ bool_cmp (slice_index_or p.left.now i false) p.right };
 
     fn order_at(&self, i: usize) -> Ordering {
-        self.left.value(i).cmp(&self.right)
+        self.left[i].cmp(&self.right)
     }
 }
 
@@ -263,7 +263,7 @@ fn constant_int<T: NativePType>(column: &Column) -> Option<T>
 /// The truth value in each row of a constant column of Bool.
 pub(crate) fn constant_bool(column: &Column) -> Option<bool>
     ensures value { IfSome result (λ b. IsConstantOf (truth b) column.now) }
-    ensures rows { column.now.constant ≡ true → (i : ℕ) → i < length column.now.rows → truth_of (row column.now.rows i) ≡ result }
+    ensures rows { IsSome column.now.constant → (i : ℕ) → i < length column.now.rows → truth_of (row column.now.rows i) ≡ result }
 {
     column.as_constant()?.as_bool_opt()
 }
@@ -306,9 +306,11 @@ fn hold_in_bools<P: Comparison>(
     let len = lhs.len();
     match (lhs.bits(), rhs.bits(), constant_bool(rhs)) {
         (Some(left), Some(right), _) => {
+            let (left, right) = (left.as_slice(), right.as_slice());
             hold_in_pairs::<P, BitPairs>(alloc, &BitPairs { left, right }, len)
         }
         (Some(left), None, Some(right)) => {
+            let left = left.as_slice();
             hold_in_pairs::<P, BitsAndOne>(alloc, &BitsAndOne { left, right }, len)
         }
         _ => hold_in_cells::<P>(alloc, lhs, rhs),

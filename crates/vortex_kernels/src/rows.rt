@@ -4,7 +4,7 @@ ghost use Rattle.vortex_types.specs.Answers.{AnswersUnlessMemory};
 ghost use Rattle.vortex_kernels.specs.Rows.{AreTold};
 
 use std::alloc::Global;
-use vortex_columns::{BitBuffer, VortexResult};
+use vortex_columns::VortexResult;
 
 /// A bit for each row, told from what is lent.
 pub(crate) trait RowBits {
@@ -37,7 +37,7 @@ pub(crate) fn collect_bits<R: RowBits>(
 /// The bits, each turned.
 #[derive(Clone, Copy)]
 pub(crate) struct TurnedBits<'a> {
-    pub(crate) bits: &'a BitBuffer,
+    pub(crate) bits: &'a [bool],
 }
 
 impl RowBits for TurnedBits<'_> {
@@ -46,15 +46,15 @@ impl RowBits for TurnedBits<'_> {
     ghost tells = { λ r i b. b ≡ not (slice_index_or r.bits.now i false) };
 
     fn bit(&self, i: usize) -> bool {
-        !self.bits.value(i)
+        !self.bits[i]
     }
 }
 
 /// The bits that are set on both sides.
 #[derive(Clone, Copy)]
 pub(crate) struct SharedBits<'a> {
-    pub(crate) left: &'a BitBuffer,
-    pub(crate) right: &'a BitBuffer,
+    pub(crate) left: &'a [bool],
+    pub(crate) right: &'a [bool],
 }
 
 impl RowBits for SharedBits<'_> {
@@ -63,6 +63,6 @@ impl RowBits for SharedBits<'_> {
     ghost tells = { λ r i b. b ≡ (slice_index_or r.left.now i false && slice_index_or r.right.now i false) };
 
     fn bit(&self, i: usize) -> bool {
-        self.left.value(i) & self.right.value(i)
+        self.left[i] & self.right[i]
     }
 }

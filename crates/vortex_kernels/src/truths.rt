@@ -7,7 +7,7 @@ ghost use Rattle.vortex_kernels.specs.Truths.{present, IsValueOf, IsOperand};
 use crate::nulls::{ValidRows, valid_rows};
 use crate::pairs::constant_bool;
 use std::alloc::Global;
-use vortex_columns::{BitBuffer, Column, VortexResult};
+use vortex_columns::{Column, VortexResult};
 
 /// A truth value or null for each row, read as two plain bools.
 pub(crate) trait Truths {
@@ -33,7 +33,7 @@ pub(crate) trait Truths {
 /// Bits, none of them under a null.
 #[derive(Clone, Copy)]
 pub(crate) struct PlainBits<'a> {
-    bits: &'a BitBuffer,
+    bits: &'a [bool],
 }
 
 impl Truths for PlainBits<'_> {
@@ -42,7 +42,7 @@ impl Truths for PlainBits<'_> {
     ghost truth = { λ p i. Some (slice_index_or p.bits.now i false) };
 
     fn value(&self, i: usize) -> bool {
-        self.bits.value(i)
+        self.bits[i]
     }
 
     fn is_valid(&self, _i: usize) -> bool {
@@ -57,8 +57,8 @@ impl Truths for PlainBits<'_> {
 /// Bits, and which of them are under no null.
 #[derive(Clone, Copy)]
 pub(crate) struct MaskedBits<'a> {
-    bits: &'a BitBuffer,
-    valid: &'a BitBuffer,
+    bits: &'a [bool],
+    valid: &'a [bool],
 }
 
 impl Truths for MaskedBits<'_> {
@@ -67,11 +67,11 @@ impl Truths for MaskedBits<'_> {
     ghost truth = { λ p i. present (slice_index_or p.valid.now i false) (slice_index_or p.bits.now i false) };
 
     fn value(&self, i: usize) -> bool {
-        self.bits.value(i)
+        self.bits[i]
     }
 
     fn is_valid(&self, i: usize) -> bool {
-        self.valid.value(i)
+        self.valid[i]
     }
 
     fn has_nulls(&self) -> bool {
@@ -133,9 +133,14 @@ pub(crate) fn lent_truths(alloc: Global, column: &Column) -> VortexResult<Operan
 {
     match column.bits() {
         Some(bits) => match valid_rows(alloc, column)? {
-            ValidRows::Every => Ok(Operand::Plain(PlainBits { bits })),
+            ValidRows::Every => Ok(Operand::Plain(PlainBits {
+                bits: bits.as_slice(),
+            })),
             ValidRows::No => Ok(Operand::One(OneTruth::new(None))),
-            ValidRows::Listed(valid) => Ok(Operand::Masked(MaskedBits { bits, valid })),
+            ValidRows::Listed(valid) => Ok(Operand::Masked(MaskedBits {
+                bits: bits.as_slice(),
+                valid: valid.as_slice(),
+            })),
         },
         None => Ok(Operand::One(OneTruth::new(constant_bool(column)))),
     }

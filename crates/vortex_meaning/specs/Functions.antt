@@ -3,6 +3,7 @@ use Rattle.std.specs.Prelude.{◌≡◌, ℕ, List, Option, None, Bool, length, 
 use Rattle.vortex_types.specs.declared.arity.Arity.{Arity}
 use Rattle.vortex_types.specs.declared.error.VortexError.{VortexError}
 use Rattle.vortex_types.specs.declared.error.VortexError.TheVariants as error
+use Rattle.vortex_types.specs.Answers.{UnlessMemory}
 use Rattle.vortex_types.specs.LogicalTypes.{LogicalType}
 use Rattle.vortex_types.specs.Values.{Value}
 use Rattle.vortex_meaning.specs.Outcomes.{Outcome}
@@ -52,6 +53,11 @@ module _ {V O : Type 0} (m : Meaning V O) where
 abbrev pub IsTypeMismatch : VortexError → Type 0
 IsTypeMismatch (error.TypeMismatch p) = Unit {0}
 IsTypeMismatch e = ⊥
+
+-- the refusal of argument types that are not accepted: E3 alone of a shipped function; a caller's may want memory
+abbrev pub RefusesTypes : {V O : Type 0} → Meaning V O → Function V O → List LogicalType → VortexError → Type 0
+RefusesTypes m (shipped s) ts e = (shipped_type s ts ≡ None) × (e ≡ error.TypeMismatch (shipped_place s))
+RefusesTypes m (custom f o) ts e = UnlessMemory (λ e. (m.return_type f o ts ≡ None) × IsTypeMismatch e) e
 
 -- the refusal of argument types: E3 at the place of a shipped function, at any place by a caller's
 abbrev pub IsMismatchOf : {V O : Type 0} → Function V O → VortexError → Type 0

@@ -9,10 +9,10 @@ use Rattle.vortex_types.specs.TypeEquality.{alike_types}
 use Rattle.vortex_types.specs.Values.{Value, null}
 use Rattle.vortex_operators.specs.declared.operators.Operator.{Operator}
 use Rattle.vortex_operators.specs.declared.operators.Operator.TheVariants.{And, Or, Add, Sub, Mul, Div}
-use Rattle.vortex_operators.specs.Operators.{is_arithmetic, is_boolean, compare_operator_of}
-use Rattle.vortex_operators.specs.declared.operators.CompareOperator.{CompareOperator}
-use Rattle.vortex_operators.specs.OperatorValues.{boolean_value, not_value}
-use Rattle.vortex_operators.specs.OperatorValues.{comparison_type, comparison_value}
+use Rattle.vortex_operators.specs.Operators.{is_arithmetic, is_boolean}
+use Rattle.vortex_operators.specs.OperatorValues.{not_value}
+use Rattle.vortex_operators.specs.OperatorValues.{comparison_type}
+pub use Rattle.vortex_operators.specs.OperatorValues.{value_by, operator_value}
 use Rattle.vortex_meaning.specs.Outcomes.{Outcome, gives}
 use Rattle.vortex_meaning.specs.Meaning.{Meaning}
 
@@ -39,14 +39,6 @@ operator_type Sub ts = None
 operator_type Mul ts = None
 operator_type Div ts = None
 operator_type o ts = compared_type ts
-
--- Kleene's table of And and Or, and the order of values for a comparison
-abbrev pub value_by : Option CompareOperator → Operator → Value → Value → Value
-value_by None op = boolean_value op
-value_by (Some compare) op = comparison_value compare
-
-abbrev pub operator_value : Operator → Value → Value → Value
-operator_value op = value_by (compare_operator_of op) op
 
 abbrev pub of_two : (Value → Value → Value) → List Value → Value
 of_two f (v ∷ w ∷ []) = f v w

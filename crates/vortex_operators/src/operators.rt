@@ -37,6 +37,7 @@ pub enum CompareOperator {
 
 impl Operator {
     ghost use Rattle.std.specs.Prelude.{is_some};
+    ghost use Rattle.vortex_operators.specs.SwapLaws.{AreTurned};
 
     /// The operator as SQL writes it, as `<=` and `and`.
     pub fn text(&self) -> &'static str
@@ -86,9 +87,10 @@ impl Operator {
         }
     }
 
-    /// The operator of the operands the other way round.
+    /// The operator of the operands the other way round, where there is one: `a op b` is `b swap a` for all values.
     pub fn swap(&self) -> Option<Operator>
-        ensures { result ≡ swap_of self.now }
+        ensures table { result ≡ swap_of self.now }
+        ensures turns { IfSome result (AreTurned self.now) }
     {
         match self {
             Operator::Eq => Some(Operator::Eq),

@@ -1,10 +1,13 @@
 //! Row functions over columns: what the crates below offer, under one name.
 #![tactic(auto)]
 
+pub use vortex_checked::{
+    CheckedAdd, CheckedArithmetic, CheckedDiv, CheckedMul, CheckedPrimitiveOp, CheckedSub, Failure,
+};
 pub use vortex_columns::{
-    Arity, BitBuffer, Cell, Column, DType, ExecutionCtx, Ints, MismatchPlace, NativePType,
-    Nullability, NumericOperator, PType, Scalar, ScalarValue, Sequence, StructFields, Validity,
-    VortexError, VortexResult, cell_of,
+    Arity, BitBuffer, ByteRows, Cell, Column, DType, ExecutionCtx, Ints, MismatchPlace,
+    NativePType, Nullability, NumericOperator, PType, Scalar, ScalarValue, Sequence, StructFields,
+    Validity, VortexError, VortexResult, cell_of,
 };
 pub use vortex_functions::{
     Binary, BoundExpression, ChildName, EmptyOptions, ExecutionArgs, NoCustom, Not, ScalarFnId,

@@ -25,7 +25,7 @@ mutual
   exactly (map_type k v n) (map_type l w m) = λ i. exactly k l i && (exactly v w i && bool_eq n m)
   exactly t u = refl
 
-  fields_exactly : (fs gs : Fields) → fields_agree true fs gs ≡ fields_eq fs gs
+  pub fields_exactly : (fs gs : Fields) → fields_agree true fs gs ≡ fields_eq fs gs
   fields_exactly no_fields no_fields = refl
   fields_exactly (field s t fs) (field r u gs) = λ i. pointwise nat_eq s r && (exactly t u i && fields_exactly fs gs i)
   fields_exactly fs gs = refl

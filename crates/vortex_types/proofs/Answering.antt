@@ -1,6 +1,6 @@
 -- From one answer to another.
 use Rattle.std.proofs.Common.{◌≡◌, Result, Ok, Err}
-use Rattle.vortex_types.specs.Answers.{UnlessMemory, Answers, AnswersUnlessMemory, AnswersWhere}
+use Rattle.vortex_types.specs.Answers.{UnlessMemory, Answers, AnswersUnlessMemory, AnswersWhere, MadeWhere}
 use Rattle.vortex_types.specs.declared.error.VortexError.{VortexError}
 use Rattle.vortex_types.specs.declared.error.VortexError.TheVariants.{OutOfMemory}
 
@@ -20,3 +20,7 @@ module _ {A : Type 0} where
   pub answers_where : (r : Result A VortexError) (C : Type 0) (P Q : A → Type 0) (refusal : VortexError) → C → ((x : A) → P x → Q x) → AnswersWhere r C P refusal → AnswersUnlessMemory r Q
   answers_where r C P Q refusal holds f h =
       Answers-weaker r (λ x. C × P x) Q (λ e. (¬ C) × (e ≡ refusal)) (λ e. ⊥) (λ x p. f x p.1) (λ e p. p.0 holds) h
+
+  pub made_where : (r : Result A VortexError) (C : Type 0) (P Q : A → Type 0) (refusal : VortexError) → C → ((x : A) → P x → Q x) → MadeWhere r C P refusal → AnswersUnlessMemory r Q
+  made_where (Ok x) C P Q refusal holds f h = f x h.1
+  made_where (Err e) C P Q refusal holds f h = absurd (h.0 holds)

@@ -16,6 +16,10 @@ Answers r P Q = MatchResult r P (UnlessMemory Q)
 abbrev pub AnswersUnlessMemory : {A : Type 0} → Result A VortexError → (A → Type 0) → Type 0
 AnswersUnlessMemory r P = Answers r P (λ e. ⊥)
 
--- P of what is answered, which comes exactly where the condition holds, and else the one refusal; or memory ran out
+-- P of what is answered, which comes exactly where the condition holds, and else the one refusal: no memory is taken
+abbrev pub MadeWhere : {A : Type 0} → Result A VortexError → Type 0 → (A → Type 0) → VortexError → Type 0
+MadeWhere r C P refusal = MatchResult r (λ x. C × P x) (λ e. (¬ C) × (e ≡ refusal))
+
+-- the same; or memory ran out
 abbrev pub AnswersWhere : {A : Type 0} → Result A VortexError → Type 0 → (A → Type 0) → VortexError → Type 0
 AnswersWhere r C P refusal = Answers r (λ x. C × P x) (λ e. (¬ C) × (e ≡ refusal))

@@ -1,11 +1,12 @@
--- The order of values is total: antisymmetric, transitive, and alike for values that it holds equal.
-use Rattle.std.specs.Prelude.{◌≡◌, refl}
+-- The order of values is total: antisymmetric, transitive, and alike for values that it holds equal; and these are the same.
+use Rattle.std.specs.Prelude.{◌≡◌, Bool, true, false, refl}
 use Rattle.std.proofs.Common.{sym, ap, ◌∙◌}
 use Rattle.std.specs.declared.cmp.Ordering.{Ordering}
 use Rattle.std.specs.declared.cmp.Ordering.TheVariants.{Less, Equal, Greater}
 use Rattle.std.specs.Ordering.{ordering_then, ordering_reverse}
 use Rattle.std.specs.Cmp.{IsTotalOrder, nat_cmp_total, int_cmp_total, bool_cmp_total, then_flip}
 use Rattle.std.proofs.lemmas.Cmp.{nat_list_cmp_total}
+use Rattle.std.specs.FinMap.{nat_cmp-IsAntisymmetric, int_cmp-IsAntisymmetric, slice_cmp-IsAntisymmetric}
 use Rattle.vortex_types.specs.Values.{Value, null, truth, number, text, bytes, list, Values, no_values, value}
 use Rattle.vortex_types.specs.Order.{kind_rank, compare_values, compare_lists}
 
@@ -113,3 +114,54 @@ mutual
 
 pub compare_values_total : IsTotalOrder compare_values
 compare_values_total = record { antisymm = antisymmetric; trans = transitive; congr = alike }
+
+-- two values are equal in the order exactly where they are the same value
+pub record EqualsAreSame : Type 0 where
+  pub same : (v w : Value) → compare_values v w ≡ Equal → v ≡ w
+  pub equal : (v : Value) → compare_values v v ≡ Equal
+
+-- the first of two orders, and the second, are Equal where together they are
+then_first : (a b : Ordering) → ordering_then a b ≡ Equal → a ≡ Equal
+then_first Less b e = cc
+then_first Equal b e = refl
+then_first Greater b e = cc
+
+then_second : (a b : Ordering) → ordering_then a b ≡ Equal → b ≡ Equal
+then_second Less b e = cc
+then_second Equal b e = e
+then_second Greater b e = cc
+
+same_truth : (a b : Bool) → compare_values (truth a) (truth b) ≡ Equal → a ≡ b
+same_truth true true e = refl
+same_truth true false e = cc
+same_truth false true e = cc
+same_truth false false e = refl
+
+mutual
+  same_values : (v w : Value) → compare_values v w ≡ Equal → v ≡ w
+  same_values (truth a) (truth b) e = ap truth (same_truth a b e)
+  same_values (number a) (number b) e = ap number (int_cmp-IsAntisymmetric a b e)
+  same_values (text a) (text b) e = ap text (slice_cmp-IsAntisymmetric nat_cmp-IsAntisymmetric a b e)
+  same_values (bytes a) (bytes b) e = ap bytes (slice_cmp-IsAntisymmetric nat_cmp-IsAntisymmetric a b e)
+  same_values (list a) (list b) e = ap list (same_lists a b e)
+  same_values null null e = refl
+  same_values v w e = cc
+
+  same_lists : (vs ws : Values) → compare_lists vs ws ≡ Equal → vs ≡ ws
+  same_lists no_values no_values e = refl
+  same_lists no_values (value w ws) e = cc
+  same_lists (value v vs) no_values e = cc
+  same_lists (value v vs) (value w ws) e =
+      λ i. value (same_values v w (then_first (compare_values v w) (compare_lists vs ws) e) i) (same_lists vs ws (then_second (compare_values v w) (compare_lists vs ws) e) i)
+
+-- an order is its own reverse at Equal alone
+own_reverse : (o : Ordering) → o ≡ ordering_reverse o → o ≡ Equal
+own_reverse Less e = cc
+own_reverse Equal e = refl
+own_reverse Greater e = cc
+
+pub equals_are_same : EqualsAreSame
+equals_are_same = record {
+  same = same_values;
+  equal = λ v. own_reverse (compare_values v v) (antisymmetric v v);
+}

@@ -43,6 +43,13 @@ impl BitBuffer {
         self.bits.len()
     }
 
+    /// The bits, lent: a loop over rows takes them once, outside.
+    pub fn as_slice(&self) -> &[bool]
+        ensures { result.now ≡ self.now }
+    {
+        self.bits.as_slice()
+    }
+
     /// The bit of row `i`.
     pub fn value(&self, i: usize) -> bool
         requires { i < length self.now }

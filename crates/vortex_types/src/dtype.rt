@@ -175,6 +175,29 @@ impl Eq for DType {
     ghost laws = { on_equiv type_of (decided type_eq type_eq-decides) };
 }
 
+/// The same names in their order with equal types, nullability included.
+impl PartialEq for StructFields {
+    ghost use Rattle.std.specs.Cmp.{on_per, decided, partial_equiv_from_equiv};
+    ghost use Rattle.vortex_types.specs.TypeOf.{struct_fields};
+    ghost use Rattle.vortex_types.specs.TypeEquality.{fields_eq, fields_eq-decides};
+
+    ghost eq = { λ a b. fields_eq (struct_fields a) (struct_fields b) };
+
+    ghost laws = { on_per struct_fields (partial_equiv_from_equiv (decided fields_eq fields_eq-decides)) };
+
+    fn eq(&self, other: &StructFields) -> bool {
+        self.agrees(other, true)
+    }
+}
+
+impl Eq for StructFields {
+    ghost use Rattle.std.specs.Cmp.{on_equiv, decided};
+    ghost use Rattle.vortex_types.specs.TypeOf.{struct_fields};
+    ghost use Rattle.vortex_types.specs.TypeEquality.{fields_eq, fields_eq-decides};
+
+    ghost laws = { on_equiv struct_fields (decided fields_eq fields_eq-decides) };
+}
+
 impl DType {
     ghost use Rattle.vortex_types.specs.TypeOf.{allows_null, type_of};
 

@@ -7,6 +7,7 @@ pub mod context;
 pub mod dtype;
 pub mod error;
 pub mod ints;
+pub mod laws;
 pub mod scalar_value;
 pub mod validity;
 

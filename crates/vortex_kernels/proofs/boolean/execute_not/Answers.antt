@@ -26,7 +26,7 @@ returns-in_ok-validity-in-None-Some c =
     let xs = c.in-None-Some.bits.now in
     let are = c.in-None-Some.ensures'.1 in
     let bits = c.from_vec.result in
-    let told = subst (λ (bs : List Bool). AreTold (length xs) (λ i b. b ≡ not (slice_index_or xs i false)) bs) (sym c.from_vec.ensures) (rw c.len-in-None-Some.ensures at c.in_ok-values-in-None-Some.ensures) in
+    let told = subst (λ (bs : List Bool). AreTold (length xs) (λ i b. b ≡ not (slice_index_or xs i false)) bs) (sym c.from_vec.ensures) (rw (c.len-in-None-Some.ensures, c.as_slice.ensures) at c.in_ok-values-in-None-Some.ensures) in
     subst (λ (t : LogicalType). AnswersUnlessMemory c.try_bool.result (HasRows t (length input.rows) (λ i. not_value (row input.rows i)))) (sym (bool_dtype input.dtype c.requires))
     (bool_answers (is_nullable input.dtype) (length input.rows) (λ i. not (is_null (row input.rows i))) (λ i. not_value (row input.rows i)) bits (validity_of c.in_ok-validity-in-None-Some.validity) c.try_bool.result (told.count ∙ are.count) c.in_ok-validity-in-None-Some.ensures
     (not_row input xs bits are told)

@@ -16,7 +16,7 @@ returns-in-Some-Some-default g c =
     (λ bits. AreHeld g.P.Comparison.operator (λ i o. o ≡ bool_cmp (slice_index_or xs i false) (slice_index_or ys i false)) (length l.rows) bits.items)
     (λ bits. AreComparisons g.P.Comparison.operator l.rows r.rows bits.items)
     (λ bits h. held_compares g.P.Comparison.operator _ l.rows r.rows bits.items h (bits_order l r xs ys c.requires c.in-Some-Some-default.ensures.1 c.in-Some-Some-default.ensures'.1))
-    (rw c.len-len.ensures at c.hold_in_pairs.ensures)
+    (rw (c.as_slice-left.ensures, c.as_slice-right.ensures, c.len-len.ensures) at c.hold_in_pairs.ensures)
 
 pub returns-in-Some-None-Some : goal.returns-in-Some-None-Some
 returns-in-Some-None-Some g c =
@@ -27,4 +27,4 @@ returns-in-Some-None-Some g c =
     (λ bits. AreHeld g.P.Comparison.operator (λ i o. o ≡ bool_cmp (slice_index_or xs i false) c.in-Some-None-Some.right) (length l.rows) bits.items)
     (λ bits. AreComparisons g.P.Comparison.operator l.rows r.rows bits.items)
     (λ bits h. held_compares g.P.Comparison.operator _ l.rows r.rows bits.items h (bit_order l r xs c.in-Some-None-Some.right c.requires c.in-Some-None-Some.ensures.1 c.in-Some-None-Some.ensures''.value))
-    (rw c.len-len.ensures at c.hold_in_pairs-in-Some-None-Some.ensures)
+    (rw (c.as_slice-left-in-Some-None-Some.ensures, c.len-len.ensures) at c.hold_in_pairs-in-Some-None-Some.ensures)
