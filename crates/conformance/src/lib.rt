@@ -12,6 +12,8 @@ mod literals;
 mod makers;
 pub mod must_be_true;
 #[cfg(test)]
+mod readme;
+#[cfg(test)]
 mod texts;
 #[cfg(test)]
 mod trees;
