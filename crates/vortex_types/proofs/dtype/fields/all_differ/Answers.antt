@@ -1,6 +1,6 @@
 use Rattle.std.proofs.Common.{sym, ◌∙◌, true≢false}
 use Rattle.vortex_types.proofs.NamesDiffer.{one_more, differs_from_before}
-use Rattle.vortex_types.proofs.dtype.all_differ.Goals as goal
+use Rattle.vortex_types.proofs.dtype.fields.all_differ.Goals as goal
 
 pub loop-i-preserved : goal.loop-i-preserved
 loop-i-preserved c =

@@ -2,7 +2,7 @@ use Rattle.std.proofs.Common.{◌∙◌, ap}
 use Rattle.std.proofs.lemmas.Iterator.{items_from_collect, YieldsList-from_zip}
 use Rattle.std.proofs.lemmas.Iterator.Adapters.{YieldsList-from_vec}
 use Rattle.std.specs.Vec.Iter.{into_iter_items, into_iter_len}
-use Rattle.vortex_types.proofs.dtype.pairs.Goals as goal
+use Rattle.vortex_types.proofs.dtype.fields.pairs.Goals as goal
 
 pub returns : goal.returns
 returns c =

@@ -1,0 +1,98 @@
+//! The fields of a struct type.
+ghost use Rattle.std.specs.Prelude.{◌≡◌, ◌≢◌, ◌↔◌, IsTrue, IfOk, All, string_bytes};
+ghost use Rattle.std.specs.List.{zip};
+ghost use Rattle.vortex_types.specs.TypeOf.{AllDiffer};
+ghost use Rattle.vortex_types.specs.declared.error.VortexError.TheVariants.{InvalidColumn};
+ghost use Rattle.vortex_types.specs.Answers.{AnswersWhere};
+
+use super::{DType, StructFields};
+use crate::error::{VortexError, VortexResult};
+use std::alloc::{AllocError, Global};
+
+/// Whether a name stands nowhere in the list.
+fn is_new(name: &String, names: &[String]) -> bool
+    ensures { IsTrue result ↔ All (λ n. string_bytes n ≢ string_bytes name.now) names.now }
+{
+    names.iter().all(|n| n.as_str() != name.as_str())
+}
+
+/// Whether no name stands twice.
+fn all_differ(names: &[String]) -> bool
+    ensures { IsTrue result ↔ AllDiffer names.now }
+{
+    for (i, name) in names.iter().enumerate() {
+        if !is_new(name, &names[..i]) {
+            return false;
+        }
+    }
+    true
+}
+
+/// Each name with the type in its place.
+fn pairs(
+    alloc: Global,
+    names: Vec<String>,
+    types: Vec<DType>,
+) -> Result<Vec<(String, DType)>, AllocError>
+    ensures { IfOk result (λ fields. fields.items ≡ zip names.items types.items) }
+{
+    names.into_iter().zip(types).collect(alloc)
+}
+
+impl StructFields {
+    ghost use Rattle.std.specs.Prelude.{◌<◌, MatchOption, Some, None};
+    ghost use Rattle.vortex_types.specs.TypeOf.{type_of, struct_fields, named_types, AreNamed};
+    ghost use Rattle.vortex_types.specs.LogicalTypes.{field_count, field_type, find_field};
+    ghost use Rattle.vortex_types.specs.FieldNames.{field_name};
+
+    /// Pairs names with types. E12 exactly where their counts differ or a name stands twice.
+    pub fn try_new(
+        alloc: Global,
+        names: Vec<String>,
+        types: Vec<DType>,
+    ) -> VortexResult<StructFields>
+        ensures { AnswersWhere result (AreNamed names.items types.items) (λ f. struct_fields f ≡ named_types names.items types.items) InvalidColumn }
+    {
+        if names.len() != types.len() || !all_differ(&names) {
+            return Err(VortexError::InvalidColumn);
+        }
+        Ok(StructFields {
+            fields: pairs(alloc, names, types)?,
+        })
+    }
+
+    /// How many fields there are.
+    pub fn len(&self) -> usize
+        ensures { result ≡ field_count (struct_fields self.now) }
+    {
+        self.fields.len()
+    }
+
+    /// The type of field `k`.
+    pub fn dtype(&self, k: usize) -> &DType
+        requires { k < field_count (struct_fields self.now) }
+        ensures { type_of result.now ≡ field_type k (struct_fields self.now) }
+    {
+        &self.fields[k].1
+    }
+
+    /// The name of field `k`.
+    pub fn name(&self, k: usize) -> &str
+        requires { k < field_count (struct_fields self.now) }
+        ensures { result.now ≡ field_name k (struct_fields self.now) }
+    {
+        self.fields[k].0.as_str()
+    }
+
+    /// The first field of that name: its place and its type. Takes no memory.
+    pub fn find(&self, name: &str) -> Option<(usize, &DType)>
+        ensures { MatchOption result (find_field name.now (struct_fields self.now) ≡ None) (λ found. find_field name.now (struct_fields self.now) ≡ Some (found.0, type_of found.1.now)) }
+    {
+        for (i, field) in self.fields.iter().enumerate() {
+            if field.0.as_str() == name {
+                return Some((i, &field.1));
+            }
+        }
+        None
+    }
+}
