@@ -1,6 +1,8 @@
 -- Null among the values of a type.
 use Rattle.std.proofs.Common.{◌≡◌, true, false, refl}
-use Rattle.vortex_types.specs.LogicalTypes.{LogicalType, null_type, bool_type, integer_type, text_type, bytes_type, struct_type, list_type, fixed_size_list_type, map_type, is_nullable}
+use Rattle.vortex_types.specs.LogicalTypes.{LogicalType, null_type, bool_type, integer_type}
+use Rattle.vortex_types.specs.LogicalTypes.{text_type, bytes_type, struct_type, list_type}
+use Rattle.vortex_types.specs.LogicalTypes.{fixed_size_list_type, map_type, is_nullable}
 use Rattle.vortex_types.specs.Values.{Value, null, truth, number, text, bytes, list, is_null}
 use Rattle.vortex_types.specs.Typing.{HasType}
 
@@ -24,7 +26,8 @@ nullable_by (list_type t n) h e = cc
 nullable_by (fixed_size_list_type t s n) h e = cc
 nullable_by (map_type k v n) h e = cc
 
-pub not_null : (t : LogicalType) (v : Value) → HasType t v → is_nullable t ≡ false → is_null v ≡ false
+pub not_null : (t : LogicalType) (v : Value) → HasType t v → is_nullable t ≡ false
+    → is_null v ≡ false
 not_null t null h e = absurd (nullable_by t h e)
 not_null t (truth b) h e = refl
 not_null t (number z) h e = refl

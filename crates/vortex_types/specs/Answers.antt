@@ -9,17 +9,21 @@ UnlessMemory Q OutOfMemory = ⊤
 UnlessMemory Q e = Q e
 
 -- P of what is answered, Q of a refusal; or memory ran out
-abbrev pub Answers : {A : Type 0} → Result A VortexError → (A → Type 0) → (VortexError → Type 0) → Type 0
+abbrev pub Answers : {A : Type 0} → Result A VortexError → (A → Type 0) → (VortexError → Type 0)
+    → Type 0
 Answers r P Q = MatchResult r P (UnlessMemory Q)
 
 -- P of what is answered; or memory ran out
 abbrev pub AnswersUnlessMemory : {A : Type 0} → Result A VortexError → (A → Type 0) → Type 0
 AnswersUnlessMemory r P = Answers r P (λ e. ⊥)
 
--- P of what is answered, which comes exactly where the condition holds, and else the one refusal: no memory is taken
-abbrev pub MadeWhere : {A : Type 0} → Result A VortexError → Type 0 → (A → Type 0) → VortexError → Type 0
+-- P of what is answered, which comes exactly where the condition holds, and else the one refusal:
+-- no memory is taken
+abbrev pub MadeWhere : {A : Type 0} → Result A VortexError → Type 0 → (A → Type 0) → VortexError
+    → Type 0
 MadeWhere r C P refusal = MatchResult r (λ x. C × P x) (λ e. (¬ C) × (e ≡ refusal))
 
 -- the same; or memory ran out
-abbrev pub AnswersWhere : {A : Type 0} → Result A VortexError → Type 0 → (A → Type 0) → VortexError → Type 0
+abbrev pub AnswersWhere : {A : Type 0} → Result A VortexError → Type 0 → (A → Type 0) → VortexError
+    → Type 0
 AnswersWhere r C P refusal = Answers r (λ x. C × P x) (λ e. (¬ C) × (e ≡ refusal))

@@ -1,13 +1,20 @@
--- Codes of values and types: each is written as a tree of numbers that gives it back. No contract cites what stands here.
-use Rattle.std.specs.Prelude.{◌≡◌, ℕ, zero, suc, ℤ, pos, negsuc, Bool, true, false, List, [], ◌∷◌, refl}
+-- Codes of values and types: each is written as a tree of numbers that gives it back. No contract
+-- cites what stands here.
+use Rattle.std.specs.Prelude.{◌≡◌, ℕ, zero, suc, ℤ, pos, negsuc, Bool, true, false, List, [], ◌∷◌}
+use Rattle.std.specs.Prelude.{refl}
 use Rattle.std.specs.Coded.{Coded, code_by}
 use Rattle.std.proofs.Common.{ap}
 use base.Stored.{Gv, gnil, gnum, gcons}
 use denote.Struct.Codes.{itself}
 use Rattle.vortex_types.specs.declared.dtype.PType.{PType}
-use Rattle.vortex_types.specs.declared.dtype.PType.TheVariants.{I8, I16, I32, I64, U8, U16, U32, U64}
-use Rattle.vortex_types.specs.LogicalTypes.{LogicalType, null_type, bool_type, integer_type, text_type, bytes_type, struct_type, list_type, fixed_size_list_type, map_type, Fields, no_fields, field}
-use Rattle.vortex_types.specs.Values.{Value, null, truth, number, text, bytes, list, Values, no_values, value}
+use Rattle.vortex_types.specs.declared.dtype.PType.TheVariants.{I8, I16, I32, I64, U8, U16, U32}
+use Rattle.vortex_types.specs.declared.dtype.PType.TheVariants.{U64}
+use Rattle.vortex_types.specs.LogicalTypes.{LogicalType, null_type, bool_type, integer_type}
+use Rattle.vortex_types.specs.LogicalTypes.{text_type, bytes_type, struct_type, list_type}
+use Rattle.vortex_types.specs.LogicalTypes.{fixed_size_list_type, map_type, Fields, no_fields}
+use Rattle.vortex_types.specs.LogicalTypes.{field}
+use Rattle.vortex_types.specs.Values.{Value, null, truth, number, text, bytes, list, Values}
+use Rattle.vortex_types.specs.Values.{no_values, value}
 
 abbrev pub number_in : Gv → ℕ
 number_in gnil = 0
@@ -127,28 +134,37 @@ abbrev mutual
   pub tree_of_type : LogicalType → Gv
   tree_of_type null_type = gnil
   tree_of_type (bool_type n) = gcons (gnum 0) (tree_of_bool n)
-  tree_of_type (integer_type p n) = gcons (gnum 1) (gcons (gnum (number_of_ptype p)) (tree_of_bool n))
+  tree_of_type (integer_type p n) =
+      gcons (gnum 1) (gcons (gnum (number_of_ptype p)) (tree_of_bool n))
   tree_of_type (text_type n) = gcons (gnum 2) (tree_of_bool n)
   tree_of_type (bytes_type n) = gcons (gnum 3) (tree_of_bool n)
   tree_of_type (struct_type fs n) = gcons (gnum 4) (gcons (tree_of_fields fs) (tree_of_bool n))
   tree_of_type (list_type t n) = gcons (gnum 5) (gcons (tree_of_type t) (tree_of_bool n))
-  tree_of_type (fixed_size_list_type t s n) = gcons (gnum 6) (gcons (tree_of_type t) (gcons (gnum s) (tree_of_bool n)))
-  tree_of_type (map_type k v n) = gcons (gnum 7) (gcons (tree_of_type k) (gcons (tree_of_type v) (tree_of_bool n)))
+  tree_of_type (fixed_size_list_type t s n) =
+      gcons (gnum 6) (gcons (tree_of_type t) (gcons (gnum s) (tree_of_bool n)))
+  tree_of_type (map_type k v n) =
+      gcons (gnum 7) (gcons (tree_of_type k) (gcons (tree_of_type v) (tree_of_bool n)))
 
   pub tree_of_fields : Fields → Gv
   tree_of_fields no_fields = gnil
-  tree_of_fields (field name t fs) = gcons (tree_of_numbers name) (gcons (tree_of_type t) (tree_of_fields fs))
+  tree_of_fields (field name t fs) =
+      gcons (tree_of_numbers name) (gcons (tree_of_type t) (tree_of_fields fs))
 
 abbrev mutual
   pub type_in : Gv → LogicalType
   type_in (gcons (gnum zero) g) = bool_type (bool_in g)
-  type_in (gcons (gnum (suc zero)) (gcons p n)) = integer_type (ptype_numbered (number_in p)) (bool_in n)
+  type_in (gcons (gnum (suc zero)) (gcons p n)) =
+      integer_type (ptype_numbered (number_in p)) (bool_in n)
   type_in (gcons (gnum (suc (suc zero))) g) = text_type (bool_in g)
   type_in (gcons (gnum (suc (suc (suc zero)))) g) = bytes_type (bool_in g)
-  type_in (gcons (gnum (suc (suc (suc (suc zero))))) (gcons fs n)) = struct_type (fields_in fs) (bool_in n)
-  type_in (gcons (gnum (suc (suc (suc (suc (suc zero)))))) (gcons t n)) = list_type (type_in t) (bool_in n)
-  type_in (gcons (gnum (suc (suc (suc (suc (suc (suc zero))))))) (gcons t (gcons s n))) = fixed_size_list_type (type_in t) (number_in s) (bool_in n)
-  type_in (gcons (gnum (suc (suc (suc (suc (suc (suc (suc zero)))))))) (gcons k (gcons v n))) = map_type (type_in k) (type_in v) (bool_in n)
+  type_in (gcons (gnum (suc (suc (suc (suc zero))))) (gcons fs n)) =
+      struct_type (fields_in fs) (bool_in n)
+  type_in (gcons (gnum (suc (suc (suc (suc (suc zero)))))) (gcons t n)) =
+      list_type (type_in t) (bool_in n)
+  type_in (gcons (gnum (suc (suc (suc (suc (suc (suc zero))))))) (gcons t (gcons s n))) =
+      fixed_size_list_type (type_in t) (number_in s) (bool_in n)
+  type_in (gcons (gnum (suc (suc (suc (suc (suc (suc (suc zero)))))))) (gcons k (gcons v n))) =
+      map_type (type_in k) (type_in v) (bool_in n)
   type_in g = null_type
 
   pub fields_in : Gv → Fields
@@ -164,12 +180,14 @@ mutual
   type_back (bytes_type n) = ap bytes_type (bool_back n)
   type_back (struct_type fs n) = λ i. struct_type (fields_back fs i) (bool_back n i)
   type_back (list_type t n) = λ i. list_type (type_back t i) (bool_back n i)
-  type_back (fixed_size_list_type t s n) = λ i. fixed_size_list_type (type_back t i) s (bool_back n i)
+  type_back (fixed_size_list_type t s n) =
+      λ i. fixed_size_list_type (type_back t i) s (bool_back n i)
   type_back (map_type k v n) = λ i. map_type (type_back k i) (type_back v i) (bool_back n i)
 
   fields_back : (fs : Fields) → fields_in (tree_of_fields fs) ≡ fs
   fields_back no_fields = refl
-  fields_back (field name t fs) = λ i. field (numbers_back name i) (type_back t i) (fields_back fs i)
+  fields_back (field name t fs) =
+      λ i. field (numbers_back name i) (type_back t i) (fields_back fs i)
 
 abbrev pub coded_type : Coded LogicalType
 coded_type = code_by Gv itself tree_of_type type_in type_back

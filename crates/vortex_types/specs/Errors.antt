@@ -1,7 +1,14 @@
 -- The number and the name of each refusal.
 use Rattle.std.specs.Prelude.{ℕ, List, codes}
 use Rattle.vortex_types.specs.declared.error.VortexError.{VortexError}
-use Rattle.vortex_types.specs.declared.error.VortexError.TheVariants.{IndexOutOfBounds, LengthMismatch, TypeMismatch, NotBooleanOperator, NotCompareOperator, ArityMismatch, Arithmetic, BadOptions, OutOfMemory, Custom, ScopeMismatch, InvalidColumn, NoSuchPlace}
+use Rattle.vortex_types.specs.declared.error.VortexError.TheVariants.{IndexOutOfBounds}
+use Rattle.vortex_types.specs.declared.error.VortexError.TheVariants.{LengthMismatch, TypeMismatch}
+use Rattle.vortex_types.specs.declared.error.VortexError.TheVariants.{NotBooleanOperator}
+use Rattle.vortex_types.specs.declared.error.VortexError.TheVariants.{NotCompareOperator}
+use Rattle.vortex_types.specs.declared.error.VortexError.TheVariants.{ArityMismatch, Arithmetic}
+use Rattle.vortex_types.specs.declared.error.VortexError.TheVariants.{BadOptions, OutOfMemory}
+use Rattle.vortex_types.specs.declared.error.VortexError.TheVariants.{Custom, ScopeMismatch}
+use Rattle.vortex_types.specs.declared.error.VortexError.TheVariants.{InvalidColumn, NoSuchPlace}
 use Rattle.vortex_types.specs.declared.error.MismatchPlace.{MismatchPlace}
 use Rattle.vortex_types.specs.declared.error.MismatchPlace.TheVariants as place
 use Rattle.vortex_types.specs.declared.error.NumericOperator.{NumericOperator}

@@ -1,9 +1,11 @@
 -- Logical types: what kind of value a row holds, whatever the memory behind it.
-use Rattle.std.specs.Prelude.{ℕ, zero, suc, max, List, Bool, true, false, Option, Some, None, nat_eq, if◌then◌else◌}
+use Rattle.std.specs.Prelude.{ℕ, zero, suc, max, List, Bool, true, false, Option, Some, None}
+use Rattle.std.specs.Prelude.{nat_eq, if◌then◌else◌}
 use Rattle.std.specs.Cmp.Lexicographic.{pointwise}
 use Rattle.vortex_types.specs.declared.dtype.PType.{PType}
 
--- The truth value in a type is true where the type has null. A struct's fields stand in declared order, each a name and a type.
+-- The truth value in a type is true where the type has null. A struct's fields stand in declared
+-- order, each a name and a type.
 mutual
   pub data LogicalType : Type 0 where
     null_type : LogicalType
@@ -54,12 +56,15 @@ abbrev mutual
   without_nullability (bytes_type n) = bytes_type false
   without_nullability (struct_type fs n) = struct_type (fields_without_nullability fs) false
   without_nullability (list_type t n) = list_type (without_nullability t) false
-  without_nullability (fixed_size_list_type t s n) = fixed_size_list_type (without_nullability t) s false
-  without_nullability (map_type k v n) = map_type (without_nullability k) (without_nullability v) false
+  without_nullability (fixed_size_list_type t s n) =
+      fixed_size_list_type (without_nullability t) s false
+  without_nullability (map_type k v n) =
+      map_type (without_nullability k) (without_nullability v) false
 
   pub fields_without_nullability : Fields → Fields
   fields_without_nullability no_fields = no_fields
-  fields_without_nullability (field name t fs) = field name (without_nullability t) (fields_without_nullability fs)
+  fields_without_nullability (field name t fs) =
+      field name (without_nullability t) (fields_without_nullability fs)
 
 abbrev pub is_bool_type : LogicalType → Bool
 is_bool_type (bool_type n) = true
@@ -107,4 +112,5 @@ after_one (Some p) = Some (suc p.0, p.1)
 
 abbrev pub find_field : List ℕ → Fields → Option (ℕ × LogicalType)
 find_field name no_fields = None
-find_field name (field n t fs) = if pointwise nat_eq n name then Some (0, t) else after_one (find_field name fs)
+find_field name (field n t fs) =
+    if pointwise nat_eq n name then Some (0, t) else after_one (find_field name fs)

@@ -3,7 +3,8 @@ use Rattle.std.specs.Prelude.{ℤ, pos, List, map}
 use Rattle.vortex_types.specs.declared.ints.Ints.{Ints}
 use Rattle.vortex_types.specs.declared.ints.Ints.TheVariants as ints
 use Rattle.vortex_types.specs.declared.dtype.PType.{PType}
-use Rattle.vortex_types.specs.declared.dtype.PType.TheVariants.{I8, I16, I32, I64, U8, U16, U32, U64}
+use Rattle.vortex_types.specs.declared.dtype.PType.TheVariants.{I8, I16, I32, I64, U8, U16, U32}
+use Rattle.vortex_types.specs.declared.dtype.PType.TheVariants.{U64}
 
 abbrev pub numbers : Ints → List ℤ
 numbers (ints.I8 xs) = map (λ x. x) xs.items

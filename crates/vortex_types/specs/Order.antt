@@ -4,9 +4,11 @@ use Rattle.std.specs.declared.cmp.Ordering.{Ordering}
 use Rattle.std.specs.declared.cmp.Ordering.TheVariants.{Less, Equal, Greater}
 use Rattle.std.specs.Ordering.{nat_cmp, int_cmp, bool_cmp, ordering_then}
 use Rattle.std.specs.Cmp.Lexicographic.{slice_cmp}
-use Rattle.vortex_types.specs.Values.{Value, null, truth, number, text, bytes, list, Values, no_values, value}
+use Rattle.vortex_types.specs.Values.{Value, null, truth, number, text, bytes, list, Values}
+use Rattle.vortex_types.specs.Values.{no_values, value}
 
--- Null is least and equal to itself. Two kinds of value that are not null have no type in common: any total order of the kinds serves.
+-- Null is least and equal to itself. Two kinds of value that are not null have no type in common:
+-- any total order of the kinds serves.
 abbrev pub kind_rank : Value → ℕ
 kind_rank null = 0
 kind_rank (truth b) = 1
@@ -15,7 +17,8 @@ kind_rank (text bs) = 3
 kind_rank (bytes bs) = 4
 kind_rank (list vs) = 5
 
--- false is below true, numbers go by value, texts and bytes by their first byte that differs, lists and records by their
+-- false is below true, numbers go by value, texts and bytes by their first byte that differs, lists
+-- and records by their
 -- first value that differs; a beginning is below what continues it
 abbrev mutual
   pub compare_values : Value → Value → Ordering

@@ -1,4 +1,5 @@
--- The order of values is total: antisymmetric, transitive, and alike for values that it holds equal; and these are the same.
+-- The order of values is total: antisymmetric, transitive, and alike for values that it holds
+-- equal; and these are the same.
 use Rattle.std.specs.Prelude.{◌≡◌, Bool, true, false, refl}
 use Rattle.std.proofs.Common.{sym, ap, ◌∙◌}
 use Rattle.std.specs.declared.cmp.Ordering.{Ordering}
@@ -6,8 +7,10 @@ use Rattle.std.specs.declared.cmp.Ordering.TheVariants.{Less, Equal, Greater}
 use Rattle.std.specs.Ordering.{ordering_then, ordering_reverse}
 use Rattle.std.specs.Cmp.{IsTotalOrder, nat_cmp_total, int_cmp_total, bool_cmp_total, then_flip}
 use Rattle.std.proofs.lemmas.Cmp.{nat_list_cmp_total}
-use Rattle.std.specs.FinMap.{nat_cmp-IsAntisymmetric, int_cmp-IsAntisymmetric, slice_cmp-IsAntisymmetric}
-use Rattle.vortex_types.specs.Values.{Value, null, truth, number, text, bytes, list, Values, no_values, value}
+use Rattle.std.specs.FinMap.{nat_cmp-IsAntisymmetric, int_cmp-IsAntisymmetric}
+use Rattle.std.specs.FinMap.{slice_cmp-IsAntisymmetric}
+use Rattle.vortex_types.specs.Values.{Value, null, truth, number, text, bytes, list, Values}
+use Rattle.vortex_types.specs.Values.{no_values, value}
 use Rattle.vortex_types.specs.Order.{kind_rank, compare_values, compare_lists}
 
 mutual
@@ -25,15 +28,18 @@ mutual
   antisymmetric null (list b) = refl
   antisymmetric v w = nat_cmp_total.antisymm (kind_rank v) (kind_rank w)
 
-  lists_antisymmetric : (vs ws : Values) → compare_lists vs ws ≡ ordering_reverse (compare_lists ws vs)
+  lists_antisymmetric : (vs ws : Values)
+      → compare_lists vs ws ≡ ordering_reverse (compare_lists ws vs)
   lists_antisymmetric no_values no_values = refl
   lists_antisymmetric no_values (value w ws) = refl
   lists_antisymmetric (value v vs) no_values = refl
   lists_antisymmetric (value v vs) (value w ws) =
-      (λ i. ordering_then (antisymmetric v w i) (lists_antisymmetric vs ws i)) ∙ then_flip (compare_values w v) (compare_lists ws vs)
+      (λ i. ordering_then (antisymmetric v w i) (lists_antisymmetric vs ws i))
+      ∙ then_flip (compare_values w v) (compare_lists ws vs)
 
 -- the first of two orders decides, and else the second: alike for what both hold equal
-then_alike : (a b c p q s : Ordering) → (a ≡ Equal → b ≡ c) → (p ≡ Equal → q ≡ s) → ordering_then a p ≡ Equal → ordering_then b q ≡ ordering_then c s
+then_alike : (a b c p q s : Ordering) → (a ≡ Equal → b ≡ c) → (p ≡ Equal → q ≡ s)
+    → ordering_then a p ≡ Equal → ordering_then b q ≡ ordering_then c s
 then_alike Less b c p q s f g e = cc
 then_alike Equal b c p q s f g e = λ i. ordering_then (f refl i) (g e i)
 then_alike Greater b c p q s f g e = cc
@@ -48,19 +54,25 @@ mutual
   alike null null x e = refl
   alike v w x e = cc
 
-  lists_alike : (vs ws xs : Values) → compare_lists vs ws ≡ Equal → compare_lists vs xs ≡ compare_lists ws xs
+  lists_alike : (vs ws xs : Values) → compare_lists vs ws ≡ Equal
+      → compare_lists vs xs ≡ compare_lists ws xs
   lists_alike no_values no_values xs e = refl
   lists_alike no_values (value w ws) xs e = cc
   lists_alike (value v vs) no_values xs e = cc
   lists_alike (value v vs) (value w ws) no_values e = refl
   lists_alike (value v vs) (value w ws) (value x xs) e =
-      then_alike (compare_values v w) (compare_values v x) (compare_values w x) (compare_lists vs ws) (compare_lists vs xs) (compare_lists ws xs) (alike v w x) (lists_alike vs ws xs) e
+      then_alike (compare_values v w) (compare_values v x) (compare_values w x)
+      (compare_lists vs ws) (compare_lists vs xs) (compare_lists ws xs) (alike v w x)
+      (lists_alike vs ws xs) e
 
 -- the same on the other side
 alike_right : (v w x : Value) → compare_values w x ≡ Equal → compare_values v w ≡ compare_values v x
-alike_right v w x e = antisymmetric v w ∙ ap ordering_reverse (alike w x v e) ∙ sym (antisymmetric v x)
+alike_right v w x e =
+    antisymmetric v w ∙ ap ordering_reverse (alike w x v e) ∙ sym (antisymmetric v x)
 
-then_chain : (a b c p q s : Ordering) → (a ≡ Less → b ≡ Less → c ≡ Less) → (a ≡ Equal → c ≡ b) → (b ≡ Equal → c ≡ a) → (p ≡ Less → q ≡ Less → s ≡ Less) → ordering_then a p ≡ Less → ordering_then b q ≡ Less → ordering_then c s ≡ Less
+then_chain : (a b c p q s : Ordering) → (a ≡ Less → b ≡ Less → c ≡ Less) → (a ≡ Equal → c ≡ b)
+    → (b ≡ Equal → c ≡ a) → (p ≡ Less → q ≡ Less → s ≡ Less) → ordering_then a p ≡ Less
+    → ordering_then b q ≡ Less → ordering_then c s ≡ Less
 then_chain Less Less c p q s f g h k d e = ap (λ o. ordering_then o s) (f refl refl)
 then_chain Less Equal c p q s f g h k d e = ap (λ o. ordering_then o s) (h refl)
 then_chain Less Greater c p q s f g h k d e = cc
@@ -79,7 +91,8 @@ below_null (list a) e = cc
 
 -- each pair of kinds is spelled out as far as the order asks for it
 mutual
-  transitive : (v w x : Value) → compare_values v w ≡ Less → compare_values w x ≡ Less → compare_values v x ≡ Less
+  transitive : (v w x : Value) → compare_values v w ≡ Less → compare_values w x ≡ Less
+      → compare_values v x ≡ Less
   transitive (truth a) (truth b) (truth c) d e = bool_cmp_total.trans a b c d e
   transitive (number a) (number b) (number c) d e = int_cmp_total.trans a b c d e
   transitive (text a) (text b) (text c) d e = nat_list_cmp_total.trans a b c d e
@@ -103,14 +116,17 @@ mutual
   transitive (bytes a) (list b) null d e = absurd (below_null (list b) e)
   transitive v w x d e = cc
 
-  lists_transitive : (vs ws xs : Values) → compare_lists vs ws ≡ Less → compare_lists ws xs ≡ Less → compare_lists vs xs ≡ Less
+  lists_transitive : (vs ws xs : Values) → compare_lists vs ws ≡ Less → compare_lists ws xs ≡ Less
+      → compare_lists vs xs ≡ Less
   lists_transitive no_values no_values xs d e = cc
   lists_transitive no_values (value w ws) no_values d e = cc
   lists_transitive no_values (value w ws) (value x xs) d e = refl
   lists_transitive (value v vs) no_values xs d e = cc
   lists_transitive (value v vs) (value w ws) no_values d e = cc
   lists_transitive (value v vs) (value w ws) (value x xs) d e =
-      then_chain (compare_values v w) (compare_values w x) (compare_values v x) (compare_lists vs ws) (compare_lists ws xs) (compare_lists vs xs) (transitive v w x) (λ q. alike v w x q) (λ q. sym (alike_right v w x q)) (lists_transitive vs ws xs) d e
+      then_chain (compare_values v w) (compare_values w x) (compare_values v x)
+      (compare_lists vs ws) (compare_lists ws xs) (compare_lists vs xs) (transitive v w x)
+      (λ q. alike v w x q) (λ q. sym (alike_right v w x q)) (lists_transitive vs ws xs) d e
 
 pub compare_values_total : IsTotalOrder compare_values
 compare_values_total = record { antisymm = antisymmetric; trans = transitive; congr = alike }
@@ -141,8 +157,10 @@ mutual
   same_values : (v w : Value) → compare_values v w ≡ Equal → v ≡ w
   same_values (truth a) (truth b) e = ap truth (same_truth a b e)
   same_values (number a) (number b) e = ap number (int_cmp-IsAntisymmetric a b e)
-  same_values (text a) (text b) e = ap text (slice_cmp-IsAntisymmetric nat_cmp-IsAntisymmetric a b e)
-  same_values (bytes a) (bytes b) e = ap bytes (slice_cmp-IsAntisymmetric nat_cmp-IsAntisymmetric a b e)
+  same_values (text a) (text b) e =
+      ap text (slice_cmp-IsAntisymmetric nat_cmp-IsAntisymmetric a b e)
+  same_values (bytes a) (bytes b) e =
+      ap bytes (slice_cmp-IsAntisymmetric nat_cmp-IsAntisymmetric a b e)
   same_values (list a) (list b) e = ap list (same_lists a b e)
   same_values null null e = refl
   same_values v w e = cc
@@ -152,7 +170,9 @@ mutual
   same_lists no_values (value w ws) e = cc
   same_lists (value v vs) no_values e = cc
   same_lists (value v vs) (value w ws) e =
-      λ i. value (same_values v w (then_first (compare_values v w) (compare_lists vs ws) e) i) (same_lists vs ws (then_second (compare_values v w) (compare_lists vs ws) e) i)
+      λ i.
+      value (same_values v w (then_first (compare_values v w) (compare_lists vs ws) e) i)
+      (same_lists vs ws (then_second (compare_values v w) (compare_lists vs ws) e) i)
 
 -- an order is its own reverse at Equal alone
 own_reverse : (o : Ordering) → o ≡ ordering_reverse o → o ≡ Equal

@@ -5,8 +5,12 @@ use Rattle.std.specs.Bool.{Decides}
 use Rattle.std.specs.Cmp.Lexicographic.{pointwise, bytes_decides}
 use Rattle.std.specs.Cmp.{unsigned_Decides}
 use Rattle.vortex_types.specs.declared.dtype.PType.{PType}
-use Rattle.vortex_types.specs.declared.dtype.PType.TheVariants.{I8, I16, I32, I64, U8, U16, U32, U64}
-use Rattle.vortex_types.specs.LogicalTypes.{LogicalType, null_type, bool_type, integer_type, text_type, bytes_type, struct_type, list_type, fixed_size_list_type, map_type, Fields, no_fields, field, without_nullability}
+use Rattle.vortex_types.specs.declared.dtype.PType.TheVariants.{I8, I16, I32, I64, U8, U16, U32}
+use Rattle.vortex_types.specs.declared.dtype.PType.TheVariants.{U64}
+use Rattle.vortex_types.specs.LogicalTypes.{LogicalType, null_type, bool_type, integer_type}
+use Rattle.vortex_types.specs.LogicalTypes.{text_type, bytes_type, struct_type, list_type}
+use Rattle.vortex_types.specs.LogicalTypes.{fixed_size_list_type, map_type, Fields, no_fields}
+use Rattle.vortex_types.specs.LogicalTypes.{field, without_nullability}
 
 abbrev pub bool_eq : Bool → Bool → Bool
 bool_eq true b = b
@@ -33,7 +37,8 @@ abbrev mutual
   type_eq (bytes_type n) (bytes_type m) = bool_eq n m
   type_eq (struct_type fs n) (struct_type gs m) = fields_eq fs gs && bool_eq n m
   type_eq (list_type t n) (list_type u m) = type_eq t u && bool_eq n m
-  type_eq (fixed_size_list_type t s n) (fixed_size_list_type u r m) = type_eq t u && (nat_eq s r && bool_eq n m)
+  type_eq (fixed_size_list_type t s n) (fixed_size_list_type u r m) =
+      type_eq t u && (nat_eq s r && bool_eq n m)
   type_eq (map_type k v n) (map_type l w m) = type_eq k l && (type_eq v w && bool_eq n m)
   type_eq t u = false
 
@@ -97,38 +102,53 @@ mutual
   type_refl (bytes_type n) = bool_refl n
   type_refl (struct_type fs n) = both _ _ (fields_refl fs) (bool_refl n)
   type_refl (list_type t n) = both _ _ (type_refl t) (bool_refl n)
-  type_refl (fixed_size_list_type t s n) = both _ _ (type_refl t) (both _ _ ((unsigned_Decides s s).1 refl) (bool_refl n))
+  type_refl (fixed_size_list_type t s n) =
+      both _ _ (type_refl t) (both _ _ ((unsigned_Decides s s).1 refl) (bool_refl n))
   type_refl (map_type k v n) = both _ _ (type_refl k) (both _ _ (type_refl v) (bool_refl n))
 
   fields_refl : (fs : Fields) → fields_eq fs fs ≡ true
   fields_refl no_fields = refl
-  fields_refl (field s t fs) = both _ _ ((bytes_decides s s).1 refl) (both _ _ (type_refl t) (fields_refl fs))
+  fields_refl (field s t fs) =
+      both _ _ ((bytes_decides s s).1 refl) (both _ _ (type_refl t) (fields_refl fs))
 
 mutual
   type_yes : (t u : LogicalType) → type_eq t u ≡ true → t ≡ u
   type_yes null_type null_type h = refl
   type_yes (bool_type n) (bool_type m) h = ap bool_type ((bool_decides n m).0 h)
   type_yes (integer_type p n) (integer_type q m) h =
-      λ i. integer_type (ptype_yes p q (and_left _ _ h) i) ((bool_decides n m).0 (and_right (ptype_eq p q) _ h) i)
+      λ i.
+      integer_type (ptype_yes p q (and_left _ _ h) i)
+      ((bool_decides n m).0 (and_right (ptype_eq p q) _ h) i)
   type_yes (text_type n) (text_type m) h = ap text_type ((bool_decides n m).0 h)
   type_yes (bytes_type n) (bytes_type m) h = ap bytes_type ((bool_decides n m).0 h)
   type_yes (struct_type fs n) (struct_type gs m) h =
-      λ i. struct_type (fields_yes fs gs (and_left _ _ h) i) ((bool_decides n m).0 (and_right (fields_eq fs gs) _ h) i)
+      λ i.
+      struct_type (fields_yes fs gs (and_left _ _ h) i)
+      ((bool_decides n m).0 (and_right (fields_eq fs gs) _ h) i)
   type_yes (list_type t n) (list_type u m) h =
-      λ i. list_type (type_yes t u (and_left _ _ h) i) ((bool_decides n m).0 (and_right (type_eq t u) _ h) i)
+      λ i.
+      list_type (type_yes t u (and_left _ _ h) i)
+      ((bool_decides n m).0 (and_right (type_eq t u) _ h) i)
   type_yes (fixed_size_list_type t s n) (fixed_size_list_type u r m) h =
       let k = and_right (type_eq t u) _ h in
-      λ i. fixed_size_list_type (type_yes t u (and_left _ _ h) i) ((unsigned_Decides s r).0 (and_left _ _ k) i) ((bool_decides n m).0 (and_right (nat_eq s r) _ k) i)
+      λ i.
+      fixed_size_list_type (type_yes t u (and_left _ _ h) i)
+      ((unsigned_Decides s r).0 (and_left _ _ k) i)
+      ((bool_decides n m).0 (and_right (nat_eq s r) _ k) i)
   type_yes (map_type k v n) (map_type l w m) h =
       let g = and_right (type_eq k l) _ h in
-      λ i. map_type (type_yes k l (and_left _ _ h) i) (type_yes v w (and_left _ _ g) i) ((bool_decides n m).0 (and_right (type_eq v w) _ g) i)
+      λ i.
+      map_type (type_yes k l (and_left _ _ h) i) (type_yes v w (and_left _ _ g) i)
+      ((bool_decides n m).0 (and_right (type_eq v w) _ g) i)
   type_yes t u h = cc
 
   fields_yes : (fs gs : Fields) → fields_eq fs gs ≡ true → fs ≡ gs
   fields_yes no_fields no_fields h = refl
   fields_yes (field s t fs) (field r u gs) h =
       let k = and_right (pointwise nat_eq s r) _ h in
-      λ i. field ((bytes_decides s r).0 (and_left _ _ h) i) (type_yes t u (and_left _ _ k) i) (fields_yes fs gs (and_right (type_eq t u) _ k) i)
+      λ i.
+      field ((bytes_decides s r).0 (and_left _ _ h) i) (type_yes t u (and_left _ _ k) i)
+      (fields_yes fs gs (and_right (type_eq t u) _ k) i)
   fields_yes fs gs h = cc
 
 -- the test says yes exactly where the types are the same

@@ -1,5 +1,6 @@
 -- The logical type that a `DType` stands for.
-use Rattle.std.specs.Prelude.{◌≡◌, ◌≢◌, Bool, true, false, List, [], ◌∷◌, String, string_bytes, length, map, AllPairs}
+use Rattle.std.specs.Prelude.{◌≡◌, ◌≢◌, Bool, true, false, List, [], ◌∷◌, String, string_bytes}
+use Rattle.std.specs.Prelude.{length, map, AllPairs}
 use Rattle.std.specs.List.{zip}
 use Rattle.std.specs.declared.alloc.Global.{Global}
 use Rattle.vortex_types.specs.declared.dtype.Nullability.{Nullability}
@@ -7,7 +8,10 @@ use Rattle.vortex_types.specs.declared.dtype.Nullability.TheVariants.{NonNullabl
 use Rattle.vortex_types.specs.declared.dtype.DType.{DType, fold-DType}
 use Rattle.vortex_types.specs.declared.dtype.DType.TheOpen.{DType-F, StructFields-F}
 use Rattle.vortex_types.specs.declared.dtype.StructFields.{StructFields, fold-StructFields}
-use Rattle.vortex_types.specs.LogicalTypes.{LogicalType, null_type, bool_type, integer_type, text_type, bytes_type, struct_type, list_type, fixed_size_list_type, map_type, Fields, no_fields, field}
+use Rattle.vortex_types.specs.LogicalTypes.{LogicalType, null_type, bool_type, integer_type}
+use Rattle.vortex_types.specs.LogicalTypes.{text_type, bytes_type, struct_type, list_type}
+use Rattle.vortex_types.specs.LogicalTypes.{fixed_size_list_type, map_type, Fields, no_fields}
+use Rattle.vortex_types.specs.LogicalTypes.{field}
 
 abbrev pub allows_null : Nullability → Bool
 allows_null NonNullable = false

@@ -1,7 +1,8 @@
 -- The names of the integer types, in the bytes of UTF-8.
 use Rattle.std.specs.Prelude.{ℕ, List, codes}
 use Rattle.vortex_types.specs.declared.dtype.PType.{PType}
-use Rattle.vortex_types.specs.declared.dtype.PType.TheVariants.{I8, I16, I32, I64, U8, U16, U32, U64}
+use Rattle.vortex_types.specs.declared.dtype.PType.TheVariants.{I8, I16, I32, I64, U8, U16, U32}
+use Rattle.vortex_types.specs.declared.dtype.PType.TheVariants.{U64}
 
 abbrev pub ptype_text : PType → List ℕ
 ptype_text I8 = codes "i8"

@@ -1,9 +1,14 @@
 -- Which values have which type.
 use Rattle.std.specs.Prelude.{◌≡◌, ◌<◌, ◌≤ℤ◌, ℤ, pos, negsuc, Bool, true, IsTrue, All, IsUtf8}
 use Rattle.vortex_types.specs.declared.dtype.PType.{PType}
-use Rattle.vortex_types.specs.declared.dtype.PType.TheVariants.{I8, I16, I32, I64, U8, U16, U32, U64}
-use Rattle.vortex_types.specs.LogicalTypes.{LogicalType, null_type, bool_type, integer_type, text_type, bytes_type, struct_type, list_type, fixed_size_list_type, map_type, Fields, no_fields, field}
-use Rattle.vortex_types.specs.Values.{Value, null, truth, number, text, bytes, list, Values, no_values, value, value_count}
+use Rattle.vortex_types.specs.declared.dtype.PType.TheVariants.{I8, I16, I32, I64, U8, U16, U32}
+use Rattle.vortex_types.specs.declared.dtype.PType.TheVariants.{U64}
+use Rattle.vortex_types.specs.LogicalTypes.{LogicalType, null_type, bool_type, integer_type}
+use Rattle.vortex_types.specs.LogicalTypes.{text_type, bytes_type, struct_type, list_type}
+use Rattle.vortex_types.specs.LogicalTypes.{fixed_size_list_type, map_type, Fields, no_fields}
+use Rattle.vortex_types.specs.LogicalTypes.{field}
+use Rattle.vortex_types.specs.Values.{Value, null, truth, number, text, bytes, list, Values}
+use Rattle.vortex_types.specs.Values.{no_values, value, value_count}
 
 -- the least number of an integer type
 abbrev pub least_of : PType → ℤ
@@ -69,8 +74,10 @@ abbrev pub IsFirst : (Value → Type 0) → (Values → Type 0) → Values → T
 IsFirst P Q (value v vs) = P v × Q vs
 IsFirst P Q vs = ⊥
 
--- the value has the type: null every nullable type, a number an integer type whose range it lies in, a list, fixed-size list
--- or map the type of its elements or entries, and a record the types of its fields in declared order
+-- the value has the type: null every nullable type, a number an integer type whose range it lies
+-- in, a list, fixed-size list
+-- or map the type of its elements or entries, and a record the types of its fields in declared
+-- order
 abbrev mutual
   pub HasType : LogicalType → Value → Type 0
   HasType null_type = OrNull true (λ v. ⊥)
@@ -80,7 +87,8 @@ abbrev mutual
   HasType (bytes_type n) = OrNull n IsBytes
   HasType (struct_type fs n) = OrNull n (IsList (HaveFields fs))
   HasType (list_type t n) = OrNull n (IsList (Each (HasType t)))
-  HasType (fixed_size_list_type t s n) = OrNull n (IsList (λ vs. (value_count vs ≡ s) × Each (HasType t) vs))
+  HasType (fixed_size_list_type t s n) =
+      OrNull n (IsList (λ vs. (value_count vs ≡ s) × Each (HasType t) vs))
   HasType (map_type k v n) = OrNull n (IsList (Each (IsList (IsPair (HasType k) (HasType v)))))
 
   pub HaveFields : Fields → Values → Type 0

@@ -3,7 +3,8 @@ use Rattle.std.specs.Prelude.{◌≡◌, ℕ, ◌<◌, Bool, true, false, List, 
 use Rattle.vortex_types.specs.declared.validity.Validity.{Validity}
 use Rattle.vortex_types.specs.declared.validity.Validity.TheVariants as validity
 
--- how a column tells its null rows: it can have none, it has none, all are null, or by a list of bits
+-- how a column tells its null rows: it can have none, it has none, all are null, or by a list of
+-- bits
 pub data ValidityForm : Type 0 where
   non_nullable : ValidityForm
   all_valid : ValidityForm

@@ -2,7 +2,8 @@
 use Rattle.std.specs.Prelude.{List, map, Option, Some, None, string_bytes}
 use Rattle.vortex_types.specs.declared.scalar_value.ScalarValue.{ScalarValue, fold-ScalarValue}
 use Rattle.vortex_types.specs.declared.scalar_value.ScalarValue.TheOpen.{ScalarValue-F}
-use Rattle.vortex_types.specs.Values.{Value, null, truth, number, text, bytes, list, Values, values_of}
+use Rattle.vortex_types.specs.Values.{Value, null, truth, number, text, bytes, list, Values}
+use Rattle.vortex_types.specs.Values.{values_of}
 
 abbrev pub or_null : Option Value → Value
 or_null None = null

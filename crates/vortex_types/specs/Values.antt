@@ -1,5 +1,6 @@
 -- The value of one row. A record is the list of its fields' values: its type tells it from a list.
-use Rattle.std.specs.Prelude.{ℕ, zero, suc, max, ℤ, List, [], ◌∷◌, Bool, true, false, Option, Some, None}
+use Rattle.std.specs.Prelude.{ℕ, zero, suc, max, ℤ, List, [], ◌∷◌, Bool, true, false, Option, Some}
+use Rattle.std.specs.Prelude.{None}
 
 mutual
   pub data Value : Type 0 where

@@ -1,7 +1,8 @@
 //! The types of columns and scalars.
 ghost use Rattle.std.specs.Prelude.{◌≡◌, false};
 ghost use Rattle.vortex_types.specs.Answers.{AnswersUnlessMemory};
-ghost use Rattle.vortex_types.specs.LogicalTypes.{is_nullable, with_nullability, is_bool_type, is_text_type, is_integer_type};
+ghost use Rattle.vortex_types.specs.LogicalTypes.{is_nullable, with_nullability, is_bool_type};
+ghost use Rattle.vortex_types.specs.LogicalTypes.{is_text_type, is_integer_type};
 
 mod equality;
 mod fields;

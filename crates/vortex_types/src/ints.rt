@@ -106,7 +106,8 @@ pub trait NativePType: Copy + Drop {
 
     /// The integer of a number, where the type holds it.
     fn from_i128(value: i128) -> Option<Self>
-        ensures { MatchOption result (¬ FitsPType ptype value) (λ x. FitsPType ptype value × (number x ≡ value)) };
+        ensures { MatchOption result (¬ FitsPType ptype value)
+            (λ x. FitsPType ptype value × (number x ≡ value)) };
 
     /// The same integers, as a list of one of the eight types. Takes no memory.
     fn wrap(values: Vec<Self>) -> Ints
@@ -115,7 +116,8 @@ pub trait NativePType: Copy + Drop {
 
     /// The integers, where they are of this type.
     fn of(ints: &Ints) -> Option<&[Self]>
-        ensures { MatchOption result (¬ (ptype_of ints.now ≡ ptype)) (λ xs. (ptype_of ints.now ≡ ptype) × (numbers ints.now ≡ map number xs.now)) };
+        ensures { MatchOption result (¬ (ptype_of ints.now ≡ ptype))
+            (λ xs. (ptype_of ints.now ≡ ptype) × (numbers ints.now ≡ map number xs.now)) };
 }
 
 /// Looks at each number, so that a caller knows that it lies in the range of its type. Changes nothing.

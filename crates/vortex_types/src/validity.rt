@@ -23,7 +23,8 @@ pub enum Validity {
 
 impl Validity {
     ghost use Rattle.vortex_types.specs.TypeOf.{allows_null};
-    ghost use Rattle.vortex_types.specs.ValidityView.{validity_of, is_valid_row, form_allows_null, FitsRows, Reaches};
+    ghost use Rattle.vortex_types.specs.ValidityView.{validity_of, is_valid_row, form_allows_null};
+    ghost use Rattle.vortex_types.specs.ValidityView.{FitsRows, Reaches};
 
     /// The nullability of the types that it goes with.
     pub fn nullability(&self) -> Nullability
@@ -60,7 +61,8 @@ impl Validity {
 
     /// The bits of an array.
     pub fn bits(&self) -> Option<&BitBuffer>
-        ensures { MatchOption result ((validity_of self.now).form ≢ array) (λ bits. validity_of self.now ≡ record { form = array; bits = bits.now }) }
+        ensures { MatchOption result ((validity_of self.now).form ≢ array)
+            (λ bits. validity_of self.now ≡ record { form = array; bits = bits.now }) }
     {
         match self {
             Validity::Array(bits) => Some(bits),

@@ -51,7 +51,8 @@ impl StructFields {
         names: Vec<String>,
         types: Vec<DType>,
     ) -> VortexResult<StructFields>
-        ensures { AnswersWhere result (AreNamed names.items types.items) (λ f. struct_fields f ≡ named_types names.items types.items) InvalidColumn }
+        ensures { AnswersWhere result (AreNamed names.items types.items)
+            (λ f. struct_fields f ≡ named_types names.items types.items) InvalidColumn }
     {
         if names.len() != types.len() || !all_differ(&names) {
             return Err(VortexError::InvalidColumn);
@@ -86,7 +87,9 @@ impl StructFields {
 
     /// The first field of that name: its place and its type. Takes no memory.
     pub fn find(&self, name: &str) -> Option<(usize, &DType)>
-        ensures { MatchOption result (find_field name.now (struct_fields self.now) ≡ None) (λ found. find_field name.now (struct_fields self.now) ≡ Some (found.0, type_of found.1.now)) }
+        ensures { MatchOption result (find_field name.now (struct_fields self.now) ≡ None)
+            (λ found. find_field name.now (struct_fields self.now)
+            ≡ Some (found.0, type_of found.1.now)) }
     {
         for (i, field) in self.fields.iter().enumerate() {
             if field.0.as_str() == name {

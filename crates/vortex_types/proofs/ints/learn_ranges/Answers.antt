@@ -10,5 +10,7 @@ loop-x-preserved g c = λ k d h.
     let f = g.T.NativePType.number in
     let xs = c.args.values.now in
     let i = c.loop-x.x-index in
-    let at : f c.x-item.result ≡ slice_index_or (map f xs) i d = ap f c.x-item.is ∙ sym (get_or-map f xs i c.x-item.result d c.loop-x-test.true) in
-    below_more (λ j. FitsPType p (slice_index_or (map f xs) j d)) i (λ j b. c.loop-x.invariant j d b) (subst (FitsPType p) at c.to_i128.ensures.fits) k h
+    let at : f c.x-item.result ≡ slice_index_or (map f xs) i d =
+    ap f c.x-item.is ∙ sym (get_or-map f xs i c.x-item.result d c.loop-x-test.true) in
+    below_more (λ j. FitsPType p (slice_index_or (map f xs) j d)) i
+    (λ j b. c.loop-x.invariant j d b) (subst (FitsPType p) at c.to_i128.ensures.fits) k h

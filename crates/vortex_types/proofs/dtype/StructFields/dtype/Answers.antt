@@ -13,4 +13,6 @@ pub returns : goal.returns
 returns c =
     let s = c.args.self.now in
     let h : c.args.k < length s.fields.items = omega (arith, struct_count s) in
-    ap (λ f. type_of f.1) c.index.ensures ∙ sym (ap (field_type c.args.k) (struct_fields-out s) ∙ field_at s.fields.items c.args.k _ h)
+    ap (λ f. type_of f.1) c.index.ensures
+    ∙ sym
+    (ap (field_type c.args.k) (struct_fields-out s) ∙ field_at s.fields.items c.args.k _ h)

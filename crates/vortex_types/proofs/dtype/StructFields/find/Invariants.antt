@@ -7,4 +7,5 @@ use Rattle.vortex_types.proofs.dtype.StructFields.find.Given as goal
 -- what is found in all of them stands after those that were passed
 abbrev pub invariant-loop-i : goal.invariant-loop-i
 invariant-loop-i l =
-    find_field l.name (fields_view l.field-items) ≡ after_some l.i (find_field l.name (fields_view (drop l.i l.field-items)))
+    find_field l.name (fields_view l.field-items)
+    ≡ after_some l.i (find_field l.name (fields_view (drop l.i l.field-items)))

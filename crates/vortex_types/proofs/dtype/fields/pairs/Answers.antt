@@ -8,4 +8,9 @@ pub returns : goal.returns
 returns c =
     let first = c.zip.ensures.first in
     let second = c.zip.ensures.second in
-    items_from_collect c.collect.result c.collect.ensures.ran (YieldsList-from_zip (YieldsList-from_vec c.args.names.items (ap into_iter_items first ∙ c.into_iter.ensures.rest) (ap into_iter_len first ∙ c.into_iter.ensures.len ∙ c.args.names.ok.0)) (YieldsList-from_vec c.args.types.items second.0 (second.1 ∙ c.args.types.ok.0)))
+    items_from_collect c.collect.result c.collect.ensures.ran
+    (YieldsList-from_zip
+    (YieldsList-from_vec c.args.names.items
+    (ap into_iter_items first ∙ c.into_iter.ensures.rest)
+    (ap into_iter_len first ∙ c.into_iter.ensures.len ∙ c.args.names.ok.0))
+    (YieldsList-from_vec c.args.types.items second.0 (second.1 ∙ c.args.types.ok.0)))

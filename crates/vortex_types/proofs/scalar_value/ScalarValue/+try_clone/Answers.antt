@@ -7,4 +7,9 @@ use Rattle.vortex_types.proofs.scalar_value.ScalarValue.+try_clone.Goals as goal
 
 pub returns-after-loop-item : goal.returns-after-loop-item
 returns-after-loop-item t c =
-    view-List c.loop-item.copies ∙ ap (λ vs. list (values_of vs)) (c.loop-item.invariant ∙ ap (map value_or_null) (take_all _ _ c.loop-item-test.false ∙ c.deref-item-items.ensures.value)) ∙ sym (view-List c.in-List.items) ∙ ap value_of (sym c.in-List.is)
+    view-List c.loop-item.copies
+    ∙ ap (λ vs. list (values_of vs))
+    (c.loop-item.invariant
+    ∙ ap (map value_or_null)
+    (take_all _ _ c.loop-item-test.false ∙ c.deref-item-items.ensures.value))
+    ∙ sym (view-List c.in-List.items) ∙ ap value_of (sym c.in-List.is)

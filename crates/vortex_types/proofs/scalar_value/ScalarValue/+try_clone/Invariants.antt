@@ -3,4 +3,5 @@ use Rattle.vortex_types.specs.ValueOf.{value_or_null}
 use Rattle.vortex_types.proofs.scalar_value.ScalarValue.+try_clone.Given as goal
 
 abbrev pub invariant-loop-item : goal.invariant-loop-item
-invariant-loop-item l = map value_or_null l.copies.items ≡ map value_or_null (take l.item-index l.item-items)
+invariant-loop-item l =
+    map value_or_null l.copies.items ≡ map value_or_null (take l.item-index l.item-items)
