@@ -1,16 +1,24 @@
--- What is seen of a column: its type, its rows, the scalar that it is a constant of, if any, and the form of its validity.
--- What lies under a null is not seen.
-use Rattle.std.specs.Prelude.{◌≡◌, ℕ, zero, suc, ◌+◌, ◌*◌, ◌<◌, ◌≤◌, take, drop, slice_index, String, string_bytes, ℤ, pos, Bool, true, false, not, List, [], ◌∷◌, map, length, slice_index_or, if◌then◌else◌, All, Option, Some, None, refl}
+-- What is seen of a column: its type, its rows, the scalar that it is a constant of, if any, and
+-- the form of its validity. What lies under a null is not seen.
+use Rattle.std.specs.Prelude.{◌≡◌, ℕ, zero, suc, ◌+◌, ◌*◌, ◌<◌, ◌≤◌, ℤ, pos, Bool, true, false}
+use Rattle.std.specs.Prelude.{not, if◌then◌else◌, Option, Some, None, refl, String, string_bytes}
+use Rattle.std.specs.Prelude.{List, [], ◌∷◌, map, length, take, drop, All}
+use Rattle.std.specs.Prelude.{slice_index, slice_index_or}
 use Rattle.std.specs.List.{range_with_len}
 use Rattle.std.specs.declared.alloc.Global.{Global}
 use Rattle.vortex_types.specs.declared.dtype.PType.{PType}
 use Rattle.vortex_types.specs.ScalarView.{ScalarView, coded_scalar}
 use Rattle.std.specs.Coded.{Coded, code_by, coded×, coded_ℕ, coded_option, coded_list}
-use Rattle.vortex_types.specs.LogicalTypes.{LogicalType, null_type, integer_type, text_type, bytes_type, struct_type, list_type, fixed_size_list_type, map_type, Fields, no_fields, field, field_count, field_type, is_bool_type, is_nullable}
-use Rattle.vortex_types.specs.Values.{Value, null, truth, number, text, bytes, list, no_values, value, values_of, nth_value, is_null}
+use Rattle.vortex_types.specs.LogicalTypes.{LogicalType, null_type, integer_type, text_type}
+use Rattle.vortex_types.specs.LogicalTypes.{bytes_type, struct_type, list_type, map_type}
+use Rattle.vortex_types.specs.LogicalTypes.{fixed_size_list_type, Fields, no_fields, field}
+use Rattle.vortex_types.specs.LogicalTypes.{field_count, field_type, is_bool_type, is_nullable}
+use Rattle.vortex_types.specs.Values.{Value, null, truth, number, text, bytes, list, no_values}
+use Rattle.vortex_types.specs.Values.{value, values_of, nth_value, is_null}
 use Rattle.vortex_types.specs.Typing.{HasType}
 use Rattle.vortex_types.specs.Codes.{coded_value, coded_type}
-use Rattle.vortex_types.specs.ValidityView.{ValidityForm, non_nullable, all_valid, all_invalid, array}
+use Rattle.vortex_types.specs.ValidityView.{ValidityForm, non_nullable, all_valid, all_invalid}
+use Rattle.vortex_types.specs.ValidityView.{array, ValidityView, is_valid_row}
 
 pub record ColumnView : Type 0 where
   pub dtype : LogicalType
@@ -29,6 +37,14 @@ AreTyped t = All (HasType t)
 abbrev pub valid_rows : List Value → List Bool
 valid_rows = map (λ v. not (is_null v))
 
+-- the validity tells of each row whether it is null
+abbrev pub TellsNulls : List Value → ValidityView → Type 0
+TellsNulls rows v = (i : ℕ) → i < length rows → is_valid_row v i ≡ not (is_null (row rows i))
+
+-- one row with its type
+abbrev pub scalar_in : ColumnView → ℕ → ScalarView
+scalar_in c i = record { dtype = c.dtype; value = row c.rows i }
+
 -- the same value in each row: null, or valid in a type that has null or not
 abbrev pub constant_form : LogicalType → Value → ValidityForm
 constant_form t null = all_invalid
@@ -36,11 +52,27 @@ constant_form t v = if is_nullable t then all_valid else non_nullable
 
 -- one value in each of n rows
 abbrev pub constant_column : ScalarView → ℕ → ColumnView
-constant_column s n = record { dtype = s.dtype; rows = map (λ i. s.value) (range_with_len 0 n); constant = Some s; form = constant_form s.dtype s.value }
+constant_column s n =
+    record {
+      dtype = s.dtype;
+      rows = map (λ i. s.value) (range_with_len 0 n);
+      constant = Some s;
+      form = constant_form s.dtype s.value;
+    }
 
 -- null in each of n rows of type Null
 abbrev pub null_column : ℕ → ColumnView
-null_column n = record { dtype = null_type; rows = map (λ i. null) (range_with_len 0 n); constant = None; form = all_invalid }
+null_column n =
+    record {
+      dtype = null_type;
+      rows = map (λ i. null) (range_with_len 0 n);
+      constant = None;
+      form = all_invalid;
+    }
+
+-- a row that is not null is this value
+abbrev pub IsUnlessNull : Value → Value → Type 0
+IsUnlessNull v w = is_null v ≡ false → v ≡ w
 
 -- a column of truth values that is no constant
 pub record HasBits (c : ColumnView) : Type 0 where
@@ -50,7 +82,8 @@ pub record HasBits (c : ColumnView) : Type 0 where
 -- a bit for each row, which is the row's truth value where it is not null
 pub record AreBits (c : ColumnView) (bits : List Bool) : Type 0 where
   pub count : length bits ≡ length c.rows
-  pub each : (i : ℕ) → i < length bits → is_null (row c.rows i) ≡ false → row c.rows i ≡ truth (slice_index_or bits i false)
+  pub each : (i : ℕ) → i < length bits
+      → IsUnlessNull (row c.rows i) (truth (slice_index_or bits i false))
 
 -- a column of integers of one type that is no constant
 abbrev pub IsIntegerType : PType → LogicalType → Type 0
@@ -64,7 +97,8 @@ pub record HasInts (p : PType) (c : ColumnView) : Type 0 where
 -- a number for each row, which is the row's number where it is not null
 pub record AreInts (c : ColumnView) (ns : List ℤ) : Type 0 where
   pub count : length ns ≡ length c.rows
-  pub each : (i : ℕ) → i < length ns → is_null (row c.rows i) ≡ false → row c.rows i ≡ number (slice_index_or ns i (pos 0))
+  pub each : (i : ℕ) → i < length ns
+      → IsUnlessNull (row c.rows i) (number (slice_index_or ns i (pos 0)))
 
 -- texts or bytes that are no constant
 abbrev pub is_bytes_like : LogicalType → Bool
@@ -83,7 +117,12 @@ pub record HasBytes (c : ColumnView) : Type 0 where
 -- bytes for each row, which are the row's text or byte string where it is not null
 pub record AreBytes (c : ColumnView) (bs : List (List ℕ)) : Type 0 where
   pub count : length bs ≡ length c.rows
-  pub each : (i : ℕ) → i < length bs → is_null (row c.rows i) ≡ false → row c.rows i ≡ bytes_value c.dtype (slice_index_or bs i [])
+  pub each : (i : ℕ) → i < length bs
+      → IsUnlessNull (row c.rows i) (bytes_value c.dtype (slice_index_or bs i []))
+
+-- the bytes of one row
+abbrev pub AreBytesAt : ℕ → ColumnView → List ℕ → Type 0
+AreBytesAt i c bs = IsUnlessNull (row c.rows i) (bytes_value c.dtype bs)
 
 -- one list of a list column
 abbrev pub part : List Value → ℕ → ℕ → Value
@@ -103,7 +142,8 @@ entries ks vs = []
 
 -- each list lies within so many elements
 abbrev pub LieWithin : ℕ → List ℕ → List ℕ → Type 0
-LieWithin count offsets sizes = (i : ℕ) → i < length offsets → slice_index offsets i + slice_index sizes i ≤ count
+LieWithin count offsets sizes = (i : ℕ) → i < length offsets
+    → slice_index offsets i + slice_index sizes i ≤ count
 
 -- the names and types of columns under these names
 abbrev pub named_columns : List (String Global) → List ColumnView → Fields
@@ -127,7 +167,8 @@ pub record HasField (k : ℕ) (c : ColumnView) : Type 0 where
 pub record IsField (k : ℕ) (c : ColumnView) (d : ColumnView) : Type 0 where
   pub dtype : d.dtype ≡ field_type k (fields_in c.dtype)
   pub count : length d.rows ≡ length c.rows
-  pub each : (i : ℕ) → i < length c.rows → is_null (row c.rows i) ≡ false → row d.rows i ≡ value_in k (row c.rows i)
+  pub each : (i : ℕ) → i < length c.rows → is_null (row c.rows i) ≡ false
+      → row d.rows i ≡ value_in k (row c.rows i)
 
 abbrev pub is_list_type : LogicalType → Bool
 is_list_type (list_type t n) = true
@@ -152,20 +193,24 @@ pub record AreLists (c : ColumnView) (e : ColumnView) (offsets sizes : List ℕ)
   pub offset_count : length offsets ≡ length c.rows
   pub size_count : length sizes ≡ length c.rows
   pub within : LieWithin (length e.rows) offsets sizes
-  pub each : (i : ℕ) → i < length c.rows → is_null (row c.rows i) ≡ false → row c.rows i ≡ part e.rows (slice_index offsets i) (slice_index sizes i)
+  pub each : (i : ℕ) → i < length c.rows
+      → IsUnlessNull (row c.rows i) (part e.rows (slice_index offsets i) (slice_index sizes i))
 
 pub record AreFixedSizeLists (c : ColumnView) (e : ColumnView) (size : ℕ) : Type 0 where
   pub dtype : c.dtype ≡ fixed_size_list_type e.dtype size (is_nullable c.dtype)
   pub count : length e.rows ≡ size * length c.rows
-  pub each : (i : ℕ) → i < length c.rows → is_null (row c.rows i) ≡ false → row c.rows i ≡ part e.rows (size * i) size
+  pub each : (i : ℕ) → i < length c.rows → IsUnlessNull (row c.rows i) (part e.rows (size * i) size)
 
-pub record AreMaps (c : ColumnView) (keys values : ColumnView) (offsets sizes : List ℕ) : Type 0 where
-  pub dtype : c.dtype ≡ map_type keys.dtype values.dtype (is_nullable c.dtype)
-  pub offset_count : length offsets ≡ length c.rows
-  pub size_count : length sizes ≡ length c.rows
-  pub value_count : length keys.rows ≡ length values.rows
-  pub within : LieWithin (length keys.rows) offsets sizes
-  pub each : (i : ℕ) → i < length c.rows → is_null (row c.rows i) ≡ false → row c.rows i ≡ part (entries keys.rows values.rows) (slice_index offsets i) (slice_index sizes i)
+pub record AreMaps (c : ColumnView) (keys values : ColumnView) (offsets sizes : List ℕ) : Type 0
+  where
+    pub dtype : c.dtype ≡ map_type keys.dtype values.dtype (is_nullable c.dtype)
+    pub offset_count : length offsets ≡ length c.rows
+    pub size_count : length sizes ≡ length c.rows
+    pub value_count : length keys.rows ≡ length values.rows
+    pub within : LieWithin (length keys.rows) offsets sizes
+    pub each : (i : ℕ) → i < length c.rows
+        → IsUnlessNull (row c.rows i)
+        (part (entries keys.rows values.rows) (slice_index offsets i) (slice_index sizes i))
 
 abbrev pub form_number : ValidityForm → ℕ
 form_number non_nullable = 0
@@ -190,5 +235,12 @@ coded_form = code_by ℕ coded_ℕ form_number form_numbered form_back
 
 abbrev pub coded_column : Coded ColumnView
 coded_column =
-    code_by (LogicalType × (List Value × (Option ScalarView × ValidityForm))) (coded× coded_type (coded× (coded_list coded_value) (coded× (coded_option coded_scalar) coded_form)))
-    (λ c. (c.dtype, (c.rows, (c.constant, c.form)))) (λ p. record { dtype = p.0; rows = p.1.0; constant = p.1.1.0; form = p.1.1.1 }) (λ _. refl)
+    code_by (LogicalType × (List Value × (Option ScalarView × ValidityForm))) coded_parts
+    (λ c. (c.dtype, (c.rows, (c.constant, c.form))))
+    (λ p. record { dtype = p.0; rows = p.1.0; constant = p.1.1.0; form = p.1.1.1 })
+    (λ _. refl)
+  where
+    coded_parts : Coded (LogicalType × (List Value × (Option ScalarView × ValidityForm)))
+    coded_parts =
+        coded× coded_type
+        (coded× (coded_list coded_value) (coded× (coded_option coded_scalar) coded_form))

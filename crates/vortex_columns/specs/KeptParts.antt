@@ -1,7 +1,8 @@
 -- The parts of values that are kept, kind by kind.
 use Rattle.std.specs.Prelude.{◌≡◌, ℕ, ◌<◌, length, List, [], slice_index_or}
 use Rattle.vortex_types.specs.declared.dtype.PType.{PType}
-use Rattle.vortex_columns.specs.Stored.{Kept, bools, integers, texts, byte_strings, structs, lists, fixed_size_lists, maps}
+use Rattle.vortex_columns.specs.Stored.{Kept, bools, integers, texts, byte_strings, structs, lists}
+use Rattle.vortex_columns.specs.Stored.{fixed_size_lists, maps}
 use Rattle.vortex_columns.specs.ColumnView.{ColumnView}
 
 abbrev pub KeptBits : Kept → Type 0

@@ -5,3 +5,7 @@ pub mod LentBytes
 pub mod Stored
 pub mod KeptParts
 pub mod Falls
+pub mod Made
+pub mod ScalarOf
+pub mod CellTypes
+pub mod Words

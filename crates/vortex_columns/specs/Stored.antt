@@ -1,6 +1,9 @@
--- How a column's parts are seen. What is seen of its storage is a function of `Stored`, which forgets where lists lie: so a
+-- How a column's parts are seen. What is seen of its storage is a function of `Stored`, which
+-- forgets where lists lie: so a
 -- copy of a storage is seen as its source.
-use Rattle.std.specs.Prelude.{◌≡◌, ℕ, ◌+◌, ◌*◌, ◌<◌, ◌≤◌, ℤ, pos, Bool, true, false, List, [], ◌∷◌, map, length, String, string_bytes, slice_index, slice_index_or, if◌then◌else◌, All, IsUtf8, Option, Some, None}
+use Rattle.std.specs.Prelude.{◌≡◌, ℕ, ◌+◌, ◌*◌, ◌<◌, ◌≤◌, ℤ, pos, Bool, true, false, List, [], ◌∷◌}
+use Rattle.std.specs.Prelude.{map, length, String, string_bytes, slice_index, slice_index_or}
+use Rattle.std.specs.Prelude.{if◌then◌else◌, All, IsUtf8, Option, Some, None}
 use Rattle.std.specs.List.{range_with_len}
 use Rattle.vortex_columns.specs.declared.column.Column.TheInside.{Inside}
 use Rattle.vortex_columns.specs.declared.column.Storage.{Storage}
@@ -8,15 +11,20 @@ use Rattle.vortex_columns.specs.declared.column.Storage.TheVariants as storage
 use Rattle.vortex_columns.specs.declared.column.Elements.{Elements}
 use Rattle.vortex_columns.specs.declared.column.Elements.TheVariants as elements
 use Rattle.vortex_types.specs.declared.dtype.PType.{PType}
-use Rattle.vortex_types.specs.LogicalTypes.{LogicalType, null_type, bool_type, integer_type, text_type, bytes_type, struct_type, list_type, fixed_size_list_type, map_type, Fields, no_fields, field}
+use Rattle.vortex_types.specs.LogicalTypes.{LogicalType, null_type, bool_type, integer_type}
+use Rattle.vortex_types.specs.LogicalTypes.{text_type, bytes_type, struct_type, list_type}
+use Rattle.vortex_types.specs.LogicalTypes.{fixed_size_list_type, map_type, Fields, no_fields}
+use Rattle.vortex_types.specs.LogicalTypes.{field}
 use Rattle.vortex_types.specs.Values.{Value, null, truth, number, text, bytes}
 use Rattle.vortex_types.specs.Typing.{FitsPType, HasType}
 use Rattle.std.specs.declared.alloc.Global.{Global}
 use Rattle.vortex_types.specs.TypeOf.{type_of, AllDiffer}
 use Rattle.vortex_types.specs.Numbers.{numbers, ptype_of}
 use Rattle.vortex_types.specs.ScalarView.{ScalarView}
-use Rattle.vortex_columns.specs.ColumnView.{ColumnView, AreTyped, constant_form, part, record_at, entries, LieWithin}
-use Rattle.vortex_types.specs.ValidityView.{all_invalid, ValidityView, validity_of, is_valid_row, form_allows_null, FitsRows, Reaches}
+use Rattle.vortex_columns.specs.ColumnView.{ColumnView, AreTyped, constant_form, part, record_at}
+use Rattle.vortex_columns.specs.ColumnView.{entries, LieWithin}
+use Rattle.vortex_types.specs.ValidityView.{all_invalid, ValidityView, validity_of, is_valid_row}
+use Rattle.vortex_types.specs.ValidityView.{form_allows_null, FitsRows, Reaches}
 
 -- values, one a row, of one kind
 pub data Kept : Type 0 where
@@ -42,7 +50,8 @@ kept_of (elements.Binary values) = byte_strings (map (λ b. b.items) values.item
 kept_of (elements.Struct fields) = structs fields.items
 kept_of (elements.List e offsets sizes) = lists e.value offsets.items sizes.items
 kept_of (elements.FixedSizeList e size) = fixed_size_lists e.value size
-kept_of (elements.Map keys values offsets sizes) = maps keys.value values.value offsets.items sizes.items
+kept_of (elements.Map keys values offsets sizes) =
+    maps keys.value values.value offsets.items sizes.items
 
 abbrev pub stored_of : Storage → Stored
 stored_of storage.Null = nulls
@@ -68,7 +77,8 @@ kept_at (byte_strings bs) i = bytes (slice_index_or bs i [])
 kept_at (structs cs) i = record_at cs i
 kept_at (lists e offsets sizes) i = part e.rows (slice_index offsets i) (slice_index sizes i)
 kept_at (fixed_size_lists e size) i = part e.rows (size * i) size
-kept_at (maps k v offsets sizes) i = part (entries k.rows v.rows) (slice_index offsets i) (slice_index sizes i)
+kept_at (maps k v offsets sizes) i =
+    part (entries k.rows v.rows) (slice_index offsets i) (slice_index sizes i)
 
 abbrev pub value_at : Stored → ℕ → Value
 value_at nulls i = null
@@ -84,7 +94,8 @@ rows_of n s = map (row_at s) (range_with_len 0 n)
 -- a column for each field, of its type and of so many rows
 abbrev pub AreFields : ℕ → Fields → List ColumnView → Type 0
 AreFields n no_fields [] = Unit {0}
-AreFields n (field name t fs) (c ∷ cs) = (c.dtype ≡ t) × (length c.rows ≡ n) × AreTyped c.dtype c.rows × AreFields n fs cs
+AreFields n (field name t fs) (c ∷ cs) =
+    (c.dtype ≡ t) × (length c.rows ≡ n) × AreTyped c.dtype c.rows × AreFields n fs cs
 AreFields n fs cs = ⊥
 
 -- so many values of the type, which has null or not
@@ -95,10 +106,14 @@ AreKept n t m (texts ts) = (t ≡ text_type m) × (length ts ≡ n) × All IsUtf
 AreKept n t m (byte_strings bs) = (t ≡ bytes_type m) × (length bs ≡ n) × All (All (λ b. b < 256)) bs
 AreKept n t m (structs cs) = (fs : Fields) × (t ≡ struct_type fs m) × AreFields n fs cs
 AreKept n t m (lists e offsets sizes) =
-    (t ≡ list_type e.dtype m) × (length offsets ≡ n) × (length sizes ≡ n) × LieWithin (length e.rows) offsets sizes × AreTyped e.dtype e.rows
-AreKept n t m (fixed_size_lists e size) = (t ≡ fixed_size_list_type e.dtype size m) × (length e.rows ≡ size * n) × AreTyped e.dtype e.rows
+    (t ≡ list_type e.dtype m) × (length offsets ≡ n) × (length sizes ≡ n)
+    × LieWithin (length e.rows) offsets sizes × AreTyped e.dtype e.rows
+AreKept n t m (fixed_size_lists e size) =
+    (t ≡ fixed_size_list_type e.dtype size m) × (length e.rows ≡ size * n) × AreTyped e.dtype e.rows
 AreKept n t m (maps k v offsets sizes) =
-    (t ≡ map_type k.dtype v.dtype m) × (length offsets ≡ n) × (length sizes ≡ n) × (length k.rows ≡ length v.rows) × LieWithin (length k.rows) offsets sizes × AreTyped k.dtype k.rows × AreTyped v.dtype v.rows
+    (t ≡ map_type k.dtype v.dtype m) × (length offsets ≡ n) × (length sizes ≡ n)
+    × (length k.rows ≡ length v.rows) × LieWithin (length k.rows) offsets sizes
+    × AreTyped k.dtype k.rows × AreTyped v.dtype v.rows
 
 abbrev pub IsStored : ℕ → LogicalType → Stored → Type 0
 IsStored n t nulls = t ≡ null_type
@@ -106,7 +121,13 @@ IsStored n t (constant_of s) = (t ≡ s.dtype) × HasType s.dtype s.value
 IsStored n t (kept k v) = AreKept n t (form_allows_null v.form) k × FitsRows v n
 
 abbrev pub column_view : Inside → ColumnView
-column_view a = record { dtype = type_of a.dtype; rows = rows_of a.len (stored_of a.storage); constant = constant_in (stored_of a.storage); form = (stored_validity (stored_of a.storage)).form }
+column_view a =
+    record {
+      dtype = type_of a.dtype;
+      rows = rows_of a.len (stored_of a.storage);
+      constant = constant_in (stored_of a.storage);
+      form = (stored_validity (stored_of a.storage)).form;
+    }
 
 abbrev pub IsColumn : Inside → Type 0
 IsColumn a = IsStored a.len (type_of a.dtype) (stored_of a.storage)
@@ -118,10 +139,14 @@ HasPlace i (integers p ns) = i < length ns
 HasPlace i (texts ts) = i < length ts
 HasPlace i (byte_strings bs) = i < length bs
 HasPlace i (structs cs) = All (λ c. i < length c.rows) cs
-HasPlace i (lists e offsets sizes) = (i < length offsets) × (i < length sizes) × (slice_index offsets i + slice_index sizes i ≤ length e.rows)
+HasPlace i (lists e offsets sizes) =
+    (i < length offsets) × (i < length sizes)
+    × (slice_index offsets i + slice_index sizes i ≤ length e.rows)
 HasPlace i (fixed_size_lists e size) = size * i + size ≤ length e.rows
 HasPlace i (maps k v offsets sizes) =
-    (i < length offsets) × (i < length sizes) × (slice_index offsets i + slice_index sizes i ≤ length k.rows) × (length k.rows ≡ length v.rows)
+    (i < length offsets) × (i < length sizes)
+    × (slice_index offsets i + slice_index sizes i ≤ length k.rows)
+    × (length k.rows ≡ length v.rows)
 
 abbrev pub HasRow : ℕ → Stored → Type 0
 HasRow i (kept k v) = HasPlace i k × Reaches v i
@@ -129,15 +154,25 @@ HasRow i s = Unit {0}
 
 -- what a constructor makes: a value in each row that is valid, and null in the others
 abbrev pub made_of : LogicalType → ValidityView → ℕ → (ℕ → Value) → ColumnView
-made_of t v n f = record { dtype = t; rows = map (λ i. if is_valid_row v i then f i else null) (range_with_len 0 n); constant = None; form = v.form }
+made_of t v n f =
+    record {
+      dtype = t;
+      rows = map (λ i. if is_valid_row v i then f i else null) (range_with_len 0 n);
+      constant = None;
+      form = v.form;
+    }
 
 abbrev pub bool_column : List Bool → ValidityView → ColumnView
-bool_column bits v = made_of (bool_type (form_allows_null v.form)) v (length bits) (λ i. truth (slice_index_or bits i false))
+bool_column bits v =
+    made_of (bool_type (form_allows_null v.form)) v (length bits)
+    (λ i. truth (slice_index_or bits i false))
 
 -- columns that make a struct column of so many rows under these names
 abbrev pub MakeStructs : List (String Global) → List ColumnView → ℕ → ValidityView → Type 0
-MakeStructs names cs n v = (length names ≡ length cs) × AllDiffer names × All (λ c. length c.rows ≡ n) cs × FitsRows v n
+MakeStructs names cs n v =
+    (length names ≡ length cs) × AllDiffer names × All (λ c. length c.rows ≡ n) cs × FitsRows v n
 
 -- offsets and sizes that make lists of so many elements
 abbrev pub MakeLists : ℕ → List ℕ → List ℕ → ValidityView → Type 0
-MakeLists count offsets sizes v = (length sizes ≡ length offsets) × LieWithin count offsets sizes × FitsRows v (length offsets)
+MakeLists count offsets sizes v =
+    (length sizes ≡ length offsets) × LieWithin count offsets sizes × FitsRows v (length offsets)

@@ -1,9 +1,8 @@
 //! Values where they lie, in scalars and columns.
-ghost use Rattle.std.specs.Prelude.{◌≡◌, map};
-ghost use Rattle.vortex_types.specs.Answers.{AnswersUnlessMemory};
-ghost use Rattle.vortex_types.specs.ValueOf.{value_of, value_or_null};
-ghost use Rattle.vortex_types.specs.Order.{compare_values};
-ghost use Rattle.vortex_columns.specs.Cells.{cell_value, sequence_value, sequence_values, IsCell, IsSequence};
+ghost use Rattle.std.specs.Prelude.{◌≡◌, ◌<◌, map, length};
+ghost use Rattle.vortex_columns.specs.Words.{cell_value, sequence_value, sequence_values};
+ghost use Rattle.vortex_columns.specs.Words.{IsCell, IsSequence, value_of, value_or_null, row};
+ghost use Rattle.vortex_columns.specs.Words.{compare_values, kind_rank, AnswersUnlessMemory};
 
 use crate::column::Column;
 use std::alloc::Global;
@@ -57,10 +56,6 @@ pub fn cell_of(value: &ScalarValue) -> Cell<'_>
 }
 
 impl Sequence<'_> {
-    ghost use Rattle.std.specs.Prelude.{◌<◌, length};
-    ghost use Rattle.vortex_columns.specs.ColumnView.{row};
-    ghost use Rattle.vortex_columns.specs.Cells.{cell_value, sequence_values, IsCell, IsSequence};
-
     /// How many values there are.
     pub fn len(&self) -> usize
         requires { IsSequence self.now }
@@ -109,9 +104,6 @@ impl Sequence<'_> {
 }
 
 impl Cell<'_> {
-    ghost use Rattle.vortex_types.specs.Order.{kind_rank};
-    ghost use Rattle.vortex_columns.specs.Cells.{cell_value, IsCell};
-
     /// The place of the value's kind among the kinds.
     fn rank(&self) -> u8
         ensures { result ≡ kind_rank (cell_value self.now) }
@@ -166,7 +158,8 @@ impl Cell<'_> {
 #[cycle(copy)]
 fn copy_values(alloc: Global, values: &Sequence<'_>) -> VortexResult<Vec<Option<ScalarValue>>>
     requires { IsSequence values.now }
-    ensures { AnswersUnlessMemory result (λ vs. map value_or_null vs.items ≡ sequence_values values.now) }
+    ensures { AnswersUnlessMemory result
+        (λ vs. map value_or_null vs.items ≡ sequence_values values.now) }
 {
     let mut copies = Vec::new(alloc);
     for k in 0..values.len() {

@@ -1,5 +1,6 @@
 //! The lists that a column keeps: whether they fit, and copies of them.
-ghost use Rattle.std.specs.Prelude.{◌≡◌, ◌*◌, ◌<◌, ◌≤◌, ◌↔◌, IsTrue, All, map, length, string_bytes};
+ghost use Rattle.std.specs.Prelude.{◌≡◌, ◌*◌, ◌<◌, ◌≤◌, ◌↔◌, IsTrue, All, map, length};
+ghost use Rattle.std.specs.Prelude.{string_bytes};
 ghost use Rattle.vortex_types.specs.Answers.{AnswersUnlessMemory};
 ghost use Rattle.vortex_columns.specs.ColumnView.{LieWithin};
 
@@ -58,7 +59,8 @@ pub(crate) fn is_product(elements: usize, size: u32, len: usize) -> bool
 
 /// A copy of texts.
 pub(crate) fn copy_texts(alloc: Global, values: &[String]) -> VortexResult<Vec<String>>
-    ensures { AnswersUnlessMemory result (λ copies. map string_bytes copies.items ≡ map string_bytes values.now) }
+    ensures { AnswersUnlessMemory result
+        (λ copies. map string_bytes copies.items ≡ map string_bytes values.now) }
 {
     let mut copies = Vec::new(alloc);
     for value in values {
@@ -69,7 +71,8 @@ pub(crate) fn copy_texts(alloc: Global, values: &[String]) -> VortexResult<Vec<S
 
 /// A copy of lists of bytes.
 pub(crate) fn copy_bytes(alloc: Global, values: &[Vec<u8>]) -> VortexResult<Vec<Vec<u8>>>
-    ensures { AnswersUnlessMemory result (λ copies. map (λ b. b.items) copies.items ≡ map (λ b. b.items) values.now) }
+    ensures { AnswersUnlessMemory result
+        (λ copies. map (λ b. b.items) copies.items ≡ map (λ b. b.items) values.now) }
 {
     let mut copies = Vec::new(alloc);
     for value in values {

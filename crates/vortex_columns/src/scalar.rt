@@ -1,11 +1,8 @@
 //! A value, or null, with its type.
-ghost use Rattle.std.specs.Prelude.{◌≡◌, true, false, [], IsTrue, MatchOption};
-ghost use Rattle.vortex_types.specs.declared.error.VortexError.TheVariants.{InvalidColumn};
-ghost use Rattle.vortex_types.specs.Answers.{MadeWhere, AnswersUnlessMemory};
-ghost use Rattle.vortex_types.specs.LogicalTypes.{bool_type, text_type, is_nullable};
-ghost use Rattle.vortex_types.specs.Values.{null, truth, text, truth_of, is_null};
-ghost use Rattle.vortex_columns.specs.Cells.{cell_value, IsCell};
-ghost use Rattle.vortex_types.specs.Typing.{HasType};
+ghost use Rattle.std.specs.Prelude.{◌≡◌, [], IsTrue, MatchOption};
+ghost use Rattle.vortex_columns.specs.Words.{MadeWhere, AnswersUnlessMemory, InvalidColumn};
+ghost use Rattle.vortex_columns.specs.Words.{HasType, is_nullable, bool_type, text_scalar};
+ghost use Rattle.vortex_columns.specs.Words.{null, truth, truth_of, is_null, cell_value, IsCell};
 
 use crate::cell::{Cell, cell_of};
 use std::alloc::Global;
@@ -35,10 +32,8 @@ impl Model for Scalar {
 }
 
 impl Scalar {
-    ghost use Rattle.vortex_types.specs.TypeOf.{type_of, allows_null};
-    ghost use Rattle.vortex_types.specs.ValueOf.{value_of, value_or_null};
-    ghost use Rattle.vortex_columns.specs.ColumnView.{constant_form};
-    ghost use Rattle.vortex_types.specs.ValidityView.{validity_of};
+    ghost use Rattle.vortex_columns.specs.Words.{type_of, allows_null, value_of, value_or_null};
+    ghost use Rattle.vortex_columns.specs.Words.{constant_form, validity_of};
 
     /// A value of a type, or null. E12 exactly where the value does not have the type, or the type has no null. Takes no memory.
     pub fn try_new(dtype: DType, value: Option<ScalarValue>) -> VortexResult<Scalar>
@@ -68,7 +63,8 @@ impl Scalar {
 
     /// A truth value of a Bool type, nullable or not.
     pub fn bool(value: bool, nullability: Nullability) -> Scalar
-        ensures { result ≡ record { dtype = bool_type (allows_null nullability); value = truth value } }
+        ensures { result
+            ≡ record { dtype = bool_type (allows_null nullability); value = truth value } }
     {
         Scalar {
             dtype: DType::Bool(nullability),
@@ -86,7 +82,8 @@ impl Scalar {
 
     /// The value, unless it is null.
     pub fn value(&self) -> Option<&ScalarValue>
-        ensures { MatchOption result (self.now.value ≡ null) (λ v. self.now.value ≡ value_of v.now) }
+        ensures { MatchOption result (self.now.value ≡ null)
+            (λ v. self.now.value ≡ value_of v.now) }
     {
         self.value.as_ref()
     }
@@ -121,7 +118,8 @@ impl Scalar {
 
     /// The validity of a column of this scalar alone.
     pub(crate) fn validity(&self) -> Validity
-        ensures { validity_of result ≡ record { form = constant_form self.now.dtype self.now.value; bits = [] } }
+        ensures { validity_of result
+            ≡ record { form = constant_form self.now.dtype self.now.value; bits = [] } }
     {
         if self.is_null() {
             return Validity::AllInvalid;
@@ -135,7 +133,7 @@ impl Scalar {
 
     /// A copy of a text.
     pub fn try_from_str(alloc: Global, chars: &str) -> VortexResult<Scalar>
-        ensures { AnswersUnlessMemory result (λ s. s ≡ record { dtype = text_type false; value = text chars.now }) }
+        ensures { AnswersUnlessMemory result (λ s. s ≡ text_scalar chars.now) }
     {
         let value = String::from_str(alloc, chars)?;
         Ok(Scalar {
@@ -159,11 +157,9 @@ impl Scalar {
 
 /// A value of non-nullable Bool.
 impl From<bool> for Scalar {
-    ghost use Rattle.std.specs.Prelude.{◌≡◌, false};
-    ghost use Rattle.vortex_types.specs.LogicalTypes.{bool_type};
-    ghost use Rattle.vortex_types.specs.Values.{truth};
+    ghost use Rattle.vortex_columns.specs.ScalarOf.{bool_scalar};
 
-    ghost from_gives = { λ b s. s ≡ record { dtype = bool_type false; value = truth b } };
+    ghost from_gives = { λ b s. s ≡ bool_scalar b };
 
     fn from(value: bool) -> Scalar {
         Scalar::bool(value, Nullability::NonNullable)
@@ -172,12 +168,10 @@ impl From<bool> for Scalar {
 
 /// A value of a non-nullable integer type.
 impl From<i8> for Scalar {
-    ghost use Rattle.std.specs.Prelude.{◌≡◌, false};
     ghost use Rattle.vortex_types.specs.declared.dtype.PType.TheVariants.{I8};
-    ghost use Rattle.vortex_types.specs.LogicalTypes.{integer_type};
-    ghost use Rattle.vortex_types.specs.Values.{number};
+    ghost use Rattle.vortex_columns.specs.ScalarOf.{int_scalar};
 
-    ghost from_gives = { λ z s. s ≡ record { dtype = integer_type I8 false; value = number z } };
+    ghost from_gives = { λ z s. s ≡ int_scalar I8 z };
 
     fn from(value: i8) -> Scalar {
         Scalar {
@@ -189,12 +183,10 @@ impl From<i8> for Scalar {
 
 /// A value of a non-nullable integer type.
 impl From<i16> for Scalar {
-    ghost use Rattle.std.specs.Prelude.{◌≡◌, false};
     ghost use Rattle.vortex_types.specs.declared.dtype.PType.TheVariants.{I16};
-    ghost use Rattle.vortex_types.specs.LogicalTypes.{integer_type};
-    ghost use Rattle.vortex_types.specs.Values.{number};
+    ghost use Rattle.vortex_columns.specs.ScalarOf.{int_scalar};
 
-    ghost from_gives = { λ z s. s ≡ record { dtype = integer_type I16 false; value = number z } };
+    ghost from_gives = { λ z s. s ≡ int_scalar I16 z };
 
     fn from(value: i16) -> Scalar {
         Scalar {
@@ -206,12 +198,10 @@ impl From<i16> for Scalar {
 
 /// A value of a non-nullable integer type.
 impl From<i32> for Scalar {
-    ghost use Rattle.std.specs.Prelude.{◌≡◌, false};
     ghost use Rattle.vortex_types.specs.declared.dtype.PType.TheVariants.{I32};
-    ghost use Rattle.vortex_types.specs.LogicalTypes.{integer_type};
-    ghost use Rattle.vortex_types.specs.Values.{number};
+    ghost use Rattle.vortex_columns.specs.ScalarOf.{int_scalar};
 
-    ghost from_gives = { λ z s. s ≡ record { dtype = integer_type I32 false; value = number z } };
+    ghost from_gives = { λ z s. s ≡ int_scalar I32 z };
 
     fn from(value: i32) -> Scalar {
         Scalar {
@@ -223,12 +213,10 @@ impl From<i32> for Scalar {
 
 /// A value of a non-nullable integer type.
 impl From<i64> for Scalar {
-    ghost use Rattle.std.specs.Prelude.{◌≡◌, false};
     ghost use Rattle.vortex_types.specs.declared.dtype.PType.TheVariants.{I64};
-    ghost use Rattle.vortex_types.specs.LogicalTypes.{integer_type};
-    ghost use Rattle.vortex_types.specs.Values.{number};
+    ghost use Rattle.vortex_columns.specs.ScalarOf.{int_scalar};
 
-    ghost from_gives = { λ z s. s ≡ record { dtype = integer_type I64 false; value = number z } };
+    ghost from_gives = { λ z s. s ≡ int_scalar I64 z };
 
     fn from(value: i64) -> Scalar {
         Scalar {
@@ -240,12 +228,11 @@ impl From<i64> for Scalar {
 
 /// A value of a non-nullable integer type.
 impl From<u8> for Scalar {
-    ghost use Rattle.std.specs.Prelude.{◌≡◌, false, pos};
+    ghost use Rattle.std.specs.Prelude.{pos};
     ghost use Rattle.vortex_types.specs.declared.dtype.PType.TheVariants.{U8};
-    ghost use Rattle.vortex_types.specs.LogicalTypes.{integer_type};
-    ghost use Rattle.vortex_types.specs.Values.{number};
+    ghost use Rattle.vortex_columns.specs.ScalarOf.{int_scalar};
 
-    ghost from_gives = { λ z s. s ≡ record { dtype = integer_type U8 false; value = number (pos z) } };
+    ghost from_gives = { λ z s. s ≡ int_scalar U8 (pos z) };
 
     fn from(value: u8) -> Scalar {
         Scalar {
@@ -257,12 +244,11 @@ impl From<u8> for Scalar {
 
 /// A value of a non-nullable integer type.
 impl From<u16> for Scalar {
-    ghost use Rattle.std.specs.Prelude.{◌≡◌, false, pos};
+    ghost use Rattle.std.specs.Prelude.{pos};
     ghost use Rattle.vortex_types.specs.declared.dtype.PType.TheVariants.{U16};
-    ghost use Rattle.vortex_types.specs.LogicalTypes.{integer_type};
-    ghost use Rattle.vortex_types.specs.Values.{number};
+    ghost use Rattle.vortex_columns.specs.ScalarOf.{int_scalar};
 
-    ghost from_gives = { λ z s. s ≡ record { dtype = integer_type U16 false; value = number (pos z) } };
+    ghost from_gives = { λ z s. s ≡ int_scalar U16 (pos z) };
 
     fn from(value: u16) -> Scalar {
         Scalar {
@@ -274,12 +260,11 @@ impl From<u16> for Scalar {
 
 /// A value of a non-nullable integer type.
 impl From<u32> for Scalar {
-    ghost use Rattle.std.specs.Prelude.{◌≡◌, false, pos};
+    ghost use Rattle.std.specs.Prelude.{pos};
     ghost use Rattle.vortex_types.specs.declared.dtype.PType.TheVariants.{U32};
-    ghost use Rattle.vortex_types.specs.LogicalTypes.{integer_type};
-    ghost use Rattle.vortex_types.specs.Values.{number};
+    ghost use Rattle.vortex_columns.specs.ScalarOf.{int_scalar};
 
-    ghost from_gives = { λ z s. s ≡ record { dtype = integer_type U32 false; value = number (pos z) } };
+    ghost from_gives = { λ z s. s ≡ int_scalar U32 (pos z) };
 
     fn from(value: u32) -> Scalar {
         Scalar {
@@ -291,12 +276,11 @@ impl From<u32> for Scalar {
 
 /// A value of a non-nullable integer type.
 impl From<u64> for Scalar {
-    ghost use Rattle.std.specs.Prelude.{◌≡◌, false, pos};
+    ghost use Rattle.std.specs.Prelude.{pos};
     ghost use Rattle.vortex_types.specs.declared.dtype.PType.TheVariants.{U64};
-    ghost use Rattle.vortex_types.specs.LogicalTypes.{integer_type};
-    ghost use Rattle.vortex_types.specs.Values.{number};
+    ghost use Rattle.vortex_columns.specs.ScalarOf.{int_scalar};
 
-    ghost from_gives = { λ z s. s ≡ record { dtype = integer_type U64 false; value = number (pos z) } };
+    ghost from_gives = { λ z s. s ≡ int_scalar U64 (pos z) };
 
     fn from(value: u64) -> Scalar {
         Scalar {

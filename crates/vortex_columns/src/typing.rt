@@ -1,9 +1,8 @@
 //! Whether values have types.
 ghost use Rattle.std.specs.Prelude.{◌≡◌, ◌↔◌, ◌<◌, IsTrue, All};
-ghost use Rattle.vortex_types.specs.Values.{values_of, value_count};
-ghost use Rattle.vortex_types.specs.Typing.{Each, HasType, HaveFields, IsList, IsPair};
-ghost use Rattle.vortex_types.specs.TypeOf.{type_of, struct_fields};
-ghost use Rattle.vortex_columns.specs.Cells.{cell_value, sequence_values, IsCell, IsSequence};
+ghost use Rattle.vortex_columns.specs.Words.{cell_value, IsCell, IsSequence, values_in};
+ghost use Rattle.vortex_columns.specs.Words.{HasType, Each, HaveFields, ArePair, IsEntryOf};
+ghost use Rattle.vortex_columns.specs.Words.{AreSoMany, type_of, struct_fields};
 
 use crate::cell::{Cell, Sequence};
 use vortex_types::{DType, StructFields};
@@ -45,7 +44,7 @@ impl Cell<'_> {
     #[cycle(typing)]
     fn is_entry(&self, key: &DType, value: &DType) -> bool
         requires { IsCell self.now }
-        ensures { IsTrue result ↔ IsList (IsPair (HasType (type_of key.now)) (HasType (type_of value.now))) (cell_value self.now) }
+        ensures { IsTrue result ↔ IsEntryOf (type_of key.now) (type_of value.now) (cell_value self.now) }
     {
         match self {
             Cell::Sequence(entry) => is_pair(entry, key, value),
@@ -58,7 +57,7 @@ impl Cell<'_> {
 #[cycle(typing)]
 fn is_pair(entry: &Sequence<'_>, key: &DType, value: &DType) -> bool
     requires { IsSequence entry.now }
-    ensures { IsTrue result ↔ IsPair (HasType (type_of key.now)) (HasType (type_of value.now)) (values_of (sequence_values entry.now)) }
+    ensures { IsTrue result ↔ ArePair (type_of key.now) (type_of value.now) (values_in entry.now) }
 {
     if entry.len() != 2 {
         return false;
@@ -73,7 +72,7 @@ fn is_pair(entry: &Sequence<'_>, key: &DType, value: &DType) -> bool
 #[cycle(typing)]
 fn all_have_type(values: &Sequence<'_>, dtype: &DType) -> bool
     requires { IsSequence values.now }
-    ensures { IsTrue result ↔ Each (HasType (type_of dtype.now)) (values_of (sequence_values values.now)) }
+    ensures { IsTrue result ↔ Each (HasType (type_of dtype.now)) (values_in values.now) }
 {
     for k in 0..values.len() {
         if !values.get(k).has_type(dtype) {
@@ -87,7 +86,7 @@ fn all_have_type(values: &Sequence<'_>, dtype: &DType) -> bool
 #[cycle(typing)]
 fn so_many_have_type(values: &Sequence<'_>, dtype: &DType, count: u32) -> bool
     requires { IsSequence values.now }
-    ensures { IsTrue result ↔ ((value_count (values_of (sequence_values values.now)) ≡ count) × Each (HasType (type_of dtype.now)) (values_of (sequence_values values.now))) }
+    ensures { IsTrue result ↔ AreSoMany count (type_of dtype.now) (values_in values.now) }
 {
     if values.len() != count as usize {
         return false;
@@ -99,7 +98,7 @@ fn so_many_have_type(values: &Sequence<'_>, dtype: &DType, count: u32) -> bool
 #[cycle(typing)]
 fn are_entries(values: &Sequence<'_>, key: &DType, value: &DType) -> bool
     requires { IsSequence values.now }
-    ensures { IsTrue result ↔ Each (IsList (IsPair (HasType (type_of key.now)) (HasType (type_of value.now)))) (values_of (sequence_values values.now)) }
+    ensures { IsTrue result ↔ Each (IsEntryOf (type_of key.now) (type_of value.now)) (values_in values.now) }
 {
     for k in 0..values.len() {
         if !values.get(k).is_entry(key, value) {
@@ -113,7 +112,7 @@ fn are_entries(values: &Sequence<'_>, key: &DType, value: &DType) -> bool
 #[cycle(typing)]
 fn fields_have_types(values: &Sequence<'_>, fields: &StructFields) -> bool
     requires { IsSequence values.now }
-    ensures { IsTrue result ↔ HaveFields (struct_fields fields.now) (values_of (sequence_values values.now)) }
+    ensures { IsTrue result ↔ HaveFields (struct_fields fields.now) (values_in values.now) }
 {
     if values.len() != fields.len() {
         return false;

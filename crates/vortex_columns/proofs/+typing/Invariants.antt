@@ -8,10 +8,13 @@ use Rattle.vortex_columns.specs.Cells.{cell_value, sequence_value, sequence_valu
 use Rattle.vortex_columns.proofs.+typing.Given as goal
 
 abbrev pub invariant-typing::all_have_type-loop-k : goal.invariant-typing::all_have_type-loop-k
-invariant-typing::all_have_type-loop-k l = (j : ℕ) → j < l.k → HasType (type_of l.dtype) (row (sequence_values l.values) j)
+invariant-typing::all_have_type-loop-k l = (j : ℕ) → j < l.k
+    → HasType (type_of l.dtype) (row (sequence_values l.values) j)
 
-abbrev pub invariant-typing::fields_have_types-loop-k : goal.invariant-typing::fields_have_types-loop-k
-invariant-typing::fields_have_types-loop-k l = (j : ℕ) → j < l.k → HasType (field_type j (struct_fields l.fields)) (row (sequence_values l.values) j)
+abbrev pub
+    invariant-typing::fields_have_types-loop-k : goal.invariant-typing::fields_have_types-loop-k
+invariant-typing::fields_have_types-loop-k l = (j : ℕ) → j < l.k
+    → HasType (field_type j (struct_fields l.fields)) (row (sequence_values l.values) j)
 
 abbrev pub decreases-cell::Cell::has_type : goal.decreases-cell::Cell::has_type
 decreases-cell::Cell::has_type l = 3 * value_depth (cell_value l.self.now) + 2
@@ -24,7 +27,9 @@ decreases-typing::fields_have_types l = 3 * value_depth (sequence_value l.values
 
 abbrev pub invariant-typing::are_entries-loop-k : goal.invariant-typing::are_entries-loop-k
 invariant-typing::are_entries-loop-k l =
-    (j : ℕ) → j < l.k → IsList (IsPair (HasType (type_of l.key)) (HasType (type_of l.value))) (row (sequence_values l.values) j)
+    (j : ℕ) → j < l.k
+    → IsList (IsPair (HasType (type_of l.key)) (HasType (type_of l.value)))
+    (row (sequence_values l.values) j)
 
 abbrev pub decreases-typing::are_entries : goal.decreases-typing::are_entries
 decreases-typing::are_entries l = 3 * value_depth (sequence_value l.values.now)

@@ -6,7 +6,8 @@ use Rattle.vortex_columns.proofs.cell.+compare.Given as goal
 
 abbrev pub invariant-compare_sequences-loop-k : goal.invariant-compare_sequences-loop-k
 invariant-compare_sequences-loop-k l =
-    compare_from l.k (sequence_values l.a) (sequence_values l.b) ≡ compare_from 0 (sequence_values l.a) (sequence_values l.b)
+    compare_from l.k (sequence_values l.a) (sequence_values l.b)
+    ≡ compare_from 0 (sequence_values l.a) (sequence_values l.b)
 
 -- how deep the values nest: a cell is a step above the sequence in it
 abbrev pub decreases-Cell::compare : goal.decreases-Cell::compare

@@ -5,7 +5,8 @@ use Rattle.vortex_columns.specs.Cells.{cell_value, sequence_value, sequence_valu
 use Rattle.vortex_columns.proofs.cell.+copy.Given as goal
 
 abbrev pub invariant-copy_values-loop-k : goal.invariant-copy_values-loop-k
-invariant-copy_values-loop-k l = map value_or_null l.copies.items ≡ take l.k (sequence_values l.values)
+invariant-copy_values-loop-k l =
+    map value_or_null l.copies.items ≡ take l.k (sequence_values l.values)
 
 abbrev pub decreases-Cell::try_to_value : goal.decreases-Cell::try_to_value
 decreases-Cell::try_to_value l = 2 * value_depth (cell_value l.self.now) + 1

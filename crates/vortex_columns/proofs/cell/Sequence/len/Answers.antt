@@ -10,4 +10,7 @@ returns-in-Entries c =
     let whole = subst (λ (s : Sequence). IsSequence s) c.in-Entries.is c.requires in
     let ks = c.in-Entries.field-0.now.rows in
     let vs = c.in-Entries.field-1.now.rows in
-    sym (ap (λ (s : Sequence). length (sequence_values s)) c.in-Entries.is ∙ length_part (entries ks vs) c.in-Entries.field-2 c.in-Entries.count (omega (arith, whole.0, length_entries ks vs whole.1)))
+    sym
+    (ap (λ (s : Sequence). length (sequence_values s)) c.in-Entries.is
+    ∙ length_part (entries ks vs) c.in-Entries.field-2 c.in-Entries.count
+    (omega (arith, whole.0, length_entries ks vs whole.1)))

@@ -7,5 +7,7 @@ use Rattle.vortex_columns.proofs.column.Column.byte_rows.Goals as goal
 pub returns-in-Rows : goal.returns-in-Rows
 returns-in-Rows c =
     let at = ap stored_of c.in-Rows.is in
-    match_weaker _ _ _ _ c.byte_rows.result (bytes_none c.self.inside _ c.self.view_is c.self.invariant _ _ at)
-    (λ x h. bytes_some c.self.inside _ c.self.view_is c.self.invariant _ _ at (bytes_of x) h.0 h.1) c.byte_rows.ensures
+    match_weaker _ _ _ _ c.byte_rows.result
+    (bytes_none c.self.inside _ c.self.view_is c.self.invariant _ _ at)
+    (λ x h. bytes_some c.self.inside _ c.self.view_is c.self.invariant _ _ at (bytes_of x) h.0 h.1)
+    c.byte_rows.ensures

@@ -6,5 +6,8 @@ use Rattle.vortex_columns.proofs.column.Column.list_parts.Goals as goal
 pub returns-in-Rows : goal.returns-in-Rows
 returns-in-Rows c =
     let at = ap stored_of c.in-Rows.is in
-    match_weaker _ _ _ _ c.list_parts.result (lists_none c.self.inside _ c.self.view_is c.self.invariant _ _ at)
-    (λ p h. lists_some c.self.inside _ c.self.view_is c.self.invariant _ _ at p.0.now p.1.now p.2.now h) c.list_parts.ensures
+    match_weaker _ _ _ _ c.list_parts.result
+    (lists_none c.self.inside _ c.self.view_is c.self.invariant _ _ at)
+    (λ p h.
+    lists_some c.self.inside _ c.self.view_is c.self.invariant _ _ at p.0.now p.1.now p.2.now h)
+    c.list_parts.ensures

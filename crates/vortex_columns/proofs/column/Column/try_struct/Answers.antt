@@ -14,7 +14,9 @@ invariant_of-result c =
       (
         named_columns ns cs,
         type_of-Struct _ _ ∙ (λ i. struct_type (named i) (c.nullability.ensures i)),
-        are_fields c.args.len ns cs (same_count ns ts cs c.in_ok-types.ensures.0.0 c.in_ok-types_of.ensures) (c.all_have_len.ensures.0 (search rules)) c.learn_types.ensures,
+        are_fields c.args.len ns cs
+            (same_count ns ts cs c.in_ok-types.ensures.0.0 c.in_ok-types_of.ensures)
+            (c.all_have_len.ensures.0 (search rules)) c.learn_types.ensures,
       ),
       c.fits.ensures.0 (search rules),
     )
@@ -26,6 +28,11 @@ returns c =
     let cs = c.args.fields.items in
     let named = c.in_ok-types.ensures.1 ∙ named_types_of ns ts cs c.in_ok-types_of.ensures in
     let typed = type_of-Struct _ _ ∙ (λ i. struct_type (named i) (c.nullability.ensures i)) in (
-      (same_count ns ts cs c.in_ok-types.ensures.0.0 c.in_ok-types_of.ensures, c.in_ok-types.ensures.0.1, c.all_have_len.ensures.0 (search rules), c.fits.ensures.0 (search rules)),
+      (
+        same_count ns ts cs c.in_ok-types.ensures.0.0 c.in_ok-types_of.ensures,
+        c.in_ok-types.ensures.0.1,
+        c.all_have_len.ensures.0 (search rules),
+        c.fits.ensures.0 (search rules),
+      ),
       search (rules, typed),
     )

@@ -6,5 +6,7 @@ use Rattle.vortex_columns.proofs.column.Column.valid_bits.Goals as goal
 
 pub returns : goal.returns
 returns c =
-    match_weaker _ _ _ _ c.valid_bits.result (λ not e. not (ap (λ (d : ColumnView). d.form) c.self.view_is ∙ e))
-    (λ x h. opened_valid_bits c.self.inside _ c.self.view_is x.now h c.self.invariant) c.valid_bits.ensures
+    match_weaker _ _ _ _ c.valid_bits.result
+    (λ not e. not (ap (λ (d : ColumnView). d.form) c.self.view_is ∙ e))
+    (λ x h. opened_valid_bits c.self.inside _ c.self.view_is x.now h c.self.invariant)
+    c.valid_bits.ensures

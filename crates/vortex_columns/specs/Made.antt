@@ -1,0 +1,68 @@
+-- What the constructors of columns take, and the columns that they make.
+use Rattle.std.specs.Prelude.{◌≡◌, ℕ, ◌*◌, ◌≤◌, ℤ, pos, List, [], map, length, All}
+use Rattle.std.specs.Prelude.{String, string_bytes, Vec, slice_index, slice_index_or}
+use Rattle.std.specs.declared.alloc.Global.{Global}
+use Rattle.vortex_types.specs.declared.dtype.PType.{PType}
+use Rattle.vortex_types.specs.LogicalTypes.{integer_type, text_type, bytes_type, struct_type}
+use Rattle.vortex_types.specs.LogicalTypes.{list_type, fixed_size_list_type, map_type}
+use Rattle.vortex_types.specs.Values.{number, text, bytes}
+use Rattle.vortex_types.specs.ValidityView.{ValidityView, form_allows_null, FitsRows}
+use Rattle.vortex_columns.specs.ColumnView.{ColumnView, part, record_at, entries, named_columns}
+use Rattle.vortex_columns.specs.Stored.{made_of, MakeLists}
+
+-- integers of one type, by the number of each
+abbrev pub int_column : {A : Type 0} → PType → (A → ℤ) → List A → ValidityView → ColumnView
+int_column p f xs v =
+    made_of (integer_type p (form_allows_null v.form)) v (length xs)
+    (λ i. number (slice_index_or (map f xs) i (pos 0)))
+
+-- the most bytes that a text or a byte string of a column has
+abbrev pub most_bytes : ℕ
+most_bytes = 4294967295
+
+abbrev pub MakeTexts : List (String Global) → ValidityView → Type 0
+MakeTexts ts v = FitsRows v (length ts) × All (λ t. length (string_bytes t) ≤ most_bytes) ts
+
+abbrev pub text_column : List (String Global) → ValidityView → ColumnView
+text_column ts v =
+    made_of (text_type (form_allows_null v.form)) v (length ts)
+    (λ i. text (slice_index_or (map string_bytes ts) i []))
+
+abbrev pub MakeByteStrings : List (Vec ℕ Global) → ValidityView → Type 0
+MakeByteStrings bs v = FitsRows v (length bs) × All (λ b. length b.items ≤ most_bytes) bs
+
+abbrev pub byte_string_column : List (Vec ℕ Global) → ValidityView → ColumnView
+byte_string_column bs v =
+    made_of (bytes_type (form_allows_null v.form)) v (length bs)
+    (λ i. bytes (slice_index_or (map (λ b. b.items) bs) i []))
+
+-- records, of the columns under these names
+abbrev pub struct_column : List (String Global) → List ColumnView → ℕ → ValidityView → ColumnView
+struct_column names fields n v =
+    made_of (struct_type (named_columns names fields) (form_allows_null v.form)) v n
+    (record_at fields)
+
+-- lists, each a range of the elements
+abbrev pub list_column : ColumnView → List ℕ → List ℕ → ValidityView → ColumnView
+list_column e offsets sizes v =
+    made_of (list_type e.dtype (form_allows_null v.form)) v (length offsets)
+    (λ i. part e.rows (slice_index offsets i) (slice_index sizes i))
+
+abbrev pub MakeFixedSizeLists : ColumnView → ℕ → ℕ → ValidityView → Type 0
+MakeFixedSizeLists e size n v = (length e.rows ≡ size * n) × FitsRows v n
+
+-- lists of one size, one after another
+abbrev pub fixed_size_list_column : ColumnView → ℕ → ℕ → ValidityView → ColumnView
+fixed_size_list_column e size n v =
+    made_of (fixed_size_list_type e.dtype size (form_allows_null v.form)) v n
+    (λ i. part e.rows (size * i) size)
+
+abbrev pub MakeMaps : ColumnView → ColumnView → List ℕ → List ℕ → ValidityView → Type 0
+MakeMaps keys values offsets sizes v =
+    (length keys.rows ≡ length values.rows) × MakeLists (length keys.rows) offsets sizes v
+
+-- maps, each a range of the keys and values
+abbrev pub map_column : ColumnView → ColumnView → List ℕ → List ℕ → ValidityView → ColumnView
+map_column keys values offsets sizes v =
+    made_of (map_type keys.dtype values.dtype (form_allows_null v.form)) v (length offsets)
+    (λ i. part (entries keys.rows values.rows) (slice_index offsets i) (slice_index sizes i))

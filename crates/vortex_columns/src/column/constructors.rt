@@ -1,0 +1,288 @@
+//! How columns are made.
+ghost use Rattle.std.specs.Prelude.{◌≡◌, ◌↔◌, IsTrue, All, map, length};
+ghost use Rattle.vortex_columns.specs.Words.{AnswersUnlessMemory, AnswersWhere, InvalidColumn};
+ghost use Rattle.vortex_columns.specs.Words.{AreTyped, FitsRows, type_of, validity_of};
+
+use super::{Column, Elements, Storage};
+use crate::lists::{bytes_fit, is_product, learn_bytes, lie_within, texts_fit};
+use crate::scalar::Scalar;
+use std::alloc::Global;
+use vortex_types::ints::learn_ranges;
+use vortex_types::{
+    BitBuffer, DType, NativePType, StructFields, Validity, VortexError, VortexResult,
+};
+
+/// Looks at each column, whose rows have its type.
+fn learn_types(columns: &Vec<Column>)
+    ensures { All (λ c. AreTyped c.dtype c.rows) columns.now.items }
+{
+    for column in columns {
+        let _ = column.dtype();
+    }
+}
+
+/// Whether each column has so many rows.
+fn all_have_len(fields: &Vec<Column>, len: usize) -> bool
+    ensures { IsTrue result ↔ All (λ c. length c.rows ≡ len) fields.now.items }
+{
+    for field in fields {
+        if field.len() != len {
+            return false;
+        }
+    }
+    true
+}
+
+/// The types of columns.
+fn types_of(alloc: Global, columns: &Vec<Column>) -> VortexResult<Vec<DType>>
+    ensures { AnswersUnlessMemory result
+        (λ types. map type_of types.items ≡ map (λ c. c.dtype) columns.now.items) }
+{
+    let mut types = Vec::new(alloc);
+    for column in columns {
+        types.push(column.dtype().try_clone(alloc)?)?;
+    }
+    Ok(types)
+}
+
+/// Each call that makes a column but `null` is handed an allocator and may refuse for memory (E9), also where today's form
+/// takes what it is handed over as it is.
+impl Column {
+    ghost use Rattle.vortex_columns.specs.Words.{constant_column, null_column, bool_column};
+    ghost use Rattle.vortex_columns.specs.Words.{int_column, text_column, byte_string_column};
+    ghost use Rattle.vortex_columns.specs.Words.{struct_column, list_column, map_column};
+    ghost use Rattle.vortex_columns.specs.Words.{fixed_size_list_column, MakeTexts};
+    ghost use Rattle.vortex_columns.specs.Words.{MakeByteStrings, MakeStructs, MakeLists};
+    ghost use Rattle.vortex_columns.specs.Words.{MakeFixedSizeLists, MakeMaps};
+
+    /// The scalar in each of so many rows.
+    pub fn constant(alloc: Global, scalar: Scalar, len: usize) -> VortexResult<Column>
+        ensures { AnswersUnlessMemory result (λ c. c ≡ constant_column scalar len) }
+    {
+        let dtype = scalar.dtype().try_clone(alloc)?;
+        Ok(Column {
+            dtype,
+            len,
+            storage: Storage::Constant(scalar),
+        })
+    }
+
+    /// So many rows of type Null. Takes no memory.
+    pub fn null(len: usize) -> Column
+        ensures { result ≡ null_column len }
+    {
+        Column {
+            dtype: DType::Null,
+            len,
+            storage: Storage::Null,
+        }
+    }
+
+    /// A column of truth values. E12 exactly where a list of valid bits has another length.
+    pub fn try_bool(_alloc: Global, bits: BitBuffer, validity: Validity) -> VortexResult<Column>
+        ensures { AnswersWhere result
+            (FitsRows (validity_of validity) (length bits))
+            (λ c. c ≡ bool_column bits (validity_of validity))
+            InvalidColumn }
+    {
+        let len = bits.len();
+        if !validity.fits(len) {
+            return Err(VortexError::InvalidColumn);
+        }
+        let dtype = DType::Bool(validity.nullability());
+        Ok(Column {
+            dtype,
+            len,
+            storage: Storage::Rows(Elements::Bool(bits), validity),
+        })
+    }
+
+    /// A column of integers of one type. E12 exactly where a list of valid bits has another length.
+    pub fn try_primitive<T: NativePType>(
+        _alloc: Global,
+        values: Vec<T>,
+        validity: Validity,
+    ) -> VortexResult<Column>
+        ensures { AnswersWhere result
+            (FitsRows (validity_of validity) (length values.items))
+            (λ c. c ≡ int_column T.ptype T.number values.items (validity_of validity))
+            InvalidColumn }
+    {
+        let len = values.len();
+        if !validity.fits(len) {
+            return Err(VortexError::InvalidColumn);
+        }
+        learn_ranges(values.as_slice());
+        let ints = T::wrap(values);
+        let dtype = DType::Primitive(ints.ptype(), validity.nullability());
+        Ok(Column {
+            dtype,
+            len,
+            storage: Storage::Rows(Elements::Primitive(ints), validity),
+        })
+    }
+
+    /// A column of texts. E12 exactly where a list of valid bits has another length, or a text is longer than
+    /// 4,294,967,295 bytes.
+    pub fn try_utf8(_alloc: Global, values: Vec<String>, validity: Validity) -> VortexResult<Column>
+        ensures { AnswersWhere result
+            (MakeTexts values.items (validity_of validity))
+            (λ c. c ≡ text_column values.items (validity_of validity))
+            InvalidColumn }
+    {
+        let len = values.len();
+        if !validity.fits(len) || !texts_fit(&values) {
+            return Err(VortexError::InvalidColumn);
+        }
+        let dtype = DType::Utf8(validity.nullability());
+        Ok(Column {
+            dtype,
+            len,
+            storage: Storage::Rows(Elements::Utf8(values), validity),
+        })
+    }
+
+    /// A column of bytes. E12 exactly where a list of valid bits has another length, or a value is longer than
+    /// 4,294,967,295 bytes.
+    pub fn try_binary(
+        _alloc: Global,
+        values: Vec<Vec<u8>>,
+        validity: Validity,
+    ) -> VortexResult<Column>
+        ensures { AnswersWhere result
+            (MakeByteStrings values.items (validity_of validity))
+            (λ c. c ≡ byte_string_column values.items (validity_of validity))
+            InvalidColumn }
+    {
+        let len = values.len();
+        if !validity.fits(len) || !bytes_fit(&values) {
+            return Err(VortexError::InvalidColumn);
+        }
+        learn_bytes(&values);
+        let dtype = DType::Binary(validity.nullability());
+        Ok(Column {
+            dtype,
+            len,
+            storage: Storage::Rows(Elements::Binary(values), validity),
+        })
+    }
+
+    /// A column of records, named field by field. E12 exactly where there are not as many names as fields, a name
+    /// stands twice, or a field or a list of valid bits has another length.
+    pub fn try_struct(
+        alloc: Global,
+        names: Vec<String>,
+        fields: Vec<Column>,
+        len: usize,
+        validity: Validity,
+    ) -> VortexResult<Column>
+        ensures { AnswersWhere result
+            (MakeStructs names.items fields.items len (validity_of validity))
+            (λ c. c ≡ struct_column names.items fields.items len (validity_of validity))
+            InvalidColumn }
+    {
+        if !all_have_len(&fields, len) || !validity.fits(len) {
+            return Err(VortexError::InvalidColumn);
+        }
+        learn_types(&fields);
+        let types = StructFields::try_new(alloc, names, types_of(alloc, &fields)?)?;
+        let dtype = DType::Struct(types, validity.nullability());
+        Ok(Column {
+            dtype,
+            len,
+            storage: Storage::Rows(Elements::Struct(fields), validity),
+        })
+    }
+
+    /// A column of lists, each a range of the elements. E12 exactly where offsets and sizes have two lengths, a list
+    /// of valid bits has another, or a range of any row passes the elements' end.
+    pub fn try_list(
+        alloc: Global,
+        elements: Column,
+        offsets: Vec<usize>,
+        sizes: Vec<usize>,
+        validity: Validity,
+    ) -> VortexResult<Column>
+        ensures { AnswersWhere result
+            (MakeLists (length elements.rows) offsets.items sizes.items (validity_of validity))
+            (λ c. c ≡ list_column elements offsets.items sizes.items (validity_of validity))
+            InvalidColumn }
+    {
+        let len = offsets.len();
+        if sizes.len() != len
+            || !validity.fits(len)
+            || !lie_within(elements.len(), &offsets, &sizes)
+        {
+            return Err(VortexError::InvalidColumn);
+        }
+        let element = elements.dtype().try_clone(alloc)?;
+        let dtype = DType::List(Box::new(alloc, element)?, validity.nullability());
+        let elements = Box::new(alloc, elements)?;
+        Ok(Column {
+            dtype,
+            len,
+            storage: Storage::Rows(Elements::List(elements, offsets, sizes), validity),
+        })
+    }
+
+    /// A column of lists of one size, one after another. E12 exactly where the elements are not `size * len`, or a
+    /// list of valid bits has another length.
+    pub fn try_fixed_size_list(
+        alloc: Global,
+        elements: Column,
+        size: u32,
+        len: usize,
+        validity: Validity,
+    ) -> VortexResult<Column>
+        ensures { AnswersWhere result
+            (MakeFixedSizeLists elements size len (validity_of validity))
+            (λ c. c ≡ fixed_size_list_column elements size len (validity_of validity))
+            InvalidColumn }
+    {
+        if !is_product(elements.len(), size, len) || !validity.fits(len) {
+            return Err(VortexError::InvalidColumn);
+        }
+        let element = Box::new(alloc, elements.dtype().try_clone(alloc)?)?;
+        let dtype = DType::FixedSizeList(element, size, validity.nullability());
+        let elements = Box::new(alloc, elements)?;
+        Ok(Column {
+            dtype,
+            len,
+            storage: Storage::Rows(Elements::FixedSizeList(elements, size), validity),
+        })
+    }
+
+    /// A column of maps, each a range of keys and values. E12 as for lists, and where there are not as many keys as
+    /// values.
+    pub fn try_map(
+        alloc: Global,
+        keys: Column,
+        values: Column,
+        offsets: Vec<usize>,
+        sizes: Vec<usize>,
+        validity: Validity,
+    ) -> VortexResult<Column>
+        ensures { AnswersWhere result
+            (MakeMaps keys values offsets.items sizes.items (validity_of validity))
+            (λ c. c ≡ map_column keys values offsets.items sizes.items (validity_of validity))
+            InvalidColumn }
+    {
+        let len = offsets.len();
+        if keys.len() != values.len() || sizes.len() != len {
+            return Err(VortexError::InvalidColumn);
+        }
+        if !validity.fits(len) || !lie_within(keys.len(), &offsets, &sizes) {
+            return Err(VortexError::InvalidColumn);
+        }
+        let key = Box::new(alloc, keys.dtype().try_clone(alloc)?)?;
+        let value = Box::new(alloc, values.dtype().try_clone(alloc)?)?;
+        let dtype = DType::Map(key, value, validity.nullability());
+        let keys = Box::new(alloc, keys)?;
+        let values = Box::new(alloc, values)?;
+        Ok(Column {
+            dtype,
+            len,
+            storage: Storage::Rows(Elements::Map(keys, values, offsets, sizes), validity),
+        })
+    }
+}

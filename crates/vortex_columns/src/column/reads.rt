@@ -1,0 +1,202 @@
+//! What is read of a column: its rows, and the parts that it lends.
+ghost use Rattle.std.specs.Prelude.{◌≡◌, ◌≢◌, ◌<◌, MatchOption, length, map, not};
+ghost use Rattle.vortex_columns.specs.Words.{row, is_null, type_of, AnswersUnlessMemory};
+
+use super::{Column, Storage};
+use crate::byte_rows::ByteRows;
+use crate::cell::Cell;
+use crate::scalar::Scalar;
+use std::alloc::Global;
+use std::cmp::Ordering;
+use vortex_types::{BitBuffer, DType, NativePType, Validity, VortexResult};
+
+impl Column {
+    ghost use Rattle.vortex_columns.specs.Words.{AreTyped, TellsNulls, FitsRows, validity_of};
+    ghost use Rattle.vortex_columns.specs.Words.{cell_value, IsCell, scalar_in, compare_values};
+    ghost use Rattle.vortex_columns.specs.Words.{constant_column};
+
+    /// The type, lent. Each row has it, null included: a row is null only where the type is nullable.
+    pub fn dtype(&self) -> &DType
+        ensures dtype { type_of result.now ≡ self.now.dtype }
+        ensures typed { AreTyped self.now.dtype self.now.rows }
+    {
+        &self.dtype
+    }
+
+    /// How many rows there are.
+    pub fn len(&self) -> usize
+        ensures { result ≡ length self.now.rows }
+    {
+        self.len
+    }
+
+    /// A copy of the validity.
+    pub fn validity(&self, alloc: Global) -> VortexResult<Validity>
+        ensures form { AnswersUnlessMemory result (λ v. (validity_of v).form ≡ self.now.form) }
+        ensures fits { AnswersUnlessMemory result
+            (λ v. FitsRows (validity_of v) (length self.now.rows)) }
+        ensures rows { AnswersUnlessMemory result (λ v. TellsNulls self.now.rows (validity_of v)) }
+    {
+        self.storage.validity(alloc)
+    }
+
+    /// Whether row `i` is not null.
+    pub fn is_valid(&self, i: usize) -> bool
+        requires { i < length self.now.rows }
+        ensures { result ≡ not (is_null (row self.now.rows i)) }
+    {
+        self.storage.is_valid(i)
+    }
+
+    /// The value of row `i` where it lies. Takes no memory.
+    pub fn cell(&self, i: usize) -> Cell<'_>
+        requires { i < length self.now.rows }
+        ensures whole { IsCell result }
+        ensures value { cell_value result ≡ row self.now.rows i }
+    {
+        if self.storage.is_valid(i) {
+            self.storage.cell(i)
+        } else {
+            Cell::Null
+        }
+    }
+
+    /// The value of row `i`.
+    pub fn scalar_at(&self, alloc: Global, i: usize) -> VortexResult<Scalar>
+        requires { i < length self.now.rows }
+        ensures { AnswersUnlessMemory result (λ s. s ≡ scalar_in self.now i) }
+    {
+        let dtype = self.dtype.try_clone(alloc)?;
+        let value = self.cell(i).try_to_value(alloc)?;
+        Scalar::try_new(dtype, value)
+    }
+
+    /// The order of row `i` and row `j` of another column. Takes no memory.
+    pub fn compare_rows(&self, i: usize, other: &Column, j: usize) -> Ordering
+        requires i_in { i < length self.now.rows }
+        requires j_in { j < length other.now.rows }
+        ensures { result ≡ compare_values (row self.now.rows i) (row other.now.rows j) }
+    {
+        self.cell(i).compare(&other.cell(j))
+    }
+
+    /// The scalar of a constant column, also of one of no rows.
+    pub fn as_constant(&self) -> Option<&Scalar>
+        ensures { MatchOption result (self.now.constant ≡ None)
+            (λ s. self.now ≡ constant_column s.now (length self.now.rows)) }
+    {
+        match &self.storage {
+            Storage::Constant(scalar) => Some(scalar),
+            _ => None,
+        }
+    }
+}
+
+/// The parts of a column that is no constant, lent. Takes no memory.
+impl Column {
+    ghost use Rattle.vortex_columns.specs.Words.{HasBits, AreBits, HasInts, AreInts, HasBytes};
+    ghost use Rattle.vortex_columns.specs.Words.{AreBytes, AreBytesAt, bytes_of, array, valid_rows};
+    ghost use Rattle.vortex_columns.specs.Words.{HasField, IsField, HasKind, AreLists, AreMaps};
+    ghost use Rattle.vortex_columns.specs.Words.{AreFixedSizeLists, is_list_type, is_map_type};
+    ghost use Rattle.vortex_columns.specs.Words.{is_fixed_size_list_type};
+
+    /// The bits, one a row, of a column of truth values that is no constant. What lies under a null says nothing.
+    pub fn bits(&self) -> Option<&BitBuffer>
+        ensures { MatchOption result (¬ HasBits self.now)
+            (λ bits. HasBits self.now × AreBits self.now bits.now) }
+    {
+        match &self.storage {
+            Storage::Rows(elements, _) => elements.bits(),
+            _ => None,
+        }
+    }
+
+    /// The integers, one a row, of a column of this integer type that is no constant. What lies under a null says
+    /// nothing.
+    pub fn ints<T: NativePType>(&self) -> Option<&[T]>
+        ensures { MatchOption result (¬ HasInts T.ptype self.now)
+            (λ xs. HasInts T.ptype self.now × AreInts self.now (map T.number xs.now)) }
+    {
+        match &self.storage {
+            Storage::Rows(elements, _) => elements.ints(),
+            _ => None,
+        }
+    }
+
+    /// The texts or byte strings, one a row, of a column of texts or bytes that is no constant. What lies under a null
+    /// says nothing.
+    pub fn byte_rows(&self) -> Option<ByteRows<'_>>
+        ensures { MatchOption result (¬ HasBytes self.now)
+            (λ rows. HasBytes self.now × AreBytes self.now (bytes_of rows)) }
+    {
+        match &self.storage {
+            Storage::Rows(elements, _) => elements.byte_rows(),
+            _ => None,
+        }
+    }
+
+    /// The text's or the bytes' own bytes in row `i` of a column of texts or bytes that is no constant. What lies
+    /// under a null says nothing.
+    pub fn bytes_at(&self, i: usize) -> Option<&[u8]>
+        requires { i < length self.now.rows }
+        ensures { MatchOption result (¬ HasBytes self.now)
+            (λ bs. HasBytes self.now × AreBytesAt i self.now bs.now) }
+    {
+        let rows = self.byte_rows()?;
+        Some(rows.bytes(i))
+    }
+
+    /// The rows that are not null, where the validity's form is an array of bits.
+    pub fn valid_bits(&self) -> Option<&BitBuffer>
+        ensures { MatchOption result (self.now.form ≢ array)
+            (λ bits. (self.now.form ≡ array) × (bits.now ≡ valid_rows self.now.rows)) }
+    {
+        self.storage.valid_bits()
+    }
+
+    /// The column of a field of a struct column that is no constant.
+    pub fn field(&self, k: usize) -> Option<&Column>
+        ensures { MatchOption result (¬ HasField k self.now)
+            (λ c. HasField k self.now × IsField k self.now c.now) }
+    {
+        match &self.storage {
+            Storage::Rows(elements, _) => elements.field(k),
+            _ => None,
+        }
+    }
+
+    /// The elements, offsets and sizes of a list column that is no constant.
+    pub fn list_parts(&self) -> Option<(&Column, &[usize], &[usize])>
+        ensures { MatchOption result (¬ HasKind is_list_type self.now)
+            (λ p. HasKind is_list_type self.now × AreLists self.now p.0.now p.1.now p.2.now) }
+    {
+        match &self.storage {
+            Storage::Rows(elements, _) => elements.list_parts(),
+            _ => None,
+        }
+    }
+
+    /// The elements and the size of a column of fixed-size lists that is no constant.
+    pub fn fixed_parts(&self) -> Option<(&Column, u32)>
+        ensures { MatchOption result (¬ HasKind is_fixed_size_list_type self.now)
+            (λ p. HasKind is_fixed_size_list_type self.now
+            × AreFixedSizeLists self.now p.0.now p.1) }
+    {
+        match &self.storage {
+            Storage::Rows(elements, _) => elements.fixed_parts(),
+            _ => None,
+        }
+    }
+
+    /// The keys, values, offsets and sizes of a map column that is no constant.
+    pub fn map_parts(&self) -> Option<(&Column, &Column, &[usize], &[usize])>
+        ensures { MatchOption result (¬ HasKind is_map_type self.now)
+            (λ p. HasKind is_map_type self.now
+            × AreMaps self.now p.0.now p.1.now p.2.now p.3.now) }
+    {
+        match &self.storage {
+            Storage::Rows(elements, _) => elements.map_parts(),
+            _ => None,
+        }
+    }
+}
