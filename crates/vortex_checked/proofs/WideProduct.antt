@@ -1,5 +1,7 @@
 -- The evidence of a product of two 64-bit numbers.
-use Rattle.std.proofs.Common.{◌≡◌, ℕ, zero, suc, ◌-◌, ◌/◌, ◌%◌, ◌<◌, ◌≤◌, ◌^◌, ◌*ℤ◌, true, false, refl, sym, ap, ◌∙◌, subst, arith, cond, pos, negsuc, ℤ, FitsSigned, inl, inr}
+use Rattle.std.proofs.Common.{◌≡◌, ℕ, zero, suc, ◌-◌, ◌/◌, ◌%◌, ◌<◌, ◌≤◌, ◌^◌, ◌*ℤ◌, true, false}
+use Rattle.std.proofs.Common.{refl, sym, ap, ◌∙◌, subst, arith, cond, pos, negsuc, ℤ, FitsSigned}
+use Rattle.std.proofs.Common.{inl, inr}
 use Rattle.std.specs.Prelude.{◌⊎◌, int_lt, unsigned_abs}
 use Rattle.std.proofs.lemmas.Bool.{cases_lt}
 use Rattle.std.specs.Bool.{FalseIff}
@@ -11,7 +13,9 @@ use Rattle.vortex_checked.specs.Evidence.{is_nonzero}
 use Rattle.vortex_checked.specs.Exact.{IsWithin, wide_evidence}
 
 pub product_fits : (a b : ℤ) → FitsSigned w64 a → FitsSigned w64 b → FitsSigned w128 (a *ℤ b)
-product_fits a b f g = fits_signed_mul w128 a b 9223372036854775808 9223372036854775808 (bound a f) (bound b g) (omega arith)
+product_fits a b f g =
+    fits_signed_mul w128 a b 9223372036854775808 9223372036854775808 (bound a f) (bound b g)
+    (omega arith)
   where
     bound : (z : ℤ) → FitsSigned w64 z → unsigned_abs z ≤ 9223372036854775808
     bound (pos n) f = omega (arith, f)
@@ -22,7 +26,15 @@ xor_same : (a : ℕ) → bit_xor a a ≡ 0
 xor_same a = same_from_bits (bit_xor a a) 0 (λ i. omega (arith, bit_at_xor a a i, bit_at-zero i))
 
 xor_differs : (a b : ℕ) → bit_xor a b ≡ 0 → a ≡ b
-xor_differs a b e = same_from_bits a b (λ i. omega (arith, sym (bit_at_xor a b i) ∙ ap (λ n. bit_at n i) e ∙ bit_at-zero i, bit_at-lt a i, bit_at-lt b i))
+xor_differs a b e =
+    same_from_bits a b
+    (λ i.
+    omega (
+      arith,
+      sym (bit_at_xor a b i) ∙ ap (λ n. bit_at n i) e ∙ bit_at-zero i,
+      bit_at-lt a i,
+      bit_at-lt b i,
+    ))
 
 -- evidence that tells where two words differ
 told : {P : Type 0} (a b : ℕ) → (a ≡ b → P) → (P → a ≡ b) → FalseIff (is_nonzero (bit_xor a b)) P
@@ -30,7 +42,9 @@ told {P} a b there back = by (bit_xor a b) refl
   where
     by : (n : ℕ) → bit_xor a b ≡ n → FalseIff (is_nonzero n) P
     by zero e = there (xor_differs a b e)
-    by (suc n) e = λ p. let same : bit_xor a b ≡ 0 = subst (λ c. bit_xor a c ≡ 0) (back p) (xor_same a) in omega (arith, e, same)
+    by (suc n) e = λ p. let same : bit_xor a b ≡ 0 =
+        subst (λ c. bit_xor a c ≡ 0) (back p) (xor_same a) in
+        omega (arith, e, same)
 
 -- the sign of a lower half, in each bit
 abbrev sign_of : ℕ → ℕ
@@ -41,54 +55,90 @@ sign_low k h =
     let low : int_lt (cast_signed w64 k) (pos 0) ≡ false = grind (arith) in
     ap (λ b. cond b 18446744073709551615 0) low
 
-sign_high : (k : ℕ) → 9223372036854775808 ≤ k → k < 18446744073709551616 → sign_of k ≡ 18446744073709551615
+sign_high : (k : ℕ) → 9223372036854775808 ≤ k → k < 18446744073709551616
+    → sign_of k ≡ 18446744073709551615
 sign_high k g h =
     let high : int_lt (cast_signed w64 k) (pos 0) ≡ true = grind (arith) in
     ap (λ b. cond b 18446744073709551615 0) high
 
-kept_sign : (z : ℤ) (k : ℕ) → int_rem_euclid z (pos 18446744073709551616) ≡ pos k → cond (int_lt (int_wrap w64 z) (pos 0)) (2 ^ 64 - 1) 0 ≡ sign_of k
+kept_sign : (z : ℤ) (k : ℕ) → int_rem_euclid z (pos 18446744073709551616) ≡ pos k
+    → cond (int_lt (int_wrap w64 z) (pos 0)) (2 ^ 64 - 1) 0 ≡ sign_of k
 unfolding int_wrap
-kept_sign z k e = ap (λ r. cond (int_lt (cast_signed w64 (unsigned_abs r)) (pos 0)) 18446744073709551615 0) e
+kept_sign z k e =
+    ap (λ r. cond (int_lt (cast_signed w64 (unsigned_abs r)) (pos 0)) 18446744073709551615 0) e
 
--- the upper half of a number repeats the sign of the lower exactly where the lower half holds the number
+-- the upper half of a number repeats the sign of the lower exactly where the lower half holds the
+-- number
 record Halves (upper lower n : ℕ) : Type 0 where
   there : upper ≡ sign_of lower → n ≤ 9223372036854775807
   back : n ≤ 9223372036854775807 → upper ≡ sign_of lower
 
-halves_pos : (n : ℕ) → n < 170141183460469231731687303715884105728 → Halves (n / 18446744073709551616) (n % 18446744073709551616) n
+halves_pos : (n : ℕ) → n < 170141183460469231731687303715884105728
+    → Halves (n / 18446744073709551616) (n % 18446744073709551616) n
 halves_pos n f = by (cases_lt (n % 18446744073709551616) 9223372036854775808)
   where
-    by : (n % 18446744073709551616 < 9223372036854775808) ⊎ (9223372036854775808 ≤ n % 18446744073709551616) → Halves (n / 18446744073709551616) (n % 18446744073709551616) n
+    by : (n % 18446744073709551616 < 9223372036854775808) ⊎ (9223372036854775808 ≤ n %
+        18446744073709551616)
+        → Halves (n / 18446744073709551616) (n % 18446744073709551616) n
     by (inl h) =
         let low = sign_low (n % 18446744073709551616) h in
-        record { there = λ e. omega (arith, e ∙ low); back = λ p. let none : n / 18446744073709551616 ≡ 0 = omega arith in none ∙ sym low }
+        record {
+          there = λ e. omega (arith, e ∙ low);
+          back = λ p. let none : n / 18446744073709551616 ≡ 0 = omega arith in none ∙ sym low;
+        }
     by (inr h) =
         let high = sign_high (n % 18446744073709551616) h (omega arith) in
         record { there = λ e. absurd (omega (arith, e ∙ high)); back = λ p. absurd (omega arith) }
 
-halves_negsuc : (n : ℕ) → n < 170141183460469231731687303715884105728 → Halves ((340282366920938463463374607431768211456 - suc n) / 18446744073709551616) (18446744073709551615 - n % 18446744073709551616) n
-halves_negsuc n f = by (cases_lt (18446744073709551615 - n % 18446744073709551616) 9223372036854775808)
+halves_negsuc : (n : ℕ) → n < 170141183460469231731687303715884105728
+    → Halves ((340282366920938463463374607431768211456 - suc n) / 18446744073709551616)
+    (18446744073709551615 - n % 18446744073709551616) n
+halves_negsuc n f =
+    by (cases_lt (18446744073709551615 - n % 18446744073709551616) 9223372036854775808)
   where
-    by : (18446744073709551615 - n % 18446744073709551616 < 9223372036854775808) ⊎ (9223372036854775808 ≤ 18446744073709551615 - n % 18446744073709551616) → Halves ((340282366920938463463374607431768211456 - suc n) / 18446744073709551616) (18446744073709551615 - n % 18446744073709551616) n
+    by : (18446744073709551615 - n % 18446744073709551616 < 9223372036854775808)
+        ⊎ (9223372036854775808 ≤ 18446744073709551615 - n % 18446744073709551616)
+        → Halves ((340282366920938463463374607431768211456 - suc n) / 18446744073709551616)
+        (18446744073709551615 - n % 18446744073709551616) n
     by (inl h) =
         let low = sign_low (18446744073709551615 - n % 18446744073709551616) h in
         record { there = λ e. absurd (omega (arith, e ∙ low)); back = λ p. absurd (omega arith) }
     by (inr h) =
         let high = sign_high (18446744073709551615 - n % 18446744073709551616) h (omega arith) in
-        record { there = λ e. omega (arith, e ∙ high); back = λ p. let all : (340282366920938463463374607431768211456 - suc n) / 18446744073709551616 ≡ 18446744073709551615 = omega arith in all ∙ sym high }
+        record {
+          there = λ e. omega (arith, e ∙ high);
+          back =
+              λ p.
+              let all : (340282366920938463463374607431768211456 - suc n) / 18446744073709551616
+              ≡ 18446744073709551615 =
+              omega arith in
+              all ∙ sym high;
+        }
 
-pub wide_tells : (z : ℤ) → FitsSigned w128 z → FalseIff (is_nonzero (wide_evidence z)) (IsWithin (negsuc 9223372036854775807) (pos 9223372036854775807) z)
+pub wide_tells : (z : ℤ) → FitsSigned w128 z
+    → FalseIff (is_nonzero (wide_evidence z))
+    (IsWithin (negsuc 9223372036854775807) (pos 9223372036854775807) z)
 wide_tells (pos n) f =
     let both = halves_pos n (omega (arith, f)) in
-    subst (λ s. FalseIff (is_nonzero (bit_xor (n / 18446744073709551616) s)) (IsWithin (negsuc 9223372036854775807) (pos 9223372036854775807) (pos n)))
+    subst
+    (λ s.
+    FalseIff (is_nonzero (bit_xor (n / 18446744073709551616) s))
+    (IsWithin (negsuc 9223372036854775807) (pos 9223372036854775807) (pos n)))
     (sym (kept_sign (pos n) (n % 18446744073709551616) refl))
     (told (n / 18446744073709551616) (sign_of (n % 18446744073709551616))
     (λ e. let small = both.there e in (omega (arith, ints), omega (arith, ints)))
     (λ p. both.back (omega (arith, ints, p.1))))
 wide_tells (negsuc n) f =
     let both = halves_negsuc n (omega (arith, f)) in
-    subst (λ s. FalseIff (is_nonzero (bit_xor ((340282366920938463463374607431768211456 - suc n) / 18446744073709551616) s)) (IsWithin (negsuc 9223372036854775807) (pos 9223372036854775807) (negsuc n)))
+    subst
+    (λ s.
+    FalseIff
+    (is_nonzero
+    (bit_xor ((340282366920938463463374607431768211456 - suc n) / 18446744073709551616)
+    s))
+    (IsWithin (negsuc 9223372036854775807) (pos 9223372036854775807) (negsuc n)))
     (sym (kept_sign (negsuc n) (18446744073709551615 - n % 18446744073709551616) refl))
-    (told ((340282366920938463463374607431768211456 - suc n) / 18446744073709551616) (sign_of (18446744073709551615 - n % 18446744073709551616))
+    (told ((340282366920938463463374607431768211456 - suc n) / 18446744073709551616)
+    (sign_of (18446744073709551615 - n % 18446744073709551616))
     (λ e. let small = both.there e in (omega (arith, ints), omega (arith, ints)))
     (λ p. both.back (omega (arith, ints, p.0))))

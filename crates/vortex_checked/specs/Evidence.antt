@@ -1,7 +1,8 @@
 -- Evidence of a fault: what a type must keep to serve as it.
 use Rattle.std.specs.Prelude.{◌≡◌, ℕ, zero, suc, Bool, true, false, not, ◌||◌}
 
-pub record IsEvidence {A : Type 0} (is_default : A → Type 0) (eq : A → A → Bool) (can_join : A → A → Type 0) (joined : A → A → A → Type 0) (is_fault : A → Bool) : Type 0 where
+pub record IsEvidence {A : Type 0} (is_default : A → Type 0) (eq : A → A → Bool)
+    (can_join : A → A → Type 0) (joined : A → A → A → Type 0) (is_fault : A → Bool) : Type 0 where
   -- the default tells of none, and what equals it is no evidence
   pub none : (x : A) → is_default x → is_fault x ≡ false
   pub told : (x y : A) → is_default y → eq x y ≡ not (is_fault x)

@@ -23,7 +23,11 @@ bool_evidence = record {
 
 -- no bits are set in two numbers where none are set in their union
 left_zero : (a b : ℕ) → bit_or a b ≡ 0 → a ≡ 0
-left_zero a b e = same_from_bits a 0 (λ i. omega (arith, sym (bit_at_or a b i) ∙ ap (λ n. bit_at n i) e ∙ bit_at-zero i, bit_at-zero i))
+left_zero a b e =
+    same_from_bits a 0
+    (λ i.
+    omega
+    (arith, sym (bit_at_or a b i) ∙ ap (λ n. bit_at n i) e ∙ bit_at-zero i, bit_at-zero i))
 
 joined_nonzero : (a b : ℕ) → is_nonzero (bit_or a b) ≡ (is_nonzero a || is_nonzero b)
 joined_nonzero zero b = ap is_nonzero (or_zero_l b)

@@ -2,7 +2,8 @@
 use Rattle.std.specs.Int.{w64, w128, cast_unsigned, int_wrap}
 use Rattle.std.specs.Int.Bits.{bit_xor}
 use Rattle.std.proofs.Common.{cond}
-use Rattle.std.specs.Prelude.{ℕ, zero, ◌/◌, ◌-◌, ◌^◌, ◌≤ℤ◌, ℤ, pos, Option, Some, None, Bool, ◌||◌, int_lt, int_div}
+use Rattle.std.specs.Prelude.{ℕ, zero, ◌/◌, ◌-◌, ◌^◌, ◌≤ℤ◌, ℤ, pos, Option, Some, None, Bool, ◌||◌}
+use Rattle.std.specs.Prelude.{int_lt, int_div}
 
 -- the numbers from the least to the greatest
 abbrev pub IsWithin : ℤ → ℤ → ℤ → Type 0
@@ -31,7 +32,8 @@ held_or_zero least greatest (Some z) = cond (is_outside least greatest z) (pos 0
 abbrev pub sign_word : ℤ → ℕ
 sign_word z = cond (int_lt z (pos 0)) (2 ^ 64 - 1) 0
 
--- Of a product of two 64-bit numbers in 128 bits: the upper half, each bit turned where the lower half is negative. It is
+-- Of a product of two 64-bit numbers in 128 bits: the upper half, each bit turned where the lower
+-- half is negative. It is
 -- zero exactly where the lower half holds the product.
 abbrev pub wide_evidence : ℤ → ℕ
 wide_evidence z = bit_xor (cast_unsigned w128 z / 2 ^ 64) (sign_word (int_wrap w64 z))

@@ -46,7 +46,8 @@ pub trait CheckedArithmetic: Copy + Default + Drop {
     /// Evidence that the type does not hold the product, the default where it does.
     fn mul_failure(self, rhs: Self) -> Self::MulFailure
         ensures evidence { result ≡ mul_evidence self rhs }
-        ensures fault { FalseIff (Self.MulFailure.is_fault result) (IsWithin least greatest (number self *ℤ number rhs)) };
+        ensures fault { FalseIff (Self.MulFailure.is_fault result)
+            (IsWithin least greatest (number self *ℤ number rhs)) };
 
     /// The quotient, truncated toward zero.
     fn div_value(self, rhs: Self) -> Self
@@ -55,7 +56,8 @@ pub trait CheckedArithmetic: Copy + Default + Drop {
 
     /// Whether the divisor is zero, or the type does not hold the quotient.
     fn div_error(self, rhs: Self) -> bool
-        ensures { FalseIff result (HasResult least greatest (quotient (number self) (number rhs))) };
+        ensures { FalseIff result
+            (HasResult least greatest (quotient (number self) (number rhs))) };
 
     /// A number that the type holds is left as it is.
     ghost keeps: { (z : ℤ) → IsWithin least greatest z → wrapped z ≡ z };

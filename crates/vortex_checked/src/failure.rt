@@ -10,7 +10,8 @@ pub trait Failure: Copy + Default + PartialEq + BitOrAssign {
     /// Whether it tells of a fault.
     ghost is_fault: { Self → Bool };
 
-    ghost evidence: { IsEvidence Self.is_default Self.eq Self.can_bitor_assign Self.bitor_assign_gives is_fault };
+    ghost evidence: { IsEvidence Self.is_default Self.eq Self.can_bitor_assign
+        Self.bitor_assign_gives is_fault };
 }
 
 impl Failure for bool {

@@ -26,11 +26,13 @@ pub trait CheckedPrimitiveOp<T: CheckedArithmetic> {
     /// The value, and evidence: the default exactly where the type holds the exact result.
     fn apply(left: T, right: T) -> (T, Self::Fail)
         ensures value { T.number result.0 ≡ value (T.number left) (T.number right) }
-        ensures fault { FalseIff (Self.Fail.is_fault result.1) (HasResult T.least T.greatest (exact (T.number left) (T.number right))) }
+        ensures fault { FalseIff (Self.Fail.is_fault result.1)
+            (HasResult T.least T.greatest (exact (T.number left) (T.number right))) }
         ensures evidence { tells left right result.1 };
 
     /// Where the type holds the exact result, it is answered.
-    ghost answers: { (a b : ℤ) → HasResult T.least T.greatest (exact a b) → exact a b ≡ Some (value a b) };
+    ghost answers: { (a b : ℤ) → HasResult T.least T.greatest (exact a b)
+        → exact a b ≡ Some (value a b) };
 }
 
 /// Addition: the sum, wrapped.

@@ -26,7 +26,8 @@ or_right : (n m : Bool) → IsTrue m → IsTrue (n || m)
 or_right true m h = refl
 or_right false m h = h
 
-and_allowed : (n m : Bool) (a b : Option Bool) → Allows n a → Allows m b → Allows (n || m) (kleene_and a b)
+and_allowed : (n m : Bool) (a b : Option Bool) → Allows n a → Allows m b
+    → Allows (n || m) (kleene_and a b)
 and_allowed n m (Some false) b h k = tt
 and_allowed n m None (Some false) h k = tt
 and_allowed n m (Some true) (Some false) h k = tt
@@ -35,7 +36,8 @@ and_allowed n m None (Some true) h k = or_left n m h
 and_allowed n m (Some true) None h k = or_right n m k
 and_allowed n m (Some true) (Some true) h k = tt
 
-or_allowed : (n m : Bool) (a b : Option Bool) → Allows n a → Allows m b → Allows (n || m) (kleene_or a b)
+or_allowed : (n m : Bool) (a b : Option Bool) → Allows n a → Allows m b
+    → Allows (n || m) (kleene_or a b)
 or_allowed n m (Some true) b h k = tt
 or_allowed n m None (Some true) h k = tt
 or_allowed n m (Some false) (Some true) h k = tt
@@ -45,7 +47,8 @@ or_allowed n m (Some false) None h k = or_right n m k
 or_allowed n m (Some false) (Some false) h k = tt
 
 -- the answer is nothing only where a side's null is allowed
-pub kleene_allowed : (op : Operator) (n m : Bool) (a b : Option Bool) → is_boolean op ≡ true → Allows n a → Allows m b → Allows (n || m) (kleene op a b)
+pub kleene_allowed : (op : Operator) (n m : Bool) (a b : Option Bool) → is_boolean op ≡ true
+    → Allows n a → Allows m b → Allows (n || m) (kleene op a b)
 kleene_allowed And n m a b e h k = and_allowed n m a b h k
 kleene_allowed Or n m a b e h k = or_allowed n m a b h k
 kleene_allowed op n m a b e h k = cc

@@ -36,7 +36,8 @@ Allows n (Some b) = Unit {0}
 
 -- not (a op b) is (not a) dual (not b)
 abbrev pub AreDual : Operator → Operator → Type 0
-AreDual op dual = (a b : Option Bool) → kleene_not (kleene op a b) ≡ kleene dual (kleene_not a) (kleene_not b)
+AreDual op dual = (a b : Option Bool)
+    → kleene_not (kleene op a b) ≡ kleene dual (kleene_not a) (kleene_not b)
 
 pub and-or : AreDual And Or
 and-or None None = refl

@@ -1,4 +1,5 @@
--- What an operator says of two values: And, Or and Not by Kleene's tables, comparisons by the order of values.
+-- What an operator says of two values: And, Or and Not by Kleene's tables, comparisons by the order
+-- of values.
 use Rattle.std.specs.Prelude.{◌||◌, Bool, Option, Some, None, if◌then◌else◌}
 use Rattle.std.specs.declared.cmp.Ordering.{Ordering}
 use Rattle.std.specs.Ordering.{is_eq, is_ne, is_lt, is_le, is_gt, is_ge}
@@ -7,7 +8,8 @@ use Rattle.vortex_types.specs.Values.{Value, null, truth, is_null, truth_of, tru
 use Rattle.vortex_types.specs.Order.{compare_values}
 use Rattle.vortex_operators.specs.declared.operators.Operator.{Operator}
 use Rattle.vortex_operators.specs.declared.operators.CompareOperator.{CompareOperator}
-use Rattle.vortex_operators.specs.declared.operators.CompareOperator.TheVariants.{Eq, NotEq, Gt, Gte, Lt, Lte}
+use Rattle.vortex_operators.specs.declared.operators.CompareOperator.TheVariants.{Eq, NotEq, Gt}
+use Rattle.vortex_operators.specs.declared.operators.CompareOperator.TheVariants.{Gte, Lt, Lte}
 use Rattle.vortex_operators.specs.Operators.{compare_operator_of}
 use Rattle.vortex_operators.specs.Kleene.{kleene, kleene_not}
 
@@ -28,7 +30,8 @@ holds Lte = is_le
 
 -- null exactly where a top value is null; a null within a value is a value as others are
 abbrev pub comparison_value : CompareOperator → Value → Value → Value
-comparison_value op v w = if is_null v || is_null w then null else truth (holds op (compare_values v w))
+comparison_value op v w =
+    if is_null v || is_null w then null else truth (holds op (compare_values v w))
 
 -- Bool, nullable if either side is
 abbrev pub comparison_type : LogicalType → LogicalType → LogicalType

@@ -1,9 +1,12 @@
 -- The operators' table: texts, inverses, operands swapped.
 use Rattle.std.specs.Prelude.{◌≡◌, ℕ, List, Bool, true, false, Option, Some, None, codes}
 use Rattle.vortex_types.specs.declared.error.VortexError.{VortexError}
-use Rattle.vortex_types.specs.declared.error.VortexError.TheVariants.{NotBooleanOperator, NotCompareOperator}
+use Rattle.vortex_types.specs.declared.error.VortexError.TheVariants.{NotBooleanOperator}
+use Rattle.vortex_types.specs.declared.error.VortexError.TheVariants.{NotCompareOperator}
 use Rattle.vortex_operators.specs.declared.operators.Operator.{Operator}
-use Rattle.vortex_operators.specs.declared.operators.Operator.TheVariants.{Eq, NotEq, Gt, Gte, Lt, Lte, And, Or, Add, Sub, Mul, Div}
+use Rattle.vortex_operators.specs.declared.operators.Operator.TheVariants.{Eq, NotEq, Gt, Gte, Lt}
+use Rattle.vortex_operators.specs.declared.operators.Operator.TheVariants.{Lte, And, Or, Add, Sub}
+use Rattle.vortex_operators.specs.declared.operators.Operator.TheVariants.{Mul, Div}
 use Rattle.vortex_operators.specs.declared.operators.CompareOperator.{CompareOperator}
 use Rattle.vortex_operators.specs.declared.operators.CompareOperator.TheVariants as compare
 
@@ -98,7 +101,8 @@ is_boolean And = true
 is_boolean Or = true
 is_boolean o = false
 
--- the refusal of an operator that is neither And nor Or, and of one that is no comparison, by its text
+-- the refusal of an operator that is neither And nor Or, and of one that is no comparison, by its
+-- text
 abbrev pub IsNotBoolean : Operator → VortexError → Type 0
 IsNotBoolean o (NotBooleanOperator s) = s.now ≡ text_of o
 IsNotBoolean o e = ⊥

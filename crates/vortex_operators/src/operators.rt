@@ -1,6 +1,9 @@
 //! The operators of two operands, and their laws.
 ghost use Rattle.std.specs.Prelude.{◌≡◌, IfSome};
-ghost use Rattle.vortex_operators.specs.Operators.{text_of, operator_of, compare_operator_of, compare_inverse, compare_swap, inverse_of, logical_inverse_of, swap_of, is_arithmetic, is_boolean};
+ghost use Rattle.vortex_operators.specs.Operators.{text_of, operator_of, compare_operator_of};
+ghost use Rattle.vortex_operators.specs.Operators.{compare_inverse, compare_swap, inverse_of};
+ghost use Rattle.vortex_operators.specs.Operators.{logical_inverse_of, swap_of, is_arithmetic};
+ghost use Rattle.vortex_operators.specs.Operators.{is_boolean};
 ghost use Rattle.vortex_operators.specs.Kleene.{AreDual};
 
 use std::cmp::Ordering;
@@ -235,7 +238,8 @@ impl From<CompareOperator> for Operator {
     ghost use Rattle.std.specs.Prelude.{◌≡◌, Some};
     ghost use Rattle.vortex_operators.specs.Operators.{operator_of, compare_operator_of};
 
-    ghost from_gives = { λ compare operator. (operator ≡ operator_of compare) × (compare_operator_of operator ≡ Some compare) };
+    ghost from_gives = { λ compare operator. (operator ≡ operator_of compare)
+        × (compare_operator_of operator ≡ Some compare) };
 
     fn from(operator: CompareOperator) -> Operator {
         match operator {
@@ -256,7 +260,9 @@ impl TryFrom<Operator> for CompareOperator {
 
     type Error = VortexError;
 
-    ghost try_from_gives = { λ operator r. MatchResult r (λ compare. compare_operator_of operator ≡ Some compare) (λ e. (compare_operator_of operator ≡ None) × IsNotCompare operator e) };
+    ghost try_from_gives = { λ operator r. MatchResult r
+        (λ compare. compare_operator_of operator ≡ Some compare)
+        (λ e. (compare_operator_of operator ≡ None) × IsNotCompare operator e) };
 
     fn try_from(operator: Operator) -> VortexResult<CompareOperator> {
         match operator.to_compare_operator() {

@@ -14,5 +14,8 @@ returns c =
     let wide_right : to_z w128 (of_z w128 b) ≡ b = grind (arith, to_z-of_z) in
     let x = ap (λ z. to_z w128 (of_z w128 z)) (c.from.ensures ∙ left) ∙ wide_left in
     let y = ap (λ z. to_z w128 (of_z w128 z)) (c.from-2.ensures ∙ right) ∙ wide_right in
-    let same : to_z w128 (of_z w128 (a *ℤ b)) ≡ a *ℤ b = to_z-of_z (product_fits a b c.ranges.left c.ranges.right) in
-    ap (λ u. u / 18446744073709551616) (c.cast_unsigned.ensures ∙ (λ i. of_z w128 (to_z w128 (of_z w128 (x i *ℤ y i)))) ∙ ap (of_z w128) same)
+    let same : to_z w128 (of_z w128 (a *ℤ b)) ≡ a *ℤ b =
+    to_z-of_z (product_fits a b c.ranges.left c.ranges.right) in
+    ap (λ u. u / 18446744073709551616)
+    (c.cast_unsigned.ensures ∙ (λ i. of_z w128 (to_z w128 (of_z w128 (x i *ℤ y i))))
+    ∙ ap (of_z w128) same)

@@ -15,13 +15,18 @@ returns-clause-evidence c =
     let b = c.args.rhs in
     let left : to_z w64 (of_z w64 a) ≡ a = grind (arith, to_z-of_z) in
     let right : to_z w64 (of_z w64 b) ≡ b = grind (arith, to_z-of_z) in
-    let upper = c.upper_half.ensures ∙ (λ i. of_z w128 (left i *ℤ right i) / 18446744073709551616) in
-    let sign = c.sign_word.ensures ∙ ap sign_word (wrapping_mul_is w64 a b c.ranges.self c.ranges.rhs) in
+    let upper =
+    c.upper_half.ensures ∙ (λ i. of_z w128 (left i *ℤ right i) / 18446744073709551616) in
+    let sign =
+    c.sign_word.ensures ∙ ap sign_word (wrapping_mul_is w64 a b c.ranges.self c.ranges.rhs) in
     λ i. bit_xor (upper i) (sign i)
 
 pub returns-clause-fault : goal.returns-clause-fault
 returns-clause-fault c =
     let z = c.args.self *ℤ c.args.rhs in
-    subst (λ e. FalseIff (is_nonzero e) (IsWithin (negsuc 9223372036854775807) (pos 9223372036854775807) z))
+    subst
+    (λ e.
+    FalseIff (is_nonzero e)
+    (IsWithin (negsuc 9223372036854775807) (pos 9223372036854775807) z))
     (sym (returns-clause-evidence c))
     (wide_tells z (product_fits c.args.self c.args.rhs c.ranges.self c.ranges.rhs))

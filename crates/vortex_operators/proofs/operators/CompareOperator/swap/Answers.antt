@@ -1,4 +1,5 @@
-use Rattle.vortex_operators.specs.declared.operators.CompareOperator.TheVariants.{Eq, NotEq, Gt, Gte, Lt, Lte}
+use Rattle.vortex_operators.specs.declared.operators.CompareOperator.TheVariants.{Eq, NotEq, Gt}
+use Rattle.vortex_operators.specs.declared.operators.CompareOperator.TheVariants.{Gte, Lt, Lte}
 use Rattle.vortex_operators.specs.ComparisonLaws.{are_swapped}
 use Rattle.vortex_operators.proofs.operators.CompareOperator.swap.Goals as goal
 

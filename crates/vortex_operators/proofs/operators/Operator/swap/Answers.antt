@@ -1,5 +1,6 @@
 use Rattle.std.specs.Prelude.{refl}
-use Rattle.vortex_operators.specs.declared.operators.Operator.TheVariants.{Eq, NotEq, Gt, Gte, Lt, Lte, And, Or, Add, Mul}
+use Rattle.vortex_operators.specs.declared.operators.Operator.TheVariants.{Eq, NotEq, Gt, Gte, Lt}
+use Rattle.vortex_operators.specs.declared.operators.Operator.TheVariants.{Lte, And, Or, Add, Mul}
 use Rattle.vortex_operators.specs.SwapLaws.{turned}
 use Rattle.vortex_operators.proofs.operators.Operator.swap.Goals as goal
 
