@@ -1,7 +1,7 @@
 -- How a column's parts are seen. What is seen of its storage is a function of `Stored`, which
 -- forgets where lists lie: so a
 -- copy of a storage is seen as its source.
-use Rattle.std.specs.Prelude.{◌≡◌, ℕ, ◌+◌, ◌*◌, ◌<◌, ◌≤◌, ℤ, pos, Bool, true, false, List, [], ◌∷◌}
+use Rattle.std.specs.Prelude.{◌≡◌, ℕ, ◌+◌, ◌*◌, ◌<◌, ◌≤◌, ℤ, pos, Bool, false, List, [], ◌∷◌}
 use Rattle.std.specs.Prelude.{map, length, String, string_bytes, slice_index, slice_index_or}
 use Rattle.std.specs.Prelude.{if◌then◌else◌, All, IsUtf8, Option, Some, None}
 use Rattle.std.specs.List.{range_with_len}

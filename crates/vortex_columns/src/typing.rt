@@ -44,7 +44,8 @@ impl Cell<'_> {
     #[cycle(typing)]
     fn is_entry(&self, key: &DType, value: &DType) -> bool
         requires { IsCell self.now }
-        ensures { IsTrue result ↔ IsEntryOf (type_of key.now) (type_of value.now) (cell_value self.now) }
+        ensures { IsTrue result
+            ↔ IsEntryOf (type_of key.now) (type_of value.now) (cell_value self.now) }
     {
         match self {
             Cell::Sequence(entry) => is_pair(entry, key, value),
@@ -98,7 +99,8 @@ fn so_many_have_type(values: &Sequence<'_>, dtype: &DType, count: u32) -> bool
 #[cycle(typing)]
 fn are_entries(values: &Sequence<'_>, key: &DType, value: &DType) -> bool
     requires { IsSequence values.now }
-    ensures { IsTrue result ↔ Each (IsEntryOf (type_of key.now) (type_of value.now)) (values_in values.now) }
+    ensures { IsTrue result
+        ↔ Each (IsEntryOf (type_of key.now) (type_of value.now)) (values_in values.now) }
 {
     for k in 0..values.len() {
         if !values.get(k).is_entry(key, value) {
