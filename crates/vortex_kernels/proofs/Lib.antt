@@ -1,3 +1,4 @@
 pub mod Comparing
 pub mod RowLemmas
 pub mod KleeneBits
+pub mod SameIntegers

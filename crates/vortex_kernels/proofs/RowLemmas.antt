@@ -1,9 +1,15 @@
 -- Rows of truth values that are built one by one, and the column that is made of them.
-use Rattle.std.proofs.Common.{◌≡◌, ◌⊎◌, inl, inr, ℕ, zero, suc, ◌+◌, ◌<◌, Bool, true, false, Option, Some, None, List, [], ◌∷◌, ◌++◌, length, get_or, refl, sym, ap, subst, ◌∙◌, arith, length-append, cond}
+use Rattle.std.proofs.Common.{◌≡◌, ◌⊎◌, inl, inr, ℕ, zero, suc, ◌+◌, ◌<◌, Bool, true, false, Option}
+use Rattle.std.proofs.Common.{Some, None, List, [], ◌∷◌, ◌++◌, length, get_or, refl, sym, ap, subst}
+use Rattle.std.proofs.Common.{◌∙◌, arith, length-append, cond}
 use Rattle.std.specs.Prelude.{not, is_some, Result, slice_index_or}
 use Rattle.std.proofs.lemmas.List.FromFn.{get_or-map-range_with_len, length-map-range_with_len}
-use Rattle.vortex_types.specs.LogicalTypes.{LogicalType, null_type, bool_type, integer_type, text_type, bytes_type, struct_type, list_type, fixed_size_list_type, map_type, is_bool_type, is_nullable}
-use Rattle.vortex_types.specs.Values.{Value, null, truth, number, text, bytes, list, is_null, truth_or_null}
+use Rattle.vortex_types.specs.LogicalTypes.{LogicalType, null_type, bool_type, integer_type}
+use Rattle.vortex_types.specs.LogicalTypes.{text_type, bytes_type, struct_type, list_type}
+use Rattle.vortex_types.specs.LogicalTypes.{fixed_size_list_type, map_type, is_bool_type}
+use Rattle.vortex_types.specs.LogicalTypes.{is_nullable}
+use Rattle.vortex_types.specs.Values.{Value, null, truth, number, text, bytes, list, is_null}
+use Rattle.vortex_types.specs.Values.{truth_or_null}
 use Rattle.vortex_columns.specs.ColumnView.{ColumnView, row, AreBits}
 use Rattle.vortex_types.specs.ValidityView.{ValidityView, is_valid_row, FitsRows}
 use Rattle.vortex_types.specs.declared.error.VortexError.{VortexError}
@@ -11,9 +17,10 @@ use Rattle.vortex_types.specs.declared.error.VortexError.TheVariants.{InvalidCol
 use Rattle.vortex_types.specs.Answers.{AnswersUnlessMemory, AnswersWhere}
 use Rattle.vortex_types.proofs.Answering.{answers_where}
 use Rattle.vortex_columns.specs.Stored.{bool_column}
-use Rattle.vortex_kernels.specs.Rows.{HasRows, AreTold}
+use Rattle.vortex_kernels.specs.Rows.{HasRows}
+use Rattle.vortex_kernels.specs.ToldBits.{AreTold}
 use Rattle.vortex_operators.specs.OperatorValues.{not_value}
-use Rattle.vortex_kernels.specs.Nulls.{IsValidity}
+use Rattle.vortex_kernels.specs.Validity.{IsValidity}
 use Rattle.vortex_kernels.specs.Truths.{IsValueOf}
 
 module _ {A : Type 0} (other : A) where
@@ -21,13 +28,15 @@ module _ {A : Type 0} (other : A) where
   get_or-last [] x = refl
   get_or-last (y ∷ ys) x = get_or-last ys x
 
-  pub get_or-before : (xs : List A) (x : A) (k : ℕ) → k < length xs → get_or (xs ++ x ∷ []) k other ≡ get_or xs k other
+  pub get_or-before : (xs : List A) (x : A) (k : ℕ) → k < length xs
+      → get_or (xs ++ x ∷ []) k other ≡ get_or xs k other
   get_or-before [] x k h = absurd (omega arith)
   get_or-before (y ∷ ys) x zero h = refl
   get_or-before (y ∷ ys) x (suc k) h = get_or-before ys x k (omega arith)
 
 -- one more bit
-pub told_more : (n : ℕ) (tells : ℕ → Bool → Type 0) (bits : List Bool) (b : Bool) → AreTold n tells bits → tells n b → AreTold (n + 1) tells (bits ++ b ∷ [])
+pub told_more : (n : ℕ) (tells : ℕ → Bool → Type 0) (bits : List Bool) (b : Bool)
+    → AreTold n tells bits → tells n b → AreTold (n + 1) tells (bits ++ b ∷ [])
 told_more n tells bits b h told = record {
   count = omega (arith, length-append bits (b ∷ []), h.count);
   each = λ k lt. by k (last_or_before k lt);
@@ -37,7 +46,9 @@ told_more n tells bits b h told = record {
     last_or_before k lt = grind arith
 
     by : (k : ℕ) → (k < n) ⊎ (k ≡ n) → tells k (slice_index_or (bits ++ b ∷ []) k false)
-    by k (inl lt) = subst (λ (x : Bool). tells k x) (sym (get_or-before false bits b k (omega (arith, h.count)))) (h.each k lt)
+    by k (inl lt) =
+        subst (λ (x : Bool). tells k x)
+        (sym (get_or-before false bits b k (omega (arith, h.count)))) (h.each k lt)
     by k (inr q) = rw (q, ← h.count, get_or-last) (rw h.count told)
 
 pub bool_dtype : (t : LogicalType) → is_bool_type t ≡ true → t ≡ bool_type (is_nullable t)
@@ -52,37 +63,59 @@ bool_dtype (fixed_size_list_type t s n) h = cc
 bool_dtype (map_type k v n) h = cc
 
 -- a truth value that is told by a bool, and null where there is none
-pub value_row : (o : Option Bool) (b : Bool) → IsValueOf b o → cond (is_some o) (truth b) null ≡ truth_or_null o
+pub value_row : (o : Option Bool) (b : Bool) → IsValueOf b o
+    → cond (is_some o) (truth b) null ≡ truth_or_null o
 value_row None b h = refl
 value_row (Some v) b h = ap truth h
 
 -- the column of such bits, null where a row is not valid
-pub bool_rows : (nullable : Bool) (n : ℕ) (valid : ℕ → Bool) (f : ℕ → Value) (bits : List Bool) (v : ValidityView) (c : ColumnView) → length bits ≡ n → IsValidity nullable n valid v → ((i : ℕ) → i < n → cond (valid i) (truth (slice_index_or bits i false)) null ≡ f i) → c ≡ bool_column bits v → HasRows (bool_type nullable) n f c
+pub bool_rows : (nullable : Bool) (n : ℕ) (valid : ℕ → Bool) (f : ℕ → Value) (bits : List Bool)
+    (v : ValidityView) (c : ColumnView)
+    → length bits ≡ n → IsValidity nullable n valid v
+    → ((i : ℕ) → i < n → cond (valid i) (truth (slice_index_or bits i false)) null ≡ f i)
+    → c ≡ bool_column bits v → HasRows (bool_type nullable) n f c
 bool_rows nullable n valid f bits v c count h rows e = record {
   dtype = ap (λ (d : ColumnView). d.dtype) e ∙ ap bool_type h.nullability;
-  count = ap (λ (d : ColumnView). length d.rows) e ∙ length-map-range_with_len (λ k. cond (is_valid_row v k) (truth (slice_index_or bits k false)) null) 0 (length bits) ∙ count;
+  count =
+      ap (λ (d : ColumnView). length d.rows) e
+      ∙ length-map-range_with_len
+      (λ k. cond (is_valid_row v k) (truth (slice_index_or bits k false)) null) 0 (length bits)
+      ∙ count;
   each = λ i lt.
       ap (λ (d : ColumnView). row d.rows i) e
-      ∙ get_or-map-range_with_len (λ k. cond (is_valid_row v k) (truth (slice_index_or bits k false)) null) 0 (length bits) i i null (omega (arith, count)) (omega arith)
+      ∙ get_or-map-range_with_len
+      (λ k. cond (is_valid_row v k) (truth (slice_index_or bits k false)) null) 0 (length bits)
+      i i null (omega (arith, count)) (omega arith)
       ∙ ap (λ b. cond b (truth (slice_index_or bits i false)) null) (h.each i lt)
       ∙ rows i lt;
 }
 
-pub bool_answers : (nullable : Bool) (n : ℕ) (valid : ℕ → Bool) (f : ℕ → Value) (bits : List Bool) (v : ValidityView) (r : Result ColumnView VortexError) → length bits ≡ n → IsValidity nullable n valid v → ((i : ℕ) → i < n → cond (valid i) (truth (slice_index_or bits i false)) null ≡ f i) → AnswersWhere r (FitsRows v (length bits)) (λ c. c ≡ bool_column bits v) InvalidColumn → AnswersUnlessMemory r (HasRows (bool_type nullable) n f)
+pub bool_answers : (nullable : Bool) (n : ℕ) (valid : ℕ → Bool) (f : ℕ → Value) (bits : List Bool)
+    (v : ValidityView) (r : Result ColumnView VortexError)
+    → length bits ≡ n → IsValidity nullable n valid v
+    → ((i : ℕ) → i < n → cond (valid i) (truth (slice_index_or bits i false)) null ≡ f i)
+    → AnswersWhere r (FitsRows v (length bits)) (λ c. c ≡ bool_column bits v) InvalidColumn
+    → AnswersUnlessMemory r (HasRows (bool_type nullable) n f)
 bool_answers nullable n valid f bits v r count h rows answered =
-    answers_where r (FitsRows v (length bits)) (λ c. c ≡ bool_column bits v) (HasRows (bool_type nullable) n f) InvalidColumn
+    answers_where r (FitsRows v (length bits)) (λ c. c ≡ bool_column bits v)
+    (HasRows (bool_type nullable) n f) InvalidColumn
     (subst (λ (m : ℕ). FitsRows v m) (sym count) h.fits)
     (λ c e. bool_rows nullable n valid f bits v c count h rows e)
     answered
 
 -- a row that is turned where it is not null
-pub not_row : (c : ColumnView) (xs bits : List Bool) → AreBits c xs → AreTold (length xs) (λ i b. b ≡ not (slice_index_or xs i false)) bits → (i : ℕ) → i < length c.rows → cond (not (is_null (row c.rows i))) (truth (slice_index_or bits i false)) null ≡ not_value (row c.rows i)
+pub not_row : (c : ColumnView) (xs bits : List Bool) → AreBits c xs
+    → AreTold (length xs) (λ i b. b ≡ not (slice_index_or xs i false)) bits → (i : ℕ)
+    → i < length c.rows
+    → cond (not (is_null (row c.rows i))) (truth (slice_index_or bits i false)) null
+    ≡ not_value (row c.rows i)
 not_row c xs bits are told i lt = by (row c.rows i) (are.each i (omega (arith, are.count)))
   where
     turned : slice_index_or bits i false ≡ not (slice_index_or xs i false)
     turned = told.each i (omega (arith, are.count))
 
-    by : (v : Value) → (is_null v ≡ false → v ≡ truth (slice_index_or xs i false)) → cond (not (is_null v)) (truth (slice_index_or bits i false)) null ≡ not_value v
+    by : (v : Value) → (is_null v ≡ false → v ≡ truth (slice_index_or xs i false))
+        → cond (not (is_null v)) (truth (slice_index_or bits i false)) null ≡ not_value v
     by null h = refl
     by (truth b) h = ap truth turned ∙ sym (ap not_value (h refl))
     by (number z) h = ap truth turned ∙ sym (ap not_value (h refl))

@@ -1,5 +1,6 @@
 -- Comparison of two values by their order, and of two whole columns.
-use Rattle.std.specs.Prelude.{◌≡◌, ◌≢◌, ℕ, ◌<◌, List, ◌||◌, ◌&&◌, Bool, true, false, length, nat_eq, slice_index_or, Option, Some, None, is_some, if◌then◌else◌}
+use Rattle.std.specs.Prelude.{◌≡◌, ◌≢◌, ℕ, ◌<◌, List, ◌||◌, ◌&&◌, Bool, true, false, length, nat_eq}
+use Rattle.std.specs.Prelude.{slice_index_or, Option, Some, None, is_some, if◌then◌else◌}
 use Rattle.std.specs.declared.cmp.Ordering.{Ordering}
 use Rattle.vortex_types.specs.declared.error.VortexError.{VortexError}
 use Rattle.vortex_types.specs.declared.error.VortexError.TheVariants.{LengthMismatch, TypeMismatch}
@@ -12,14 +13,22 @@ use Rattle.vortex_types.specs.ScalarView.{ScalarView}
 use Rattle.vortex_columns.specs.ColumnView.{ColumnView, row, is_bytes_like, bytes_value}
 use Rattle.vortex_operators.specs.declared.operators.CompareOperator.{CompareOperator}
 use Rattle.vortex_operators.specs.OperatorValues.{holds, comparison_value, comparison_type}
-use Rattle.vortex_kernels.specs.Rows.{HasRows, AreTold}
+use Rattle.vortex_kernels.specs.Rows.{HasRows}
+use Rattle.vortex_kernels.specs.ToldBits.{AreTold}
 
 -- two scalars, whatever their types where one is null
 abbrev pub compared_scalar : CompareOperator → ScalarView → ScalarView → ScalarView
-compared_scalar op a b = record { dtype = comparison_type a.dtype b.dtype; value = comparison_value op a.value b.value }
+compared_scalar op a b =
+    record { dtype = comparison_type a.dtype b.dtype; value = comparison_value op a.value b.value }
 
 abbrev pub are_comparable : ScalarView → ScalarView → Bool
 are_comparable a b = (is_null a.value || is_null b.value) || alike_types a.dtype b.dtype
+
+abbrev pub AnswersScalars : CompareOperator → ScalarView → ScalarView → ScalarView → Type 0
+AnswersScalars op a b s = (are_comparable a b ≡ true) × (s ≡ compared_scalar op a b)
+
+abbrev pub RefusesScalars : ScalarView → ScalarView → VortexError → Type 0
+RefusesScalars a b e = (are_comparable a b ≡ false) × (e ≡ TypeMismatch place.Scalars)
 
 -- a constant column of a null
 abbrev pub is_null_scalar : Option ScalarView → Bool
@@ -35,25 +44,32 @@ is_settled l r = nat_eq (length l.rows) 0 || (is_null_constant l || is_null_cons
 
 abbrev pub HasComparisonRows : CompareOperator → ColumnView → ColumnView → ColumnView → Type 0
 HasComparisonRows op l r =
-    HasRows (comparison_type l.dtype r.dtype) (length l.rows) (λ i. comparison_value op (row l.rows i) (row r.rows i))
+    HasRows (comparison_type l.dtype r.dtype) (length l.rows)
+    (λ i. comparison_value op (row l.rows i) (row r.rows i))
 
--- where types that differ apart from nullability are refused: two constants go by the comparison of scalars
+-- where types that differ apart from nullability are refused: two constants go by the comparison of
+-- scalars
 abbrev pub compare_place : ColumnView → ColumnView → MismatchPlace
-compare_place l r = if is_some l.constant && is_some r.constant then place.Scalars else place.Compare
+compare_place l r =
+    if is_some l.constant && is_some r.constant then place.Scalars else place.Compare
 
--- columns of two lengths are refused first, and then types that differ apart from nullability, unless all is settled without them
+-- columns of two lengths are refused first, and then types that differ apart from nullability,
+-- unless all is settled without them
 pub data RefusesCompare (l r : ColumnView) (e : VortexError) : Type 0 where
-  uneven : length l.rows ≢ length r.rows → e ≡ LengthMismatch (length l.rows) (length r.rows) → RefusesCompare l r e
-  unlike : length l.rows ≡ length r.rows → is_settled l r ≡ false → alike_types l.dtype r.dtype ≡ false → e ≡ TypeMismatch (compare_place l r) → RefusesCompare l r e
+  uneven : length l.rows ≢ length r.rows → e ≡ LengthMismatch (length l.rows) (length r.rows)
+      → RefusesCompare l r e
+  unlike : length l.rows ≡ length r.rows → is_settled l r ≡ false
+      → alike_types l.dtype r.dtype ≡ false → e ≡ TypeMismatch (compare_place l r)
+      → RefusesCompare l r e
 
 pub record AnswersCompare (op : CompareOperator) (l r c : ColumnView) : Type 0 where
   pub lengths : length l.rows ≡ length r.rows
   pub accepted : (is_settled l r || alike_types l.dtype r.dtype) ≡ true
   pub rows : HasComparisonRows op l r c
 
--- for each of n rows whether the comparison says yes to an order of which something is known
-abbrev pub AreHeld : CompareOperator → (ℕ → Ordering → Type 0) → ℕ → List Bool → Type 0
-AreHeld op tells n bits = AreTold n (λ i b. (o : Ordering) × tells i o × (b ≡ holds op o)) bits
+-- for each of n rows whether the comparison says yes to its order
+abbrev pub AreHeld : CompareOperator → (ℕ → Ordering) → ℕ → List Bool → Type 0
+AreHeld op order n = AreTold n (λ i b. b ≡ holds op (order i))
 
 -- the same value in each row
 abbrev pub IsConstantOf : Value → ColumnView → Type 0
@@ -66,9 +82,12 @@ pub record IsConstantBytes (c : ColumnView) (bs : List ℕ) : Type 0 where
 
 -- the order of two rows, where neither is null
 abbrev pub IsOrderAt : List Value → List Value → ℕ → Ordering → Type 0
-IsOrderAt ls rs i o = is_null (row ls i) ≡ false → is_null (row rs i) ≡ false → o ≡ compare_values (row ls i) (row rs i)
+IsOrderAt ls rs i o = is_null (row ls i) ≡ false → is_null (row rs i) ≡ false
+    → o ≡ compare_values (row ls i) (row rs i)
 
 -- for each row whether the comparison says yes, where neither side is null
-pub record AreComparisons (op : CompareOperator) (ls rs : List Value) (bits : List Bool) : Type 0 where
-  pub count : length bits ≡ length ls
-  pub each : (i : ℕ) → i < length ls → is_null (row ls i) ≡ false → is_null (row rs i) ≡ false → slice_index_or bits i false ≡ holds op (compare_values (row ls i) (row rs i))
+pub record AreComparisons (op : CompareOperator) (ls rs : List Value) (bits : List Bool) : Type 0
+  where
+    pub count : length bits ≡ length ls
+    pub each : (i : ℕ) → i < length ls → is_null (row ls i) ≡ false → is_null (row rs i) ≡ false
+        → slice_index_or bits i false ≡ holds op (compare_values (row ls i) (row rs i))

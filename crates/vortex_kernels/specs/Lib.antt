@@ -1,5 +1,9 @@
 pub mod Rows
-pub mod Nulls
+pub mod ToldBits
+pub mod Validity
 pub mod Truths
 pub mod Boolean
+pub mod PairOrders
 pub mod Comparison
+pub mod ArithmeticIntegers
+pub mod Words

@@ -1,6 +1,7 @@
 -- A column that is known by its type and its rows.
-use Rattle.std.specs.Prelude.{◌≡◌, ℕ, ◌<◌, List, length, slice_index_or, Bool, false}
-use Rattle.vortex_types.specs.LogicalTypes.{LogicalType}
+use Rattle.std.specs.Prelude.{◌≡◌, ◌||◌, ℕ, ◌<◌, length, Bool}
+use Rattle.vortex_types.specs.LogicalTypes.{LogicalType, is_nullable}
+use Rattle.vortex_types.specs.ScalarView.{ScalarView}
 use Rattle.vortex_types.specs.Values.{Value}
 use Rattle.vortex_columns.specs.ColumnView.{ColumnView, row}
 
@@ -10,7 +11,10 @@ pub record HasRows (t : LogicalType) (n : ℕ) (f : ℕ → Value) (c : ColumnVi
   pub count : length c.rows ≡ n
   pub each : (i : ℕ) → i < n → row c.rows i ≡ f i
 
--- a bit for each of n rows, of which so much is told
-pub record AreTold (n : ℕ) (tells : ℕ → Bool → Type 0) (bits : List Bool) : Type 0 where
-  pub count : length bits ≡ n
-  pub each : (i : ℕ) → i < n → tells i (slice_index_or bits i false)
+-- one scalar in each of n rows
+abbrev pub HasScalarRows : ScalarView → ℕ → ColumnView → Type 0
+HasScalarRows s n = HasRows s.dtype n (λ i. s.value)
+
+-- whether either side is nullable
+abbrev pub either_nullable : ColumnView → ColumnView → Bool
+either_nullable l r = is_nullable l.dtype || is_nullable r.dtype

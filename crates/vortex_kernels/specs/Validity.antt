@@ -1,10 +1,12 @@
 -- Which rows are not null.
-use Rattle.std.specs.Prelude.{◌≡◌, ℕ, ◌<◌, List, [], length, Bool, not}
+use Rattle.std.specs.Prelude.{◌≡◌, ◌||◌, ℕ, ◌<◌, List, [], length, Bool, not}
+use Rattle.vortex_types.specs.LogicalTypes.{is_nullable}
 use Rattle.vortex_types.specs.Values.{Value, is_null}
-use Rattle.vortex_types.specs.ValidityView.{ValidityView, all_valid, all_invalid, array, form_allows_null, is_valid_row, FitsRows}
-use Rattle.vortex_columns.specs.ColumnView.{row}
-use Rattle.vortex_kernels.specs.declared.nulls.ValidRows.{ValidRows}
-use Rattle.vortex_kernels.specs.declared.nulls.ValidRows.TheVariants.{Every, No, Listed}
+use Rattle.vortex_types.specs.ValidityView.{ValidityView, all_valid, all_invalid, array}
+use Rattle.vortex_types.specs.ValidityView.{form_allows_null, is_valid_row, FitsRows}
+use Rattle.vortex_columns.specs.ColumnView.{ColumnView, row}
+use Rattle.vortex_kernels.specs.declared.validity.ValidRows.{ValidRows}
+use Rattle.vortex_kernels.specs.declared.validity.ValidRows.TheVariants.{Every, No, Listed}
 
 abbrev pub valid_view : ValidRows → ValidityView
 valid_view Every = record { form = all_valid; bits = [] }
@@ -21,3 +23,14 @@ pub record IsValidity (nullable : Bool) (n : ℕ) (valid : ℕ → Bool) (v : Va
   pub nullability : form_allows_null v.form ≡ nullable
   pub fits : FitsRows v n
   pub each : (i : ℕ) → i < n → is_valid_row v i ≡ valid i
+
+-- those rows of a column that are not null
+abbrev pub IsValidityOf : ColumnView → ValidityView → Type 0
+IsValidityOf c =
+    IsValidity (is_nullable c.dtype) (length c.rows) (λ i. not (is_null (row c.rows i)))
+
+-- the rows that are null on neither side, of a type that has null or not
+abbrev pub IsJointValidity : Bool → ColumnView → ColumnView → ValidityView → Type 0
+IsJointValidity nullable l r =
+    IsValidity nullable (length l.rows)
+    (λ i. not (is_null (row l.rows i) || is_null (row r.rows i)))

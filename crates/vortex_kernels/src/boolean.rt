@@ -1,24 +1,15 @@
 //! And, Or and Not by Kleene's tables.
-ghost use Rattle.std.specs.Prelude.{◌≡◌, ◌<◌, ◌||◌, ℕ, Bool, true, length, is_some};
-ghost use Rattle.vortex_types.specs.Answers.{Answers, AnswersUnlessMemory};
-ghost use Rattle.vortex_types.specs.LogicalTypes.{is_bool_type, is_nullable};
-ghost use Rattle.vortex_types.specs.ValidityView.{validity_of};
-ghost use Rattle.vortex_types.specs.Values.{truth_of};
-ghost use Rattle.vortex_columns.specs.ColumnView.{row};
-ghost use Rattle.vortex_operators.specs.declared.operators.Operator.{Operator};
-ghost use Rattle.vortex_operators.specs.declared.operators.Operator.TheVariants.{And, Or};
-ghost use Rattle.vortex_operators.specs.Kleene.{kleene};
-ghost use Rattle.vortex_kernels.specs.Nulls.{IsValidity};
-ghost use Rattle.vortex_kernels.specs.Rows.{AreTold, HasRows};
-ghost use Rattle.vortex_kernels.specs.Truths.{present, IsValueOf, Reads};
-ghost use Rattle.vortex_operators.specs.Operators.{is_boolean};
-ghost use Rattle.vortex_operators.specs.OperatorValues.{not_value};
-ghost use Rattle.vortex_kernels.specs.Boolean.{are_bools, HasBooleanRows, AnswersBoolean, RefusesBoolean};
+ghost use Rattle.std.specs.Prelude.{◌≡◌, ◌<◌, ℕ, Bool, true, length, is_some};
+ghost use Rattle.vortex_kernels.specs.Words.{Answers, AnswersUnlessMemory, is_bool_type};
+ghost use Rattle.vortex_kernels.specs.Words.{validity_of, Operator, And, Or, kleene, is_boolean};
+ghost use Rattle.vortex_kernels.specs.Words.{not_value, present, IsValueOf, Reads, AreTruths};
+ghost use Rattle.vortex_kernels.specs.Words.{ArePresent, are_bools, HasBooleanRows, HasNotRows};
+ghost use Rattle.vortex_kernels.specs.Words.{IsKleeneValidity, AnswersBoolean, RefusesBoolean};
 
-use crate::nulls::same_valid;
 use crate::operators::Operator;
-use crate::rows::{TurnedBits, collect_bits};
+use crate::told_bits::{TurnedBits, collect_bits};
 use crate::truths::{MaskedBits, OneTruth, Operand, PlainBits, Truths, lent_truths};
+use crate::validity::same_valid;
 use std::alloc::Global;
 use vortex_columns::{
     BitBuffer, Column, DType, ExecutionCtx, MismatchPlace, Nullability, Scalar, Validity,
@@ -31,11 +22,13 @@ trait KleeneTable {
 
     /// The truth value where there is one, whatever lies under a null.
     fn value(left: bool, right: bool) -> bool
-        ensures { (p q : Bool) → IsValueOf result (kleene operator (present p left) (present q right)) };
+        ensures { (p q : Bool)
+            → IsValueOf result (kleene operator (present p left) (present q right)) };
 
     /// Whether there is a truth value.
     fn is_valid(left: bool, left_valid: bool, right: bool, right_valid: bool) -> bool
-        ensures { result ≡ is_some (kleene operator (present left_valid left) (present right_valid right)) };
+        ensures { result
+            ≡ is_some (kleene operator (present left_valid left) (present right_valid right)) };
 }
 
 struct KleeneAnd {}
@@ -75,7 +68,8 @@ fn kleene_values<K: KleeneTable, L: Truths, R: Truths>(
 ) -> VortexResult<Vec<bool>>
     requires left { (i : ℕ) → i < len → L.has_row left.now i }
     requires right { (i : ℕ) → i < len → R.has_row right.now i }
-    ensures { AnswersUnlessMemory result (λ values. AreTold len (λ i b. IsValueOf b (kleene K.operator (L.truth left.now i) (R.truth right.now i))) values.items) }
+    ensures { AnswersUnlessMemory result (λ values. AreTruths len
+        (λ i. kleene K.operator (L.truth left.now i) (R.truth right.now i)) values.items) }
 {
     let mut values = Vec::with_capacity(alloc, len)?;
     for i in 0..len {
@@ -93,7 +87,8 @@ fn kleene_valid<K: KleeneTable, L: Truths, R: Truths>(
 ) -> VortexResult<Vec<bool>>
     requires left { (i : ℕ) → i < len → L.has_row left.now i }
     requires right { (i : ℕ) → i < len → R.has_row right.now i }
-    ensures { AnswersUnlessMemory result (λ valid. AreTold len (λ i b. b ≡ is_some (kleene K.operator (L.truth left.now i) (R.truth right.now i))) valid.items) }
+    ensures { AnswersUnlessMemory result (λ valid. ArePresent len
+        (λ i. kleene K.operator (L.truth left.now i) (R.truth right.now i)) valid.items) }
 {
     let mut valid = Vec::with_capacity(alloc, len)?;
     for i in 0..len {
@@ -120,7 +115,8 @@ fn kleene_validity<K: KleeneTable, L: Truths, R: Truths>(
     requires lengths { length lhs.now.rows ≡ length rhs.now.rows }
     requires left { Reads (L.has_row left.now) (L.truth left.now) lhs.now.rows }
     requires right { Reads (R.has_row right.now) (R.truth right.now) rhs.now.rows }
-    ensures { AnswersUnlessMemory result (λ v. IsValidity (is_nullable lhs.now.dtype || is_nullable rhs.now.dtype) (length lhs.now.rows) (λ i. is_some (kleene K.operator (truth_of (row lhs.now.rows i)) (truth_of (row rhs.now.rows i)))) (validity_of v)) }
+    ensures { AnswersUnlessMemory result
+        (λ v. IsKleeneValidity K.operator lhs.now rhs.now (validity_of v)) }
 {
     match lhs.dtype().nullability() | rhs.dtype().nullability() {
         Nullability::NonNullable => Ok(Validity::NonNullable),
@@ -201,7 +197,8 @@ pub fn execute_boolean(
     ctx: &mut ExecutionCtx,
 ) -> VortexResult<Column>
     requires { length lhs.now.rows ≡ length rhs.now.rows }
-    ensures { Answers result (AnswersBoolean operator lhs.now rhs.now) (RefusesBoolean operator lhs.now rhs.now) }
+    ensures { Answers result (AnswersBoolean operator lhs.now rhs.now)
+        (RefusesBoolean operator lhs.now rhs.now) }
 {
     if !operator.is_boolean() {
         return Err(VortexError::NotBooleanOperator(operator.text()));
@@ -231,7 +228,7 @@ fn not_scalar(scalar: &Scalar) -> Scalar
 /// Not of a Bool column, row by row; a null stays null, and the type is the input's.
 pub fn execute_not(input: &Column, ctx: &mut ExecutionCtx) -> VortexResult<Column>
     requires { is_bool_type input.now.dtype ≡ true }
-    ensures { AnswersUnlessMemory result (HasRows input.now.dtype (length input.now.rows) (λ i. not_value (row input.now.rows i))) }
+    ensures { AnswersUnlessMemory result (HasNotRows input.now) }
 {
     match (input.as_constant(), input.bits()) {
         (Some(scalar), _) => Column::constant(ctx.alloc(), not_scalar(scalar), input.len()),

@@ -1,20 +1,16 @@
 //! Comparison of columns and of scalars, by the order of values.
-ghost use Rattle.std.specs.Prelude.{◌≡◌, ◌<◌, true, false, length, IsTrue, MatchResult};
-ghost use Rattle.vortex_types.specs.declared.error.VortexError.TheVariants.{TypeMismatch};
-ghost use Rattle.vortex_types.specs.declared.error.MismatchPlace.TheVariants.{Scalars};
-ghost use Rattle.vortex_types.specs.Answers.{Answers, AnswersUnlessMemory};
-ghost use Rattle.vortex_types.specs.LogicalTypes.{bool_type};
-ghost use Rattle.vortex_types.specs.TypeOf.{allows_null};
-ghost use Rattle.vortex_types.specs.Values.{null};
-ghost use Rattle.vortex_kernels.specs.Rows.{HasRows};
-ghost use Rattle.vortex_kernels.specs.Comparison.{are_comparable, compared_scalar, is_null_constant, IsConstantOf, HasComparisonRows, AnswersCompare, RefusesCompare, AreComparisons};
+ghost use Rattle.std.specs.Prelude.{◌≡◌, ◌<◌, length, IsTrue, MatchResult};
+ghost use Rattle.vortex_kernels.specs.Words.{Answers, AnswersUnlessMemory, bool_type, allows_null};
+ghost use Rattle.vortex_kernels.specs.Words.{null, HasScalarRows, is_null_constant, IsConstantOf};
+ghost use Rattle.vortex_kernels.specs.Words.{AnswersScalars, RefusesScalars, HasComparisonRows};
+ghost use Rattle.vortex_kernels.specs.Words.{AnswersCompare, RefusesCompare};
 
-use crate::nulls::both_valid;
-use crate::operators::CompareOperator;
-use crate::pairs::{
+use crate::comparisons::{
     Comparison, IsEqual, IsGreater, IsGreaterOrEqual, IsLess, IsLessOrEqual, IsNotEqual,
-    hold_in_rows,
 };
+use crate::operators::CompareOperator;
+use crate::pairs::hold_in_rows;
+use crate::validity::both_valid;
 use vortex_columns::{
     BitBuffer, Column, DType, ExecutionCtx, MismatchPlace, Scalar, VortexError, VortexResult,
 };
@@ -67,7 +63,7 @@ fn is_null_constant(column: &Column) -> bool
 
 /// One scalar of Bool in each of so many rows.
 fn constant_rows(lhs: &Column, scalar: Scalar, ctx: &mut ExecutionCtx) -> VortexResult<Column>
-    ensures { AnswersUnlessMemory result (HasRows scalar.dtype (length lhs.now.rows) (λ i. scalar.value)) }
+    ensures { AnswersUnlessMemory result (HasScalarRows scalar (length lhs.now.rows)) }
 {
     Column::constant(ctx.alloc(), scalar, lhs.len())
 }
@@ -78,7 +74,8 @@ fn constant_rows(lhs: &Column, scalar: Scalar, ctx: &mut ExecutionCtx) -> Vortex
 /// A null of nullable Bool if either is null, whatever the types; else E3 Scalars exactly for types that differ apart
 /// from nullability.
 pub fn scalar_cmp(lhs: &Scalar, rhs: &Scalar, operator: CompareOperator) -> VortexResult<Scalar>
-    ensures { MatchResult result (λ s. (are_comparable lhs.now rhs.now ≡ true) × (s ≡ compared_scalar operator lhs.now rhs.now)) (λ e. (are_comparable lhs.now rhs.now ≡ false) × (e ≡ TypeMismatch Scalars)) }
+    ensures { MatchResult result (AnswersScalars operator lhs.now rhs.now)
+        (RefusesScalars lhs.now rhs.now) }
 {
     let nullability = lhs.dtype().nullability() | rhs.dtype().nullability();
     if lhs.is_null() || rhs.is_null() {
@@ -102,7 +99,8 @@ pub fn execute_compare(
     operator: CompareOperator,
     ctx: &mut ExecutionCtx,
 ) -> VortexResult<Column>
-    ensures { Answers result (AnswersCompare operator lhs.now rhs.now) (RefusesCompare lhs.now rhs.now) }
+    ensures { Answers result (AnswersCompare operator lhs.now rhs.now)
+        (RefusesCompare lhs.now rhs.now) }
 {
     let left = lhs.len();
     let right = rhs.len();

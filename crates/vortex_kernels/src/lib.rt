@@ -1,13 +1,16 @@
 //! Kernels over whole columns; with the operators that they are chosen by, which stand below.
 #![tactic(auto)]
 
+pub mod arithmetic_integer;
 pub mod boolean;
 pub mod compare;
-mod nulls;
+mod comparisons;
 mod pairs;
-mod rows;
+mod told_bits;
 mod truths;
+mod validity;
 
+pub use arithmetic_integer::{ArithmeticInteger, apply_checked};
 pub use boolean::{execute_boolean, execute_not};
 pub use compare::{execute_compare, scalar_cmp};
 pub use vortex_operators::{CompareOperator, Operator, operators};

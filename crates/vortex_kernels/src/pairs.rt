@@ -1,102 +1,28 @@
-//! The values of two columns side by side, and the comparison that is asked of each pair.
-ghost use Rattle.std.specs.Prelude.{◌≡◌, ◌<◌, ℕ, [], pos, true, false, map, length, slice_index_or, IsSome, IfSome};
+//! The values of two columns side by side, and what a comparison says of each pair.
+ghost use Rattle.std.specs.Prelude.{◌≡◌, ◌<◌, ℕ, true, map, length, IsSome, IfSome};
 ghost use Rattle.std.specs.declared.cmp.Ordering.{Ordering};
-ghost use Rattle.std.specs.Ordering.{nat_cmp, int_cmp, bool_cmp};
-ghost use Rattle.std.specs.Cmp.Lexicographic.{slice_cmp};
-ghost use Rattle.vortex_types.specs.Answers.{AnswersUnlessMemory};
-ghost use Rattle.vortex_types.specs.Values.{number, truth, truth_of};
-ghost use Rattle.vortex_types.specs.Order.{compare_values};
-ghost use Rattle.vortex_types.specs.LogicalTypes.{is_text_type};
-ghost use Rattle.vortex_columns.specs.ColumnView.{row};
-ghost use Rattle.vortex_columns.specs.LentBytes.{bytes_of};
-ghost use Rattle.vortex_operators.specs.declared.operators.CompareOperator.{CompareOperator};
-ghost use Rattle.vortex_operators.specs.declared.operators.CompareOperator.TheVariants.{Eq, NotEq, Gt, Gte, Lt, Lte};
-ghost use Rattle.vortex_operators.specs.OperatorValues.{holds};
-ghost use Rattle.vortex_kernels.specs.Comparison.{AreHeld, IsConstantOf, IsConstantBytes, AreComparisons};
+ghost use Rattle.vortex_kernels.specs.Words.{AnswersUnlessMemory, number, truth, truth_of};
+ghost use Rattle.vortex_kernels.specs.Words.{is_text_type, row, bytes_of, holds, row_orders};
+ghost use Rattle.vortex_kernels.specs.Words.{int_orders, int_orders_with, bit_orders};
+ghost use Rattle.vortex_kernels.specs.Words.{bit_orders_with, byte_orders, byte_orders_with};
+ghost use Rattle.vortex_kernels.specs.Words.{AreHeld, IsConstantOf, IsConstantBytes};
+ghost use Rattle.vortex_kernels.specs.Words.{AreComparisons};
 
+use crate::comparisons::Comparison;
 use std::alloc::Global;
-use std::cmp::Ordering;
 use vortex_columns::{ByteRows, Cell, Column, DType, NativePType, PType, VortexResult};
-
-/// A comparison, as a type, so that it is chosen before the rows.
-pub(crate) trait Comparison {
-    ghost operator: { CompareOperator };
-
-    /// Whether it says yes to that order of left and right.
-    fn holds(order: Ordering) -> bool
-        ensures { result ≡ holds operator order };
-}
-
-pub(crate) struct IsEqual {}
-
-pub(crate) struct IsNotEqual {}
-
-pub(crate) struct IsGreater {}
-
-pub(crate) struct IsGreaterOrEqual {}
-
-pub(crate) struct IsLess {}
-
-pub(crate) struct IsLessOrEqual {}
-
-impl Comparison for IsEqual {
-    ghost operator = { Eq };
-
-    fn holds(order: Ordering) -> bool {
-        order.is_eq()
-    }
-}
-
-impl Comparison for IsNotEqual {
-    ghost operator = { NotEq };
-
-    fn holds(order: Ordering) -> bool {
-        order.is_ne()
-    }
-}
-
-impl Comparison for IsGreater {
-    ghost operator = { Gt };
-
-    fn holds(order: Ordering) -> bool {
-        order.is_gt()
-    }
-}
-
-impl Comparison for IsGreaterOrEqual {
-    ghost operator = { Gte };
-
-    fn holds(order: Ordering) -> bool {
-        order.is_ge()
-    }
-}
-
-impl Comparison for IsLess {
-    ghost operator = { Lt };
-
-    fn holds(order: Ordering) -> bool {
-        order.is_lt()
-    }
-}
-
-impl Comparison for IsLessOrEqual {
-    ghost operator = { Lte };
-
-    fn holds(order: Ordering) -> bool {
-        order.is_le()
-    }
-}
 
 /// Pairs of values, a left and a right one for each row.
 trait Pairs {
     ghost has_pair: { Self → ℕ → Type 0 };
 
-    /// What is known of the order in a row: nothing, where what lies under a null is compared.
-    ghost tells: { Self → ℕ → Ordering → Type 0 };
+    /// The order of what lies in a row. It says nothing of the row where that lies under a null.
+    ghost order: { Self → ℕ → Ordering };
 
-    fn order_at(&self, i: usize) -> Ordering
+    /// Whether the comparison says yes to a pair.
+    fn holds_at<P: Comparison>(&self, i: usize) -> bool
         requires { has_pair self.now i }
-        ensures { tells self.now i result };
+        ensures { result ≡ holds P.operator (order self.now i) };
 }
 
 /// Whether the comparison says yes in each row.
@@ -106,11 +32,12 @@ fn hold_in_pairs<P: Comparison, R: Pairs>(
     len: usize,
 ) -> VortexResult<Vec<bool>>
     requires { (i : ℕ) → i < len → R.has_pair pairs.now i }
-    ensures { AnswersUnlessMemory result (λ bits. AreHeld P.operator (R.tells pairs.now) len bits.items) }
+    ensures { AnswersUnlessMemory result
+        (λ bits. AreHeld P.operator (R.order pairs.now) len bits.items) }
 {
     let mut bits = Vec::with_capacity(alloc, len)?;
     for i in 0..len {
-        bits.push_reserved(P::holds(pairs.order_at(i)));
+        bits.push_reserved(pairs.holds_at::<P>(i));
     }
     Ok(bits)
 }
@@ -125,10 +52,10 @@ struct CellPairs<'a> {
 impl Pairs for CellPairs<'_> {
     ghost has_pair = { λ p i. (i < length p.left.now.rows) × (i < length p.right.now.rows) };
 
-    ghost tells = { λ p i o. o ≡ compare_values (row p.left.now.rows i) (row p.right.now.rows i) };
+    ghost order = { λ p. row_orders p.left.now.rows p.right.now.rows };
 
-    fn order_at(&self, i: usize) -> Ordering {
-        self.left.compare_rows(i, self.right, i)
+    fn holds_at<P: Comparison>(&self, i: usize) -> bool {
+        P::holds(self.left.compare_rows(i, self.right, i))
     }
 }
 
@@ -142,10 +69,10 @@ struct IntPairs<'a, T: NativePType> {
 impl<T: NativePType> Pairs for IntPairs<'_, T> {
     ghost has_pair = { λ p i. (i < length p.left.now) × (i < length p.right.now) };
 
-    ghost tells = { λ p i o. o ≡ int_cmp (slice_index_or (map T.number p.left.now) i (pos 0)) (slice_index_or (map T.number p.right.now) i (pos 0)) };
+    ghost order = { λ p. int_orders (map T.number p.left.now) (map T.number p.right.now) };
 
-    fn order_at(&self, i: usize) -> Ordering {
-        self.left[i].total_compare(self.right[i])
+    fn holds_at<P: Comparison>(&self, i: usize) -> bool {
+        P::holds(self.left[i].total_compare(self.right[i]))
     }
 }
 
@@ -159,10 +86,10 @@ struct IntsAndOne<'a, T: NativePType> {
 impl<T: NativePType> Pairs for IntsAndOne<'_, T> {
     ghost has_pair = { λ p i. i < length p.left.now };
 
-    ghost tells = { λ p i o. o ≡ int_cmp (slice_index_or (map T.number p.left.now) i (pos 0)) (T.number p.right.now) };
+    ghost order = { λ p. int_orders_with (map T.number p.left.now) (T.number p.right.now) };
 
-    fn order_at(&self, i: usize) -> Ordering {
-        self.left[i].total_compare(*self.right)
+    fn holds_at<P: Comparison>(&self, i: usize) -> bool {
+        P::holds(self.left[i].total_compare(*self.right))
     }
 }
 
@@ -176,10 +103,10 @@ struct BitPairs<'a> {
 impl Pairs for BitPairs<'_> {
     ghost has_pair = { λ p i. (i < length p.left.now) × (i < length p.right.now) };
 
-    ghost tells = { λ p i o. o ≡ bool_cmp (slice_index_or p.left.now i false) (slice_index_or p.right.now i false) };
+    ghost order = { λ p. bit_orders p.left.now p.right.now };
 
-    fn order_at(&self, i: usize) -> Ordering {
-        self.left[i].cmp(&self.right[i])
+    fn holds_at<P: Comparison>(&self, i: usize) -> bool {
+        P::holds(self.left[i].cmp(&self.right[i]))
     }
 }
 
@@ -193,10 +120,10 @@ struct BitsAndOne<'a> {
 impl Pairs for BitsAndOne<'_> {
     ghost has_pair = { λ p i. i < length p.left.now };
 
-    ghost tells = { λ p i o. o ≡ bool_cmp (slice_index_or p.left.now i false) p.right };
+    ghost order = { λ p. bit_orders_with p.left.now p.right };
 
-    fn order_at(&self, i: usize) -> Ordering {
-        self.left[i].cmp(&self.right)
+    fn holds_at<P: Comparison>(&self, i: usize) -> bool {
+        P::holds(self.left[i].cmp(&self.right))
     }
 }
 
@@ -210,10 +137,10 @@ struct BytesPairs<'a> {
 impl Pairs for BytesPairs<'_> {
     ghost has_pair = { λ p i. (i < length (bytes_of p.left)) × (i < length (bytes_of p.right)) };
 
-    ghost tells = { λ p i o. o ≡ slice_cmp nat_cmp (slice_index_or (bytes_of p.left) i []) (slice_index_or (bytes_of p.right) i []) };
+    ghost order = { λ p. byte_orders (bytes_of p.left) (bytes_of p.right) };
 
-    fn order_at(&self, i: usize) -> Ordering {
-        self.left.bytes(i).cmp(self.right.bytes(i))
+    fn holds_at<P: Comparison>(&self, i: usize) -> bool {
+        P::holds_of_bytes(self.left.bytes(i), self.right.bytes(i))
     }
 }
 
@@ -227,10 +154,10 @@ struct BytesAndOne<'a> {
 impl Pairs for BytesAndOne<'_> {
     ghost has_pair = { λ p i. i < length (bytes_of p.left) };
 
-    ghost tells = { λ p i o. o ≡ slice_cmp nat_cmp (slice_index_or (bytes_of p.left) i []) p.right.now };
+    ghost order = { λ p. byte_orders_with (bytes_of p.left) p.right.now };
 
-    fn order_at(&self, i: usize) -> Ordering {
-        self.left.bytes(i).cmp(self.right)
+    fn holds_at<P: Comparison>(&self, i: usize) -> bool {
+        P::holds_of_bytes(self.left.bytes(i), self.right)
     }
 }
 
@@ -240,7 +167,8 @@ fn hold_in_cells<P: Comparison>(
     rhs: &Column,
 ) -> VortexResult<Vec<bool>>
     requires { length lhs.now.rows ≡ length rhs.now.rows }
-    ensures { AnswersUnlessMemory result (λ bits. AreComparisons P.operator lhs.now.rows rhs.now.rows bits.items) }
+    ensures { AnswersUnlessMemory result
+        (λ bits. AreComparisons P.operator lhs.now.rows rhs.now.rows bits.items) }
 {
     let len = lhs.len();
     let pairs = CellPairs {
@@ -263,7 +191,8 @@ fn constant_int<T: NativePType>(column: &Column) -> Option<T>
 /// The truth value in each row of a constant column of Bool.
 pub(crate) fn constant_bool(column: &Column) -> Option<bool>
     ensures value { IfSome result (λ b. IsConstantOf (truth b) column.now) }
-    ensures rows { IsSome column.now.constant → (i : ℕ) → i < length column.now.rows → truth_of (row column.now.rows i) ≡ result }
+    ensures rows { IsSome column.now.constant → (i : ℕ) → i < length column.now.rows
+        → truth_of (row column.now.rows i) ≡ result }
 {
     column.as_constant()?.as_bool_opt()
 }
@@ -274,7 +203,8 @@ fn hold_in_ints<P: Comparison, T: NativePType>(
     rhs: &Column,
 ) -> VortexResult<Vec<bool>>
     requires { length lhs.now.rows ≡ length rhs.now.rows }
-    ensures { AnswersUnlessMemory result (λ bits. AreComparisons P.operator lhs.now.rows rhs.now.rows bits.items) }
+    ensures { AnswersUnlessMemory result
+        (λ bits. AreComparisons P.operator lhs.now.rows rhs.now.rows bits.items) }
 {
     let len = lhs.len();
     match (lhs.ints::<T>(), rhs.ints::<T>(), constant_int::<T>(rhs)) {
@@ -301,7 +231,8 @@ fn hold_in_bools<P: Comparison>(
     rhs: &Column,
 ) -> VortexResult<Vec<bool>>
     requires { length lhs.now.rows ≡ length rhs.now.rows }
-    ensures { AnswersUnlessMemory result (λ bits. AreComparisons P.operator lhs.now.rows rhs.now.rows bits.items) }
+    ensures { AnswersUnlessMemory result
+        (λ bits. AreComparisons P.operator lhs.now.rows rhs.now.rows bits.items) }
 {
     let len = lhs.len();
     match (lhs.bits(), rhs.bits(), constant_bool(rhs)) {
@@ -337,7 +268,8 @@ fn hold_in_bytes<P: Comparison>(
 ) -> VortexResult<Vec<bool>>
     requires lengths { length lhs.now.rows ≡ length rhs.now.rows }
     requires kind { is_text_type lhs.now.dtype ≡ is_text_type rhs.now.dtype }
-    ensures { AnswersUnlessMemory result (λ bits. AreComparisons P.operator lhs.now.rows rhs.now.rows bits.items) }
+    ensures { AnswersUnlessMemory result
+        (λ bits. AreComparisons P.operator lhs.now.rows rhs.now.rows bits.items) }
 {
     let len = lhs.len();
     match (lhs.byte_rows(), rhs.byte_rows(), constant_bytes(rhs)) {
@@ -359,7 +291,8 @@ pub(crate) fn hold_in_rows<P: Comparison>(
     rhs: &Column,
 ) -> VortexResult<Vec<bool>>
     requires { length lhs.now.rows ≡ length rhs.now.rows }
-    ensures { AnswersUnlessMemory result (λ bits. AreComparisons P.operator lhs.now.rows rhs.now.rows bits.items) }
+    ensures { AnswersUnlessMemory result
+        (λ bits. AreComparisons P.operator lhs.now.rows rhs.now.rows bits.items) }
 {
     match lhs.dtype() {
         DType::Bool(_) => hold_in_bools::<P>(alloc, lhs, rhs),

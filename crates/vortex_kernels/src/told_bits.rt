@@ -1,7 +1,6 @@
 //! Bits that are told row by row.
 ghost use Rattle.std.specs.Prelude.{◌≡◌, ◌<◌, ◌&&◌, ℕ, Bool, false, not, length, slice_index_or};
-ghost use Rattle.vortex_types.specs.Answers.{AnswersUnlessMemory};
-ghost use Rattle.vortex_kernels.specs.Rows.{AreTold};
+ghost use Rattle.vortex_kernels.specs.Words.{AnswersUnlessMemory, AreTold};
 
 use std::alloc::Global;
 use vortex_columns::VortexResult;
@@ -60,7 +59,8 @@ pub(crate) struct SharedBits<'a> {
 impl RowBits for SharedBits<'_> {
     ghost has_row = { λ r i. (i < length r.left.now) × (i < length r.right.now) };
 
-    ghost tells = { λ r i b. b ≡ (slice_index_or r.left.now i false && slice_index_or r.right.now i false) };
+    ghost tells = { λ r i b. b
+        ≡ (slice_index_or r.left.now i false && slice_index_or r.right.now i false) };
 
     fn bit(&self, i: usize) -> bool {
         self.left[i] & self.right[i]

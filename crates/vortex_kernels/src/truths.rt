@@ -1,11 +1,11 @@
 //! The truth values of a column of Bool, in the forms in which they are lent.
-ghost use Rattle.std.specs.Prelude.{◌≡◌, ◌<◌, ℕ, Bool, Option, Some, None, true, false, length, is_some, slice_index_or};
-ghost use Rattle.vortex_types.specs.Answers.{AnswersUnlessMemory};
-ghost use Rattle.vortex_types.specs.LogicalTypes.{is_bool_type};
-ghost use Rattle.vortex_kernels.specs.Truths.{present, IsValueOf, IsOperand};
+ghost use Rattle.std.specs.Prelude.{◌≡◌, ◌<◌, ℕ, Bool, Option, Some, None, true, false, length};
+ghost use Rattle.std.specs.Prelude.{is_some, slice_index_or};
+ghost use Rattle.vortex_kernels.specs.Words.{AnswersUnlessMemory, is_bool_type, present, IsValueOf};
+ghost use Rattle.vortex_kernels.specs.Words.{IsOperand};
 
-use crate::nulls::{ValidRows, valid_rows};
 use crate::pairs::constant_bool;
+use crate::validity::{ValidRows, valid_rows};
 use std::alloc::Global;
 use vortex_columns::{Column, VortexResult};
 
@@ -64,7 +64,8 @@ pub(crate) struct MaskedBits<'a> {
 impl Truths for MaskedBits<'_> {
     ghost has_row = { λ p i. (i < length p.bits.now) × (i < length p.valid.now) };
 
-    ghost truth = { λ p i. present (slice_index_or p.valid.now i false) (slice_index_or p.bits.now i false) };
+    ghost truth = { λ p i. present
+        (slice_index_or p.valid.now i false) (slice_index_or p.bits.now i false) };
 
     fn value(&self, i: usize) -> bool {
         self.bits[i]

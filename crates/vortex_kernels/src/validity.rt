@@ -1,13 +1,9 @@
 //! Which rows of one column are not null, and of two.
-ghost use Rattle.std.specs.Prelude.{◌≡◌, ◌||◌, true, not, length};
-ghost use Rattle.vortex_types.specs.Answers.{AnswersUnlessMemory};
-ghost use Rattle.vortex_types.specs.LogicalTypes.{is_nullable};
-ghost use Rattle.vortex_types.specs.ValidityView.{validity_of};
-ghost use Rattle.vortex_types.specs.Values.{is_null};
-ghost use Rattle.vortex_columns.specs.ColumnView.{row};
-ghost use Rattle.vortex_kernels.specs.Nulls.{valid_view, IsValidity, AreValid};
+ghost use Rattle.std.specs.Prelude.{◌≡◌, true, length};
+ghost use Rattle.vortex_kernels.specs.Words.{AnswersUnlessMemory, validity_of, either_nullable};
+ghost use Rattle.vortex_kernels.specs.Words.{valid_view, AreValid, IsValidityOf, IsJointValidity};
 
-use crate::rows::{SharedBits, collect_bits};
+use crate::told_bits::{SharedBits, collect_bits};
 use std::alloc::Global;
 use vortex_columns::{BitBuffer, Column, Nullability, Validity, VortexResult};
 
@@ -49,7 +45,7 @@ pub(crate) fn valid_rows(alloc: Global, column: &Column) -> VortexResult<ValidRo
 
 /// The validity of the rows of a column, for another of its nullability.
 pub(crate) fn same_valid(alloc: Global, column: &Column) -> VortexResult<Validity>
-    ensures { AnswersUnlessMemory result (λ v. IsValidity (is_nullable column.now.dtype) (length column.now.rows) (λ i. not (is_null (row column.now.rows i))) (validity_of v)) }
+    ensures { AnswersUnlessMemory result (λ v. IsValidityOf column.now (validity_of v)) }
 {
     match column.dtype().nullability() {
         Nullability::NonNullable => Ok(Validity::NonNullable),
@@ -60,7 +56,8 @@ pub(crate) fn same_valid(alloc: Global, column: &Column) -> VortexResult<Validit
 /// The validity of rows that are valid on both sides.
 pub(crate) fn both_valid(alloc: Global, lhs: &Column, rhs: &Column) -> VortexResult<Validity>
     requires { length lhs.now.rows ≡ length rhs.now.rows }
-    ensures { AnswersUnlessMemory result (λ v. IsValidity (is_nullable lhs.now.dtype || is_nullable rhs.now.dtype) (length lhs.now.rows) (λ i. not (is_null (row lhs.now.rows i) || is_null (row rhs.now.rows i))) (validity_of v)) }
+    ensures { AnswersUnlessMemory result
+        (λ v. IsJointValidity (either_nullable lhs.now rhs.now) lhs.now rhs.now (validity_of v)) }
 {
     match lhs.dtype().nullability() | rhs.dtype().nullability() {
         Nullability::NonNullable => Ok(Validity::NonNullable),
@@ -71,7 +68,8 @@ pub(crate) fn both_valid(alloc: Global, lhs: &Column, rhs: &Column) -> VortexRes
 /// The same where either type has null.
 fn join_valid(alloc: Global, lhs: &Column, rhs: &Column) -> VortexResult<Validity>
     requires { length lhs.now.rows ≡ length rhs.now.rows }
-    ensures { AnswersUnlessMemory result (λ v. IsValidity true (length lhs.now.rows) (λ i. not (is_null (row lhs.now.rows i) || is_null (row rhs.now.rows i))) (validity_of v)) }
+    ensures { AnswersUnlessMemory result
+        (λ v. IsJointValidity true lhs.now rhs.now (validity_of v)) }
 {
     let len = lhs.len();
     match (valid_rows(alloc, lhs)?, valid_rows(alloc, rhs)?) {

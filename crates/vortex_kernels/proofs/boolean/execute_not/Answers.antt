@@ -7,7 +7,8 @@ use Rattle.vortex_types.specs.Values.{is_null}
 use Rattle.vortex_types.proofs.Answering.{AnswersUnlessMemory-weaker}
 use Rattle.vortex_columns.specs.ColumnView.{ColumnView, row, constant_column}
 use Rattle.vortex_operators.specs.OperatorValues.{not_value}
-use Rattle.vortex_kernels.specs.Rows.{HasRows, AreTold}
+use Rattle.vortex_kernels.specs.Rows.{HasRows}
+use Rattle.vortex_kernels.specs.ToldBits.{AreTold}
 use Rattle.vortex_kernels.proofs.Comparing.{constant_image}
 use Rattle.vortex_kernels.proofs.RowLemmas.{bool_answers, bool_dtype, not_row}
 use Rattle.vortex_kernels.proofs.boolean.execute_not.Goals as goal
@@ -16,8 +17,11 @@ pub returns-in-Some-default : goal.returns-in-Some-default
 returns-in-Some-default c =
     let input = c.args.input.now in
     let s = c.not_scalar.result in
-    AnswersUnlessMemory-weaker c.constant.result (λ (d : ColumnView). d ≡ constant_column s (length input.rows)) (HasRows input.dtype (length input.rows) (λ i. not_value (row input.rows i)))
-    (constant_image not_value input c.in-Some-default.scalar.now s c.in-Some-default.ensures c.not_scalar.ensures)
+    AnswersUnlessMemory-weaker c.constant.result
+    (λ (d : ColumnView). d ≡ constant_column s (length input.rows))
+    (HasRows input.dtype (length input.rows) (λ i. not_value (row input.rows i)))
+    (constant_image not_value input c.in-Some-default.scalar.now s c.in-Some-default.ensures
+    c.not_scalar.ensures)
     (rw c.len.ensures at c.constant.ensures)
 
 pub returns-in_ok-validity-in-None-Some : goal.returns-in_ok-validity-in-None-Some
@@ -26,8 +30,22 @@ returns-in_ok-validity-in-None-Some c =
     let xs = c.in-None-Some.bits.now in
     let are = c.in-None-Some.ensures'.1 in
     let bits = c.from_vec.result in
-    let told = subst (λ (bs : List Bool). AreTold (length xs) (λ i b. b ≡ not (slice_index_or xs i false)) bs) (sym c.from_vec.ensures) (rw (c.len-in-None-Some.ensures, c.as_slice.ensures) at c.in_ok-values-in-None-Some.ensures) in
-    subst (λ (t : LogicalType). AnswersUnlessMemory c.try_bool.result (HasRows t (length input.rows) (λ i. not_value (row input.rows i)))) (sym (bool_dtype input.dtype c.requires))
-    (bool_answers (is_nullable input.dtype) (length input.rows) (λ i. not (is_null (row input.rows i))) (λ i. not_value (row input.rows i)) bits (validity_of c.in_ok-validity-in-None-Some.validity) c.try_bool.result (told.count ∙ are.count) c.in_ok-validity-in-None-Some.ensures
+    let told =
+    subst
+    (λ (bs : List Bool). AreTold (length xs) (λ i b. b ≡ not (slice_index_or xs i false)) bs)
+    (sym c.from_vec.ensures)
+    (rw (
+      c.len-in-None-Some.ensures,
+      c.as_slice.ensures,
+    ) at c.in_ok-values-in-None-Some.ensures) in
+    subst
+    (λ (t : LogicalType).
+    AnswersUnlessMemory c.try_bool.result
+    (HasRows t (length input.rows) (λ i. not_value (row input.rows i))))
+    (sym (bool_dtype input.dtype c.requires))
+    (bool_answers (is_nullable input.dtype) (length input.rows)
+    (λ i. not (is_null (row input.rows i))) (λ i. not_value (row input.rows i)) bits
+    (validity_of c.in_ok-validity-in-None-Some.validity) c.try_bool.result
+    (told.count ∙ are.count) c.in_ok-validity-in-None-Some.ensures
     (not_row input xs bits are told)
     c.try_bool.ensures)

@@ -2,10 +2,16 @@ use Rattle.std.proofs.Common.{◌≡◌}
 use Rattle.std.specs.Vec.{vec_capacity}
 use Rattle.vortex_kernels.specs.Truths.{IsValueOf}
 use Rattle.vortex_operators.specs.Kleene.{kleene}
-use Rattle.vortex_kernels.specs.Rows.{AreTold}
+use Rattle.vortex_kernels.specs.ToldBits.{AreTold}
 use Rattle.vortex_kernels.proofs.boolean.kleene_values.Given as goal
 
 -- the rows so far, and the room for the rest
 abbrev pub invariant-loop-i : goal.invariant-loop-i
 invariant-loop-i g l =
-    (vec_capacity l.values ≡ l.len) × AreTold l.i (λ i b. IsValueOf b (kleene g.K.KleeneTable.operator (g.L.Truths.truth l.left i) (g.R.Truths.truth l.right i))) l.values.items
+    (vec_capacity l.values ≡ l.len)
+    × AreTold l.i
+    (λ i b.
+    IsValueOf b
+    (kleene g.K.KleeneTable.operator (g.L.Truths.truth l.left i)
+    (g.R.Truths.truth l.right i)))
+    l.values.items

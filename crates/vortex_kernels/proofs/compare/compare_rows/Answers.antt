@@ -16,7 +16,15 @@ returns g c =
     let l = c.args.lhs.now in
     let r = c.args.rhs.now in
     let bits = c.from_vec.result in
-    let compared = subst (λ (bs : List Bool). AreComparisons op l.rows r.rows bs) (sym c.from_vec.ensures) c.in_ok-bits.ensures in
-    bool_answers (is_nullable l.dtype || is_nullable r.dtype) (length l.rows) (λ i. not (is_null (row l.rows i) || is_null (row r.rows i))) (λ i. comparison_value op (row l.rows i) (row r.rows i)) bits (validity_of c.in_ok-validity.validity) c.try_bool.result compared.count c.in_ok-validity.ensures
-    (λ i lt. comparison_at op (row l.rows i) (row r.rows i) (slice_index_or bits i false) (compared.each i lt))
+    let compared =
+    subst (λ (bs : List Bool). AreComparisons op l.rows r.rows bs) (sym c.from_vec.ensures)
+    c.in_ok-bits.ensures in
+    bool_answers (is_nullable l.dtype || is_nullable r.dtype) (length l.rows)
+    (λ i. not (is_null (row l.rows i) || is_null (row r.rows i)))
+    (λ i. comparison_value op (row l.rows i) (row r.rows i)) bits
+    (validity_of c.in_ok-validity.validity) c.try_bool.result compared.count
+    c.in_ok-validity.ensures
+    (λ i lt.
+    comparison_at op (row l.rows i) (row r.rows i) (slice_index_or bits i false)
+    (compared.each i lt))
     c.try_bool.ensures

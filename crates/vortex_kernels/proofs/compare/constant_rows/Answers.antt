@@ -9,5 +9,6 @@ pub returns : goal.returns
 returns c =
     let s = c.args.scalar in
     let n = length c.args.lhs.now.rows in
-    AnswersUnlessMemory-weaker c.constant.result (λ (d : ColumnView). d ≡ constant_column s n) (HasRows s.dtype n (λ i. s.value)) (constant_has_rows s n)
+    AnswersUnlessMemory-weaker c.constant.result (λ (d : ColumnView). d ≡ constant_column s n)
+    (HasRows s.dtype n (λ i. s.value)) (constant_has_rows s n)
     (rw c.len.ensures at c.constant.ensures)

@@ -12,6 +12,11 @@ returns-in-Some-Some c =
     let s = c.in_ok-scalar_cmp.field-0 in
     let some : 0 < length l.rows = grind arith in
     let same : length l.rows ≡ length r.rows = grind arith in
-    Answers-weaker c.constant_rows-in-Some-Some.result (HasRows s.dtype (length l.rows) (λ i. s.value)) (AnswersCompare c.args.operator l r) (λ e. ⊥) (RefusesCompare l r)
-    (λ d h. constants_compared c.args.operator l r c.in-Some-Some.left.now c.in-Some-Some.right.now s d some same c.in-Some-Some.ensures c.in-Some-Some.ensures' c.in_ok-scalar_cmp.ensures.0 c.in_ok-scalar_cmp.ensures.1 h)
+    Answers-weaker c.constant_rows-in-Some-Some.result
+    (HasRows s.dtype (length l.rows) (λ i. s.value)) (AnswersCompare c.args.operator l r)
+    (λ e. ⊥) (RefusesCompare l r)
+    (λ d h.
+    constants_compared c.args.operator l r c.in-Some-Some.left.now c.in-Some-Some.right.now s d
+    some same c.in-Some-Some.ensures c.in-Some-Some.ensures' c.in_ok-scalar_cmp.ensures.0
+    c.in_ok-scalar_cmp.ensures.1 h)
     (λ e p. absurd p) c.constant_rows-in-Some-Some.ensures

@@ -7,11 +7,15 @@ use Rattle.vortex_kernels.proofs.pairs.constant_bytes.Goals as goal
 pub returns-in-Text : goal.returns-in-Text
 returns-in-Text c =
     let s = c.in_ok-scalar.scalar.now in
-    let is = sym c.cell.ensures.value ∙ ap cell_value c.in-Text.is ∙ ap text (sym c.as_bytes.ensures.value) in
-    constant_text s c.args.column.now c.as_bytes.result.now c.in_ok-scalar.ensures c.dtype.ensures.typed is
+    let is =
+    sym c.cell.ensures.value ∙ ap cell_value c.in-Text.is
+    ∙ ap text (sym c.as_bytes.ensures.value) in
+    constant_text s c.args.column.now c.as_bytes.result.now c.in_ok-scalar.ensures
+    c.dtype.ensures.typed is
 
 pub returns-in-Bytes : goal.returns-in-Bytes
 returns-in-Bytes c =
     let s = c.in_ok-scalar.scalar.now in
     let is = sym c.cell.ensures.value ∙ ap cell_value c.in-Bytes.is in
-    constant_bytes s c.args.column.now c.in-Bytes.bytes.now c.in_ok-scalar.ensures c.dtype.ensures.typed is
+    constant_bytes s c.args.column.now c.in-Bytes.bytes.now c.in_ok-scalar.ensures
+    c.dtype.ensures.typed is

@@ -12,7 +12,8 @@ returns-in-Int g c =
     let n = c.in-Int.number in
     let z = to_z w128 (of_z w128 n) in
     let same : n ≡ z = grind (arith, to_z-of_z) in
-    fitting_constant g.T.NativePType.number (FitsPType g.T.NativePType.ptype z) z c.args.column.now c.from_i128.result c.from_i128.ensures
+    fitting_constant g.T.NativePType.number (FitsPType g.T.NativePType.ptype z) z c.args.column.now
+    c.from_i128.result c.from_i128.ensures
     (λ i h.
     constant_row c.in_ok-as_constant.field-0.now c.args.column.now c.in_ok-as_constant.ensures i h
     ∙ sym c.cell.ensures.value

@@ -1,0 +1,9 @@
+-- What checked arithmetic says of the integers that columns hold.
+use Rattle.std.specs.Prelude.{ℤ, Option, Some, None}
+use Rattle.vortex_types.specs.declared.dtype.PType.{PType}
+use Rattle.vortex_types.specs.Typing.{FitsPType}
+
+-- there is a result, and the integer type holds it
+abbrev pub FitsResult : PType → Option ℤ → Type 0
+FitsResult p None = ⊥
+FitsResult p (Some z) = FitsPType p z
