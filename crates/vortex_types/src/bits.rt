@@ -3,7 +3,7 @@ ghost use Rattle.std.specs.Prelude.{◌≡◌, ◌<◌, length, false, slice_ind
 ghost use Rattle.vortex_types.specs.Answers.{AnswersUnlessMemory};
 
 use crate::error::VortexResult;
-use std::alloc::Global;
+use std::alloc::{AllocError, Global};
 use std::marker::Model;
 
 /// A list of bits.
@@ -59,9 +59,19 @@ impl BitBuffer {
     }
 
     /// A copy that is seen as its source is.
-    pub fn try_clone(&self, alloc: Global) -> VortexResult<BitBuffer>
+    pub fn try_clone(&self, _alloc: Global) -> VortexResult<BitBuffer>
         ensures { AnswersUnlessMemory result (λ b. b ≡ self.now) }
     {
-        BitBuffer::from_bools(alloc, self.bits.as_slice())
+        Ok(self.clone()?)
+    }
+}
+
+/// The same bits.
+impl Clone for BitBuffer {
+    ghost is_clone = { λ bits copy. copy ≡ bits };
+
+    fn clone(&self) -> Result<BitBuffer, AllocError> {
+        let bits = self.bits.as_slice().to_vec(*self.bits.allocator())?;
+        Ok(BitBuffer { bits })
     }
 }

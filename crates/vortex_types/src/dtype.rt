@@ -1,5 +1,5 @@
 //! The types of columns and scalars.
-ghost use Rattle.std.specs.Prelude.{◌≡◌, false};
+ghost use Rattle.std.specs.Prelude.{◌≡◌, false, IfOk};
 ghost use Rattle.vortex_types.specs.Answers.{AnswersUnlessMemory};
 ghost use Rattle.vortex_types.specs.LogicalTypes.{is_nullable, with_nullability, is_bool_type};
 ghost use Rattle.vortex_types.specs.LogicalTypes.{is_text_type, is_integer_type};
@@ -9,7 +9,7 @@ mod fields;
 mod integer_types;
 
 use crate::error::VortexResult;
-use std::alloc::Global;
+use std::alloc::{AllocError, Global};
 use std::ops::BitOr;
 
 /// Whether a type has null.
@@ -180,9 +180,15 @@ impl DType {
     }
 
     /// A copy that is seen as its source is.
-    #[cycle(clone_dtype)]
-    pub fn try_clone(&self, alloc: Global) -> VortexResult<DType>
+    pub fn try_clone(&self, _alloc: Global) -> VortexResult<DType>
         ensures { AnswersUnlessMemory result (λ t. type_of t ≡ type_of self.now) }
+    {
+        Ok(self.copy()?)
+    }
+
+    #[cycle(clone_dtype)]
+    fn copy(&self) -> Result<DType, AllocError>
+        ensures { IfOk result (λ t. type_of t ≡ type_of self.now) }
     {
         match self {
             DType::Null => Ok(DType::Null),
@@ -190,20 +196,32 @@ impl DType {
             DType::Primitive(p, n) => Ok(DType::Primitive(*p, *n)),
             DType::Utf8(n) => Ok(DType::Utf8(*n)),
             DType::Binary(n) => Ok(DType::Binary(*n)),
-            DType::Struct(fields, n) => Ok(DType::Struct(fields.try_clone(alloc)?, *n)),
+            DType::Struct(fields, n) => Ok(DType::Struct(fields.copy()?, *n)),
             DType::List(element, n) => {
-                Ok(DType::List(Box::new(alloc, element.try_clone(alloc)?)?, *n))
+                let element = Box::new(*Box::allocator(element), element.copy()?)?;
+                Ok(DType::List(element, *n))
             }
             DType::FixedSizeList(element, size, n) => {
-                let element = Box::new(alloc, element.try_clone(alloc)?)?;
+                let element = Box::new(*Box::allocator(element), element.copy()?)?;
                 Ok(DType::FixedSizeList(element, *size, *n))
             }
             DType::Map(key, value, n) => {
-                let key = Box::new(alloc, key.try_clone(alloc)?)?;
-                let value = Box::new(alloc, value.try_clone(alloc)?)?;
+                let key = Box::new(*Box::allocator(key), key.copy()?)?;
+                let value = Box::new(*Box::allocator(value), value.copy()?)?;
                 Ok(DType::Map(key, value, *n))
             }
         }
+    }
+}
+
+/// A copy that is seen as its source is.
+impl Clone for DType {
+    ghost use Rattle.vortex_types.specs.TypeOf.{type_of};
+
+    ghost is_clone = { λ dtype copy. type_of copy ≡ type_of dtype };
+
+    fn clone(&self) -> Result<DType, AllocError> {
+        self.copy()
     }
 }
 
@@ -211,15 +229,32 @@ impl StructFields {
     ghost use Rattle.vortex_types.specs.TypeOf.{struct_fields};
 
     /// A copy that is seen as its source is.
-    #[cycle(clone_dtype)]
-    pub fn try_clone(&self, alloc: Global) -> VortexResult<StructFields>
+    pub fn try_clone(&self, _alloc: Global) -> VortexResult<StructFields>
         ensures { AnswersUnlessMemory result (λ f. struct_fields f ≡ struct_fields self.now) }
     {
-        let mut fields = Vec::new(alloc);
+        Ok(self.copy()?)
+    }
+
+    #[cycle(clone_dtype)]
+    fn copy(&self) -> Result<StructFields, AllocError>
+        ensures { IfOk result (λ f. struct_fields f ≡ struct_fields self.now) }
+    {
+        let mut fields = Vec::new(*self.fields.allocator());
         for field in &self.fields {
             let name = field.0.clone()?;
-            fields.push((name, field.1.try_clone(alloc)?))?;
+            fields.push((name, field.1.copy()?))?;
         }
         Ok(StructFields { fields })
+    }
+}
+
+/// The same names with types that are seen as their sources are.
+impl Clone for StructFields {
+    ghost use Rattle.vortex_types.specs.TypeOf.{struct_fields};
+
+    ghost is_clone = { λ fields copy. struct_fields copy ≡ struct_fields fields };
+
+    fn clone(&self) -> Result<StructFields, AllocError> {
+        self.copy()
     }
 }

@@ -7,7 +7,7 @@ mod unsigned;
 
 use crate::dtype::PType;
 use crate::error::VortexResult;
-use std::alloc::Global;
+use std::alloc::{AllocError, Global};
 use std::cmp::Ordering;
 
 /// Integers of one type.
@@ -62,19 +62,31 @@ impl Ints {
     }
 
     /// A copy of the same numbers of the same type.
-    pub fn try_clone(&self, alloc: Global) -> VortexResult<Ints>
+    pub fn try_clone(&self, _alloc: Global) -> VortexResult<Ints>
         ensures ptype { AnswersUnlessMemory result (λ xs. ptype_of xs ≡ ptype_of self.now) }
         ensures values { AnswersUnlessMemory result (λ xs. numbers xs ≡ numbers self.now) }
     {
+        Ok(self.clone()?)
+    }
+}
+
+/// The same numbers, of the same type.
+impl Clone for Ints {
+    ghost use Rattle.vortex_types.specs.Numbers.{numbers, ptype_of};
+
+    ghost is_clone = { λ ints copy. (ptype_of copy ≡ ptype_of ints)
+        × (numbers copy ≡ numbers ints) };
+
+    fn clone(&self) -> Result<Ints, AllocError> {
         match self {
-            Ints::I8(xs) => Ok(Ints::I8(xs.as_slice().to_vec(alloc)?)),
-            Ints::I16(xs) => Ok(Ints::I16(xs.as_slice().to_vec(alloc)?)),
-            Ints::I32(xs) => Ok(Ints::I32(xs.as_slice().to_vec(alloc)?)),
-            Ints::I64(xs) => Ok(Ints::I64(xs.as_slice().to_vec(alloc)?)),
-            Ints::U8(xs) => Ok(Ints::U8(xs.as_slice().to_vec(alloc)?)),
-            Ints::U16(xs) => Ok(Ints::U16(xs.as_slice().to_vec(alloc)?)),
-            Ints::U32(xs) => Ok(Ints::U32(xs.as_slice().to_vec(alloc)?)),
-            Ints::U64(xs) => Ok(Ints::U64(xs.as_slice().to_vec(alloc)?)),
+            Ints::I8(xs) => Ok(Ints::I8(xs.as_slice().to_vec(*xs.allocator())?)),
+            Ints::I16(xs) => Ok(Ints::I16(xs.as_slice().to_vec(*xs.allocator())?)),
+            Ints::I32(xs) => Ok(Ints::I32(xs.as_slice().to_vec(*xs.allocator())?)),
+            Ints::I64(xs) => Ok(Ints::I64(xs.as_slice().to_vec(*xs.allocator())?)),
+            Ints::U8(xs) => Ok(Ints::U8(xs.as_slice().to_vec(*xs.allocator())?)),
+            Ints::U16(xs) => Ok(Ints::U16(xs.as_slice().to_vec(*xs.allocator())?)),
+            Ints::U32(xs) => Ok(Ints::U32(xs.as_slice().to_vec(*xs.allocator())?)),
+            Ints::U64(xs) => Ok(Ints::U64(xs.as_slice().to_vec(*xs.allocator())?)),
         }
     }
 }

@@ -1,9 +1,9 @@
 //! Values that are not null.
-ghost use Rattle.std.specs.Prelude.{◌≡◌};
+ghost use Rattle.std.specs.Prelude.{◌≡◌, IfOk};
 ghost use Rattle.vortex_types.specs.Answers.{AnswersUnlessMemory};
 
 use crate::error::VortexResult;
-use std::alloc::Global;
+use std::alloc::{AllocError, Global};
 
 /// A value that is not null.
 #[derive(Drop)]
@@ -24,21 +24,28 @@ impl ScalarValue {
     ghost use Rattle.vortex_types.specs.ValueOf.{value_of};
 
     /// A copy that is seen as its source is.
-    pub fn try_clone(&self, alloc: Global) -> VortexResult<ScalarValue>
+    pub fn try_clone(&self, _alloc: Global) -> VortexResult<ScalarValue>
         ensures { AnswersUnlessMemory result (λ v. value_of v ≡ value_of self.now) }
+    {
+        Ok(self.copy()?)
+    }
+
+    fn copy(&self) -> Result<ScalarValue, AllocError>
+        ensures { IfOk result (λ v. value_of v ≡ value_of self.now) }
     {
         match self {
             ScalarValue::Bool(b) => Ok(ScalarValue::Bool(*b)),
             ScalarValue::Int(n) => Ok(ScalarValue::Int(*n)),
             ScalarValue::Utf8(text) => Ok(ScalarValue::Utf8(text.clone()?)),
             ScalarValue::Binary(bytes) => {
-                Ok(ScalarValue::Binary(bytes.as_slice().to_vec(alloc)?))
+                let bytes = bytes.as_slice().to_vec(*bytes.allocator())?;
+                Ok(ScalarValue::Binary(bytes))
             }
             ScalarValue::List(items) => {
-                let mut copies = Vec::new(alloc);
+                let mut copies = Vec::new(*items.allocator());
                 for item in items {
                     let copy = match item {
-                        Some(value) => Some(value.try_clone(alloc)?),
+                        Some(value) => Some(value.copy()?),
                         None => None,
                     };
                     copies.push(copy)?;
@@ -46,5 +53,16 @@ impl ScalarValue {
                 Ok(ScalarValue::List(copies))
             }
         }
+    }
+}
+
+/// A copy that is seen as its source is.
+impl Clone for ScalarValue {
+    ghost use Rattle.vortex_types.specs.ValueOf.{value_of};
+
+    ghost is_clone = { λ value copy. value_of copy ≡ value_of value };
+
+    fn clone(&self) -> Result<ScalarValue, AllocError> {
+        self.copy()
     }
 }

@@ -6,7 +6,7 @@ ghost use Rattle.vortex_types.specs.ValidityView.{array};
 use crate::bits::BitBuffer;
 use crate::dtype::Nullability;
 use crate::error::VortexResult;
-use std::alloc::Global;
+use std::alloc::{AllocError, Global};
 
 /// Which rows are not null. `NonNullable` goes with a non-nullable type, the others with a nullable one.
 #[derive(Drop)]
@@ -71,14 +71,25 @@ impl Validity {
     }
 
     /// A copy that is seen as its source is.
-    pub fn try_clone(&self, alloc: Global) -> VortexResult<Validity>
+    pub fn try_clone(&self, _alloc: Global) -> VortexResult<Validity>
         ensures { AnswersUnlessMemory result (λ v. validity_of v ≡ validity_of self.now) }
     {
+        Ok(self.clone()?)
+    }
+}
+
+/// A copy that is seen as its source is.
+impl Clone for Validity {
+    ghost use Rattle.vortex_types.specs.ValidityView.{validity_of};
+
+    ghost is_clone = { λ validity copy. validity_of copy ≡ validity_of validity };
+
+    fn clone(&self) -> Result<Validity, AllocError> {
         match self {
             Validity::NonNullable => Ok(Validity::NonNullable),
             Validity::AllValid => Ok(Validity::AllValid),
             Validity::AllInvalid => Ok(Validity::AllInvalid),
-            Validity::Array(bits) => Ok(Validity::Array(bits.try_clone(alloc)?)),
+            Validity::Array(bits) => Ok(Validity::Array(bits.clone()?)),
         }
     }
 }

@@ -3,7 +3,7 @@ use Rattle.std.proofs.lemmas.List.{take_all}
 use Rattle.vortex_types.specs.Values.{list, values_of}
 use Rattle.vortex_types.specs.ValueOf.{value_of, value_or_null}
 use Rattle.vortex_types.proofs.ScalarViews.{view-List}
-use Rattle.vortex_types.proofs.scalar_value.ScalarValue.+try_clone.Goals as goal
+use Rattle.vortex_types.proofs.scalar_value.ScalarValue.+copy.Goals as goal
 
 pub returns-after-loop-item : goal.returns-after-loop-item
 returns-after-loop-item t c =

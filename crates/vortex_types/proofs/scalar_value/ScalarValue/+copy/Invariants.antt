@@ -1,6 +1,6 @@
 use Rattle.std.proofs.Common.{◌≡◌, map, take}
 use Rattle.vortex_types.specs.ValueOf.{value_or_null}
-use Rattle.vortex_types.proofs.scalar_value.ScalarValue.+try_clone.Given as goal
+use Rattle.vortex_types.proofs.scalar_value.ScalarValue.+copy.Given as goal
 
 abbrev pub invariant-loop-item : goal.invariant-loop-item
 invariant-loop-item l =
