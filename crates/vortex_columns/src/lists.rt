@@ -1,12 +1,10 @@
 //! The lists that a column keeps: whether they fit, and copies of them.
-ghost use Rattle.std.specs.Prelude.{◌≡◌, ◌*◌, ◌<◌, ◌≤◌, ◌↔◌, IsTrue, All, map, length};
-ghost use Rattle.std.specs.Prelude.{string_bytes};
-ghost use Rattle.vortex_types.specs.Answers.{AnswersUnlessMemory};
+ghost use Rattle.std.specs.Prelude.{◌≡◌, ◌*◌, ◌<◌, ◌≤◌, ◌↔◌, IsTrue, IfOk, All, map};
+ghost use Rattle.std.specs.Prelude.{length, string_bytes};
 ghost use Rattle.vortex_columns.specs.ColumnView.{LieWithin};
 
 use crate::typing::are_bytes;
-use std::alloc::Global;
-use vortex_types::VortexResult;
+use std::alloc::AllocError;
 
 /// The most bytes that a value of a column may have.
 const MOST_BYTES: usize = 4294967295;
@@ -58,11 +56,11 @@ pub(crate) fn is_product(elements: usize, size: u32, len: usize) -> bool
 }
 
 /// A copy of texts.
-pub(crate) fn copy_texts(alloc: Global, values: &[String]) -> VortexResult<Vec<String>>
-    ensures { AnswersUnlessMemory result
-        (λ copies. map string_bytes copies.items ≡ map string_bytes values.now) }
+pub(crate) fn copy_texts(values: &Vec<String>) -> Result<Vec<String>, AllocError>
+    ensures { IfOk result
+        (λ copies. map string_bytes copies.items ≡ map string_bytes values.now.items) }
 {
-    let mut copies = Vec::new(alloc);
+    let mut copies = Vec::new(*values.allocator());
     for value in values {
         copies.push(value.clone()?)?;
     }
@@ -70,13 +68,13 @@ pub(crate) fn copy_texts(alloc: Global, values: &[String]) -> VortexResult<Vec<S
 }
 
 /// A copy of lists of bytes.
-pub(crate) fn copy_bytes(alloc: Global, values: &[Vec<u8>]) -> VortexResult<Vec<Vec<u8>>>
-    ensures { AnswersUnlessMemory result
-        (λ copies. map (λ b. b.items) copies.items ≡ map (λ b. b.items) values.now) }
+pub(crate) fn copy_bytes(values: &Vec<Vec<u8>>) -> Result<Vec<Vec<u8>>, AllocError>
+    ensures { IfOk result
+        (λ copies. map (λ b. b.items) copies.items ≡ map (λ b. b.items) values.now.items) }
 {
-    let mut copies = Vec::new(alloc);
+    let mut copies = Vec::new(*values.allocator());
     for value in values {
-        copies.push(value.as_slice().to_vec(alloc)?)?;
+        copies.push(value.as_slice().to_vec(*value.allocator())?)?;
     }
     Ok(copies)
 }

@@ -5,7 +5,7 @@ ghost use Rattle.vortex_columns.specs.Words.{HasType, is_nullable, bool_type, te
 ghost use Rattle.vortex_columns.specs.Words.{null, truth, truth_of, is_null, cell_value, IsCell};
 
 use crate::cell::{Cell, cell_of};
-use std::alloc::Global;
+use std::alloc::{AllocError, Global};
 use std::cmp::Ordering;
 use std::marker::Model;
 use vortex_types::{DType, Nullability, PType, ScalarValue, Validity, VortexError, VortexResult};
@@ -143,12 +143,21 @@ impl Scalar {
     }
 
     /// A copy that is seen as its source is.
-    pub fn try_clone(&self, alloc: Global) -> VortexResult<Scalar>
+    pub fn try_clone(&self, _alloc: Global) -> VortexResult<Scalar>
         ensures { AnswersUnlessMemory result (λ s. s ≡ self.now) }
     {
-        let dtype = self.dtype.try_clone(alloc)?;
+        Ok(self.clone()?)
+    }
+}
+
+/// The same value of the same type.
+impl Clone for Scalar {
+    ghost is_clone = { λ scalar copy. copy ≡ scalar };
+
+    fn clone(&self) -> Result<Scalar, AllocError> {
+        let dtype = self.dtype.clone()?;
         let value = match &self.value {
-            Some(value) => Some(value.try_clone(alloc)?),
+            Some(value) => Some(value.clone()?),
             None => None,
         };
         Ok(Scalar { dtype, value })

@@ -16,8 +16,8 @@ typing::all_have_type-has_type-requires t c =
     let inside = depth_inside (sequence_values c.args.values.now) c.loop-k.k (omega arith) in
     let same = ap value_depth c.get.ensures.value in (search rules, c.get.ensures.whole)
 
-pub
-    typing::all_have_type-returns-then-not-has_type : goal.typing::all_have_type-returns-then-not-has_type
+pub typing::all_have_type-returns-then-not-has_type :
+    goal.typing::all_have_type-returns-then-not-has_type
 typing::all_have_type-returns-then-not-has_type t c =
     let P : Value → Type 0 = HasType (type_of c.args.dtype.now) in
     refuted _ _ _ c.if-not-has_type.true c.has_type.ensures
@@ -40,8 +40,8 @@ typing::fields_have_types-has_type-requires t c =
     let inside = depth_inside (sequence_values c.args.values.now) c.loop-k.k (omega arith) in
     let same = ap value_depth c.get.ensures.value in (search rules, c.get.ensures.whole)
 
-pub
-    typing::fields_have_types-returns-then-not-has_type : goal.typing::fields_have_types-returns-then-not-has_type
+pub typing::fields_have_types-returns-then-not-has_type :
+    goal.typing::fields_have_types-returns-then-not-has_type
 typing::fields_have_types-returns-then-not-has_type t c =
     let fs = struct_fields c.args.fields.now in
     refuted _ _ _ c.if-not-has_type.true c.has_type.ensures
@@ -54,8 +54,8 @@ typing::fields_have_types-returns t c =
     (have_all (struct_fields c.args.fields.now) (sequence_values c.args.values.now)
     (omega arith) (λ j h. c.loop-k.invariant j (omega arith)))
 
-pub
-    cell::Cell::has_type-returns-in-Sequence-FixedSizeList : goal.cell::Cell::has_type-returns-in-Sequence-FixedSizeList
+pub cell::Cell::has_type-returns-in-Sequence-FixedSizeList :
+    goal.cell::Cell::has_type-returns-in-Sequence-FixedSizeList
 cell::Cell::has_type-returns-in-Sequence-FixedSizeList t c =
     let e = c.deref-in-Sequence-FixedSizeList.ensures in
     let h = c.so_many_have_type.ensures in
@@ -80,8 +80,8 @@ typing::are_entries-is_entry-requires t c =
     let inside = depth_inside (sequence_values c.args.values.now) c.loop-k.k (omega arith) in
     let same = ap value_depth c.get.ensures.value in (search rules, c.get.ensures.whole)
 
-pub
-    typing::are_entries-returns-then-not-is_entry : goal.typing::are_entries-returns-then-not-is_entry
+pub typing::are_entries-returns-then-not-is_entry :
+    goal.typing::are_entries-returns-then-not-is_entry
 typing::are_entries-returns-then-not-is_entry t c =
     let P : Value
     → Type 0 =
@@ -99,8 +99,8 @@ typing::are_entries-returns t c =
     confirmed _
     (each_all P (sequence_values c.args.values.now) (λ j h. c.loop-k.invariant j (omega arith)))
 
-pub
-    typing::so_many_have_type-returns-then-len-count : goal.typing::so_many_have_type-returns-then-len-count
+pub typing::so_many_have_type-returns-then-len-count :
+    goal.typing::so_many_have_type-returns-then-len-count
 typing::so_many_have_type-returns-then-len-count t c =
     let n = value_count_of (sequence_values c.args.values.now) in
     refuted_by _ (λ e. let here = e.0 in omega arith)

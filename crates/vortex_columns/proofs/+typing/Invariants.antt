@@ -11,8 +11,8 @@ abbrev pub invariant-typing::all_have_type-loop-k : goal.invariant-typing::all_h
 invariant-typing::all_have_type-loop-k l = (j : ℕ) → j < l.k
     → HasType (type_of l.dtype) (row (sequence_values l.values) j)
 
-abbrev pub
-    invariant-typing::fields_have_types-loop-k : goal.invariant-typing::fields_have_types-loop-k
+abbrev pub invariant-typing::fields_have_types-loop-k :
+    goal.invariant-typing::fields_have_types-loop-k
 invariant-typing::fields_have_types-loop-k l = (j : ℕ) → j < l.k
     → HasType (field_type j (struct_fields l.fields)) (row (sequence_values l.values) j)
 

@@ -1,51 +1,58 @@
 //! Copies of columns.
-ghost use Rattle.std.specs.Prelude.{◌≡◌};
+ghost use Rattle.std.specs.Prelude.{◌≡◌, IfOk};
 ghost use Rattle.vortex_columns.specs.Words.{AnswersUnlessMemory};
 ghost use Rattle.vortex_columns.specs.Stored.{kept_of, stored_of};
 
 use super::{Column, Elements, Storage};
 use crate::lists::{copy_bytes, copy_texts};
-use std::alloc::Global;
+use std::alloc::{AllocError, Global};
 use vortex_types::VortexResult;
 
 /// Copies of columns.
 #[cycle(clone_column)]
-fn copy_columns(alloc: Global, columns: &Vec<Column>) -> VortexResult<Vec<Column>>
-    ensures { AnswersUnlessMemory result (λ cs. cs.items ≡ columns.now.items) }
+fn copy_columns(columns: &Vec<Column>) -> Result<Vec<Column>, AllocError>
+    ensures { IfOk result (λ cs. cs.items ≡ columns.now.items) }
 {
-    let mut copies = Vec::new(alloc);
+    let mut copies = Vec::new(*columns.allocator());
     for column in columns {
-        copies.push(column.try_clone(alloc)?)?;
+        copies.push(column.copy()?)?;
     }
     Ok(copies)
 }
 
+/// A copy of places or sizes.
+fn copy_places(places: &Vec<usize>) -> Result<Vec<usize>, AllocError>
+    ensures { IfOk result (λ copy. copy.items ≡ places.now.items) }
+{
+    places.as_slice().to_vec(*places.allocator())
+}
+
 impl Elements {
     #[cycle(clone_column)]
-    fn try_clone(&self, alloc: Global) -> VortexResult<Elements>
-        ensures { AnswersUnlessMemory result (λ e. kept_of e ≡ kept_of self.now) }
+    fn copy(&self) -> Result<Elements, AllocError>
+        ensures { IfOk result (λ e. kept_of e ≡ kept_of self.now) }
     {
         match self {
-            Elements::Bool(bits) => Ok(Elements::Bool(bits.try_clone(alloc)?)),
-            Elements::Primitive(ints) => Ok(Elements::Primitive(ints.try_clone(alloc)?)),
-            Elements::Utf8(values) => Ok(Elements::Utf8(copy_texts(alloc, values)?)),
-            Elements::Binary(values) => Ok(Elements::Binary(copy_bytes(alloc, values)?)),
-            Elements::Struct(fields) => Ok(Elements::Struct(copy_columns(alloc, fields)?)),
+            Elements::Bool(bits) => Ok(Elements::Bool(bits.clone()?)),
+            Elements::Primitive(ints) => Ok(Elements::Primitive(ints.clone()?)),
+            Elements::Utf8(values) => Ok(Elements::Utf8(copy_texts(values)?)),
+            Elements::Binary(values) => Ok(Elements::Binary(copy_bytes(values)?)),
+            Elements::Struct(fields) => Ok(Elements::Struct(copy_columns(fields)?)),
             Elements::List(elements, offsets, sizes) => {
-                let elements = Box::new(alloc, elements.try_clone(alloc)?)?;
-                let offsets = offsets.as_slice().to_vec(alloc)?;
-                let sizes = sizes.as_slice().to_vec(alloc)?;
+                let elements = Box::new(*Box::allocator(elements), elements.copy()?)?;
+                let offsets = copy_places(offsets)?;
+                let sizes = copy_places(sizes)?;
                 Ok(Elements::List(elements, offsets, sizes))
             }
             Elements::FixedSizeList(elements, size) => {
-                let elements = Box::new(alloc, elements.try_clone(alloc)?)?;
+                let elements = Box::new(*Box::allocator(elements), elements.copy()?)?;
                 Ok(Elements::FixedSizeList(elements, *size))
             }
             Elements::Map(keys, values, offsets, sizes) => {
-                let keys = Box::new(alloc, keys.try_clone(alloc)?)?;
-                let values = Box::new(alloc, values.try_clone(alloc)?)?;
-                let offsets = offsets.as_slice().to_vec(alloc)?;
-                let sizes = sizes.as_slice().to_vec(alloc)?;
+                let keys = Box::new(*Box::allocator(keys), keys.copy()?)?;
+                let values = Box::new(*Box::allocator(values), values.copy()?)?;
+                let offsets = copy_places(offsets)?;
+                let sizes = copy_places(sizes)?;
                 Ok(Elements::Map(keys, values, offsets, sizes))
             }
         }
@@ -54,15 +61,15 @@ impl Elements {
 
 impl Storage {
     #[cycle(clone_column)]
-    fn try_clone(&self, alloc: Global) -> VortexResult<Storage>
-        ensures { AnswersUnlessMemory result (λ s. stored_of s ≡ stored_of self.now) }
+    fn copy(&self) -> Result<Storage, AllocError>
+        ensures { IfOk result (λ s. stored_of s ≡ stored_of self.now) }
     {
         match self {
             Storage::Null => Ok(Storage::Null),
-            Storage::Constant(scalar) => Ok(Storage::Constant(scalar.try_clone(alloc)?)),
+            Storage::Constant(scalar) => Ok(Storage::Constant(scalar.clone()?)),
             Storage::Rows(elements, validity) => {
-                let elements = elements.try_clone(alloc)?;
-                Ok(Storage::Rows(elements, validity.try_clone(alloc)?))
+                let elements = elements.copy()?;
+                Ok(Storage::Rows(elements, validity.clone()?))
             }
         }
     }
@@ -70,16 +77,31 @@ impl Storage {
 
 impl Column {
     /// A copy that is seen as its source is.
-    #[cycle(clone_column)]
-    pub fn try_clone(&self, alloc: Global) -> VortexResult<Column>
+    pub fn try_clone(&self, _alloc: Global) -> VortexResult<Column>
         ensures { AnswersUnlessMemory result (λ c. c ≡ self.now) }
     {
-        let dtype = self.dtype.try_clone(alloc)?;
-        let storage = self.storage.try_clone(alloc)?;
+        Ok(self.copy()?)
+    }
+
+    #[cycle(clone_column)]
+    fn copy(&self) -> Result<Column, AllocError>
+        ensures { IfOk result (λ c. c ≡ self.now) }
+    {
+        let dtype = self.dtype.clone()?;
+        let storage = self.storage.copy()?;
         Ok(Column {
             dtype,
             len: self.len,
             storage,
         })
+    }
+}
+
+/// A copy that is seen as its source is: of the same type, with the same rows.
+impl Clone for Column {
+    ghost is_clone = { λ column copy. copy ≡ column };
+
+    fn clone(&self) -> Result<Column, AllocError> {
+        self.copy()
     }
 }

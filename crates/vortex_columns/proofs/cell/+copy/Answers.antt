@@ -10,8 +10,8 @@ copy_values-try_to_value-requires t c =
     let inside = depth_inside (sequence_values c.args.values.now) c.loop-k.k (omega arith) in
     let same = ap value_depth c.get.ensures.value in (search rules, c.get.ensures.whole)
 
-pub
-    Cell::try_to_value-returns-in_ok-copy_values-in-Sequence : goal.Cell::try_to_value-returns-in_ok-copy_values-in-Sequence
+pub Cell::try_to_value-returns-in_ok-copy_values-in-Sequence :
+    goal.Cell::try_to_value-returns-in_ok-copy_values-in-Sequence
 Cell::try_to_value-returns-in_ok-copy_values-in-Sequence t c =
     view-List _ ∙ ap (λ vs. list (values_of vs)) c.in_ok-copy_values-in-Sequence.ensures
     ∙ sym (ap cell_value c.in-Sequence.is)
