@@ -1,5 +1,5 @@
 -- What checked arithmetic says of the integers that columns hold.
-use Rattle.std.specs.Prelude.{ℤ, Option, Some, None}
+use Rattle.std.specs.Prelude.{◌≡◌, ℤ, Option, Some, None}
 use Rattle.vortex_types.specs.declared.dtype.PType.{PType}
 use Rattle.vortex_types.specs.Typing.{FitsPType}
 
@@ -7,3 +7,7 @@ use Rattle.vortex_types.specs.Typing.{FitsPType}
 abbrev pub FitsResult : PType → Option ℤ → Type 0
 FitsResult p None = ⊥
 FitsResult p (Some z) = FitsPType p z
+
+-- the result is this number, where the integer type holds it
+abbrev pub AnswersExact : PType → Option ℤ → ℤ → Type 0
+AnswersExact p exact z = FitsResult p exact → exact ≡ Some z

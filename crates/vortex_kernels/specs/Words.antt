@@ -1,7 +1,7 @@
 -- The words of the contracts, from one place.
 pub use Rattle.vortex_columns.specs.ColumnView.{row}
 pub use Rattle.vortex_columns.specs.LentBytes.{bytes_of}
-pub use Rattle.vortex_kernels.specs.ArithmeticIntegers.{FitsResult}
+pub use Rattle.vortex_kernels.specs.ArithmeticIntegers.{FitsResult, AnswersExact}
 pub use Rattle.vortex_kernels.specs.Boolean.{are_bools, HasBooleanRows, HasNotRows}
 pub use Rattle.vortex_kernels.specs.Boolean.{IsKleeneValidity, AnswersBoolean, RefusesBoolean}
 pub use Rattle.vortex_kernels.specs.Comparison.{is_null_constant, IsConstantOf, AnswersScalars}

@@ -1,7 +1,7 @@
 //! The integers that columns hold, as checked arithmetic reads them.
 ghost use Rattle.std.specs.Prelude.{◌≡◌};
 ghost use Rattle.std.specs.Bool.{FalseIff};
-ghost use Rattle.vortex_kernels.specs.Words.{FitsResult};
+ghost use Rattle.vortex_kernels.specs.Words.{FitsResult, AnswersExact};
 
 use vortex_checked::{CheckedArithmetic, CheckedPrimitiveOp};
 use vortex_columns::NativePType;
@@ -99,16 +99,20 @@ impl ArithmeticInteger for u64 {
     ghost same_greatest = { refl };
 }
 
-/// The operation on two integers of columns: the value, and evidence, which tells of a fault exactly where the integer
-/// type does not hold the exact result.
+/// The operation on two integers of columns: the value, which is the exact result where the integer type holds it, and
+/// evidence, which tells of a fault exactly where it does not.
 pub fn apply_checked<T: ArithmeticInteger, O: CheckedPrimitiveOp<T>>(
     left: T,
     right: T,
 ) -> (T, O::Fail)
     ensures value { T.NativePType.number result.0
         ≡ O.value (T.NativePType.number left) (T.NativePType.number right) }
+    ensures exact { AnswersExact T.ptype
+        (O.exact (T.NativePType.number left) (T.NativePType.number right))
+        (T.NativePType.number result.0) }
     ensures fault { FalseIff (O.Fail.is_fault result.1)
         (FitsResult T.ptype (O.exact (T.NativePType.number left) (T.NativePType.number right))) }
+    ensures evidence { O.tells left right result.1 }
 {
     O::apply(left, right)
 }
