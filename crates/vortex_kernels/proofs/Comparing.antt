@@ -1,7 +1,7 @@
 -- Rows that are compared one by one, and the column that is made of the answers.
 use Rattle.std.proofs.Common.{◌≡◌, ℕ, ◌<◌, Bool, true, false, List, [], length, refl, sym, ap}
 use Rattle.std.proofs.Common.{subst, ◌∙◌, arith, cond}
-use Rattle.std.specs.Prelude.{◌||◌, nat_eq, not, ℤ, pos, Option, Some, None, IfSome, MatchOption}
+use Rattle.std.specs.Prelude.{◌||◌, nat_eq, not, ℤ, Option, Some, None, IfSome, MatchOption}
 use Rattle.std.specs.Prelude.{slice_index_or}
 use Rattle.std.specs.declared.cmp.Ordering.{Ordering}
 use Rattle.std.specs.declared.alloc.Global.{Global}
