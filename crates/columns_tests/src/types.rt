@@ -57,6 +57,32 @@ fn names_and_types_pair(rt: HostRuntime) {
     assert!(rt; is_refused(named(alloc, &["a", "b"], 1), "InvalidColumn"));
 }
 
+/// Adds a field of nullable Bool, unless its name stands already.
+fn add(alloc: Global, fields: &mut StructFields, name: &str) -> VortexResult<()> {
+    if fields.find(name).is_some() {
+        return Ok(());
+    }
+    let name = String::from_str(alloc, name)?;
+    fields.push(name, DType::Bool(YES))
+}
+
+/// Two fields, one added after the other.
+fn grown(alloc: Global) -> VortexResult<StructFields> {
+    let mut fields = StructFields::new(alloc);
+    add(alloc, &mut fields, "a")?;
+    add(alloc, &mut fields, "b")?;
+    add(alloc, &mut fields, "a")?;
+    Ok(fields)
+}
+
+#[test]
+fn fields_are_added(rt: HostRuntime) {
+    let alloc = rt.alloc();
+    assert!(rt; yes(count_is(grown(alloc), 2)));
+    assert!(rt; yes(stands_at(grown(alloc), "a", 0)));
+    assert!(rt; yes(stands_at(grown(alloc), "b", 1)));
+}
+
 #[test]
 fn nullability_is_joined(rt: HostRuntime) {
     assert!(rt; NO | YES == YES);

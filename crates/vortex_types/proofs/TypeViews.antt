@@ -2,8 +2,8 @@
 use Rattle.std.proofs.Common.{◌≡◌, ℕ, Box, zero, suc, ◌<◌, List, [], ◌∷◌, ◌++◌, String}
 use Rattle.std.proofs.Common.{string_bytes, Global, length, get_or, ap, refl, ◌∙◌, arith, rules}
 use Rattle.vortex_types.specs.LogicalTypes.{LogicalType, text_type, bytes_type, struct_type}
-use Rattle.vortex_types.specs.LogicalTypes.{fixed_size_list_type, map_type, Fields, no_fields}
-use Rattle.vortex_types.specs.LogicalTypes.{field, field_count, field_type}
+use Rattle.vortex_types.specs.LogicalTypes.{fixed_size_list_type, map_type, Fields}
+use Rattle.vortex_types.specs.LogicalTypes.{field, field_count, field_type, with_field}
 use Rattle.vortex_types.specs.TypeOf.{type_of, allows_null, fields_view, struct_fields, type_step}
 use Rattle.vortex_types.specs.TypeOf.{fields_step}
 use Rattle.vortex_types.specs.declared.dtype.Nullability.{Nullability}
@@ -22,12 +22,8 @@ pub struct_fields-out : (s : StructFields)
     → struct_fields s ≡ fields_view (out-StructFields s).fields.items
 struct_fields-out = fold_out-StructFields LogicalType Fields type_step fields_step
 
-abbrev pub and_last : Fields → List ℕ → LogicalType → Fields
-and_last no_fields n t = field n t no_fields
-and_last (field m u fs) n t = field m u (and_last fs n t)
-
 pub fields_view_last : (fs : List (String Global × DType)) (f : String Global × DType)
-    → fields_view (fs ++ f ∷ []) ≡ and_last (fields_view fs) (string_bytes f.0) (type_of f.1)
+    → fields_view (fs ++ f ∷ []) ≡ with_field (fields_view fs) (string_bytes f.0) (type_of f.1)
 fields_view_last [] f = refl
 fields_view_last (g ∷ fs) f = ap (field (string_bytes g.0) (type_of g.1)) (fields_view_last fs f)
 

@@ -184,10 +184,13 @@ mutual
       λ i. fixed_size_list_type (type_back t i) s (bool_back n i)
   type_back (map_type k v n) = λ i. map_type (type_back k i) (type_back v i) (bool_back n i)
 
-  fields_back : (fs : Fields) → fields_in (tree_of_fields fs) ≡ fs
+  pub fields_back : (fs : Fields) → fields_in (tree_of_fields fs) ≡ fs
   fields_back no_fields = refl
   fields_back (field name t fs) =
       λ i. field (numbers_back name i) (type_back t i) (fields_back fs i)
 
 abbrev pub coded_type : Coded LogicalType
 coded_type = code_by Gv itself tree_of_type type_in type_back
+
+abbrev pub coded_fields : Coded Fields
+coded_fields = code_by Gv itself tree_of_fields fields_in fields_back

@@ -82,6 +82,11 @@ abbrev pub field_count : Fields → ℕ
 field_count no_fields = 0
 field_count (field name t fs) = suc (field_count fs)
 
+-- one field more, behind the others
+abbrev pub with_field : Fields → List ℕ → LogicalType → Fields
+with_field no_fields name t = field name t no_fields
+with_field (field n u fs) name t = field n u (with_field fs name t)
+
 -- the type of a field, by its place
 abbrev pub field_type : ℕ → Fields → LogicalType
 field_type k no_fields = null_type

@@ -57,7 +57,7 @@ bool_decides true false = (λ h. cc, λ e. cc)
 bool_decides false true = (λ h. cc, λ e. cc)
 bool_decides false false = (λ h. refl, λ e. refl)
 
-ptype_yes : (p q : PType) → ptype_eq p q ≡ true → p ≡ q
+pub ptype_yes : (p q : PType) → ptype_eq p q ≡ true → p ≡ q
 ptype_yes I8 I8 h = refl
 ptype_yes I16 I16 h = refl
 ptype_yes I32 I32 h = refl
@@ -68,7 +68,7 @@ ptype_yes U32 U32 h = refl
 ptype_yes U64 U64 h = refl
 ptype_yes p q h = cc
 
-ptype_refl : (p : PType) → ptype_eq p p ≡ true
+pub ptype_refl : (p : PType) → ptype_eq p p ≡ true
 ptype_refl I8 = refl
 ptype_refl I16 = refl
 ptype_refl I32 = refl

@@ -10,7 +10,7 @@ use Rattle.vortex_types.specs.declared.dtype.DType.TheOpen.{DType-F, StructField
 use Rattle.vortex_types.specs.declared.dtype.StructFields.{StructFields, fold-StructFields}
 use Rattle.vortex_types.specs.LogicalTypes.{LogicalType, null_type, bool_type, integer_type}
 use Rattle.vortex_types.specs.LogicalTypes.{text_type, bytes_type, struct_type, list_type}
-use Rattle.vortex_types.specs.LogicalTypes.{fixed_size_list_type, map_type, Fields, no_fields}
+use Rattle.vortex_types.specs.LogicalTypes.{fixed_size_list_type, map_type, Fields, no_fields, with_field}
 use Rattle.vortex_types.specs.LogicalTypes.{field}
 
 abbrev pub allows_null : Nullability → Bool
@@ -56,3 +56,8 @@ AllDiffer = AllPairs (λ a b. string_bytes a ≢ string_bytes b)
 
 abbrev pub AreNamed : List (String Global) → List DType → Type 0
 AreNamed names types = (length names ≡ length types) × AllDiffer names
+
+-- the fields with one more
+abbrev pub AddsField : StructFields → String Global → DType → StructFields → Type 0
+AddsField old name t new =
+    struct_fields new ≡ with_field (struct_fields old) (string_bytes name) (type_of t)

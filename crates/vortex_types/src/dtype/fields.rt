@@ -3,7 +3,7 @@ ghost use Rattle.std.specs.Prelude.{◌≡◌, ◌≢◌, ◌↔◌, IsTrue, IfO
 ghost use Rattle.std.specs.List.{zip};
 ghost use Rattle.vortex_types.specs.TypeOf.{AllDiffer};
 ghost use Rattle.vortex_types.specs.declared.error.VortexError.TheVariants.{InvalidColumn};
-ghost use Rattle.vortex_types.specs.Answers.{AnswersWhere};
+ghost use Rattle.vortex_types.specs.Answers.{AnswersWhere, AnswersUnlessMemory};
 
 use super::{DType, StructFields};
 use crate::error::{VortexError, VortexResult};
@@ -40,10 +40,31 @@ fn pairs(
 }
 
 impl StructFields {
-    ghost use Rattle.std.specs.Prelude.{◌<◌, MatchOption, Some, None};
-    ghost use Rattle.vortex_types.specs.TypeOf.{type_of, struct_fields, named_types, AreNamed};
-    ghost use Rattle.vortex_types.specs.LogicalTypes.{field_count, field_type, find_field};
+    ghost use Rattle.std.specs.Prelude.{◌<◌, MatchOption, OnErr, Some, None};
+    ghost use Rattle.vortex_types.specs.TypeOf.{type_of, struct_fields, named_types, AreNamed, AddsField};
+    ghost use Rattle.vortex_types.specs.LogicalTypes.{no_fields, with_field, field_count, field_type, find_field};
     ghost use Rattle.vortex_types.specs.FieldNames.{field_name};
+
+    /// No fields. Takes no memory.
+    pub fn new(alloc: Global) -> StructFields
+        ensures { struct_fields result ≡ no_fields }
+    {
+        StructFields {
+            fields: Vec::new(alloc),
+        }
+    }
+
+    /// One field more, behind the others; that its name is new is a condition. Refuses for memory alone, and then nothing
+    /// changes.
+    pub fn push(&mut self, name: String, dtype: DType) -> VortexResult<()>
+        requires { find_field (string_bytes name) (struct_fields self.old) ≡ None }
+        ensures added { AnswersUnlessMemory result
+            (λ _. AddsField self.old name dtype self.new) }
+        ensures kept { OnErr result (struct_fields self.new ≡ struct_fields self.old) }
+    {
+        self.fields.push((name, dtype))?;
+        Ok(())
+    }
 
     /// Pairs names with types. E12 exactly where their counts differ or a name stands twice.
     pub fn try_new(
