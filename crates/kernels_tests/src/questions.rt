@@ -1,12 +1,15 @@
 //! One call of a kernel each, and short questions to its answer.
+ghost use Rattle.std.specs.Prelude.{◌<◌, length};
 
 use fixtures::{Made, kept, rows_of, texts};
 use std::alloc::Global;
 use vortex_columns::{
-    BitBuffer, Column, DType, ExecutionCtx, Nullability, PType, Scalar, Validity, VortexError,
-    VortexResult,
+    BitBuffer, Cell, Column, DType, ExecutionCtx, NativePType, Nullability, NumericOperator, PType,
+    Scalar, Validity, VortexError, VortexResult,
 };
-use vortex_kernels::{CompareOperator, Operator, execute_boolean, execute_compare, execute_not};
+use vortex_kernels::{
+    CompareOperator, Operator, execute_boolean, execute_compare, execute_not, execute_numeric,
+};
 
 pub(crate) const YES: Option<bool> = Some(true);
 
@@ -34,6 +37,20 @@ pub(crate) fn compared(alloc: Global, left: Made, operator: CompareOperator, rig
     kept(
         alloc,
         execute_compare(&*left, &*right, operator, &mut ExecutionCtx::new(alloc)),
+    )
+}
+
+/// Arithmetic of two columns.
+pub(crate) fn calculated(
+    alloc: Global,
+    left: Made,
+    operator: NumericOperator,
+    right: Made,
+) -> Made {
+    let (left, right) = (left?, right?);
+    kept(
+        alloc,
+        execute_numeric(&*left, &*right, operator, &mut ExecutionCtx::new(alloc)),
     )
 }
 
@@ -95,9 +112,52 @@ pub(crate) fn says_or_null(
     has_rows(alloc, answer, NULLABLE, wanted)
 }
 
+/// The number in a row, where there is one.
+pub(crate) fn number_at(column: &Column, i: usize) -> Option<i128>
+    requires { i < length column.now.rows }
+{
+    match column.cell(i) {
+        Cell::Int(number) => Some(number),
+        _ => None,
+    }
+}
+
+/// The number in each row, where there is one.
+fn numbers_of(alloc: Global, column: &Column) -> VortexResult<Vec<Option<i128>>> {
+    let mut rows = Vec::new(alloc);
+    for i in 0..column.len() {
+        rows.push(number_at(column, i))?;
+    }
+    Ok(rows)
+}
+
+/// Whether an answer is these rows of integers.
+pub(crate) fn has_numbers(
+    alloc: Global,
+    answer: Made,
+    nullability: Nullability,
+    wanted: &[Option<i128>],
+) -> VortexResult<bool> {
+    let answer = answer?;
+    if !answer.dtype().is_primitive() || answer.dtype().nullability() != nullability {
+        return Ok(false);
+    }
+    Ok(numbers_of(alloc, &*answer)?.as_slice() == wanted)
+}
+
 /// The rows that are not null, as a list of bits.
 pub(crate) fn valid_rows(alloc: Global, valid: &[bool]) -> VortexResult<Validity> {
     Ok(Validity::Array(BitBuffer::from_bools(alloc, valid)?))
+}
+
+/// A column of nullable integers, those where `valid` is false under nulls.
+pub(crate) fn nullable_numbers<T: NativePType>(alloc: Global, rows: &[T], valid: &[bool]) -> Made {
+    let mut values = Vec::new(alloc);
+    for row in rows {
+        values.push(*row)?;
+    }
+    let validity = valid_rows(alloc, valid)?;
+    kept(alloc, Column::try_primitive(alloc, values, validity))
 }
 
 /// A column of non-nullable texts.

@@ -2,3 +2,4 @@ pub mod Comparing
 pub mod RowLemmas
 pub mod KleeneBits
 pub mod SameIntegers
+pub mod Calculating

@@ -6,4 +6,5 @@ pub mod Boolean
 pub mod PairOrders
 pub mod Comparison
 pub mod ArithmeticIntegers
+pub mod Numeric
 pub mod Words

@@ -1,5 +1,5 @@
 -- The words of the contracts, from one place.
-pub use Rattle.vortex_columns.specs.ColumnView.{row}
+pub use Rattle.vortex_columns.specs.ColumnView.{row, IsIntegerType}
 pub use Rattle.vortex_columns.specs.LentBytes.{bytes_of}
 pub use Rattle.vortex_kernels.specs.ArithmeticIntegers.{FitsResult, AnswersExact}
 pub use Rattle.vortex_kernels.specs.Boolean.{are_bools, HasBooleanRows, HasNotRows}
@@ -8,6 +8,10 @@ pub use Rattle.vortex_kernels.specs.Comparison.{is_null_constant, IsConstantOf, 
 pub use Rattle.vortex_kernels.specs.Comparison.{RefusesScalars, HasComparisonRows, AnswersCompare}
 pub use Rattle.vortex_kernels.specs.Comparison.{RefusesCompare, AreHeld, IsConstantBytes}
 pub use Rattle.vortex_kernels.specs.Comparison.{AreComparisons}
+pub use Rattle.vortex_kernels.specs.Numeric.{AnswersNumeric, RefusesNumeric}
+pub use Rattle.vortex_kernels.specs.Numeric.{IsExactOf, row_results, AreNumbers}
+pub use Rattle.vortex_kernels.specs.Numeric.{AreResults, TellsFaults, FitWhereValid, FaultsAt}
+pub use Rattle.vortex_kernels.specs.Numeric.{IsNullColumn, null_of}
 pub use Rattle.vortex_kernels.specs.PairOrders.{byte_order, row_orders, int_orders, int_orders_with}
 pub use Rattle.vortex_kernels.specs.PairOrders.{bit_orders, bit_orders_with, byte_orders}
 pub use Rattle.vortex_kernels.specs.PairOrders.{byte_orders_with}
@@ -16,6 +20,7 @@ pub use Rattle.vortex_kernels.specs.ToldBits.{AreTold}
 pub use Rattle.vortex_kernels.specs.Truths.{present, IsValueOf, Reads, AreTruths, ArePresent}
 pub use Rattle.vortex_kernels.specs.Truths.{IsOperand}
 pub use Rattle.vortex_kernels.specs.Validity.{valid_view, AreValid, IsValidityOf, IsJointValidity}
+pub use Rattle.vortex_operators.specs.Arithmetic.{integer_of_both}
 pub use Rattle.vortex_operators.specs.Kleene.{kleene}
 pub use Rattle.vortex_operators.specs.OperatorValues.{not_value, holds}
 pub use Rattle.vortex_operators.specs.Operators.{is_boolean}
@@ -26,6 +31,6 @@ pub use Rattle.vortex_operators.specs.declared.operators.Operator.{Operator}
 pub use Rattle.vortex_operators.specs.declared.operators.Operator.TheVariants.{And, Or}
 pub use Rattle.vortex_types.specs.Answers.{Answers, AnswersUnlessMemory}
 pub use Rattle.vortex_types.specs.LogicalTypes.{is_bool_type, bool_type, is_text_type}
-pub use Rattle.vortex_types.specs.TypeOf.{allows_null}
+pub use Rattle.vortex_types.specs.TypeOf.{allows_null, type_of}
 pub use Rattle.vortex_types.specs.ValidityView.{validity_of}
 pub use Rattle.vortex_types.specs.Values.{null, number, truth, truth_of}

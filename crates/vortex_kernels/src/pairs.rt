@@ -1,14 +1,16 @@
 //! The values of two columns side by side, and what a comparison says of each pair.
-ghost use Rattle.std.specs.Prelude.{◌≡◌, ◌<◌, ℕ, true, map, length, IsSome, IfSome};
+ghost use Rattle.std.specs.Prelude.{◌≡◌, ◌<◌, ℕ, true, map, length};
+ghost use Rattle.std.specs.Prelude.{IsSome, IfSome, IfNone};
 ghost use Rattle.std.specs.declared.cmp.Ordering.{Ordering};
 ghost use Rattle.vortex_kernels.specs.Words.{AnswersUnlessMemory, number, truth, truth_of};
 ghost use Rattle.vortex_kernels.specs.Words.{is_text_type, row, bytes_of, holds, row_orders};
 ghost use Rattle.vortex_kernels.specs.Words.{int_orders, int_orders_with, bit_orders};
 ghost use Rattle.vortex_kernels.specs.Words.{bit_orders_with, byte_orders, byte_orders_with};
 ghost use Rattle.vortex_kernels.specs.Words.{AreHeld, IsConstantOf, IsConstantBytes};
-ghost use Rattle.vortex_kernels.specs.Words.{AreComparisons};
+ghost use Rattle.vortex_kernels.specs.Words.{AreComparisons, IsIntegerType, IsNullColumn};
 
 use crate::comparisons::Comparison;
+use crate::integer_types::with_integer;
 use std::alloc::Global;
 use vortex_columns::{ByteRows, Cell, Column, DType, NativePType, PType, VortexResult};
 
@@ -178,11 +180,15 @@ fn hold_in_cells<P: Comparison>(
     hold_in_pairs::<P, CellPairs>(alloc, &pairs, len)
 }
 
-/// The integer in each row of a constant column of integers, where its type holds it.
-fn constant_int<T: NativePType>(column: &Column) -> Option<T>
-    ensures { IfSome result (λ x. IsConstantOf (number (T.number x)) column.now) }
+/// The integer in each row of a constant column of integers of one type, unless it is null.
+pub(crate) fn constant_int<T: NativePType>(column: &Column) -> Option<T>
+    ensures value { IfSome result (λ x. IsConstantOf (number (T.number x)) column.now) }
+    ensures null { IfNone result (IsSome column.now.constant
+        → IsIntegerType T.ptype column.now.dtype → IsNullColumn column.now) }
 {
-    match column.as_constant()?.cell() {
+    let scalar = column.as_constant()?;
+    let _ = scalar.dtype();
+    match scalar.cell() {
         Cell::Int(number) => T::from_i128(number),
         _ => None,
     }
@@ -298,14 +304,9 @@ pub(crate) fn hold_in_rows<P: Comparison>(
         DType::Bool(_) => hold_in_bools::<P>(alloc, lhs, rhs),
         DType::Utf8(_) if rhs.dtype().is_utf8() => hold_in_bytes::<P>(alloc, lhs, rhs),
         DType::Binary(_) if !rhs.dtype().is_utf8() => hold_in_bytes::<P>(alloc, lhs, rhs),
-        DType::Primitive(PType::I8, _) => hold_in_ints::<P, i8>(alloc, lhs, rhs),
-        DType::Primitive(PType::I16, _) => hold_in_ints::<P, i16>(alloc, lhs, rhs),
-        DType::Primitive(PType::I32, _) => hold_in_ints::<P, i32>(alloc, lhs, rhs),
-        DType::Primitive(PType::I64, _) => hold_in_ints::<P, i64>(alloc, lhs, rhs),
-        DType::Primitive(PType::U8, _) => hold_in_ints::<P, u8>(alloc, lhs, rhs),
-        DType::Primitive(PType::U16, _) => hold_in_ints::<P, u16>(alloc, lhs, rhs),
-        DType::Primitive(PType::U32, _) => hold_in_ints::<P, u32>(alloc, lhs, rhs),
-        DType::Primitive(PType::U64, _) => hold_in_ints::<P, u64>(alloc, lhs, rhs),
+        DType::Primitive(ptype, _) => {
+            with_integer!(*ptype, hold_in_ints::<P, _>(alloc, lhs, rhs))
+        }
         _ => hold_in_cells::<P>(alloc, lhs, rhs),
     }
 }

@@ -1,5 +1,6 @@
 pub mod Operators
 pub mod Kleene
 pub mod OperatorValues
+pub mod Arithmetic
 pub mod ComparisonLaws
 pub mod SwapLaws

@@ -5,10 +5,11 @@ ghost use Rattle.vortex_operators.specs.Operators.{compare_inverse, compare_swap
 ghost use Rattle.vortex_operators.specs.Operators.{logical_inverse_of, swap_of, is_arithmetic};
 ghost use Rattle.vortex_operators.specs.Operators.{is_boolean};
 ghost use Rattle.vortex_operators.specs.Kleene.{AreDual};
+ghost use Rattle.vortex_operators.specs.Arithmetic.{numeric_operator_of};
 
 use std::cmp::Ordering;
 use std::fmt;
-use vortex_types::{VortexError, VortexResult};
+use vortex_types::{NumericOperator, VortexError, VortexResult};
 
 /// An operator of two operands. The order is that of the variants.
 #[derive(Clone, Copy, Debug, PartialEq, Eq, PartialOrd, Hash)]
@@ -154,6 +155,19 @@ impl Operator {
             Operator::Gte => Some(CompareOperator::Gte),
             Operator::Lt => Some(CompareOperator::Lt),
             Operator::Lte => Some(CompareOperator::Lte),
+            _ => None,
+        }
+    }
+
+    /// The operator of arithmetic, of an operator that is one.
+    pub fn to_numeric_operator(&self) -> Option<NumericOperator>
+        ensures { result ≡ numeric_operator_of self.now }
+    {
+        match self {
+            Operator::Add => Some(NumericOperator::Add),
+            Operator::Sub => Some(NumericOperator::Sub),
+            Operator::Mul => Some(NumericOperator::Mul),
+            Operator::Div => Some(NumericOperator::Div),
             _ => None,
         }
     }

@@ -23,5 +23,5 @@ returns-in-Some-None-Some g c =
     answers_compare g.P.Comparison.operator (int_orders_with xs z) l.rows r.rows
     c.hold_in_pairs-in-Some-None-Some.result
     (ints_order_with l r c.requires xs z c.in-Some-None-Some.ensures.1
-    c.in-Some-None-Some.ensures'')
+    c.in-Some-None-Some.ensures''.value)
     (rw c.len-len.ensures at c.hold_in_pairs-in-Some-None-Some.ensures)

@@ -1,0 +1,52 @@
+use Rattle.std.proofs.Common.{length, sym, ◌∙◌, arith}
+use Rattle.vortex_types.specs.ValidityView.{validity_of}
+use Rattle.vortex_kernels.specs.Numeric.{row_results, FitWhereValid, FaultsAt}
+use Rattle.vortex_kernels.proofs.Calculating.{numeric_answers, found_refuses, none_found, no_fault}
+use Rattle.vortex_kernels.proofs.numeric.numeric_rows.Goals as goal
+use Rattle.vortex_kernels.proofs.numeric.numeric_rows.Goals.{else-ne-via-then-ne+else-is_some}
+use Rattle.vortex_kernels.proofs.numeric.numeric_rows.Goals.{else-ne-via-else-ne}
+
+pub returns-then-is_some : goal.returns-then-is_some
+returns-then-is_some g c =
+    let p = g.T.NativePType.ptype in
+    let exact = g.O.CheckedPrimitiveOp.exact in
+    let left = g.L.Numbers.number_at c.args.left.now in
+    let right = g.R.Numbers.number_at c.args.right.now in
+    let l = c.args.lhs.now in
+    let r = c.args.rhs.now in
+    found_refuses c.args.operator p exact left right l r c.requires.exact c.requires.left.each
+    (λ i lt. c.requires.right.each i (omega (arith, c.requires.lengths, lt))) c.requires.types
+    c.requires.lengths
+    (FitWhereValid p (row_results exact left right) l r (length l.rows)) c.faulty_row.result
+    (sym c.is_some.ensures ∙ c.if-is_some.true) c.faulty_row.ensures
+
+pub returns : goal.returns
+returns g c =
+    let p = g.T.NativePType.ptype in
+    let exact = g.O.CheckedPrimitiveOp.exact in
+    let left = g.L.Numbers.number_at c.args.left.now in
+    let right = g.R.Numbers.number_at c.args.right.now in
+    let l = c.args.lhs.now in
+    let r = c.args.rhs.now in
+    let results = row_results exact left right in
+    let laws = g.met.O.Fail.Failure.evidence in
+    let fault = c.in_ok-values.fault in
+    let fits : FitWhereValid p results l r (length l.rows) =
+    elim c.else-ne.branch [
+      | else-ne-via-then-ne+else-is_some w ↦
+          none_found (FitWhereValid p results l r (length l.rows)) (FaultsAt p results l r)
+          w.faulty_row.result (sym w.is_some.ensures ∙ w.if-is_some.false) w.faulty_row.ensures
+      | else-ne-via-else-ne w ↦
+          λ i lt valid.
+          c.in_ok-values.ensures.fault
+          (no_fault c.ne.result (g.O.Fail.PartialEq.eq fault c.default.result)
+          (g.O.Fail.Failure.is_fault fault) c.ne.ensures
+          (laws.told fault c.default.result c.default.ensures) w.if-ne.false)
+          i (omega (arith, c.len.ensures, lt))
+    ] in
+    numeric_answers c.args.operator p exact left right l r c.requires.exact c.requires.left.each
+    (λ i lt. c.requires.right.each i (omega (arith, c.requires.lengths, lt))) c.requires.types
+    c.requires.lengths
+    g.T.NativePType.number c.in_ok-values.values.items (validity_of c.in_ok-validity.validity)
+    c.try_primitive.result (rw c.len.ensures at c.in_ok-values.ensures.values) fits
+    c.in_ok-validity.ensures c.try_primitive.ensures

@@ -1,0 +1,220 @@
+//! Arithmetic of columns of one integer type, exact in each row.
+ghost use Rattle.std.specs.Prelude.{◌≡◌, ◌<◌, ℕ, true, length, map, MatchOption, Some};
+ghost use Rattle.vortex_kernels.specs.Words.{Answers, AnswersUnlessMemory, integer_of_both};
+ghost use Rattle.vortex_kernels.specs.Words.{AnswersNumeric, RefusesNumeric};
+ghost use Rattle.vortex_kernels.specs.Words.{IsExactOf, row_results, AreNumbers};
+ghost use Rattle.vortex_kernels.specs.Words.{AreResults, TellsFaults, FitWhereValid, FaultsAt};
+ghost use Rattle.vortex_kernels.specs.Words.{HasScalarRows, null_of, type_of};
+
+use crate::arithmetic_integer::{ArithmeticInteger, apply_checked};
+use crate::integer_types::with_integer;
+use crate::numbers::{ListedNumbers, Numbers, OneNumber};
+use crate::pairs::constant_int;
+use crate::validity::both_valid;
+use std::alloc::Global;
+use vortex_checked::{CheckedAdd, CheckedDiv, CheckedMul, CheckedPrimitiveOp, CheckedSub};
+use vortex_columns::{
+    Column, DType, ExecutionCtx, MismatchPlace, Nullability, NumericOperator, PType, Scalar,
+    VortexError, VortexResult,
+};
+
+/// The value of each row, also where it lies under a null, and evidence that is joined over all rows.
+fn apply_rows<T: ArithmeticInteger, O: CheckedPrimitiveOp<T>, L: Numbers<T>, R: Numbers<T>>(
+    alloc: Global,
+    left: &L,
+    right: &R,
+    len: usize,
+) -> VortexResult<(Vec<T>, O::Fail)>
+    requires left { (i : ℕ) → i < len → L.has_row left.now i }
+    requires right { (i : ℕ) → i < len → R.has_row right.now i }
+    ensures values { AnswersUnlessMemory result (λ answer. AreResults T.ptype
+        (row_results O.exact (L.number_at left.now) (R.number_at right.now)) len
+        (map T.NativePType.number answer.0.items)) }
+    ensures fault { AnswersUnlessMemory result (λ answer. TellsFaults T.ptype
+        (row_results O.exact (L.number_at left.now) (R.number_at right.now)) len
+        (O.Fail.is_fault answer.1)) }
+{
+    let mut values = Vec::with_capacity(alloc, len)?;
+    let mut fault = O::Fail::default();
+    for i in 0..len {
+        let (value, evidence) = apply_checked::<T, O>(left.at(i), right.at(i));
+        values.push_reserved(value);
+        fault |= evidence;
+    }
+    Ok((values, fault))
+}
+
+/// The first row that faults and is null on neither side.
+fn faulty_row<T: ArithmeticInteger, O: CheckedPrimitiveOp<T>, L: Numbers<T>, R: Numbers<T>>(
+    left: &L,
+    right: &R,
+    lhs: &Column,
+    rhs: &Column,
+) -> Option<usize>
+    requires lengths { length lhs.now.rows ≡ length rhs.now.rows }
+    requires left { (i : ℕ) → i < length lhs.now.rows → L.has_row left.now i }
+    requires right { (i : ℕ) → i < length lhs.now.rows → R.has_row right.now i }
+    ensures { MatchOption result
+        (FitWhereValid T.ptype
+        (row_results O.exact (L.number_at left.now) (R.number_at right.now))
+        lhs.now rhs.now (length lhs.now.rows))
+        (FaultsAt T.ptype
+        (row_results O.exact (L.number_at left.now) (R.number_at right.now))
+        lhs.now rhs.now) }
+{
+    for i in 0..lhs.len() {
+        if lhs.is_valid(i) && rhs.is_valid(i) {
+            let (_, evidence) = apply_checked::<T, O>(left.at(i), right.at(i));
+            if evidence != O::Fail::default() {
+                return Some(i);
+            }
+        }
+    }
+    None
+}
+
+/// The operation in each row, of columns of equal length, whose integers are read in the form of each side. Rows are
+/// looked at one by one only where any of them faults, be it under a null.
+fn numeric_rows<T: ArithmeticInteger, O: CheckedPrimitiveOp<T>, L: Numbers<T>, R: Numbers<T>>(
+    left: &L,
+    right: &R,
+    lhs: &Column,
+    rhs: &Column,
+    operator: NumericOperator,
+    ctx: &mut ExecutionCtx,
+) -> VortexResult<Column>
+    requires types { integer_of_both lhs.now.dtype rhs.now.dtype ≡ Some T.ptype }
+    requires lengths { length lhs.now.rows ≡ length rhs.now.rows }
+    requires exact { IsExactOf operator O.exact }
+    requires left { AreNumbers lhs.now (L.has_row left.now) (L.number_at left.now) }
+    requires right { AreNumbers rhs.now (R.has_row right.now) (R.number_at right.now) }
+    ensures { Answers result (AnswersNumeric operator lhs.now rhs.now)
+        (RefusesNumeric operator lhs.now rhs.now) }
+{
+    let (values, fault) = apply_rows::<T, O, L, R>(ctx.alloc(), left, right, lhs.len())?;
+    if fault != O::Fail::default() && faulty_row::<T, O, L, R>(left, right, lhs, rhs).is_some() {
+        return Err(VortexError::Arithmetic(operator));
+    }
+    let validity = both_valid(ctx.alloc(), lhs, rhs)?;
+    Column::try_primitive(ctx.alloc(), values, validity)
+}
+
+/// Null in each row, of the nullable form of the type.
+fn null_rows(lhs: &Column, ctx: &mut ExecutionCtx) -> VortexResult<Column>
+    ensures { AnswersUnlessMemory result
+        (HasScalarRows (null_of lhs.now.dtype) (length lhs.now.rows)) }
+{
+    let dtype = lhs.dtype().try_clone(ctx.alloc())?;
+    let null = Scalar::null(dtype.with_nullability(Nullability::Nullable));
+    Column::constant(ctx.alloc(), null, lhs.len())
+}
+
+/// The same as `numeric_columns`, the form of the left side being chosen.
+fn numeric_beside<T: ArithmeticInteger, O: CheckedPrimitiveOp<T>, L: Numbers<T>>(
+    left: &L,
+    lhs: &Column,
+    rhs: &Column,
+    operator: NumericOperator,
+    ctx: &mut ExecutionCtx,
+) -> VortexResult<Column>
+    requires types { integer_of_both lhs.now.dtype rhs.now.dtype ≡ Some T.ptype }
+    requires lengths { length lhs.now.rows ≡ length rhs.now.rows }
+    requires exact { IsExactOf operator O.exact }
+    requires left { AreNumbers lhs.now (L.has_row left.now) (L.number_at left.now) }
+    ensures { Answers result (AnswersNumeric operator lhs.now rhs.now)
+        (RefusesNumeric operator lhs.now rhs.now) }
+{
+    match (rhs.ints::<T>(), constant_int::<T>(rhs)) {
+        (Some(values), _) => {
+            let right = ListedNumbers { values };
+            numeric_rows::<T, O, L, ListedNumbers<T>>(left, &right, lhs, rhs, operator, ctx)
+        }
+        (None, Some(value)) => {
+            let right = OneNumber { value };
+            numeric_rows::<T, O, L, OneNumber<T>>(left, &right, lhs, rhs, operator, ctx)
+        }
+        (None, None) => null_rows(lhs, ctx),
+    }
+}
+
+/// The operation in each row, of columns of equal length. The form of each side is chosen before the rows.
+fn numeric_columns<T: ArithmeticInteger, O: CheckedPrimitiveOp<T>>(
+    lhs: &Column,
+    rhs: &Column,
+    operator: NumericOperator,
+    ctx: &mut ExecutionCtx,
+) -> VortexResult<Column>
+    requires types { integer_of_both lhs.now.dtype rhs.now.dtype ≡ Some T.ptype }
+    requires lengths { length lhs.now.rows ≡ length rhs.now.rows }
+    requires exact { IsExactOf operator O.exact }
+    ensures { Answers result (AnswersNumeric operator lhs.now rhs.now)
+        (RefusesNumeric operator lhs.now rhs.now) }
+{
+    match (lhs.ints::<T>(), constant_int::<T>(lhs)) {
+        (Some(values), _) => {
+            let left = ListedNumbers { values };
+            numeric_beside::<T, O, ListedNumbers<T>>(&left, lhs, rhs, operator, ctx)
+        }
+        (None, Some(value)) => {
+            let left = OneNumber { value };
+            numeric_beside::<T, O, OneNumber<T>>(&left, lhs, rhs, operator, ctx)
+        }
+        (None, None) => null_rows(lhs, ctx),
+    }
+}
+
+/// The same, the operator being chosen before the rows.
+fn numeric_in<T: ArithmeticInteger>(
+    lhs: &Column,
+    rhs: &Column,
+    operator: NumericOperator,
+    ctx: &mut ExecutionCtx,
+) -> VortexResult<Column>
+    requires types { integer_of_both lhs.now.dtype rhs.now.dtype ≡ Some T.ptype }
+    requires lengths { length lhs.now.rows ≡ length rhs.now.rows }
+    ensures { Answers result (AnswersNumeric operator lhs.now rhs.now)
+        (RefusesNumeric operator lhs.now rhs.now) }
+{
+    match operator {
+        NumericOperator::Add => numeric_columns::<T, CheckedAdd>(lhs, rhs, operator, ctx),
+        NumericOperator::Sub => numeric_columns::<T, CheckedSub>(lhs, rhs, operator, ctx),
+        NumericOperator::Mul => numeric_columns::<T, CheckedMul>(lhs, rhs, operator, ctx),
+        NumericOperator::Div => numeric_columns::<T, CheckedDiv>(lhs, rhs, operator, ctx),
+    }
+}
+
+/// The integer type of both types, where they agree apart from nullability.
+fn integer_of_both(lhs: &DType, rhs: &DType) -> Option<PType>
+    ensures { result ≡ integer_of_both (type_of lhs.now) (type_of rhs.now) }
+{
+    match (lhs, rhs) {
+        (DType::Primitive(left, _), DType::Primitive(right, _)) if left == right => Some(*left),
+        _ => None,
+    }
+}
+
+/// Exact arithmetic of two columns row by row: a column of their integer type, nullable if either is, null exactly
+/// where a row is null on either side. A quotient is truncated toward zero.
+///
+/// In order: E3 Arithmetic for types that are not one integer type apart from nullability; E2 for columns of two
+/// lengths, with `left` the first; E7 exactly where in some row two operands that are not null have no exact result
+/// that the type holds, whatever lies under nulls.
+pub fn execute_numeric(
+    lhs: &Column,
+    rhs: &Column,
+    operator: NumericOperator,
+    ctx: &mut ExecutionCtx,
+) -> VortexResult<Column>
+    ensures { Answers result (AnswersNumeric operator lhs.now rhs.now)
+        (RefusesNumeric operator lhs.now rhs.now) }
+{
+    let Some(ptype) = integer_of_both(lhs.dtype(), rhs.dtype()) else {
+        return Err(VortexError::TypeMismatch(MismatchPlace::Arithmetic));
+    };
+    let left = lhs.len();
+    let right = rhs.len();
+    if left != right {
+        return Err(VortexError::LengthMismatch { left, right });
+    }
+    with_integer!(ptype, numeric_in::<_>(lhs, rhs, operator, ctx))
+}
