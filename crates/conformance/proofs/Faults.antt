@@ -24,18 +24,21 @@ not_two : (a b : LogicalType) (ts : List LogicalType) → IsSome (same_bool (a �
 not_two (bool_type n) b ts h = cc
 not_two a b ts h = cc
 
-pub one_bool : (cs : List ColumnView) (c : ColumnView) → IsSome (same_bool (types_in cs)) → slice_get cs 0 ≡ Some c → OneBool cs c
+pub one_bool : (cs : List ColumnView) (c : ColumnView) → IsSome (same_bool (types_in cs))
+    → slice_get cs 0 ≡ Some c → OneBool cs c
 one_bool [] c h p = cc
 one_bool (x ∷ []) c h p =
     let a : x ≡ c = cc in
-    record { only = cc; bool = subst (λ (d : ColumnView). is_bool_type d.dtype ≡ true) a (one_of x.dtype h) }
+    record
+    { only = cc; bool = subst (λ (d : ColumnView). is_bool_type d.dtype ≡ true) a (one_of x.dtype h) }
 one_bool (x ∷ y ∷ cs) c h p = absurd (not_two x.dtype y.dtype (types_in cs) h)
 
 same_is : (t : LogicalType) → is_bool_type t ≡ true → same_bool (t ∷ []) ≡ Some t
 same_is (bool_type n) h = refl
 same_is t h = cc
 
-true_or_null : (n : Bool) (v : Value) → HasType (bool_type n) v → truth_of v ≢ Some false → must_be_true (v ∷ []) ≡ gives v
+true_or_null : (n : Bool) (v : Value) → HasType (bool_type n) v → truth_of v ≢ Some false
+    → must_be_true (v ∷ []) ≡ gives v
 true_or_null n null h k = refl
 true_or_null n (truth true) h k = refl
 true_or_null n (truth false) h k = absurd (k refl)
@@ -47,27 +50,48 @@ false_faults (truth true) e = cc
 false_faults v e = cc
 
 -- a false row is a fault
-pub fault_here : (cs : List ColumnView) (c : ColumnView) (n i : ℕ) → OneBool cs c → i < n → truth_of (row c.rows i) ≡ Some false → must_be_true (map (λ d. row d.rows i) cs) ≡ faults (custom 1)
+pub fault_here : (cs : List ColumnView) (c : ColumnView) (n i : ℕ) → OneBool cs c → i < n
+    → truth_of (row c.rows i) ≡ Some false
+    → must_be_true (map (λ d. row d.rows i) cs) ≡ faults (custom 1)
 fault_here cs c n i one h e =
-    ap (λ (ds : List ColumnView). must_be_true (map (λ d. row d.rows i) ds)) one.only ∙ false_faults (row c.rows i) e
+    ap (λ (ds : List ColumnView). must_be_true (map (λ d. row d.rows i) ds)) one.only
+    ∙ false_faults (row c.rows i) e
 
-rows_are : (cs : List ColumnView) (c d : ColumnView) (n : ℕ) → OneBool cs c → AreTyped c.dtype c.rows → length c.rows ≡ n → ((i : ℕ) → i < n → truth_of (row c.rows i) ≢ Some false) → d ≡ c → HasCallRows same_bool (λ ts. must_be_true) cs n d
+rows_are : (cs : List ColumnView) (c d : ColumnView) (n : ℕ) → OneBool cs c
+    → AreTyped c.dtype c.rows → length c.rows ≡ n
+    → ((i : ℕ) → i < n → truth_of (row c.rows i) ≢ Some false) → d ≡ c
+    → HasCallRows same_bool (λ ts. must_be_true) cs n d
 rows_are cs c d n one typed e none is = record {
-  dtype = ap (λ ds. same_bool (types_in ds)) one.only ∙ same_is c.dtype one.bool ∙ ap (λ (x : ColumnView). Some x.dtype) (sym is);
+  dtype =
+      ap (λ ds. same_bool (types_in ds)) one.only
+      ∙ same_is c.dtype one.bool
+      ∙ ap (λ (x : ColumnView). Some x.dtype) (sym is);
   count = ap (λ (x : ColumnView). length x.rows) is ∙ e;
   each = λ i lt.
       ap (λ (ds : List ColumnView). must_be_true (map (λ x. row x.rows i) ds)) one.only
-      ∙ true_or_null (is_nullable c.dtype) (row c.rows i) (subst (λ (t : LogicalType). HasType t (row c.rows i)) (bool_dtype c.dtype one.bool) (typed i null (omega (arith, e)))) (none i lt)
+      ∙ true_or_null (is_nullable c.dtype) (row c.rows i)
+      (subst (λ (t : LogicalType). HasType t (row c.rows i)) (bool_dtype c.dtype one.bool)
+      (typed i null (omega (arith, e)))) (none i lt)
       ∙ ap (λ (x : ColumnView). gives (row x.rows i)) (sym is);
 }
 
-pub copy_answers : (cs : List ColumnView) (c : ColumnView) (n : ℕ) (answer : Result ColumnView VortexError) → OneBool cs c → AreTyped c.dtype c.rows → length c.rows ≡ n → ((i : ℕ) → i < n → truth_of (row c.rows i) ≢ Some false) → AnswersUnlessMemory answer (λ d. d ≡ c) → Answers answer (HasCallRows same_bool (λ ts. must_be_true) cs n) (IsCallFault (λ ts. must_be_true) cs n)
+pub copy_answers : (cs : List ColumnView) (c : ColumnView) (n : ℕ)
+    (answer : Result ColumnView VortexError)
+    → OneBool cs c → AreTyped c.dtype c.rows → length c.rows ≡ n
+    → ((i : ℕ) → i < n → truth_of (row c.rows i) ≢ Some false)
+    → AnswersUnlessMemory answer (λ d. d ≡ c)
+    → Answers answer (HasCallRows same_bool (λ ts. must_be_true) cs n)
+    (IsCallFault (λ ts. must_be_true) cs n)
 copy_answers cs c n answer one typed e none h =
-    Answers-weaker answer (λ d. d ≡ c) (HasCallRows same_bool (λ ts. must_be_true) cs n) (λ f. ⊥) (IsCallFault (λ ts. must_be_true) cs n) (λ d p. rows_are cs c d n one typed e none p) (λ f p. absurd p) h
+    Answers-weaker answer (λ d. d ≡ c) (HasCallRows same_bool (λ ts. must_be_true) cs n) (λ f. ⊥)
+    (IsCallFault (λ ts. must_be_true) cs n) (λ d p. rows_are cs c d n one typed e none p)
+    (λ f p. absurd p) h
 
 -- two columns of one length
-pub two_rows : (n : ℕ) (x y : ColumnView) (cs : List ColumnView) → cs ≡ x ∷ y ∷ [] → length x.rows ≡ n → length y.rows ≡ n → All (λ c. length c.rows ≡ n) cs
-two_rows n x y cs e p q = subst (λ (ds : List ColumnView). All (λ c. length c.rows ≡ n) ds) (sym e) by
+pub two_rows : (n : ℕ) (x y : ColumnView) (cs : List ColumnView) → cs ≡ x ∷ y ∷ []
+    → length x.rows ≡ n → length y.rows ≡ n → All (λ c. length c.rows ≡ n) cs
+two_rows n x y cs e p q =
+    subst (λ (ds : List ColumnView). All (λ c. length c.rows ≡ n) ds) (sym e) by
   where
     by : All (λ c. length c.rows ≡ n) (x ∷ y ∷ [])
     by zero d h = p

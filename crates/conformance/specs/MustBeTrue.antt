@@ -28,10 +28,12 @@ must_be_true_meaning = record {
   infallible = λ f o. false;
 }
 
-typed : (ts : List LogicalType) (t : LogicalType) (vs : List Value) → same_bool ts ≡ Some t → HaveTypes ts vs → GivesType t (must_be_true vs)
+typed : (ts : List LogicalType) (t : LogicalType) (vs : List Value) → same_bool ts ≡ Some t
+    → HaveTypes ts vs → GivesType t (must_be_true vs)
 typed (bool_type n ∷ []) t (truth false ∷ []) e h = tt
 typed (bool_type n ∷ []) t (truth true ∷ []) e h = let is : bool_type n ≡ t = cc in rw (← is) tt
-typed (bool_type n ∷ []) t (null ∷ []) e h = let is : bool_type n ≡ t = cc in subst (λ (u : LogicalType). HasType u null) is h.0
+typed (bool_type n ∷ []) t (null ∷ []) e h =
+    let is : bool_type n ≡ t = cc in subst (λ (u : LogicalType). HasType u null) is h.0
 typed (bool_type n ∷ []) t (v ∷ []) e h = absurd h.0
 typed (bool_type n ∷ []) t [] e h = absurd h
 typed (bool_type n ∷ []) t (v ∷ w ∷ vs) e h = absurd h.1
@@ -44,15 +46,18 @@ only {A} P x a = by a.0 a.1 a.2 a.3 a.4
     by zero y h e p = subst P (sym e) p
     by (suc k) y h e p = absurd (omega arith)
 
-nullable : (ts : List LogicalType) (t : LogicalType) → same_bool ts ≡ Some t → Any (λ a. is_nullable a ≡ true) ts → is_nullable t ≡ true
+nullable : (ts : List LogicalType) (t : LogicalType) → same_bool ts ≡ Some t
+    → Any (λ a. is_nullable a ≡ true) ts → is_nullable t ≡ true
 nullable (bool_type n ∷ []) t e a =
-    let is : bool_type n ≡ t = cc in ap is_nullable (sym is) ∙ only (λ a. is_nullable a ≡ true) (bool_type n) a
+    let is : bool_type n ≡ t = cc in ap is_nullable (sym is)
+    ∙ only (λ a. is_nullable a ≡ true) (bool_type n) a
 nullable ts t e a = cc
 
 of_null : (v : Value) → v ≡ null → GivesNull (must_be_true (v ∷ []))
 of_null v e = subst (λ (w : Value). GivesNull (must_be_true (w ∷ []))) (sym e) refl
 
-nulls : (ts : List LogicalType) (t : LogicalType) (vs : List Value) → same_bool ts ≡ Some t → HaveTypes ts vs → Any (λ v. v ≡ null) vs → GivesNull (must_be_true vs)
+nulls : (ts : List LogicalType) (t : LogicalType) (vs : List Value) → same_bool ts ≡ Some t
+    → HaveTypes ts vs → Any (λ v. v ≡ null) vs → GivesNull (must_be_true vs)
 nulls (bool_type n ∷ []) t (v ∷ []) e h a = of_null v (only (λ w. w ≡ null) v a)
 nulls (bool_type n ∷ []) t [] e h a = absurd h
 nulls (bool_type n ∷ []) t (v ∷ w ∷ vs) e h a = absurd h.1

@@ -56,3 +56,27 @@ fn an_unknown_column_is_refused(rt: HostRuntime) {
     let alloc = rt.alloc();
     assert!(rt; is_refused(leaf::<NoCustom>(alloc, "c"), "ScopeMismatch"));
 }
+
+/// Whether a word of scripts names the operator.
+fn names(word: &str, wanted: Operator) -> bool {
+    match ScalarFnRef::<NoCustom>::named(word) {
+        Some(function) => function.as_binary() == Some(wanted),
+        None => false,
+    }
+}
+
+/// Whether a word of scripts names Not.
+fn names_not(word: &str) -> bool {
+    match ScalarFnRef::<NoCustom>::named(word) {
+        Some(function) => function.is_not(),
+        None => false,
+    }
+}
+
+#[test]
+fn words_name_functions(rt: HostRuntime) {
+    assert!(rt; names("and", Operator::And));
+    assert!(rt; names("<=", Operator::Lte));
+    assert!(rt; names_not("not"));
+    assert!(rt; ScalarFnRef::<NoCustom>::named("xor").is_none());
+}

@@ -1,7 +1,7 @@
 //! A caller's function with options that have a text.
 ghost use Rattle.std.specs.Prelude.{codes};
-ghost use Rattle.vortex_meaning.specs.Shipped.{negation, shipped_meaning};
-ghost use Rattle.vortex_meaning.specs.ShippedLaws.{shipped_lawful};
+ghost use Rattle.vortex_meaning.specs.Shipped.{shipped_meaning, shipped_lawful};
+ghost use Rattle.vortex_meaning.specs.Shipped as shipped;
 
 use std::alloc::Global;
 use std::fmt;
@@ -29,7 +29,7 @@ pub struct Levelled;
 impl ScalarFnVTable for Levelled {
     type Options = Level;
 
-    ghost meaning = { shipped_meaning (codes "test.levelled") (λ _. negation) };
+    ghost meaning = { shipped_meaning (codes "test.levelled") (λ _. shipped.Not) };
 
     fn id(&self) -> ScalarFnId {
         "test.levelled"
@@ -72,5 +72,5 @@ impl ScalarFnVTable for Levelled {
         Ok(Level { level: level.level })
     }
 
-    ghost lawful = { shipped_lawful (codes "test.levelled") (λ _. negation) };
+    ghost lawful = { shipped_lawful (codes "test.levelled") (λ _. shipped.Not) };
 }

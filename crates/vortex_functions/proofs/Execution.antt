@@ -21,117 +21,169 @@ use Rattle.vortex_meaning.specs.Eval.{tree_type, tree_types, with_type, types_or
 use Rattle.vortex_meaning.specs.Execution.{LeavesFit, AllLeavesFit, other_length}
 
 -- each tree's rows stand in the column beside it
-abbrev pub AllHaveRows : {V O : Type 0} → Meaning V O → List ColumnView → ℕ → List (Tree V O) → List ColumnView → Type 0
+abbrev pub AllHaveRows : {V O : Type 0} → Meaning V O → List ColumnView → ℕ → List (Tree V O)
+    → List ColumnView → Type 0
 AllHaveRows m cs n [] [] = ⊤
 AllHaveRows m cs n (t ∷ ts) (d ∷ ds) = HasTreeRows m cs n t d × AllHaveRows m cs n ts ds
 AllHaveRows m cs n [] (d ∷ ds) = ⊥
 AllHaveRows m cs n (t ∷ ts) [] = ⊥
 
-where_true : (b : Bool) (o : Option LogicalType) (t : LogicalType) → (if b then o else None) ≡ Some t → (b ≡ true) × (o ≡ Some t)
+where_true : (b : Bool) (o : Option LogicalType) (t : LogicalType)
+    → (if b then o else None) ≡ Some t → (b ≡ true) × (o ≡ Some t)
 where_true true o t e = (refl, e)
 where_true false o t e = cc
 
 module _ {V O : Type 0} where
-  pub fits_at : (cs : List ColumnView) (ts : List (Tree V O)) (i : ℕ) (t : Tree V O) → AllLeavesFit cs (trees_of ts) → i < length ts → t ≡ get_or ts i t → LeavesFit cs t
+  pub fits_at : (cs : List ColumnView) (ts : List (Tree V O)) (i : ℕ) (t : Tree V O)
+      → AllLeavesFit cs (trees_of ts) → i < length ts → t ≡ get_or ts i t → LeavesFit cs t
   fits_at cs [] i t h lt e = absurd (omega arith)
   fits_at cs (x ∷ xs) zero t h lt e = subst (λ (y : Tree V O). LeavesFit cs y) (sym e) h.0
   fits_at cs (x ∷ xs) (suc i) t h lt e = fits_at cs xs i t h.1 (omega arith) e
 
-  pub fits_more : (cs : List ColumnView) (ts : List (Tree V O)) (i : ℕ) (t : Tree V O) → AllLeavesFit cs (trees_of (take i ts)) → i < length ts → t ≡ get_or ts i t → LeavesFit cs t → AllLeavesFit cs (trees_of (take (suc i) ts))
+  pub fits_more : (cs : List ColumnView) (ts : List (Tree V O)) (i : ℕ) (t : Tree V O)
+      → AllLeavesFit cs (trees_of (take i ts)) → i < length ts → t ≡ get_or ts i t → LeavesFit cs t
+      → AllLeavesFit cs (trees_of (take (suc i) ts))
   fits_more cs [] i t h lt e q = absurd (omega arith)
   fits_more cs (x ∷ xs) zero t h lt e q = (subst (λ (y : Tree V O). LeavesFit cs y) e q, tt)
   fits_more cs (x ∷ xs) (suc i) t h lt e q = (h.0, fits_more cs xs i t h.1 (omega arith) e q)
 
-  pub child_smaller : (ts : List (Tree V O)) (i : ℕ) (t : Tree V O) → i < length ts → t ≡ get_or ts i t → node_count t ≤ nodes_count (trees_of ts)
+  pub child_smaller : (ts : List (Tree V O)) (i : ℕ) (t : Tree V O) → i < length ts
+      → t ≡ get_or ts i t → node_count t ≤ nodes_count (trees_of ts)
   child_smaller [] i t lt e = absurd (omega arith)
-  child_smaller (x ∷ xs) zero t lt e = let q : node_count t ≡ node_count x = ap node_count e in omega arith
+  child_smaller (x ∷ xs) zero t lt e =
+      let q : node_count t ≡ node_count x = ap node_count e in omega arith
   child_smaller (x ∷ xs) (suc i) t lt e =
-      let q : node_count t ≤ nodes_count (trees_of xs) = child_smaller xs i t (omega arith) e in omega arith
+      let q : node_count t ≤ nodes_count (trees_of xs) = child_smaller xs i t (omega arith) e in
+      omega arith
 
   module _ (m : Meaning V O) where
-    pub types_more : (ts : List (Tree V O)) (ks : List LogicalType) (i : ℕ) (t : Tree V O) (k : LogicalType) → tree_types m (trees_of (take i ts)) ≡ Some ks → i < length ts → t ≡ get_or ts i t → tree_type m t ≡ Some k → tree_types m (trees_of (take (suc i) ts)) ≡ Some (ks ++ k ∷ [])
+    pub types_more : (ts : List (Tree V O)) (ks : List LogicalType) (i : ℕ) (t : Tree V O)
+        (k : LogicalType)
+        → tree_types m (trees_of (take i ts)) ≡ Some ks → i < length ts → t ≡ get_or ts i t
+        → tree_type m t ≡ Some k → tree_types m (trees_of (take (suc i) ts)) ≡ Some (ks ++ k ∷ [])
     types_more ts ks i t k h lt e q = go ts ks i h lt e
       where
-        one : (x : Tree V O) (o : Option (List LogicalType)) → tree_type m x ≡ Some k → o ≡ Some [] → with_type (tree_type m x) o ≡ Some (k ∷ [])
+        one : (x : Tree V O) (o : Option (List LogicalType)) → tree_type m x ≡ Some k
+            → o ≡ Some [] → with_type (tree_type m x) o ≡ Some (k ∷ [])
         one x o p r = λ j. with_type (p j) (r j)
 
-        parts : (a : Option LogicalType) (o : Option (List LogicalType)) (js : List LogicalType) → with_type a o ≡ Some js → (j : LogicalType) × (rest : List LogicalType) × (a ≡ Some j) × (o ≡ Some rest) × (js ≡ j ∷ rest)
+        parts : (a : Option LogicalType) (o : Option (List LogicalType)) (js : List LogicalType)
+            → with_type a o ≡ Some js
+            → (j : LogicalType) × (rest : List LogicalType) × (a ≡ Some j) × (o ≡ Some rest) ×
+            (js ≡ j ∷ rest)
         parts None o js p = cc
         parts (Some a) None js p = cc
         parts (Some a) (Some rest) js p = (a, rest, refl, refl, cc)
 
-        go : (xs : List (Tree V O)) (js : List LogicalType) (l : ℕ) → tree_types m (trees_of (take l xs)) ≡ Some js → l < length xs → t ≡ get_or xs l t → tree_types m (trees_of (take (suc l) xs)) ≡ Some (js ++ k ∷ [])
+        go : (xs : List (Tree V O)) (js : List LogicalType) (l : ℕ)
+            → tree_types m (trees_of (take l xs)) ≡ Some js → l < length xs → t ≡ get_or xs l t
+            → tree_types m (trees_of (take (suc l) xs)) ≡ Some (js ++ k ∷ [])
         go [] js l p r s = absurd (omega arith)
         go (x ∷ xs) js zero p r s =
             let none : js ≡ [] = cc in
-            one x (Some []) (ap (tree_type m) (sym s) ∙ q) refl ∙ ap (λ (ys : List LogicalType). Some (ys ++ k ∷ [])) (sym none)
+            one x (Some []) (ap (tree_type m) (sym s) ∙ q) refl
+            ∙ ap (λ (ys : List LogicalType). Some (ys ++ k ∷ [])) (sym none)
         go (x ∷ xs) js (suc l) p r s =
             let w = parts (tree_type m x) (tree_types m (trees_of (take l xs))) js p in
-            (λ j. with_type (w.2 j) (go xs w.1 l w.3 (omega arith) s j)) ∙ ap (λ (ys : List LogicalType). Some (ys ++ k ∷ [])) (sym w.4)
+            (λ j. with_type (w.2 j) (go xs w.1 l w.3 (omega arith) s j))
+            ∙ ap (λ (ys : List LogicalType). Some (ys ++ k ∷ [])) (sym w.4)
 
     module _ (cs : List ColumnView) (n : ℕ) where
       settled : (t : Tree V O) (d : ColumnView) → HasTreeRows m cs n t d → Settled m cs n t
       settled t d h i lt = subst GivesValue (sym (h.each i lt)) tt
 
-      pub faults_at : (ts : List (Tree V O)) (ds : List ColumnView) (i : ℕ) (t : Tree V O) (e : VortexError) → AllHaveRows m cs n (take i ts) ds → i < length ts → t ≡ get_or ts i t → IsFirstFault m cs n t e → IsFirstFaultIn m cs n (trees_of ts) e
+      pub faults_at : (ts : List (Tree V O)) (ds : List ColumnView) (i : ℕ) (t : Tree V O)
+          (e : VortexError)
+          → AllHaveRows m cs n (take i ts) ds → i < length ts → t ≡ get_or ts i t
+          → IsFirstFault m cs n t e → IsFirstFaultIn m cs n (trees_of ts) e
       faults_at [] ds i t e h lt q r = absurd (omega arith)
-      faults_at (x ∷ xs) ds zero t e h lt q r = inl (subst (λ (y : Tree V O). IsFirstFault m cs n y e) q r)
+      faults_at (x ∷ xs) ds zero t e h lt q r =
+          inl (subst (λ (y : Tree V O). IsFirstFault m cs n y e) q r)
       faults_at (x ∷ xs) [] (suc i) t e h lt q r = absurd h
       faults_at (x ∷ xs) (d ∷ ds) (suc i) t e h lt q r =
           inr (settled x d h.0, faults_at xs ds i t e h.1 (omega arith) q r)
 
-      pub more_rows : (ts : List (Tree V O)) (ds : List ColumnView) (i : ℕ) (t : Tree V O) (d : ColumnView) → AllHaveRows m cs n (take i ts) ds → i < length ts → t ≡ get_or ts i t → HasTreeRows m cs n t d → AllHaveRows m cs n (take (suc i) ts) (ds ++ d ∷ [])
+      pub more_rows : (ts : List (Tree V O)) (ds : List ColumnView) (i : ℕ) (t : Tree V O)
+          (d : ColumnView)
+          → AllHaveRows m cs n (take i ts) ds → i < length ts → t ≡ get_or ts i t
+          → HasTreeRows m cs n t d → AllHaveRows m cs n (take (suc i) ts) (ds ++ d ∷ [])
       more_rows [] ds i t d h lt q r = absurd (omega arith)
-      more_rows (x ∷ xs) [] zero t d h lt q r = (subst (λ (y : Tree V O). HasTreeRows m cs n y d) q r, tt)
+      more_rows (x ∷ xs) [] zero t d h lt q r =
+          (subst (λ (y : Tree V O). HasTreeRows m cs n y d) q r, tt)
       more_rows (x ∷ xs) (c ∷ ds) zero t d h lt q r = absurd h
       more_rows (x ∷ xs) [] (suc i) t d h lt q r = absurd h
-      more_rows (x ∷ xs) (c ∷ ds) (suc i) t d h lt q r = (h.0, more_rows xs ds i t d h.1 (omega arith) q r)
+      more_rows (x ∷ xs) (c ∷ ds) (suc i) t d h lt q r =
+          (h.0, more_rows xs ds i t d h.1 (omega arith) q r)
 
-      pub types_are : (ts : List (Tree V O)) (ds : List ColumnView) → AllHaveRows m cs n ts ds → tree_types m (trees_of ts) ≡ Some (types_in ds)
+      pub types_are : (ts : List (Tree V O)) (ds : List ColumnView) → AllHaveRows m cs n ts ds
+          → tree_types m (trees_of ts) ≡ Some (types_in ds)
       types_are [] [] h = refl
       types_are [] (d ∷ ds) h = absurd h
       types_are (t ∷ ts) [] h = absurd h
       types_are (t ∷ ts) (d ∷ ds) h = λ j. with_type (h.0.dtype j) (types_are ts ds h.1 j)
 
-      pub counts_are : (ts : List (Tree V O)) (ds : List ColumnView) → AllHaveRows m cs n ts ds → (k : ℕ) (d : ColumnView) → k < length ds → length (get_or ds k d).rows ≡ n
+      pub counts_are : (ts : List (Tree V O)) (ds : List ColumnView) → AllHaveRows m cs n ts ds
+          → (k : ℕ) (d : ColumnView) → k < length ds → length (get_or ds k d).rows ≡ n
       counts_are [] [] h k d lt = absurd (omega arith)
       counts_are [] (x ∷ ds) h k d lt = absurd h
       counts_are (t ∷ ts) [] h k d lt = absurd h
       counts_are (t ∷ ts) (x ∷ ds) h zero d lt = h.0.count
       counts_are (t ∷ ts) (x ∷ ds) h (suc k) d lt = counts_are ts ds h.1 k d (omega arith)
 
-      inputs_are : (ts : List (Tree V O)) (ds : List ColumnView) → AllHaveRows m cs n ts ds → (i : ℕ) → i < n → eval_all m cs (trees_of ts) i ≡ all_give (values_at ds i)
+      inputs_are : (ts : List (Tree V O)) (ds : List ColumnView) → AllHaveRows m cs n ts ds
+          → (i : ℕ) → i < n → eval_all m cs (trees_of ts) i ≡ all_give (values_at ds i)
       inputs_are [] [] h i lt = refl
       inputs_are [] (d ∷ ds) h i lt = absurd h
       inputs_are (t ∷ ts) [] h i lt = absurd h
       inputs_are (t ∷ ts) (d ∷ ds) h i lt = rw (h.0.each i lt, inputs_are ts ds h.1 i lt) refl
 
-      all_settled : (ts : List (Tree V O)) (ds : List ColumnView) → AllHaveRows m cs n ts ds → AllSettled m cs n (trees_of ts)
+      all_settled : (ts : List (Tree V O)) (ds : List ColumnView) → AllHaveRows m cs n ts ds
+          → AllSettled m cs n (trees_of ts)
       all_settled [] [] h = tt
       all_settled [] (d ∷ ds) h = absurd h
       all_settled (t ∷ ts) [] h = absurd h
       all_settled (t ∷ ts) (d ∷ ds) h = (settled t d h.0, all_settled ts ds h.1)
 
       -- a call's row over its children's columns is the tree's row
-      row_is : (f : Function V O) (ts : List (Tree V O)) (ds : List ColumnView) → AllHaveRows m cs n ts ds → (i : ℕ) → i < n → eval m cs (call f (trees_of ts)) i ≡ call_row (function_means m f) ds i
+      row_is : (f : Function V O) (ts : List (Tree V O)) (ds : List ColumnView)
+          → AllHaveRows m cs n ts ds → (i : ℕ) → i < n
+          → eval m cs (call f (trees_of ts)) i ≡ call_row (function_means m f) ds i
       row_is f ts ds h i lt =
-          λ j. then_means (function_means m f (types_or_none (types_are ts ds h j))) (inputs_are ts ds h i lt j)
+          λ j. then_means (function_means m f (types_or_none (types_are ts ds h j)))
+          (inputs_are ts ds h i lt j)
 
       -- what a well-typed call over such columns meets
-      pub accepted : (f : Function V O) (ts : List (Tree V O)) (ds : List ColumnView) (k : LogicalType) → AllHaveRows m cs n ts ds → tree_type m (call f (trees_of ts)) ≡ Some k → (fits (function_arity m f) (length ds) ≡ true) × (function_type m f (types_in ds) ≡ Some k)
+      pub accepted : (f : Function V O) (ts : List (Tree V O)) (ds : List ColumnView)
+          (k : LogicalType)
+          → AllHaveRows m cs n ts ds → tree_type m (call f (trees_of ts)) ≡ Some k
+          → (fits (function_arity m f) (length ds) ≡ true) ×
+          (function_type m f (types_in ds) ≡ Some k)
       accepted f ts ds k h e =
-          let typed : call_type m f (types_in ds) ≡ Some k = ap (option_and_then (call_type m f)) (sym (types_are ts ds h)) ∙ e in
-          let p = where_true (fits (function_arity m f) (length (types_in ds))) (function_type m f (types_in ds)) k typed in
-          (ap (λ c. fits (function_arity m f) c) (sym (length-map ds (λ (d : ColumnView). d.dtype))) ∙ p.0, p.1)
+          let typed : call_type m f (types_in ds) ≡ Some k =
+          ap (option_and_then (call_type m f)) (sym (types_are ts ds h)) ∙ e in
+          let p =
+          where_true (fits (function_arity m f) (length (types_in ds)))
+          (function_type m f (types_in ds)) k typed in (
+            ap (λ c. fits (function_arity m f) c) (sym (length-map ds (λ (d : ColumnView). d.dtype)))
+                ∙ p.0,
+            p.1,
+          )
 
-      call_rows : (f : Function V O) (ts : List (Tree V O)) (ds : List ColumnView) (c : ColumnView) (k : LogicalType) → AllHaveRows m cs n ts ds → tree_type m (call f (trees_of ts)) ≡ Some k → HasCallRows (function_type m f) (function_means m f) ds n c → HasTreeRows m cs n (call f (trees_of ts)) c
+      call_rows : (f : Function V O) (ts : List (Tree V O)) (ds : List ColumnView)
+          (c : ColumnView) (k : LogicalType)
+          → AllHaveRows m cs n ts ds → tree_type m (call f (trees_of ts)) ≡ Some k
+          → HasCallRows (function_type m f) (function_means m f) ds n c
+          → HasTreeRows m cs n (call f (trees_of ts)) c
       call_rows f ts ds c k h e r = record {
         dtype = e ∙ sym ((accepted f ts ds k h e).1) ∙ r.dtype;
         count = r.count;
         each = λ i lt. row_is f ts ds h i lt ∙ r.each i lt;
       }
 
-      call_faults : (f : Function V O) (ts : List (Tree V O)) (ds : List ColumnView) (e : VortexError) → AllHaveRows m cs n ts ds → IsCallFault (function_means m f) ds n e → IsFirstFault m cs n (call f (trees_of ts)) e
+      call_faults : (f : Function V O) (ts : List (Tree V O)) (ds : List ColumnView)
+          (e : VortexError)
+          → AllHaveRows m cs n ts ds → IsCallFault (function_means m f) ds n e
+          → IsFirstFault m cs n (call f (trees_of ts)) e
       call_faults f ts ds e h r =
           inr (
             all_settled ts ds h,
@@ -145,28 +197,44 @@ module _ {V O : Type 0} where
           )
 
       -- the same for a tree that is known to be a call
-      module _ (self : Tree V O) (f : Function V O) (ts : List (Tree V O)) (is : self ≡ call f (trees_of ts)) where
-        pub child_faults : (ds : List ColumnView) (i : ℕ) (t : Tree V O) (e : VortexError) → AllHaveRows m cs n (take i ts) ds → i < length ts → t ≡ get_or ts i t → UnlessMemory (IsFirstFault m cs n t) e → UnlessMemory (IsFirstFault m cs n self) e
+      module _ (self : Tree V O) (f : Function V O) (ts : List (Tree V O))
+          (is : self ≡ call f (trees_of ts)) where
+        pub child_faults : (ds : List ColumnView) (i : ℕ) (t : Tree V O) (e : VortexError)
+            → AllHaveRows m cs n (take i ts) ds → i < length ts → t ≡ get_or ts i t
+            → UnlessMemory (IsFirstFault m cs n t) e → UnlessMemory (IsFirstFault m cs n self) e
         child_faults ds i t e h lt q r =
-            UnlessMemory-weaker (IsFirstFault m cs n t) (IsFirstFault m cs n self) (λ d p. subst (λ (s : Tree V O). IsFirstFault m cs n s d) (sym is) (inl (faults_at ts ds i t d h lt q p))) e r
+            UnlessMemory-weaker (IsFirstFault m cs n t) (IsFirstFault m cs n self)
+            (λ d p. subst (λ (s : Tree V O). IsFirstFault m cs n s d) (sym is)
+            (inl (faults_at ts ds i t d h lt q p))) e r
 
-        pub self_faults : (ds : List ColumnView) (e : VortexError) → AllHaveRows m cs n ts ds → UnlessMemory (IsCallFault (function_means m f) ds n) e → UnlessMemory (IsFirstFault m cs n self) e
+        pub self_faults : (ds : List ColumnView) (e : VortexError) → AllHaveRows m cs n ts ds
+            → UnlessMemory (IsCallFault (function_means m f) ds n) e
+            → UnlessMemory (IsFirstFault m cs n self) e
         self_faults ds e h r =
-            UnlessMemory-weaker (IsCallFault (function_means m f) ds n) (IsFirstFault m cs n self) (λ d p. subst (λ (s : Tree V O). IsFirstFault m cs n s d) (sym is) (call_faults f ts ds d h p)) e r
+            UnlessMemory-weaker (IsCallFault (function_means m f) ds n) (IsFirstFault m cs n self)
+            (λ d p. subst (λ (s : Tree V O). IsFirstFault m cs n s d) (sym is)
+            (call_faults f ts ds d h p)) e r
 
-        pub self_rows : (ds : List ColumnView) (c : ColumnView) (k : LogicalType) → AllHaveRows m cs n ts ds → tree_type m self ≡ Some k → HasCallRows (function_type m f) (function_means m f) ds n c → HasTreeRows m cs n self c
+        pub self_rows : (ds : List ColumnView) (c : ColumnView) (k : LogicalType)
+            → AllHaveRows m cs n ts ds → tree_type m self ≡ Some k
+            → HasCallRows (function_type m f) (function_means m f) ds n c → HasTreeRows m cs n self c
         self_rows ds c k h e r =
-            subst (λ (s : Tree V O). HasTreeRows m cs n s c) (sym is) (call_rows f ts ds c k h (ap (tree_type m) (sym is) ∙ e) r)
+            subst (λ (s : Tree V O). HasTreeRows m cs n s c) (sym is)
+            (call_rows f ts ds c k h (ap (tree_type m) (sym is) ∙ e) r)
 
-        pub child_fits : (i : ℕ) (t : Tree V O) → LeavesFit cs self → i < length ts → t ≡ get_or ts i t → LeavesFit cs t
-        child_fits i t h lt e = fits_at cs ts i t (subst (λ (s : Tree V O). LeavesFit cs s) is h) lt e
+        pub child_fits : (i : ℕ) (t : Tree V O) → LeavesFit cs self → i < length ts
+            → t ≡ get_or ts i t → LeavesFit cs t
+        child_fits i t h lt e =
+            fits_at cs ts i t (subst (λ (s : Tree V O). LeavesFit cs s) is h) lt e
 
-where_none : (b : Bool) (o : Option ℕ) (l : ℕ) → (if b then o else Some l) ≡ None → (b ≡ true) × (o ≡ None)
+where_none : (b : Bool) (o : Option ℕ) (l : ℕ) → (if b then o else Some l) ≡ None
+    → (b ≡ true) × (o ≡ None)
 where_none true o l e = (refl, e)
 where_none false o l e = cc
 
 -- columns that all have the row count
-pub same_length : (n : ℕ) (cs : List ColumnView) (p : ℕ) (c : ColumnView) → other_length n cs ≡ None → slice_get cs p ≡ Some c → length c.rows ≡ n
+pub same_length : (n : ℕ) (cs : List ColumnView) (p : ℕ) (c : ColumnView)
+    → other_length n cs ≡ None → slice_get cs p ≡ Some c → length c.rows ≡ n
 same_length n [] p c h e = cc
 same_length n (x ∷ xs) zero c h e =
     let here : x ≡ c = cc in
@@ -177,9 +245,13 @@ same_length n (x ∷ xs) (suc p) c h e =
     same_length n xs p c first.1 e
 
 -- a column leaf's column
-pub leaf_rows : {V O : Type 0} (m : Meaning V O) (cs : List ColumnView) (n : ℕ) (self : Tree V O) (p : ℕ) (name : List ℕ) (k : LogicalType) (c : ColumnView) → self ≡ leaf (place p name k) → LeavesFit cs self → other_length n cs ≡ None → c ≡ get_or cs p c → HasTreeRows m cs n self c
+pub leaf_rows : {V O : Type 0} (m : Meaning V O) (cs : List ColumnView) (n : ℕ) (self : Tree V O)
+    (p : ℕ) (name : List ℕ) (k : LogicalType) (c : ColumnView)
+    → self ≡ leaf (place p name k) → LeavesFit cs self → other_length n cs ≡ None → c ≡ get_or cs p c
+    → HasTreeRows m cs n self c
 leaf_rows {V} {O} m cs n self p name k c is fit lengths e =
-    let h : LeavesFit {V = V} {O = O} cs (leaf (place p name k)) = subst (λ (t : Tree V O). LeavesFit cs t) is fit in
+    let h : LeavesFit {V = V} {O = O} cs (leaf (place p name k)) =
+    subst (λ (t : Tree V O). LeavesFit cs t) is fit in
     let q : h.0 ≡ c = sym (get_or_from_slice_get cs p h.0 c h.1) ∙ sym e in
     let found : slice_get cs p ≡ Some c = h.1 ∙ ap Some q in
     subst (λ (t : Tree V O). HasTreeRows m cs n t c) (sym is) (record {
@@ -189,11 +261,17 @@ leaf_rows {V} {O} m cs n self p name k c is fit lengths e =
     })
 
 -- a literal's column
-pub constant_rows : {V O : Type 0} (m : Meaning V O) (cs : List ColumnView) (n : ℕ) (self : Tree V O) (s : ScalarView) (c : ColumnView) → self ≡ constant s → c ≡ constant_column s n → HasTreeRows m cs n self c
+pub constant_rows : {V O : Type 0} (m : Meaning V O) (cs : List ColumnView) (n : ℕ)
+    (self : Tree V O) (s : ScalarView) (c : ColumnView)
+    → self ≡ constant s → c ≡ constant_column s n → HasTreeRows m cs n self c
 constant_rows {V} {O} m cs n self s c is e =
     subst (λ (t : Tree V O). HasTreeRows m cs n t c) (sym is) (record {
       dtype = ap (λ (d : ColumnView). Some d.dtype) (sym e);
-      count = ap (λ (d : ColumnView). length d.rows) e ∙ length-map-range_with_len (λ i. s.value) 0 n;
+      count =
+          ap (λ (d : ColumnView). length d.rows) e ∙ length-map-range_with_len (λ i. s.value) 0 n;
       each = λ i lt.
-          ap gives (sym (ap (λ (d : ColumnView). row d.rows i) e ∙ get_or-map-range_with_len (λ k. s.value) 0 n i i null lt (omega arith)));
+          ap gives
+          (sym
+          (ap (λ (d : ColumnView). row d.rows i) e
+          ∙ get_or-map-range_with_len (λ k. s.value) 0 n i i null lt (omega arith)));
     })

@@ -1,5 +1,3 @@
-pub mod InputLemmas
-pub mod Calls
 pub mod FixedColumn
 pub mod TreeLists
 pub mod Execution

@@ -4,30 +4,53 @@ use Rattle.std.specs.Prelude.{List, slice_get}
 use Rattle.vortex_types.specs.LogicalTypes.{LogicalType}
 use Rattle.vortex_types.specs.TypeEquality.{type_eq, type_eq-decides}
 use Rattle.vortex_columns.specs.ColumnView.{ColumnView}
-use Rattle.vortex_meaning.specs.Trees.{place}
+use Rattle.vortex_meaning.specs.Meaning.{Meaning}
+use Rattle.vortex_meaning.specs.Functions.{Function}
+use Rattle.vortex_meaning.specs.Trees.{Tree, place, call, trees_of}
+use Rattle.vortex_meaning.specs.Eval.{tree_type}
 use Rattle.vortex_meaning.specs.Execution.{LeafFits}
 
 -- an answer no, by what a yes would need
 pub refuted : (b : Bool) (P Q : Type 0) → b ≡ false → (IsTrue b ↔ P) → (Q → P) → IsTrue false ↔ Q
-refuted b P Q e iff needs = (λ h. absurd (true≢false (sym h)), λ q. absurd (true≢false (sym (iff.1 (needs q)) ∙ e)))
+refuted b P Q e iff needs =
+    (λ h. absurd (true≢false (sym h)), λ q. absurd (true≢false (sym (iff.1 (needs q)) ∙ e)))
 
 pub never : (Q : Type 0) → (Q → ⊥) → IsTrue false ↔ Q
 never Q refuses = (λ h. absurd (true≢false (sym h)), λ q. absurd (refuses q))
 
 -- whether a column is of the leaf's type
-pub leaf_fits : (cs : List ColumnView) (p : ℕ) (name : List ℕ) (t : LogicalType) (c : ColumnView) (b : Bool) → slice_get cs p ≡ Some c → b ≡ type_eq c.dtype t → IsTrue b ↔ LeafFits cs (place p name t)
+pub leaf_fits : (cs : List ColumnView) (p : ℕ) (name : List ℕ) (t : LogicalType) (c : ColumnView)
+    (b : Bool)
+    → slice_get cs p ≡ Some c → b ≡ type_eq c.dtype t → IsTrue b ↔ LeafFits cs (place p name t)
 leaf_fits cs p name t c b found e = (
   λ h. (c, found, (type_eq-decides c.dtype t).0 (sym e ∙ h)),
-  λ h. e ∙ (type_eq-decides c.dtype t).1 (let same : h.0 ≡ c = some_same h.0 c (sym h.1 ∙ found) in ap (λ (d : ColumnView). d.dtype) (sym same) ∙ h.2),
+  λ h. e ∙ (type_eq-decides c.dtype t).1
+      (let same : h.0 ≡ c = some_same h.0 c (sym h.1 ∙ found) in ap (λ (d : ColumnView). d.dtype)
+      (sym same)
+      ∙ h.2),
 )
   where
     some_same : (x y : ColumnView) → Some x ≡ Some y → x ≡ y
     some_same x y q = cc
 
-pub no_leaf : (cs : List ColumnView) (p : ℕ) (name : List ℕ) (t : LogicalType) → slice_get cs p ≡ None → LeafFits cs (place p name t) → ⊥
+pub no_leaf : (cs : List ColumnView) (p : ℕ) (name : List ℕ) (t : LogicalType)
+    → slice_get cs p ≡ None → LeafFits cs (place p name t) → ⊥
 no_leaf cs p name t e h = let here : slice_get cs p ≡ Some h.0 = h.1 in cc
 
 pub past_end : (cs : List ColumnView) (p : ℕ) → length cs ≤ p → slice_get cs p ≡ None
 past_end [] p h = refl
 past_end (c ∷ cs) zero h = absurd (omega arith)
 past_end (c ∷ cs) (suc p) h = past_end cs p (omega arith)
+
+module _ {V O : Type 0} where
+  -- a tree that was opened as a call, whose children are read as a list
+  pub opened_call : (self seen : Tree V O) (f : Function V O) (items ts : List (Tree V O))
+      → seen ≡ self → seen ≡ call f (trees_of items) → ts ≡ items → self ≡ call f (trees_of ts)
+  opened_call self seen f items ts v e h =
+      sym v ∙ e ∙ ap (λ (xs : List (Tree V O)). call f (trees_of xs)) (sym h)
+
+  pub opened_type : (m : Meaning V O) (f : Function V O) (items ts : List (Tree V O)) (k : LogicalType)
+      → tree_type m (call f (trees_of items)) ≡ Some k → ts ≡ items
+      → tree_type m (call f (trees_of ts)) ≡ Some k
+  opened_type m f items ts k e h =
+      ap (λ (xs : List (Tree V O)). tree_type m (call f (trees_of xs))) h ∙ e

@@ -13,11 +13,14 @@ use Rattle.vortex_meaning.specs.Eval.{tree_type, tree_types}
 use Rattle.vortex_meaning.specs.Printing.{literal_text, tree_text, tree_texts, with_text, function_text}
 use Rattle.vortex_functions.proofs.Bound.{type_count}
 
-where_fits : (b : Bool) (o : Option LogicalType) (t : LogicalType) → (if b then o else None) ≡ Some t → b ≡ true
+where_fits : (b : Bool) (o : Option LogicalType) (t : LogicalType)
+    → (if b then o else None) ≡ Some t → b ≡ true
 where_fits true o t e = refl
 where_fits false o t e = cc
 
-parts : (a : Option (List ℕ)) (o : Option (List (List ℕ))) (js : List (List ℕ)) → with_text a o ≡ Some js → (j : List ℕ) × (rest : List (List ℕ)) × (a ≡ Some j) × (o ≡ Some rest) × (js ≡ j ∷ rest)
+parts : (a : Option (List ℕ)) (o : Option (List (List ℕ))) (js : List (List ℕ))
+    → with_text a o ≡ Some js
+    → (j : List ℕ) × (rest : List (List ℕ)) × (a ≡ Some j) × (o ≡ Some rest) × (js ≡ j ∷ rest)
 parts None o js p = cc
 parts (Some a) None js p = cc
 parts (Some a) (Some rest) js p = (a, rest, refl, refl, cc)
@@ -25,9 +28,14 @@ parts (Some a) (Some rest) js p = (a, rest, refl, refl, cc)
 module _ {V O : Type 0} where
   -- the texts of the trees, where each has one
   abbrev pub AreTexts : List (Tree V O) → List (List ℕ) → Type 0
-  AreTexts ts texts = (length texts ≡ length ts) × ((ks : List (List ℕ)) → tree_texts (trees_of ts) ≡ Some ks → texts ≡ ks)
+  AreTexts ts texts =
+      (length texts ≡ length ts) ×
+      ((ks : List (List ℕ)) → tree_texts (trees_of ts) ≡ Some ks → texts ≡ ks)
 
-  split : (ts : List (Tree V O)) (i : ℕ) (t : Tree V O) (js : List (List ℕ)) → i < length ts → t ≡ get_or ts i t → tree_texts (trees_of (take (suc i) ts)) ≡ Some js → (ks : List (List ℕ)) × (k : List ℕ) × (tree_texts (trees_of (take i ts)) ≡ Some ks) × (tree_text t ≡ Some k) × (js ≡ ks ++ k ∷ [])
+  split : (ts : List (Tree V O)) (i : ℕ) (t : Tree V O) (js : List (List ℕ)) → i < length ts
+      → t ≡ get_or ts i t → tree_texts (trees_of (take (suc i) ts)) ≡ Some js
+      → (ks : List (List ℕ)) × (k : List ℕ) × (tree_texts (trees_of (take i ts)) ≡ Some ks) ×
+      (tree_text t ≡ Some k) × (js ≡ ks ++ k ∷ [])
   split [] i t js lt e p = absurd (omega arith)
   split (x ∷ xs) zero t js lt e p =
       let w = parts (tree_text x) (Some []) js p in
@@ -38,10 +46,19 @@ module _ {V O : Type 0} where
       some_same a b q = cc
   split (x ∷ xs) (suc i) t js lt e p =
       let w = parts (tree_text x) (tree_texts (trees_of (take (suc i) xs))) js p in
-      let r = split xs i t w.1 (omega arith) e w.3 in
-      (w.0 ∷ r.0, r.1, (λ j. with_text (w.2 j) (r.2 j)), r.3, w.4 ∙ ap (λ (q : List (List ℕ)). w.0 ∷ q) r.4)
+      let r = split xs i t w.1 (omega arith) e w.3 in (
+        w.0 ∷ r.0,
+        r.1,
+        (λ j. with_text (w.2 j) (r.2 j)),
+        r.3,
+        w.4
+            ∙ ap (λ (q : List (List ℕ)). w.0 ∷ q) r.4,
+      )
 
-  pub texts_more : (ts : List (Tree V O)) (i : ℕ) (t : Tree V O) (texts : List (List ℕ)) (s : List ℕ) → AreTexts (take i ts) texts → i < length ts → t ≡ get_or ts i t → IfSome (tree_text t) (λ b. s ≡ b) → AreTexts (take (suc i) ts) (texts ++ s ∷ [])
+  pub texts_more : (ts : List (Tree V O)) (i : ℕ) (t : Tree V O) (texts : List (List ℕ))
+      (s : List ℕ)
+      → AreTexts (take i ts) texts → i < length ts → t ≡ get_or ts i t
+      → IfSome (tree_text t) (λ b. s ≡ b) → AreTexts (take (suc i) ts) (texts ++ s ∷ [])
   texts_more ts i t texts s h lt e g = (
     length-append texts (s ∷ []) ∙ omega (arith, h.0, length-take i ts, length-take (suc i) ts),
     λ js p.
@@ -51,23 +68,37 @@ module _ {V O : Type 0} where
   )
 
   -- the text of a tree that is known to be a call
-  pub call_has_text : (self : Tree V O) (f : Function V O) (ts : List (Tree V O)) (texts : List (List ℕ)) (old out : List ℕ) → self ≡ call f (trees_of ts) → AreTexts ts texts → old ≡ [] → IfSome (function_text f texts) (λ b. out ≡ old ++ b) → IfSome (tree_text self) (λ b. out ≡ b)
+  pub call_has_text : (self : Tree V O) (f : Function V O) (ts : List (Tree V O))
+      (texts : List (List ℕ)) (old out : List ℕ)
+      → self ≡ call f (trees_of ts) → AreTexts ts texts → old ≡ []
+      → IfSome (function_text f texts) (λ b. out ≡ old ++ b) → IfSome (tree_text self) (λ b. out ≡ b)
   call_has_text self f ts texts old out is h none g =
-      subst (λ (t : Tree V O). IfSome (tree_text t) (λ b. out ≡ b)) (sym is) (go (tree_texts (trees_of ts)) h.1)
+      subst (λ (t : Tree V O). IfSome (tree_text t) (λ b. out ≡ b)) (sym is)
+      (go (tree_texts (trees_of ts)) h.1)
     where
-      go : (o : Option (List (List ℕ))) → ((ks : List (List ℕ)) → o ≡ Some ks → texts ≡ ks) → IfSome (option_and_then (function_text f) o) (λ b. out ≡ b)
+      go : (o : Option (List (List ℕ))) → ((ks : List (List ℕ)) → o ≡ Some ks → texts ≡ ks)
+          → IfSome (option_and_then (function_text f) o) (λ b. out ≡ b)
       go None q = tt
-      go (Some ks) q = subst (λ xs. IfSome (function_text f xs) (λ b. out ≡ b)) (q ks refl) (subst (λ (o : List ℕ). IfSome (function_text f texts) (λ b. out ≡ o ++ b)) none g)
+      go (Some ks) q =
+          subst (λ xs. IfSome (function_text f xs) (λ b. out ≡ b)) (q ks refl)
+          (subst (λ (o : List ℕ). IfSome (function_text f texts) (λ b. out ≡ o ++ b)) none g)
 
-  pub literal_has_text : (self : Tree V O) (s : ScalarView) (old out : List ℕ) (t : LogicalType) (v : Value) → self ≡ constant s → old ≡ [] → out ≡ old ++ literal_text t v → t ≡ s.dtype → v ≡ s.value → IfSome (tree_text self) (λ b. out ≡ b)
+  pub literal_has_text : (self : Tree V O) (s : ScalarView) (old out : List ℕ) (t : LogicalType)
+      (v : Value)
+      → self ≡ constant s → old ≡ [] → out ≡ old ++ literal_text t v → t ≡ s.dtype → v ≡ s.value
+      → IfSome (tree_text self) (λ b. out ≡ b)
   literal_has_text self s old out t v is none e p q =
-      subst (λ (t : Tree V O). IfSome (tree_text t) (λ b. out ≡ b)) (sym is) (e ∙ ap (λ (o : List ℕ). o ++ literal_text t v) none ∙ (λ j. literal_text (p j) (q j)))
+      subst (λ (t : Tree V O). IfSome (tree_text t) (λ b. out ≡ b)) (sym is)
+      (e ∙ ap (λ (o : List ℕ). o ++ literal_text t v) none ∙ (λ j. literal_text (p j) (q j)))
 
   -- a well-typed call has as many children as fit
-  pub children_fit : (m : Meaning V O) (f : Function V O) (ts : List (Tree V O)) (k : LogicalType) → tree_type m (call f (trees_of ts)) ≡ Some k → fits (function_arity m f) (length ts) ≡ true
+  pub children_fit : (m : Meaning V O) (f : Function V O) (ts : List (Tree V O)) (k : LogicalType)
+      → tree_type m (call f (trees_of ts)) ≡ Some k → fits (function_arity m f) (length ts) ≡ true
   children_fit m f ts k e = go (tree_types m (trees_of ts)) e refl
     where
-      go : (o : Option (List LogicalType)) → option_and_then (call_type m f) o ≡ Some k → tree_types m (trees_of ts) ≡ o → fits (function_arity m f) (length ts) ≡ true
+      go : (o : Option (List LogicalType)) → option_and_then (call_type m f) o ≡ Some k
+          → tree_types m (trees_of ts) ≡ o → fits (function_arity m f) (length ts) ≡ true
       go None e p = cc
       go (Some ks) e p =
-          ap (λ n. fits (function_arity m f) n) (sym (type_count m ts ks p)) ∙ where_fits (fits (function_arity m f) (length ks)) (function_type m f ks) k e
+          ap (λ n. fits (function_arity m f) n) (sym (type_count m ts ks p))
+          ∙ where_fits (fits (function_arity m f) (length ks)) (function_type m f ks) k e

@@ -1,9 +1,10 @@
 -- What binding a leaf or a call answers, and when an answer is lent.
-use Rattle.std.specs.Prelude.{◌≡◌, ℕ, List, Some, None, true, false, length, slice_get}
+use Rattle.std.specs.Prelude.{◌≡◌, ℕ, List, Some, None, true, false, length, slice_get, Result}
 use Rattle.std.specs.declared.borrow.Cow.{Cow}
 use Rattle.std.specs.declared.borrow.Cow.TheVariants as cow
 use Rattle.vortex_types.specs.declared.error.VortexError.{VortexError}
-use Rattle.vortex_types.specs.declared.error.VortexError.TheVariants.{ArityMismatch}
+use Rattle.vortex_types.specs.declared.error.VortexError.TheVariants.{ArityMismatch, ScopeMismatch}
+use Rattle.vortex_types.specs.Answers.{Answers}
 use Rattle.vortex_types.specs.LogicalTypes.{LogicalType, Fields, find_field}
 use Rattle.vortex_columns.specs.ColumnView.{ColumnView}
 use Rattle.vortex_meaning.specs.Meaning.{Meaning, fits}
@@ -12,13 +13,15 @@ use Rattle.vortex_meaning.specs.Trees.{place, Tree, leaf, call, trees_of}
 use Rattle.vortex_meaning.specs.Eval.{tree_types}
 
 -- the leaf of the first field of that name
-pub record IsColumnLeaf {V O : Type 0} (scope : Fields) (name : List ℕ) (t : Tree V O) : Type 0 where
-  pub found : ℕ × LogicalType
-  pub named : find_field name scope ≡ Some found
-  pub is : t ≡ leaf (place found.0 name found.1)
+pub record IsColumnLeaf {V O : Type 0} (scope : Fields) (name : List ℕ) (t : Tree V O) : Type 0
+  where
+    pub found : ℕ × LogicalType
+    pub named : find_field name scope ≡ Some found
+    pub is : t ≡ leaf (place found.0 name found.1)
 
 -- the call of the function on the trees, whose count fits and whose types are accepted
-pub record IsCall {V O : Type 0} (m : Meaning V O) (f : Function V O) (ts : List (Tree V O)) (t : Tree V O) : Type 0 where
+pub record IsCall {V O : Type 0} (m : Meaning V O) (f : Function V O) (ts : List (Tree V O))
+    (t : Tree V O) : Type 0 where
   pub is : t ≡ call f (trees_of ts)
   pub arity : fits (function_arity m f) (length ts) ≡ true
   pub types : List LogicalType
@@ -27,9 +30,23 @@ pub record IsCall {V O : Type 0} (m : Meaning V O) (f : Function V O) (ts : List
   pub accepted : function_type m f types ≡ Some dtype
 
 -- first a count that does not fit, then types that are not accepted
-pub data RefusesCall {V O : Type 0} (m : Meaning V O) (f : Function V O) (ts : List (Tree V O)) (e : VortexError) : Type 0 where
-  count : fits (function_arity m f) (length ts) ≡ false → e ≡ ArityMismatch (function_arity m f) (length ts) → RefusesCall m f ts e
-  types : (ks : List LogicalType) → fits (function_arity m f) (length ts) ≡ true → tree_types m (trees_of ts) ≡ Some ks → function_type m f ks ≡ None → IsMismatchOf f e → RefusesCall m f ts e
+pub data RefusesCall {V O : Type 0} (m : Meaning V O) (f : Function V O) (ts : List (Tree V O))
+    (e : VortexError) : Type 0 where
+  count : fits (function_arity m f) (length ts) ≡ false
+      → e ≡ ArityMismatch (function_arity m f) (length ts) → RefusesCall m f ts e
+  types : (ks : List LogicalType) → fits (function_arity m f) (length ts) ≡ true
+      → tree_types m (trees_of ts) ≡ Some ks → function_type m f ks ≡ None
+      → IsMismatchOf f ks e → RefusesCall m f ts e
+
+-- what binding a leaf answers, and what binding a call
+abbrev pub AnswersLeaf : {V O : Type 0} → Fields → List ℕ → Result (Tree V O) VortexError → Type 0
+AnswersLeaf scope name result =
+    Answers result (IsColumnLeaf scope name)
+    (λ e. (find_field name scope ≡ None) × (e ≡ ScopeMismatch))
+
+abbrev pub AnswersBinding : {V O : Type 0} → Meaning V O → Function V O → List (Tree V O)
+    → Result (Tree V O) VortexError → Type 0
+AnswersBinding m f ts result = Answers result (IsCall m f ts) (RefusesCall m f ts)
 
 abbrev pub IsLeaf : {V O : Type 0} → Tree V O → Type 0
 IsLeaf (leaf l) = Unit {0}

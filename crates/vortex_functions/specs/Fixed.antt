@@ -22,15 +22,18 @@ fixed_meaning = record {
   infallible = λ f o. true;
 }
 
-typed : (ts : List LogicalType) (t : LogicalType) → fixed_type ts ≡ Some t → GivesType t (gives (truth false))
+typed : (ts : List LogicalType) (t : LogicalType) → fixed_type ts ≡ Some t
+    → GivesType t (gives (truth false))
 typed [] t e = let is : bool_type false ≡ t = cc in rw (← is) tt
 typed (u ∷ ts) t e = cc
 
-nullable : (ts : List LogicalType) (t : LogicalType) → fixed_type ts ≡ Some t → Any (λ a. is_nullable a ≡ true) ts → is_nullable t ≡ true
+nullable : (ts : List LogicalType) (t : LogicalType) → fixed_type ts ≡ Some t
+    → Any (λ a. is_nullable a ≡ true) ts → is_nullable t ≡ true
 nullable [] t e a = absurd (omega arith)
 nullable (u ∷ ts) t e a = cc
 
-nulls : (ts : List LogicalType) (t : LogicalType) (vs : List Value) → fixed_type ts ≡ Some t → HaveTypes ts vs → Any (λ v. v ≡ null) vs → GivesNull (gives (truth false))
+nulls : (ts : List LogicalType) (t : LogicalType) (vs : List Value) → fixed_type ts ≡ Some t
+    → HaveTypes ts vs → Any (λ v. v ≡ null) vs → GivesNull (gives (truth false))
 nulls [] t [] e h a = absurd (omega arith)
 nulls [] t (v ∷ vs) e h a = absurd h
 nulls (u ∷ ts) t vs e h a = cc

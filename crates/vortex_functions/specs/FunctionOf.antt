@@ -4,22 +4,22 @@ use Rattle.vortex_functions.specs.declared.erased.ScalarFnRef.{ScalarFnRef}
 use Rattle.vortex_functions.specs.declared.erased.ScalarFnRef.TheVariants as ref
 use Rattle.vortex_functions.specs.declared.typed.TypedScalarFnInstance.{TypedScalarFnInstance}
 use Rattle.vortex_operators.specs.declared.operators.Operator.{Operator}
-use Rattle.vortex_meaning.specs.Shipped.{binary, negation}
-use Rattle.vortex_meaning.specs.Functions.{Function, shipped, custom}
+use Rattle.vortex_meaning.specs.Shipped.{Binary, Not}
+use Rattle.vortex_meaning.specs.Functions.{Function, ours, custom}
 
 module _ {V O : Type 0} where
   abbrev pub function_of : ScalarFnRef V O → Function V O
-  function_of (ref.Binary o) = shipped (binary o)
-  function_of ref.Not = shipped negation
+  function_of (ref.Binary o) = ours (Binary o)
+  function_of ref.Not = ours Not
   function_of (ref.Custom f) = custom f.vtable f.options
 
   abbrev pub operator_in : ScalarFnRef V O → Option Operator
   operator_in (ref.Binary o) = Some o
   operator_in f = None
 
-  abbrev pub is_negation : ScalarFnRef V O → Bool
-  is_negation ref.Not = true
-  is_negation f = false
+  abbrev pub is_not : ScalarFnRef V O → Bool
+  is_not ref.Not = true
+  is_not f = false
 
   abbrev pub instance_in : ScalarFnRef V O → Option (TypedScalarFnInstance V O)
   instance_in (ref.Custom f) = Some f

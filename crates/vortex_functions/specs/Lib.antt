@@ -1,7 +1,9 @@
-pub mod Args
 pub mod FunctionOf
 pub mod Fixed
 pub mod Nodes
 pub mod NodeFalls
 pub mod Binding
+pub mod Executing
 pub mod Shapes
+pub mod Texts
+pub mod Words

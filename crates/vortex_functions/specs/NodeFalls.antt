@@ -7,7 +7,10 @@ use Rattle.vortex_functions.specs.declared.tree.BoundExpression.TheDeep.{deep-No
 use Rattle.vortex_meaning.specs.Trees.{node_count}
 use Rattle.vortex_functions.specs.Nodes.{node_tree, most_le-nodes_count}
 
-pub deep_le-node_count : (V O : Type 0) (a : _) (b : _) (c : _) (d : _) (e : _) (f : _) (g : _) (n : Node V O) → max (deep-Node V O a b c d e f g n) 0 ≤ node_count (node_tree n)
+pub deep_le-node_count : (V O : Type 0) (a : _) (b : _) (c : _) (d : _) (e : _) (f : _) (g : _)
+    (n : Node V O)
+    → max (deep-Node V O a b c d e f g n) 0 ≤ node_count (node_tree n)
 deep_le-node_count V O a b c d e f g (Column p name t) = omega arith
 deep_le-node_count V O a b c d e f g (Literal s alloc) = omega arith
-deep_le-node_count V O a b c d e f g (Call h children t) = omega (arith, most_le-nodes_count children.items)
+deep_le-node_count V O a b c d e f g (Call h children t) =
+    omega (arith, most_le-nodes_count children.items)

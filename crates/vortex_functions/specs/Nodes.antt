@@ -23,11 +23,13 @@ expression_view a = node_tree a.node
 abbrev pub IsNode : {V O : Type 0} → Meaning V O → Node V O → Type 0
 IsNode m (Column p name t) = ⊤
 IsNode m (Literal s alloc) = ⊤
-IsNode m (Call f children t) = tree_type m (call (function_of f) (trees_of children.items)) ≡ Some (type_of t)
+IsNode m (Call f children t) =
+    tree_type m (call (function_of f) (trees_of children.items)) ≡ Some (type_of t)
 
 abbrev pub IsExpression : {V O : Type 0} → Meaning V O → Inside V O → Type 0
 IsExpression m a = IsNode m a.node
 
-pub most_le-nodes_count : {V O : Type 0} (ts : List (Tree V O)) → most (λ t. node_count t + 1) ts ≤ nodes_count (trees_of ts) + 1
+pub most_le-nodes_count : {V O : Type 0} (ts : List (Tree V O))
+    → most (λ t. node_count t + 1) ts ≤ nodes_count (trees_of ts) + 1
 most_le-nodes_count [] = omega arith
 most_le-nodes_count (t ∷ ts) = omega (arith, most_le-nodes_count ts)

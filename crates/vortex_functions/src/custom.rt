@@ -2,27 +2,12 @@
 ghost use Rattle.std.specs.Prelude.{◌≡◌, IfOk, false, replicate};
 ghost use Rattle.vortex_functions.specs.Fixed.{fixed_meaning, fixed_lawful};
 
-use crate::vtable::{ChildName, ExecutionArgs, ScalarFnId, ScalarFnVTable};
 use std::alloc::{AllocError, Global};
-use std::fmt;
 use vortex_columns::{
     Arity, BitBuffer, Column, DType, ExecutionCtx, MismatchPlace, Nullability, Validity,
     VortexError, VortexResult,
 };
-
-/// No options; they print as nothing.
-#[derive(Clone, Debug, PartialEq, Eq, Hash, Drop)]
-pub struct EmptyOptions;
-
-impl fmt::Display for EmptyOptions {
-    ghost use Rattle.std.specs.Prelude.{Some, []};
-
-    ghost output = { λ _. Some [] };
-
-    fn fmt<W: fmt::Write>(&self, _f: &mut fmt::Formatter<W>) -> fmt::Result {
-        Ok(())
-    }
-}
+use vortex_interface::{ChildName, EmptyOptions, ExecutionArgs, ScalarFnId, ScalarFnVTable};
 
 /// No function of a caller's: without arguments, it answers false of non-nullable Bool.
 #[derive(Clone, Drop)]

@@ -1,21 +1,37 @@
 //! A function with its options: a shipped one or a caller's.
-ghost use Rattle.std.specs.Prelude.{◌≡◌, ◌++◌, None, Some, IsTrue, IsSome, IfSome, MatchOption, MatchResult, length, map, string_bytes};
-ghost use Rattle.vortex_types.specs.Answers.{Answers, AnswersUnlessMemory};
-ghost use Rattle.vortex_types.specs.TypeOf.{type_of};
-ghost use Rattle.vortex_meaning.specs.Outcomes.{HasCallRows, IsCallFault, types_in};
-ghost use Rattle.vortex_meaning.specs.Meaning.{fits};
-ghost use Rattle.vortex_meaning.specs.Functions.{function_id, function_arity, function_child_name, function_type, function_means, function_strict, function_infallible, RefusesTypes};
-ghost use Rattle.vortex_meaning.specs.Printing.{function_text};
-ghost use Rattle.vortex_functions.specs.Args.{HasChild};
+ghost use Rattle.std.specs.Prelude.{◌≡◌, Some, None, IsTrue, IsSome, MatchResult, length};
+ghost use Rattle.vortex_functions.specs.Words.{types_in, fits, function_of, function_id, function_arity, function_child_name, function_type, function_strict, function_infallible, AnswersUnlessMemory, AnswersFunctionType, AnswersFunction, AppendsText};
 
-use crate::binary::{Binary, operator_dtype};
-use crate::custom::EmptyOptions;
-use crate::not::{Not, not_dtype};
+use crate::ext::ScalarFnVTableExt;
 use crate::typed::TypedScalarFnInstance;
-use crate::vtable::{ChildName, ExecutionArgs, ScalarFnId, ScalarFnVTable};
 use std::alloc::Global;
 use vortex_columns::{Arity, Column, DType, ExecutionCtx, VortexResult};
+use vortex_interface::{ChildName, EmptyOptions, ExecutionArgs, ScalarFnId, ScalarFnVTable};
 use vortex_kernels::Operator;
+use vortex_shipped::{Binary, Not};
+
+/// The list of the functions, each with its interface and its options.
+macro_rules! with_function {
+    ($function:expr, $f:ident, $options:ident => $body:expr) => {
+        match $function {
+            ScalarFnRef::Binary(operator) => {
+                let $f = &Binary;
+                let $options = operator;
+                $body
+            }
+            ScalarFnRef::Not => {
+                let $f = &Not;
+                let $options = &EmptyOptions;
+                $body
+            }
+            ScalarFnRef::Custom(custom) => {
+                let $f = custom.vtable();
+                let $options = custom.options();
+                $body
+            }
+        }
+    };
+}
 
 /// A function with its options: a shipped one, or a caller's of type `C`.
 #[derive(Drop)]
@@ -34,8 +50,10 @@ pub struct ScalarFnSignature {
 }
 
 impl<C: ScalarFnVTable> ScalarFnRef<C> {
-    ghost use Rattle.std.specs.Option.{option_copied};
-    ghost use Rattle.vortex_functions.specs.FunctionOf.{function_of, operator_in, is_negation, instance_in};
+    ghost use Rattle.std.specs.Option.{option_copied, option_map};
+    ghost use Rattle.vortex_meaning.specs.Functions.{ours};
+    ghost use Rattle.vortex_meaning.specs.Shipped.{shipped_named};
+    ghost use Rattle.vortex_functions.specs.FunctionOf.{operator_in, is_not, instance_in};
 
     /// A caller's function with its options.
     pub fn custom(vtable: C, options: C::Options) -> ScalarFnRef<C>
@@ -48,11 +66,7 @@ impl<C: ScalarFnVTable> ScalarFnRef<C> {
     pub fn id(&self) -> ScalarFnId
         ensures { result.now ≡ function_id C.meaning (function_of self.now) }
     {
-        match self {
-            ScalarFnRef::Binary(_) => "vortex.binary",
-            ScalarFnRef::Not => "vortex.not",
-            ScalarFnRef::Custom(f) => f.vtable().id(),
-        }
+        with_function!(self, f, _options => f.id())
     }
 
     /// The operator, of Binary.
@@ -67,7 +81,7 @@ impl<C: ScalarFnVTable> ScalarFnRef<C> {
 
     /// Whether it is Not.
     pub fn is_not(&self) -> bool
-        ensures { result ≡ is_negation self.now }
+        ensures { result ≡ is_not self.now }
     {
         match self {
             ScalarFnRef::Not => true,
@@ -87,7 +101,8 @@ impl<C: ScalarFnVTable> ScalarFnRef<C> {
 
     /// The caller's function with its options, or the shipped function back.
     pub fn into_custom(self) -> Result<TypedScalarFnInstance<C>, ScalarFnRef<C>>
-        ensures { MatchResult result (λ f. instance_in self ≡ Some f) (λ f. (f ≡ self) × (instance_in self ≡ None)) }
+        ensures { MatchResult result
+            (λ f. instance_in self ≡ Some f) (λ f. (f ≡ self) × (instance_in self ≡ None)) }
     {
         match self {
             ScalarFnRef::Custom(f) => Ok(f),
@@ -101,50 +116,27 @@ impl<C: ScalarFnVTable> ScalarFnRef<C> {
         ensures strict { result.is_strict ≡ function_strict C.meaning (function_of self.now) }
         ensures infallible { result.is_infallible ≡ function_infallible C.meaning (function_of self.now) }
     {
-        match self {
-            ScalarFnRef::Binary(operator) => ScalarFnSignature {
-                arity: Arity::Exact(2),
-                is_strict: !operator.is_boolean(),
-                is_infallible: !operator.is_arithmetic(),
-            },
-            ScalarFnRef::Not => ScalarFnSignature {
-                arity: Arity::Exact(1),
-                is_strict: true,
-                is_infallible: true,
-            },
-            ScalarFnRef::Custom(f) => ScalarFnSignature {
-                arity: f.vtable().arity(f.options()),
-                is_strict: f.vtable().is_strict(f.options()),
-                is_infallible: f.vtable().is_infallible(f.options()),
-            },
-        }
+        with_function!(self, f, options => ScalarFnSignature {
+            arity: f.arity(options),
+            is_strict: f.is_strict(options),
+            is_infallible: f.is_infallible(options),
+        })
     }
 
-    /// The name of an argument that some call has, as `lhs`.
+    /// The name of an argument, as `lhs`; past the arguments that a call has, any name serves.
     pub fn child_name(&self, index: usize) -> ChildName
-        requires { HasChild (function_arity C.meaning (function_of self.now)) index }
         ensures { result.now ≡ function_child_name C.meaning (function_of self.now) index }
     {
-        match self {
-            ScalarFnRef::Binary(_) => { if index == 0 { "lhs" } else { "rhs" } }
-            ScalarFnRef::Not => "input",
-            ScalarFnRef::Custom(f) => f.vtable().child_name(f.options(), index),
-        }
+        with_function!(self, f, options => f.child_name(options, index))
     }
 
     /// The type of the answer for argument types of a fitting count; E3 exactly where they are not accepted. A shipped
     /// function takes no memory.
     pub fn return_dtype(&self, alloc: Global, types: &[DType]) -> VortexResult<DType>
         requires { IsTrue (fits (function_arity C.meaning (function_of self.now)) (length types.now)) }
-        ensures { MatchResult result
-            (λ t. function_type C.meaning (function_of self.now) (map type_of types.now) ≡ Some (type_of t))
-            (RefusesTypes C.meaning (function_of self.now) (map type_of types.now)) }
+        ensures { AnswersFunctionType C.meaning (function_of self.now) types.now result }
     {
-        match self {
-            ScalarFnRef::Binary(operator) => operator_dtype(*operator, types),
-            ScalarFnRef::Not => not_dtype(types),
-            ScalarFnRef::Custom(f) => f.vtable().return_dtype(alloc, f.options(), types),
-        }
+        with_function!(self, f, options => f.return_dtype(alloc, options, types))
     }
 
     /// The answer over inputs of accepted types: a column of the type returned, with each row's value, or the fault of a row.
@@ -153,27 +145,36 @@ impl<C: ScalarFnVTable> ScalarFnRef<C> {
         args: &A,
         ctx: &mut ExecutionCtx,
     ) -> VortexResult<Column>
-        requires arity { IsTrue (fits (function_arity C.meaning (function_of self.now)) (length (A.inputs args.now))) }
-        requires accepted { IsSome (function_type C.meaning (function_of self.now) (types_in (A.inputs args.now))) }
-        ensures { Answers result (HasCallRows (function_type C.meaning (function_of self.now)) (function_means C.meaning (function_of self.now)) (A.inputs args.now) (A.rows args.now)) (IsCallFault (function_means C.meaning (function_of self.now)) (A.inputs args.now) (A.rows args.now)) }
+        requires arity { IsTrue
+            (fits (function_arity C.meaning (function_of self.now)) (length (A.inputs args.now))) }
+        requires accepted { IsSome
+            (function_type C.meaning (function_of self.now) (types_in (A.inputs args.now))) }
+        ensures { AnswersFunction C.meaning (function_of self.now)
+            (A.inputs args.now) (A.rows args.now) result }
     {
-        match self {
-            ScalarFnRef::Binary(operator) => Binary.execute(operator, args, ctx),
-            ScalarFnRef::Not => Not.execute(&EmptyOptions, args, ctx),
-            ScalarFnRef::Custom(f) => f.vtable().execute(f.options(), args, ctx),
-        }
+        with_function!(self, f, options => f.execute(options, args, ctx))
     }
 
     /// Appends the text of a call, by the texts of its arguments; what a caller's function writes stays open.
     pub(crate) fn fmt_sql(&self, children: &[String], out: &mut String) -> VortexResult<()>
         requires { IsTrue (fits (function_arity C.meaning (function_of self.now)) (length children.now)) }
-        ensures { AnswersUnlessMemory result (λ _. IfSome (function_text (function_of self.now) (map string_bytes children.now)) (λ text. string_bytes out.new ≡ string_bytes out.old ++ text)) }
+        ensures { AnswersUnlessMemory result
+            (λ _. AppendsText (function_of self.now) children.now out.old out.new) }
     {
-        match self {
-            ScalarFnRef::Binary(operator) => Binary.fmt_sql(operator, children, out),
-            ScalarFnRef::Not => Not.fmt_sql(&EmptyOptions, children, out),
-            ScalarFnRef::Custom(f) => f.vtable().fmt_sql(f.options(), children, out),
+        with_function!(self, f, options => f.fmt_sql(options, children, out))
+    }
+
+    /// The shipped function that a word of a script names, as `and`.
+    pub fn named(word: &str) -> Option<ScalarFnRef<C>>
+        ensures { option_map function_of result ≡ option_map ours (shipped_named word.now) }
+    {
+        if let Some(operator) = Binary.named(word) {
+            return Some(Binary.bind(operator));
         }
+        if let Some(options) = Not.named(word) {
+            return Some(Not.bind(options));
+        }
+        None
     }
 
     /// A copy that equals its source.

@@ -1,29 +1,28 @@
 //! The shipped functions as functions of any tree.
-ghost use Rattle.std.specs.Prelude.{◌≡◌};
-ghost use Rattle.vortex_types.specs.Answers.{Answers};
-ghost use Rattle.vortex_meaning.specs.Shipped.{Shipped};
-ghost use Rattle.vortex_meaning.specs.Functions.{shipped};
-ghost use Rattle.vortex_functions.specs.FunctionOf.{function_of};
-ghost use Rattle.vortex_functions.specs.Binding.{IsCall, RefusesCall};
+ghost use Rattle.std.specs.Prelude.{◌≡◌, ℕ, List, Option};
+ghost use Rattle.std.specs.Option.{option_map};
+ghost use Rattle.vortex_functions.specs.Words.{Shipped, ours, function_of, AnswersBinding};
 
-use crate::binary::Binary;
-use crate::custom::EmptyOptions;
 use crate::erased::ScalarFnRef;
-use crate::not::Not;
 use crate::tree::BoundExpression;
 use crate::typed::TypedScalarFnInstance;
-use crate::vtable::ScalarFnVTable;
 use std::alloc::Global;
 use vortex_columns::VortexResult;
-use vortex_kernels::Operator;
+use vortex_interface::ScalarFnVTable;
 
 /// A shipped function, which stands in trees over every caller's functions.
 pub trait ScalarFnVTableExt: ScalarFnVTable {
     ghost ships: { Self.Options → Shipped };
 
+    ghost names: { List ℕ → Option Shipped };
+
     /// The function with these options.
     fn bind<C: ScalarFnVTable>(&self, options: Self::Options) -> ScalarFnRef<C>
-        ensures { function_of result ≡ shipped (ships options) };
+        ensures { function_of result ≡ ours (ships options) };
+
+    /// The options of this function that a word of a script names, as `and`.
+    fn named(&self, word: &str) -> Option<Self::Options>
+        ensures { option_map ships result ≡ names word.now };
 
     /// The call of the function with these options: E6, then E3, as `BoundExpression::try_new`.
     final fn try_new_bound_expr<C: ScalarFnVTable>(
@@ -32,36 +31,16 @@ pub trait ScalarFnVTableExt: ScalarFnVTable {
         options: Self::Options,
         children: Vec<BoundExpression<C>>,
     ) -> VortexResult<BoundExpression<C>>
-        ensures { Answers result (IsCall C.meaning (shipped (ships options)) children.items) (RefusesCall C.meaning (shipped (ships options)) children.items) }
+        ensures { AnswersBinding C.meaning (ours (ships options)) children.items result }
     {
         BoundExpression::try_new(alloc, self.bind(options), children)
-    }
-}
-
-impl ScalarFnVTableExt for Binary {
-    ghost use Rattle.vortex_meaning.specs.Shipped.{binary};
-
-    ghost ships = { binary };
-
-    fn bind<C: ScalarFnVTable>(&self, options: Operator) -> ScalarFnRef<C> {
-        ScalarFnRef::Binary(options)
-    }
-}
-
-impl ScalarFnVTableExt for Not {
-    ghost use Rattle.vortex_meaning.specs.Shipped.{negation};
-
-    ghost ships = { λ _. negation };
-
-    fn bind<C: ScalarFnVTable>(&self, _options: EmptyOptions) -> ScalarFnRef<C> {
-        ScalarFnRef::Not
     }
 }
 
 impl<V: ScalarFnVTableExt> TypedScalarFnInstance<V> {
     /// The shipped function with its options, for trees over any caller's functions.
     pub fn erased<C: ScalarFnVTable>(self) -> ScalarFnRef<C>
-        ensures { function_of result ≡ shipped (V.ships self.options) }
+        ensures { function_of result ≡ ours (V.ships self.options) }
     {
         let (vtable, options) = self.into_parts();
         vtable.bind(options)

@@ -1,7 +1,8 @@
 //! What follows from the meaning of trees. These functions do nothing: their contracts are proved.
 ghost use Rattle.vortex_meaning.specs.ComparisonTrees.{InverseNegates, SwapTurns};
+ghost use Rattle.vortex_meaning.specs.ArithmeticFaults.{ErrsWhereArithmeticDoes};
 
-use crate::vtable::ScalarFnVTable;
+use vortex_interface::ScalarFnVTable;
 
 /// `not (a op b)` and `a inverse b` have one outcome in every row, for each comparison and all trees `a` and `b`.
 pub fn inverse_negates<C: ScalarFnVTable>()
@@ -12,4 +13,12 @@ pub fn inverse_negates<C: ScalarFnVTable>()
 /// trees `a` and `b`.
 pub fn swap_turns<C: ScalarFnVTable>()
     ensures { SwapTurns C.meaning }
+{}
+
+/// Where executing errs: of a tree of shipped functions whose leaves fit columns of one length, `BoundExpression::execute` is
+/// refused, want of memory aside, exactly where in some row a call of arithmetic has two operands that are not null, of which
+/// their type does not hold the exact result: an overflow, or a divisor zero. The refusal is then E7 of such a call, and the
+/// fault of the first call that faults, children before their parent and from left to right. Over no rows there is none.
+pub fn errs_where_arithmetic_does<C: ScalarFnVTable>()
+    ensures { ErrsWhereArithmeticDoes C.meaning }
 {}

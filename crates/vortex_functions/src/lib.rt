@@ -1,26 +1,23 @@
-//! The interface of row functions, the shipped ones, and expression trees over them.
+//! Row functions as values, and expression trees over them. The names of the interface and of the shipped functions stand
+//! here too.
 #![tactic(auto)]
 
-pub mod args;
-pub mod binary;
+mod binary;
 pub mod custom;
 pub mod erased;
 pub mod ext;
 pub mod laws;
 mod literal_text;
-pub mod not;
-mod printing;
+mod not;
 pub mod tree;
 pub mod typed;
-pub mod vtable;
 
-pub use args::VecExecutionArgs;
-pub use binary::Binary;
-pub use custom::{EmptyOptions, NoCustom};
+pub use custom::NoCustom;
 pub use erased::{ScalarFnRef, ScalarFnSignature};
 pub use ext::ScalarFnVTableExt;
-pub use not::Not;
 pub use tree::BoundExpression;
 pub use typed::TypedScalarFnInstance;
-pub use vortex_columns::Arity;
-pub use vtable::{ChildName, ExecutionArgs, ScalarFnId, ScalarFnVTable};
+pub use vortex_interface::{
+    Arity, ChildName, EmptyOptions, ExecutionArgs, ScalarFnId, ScalarFnVTable, VecExecutionArgs,
+};
+pub use vortex_shipped::{Binary, Not};

@@ -1,14 +1,10 @@
 //! The texts of literals.
-ghost use Rattle.std.specs.Prelude.{◌≡◌, ◌++◌, string_bytes};
 ghost use Rattle.std.specs.List.{flat_map};
-ghost use Rattle.vortex_types.specs.Answers.{AnswersUnlessMemory};
-ghost use Rattle.vortex_columns.specs.Cells.{cell_value, sequence_value, sequence_values, IsCell, IsSequence};
-ghost use Rattle.vortex_meaning.specs.Printing.{literal_text, value_texts, field_texts, joined, comma, hex_text, separator_before};
-ghost use Rattle.vortex_types.specs.Values.{values_of};
-ghost use Rattle.vortex_functions.specs.Shapes.{shape_type, fields_in};
+ghost use Rattle.vortex_functions.specs.Words.{AnswersUnlessMemory, Appends, cell_value, sequence_value, sequence_values, IsCell, IsSequence, hex_text, shape_type, WritesLiteral, WritesElements, WritesFields};
 
 use std::fmt::Write;
 use vortex_columns::{Cell, DType, Sequence, VortexResult};
+use vortex_interface::write_separator;
 
 /// A type where it lies: one of its own, or that of a map's entries, by key and value.
 #[derive(Clone, Copy)]
@@ -18,7 +14,7 @@ pub(crate) enum Shape<'a> {
 }
 
 impl<'a> Shape<'a> {
-    ghost use Rattle.std.specs.Prelude.{◌<◌};
+    ghost use Rattle.std.specs.Prelude.{◌≡◌, ◌<◌};
     ghost use Rattle.vortex_types.specs.LogicalTypes.{field_count, field_type};
     ghost use Rattle.vortex_types.specs.FieldNames.{field_name};
     ghost use Rattle.vortex_meaning.specs.Printing.{suffix, element_type};
@@ -97,18 +93,9 @@ impl<'a> Shape<'a> {
     }
 }
 
-/// The separator, but before the first.
-pub(crate) fn write_separator(out: &mut String, separator: &str, k: usize) -> VortexResult<()>
-    ensures { AnswersUnlessMemory result (λ _. string_bytes out.new ≡ string_bytes out.old ++ separator_before separator.now k) }
-{
-    if k != 0 {
-        out.push_str(separator)?;
-    }
-    Ok(())
-}
-
 fn write_bytes(out: &mut String, bytes: &[u8]) -> VortexResult<()>
-    ensures { AnswersUnlessMemory result (λ _. string_bytes out.new ≡ string_bytes out.old ++ flat_map hex_text bytes.now) }
+    ensures { AnswersUnlessMemory result
+        (λ _. Appends out.old (flat_map hex_text bytes.now) out.new) }
 {
     for byte in bytes {
         write!(out, "{byte:02x}")?;
@@ -120,7 +107,8 @@ fn write_bytes(out: &mut String, bytes: &[u8]) -> VortexResult<()>
 #[cycle(literal)]
 pub(crate) fn write_literal(out: &mut String, shape: Shape<'_>, cell: &Cell<'_>) -> VortexResult<()>
     requires { IsCell cell.now }
-    ensures { AnswersUnlessMemory result (λ _. string_bytes out.new ≡ string_bytes out.old ++ literal_text (shape_type shape.entry) (cell_value cell.now)) }
+    ensures { AnswersUnlessMemory result
+        (λ _. WritesLiteral (shape_type shape.entry) (cell_value cell.now) out.old out.new) }
 {
     match cell {
         Cell::Null => out.push_str("null")?,
@@ -147,7 +135,8 @@ pub(crate) fn write_literal(out: &mut String, shape: Shape<'_>, cell: &Cell<'_>)
 #[cycle(literal)]
 fn write_sequence(out: &mut String, shape: Shape<'_>, values: &Sequence<'_>) -> VortexResult<()>
     requires { IsSequence values.now }
-    ensures { AnswersUnlessMemory result (λ _. string_bytes out.new ≡ string_bytes out.old ++ literal_text (shape_type shape.entry) (sequence_value values.now)) }
+    ensures { AnswersUnlessMemory result
+        (λ _. WritesLiteral (shape_type shape.entry) (sequence_value values.now) out.old out.new) }
 {
     if shape.is_struct() {
         out.push_str("{")?;
@@ -165,7 +154,8 @@ fn write_sequence(out: &mut String, shape: Shape<'_>, values: &Sequence<'_>) -> 
 #[cycle(literal)]
 fn write_elements(out: &mut String, shape: Shape<'_>, values: &Sequence<'_>) -> VortexResult<()>
     requires { IsSequence values.now }
-    ensures { AnswersUnlessMemory result (λ _. string_bytes out.new ≡ string_bytes out.old ++ joined comma (value_texts (shape_type shape.entry) (values_of (sequence_values values.now)))) }
+    ensures { AnswersUnlessMemory result (λ _. WritesElements
+        (shape_type shape.entry) (sequence_values values.now) out.old out.new) }
 {
     for k in 0..values.len() {
         write_separator(out, ", ", k)?;
@@ -178,7 +168,8 @@ fn write_elements(out: &mut String, shape: Shape<'_>, values: &Sequence<'_>) -> 
 #[cycle(literal)]
 fn write_fields(out: &mut String, shape: Shape<'_>, values: &Sequence<'_>) -> VortexResult<()>
     requires { IsSequence values.now }
-    ensures { AnswersUnlessMemory result (λ _. string_bytes out.new ≡ string_bytes out.old ++ joined comma (field_texts (fields_in (shape_type shape.entry)) (values_of (sequence_values values.now)))) }
+    ensures { AnswersUnlessMemory result (λ _. WritesFields
+        (shape_type shape.entry) (sequence_values values.now) out.old out.new) }
 {
     for k in 0..values.len().min(shape.field_count()) {
         write_separator(out, ", ", k)?;

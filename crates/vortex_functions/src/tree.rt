@@ -1,22 +1,10 @@
 //! Expression trees over the columns of a scope.
-ghost use Rattle.std.specs.Prelude.{◌≡◌, ◌<◌, ◌↔◌, None, Some, IsTrue, IfSome, IsOkAnd, string_bytes, MatchOption, length, map, slice_get};
-ghost use Rattle.std.specs.Cow.{cow_value};
+ghost use Rattle.std.specs.Prelude.{◌≡◌, ◌<◌, ◌↔◌, None, Some, IsTrue, MatchOption, length, map, slice_get};
 ghost use Rattle.std.specs.Option.{option_copied};
-ghost use Rattle.vortex_types.specs.declared.error.VortexError.TheVariants.{ScopeMismatch};
-ghost use Rattle.vortex_types.specs.Answers.{Answers, AnswersUnlessMemory};
-ghost use Rattle.vortex_types.specs.LogicalTypes.{find_field};
-ghost use Rattle.vortex_types.specs.TypeOf.{type_of, struct_fields};
-ghost use Rattle.vortex_meaning.specs.Trees.{constant, trees_of, children_of, called, literal};
-ghost use Rattle.vortex_meaning.specs.Eval.{tree_type, tree_types, HasTreeRows, IsFirstFault};
-ghost use Rattle.vortex_meaning.specs.Execution.{LeavesFit, other_length, Executes, RefusesExecution};
-ghost use Rattle.vortex_meaning.specs.Printing.{tree_text};
-ghost use Rattle.vortex_functions.specs.FunctionOf.{function_of};
-ghost use Rattle.vortex_functions.specs.Binding.{IsColumnLeaf, IsCall, RefusesCall, IsLeaf, IsLentLeaf};
+ghost use Rattle.vortex_functions.specs.Words.{type_of, struct_fields, constant, trees_of, children_of, called, literal, tree_type, tree_types, LeavesFit, other_length, function_of, AnswersUnlessMemory, AnswersLeaf, AnswersBinding, AnswersTree, AnswersExecution, LendsLeaf, Fits, IsTextOf};
 
-use crate::args::VecExecutionArgs;
 use crate::erased::ScalarFnRef;
 use crate::literal_text::{Shape, write_literal};
-use crate::vtable::ScalarFnVTable;
 use std::alloc::Global;
 use std::borrow::Cow;
 use std::fmt;
@@ -24,6 +12,7 @@ use std::marker::Model;
 use vortex_columns::{
     Column, DType, ExecutionCtx, Scalar, StructFields, VortexError, VortexResult,
 };
+use vortex_interface::{ScalarFnVTable, VecExecutionArgs};
 
 #[cycle(expression)]
 #[derive(Drop)]
@@ -61,7 +50,8 @@ impl<C: ScalarFnVTable> Model for BoundExpression<C> {
 
     ghost use Rattle.vortex_functions.specs.NodeFalls.{deep_le-node_count};
 
-    ghost size_decreases = { λ a h. deep_le-node_count C C.Options C.ScalarFnVTable C.Clone C.Options.Clone C.Options.Debug C.Options.Display C.Options.PartialEq C.Options.Hash a.node };
+    ghost size_decreases = { λ a h. deep_le-node_count C C.Options C.ScalarFnVTable C.Clone C.Options.Clone C.Options.Debug
+        C.Options.Display C.Options.PartialEq C.Options.Hash a.node };
 }
 
 /// The types of trees.
@@ -69,7 +59,8 @@ fn dtypes_of<C: ScalarFnVTable>(
     alloc: Global,
     children: &[BoundExpression<C>],
 ) -> VortexResult<Vec<DType>>
-    ensures { AnswersUnlessMemory result (λ dtypes. tree_types C.meaning (trees_of children.now) ≡ Some (map type_of dtypes.items)) }
+    ensures { AnswersUnlessMemory result
+        (λ dtypes. tree_types C.meaning (trees_of children.now) ≡ Some (map type_of dtypes.items)) }
 {
     let mut dtypes = Vec::new(alloc);
     for child in children {
@@ -97,7 +88,7 @@ impl<C: ScalarFnVTable> BoundExpression<C> {
         scope: &StructFields,
         name: &str,
     ) -> VortexResult<BoundExpression<C>>
-        ensures { Answers result (IsColumnLeaf (struct_fields scope.now) name.now) (λ e. (find_field name.now (struct_fields scope.now) ≡ None) × (e ≡ ScopeMismatch)) }
+        ensures { AnswersLeaf (struct_fields scope.now) name.now result }
     {
         match scope.find(name) {
             Some((place, dtype)) => {
@@ -127,7 +118,7 @@ impl<C: ScalarFnVTable> BoundExpression<C> {
         function: ScalarFnRef<C>,
         children: Vec<BoundExpression<C>>,
     ) -> VortexResult<BoundExpression<C>>
-        ensures { Answers result (IsCall C.meaning (function_of function) children.items) (RefusesCall C.meaning (function_of function) children.items) }
+        ensures { AnswersBinding C.meaning (function_of function) children.items result }
     {
         let arity = function.signature().arity;
         let given = children.len();
@@ -174,7 +165,8 @@ impl<C: ScalarFnVTable> BoundExpression<C> {
 
     /// The function of a call.
     pub fn as_scalar(&self) -> Option<&ScalarFnRef<C>>
-        ensures { MatchOption result (called self.now ≡ None) (λ f. called self.now ≡ Some (function_of f.now)) }
+        ensures { MatchOption result
+            (called self.now ≡ None) (λ f. called self.now ≡ Some (function_of f.now)) }
     {
         match &self.node {
             Node::Call(function, _, _) => Some(function),
@@ -226,7 +218,7 @@ impl<C: ScalarFnVTable> BoundExpression<C> {
     /// A column leaf is `$.name`, a literal its value, an operator stands between its operands in parentheses, and every
     /// other call is `id(a, b)`. What a caller's function writes of a call is its own.
     pub fn sql_text(&self, alloc: Global) -> VortexResult<String>
-        ensures { AnswersUnlessMemory result (λ text. IfSome (tree_text self.now) (λ bytes. string_bytes text ≡ bytes)) }
+        ensures { AnswersUnlessMemory result (IsTextOf self.now) }
     {
         let mut text = String::new(alloc);
         match &self.node {
@@ -289,8 +281,8 @@ impl<C: ScalarFnVTable> BoundExpression<C> {
     ) -> VortexResult<Cow<'a, Column>>
         requires fit { LeavesFit columns.now self.now }
         requires lengths { other_length row_count columns.now ≡ None }
-        ensures answer { Answers result (λ c. HasTreeRows C.meaning columns.now row_count self.now (cow_value c)) (IsFirstFault C.meaning columns.now row_count self.now) }
-        ensures lent { IsLeaf self.now → IsOkAnd result (IsLentLeaf columns.now self.now) }
+        ensures answer { AnswersTree C.meaning columns.now row_count self.now result }
+        ensures lent { LendsLeaf columns.now self.now result }
     {
         match &self.node {
             Node::Column(place, _, _) => Ok(Cow::Borrowed(&columns[*place])),
@@ -320,8 +312,8 @@ impl<C: ScalarFnVTable> BoundExpression<C> {
         row_count: usize,
         ctx: &mut ExecutionCtx,
     ) -> VortexResult<Cow<'a, Column>>
-        ensures answer { Answers result (λ c. Executes C.meaning columns.now row_count self.now (cow_value c)) (RefusesExecution C.meaning columns.now row_count self.now) }
-        ensures lent { IsLeaf self.now → LeavesFit columns.now self.now → other_length row_count columns.now ≡ None → IsOkAnd result (IsLentLeaf columns.now self.now) }
+        ensures answer { AnswersExecution C.meaning columns.now row_count self.now result }
+        ensures lent { Fits columns.now row_count self.now → LendsLeaf columns.now self.now result }
     {
         if !self.leaves_fit(columns) {
             return Err(VortexError::ScopeMismatch);

@@ -1,7 +1,7 @@
 //! A function with its options, and the shipped functions as values.
 ghost use Rattle.std.specs.Prelude.{◌≡◌};
 
-use crate::vtable::ScalarFnVTable;
+use vortex_interface::ScalarFnVTable;
 
 /// A function with its options.
 #[derive(Drop)]

@@ -64,7 +64,8 @@ module _ {V O : Type 0} (m : Meaning V O) where
       pub eval : Tree V O → ℕ → Outcome
       eval (leaf l) i = gives (leaf_value cs l i)
       eval (constant s) i = gives s.value
-      eval (call f ts) i = then_means (function_means m f (types_or_none (tree_types ts))) (eval_all ts i)
+      eval (call f ts) i =
+          then_means (function_means m f (types_or_none (tree_types ts))) (eval_all ts i)
 
       pub eval_all : Trees V O → ℕ → Inputs
       eval_all no_trees i = all_give []
@@ -85,7 +86,8 @@ module _ {V O : Type 0} (m : Meaning V O) where
         pub IsFirstFault : Tree V O → VortexError → Type 0
         IsFirstFault (leaf l) e = ⊥
         IsFirstFault (constant s) e = ⊥
-        IsFirstFault (call f ts) e = IsFirstFaultIn ts e ⊎ (AllSettled ts × IsRowFault n (eval (call f ts)) e)
+        IsFirstFault (call f ts) e =
+            IsFirstFaultIn ts e ⊎ (AllSettled ts × IsRowFault n (eval (call f ts)) e)
 
         pub IsFirstFaultIn : Trees V O → VortexError → Type 0
         IsFirstFaultIn no_trees e = ⊥

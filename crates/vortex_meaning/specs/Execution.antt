@@ -25,16 +25,21 @@ abbrev mutual
 -- the length of the first column that has not so many rows
 abbrev pub other_length : ℕ → List ColumnView → Option ℕ
 other_length n [] = None
-other_length n (c ∷ cs) = if nat_eq (length c.rows) n then other_length n cs else Some (length c.rows)
+other_length n (c ∷ cs) =
+    if nat_eq (length c.rows) n then other_length n cs else Some (length c.rows)
 
 -- the leaves fit, each column has the row count, and the answer is the tree's meaning row by row
-pub record Executes {V O : Type 0} (m : Meaning V O) (cs : List ColumnView) (n : ℕ) (t : Tree V O) (c : ColumnView) : Type 0 where
+pub record Executes {V O : Type 0} (m : Meaning V O) (cs : List ColumnView) (n : ℕ) (t : Tree V O)
+    (c : ColumnView) : Type 0 where
   pub fit : LeavesFit cs t
   pub lengths : other_length n cs ≡ None
   pub rows : HasTreeRows m cs n t c
 
 -- first a leaf that does not fit, then a column of another length, then the first fault
-pub data RefusesExecution {V O : Type 0} (m : Meaning V O) (cs : List ColumnView) (n : ℕ) (t : Tree V O) (e : VortexError) : Type 0 where
+pub data RefusesExecution {V O : Type 0} (m : Meaning V O) (cs : List ColumnView) (n : ℕ)
+    (t : Tree V O) (e : VortexError) : Type 0 where
   unfit : ¬ LeavesFit cs t → e ≡ ScopeMismatch → RefusesExecution m cs n t e
-  uneven : (l : ℕ) → LeavesFit cs t → other_length n cs ≡ Some l → e ≡ LengthMismatch n l → RefusesExecution m cs n t e
-  faulty : LeavesFit cs t → other_length n cs ≡ None → IsFirstFault m cs n t e → RefusesExecution m cs n t e
+  uneven : (l : ℕ) → LeavesFit cs t → other_length n cs ≡ Some l → e ≡ LengthMismatch n l
+      → RefusesExecution m cs n t e
+  faulty : LeavesFit cs t → other_length n cs ≡ None → IsFirstFault m cs n t e
+      → RefusesExecution m cs n t e

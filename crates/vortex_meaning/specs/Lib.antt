@@ -1,11 +1,16 @@
 pub mod Outcomes
 pub mod Meaning
+pub mod CallTexts
+pub mod Arguments
+pub mod Arithmetic
+pub mod RowFunction
 pub mod Shipped
-pub mod ShippedLaws
 pub mod Functions
+pub mod Answering
 pub mod Trees
 pub mod TreeCodes
 pub mod Eval
 pub mod Execution
 pub mod ComparisonTrees
+pub mod ArithmeticFaults
 pub mod Printing

@@ -34,8 +34,17 @@ AreAlike ts us = map without_nullability ts ≡ map without_nullability us
 -- strict_type, strict_value: a strict function returns a nullable type wherever an argument's is, and null wherever a value is null
 -- never_faults: an infallible one gives a value for all values of accepted types
 pub record Lawful {V O : Type 0} (m : Meaning V O) : Type 0 where
-  pub typed : (f : V) (o : O) (ts : List LogicalType) (t : LogicalType) (vs : List Value) → m.return_type f o ts ≡ Some t → HaveTypes ts vs → GivesType t (m.means f o ts vs)
-  pub alike : (f : V) (o : O) (ts us : List LogicalType) (t u : LogicalType) (vs : List Value) → m.return_type f o ts ≡ Some t → m.return_type f o us ≡ Some u → AreAlike ts us → HaveTypes ts vs → HaveTypes us vs → m.means f o ts vs ≡ m.means f o us vs
-  pub strict_type : (f : V) (o : O) (ts : List LogicalType) (t : LogicalType) → m.strict f o ≡ true → m.return_type f o ts ≡ Some t → Any (λ a. is_nullable a ≡ true) ts → is_nullable t ≡ true
-  pub strict_value : (f : V) (o : O) (ts : List LogicalType) (t : LogicalType) (vs : List Value) → m.strict f o ≡ true → m.return_type f o ts ≡ Some t → HaveTypes ts vs → Any (λ v. v ≡ null) vs → GivesNull (m.means f o ts vs)
-  pub never_faults : (f : V) (o : O) (ts : List LogicalType) (t : LogicalType) (vs : List Value) → m.infallible f o ≡ true → m.return_type f o ts ≡ Some t → HaveTypes ts vs → GivesValue (m.means f o ts vs)
+  pub typed : (f : V) (o : O) (ts : List LogicalType) (t : LogicalType) (vs : List Value)
+      → m.return_type f o ts ≡ Some t → HaveTypes ts vs → GivesType t (m.means f o ts vs)
+  pub alike : (f : V) (o : O) (ts us : List LogicalType) (t u : LogicalType) (vs : List Value)
+      → m.return_type f o ts ≡ Some t → m.return_type f o us ≡ Some u → AreAlike ts us
+      → HaveTypes ts vs → HaveTypes us vs → m.means f o ts vs ≡ m.means f o us vs
+  pub strict_type : (f : V) (o : O) (ts : List LogicalType) (t : LogicalType)
+      → m.strict f o ≡ true → m.return_type f o ts ≡ Some t → Any (λ a. is_nullable a ≡ true) ts
+      → is_nullable t ≡ true
+  pub strict_value : (f : V) (o : O) (ts : List LogicalType) (t : LogicalType) (vs : List Value)
+      → m.strict f o ≡ true → m.return_type f o ts ≡ Some t → HaveTypes ts vs → Any (λ v. v ≡ null) vs
+      → GivesNull (m.means f o ts vs)
+  pub never_faults : (f : V) (o : O) (ts : List LogicalType) (t : LogicalType) (vs : List Value)
+      → m.infallible f o ≡ true → m.return_type f o ts ≡ Some t → HaveTypes ts vs
+      → GivesValue (m.means f o ts vs)

@@ -53,10 +53,13 @@ abbrev pub call_row : (List LogicalType → List Value → Outcome) → List Col
 call_row means cs i = means (types_in cs) (values_at cs i)
 
 -- the column has the type that the call returns, the number of rows, and in each row the value that the call gives
-pub record HasCallRows (return_type : List LogicalType → Option LogicalType) (means : List LogicalType → List Value → Outcome) (cs : List ColumnView) (n : ℕ) (c : ColumnView) : Type 0 where
+pub record HasCallRows (return_type : List LogicalType → Option LogicalType)
+    (means : List LogicalType → List Value → Outcome) (cs : List ColumnView) (n : ℕ)
+    (c : ColumnView) : Type 0 where
   pub dtype : return_type (types_in cs) ≡ Some c.dtype
   pub count : length c.rows ≡ n
   pub each : (i : ℕ) → i < n → call_row means cs i ≡ gives (row c.rows i)
 
-abbrev pub IsCallFault : (List LogicalType → List Value → Outcome) → List ColumnView → ℕ → VortexError → Type 0
+abbrev pub IsCallFault : (List LogicalType → List Value → Outcome) → List ColumnView → ℕ
+    → VortexError → Type 0
 IsCallFault means cs n e = IsRowFault n (call_row means cs) e

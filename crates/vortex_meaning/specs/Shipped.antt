@@ -1,107 +1,82 @@
--- The shipped functions: types, row meaning and marks.
-use Rattle.std.specs.Prelude.{ℕ, zero, suc, codes, List, [], ◌∷◌, Option, Some, None, Bool, true, ◌||◌, not, if◌then◌else◌}
+-- The list of the shipped functions: each stands in a file of its own, and nothing else goes by cases over them.
+pub mod BinaryFunction
+pub mod NotFunction
+use Rattle.std.specs.Prelude.{◌≡◌, ℕ, zero, suc, List, Option, Some, None, Bool, if◌then◌else◌, refl}
+use Rattle.std.specs.Option.{option_map, option_or}
+use Rattle.std.proofs.Common.{ap}
 use Rattle.vortex_types.specs.declared.arity.Arity.{Arity}
 use Rattle.vortex_types.specs.declared.arity.Arity.TheVariants.{Exact}
 use Rattle.vortex_types.specs.declared.error.MismatchPlace.{MismatchPlace}
-use Rattle.vortex_types.specs.declared.error.MismatchPlace.TheVariants as place
-use Rattle.vortex_types.specs.LogicalTypes.{LogicalType, bool_type}
-use Rattle.vortex_types.specs.TypeEquality.{alike_types}
-use Rattle.vortex_types.specs.Values.{Value, null}
+use Rattle.vortex_types.specs.LogicalTypes.{LogicalType}
+use Rattle.vortex_types.specs.Values.{Value}
 use Rattle.vortex_operators.specs.declared.operators.Operator.{Operator}
-use Rattle.vortex_operators.specs.declared.operators.Operator.TheVariants.{And, Or, Add, Sub, Mul, Div}
-use Rattle.vortex_operators.specs.Operators.{is_arithmetic, is_boolean}
-use Rattle.vortex_operators.specs.OperatorValues.{not_value}
-use Rattle.vortex_operators.specs.OperatorValues.{comparison_type}
-pub use Rattle.vortex_operators.specs.OperatorValues.{value_by, operator_value}
-use Rattle.vortex_meaning.specs.Outcomes.{Outcome, gives}
-use Rattle.vortex_meaning.specs.Meaning.{Meaning}
+use Rattle.vortex_meaning.specs.Outcomes.{Outcome}
+use Rattle.vortex_meaning.specs.Meaning.{Meaning, Lawful}
+use Rattle.vortex_meaning.specs.RowFunction.{RowFunction, LawfulRow}
+use Rattle.vortex_meaning.specs.Shipped.BinaryFunction.{operator_function, operator_lawful, operator_named, operator_number, operator_numbered, operator_back}
+use Rattle.vortex_meaning.specs.Shipped.NotFunction.{not_function, not_lawful, is_not_word}
 
+-- THE LIST: each function with its options
 pub data Shipped : Type 0 where
-  binary : Operator → Shipped
-  negation : Shipped
+  Binary : Operator → Shipped
+  Not : Shipped
 
--- two Bool, nullable if either is
-abbrev pub both_bool : List LogicalType → Option LogicalType
-both_bool (bool_type n ∷ bool_type m ∷ []) = Some (bool_type (n || m))
-both_bool ts = None
+abbrev pub row_function : Shipped → RowFunction
+row_function (Binary op) = operator_function op
+row_function Not = not_function
 
--- two types that agree apart from nullability: Bool, nullable if either is
-abbrev pub compared_type : List LogicalType → Option LogicalType
-compared_type (t ∷ u ∷ []) = if alike_types t u then Some (comparison_type t u) else None
-compared_type ts = None
+pub row_lawful : (s : Shipped) → LawfulRow (row_function s)
+row_lawful (Binary op) = operator_lawful op
+row_lawful Not = not_lawful
 
--- arithmetic accepts no types yet
-abbrev pub operator_type : Operator → List LogicalType → Option LogicalType
-operator_type And ts = both_bool ts
-operator_type Or ts = both_bool ts
-operator_type Add ts = None
-operator_type Sub ts = None
-operator_type Mul ts = None
-operator_type Div ts = None
-operator_type o ts = compared_type ts
+-- the function that a word of a script names
+abbrev pub shipped_named : List ℕ → Option Shipped
+shipped_named w =
+    option_or (option_map Binary (operator_named w))
+    (option_or (if is_not_word w then Some Not else None)
+    None)
 
-abbrev pub of_two : (Value → Value → Value) → List Value → Value
-of_two f (v ∷ w ∷ []) = f v w
-of_two f vs = null
+-- the number of a function and that of its options, in the code of trees
+abbrev pub shipped_number : Shipped → ℕ × ℕ
+shipped_number (Binary op) = (0, operator_number op)
+shipped_number Not = (1, 0)
 
-abbrev pub of_one : (Value → Value) → List Value → Value
-of_one f (v ∷ []) = f v
-of_one f vs = null
+abbrev pub shipped_numbered : ℕ → ℕ → Shipped
+shipped_numbered zero n = Binary (operator_numbered n)
+shipped_numbered (suc f) n = Not
 
--- Bool, with its nullability
-abbrev pub negation_type : List LogicalType → Option LogicalType
-negation_type (bool_type n ∷ []) = Some (bool_type n)
-negation_type ts = None
+pub shipped_back : (s : Shipped) → shipped_numbered (shipped_number s).0 (shipped_number s).1 ≡ s
+shipped_back (Binary op) = ap Binary (operator_back op)
+shipped_back Not = refl
 
--- where the types of an operator are refused
-abbrev pub operator_place : Operator → MismatchPlace
-operator_place And = place.Boolean
-operator_place Or = place.Boolean
-operator_place Add = place.Arithmetic
-operator_place Sub = place.Arithmetic
-operator_place Mul = place.Arithmetic
-operator_place Div = place.Arithmetic
-operator_place o = place.Compare
-
-abbrev pub binary_id : List ℕ
-binary_id = codes "vortex.binary"
-
-abbrev pub negation_id : List ℕ
-negation_id = codes "vortex.not"
+-- What follows is read off the list.
 
 abbrev pub shipped_id : Shipped → List ℕ
-shipped_id (binary o) = binary_id
-shipped_id negation = negation_id
+shipped_id s = (row_function s).id
 
 abbrev pub shipped_arity : Shipped → Arity
-shipped_arity (binary o) = Exact 2
-shipped_arity negation = Exact 1
+shipped_arity s = Exact (row_function s).count
 
 abbrev pub shipped_child_name : Shipped → ℕ → List ℕ
-shipped_child_name (binary o) zero = codes "lhs"
-shipped_child_name (binary o) (suc i) = codes "rhs"
-shipped_child_name negation i = codes "input"
+shipped_child_name s i = (row_function s).child_name i
 
 abbrev pub shipped_type : Shipped → List LogicalType → Option LogicalType
-shipped_type (binary o) ts = operator_type o ts
-shipped_type negation ts = negation_type ts
+shipped_type s ts = (row_function s).return_type ts
 
-abbrev pub shipped_means : Shipped → List Value → Outcome
-shipped_means (binary o) vs = gives (of_two (operator_value o) vs)
-shipped_means negation vs = gives (of_one not_value vs)
+abbrev pub shipped_place : Shipped → List LogicalType → Option MismatchPlace
+shipped_place s ts = (row_function s).place ts
 
-abbrev pub shipped_place : Shipped → MismatchPlace
-shipped_place (binary o) = operator_place o
-shipped_place negation = place.Not
+abbrev pub shipped_means : Shipped → List LogicalType → List Value → Outcome
+shipped_means s ts vs = (row_function s).means ts vs
 
--- null where an argument is
 abbrev pub is_strict : Shipped → Bool
-is_strict (binary o) = not (is_boolean o)
-is_strict negation = true
+is_strict s = (row_function s).strict
 
 abbrev pub is_infallible : Shipped → Bool
-is_infallible (binary o) = not (is_arithmetic o)
-is_infallible negation = true
+is_infallible s = (row_function s).infallible
+
+abbrev pub shipped_text : Shipped → List (List ℕ) → List ℕ
+shipped_text s texts = (row_function s).text texts
 
 -- the functions of one identity whose options name a shipped function each
 abbrev pub shipped_meaning : {V O : Type 0} → List ℕ → (O → Shipped) → Meaning V O
@@ -109,8 +84,19 @@ shipped_meaning name shipped = record {
   id = λ f. name;
   arity = λ f o. shipped_arity (shipped o);
   child_name = λ f o i. shipped_child_name (shipped o) i;
-  means = λ f o ts vs. shipped_means (shipped o) vs;
+  means = λ f o ts vs. shipped_means (shipped o) ts vs;
   return_type = λ f o ts. shipped_type (shipped o) ts;
   strict = λ f o. is_strict (shipped o);
   infallible = λ f o. is_infallible (shipped o);
+}
+
+-- they are lawful
+pub shipped_lawful : {V O : Type 0} (name : List ℕ) (of : O → Shipped)
+    → Lawful (shipped_meaning {V = V} {O = O} name of)
+shipped_lawful name of = record {
+  typed = λ f o ts t vs e h. (row_lawful (of o)).typed ts t vs e h;
+  alike = λ f o ts us t u vs e g a h k. (row_lawful (of o)).alike ts us t u vs e g a h k;
+  strict_type = λ f o ts t s e a. (row_lawful (of o)).strict_type ts t s e a;
+  strict_value = λ f o ts t vs s e h a. (row_lawful (of o)).strict_value ts t vs s e h a;
+  never_faults = λ f o ts t vs s e h. (row_lawful (of o)).never_faults ts t vs s e h;
 }

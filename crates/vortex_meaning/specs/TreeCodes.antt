@@ -1,74 +1,20 @@
 -- The code of a tree, from those of a caller's functions and options: the tree is written as a list of marks in post-order,
 -- which a stack machine turns back into it. No contract cites what stands here.
-use Rattle.std.specs.Prelude.{◌≡◌, ◌⊎◌, refl, ℕ, zero, suc, List, [], ◌∷◌}
+use Rattle.std.specs.Prelude.{◌≡◌, ◌⊎◌, refl, ℕ, zero, List, [], ◌∷◌}
 use Rattle.std.proofs.Common.{◌∙◌, ap, inl, inr}
 use Rattle.std.specs.Coded.{Coded, code_by, coded×, coded⊎, coded_ℕ, coded_list}
 use Rattle.vortex_types.specs.LogicalTypes.{LogicalType}
 use Rattle.vortex_types.specs.Codes.{coded_type}
 use Rattle.vortex_columns.specs.ColumnView.{ColumnView, coded_column}
 use Rattle.vortex_types.specs.ScalarView.{ScalarView, coded_scalar}
-use Rattle.vortex_operators.specs.declared.operators.Operator.{Operator}
-use Rattle.vortex_operators.specs.declared.operators.Operator.TheVariants.{Eq, NotEq, Gt, Gte, Lt, Lte, And, Or, Add, Sub, Mul, Div}
-use Rattle.vortex_meaning.specs.Shipped.{Shipped, binary, negation}
-use Rattle.vortex_meaning.specs.Functions.{Function, shipped, custom}
+use Rattle.vortex_meaning.specs.Shipped.{Shipped, Not, shipped_number, shipped_numbered, shipped_back}
+use Rattle.vortex_meaning.specs.Functions.{Function, ours, custom}
 use Rattle.vortex_meaning.specs.Trees.{Leaf, place, held, Tree, leaf, constant, call, Trees, no_trees, tree}
 
-abbrev pub operator_number : Operator → ℕ
-operator_number Eq = 0
-operator_number NotEq = 1
-operator_number Gt = 2
-operator_number Gte = 3
-operator_number Lt = 4
-operator_number Lte = 5
-operator_number And = 6
-operator_number Or = 7
-operator_number Add = 8
-operator_number Sub = 9
-operator_number Mul = 10
-operator_number Div = 11
-
-abbrev pub operator_numbered : ℕ → Operator
-operator_numbered zero = Eq
-operator_numbered (suc zero) = NotEq
-operator_numbered (suc (suc zero)) = Gt
-operator_numbered (suc (suc (suc zero))) = Gte
-operator_numbered (suc (suc (suc (suc zero)))) = Lt
-operator_numbered (suc (suc (suc (suc (suc zero))))) = Lte
-operator_numbered (suc (suc (suc (suc (suc (suc zero)))))) = And
-operator_numbered (suc (suc (suc (suc (suc (suc (suc zero))))))) = Or
-operator_numbered (suc (suc (suc (suc (suc (suc (suc (suc zero)))))))) = Add
-operator_numbered (suc (suc (suc (suc (suc (suc (suc (suc (suc zero))))))))) = Sub
-operator_numbered (suc (suc (suc (suc (suc (suc (suc (suc (suc (suc zero)))))))))) = Mul
-operator_numbered n = Div
-
-pub operator_back : (o : Operator) → operator_numbered (operator_number o) ≡ o
-operator_back Eq = refl
-operator_back NotEq = refl
-operator_back Gt = refl
-operator_back Gte = refl
-operator_back Lt = refl
-operator_back Lte = refl
-operator_back And = refl
-operator_back Or = refl
-operator_back Add = refl
-operator_back Sub = refl
-operator_back Mul = refl
-operator_back Div = refl
-
-abbrev pub shipped_to : Shipped → ℕ ⊎ ℕ
-shipped_to (binary o) = inl (operator_number o)
-shipped_to negation = inr 0
-
-abbrev pub shipped_from : ℕ ⊎ ℕ → Shipped
-shipped_from (inl n) = binary (operator_numbered n)
-shipped_from (inr n) = negation
-
-pub shipped_back : (s : Shipped) → shipped_from (shipped_to s) ≡ s
-shipped_back (binary o) = ap binary (operator_back o)
-shipped_back negation = refl
-
 abbrev pub coded_shipped : Coded Shipped
-coded_shipped = code_by (ℕ ⊎ ℕ) (coded⊎ coded_ℕ coded_ℕ) shipped_to shipped_from shipped_back
+coded_shipped =
+    code_by (ℕ × ℕ) (coded× coded_ℕ coded_ℕ) shipped_number (λ p. shipped_numbered p.0 p.1)
+    shipped_back
 
 abbrev pub leaf_to : Leaf → (ℕ × (List ℕ × LogicalType)) ⊎ ColumnView
 leaf_to (place p name t) = inl (p, (name, t))
@@ -84,23 +30,27 @@ leaf_back (held c) = refl
 
 abbrev pub coded_leaf : Coded Leaf
 coded_leaf =
-    code_by ((ℕ × (List ℕ × LogicalType)) ⊎ ColumnView) (coded⊎ (coded× coded_ℕ (coded× (coded_list coded_ℕ) coded_type)) coded_column) leaf_to leaf_from leaf_back
+    let coded_place = coded× coded_ℕ (coded× (coded_list coded_ℕ) coded_type) in
+    let kinds = coded⊎ coded_place coded_column in
+    code_by ((ℕ × (List ℕ × LogicalType)) ⊎ ColumnView) kinds leaf_to leaf_from leaf_back
 
 module _ {V O : Type 0} where
   abbrev pub function_to : Function V O → Shipped ⊎ (V × O)
-  function_to (shipped s) = inl s
+  function_to (ours s) = inl s
   function_to (custom f o) = inr (f, o)
 
   abbrev pub function_from : Shipped ⊎ (V × O) → Function V O
-  function_from (inl s) = shipped s
+  function_from (inl s) = ours s
   function_from (inr p) = custom p.0 p.1
 
   pub function_back : (f : Function V O) → function_from (function_to f) ≡ f
-  function_back (shipped s) = refl
+  function_back (ours s) = refl
   function_back (custom f o) = refl
 
   abbrev pub coded_function : Coded V → Coded O → Coded (Function V O)
-  coded_function v o = code_by (Shipped ⊎ (V × O)) (coded⊎ coded_shipped (coded× v o)) function_to function_from function_back
+  coded_function v o =
+      let kinds = coded⊎ coded_shipped (coded× v o) in
+      code_by (Shipped ⊎ (V × O)) kinds function_to function_from function_back
 
 pub data Mark (V O : Type 0) : Type 0 where
   leaf_mark : Leaf → Mark V O
@@ -136,7 +86,9 @@ module _ {V O : Type 0} where
 
   abbrev pub coded_mark : Coded V → Coded O → Coded (Mark V O)
   coded_mark v o =
-      code_by (Leaf ⊎ (ScalarView ⊎ (Function V O ⊎ ℕ))) (coded⊎ coded_leaf (coded⊎ coded_scalar (coded⊎ (coded_function v o) coded_ℕ))) mark_to mark_from mark_back
+      let inner = coded⊎ coded_scalar (coded⊎ (coded_function v o) coded_ℕ) in
+      let kinds = coded⊎ coded_leaf inner in
+      code_by (Leaf ⊎ (ScalarView ⊎ (Function V O ⊎ ℕ))) kinds mark_to mark_from mark_back
 
   -- the marks of a tree, before those of the rest
   abbrev mutual
@@ -162,7 +114,7 @@ module _ {V O : Type 0} where
   after (leaf_mark l) stack = leaf l ∷ stack
   after (constant_mark s) stack = constant s ∷ stack
   after (call_mark f) stack = as_call f stack
-  after end_mark stack = call (shipped negation) no_trees ∷ stack
+  after end_mark stack = call (ours Not) no_trees ∷ stack
   after more_mark stack = with_more stack
 
   abbrev pub run : List (Mark V O) → List (Tree V O) → List (Tree V O)
@@ -170,18 +122,21 @@ module _ {V O : Type 0} where
   run (k ∷ ks) stack = run ks (after k stack)
 
   mutual
-    run-marks : (t : Tree V O) (rest : List (Mark V O)) (stack : List (Tree V O)) → run (marks t rest) stack ≡ run rest (t ∷ stack)
+    run-marks : (t : Tree V O) (rest : List (Mark V O)) (stack : List (Tree V O))
+        → run (marks t rest) stack ≡ run rest (t ∷ stack)
     run-marks (leaf l) rest stack = refl
     run-marks (constant s) rest stack = refl
     run-marks (call f ts) rest stack = run-all_marks ts (call_mark f ∷ rest) stack
 
-    run-all_marks : (ts : Trees V O) (rest : List (Mark V O)) (stack : List (Tree V O)) → run (all_marks ts rest) stack ≡ run rest (call (shipped negation) ts ∷ stack)
+    run-all_marks : (ts : Trees V O) (rest : List (Mark V O)) (stack : List (Tree V O))
+        → run (all_marks ts rest) stack ≡ run rest (call (ours Not) ts ∷ stack)
     run-all_marks no_trees rest stack = refl
     run-all_marks (tree t ts) rest stack =
-        run-marks t (all_marks ts (more_mark ∷ rest)) stack ∙ run-all_marks ts (more_mark ∷ rest) (t ∷ stack)
+        run-marks t (all_marks ts (more_mark ∷ rest)) stack
+        ∙ run-all_marks ts (more_mark ∷ rest) (t ∷ stack)
 
   abbrev pub top : List (Tree V O) → Tree V O
-  top [] = call (shipped negation) no_trees
+  top [] = call (ours Not) no_trees
   top (t ∷ stack) = t
 
   pub tree_back : (t : Tree V O) → top (run (marks t []) []) ≡ t
@@ -189,4 +144,5 @@ module _ {V O : Type 0} where
 
   abbrev pub coded_tree : Coded V → Coded O → Coded (Tree V O)
   coded_tree v o =
-      code_by (List (Mark V O)) (coded_list (coded_mark v o)) (λ t. marks t []) (λ ks. top (run ks [])) tree_back
+      let coded_marks = coded_list (coded_mark v o) in
+      code_by (List (Mark V O)) coded_marks (λ t. marks t []) (λ ks. top (run ks [])) tree_back

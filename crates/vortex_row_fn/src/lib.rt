@@ -15,5 +15,6 @@ pub use vortex_functions::{
     VecExecutionArgs,
 };
 pub use vortex_kernels::{
-    CompareOperator, Operator, execute_boolean, execute_compare, execute_not, scalar_cmp,
+    ArithmeticInteger, CompareOperator, Operator, apply_checked, execute_boolean, execute_compare,
+    execute_not, execute_numeric, scalar_cmp,
 };

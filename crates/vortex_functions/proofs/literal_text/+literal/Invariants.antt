@@ -7,11 +7,13 @@ use Rattle.vortex_functions.proofs.literal_text.+literal.Given as goal
 
 abbrev pub invariant-write_elements-loop-k : goal.invariant-write_elements-loop-k
 invariant-write_elements-loop-k l =
-    string_bytes l.out ≡ string_bytes l.initial.out ++ joined comma (take l.k (value_texts (shape_type l.shape) (values_of (sequence_values l.values))))
+    string_bytes l.out ≡ string_bytes l.initial.out ++ joined comma
+    (take l.k (value_texts (shape_type l.shape) (values_of (sequence_values l.values))))
 
 abbrev pub invariant-write_fields-loop-k : goal.invariant-write_fields-loop-k
 invariant-write_fields-loop-k l =
-    string_bytes l.out ≡ string_bytes l.initial.out ++ joined comma (take l.k (field_texts (fields_in (shape_type l.shape)) (values_of (sequence_values l.values))))
+    string_bytes l.out ≡ string_bytes l.initial.out ++ joined comma
+    (take l.k (field_texts (fields_in (shape_type l.shape)) (values_of (sequence_values l.values))))
 
 -- how deep the values nest: a cell is two steps above the values in it
 abbrev pub decreases-write_literal : goal.decreases-write_literal

@@ -8,7 +8,11 @@ use Rattle.vortex_functions.proofs.literal_text.write_bytes.Goals as goal
 pub loop-byte-preserved : goal.loop-byte-preserved
 loop-byte-preserved c =
     let b = get_or c.args.bytes.now c.loop-byte.byte-index 0 in
-    hex_written (string_bytes c.loop-byte.out) (string_bytes c.write.new.self) c.in_radix.result c.laid_out.result b (omega (arith, c.type_inv.bytes c.loop-byte.byte-index)) c.in_ok-write.ensures.bytes c.laid_out.ensures c.in_radix.ensures
+    hex_written (string_bytes c.loop-byte.out) (string_bytes c.write.new.self) c.in_radix.result
+    c.laid_out.result b (omega (arith, c.type_inv.bytes c.loop-byte.byte-index))
+    c.in_ok-write.ensures.bytes c.laid_out.ensures c.in_radix.ensures
     ∙ ap (λ t. t ++ hex_text b) c.loop-byte.invariant
-    ∙ flat_map_more hex_text (string_bytes c.args.out.now) (take c.loop-byte.byte-index c.args.bytes.now) b
-    ∙ ap (λ bs. string_bytes c.args.out.now ++ flat_map hex_text bs) (sym (take_more c.args.bytes.now c.loop-byte.byte-index 0 c.loop-byte-test.true))
+    ∙ flat_map_more hex_text (string_bytes c.args.out.now)
+    (take c.loop-byte.byte-index c.args.bytes.now) b
+    ∙ ap (λ bs. string_bytes c.args.out.now ++ flat_map hex_text bs)
+    (sym (take_more c.args.bytes.now c.loop-byte.byte-index 0 c.loop-byte-test.true))

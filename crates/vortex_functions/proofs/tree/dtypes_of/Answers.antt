@@ -7,4 +7,8 @@ use Rattle.vortex_functions.proofs.tree.dtypes_of.Goals as goal
 
 pub loop-child-preserved : goal.loop-child-preserved
 loop-child-preserved g c =
-    rw (c.in_ok-push.ensures.items, map-append, add-one) (types_more g.C.ScalarFnVTable.meaning c.args.children.now (map type_of c.loop-child.dtypes.items) c.loop-child.child-index c.child-item.result _ c.loop-child.invariant c.loop-child-test.true c.child-item.is (c.dtype.ensures ∙ ap Some (sym c.in_ok-try_clone.ensures)))
+    rw (c.in_ok-push.ensures.items, map-append, add-one)
+    (types_more g.C.ScalarFnVTable.meaning c.args.children.now
+    (map type_of c.loop-child.dtypes.items) c.loop-child.child-index c.child-item.result _
+    c.loop-child.invariant c.loop-child-test.true c.child-item.is
+    (c.dtype.ensures ∙ ap Some (sym c.in_ok-try_clone.ensures)))

@@ -7,4 +7,5 @@ use Rattle.vortex_functions.proofs.tree.dtypes_of.Given as goal
 -- the types so far
 abbrev pub invariant-loop-child : goal.invariant-loop-child
 invariant-loop-child g l =
-    tree_types g.C.ScalarFnVTable.meaning (trees_of (take l.child-index l.children)) ≡ Some (map type_of l.dtypes.items)
+    tree_types g.C.ScalarFnVTable.meaning (trees_of (take l.child-index l.children)) ≡ Some
+    (map type_of l.dtypes.items)

@@ -4,4 +4,5 @@ use Rattle.vortex_functions.proofs.tree.first_other_length.Given as goal
 
 -- those that were passed have the row count
 abbrev pub invariant-loop-column : goal.invariant-loop-column
-invariant-loop-column l = other_length l.row_count l.columns ≡ other_length l.row_count (drop l.column-index l.columns)
+invariant-loop-column l =
+    other_length l.row_count l.columns ≡ other_length l.row_count (drop l.column-index l.columns)

@@ -4,4 +4,9 @@ use Rattle.vortex_functions.proofs.custom.NoCustomScalarFnVTable.execute.Goals a
 
 pub returns : goal.returns
 returns g c =
-    fixed_call (g.A.ExecutionArgs.inputs c.args.args.now) (g.A.ExecutionArgs.rows c.args.args.now) c.in_ok-bits-2.bits c.try_bool.result c.requires.accepted (c.in_ok-bits-2.ensures ∙ c.deref.ensures.value ∙ c.in_ok-bits.ensures ∙ ap (λ n. replicate n false) c.row_count.ensures) c.try_bool.ensures
+    fixed_call (g.A.ExecutionArgs.inputs c.args.args.now) (g.A.ExecutionArgs.rows c.args.args.now)
+    c.in_ok-bits-2.bits c.try_bool.result c.requires.accepted
+    (c.in_ok-bits-2.ensures
+    ∙ c.deref.ensures.value
+    ∙ c.in_ok-bits.ensures
+    ∙ ap (λ n. replicate n false) c.row_count.ensures) c.try_bool.ensures

@@ -9,4 +9,5 @@ decreases-compute g l = goal.size-compute g l
 -- the columns of the children so far
 abbrev pub invariant-loop-child : goal.invariant-loop-child
 invariant-loop-child g l =
-    AllHaveRows g.C.ScalarFnVTable.meaning l.columns l.row_count (take l.child-index l.child-items) (map cow_value l.inputs.items)
+    AllHaveRows g.C.ScalarFnVTable.meaning l.columns l.row_count (take l.child-index l.child-items)
+    (map cow_value l.inputs.items)

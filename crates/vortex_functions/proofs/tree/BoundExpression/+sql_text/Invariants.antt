@@ -7,4 +7,5 @@ decreases-sql_text g l = goal.size-sql_text g l
 
 -- the texts of the children so far
 abbrev pub invariant-loop-child : goal.invariant-loop-child
-invariant-loop-child g l = AreTexts (take l.child-index l.child-items) (map string_bytes l.texts.items)
+invariant-loop-child g l =
+    AreTexts (take l.child-index l.child-items) (map string_bytes l.texts.items)

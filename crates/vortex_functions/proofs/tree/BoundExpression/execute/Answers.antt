@@ -3,4 +3,6 @@ use Rattle.vortex_meaning.specs.Execution.{uneven}
 use Rattle.vortex_functions.proofs.tree.BoundExpression.execute.Goals as goal
 
 pub returns-in-Some-clause-answer : goal.returns-in-Some-clause-answer
-returns-in-Some-clause-answer g c = uneven c.in-Some.right (c.leaves_fit.ensures.0 c.if-not-leaves_fit.false) (sym c.in-Some.ensures) (search)
+returns-in-Some-clause-answer g c =
+    uneven c.in-Some.right (c.leaves_fit.ensures.0 c.if-not-leaves_fit.false)
+    (sym c.in-Some.ensures) (search)

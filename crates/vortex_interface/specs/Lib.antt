@@ -1,0 +1,3 @@
+pub mod Args
+pub mod Texts
+pub mod Words

@@ -1,0 +1,13 @@
+//! The interface of row functions, and the inputs of their calls.
+#![tactic(auto)]
+
+pub mod args;
+pub mod options;
+pub mod printing;
+pub mod vtable;
+
+pub use args::VecExecutionArgs;
+pub use options::EmptyOptions;
+pub use printing::{write_call, write_separator};
+pub use vortex_columns::Arity;
+pub use vtable::{ChildName, ExecutionArgs, ScalarFnId, ScalarFnVTable};

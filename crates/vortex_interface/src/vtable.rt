@@ -1,0 +1,116 @@
+//! The interface of a row function.
+ghost use Rattle.std.specs.Prelude.{◌≡◌, ℕ, List, length, map, IsTrue, IsSome, IfOk, MatchResult, slice_get, string_bytes, Some};
+ghost use Rattle.vortex_interface.specs.Words.{ColumnView, Meaning, Lawful, fits, types_in, AnswersUnlessMemory, AnswersType, AnswersCall, Continues, PastInputs};
+
+use crate::printing::write_call;
+use std::alloc::Global;
+use std::fmt::{Debug, Display};
+use std::hash::Hash;
+use vortex_columns::{Arity, Column, DType, ExecutionCtx, VortexResult};
+
+/// A function's identity, as `vortex.binary`.
+pub type ScalarFnId = &'static str;
+
+/// The name of an argument, as `lhs`.
+pub type ChildName = &'static str;
+
+/// The inputs of a call: columns of one length.
+pub trait ExecutionArgs {
+    ghost inputs: { Self → List ColumnView };
+
+    ghost rows: { Self → ℕ };
+
+    /// The input of that index, lent. E1 exactly from `num_inputs` on; takes no memory.
+    fn get(&self, index: usize) -> VortexResult<&Column>
+        ensures input { MatchResult result
+            (λ c. slice_get (inputs self.now) index ≡ Some c.now)
+            (PastInputs (inputs self.now) index) }
+        ensures count { IfOk result (λ c. length c.now.rows ≡ rows self.now) };
+
+    /// How many inputs there are.
+    fn num_inputs(&self) -> usize
+        ensures { result ≡ length (inputs self.now) };
+
+    /// How many rows each input has.
+    fn row_count(&self) -> usize
+        ensures { result ≡ rows self.now };
+}
+
+/// A function of rows, with options of its own type.
+///
+/// What it means is a ghost member: the row meaning of argument types and values, the type of its answer, its arity,
+/// names and marks. The calls answer what the member says, and the member is lawful.
+pub trait ScalarFnVTable: Sized + Clone + Drop {
+    type Options: Clone + Debug + Display + Eq + Hash + Drop;
+
+    ghost meaning: { Meaning Self Self.Options };
+
+    /// The function's identity, as `vortex.binary`.
+    fn id(&self) -> ScalarFnId
+        ensures { result.now ≡ meaning.id self.now };
+
+    /// How many arguments a call takes.
+    fn arity(&self, options: &Self::Options) -> Arity
+        ensures { result ≡ meaning.arity self.now options.now };
+
+    /// The name of an argument, for every index; past the arguments that a call has, any name serves.
+    fn child_name(&self, options: &Self::Options, index: usize) -> ChildName
+        ensures { result.now ≡ meaning.child_name self.now options.now index };
+
+    /// The type of the answer for argument types of a fitting count; E3 exactly where they are not accepted.
+    fn return_dtype(
+        &self,
+        alloc: Global,
+        options: &Self::Options,
+        types: &[DType],
+    ) -> VortexResult<DType>
+        requires { IsTrue (fits (meaning.arity self.now options.now) (length types.now)) }
+        ensures { AnswersType meaning self.now options.now types.now result };
+
+    /// The answer over inputs of accepted types: a column of the type returned, with each row's value, or the fault of a row.
+    fn execute<A: ExecutionArgs>(
+        &self,
+        options: &Self::Options,
+        args: &A,
+        ctx: &mut ExecutionCtx,
+    ) -> VortexResult<Column>
+        requires arity { IsTrue (fits (meaning.arity self.now options.now) (length (A.inputs args.now))) }
+        requires accepted { IsSome (meaning.return_type self.now options.now (types_in (A.inputs args.now))) }
+        ensures { AnswersCall meaning self.now options.now
+            (A.inputs args.now) (A.rows args.now) result };
+
+    /// Appends the text of a call, by the texts of its arguments, whose count fits. Refuses for memory alone.
+    ///
+    /// The default is `id(a, b)`; where the text of the options is not empty, `, opts=` and that text stand before the `)`.
+    fn fmt_sql(
+        &self,
+        options: &Self::Options,
+        children: &[String],
+        out: &mut String,
+    ) -> VortexResult<()>
+        requires { IsTrue (fits (meaning.arity self.now options.now) (length children.now)) }
+        ensures { AnswersUnlessMemory result
+            (λ _. Continues (string_bytes out.old) (string_bytes out.new)) }
+    {
+        let text = options.to_string(*out.allocator())?;
+        write_call(out, self.id(), text.as_str(), children)
+    }
+
+    /// Whether a null argument makes the answer null.
+    fn is_strict(&self, options: &Self::Options) -> bool
+        ensures { result ≡ meaning.strict self.now options.now };
+
+    /// Whether no row faults.
+    fn is_infallible(&self, options: &Self::Options) -> bool
+        ensures { result ≡ meaning.infallible self.now options.now };
+
+    /// A copy that equals its source.
+    fn try_clone(&self, alloc: Global) -> VortexResult<Self>
+        ensures { AnswersUnlessMemory result (λ f. f ≡ self.now) };
+
+    /// A copy of options that equals its source.
+    fn clone_options(&self, alloc: Global, options: &Self::Options) -> VortexResult<Self::Options>
+        ensures { AnswersUnlessMemory result (λ o. o ≡ options.now) };
+
+    ghost lawful: { Lawful meaning };
+}

@@ -1,0 +1,41 @@
+-- One argument, and two.
+use Rattle.std.specs.Prelude.{◌≡◌, ◌⊎◌, ℕ, zero, suc, ◌<◌, List, [], ◌∷◌, Option, Some, None, Bool, true, false, ◌||◌, Any, slice_index_or, refl}
+use Rattle.std.proofs.Common.{sym, subst, arith, inl, inr}
+use Rattle.vortex_types.specs.LogicalTypes.{bool_type}
+use Rattle.vortex_types.specs.Values.{Value, null, truth_or_null}
+use Rattle.vortex_types.specs.Typing.{HasType}
+use Rattle.vortex_operators.specs.Kleene.{Allows}
+
+abbrev pub of_one : (Value → Value) → List Value → Value
+of_one f (v ∷ []) = f v
+of_one f vs = null
+
+abbrev pub of_two : (Value → Value → Value) → List Value → Value
+of_two f (v ∷ w ∷ []) = f v w
+of_two f vs = null
+
+-- what holds of an argument holds of the only one, and of one of the two
+pub only : {A : Type 0} (P : A → Type 0) (x : A) → Any P (x ∷ []) → P x
+only {A} P x a = by a.0 a.1 a.2 a.3 a.4
+  where
+    by : (k : ℕ) (y : A) → k < 1 → slice_index_or (x ∷ []) k y ≡ y → P y → P x
+    by zero y h e p = subst P (sym e) p
+    by (suc k) y h e p = absurd (omega arith)
+
+pub either_of : {A : Type 0} (P : A → Type 0) (x z : A) → Any P (x ∷ z ∷ []) → P x ⊎ P z
+either_of {A} P x z a = by a.0 a.1 a.2 a.3 a.4
+  where
+    by : (k : ℕ) (y : A) → k < 2 → slice_index_or (x ∷ z ∷ []) k y ≡ y → P y → P x ⊎ P z
+    by zero y h e p = inl (subst P (sym e) p)
+    by (suc zero) y h e p = inr (subst P (sym e) p)
+    by (suc (suc k)) y h e p = absurd (omega arith)
+
+pub or_either : (n m : Bool) → (n ≡ true) ⊎ (m ≡ true) → (n || m) ≡ true
+or_either true m h = refl
+or_either false m (inl h) = cc
+or_either false m (inr h) = h
+
+-- a truth value or null is a value of Bool, nullable where null is allowed
+pub has_bool : (n : Bool) (a : Option Bool) → Allows n a → HasType (bool_type n) (truth_or_null a)
+has_bool n None h = h
+has_bool n (Some b) h = tt

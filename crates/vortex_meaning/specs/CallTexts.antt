@@ -1,0 +1,34 @@
+-- How a call is printed by the texts of its arguments, in the bytes of UTF-8.
+use Rattle.std.specs.Prelude.{◌≡◌, ℕ, zero, suc, List, [], ◌++◌, codes, string_bytes, String}
+use Rattle.std.specs.declared.alloc.Global.{Global}
+use Rattle.std.specs.List.{join_by}
+
+-- texts with another between each two
+abbrev pub joined : List ℕ → List (List ℕ) → List ℕ
+joined = join_by (λ piece. piece)
+
+-- what stands before the k-th of them
+abbrev pub separator_before : List ℕ → ℕ → List ℕ
+separator_before separator zero = []
+separator_before separator (suc k) = separator
+
+abbrev pub comma : List ℕ
+comma = codes ", "
+
+-- a function's options after its arguments, where they have a text
+abbrev pub options_text : List ℕ → List ℕ
+options_text [] = []
+options_text options = codes ", opts=" ++ options
+
+-- the text of a call, but for the functions that have their own: the identity, the arguments' texts and that of the options
+abbrev pub call_text : List ℕ → List ℕ → List (List ℕ) → List ℕ
+call_text id options texts =
+    id ++ codes "(" ++ joined comma texts ++ options_text options ++ codes ")"
+
+-- what was there stays at the beginning
+abbrev pub Continues : List ℕ → List ℕ → Type 0
+Continues old new = (rest : List ℕ) × (new ≡ old ++ rest)
+
+-- the text is written behind what was there
+abbrev pub Appends : String Global → List ℕ → String Global → Type 0
+Appends old text new = string_bytes new ≡ string_bytes old ++ text

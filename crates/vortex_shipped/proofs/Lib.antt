@@ -1,0 +1,3 @@
+pub mod BinaryCalls
+pub mod NotCalls
+pub mod NumericCalls

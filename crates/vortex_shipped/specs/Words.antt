@@ -1,0 +1,10 @@
+-- What the contracts of this crate name.
+pub use Rattle.vortex_types.specs.Answers.{AnswersUnlessMemory}
+pub use Rattle.vortex_types.specs.TypeOf.{type_of}
+pub use Rattle.vortex_meaning.specs.Shipped.{Shipped, shipped_meaning, shipped_lawful}
+pub use Rattle.vortex_meaning.specs.Shipped.BinaryFunction.{binary_id, both_bool, compared_type, operator_type, operator_place}
+pub use Rattle.vortex_meaning.specs.Shipped.NotFunction.{not_id}
+pub use Rattle.vortex_meaning.specs.Arithmetic.{arithmetic_type}
+pub use Rattle.vortex_meaning.specs.Answering.{AnswersShippedType}
+pub use Rattle.vortex_shipped.specs.Typing.{IsTypeFound}
+pub use Rattle.vortex_shipped.specs.Texts.{AppendsCall, AppendsOperator}

@@ -1,0 +1,181 @@
+//! The operators of two operands.
+ghost use Rattle.std.specs.Prelude.{◌≡◌, length, map};
+ghost use Rattle.vortex_meaning.specs.Shipped as shipped;
+ghost use Rattle.vortex_shipped.specs.Words.{AnswersUnlessMemory, type_of, AppendsCall, AppendsOperator, binary_id, both_bool, compared_type, arithmetic_type, operator_type, operator_place, shipped_meaning, shipped_lawful, AnswersShippedType, IsTypeFound};
+
+use std::alloc::Global;
+use vortex_columns::{
+    Arity, Column, DType, ExecutionCtx, MismatchPlace, VortexError, VortexResult,
+};
+use vortex_interface::{ChildName, ExecutionArgs, ScalarFnId, ScalarFnVTable};
+use vortex_kernels::{Operator, execute_boolean, execute_compare, execute_numeric};
+
+/// And and Or of two Bool, by Kleene's tables; the comparisons of two types that agree apart from nullability, by the order
+/// of values; and exact arithmetic of two operands of one integer type apart from nullability, which is E7 where in some row
+/// both are there and the type does not hold the result. The answer is nullable if either operand is.
+#[derive(Clone, Drop)]
+pub struct Binary;
+
+/// Where the types of an operator are refused.
+fn mismatch_place(operator: Operator) -> MismatchPlace
+    ensures { result ≡ operator_place operator }
+{
+    match operator {
+        Operator::And => MismatchPlace::Boolean,
+        Operator::Or => MismatchPlace::Boolean,
+        Operator::Add => MismatchPlace::Arithmetic,
+        Operator::Sub => MismatchPlace::Arithmetic,
+        Operator::Mul => MismatchPlace::Arithmetic,
+        Operator::Div => MismatchPlace::Arithmetic,
+        _ => MismatchPlace::Compare,
+    }
+}
+
+/// Bool for two Bool, nullable if either is.
+fn boolean_dtype(types: &[DType]) -> Option<DType>
+    ensures { IsTypeFound (both_bool (map type_of types.now)) result }
+{
+    match types {
+        [DType::Bool(left), DType::Bool(right)] => Some(DType::Bool(*left | *right)),
+        _ => None,
+    }
+}
+
+/// Bool for two types that agree apart from nullability, nullable if either is.
+fn comparison_dtype(types: &[DType]) -> Option<DType>
+    ensures { IsTypeFound (compared_type (map type_of types.now)) result }
+{
+    match types {
+        [left, right] => {
+            if !left.eq_ignore_nullability(right) {
+                return None;
+            }
+            Some(DType::Bool(left.nullability() | right.nullability()))
+        }
+        _ => None,
+    }
+}
+
+/// The integer type of two operands, nullable if either is.
+fn arithmetic_dtype(types: &[DType]) -> Option<DType>
+    ensures { IsTypeFound (arithmetic_type (map type_of types.now)) result }
+{
+    match types {
+        [DType::Primitive(left, one), DType::Primitive(right, other)] => {
+            if *left != *right {
+                return None;
+            }
+            Some(DType::Primitive(*left, *one | *other))
+        }
+        _ => None,
+    }
+}
+
+/// The type of an operator's answer, where it accepts the operands.
+fn operator_dtype(operator: Operator, types: &[DType]) -> Option<DType>
+    ensures { IsTypeFound (operator_type operator (map type_of types.now)) result }
+{
+    match operator {
+        Operator::And => boolean_dtype(types),
+        Operator::Or => boolean_dtype(types),
+        Operator::Add => arithmetic_dtype(types),
+        Operator::Sub => arithmetic_dtype(types),
+        Operator::Mul => arithmetic_dtype(types),
+        Operator::Div => arithmetic_dtype(types),
+        _ => comparison_dtype(types),
+    }
+}
+
+/// `(a op b)`, behind what stands there.
+fn write_operator(out: &mut String, operator: Operator, operands: &[String]) -> VortexResult<()>
+    requires { length operands.now ≡ 2 }
+    ensures { AnswersUnlessMemory result
+        (λ _. AppendsOperator operator operands.now out.old out.new) }
+{
+    out.push_str("(")?;
+    out.push_str(operands[0].as_str())?;
+    out.push_str(" ")?;
+    out.push_str(operator.text())?;
+    out.push_str(" ")?;
+    out.push_str(operands[1].as_str())?;
+    out.push_str(")")?;
+    Ok(())
+}
+
+impl ScalarFnVTable for Binary {
+    type Options = Operator;
+
+    ghost meaning = { shipped_meaning binary_id shipped.Binary };
+
+    fn id(&self) -> ScalarFnId {
+        "vortex.binary"
+    }
+
+    fn arity(&self, _operator: &Operator) -> Arity {
+        Arity::Exact(2)
+    }
+
+    fn child_name(&self, _operator: &Operator, index: usize) -> ChildName {
+        if index == 0 { "lhs" } else { "rhs" }
+    }
+
+    fn return_dtype(
+        &self,
+        _alloc: Global,
+        operator: &Operator,
+        types: &[DType],
+    ) -> VortexResult<DType>
+        ensures { AnswersShippedType (shipped.Binary operator.now) types.now result }
+    {
+        operator_dtype(*operator, types).ok_or(VortexError::TypeMismatch(mismatch_place(*operator)))
+    }
+
+    fn execute<A: ExecutionArgs>(
+        &self,
+        operator: &Operator,
+        args: &A,
+        ctx: &mut ExecutionCtx,
+    ) -> VortexResult<Column> {
+        let lhs = args.get(0)?;
+        let rhs = args.get(1)?;
+        if let Some(compare) = operator.to_compare_operator() {
+            return execute_compare(lhs, rhs, compare, ctx);
+        }
+        match operator.to_numeric_operator() {
+            Some(numeric) => execute_numeric(lhs, rhs, numeric, ctx),
+            None => execute_boolean(lhs, rhs, *operator, ctx),
+        }
+    }
+
+    /// `(a op b)`.
+    fn fmt_sql(
+        &self,
+        operator: &Operator,
+        children: &[String],
+        out: &mut String,
+    ) -> VortexResult<()>
+        requires { length children.now ≡ 2 }
+        ensures { AnswersUnlessMemory result
+            (λ _. AppendsCall (shipped.Binary operator.now) children.now out.old out.new) }
+    {
+        write_operator(out, *operator, children)
+    }
+
+    fn is_strict(&self, operator: &Operator) -> bool {
+        !operator.is_boolean()
+    }
+
+    fn is_infallible(&self, operator: &Operator) -> bool {
+        !operator.is_arithmetic()
+    }
+
+    fn try_clone(&self, _alloc: Global) -> VortexResult<Binary> {
+        Ok(Binary)
+    }
+
+    fn clone_options(&self, _alloc: Global, operator: &Operator) -> VortexResult<Operator> {
+        Ok(*operator)
+    }
+
+    ghost lawful = { shipped_lawful binary_id shipped.Binary };
+}

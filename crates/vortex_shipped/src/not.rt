@@ -1,0 +1,89 @@
+//! Kleene's Not.
+ghost use Rattle.vortex_meaning.specs.Shipped as shipped;
+ghost use Rattle.vortex_shipped.specs.Words.{AnswersUnlessMemory, AppendsCall, not_id, shipped_meaning, shipped_lawful, AnswersShippedType};
+
+use std::alloc::Global;
+use vortex_columns::{
+    Arity, Column, DType, ExecutionCtx, MismatchPlace, VortexError, VortexResult,
+};
+use vortex_interface::{
+    ChildName, EmptyOptions, ExecutionArgs, ScalarFnId, ScalarFnVTable, write_call,
+};
+use vortex_kernels::execute_not;
+
+/// Not of a Bool; a null stays null, and the type is its input's.
+#[derive(Clone, Drop)]
+pub struct Not;
+
+impl ScalarFnVTable for Not {
+    type Options = EmptyOptions;
+
+    ghost meaning = { shipped_meaning not_id (λ _. shipped.Not) };
+
+    fn id(&self) -> ScalarFnId {
+        "vortex.not"
+    }
+
+    fn arity(&self, _options: &EmptyOptions) -> Arity {
+        Arity::Exact(1)
+    }
+
+    fn child_name(&self, _options: &EmptyOptions, _index: usize) -> ChildName {
+        "input"
+    }
+
+    fn return_dtype(
+        &self,
+        _alloc: Global,
+        _options: &EmptyOptions,
+        types: &[DType],
+    ) -> VortexResult<DType>
+        ensures { AnswersShippedType shipped.Not types.now result }
+    {
+        match types {
+            [DType::Bool(nullability)] => Ok(DType::Bool(*nullability)),
+            _ => Err(VortexError::TypeMismatch(MismatchPlace::Not)),
+        }
+    }
+
+    fn execute<A: ExecutionArgs>(
+        &self,
+        _options: &EmptyOptions,
+        args: &A,
+        ctx: &mut ExecutionCtx,
+    ) -> VortexResult<Column> {
+        let input = args.get(0)?;
+        execute_not(input, ctx)
+    }
+
+    /// `vortex.not(a)`.
+    fn fmt_sql(
+        &self,
+        _options: &EmptyOptions,
+        children: &[String],
+        out: &mut String,
+    ) -> VortexResult<()>
+        ensures { AnswersUnlessMemory result
+            (λ _. AppendsCall shipped.Not children.now out.old out.new) }
+    {
+        write_call(out, self.id(), "", children)
+    }
+
+    fn is_strict(&self, _options: &EmptyOptions) -> bool {
+        true
+    }
+
+    fn is_infallible(&self, _options: &EmptyOptions) -> bool {
+        true
+    }
+
+    fn try_clone(&self, _alloc: Global) -> VortexResult<Not> {
+        Ok(Not)
+    }
+
+    fn clone_options(&self, _alloc: Global, _options: &EmptyOptions) -> VortexResult<EmptyOptions> {
+        Ok(EmptyOptions)
+    }
+
+    ghost lawful = { shipped_lawful not_id (λ _. shipped.Not) };
+}
