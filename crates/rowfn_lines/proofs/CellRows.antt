@@ -1,5 +1,8 @@
 -- Cells that are read one by one, and the column that is made of them.
-use Rattle.std.proofs.Common.{tests, ◌≡◌, ℕ, zero, suc, ◌+◌, add-one, drop, ◌<◌, ◌≤◌, Bool, true, false, Option, Some, None, Result, List, [], ◌∷◌, ◌++◌, ℤ, pos, map, length, get_or, refl, sym, ap, subst, ◌∙◌, arith, length-append, append_assoc, option_map, ◌&&◌, if◌then◌else◌, All}
+use Rattle.std.proofs.Common.{tests, ◌≡◌, ℕ, zero, suc, ◌+◌, add-one, drop, ◌<◌, ◌≤◌, Bool, true}
+use Rattle.std.proofs.Common.{false, Option, Some, None, Result, List, [], ◌∷◌, ◌++◌, ℤ, pos, map}
+use Rattle.std.proofs.Common.{length, get_or, refl, sym, ap, subst, ◌∙◌, arith, length-append}
+use Rattle.std.proofs.Common.{append_assoc, option_map, ◌&&◌, if◌then◌else◌, All}
 use Rattle.std.specs.Prelude.{slice_index_or, is_some, unwrap_or}
 use Rattle.std.proofs.Math.Seq.{drop-cons}
 use Rattle.std.specs.List.{list_all}
@@ -10,88 +13,123 @@ use Rattle.std.proofs.lemmas.List.FromFn.{get_or-map-range_with_len, length-map-
 use Rattle.vortex_types.specs.declared.error.VortexError.{VortexError}
 use Rattle.vortex_types.specs.Answers.{AnswersWhere}
 use Rattle.vortex_types.proofs.Answering.{Answers-weaker}
-use Rattle.vortex_types.specs.LogicalTypes.{LogicalType, bool_type, integer_type, text_type, is_nullable}
+use Rattle.vortex_types.specs.LogicalTypes.{LogicalType, bool_type, integer_type, text_type}
+use Rattle.vortex_types.specs.LogicalTypes.{is_nullable}
 use Rattle.vortex_types.specs.Values.{Value, null, truth, number, text}
-use Rattle.vortex_types.specs.ValidityView.{ValidityView, FitsRows, is_valid_row, form_allows_null, array, non_nullable}
+use Rattle.vortex_types.specs.ValidityView.{ValidityView, FitsRows, is_valid_row, form_allows_null}
+use Rattle.vortex_types.specs.ValidityView.{array, non_nullable}
 use Rattle.vortex_columns.specs.ColumnView.{ColumnView, row}
 use Rattle.vortex_columns.specs.Stored.{made_of}
 use Rattle.rowfn_lines.specs.Lines.{Word, plain, quoted}
 use Rattle.rowfn_lines.specs.Ranges.{in_range}
-use Rattle.rowfn_lines.specs.Commands.{integer_of, number_where, cell_of, cells_of, with_cell, value_said, says_null, fits_column, column_of, column_where}
-use Rattle.rowfn_lines.specs.Cells.{cells_from, item_or_null, IsMade, AreItems, AreCells, cells_validity}
+use Rattle.rowfn_lines.specs.Commands.{integer_of, number_where, cell_of, cells_of, with_cell}
+use Rattle.rowfn_lines.specs.Commands.{value_said, says_null, fits_column, column_of, column_where}
+use Rattle.rowfn_lines.specs.Cells.{cells_from, item_or_null, IsMade, AreItems, AreCells}
+use Rattle.rowfn_lines.specs.Cells.{cells_validity}
 
-pub answers_same : {A : Type 0} (r : Result A VortexError) (C D : Type 0) (P Q : A → Type 0) (refusal : VortexError) → (C → D) → (D → C) → ((x : A) → P x → Q x) → AnswersWhere r C P refusal → AnswersWhere r D Q refusal
+pub answers_same : {A : Type 0} (r : Result A VortexError) (C D : Type 0) (P Q : A → Type 0)
+    (refusal : VortexError)
+    → (C → D) → (D → C) → ((x : A) → P x → Q x) → AnswersWhere r C P refusal
+    → AnswersWhere r D Q refusal
 answers_same r C D P Q refusal f g h k =
-    Answers-weaker r (λ x. C × P x) (λ x. D × Q x) (λ e. (¬ C) × (e ≡ refusal)) (λ e. (¬ D) × (e ≡ refusal)) (λ x p. (f p.0, h x p.1)) (λ e p. ((λ d. p.0 (g d)), p.1)) k
+    Answers-weaker r (λ x. C × P x) (λ x. D × Q x) (λ e. (¬ C) × (e ≡ refusal))
+    (λ e. (¬ D) × (e ≡ refusal)) (λ x p. (f p.0, h x p.1)) (λ e p. ((λ d. p.0 (g d)), p.1)) k
 
 -- what a constructor makes, row by row
-pub made_is : (kind : Bool → LogicalType) (v : ValidityView) (n : ℕ) (f : ℕ → Value) (vs : List Value) (c : ColumnView) → n ≡ length vs → ((i : ℕ) → i < length vs → f i ≡ slice_index_or vs i null) → c ≡ made_of (kind (form_allows_null v.form)) v n f → IsMade kind v vs c
+pub made_is : (kind : Bool → LogicalType) (v : ValidityView) (n : ℕ) (f : ℕ → Value)
+    (vs : List Value) (c : ColumnView)
+    → n ≡ length vs → ((i : ℕ) → i < length vs → f i ≡ slice_index_or vs i null)
+    → c ≡ made_of (kind (form_allows_null v.form)) v n f → IsMade kind v vs c
 made_is kind v n f vs c count same e = record {
   dtype = ap (λ (d : ColumnView). d.dtype) e;
-  count = ap (λ (d : ColumnView). length d.rows) e ∙ length-map-range_with_len (λ i. if is_valid_row v i then f i else null) 0 n ∙ count;
+  count =
+      ap (λ (d : ColumnView). length d.rows) e
+      ∙ length-map-range_with_len (λ i. if is_valid_row v i then f i else null) 0 n ∙ count;
   each = λ i lt.
       ap (λ (d : ColumnView). row d.rows i) e
-      ∙ get_or-map-range_with_len (λ i. if is_valid_row v i then f i else null) 0 n i i null (omega (arith, count)) (omega arith)
+      ∙ get_or-map-range_with_len (λ i. if is_valid_row v i then f i else null) 0 n i i null
+      (omega (arith, count)) (omega arith)
       ∙ ap (λ x. if is_valid_row v i then x else null) (same i lt);
   computed = ap (λ (d : ColumnView). d.constant) e;
   form = ap (λ (d : ColumnView). d.form) e;
 }
 
-pub truths_at : (xs bits : List Bool) → bits ≡ xs → (i : ℕ) → i < length (map truth xs) → truth (slice_index_or bits i false) ≡ slice_index_or (map truth xs) i null
+pub truths_at : (xs bits : List Bool) → bits ≡ xs → (i : ℕ) → i < length (map truth xs)
+    → truth (slice_index_or bits i false) ≡ slice_index_or (map truth xs) i null
 truths_at xs bits e i h =
-    ap (λ ys. truth (slice_index_or ys i false)) e ∙ sym (get_or-map truth xs i false null (omega (arith, length-map xs truth)))
+    ap (λ ys. truth (slice_index_or ys i false)) e
+    ∙ sym (get_or-map truth xs i false null (omega (arith, length-map xs truth)))
 
-pub numbers_at : {X : Type 0} (f : X → ℤ) (xs : List X) (i : ℕ) → i < length (map (λ x. number (f x)) xs) → number (slice_index_or (map f xs) i (pos 0)) ≡ slice_index_or (map (λ x. number (f x)) xs) i null
+pub numbers_at : {X : Type 0} (f : X → ℤ) (xs : List X) (i : ℕ)
+    → i < length (map (λ x. number (f x)) xs)
+    → number (slice_index_or (map f xs) i (pos 0))
+    ≡ slice_index_or (map (λ x. number (f x)) xs) i null
 numbers_at f [] i h = absurd (omega arith)
 numbers_at f (x ∷ xs) zero h = refl
 numbers_at f (x ∷ xs) (suc i) h = numbers_at f xs i (omega arith)
 
-pub texts_at : {X : Type 0} (f : X → List ℕ) (xs : List X) (i : ℕ) → i < length (map (λ x. text (f x)) xs) → text (slice_index_or (map f xs) i []) ≡ slice_index_or (map (λ x. text (f x)) xs) i null
+pub texts_at : {X : Type 0} (f : X → List ℕ) (xs : List X) (i : ℕ)
+    → i < length (map (λ x. text (f x)) xs)
+    → text (slice_index_or (map f xs) i []) ≡ slice_index_or (map (λ x. text (f x)) xs) i null
 texts_at f [] i h = absurd (omega arith)
 texts_at f (x ∷ xs) zero h = refl
 texts_at f (x ∷ xs) (suc i) h = texts_at f xs i (omega arith)
 
 -- which values fit a column
-pub all_fit : {X : Type 0} (f : X → Value) → ((x : X) → fits_column (f x) ≡ true) → (xs : List X) → list_all fits_column (map f xs) ≡ true
+pub all_fit : {X : Type 0} (f : X → Value) → ((x : X) → fits_column (f x) ≡ true) → (xs : List X)
+    → list_all fits_column (map f xs) ≡ true
 all_fit f h [] = refl
 all_fit f h (x ∷ xs) = λ i. h x i && all_fit f h xs i
 
-pub texts_fit : {X : Type 0} (f : X → List ℕ) (xs : List X) → All (λ x. length (f x) ≤ 4294967295) xs → list_all fits_column (map (λ x. text (f x)) xs) ≡ true
+pub texts_fit : {X : Type 0} (f : X → List ℕ) (xs : List X)
+    → All (λ x. length (f x) ≤ 4294967295) xs
+    → list_all fits_column (map (λ x. text (f x)) xs) ≡ true
 texts_fit f [] h = refl
 texts_fit f (x ∷ xs) h =
-    and_from _ _ (grind (arith, tests, h 0 x (omega arith))) (texts_fit f xs (λ k d lt. h (suc k) d (omega arith)))
+    and_from _ _ (grind (arith, tests, h 0 x (omega arith)))
+    (texts_fit f xs (λ k d lt. h (suc k) d (omega arith)))
 
-pub fitting_texts : {X : Type 0} (f : X → List ℕ) (xs : List X) → list_all fits_column (map (λ x. text (f x)) xs) ≡ true → All (λ x. length (f x) ≤ 4294967295) xs
+pub fitting_texts : {X : Type 0} (f : X → List ℕ) (xs : List X)
+    → list_all fits_column (map (λ x. text (f x)) xs) ≡ true
+    → All (λ x. length (f x) ≤ 4294967295) xs
 fitting_texts f [] h k d lt = absurd (omega arith)
 fitting_texts f (x ∷ xs) h zero d lt =
     let here = (and_parts (fits_column (text (f x))) _ h).0 in grind (arith, tests)
-fitting_texts f (x ∷ xs) h (suc k) d lt = fitting_texts f xs (and_parts (fits_column (text (f x))) _ h).1 k d (omega arith)
+fitting_texts f (x ∷ xs) h (suc k) d lt =
+    fitting_texts f xs (and_parts (fits_column (text (f x))) _ h).1 k d (omega arith)
 
-cells_more : (vs : List Value) (valid : List Bool) (v : Value) (b : Bool) → length valid ≡ length vs → cells_from (vs ++ v ∷ []) (valid ++ b ∷ []) ≡ cells_from vs valid ++ (if b then v else null) ∷ []
+cells_more : (vs : List Value) (valid : List Bool) (v : Value) (b : Bool) → length valid ≡ length vs
+    → cells_from (vs ++ v ∷ []) (valid ++ b ∷ [])
+    ≡ cells_from vs valid ++ (if b then v else null) ∷ []
 cells_more [] [] v b h = refl
 cells_more [] (c ∷ cs) v b h = absurd (omega (arith, h))
 cells_more (w ∷ ws) [] v b h = absurd (omega (arith, h))
 cells_more (w ∷ ws) (c ∷ cs) v b h =
     ap (λ (xs : List Value). (if c then w else null) ∷ xs) (cells_more ws cs v b (omega (arith, h)))
 
-all_more : (vs : List Value) (v : Value) → list_all fits_column (vs ++ v ∷ []) ≡ (list_all fits_column vs && fits_column v)
+all_more : (vs : List Value) (v : Value)
+    → list_all fits_column (vs ++ v ∷ []) ≡ (list_all fits_column vs && fits_column v)
 all_more [] v = by (fits_column v)
   where
     by : (b : Bool) → (b && true) ≡ (true && b)
     by true = refl
     by false = refl
 all_more (w ∷ ws) v =
-    ap (λ b. fits_column w && b) (all_more ws v) ∙ assoc (fits_column w) (list_all fits_column ws) (fits_column v)
+    ap (λ b. fits_column w && b) (all_more ws v)
+    ∙ assoc (fits_column w) (list_all fits_column ws) (fits_column v)
   where
     assoc : (a b c : Bool) → (a && (b && c)) ≡ ((a && b) && c)
     assoc true b c = refl
     assoc false b c = refl
 
-fits_alike : (v : Value) (b : Bool) → (b ≡ false → fits_column v ≡ true) → fits_column (if b then v else null) ≡ fits_column v
+fits_alike : (v : Value) (b : Bool) → (b ≡ false → fits_column v ≡ true)
+    → fits_column (if b then v else null) ≡ fits_column v
 fits_alike v true h = refl
 fits_alike v false h = sym (h refl)
 
-last_or_before : (xs : List Bool) (x : Bool) (i : ℕ) → i < length (xs ++ x ∷ []) → ((k : ℕ) → k < length xs → slice_index_or xs k true ≡ true) → x ≡ true → slice_index_or (xs ++ x ∷ []) i true ≡ true
+last_or_before : (xs : List Bool) (x : Bool) (i : ℕ) → i < length (xs ++ x ∷ [])
+    → ((k : ℕ) → k < length xs → slice_index_or xs k true ≡ true) → x ≡ true
+    → slice_index_or (xs ++ x ∷ []) i true ≡ true
 last_or_before [] x zero lt h e = e
 last_or_before [] x (suc i) lt h e = absurd (omega arith)
 last_or_before (y ∷ ys) x zero lt h e = h 0 (omega arith)
@@ -99,7 +137,9 @@ last_or_before (y ∷ ys) x (suc i) lt h e =
     last_or_before ys x i (omega (arith, lt)) (λ k l. h (suc k) (omega arith)) e
 
 -- one more item
-pub items_more : (n : Bool) (vs : List Value) (valid : List Bool) (v : Value) (b : Bool) → AreItems n vs valid → (n ≡ false → b ≡ true) → (b ≡ false → fits_column v ≡ true) → AreItems n (vs ++ v ∷ []) (valid ++ b ∷ [])
+pub items_more : (n : Bool) (vs : List Value) (valid : List Bool) (v : Value) (b : Bool)
+    → AreItems n vs valid → (n ≡ false → b ≡ true) → (b ≡ false → fits_column v ≡ true)
+    → AreItems n (vs ++ v ∷ []) (valid ++ b ∷ [])
 items_more n vs valid v b h p f = record {
   count = omega (arith, length-append vs (v ∷ []), length-append valid (b ∷ []), h.count);
   plain = λ e i lt. last_or_before valid b i lt (h.plain e) (p e);
@@ -110,24 +150,33 @@ items_more n vs valid v b h p f = record {
       ∙ sym (all_more vs v);
 }
 
-one_more_after : (xs : List Value) (v : Value) (rest : Option (List Value)) → option_map (λ ys. xs ++ ys) (with_cell (Some v) rest) ≡ option_map (λ ys. (xs ++ v ∷ []) ++ ys) rest
+one_more_after : (xs : List Value) (v : Value) (rest : Option (List Value))
+    → option_map (λ ys. xs ++ ys) (with_cell (Some v) rest)
+    ≡ option_map (λ ys. (xs ++ v ∷ []) ++ ys) rest
 one_more_after xs v None = refl
 one_more_after xs v (Some ys) = ap Some (sym (append_assoc xs (v ∷ []) ys))
 
 -- one more cell
-pub one_more : (t : LogicalType) (vs : List Value) (valid : List Bool) (v x : Value) (b : Bool) (w : Word) (ws : List Word) (all : Option (List Value)) → length valid ≡ length vs → cell_of t w ≡ Some x → x ≡ (if b then v else null) → option_map (λ ys. cells_from vs valid ++ ys) (cells_of t (w ∷ ws)) ≡ all → option_map (λ ys. cells_from (vs ++ v ∷ []) (valid ++ b ∷ []) ++ ys) (cells_of t ws) ≡ all
+pub one_more : (t : LogicalType) (vs : List Value) (valid : List Bool) (v x : Value) (b : Bool)
+    (w : Word) (ws : List Word) (all : Option (List Value))
+    → length valid ≡ length vs → cell_of t w ≡ Some x → x ≡ (if b then v else null)
+    → option_map (λ ys. cells_from vs valid ++ ys) (cells_of t (w ∷ ws)) ≡ all
+    → option_map (λ ys. cells_from (vs ++ v ∷ []) (valid ++ b ∷ []) ++ ys) (cells_of t ws) ≡ all
 one_more t vs valid v x b w ws all count e is h =
-    ap (λ (zs : List Value). option_map (λ ys. zs ++ ys) (cells_of t ws)) (cells_more vs valid v b count ∙ ap (λ y. cells_from vs valid ++ y ∷ []) (sym is))
+    ap (λ (zs : List Value). option_map (λ ys. zs ++ ys) (cells_of t ws))
+    (cells_more vs valid v b count ∙ ap (λ y. cells_from vs valid ++ y ∷ []) (sym is))
     ∙ sym (one_more_after (cells_from vs valid) x (cells_of t ws))
     ∙ sym (ap (λ o. option_map (λ ys. cells_from vs valid ++ ys) (with_cell o (cells_of t ws))) e)
     ∙ h
 
-null_truth : (a b : Bool) → (if a then Some (truth true) else (if b then Some (truth false) else None)) ≡ Some null → ⊥
+null_truth : (a b : Bool)
+    → (if a then Some (truth true) else (if b then Some (truth false) else None)) ≡ Some null → ⊥
 null_truth true b e = cc
 null_truth false true e = cc
 null_truth false false e = cc
 
-null_number : (o : Option ℤ) (f : ℤ → Bool) → option_and_then (λ z. number_where (f z) z) o ≡ Some null → ⊥
+null_number : (o : Option ℤ) (f : ℤ → Bool)
+    → option_and_then (λ z. number_where (f z) z) o ≡ Some null → ⊥
 null_number None f e = cc
 null_number (Some z) f e = by (f z) e
   where
@@ -145,28 +194,36 @@ said_not_null t w e = cc
 pub null_allowed : (t : LogicalType) (w : Word) → cell_of t w ≡ Some null → is_nullable t ≡ true
 null_allowed t w e = by (says_null w) (is_nullable t) refl e
   where
-    by : (a b : Bool) → is_nullable t ≡ b → (if a then (if b then Some null else None) else value_said t w) ≡ Some null → is_nullable t ≡ true
+    by : (a b : Bool) → is_nullable t ≡ b
+        → (if a then (if b then Some null else None) else value_said t w) ≡ Some null
+        → is_nullable t ≡ true
     by true true g h = g
     by true false g h = cc
     by false b g h = absurd (said_not_null t w h)
 
-cell_at : (vs : List Value) (valid : List Bool) (i : ℕ) → i < length vs → length valid ≡ length vs → slice_index_or (cells_from vs valid) i null ≡ (if slice_index_or valid i false then slice_index_or vs i null else null)
+cell_at : (vs : List Value) (valid : List Bool) (i : ℕ) → i < length vs → length valid ≡ length vs
+    → slice_index_or (cells_from vs valid) i null
+    ≡ (if slice_index_or valid i false then slice_index_or vs i null else null)
 cell_at [] valid i h e = absurd (omega arith)
 cell_at (v ∷ vs) [] i h e = absurd (omega (arith, e))
 cell_at (v ∷ vs) (b ∷ bs) zero h e = refl
 cell_at (v ∷ vs) (b ∷ bs) (suc i) h e = cell_at vs bs i (omega arith) (omega (arith, e))
 
-cells_count : (vs : List Value) (valid : List Bool) → length valid ≡ length vs → length (cells_from vs valid) ≡ length vs
+cells_count : (vs : List Value) (valid : List Bool) → length valid ≡ length vs
+    → length (cells_from vs valid) ≡ length vs
 cells_count [] [] e = refl
 cells_count [] (b ∷ bs) e = absurd (omega (arith, e))
 cells_count (v ∷ vs) [] e = absurd (omega (arith, e))
 cells_count (v ∷ vs) (b ∷ bs) e = omega (arith, cells_count vs bs (omega (arith, e)))
 
-valid_is : (n : Bool) (valid : List Bool) (i : ℕ) → i < length valid → (n ≡ false → slice_index_or valid i true ≡ true) → is_valid_row (cells_validity n valid) i ≡ slice_index_or valid i false
+valid_is : (n : Bool) (valid : List Bool) (i : ℕ) → i < length valid
+    → (n ≡ false → slice_index_or valid i true ≡ true)
+    → is_valid_row (cells_validity n valid) i ≡ slice_index_or valid i false
 valid_is true valid i h p = refl
 valid_is false valid i h p = sym (p refl) ∙ same valid i h
   where
-    same : (xs : List Bool) (i : ℕ) → i < length xs → slice_index_or xs i true ≡ slice_index_or xs i false
+    same : (xs : List Bool) (i : ℕ) → i < length xs
+        → slice_index_or xs i true ≡ slice_index_or xs i false
     same [] i h = absurd (omega arith)
     same (x ∷ xs) zero h = refl
     same (x ∷ xs) (suc i) h = same xs i (omega arith)
@@ -175,67 +232,125 @@ allows : (n : Bool) (valid : List Bool) → form_allows_null (cells_validity n v
 allows true valid = refl
 allows false valid = refl
 
-form_is : (n : Bool) (valid : List Bool) → (cells_validity n valid).form ≡ (if n then array else non_nullable)
+form_is : (n : Bool) (valid : List Bool)
+    → (cells_validity n valid).form ≡ (if n then array else non_nullable)
 form_is true valid = refl
 form_is false valid = refl
 
-pub fits_cells : (n : Bool) (vs : List Value) (valid : List Bool) → length valid ≡ length vs → FitsRows (cells_validity n valid) (length vs)
+pub fits_cells : (n : Bool) (vs : List Value) (valid : List Bool) → length valid ≡ length vs
+    → FitsRows (cells_validity n valid) (length vs)
 fits_cells true vs valid e = e
 fits_cells false vs valid e = tt
 
 -- the column that is made of the cells is the column that they say
-pub column_made : (kind : Bool → LogicalType) (n : Bool) (vs : List Value) (valid : List Bool) (said : Option (List Value)) (v : ValidityView) (c : ColumnView) → is_nullable (kind n) ≡ n → AreCells n vs valid said → v ≡ cells_validity n valid → list_all fits_column vs ≡ true → IsMade kind v vs c → Some c ≡ option_and_then (column_where (kind n)) said
+pub column_made : (kind : Bool → LogicalType) (n : Bool) (vs : List Value) (valid : List Bool)
+    (said : Option (List Value)) (v : ValidityView) (c : ColumnView)
+    → is_nullable (kind n) ≡ n → AreCells n vs valid said → v ≡ cells_validity n valid
+    → list_all fits_column vs ≡ true → IsMade kind v vs c
+    → Some c ≡ option_and_then (column_where (kind n)) said
 column_made kind n vs valid said v c nullable cells validity fit made =
     ap Some is
-    ∙ sym (ap (λ b. if b then Some (column_of (kind n) (cells_from vs valid)) else None) (cells.items.fit ∙ fit))
+    ∙ sym
+    (ap (λ b. if b then Some (column_of (kind n) (cells_from vs valid)) else None)
+    (cells.items.fit ∙ fit))
     ∙ sym (ap (option_and_then (column_where (kind n))) cells.says)
   where
     rows_are : c.rows ≡ cells_from vs valid
     rows_are =
-        ext_get_or null c.rows (cells_from vs valid) (made.count ∙ sym (cells_count vs valid cells.items.count))
+        ext_get_or null c.rows (cells_from vs valid)
+        (made.count ∙ sym (cells_count vs valid cells.items.count))
         (λ i lt.
         let below : i < length vs = omega (arith, made.count) in
         made.each i below
         ∙ ap (λ u. if is_valid_row u i then slice_index_or vs i null else null) validity
-        ∙ ap (λ b. if b then slice_index_or vs i null else null) (valid_is n valid i (omega (arith, cells.items.count)) (λ e. cells.items.plain e i (omega (arith, cells.items.count))))
+        ∙ ap (λ b. if b then slice_index_or vs i null else null)
+        (valid_is n valid i (omega (arith, cells.items.count))
+        (λ e. cells.items.plain e i (omega (arith, cells.items.count))))
         ∙ sym (cell_at vs valid i below cells.items.count))
 
     is : c ≡ column_of (kind n) (cells_from vs valid)
     is = λ j. record {
-      dtype = (made.dtype ∙ ap (λ u. kind (form_allows_null u.form)) validity ∙ ap kind (allows n valid)) j;
+      dtype =
+          (made.dtype ∙ ap (λ u. kind (form_allows_null u.form)) validity
+          ∙ ap kind (allows n valid))
+          j;
       rows = rows_are j;
       constant = made.computed j;
-      form = (made.form ∙ ap (λ u. u.form) validity ∙ form_is n valid ∙ ap (λ b. if b then array else non_nullable) (sym nullable)) j;
+      form =
+          (made.form ∙ ap (λ u. u.form) validity ∙ form_is n valid
+          ∙ ap (λ b. if b then array else non_nullable) (sym nullable))
+          j;
     }
 
 -- and where a text does not fit, there is none
-pub column_unmade : (t : LogicalType) (n : Bool) (vs : List Value) (valid : List Bool) (said : Option (List Value)) (v : ValidityView) → AreCells n vs valid said → v ≡ cells_validity n valid → ¬ (FitsRows v (length vs) × (list_all fits_column vs ≡ true)) → None ≡ option_and_then (column_where t) said
+pub column_unmade : (t : LogicalType) (n : Bool) (vs : List Value) (valid : List Bool)
+    (said : Option (List Value)) (v : ValidityView)
+    → AreCells n vs valid said → v ≡ cells_validity n valid
+    → ¬ (FitsRows v (length vs) × (list_all fits_column vs ≡ true))
+    → None ≡ option_and_then (column_where t) said
 column_unmade t n vs valid said v cells validity unfit = by (list_all fits_column vs) refl
   where
     by : (b : Bool) → list_all fits_column vs ≡ b → None ≡ option_and_then (column_where t) said
     by true e =
-        absurd (unfit (subst (λ (u : ValidityView). FitsRows u (length vs)) (sym validity) (fits_cells n vs valid cells.items.count), e))
+        absurd (unfit (
+          subst (λ (u : ValidityView). FitsRows u (length vs)) (sym validity)
+              (fits_cells n vs valid cells.items.count),
+          e,
+        ))
     by false e =
-        sym (ap (option_and_then (column_where t)) cells.says ∙ ap (λ b. if b then Some (column_of t (cells_from vs valid)) else None) (cells.items.fit ∙ e))
+        sym
+        (ap (option_and_then (column_where t)) cells.says
+        ∙ ap (λ b. if b then Some (column_of t (cells_from vs valid)) else None)
+        (cells.items.fit ∙ e))
 
-item_is : {X : Type 0} (f : X → Value) (o : Option X) (d : X) → item_or_null f o ≡ (if is_some o then f (unwrap_or o d) else null)
+item_is : {X : Type 0} (f : X → Value) (o : Option X) (d : X)
+    → item_or_null f o ≡ (if is_some o then f (unwrap_or o d) else null)
 item_is f None d = refl
 item_is f (Some x) d = refl
 
-blank_fits : {X : Type 0} (f : X → Value) (o : Option X) (d : X) → fits_column (f d) ≡ true → is_some o ≡ false → fits_column (f (unwrap_or o d)) ≡ true
+blank_fits : {X : Type 0} (f : X → Value) (o : Option X) (d : X) → fits_column (f d) ≡ true
+    → is_some o ≡ false → fits_column (f (unwrap_or o d)) ≡ true
 blank_fits f None d h e = h
 blank_fits f (Some x) d h e = cc
 
-is_there : {X : Type 0} (f : X → Value) (o : Option X) (t : LogicalType) (n : Bool) (w : Word) → is_nullable t ≡ n → cell_of t w ≡ Some (item_or_null f o) → n ≡ false → is_some o ≡ true
+is_there : {X : Type 0} (f : X → Value) (o : Option X) (t : LogicalType) (n : Bool) (w : Word)
+    → is_nullable t ≡ n → cell_of t w ≡ Some (item_or_null f o) → n ≡ false → is_some o ≡ true
 is_there f (Some x) t n w k e h = refl
 is_there f None t n w k e h = let allowed = null_allowed t w e in cc
 
 -- one more cell of the words
-pub cell_read : {W X : Type 0} (t : LogicalType) (n : Bool) (word : W → Word) (value : X → Value) (words : List W) (i : ℕ) (d : W) (items : List X) (valid : List Bool) (cell : Option X) (blank : X) (all : Option (List Value)) → is_nullable t ≡ n → i < length words → AreItems n (map value items) valid → option_map (λ ys. cells_from (map value items) valid ++ ys) (cells_of t (map word (drop i words))) ≡ all → cell_of t (word (get_or words i d)) ≡ Some (item_or_null value cell) → fits_column (value blank) ≡ true → AreItems n (map value (items ++ unwrap_or cell blank ∷ [])) (valid ++ is_some cell ∷ []) × (option_map (λ ys. cells_from (map value (items ++ unwrap_or cell blank ∷ [])) (valid ++ is_some cell ∷ []) ++ ys) (cells_of t (map word (drop (i + 1) words))) ≡ all)
+pub cell_read : {W X : Type 0} (t : LogicalType) (n : Bool) (word : W → Word) (value : X → Value)
+    (words : List W) (i : ℕ) (d : W) (items : List X) (valid : List Bool) (cell : Option X)
+    (blank : X) (all : Option (List Value))
+    → is_nullable t ≡ n → i < length words → AreItems n (map value items) valid
+    → option_map (λ ys. cells_from (map value items) valid ++ ys)
+    (cells_of t (map word (drop i words)))
+    ≡ all
+    → cell_of t (word (get_or words i d)) ≡ Some (item_or_null value cell)
+    → fits_column (value blank) ≡ true
+    → AreItems n (map value (items ++ unwrap_or cell blank ∷ [])) (valid ++ is_some cell ∷ [])
+    × (option_map
+    (λ ys.
+    cells_from (map value (items ++ unwrap_or cell blank ∷ []))
+    (valid ++ is_some cell ∷ []) ++ ys)
+    (cells_of t (map word (drop (i + 1) words)))
+    ≡ all)
 cell_read t n word value words i d items valid cell blank all nullable lt h said e fit = (
-  subst (λ (vs : List Value). AreItems n vs (valid ++ is_some cell ∷ [])) (sym more) (items_more n (map value items) valid v b h (is_there value cell t n w nullable e) (blank_fits value cell blank fit)),
-  (λ j. option_map (λ ys. cells_from (more j) (valid ++ b ∷ []) ++ ys) (cells_of t (map word (drop (add-one i j) words))))
-      ∙ one_more t (map value items) valid v (item_or_null value cell) b w (map word (drop (suc i) words)) all h.count e (item_is value cell blank) (sym (ap (λ ws. option_map (λ ys. cells_from (map value items) valid ++ ys) (cells_of t (map word ws))) (drop-cons words i d lt)) ∙ said),
+  subst (λ (vs : List Value). AreItems n vs (valid ++ is_some cell ∷ [])) (sym more)
+      (items_more n (map value items) valid v b h (is_there value cell t n w nullable e)
+      (blank_fits value cell blank fit)),
+  (λ j.
+      option_map (λ ys. cells_from (more j) (valid ++ b ∷ []) ++ ys)
+      (cells_of t (map word (drop (add-one i j) words))))
+      ∙ one_more t (map value items) valid v (item_or_null value cell) b w
+      (map word (drop (suc i) words)) all h.count e (item_is value cell blank)
+      (sym
+      (ap
+      (λ ws.
+      option_map (λ ys. cells_from (map value items) valid ++ ys)
+      (cells_of t (map word ws)))
+      (drop-cons words i d lt))
+      ∙ said),
 )
   where
     w : Word
@@ -247,5 +362,6 @@ cell_read t n word value words i d items valid cell blank all nullable lt h said
     b : Bool
     b = is_some cell
 
-    more : map value (items ++ unwrap_or cell blank ∷ []) ≡ map value items ++ value (unwrap_or cell blank) ∷ []
+    more : map value (items ++ unwrap_or cell blank ∷ [])
+        ≡ map value items ++ value (unwrap_or cell blank) ∷ []
     more = map-append value items (unwrap_or cell blank ∷ [])

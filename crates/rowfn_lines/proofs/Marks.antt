@@ -1,5 +1,6 @@
 -- The mark of a nullable type.
-use Rattle.std.proofs.Common.{◌≡◌, ◌≢◌, ◌==◌, ℕ, Bool, true, false, Option, Some, None, List, [], ◌∷◌, ◌++◌, refl, ap, ◌∙◌, arith, tests, option_map, if◌then◌else◌}
+use Rattle.std.proofs.Common.{◌≡◌, ◌≢◌, ◌==◌, ℕ, Bool, true, false, Option, Some, None, List, []}
+use Rattle.std.proofs.Common.{◌∷◌, ◌++◌, refl, ap, ◌∙◌, arith, tests, option_map, if◌then◌else◌}
 use Rattle.rowfn_lines.specs.Commands.{without_mark}
 
 pub marked : (w name : List ℕ) → w ≡ name ++ 63 ∷ [] → without_mark w ≡ Some name

@@ -1,9 +1,11 @@
 -- Items that were read, with a blank under each null, and the column that is made of them.
 use Rattle.std.specs.Int.{w128}
-use Rattle.std.specs.Prelude.{◌≡◌, ℤ, MatchOption, FitsSigned, ℕ, ◌<◌, Bool, true, false, Option, Some, None, List, [], ◌∷◌, length, slice_index_or, if◌then◌else◌}
+use Rattle.std.specs.Prelude.{◌≡◌, ℤ, MatchOption, FitsSigned, ℕ, ◌<◌, Bool, true, false, Option}
+use Rattle.std.specs.Prelude.{Some, None, List, [], ◌∷◌, length, slice_index_or, if◌then◌else◌}
 use Rattle.vortex_types.specs.LogicalTypes.{LogicalType}
 use Rattle.vortex_types.specs.Values.{Value, null}
-use Rattle.vortex_types.specs.ValidityView.{ValidityView, is_valid_row, form_allows_null, non_nullable, array}
+use Rattle.vortex_types.specs.ValidityView.{ValidityView, is_valid_row, form_allows_null}
+use Rattle.vortex_types.specs.ValidityView.{non_nullable, array}
 use Rattle.vortex_columns.specs.ColumnView.{ColumnView, row}
 use Rattle.std.specs.List.{list_all}
 use Rattle.rowfn_lines.specs.Commands.{fits_column}
@@ -19,21 +21,25 @@ cells_from (v ∷ vs) (b ∷ bs) = (if b then v else null) ∷ cells_from vs bs
 cells_from vs bs = []
 
 -- a column of a value for each row, by its validity
-pub record IsMade (kind : Bool → LogicalType) (v : ValidityView) (vs : List Value) (c : ColumnView) : Type 0 where
+pub record IsMade (kind : Bool → LogicalType) (v : ValidityView) (vs : List Value)
+    (c : ColumnView) : Type 0 where
   pub dtype : c.dtype ≡ kind (form_allows_null v.form)
   pub count : length c.rows ≡ length vs
-  pub each : (i : ℕ) → i < length vs → row c.rows i ≡ (if is_valid_row v i then slice_index_or vs i null else null)
+  pub each : (i : ℕ) → i < length vs
+      → row c.rows i ≡ (if is_valid_row v i then slice_index_or vs i null else null)
   pub computed : c.constant ≡ None
   pub form : c.form ≡ v.form
 
--- values with marks beside them: each is valid where null is not allowed, and what stands under a null fits a column
+-- values with marks beside them: each is valid where null is not allowed, and what stands under a
+-- null fits a column
 pub record AreItems (n : Bool) (vs : List Value) (valid : List Bool) : Type 0 where
   pub count : length valid ≡ length vs
   pub plain : n ≡ false → (i : ℕ) → i < length valid → slice_index_or valid i true ≡ true
   pub fit : list_all fits_column (cells_from vs valid) ≡ list_all fits_column vs
 
 -- the values that cells said
-pub record AreCells (n : Bool) (vs : List Value) (valid : List Bool) (said : Option (List Value)) : Type 0 where
+pub record AreCells (n : Bool) (vs : List Value) (valid : List Bool)
+    (said : Option (List Value)) : Type 0 where
   pub says : said ≡ Some (cells_from vs valid)
   pub items : AreItems n vs valid
 
@@ -44,4 +50,5 @@ cells_validity true valid = record { form = array; bits = valid }
 
 -- the number that a word says is read, but for one of more bits than 128
 abbrev pub ReadsNumber : Option ℤ → Option ℤ → Type 0
-ReadsNumber said read = MatchOption read ((z : ℤ) → said ≡ Some z → ¬ FitsSigned w128 z) (λ z. said ≡ Some z)
+ReadsNumber said read =
+    MatchOption read ((z : ℤ) → said ≡ Some z → ¬ FitsSigned w128 z) (λ z. said ≡ Some z)

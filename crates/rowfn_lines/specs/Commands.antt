@@ -1,23 +1,23 @@
 -- What a line of a script says.
-use Rattle.std.specs.Prelude.{◌==◌, ℕ, zero, suc, ℤ, pos, negsuc, ◌+◌, ◌-◌, ◌*◌, ◌&&◌, ◌||◌, nat_le, nat_lt, List, [], ◌∷◌, length, Bool, true, false, Option, Some, None, codes, if◌then◌else◌}
+use Rattle.std.specs.Prelude.{◌==◌, ℕ, zero, suc, ℤ, pos, negsuc, ◌+◌, ◌-◌, ◌*◌, ◌&&◌, ◌||◌, nat_le}
+use Rattle.std.specs.Prelude.{nat_lt, List, [], ◌∷◌, length, Bool, true, false, Option, Some, None}
+use Rattle.std.specs.Prelude.{codes, if◌then◌else◌}
 use Rattle.std.specs.List.{list_all}
 use Rattle.std.specs.Option.{option_and_then, option_map}
 use Rattle.std.specs.Char.{is_ascii_alphanumeric, is_ascii_digit}
 use Rattle.std.specs.Str.{is_utf8, bytes_eq}
-use Rattle.vortex_types.specs.LogicalTypes.{LogicalType, bool_type, integer_type, text_type, is_nullable}
+use Rattle.vortex_types.specs.LogicalTypes.{LogicalType, bool_type, integer_type, text_type}
+use Rattle.vortex_types.specs.LogicalTypes.{is_nullable}
 use Rattle.vortex_types.specs.declared.dtype.PType.{PType}
-use Rattle.vortex_types.specs.declared.dtype.PType.TheVariants.{I8, I16, I32, I64, U8, U16, U32, U64}
+use Rattle.vortex_types.specs.declared.dtype.PType.TheVariants.{I8, I16, I32, I64, U8, U16, U32}
+use Rattle.vortex_types.specs.declared.dtype.PType.TheVariants.{U64}
 use Rattle.vortex_types.specs.ScalarView.{ScalarView}
 use Rattle.rowfn_lines.specs.Ranges.{in_range}
 use Rattle.vortex_types.specs.Values.{Value, null, truth, number, text}
 use Rattle.vortex_columns.specs.ColumnView.{ColumnView}
 use Rattle.vortex_types.specs.ValidityView.{array, non_nullable}
-use Rattle.vortex_operators.specs.declared.operators.Operator.{Operator}
-use Rattle.vortex_operators.specs.declared.operators.Operator.TheVariants.{And, Or, Eq, NotEq, Lt, Lte, Gt, Gte}
 use Rattle.rowfn_lines.specs.declared.types.Kind.{Kind}
 use Rattle.rowfn_lines.specs.declared.types.Kind.TheVariants as kind
-use Rattle.rowfn_lines.specs.declared.command.Callee.{Callee}
-use Rattle.rowfn_lines.specs.declared.command.Callee.TheVariants.{Binary, Not}
 use Rattle.rowfn_lines.specs.declared.command.Line.{Line}
 use Rattle.rowfn_lines.specs.declared.command.Line.TheVariants as line
 use Rattle.rowfn_lines.specs.Lines.{Word, plain, quoted, words_of, after_spaces}
@@ -27,7 +27,7 @@ use Rattle.rowfn_lines.specs.Lines.{Word, plain, quoted, words_of, after_spaces}
 -- column: a name, and the column that it names from here on
 -- get: the column of a name
 -- literal: a value in each row
--- call: a function of the last trees
+-- call: the function that a word names, of the last trees
 -- show: the last tree's text
 -- run: the last tree's column
 pub data Command : Type 0 where
@@ -37,7 +37,7 @@ pub data Command : Type 0 where
   column : List ℕ → ColumnView → Command
   get : List ℕ → Command
   literal : ScalarView → Command
-  call : Callee → Command
+  call : List ℕ → Command
   show : Command
   run : Command
 
@@ -55,7 +55,9 @@ decimal_from n (d ∷ ds) = decimal_from (10 * n + (d - 48)) ds
 
 -- the number that one to six digits say
 abbrev pub count_of : List ℕ → Option ℕ
-count_of w = if nat_lt 0 (length w) && (nat_le (length w) 6 && list_all is_ascii_digit w) then Some (decimal_from 0 w) else None
+count_of w =
+    if nat_lt 0 (length w) && (nat_le (length w) 6 && list_all is_ascii_digit w)
+    then Some (decimal_from 0 w) else None
 
 -- a word without the mark of a nullable type at its end
 abbrev pub without_mark : List ℕ → Option (List ℕ)
@@ -95,7 +97,8 @@ type_of_word w = marked_type w (without_mark w)
 
 -- the number that digits say, of which there is one at least
 abbrev pub digits_of : List ℕ → Option ℕ
-digits_of w = if nat_lt 0 (length w) && list_all is_ascii_digit w then Some (decimal_from 0 w) else None
+digits_of w =
+    if nat_lt 0 (length w) && list_all is_ascii_digit w then Some (decimal_from 0 w) else None
 
 abbrev pub negative : ℕ → ℤ
 negative zero = pos 0
@@ -104,7 +107,8 @@ negative (suc n) = negsuc n
 -- digits, with a minus sign before them or without
 abbrev pub integer_of : List ℕ → Option ℤ
 integer_of [] = None
-integer_of (b ∷ bs) = if b == 45 then option_map negative (digits_of bs) else option_map pos (digits_of (b ∷ bs))
+integer_of (b ∷ bs) =
+    if b == 45 then option_map negative (digits_of bs) else option_map pos (digits_of (b ∷ bs))
 
 abbrev pub number_where : Bool → ℤ → Option Value
 number_where fits z = if fits then Some (number z) else None
@@ -149,7 +153,13 @@ fits_column (text bs) = nat_le (length bs) 4294967295
 fits_column v = true
 
 abbrev pub column_of : LogicalType → List Value → ColumnView
-column_of t vs = record { dtype = t; rows = vs; constant = None; form = if is_nullable t then array else non_nullable }
+column_of t vs =
+    record {
+      dtype = t;
+      rows = vs;
+      constant = None;
+      form = if is_nullable t then array else non_nullable;
+    }
 
 abbrev pub column_where : LogicalType → List Value → Option ColumnView
 column_where t vs = if list_all fits_column vs then Some (column_of t vs) else None
@@ -178,34 +188,21 @@ name_of w = if is_name w then Some w else None
 
 abbrev pub column_command : List Word → Command
 column_command (plain name ∷ plain t ∷ cells) =
-    if is_name name then or_malformed (column name) (option_and_then (λ u. column_said u cells) (type_of_word t))
+    if is_name name
+    then or_malformed (column name) (option_and_then (λ u. column_said u cells) (type_of_word t))
     else malformed
 column_command ws = malformed
 
 abbrev pub literal_command : List Word → Command
-literal_command (plain t ∷ cell ∷ []) = or_malformed literal (option_and_then (λ u. literal_said u cell) (type_of_word t))
+literal_command (plain t ∷ cell ∷ []) =
+    or_malformed literal (option_and_then (λ u. literal_said u cell) (type_of_word t))
 literal_command ws = malformed
 
 abbrev pub get_command : List Word → Command
 get_command ws = or_malformed get (option_and_then name_of (only_word ws))
 
-abbrev pub operator_of_word : List ℕ → Option Operator
-operator_of_word w =
-    if bytes_eq w (codes "and") then Some And
-    else (if bytes_eq w (codes "or") then Some Or
-    else (if bytes_eq w (codes "=") then Some Eq
-    else (if bytes_eq w (codes "!=") then Some NotEq
-    else (if bytes_eq w (codes "<") then Some Lt
-    else (if bytes_eq w (codes "<=") then Some Lte
-    else (if bytes_eq w (codes ">") then Some Gt
-    else (if bytes_eq w (codes ">=") then Some Gte
-    else None)))))))
-
-abbrev pub callee_of : List ℕ → Option Callee
-callee_of w = if bytes_eq w (codes "not") then Some Not else option_map Binary (operator_of_word w)
-
 abbrev pub call_command : List Word → Command
-call_command ws = or_malformed call (option_and_then callee_of (only_word ws))
+call_command ws = or_malformed call (only_word ws)
 
 -- what a first word says that no other follows
 abbrev pub alone : Command → List Word → Command
@@ -244,6 +241,6 @@ command_in (line.Rows n) = rows n
 command_in (line.Column name c) = column name.now c
 command_in (line.Get name) = get name.now
 command_in (line.Literal s) = literal s
-command_in (line.Call f) = call f
+command_in (line.Call word) = call word.now
 command_in line.Show = show
 command_in line.Run = run

@@ -2,4 +2,5 @@ pub mod Lines
 pub mod Ranges
 pub mod Cells
 pub mod Commands
+pub mod Answering
 pub mod Printing

@@ -1,10 +1,12 @@
 -- A script as lines, and a line as words.
-use Rattle.std.specs.Prelude.{◌≡◌, ◌==◌, ◌≢◌, ◌<◌, ℕ, List, [], ◌∷◌, ◌++◌, length, get_or, ◌↔◌, Option, Some, None, if◌then◌else◌}
+use Rattle.std.specs.Prelude.{◌≡◌, ◌==◌, ◌≢◌, ◌<◌, ℕ, List, [], ◌∷◌, ◌++◌, length, get_or, ◌↔◌}
+use Rattle.std.specs.Prelude.{Option, Some, None, if◌then◌else◌}
 use Rattle.std.specs.List.{slice_split}
 use Rattle.rowfn_lines.specs.declared.text.Word as word
 use Rattle.rowfn_lines.specs.declared.text.Word.TheVariants as variant
 
--- A line ends at a newline or with the script. Where a newline ends the script, what follows it counts as a line without words.
+-- A line ends at a newline or with the script. Where a newline ends the script, what follows it
+-- counts as a line without words.
 abbrev pub lines_of : List ℕ → List (List ℕ)
 lines_of = slice_split (λ b. b == 10)
 
@@ -38,8 +40,8 @@ abbrev pub AreSpaces : List ℕ → Type 0
 AreSpaces [] = Unit {0}
 AreSpaces (b ∷ bs) = (b ≡ 32) × AreSpaces bs
 
--- a word as it stands in a line: bytes without a space, of which there is one at least and the first is no quote; or, between two
--- quotes, bytes without a quote
+-- a word as it stands in a line: bytes without a space, of which there is one at least and the
+-- first is no quote; or, between two quotes, bytes without a quote
 abbrev pub Spells : Word → List ℕ → Type 0
 Spells (plain w) bs = (bs ≡ w) × BeginsPlain w × Lacks 32 w
 Spells (quoted w) bs = (bs ≡ 34 ∷ w ++ 34 ∷ []) × Lacks 34 w
@@ -49,22 +51,25 @@ abbrev pub FollowsWord : List ℕ → Type 0
 FollowsWord [] = Unit {0}
 FollowsWord (b ∷ bs) = b ≡ 32
 
--- A line says words: spaces, the first word as it stands, and a rest, set off by a space, that says the other words. Where it
--- says none it is spaces.
+-- A line says words: spaces, the first word as it stands, and a rest, set off by a space, that says
+-- the other words. Where it says none it is spaces.
 abbrev pub SaysWords : List ℕ → List Word → Type 0
 SaysWords line [] = AreSpaces line
 SaysWords line (w ∷ ws) =
-    (before spelling rest : List ℕ) × (line ≡ before ++ (spelling ++ rest)) × AreSpaces before × Spells w spelling × FollowsWord rest × SaysWords rest ws
+    (before spelling rest : List ℕ) × (line ≡ before ++ (spelling ++ rest)) × AreSpaces before
+    × Spells w spelling × FollowsWord rest × SaysWords rest ws
 
 -- The words that a line says, byte by byte; a line that says none such has none.
 abbrev mutual
   pub words_of : List ℕ → Option (List Word)
   words_of [] = Some []
-  words_of (b ∷ bs) = if b == 32 then words_of bs else (if b == 34 then in_quotes [] bs else in_word (b ∷ []) bs)
+  words_of (b ∷ bs) =
+      if b == 32 then words_of bs else (if b == 34 then in_quotes [] bs else in_word (b ∷ []) bs)
 
   pub in_word : List ℕ → List ℕ → Option (List Word)
   in_word w [] = Some (plain w ∷ [])
-  in_word w (b ∷ bs) = if b == 32 then with_word (plain w) (words_of bs) else in_word (w ++ b ∷ []) bs
+  in_word w (b ∷ bs) =
+      if b == 32 then with_word (plain w) (words_of bs) else in_word (w ++ b ∷ []) bs
 
   pub in_quotes : List ℕ → List ℕ → Option (List Word)
   in_quotes w [] = None

@@ -2,7 +2,8 @@
 use Rattle.std.specs.Prelude.{ℕ, List, [], ◌∷◌, ◌++◌, true, false, codes, if◌then◌else◌}
 use Rattle.std.specs.Fmt.{signed_decimal}
 use Rattle.std.specs.List.{flat_map}
-use Rattle.vortex_types.specs.LogicalTypes.{LogicalType, bool_type, integer_type, text_type, is_nullable}
+use Rattle.vortex_types.specs.LogicalTypes.{LogicalType, bool_type, integer_type, text_type}
+use Rattle.vortex_types.specs.LogicalTypes.{is_nullable}
 use Rattle.vortex_types.specs.Values.{Value, null, truth, number, text}
 use Rattle.vortex_columns.specs.ColumnView.{ColumnView}
 use Rattle.vortex_types.specs.TypeTexts.{ptype_text}

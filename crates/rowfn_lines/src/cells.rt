@@ -1,18 +1,21 @@
 //! Columns and values that are read from words.
-ghost use Rattle.std.specs.Prelude.{◌≡◌, refl, pos, ◌∷◌, Bool, true, false, Some, None, is_some, map, option_map, length, string_bytes, MatchOption};
+ghost use Rattle.std.specs.Prelude.{◌≡◌, refl, pos, ◌∷◌, Bool, true, false, Some, None, is_some};
+ghost use Rattle.std.specs.Prelude.{map, option_map, length, string_bytes, MatchOption};
 ghost use Rattle.std.specs.List.{list_all};
 ghost use Rattle.std.specs.Char.{is_ascii_digit};
-ghost use Rattle.vortex_types.specs.declared.error.VortexError.TheVariants.{InvalidColumn};
-ghost use Rattle.vortex_types.specs.Answers.{AnswersUnlessMemory, AnswersWhere};
-ghost use Rattle.vortex_types.specs.LogicalTypes.{LogicalType, bool_type, integer_type, text_type, is_nullable};
+ghost use Rattle.vortex_types.specs.Answers.{AnswersUnlessMemory};
+ghost use Rattle.vortex_types.specs.LogicalTypes.{LogicalType, bool_type, integer_type, text_type};
+ghost use Rattle.vortex_types.specs.LogicalTypes.{is_nullable};
 ghost use Rattle.vortex_types.specs.TypeOf.{type_of, allows_null};
 ghost use Rattle.vortex_types.specs.Values.{Value, truth, number, text};
 ghost use Rattle.vortex_types.specs.ValueOf.{value_of};
 ghost use Rattle.vortex_types.specs.Typing.{HasType};
-ghost use Rattle.vortex_types.specs.ValidityView.{validity_of, FitsRows};
+ghost use Rattle.vortex_types.specs.ValidityView.{validity_of};
 ghost use Rattle.rowfn_lines.specs.Lines.{word_in};
-ghost use Rattle.rowfn_lines.specs.Commands.{digits_of, negative, integer_of, value_said, says_null, cell_of, cells_of, fits_column, column_said, literal_said, kind_type};
-ghost use Rattle.rowfn_lines.specs.Cells.{ReadsNumber, item_or_null, IsMade, AreCells, cells_validity};
+ghost use Rattle.rowfn_lines.specs.Commands.{digits_of, negative, integer_of, says_null, cells_of};
+ghost use Rattle.rowfn_lines.specs.Commands.{fits_column, column_said, literal_said, kind_type};
+ghost use Rattle.rowfn_lines.specs.Cells.{ReadsNumber, AreCells, cells_validity};
+ghost use Rattle.rowfn_lines.specs.Answering.{ReadsItem, ReadsCell, MakesColumn};
 
 use crate::text::Word;
 use crate::types::Kind;
@@ -36,7 +39,8 @@ pub fn are_digits(word: &str) -> bool
     !word.is_empty() && all_digits(word)
 }
 
-/// The number that digits say; nothing where others stand there, and for a number past every integer type.
+/// The number that digits say; nothing where others stand there, and for a number past every
+/// integer type.
 fn read_plain(word: &str) -> Option<i128>
     ensures { ReadsNumber (option_map pos (digits_of word.now)) result }
 {
@@ -57,8 +61,8 @@ fn read_negative(word: &str, digits: &str) -> Option<i128>
     word.parse::<i128>().ok()
 }
 
-/// The number that a word says by digits, with a minus sign before them or without; nothing where it says none, and
-/// for a number past every integer type.
+/// The number that a word says by digits, with a minus sign before them or without; nothing where
+/// it says none, and for a number past every integer type.
 fn read_integer(word: &str) -> Option<i128>
     ensures { ReadsNumber (integer_of word.now) result }
 {
@@ -78,7 +82,7 @@ trait CellKind {
 
     /// The value that a word says, null aside; nothing where it says none of this kind.
     fn read(alloc: Global, word: &Word<'_>) -> VortexResult<Option<Self::Item>>
-        ensures { AnswersUnlessMemory result (λ item. (n : Bool) → option_map value item ≡ value_said (kind n) (word_in word.now)) };
+        ensures { ReadsItem value kind (word_in word.now) result };
 
     /// What stands under a null. Takes no memory.
     fn blank(alloc: Global) -> Self::Item
@@ -89,10 +93,10 @@ trait CellKind {
         ensures value { value_of result ≡ value item }
         ensures typed { (n : Bool) → HasType (kind n) (value item) };
 
-    /// A column of the values. E12 exactly where a list of valid bits has another length, or a text is longer than
-    /// 4,294,967,295 bytes.
+    /// A column of the values. E12 exactly where a list of valid bits has another length, or a text
+    /// is longer than 4,294,967,295 bytes.
     fn column(alloc: Global, values: Vec<Self::Item>, validity: Validity) -> VortexResult<Column>
-        ensures { AnswersWhere result (FitsRows (validity_of validity) (length values.items) × (list_all fits_column (map value values.items) ≡ true)) (IsMade kind (validity_of validity) (map value values.items)) InvalidColumn };
+        ensures { MakesColumn value kind (validity_of validity) values.items result };
 
     ghost nullable: { (n : Bool) → is_nullable (kind n) ≡ n };
 }
@@ -134,7 +138,7 @@ impl CellKind for BoolCells {
     }
 
     fn column(alloc: Global, values: Vec<bool>, validity: Validity) -> VortexResult<Column>
-        ensures { AnswersWhere result (FitsRows (validity_of validity) (length values.items) × (list_all fits_column (map truth values.items) ≡ true)) (IsMade bool_type (validity_of validity) (map truth values.items)) InvalidColumn }
+        ensures { MakesColumn truth bool_type (validity_of validity) values.items result }
     {
         let bits = BitBuffer::from_bools(alloc, &values)?;
         Column::try_bool(alloc, bits, validity)
@@ -169,7 +173,8 @@ impl<T: NativePType> CellKind for IntCells<T> {
     }
 
     fn column(alloc: Global, values: Vec<T>, validity: Validity) -> VortexResult<Column>
-        ensures { AnswersWhere result (FitsRows (validity_of validity) (length values.items) × (list_all fits_column (map (λ x. number (T.number x)) values.items) ≡ true)) (IsMade (integer_type T.ptype) (validity_of validity) (map (λ x. number (T.number x)) values.items)) InvalidColumn }
+        ensures { MakesColumn (λ x. number (T.number x)) (integer_type T.ptype)
+            (validity_of validity) values.items result }
     {
         Column::try_primitive(alloc, values, validity)
     }
@@ -200,7 +205,8 @@ impl CellKind for TextCells {
     }
 
     fn column(alloc: Global, values: Vec<String>, validity: Validity) -> VortexResult<Column>
-        ensures { AnswersWhere result (FitsRows (validity_of validity) (length values.items) × (list_all fits_column (map (λ s. text (string_bytes s)) values.items) ≡ true)) (IsMade text_type (validity_of validity) (map (λ s. text (string_bytes s)) values.items)) InvalidColumn }
+        ensures { MakesColumn (λ s. text (string_bytes s)) text_type (validity_of validity)
+            values.items result }
     {
         Column::try_utf8(alloc, values, validity)
     }
@@ -223,7 +229,7 @@ fn read_cell<K: CellKind>(
     nullability: Nullability,
     word: &Word<'_>,
 ) -> VortexResult<Option<Option<K::Item>>>
-    ensures { AnswersUnlessMemory result (λ cell. option_map (item_or_null K.value) cell ≡ cell_of (K.kind (allows_null nullability)) (word_in word.now)) }
+    ensures { ReadsCell K.value (K.kind (allows_null nullability)) (word_in word.now) result }
 {
     if says_null(word) {
         if nullability.is_nullable() {
@@ -250,7 +256,10 @@ fn read_cells<K: CellKind>(
     nullability: Nullability,
     words: &[Word<'_>],
 ) -> VortexResult<Option<Cells<K>>>
-    ensures { AnswersUnlessMemory result (λ cells. MatchOption cells (cells_of (K.kind (allows_null nullability)) (map word_in words.now) ≡ None) (λ c. AreCells (allows_null nullability) (map K.value c.items.items) c.valid.items (cells_of (K.kind (allows_null nullability)) (map word_in words.now)))) }
+    ensures { AnswersUnlessMemory result (λ cells. MatchOption cells
+        (cells_of (K.kind (allows_null nullability)) (map word_in words.now) ≡ None)
+        (λ c. AreCells (allows_null nullability) (map K.value c.items.items) c.valid.items
+        (cells_of (K.kind (allows_null nullability)) (map word_in words.now)))) }
 {
     let mut items = Vec::new(alloc);
     let mut valid = Vec::new(alloc);
@@ -266,7 +275,8 @@ fn read_cells<K: CellKind>(
 
 /// The validity of a column whose cells are valid as the marks say.
 fn cells_validity(alloc: Global, nullability: Nullability, valid: &[bool]) -> VortexResult<Validity>
-    ensures { AnswersUnlessMemory result (λ v. validity_of v ≡ cells_validity (allows_null nullability) valid.now) }
+    ensures { AnswersUnlessMemory result
+        (λ v. validity_of v ≡ cells_validity (allows_null nullability) valid.now) }
 {
     match nullability {
         Nullability::NonNullable => Ok(Validity::NonNullable),
@@ -274,13 +284,15 @@ fn cells_validity(alloc: Global, nullability: Nullability, valid: &[bool]) -> Vo
     }
 }
 
-/// The column of the cells; nothing where one says no value of the type, or a text is too long for a column. E9 alone.
+/// The column of the cells; nothing where one says no value of the type, or a text is too long for
+/// a column. E9 alone.
 fn read_column<K: CellKind>(
     alloc: Global,
     nullability: Nullability,
     words: &[Word<'_>],
 ) -> VortexResult<Option<Column>>
-    ensures { AnswersUnlessMemory result (λ c. c ≡ column_said (K.kind (allows_null nullability)) (map word_in words.now)) }
+    ensures { AnswersUnlessMemory result
+        (λ c. c ≡ column_said (K.kind (allows_null nullability)) (map word_in words.now)) }
 {
     let Some(Cells { items, valid }) = read_cells::<K>(alloc, nullability, words)? else {
         return Ok(None);
@@ -300,7 +312,8 @@ fn read_value<K: CellKind>(
     word: &Word<'_>,
 ) -> VortexResult<Option<Scalar>>
     requires { type_of dtype ≡ K.kind (is_nullable (type_of dtype)) }
-    ensures { AnswersUnlessMemory result (λ s. s ≡ literal_said (type_of dtype) (word_in word.now)) }
+    ensures { AnswersUnlessMemory result
+        (λ s. s ≡ literal_said (type_of dtype) (word_in word.now)) }
 {
     match read_cell::<K>(alloc, dtype.nullability(), word)? {
         Some(Some(item)) => Ok(Some(Scalar::try_new(dtype, Some(K::scalar_value(item)))?)),
@@ -309,15 +322,16 @@ fn read_value<K: CellKind>(
     }
 }
 
-/// The column that the cells of a `col` line say; nothing where one says no value of the type, or a text is longer than
-/// 4,294,967,295 bytes. E9 alone.
+/// The column that the cells of a `col` line say; nothing where one says no value of the type, or a
+/// text is longer than 4,294,967,295 bytes. E9 alone.
 pub fn column_said(
     alloc: Global,
     kind: Kind,
     nullability: Nullability,
     words: &[Word<'_>],
 ) -> VortexResult<Option<Column>>
-    ensures { AnswersUnlessMemory result (λ c. c ≡ column_said (kind_type kind (allows_null nullability)) (map word_in words.now)) }
+    ensures { AnswersUnlessMemory result
+        (λ c. c ≡ column_said (kind_type kind (allows_null nullability)) (map word_in words.now)) }
 {
     match kind {
         Kind::Bool => read_column::<BoolCells>(alloc, nullability, words),
@@ -333,14 +347,16 @@ pub fn column_said(
     }
 }
 
-/// The value that the cell of a `lit` line says; nothing where it says no value of the type. E9 alone.
+/// The value that the cell of a `lit` line says; nothing where it says no value of the type. E9
+/// alone.
 pub fn literal_said(
     alloc: Global,
     kind: Kind,
     nullability: Nullability,
     word: &Word<'_>,
 ) -> VortexResult<Option<Scalar>>
-    ensures { AnswersUnlessMemory result (λ s. s ≡ literal_said (kind_type kind (allows_null nullability)) (word_in word.now)) }
+    ensures { AnswersUnlessMemory result
+        (λ s. s ≡ literal_said (kind_type kind (allows_null nullability)) (word_in word.now)) }
 {
     match kind {
         Kind::Bool => read_value::<BoolCells>(alloc, DType::Bool(nullability), word),

@@ -3,16 +3,6 @@ ghost use Rattle.std.specs.Prelude.{◌≡◌};
 ghost use Rattle.vortex_types.specs.Answers.{AnswersUnlessMemory};
 
 use vortex_columns::{Column, Scalar};
-use vortex_operators::Operator;
-
-/// The function that a `call` line names.
-#[derive(Clone, Copy, Debug, PartialEq, Eq)]
-pub enum Callee {
-    /// Of the last two trees, the last being on the right.
-    Binary(Operator),
-    /// Of the last tree.
-    Not,
-}
 
 /// What a line says.
 #[derive(Drop)]
@@ -29,8 +19,8 @@ pub enum Line<'a> {
     Get(&'a str),
     /// A value in each row.
     Literal(Scalar),
-    /// A function of the last trees.
-    Call(Callee),
+    /// The function that a word names, of the last trees.
+    Call(&'a str),
     /// The text of the last tree, printed.
     Show,
     /// The column of the last tree, printed.

@@ -9,6 +9,6 @@ pub mod printing;
 pub mod text;
 pub mod types;
 
-pub use command::{Callee, Line};
+pub use command::Line;
 pub use printing::column_text;
 pub use text::lines;

@@ -1,17 +1,20 @@
 //! Reads a line.
 ghost use Rattle.std.specs.Prelude.{◌≡◌, map, option_map};
-ghost use Rattle.vortex_types.specs.Answers.{AnswersUnlessMemory};
 ghost use Rattle.rowfn_lines.specs.Lines.{word_in};
-ghost use Rattle.rowfn_lines.specs.Commands.{begins_comment, is_name, count_of, operator_of_word, callee_of, only_word, rows_command, column_command, get_command, literal_command, call_command, alone, command_by, command_of_words, command_of_text, command_of, command_in};
+ghost use Rattle.rowfn_lines.specs.Commands.{begins_comment, is_name, count_of, only_word, alone};
+ghost use Rattle.rowfn_lines.specs.Commands.{rows_command, column_command, get_command};
+ghost use Rattle.rowfn_lines.specs.Commands.{literal_command, call_command, command_by};
+ghost use Rattle.rowfn_lines.specs.Commands.{command_of_words, command_of_text, command_of};
+ghost use Rattle.rowfn_lines.specs.Commands.{command_in};
+ghost use Rattle.rowfn_lines.specs.Answering.{AnswersCommand};
 
 use crate::cells::{are_digits, column_said, literal_said};
-use crate::command::{Callee, Line};
+use crate::command::Line;
 use crate::text::{Word, without_spaces, words};
 use crate::types::read_type;
 use std::alloc::Global;
 use std::str;
 use vortex_columns::VortexResult;
-use vortex_operators::Operator;
 
 fn begins_comment(word: &str) -> bool
     ensures { result ≡ begins_comment word.now }
@@ -38,40 +41,6 @@ fn count(word: &str) -> Option<usize>
     word.parse::<usize>().ok()
 }
 
-fn operator(word: &str) -> Option<Operator>
-    ensures { result ≡ operator_of_word word.now }
-{
-    if word == "and" {
-        Some(Operator::And)
-    } else if word == "or" {
-        Some(Operator::Or)
-    } else if word == "=" {
-        Some(Operator::Eq)
-    } else if word == "!=" {
-        Some(Operator::NotEq)
-    } else if word == "<" {
-        Some(Operator::Lt)
-    } else if word == "<=" {
-        Some(Operator::Lte)
-    } else if word == ">" {
-        Some(Operator::Gt)
-    } else if word == ">=" {
-        Some(Operator::Gte)
-    } else {
-        None
-    }
-}
-
-fn callee(word: &str) -> Option<Callee>
-    ensures { result ≡ callee_of word.now }
-{
-    if word == "not" {
-        Some(Callee::Not)
-    } else {
-        Some(Callee::Binary(operator(word)?))
-    }
-}
-
 /// The word, where there is one and no other, and it stands in no quotes.
 fn only<'a>(words: &[Word<'a>]) -> Option<&'a str>
     ensures { option_map (λ w. w.now) result ≡ only_word (map word_in words.now) }
@@ -95,7 +64,7 @@ fn rows_line<'a>(words: &[Word<'a>]) -> Line<'a>
 }
 
 fn column_line<'a>(alloc: Global, words: &[Word<'a>]) -> VortexResult<Line<'a>>
-    ensures { AnswersUnlessMemory result (λ l. command_in l ≡ column_command (map word_in words.now)) }
+    ensures { AnswersCommand (column_command (map word_in words.now)) result }
 {
     let [Word::Plain(name), Word::Plain(dtype), cells @ ..] = words else {
         return Ok(Line::Malformed);
@@ -113,7 +82,7 @@ fn column_line<'a>(alloc: Global, words: &[Word<'a>]) -> VortexResult<Line<'a>>
 }
 
 fn literal_line<'a>(alloc: Global, words: &[Word<'a>]) -> VortexResult<Line<'a>>
-    ensures { AnswersUnlessMemory result (λ l. command_in l ≡ literal_command (map word_in words.now)) }
+    ensures { AnswersCommand (literal_command (map word_in words.now)) result }
 {
     let [Word::Plain(dtype), cell] = words else {
         return Ok(Line::Malformed);
@@ -139,11 +108,8 @@ fn get_line<'a>(words: &[Word<'a>]) -> Line<'a>
 fn call_line<'a>(words: &[Word<'a>]) -> Line<'a>
     ensures { command_in result ≡ call_command (map word_in words.now) }
 {
-    let Some(word) = only(words) else {
-        return Line::Malformed;
-    };
-    match callee(word) {
-        Some(callee) => Line::Call(callee),
+    match only(words) {
+        Some(word) => Line::Call(word),
         None => Line::Malformed,
     }
 }
@@ -161,7 +127,7 @@ fn alone<'a>(line: Line<'a>, words: &[Word<'a>]) -> Line<'a>
 
 /// What the words after a first word say.
 fn line_of<'a>(alloc: Global, first: &'a str, words: &[Word<'a>]) -> VortexResult<Line<'a>>
-    ensures { AnswersUnlessMemory result (λ l. command_in l ≡ command_by first.now (map word_in words.now)) }
+    ensures { AnswersCommand (command_by first.now (map word_in words.now)) result }
 {
     if first == "rows" {
         Ok(rows_line(words))
@@ -183,7 +149,7 @@ fn line_of<'a>(alloc: Global, first: &'a str, words: &[Word<'a>]) -> VortexResul
 }
 
 fn words_line<'a>(alloc: Global, words: &[Word<'a>]) -> VortexResult<Line<'a>>
-    ensures { AnswersUnlessMemory result (λ l. command_in l ≡ command_of_words (map word_in words.now)) }
+    ensures { AnswersCommand (command_of_words (map word_in words.now)) result }
 {
     match words {
         [] => Ok(Line::Nothing),
@@ -194,7 +160,7 @@ fn words_line<'a>(alloc: Global, words: &[Word<'a>]) -> VortexResult<Line<'a>>
 
 /// What a text says that begins with no space.
 fn text_line<'a>(alloc: Global, text: &'a str) -> VortexResult<Line<'a>>
-    ensures { AnswersUnlessMemory result (λ l. command_in l ≡ command_of_text text.now) }
+    ensures { AnswersCommand (command_of_text text.now) result }
 {
     if begins_comment(text) {
         return Ok(Line::Nothing);
@@ -207,7 +173,7 @@ fn text_line<'a>(alloc: Global, text: &'a str) -> VortexResult<Line<'a>>
 
 /// What the line says. E9 alone: a line that says nothing of a script is `Malformed`.
 pub fn parse(alloc: Global, line: &[u8]) -> VortexResult<Line<'_>>
-    ensures { AnswersUnlessMemory result (λ l. command_in l ≡ command_of line.now) }
+    ensures { AnswersCommand (command_of line.now) result }
 {
     let Ok(line) = str::from_utf8(line) else {
         return Ok(Line::Malformed);

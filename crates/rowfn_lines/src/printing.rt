@@ -22,7 +22,8 @@ fn kind_text(dtype: &DType) -> &'static str
 }
 
 fn write_type(out: &mut String, dtype: &DType) -> VortexResult<()>
-    ensures { AnswersUnlessMemory result (λ _. string_bytes out.new ≡ string_bytes out.old ++ type_text (type_of dtype.now)) }
+    ensures { AnswersUnlessMemory result
+        (λ _. string_bytes out.new ≡ string_bytes out.old ++ type_text (type_of dtype.now)) }
 {
     out.push_str(kind_text(dtype))?;
     if dtype.is_nullable() {
@@ -32,7 +33,8 @@ fn write_type(out: &mut String, dtype: &DType) -> VortexResult<()>
 }
 
 fn write_text(out: &mut String, text: &str) -> VortexResult<()>
-    ensures { AnswersUnlessMemory result (λ _. string_bytes out.new ≡ string_bytes out.old ++ (quote ++ (text.now ++ quote))) }
+    ensures { AnswersUnlessMemory result
+        (λ _. string_bytes out.new ≡ string_bytes out.old ++ (quote ++ (text.now ++ quote))) }
 {
     out.push_str("\"")?;
     out.push_str(text)?;
@@ -41,7 +43,8 @@ fn write_text(out: &mut String, text: &str) -> VortexResult<()>
 }
 
 fn write_value(out: &mut String, cell: &Cell<'_>) -> VortexResult<()>
-    ensures { AnswersUnlessMemory result (λ _. string_bytes out.new ≡ string_bytes out.old ++ value_text (cell_value cell.now)) }
+    ensures { AnswersUnlessMemory result
+        (λ _. string_bytes out.new ≡ string_bytes out.old ++ value_text (cell_value cell.now)) }
 {
     match cell {
         Cell::Null => out.push_str("null")?,

@@ -1,6 +1,8 @@
 //! A script as lines, and a line as words.
-ghost use Rattle.std.specs.Prelude.{◌≡◌, ◌<◌, None, [], map, option_map, length, IfOk, MatchOption};
-ghost use Rattle.rowfn_lines.specs.Lines.{lines_of, after_spaces, with_word, words_of, in_quotes, word_in, BeginsWord, BeginsPlain};
+ghost use Rattle.std.specs.Prelude.{◌≡◌, ◌<◌, [], map, option_map, length, IfOk};
+ghost use Rattle.rowfn_lines.specs.Lines.{lines_of, after_spaces, with_word, words_of, in_quotes};
+ghost use Rattle.rowfn_lines.specs.Lines.{word_in, BeginsWord, BeginsPlain};
+ghost use Rattle.rowfn_lines.specs.Answering.{SplitsWord};
 
 use std::alloc::{AllocError, Global};
 
@@ -31,7 +33,8 @@ pub fn without_spaces(text: &str) -> &str
     rest
 }
 
-/// The first word of a text that begins with one that stands in no quotes, and what follows the word.
+/// The first word of a text that begins with one that stands in no quotes, and what follows the
+/// word.
 fn split_plain(text: &str) -> (Word<'_>, &str)
     requires { BeginsPlain text.now }
     ensures word { words_of text.now ≡ with_word (word_in result.0) (words_of result.1.now) }
@@ -43,10 +46,10 @@ fn split_plain(text: &str) -> (Word<'_>, &str)
     }
 }
 
-/// The text up to the next quote, and what follows the quote; nothing where there is no quote, or something but a space
-/// follows it.
+/// The text up to the next quote, and what follows the quote; nothing where there is no quote, or
+/// something but a space follows it.
 fn split_quoted(text: &str) -> Option<(Word<'_>, &str)>
-    ensures { MatchOption result (in_quotes [] text.now ≡ None) (λ p. (in_quotes [] text.now ≡ with_word (word_in p.0) (words_of p.1.now)) × (length p.1.now < length text.now)) }
+    ensures { SplitsWord text.now (in_quotes [] text.now) result }
 {
     let Some((word, after)) = text.split_once('"') else {
         return None;
@@ -60,10 +63,11 @@ fn split_quoted(text: &str) -> Option<(Word<'_>, &str)>
     }
 }
 
-/// The first word of a text that begins with one, and what follows the word; nothing where a quote stands wrong.
+/// The first word of a text that begins with one, and what follows the word; nothing where a quote
+/// stands wrong.
 fn split_word(text: &str) -> Option<(Word<'_>, &str)>
     requires { BeginsWord text.now }
-    ensures { MatchOption result (words_of text.now ≡ None) (λ p. (words_of text.now ≡ with_word (word_in p.0) (words_of p.1.now)) × (length p.1.now < length text.now)) }
+    ensures { SplitsWord text.now (words_of text.now) result }
 {
     match text.strip_prefix('"') {
         Some(text) => split_quoted(text),
@@ -73,7 +77,8 @@ fn split_word(text: &str) -> Option<(Word<'_>, &str)>
 
 /// The words; nothing where a quote stands wrong. Refused only for want of memory.
 pub fn words(alloc: Global, line: &str) -> Result<Option<Vec<Word<'_>>>, AllocError>
-    ensures { IfOk result (λ words. option_map (λ ws. map word_in ws.items) words ≡ words_of line.now) }
+    ensures { IfOk result
+        (λ words. option_map (λ ws. map word_in ws.items) words ≡ words_of line.now) }
 {
     let mut words = Vec::new(alloc);
     let mut rest = without_spaces(line);

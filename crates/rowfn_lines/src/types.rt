@@ -50,7 +50,8 @@ fn read_kind(word: &str) -> Option<Kind>
 }
 
 fn with_nullability(word: &str, nullability: Nullability) -> Option<(Kind, Nullability)>
-    ensures { option_map (λ p. kind_type p.0 (allows_null p.1)) result ≡ option_map (λ k. kind_type k (allows_null nullability)) (kind_of_word word.now) }
+    ensures { option_map (λ p. kind_type p.0 (allows_null p.1)) result
+        ≡ option_map (λ k. kind_type k (allows_null nullability)) (kind_of_word word.now) }
 {
     match read_kind(word) {
         Some(kind) => Some((kind, nullability)),

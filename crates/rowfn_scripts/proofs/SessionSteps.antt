@@ -1,50 +1,67 @@
 -- What each kind of line makes of a session.
-use Rattle.std.proofs.Common.{◌≡◌, ◌==◌, ℕ, suc, ◌+◌, ◌-◌, ◌<◌, Bool, true, false, Option, Some, None, Result, List, [], ◌∷◌, ◌++◌, length, take, drop, get_or, reverse, refl, sym, ap, subst, ◌∙◌, arith, ◌&&◌, not, if◌then◌else◌}
-use Rattle.std.specs.List.{list_any}
-use Rattle.std.specs.Option.{is_some, is_none, option_and_then}
+use Rattle.std.proofs.Common.{◌≡◌, ◌==◌, ℕ, suc, ◌+◌, ◌-◌, ◌<◌, Bool, true, false, Option, Some}
+use Rattle.std.proofs.Common.{None, Result, List, [], ◌∷◌, ◌++◌, length, take, drop, get_or}
+use Rattle.std.proofs.Common.{reverse, refl, sym, ap, subst, ◌∙◌, arith, ◌&&◌, if◌then◌else◌}
+use Rattle.std.specs.Prelude.{IfSome, MatchOption, nat_le, not}
+use Rattle.std.specs.Cmp.{unsigned_Decides}
+use Rattle.std.specs.Option.{is_some, is_none, option_and_then, option_map}
 use Rattle.std.specs.Result.{IsErrAnd}
 use Rattle.std.proofs.lemmas.Result.{err_from_is_err_and}
-use Rattle.std.specs.Str.{bytes_eq}
-use Rattle.std.proofs.Math.Seq.{take-suc}
-use Rattle.std.proofs.lemmas.Bool.{eqb-true, false_from_ne_true}
-use Rattle.std.proofs.lemmas.List.{reverse-append, take-append-drop, take_all, length-drop}
+use Rattle.std.proofs.Math.Seq.{take-suc, take-append_seam, drop-append_seam}
+use Rattle.std.proofs.lemmas.Bool.{eqb-true, false_from_ne_true, le-leb, lt-leb}
+use Rattle.std.proofs.lemmas.List.{reverse-append, reverse-reverse, take-append-drop, take_all}
+use Rattle.std.proofs.lemmas.List.{length-drop, length-append, length-reverse}
+use Rattle.vortex_types.specs.declared.error.MismatchPlace.{MismatchPlace}
 use Rattle.vortex_types.specs.declared.error.VortexError.{VortexError}
-use Rattle.vortex_columns.specs.ColumnView.{ColumnView}
-use Rattle.vortex_types.specs.LogicalTypes.{LogicalType, Fields, find_field}
-use Rattle.vortex_types.specs.declared.error.VortexError.TheVariants.{ScopeMismatch, TypeMismatch}
-use Rattle.vortex_meaning.specs.Meaning.{Meaning, fits}
-use Rattle.vortex_meaning.specs.Shipped.{binary, negation, shipped_place}
-use Rattle.vortex_meaning.specs.Functions.{Function, shipped, function_arity, function_type, call_type}
-use Rattle.vortex_meaning.specs.Trees.{Tree, call, trees_of, leaf, place}
-use Rattle.vortex_meaning.specs.Eval.{tree_type, tree_types, with_type}
-use Rattle.vortex_meaning.specs.Execution.{Executes, RefusesExecution}
-use Rattle.vortex_functions.specs.Binding.{IsCall, RefusesCall, count, types}
-use Rattle.rowfn_lines.specs.declared.command.Callee.{Callee}
-use Rattle.rowfn_lines.specs.declared.command.Callee.TheVariants.{Binary, Not}
+use Rattle.vortex_types.specs.declared.error.VortexError.TheVariants.{ScopeMismatch}
 use Rattle.vortex_types.specs.Answers.{Answers, UnlessMemory}
+use Rattle.vortex_types.specs.LogicalTypes.{LogicalType, Fields, with_field, find_field}
+use Rattle.vortex_columns.specs.ColumnView.{ColumnView}
+use Rattle.vortex_meaning.specs.Meaning.{Meaning, fits}
+use Rattle.vortex_meaning.specs.Shipped.{Shipped, row_function, shipped_arity, shipped_named}
+use Rattle.vortex_meaning.specs.Shipped.{shipped_place}
+use Rattle.vortex_meaning.specs.Functions.{Function, ours, function_arity, function_type, call_type}
+use Rattle.vortex_meaning.specs.Functions.{IsMismatchAt}
+use Rattle.vortex_meaning.specs.Trees.{Tree, call, trees_of, leaf, place}
+use Rattle.vortex_meaning.specs.Eval.{tree_type, tree_types, with_type, types_or_none}
+use Rattle.vortex_meaning.specs.Execution.{Executes, RefusesExecution}
+use Rattle.vortex_meaning.specs.Printing.{tree_text}
+use Rattle.vortex_functions.specs.Binding.{IsCall, RefusesCall, count, types}
+use Rattle.rowfn_lines.specs.Printing.{column_text}
 use Rattle.rowfn_scripts.specs.declared.stop.Stop.{Stop}
 use Rattle.rowfn_scripts.specs.declared.stop.Stop.TheVariants.{Refused}
+use Rattle.rowfn_scripts.specs.Sessions.{SessionView, Step, goes_on, refuses, is_malformed}
+use Rattle.rowfn_scripts.specs.Sessions.{least_count, taken, after_rows, added, with_column}
+use Rattle.rowfn_scripts.specs.Sessions.{with_leaf, call_of, refused_at, with_taken, with_call}
+use Rattle.rowfn_scripts.specs.Sessions.{shown_by, ShowsTop, prints, refused, RunsTop}
 use Rattle.rowfn_scripts.specs.Stepping.{MakesStep}
-use Rattle.rowfn_lines.specs.Printing.{column_text}
-use Rattle.rowfn_scripts.specs.Sessions.{SessionView, Step, goes_on, refuses, is_malformed, shipped_of, argument_count, taken, after_rows, with_column, with_leaf, with_call, shown_by, ShowsTop, prints, refused, RunsTop}
-use Rattle.std.specs.Prelude.{IfSome}
-use Rattle.vortex_meaning.specs.Printing.{tree_text}
 
-counted_parts : (a : Option LogicalType) (b : Option (List LogicalType)) (ks : List LogicalType) → with_type a b ≡ Some ks → (us : List LogicalType) × (b ≡ Some us) × (length ks ≡ suc (length us))
+counted_parts : (a : Option LogicalType) (b : Option (List LogicalType)) (ks : List LogicalType)
+    → with_type a b ≡ Some ks
+    → (us : List LogicalType) × (b ≡ Some us) × (length ks ≡ suc (length us))
 counted_parts None b ks e = cc
 counted_parts (Some t) None ks e = cc
 counted_parts (Some t) (Some us) ks e = let is : t ∷ us ≡ ks = cc in (us, refl, ap length (sym is))
 
 -- a refusal that a `?` passes on
-pub answers_refusal : {A : Type 0} (P : A → Type 0) (Q : VortexError → Type 0) (r : Result A VortexError) (e : VortexError) → IsErrAnd r (λ y. y ≡ e) → UnlessMemory Q e → Answers r P Q
+pub answers_refusal : {A : Type 0} (P : A → Type 0) (Q : VortexError → Type 0)
+    (r : Result A VortexError) (e : VortexError)
+    → IsErrAnd r (λ y. y ≡ e) → UnlessMemory Q e → Answers r P Q
 answers_refusal P Q r e h u = let p = err_from_is_err_and r h in rw (p.1, p.2) u
+
+-- whether a field is found
+pub found_or_not : {A : Type 0} (r : Option A) (o : Option (ℕ × LogicalType))
+    (P : A → ℕ × LogicalType) (b : Bool)
+    → MatchOption r (o ≡ None) (λ x. o ≡ Some (P x)) → b ≡ is_some r → is_none o ≡ not b
+found_or_not None o P b h e = ap is_none h ∙ sym (ap not e)
+found_or_not (Some x) o P b h e = ap is_none h ∙ sym (ap not e)
 
 module _ {V O : Type 0} where
   pub row_count_of : {s t : SessionView V O} → s ≡ t → s.row_count ≡ t.row_count
   row_count_of e = ap (λ (s : SessionView V O). s.row_count) e
 
-  pub names_of : {s t : SessionView V O} → s ≡ t → s.names ≡ t.names
-  names_of e = ap (λ (s : SessionView V O). s.names) e
+  pub fields_of : {s t : SessionView V O} → s ≡ t → s.fields ≡ t.fields
+  fields_of e = ap (λ (s : SessionView V O). s.fields) e
 
   pub columns_of : {s t : SessionView V O} → s ≡ t → s.columns ≡ t.columns
   columns_of e = ap (λ (s : SessionView V O). s.columns) e
@@ -55,80 +72,113 @@ module _ {V O : Type 0} where
   pub printed_of : {s t : SessionView V O} → s ≡ t → s.printed ≡ t.printed
   printed_of e = ap (λ (s : SessionView V O). s.printed) e
 
-  -- the same lines added to the same session
-  pub same_added : (v s : SessionView V O) (name : List ℕ) (c : ColumnView) (ns : List (List ℕ)) (cs : List ColumnView) → v ≡ s → ns ≡ v.names ++ name ∷ [] → cs ≡ v.columns ++ c ∷ [] → goes_on (record v { names = ns; columns = cs }) ≡ goes_on (record s { names = s.names ++ name ∷ []; columns = s.columns ++ c ∷ [] })
-  same_added v s name c ns cs e a b =
-      (λ i. goes_on (record v { names = a i; columns = b i }))
-      ∙ ap (λ (u : SessionView V O). goes_on (record u { names = u.names ++ name ∷ []; columns = u.columns ++ c ∷ [] })) e
+  -- the same column added to the same session
+  pub same_added : (v s : SessionView V O) (name : List ℕ) (c : ColumnView) (fs : Fields)
+      (cs : List ColumnView) → v ≡ s → fs ≡ with_field v.fields name c.dtype
+      → cs ≡ v.columns ++ c ∷ []
+      → goes_on (record v { fields = fs; columns = cs }) ≡ goes_on (added name c s)
+  same_added v s name c fs cs e a b =
+      (λ i. goes_on (record v { fields = a i; columns = b i }))
+      ∙ ap (λ (u : SessionView V O). goes_on (added name c u)) e
 
   -- one more tree
-  pub same_stacked : (v s : SessionView V O) (t : Tree V O) (kept after : List (Tree V O)) → v ≡ s → after ≡ kept ++ t ∷ [] → goes_on (record v { stack = reverse after }) ≡ goes_on (record s { stack = t ∷ reverse kept })
+  pub same_stacked : (v s : SessionView V O) (t : Tree V O) (kept after : List (Tree V O)) → v ≡ s
+      → after ≡ kept ++ t ∷ []
+      → goes_on (record v { stack = reverse after })
+      ≡ goes_on (record s { stack = t ∷ reverse kept })
   same_stacked v s t kept after e a =
       ap (λ (st : List (Tree V O)). goes_on (record v { stack = reverse st })) a
-      ∙ ap (λ (st : List (Tree V O)). goes_on (record v { stack = st })) (reverse-append kept (t ∷ []))
+      ∙ ap (λ (st : List (Tree V O)). goes_on (record v { stack = st }))
+      (reverse-append kept (t ∷ []))
       ∙ ap (λ (u : SessionView V O). goes_on (record u { stack = t ∷ reverse kept })) e
 
-  pub same_leaf : (s : SessionView V O) (t u : Tree V O) (below : List (Tree V O)) → below ≡ s.stack → t ≡ u → goes_on (record s { stack = t ∷ below }) ≡ goes_on (record s { stack = u ∷ s.stack })
+  pub same_leaf : (s : SessionView V O) (t u : Tree V O) (below : List (Tree V O)) → below ≡ s.stack
+      → t ≡ u
+      → goes_on (record s { stack = t ∷ below }) ≡ goes_on (record s { stack = u ∷ s.stack })
   same_leaf s t u below e f = λ i. goes_on (record s { stack = f i ∷ e i })
 
   after_some : (r : Option ℕ) (x : Step V O) → is_none r ≡ false → x ≡ after_rows r (λ n. x)
   after_some None x h = cc
   after_some (Some n) x h = refl
 
-  module _ (name : List ℕ) (c : ColumnView) (s : SessionView V O) (n : ℕ) (counted : s.row_count ≡ Some n) where
-    by_tests : (a b : Bool) → (length c.rows == n) ≡ a → list_any (λ other. bytes_eq other name) s.names ≡ b → (if a && not b then goes_on (record s { names = s.names ++ name ∷ []; columns = s.columns ++ c ∷ [] }) else is_malformed) ≡ after_rows s.row_count (with_column name c s)
-    by_tests a b e f =
-        sym (ap (λ (r : Option ℕ). after_rows r (with_column name c s)) counted ∙ (λ i. if e i && not (f i) then goes_on (record s { names = s.names ++ name ∷ []; columns = s.columns ++ c ∷ [] }) else is_malformed))
+  module _ (name : List ℕ) (c : ColumnView) (s : SessionView V O) (n : ℕ)
+      (counted : s.row_count ≡ Some n) where
+    abbrev Column : Step V O
+    Column = after_rows s.row_count (with_column name c s)
 
-    pub other_count : (length c.rows ≡ n → ⊥) → is_malformed ≡ after_rows s.row_count (with_column name c s)
+    abbrev is_new : Bool
+    is_new = is_none (find_field name s.fields)
+
+    by_tests : (a b : Bool) → (length c.rows == n) ≡ a → is_new ≡ b
+        → (if a && b then goes_on (added name c s) else is_malformed) ≡ Column
+    by_tests a b e f =
+        sym (ap (λ (r : Option ℕ). after_rows r (with_column name c s)) counted
+        ∙ (λ i. if e i && f i then goes_on (added name c s) else is_malformed))
+
+    pub other_count : (length c.rows ≡ n → ⊥) → is_malformed ≡ Column
     other_count h =
         by_tests false _ (false_from_ne_true _ (λ e. h (eqb-true _ _ e))) refl
 
-    known_name : (a : Bool) → (length c.rows == n) ≡ a → list_any (λ other. bytes_eq other name) s.names ≡ true → is_malformed ≡ after_rows s.row_count (with_column name c s)
-    known_name true e f = by_tests true true e f
-    known_name false e f = by_tests false true e f
+    known_name : (a : Bool) → (length c.rows == n) ≡ a → is_new ≡ false → is_malformed ≡ Column
+    known_name true e f = by_tests true false e f
+    known_name false e f = by_tests false false e f
 
-    pub name_twice : list_any (λ other. bytes_eq other name) s.names ≡ true → is_malformed ≡ after_rows s.row_count (with_column name c s)
+    pub name_twice : is_new ≡ false → is_malformed ≡ Column
     name_twice f = known_name _ refl f
 
-    pub column_added : (length c.rows == n) ≡ true → list_any (λ other. bytes_eq other name) s.names ≡ false → goes_on (record s { names = s.names ++ name ∷ []; columns = s.columns ++ c ∷ [] }) ≡ after_rows s.row_count (with_column name c s)
-    column_added e f = by_tests true false e f
+    pub column_added : (length c.rows == n) ≡ true → is_new ≡ true
+        → goes_on (added name c s) ≡ Column
+    column_added e f = by_tests true true e f
 
-  pub leaf_pushed : (name : List ℕ) (s : SessionView V O) (scope : Fields) (p : ℕ × LogicalType) → is_none s.row_count ≡ false → find_field name scope ≡ Some p → goes_on (record s { stack = leaf (place p.0 name p.1) ∷ s.stack }) ≡ after_rows s.row_count (λ n. with_leaf name s (find_field name scope))
+  pub leaf_pushed : (name : List ℕ) (s : SessionView V O) (scope : Fields) (p : ℕ × LogicalType)
+      → is_none s.row_count ≡ false → find_field name scope ≡ Some p
+      → goes_on (record s { stack = leaf (place p.0 name p.1) ∷ s.stack })
+      ≡ after_rows s.row_count (λ n. with_leaf name s (find_field name scope))
   leaf_pushed name s scope p h e =
       ap (with_leaf name s) (sym e) ∙ after_some s.row_count _ h
 
-  pub leaf_refused : (name : List ℕ) (s : SessionView V O) (scope : Fields) → is_none s.row_count ≡ false → find_field name scope ≡ None → refuses ScopeMismatch ≡ after_rows s.row_count (λ n. with_leaf name s (find_field name scope))
+  pub leaf_refused : (name : List ℕ) (s : SessionView V O) (scope : Fields)
+      → is_none s.row_count ≡ false → find_field name scope ≡ None
+      → refuses ScopeMismatch
+      ≡ after_rows s.row_count (λ n. with_leaf name s (find_field name scope))
   leaf_refused name s scope h e = ap (with_leaf name s) (sym e) ∙ after_some s.row_count _ h
 
-  reverse_two : (xs : List (Tree V O)) (ys : List (Tree V O)) (f : Callee) → length ys ≡ argument_count f → taken f (reverse (xs ++ ys)) ≡ Some (ys, reverse xs)
-  reverse_two xs (l ∷ r ∷ []) (Binary o) e = ap (taken (Binary o)) (reverse-append xs (l ∷ r ∷ []))
-  reverse_two xs (t ∷ []) Not e = ap (taken Not) (reverse-append xs (t ∷ []))
-  reverse_two xs [] f e = absurd (none f e)
-    where
-      none : (f : Callee) → 0 ≡ argument_count f → ⊥
-      none (Binary o) e = omega arith
-      none Not e = omega arith
-  reverse_two xs (t ∷ []) (Binary o) e = absurd (omega arith)
-  reverse_two xs (l ∷ r ∷ []) Not e = absurd (omega arith)
-  reverse_two xs (a ∷ b ∷ d ∷ ys) (Binary o) e = absurd (omega arith)
-  reverse_two xs (a ∷ b ∷ d ∷ ys) Not e = absurd (omega arith)
+  taken_seam : (front rest : List (Tree V O)) (n : ℕ) → length front ≡ n
+      → taken n (front ++ rest) ≡ Some (reverse front, rest)
+  taken_seam front rest n e =
+      let all = front ++ rest in
+      let enough : nat_le n (length all) ≡ true =
+      le-leb n (length all) (omega (arith, e, length-append front rest)) in
+      (λ i. if enough i then Some (reverse (take n all), drop n all) else None)
+      ∙ (λ i. Some (reverse (take (sym e i) all), drop (sym e i) all))
+      ∙ (λ i. Some (reverse (take-append_seam front rest i), drop-append_seam front rest i))
 
-  -- a function takes the last trees of a stack whose last is its end
-  pub last_taken : (f : Callee) (xs : List (Tree V O)) (k : ℕ) → k + argument_count f ≡ length xs → taken f (reverse xs) ≡ Some (drop k xs, reverse (take k xs))
-  last_taken f xs k e =
-      ap (λ (ys : List (Tree V O)). taken f (reverse ys)) (sym (take-append-drop k xs))
-      ∙ reverse_two (take k xs) (drop k xs) f (omega (arith, length-drop k xs))
+  -- the last trees of a list are taken from a stack whose last is its end
+  last_by : (xs ys : List (Tree V O))
+      → taken (length ys) (reverse (xs ++ ys)) ≡ Some (ys, reverse xs)
+  last_by xs ys =
+      ap (taken (length ys)) (reverse-append xs ys)
+      ∙ taken_seam (reverse ys) (reverse xs) (length ys) (length-reverse ys)
+      ∙ ap (λ (zs : List (Tree V O)). Some (zs, reverse xs)) (reverse-reverse ys)
 
-  pub too_few : (f : Callee) (xs : List (Tree V O)) → length xs < argument_count f → taken f (reverse xs) ≡ None
-  too_few (Binary o) [] h = refl
-  too_few Not [] h = refl
-  too_few (Binary o) (t ∷ []) h = refl
-  too_few Not (t ∷ xs) h = absurd (omega arith)
-  too_few (Binary o) (t ∷ u ∷ xs) h = absurd (omega arith)
+  last_taken : (n : ℕ) (xs : List (Tree V O)) (k : ℕ) → k + n ≡ length xs
+      → taken n (reverse xs) ≡ Some (drop k xs, reverse (take k xs))
+  last_taken n xs k e =
+      let counted : n ≡ length (drop k xs) = omega (arith, length-drop k xs) in
+      ap (λ (ys : List (Tree V O)). taken n (reverse ys)) (sym (take-append-drop k xs))
+      ∙ ap (λ (j : ℕ). taken j (reverse (take k xs ++ drop k xs))) counted
+      ∙ last_by (take k xs) (drop k xs)
+
+  pub too_few : (n : ℕ) (xs : List (Tree V O)) → length xs < n → taken n (reverse xs) ≡ None
+  too_few n xs h =
+      let all = reverse xs in
+      let few : nat_le n (length all) ≡ false =
+      lt-leb n (length all) (omega (arith, length-reverse xs)) in
+      (λ i. if few i then Some (reverse (take n all), drop n all) else None)
 
   -- the last tree is the top
-  pub last_is_top : (xs : List (Tree V O)) (t : Tree V O) → 0 < length xs → t ≡ get_or xs (length xs - 1) t → reverse xs ≡ t ∷ reverse (take (length xs - 1) xs)
+  pub last_is_top : (xs : List (Tree V O)) (t : Tree V O) → 0 < length xs
+      → t ≡ get_or xs (length xs - 1) t → reverse xs ≡ t ∷ reverse (take (length xs - 1) xs)
   last_is_top xs t some is =
       ap reverse (sym whole) ∙ reverse-append (take (length xs - 1) xs) (t ∷ [])
     where
@@ -138,72 +188,147 @@ module _ {V O : Type 0} where
           ∙ sym (take-suc xs (length xs - 1) t (omega arith))
           ∙ take_all (suc (length xs - 1)) xs (omega arith)
 
-  pub call_taken : (f : Callee) (items stack ts kept : List (Tree V O)) (k : ℕ) → stack ≡ reverse items → k + argument_count f ≡ length items → ts ≡ drop k items → kept ≡ take k items → taken f stack ≡ Some (ts, reverse kept)
-  call_taken f items stack ts kept k e h a b =
-      ap (taken f) e ∙ last_taken f items k h ∙ (λ i. Some (sym a i, reverse (sym b i)))
+  pub call_taken : (n : ℕ) (items stack ts kept : List (Tree V O)) (k : ℕ) → stack ≡ reverse items
+      → k + n ≡ length items → ts ≡ drop k items → kept ≡ take k items
+      → taken n stack ≡ Some (ts, reverse kept)
+  call_taken n items stack ts kept k e h a b =
+      ap (taken n) e ∙ last_taken n items k h ∙ (λ i. Some (sym a i, reverse (sym b i)))
+
+  -- the function that a word names, and none
+  pub named_is : (x : Function V O) (o : Option Shipped) → Some x ≡ option_map ours o
+      → (f : Shipped) × (o ≡ Some f) × (x ≡ ours f)
+  named_is x None e = cc
+  named_is x (Some f) e = (f, refl, cc)
+
+  abbrev as_function : Option Shipped → Option (Function V O)
+  as_function o = option_map ours o
+
+  pub unnamed : (o : Option Shipped) → None ≡ as_function o → o ≡ None
+  unnamed None e = refl
+  unnamed (Some f) e = cc
 
   module _ (m : Meaning V O) where
-    types_counted : (ts : List (Tree V O)) (ks : List LogicalType) → tree_types m (trees_of ts) ≡ Some ks → length ks ≡ length ts
+    types_counted : (ts : List (Tree V O)) (ks : List LogicalType)
+        → tree_types m (trees_of ts) ≡ Some ks → length ks ≡ length ts
     types_counted [] ks e = let is : [] ≡ ks = cc in ap length (sym is)
     types_counted (t ∷ ts) ks e =
         let p = counted_parts (tree_type m t) (tree_types m (trees_of ts)) ks e in
         p.2 ∙ ap suc (types_counted ts p.0 p.1)
 
-    call_typed : (f : Function V O) (ts : List (Tree V O)) (t : Tree V O) → IsCall m f ts t → is_some (tree_type m (call f (trees_of ts))) ≡ true
+    call_typed : (f : Function V O) (ts : List (Tree V O)) (t : Tree V O) → IsCall m f ts t
+        → is_some (tree_type m (call f (trees_of ts))) ≡ true
     call_typed f ts t h =
-        let allowed : fits (function_arity m f) (length h.types) ≡ true = ap (fits (function_arity m f)) (types_counted ts h.types h.typed) ∙ h.arity in
+        let allowed : fits (function_arity m f) (length h.types) ≡ true =
+        ap (fits (function_arity m f)) (types_counted ts h.types h.typed) ∙ h.arity in
         ap (λ (o : Option (List LogicalType)). is_some (option_and_then (call_type m f) o)) h.typed
         ∙ (λ i. is_some (if allowed i then h.accepted i else None))
 
-    none_either : (b : Bool) (o : Option LogicalType) → o ≡ None → is_some (if b then o else None) ≡ false
+    none_either : (b : Bool) (o : Option LogicalType) → o ≡ None
+        → is_some (if b then o else None) ≡ false
     none_either true o e = ap is_some e
     none_either false o e = refl
 
-    call_untyped : (f : Function V O) (ts : List (Tree V O)) (ks : List LogicalType) → tree_types m (trees_of ts) ≡ Some ks → function_type m f ks ≡ None → is_some (tree_type m (call f (trees_of ts))) ≡ false
+    call_untyped : (f : Function V O) (ts : List (Tree V O)) (ks : List LogicalType)
+        → tree_types m (trees_of ts) ≡ Some ks → function_type m f ks ≡ None
+        → is_some (tree_type m (call f (trees_of ts))) ≡ false
     call_untyped f ts ks e none =
         ap (λ (o : Option (List LogicalType)). is_some (option_and_then (call_type m f) o)) e
         ∙ none_either (fits (function_arity m f) (length ks)) (function_type m f ks) none
 
-    module _ (f : Callee) (s : SessionView V O) (ts rest : List (Tree V O)) (known : is_none s.row_count ≡ false) (e : taken f s.stack ≡ Some (ts, rest)) where
-      by_type : (b : Bool) → is_some (tree_type m (call (shipped (shipped_of f)) (trees_of ts))) ≡ b → (if b then goes_on (record s { stack = call (shipped (shipped_of f)) (trees_of ts) ∷ rest }) else refuses (TypeMismatch (shipped_place (shipped_of f)))) ≡ after_rows s.row_count (λ n. with_call m f s (taken f s.stack))
-      by_type b h =
-          (λ i. if sym h i then goes_on (record s { stack = call (shipped (shipped_of f)) (trees_of ts) ∷ rest }) else refuses (TypeMismatch (shipped_place (shipped_of f))))
-          ∙ ap (with_call m f s) (sym e)
-          ∙ after_some s.row_count (with_call m f s (taken f s.stack)) known
+    module _ (word : List ℕ) (s : SessionView V O) (known : is_none s.row_count ≡ false) where
+      abbrev Call : Step V O
+      Call = after_rows s.row_count (λ n. with_call m s (shipped_named word))
 
-      pub call_made : (t : Tree V O) → IsCall m (shipped (shipped_of f)) ts t → goes_on (record s { stack = t ∷ rest }) ≡ after_rows s.row_count (λ n. with_call m f s (taken f s.stack))
-      call_made t h =
-          ap (λ (u : Tree V O). goes_on (record s { stack = u ∷ rest })) h.is ∙ by_type true (call_typed (shipped (shipped_of f)) ts t h)
+      called : (o : Option Shipped) → shipped_named word ≡ o → with_call m s o ≡ Call
+      called o e = ap (with_call m s) (sym e) ∙ after_some s.row_count _ known
 
-      no_count : (f : Callee) → length ts ≡ argument_count f → fits (function_arity m (shipped (shipped_of f))) (length ts) ≡ false → ⊥
-      no_count (Binary o) h k = let two : fits (function_arity m (shipped (binary o))) (length ts) ≡ true = ap (λ (n : ℕ). n == 2) h in cc
-      no_count Not h k = let one : fits (function_arity m (shipped negation)) (length ts) ≡ true = ap (λ (n : ℕ). n == 1) h in cc
+      pub no_function : shipped_named word ≡ None → is_malformed ≡ Call
+      no_function e = called None e
 
-      pub call_refused : length ts ≡ argument_count f → (e : VortexError) → RefusesCall m (shipped (shipped_of f)) ts e → refuses e ≡ after_rows s.row_count (λ n. with_call m f s (taken f s.stack))
-      call_refused counted e (count h is) = absurd (no_count f counted h)
-      call_refused counted e (types ks h typed none is) =
-          ap refuses is ∙ by_type false (call_untyped (shipped (shipped_of f)) ts ks typed none)
+      module _ (f : Shipped) (named : shipped_named word ≡ Some f) where
+        pub no_arguments : taken (least_count (shipped_arity f)) s.stack ≡ None
+            → is_malformed ≡ Call
+        no_arguments e = ap (with_taken m f s) (sym e) ∙ called (Some f) named
 
-    module _ (n : ℕ) (s : SessionView V O) (t : Tree V O) (rest : List (Tree V O)) (top : s.stack ≡ t ∷ rest) where
-      pub top_printed : (c : ColumnView) (text : List ℕ) → Executes m s.columns n t c → text ≡ column_text c → RunsTop m (Some n) s.stack s (goes_on (record s { printed = s.printed ++ text }))
+        module _ (ts rest : List (Tree V O))
+            (e : taken (least_count (shipped_arity f)) s.stack ≡ Some (ts, rest)) where
+          abbrev Made : Step V O
+          Made = goes_on (record s { stack = call_of m f ts ∷ rest })
+
+          abbrev Refuse : List LogicalType → Step V O
+          Refuse ks = refused_at m (shipped_place f ks)
+
+          by_type : (b : Bool) → is_some (tree_type m (call_of m f ts)) ≡ b
+              → (if b then Made else Refuse (types_or_none (tree_types m (trees_of ts)))) ≡ Call
+          by_type b h =
+              (λ i. if sym h i then Made else Refuse (types_or_none (tree_types m (trees_of ts))))
+              ∙ ap (with_taken m f s) (sym e)
+              ∙ called (Some f) named
+
+          pub call_made : (t : Tree V O) → IsCall m (ours f) ts t
+              → goes_on (record s { stack = t ∷ rest }) ≡ Call
+          call_made t h =
+              ap (λ (u : Tree V O). goes_on (record s { stack = u ∷ rest })) h.is
+              ∙ by_type true (call_typed (ours f) ts t h)
+
+          placed : (o : Option MismatchPlace) (d : VortexError) → IsMismatchAt o d
+              → refuses d ≡ refused_at m o
+          placed None d h = absurd h
+          placed (Some p) d h = ap refuses h
+
+          pub call_refused : length ts ≡ least_count (shipped_arity f) → (d : VortexError)
+              → RefusesCall m (ours f) ts d → refuses d ≡ Call
+          call_refused counted d (count h is) =
+              let fit : fits (function_arity m (ours f)) (length ts) ≡ true =
+              (unsigned_Decides (length ts) (row_function f).count).1 counted in
+              cc
+          call_refused counted d (types ks h typed none is) =
+              placed (shipped_place f ks) d is
+              ∙ ap Refuse (sym (ap types_or_none typed))
+              ∙ by_type false (call_untyped (ours f) ts ks typed none)
+
+    module _ (n : ℕ) (s : SessionView V O) (t : Tree V O) (rest : List (Tree V O))
+        (top : s.stack ≡ t ∷ rest) where
+      pub top_printed : (c : ColumnView) (text : List ℕ) → Executes m s.columns n t c
+          → text ≡ column_text c
+          → RunsTop m (Some n) s.stack s (goes_on (record s { printed = s.printed ++ text }))
       top_printed c text h e =
-          subst (λ (stack : List (Tree V O)). RunsTop m (Some n) stack s (goes_on (record s { printed = s.printed ++ text }))) (sym top) (prints c h (ap (λ (b : List ℕ). goes_on (record s { printed = s.printed ++ b })) e))
+          subst
+          (λ (stack : List (Tree V O)).
+          RunsTop m (Some n) stack s (goes_on (record s { printed = s.printed ++ text })))
+          (sym top)
+          (prints c h (ap (λ (b : List ℕ). goes_on (record s { printed = s.printed ++ b })) e))
 
-      pub top_refused : (e : VortexError) → RefusesExecution m s.columns n t e → RunsTop m (Some n) s.stack s (refuses e)
+      pub top_refused : (e : VortexError) → RefusesExecution m s.columns n t e
+          → RunsTop m (Some n) s.stack s (refuses e)
       top_refused e h =
-          subst (λ (stack : List (Tree V O)). RunsTop m (Some n) stack s (refuses e)) (sym top) (refused e h refl)
+          subst (λ (stack : List (Tree V O)). RunsTop m (Some n) stack s (refuses e)) (sym top)
+          (refused e h refl)
 
   -- the same, of a line
-  pub stops : (P : SessionView V O → Step V O → Type 0) (s t : SessionView V O) (r : Result (Unit {0}) Stop) (e : VortexError) → IsErrAnd r (λ y. y ≡ Refused e) → UnlessMemory (λ e. P s (refuses e)) e → t.printed ≡ s.printed → MakesStep P s r t
+  pub stops : (P : SessionView V O → Step V O → Type 0) (s t : SessionView V O)
+      (r : Result (Unit {0}) Stop) (e : VortexError)
+      → IsErrAnd r (λ y. y ≡ Refused e) → UnlessMemory (λ e. P s (refuses e)) e
+      → t.printed ≡ s.printed → MakesStep P s r t
   stops P s t r e h u kept =
       let p = err_from_is_err_and r h in rw (p.1, p.2) (u, kept)
 
-shown_where : {V O : Type 0} (s : SessionView V O) (written text : List ℕ) (o : Option (List ℕ)) → IfSome o (λ bytes. written ≡ bytes) → text ≡ written ++ 10 ∷ [] → IfSome o (λ bytes. goes_on (record s { printed = s.printed ++ text }) ≡ shown_by bytes s)
+shown_where : {V O : Type 0} (s : SessionView V O) (written text : List ℕ) (o : Option (List ℕ))
+    → IfSome o (λ bytes. written ≡ bytes) → text ≡ written ++ 10 ∷ []
+    → IfSome o (λ bytes. goes_on (record s { printed = s.printed ++ text }) ≡ shown_by bytes s)
 shown_where s written text None k e = tt
 shown_where s written text (Some bytes) k e =
-    ap (λ (b : List ℕ). goes_on (record s { printed = s.printed ++ b })) (e ∙ ap (λ (b : List ℕ). b ++ 10 ∷ []) k)
+    ap (λ (b : List ℕ). goes_on (record s { printed = s.printed ++ b }))
+    (e ∙ ap (λ (b : List ℕ). b ++ 10 ∷ []) k)
 
 -- the text of the tree on top, with a newline
-pub top_shown : {V O : Type 0} (s : SessionView V O) (n : ℕ) (t : Tree V O) (rest : List (Tree V O)) (written text : List ℕ) → s.stack ≡ t ∷ rest → IfSome (tree_text t) (λ bytes. written ≡ bytes) → text ≡ written ++ 10 ∷ [] → ShowsTop (Some n) s.stack s (goes_on (record s { printed = s.printed ++ text }))
+pub top_shown : {V O : Type 0} (s : SessionView V O) (n : ℕ) (t : Tree V O) (rest : List (Tree V O))
+    (written text : List ℕ)
+    → s.stack ≡ t ∷ rest → IfSome (tree_text t) (λ bytes. written ≡ bytes)
+    → text ≡ written ++ 10 ∷ []
+    → ShowsTop (Some n) s.stack s (goes_on (record s { printed = s.printed ++ text }))
 top_shown {V} {O} s n t rest written text top h e =
-    subst (λ (ts : List (Tree V O)). ShowsTop (Some n) ts s (goes_on (record s { printed = s.printed ++ text }))) (sym top) (shown_where s written text (tree_text t) h e)
+    subst
+    (λ (ts : List (Tree V O)).
+    ShowsTop (Some n) ts s (goes_on (record s { printed = s.printed ++ text })))
+    (sym top) (shown_where s written text (tree_text t) h e)

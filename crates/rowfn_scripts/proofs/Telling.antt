@@ -1,38 +1,45 @@
 -- The lines of a script make one session, and print one text.
-use Rattle.std.proofs.Common.{◌≡◌, ◌==◌, ◌⊎◌, inl, inr, ℕ, zero, suc, ◌<◌, ◌≤◌, Bool, true, false, Option, Some, None, List, [], ◌∷◌, ◌++◌, length, refl, sym, ap, subst, ◌∙◌, arith, append_assoc, ◌&&◌, not, if◌then◌else◌}
+use Rattle.std.proofs.Common.{◌≡◌, ◌==◌, ◌⊎◌, inl, inr, ℕ, zero, suc, ◌<◌, ◌≤◌, Bool, true, false}
+use Rattle.std.proofs.Common.{Option, Some, None, List, [], ◌∷◌, ◌++◌, length, refl, sym, ap, subst}
+use Rattle.std.proofs.Common.{◌∙◌, arith, append_assoc, ◌&&◌, if◌then◌else◌}
 use Rattle.std.specs.Prelude.{codes, IfSome}
 use Rattle.vortex_types.specs.ScalarView.{ScalarView}
 use Rattle.vortex_meaning.specs.Printing.{tree_text}
-use Rattle.std.specs.List.{list_any}
-use Rattle.std.specs.Str.{bytes_eq}
-use Rattle.std.specs.Option.{is_some}
+use Rattle.std.specs.Option.{is_some, is_none}
 use Rattle.std.proofs.lemmas.List.{append-nil, ext_get_or}
 use Rattle.vortex_types.specs.declared.error.VortexError.{VortexError}
-use Rattle.vortex_types.specs.declared.error.VortexError.TheVariants.{OutOfMemory, TypeMismatch}
+use Rattle.vortex_types.specs.declared.error.VortexError.TheVariants.{OutOfMemory}
 use Rattle.vortex_types.specs.Answers.{UnlessMemory}
 use Rattle.vortex_types.specs.Values.{Value, null}
 use Rattle.vortex_types.specs.LogicalTypes.{LogicalType, find_field}
 use Rattle.vortex_columns.specs.ColumnView.{ColumnView}
 use Rattle.vortex_meaning.specs.Outcomes.{Outcome, gives, faults, GivesValue}
 use Rattle.vortex_meaning.specs.Meaning.{Meaning}
-use Rattle.vortex_meaning.specs.Shipped.{shipped_place}
-use Rattle.vortex_meaning.specs.Functions.{shipped}
-use Rattle.vortex_meaning.specs.Trees.{Tree, leaf, constant, call as call_tree, Trees, no_trees, tree, trees_of}
-use Rattle.vortex_meaning.specs.Eval.{Inputs, all_give, one_faults, with_first, then_means, tree_type, eval, eval_all, Settled, AllSettled, IsFirstFault, IsFirstFaultIn, HasTreeRows}
+use Rattle.vortex_types.specs.declared.error.MismatchPlace.{MismatchPlace}
+use Rattle.vortex_meaning.specs.Shipped.{Shipped, shipped_arity, shipped_named, shipped_place}
+use Rattle.vortex_meaning.specs.Trees.{Tree, leaf, constant, call as call_tree, Trees, no_trees}
+use Rattle.vortex_meaning.specs.Trees.{tree, trees_of}
+use Rattle.vortex_meaning.specs.Eval.{Inputs, all_give, one_faults, with_first, then_means}
+use Rattle.vortex_meaning.specs.Eval.{tree_type, tree_types, types_or_none, eval, eval_all, Settled}
+use Rattle.vortex_meaning.specs.Eval.{AllSettled, IsFirstFault, IsFirstFaultIn, HasTreeRows}
 use Rattle.vortex_meaning.specs.Execution.{Executes, RefusesExecution, unfit, uneven, faulty}
-use Rattle.rowfn_lines.specs.declared.command.Callee.{Callee}
 use Rattle.rowfn_scripts.specs.declared.ending.End.{End}
 use Rattle.rowfn_scripts.specs.declared.ending.End.TheVariants.{Done, Refused, Malformed}
 use Rattle.rowfn_lines.specs.Lines.{lines_of}
 use Rattle.rowfn_lines.specs.Printing.{type_text, values_text, column_text}
-use Rattle.rowfn_lines.specs.Commands.{Command, nothing, malformed, rows, column, get, literal, call, show, run}
-use Rattle.rowfn_scripts.specs.Sessions.{SessionView, Step, goes_on, refuses, is_malformed, fresh, fields_in, shipped_of, taken, with_rows, after_rows, with_column, with_leaf, with_literal, with_call, shown_by, ShowsTop, prints, refused, RunsTop, StepsTo}
+use Rattle.rowfn_lines.specs.Commands.{Command, nothing, malformed, rows, column, get, literal}
+use Rattle.rowfn_lines.specs.Commands.{call, show, run}
+use Rattle.rowfn_scripts.specs.Sessions.{SessionView, Step, goes_on, refuses, is_malformed, fresh}
+use Rattle.rowfn_scripts.specs.Sessions.{least_count, taken, with_rows, after_rows, with_column}
+use Rattle.rowfn_scripts.specs.Sessions.{with_leaf, with_literal, call_of, refused_at, with_taken}
+use Rattle.rowfn_scripts.specs.Sessions.{with_call, shown_by, ShowsTop, prints, refused, RunsTop}
+use Rattle.rowfn_scripts.specs.Sessions.{StepsTo}
 use Rattle.rowfn_scripts.specs.Scripts.{Reaches, begins, one_more, command_at, EndsAt, IsOutcome}
 use Rattle.rowfn_scripts.specs.Fitting.{HasText, AllShown}
 use Rattle.rowfn_scripts.proofs.Fitting.{reached_fits}
 
 -- a tree that has a value in each row has no fault
-abbrev Given : Inputs → Type 0
+abbrev pub Given : Inputs → Type 0
 Given (all_give vs) = Unit {0}
 Given (one_faults f) = ⊥
 
@@ -46,13 +53,16 @@ first_given (gives v) (one_faults f) h = absurd h
 first_given (gives v) (all_give vs) h = (tt, tt)
 
 module _ {V O : Type 0} (m : Meaning V O) (cs : List ColumnView) (n : ℕ) (e : VortexError) where
-  all_settled : (ts : Trees V O) → ((i : ℕ) → i < n → Given (eval_all m cs ts i)) → AllSettled m cs n ts
+  all_settled : (ts : Trees V O) → ((i : ℕ) → i < n → Given (eval_all m cs ts i))
+      → AllSettled m cs n ts
   all_settled no_trees h = tt
-  all_settled (tree t ts) h =
-      ((λ i lt. (first_given (eval m cs t i) (eval_all m cs ts i) (h i lt)).0), all_settled ts (λ i lt. (first_given (eval m cs t i) (eval_all m cs ts i) (h i lt)).1))
+  all_settled (tree t ts) h = (
+    (λ i lt. (first_given (eval m cs t i) (eval_all m cs ts i) (h i lt)).0),
+    all_settled ts (λ i lt. (first_given (eval m cs t i) (eval_all m cs ts i) (h i lt)).1),
+  )
 
   mutual
-    no_fault : (t : Tree V O) → Settled m cs n t → IsFirstFault m cs n t e → ⊥
+    pub no_fault : (t : Tree V O) → Settled m cs n t → IsFirstFault m cs n t e → ⊥
     no_fault (leaf l) h k = k
     no_fault (constant s) h k = k
     no_fault (call_tree f ts) h (inl k) =
@@ -60,24 +70,29 @@ module _ {V O : Type 0} (m : Meaning V O) (cs : List ColumnView) (n : ℕ) (e : 
     no_fault (call_tree f ts) h (inr p) =
         let r = p.1 in subst (λ (o : Outcome). GivesValue o) r.here (h r.at r.below)
 
-    no_faults : (ts : Trees V O) → AllSettled m cs n ts → IsFirstFaultIn m cs n ts e → ⊥
+    pub no_faults : (ts : Trees V O) → AllSettled m cs n ts → IsFirstFaultIn m cs n ts e → ⊥
     no_faults no_trees h k = k
     no_faults (tree t ts) h (inl k) = no_fault t h.0 k
     no_faults (tree t ts) h (inr p) = no_faults ts h.1 p.1
 
-shows_text : {V O : Type 0} (s : SessionView V O) (x : Tree V O) (r : Step V O) (h : HasText x) → IfSome (tree_text x) (λ text. r ≡ shown_by text s) → r ≡ shown_by h.0 s
+pub shows_text : {V O : Type 0} (s : SessionView V O) (x : Tree V O) (r : Step V O) (h : HasText x)
+    → IfSome (tree_text x) (λ text. r ≡ shown_by text s) → r ≡ shown_by h.0 s
 shows_text s x r h e = subst (λ (o : Option (List ℕ)). IfSome o (λ text. r ≡ shown_by text s)) h.1 e
 
 module _ {V O : Type 0} (m : Meaning V O) where
-  settled : (cs : List ColumnView) (n : ℕ) (t : Tree V O) (c : ColumnView) → HasTreeRows m cs n t c → Settled m cs n t
+  settled : (cs : List ColumnView) (n : ℕ) (t : Tree V O) (c : ColumnView) → HasTreeRows m cs n t c
+      → Settled m cs n t
   settled cs n t c h i lt = subst (λ (o : Outcome). GivesValue o) (sym (h.each i lt)) tt
 
-  executes_or_refuses : (cs : List ColumnView) (n : ℕ) (t : Tree V O) (c : ColumnView) (e : VortexError) → Executes m cs n t c → RefusesExecution m cs n t e → ⊥
+  executes_or_refuses : (cs : List ColumnView) (n : ℕ) (t : Tree V O) (c : ColumnView)
+      (e : VortexError)
+      → Executes m cs n t c → RefusesExecution m cs n t e → ⊥
   executes_or_refuses cs n t c e h (unfit k q) = k h.fit
   executes_or_refuses cs n t c e h (uneven l k q r) = let none = h.lengths in cc
   executes_or_refuses cs n t c e h (faulty k q f) = no_fault m cs n e t (settled cs n t c h.rows) f
 
-  one_text : (cs : List ColumnView) (n : ℕ) (t : Tree V O) (c d : ColumnView) → Executes m cs n t c → Executes m cs n t d → column_text c ≡ column_text d
+  one_text : (cs : List ColumnView) (n : ℕ) (t : Tree V O) (c d : ColumnView) → Executes m cs n t c
+      → Executes m cs n t d → column_text c ≡ column_text d
   one_text cs n t c d g h =
       λ i. ((type_text (types i) ++ codes ":") ++ values_text (values i)) ++ (10 ∷ [])
     where
@@ -89,10 +104,13 @@ module _ {V O : Type 0} (m : Meaning V O) where
 
       values : c.rows ≡ d.rows
       values =
-          ext_get_or null c.rows d.rows (g.rows.count ∙ sym h.rows.count) (λ i lt. let below : i < n = omega (arith, g.rows.count) in value i _ _ (g.rows.each i below) (h.rows.each i below))
+          ext_get_or null c.rows d.rows (g.rows.count ∙ sym h.rows.count)
+          (λ i lt. let below : i < n = omega (arith, g.rows.count) in
+          value i _ _ (g.rows.each i below) (h.rows.each i below))
 
   module _ (s : SessionView V O) where
-    same_run : (t u : SessionView V O) (r : Option ℕ) (stack : List (Tree V O)) → RunsTop m r stack s (goes_on t) → RunsTop m r stack s (goes_on u) → t ≡ u
+    same_run : (t u : SessionView V O) (r : Option ℕ) (stack : List (Tree V O))
+        → RunsTop m r stack s (goes_on t) → RunsTop m r stack s (goes_on u) → t ≡ u
     same_run t u None stack a b = cc
     same_run t u (Some n) [] a b = cc
     same_run t u (Some n) (x ∷ stack) (refused e h k) b = cc
@@ -103,14 +121,16 @@ module _ {V O : Type 0} (m : Meaning V O) where
         let second : u ≡ record s { printed = s.printed ++ column_text d } = cc in
         first ∙ ap (λ (b : List ℕ). record s { printed = s.printed ++ b }) text ∙ sym second
 
-    same_show : (t u : SessionView V O) (r : Option ℕ) (stack : List (Tree V O)) → AllShown stack → ShowsTop r stack s (goes_on t) → ShowsTop r stack s (goes_on u) → t ≡ u
+    same_show : (t u : SessionView V O) (r : Option ℕ) (stack : List (Tree V O)) → AllShown stack
+        → ShowsTop r stack s (goes_on t) → ShowsTop r stack s (goes_on u) → t ≡ u
     same_show t u None stack h a b = cc
     same_show t u (Some n) [] h a b = cc
     same_show t u (Some n) (x ∷ stack) h a b =
         let first = shows_text s x (goes_on t) h.0 a in
         let second = shows_text s x (goes_on u) h.0 b in cc
 
-    same_step : AllShown s.stack → (t u : SessionView V O) (k : Command) → StepsTo m k s (goes_on t) → StepsTo m k s (goes_on u) → t ≡ u
+    same_step : AllShown s.stack → (t u : SessionView V O) (k : Command) → StepsTo m k s (goes_on t)
+        → StepsTo m k s (goes_on u) → t ≡ u
     same_step h t u nothing a b = cc
     same_step h t u malformed a b = cc
     same_step h t u (rows n) a b = cc
@@ -121,19 +141,24 @@ module _ {V O : Type 0} (m : Meaning V O) where
     same_step h t u show a b = same_show t u s.row_count s.stack h a b
     same_step h t u run a b = same_run t u s.row_count s.stack a b
 
-    run_once : (t : SessionView V O) (e : VortexError) (r : Option ℕ) (stack : List (Tree V O)) → RunsTop m r stack s (goes_on t) → RunsTop m r stack s (refuses e) → ⊥
+    run_once : (t : SessionView V O) (e : VortexError) (r : Option ℕ) (stack : List (Tree V O))
+        → RunsTop m r stack s (goes_on t) → RunsTop m r stack s (refuses e) → ⊥
     run_once t e None stack a b = cc
     run_once t e (Some n) [] a b = cc
     run_once t e (Some n) (x ∷ stack) (refused d h k) b = cc
     run_once t e (Some n) (x ∷ stack) (prints c h k) (prints d g q) = cc
-    run_once t e (Some n) (x ∷ stack) (prints c h k) (refused d g q) = executes_or_refuses s.columns n x c d h g
+    run_once t e (Some n) (x ∷ stack) (prints c h k) (refused d g q) =
+        executes_or_refuses s.columns n x c d h g
 
-    show_never_refuses : (e : VortexError) (r : Option ℕ) (stack : List (Tree V O)) → AllShown stack → ShowsTop r stack s (refuses e) → ⊥
+    pub show_never_refuses : (e : VortexError) (r : Option ℕ) (stack : List (Tree V O))
+        → AllShown stack → ShowsTop r stack s (refuses e) → ⊥
     show_never_refuses e None stack h b = cc
     show_never_refuses e (Some n) [] h b = cc
-    show_never_refuses e (Some n) (x ∷ stack) h b = let shows = shows_text s x (refuses e) h.0 b in cc
+    show_never_refuses e (Some n) (x ∷ stack) h b =
+        let shows = shows_text s x (refuses e) h.0 b in cc
 
-    no_refusal : AllShown s.stack → (t : SessionView V O) (e : VortexError) (k : Command) → StepsTo m k s (goes_on t) → StepsTo m k s (refuses e) → ⊥
+    no_refusal : AllShown s.stack → (t : SessionView V O) (e : VortexError) (k : Command)
+        → StepsTo m k s (goes_on t) → StepsTo m k s (refuses e) → ⊥
     no_refusal h t e nothing a b = cc
     no_refusal h t e malformed a b = cc
     no_refusal h t e (rows n) a b = cc
@@ -144,18 +169,21 @@ module _ {V O : Type 0} (m : Meaning V O) where
     no_refusal h t e show a b = show_never_refuses e s.row_count s.stack h b
     no_refusal h t e run a b = run_once t e s.row_count s.stack a b
 
-    run_well : (t : SessionView V O) (r : Option ℕ) (stack : List (Tree V O)) → RunsTop m r stack s (goes_on t) → RunsTop m r stack s is_malformed → ⊥
+    run_well : (t : SessionView V O) (r : Option ℕ) (stack : List (Tree V O))
+        → RunsTop m r stack s (goes_on t) → RunsTop m r stack s is_malformed → ⊥
     run_well t None stack a b = cc
     run_well t (Some n) [] a b = cc
     run_well t (Some n) (x ∷ stack) a (prints c h k) = cc
     run_well t (Some n) (x ∷ stack) a (refused d h k) = cc
 
-    show_well : (t : SessionView V O) (r : Option ℕ) (stack : List (Tree V O)) → AllShown stack → ShowsTop r stack s (goes_on t) → ShowsTop r stack s is_malformed → ⊥
+    show_well : (t : SessionView V O) (r : Option ℕ) (stack : List (Tree V O)) → AllShown stack
+        → ShowsTop r stack s (goes_on t) → ShowsTop r stack s is_malformed → ⊥
     show_well t None stack h a b = cc
     show_well t (Some n) [] h a b = cc
     show_well t (Some n) (x ∷ stack) h a b = let shows = shows_text s x is_malformed h.0 b in cc
 
-    no_malformed : AllShown s.stack → (t : SessionView V O) (k : Command) → StepsTo m k s (goes_on t) → StepsTo m k s is_malformed → ⊥
+    no_malformed : AllShown s.stack → (t : SessionView V O) (k : Command)
+        → StepsTo m k s (goes_on t) → StepsTo m k s is_malformed → ⊥
     no_malformed h t nothing a b = cc
     no_malformed h t malformed a b = cc
     no_malformed h t (rows n) a b = cc
@@ -178,46 +206,68 @@ grows_on a b c g h =
 
 -- no line takes back what was printed
 module _ {V O : Type 0} (m : Meaning V O) (s t : SessionView V O) where
-  as_printed : (u : SessionView V O) → goes_on t ≡ goes_on u → u.printed ≡ s.printed → Grows s.printed t.printed
-  as_printed u e h = let same : t ≡ u = cc in stays s.printed t.printed (ap (λ (v : SessionView V O). v.printed) same ∙ h)
+  as_printed : (u : SessionView V O) → goes_on t ≡ goes_on u → u.printed ≡ s.printed
+      → Grows s.printed t.printed
+  as_printed u e h =
+      let same : t ≡ u = cc in
+      stays s.printed t.printed (ap (λ (v : SessionView V O). v.printed) same ∙ h)
 
   grows_begin : (n : ℕ) (r : Option ℕ) → goes_on t ≡ with_rows n s r → Grows s.printed t.printed
   grows_begin n None e = as_printed _ e refl
   grows_begin n (Some k) e = cc
 
-  grows_by : (b : Bool) (u : SessionView V O) (other : Step V O) → u.printed ≡ s.printed → (goes_on t ≡ other → Grows s.printed t.printed) → goes_on t ≡ (if b then goes_on u else other) → Grows s.printed t.printed
+  grows_by : (b : Bool) (u : SessionView V O) (other : Step V O) → u.printed ≡ s.printed
+      → (goes_on t ≡ other → Grows s.printed t.printed)
+      → goes_on t ≡ (if b then goes_on u else other)
+      → Grows s.printed t.printed
   grows_by true u other h otherwise e = as_printed u e h
   grows_by false u other h otherwise e = otherwise e
 
-  grows_column : (name : List ℕ) (c : ColumnView) (r : Option ℕ) → goes_on t ≡ after_rows r (with_column name c s) → Grows s.printed t.printed
+  grows_column : (name : List ℕ) (c : ColumnView) (r : Option ℕ)
+      → goes_on t ≡ after_rows r (with_column name c s) → Grows s.printed t.printed
   grows_column name c None e = cc
   grows_column name c (Some n) e =
-      grows_by ((length c.rows == n) && not (list_any (λ other. bytes_eq other name) s.names)) _ is_malformed refl (λ (h : goes_on t ≡ is_malformed). absurd (differs h)) e
+      grows_by ((length c.rows == n) && is_none (find_field name s.fields)) _ is_malformed refl
+      (λ (h : goes_on t ≡ is_malformed). absurd (differs h)) e
     where
       differs : goes_on t ≡ is_malformed → ⊥
       differs h = cc
 
-  grows_leaf : (name : List ℕ) (o : Option (ℕ × LogicalType)) → goes_on t ≡ with_leaf name s o → Grows s.printed t.printed
+  grows_leaf : (name : List ℕ) (o : Option (ℕ × LogicalType)) → goes_on t ≡ with_leaf name s o
+      → Grows s.printed t.printed
   grows_leaf name None e = cc
   grows_leaf name (Some p) e = as_printed _ e refl
 
-  grows_get : (name : List ℕ) (r : Option ℕ) → goes_on t ≡ after_rows r (λ n. with_leaf name s (find_field name (fields_in s.names s.columns))) → Grows s.printed t.printed
+  grows_get : (name : List ℕ) (r : Option ℕ)
+      → goes_on t ≡ after_rows r (λ n. with_leaf name s (find_field name s.fields))
+      → Grows s.printed t.printed
   grows_get name None e = cc
   grows_get name (Some n) e = grows_leaf name _ e
 
-  grows_taken : (f : Callee) (o : Option (List (Tree V O) × List (Tree V O))) → goes_on t ≡ with_call m f s o → Grows s.printed t.printed
+  refused_differs : (p : Option MismatchPlace) → goes_on t ≡ refused_at m p → ⊥
+  refused_differs None e = cc
+  refused_differs (Some p) e = cc
+
+  grows_taken : (f : Shipped) (o : Option (List (Tree V O) × List (Tree V O)))
+      → goes_on t ≡ with_taken m f s o → Grows s.printed t.printed
   grows_taken f None e = cc
   grows_taken f (Some p) e =
-      grows_by (is_some (tree_type m (call_tree (shipped (shipped_of f)) (trees_of p.0)))) _ (refuses (TypeMismatch (shipped_place (shipped_of f)))) refl (λ (h : goes_on t ≡ refuses (TypeMismatch (shipped_place (shipped_of f)))). absurd (differs h)) e
-    where
-      differs : goes_on t ≡ refuses (TypeMismatch (shipped_place (shipped_of f))) → ⊥
-      differs h = cc
+      let place = shipped_place f (types_or_none (tree_types m (trees_of p.0))) in
+      grows_by (is_some (tree_type m (call_of m f p.0))) _ (refused_at m place) refl
+      (λ (h : goes_on t ≡ refused_at m place). absurd (refused_differs place h)) e
 
-  grows_call : (f : Callee) (r : Option ℕ) → goes_on t ≡ after_rows r (λ n. with_call m f s (taken f s.stack)) → Grows s.printed t.printed
-  grows_call f None e = cc
-  grows_call f (Some n) e = grows_taken f (taken f s.stack) e
+  grows_named : (o : Option Shipped) → goes_on t ≡ with_call m s o → Grows s.printed t.printed
+  grows_named None e = cc
+  grows_named (Some f) e = grows_taken f (taken (least_count (shipped_arity f)) s.stack) e
 
-  grows_run : (r : Option ℕ) (stack : List (Tree V O)) → RunsTop m r stack s (goes_on t) → Grows s.printed t.printed
+  grows_call : (word : List ℕ) (r : Option ℕ)
+      → goes_on t ≡ after_rows r (λ n. with_call m s (shipped_named word))
+      → Grows s.printed t.printed
+  grows_call word None e = cc
+  grows_call word (Some n) e = grows_named (shipped_named word) e
+
+  grows_run : (r : Option ℕ) (stack : List (Tree V O)) → RunsTop m r stack s (goes_on t)
+      → Grows s.printed t.printed
   grows_run None stack e = cc
   grows_run (Some n) [] e = cc
   grows_run (Some n) (x ∷ stack) (refused e h k) = cc
@@ -225,11 +275,13 @@ module _ {V O : Type 0} (m : Meaning V O) (s t : SessionView V O) where
       let same : t ≡ record s { printed = s.printed ++ column_text c } = cc in
       (column_text c, ap (λ (v : SessionView V O). v.printed) same)
 
-  grows_push : (l : ScalarView) (r : Option ℕ) → goes_on t ≡ after_rows r (λ n. with_literal l s) → Grows s.printed t.printed
+  grows_push : (l : ScalarView) (r : Option ℕ) → goes_on t ≡ after_rows r (λ n. with_literal l s)
+      → Grows s.printed t.printed
   grows_push l None e = cc
   grows_push l (Some n) e = as_printed _ e refl
 
-  grows_show : (r : Option ℕ) (stack : List (Tree V O)) → AllShown stack → ShowsTop r stack s (goes_on t) → Grows s.printed t.printed
+  grows_show : (r : Option ℕ) (stack : List (Tree V O)) → AllShown stack
+      → ShowsTop r stack s (goes_on t) → Grows s.printed t.printed
   grows_show None stack h e = cc
   grows_show (Some n) [] h e = cc
   grows_show (Some n) (x ∷ stack) h e =
@@ -244,7 +296,7 @@ module _ {V O : Type 0} (m : Meaning V O) (s t : SessionView V O) where
   grows h (column name c) e = grows_column name c s.row_count e
   grows h (get name) e = grows_get name s.row_count e
   grows h (literal l) e = grows_push l s.row_count e
-  grows h (call f) e = grows_call f s.row_count e
+  grows h (call word) e = grows_call word s.row_count e
   grows h show e = grows_show s.row_count s.stack h e
   grows h run e = grows_run s.row_count s.stack e
 
@@ -257,69 +309,108 @@ none_before a h = omega arith
 module _ {V O : Type 0} (m : Meaning V O) (lines : List (List ℕ)) where
   abbrev Before : ℕ → SessionView V O → Type 0
   Before zero t = t ≡ fresh
-  Before (suc n) t = (s : SessionView V O) × Reaches m lines n s × (n < length lines) × StepsTo m (command_at lines n) s (goes_on t)
+  Before (suc n) t =
+      (s : SessionView V O) × Reaches m lines n s × (n < length lines)
+      × StepsTo m (command_at lines n) s (goes_on t)
 
   before : (k : ℕ) (u : SessionView V O) → Reaches m lines k u → Before k u
   before k u begins = refl
   before k u (one_more n s t reached lt e) = (s, reached, lt, e)
 
-  one_session : (n : ℕ) (s t : SessionView V O) → Reaches m lines n s → Reaches m lines n t → s ≡ t
+  pub one_session : (n : ℕ) (s t : SessionView V O) → Reaches m lines n s → Reaches m lines n t
+      → s ≡ t
   one_session zero s t a b = before zero s a ∙ sym (before zero t b)
   one_session (suc n) s t a b =
       let p = before (suc n) s a in
       let q = before (suc n) t b in
       let same = one_session n q.0 p.0 q.1 p.1 in
-      same_step m p.0 (reached_fits m lines n p.0 p.1).shown s t (command_at lines n) p.3 (subst (λ (x : SessionView V O). StepsTo m (command_at lines n) x (goes_on t)) same q.3)
+      same_step m p.0 (reached_fits m lines n p.0 p.1).shown s t (command_at lines n) p.3
+      (subst (λ (x : SessionView V O). StepsTo m (command_at lines n) x (goes_on t)) same q.3)
 
-  earlier_by : (b a : ℕ) (t : SessionView V O) (reached : Reaches m lines (suc b) t) → (a ≤ b → (s : SessionView V O) × Reaches m lines a s × Grows s.printed (before (suc b) t reached).0.printed) → (a ≤ b) ⊎ (a ≡ suc b) → (s : SessionView V O) × Reaches m lines a s × Grows s.printed t.printed
+  earlier_by : (b a : ℕ) (t : SessionView V O) (reached : Reaches m lines (suc b) t)
+      → (a ≤ b
+      → (s : SessionView V O) × Reaches m lines a s
+      × Grows s.printed (before (suc b) t reached).0.printed)
+      → (a ≤ b) ⊎ (a ≡ suc b)
+      → (s : SessionView V O) × Reaches m lines a s × Grows s.printed t.printed
   earlier_by b a t reached sooner (inr q) =
       (t, subst (λ (n : ℕ). Reaches m lines n t) (sym q) reached, stays t.printed t.printed refl)
   earlier_by b a t reached sooner (inl k) =
       let p = before (suc b) t reached in
-      let r = sooner k in
-      (r.0, r.1, grows_on r.0.printed p.0.printed t.printed r.2 (grows m p.0 t (reached_fits m lines b p.0 p.1).shown (command_at lines b) p.3))
+      let r = sooner k in (
+        r.0,
+        r.1,
+        grows_on r.0.printed p.0.printed t.printed r.2
+            (grows m p.0 t (reached_fits m lines b p.0 p.1).shown (command_at lines b) p.3),
+      )
 
   -- the session some lines earlier
-  earlier : (b a : ℕ) (t : SessionView V O) → a ≤ b → Reaches m lines b t → (s : SessionView V O) × Reaches m lines a s × Grows s.printed t.printed
-  earlier zero a t h reached =
-      (t, subst (λ (n : ℕ). Reaches m lines n t) (sym (none_before a h)) reached, stays t.printed t.printed refl)
+  earlier : (b a : ℕ) (t : SessionView V O) → a ≤ b → Reaches m lines b t
+      → (s : SessionView V O) × Reaches m lines a s × Grows s.printed t.printed
+  earlier zero a t h reached = (
+    t,
+    subst (λ (n : ℕ). Reaches m lines n t) (sym (none_before a h)) reached,
+    stays t.printed t.printed refl,
+  )
   earlier (suc b) a t h reached =
       let p = before (suc b) t reached in
       earlier_by b a t reached (λ k. earlier b a p.0 k p.1) (last_or_before a b h)
 
   -- the line after them, where there are more
-  next : (b a : ℕ) (t : SessionView V O) → a < b → Reaches m lines b t → (s u : SessionView V O) × Reaches m lines a s × (a < length lines) × StepsTo m (command_at lines a) s (goes_on u)
+  next : (b a : ℕ) (t : SessionView V O) → a < b → Reaches m lines b t
+      → (s u : SessionView V O) × Reaches m lines a s × (a < length lines)
+      × StepsTo m (command_at lines a) s (goes_on u)
   next b a t h reached =
       let r = earlier b (suc a) t h reached in
       let p = before (suc a) r.0 r.1 in
       (p.0, r.0, p.1, p.2, p.3)
 
-  unless : (Q : VortexError → Type 0) (e : VortexError) → (e ≡ OutOfMemory → ⊥) → UnlessMemory Q e → Q e
+  pub unless : (Q : VortexError → Type 0) (e : VortexError) → (e ≡ OutOfMemory → ⊥)
+      → UnlessMemory Q e → Q e
   unless Q OutOfMemory h u = absurd (h refl)
   unless Q e h u = u
 
   -- where a script ends, want of memory aside, no line goes on
-  no_more : (n : ℕ) (s t : SessionView V O) → AllShown s.stack → (last : End) → (last ≡ Refused OutOfMemory → ⊥) → EndsAt m lines n s last → n < length lines → StepsTo m (command_at lines n) s (goes_on t) → ⊥
+  no_more : (n : ℕ) (s t : SessionView V O) → AllShown s.stack → (last : End)
+      → (last ≡ Refused OutOfMemory → ⊥) → EndsAt m lines n s last → n < length lines
+      → StepsTo m (command_at lines n) s (goes_on t) → ⊥
   no_more n s t h Done memory ends lt step = omega arith
   no_more n s t h (Refused e) memory ends lt step =
-      no_refusal m s h t e (command_at lines n) step (unless (λ (x : VortexError). (n < length lines) × StepsTo m (command_at lines n) s (refuses x)) e (λ q. memory (ap Refused q)) ends).1
-  no_more n s t h (Malformed k) memory ends lt step = no_malformed m s h t (command_at lines n) step ends.1
+      no_refusal m s h t e (command_at lines n) step
+      (unless
+      (λ (x : VortexError). (n < length lines) × StepsTo m (command_at lines n) s (refuses x)) e
+      (λ q. memory (ap Refused q)) ends).1
+  no_more n s t h (Malformed k) memory ends lt step =
+      no_malformed m s h t (command_at lines n) step ends.1
 
-  ends_no_sooner : (a b : ℕ) (s t : SessionView V O) (last : End) → (last ≡ Refused OutOfMemory → ⊥) → Reaches m lines a s → Reaches m lines b t → EndsAt m lines b t last → b < a → ⊥
+  pub ends_no_sooner : (a b : ℕ) (s t : SessionView V O) (last : End)
+      → (last ≡ Refused OutOfMemory → ⊥) → Reaches m lines a s → Reaches m lines b t
+      → EndsAt m lines b t last → b < a → ⊥
   ends_no_sooner a b s t last memory reached whole ends h =
       let r = next a b s h reached in
       let same = one_session b r.0 t r.2 whole in
-      no_more b t r.1 (reached_fits m lines b t whole).shown last memory ends r.3 (subst (λ (x : SessionView V O). StepsTo m (command_at lines b) x (goes_on r.1)) same r.4)
+      no_more b t r.1 (reached_fits m lines b t whole).shown last memory ends r.3
+      (subst (λ (x : SessionView V O). StepsTo m (command_at lines b) x (goes_on r.1)) same r.4)
 
-sooner_or_not : (a b : ℕ) → (b < a) ⊎ (a ≤ b)
+pub sooner_or_not : (a b : ℕ) → (b < a) ⊎ (a ≤ b)
 sooner_or_not a b = grind arith
 
-pub prints_a_beginning : {V O : Type 0} (m : Meaning V O) (script out whole : List ℕ) (ending last : End) → IsOutcome m script out ending → IsOutcome m script whole last → (last ≡ Refused OutOfMemory → ⊥) → (rest : List ℕ) × (whole ≡ out ++ rest)
+pub prints_a_beginning : {V O : Type 0} (m : Meaning V O) (script out whole : List ℕ)
+    (ending last : End)
+    → IsOutcome m script out ending → IsOutcome m script whole last
+    → (last ≡ Refused OutOfMemory → ⊥)
+    → (rest : List ℕ) × (whole ≡ out ++ rest)
 prints_a_beginning m script out whole ending last g h memory = by (sooner_or_not g.read h.read)
   where
     by : (h.read < g.read) ⊎ (g.read ≤ h.read) → (rest : List ℕ) × (whole ≡ out ++ rest)
-    by (inl k) = absurd (ends_no_sooner m (lines_of script) g.read h.read g.session h.session last memory g.reached h.reached h.ends k)
+    by (inl k) =
+        absurd (ends_no_sooner m (lines_of script) g.read h.read g.session h.session last memory
+        g.reached h.reached h.ends k)
     by (inr k) =
         let r = earlier m (lines_of script) h.read g.read h.session k h.reached in
-        let same = one_session m (lines_of script) g.read r.0 g.session r.1 g.reached in
-        (r.2.0, h.printed ∙ r.2.1 ∙ ap (λ (b : List ℕ). b ++ r.2.0) (ap (λ (s : SessionView _ _). s.printed) same ∙ sym g.printed))
+        let same = one_session m (lines_of script) g.read r.0 g.session r.1 g.reached in (
+          r.2.0,
+          h.printed ∙ r.2.1
+              ∙ ap (λ (b : List ℕ). b ++ r.2.0)
+              (ap (λ (s : SessionView _ _). s.printed) same ∙ sym g.printed),
+        )

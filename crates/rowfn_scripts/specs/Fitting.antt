@@ -1,11 +1,13 @@
--- The trees of a session fit its columns, so where `run` refuses, a row faults; and each has a text, which `show` prints.
-use Rattle.std.specs.Prelude.{◌≡◌, ℕ, List, [], ◌∷◌, Option, Some, None, ⊤}
+-- The trees of a session fit its columns, so where `run` refuses, a row faults; each has a type,
+-- which a column of it has; and each has a text, which `show` prints.
+use Rattle.std.specs.Prelude.{◌≡◌, ℕ, List, [], ◌∷◌, true, Option, Some, None, is_some, ⊤}
 use Rattle.vortex_types.specs.declared.error.VortexError.{VortexError}
+use Rattle.vortex_types.specs.LogicalTypes.{Fields, no_fields, field}
 use Rattle.vortex_columns.specs.ColumnView.{ColumnView}
 use Rattle.vortex_meaning.specs.Meaning.{Meaning}
 use Rattle.vortex_meaning.specs.Trees.{Tree}
 use Rattle.vortex_meaning.specs.Printing.{tree_text}
-use Rattle.vortex_meaning.specs.Eval.{IsFirstFault}
+use Rattle.vortex_meaning.specs.Eval.{tree_type, IsFirstFault}
 use Rattle.vortex_meaning.specs.Execution.{LeavesFit, other_length}
 use Rattle.rowfn_lines.specs.Commands.{run}
 use Rattle.rowfn_scripts.specs.Sessions.{SessionView, refuses, StepsTo}
@@ -15,6 +17,13 @@ use Rattle.rowfn_scripts.specs.Scripts.{Reaches}
 abbrev pub Counted : Option ℕ → List ColumnView → Type 0
 Counted None cs = cs ≡ []
 Counted (Some n) cs = other_length n cs ≡ None
+
+-- each column has the type of the field in its place
+abbrev pub AreTypes : Fields → List ColumnView → Type 0
+AreTypes no_fields [] = ⊤
+AreTypes no_fields (c ∷ cs) = ⊥
+AreTypes (field name t fs) [] = ⊥
+AreTypes (field name t fs) (c ∷ cs) = (c.dtype ≡ t) × AreTypes fs cs
 
 abbrev pub AllFit : {V O : Type 0} → List ColumnView → List (Tree V O) → Type 0
 AllFit cs [] = ⊤
@@ -28,17 +37,28 @@ abbrev pub AllShown : {V O : Type 0} → List (Tree V O) → Type 0
 AllShown [] = ⊤
 AllShown (t ∷ ts) = HasText t × AllShown ts
 
-pub record Fits {V O : Type 0} (s : SessionView V O) : Type 0 where
+abbrev pub AllHaveTypes : {V O : Type 0} → Meaning V O → List (Tree V O) → Type 0
+AllHaveTypes m [] = ⊤
+AllHaveTypes m (t ∷ ts) = (is_some (tree_type m t) ≡ true) × AllHaveTypes m ts
+
+pub record Fits {V O : Type 0} (m : Meaning V O) (s : SessionView V O) : Type 0 where
   pub counted : Counted s.row_count s.columns
+  pub typed : AreTypes s.fields s.columns
   pub fit : AllFit s.columns s.stack
+  pub with_types : AllHaveTypes m s.stack
   pub shown : AllShown s.stack
 
--- in a session that lines reach, `run` is refused with the first fault of the last tree, and never for its leaves or lengths
+-- in a session that lines reach, `run` is refused with the first fault of the last tree, and never
+-- for its leaves or lengths
 abbrev pub RefusesFaultsAlone : {V O : Type 0} → Meaning V O → Type 0
 RefusesFaultsAlone {V} {O} m =
-    (lines : List (List ℕ)) (read n : ℕ) (s : SessionView V O) (t : Tree V O) (stack : List (Tree V O)) (e : VortexError) → Reaches m lines read s → s.row_count ≡ Some n → s.stack ≡ t ∷ stack → StepsTo m run s (refuses e) → IsFirstFault m s.columns n t e
+    (lines : List (List ℕ)) (read n : ℕ) (s : SessionView V O)
+    (t : Tree V O) (stack : List (Tree V O)) (e : VortexError)
+    → Reaches m lines read s → s.row_count ≡ Some n → s.stack ≡ t ∷ stack
+    → StepsTo m run s (refuses e) → IsFirstFault m s.columns n t e
 
 -- in a session that lines reach, each tree has a text, so `show` prints it
 abbrev pub TreesHaveTexts : {V O : Type 0} → Meaning V O → Type 0
 TreesHaveTexts {V} {O} m =
-    (lines : List (List ℕ)) (read : ℕ) (s : SessionView V O) → Reaches m lines read s → AllShown s.stack
+    (lines : List (List ℕ)) (read : ℕ) (s : SessionView V O)
+    → Reaches m lines read s → AllShown s.stack

@@ -5,3 +5,4 @@ pub mod Scripts
 pub mod Stepping
 pub mod Fitting
 pub mod Telling
+pub mod Words

@@ -6,7 +6,8 @@ use Rattle.rowfn_scripts.specs.declared.ending.End.{End}
 use Rattle.rowfn_scripts.specs.declared.ending.End.TheVariants.{Done, Refused, Malformed}
 use Rattle.rowfn_lines.specs.Lines.{lines_of}
 use Rattle.rowfn_lines.specs.Commands.{Command, command_of}
-use Rattle.rowfn_scripts.specs.Sessions.{SessionView, goes_on, refuses, is_malformed, fresh, StepsTo}
+use Rattle.rowfn_scripts.specs.Sessions.{SessionView, goes_on, refuses, is_malformed, fresh}
+use Rattle.rowfn_scripts.specs.Sessions.{StepsTo}
 
 -- what line n says, counted from 0
 abbrev pub command_at : List (List ℕ) → ℕ → Command
@@ -16,16 +17,21 @@ module _ {V O : Type 0} (m : Meaning V O) (lines : List (List ℕ)) where
   -- the session after the first lines, each of which goes on
   pub data Reaches : ℕ → SessionView V O → Type 0 where
     begins : Reaches 0 fresh
-    one_more : (n : ℕ) (s t : SessionView V O) → Reaches n s → n < length lines → StepsTo m (command_at lines n) s (goes_on t) → Reaches (suc n) t
+    one_more : (n : ℕ) (s t : SessionView V O) → Reaches n s → n < length lines
+        → StepsTo m (command_at lines n) s (goes_on t) → Reaches (suc n) t
 
-  -- after so many lines the lines are over, or the next is refused or malformed; lines are told counted from 1; memory may run out at any line
+  -- after so many lines the lines are over, or the next is refused or malformed; lines are told
+  -- counted from 1; memory may run out at any line
   abbrev pub EndsAt : ℕ → SessionView V O → End → Type 0
   EndsAt n s Done = n ≡ length lines
-  EndsAt n s (Refused e) = UnlessMemory (λ e. (n < length lines) × StepsTo m (command_at lines n) s (refuses e)) e
-  EndsAt n s (Malformed k) = (n < length lines) × StepsTo m (command_at lines n) s is_malformed × (k ≡ n + 1)
+  EndsAt n s (Refused e) =
+      UnlessMemory (λ e. (n < length lines) × StepsTo m (command_at lines n) s (refuses e)) e
+  EndsAt n s (Malformed k) =
+      (n < length lines) × StepsTo m (command_at lines n) s is_malformed × (k ≡ n + 1)
 
 -- what is printed is what the lines before the end print
-pub record IsOutcome {V O : Type 0} (m : Meaning V O) (script out : List ℕ) (ending : End) : Type 0 where
+pub record IsOutcome {V O : Type 0} (m : Meaning V O) (script out : List ℕ)
+    (ending : End) : Type 0 where
   pub read : ℕ
   pub session : SessionView V O
   pub reached : Reaches m (lines_of script) read session

@@ -1,29 +1,30 @@
 -- What a line makes of what the lines before it made.
-use Rattle.std.specs.Prelude.{◌≡◌, ◌==◌, ◌&&◌, ℕ, List, [], ◌∷◌, ◌++◌, length, not, Option, Some, None, is_some, IfSome, if◌then◌else◌}
-use Rattle.std.specs.List.{list_any}
-use Rattle.std.specs.Str.{bytes_eq}
+use Rattle.std.specs.Prelude.{◌≡◌, ◌==◌, ◌&&◌, ℕ, List, [], ◌∷◌, ◌++◌, length, take, drop, reverse}
+use Rattle.std.specs.Prelude.{nat_le, Option, Some, None, is_some, is_none, IfSome, if◌then◌else◌}
+use Rattle.vortex_types.specs.declared.arity.Arity.{Arity}
+use Rattle.vortex_types.specs.declared.arity.Arity.TheVariants.{Exact, Variadic}
+use Rattle.vortex_types.specs.declared.error.MismatchPlace.{MismatchPlace}
 use Rattle.vortex_types.specs.declared.error.VortexError.{VortexError}
 use Rattle.vortex_types.specs.declared.error.VortexError.TheVariants.{ScopeMismatch, TypeMismatch}
-use Rattle.vortex_types.specs.LogicalTypes.{LogicalType, Fields, no_fields, field, find_field}
+use Rattle.vortex_types.specs.LogicalTypes.{LogicalType, Fields, no_fields, with_field, find_field}
 use Rattle.vortex_types.specs.ScalarView.{ScalarView}
 use Rattle.vortex_columns.specs.ColumnView.{ColumnView}
 use Rattle.vortex_meaning.specs.Meaning.{Meaning}
-use Rattle.vortex_meaning.specs.Shipped.{Shipped, binary, negation, shipped_place}
-use Rattle.vortex_meaning.specs.Functions.{shipped}
+use Rattle.vortex_meaning.specs.Shipped.{Shipped, shipped_arity, shipped_named, shipped_place}
+use Rattle.vortex_meaning.specs.Functions.{ours}
 use Rattle.vortex_meaning.specs.Trees.{Tree, leaf, place, constant, call as call_tree, trees_of}
-use Rattle.vortex_meaning.specs.Eval.{tree_type}
+use Rattle.vortex_meaning.specs.Eval.{tree_type, tree_types, types_or_none}
 use Rattle.vortex_meaning.specs.Printing.{tree_text}
 use Rattle.vortex_meaning.specs.Execution.{Executes, RefusesExecution}
-use Rattle.rowfn_lines.specs.declared.command.Callee.{Callee}
-use Rattle.rowfn_lines.specs.declared.command.Callee.TheVariants.{Binary, Not}
-use Rattle.rowfn_lines.specs.Commands.{Command, nothing, malformed, rows, column, get, literal, call, show, run}
+use Rattle.rowfn_lines.specs.Commands.{Command, nothing, malformed, rows, column, get, literal}
+use Rattle.rowfn_lines.specs.Commands.{call, show, run}
 use Rattle.rowfn_lines.specs.Printing.{column_text}
 
--- the row count once it is said, the columns and their names in the order of their lines, the trees with the last one first,
--- and what was printed
+-- the row count once it is said, the columns and the fields that name them in the order of their
+-- lines, the trees with the last one first, and what was printed
 pub record SessionView (V O : Type 0) : Type 0 where
   pub row_count : Option ℕ
-  pub names : List (List ℕ)
+  pub fields : Fields
   pub columns : List ColumnView
   pub stack : List (Tree V O)
   pub printed : List ℕ
@@ -34,26 +35,17 @@ pub data Step (V O : Type 0) : Type 0 where
   is_malformed : Step V O
 
 abbrev pub fresh : {V O : Type 0} → SessionView V O
-fresh = record { row_count = None; names = []; columns = []; stack = []; printed = [] }
+fresh = record { row_count = None; fields = no_fields; columns = []; stack = []; printed = [] }
 
-abbrev pub fields_in : List (List ℕ) → List ColumnView → Fields
-fields_in [] cs = no_fields
-fields_in (n ∷ ns) [] = no_fields
-fields_in (n ∷ ns) (c ∷ cs) = field n c.dtype (fields_in ns cs)
+-- how many trees a function takes: the least count that fits its arity
+abbrev pub least_count : Arity → ℕ
+least_count (Exact wanted) = wanted
+least_count (Variadic least most) = least
 
-abbrev pub shipped_of : Callee → Shipped
-shipped_of (Binary o) = binary o
-shipped_of Not = negation
-
-abbrev pub argument_count : Callee → ℕ
-argument_count (Binary o) = 2
-argument_count Not = 1
-
--- the trees that a function takes, in their order, and those that stay: Not takes the last tree, the others the last two
-abbrev pub taken : {V O : Type 0} → Callee → List (Tree V O) → Option (List (Tree V O) × List (Tree V O))
-taken (Binary o) (r ∷ l ∷ stack) = Some (l ∷ r ∷ [], stack)
-taken Not (t ∷ stack) = Some (t ∷ [], stack)
-taken f stack = None
+-- the last trees, in their order, and those that stay, where there are so many
+abbrev pub taken : {V O : Type 0} → ℕ → List (Tree V O) → Option (List (Tree V O) × List (Tree V O))
+taken n stack =
+    if nat_le n (length stack) then Some (reverse (take n stack), drop n stack) else None
 
 module _ {V O : Type 0} where
   -- a line that says the row count stands once, before every other that says something
@@ -66,9 +58,13 @@ module _ {V O : Type 0} where
   after_rows (Some n) f = f n
 
   -- a column has the row count and a new name
+  abbrev pub added : List ℕ → ColumnView → SessionView V O → SessionView V O
+  added name c s =
+      record s { fields = with_field s.fields name c.dtype; columns = s.columns ++ c ∷ [] }
+
   abbrev pub with_column : List ℕ → ColumnView → SessionView V O → ℕ → Step V O
   with_column name c s n =
-      if (length c.rows == n) && not (list_any (λ other. bytes_eq other name) s.names) then goes_on (record s { names = s.names ++ name ∷ []; columns = s.columns ++ c ∷ [] })
+      if (length c.rows == n) && is_none (find_field name s.fields) then goes_on (added name c s)
       else is_malformed
 
   abbrev pub with_leaf : List ℕ → SessionView V O → Option (ℕ × LogicalType) → Step V O
@@ -89,20 +85,38 @@ module _ {V O : Type 0} where
   ShowsTop (Some n) (t ∷ stack) s r = IfSome (tree_text t) (λ text. r ≡ shown_by text s)
 
   module _ (m : Meaning V O) where
+    abbrev pub call_of : Shipped → List (Tree V O) → Tree V O
+    call_of f ts = call_tree (ours f) (trees_of ts)
+
+    -- E3 at that place; no types are refused by a function without one
+    abbrev pub refused_at : Option MismatchPlace → Step V O
+    refused_at None = is_malformed
+    refused_at (Some p) = refuses (TypeMismatch p)
+
     -- a call that has no type is refused as its function refuses types
-    abbrev pub with_tree : Shipped → Tree V O → SessionView V O → List (Tree V O) → Step V O
-    with_tree f t s stack =
-        if is_some (tree_type m t) then goes_on (record s { stack = t ∷ stack })
-        else refuses (TypeMismatch (shipped_place f))
+    abbrev pub with_tree : Shipped → SessionView V O → List (Tree V O) → List (Tree V O) → Step V O
+    with_tree f s ts stack =
+        if is_some (tree_type m (call_of f ts))
+        then goes_on (record s { stack = call_of f ts ∷ stack })
+        else refused_at (shipped_place f (types_or_none (tree_types m (trees_of ts))))
 
-    abbrev pub with_call : Callee → SessionView V O → Option (List (Tree V O) × List (Tree V O)) → Step V O
-    with_call f s None = is_malformed
-    with_call f s (Some p) = with_tree (shipped_of f) (call_tree (shipped (shipped_of f)) (trees_of p.0)) s p.1
+    abbrev pub with_taken : Shipped → SessionView V O → Option (List (Tree V O) × List (Tree V O))
+        → Step V O
+    with_taken f s None = is_malformed
+    with_taken f s (Some p) = with_tree f s p.0 p.1
 
-    -- the column of the tree is printed, or the tree is refused: with a row's fault, as `Fitting` shows
+    -- the function that the word names takes its arguments from the stack
+    abbrev pub with_call : SessionView V O → Option Shipped → Step V O
+    with_call s None = is_malformed
+    with_call s (Some f) = with_taken f s (taken (least_count (shipped_arity f)) s.stack)
+
+    -- the column of the tree is printed, or the tree is refused: with a row's fault, as
+    -- `Fitting` shows
     pub data Runs (n : ℕ) (t : Tree V O) (s : SessionView V O) (r : Step V O) : Type 0 where
-      prints : (c : ColumnView) → Executes m s.columns n t c → r ≡ goes_on (record s { printed = s.printed ++ column_text c }) → Runs n t s r
-      refused : (e : VortexError) → RefusesExecution m s.columns n t e → r ≡ refuses e → Runs n t s r
+      prints : (c : ColumnView) → Executes m s.columns n t c
+          → r ≡ goes_on (record s { printed = s.printed ++ column_text c }) → Runs n t s r
+      refused : (e : VortexError) → RefusesExecution m s.columns n t e
+          → r ≡ refuses e → Runs n t s r
 
     abbrev pub RunsTop : Option ℕ → List (Tree V O) → SessionView V O → Step V O → Type 0
     RunsTop None stack s r = r ≡ is_malformed
@@ -115,8 +129,9 @@ module _ {V O : Type 0} where
     StepsTo malformed s r = r ≡ is_malformed
     StepsTo (rows n) s r = r ≡ with_rows n s s.row_count
     StepsTo (column name c) s r = r ≡ after_rows s.row_count (with_column name c s)
-    StepsTo (get name) s r = r ≡ after_rows s.row_count (λ n. with_leaf name s (find_field name (fields_in s.names s.columns)))
+    StepsTo (get name) s r =
+        r ≡ after_rows s.row_count (λ n. with_leaf name s (find_field name s.fields))
     StepsTo (literal l) s r = r ≡ after_rows s.row_count (λ n. with_literal l s)
-    StepsTo (call f) s r = r ≡ after_rows s.row_count (λ n. with_call f s (taken f s.stack))
+    StepsTo (call word) s r = r ≡ after_rows s.row_count (λ n. with_call s (shipped_named word))
     StepsTo show s r = ShowsTop s.row_count s.stack s r
     StepsTo run s r = RunsTop s.row_count s.stack s r

@@ -1,5 +1,6 @@
 -- When a call makes a step.
-use Rattle.std.specs.Prelude.{◌≡◌, ◌++◌, ℕ, Result, MatchResult, Option, Some, None, String, string_bytes}
+use Rattle.std.specs.Prelude.{◌≡◌, ◌++◌, ℕ, Result, MatchResult, Option, Some, None, String}
+use Rattle.std.specs.Prelude.{string_bytes}
 use Rattle.std.specs.declared.alloc.Global.{Global}
 use Rattle.vortex_types.specs.Answers.{UnlessMemory}
 use Rattle.rowfn_scripts.specs.declared.stop.Stop.{Stop}
@@ -17,9 +18,12 @@ module _ {V O : Type 0} where
   StopsBy P (Refused e) = UnlessMemory (λ e. P (refuses e)) e
   StopsBy P Malformed = P is_malformed
 
-  -- from s the call makes a step of P to t; or it stops, and what was printed stays; or memory ran out, and it stays as well
-  abbrev pub MakesStep : (SessionView V O → Step V O → Type 0) → SessionView V O → Result (Unit {0}) Stop → SessionView V O → Type 0
-  MakesStep P s r t = MatchResult r (λ _. P s (goes_on t)) (λ stop. StopsBy (P s) stop × (t.printed ≡ s.printed))
+  -- from s the call makes a step of P to t; or it stops, and what was printed stays; or memory ran
+  -- out, and it stays as well
+  abbrev pub MakesStep : (SessionView V O → Step V O → Type 0) → SessionView V O
+      → Result (Unit {0}) Stop → SessionView V O → Type 0
+  MakesStep P s r t =
+      MatchResult r (λ _. P s (goes_on t)) (λ stop. StopsBy (P s) stop × (t.printed ≡ s.printed))
 
   -- a text is printed, where there is a tree
   abbrev pub after_text : SessionView V O → Option (String Global) → Step V O

@@ -1,11 +1,32 @@
--- A script is told one way: what is printed before memory runs out is a beginning of what is printed where it does not.
-use Rattle.std.specs.Prelude.{◌≡◌, ◌++◌, ℕ, List}
+-- A script is told one way: where memory suffices it has an outcome, and one alone; and what is
+-- printed before memory runs out is a beginning of what is printed there.
+use Rattle.std.specs.Prelude.{◌≡◌, ◌≢◌, ◌++◌, ℕ, List}
 use Rattle.vortex_types.specs.declared.error.VortexError.TheVariants.{OutOfMemory}
 use Rattle.vortex_meaning.specs.Meaning.{Meaning}
 use Rattle.rowfn_scripts.specs.declared.ending.End.{End}
 use Rattle.rowfn_scripts.specs.declared.ending.End.TheVariants.{Refused}
 use Rattle.rowfn_scripts.specs.Scripts.{IsOutcome}
 
+-- an outcome, and not for want of memory
+pub record IsFullOutcome {V O : Type 0} (m : Meaning V O) (script out : List ℕ) (ending : End)
+    : Type 0 where
+  pub outcome : IsOutcome m script out ending
+  pub memory : ending ≢ Refused OutOfMemory
+
+-- each script has one
+abbrev pub EachHasFullOutcome : {V O : Type 0} → Meaning V O → Type 0
+EachHasFullOutcome m =
+    (script : List ℕ) → (out : List ℕ) × (ending : End) × IsFullOutcome m script out ending
+
+-- and no two
+abbrev pub FullOutcomesAreOne : {V O : Type 0} → Meaning V O → Type 0
+FullOutcomesAreOne m =
+    (script out other : List ℕ) (ending last : End)
+    → IsFullOutcome m script out ending → IsFullOutcome m script other last
+    → (out ≡ other) × (ending ≡ last)
+
 abbrev pub PrintsABeginning : {V O : Type 0} → Meaning V O → Type 0
 PrintsABeginning m =
-    (script out whole : List ℕ) (ending last : End) → IsOutcome m script out ending → IsOutcome m script whole last → (last ≡ Refused OutOfMemory → ⊥) → (rest : List ℕ) × (whole ≡ out ++ rest)
+    (script out whole : List ℕ) (ending last : End)
+    → IsOutcome m script out ending → IsOutcome m script whole last
+    → (last ≡ Refused OutOfMemory → ⊥) → (rest : List ℕ) × (whole ≡ out ++ rest)

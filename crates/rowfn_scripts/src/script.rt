@@ -2,7 +2,7 @@
 ghost use Rattle.std.specs.Prelude.{◌≡◌};
 ghost use Rattle.vortex_functions.specs.Fixed.{fixed_meaning};
 ghost use Rattle.vortex_functions.specs.declared.custom.NoCustom.{NoCustom};
-ghost use Rattle.vortex_functions.specs.declared.custom.EmptyOptions.{EmptyOptions};
+ghost use Rattle.vortex_interface.specs.declared.options.EmptyOptions.{EmptyOptions};
 ghost use Rattle.rowfn_scripts.specs.Sessions.{fresh};
 ghost use Rattle.rowfn_scripts.specs.Scripts.{IsOutcome};
 
@@ -51,25 +51,29 @@ fn run_script<C: ScalarFnVTable>(alloc: Global, script: &[u8]) -> Outcome
 
 /// Runs a script.
 ///
-/// A line ends at a newline or with the script. Spaces at its ends are passed over; a line without words, or that then
-/// begins with `#`, does nothing. Words stand between spaces, and one that begins with `"` runs to the next `"`, may hold
-/// spaces, and has no escapes.
+/// A line ends at a newline or with the script. Spaces at its ends are passed over; a line without
+/// words, or that then begins with `#`, does nothing. Words stand between spaces, and one that
+/// begins with `"` runs to the next `"`, may hold spaces, and has no escapes.
 ///
 /// - `rows n`, first and once: so many rows, by at most six digits.
-/// - `col name type cells`: a column of n cells. A name has ASCII letters, digits and `_`. Types are `bool`, `i8` to
-///   `i64`, `u8` to `u64` and `utf8`, nullable with a `?` at the end; cells are `null`, `true`, `false`, decimal numbers
-///   with a minus sign or without, and texts in quotes, of at most 4,294,967,295 bytes.
+/// - `col name type cells`: a column of n cells. A name has ASCII letters, digits and `_`. Types
+///   are `bool`, `i8` to `i64`, `u8` to `u64` and `utf8`, nullable with a `?` at the end; cells are
+///   `null`, `true`, `false`, decimal numbers with a minus sign or without, and texts in quotes, of
+///   at most 4,294,967,295 bytes.
 /// - `get name` pushes the column's leaf, and `lit type cell` a literal.
-/// - `call f` calls `and`, `or`, `=`, `!=`, `<`, `<=`, `>` or `>=` on the last two trees, the last being on the right, or
-///   `not` on the last one. E3 where it does not accept their types.
-/// - `show` prints the last tree's text, and `run` its column: the type, a colon, and each cell after a space.
+/// - `call f` calls `and`, `or`, `=`, `!=`, `<`, `<=`, `>` or `>=` on the last two trees, the last
+///   being on the right, or `not` on the last one. E3 where it does not accept their types.
+/// - `show` prints the last tree's text, and `run` its column: the type, a colon, and each cell
+///   after a space.
 ///
 /// Any other line is malformed.
 ///
-/// The script ends at the first line that is malformed or whose call is refused; E11 for `get` of an unknown name. What
-/// the lines before it printed stays. E9 where memory runs out, at whichever line.
+/// The script ends at the first line that is malformed or whose call is refused; E11 for `get` of
+/// an unknown name. What the lines before it printed stays. E9 where memory runs out, at whichever
+/// line.
 pub fn interpret(alloc: Global, script: &[u8]) -> Outcome
-    ensures { IsOutcome {V = NoCustom} {O = EmptyOptions} fixed_meaning script.now result.out.items result.ending }
+    ensures { IsOutcome {V = NoCustom} {O = EmptyOptions} fixed_meaning script.now result.out.items
+        result.ending }
 {
     run_script::<NoCustom>(alloc, script)
 }

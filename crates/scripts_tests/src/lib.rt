@@ -2,6 +2,8 @@
 #![tactic(auto)]
 
 #[cfg(test)]
+mod arithmetic;
+#[cfg(test)]
 mod cells;
 #[cfg(test)]
 mod endings;

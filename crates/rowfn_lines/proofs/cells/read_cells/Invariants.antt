@@ -10,4 +10,6 @@ abbrev pub invariant-loop-word : goal.invariant-loop-word
 invariant-loop-word g l =
     let kind = g.K.CellKind.kind (allows_null l.nullability) in
     AreItems (allows_null l.nullability) (map g.K.CellKind.value l.items.items) l.valid.items
-    × (option_map (λ ys. cells_from (map g.K.CellKind.value l.items.items) l.valid.items ++ ys) (cells_of kind (map word_in (drop l.word-index l.words))) ≡ cells_of kind (map word_in l.words))
+    × (option_map (λ ys. cells_from (map g.K.CellKind.value l.items.items) l.valid.items ++ ys)
+    (cells_of kind (map word_in (drop l.word-index l.words)))
+    ≡ cells_of kind (map word_in l.words))

@@ -7,4 +7,6 @@ use Rattle.rowfn_lines.proofs.cells.read_integer.Goals as goal
 pub returns-in-None : goal.returns-in-None
 returns-in-None c =
     let w = c.args.word.now in
-    subst (λ (o : Option ℤ). ReadsNumber o c.read_plain.result) (sym (integer_plain w (strip_prefix_char 45 w None c.in-None.ensures.cases (lit< tt)))) c.read_plain.ensures
+    subst (λ (o : Option ℤ). ReadsNumber o c.read_plain.result)
+    (sym (integer_plain w (strip_prefix_char 45 w None c.in-None.ensures.cases (lit< tt))))
+    c.read_plain.ensures

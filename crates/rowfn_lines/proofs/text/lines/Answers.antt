@@ -5,4 +5,6 @@ use Rattle.rowfn_lines.proofs.text.lines.Goals as goal
 
 pub returns : goal.returns
 returns c =
-    map_from_collect _ c.collect.ensures.ran (YieldsList-from_slice_split _ (λ b. b == 10) c.args.script.now c.split.ensures.rest c.split.ensures.done c.split.ensures.closure (λ x b q k. search rules))
+    map_from_collect _ c.collect.ensures.ran
+    (YieldsList-from_slice_split _ (λ b. b == 10) c.args.script.now c.split.ensures.rest
+    c.split.ensures.done c.split.ensures.closure (λ x b q k. search rules))

@@ -5,4 +5,5 @@ use Rattle.rowfn_lines.proofs.text.split_word.Goals as goal
 
 pub split_plain-requires : goal.split_plain-requires
 split_plain-requires c =
-    begins_plain c.args.text.now c.requires (strip_prefix_char 34 c.args.text.now None c.in-None.ensures.cases (lit< tt))
+    begins_plain c.args.text.now c.requires
+    (strip_prefix_char 34 c.args.text.now None c.in-None.ensures.cases (lit< tt))

@@ -7,7 +7,8 @@ use Rattle.rowfn_lines.proofs.text.words.Given as goal
 -- what is left to read goes after what was read, and begins with no space
 abbrev pub invariant-loop-rest : goal.invariant-loop-rest
 invariant-loop-rest l =
-    shadow (Utf8 l.rest) × (after_spaces l.rest ≡ l.rest) × (option_map (λ ws. map word_in l.words.items ++ ws) (words_of l.rest) ≡ words_of l.line)
+    shadow (Utf8 l.rest) × (after_spaces l.rest ≡ l.rest)
+    × (option_map (λ ws. map word_in l.words.items ++ ws) (words_of l.rest) ≡ words_of l.line)
 
 abbrev pub decreases-loop-rest : goal.decreases-loop-rest
 decreases-loop-rest l = length l.rest

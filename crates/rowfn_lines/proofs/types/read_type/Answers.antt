@@ -7,9 +7,16 @@ use Rattle.rowfn_lines.proofs.types.read_type.Goals as goal
 pub returns-in-Some : goal.returns-in-Some
 returns-in-Some c =
     let w = c.args.word.now in
-    c.with_nullability.ensures ∙ sym (ap (marked_type w) (marked w c.in-Some.name.now (strip_suffix_char 63 w (Some c.in-Some.name) c.in-Some.ensures.cases (lit< tt))))
+    c.with_nullability.ensures
+    ∙ sym
+    (ap (marked_type w)
+    (marked w c.in-Some.name.now
+    (strip_suffix_char 63 w (Some c.in-Some.name) c.in-Some.ensures.cases (lit< tt))))
 
 pub returns-in-None : goal.returns-in-None
 returns-in-None c =
     let w = c.args.word.now in
-    c.with_nullability-in-None.ensures ∙ sym (ap (marked_type w) (unmarked w (strip_suffix_char 63 w None c.in-None.ensures.cases (lit< tt))))
+    c.with_nullability-in-None.ensures
+    ∙ sym
+    (ap (marked_type w)
+    (unmarked w (strip_suffix_char 63 w None c.in-None.ensures.cases (lit< tt))))

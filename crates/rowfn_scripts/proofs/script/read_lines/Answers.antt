@@ -9,10 +9,19 @@ use Rattle.rowfn_scripts.proofs.script.read_lines.Goals as goal
 
 pub returns-in_default : goal.returns-in_default
 returns-in_default g c =
-    record { read = 0; session = fresh; reached = begins; ends = tt; printed = printed_of c.requires }
+    record {
+      read = 0;
+      session = fresh;
+      reached = begins;
+      ends = tt;
+      printed = printed_of c.requires;
+    }
 
 pub loop-i-init : goal.loop-i-init
-loop-i-init g c = subst (λ (s : SessionView _ _). Reaches g.C.ScalarFnVTable.meaning (lines_of c.args.script.now) 0 s) (sym c.requires) begins
+loop-i-init g c =
+    subst
+    (λ (s : SessionView _ _). Reaches g.C.ScalarFnVTable.meaning (lines_of c.args.script.now) 0 s)
+    (sym c.requires) begins
 
 pub returns-in-Err : goal.returns-in-Err
 returns-in-Err g c =
@@ -20,13 +29,18 @@ returns-in-Err g c =
     let items = c.deref-line-items.result.now in
     let lines = lines_of c.args.script.now in
     let d : Bor (List ℕ) = record { ref_ptr = (0, 0); now = [] } in
-    let read : map (λ l. l.now) items ≡ lines = ap (map (λ l. l.now)) c.deref-line-items.ensures.value ∙ c.in-Ok.ensures in
-    let ends = ends_here m items lines c.loop-i.i d read c.loop-i-test.true c.loop-i.session c.in-Err.stop c.in-Err.ensures.0 in
+    let read : map (λ l. l.now) items ≡ lines =
+    ap (map (λ l. l.now)) c.deref-line-items.ensures.value ∙ c.in-Ok.ensures in
+    let ends =
+    ends_here m items lines c.loop-i.i d read c.loop-i-test.true c.loop-i.session c.in-Err.stop
+    c.in-Err.ensures.0 in
     record {
       read = c.loop-i.i;
       session = c.loop-i.session;
       reached = c.loop-i.invariant;
-      ends = subst (λ (ending : End). EndsAt m lines c.loop-i.i c.loop-i.session ending) (sym c.ending.ensures) ends;
+      ends =
+          subst (λ (ending : End). EndsAt m lines c.loop-i.i c.loop-i.session ending)
+          (sym c.ending.ensures) ends;
       printed = c.in-Err.ensures.1;
     }
 
@@ -36,5 +50,7 @@ loop-i-preserved g c =
     let items = c.deref-line-items.result.now in
     let lines = lines_of c.args.script.now in
     let d : Bor (List ℕ) = record { ref_ptr = (0, 0); now = [] } in
-    let read : map (λ l. l.now) items ≡ lines = ap (map (λ l. l.now)) c.deref-line-items.ensures.value ∙ c.in-Ok.ensures in
-    reaches_more m items lines c.loop-i.i d read c.loop-i-test.true c.loop-i.session c.read_line.new.self c.loop-i.invariant c.in_default-read_line.ensures
+    let read : map (λ l. l.now) items ≡ lines =
+    ap (map (λ l. l.now)) c.deref-line-items.ensures.value ∙ c.in-Ok.ensures in
+    reaches_more m items lines c.loop-i.i d read c.loop-i-test.true c.loop-i.session
+    c.read_line.new.self c.loop-i.invariant c.in_default-read_line.ensures

@@ -19,7 +19,12 @@ returns c =
     let bits = c.in_ok-bits.bits in
     let v = validity_of c.args.validity in
     let same = c.in_ok-bits.ensures ∙ c.deref.ensures.value in
-    answers_same c.try_bool.result (FitsRows v (length bits)) (FitsRows v (length xs) × (list_all fits_column (map truth xs) ≡ true)) (λ (d : ColumnView). d ≡ bool_column bits v) (IsMade bool_type v (map truth xs)) InvalidColumn
-    (λ h. (rw (ap length same) at h, all_fit truth (λ x. refl) xs)) (λ h. rw (← ap length same) at h.0)
-    (λ d e. made_is bool_type v (length bits) (λ i. truth (slice_index_or bits i false)) (map truth xs) d (ap length same ∙ sym (length-map xs truth)) (truths_at xs bits same) e)
+    answers_same c.try_bool.result (FitsRows v (length bits))
+    (FitsRows v (length xs) × (list_all fits_column (map truth xs) ≡ true))
+    (λ (d : ColumnView). d ≡ bool_column bits v) (IsMade bool_type v (map truth xs)) InvalidColumn
+    (λ h. (rw (ap length same) at h, all_fit truth (λ x. refl) xs))
+    (λ h. rw (← ap length same) at h.0)
+    (λ d e.
+    made_is bool_type v (length bits) (λ i. truth (slice_index_or bits i false)) (map truth xs) d
+    (ap length same ∙ sym (length-map xs truth)) (truths_at xs bits same) e)
     c.try_bool.ensures

@@ -20,7 +20,14 @@ returns g c =
     let p = g.T.NativePType.ptype in
     let f = g.T.NativePType.number in
     let vs = map (λ x. number (f x)) xs in
-    answers_same c.try_primitive.result (FitsRows v (length xs)) (FitsRows v (length xs) × (list_all fits_column vs ≡ true)) (λ (d : ColumnView). d ≡ made_of (integer_type p (form_allows_null v.form)) v (length xs) (λ i. number (slice_index_or (map f xs) i (pos 0)))) (IsMade (integer_type p) v vs) InvalidColumn
+    answers_same c.try_primitive.result (FitsRows v (length xs))
+    (FitsRows v (length xs) × (list_all fits_column vs ≡ true))
+    (λ (d : ColumnView). d
+    ≡ made_of (integer_type p (form_allows_null v.form)) v (length xs)
+    (λ i. number (slice_index_or (map f xs) i (pos 0))))
+    (IsMade (integer_type p) v vs) InvalidColumn
     (λ h. (h, all_fit (λ x. number (f x)) (λ x. refl) xs)) (λ h. h.0)
-    (λ d e. made_is (integer_type p) v (length xs) (λ i. number (slice_index_or (map f xs) i (pos 0))) vs d (sym (length-map xs (λ x. number (f x)))) (numbers_at f xs) e)
+    (λ d e.
+    made_is (integer_type p) v (length xs) (λ i. number (slice_index_or (map f xs) i (pos 0))) vs
+    d (sym (length-map xs (λ x. number (f x)))) (numbers_at f xs) e)
     c.try_primitive.ensures

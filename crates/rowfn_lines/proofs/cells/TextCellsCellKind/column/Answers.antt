@@ -18,7 +18,15 @@ returns c =
     let xs = c.args.values.items in
     let v = validity_of c.args.validity in
     let vs = map (λ s. text (string_bytes s)) xs in
-    answers_same c.try_utf8.result (FitsRows v (length xs) × All (λ t. length (string_bytes t) ≤ 4294967295) xs) (FitsRows v (length xs) × (list_all fits_column vs ≡ true)) (λ (d : ColumnView). d ≡ made_of (text_type (form_allows_null v.form)) v (length xs) (λ i. text (slice_index_or (map string_bytes xs) i []))) (IsMade text_type v vs) InvalidColumn
+    answers_same c.try_utf8.result
+    (FitsRows v (length xs) × All (λ t. length (string_bytes t) ≤ 4294967295) xs)
+    (FitsRows v (length xs) × (list_all fits_column vs ≡ true))
+    (λ (d : ColumnView). d
+    ≡ made_of (text_type (form_allows_null v.form)) v (length xs)
+    (λ i. text (slice_index_or (map string_bytes xs) i [])))
+    (IsMade text_type v vs) InvalidColumn
     (λ h. (h.0, texts_fit string_bytes xs h.1)) (λ h. (h.0, fitting_texts string_bytes xs h.1))
-    (λ d e. made_is text_type v (length xs) (λ i. text (slice_index_or (map string_bytes xs) i [])) vs d (sym (length-map xs (λ s. text (string_bytes s)))) (texts_at string_bytes xs) e)
+    (λ d e.
+    made_is text_type v (length xs) (λ i. text (slice_index_or (map string_bytes xs) i [])) vs d
+    (sym (length-map xs (λ s. text (string_bytes s)))) (texts_at string_bytes xs) e)
     c.try_utf8.ensures

@@ -1,36 +1,71 @@
-use Rattle.std.proofs.Common.{◌≡◌, ◌==◌, true, false, refl, sym, ap, ◌∙◌, map, length}
-use Rattle.std.specs.Prelude.{string_bytes}
-use Rattle.std.specs.List.{list_any}
-use Rattle.std.specs.Str.{bytes_eq}
+use Rattle.std.proofs.Common.{◌≡◌, ◌==◌, true, false, refl, sym, ap, not, ◌∙◌, length}
+use Rattle.std.specs.Option.{is_none}
 use Rattle.std.specs.Cmp.{unsigned_Decides}
-use Rattle.rowfn_scripts.proofs.SessionNames.{standing, kept_without, kept_more, one_more_name}
-use Rattle.rowfn_scripts.proofs.SessionSteps.{row_count_of, names_of, other_count, name_twice, column_added, same_added}
+use Rattle.vortex_types.specs.declared.error.VortexError.TheVariants.{OutOfMemory}
+use Rattle.vortex_types.specs.LogicalTypes.{find_field, with_field}
+use Rattle.vortex_types.specs.TypeOf.{type_of, struct_fields}
+use Rattle.vortex_types.proofs.Answering.{UnlessMemory-weaker}
+use Rattle.rowfn_lines.specs.Commands.{column}
+use Rattle.rowfn_scripts.specs.Sessions.{refuses, StepsTo}
+use Rattle.rowfn_scripts.proofs.SessionSteps.{row_count_of, fields_of, printed_of, found_or_not}
+use Rattle.rowfn_scripts.proofs.SessionSteps.{name_twice, column_added, same_added, stops}
 use Rattle.rowfn_scripts.proofs.session.Session.add_column.Goals as goal
 
-pub returns-then-len-count : goal.returns-then-len-count
-returns-then-len-count g c =
+pub returns-then-is_some : goal.returns-then-is_some
+returns-then-is_some g c =
+    let s = c.args.self.now in
+    let name = c.args.name.now in
     let counted = sym (row_count_of c.self.view_is) ∙ c.in-Some.is in
-    (other_count c.args.name.now c.args.added c.args.self.now c.in-Some.count counted (λ e. c.if-len-count.true (c.len.ensures ∙ e)), refl)
+    let here = found_or_not c.find.result _ _ c.is_some.result c.find.ensures c.is_some.ensures in
+    let same = ap (λ fs. is_none (find_field name fs)) (sym (fields_of c.self.view_is)) in
+    let old : is_none (find_field name s.fields) ≡ false = same ∙ here ∙ ap not c.if-is_some.true in
+    (name_twice name c.args.added s c.in-Some.count counted old, refl)
 
-pub returns-then-stands_in : goal.returns-then-stands_in
-returns-then-stands_in g c =
-    let counted = sym (row_count_of c.self.view_is) ∙ c.in-Some.is in
-    let stands = standing c.self.inside.names.items c.deref.result.now c.args.self.now.names c.args.name.now c.stands_in.result true (names_of c.self.view_is) c.deref.ensures.value c.stands_in.ensures c.if-stands_in.true in
-    (name_twice c.args.name.now c.args.added c.args.self.now c.in-Some.count counted stands, refl)
+pub returns-in_err-dtype : goal.returns-in_err-dtype
+returns-in_err-dtype g c =
+    let s = c.args.self.now in
+    let P = StepsTo g.C.ScalarFnVTable.meaning (column c.args.name.now c.args.added) in
+    let e = c.in_err-dtype.field-0.0 in
+    let memory =
+    UnlessMemory-weaker (λ e. ⊥) (λ e. P s (refuses e)) (λ d h. absurd h) e
+    c.in_err-dtype.ensures in
+    stops P s s c.from_residual-in_err-dtype.result e c.from_residual-in_err-dtype.ensures.1 memory
+    refl
 
-pub invariant_of-self-in_err-push-2 : goal.invariant_of-self-in_err-push-2
-invariant_of-self-in_err-push-2 g c =
-    kept_without c.self.inside.names.items c.push-2.new.self.items c.self.inside.columns.items c.push.new.self.items c.args.added c.in_err-push-2.ensures.items c.in_ok-push.ensures.items c.self.invariant
+pub returns-in_err-push : goal.returns-in_err-push
+returns-in_err-push g c =
+    let s = c.args.self.now in
+    let P = StepsTo g.C.ScalarFnVTable.meaning (column c.args.name.now c.args.added) in
+    stops P s _ c.from_residual-in_err-push.result OutOfMemory c.from_residual-in_err-push.ensures.1
+    tt (printed_of c.self.view_is)
 
-pub invariant_of-self-2 : goal.invariant_of-self-2
-invariant_of-self-2 g c =
-    let new = ap (list_any (λ n. bytes_eq (string_bytes n) c.args.name.now)) (sym c.deref.ensures.value) ∙ sym c.stands_in.ensures ∙ c.if-stands_in.false in
-    kept_more c.self.inside.names.items c.push-2.new.self.items c.in_ok-name.name c.args.name.now c.self.inside.columns.items c.push.new.self.items c.args.added c.in_ok-push-2.ensures.items c.in_ok-push.ensures.items new c.in_ok-name.ensures.ok c.self.invariant
+pub returns-in_err-push-2 : goal.returns-in_err-push-2
+returns-in_err-push-2 g c =
+    let s = c.args.self.now in
+    let P = StepsTo g.C.ScalarFnVTable.meaning (column c.args.name.now c.args.added) in
+    let e = c.in_err-push-2.field-0.0 in
+    let memory =
+    UnlessMemory-weaker (λ e. ⊥) (λ e. P s (refuses e)) (λ d h. absurd h) e
+    c.in_err-push-2.ensures.added in
+    stops P s _ c.from_residual-in_err-push-2.result e c.from_residual-in_err-push-2.ensures.1
+    memory (printed_of c.self.view_is)
 
 pub returns : goal.returns
 returns g c =
+    let s = c.args.self.now in
+    let name = c.args.name.now in
+    let added = c.args.added in
+    let count = c.in-Some.count in
     let counted = sym (row_count_of c.self.view_is) ∙ c.in-Some.is in
-    let rows : (length c.args.added.rows == c.in-Some.count) ≡ true = (unsigned_Decides (length c.args.added.rows) c.in-Some.count).1 (sym c.len.ensures ∙ c.if-len-count.false) in
-    let new = standing c.self.inside.names.items c.deref.result.now c.args.self.now.names c.args.name.now c.stands_in.result false (names_of c.self.view_is) c.deref.ensures.value c.stands_in.ensures c.if-stands_in.false in
-    let names = ap (map string_bytes) c.in_ok-push-2.ensures.items ∙ one_more_name c.self.inside.names.items c.in_ok-name.name c.args.name.now c.in_ok-name.ensures.ok in
-    same_added _ c.args.self.now c.args.name.now c.args.added _ _ c.self.view_is names c.in_ok-push.ensures.items ∙ column_added c.args.name.now c.args.added c.args.self.now c.in-Some.count counted rows new
+    let rows : (length added.rows == count) ≡ true =
+    (unsigned_Decides (length added.rows) count).1 (sym c.len.ensures ∙ c.if-len-count.false) in
+    let here = found_or_not c.find.result _ _ c.is_some.result c.find.ensures c.is_some.ensures in
+    let same = ap (λ fs. is_none (find_field name fs)) (sym (fields_of c.self.view_is)) in
+    let new : is_none (find_field name s.fields) ≡ true = same ∙ here ∙ ap not c.if-is_some.false in
+    let dtype : type_of c.in_ok-dtype.dtype ≡ added.dtype =
+    c.in_ok-dtype.ensures ∙ c.dtype.ensures.dtype in
+    let fields = c.in_ok-push-2.ensures.added
+    ∙ (λ i.
+    with_field (struct_fields c.self.inside.fields) (c.in_ok-name.ensures.ok i) (dtype i)) in
+    same_added _ s name added _ _ c.self.view_is fields c.in_ok-push.ensures.items
+    ∙ column_added name added s count counted rows new

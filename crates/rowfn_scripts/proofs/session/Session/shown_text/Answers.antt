@@ -4,5 +4,9 @@ use Rattle.rowfn_scripts.proofs.session.Session.shown_text.Goals as goal
 
 pub returns : goal.returns
 returns g c =
-    let top = sym (stack_of c.self.view_is) ∙ ap reverse (sym c.deref.ensures.value) ∙ last_is_top c.deref.result.now c.in-Some.shown.now c.in-Some.ensures.item.3.0 c.in-Some.ensures.item.1 in
-    top_shown c.args.self.now c.args.count c.in-Some.shown.now _ _ _ top c.in_ok-text.ensures c.in_ok-push_str.ensures.bytes
+    let top =
+    sym (stack_of c.self.view_is) ∙ ap reverse (sym c.deref.ensures.value)
+    ∙ last_is_top c.deref.result.now c.in-Some.shown.now c.in-Some.ensures.item.3.0
+    c.in-Some.ensures.item.1 in
+    top_shown c.args.self.now c.args.count c.in-Some.shown.now _ _ _ top c.in_ok-text.ensures
+    c.in_ok-push_str.ensures.bytes

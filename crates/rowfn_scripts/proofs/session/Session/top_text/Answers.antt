@@ -6,26 +6,54 @@ use Rattle.std.specs.Cow.{cow_value}
 use Rattle.rowfn_scripts.specs.Sessions.{refuses, RunsTop}
 use Rattle.rowfn_lines.specs.Printing.{column_text}
 use Rattle.rowfn_scripts.specs.Stepping.{after_text}
-use Rattle.rowfn_scripts.proofs.SessionSteps.{columns_of, stack_of, last_is_top, top_printed, top_refused, answers_refusal}
+use Rattle.rowfn_scripts.proofs.SessionSteps.{columns_of, stack_of, last_is_top, top_printed}
+use Rattle.rowfn_scripts.proofs.SessionSteps.{top_refused, answers_refusal}
 use Rattle.rowfn_scripts.proofs.session.Session.top_text.Goals as goal
 
 pub returns-in_err-column : goal.returns-in_err-column
 returns-in_err-column g c =
     let m = g.C.ScalarFnVTable.meaning in
     let s = c.args.self.now in
-    let top = sym (stack_of c.self.view_is) ∙ ap reverse (sym c.deref.ensures.value) ∙ last_is_top c.deref.result.now c.in-Some.tree.now c.in-Some.ensures.item.3.0 c.in-Some.ensures.item.1 in
+    let top =
+    sym (stack_of c.self.view_is) ∙ ap reverse (sym c.deref.ensures.value)
+    ∙ last_is_top c.deref.result.now c.in-Some.tree.now c.in-Some.ensures.item.3.0
+    c.in-Some.ensures.item.1 in
     let columns = c.deref-2.ensures.value ∙ columns_of c.self.view_is in
-    answers_refusal (λ text. RunsTop m (Some c.args.count) s.stack s (after_text s text)) (λ e. RunsTop m (Some c.args.count) s.stack s (refuses e)) c.from_residual.result c.in_err-column.field-0.0 c.from_residual.ensures.1 (UnlessMemory-weaker (RefusesExecution m c.deref-2.result.now c.args.count c.in-Some.tree.now) (λ e. RunsTop m (Some c.args.count) s.stack s (refuses e)) (λ e h. top_refused m c.args.count s c.in-Some.tree.now _ top e (subst (λ (cs : List ColumnView). RefusesExecution m cs c.args.count c.in-Some.tree.now e) columns h)) c.in_err-column.field-0.0 c.in_err-column.ensures.answer)
+    answers_refusal (λ text. RunsTop m (Some c.args.count) s.stack s (after_text s text))
+    (λ e. RunsTop m (Some c.args.count) s.stack s (refuses e)) c.from_residual.result
+    c.in_err-column.field-0.0 c.from_residual.ensures.1
+    (UnlessMemory-weaker (RefusesExecution m c.deref-2.result.now c.args.count c.in-Some.tree.now)
+    (λ e. RunsTop m (Some c.args.count) s.stack s (refuses e))
+    (λ e h.
+    top_refused m c.args.count s c.in-Some.tree.now _ top e
+    (subst
+    (λ (cs : List ColumnView). RefusesExecution m cs c.args.count c.in-Some.tree.now e)
+    columns h))
+    c.in_err-column.field-0.0 c.in_err-column.ensures.answer)
 
 pub returns : goal.returns
 returns g c =
     let m = g.C.ScalarFnVTable.meaning in
-    let top = sym (stack_of c.self.view_is) ∙ ap reverse (sym c.deref.ensures.value) ∙ last_is_top c.deref.result.now c.in-Some.tree.now c.in-Some.ensures.item.3.0 c.in-Some.ensures.item.1 in
+    let top =
+    sym (stack_of c.self.view_is) ∙ ap reverse (sym c.deref.ensures.value)
+    ∙ last_is_top c.deref.result.now c.in-Some.tree.now c.in-Some.ensures.item.3.0
+    c.in-Some.ensures.item.1 in
     let columns = c.deref-2.ensures.value ∙ columns_of c.self.view_is in
-    top_printed m c.args.count c.args.self.now c.in-Some.tree.now _ top (cow_value c.in_ok-column.column) _ (subst (λ (cs : List ColumnView). Executes m cs c.args.count c.in-Some.tree.now (cow_value c.in_ok-column.column)) columns c.in_ok-column.ensures.answer) (c.in_ok-column_text.ensures ∙ ap column_text c.deref-3.ensures)
+    top_printed m c.args.count c.args.self.now c.in-Some.tree.now _ top
+    (cow_value c.in_ok-column.column) _
+    (subst
+    (λ (cs : List ColumnView).
+    Executes m cs c.args.count c.in-Some.tree.now (cow_value c.in_ok-column.column))
+    columns c.in_ok-column.ensures.answer)
+    (c.in_ok-column_text.ensures ∙ ap column_text c.deref-3.ensures)
 
 pub returns-in_err-column_text : goal.returns-in_err-column_text
 returns-in_err-column_text g c =
     let m = g.C.ScalarFnVTable.meaning in
     let s = c.args.self.now in
-    answers_refusal (λ text. RunsTop m (Some c.args.count) s.stack s (after_text s text)) (λ e. RunsTop m (Some c.args.count) s.stack s (refuses e)) c.from_residual-in_err-column_text.result c.in_err-column_text.field-0.0 c.from_residual-in_err-column_text.ensures.1 (UnlessMemory-weaker (λ e. ⊥) (λ e. RunsTop m (Some c.args.count) s.stack s (refuses e)) (λ e h. absurd h) c.in_err-column_text.field-0.0 c.in_err-column_text.ensures)
+    answers_refusal (λ text. RunsTop m (Some c.args.count) s.stack s (after_text s text))
+    (λ e. RunsTop m (Some c.args.count) s.stack s (refuses e))
+    c.from_residual-in_err-column_text.result c.in_err-column_text.field-0.0
+    c.from_residual-in_err-column_text.ensures.1
+    (UnlessMemory-weaker (λ e. ⊥) (λ e. RunsTop m (Some c.args.count) s.stack s (refuses e))
+    (λ e h. absurd h) c.in_err-column_text.field-0.0 c.in_err-column_text.ensures)
