@@ -61,10 +61,11 @@ fn run_script<C: ScalarFnVTable>(alloc: Global, script: &[u8]) -> Outcome
 ///   `null`, `true`, `false`, decimal numbers with a minus sign or without, and texts in quotes, of
 ///   at most 4,294,967,295 bytes.
 /// - `get name` pushes the column's leaf, and `lit type cell` a literal.
-/// - `call f` calls `and`, `or`, `=`, `!=`, `<`, `<=`, `>` or `>=` on the last two trees, the last
-///   being on the right, or `not` on the last one. E3 where it does not accept their types.
+/// - `call f` calls `and`, `or`, `=`, `!=`, `<`, `<=`, `>`, `>=`, `+`, `-`, `*` or `/` on the last
+///   two trees, the last being on the right, or `not` on the last one. E3 where it does not accept
+///   their types.
 /// - `show` prints the last tree's text, and `run` its column: the type, a colon, and each cell
-///   after a space.
+///   after a space. E7 where in some row two numbers have no result that their type holds.
 ///
 /// Any other line is malformed.
 ///
