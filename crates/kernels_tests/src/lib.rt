@@ -19,3 +19,5 @@ mod operators;
 mod questions;
 #[cfg(test)]
 mod scalars;
+#[cfg(test)]
+mod widths;
