@@ -1,13 +1,13 @@
 -- A column without a false row answers the function that faults at false.
 use Rattle.std.proofs.Common.{◌≡◌, ◌≢◌, ℕ, zero, suc, ◌<◌, Bool, true, false, List, [], ◌∷◌, length, map, Option, Some, None, refl, sym, ap, ◌∙◌, subst, arith}
 use Rattle.std.specs.Prelude.{All, IsSome, slice_get, Result}
-use Rattle.vortex_types.specs.declared.error.VortexError.{VortexError}
+use Rattle.vortex_errors.specs.declared.error.VortexError.{VortexError}
 use Rattle.vortex_types.specs.LogicalTypes.{LogicalType, bool_type, is_bool_type, is_nullable}
 use Rattle.vortex_types.specs.Values.{Value, null, truth, truth_of}
 use Rattle.vortex_types.specs.Typing.{HasType}
 use Rattle.vortex_columns.specs.ColumnView.{ColumnView, row, AreTyped}
-use Rattle.vortex_types.specs.Answers.{Answers, AnswersUnlessMemory}
-use Rattle.vortex_types.proofs.Answering.{Answers-weaker}
+use Rattle.vortex_errors.specs.Answers.{Answers, AnswersUnlessMemory}
+use Rattle.vortex_errors.proofs.Answering.{Answers-weaker}
 use Rattle.vortex_kernels.proofs.RowLemmas.{bool_dtype}
 use Rattle.vortex_meaning.specs.Outcomes.{Outcome, gives, faults, custom, HasCallRows, IsCallFault, types_in}
 use Rattle.conformance.specs.MustBeTrue.{must_be_true, same_bool}

@@ -1,6 +1,6 @@
 //! A caller's function with a fault of its own.
 ghost use Rattle.std.specs.Prelude.{◌≡◌, ◌<◌, length, true};
-ghost use Rattle.vortex_types.specs.Answers.{Answers};
+ghost use Rattle.vortex_errors.specs.Answers.{Answers};
 ghost use Rattle.vortex_types.specs.LogicalTypes.{is_bool_type};
 ghost use Rattle.vortex_columns.specs.ColumnView.{row};
 ghost use Rattle.conformance.specs.MustBeTrue.{must_be_true_meaning, must_be_true_lawful};

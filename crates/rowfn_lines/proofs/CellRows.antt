@@ -10,14 +10,14 @@ use Rattle.std.specs.Option.{option_and_then}
 use Rattle.std.proofs.lemmas.Bool.{and_from, and_parts}
 use Rattle.std.proofs.lemmas.List.{get_or-map, length-map, map-append, ext_get_or}
 use Rattle.std.proofs.lemmas.List.FromFn.{get_or-map-range_with_len, length-map-range_with_len}
-use Rattle.vortex_types.specs.declared.error.VortexError.{VortexError}
-use Rattle.vortex_types.specs.Answers.{AnswersWhere}
-use Rattle.vortex_types.proofs.Answering.{Answers-weaker}
+use Rattle.vortex_errors.specs.declared.error.VortexError.{VortexError}
+use Rattle.vortex_errors.specs.Answers.{AnswersWhere}
+use Rattle.vortex_errors.proofs.Answering.{Answers-weaker}
 use Rattle.vortex_types.specs.LogicalTypes.{LogicalType, bool_type, integer_type, text_type}
 use Rattle.vortex_types.specs.LogicalTypes.{is_nullable}
 use Rattle.vortex_types.specs.Values.{Value, null, truth, number, text}
-use Rattle.vortex_types.specs.ValidityView.{ValidityView, FitsRows, is_valid_row, form_allows_null}
-use Rattle.vortex_types.specs.ValidityView.{array, non_nullable}
+use Rattle.vortex_columns.specs.ValidityView.{ValidityView, FitsRows, is_valid_row, form_allows_null}
+use Rattle.vortex_columns.specs.ValidityView.{array, non_nullable}
 use Rattle.vortex_columns.specs.ColumnView.{ColumnView, row}
 use Rattle.vortex_columns.specs.Stored.{made_of}
 use Rattle.rowfn_lines.specs.Lines.{Word, plain, quoted}

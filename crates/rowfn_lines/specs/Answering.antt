@@ -3,12 +3,12 @@ use Rattle.std.specs.Prelude.{◌≡◌, ◌<◌, ℕ, List, map, length, Bool, 
 use Rattle.std.specs.Prelude.{Result, MatchOption}
 use Rattle.std.specs.Borrow.{Bor}
 use Rattle.std.specs.List.{list_all}
-use Rattle.vortex_types.specs.declared.error.VortexError.{VortexError}
-use Rattle.vortex_types.specs.declared.error.VortexError.TheVariants.{InvalidColumn}
-use Rattle.vortex_types.specs.Answers.{AnswersUnlessMemory, AnswersWhere}
+use Rattle.vortex_errors.specs.declared.error.VortexError.{VortexError}
+use Rattle.vortex_errors.specs.declared.error.VortexError.TheVariants.{InvalidColumn}
+use Rattle.vortex_errors.specs.Answers.{AnswersUnlessMemory, AnswersWhere}
 use Rattle.vortex_types.specs.LogicalTypes.{LogicalType}
 use Rattle.vortex_types.specs.Values.{Value}
-use Rattle.vortex_types.specs.ValidityView.{ValidityView, FitsRows}
+use Rattle.vortex_columns.specs.ValidityView.{ValidityView, FitsRows}
 use Rattle.vortex_columns.specs.ColumnView.{ColumnView}
 use Rattle.rowfn_lines.specs.declared.command.Line.{Line}
 use Rattle.rowfn_lines.specs.declared.text.Word as read

@@ -4,8 +4,8 @@ use Rattle.std.specs.Prelude.{◌≡◌, ℤ, MatchOption, FitsSigned, ℕ, ◌<
 use Rattle.std.specs.Prelude.{Some, None, List, [], ◌∷◌, length, slice_index_or, if◌then◌else◌}
 use Rattle.vortex_types.specs.LogicalTypes.{LogicalType}
 use Rattle.vortex_types.specs.Values.{Value, null}
-use Rattle.vortex_types.specs.ValidityView.{ValidityView, is_valid_row, form_allows_null}
-use Rattle.vortex_types.specs.ValidityView.{non_nullable, array}
+use Rattle.vortex_columns.specs.ValidityView.{ValidityView, is_valid_row, form_allows_null}
+use Rattle.vortex_columns.specs.ValidityView.{non_nullable, array}
 use Rattle.vortex_columns.specs.ColumnView.{ColumnView, row}
 use Rattle.std.specs.List.{list_all}
 use Rattle.rowfn_lines.specs.Commands.{fits_column}

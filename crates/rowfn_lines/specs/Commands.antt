@@ -15,7 +15,7 @@ use Rattle.vortex_types.specs.ScalarView.{ScalarView}
 use Rattle.rowfn_lines.specs.Ranges.{in_range}
 use Rattle.vortex_types.specs.Values.{Value, null, truth, number, text}
 use Rattle.vortex_columns.specs.ColumnView.{ColumnView}
-use Rattle.vortex_types.specs.ValidityView.{array, non_nullable}
+use Rattle.vortex_columns.specs.ValidityView.{array, non_nullable}
 use Rattle.rowfn_lines.specs.declared.types.Kind.{Kind}
 use Rattle.rowfn_lines.specs.declared.types.Kind.TheVariants as kind
 use Rattle.rowfn_lines.specs.declared.command.Line.{Line}

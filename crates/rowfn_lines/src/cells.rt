@@ -3,14 +3,14 @@ ghost use Rattle.std.specs.Prelude.{◌≡◌, refl, pos, ◌∷◌, Bool, true,
 ghost use Rattle.std.specs.Prelude.{map, option_map, length, string_bytes, MatchOption};
 ghost use Rattle.std.specs.List.{list_all};
 ghost use Rattle.std.specs.Char.{is_ascii_digit};
-ghost use Rattle.vortex_types.specs.Answers.{AnswersUnlessMemory};
+ghost use Rattle.vortex_errors.specs.Answers.{AnswersUnlessMemory};
 ghost use Rattle.vortex_types.specs.LogicalTypes.{LogicalType, bool_type, integer_type, text_type};
 ghost use Rattle.vortex_types.specs.LogicalTypes.{is_nullable};
 ghost use Rattle.vortex_types.specs.TypeOf.{type_of, allows_null};
 ghost use Rattle.vortex_types.specs.Values.{Value, truth, number, text};
 ghost use Rattle.vortex_types.specs.ValueOf.{value_of};
 ghost use Rattle.vortex_types.specs.Typing.{HasType};
-ghost use Rattle.vortex_types.specs.ValidityView.{validity_of};
+ghost use Rattle.vortex_columns.specs.ValidityView.{validity_of};
 ghost use Rattle.rowfn_lines.specs.Lines.{word_in};
 ghost use Rattle.rowfn_lines.specs.Commands.{digits_of, negative, integer_of, says_null, cells_of};
 ghost use Rattle.rowfn_lines.specs.Commands.{fits_column, column_said, literal_said, kind_type};

@@ -1,6 +1,6 @@
 //! What a line of a script says.
 ghost use Rattle.std.specs.Prelude.{◌≡◌};
-ghost use Rattle.vortex_types.specs.Answers.{AnswersUnlessMemory};
+ghost use Rattle.vortex_errors.specs.Answers.{AnswersUnlessMemory};
 
 use vortex_columns::{Column, Scalar};
 

@@ -1,6 +1,6 @@
 //! Prints a column.
 ghost use Rattle.std.specs.Prelude.{◌≡◌, ◌++◌, string_bytes};
-ghost use Rattle.vortex_types.specs.Answers.{AnswersUnlessMemory};
+ghost use Rattle.vortex_errors.specs.Answers.{AnswersUnlessMemory};
 ghost use Rattle.vortex_types.specs.TypeOf.{type_of};
 ghost use Rattle.vortex_columns.specs.Cells.{cell_value, IsCell};
 ghost use Rattle.vortex_meaning.specs.Printing.{quote};

@@ -5,12 +5,12 @@ use Rattle.std.proofs.Common.{false, Option, Some, None, List, [], ◌∷◌, �
 use Rattle.std.proofs.Common.{subst, ◌∙◌, arith, ◌&&◌, if◌then◌else◌}
 use Rattle.std.specs.Prelude.{IfSome}
 use Rattle.std.specs.Option.{is_some, is_none}
-use Rattle.vortex_types.specs.declared.error.VortexError.{VortexError}
-use Rattle.vortex_types.specs.declared.error.VortexError.TheVariants.{OutOfMemory}
-use Rattle.vortex_types.specs.declared.error.MismatchPlace.{MismatchPlace}
-use Rattle.vortex_types.specs.Answers.{UnlessMemory}
+use Rattle.vortex_errors.specs.declared.error.VortexError.{VortexError}
+use Rattle.vortex_errors.specs.declared.error.VortexError.TheVariants.{OutOfMemory}
+use Rattle.vortex_errors.specs.declared.error.MismatchPlace.{MismatchPlace}
+use Rattle.vortex_errors.specs.Answers.{UnlessMemory}
 use Rattle.vortex_types.specs.LogicalTypes.{LogicalType, find_field}
-use Rattle.vortex_types.specs.ValidityView.{array}
+use Rattle.vortex_columns.specs.ValidityView.{array}
 use Rattle.vortex_types.specs.Values.{Value}
 use Rattle.vortex_types.specs.ScalarView.{ScalarView}
 use Rattle.vortex_columns.specs.ColumnView.{ColumnView, row}

@@ -11,10 +11,10 @@ use Rattle.std.proofs.Math.Seq.{take-suc, take-append_seam, drop-append_seam}
 use Rattle.std.proofs.lemmas.Bool.{eqb-true, false_from_ne_true, le-leb, lt-leb}
 use Rattle.std.proofs.lemmas.List.{reverse-append, reverse-reverse, take-append-drop, take_all}
 use Rattle.std.proofs.lemmas.List.{length-drop, length-append, length-reverse}
-use Rattle.vortex_types.specs.declared.error.MismatchPlace.{MismatchPlace}
-use Rattle.vortex_types.specs.declared.error.VortexError.{VortexError}
-use Rattle.vortex_types.specs.declared.error.VortexError.TheVariants.{ScopeMismatch}
-use Rattle.vortex_types.specs.Answers.{Answers, UnlessMemory}
+use Rattle.vortex_errors.specs.declared.error.MismatchPlace.{MismatchPlace}
+use Rattle.vortex_errors.specs.declared.error.VortexError.{VortexError}
+use Rattle.vortex_errors.specs.declared.error.VortexError.TheVariants.{ScopeMismatch}
+use Rattle.vortex_errors.specs.Answers.{Answers, UnlessMemory}
 use Rattle.vortex_types.specs.LogicalTypes.{LogicalType, Fields, with_field, find_field}
 use Rattle.vortex_columns.specs.ColumnView.{ColumnView}
 use Rattle.vortex_meaning.specs.Meaning.{Meaning, fits}

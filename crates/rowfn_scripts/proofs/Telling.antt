@@ -7,15 +7,15 @@ use Rattle.vortex_types.specs.ScalarView.{ScalarView}
 use Rattle.vortex_meaning.specs.Printing.{tree_text}
 use Rattle.std.specs.Option.{is_some, is_none}
 use Rattle.std.proofs.lemmas.List.{append-nil, ext_get_or}
-use Rattle.vortex_types.specs.declared.error.VortexError.{VortexError}
-use Rattle.vortex_types.specs.declared.error.VortexError.TheVariants.{OutOfMemory}
-use Rattle.vortex_types.specs.Answers.{UnlessMemory}
+use Rattle.vortex_errors.specs.declared.error.VortexError.{VortexError}
+use Rattle.vortex_errors.specs.declared.error.VortexError.TheVariants.{OutOfMemory}
+use Rattle.vortex_errors.specs.Answers.{UnlessMemory}
 use Rattle.vortex_types.specs.Values.{Value, null}
 use Rattle.vortex_types.specs.LogicalTypes.{LogicalType, find_field}
 use Rattle.vortex_columns.specs.ColumnView.{ColumnView}
 use Rattle.vortex_meaning.specs.Outcomes.{Outcome, gives, faults, GivesValue}
 use Rattle.vortex_meaning.specs.Meaning.{Meaning}
-use Rattle.vortex_types.specs.declared.error.MismatchPlace.{MismatchPlace}
+use Rattle.vortex_errors.specs.declared.error.MismatchPlace.{MismatchPlace}
 use Rattle.vortex_meaning.specs.Shipped.{Shipped, shipped_arity, shipped_named, shipped_place}
 use Rattle.vortex_meaning.specs.Trees.{Tree, leaf, constant, call as call_tree, Trees, no_trees}
 use Rattle.vortex_meaning.specs.Trees.{tree, trees_of}

@@ -1,7 +1,7 @@
 -- What a program says of the ending of a script.
 use Rattle.std.specs.Prelude.{ℕ, List, [], ◌∷◌, ◌++◌, codes}
 use Rattle.std.specs.Fmt.{decimal}
-use Rattle.vortex_types.specs.Errors.{name_of}
+use Rattle.vortex_errors.specs.Errors.{name_of}
 use Rattle.rowfn_scripts.specs.declared.ending.End.{End}
 use Rattle.rowfn_scripts.specs.declared.ending.End.TheVariants.{Done, Refused, Malformed}
 

@@ -1,7 +1,7 @@
 -- The trees of a session fit its columns, so where `run` refuses, a row faults; each has a type,
 -- which a column of it has; and each has a text, which `show` prints.
 use Rattle.std.specs.Prelude.{◌≡◌, ℕ, List, [], ◌∷◌, true, Option, Some, None, is_some, ⊤}
-use Rattle.vortex_types.specs.declared.error.VortexError.{VortexError}
+use Rattle.vortex_errors.specs.declared.error.VortexError.{VortexError}
 use Rattle.vortex_types.specs.LogicalTypes.{Fields, no_fields, field}
 use Rattle.vortex_columns.specs.ColumnView.{ColumnView}
 use Rattle.vortex_meaning.specs.Meaning.{Meaning}

@@ -1,11 +1,11 @@
 -- What a line makes of what the lines before it made.
 use Rattle.std.specs.Prelude.{◌≡◌, ◌==◌, ◌&&◌, ℕ, List, [], ◌∷◌, ◌++◌, length, take, drop, reverse}
 use Rattle.std.specs.Prelude.{nat_le, Option, Some, None, is_some, is_none, IfSome, if◌then◌else◌}
-use Rattle.vortex_types.specs.declared.arity.Arity.{Arity}
-use Rattle.vortex_types.specs.declared.arity.Arity.TheVariants.{Exact, Variadic}
-use Rattle.vortex_types.specs.declared.error.MismatchPlace.{MismatchPlace}
-use Rattle.vortex_types.specs.declared.error.VortexError.{VortexError}
-use Rattle.vortex_types.specs.declared.error.VortexError.TheVariants.{ScopeMismatch, TypeMismatch}
+use Rattle.vortex_errors.specs.declared.arity.Arity.{Arity}
+use Rattle.vortex_errors.specs.declared.arity.Arity.TheVariants.{Exact, Variadic}
+use Rattle.vortex_errors.specs.declared.error.MismatchPlace.{MismatchPlace}
+use Rattle.vortex_errors.specs.declared.error.VortexError.{VortexError}
+use Rattle.vortex_errors.specs.declared.error.VortexError.TheVariants.{ScopeMismatch, TypeMismatch}
 use Rattle.vortex_types.specs.LogicalTypes.{LogicalType, Fields, no_fields, with_field, find_field}
 use Rattle.vortex_types.specs.ScalarView.{ScalarView}
 use Rattle.vortex_columns.specs.ColumnView.{ColumnView}

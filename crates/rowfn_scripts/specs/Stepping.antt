@@ -2,7 +2,7 @@
 use Rattle.std.specs.Prelude.{◌≡◌, ◌++◌, ℕ, Result, MatchResult, Option, Some, None, String}
 use Rattle.std.specs.Prelude.{string_bytes}
 use Rattle.std.specs.declared.alloc.Global.{Global}
-use Rattle.vortex_types.specs.Answers.{UnlessMemory}
+use Rattle.vortex_errors.specs.Answers.{UnlessMemory}
 use Rattle.rowfn_scripts.specs.declared.stop.Stop.{Stop}
 use Rattle.rowfn_scripts.specs.declared.stop.Stop.TheVariants.{Refused, Malformed}
 use Rattle.rowfn_scripts.specs.declared.ending.End.{End}

@@ -1,7 +1,7 @@
 -- A script is told one way: where memory suffices it has an outcome, and one alone; and what is
 -- printed before memory runs out is a beginning of what is printed there.
 use Rattle.std.specs.Prelude.{◌≡◌, ◌≢◌, ◌++◌, ℕ, List}
-use Rattle.vortex_types.specs.declared.error.VortexError.TheVariants.{OutOfMemory}
+use Rattle.vortex_errors.specs.declared.error.VortexError.TheVariants.{OutOfMemory}
 use Rattle.vortex_meaning.specs.Meaning.{Meaning}
 use Rattle.rowfn_scripts.specs.declared.ending.End.{End}
 use Rattle.rowfn_scripts.specs.declared.ending.End.TheVariants.{Refused}

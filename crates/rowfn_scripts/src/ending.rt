@@ -1,6 +1,6 @@
 //! How a script ends.
 ghost use Rattle.std.specs.Prelude.{◌≡◌, string_bytes};
-ghost use Rattle.vortex_types.specs.Answers.{AnswersUnlessMemory};
+ghost use Rattle.vortex_errors.specs.Answers.{AnswersUnlessMemory};
 ghost use Rattle.rowfn_scripts.specs.Endings.{status_of, fault_line_of};
 
 use std::alloc::Global;

@@ -1,6 +1,6 @@
 //! Why a line does not go on.
 ghost use Rattle.std.specs.Prelude.{◌≡◌};
-ghost use Rattle.vortex_types.specs.declared.error.VortexError.TheVariants.{OutOfMemory};
+ghost use Rattle.vortex_errors.specs.declared.error.VortexError.TheVariants.{OutOfMemory};
 ghost use Rattle.rowfn_scripts.specs.declared.stop.Stop.TheVariants.{Refused};
 
 use crate::ending::End;

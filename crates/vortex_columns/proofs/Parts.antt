@@ -15,7 +15,7 @@ use Rattle.vortex_columns.specs.ColumnView.{HasKind, is_list_type, is_fixed_size
 use Rattle.vortex_columns.specs.ColumnView.{is_map_type, AreLists, AreFixedSizeLists, AreMaps}
 use Rattle.vortex_columns.specs.ColumnView.{constant_column, constant_form}
 use Rattle.vortex_types.specs.ScalarView.{ScalarView}
-use Rattle.vortex_types.specs.ValidityView.{ValidityView, form_allows_null}
+use Rattle.vortex_columns.specs.ValidityView.{ValidityView, form_allows_null}
 use Rattle.vortex_columns.specs.Stored.{Kept, bools, integers, texts, byte_strings, structs, lists}
 use Rattle.vortex_columns.specs.Stored.{fixed_size_lists, maps, AreFields, Stored, constant_of}
 use Rattle.vortex_columns.specs.Stored.{kept, stored_of, stored_validity, constant_in, kept_at}

@@ -12,9 +12,9 @@ use Rattle.vortex_types.specs.Typing.{HasType, HaveFields, IsList, IsPair}
 use Rattle.vortex_types.specs.TypeOf.{type_of}
 use Rattle.vortex_columns.specs.ColumnView.{ColumnView, row, AreTyped, valid_rows, constant_form}
 use Rattle.vortex_columns.specs.ColumnView.{entries}
-use Rattle.vortex_types.specs.ValidityView.{ValidityForm, non_nullable, all_valid, all_invalid}
-use Rattle.vortex_types.specs.ValidityView.{array, ValidityView, is_valid_by, is_valid_row}
-use Rattle.vortex_types.specs.ValidityView.{form_allows_null, FitsRowsBy, FitsRows, ReachesBy}
+use Rattle.vortex_columns.specs.ValidityView.{ValidityForm, non_nullable, all_valid, all_invalid}
+use Rattle.vortex_columns.specs.ValidityView.{array, ValidityView, is_valid_by, is_valid_row}
+use Rattle.vortex_columns.specs.ValidityView.{form_allows_null, FitsRowsBy, FitsRows, ReachesBy}
 use Rattle.vortex_columns.specs.Stored.{Kept, bools, integers, texts, byte_strings, structs, lists}
 use Rattle.vortex_columns.specs.Stored.{fixed_size_lists, maps, AreFields, Stored, nulls}
 use Rattle.vortex_columns.specs.Stored.{constant_of, kept, stored_of, stored_validity, kept_at}
@@ -23,16 +23,16 @@ use Rattle.vortex_columns.specs.Stored.{IsColumn, HasPlace, HasRow}
 use Rattle.vortex_columns.specs.declared.column.Column.TheInside.{Inside}
 use Rattle.vortex_types.specs.declared.dtype.DType.{DType}
 use Rattle.vortex_types.specs.declared.scalar_value.ScalarValue.{ScalarValue}
-use Rattle.vortex_types.specs.declared.error.VortexError.{VortexError}
-use Rattle.vortex_types.specs.declared.error.VortexError.TheVariants.{InvalidColumn}
+use Rattle.vortex_errors.specs.declared.error.VortexError.{VortexError}
+use Rattle.vortex_errors.specs.declared.error.VortexError.TheVariants.{InvalidColumn}
 use Rattle.vortex_types.specs.ValueOf.{value_or_null}
 use Rattle.vortex_types.specs.ScalarView.{ScalarView}
-use Rattle.vortex_types.specs.Answers.{MadeWhere, AnswersUnlessMemory}
+use Rattle.vortex_errors.specs.Answers.{MadeWhere, AnswersUnlessMemory}
 use Rattle.std.proofs.Math.Nat.{mul-suc, mul-le-mul_left}
 use Rattle.std.proofs.lemmas.List.Elements.{All-nil, All-cons}
 use Rattle.vortex_columns.proofs.HaveTypes.{value_count_of}
 use Rattle.vortex_columns.proofs.ListParts.{length_part, part_each, length_entries, entries_typed}
-use Rattle.vortex_types.proofs.Answering.{made_where}
+use Rattle.vortex_errors.proofs.Answering.{made_where}
 use Rattle.vortex_types.proofs.NullValues.{null_is}
 
 pub length_rows : (n : ℕ) (s : Stored) → length (rows_of n s) ≡ n

@@ -17,8 +17,8 @@ use Rattle.vortex_types.specs.Values.{Value, null, truth, number, text, bytes, l
 use Rattle.vortex_types.specs.Values.{value, values_of, nth_value, is_null}
 use Rattle.vortex_types.specs.Typing.{HasType}
 use Rattle.vortex_types.specs.Codes.{coded_value, coded_type}
-use Rattle.vortex_types.specs.ValidityView.{ValidityForm, non_nullable, all_valid, all_invalid}
-use Rattle.vortex_types.specs.ValidityView.{array, ValidityView, is_valid_row}
+use Rattle.vortex_columns.specs.ValidityView.{ValidityForm, non_nullable, all_valid, all_invalid}
+use Rattle.vortex_columns.specs.ValidityView.{array, ValidityView, is_valid_row}
 
 pub record ColumnView : Type 0 where
   pub dtype : LogicalType

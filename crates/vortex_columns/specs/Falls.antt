@@ -5,7 +5,7 @@ use denote.Param.Weighed.{most}
 use Rattle.vortex_types.specs.LogicalTypes.{LogicalType, type_depth, fields_depth, Fields}
 use Rattle.vortex_types.specs.LogicalTypes.{no_fields, field}
 use Rattle.vortex_columns.specs.ColumnView.{ColumnView}
-use Rattle.vortex_types.specs.ValidityView.{form_allows_null, validity_of}
+use Rattle.vortex_columns.specs.ValidityView.{form_allows_null, validity_of}
 use Rattle.vortex_columns.specs.Stored.{AreFields, AreKept, IsStored, kept_of, stored_of}
 use Rattle.vortex_columns.specs.declared.column.Storage.{Storage}
 use Rattle.vortex_columns.specs.declared.column.Storage.TheVariants.{Null, Constant, Rows}

@@ -1,3 +1,4 @@
+pub mod ValidityView
 pub mod ColumnView
 pub mod Cells
 pub mod Scalars

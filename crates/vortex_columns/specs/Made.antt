@@ -6,7 +6,7 @@ use Rattle.vortex_types.specs.declared.dtype.PType.{PType}
 use Rattle.vortex_types.specs.LogicalTypes.{integer_type, text_type, bytes_type, struct_type}
 use Rattle.vortex_types.specs.LogicalTypes.{list_type, fixed_size_list_type, map_type}
 use Rattle.vortex_types.specs.Values.{number, text, bytes}
-use Rattle.vortex_types.specs.ValidityView.{ValidityView, form_allows_null, FitsRows}
+use Rattle.vortex_columns.specs.ValidityView.{ValidityView, form_allows_null, FitsRows}
 use Rattle.vortex_columns.specs.ColumnView.{ColumnView, part, record_at, entries, named_columns}
 use Rattle.vortex_columns.specs.Stored.{made_of, MakeLists}
 

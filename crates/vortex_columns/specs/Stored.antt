@@ -23,8 +23,8 @@ use Rattle.vortex_types.specs.Numbers.{numbers, ptype_of}
 use Rattle.vortex_types.specs.ScalarView.{ScalarView}
 use Rattle.vortex_columns.specs.ColumnView.{ColumnView, AreTyped, constant_form, part, record_at}
 use Rattle.vortex_columns.specs.ColumnView.{entries, LieWithin}
-use Rattle.vortex_types.specs.ValidityView.{all_invalid, ValidityView, validity_of, is_valid_row}
-use Rattle.vortex_types.specs.ValidityView.{form_allows_null, FitsRows, Reaches}
+use Rattle.vortex_columns.specs.ValidityView.{all_invalid, ValidityView, validity_of, is_valid_row}
+use Rattle.vortex_columns.specs.ValidityView.{form_allows_null, FitsRows, Reaches}
 
 -- values, one a row, of one kind
 pub data Kept : Type 0 where

@@ -1,12 +1,12 @@
 -- The words of the contracts, from one place.
-pub use Rattle.vortex_types.specs.declared.error.VortexError.TheVariants.{InvalidColumn}
-pub use Rattle.vortex_types.specs.Answers.{AnswersUnlessMemory, AnswersWhere, MadeWhere}
+pub use Rattle.vortex_errors.specs.declared.error.VortexError.TheVariants.{InvalidColumn}
+pub use Rattle.vortex_errors.specs.Answers.{AnswersUnlessMemory, AnswersWhere, MadeWhere}
 pub use Rattle.vortex_types.specs.LogicalTypes.{bool_type, integer_type, text_type, is_nullable}
 pub use Rattle.vortex_types.specs.Order.{compare_values, kind_rank}
 pub use Rattle.vortex_types.specs.ScalarView.{compare_scalars, scalar_eq}
 pub use Rattle.vortex_types.specs.TypeOf.{type_of, allows_null, struct_fields}
 pub use Rattle.vortex_types.specs.Typing.{Each, HasType, HaveFields, IsList, IsPair}
-pub use Rattle.vortex_types.specs.ValidityView.{array, validity_of, is_valid_row, FitsRows}
+pub use Rattle.vortex_columns.specs.ValidityView.{array, validity_of, is_valid_row, FitsRows}
 pub use Rattle.vortex_types.specs.ValueOf.{value_of, value_or_null}
 pub use Rattle.vortex_types.specs.Values.{null, truth, number, text, truth_of, is_null}
 pub use Rattle.vortex_types.specs.Values.{values_of, value_count}

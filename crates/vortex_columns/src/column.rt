@@ -7,8 +7,10 @@ mod reads;
 mod stored;
 
 use crate::scalar::Scalar;
+use crate::validity::Validity;
 use std::marker::Model;
-use vortex_types::{BitBuffer, DType, Ints, Validity};
+use vortex_bits::BitBuffer;
+use vortex_types::{DType, Ints};
 
 /// Rows of one type.
 #[cycle(column)]

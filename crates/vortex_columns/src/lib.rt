@@ -7,13 +7,16 @@ pub mod column;
 mod lists;
 pub mod scalar;
 pub mod typing;
+pub mod validity;
 
 pub use byte_rows::ByteRows;
 pub use cell::{Cell, Sequence, cell_of};
 pub use column::Column;
 pub use scalar::Scalar;
+pub use validity::Validity;
+pub use vortex_bits::{BitBuffer, bits};
 pub use vortex_types::{
-    Arity, BitBuffer, DType, ExecutionCtx, Ints, MismatchPlace, NativePType, Nullability,
-    NumericOperator, PType, ScalarValue, StructFields, Validity, VortexError, VortexResult, arity,
-    bits, context, dtype, error, ints, scalar_value, validity,
+    Arity, DType, ExecutionCtx, Ints, MismatchPlace, NativePType, Nullability, NumericOperator,
+    PType, ScalarValue, StructFields, VortexError, VortexResult, arity, context, dtype, error, ints,
+    scalar_value,
 };

@@ -5,10 +5,11 @@ ghost use Rattle.vortex_columns.specs.Words.{HasType, is_nullable, bool_type, te
 ghost use Rattle.vortex_columns.specs.Words.{null, truth, truth_of, is_null, cell_value, IsCell};
 
 use crate::cell::{Cell, cell_of};
+use crate::validity::Validity;
 use std::alloc::{AllocError, Global};
 use std::cmp::Ordering;
 use std::marker::Model;
-use vortex_types::{DType, Nullability, PType, ScalarValue, Validity, VortexError, VortexResult};
+use vortex_types::{DType, Nullability, PType, ScalarValue, VortexError, VortexResult};
 
 /// A value, or null, with its type.
 #[derive(Drop)]

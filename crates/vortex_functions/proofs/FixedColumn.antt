@@ -3,15 +3,15 @@ use Rattle.std.proofs.Common.{◌≡◌, ℕ, Bool, false, List, [], ◌∷◌, 
 use Rattle.std.specs.Prelude.{IsSome, Result, slice_index_or}
 use Rattle.std.proofs.lemmas.List.{get_or-replicate, length-replicate}
 use Rattle.std.proofs.lemmas.List.FromFn.{get_or-map-range_with_len, length-map-range_with_len}
-use Rattle.vortex_types.specs.declared.error.VortexError.{VortexError}
-use Rattle.vortex_types.specs.declared.error.VortexError.TheVariants.{InvalidColumn}
+use Rattle.vortex_errors.specs.declared.error.VortexError.{VortexError}
+use Rattle.vortex_errors.specs.declared.error.VortexError.TheVariants.{InvalidColumn}
 use Rattle.vortex_types.specs.LogicalTypes.{bool_type}
 use Rattle.vortex_types.specs.Values.{null, truth}
 use Rattle.vortex_columns.specs.ColumnView.{ColumnView, row}
-use Rattle.vortex_types.specs.ValidityView.{non_nullable, ValidityView, FitsRows}
+use Rattle.vortex_columns.specs.ValidityView.{non_nullable, ValidityView, FitsRows}
 use Rattle.vortex_columns.specs.Stored.{bool_column}
-use Rattle.vortex_types.specs.Answers.{Answers, AnswersWhere}
-use Rattle.vortex_types.proofs.Answering.{Answers-weaker}
+use Rattle.vortex_errors.specs.Answers.{Answers, AnswersWhere}
+use Rattle.vortex_errors.proofs.Answering.{Answers-weaker}
 use Rattle.vortex_meaning.specs.Outcomes.{gives, HasCallRows, IsCallFault, types_in}
 use Rattle.vortex_functions.specs.Fixed.{fixed_type}
 

@@ -2,9 +2,9 @@
 use Rattle.std.specs.Prelude.{◌≡◌, ℕ, List, Some, None, true, false, length, slice_get, Result}
 use Rattle.std.specs.declared.borrow.Cow.{Cow}
 use Rattle.std.specs.declared.borrow.Cow.TheVariants as cow
-use Rattle.vortex_types.specs.declared.error.VortexError.{VortexError}
-use Rattle.vortex_types.specs.declared.error.VortexError.TheVariants.{ArityMismatch, ScopeMismatch}
-use Rattle.vortex_types.specs.Answers.{Answers}
+use Rattle.vortex_errors.specs.declared.error.VortexError.{VortexError}
+use Rattle.vortex_errors.specs.declared.error.VortexError.TheVariants.{ArityMismatch, ScopeMismatch}
+use Rattle.vortex_errors.specs.Answers.{Answers}
 use Rattle.vortex_types.specs.LogicalTypes.{LogicalType, Fields, find_field}
 use Rattle.vortex_columns.specs.ColumnView.{ColumnView}
 use Rattle.vortex_meaning.specs.Meaning.{Meaning, fits}

@@ -1,7 +1,7 @@
 -- The function without arguments that answers false.
 use Rattle.std.specs.Prelude.{◌≡◌, codes, List, [], ◌∷◌, Option, Some, None, true, false, Any, refl}
 use Rattle.std.proofs.Common.{arith}
-use Rattle.vortex_types.specs.declared.arity.Arity.TheVariants.{Exact}
+use Rattle.vortex_errors.specs.declared.arity.Arity.TheVariants.{Exact}
 use Rattle.vortex_types.specs.LogicalTypes.{LogicalType, bool_type, is_nullable}
 use Rattle.vortex_types.specs.Values.{Value, null, truth}
 use Rattle.vortex_meaning.specs.Outcomes.{gives, GivesType, GivesNull}

@@ -1,5 +1,5 @@
 -- What the contracts of this crate name.
-pub use Rattle.vortex_types.specs.Answers.{AnswersUnlessMemory}
+pub use Rattle.vortex_errors.specs.Answers.{AnswersUnlessMemory}
 pub use Rattle.vortex_types.specs.LogicalTypes.{field_count, field_type}
 pub use Rattle.vortex_types.specs.FieldNames.{field_name}
 pub use Rattle.vortex_types.specs.TypeOf.{type_of, struct_fields}

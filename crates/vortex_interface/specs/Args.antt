@@ -1,8 +1,8 @@
 -- What is seen of a call's inputs, and which input an index names.
 use Rattle.std.specs.Prelude.{◌≡◌, ◌≤◌, ℕ, List, All, length, refl}
 use Rattle.std.specs.Coded.{Coded, code_by, coded×, coded_ℕ, coded_list}
-use Rattle.vortex_types.specs.declared.error.VortexError.{VortexError}
-use Rattle.vortex_types.specs.declared.error.VortexError.TheVariants.{IndexOutOfBounds}
+use Rattle.vortex_errors.specs.declared.error.VortexError.{VortexError}
+use Rattle.vortex_errors.specs.declared.error.VortexError.TheVariants.{IndexOutOfBounds}
 use Rattle.vortex_columns.specs.ColumnView.{ColumnView, coded_column}
 
 pub record ArgsView : Type 0 where

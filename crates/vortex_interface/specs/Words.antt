@@ -1,5 +1,5 @@
 -- What the contracts of this crate name.
-pub use Rattle.vortex_types.specs.Answers.{AnswersUnlessMemory}
+pub use Rattle.vortex_errors.specs.Answers.{AnswersUnlessMemory}
 pub use Rattle.vortex_columns.specs.ColumnView.{ColumnView}
 pub use Rattle.vortex_meaning.specs.Outcomes.{types_in}
 pub use Rattle.vortex_meaning.specs.Meaning.{Meaning, Lawful, fits}

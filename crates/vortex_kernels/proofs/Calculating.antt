@@ -9,18 +9,18 @@ use Rattle.std.proofs.lemmas.Int.{ints}
 use Rattle.std.proofs.lemmas.List.{length-map}
 use Rattle.std.proofs.lemmas.List.FromFn.{get_or-map-range_with_len, length-map-range_with_len}
 use Rattle.vortex_types.specs.declared.dtype.PType.{PType}
-use Rattle.vortex_types.specs.declared.error.NumericOperator.{NumericOperator}
-use Rattle.vortex_types.specs.declared.error.VortexError.{VortexError}
-use Rattle.vortex_types.specs.declared.error.VortexError.TheVariants.{Arithmetic, InvalidColumn}
-use Rattle.vortex_types.specs.Answers.{Answers, AnswersWhere}
-use Rattle.vortex_types.proofs.Answering.{answers_where, Answers-weaker}
+use Rattle.vortex_errors.specs.declared.error.NumericOperator.{NumericOperator}
+use Rattle.vortex_errors.specs.declared.error.VortexError.{VortexError}
+use Rattle.vortex_errors.specs.declared.error.VortexError.TheVariants.{Arithmetic, InvalidColumn}
+use Rattle.vortex_errors.specs.Answers.{Answers, AnswersWhere}
+use Rattle.vortex_errors.proofs.Answering.{answers_where, Answers-weaker}
 use Rattle.vortex_types.proofs.NullValues.{null_is}
 use Rattle.vortex_types.specs.LogicalTypes.{LogicalType, null_type, bool_type, integer_type}
 use Rattle.vortex_types.specs.LogicalTypes.{text_type, bytes_type, struct_type, list_type}
 use Rattle.vortex_types.specs.LogicalTypes.{fixed_size_list_type, map_type, is_nullable}
 use Rattle.vortex_types.specs.ScalarView.{ScalarView}
 use Rattle.vortex_types.specs.Typing.{HasType, FitsPType, least_of, greatest_of}
-use Rattle.vortex_types.specs.ValidityView.{ValidityView, is_valid_row, FitsRows}
+use Rattle.vortex_columns.specs.ValidityView.{ValidityView, is_valid_row, FitsRows}
 use Rattle.vortex_types.specs.Values.{Value, null, truth, number, text, bytes, list, is_null}
 use Rattle.vortex_columns.specs.ColumnView.{ColumnView, row, constant_column, IsUnlessNull}
 use Rattle.vortex_columns.specs.ColumnView.{IsIntegerType}

@@ -6,9 +6,9 @@ use Rattle.std.specs.Prelude.{slice_index_or}
 use Rattle.std.specs.declared.cmp.Ordering.{Ordering}
 use Rattle.std.specs.declared.alloc.Global.{Global}
 use Rattle.std.specs.Prelude.{Result, Vec}
-use Rattle.vortex_types.specs.declared.error.VortexError.{VortexError}
-use Rattle.vortex_types.specs.Answers.{AnswersUnlessMemory}
-use Rattle.vortex_types.proofs.Answering.{AnswersUnlessMemory-weaker}
+use Rattle.vortex_errors.specs.declared.error.VortexError.{VortexError}
+use Rattle.vortex_errors.specs.Answers.{AnswersUnlessMemory}
+use Rattle.vortex_errors.proofs.Answering.{AnswersUnlessMemory-weaker}
 use Rattle.vortex_kernels.specs.PairOrders.{int_orders, int_orders_with, bit_orders}
 use Rattle.vortex_kernels.specs.PairOrders.{bit_orders_with, byte_order, byte_orders}
 use Rattle.vortex_kernels.specs.PairOrders.{byte_orders_with}

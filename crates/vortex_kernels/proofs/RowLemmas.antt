@@ -11,11 +11,11 @@ use Rattle.vortex_types.specs.LogicalTypes.{is_nullable}
 use Rattle.vortex_types.specs.Values.{Value, null, truth, number, text, bytes, list, is_null}
 use Rattle.vortex_types.specs.Values.{truth_or_null}
 use Rattle.vortex_columns.specs.ColumnView.{ColumnView, row, AreBits}
-use Rattle.vortex_types.specs.ValidityView.{ValidityView, is_valid_row, FitsRows}
-use Rattle.vortex_types.specs.declared.error.VortexError.{VortexError}
-use Rattle.vortex_types.specs.declared.error.VortexError.TheVariants.{InvalidColumn}
-use Rattle.vortex_types.specs.Answers.{AnswersUnlessMemory, AnswersWhere}
-use Rattle.vortex_types.proofs.Answering.{answers_where}
+use Rattle.vortex_columns.specs.ValidityView.{ValidityView, is_valid_row, FitsRows}
+use Rattle.vortex_errors.specs.declared.error.VortexError.{VortexError}
+use Rattle.vortex_errors.specs.declared.error.VortexError.TheVariants.{InvalidColumn}
+use Rattle.vortex_errors.specs.Answers.{AnswersUnlessMemory, AnswersWhere}
+use Rattle.vortex_errors.proofs.Answering.{answers_where}
 use Rattle.vortex_columns.specs.Stored.{bool_column}
 use Rattle.vortex_kernels.specs.Rows.{HasRows}
 use Rattle.vortex_kernels.specs.ToldBits.{AreTold}

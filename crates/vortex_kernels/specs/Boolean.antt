@@ -1,8 +1,8 @@
 -- And, Or and Not over whole columns.
 use Rattle.std.specs.Prelude.{◌≡◌, ◌||◌, ◌&&◌, Bool, true, false, length, is_some}
-use Rattle.vortex_types.specs.declared.error.VortexError.{VortexError}
-use Rattle.vortex_types.specs.declared.error.VortexError.TheVariants.{TypeMismatch}
-use Rattle.vortex_types.specs.declared.error.MismatchPlace.TheVariants as place
+use Rattle.vortex_errors.specs.declared.error.VortexError.{VortexError}
+use Rattle.vortex_errors.specs.declared.error.VortexError.TheVariants.{TypeMismatch}
+use Rattle.vortex_errors.specs.declared.error.MismatchPlace.TheVariants as place
 use Rattle.vortex_types.specs.LogicalTypes.{bool_type, is_nullable, is_bool_type}
 use Rattle.vortex_columns.specs.ColumnView.{ColumnView, row}
 use Rattle.vortex_operators.specs.declared.operators.Operator.{Operator}
@@ -10,7 +10,7 @@ use Rattle.vortex_operators.specs.Operators.{is_boolean, IsNotBoolean}
 use Rattle.vortex_operators.specs.OperatorValues.{boolean_value, not_value}
 use Rattle.vortex_operators.specs.Kleene.{kleene}
 use Rattle.vortex_types.specs.Values.{truth_of}
-use Rattle.vortex_types.specs.ValidityView.{ValidityView}
+use Rattle.vortex_columns.specs.ValidityView.{ValidityView}
 use Rattle.vortex_kernels.specs.Rows.{HasRows, either_nullable}
 use Rattle.vortex_kernels.specs.Validity.{IsValidity}
 

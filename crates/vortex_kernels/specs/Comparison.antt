@@ -2,10 +2,10 @@
 use Rattle.std.specs.Prelude.{◌≡◌, ◌≢◌, ℕ, ◌<◌, List, ◌||◌, ◌&&◌, Bool, true, false, length, nat_eq}
 use Rattle.std.specs.Prelude.{slice_index_or, Option, Some, None, is_some, if◌then◌else◌}
 use Rattle.std.specs.declared.cmp.Ordering.{Ordering}
-use Rattle.vortex_types.specs.declared.error.VortexError.{VortexError}
-use Rattle.vortex_types.specs.declared.error.VortexError.TheVariants.{LengthMismatch, TypeMismatch}
-use Rattle.vortex_types.specs.declared.error.MismatchPlace.{MismatchPlace}
-use Rattle.vortex_types.specs.declared.error.MismatchPlace.TheVariants as place
+use Rattle.vortex_errors.specs.declared.error.VortexError.{VortexError}
+use Rattle.vortex_errors.specs.declared.error.VortexError.TheVariants.{LengthMismatch, TypeMismatch}
+use Rattle.vortex_errors.specs.declared.error.MismatchPlace.{MismatchPlace}
+use Rattle.vortex_errors.specs.declared.error.MismatchPlace.TheVariants as place
 use Rattle.vortex_types.specs.TypeEquality.{alike_types}
 use Rattle.vortex_types.specs.Values.{Value, is_null}
 use Rattle.vortex_types.specs.Order.{compare_values}

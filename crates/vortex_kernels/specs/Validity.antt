@@ -2,8 +2,8 @@
 use Rattle.std.specs.Prelude.{◌≡◌, ◌||◌, ℕ, ◌<◌, List, [], length, Bool, not}
 use Rattle.vortex_types.specs.LogicalTypes.{is_nullable}
 use Rattle.vortex_types.specs.Values.{Value, is_null}
-use Rattle.vortex_types.specs.ValidityView.{ValidityView, all_valid, all_invalid, array}
-use Rattle.vortex_types.specs.ValidityView.{form_allows_null, is_valid_row, FitsRows}
+use Rattle.vortex_columns.specs.ValidityView.{ValidityView, all_valid, all_invalid, array}
+use Rattle.vortex_columns.specs.ValidityView.{form_allows_null, is_valid_row, FitsRows}
 use Rattle.vortex_columns.specs.ColumnView.{ColumnView, row}
 use Rattle.vortex_kernels.specs.declared.validity.ValidRows.{ValidRows}
 use Rattle.vortex_kernels.specs.declared.validity.ValidRows.TheVariants.{Every, No, Listed}

@@ -29,8 +29,8 @@ pub use Rattle.vortex_operators.specs.declared.operators.CompareOperator.TheVari
 pub use Rattle.vortex_operators.specs.declared.operators.CompareOperator.TheVariants.{Gte, Lt, Lte}
 pub use Rattle.vortex_operators.specs.declared.operators.Operator.{Operator}
 pub use Rattle.vortex_operators.specs.declared.operators.Operator.TheVariants.{And, Or}
-pub use Rattle.vortex_types.specs.Answers.{Answers, AnswersUnlessMemory}
+pub use Rattle.vortex_errors.specs.Answers.{Answers, AnswersUnlessMemory}
 pub use Rattle.vortex_types.specs.LogicalTypes.{is_bool_type, bool_type, is_text_type}
 pub use Rattle.vortex_types.specs.TypeOf.{allows_null, type_of}
-pub use Rattle.vortex_types.specs.ValidityView.{validity_of}
+pub use Rattle.vortex_columns.specs.ValidityView.{validity_of}
 pub use Rattle.vortex_types.specs.Values.{null, number, truth, truth_of}

@@ -1,8 +1,8 @@
 -- What the calls of a function answer; the result stands last.
 use Rattle.std.specs.Prelude.{◌≡◌, ℕ, List, Some, map, Result, MatchResult}
 use Rattle.vortex_types.specs.declared.dtype.DType.{DType}
-use Rattle.vortex_types.specs.declared.error.VortexError.{VortexError}
-use Rattle.vortex_types.specs.Answers.{Answers}
+use Rattle.vortex_errors.specs.declared.error.VortexError.{VortexError}
+use Rattle.vortex_errors.specs.Answers.{Answers}
 use Rattle.vortex_types.specs.TypeOf.{type_of}
 use Rattle.vortex_columns.specs.ColumnView.{ColumnView}
 use Rattle.vortex_meaning.specs.Outcomes.{HasCallRows, IsCallFault}

@@ -5,7 +5,7 @@ use Rattle.std.proofs.Common.{sym, ap, ◌∙◌, subst, cond, arith, inl, inr}
 use Rattle.std.proofs.lemmas.Int.{ints}
 use Rattle.vortex_checked.specs.Exact.{is_outside}
 use Rattle.vortex_types.specs.declared.dtype.PType.{PType}
-use Rattle.vortex_types.specs.declared.error.NumericOperator.{NumericOperator}
+use Rattle.vortex_errors.specs.declared.error.NumericOperator.{NumericOperator}
 use Rattle.vortex_types.specs.LogicalTypes.{LogicalType, null_type, bool_type, integer_type, text_type, bytes_type, struct_type, list_type, fixed_size_list_type, map_type, is_nullable, without_nullability}
 use Rattle.vortex_types.specs.TypeEquality.{ptype_eq, ptype_yes}
 use Rattle.vortex_types.specs.Typing.{HasType, least_of, greatest_of}

@@ -1,7 +1,7 @@
 -- What a tree means: its type, its outcome in each row, and the first fault over all rows.
 use Rattle.std.specs.Prelude.{◌≡◌, ℕ, ◌<◌, List, [], ◌∷◌, Option, Some, None, ⊤, ◌⊎◌, length, slice_get}
 use Rattle.std.specs.Option.{option_and_then}
-use Rattle.vortex_types.specs.declared.error.VortexError.{VortexError}
+use Rattle.vortex_errors.specs.declared.error.VortexError.{VortexError}
 use Rattle.vortex_types.specs.LogicalTypes.{LogicalType}
 use Rattle.vortex_types.specs.Values.{Value}
 use Rattle.vortex_columns.specs.ColumnView.{ColumnView, row}

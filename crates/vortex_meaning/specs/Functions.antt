@@ -1,10 +1,10 @@
 -- A function with its options: a shipped one, or a caller's, whose meaning is given.
 use Rattle.std.specs.Prelude.{◌≡◌, ℕ, List, Option, Some, None, Bool, length, if◌then◌else◌}
-use Rattle.vortex_types.specs.declared.arity.Arity.{Arity}
-use Rattle.vortex_types.specs.declared.error.MismatchPlace.{MismatchPlace}
-use Rattle.vortex_types.specs.declared.error.VortexError.{VortexError}
-use Rattle.vortex_types.specs.declared.error.VortexError.TheVariants as error
-use Rattle.vortex_types.specs.Answers.{UnlessMemory}
+use Rattle.vortex_errors.specs.declared.arity.Arity.{Arity}
+use Rattle.vortex_errors.specs.declared.error.MismatchPlace.{MismatchPlace}
+use Rattle.vortex_errors.specs.declared.error.VortexError.{VortexError}
+use Rattle.vortex_errors.specs.declared.error.VortexError.TheVariants as error
+use Rattle.vortex_errors.specs.Answers.{UnlessMemory}
 use Rattle.vortex_types.specs.LogicalTypes.{LogicalType}
 use Rattle.vortex_types.specs.Values.{Value}
 use Rattle.vortex_meaning.specs.Outcomes.{Outcome}

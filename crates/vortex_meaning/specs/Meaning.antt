@@ -1,7 +1,7 @@
 -- What a function means, for contracts alone, and the laws of a lawful one.
 use Rattle.std.specs.Prelude.{◌≡◌, ℕ, List, [], ◌∷◌, Option, Some, Bool, true, ⊤, map, Any}
-use Rattle.vortex_types.specs.declared.arity.Arity.{Arity}
-pub use Rattle.vortex_types.specs.Arities.{fits}
+use Rattle.vortex_errors.specs.declared.arity.Arity.{Arity}
+pub use Rattle.vortex_errors.specs.Arities.{fits}
 use Rattle.vortex_types.specs.LogicalTypes.{LogicalType, is_nullable, without_nullability}
 use Rattle.vortex_types.specs.Values.{Value, null}
 use Rattle.vortex_types.specs.Typing.{HasType}

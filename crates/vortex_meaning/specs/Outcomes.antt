@@ -1,8 +1,8 @@
 -- What a function answers in one row: a value or a fault; and when a column or a refusal answers for all rows.
 use Rattle.std.specs.Prelude.{◌≡◌, ℕ, ◌<◌, List, Option, Some, ⊤, length, map}
-use Rattle.vortex_types.specs.declared.error.VortexError.{VortexError}
-use Rattle.vortex_types.specs.declared.error.VortexError.TheVariants as error
-use Rattle.vortex_types.specs.declared.error.NumericOperator.{NumericOperator}
+use Rattle.vortex_errors.specs.declared.error.VortexError.{VortexError}
+use Rattle.vortex_errors.specs.declared.error.VortexError.TheVariants as error
+use Rattle.vortex_errors.specs.declared.error.NumericOperator.{NumericOperator}
 use Rattle.vortex_types.specs.LogicalTypes.{LogicalType}
 use Rattle.vortex_types.specs.Values.{Value, null}
 use Rattle.vortex_types.specs.Typing.{HasType}

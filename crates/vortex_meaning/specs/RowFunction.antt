@@ -1,6 +1,6 @@
 -- What a shipped function is: its names, the types that it takes, what it answers in a row, its marks and its text.
 use Rattle.std.specs.Prelude.{◌≡◌, ℕ, List, Option, Some, Bool, true, Any}
-use Rattle.vortex_types.specs.declared.error.MismatchPlace.{MismatchPlace}
+use Rattle.vortex_errors.specs.declared.error.MismatchPlace.{MismatchPlace}
 use Rattle.vortex_types.specs.LogicalTypes.{LogicalType, is_nullable}
 use Rattle.vortex_types.specs.Values.{Value, null}
 use Rattle.vortex_meaning.specs.Outcomes.{Fault, Outcome, faults, GivesValue, GivesType, GivesNull}

@@ -4,9 +4,9 @@ pub mod NotFunction
 use Rattle.std.specs.Prelude.{◌≡◌, ℕ, zero, suc, List, Option, Some, None, Bool, if◌then◌else◌, refl}
 use Rattle.std.specs.Option.{option_map, option_or}
 use Rattle.std.proofs.Common.{ap}
-use Rattle.vortex_types.specs.declared.arity.Arity.{Arity}
-use Rattle.vortex_types.specs.declared.arity.Arity.TheVariants.{Exact}
-use Rattle.vortex_types.specs.declared.error.MismatchPlace.{MismatchPlace}
+use Rattle.vortex_errors.specs.declared.arity.Arity.{Arity}
+use Rattle.vortex_errors.specs.declared.arity.Arity.TheVariants.{Exact}
+use Rattle.vortex_errors.specs.declared.error.MismatchPlace.{MismatchPlace}
 use Rattle.vortex_types.specs.LogicalTypes.{LogicalType}
 use Rattle.vortex_types.specs.Values.{Value}
 use Rattle.vortex_operators.specs.declared.operators.Operator.{Operator}

@@ -2,8 +2,8 @@
 use Rattle.std.specs.Prelude.{◌+ℤ◌, ◌-ℤ◌, ◌*ℤ◌, ℤ, Option, Some, None, if◌then◌else◌}
 use Rattle.vortex_checked.specs.Exact.{quotient, is_outside}
 use Rattle.vortex_types.specs.declared.dtype.PType.{PType}
-use Rattle.vortex_types.specs.declared.error.NumericOperator.{NumericOperator}
-use Rattle.vortex_types.specs.declared.error.NumericOperator.TheVariants as numeric
+use Rattle.vortex_errors.specs.declared.error.NumericOperator.{NumericOperator}
+use Rattle.vortex_errors.specs.declared.error.NumericOperator.TheVariants as numeric
 use Rattle.vortex_types.specs.LogicalTypes.{LogicalType, integer_type}
 use Rattle.vortex_types.specs.TypeEquality.{ptype_eq}
 use Rattle.vortex_types.specs.Typing.{least_of, greatest_of}

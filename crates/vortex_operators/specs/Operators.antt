@@ -1,8 +1,8 @@
 -- The operators' table: texts, inverses, operands swapped.
 use Rattle.std.specs.Prelude.{◌≡◌, ℕ, List, Bool, true, false, Option, Some, None, codes}
-use Rattle.vortex_types.specs.declared.error.VortexError.{VortexError}
-use Rattle.vortex_types.specs.declared.error.VortexError.TheVariants.{NotBooleanOperator}
-use Rattle.vortex_types.specs.declared.error.VortexError.TheVariants.{NotCompareOperator}
+use Rattle.vortex_errors.specs.declared.error.VortexError.{VortexError}
+use Rattle.vortex_errors.specs.declared.error.VortexError.TheVariants.{NotBooleanOperator}
+use Rattle.vortex_errors.specs.declared.error.VortexError.TheVariants.{NotCompareOperator}
 use Rattle.vortex_operators.specs.declared.operators.Operator.{Operator}
 use Rattle.vortex_operators.specs.declared.operators.Operator.TheVariants.{Eq, NotEq, Gt, Gte, Lt}
 use Rattle.vortex_operators.specs.declared.operators.Operator.TheVariants.{Lte, And, Or, Add, Sub}

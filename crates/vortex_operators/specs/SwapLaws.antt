@@ -3,8 +3,8 @@ use Rattle.std.specs.Prelude.{◌≡◌, ℤ, Bool, true, false, Option, Some, N
 use Rattle.std.proofs.Common.{ap, sym, subst}
 use Rattle.std.proofs.Math.IntN.{+ℤ_comm, *ℤ_comm}
 use Rattle.vortex_types.specs.declared.dtype.PType.{PType}
-use Rattle.vortex_types.specs.declared.error.NumericOperator.{NumericOperator}
-use Rattle.vortex_types.specs.declared.error.NumericOperator.TheVariants as numeric
+use Rattle.vortex_errors.specs.declared.error.NumericOperator.{NumericOperator}
+use Rattle.vortex_errors.specs.declared.error.NumericOperator.TheVariants as numeric
 use Rattle.vortex_types.specs.Values.{Value, null, truth, number, text, bytes, list, truth_of, truth_or_null}
 use Rattle.vortex_operators.specs.declared.operators.Operator.{Operator}
 use Rattle.vortex_operators.specs.declared.operators.Operator.TheVariants.{Eq, NotEq, Gt, Gte, Lt}

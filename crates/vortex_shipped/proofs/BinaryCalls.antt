@@ -1,11 +1,11 @@
 -- From the answer of a kernel over two operands to that of the operator's call.
 use Rattle.std.proofs.Common.{◌≡◌, ℕ, ◌<◌, Bool, true, false, List, [], ◌∷◌, length, Some, None, refl, sym, ap, ◌∙◌, subst, arith, cond}
 use Rattle.std.specs.Prelude.{IsSome, slice_get, ◌||◌, ◌&&◌, Result}
-use Rattle.vortex_types.specs.declared.error.VortexError.{VortexError}
+use Rattle.vortex_errors.specs.declared.error.VortexError.{VortexError}
 use Rattle.vortex_types.specs.LogicalTypes.{LogicalType, bool_type, is_nullable, is_bool_type}
 use Rattle.vortex_types.specs.TypeEquality.{alike_types}
-use Rattle.vortex_types.specs.Answers.{Answers}
-use Rattle.vortex_types.proofs.Answering.{Answers-weaker}
+use Rattle.vortex_errors.specs.Answers.{Answers}
+use Rattle.vortex_errors.proofs.Answering.{Answers-weaker}
 use Rattle.vortex_columns.specs.ColumnView.{ColumnView, row}
 use Rattle.vortex_operators.specs.declared.operators.Operator.{Operator}
 use Rattle.vortex_operators.specs.declared.operators.Operator.TheVariants.{Eq, NotEq, Gt, Gte, Lt, Lte, And, Or, Add, Sub, Mul, Div}

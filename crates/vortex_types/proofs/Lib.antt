@@ -1,4 +1,3 @@
-pub mod Answering
 pub mod NamesDiffer
 pub mod TypeViews
 pub mod Agreeing

@@ -1,4 +1,3 @@
-pub mod Arities
 pub mod LogicalTypes
 pub mod FieldNames
 pub mod TypeEquality
@@ -10,10 +9,7 @@ pub mod OrderLaws
 pub mod Codes
 pub mod ScalarView
 pub mod ScalarLaws
-pub mod Answers
-pub mod Errors
 pub mod TypeOf
 pub mod TypeTexts
 pub mod ValueOf
-pub mod ValidityView
 pub mod Numbers

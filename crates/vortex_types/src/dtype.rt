@@ -1,6 +1,6 @@
 //! The types of columns and scalars.
 ghost use Rattle.std.specs.Prelude.{◌≡◌, false, IfOk};
-ghost use Rattle.vortex_types.specs.Answers.{AnswersUnlessMemory};
+ghost use Rattle.vortex_errors.specs.Answers.{AnswersUnlessMemory};
 ghost use Rattle.vortex_types.specs.LogicalTypes.{is_nullable, with_nullability, is_bool_type};
 ghost use Rattle.vortex_types.specs.LogicalTypes.{is_text_type, is_integer_type};
 
@@ -8,7 +8,7 @@ mod equality;
 mod fields;
 mod integer_types;
 
-use crate::error::VortexResult;
+use vortex_errors::VortexResult;
 use std::alloc::{AllocError, Global};
 use std::ops::BitOr;
 

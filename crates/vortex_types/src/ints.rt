@@ -6,7 +6,7 @@ mod signed;
 mod unsigned;
 
 use crate::dtype::PType;
-use crate::error::VortexResult;
+use vortex_errors::VortexResult;
 use std::alloc::{AllocError, Global};
 use std::cmp::Ordering;
 
@@ -25,7 +25,7 @@ pub enum Ints {
 
 impl Ints {
     ghost use Rattle.std.specs.Prelude.{◌<◌, length, pos, slice_index_or};
-    ghost use Rattle.vortex_types.specs.Answers.{AnswersUnlessMemory};
+    ghost use Rattle.vortex_errors.specs.Answers.{AnswersUnlessMemory};
     ghost use Rattle.vortex_types.specs.Numbers.{numbers, ptype_of};
 
     /// The type of the integers.

@@ -1,8 +1,8 @@
 //! Values that are not null.
 ghost use Rattle.std.specs.Prelude.{◌≡◌, IfOk};
-ghost use Rattle.vortex_types.specs.Answers.{AnswersUnlessMemory};
+ghost use Rattle.vortex_errors.specs.Answers.{AnswersUnlessMemory};
 
-use crate::error::VortexResult;
+use vortex_errors::VortexResult;
 use std::alloc::{AllocError, Global};
 
 /// A value that is not null.

@@ -6,11 +6,11 @@ ghost use Rattle.vortex_columns.specs.Words.{AreTyped, FitsRows, type_of, validi
 use super::{Column, Elements, Storage};
 use crate::lists::{bytes_fit, is_product, learn_bytes, lie_within, texts_fit};
 use crate::scalar::Scalar;
+use crate::validity::Validity;
 use std::alloc::Global;
+use vortex_bits::BitBuffer;
 use vortex_types::ints::learn_ranges;
-use vortex_types::{
-    BitBuffer, DType, NativePType, StructFields, Validity, VortexError, VortexResult,
-};
+use vortex_types::{DType, NativePType, StructFields, VortexError, VortexResult};
 
 /// Looks at each column, whose rows have its type.
 fn learn_types(columns: &Vec<Column>)

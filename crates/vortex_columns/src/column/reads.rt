@@ -6,9 +6,11 @@ use super::{Column, Storage};
 use crate::byte_rows::ByteRows;
 use crate::cell::Cell;
 use crate::scalar::Scalar;
+use crate::validity::Validity;
 use std::alloc::Global;
 use std::cmp::Ordering;
-use vortex_types::{BitBuffer, DType, NativePType, Validity, VortexResult};
+use vortex_bits::BitBuffer;
+use vortex_types::{DType, NativePType, VortexResult};
 
 impl Column {
     ghost use Rattle.vortex_columns.specs.Words.{AreTyped, TellsNulls, FitsRows, validity_of};

@@ -5,8 +5,10 @@ ghost use Rattle.vortex_columns.specs.Words.{cell_value, IsCell, bytes_of, part}
 use super::{Column, Elements, Storage};
 use crate::byte_rows::ByteRows;
 use crate::cell::{Cell, Sequence};
+use crate::validity::Validity;
 use std::alloc::Global;
-use vortex_types::{BitBuffer, NativePType, Validity, VortexResult};
+use vortex_bits::BitBuffer;
+use vortex_types::{NativePType, VortexResult};
 
 /// List `i` of lists of one size.
 fn fixed_cell(elements: &Column, size: usize, i: usize) -> Cell<'_>

@@ -2,10 +2,10 @@
 use Rattle.std.specs.Prelude.{◌≡◌, ◌⊎◌, ℕ, zero, suc, List, [], ◌∷◌, ◌++◌, Option, Some, None, Bool, true, false, ◌||◌, not, codes, Any, if◌then◌else◌, refl}
 use Rattle.std.specs.Str.{bytes_eq}
 use Rattle.std.proofs.Common.{sym, ap, ◌∙◌, subst, cond, inl, inr}
-use Rattle.vortex_types.specs.declared.error.MismatchPlace.{MismatchPlace}
-use Rattle.vortex_types.specs.declared.error.MismatchPlace.TheVariants as place
-use Rattle.vortex_types.specs.declared.error.NumericOperator.{NumericOperator}
-use Rattle.vortex_types.specs.declared.error.NumericOperator.TheVariants as numeric
+use Rattle.vortex_errors.specs.declared.error.MismatchPlace.{MismatchPlace}
+use Rattle.vortex_errors.specs.declared.error.MismatchPlace.TheVariants as place
+use Rattle.vortex_errors.specs.declared.error.NumericOperator.{NumericOperator}
+use Rattle.vortex_errors.specs.declared.error.NumericOperator.TheVariants as numeric
 use Rattle.vortex_types.specs.LogicalTypes.{LogicalType, bool_type, is_nullable}
 use Rattle.vortex_types.specs.Order.{compare_values}
 use Rattle.vortex_types.specs.TypeEquality.{alike_types}

@@ -2,11 +2,11 @@
 ghost use Rattle.std.specs.Prelude.{◌≡◌, ◌≢◌, ◌↔◌, IsTrue, IfOk, All, string_bytes};
 ghost use Rattle.std.specs.List.{zip};
 ghost use Rattle.vortex_types.specs.TypeOf.{AllDiffer};
-ghost use Rattle.vortex_types.specs.declared.error.VortexError.TheVariants.{InvalidColumn};
-ghost use Rattle.vortex_types.specs.Answers.{AnswersWhere, AnswersUnlessMemory};
+ghost use Rattle.vortex_errors.specs.declared.error.VortexError.TheVariants.{InvalidColumn};
+ghost use Rattle.vortex_errors.specs.Answers.{AnswersWhere, AnswersUnlessMemory};
 
 use super::{DType, StructFields};
-use crate::error::{VortexError, VortexResult};
+use vortex_errors::{VortexError, VortexResult};
 use std::alloc::{AllocError, Global};
 
 /// Whether a name stands nowhere in the list.

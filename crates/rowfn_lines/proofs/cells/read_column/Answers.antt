@@ -1,6 +1,6 @@
 use Rattle.std.proofs.Common.{◌∙◌, ap, map}
 use Rattle.vortex_types.specs.TypeOf.{allows_null}
-use Rattle.vortex_types.specs.ValidityView.{validity_of}
+use Rattle.vortex_columns.specs.ValidityView.{validity_of}
 use Rattle.rowfn_lines.specs.Lines.{word_in}
 use Rattle.rowfn_lines.specs.Commands.{cells_of}
 use Rattle.rowfn_lines.specs.Cells.{cells_validity}

@@ -2,7 +2,7 @@ use Rattle.std.proofs.Common.{◌≡◌, sym, ap, subst, ◌∙◌, if◌then◌
 use Rattle.std.specs.Str.{is_utf8}
 use Rattle.std.proofs.lemmas.Str.{IsUtf8-from_is_utf8, is_utf8-from_IsUtf8}
 use Rattle.std.proofs.lemmas.Bool.{false_from_ne_true}
-use Rattle.vortex_types.specs.Answers.{AnswersUnlessMemory}
+use Rattle.vortex_errors.specs.Answers.{AnswersUnlessMemory}
 use Rattle.rowfn_lines.specs.Lines.{after_spaces}
 use Rattle.rowfn_lines.specs.Commands.{Command, malformed, command_of_text, command_in}
 use Rattle.rowfn_lines.proofs.parse.parse.Goals as goal

@@ -1,10 +1,10 @@
 use Rattle.std.proofs.Common.{◌≡◌, List, Bool, length, subst, sym, ◌∙◌}
 use Rattle.std.specs.Prelude.{false, not, slice_index_or}
-use Rattle.vortex_types.specs.Answers.{AnswersUnlessMemory}
+use Rattle.vortex_errors.specs.Answers.{AnswersUnlessMemory}
 use Rattle.vortex_types.specs.LogicalTypes.{LogicalType, is_nullable}
-use Rattle.vortex_types.specs.ValidityView.{validity_of}
+use Rattle.vortex_columns.specs.ValidityView.{validity_of}
 use Rattle.vortex_types.specs.Values.{is_null}
-use Rattle.vortex_types.proofs.Answering.{AnswersUnlessMemory-weaker}
+use Rattle.vortex_errors.proofs.Answering.{AnswersUnlessMemory-weaker}
 use Rattle.vortex_columns.specs.ColumnView.{ColumnView, row, constant_column}
 use Rattle.vortex_operators.specs.OperatorValues.{not_value}
 use Rattle.vortex_kernels.specs.Rows.{HasRows}

@@ -1,7 +1,7 @@
 use Rattle.std.proofs.Common.{◌<◌, ℕ, List, Bool, Option, length, subst, sym, arith}
 use Rattle.std.specs.Prelude.{false, ◌||◌, is_some, slice_index_or}
 use Rattle.vortex_types.specs.LogicalTypes.{is_nullable}
-use Rattle.vortex_types.specs.ValidityView.{validity_of}
+use Rattle.vortex_columns.specs.ValidityView.{validity_of}
 use Rattle.vortex_types.specs.Values.{truth_of}
 use Rattle.vortex_columns.specs.ColumnView.{row}
 use Rattle.vortex_operators.specs.OperatorValues.{boolean_value}

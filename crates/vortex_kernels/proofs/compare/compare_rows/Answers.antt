@@ -2,7 +2,7 @@ use Rattle.std.proofs.Common.{length, subst, sym, List, Bool}
 use Rattle.std.specs.Prelude.{false, not, ◌||◌, slice_index_or}
 use Rattle.vortex_types.specs.LogicalTypes.{is_nullable}
 use Rattle.vortex_types.specs.Values.{is_null}
-use Rattle.vortex_types.specs.ValidityView.{validity_of}
+use Rattle.vortex_columns.specs.ValidityView.{validity_of}
 use Rattle.vortex_columns.specs.ColumnView.{row}
 use Rattle.vortex_operators.specs.OperatorValues.{comparison_value}
 use Rattle.vortex_kernels.specs.Comparison.{AreComparisons}

@@ -1,6 +1,6 @@
 use Rattle.std.proofs.Common.{◌≡◌, length}
 use Rattle.vortex_columns.specs.ColumnView.{ColumnView, constant_column}
-use Rattle.vortex_types.proofs.Answering.{AnswersUnlessMemory-weaker}
+use Rattle.vortex_errors.proofs.Answering.{AnswersUnlessMemory-weaker}
 use Rattle.vortex_kernels.specs.Rows.{HasRows}
 use Rattle.vortex_kernels.proofs.Comparing.{constant_has_rows}
 use Rattle.vortex_kernels.proofs.compare.constant_rows.Goals as goal

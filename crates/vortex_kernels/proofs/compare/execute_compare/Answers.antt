@@ -1,5 +1,5 @@
 use Rattle.std.proofs.Common.{◌≡◌, ◌<◌, length, arith}
-use Rattle.vortex_types.proofs.Answering.{Answers-weaker}
+use Rattle.vortex_errors.proofs.Answering.{Answers-weaker}
 use Rattle.vortex_kernels.specs.Rows.{HasRows}
 use Rattle.vortex_kernels.specs.Comparison.{AnswersCompare, RefusesCompare}
 use Rattle.vortex_kernels.proofs.Comparing.{constants_compared}

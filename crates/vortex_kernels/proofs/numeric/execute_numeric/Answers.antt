@@ -1,5 +1,5 @@
 use Rattle.std.proofs.Common.{◌∙◌, sym, arith}
-use Rattle.vortex_types.specs.declared.error.VortexError.TheVariants.{LengthMismatch}
+use Rattle.vortex_errors.specs.declared.error.VortexError.TheVariants.{LengthMismatch}
 use Rattle.vortex_operators.specs.Arithmetic.{integer_of_both}
 use Rattle.vortex_kernels.specs.Numeric.{uneven}
 use Rattle.vortex_kernels.proofs.numeric.execute_numeric.Goals as goal

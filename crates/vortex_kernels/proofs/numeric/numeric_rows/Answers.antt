@@ -1,5 +1,5 @@
 use Rattle.std.proofs.Common.{length, sym, ◌∙◌, arith}
-use Rattle.vortex_types.specs.ValidityView.{validity_of}
+use Rattle.vortex_columns.specs.ValidityView.{validity_of}
 use Rattle.vortex_kernels.specs.Numeric.{row_results, FitWhereValid, FaultsAt}
 use Rattle.vortex_kernels.proofs.Calculating.{numeric_answers, found_refuses, none_found, no_fault}
 use Rattle.vortex_kernels.proofs.numeric.numeric_rows.Goals as goal

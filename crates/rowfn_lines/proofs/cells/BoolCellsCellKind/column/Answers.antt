@@ -2,10 +2,10 @@ use Rattle.std.proofs.Common.{◌≡◌, true, false, length, map, refl, sym, ap
 use Rattle.std.specs.Prelude.{slice_index_or}
 use Rattle.std.specs.List.{list_all}
 use Rattle.std.proofs.lemmas.List.{length-map}
-use Rattle.vortex_types.specs.declared.error.VortexError.TheVariants.{InvalidColumn}
+use Rattle.vortex_errors.specs.declared.error.VortexError.TheVariants.{InvalidColumn}
 use Rattle.vortex_types.specs.LogicalTypes.{bool_type}
 use Rattle.vortex_types.specs.Values.{truth}
-use Rattle.vortex_types.specs.ValidityView.{validity_of, FitsRows}
+use Rattle.vortex_columns.specs.ValidityView.{validity_of, FitsRows}
 use Rattle.vortex_columns.specs.ColumnView.{ColumnView}
 use Rattle.vortex_columns.specs.Stored.{bool_column}
 use Rattle.rowfn_lines.specs.Commands.{fits_column}

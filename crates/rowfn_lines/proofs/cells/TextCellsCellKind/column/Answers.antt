@@ -2,10 +2,10 @@ use Rattle.std.proofs.Common.{◌≡◌, ◌≤◌, true, [], length, map, sym, 
 use Rattle.std.specs.Prelude.{slice_index_or, string_bytes}
 use Rattle.std.specs.List.{list_all}
 use Rattle.std.proofs.lemmas.List.{length-map}
-use Rattle.vortex_types.specs.declared.error.VortexError.TheVariants.{InvalidColumn}
+use Rattle.vortex_errors.specs.declared.error.VortexError.TheVariants.{InvalidColumn}
 use Rattle.vortex_types.specs.LogicalTypes.{text_type}
 use Rattle.vortex_types.specs.Values.{text}
-use Rattle.vortex_types.specs.ValidityView.{validity_of, FitsRows, form_allows_null}
+use Rattle.vortex_columns.specs.ValidityView.{validity_of, FitsRows, form_allows_null}
 use Rattle.vortex_columns.specs.ColumnView.{ColumnView}
 use Rattle.vortex_columns.specs.Stored.{made_of}
 use Rattle.rowfn_lines.specs.Commands.{fits_column}

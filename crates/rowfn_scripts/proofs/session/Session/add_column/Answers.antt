@@ -1,10 +1,10 @@
 use Rattle.std.proofs.Common.{◌≡◌, ◌==◌, true, false, refl, sym, ap, not, ◌∙◌, length}
 use Rattle.std.specs.Option.{is_none}
 use Rattle.std.specs.Cmp.{unsigned_Decides}
-use Rattle.vortex_types.specs.declared.error.VortexError.TheVariants.{OutOfMemory}
+use Rattle.vortex_errors.specs.declared.error.VortexError.TheVariants.{OutOfMemory}
 use Rattle.vortex_types.specs.LogicalTypes.{find_field, with_field}
 use Rattle.vortex_types.specs.TypeOf.{type_of, struct_fields}
-use Rattle.vortex_types.proofs.Answering.{UnlessMemory-weaker}
+use Rattle.vortex_errors.proofs.Answering.{UnlessMemory-weaker}
 use Rattle.rowfn_lines.specs.Commands.{column}
 use Rattle.rowfn_scripts.specs.Sessions.{refuses, StepsTo}
 use Rattle.rowfn_scripts.proofs.SessionSteps.{row_count_of, fields_of, printed_of, found_or_not}

@@ -1,8 +1,8 @@
 use Rattle.std.proofs.Common.{rules, ◌≡◌, ◌∙◌, ◌+◌, ◌-◌, ap, sym, not, subst, length, arith, false}
 use Rattle.std.specs.Option.{is_none}
 use Rattle.std.proofs.lemmas.List.{length-drop}
-use Rattle.vortex_types.specs.declared.error.VortexError.{VortexError}
-use Rattle.vortex_types.proofs.Answering.{UnlessMemory-weaker}
+use Rattle.vortex_errors.specs.declared.error.VortexError.{VortexError}
+use Rattle.vortex_errors.proofs.Answering.{UnlessMemory-weaker}
 use Rattle.vortex_meaning.specs.Shipped.{shipped_arity, shipped_named}
 use Rattle.vortex_meaning.specs.Functions.{Function, function_arity}
 use Rattle.vortex_functions.specs.FunctionOf.{function_of}

@@ -1,6 +1,6 @@
 use Rattle.std.proofs.Common.{◌∙◌, ap, sym, subst, List, reverse, Some}
 use Rattle.vortex_columns.specs.ColumnView.{ColumnView}
-use Rattle.vortex_types.proofs.Answering.{UnlessMemory-weaker}
+use Rattle.vortex_errors.proofs.Answering.{UnlessMemory-weaker}
 use Rattle.vortex_meaning.specs.Execution.{Executes, RefusesExecution}
 use Rattle.std.specs.Cow.{cow_value}
 use Rattle.rowfn_scripts.specs.Sessions.{refuses, RunsTop}

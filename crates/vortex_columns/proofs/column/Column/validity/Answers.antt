@@ -1,10 +1,10 @@
 use Rattle.std.proofs.Common.{◌≡◌, ◌<◌, ℕ, length, not, subst, sym, ap, ◌∙◌}
-use Rattle.vortex_types.specs.declared.validity.Validity.{Validity}
+use Rattle.vortex_columns.specs.declared.validity.Validity.{Validity}
 use Rattle.vortex_types.specs.Values.{is_null}
 use Rattle.vortex_columns.specs.ColumnView.{ColumnView, row}
 use Rattle.vortex_columns.specs.Stored.{stored_of, stored_validity}
-use Rattle.vortex_types.specs.ValidityView.{ValidityView, validity_of, FitsRows, is_valid_row}
-use Rattle.vortex_types.proofs.Answering.{AnswersUnlessMemory-weaker}
+use Rattle.vortex_columns.specs.ValidityView.{ValidityView, validity_of, FitsRows, is_valid_row}
+use Rattle.vortex_errors.proofs.Answering.{AnswersUnlessMemory-weaker}
 use Rattle.vortex_columns.proofs.StoredRows.{opened_fits, opened_validity}
 use Rattle.vortex_columns.proofs.column.Column.validity.Goals as goal
 

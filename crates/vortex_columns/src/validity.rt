@@ -1,12 +1,11 @@
 //! Which rows are null.
 ghost use Rattle.std.specs.Prelude.{◌≡◌, ◌≢◌, ◌<◌, ◌↔◌, IsTrue, MatchOption};
-ghost use Rattle.vortex_types.specs.Answers.{AnswersUnlessMemory};
-ghost use Rattle.vortex_types.specs.ValidityView.{array};
+ghost use Rattle.vortex_errors.specs.Answers.{AnswersUnlessMemory};
+ghost use Rattle.vortex_columns.specs.ValidityView.{array};
 
-use crate::bits::BitBuffer;
-use crate::dtype::Nullability;
-use crate::error::VortexResult;
 use std::alloc::{AllocError, Global};
+use vortex_bits::BitBuffer;
+use vortex_types::{Nullability, VortexResult};
 
 /// Which rows are not null. `NonNullable` goes with a non-nullable type, the others with a nullable one.
 #[derive(Drop)]
@@ -23,8 +22,8 @@ pub enum Validity {
 
 impl Validity {
     ghost use Rattle.vortex_types.specs.TypeOf.{allows_null};
-    ghost use Rattle.vortex_types.specs.ValidityView.{validity_of, is_valid_row, form_allows_null};
-    ghost use Rattle.vortex_types.specs.ValidityView.{FitsRows, Reaches};
+    ghost use Rattle.vortex_columns.specs.ValidityView.{validity_of, is_valid_row, form_allows_null};
+    ghost use Rattle.vortex_columns.specs.ValidityView.{FitsRows, Reaches};
 
     /// The nullability of the types that it goes with.
     pub fn nullability(&self) -> Nullability
@@ -80,7 +79,7 @@ impl Validity {
 
 /// A copy that is seen as its source is.
 impl Clone for Validity {
-    ghost use Rattle.vortex_types.specs.ValidityView.{validity_of};
+    ghost use Rattle.vortex_columns.specs.ValidityView.{validity_of};
 
     ghost is_clone = { λ validity copy. validity_of copy ≡ validity_of validity };
 

@@ -1,7 +1,7 @@
 -- What is seen of a `Validity`: its form, and the bits of an array.
 use Rattle.std.specs.Prelude.{◌≡◌, ℕ, ◌<◌, Bool, true, false, List, [], length, slice_index_or}
-use Rattle.vortex_types.specs.declared.validity.Validity.{Validity}
-use Rattle.vortex_types.specs.declared.validity.Validity.TheVariants as validity
+use Rattle.vortex_columns.specs.declared.validity.Validity.{Validity}
+use Rattle.vortex_columns.specs.declared.validity.Validity.TheVariants as validity
 
 -- how a column tells its null rows: it can have none, it has none, all are null, or by a list of
 -- bits

@@ -1,7 +1,7 @@
 //! Refusals by name.
 ghost use Rattle.std.specs.Prelude.{◌≡◌};
-ghost use Rattle.vortex_types.specs.declared.error.VortexError.TheVariants.{OutOfMemory};
-ghost use Rattle.vortex_types.specs.Errors.{fault_text};
+ghost use Rattle.vortex_errors.specs.declared.error.VortexError.TheVariants.{OutOfMemory};
+ghost use Rattle.vortex_errors.specs.Errors.{fault_text};
 
 use crate::arity::Arity;
 use std::alloc::{AllocError, AllocFailed};
@@ -92,7 +92,7 @@ fn fault_text(operator: &NumericOperator) -> &'static str
 }
 
 impl MismatchPlace {
-    ghost use Rattle.vortex_types.specs.Errors.{mismatch_name};
+    ghost use Rattle.vortex_errors.specs.Errors.{mismatch_name};
 
     /// The name of a refusal at this place.
     pub fn name(&self) -> &'static str
@@ -114,7 +114,7 @@ impl MismatchPlace {
 }
 
 impl NumericOperator {
-    ghost use Rattle.vortex_types.specs.Errors.{fault_name};
+    ghost use Rattle.vortex_errors.specs.Errors.{fault_name};
 
     /// The name of this operator's fault.
     pub fn fault_name(&self) -> &'static str
@@ -130,7 +130,7 @@ impl NumericOperator {
 }
 
 impl VortexError {
-    ghost use Rattle.vortex_types.specs.Errors.{number_of, name_of};
+    ghost use Rattle.vortex_errors.specs.Errors.{number_of, name_of};
 
     /// 1 for E1 to 13 for E13.
     pub fn number(&self) -> u8

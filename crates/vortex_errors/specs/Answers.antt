@@ -1,7 +1,7 @@
 -- What a call answers that may want memory: the one place where want of memory is said.
 use Rattle.std.specs.Prelude.{◌≡◌, Result, MatchResult, ⊤}
-use Rattle.vortex_types.specs.declared.error.VortexError.{VortexError}
-use Rattle.vortex_types.specs.declared.error.VortexError.TheVariants.{OutOfMemory}
+use Rattle.vortex_errors.specs.declared.error.VortexError.{VortexError}
+use Rattle.vortex_errors.specs.declared.error.VortexError.TheVariants.{OutOfMemory}
 
 -- Q of a refusal, but for want of memory, which may stand in the place of any answer
 abbrev pub UnlessMemory : (VortexError → Type 0) → VortexError → Type 0

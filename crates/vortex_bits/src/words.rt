@@ -1,0 +1,100 @@
+//! Words of 64 bits, taken from bytes and written as bytes.
+ghost use Rattle.std.specs.Prelude.{◌≡◌, ◌≤◌, ◌<◌, ◌+◌, ◌*◌, ◌-◌, ◌++◌, ℕ, length, slice_index, drop, false};
+ghost use Rattle.std.specs.Int.{to_le_bytes, w64};
+ghost use Rattle.std.specs.Vec.{vec_len, vec_capacity};
+ghost use Rattle.vortex_bits.specs.Bits.{bit, bit_of, is_set};
+
+/// The bytes from byte `at` on.
+pub(crate) fn bytes_from(bytes: &[u8], at: usize) -> &[u8]
+    requires { at ≤ length bytes.now }
+    ensures { result.now ≡ drop at bytes.now }
+{
+    &bytes[at..]
+}
+
+/// Eight bytes from byte `at` on.
+pub(crate) fn word_at(bytes: &[u8], at: usize) -> u64
+    requires { at + 8 ≤ length bytes.now }
+    ensures { (j : ℕ) → j < 64 → bit result j ≡ bit_of bytes.now (8 * at + j) }
+{
+    u64::from_le_bytes([
+        bytes[at],
+        bytes[at + 1],
+        bytes[at + 2],
+        bytes[at + 3],
+        bytes[at + 4],
+        bytes[at + 5],
+        bytes[at + 6],
+        bytes[at + 7],
+    ])
+}
+
+/// Up to eight bytes from byte `at` on, as many as there are; the others count as zero.
+pub(crate) fn last_word(bytes: &[u8], at: usize) -> u64
+    ensures { (j : ℕ) → j < 64 → bit result j ≡ bit_of bytes.now (8 * at + j) }
+{
+    let mut part = [0u8; 8];
+    for i in 0..8 {
+        if at < bytes.len() && i < bytes.len() - at {
+            part[i] = bytes[at + i];
+        }
+    }
+    word_at(&part, 0)
+}
+
+/// The first bits of a word, and zero above them.
+pub(crate) fn first_bits(word: u64, count: usize) -> u64
+    requires { count ≤ 64 }
+    ensures first { (j : ℕ) → j < count → bit result j ≡ bit word j }
+    ensures above { (j : ℕ) → count ≤ j → j < 64 → bit result j ≡ false }
+{
+    if count < 64 {
+        word & ((1 << count) - 1)
+    } else {
+        word
+    }
+}
+
+/// Adds the eight bytes of a word, for which there is room.
+pub(crate) fn push_word(bytes: &mut Vec<u8>, word: u64)
+    requires { vec_len bytes.old + 8 ≤ vec_capacity bytes.old }
+    ensures items { bytes.new.items ≡ bytes.old.items ++ to_le_bytes w64 word }
+    ensures room { vec_capacity bytes.new ≡ vec_capacity bytes.old }
+{
+    let [b0, b1, b2, b3, b4, b5, b6, b7] = word.to_le_bytes();
+    bytes.push_reserved(b0);
+    bytes.push_reserved(b1);
+    bytes.push_reserved(b2);
+    bytes.push_reserved(b3);
+    bytes.push_reserved(b4);
+    bytes.push_reserved(b5);
+    bytes.push_reserved(b6);
+    bytes.push_reserved(b7);
+}
+
+/// Eight bytes from byte `at` on, each 0 or 1, as the bits of one: a product gathers them in its highest byte.
+fn pack_byte(told: &[u8], at: usize) -> u8
+    requires room { at + 8 ≤ length told.now }
+    requires told { (i : ℕ) → slice_index told.now i < 2 }
+    ensures { (j : ℕ) → j < 8 → bit result j ≡ is_set (slice_index told.now (at + j)) }
+{
+    (word_at(told, at).wrapping_mul(0x0102_0408_1020_4080) >> 56) as u8
+}
+
+/// 64 bytes, each 0 or 1, as the bits of a word.
+pub(crate) fn pack_word(told: &[u8]) -> u64
+    requires room { length told.now ≡ 64 }
+    requires told { (i : ℕ) → slice_index told.now i < 2 }
+    ensures { (j : ℕ) → j < 64 → bit result j ≡ is_set (slice_index told.now j) }
+{
+    u64::from_le_bytes([
+        pack_byte(told, 0),
+        pack_byte(told, 8),
+        pack_byte(told, 16),
+        pack_byte(told, 24),
+        pack_byte(told, 32),
+        pack_byte(told, 40),
+        pack_byte(told, 48),
+        pack_byte(told, 56),
+    ])
+}

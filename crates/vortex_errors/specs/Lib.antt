@@ -1,0 +1,3 @@
+pub mod Arities
+pub mod Answers
+pub mod Errors
