@@ -42,6 +42,13 @@ pub(crate) fn last_word(bytes: &[u8], at: usize) -> u64
     word_at(&part, 0)
 }
 
+/// The same bit at each place.
+pub(crate) fn same_word(set: bool) -> u64
+    ensures { (j : ℕ) → j < 64 → bit result j ≡ set }
+{
+    if set { u64::MAX } else { 0 }
+}
+
 /// The first bits of a word, and zero above them.
 pub(crate) fn first_bits(word: u64, count: usize) -> u64
     requires { count ≤ 64 }
