@@ -1,10 +1,10 @@
 -- The operations of words, bit by bit.
-use Rattle.std.proofs.Common.{◌≡◌, ℕ, zero, suc, ◌-◌, ◌*◌, ◌%◌, ◌^◌, ◌<◌, ◌≤◌, min, max, Bool, true, false}
-use Rattle.std.proofs.Common.{nat_eq, refl, ap, ◌∙◌, arith, bit_and, bit_or, w64}
+use Rattle.std.proofs.Common.{◌≡◌, ℕ, zero, suc, ◌+◌, ◌-◌, ◌*◌, ◌%◌, ◌^◌, ◌<◌, ◌≤◌, min, max, Bool, true, false}
+use Rattle.std.proofs.Common.{nat_eq, refl, ap, ◌∙◌, arith, bit_and, bit_or, bit_xor, w64, cond}
 use Rattle.std.specs.Prelude.{◌||◌, ◌&&◌, not}
 use Rattle.std.specs.Int.{bit_at, bit_not}
 use Rattle.std.proofs.lemmas.Nat.{pow_below}
-use Rattle.std.proofs.lemmas.Nat.Bits.{bit_at_and, bit_at_or, bit_at_not, bit_at-lt, bit_at_ones}
+use Rattle.std.proofs.lemmas.Nat.Bits.{bit_at_and, bit_at_or, bit_at_xor, bit_at_not, bit_at-lt, bit_at_ones}
 use Rattle.std.proofs.lemmas.Nat.Bits.{bit_at_ones_above}
 use Rattle.vortex_bits.specs.Bits.{bit}
 
@@ -38,6 +38,20 @@ pub or_bit : (a b j : ℕ) → bit (bit_or a b) j ≡ (bit a j || bit b j)
 or_bit a b j =
     ap (λ n. nat_eq n 1) (bit_at_or a b j)
     ∙ either (bit_at a j) (bit_at b j) (bit_at-lt a j) (bit_at-lt b j)
+
+unlike : (m n : ℕ) → m < 2 → n < 2
+    → nat_eq ((m + n) % 2) 1 ≡ cond (nat_eq m 1) (not (nat_eq n 1)) (nat_eq n 1)
+unlike zero zero h k = refl
+unlike zero (suc zero) h k = refl
+unlike (suc zero) zero h k = refl
+unlike (suc zero) (suc zero) h k = refl
+unlike (suc (suc m)) n h k = absurd (omega arith)
+unlike m (suc (suc n)) h k = absurd (omega arith)
+
+pub xor_bit : (a b j : ℕ) → bit (bit_xor a b) j ≡ cond (bit a j) (not (bit b j)) (bit b j)
+xor_bit a b j =
+    ap (λ n. nat_eq n 1) (bit_at_xor a b j)
+    ∙ unlike (bit_at a j) (bit_at b j) (bit_at-lt a j) (bit_at-lt b j)
 
 pub not_bit : (a j : ℕ) → a < 2 ^ 64 → j < 64 → bit (bit_not w64 a) j ≡ not (bit a j)
 not_bit a j fits lt =

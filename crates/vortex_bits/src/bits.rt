@@ -3,7 +3,8 @@ ghost use Rattle.std.specs.Prelude.{◌≡◌, ◌≤◌, ◌<◌, ◌+◌, ◌*
 ghost use Rattle.vortex_errors.specs.Answers.{AnswersUnlessMemory, MadeWhere};
 ghost use Rattle.vortex_errors.specs.declared.error.VortexError.TheVariants.{InvalidColumn};
 ghost use Rattle.std.specs.Prelude.{IfSome};
-ghost use Rattle.vortex_bits.specs.Bits.{bits_from, bit_of};
+ghost use Rattle.vortex_bits.specs.Bits.{bits_from};
+ghost use Rattle.vortex_bits.specs.Forms.{aligned_there, aligned_bit, shifted_there, shifted_bit};
 ghost use Rattle.vortex_bits.specs.Rows.{AreRows, ReadsBits};
 
 use crate::rows::{AlignedBits, RowBits, ShiftedBits, collect_rows};
@@ -114,8 +115,7 @@ impl BitBuffer {
 
     /// The bits as kernels read them, where they begin with a byte.
     pub fn aligned(&self) -> Option<AlignedBits<'_>>
-        ensures { IfSome result (λ b. ReadsBits (λ i. i < 8 * length b.bytes.now)
-            (bit_of b.bytes.now) self.now) }
+        ensures { IfSome result (λ b. ReadsBits (aligned_there b) (aligned_bit b) self.now) }
     {
         if self.offset % 8 == 0 {
             Some(AlignedBits::new(bytes_from(&self.bytes, self.offset / 8)))
@@ -126,9 +126,7 @@ impl BitBuffer {
 
     /// The bits as kernels read them, wherever they begin.
     pub fn shifted(&self) -> ShiftedBits<'_>
-        ensures { ReadsBits
-            (λ i. (result.shift < 8) × (result.shift + i < 8 * length result.bytes.now))
-            (λ i. bit_of result.bytes.now (result.shift + i)) self.now }
+        ensures { ReadsBits (shifted_there result) (shifted_bit result) self.now }
     {
         ShiftedBits::new(bytes_from(&self.bytes, self.offset / 8), self.offset % 8)
     }

@@ -3,6 +3,7 @@ ghost use Rattle.std.specs.Prelude.{◌≡◌, ◌≤◌, ◌<◌, ◌+◌, ◌*
 ghost use Rattle.vortex_errors.specs.Answers.{AnswersUnlessMemory};
 ghost use Rattle.vortex_bits.specs.Bits.{bit, bit_of, bits_from};
 ghost use Rattle.vortex_bits.specs.Rows.{AreRows};
+ghost use Rattle.vortex_bits.specs.Forms.{aligned_there, aligned_bit, shifted_there, shifted_bit};
 
 use crate::bits::BitBuffer;
 use crate::words::{last_word, pack_word, push_word, word_at};
@@ -63,9 +64,9 @@ impl<'a> AlignedBits<'a> {
 }
 
 impl BitWords for AlignedBits<'_> {
-    ghost has_row = { λ b i. i < 8 * length b.bytes.now };
+    ghost has_row = { aligned_there };
 
-    ghost row_bit = { λ b i. bit_of b.bytes.now i };
+    ghost row_bit = { aligned_bit };
 
     fn word(&self, k: usize) -> u64 {
         word_at(self.bytes, 8 * k)
@@ -93,9 +94,9 @@ impl<'a> ShiftedBits<'a> {
 }
 
 impl BitWords for ShiftedBits<'_> {
-    ghost has_row = { λ b i. (b.shift < 8) × (b.shift + i < 8 * length b.bytes.now) };
+    ghost has_row = { shifted_there };
 
-    ghost row_bit = { λ b i. bit_of b.bytes.now (b.shift + i) };
+    ghost row_bit = { shifted_bit };
 
     fn word(&self, k: usize) -> u64 {
         let low = word_at(self.bytes, 8 * k);

@@ -8,6 +8,7 @@ use crate::bits::BitBuffer;
 use crate::rows::{AlignedBits, BitWords, ShiftedBits, collect_words};
 use crate::words::same_word;
 use std::alloc::Global;
+use std::marker::PhantomData;
 use vortex_errors::VortexResult;
 
 /// What is said of two bits, for 64 pairs at a time.
@@ -81,9 +82,9 @@ impl BitWords for SameBit {
 /// What the formula says of the bits of two sides.
 #[derive(Clone, Copy)]
 struct Zipped<F: WordFormula + Copy, L: BitWords + Copy, R: BitWords + Copy> {
-    formula: F,
     left: L,
     right: R,
+    formula: PhantomData<F>,
 }
 
 impl<F: WordFormula + Copy, L: BitWords + Copy, R: BitWords + Copy> BitWords for Zipped<F, L, R> {
@@ -103,7 +104,6 @@ impl<F: WordFormula + Copy, L: BitWords + Copy, R: BitWords + Copy> BitWords for
 /// What the formula says in each row.
 pub fn zip_words<F: WordFormula + Copy, L: BitWords + Copy, R: BitWords + Copy>(
     alloc: Global,
-    formula: F,
     left: L,
     right: R,
     len: usize,
@@ -113,10 +113,10 @@ pub fn zip_words<F: WordFormula + Copy, L: BitWords + Copy, R: BitWords + Copy>(
     ensures { AnswersUnlessMemory result
         (AreRows len (λ i. F.says (L.row_bit left i) (R.row_bit right i))) }
 {
-    let rows = Zipped {
-        formula,
+    let rows = Zipped::<F, L, R> {
         left,
         right,
+        formula: PhantomData,
     };
     collect_words(alloc, &rows, len)
 }
@@ -124,7 +124,6 @@ pub fn zip_words<F: WordFormula + Copy, L: BitWords + Copy, R: BitWords + Copy>(
 /// What the formula says of each bit beside the other one of its row.
 pub fn zip_bits<F: WordFormula + Copy>(
     alloc: Global,
-    formula: F,
     left: &BitBuffer,
     right: &BitBuffer,
 ) -> VortexResult<BitBuffer>
@@ -135,12 +134,12 @@ pub fn zip_bits<F: WordFormula + Copy>(
     let len = left.len();
     match (left.aligned(), right.aligned()) {
         (Some(left), Some(right)) => {
-            zip_words::<F, AlignedBits, AlignedBits>(alloc, formula, left, right, len)
+            zip_words::<F, AlignedBits, AlignedBits>(alloc, left, right, len)
         }
         _ => {
             let left = left.shifted();
             let right = right.shifted();
-            zip_words::<F, ShiftedBits, ShiftedBits>(alloc, formula, left, right, len)
+            zip_words::<F, ShiftedBits, ShiftedBits>(alloc, left, right, len)
         }
     }
 }
@@ -148,7 +147,6 @@ pub fn zip_bits<F: WordFormula + Copy>(
 /// What the formula says of each bit beside one.
 pub fn zip_bits_with<F: WordFormula + Copy>(
     alloc: Global,
-    formula: F,
     left: &BitBuffer,
     right: bool,
 ) -> VortexResult<BitBuffer>
@@ -158,7 +156,7 @@ pub fn zip_bits_with<F: WordFormula + Copy>(
     let len = left.len();
     let right = SameBit { bit: right };
     match left.aligned() {
-        Some(left) => zip_words::<F, AlignedBits, SameBit>(alloc, formula, left, right, len),
-        None => zip_words::<F, ShiftedBits, SameBit>(alloc, formula, left.shifted(), right, len),
+        Some(left) => zip_words::<F, AlignedBits, SameBit>(alloc, left, right, len),
+        None => zip_words::<F, ShiftedBits, SameBit>(alloc, left.shifted(), right, len),
     }
 }

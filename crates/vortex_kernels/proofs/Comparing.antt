@@ -4,8 +4,7 @@ use Rattle.std.proofs.Common.{subst, ◌∙◌, arith, cond}
 use Rattle.std.specs.Prelude.{◌||◌, nat_eq, not, ℤ, Option, Some, None, IfSome, MatchOption}
 use Rattle.std.specs.Prelude.{slice_index_or}
 use Rattle.std.specs.declared.cmp.Ordering.{Ordering}
-use Rattle.std.specs.declared.alloc.Global.{Global}
-use Rattle.std.specs.Prelude.{Result, Vec}
+use Rattle.std.specs.Prelude.{Result}
 use Rattle.vortex_errors.specs.declared.error.VortexError.{VortexError}
 use Rattle.vortex_errors.specs.Answers.{AnswersUnlessMemory}
 use Rattle.vortex_errors.proofs.Answering.{AnswersUnlessMemory-weaker}
@@ -26,6 +25,8 @@ use Rattle.vortex_types.proofs.NullValues.{null_is}
 use Rattle.vortex_columns.specs.ColumnView.{ColumnView, row, constant_column, is_bytes_like}
 use Rattle.vortex_columns.specs.ColumnView.{bytes_value, HasBytes, AreBytes, AreInts, AreBits}
 use Rattle.vortex_operators.specs.declared.operators.CompareOperator.{CompareOperator}
+use Rattle.vortex_bits.specs.Rows.{AreRows}
+use Rattle.vortex_kernels.proofs.RowLemmas.{same_rows}
 use Rattle.vortex_kernels.specs.Rows.{HasRows}
 use Rattle.vortex_operators.specs.OperatorValues.{holds, comparison_value, comparison_type}
 use Rattle.vortex_kernels.specs.Comparison.{compared_scalar, are_comparable, is_null_scalar}
@@ -43,14 +44,21 @@ held_compares op order ls rs bits orders h = record {
 }
 
 pub answers_compare : (op : CompareOperator) (order : ℕ → Ordering) (ls rs : List Value)
-    (r : Result (Vec Bool Global) VortexError)
+    (r : Result (List Bool) VortexError)
     → ((i : ℕ) → i < length ls → IsOrderAt ls rs i (order i))
-    → AnswersUnlessMemory r (λ bits. AreHeld op order (length ls) bits.items)
-    → AnswersUnlessMemory r (λ bits. AreComparisons op ls rs bits.items)
+    → AnswersUnlessMemory r (AreHeld op order (length ls))
+    → AnswersUnlessMemory r (AreComparisons op ls rs)
 answers_compare op order ls rs r orders =
-    AnswersUnlessMemory-weaker r (λ bits. AreHeld op order (length ls) bits.items)
-    (λ bits. AreComparisons op ls rs bits.items)
-    (λ bits h. held_compares op order ls rs bits.items orders h)
+    AnswersUnlessMemory-weaker r (AreHeld op order (length ls)) (AreComparisons op ls rs)
+    (λ bits h. held_compares op order ls rs bits orders h)
+
+-- what a formula says in words is what the comparison says of the order
+pub answers_held : (op : CompareOperator) (order : ℕ → Ordering) (says : ℕ → Bool) (m n : ℕ)
+    (r : Result (List Bool) VortexError) → m ≡ n → ((i : ℕ) → says i ≡ holds op (order i))
+    → AnswersUnlessMemory r (AreRows m says) → AnswersUnlessMemory r (AreHeld op order n)
+answers_held op order says m n r e same =
+    AnswersUnlessMemory-weaker r (AreRows m says) (AreHeld op order n)
+    (λ bits are. same_rows m n says (λ i. holds op (order i)) bits e (λ i lt. same i) are)
 
 -- the rows of a constant column
 pub constant_row : (s : ScalarView) (c : ColumnView) → c ≡ constant_column s (length c.rows)

@@ -1,7 +1,7 @@
 -- Rows of truth values that are built one by one, and the column that is made of them.
-use Rattle.std.proofs.Common.{◌≡◌, ◌⊎◌, inl, inr, ℕ, zero, suc, ◌+◌, ◌<◌, Bool, true, false, Option}
+use Rattle.std.proofs.Common.{◌≡◌, ℕ, zero, suc, ◌<◌, Bool, true, false, Option}
 use Rattle.std.proofs.Common.{Some, None, List, [], ◌∷◌, ◌++◌, length, get_or, refl, sym, ap, subst}
-use Rattle.std.proofs.Common.{◌∙◌, arith, length-append, cond}
+use Rattle.std.proofs.Common.{◌∙◌, arith, cond}
 use Rattle.std.specs.Prelude.{not, is_some, Result, slice_index_or}
 use Rattle.std.proofs.lemmas.List.FromFn.{get_or-map-range_with_len, length-map-range_with_len}
 use Rattle.vortex_types.specs.LogicalTypes.{LogicalType, null_type, bool_type, integer_type}
@@ -9,8 +9,10 @@ use Rattle.vortex_types.specs.LogicalTypes.{text_type, bytes_type, struct_type, 
 use Rattle.vortex_types.specs.LogicalTypes.{fixed_size_list_type, map_type, is_bool_type}
 use Rattle.vortex_types.specs.LogicalTypes.{is_nullable}
 use Rattle.vortex_types.specs.Values.{Value, null, truth, number, text, bytes, list, is_null}
-use Rattle.vortex_types.specs.Values.{truth_or_null}
-use Rattle.vortex_columns.specs.ColumnView.{ColumnView, row, AreBits}
+use Rattle.vortex_types.specs.Values.{truth_or_null, truth_of}
+use Rattle.vortex_types.specs.Typing.{HasType}
+use Rattle.std.proofs.lemmas.List.Elements.{All-get_or}
+use Rattle.vortex_columns.specs.ColumnView.{ColumnView, row, AreBits, AreTyped}
 use Rattle.vortex_columns.specs.ValidityView.{ValidityView, is_valid_row, FitsRows}
 use Rattle.vortex_errors.specs.declared.error.VortexError.{VortexError}
 use Rattle.vortex_errors.specs.declared.error.VortexError.TheVariants.{InvalidColumn}
@@ -18,7 +20,7 @@ use Rattle.vortex_errors.specs.Answers.{AnswersUnlessMemory, AnswersWhere}
 use Rattle.vortex_errors.proofs.Answering.{answers_where}
 use Rattle.vortex_columns.specs.Stored.{bool_column}
 use Rattle.vortex_kernels.specs.Rows.{HasRows}
-use Rattle.vortex_kernels.specs.ToldBits.{AreTold}
+use Rattle.vortex_bits.specs.Rows.{AreRows}
 use Rattle.vortex_operators.specs.OperatorValues.{not_value}
 use Rattle.vortex_kernels.specs.Validity.{IsValidity}
 use Rattle.vortex_kernels.specs.Truths.{IsValueOf}
@@ -34,22 +36,13 @@ module _ {A : Type 0} (other : A) where
   get_or-before (y ∷ ys) x zero h = refl
   get_or-before (y ∷ ys) x (suc k) h = get_or-before ys x k (omega arith)
 
--- one more bit
-pub told_more : (n : ℕ) (tells : ℕ → Bool → Type 0) (bits : List Bool) (b : Bool)
-    → AreTold n tells bits → tells n b → AreTold (n + 1) tells (bits ++ b ∷ [])
-told_more n tells bits b h told = record {
-  count = omega (arith, length-append bits (b ∷ []), h.count);
-  each = λ k lt. by k (last_or_before k lt);
+-- rows that are told by another function of the same values
+pub same_rows : (m n : ℕ) (f h : ℕ → Bool) (bits : List Bool) → m ≡ n
+    → ((i : ℕ) → i < n → f i ≡ h i) → AreRows m f bits → AreRows n h bits
+same_rows m n f h bits e same are = record {
+  count = are.count ∙ e;
+  each = λ i lt. are.each i (omega (arith, e)) ∙ same i lt;
 }
-  where
-    last_or_before : (k : ℕ) → k < n + 1 → (k < n) ⊎ (k ≡ n)
-    last_or_before k lt = grind arith
-
-    by : (k : ℕ) → (k < n) ⊎ (k ≡ n) → tells k (slice_index_or (bits ++ b ∷ []) k false)
-    by k (inl lt) =
-        subst (λ (x : Bool). tells k x)
-        (sym (get_or-before false bits b k (omega (arith, h.count)))) (h.each k lt)
-    by k (inr q) = rw (q, ← h.count, get_or-last) (rw h.count told)
 
 pub bool_dtype : (t : LogicalType) → is_bool_type t ≡ true → t ≡ bool_type (is_nullable t)
 bool_dtype (bool_type n) h = refl
@@ -105,7 +98,7 @@ bool_answers nullable n valid f bits v r count h rows answered =
 
 -- a row that is turned where it is not null
 pub not_row : (c : ColumnView) (xs bits : List Bool) → AreBits c xs
-    → AreTold (length xs) (λ i b. b ≡ not (slice_index_or xs i false)) bits → (i : ℕ)
+    → AreRows (length xs) (λ i. not (slice_index_or xs i false)) bits → (i : ℕ)
     → i < length c.rows
     → cond (not (is_null (row c.rows i))) (truth (slice_index_or bits i false)) null
     ≡ not_value (row c.rows i)
@@ -122,3 +115,28 @@ not_row c xs bits are told i lt = by (row c.rows i) (are.each i (omega (arith, a
     by (text bs) h = ap truth turned ∙ sym (ap not_value (h refl))
     by (bytes bs) h = ap truth turned ∙ sym (ap not_value (h refl))
     by (list vs) h = ap truth turned ∙ sym (ap not_value (h refl))
+
+-- a row of non-nullable Bool has a truth value
+typed_some : (t : LogicalType) (v : Value) → is_bool_type t ≡ true → is_nullable t ≡ false
+    → HasType t v → is_some (truth_of v) ≡ true
+typed_some (bool_type n) null b f h = cc
+typed_some (bool_type n) (truth x) b f h = refl
+typed_some (bool_type n) (number z) b f h = absurd h
+typed_some (bool_type n) (text bs) b f h = absurd h
+typed_some (bool_type n) (bytes bs) b f h = absurd h
+typed_some (bool_type n) (list vs) b f h = absurd h
+typed_some null_type v b f h = cc
+typed_some (integer_type p n) v b f h = cc
+typed_some (text_type n) v b f h = cc
+typed_some (bytes_type n) v b f h = cc
+typed_some (struct_type fs n) v b f h = cc
+typed_some (list_type t n) v b f h = cc
+typed_some (fixed_size_list_type t s n) v b f h = cc
+typed_some (map_type k w n) v b f h = cc
+
+pub row_some : (c : ColumnView) → is_bool_type c.dtype ≡ true → is_nullable c.dtype ≡ false
+    → AreTyped c.dtype c.rows → (i : ℕ) → i < length c.rows
+    → is_some (truth_of (row c.rows i)) ≡ true
+row_some c bool plain typed i lt =
+    typed_some c.dtype (row c.rows i) bool plain
+    (All-get_or (HasType c.dtype) c.rows i null lt typed)

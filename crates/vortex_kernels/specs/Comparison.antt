@@ -14,7 +14,7 @@ use Rattle.vortex_columns.specs.ColumnView.{ColumnView, row, is_bytes_like, byte
 use Rattle.vortex_operators.specs.declared.operators.CompareOperator.{CompareOperator}
 use Rattle.vortex_operators.specs.OperatorValues.{holds, comparison_value, comparison_type}
 use Rattle.vortex_kernels.specs.Rows.{HasRows}
-use Rattle.vortex_kernels.specs.ToldBits.{AreTold}
+use Rattle.vortex_bits.specs.Rows.{AreRows}
 
 -- two scalars, whatever their types where one is null
 abbrev pub compared_scalar : CompareOperator → ScalarView → ScalarView → ScalarView
@@ -69,7 +69,7 @@ pub record AnswersCompare (op : CompareOperator) (l r c : ColumnView) : Type 0 w
 
 -- for each of n rows whether the comparison says yes to its order
 abbrev pub AreHeld : CompareOperator → (ℕ → Ordering) → ℕ → List Bool → Type 0
-AreHeld op order n = AreTold n (λ i b. b ≡ holds op (order i))
+AreHeld op order n = AreRows n (λ i. holds op (order i))
 
 -- the same value in each row
 abbrev pub IsConstantOf : Value → ColumnView → Type 0

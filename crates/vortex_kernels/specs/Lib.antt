@@ -1,7 +1,7 @@
 pub mod Rows
-pub mod ToldBits
 pub mod Validity
 pub mod Truths
+pub mod Kleene
 pub mod Boolean
 pub mod PairOrders
 pub mod Comparison

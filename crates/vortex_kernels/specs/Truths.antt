@@ -1,14 +1,14 @@
--- Truth values that are read as two plain bools, and the forms in which a column of Bool lends
--- them.
-use Rattle.std.specs.Prelude.{◌≡◌, ℕ, ◌<◌, List, length, Bool, false, Option, Some, None, IfSome}
-use Rattle.std.specs.Prelude.{slice_index_or, is_some, if◌then◌else◌}
-use Rattle.vortex_types.specs.Values.{Value, truth_of}
-use Rattle.vortex_columns.specs.ColumnView.{row}
-use Rattle.vortex_kernels.specs.ToldBits.{AreTold}
+-- Truth values that are read as two bits, a value and whether there is one, and the forms in which a
+-- side of And or Or lends them.
+use Rattle.std.specs.Prelude.{◌≡◌, ℕ, ◌<◌, List, Bool, true, false, Option, Some, None, IfSome}
+use Rattle.std.specs.Prelude.{slice_index_or, is_some, if◌then◌else◌, ⊤}
+use Rattle.vortex_bits.specs.Forms.{aligned_there, aligned_bit, shifted_there, shifted_bit}
+use Rattle.vortex_columns.specs.ValidityView.{ValidityView, is_valid_row}
 use Rattle.vortex_kernels.specs.declared.truths.Operand.{Operand}
-use Rattle.vortex_kernels.specs.declared.truths.Operand.TheVariants.{Plain, Masked, One}
+use Rattle.vortex_kernels.specs.declared.truths.Operand.TheVariants.{Aligned, AlignedMasked}
+use Rattle.vortex_kernels.specs.declared.truths.Operand.TheVariants.{Shifted, ShiftedMasked, One}
 
--- the truth value that two bools stand for
+-- the truth value that two bits stand for
 abbrev pub present : Bool → Bool → Option Bool
 present valid value = if valid then Some value else None
 
@@ -16,23 +16,32 @@ present valid value = if valid then Some value else None
 abbrev pub IsValueOf : Bool → Option Bool → Type 0
 IsValueOf b o = IfSome o (λ v. b ≡ v)
 
--- each row is there, and is this truth value or null
-pub record Reads (has_row : ℕ → Type 0) (truth : ℕ → Option Bool) (rows : List Value) : Type 0 where
-  pub there : (i : ℕ) → i < length rows → has_row i
-  pub each : (i : ℕ) → i < length rows → truth_of (row rows i) ≡ truth i
+-- the truth value of a row of bits, beside the rows that are valid
+abbrev pub truth_at : List Bool → ValidityView → ℕ → Option Bool
+truth_at bits v i = present (is_valid_row v i) (slice_index_or bits i false)
 
-abbrev pub IsOperand : List Value → Operand → Type 0
-IsOperand rows (Plain p) =
-    Reads (λ i. i < length p.bits.now) (λ i. Some (slice_index_or p.bits.now i false)) rows
-IsOperand rows (Masked p) =
-    Reads (λ i. (i < length p.bits.now) × (i < length p.valid.now))
-    (λ i. present (slice_index_or p.valid.now i false) (slice_index_or p.bits.now i false)) rows
-IsOperand rows (One p) = Reads (λ i. Unit {0}) (λ i. present p.valid p.value) rows
+abbrev pub operand_there : Operand → ℕ → Type 0
+operand_there (Aligned values) i = aligned_there values i
+operand_there (AlignedMasked values valid) i = aligned_there values i × aligned_there valid i
+operand_there (Shifted values) i = shifted_there values i
+operand_there (ShiftedMasked values valid) i = shifted_there values i × shifted_there valid i
+operand_there (One valid value) i = ⊤
 
--- the truth values of n rows, whatever stands where there is none
-abbrev pub AreTruths : ℕ → (ℕ → Option Bool) → List Bool → Type 0
-AreTruths n truth = AreTold n (λ i b. IsValueOf b (truth i))
+abbrev pub operand_truth : Operand → ℕ → Option Bool
+operand_truth (Aligned values) i = present true (aligned_bit values i)
+operand_truth (AlignedMasked values valid) i = present (aligned_bit valid i) (aligned_bit values i)
+operand_truth (Shifted values) i = present true (shifted_bit values i)
+operand_truth (ShiftedMasked values valid) i = present (shifted_bit valid i) (shifted_bit values i)
+operand_truth (One valid value) i = present valid value
 
--- whether there is a truth value in each of n rows
-abbrev pub ArePresent : ℕ → (ℕ → Option Bool) → List Bool → Type 0
-ArePresent n truth = AreTold n (λ i b. b ≡ is_some (truth i))
+-- each of n rows is there, and is this truth value or null
+pub record IsOperandOf (n : ℕ) (truth : ℕ → Option Bool) (o : Operand) : Type 0 where
+  pub there : (i : ℕ) → i < n → operand_there o i
+  pub each : (i : ℕ) → i < n → operand_truth o i ≡ truth i
+
+-- there is a truth value in a row, and in each
+abbrev pub HasTruth : Operand → ℕ → Type 0
+HasTruth o i = is_some (operand_truth o i) ≡ true
+
+abbrev pub AreTruths : Operand → Type 0
+AreTruths o = (i : ℕ) → HasTruth o i

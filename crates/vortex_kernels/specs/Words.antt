@@ -1,4 +1,6 @@
 -- The words of the contracts, from one place.
+pub use Rattle.vortex_bits.specs.Bits.{bit}
+pub use Rattle.vortex_bits.specs.Rows.{AreRows}
 pub use Rattle.vortex_columns.specs.ColumnView.{row, IsIntegerType}
 pub use Rattle.vortex_columns.specs.LentBytes.{bytes_of}
 pub use Rattle.vortex_kernels.specs.ArithmeticIntegers.{FitsResult, AnswersExact}
@@ -16,10 +18,11 @@ pub use Rattle.vortex_kernels.specs.PairOrders.{byte_order, row_orders, int_orde
 pub use Rattle.vortex_kernels.specs.PairOrders.{bit_orders, bit_orders_with, byte_orders}
 pub use Rattle.vortex_kernels.specs.PairOrders.{byte_orders_with}
 pub use Rattle.vortex_kernels.specs.Rows.{HasScalarRows, either_nullable}
-pub use Rattle.vortex_kernels.specs.ToldBits.{AreTold}
-pub use Rattle.vortex_kernels.specs.Truths.{present, IsValueOf, Reads, AreTruths, ArePresent}
-pub use Rattle.vortex_kernels.specs.Truths.{IsOperand}
-pub use Rattle.vortex_kernels.specs.Validity.{valid_view, AreValid, IsValidityOf, IsJointValidity}
+pub use Rattle.vortex_kernels.specs.Kleene.{HasKleeneRows, value_word}
+pub use Rattle.vortex_kernels.specs.Truths.{present, IsValueOf, truth_at, operand_there}
+pub use Rattle.vortex_kernels.specs.Truths.{operand_truth, IsOperandOf, HasTruth, AreTruths}
+pub use Rattle.vortex_kernels.specs.Validity.{valid_view, AreValid, IsValidity, IsValidityOf}
+pub use Rattle.vortex_kernels.specs.Validity.{IsJointValidity}
 pub use Rattle.vortex_operators.specs.Arithmetic.{integer_of_both}
 pub use Rattle.vortex_operators.specs.Kleene.{kleene}
 pub use Rattle.vortex_operators.specs.OperatorValues.{not_value, holds}
@@ -32,5 +35,5 @@ pub use Rattle.vortex_operators.specs.declared.operators.Operator.TheVariants.{A
 pub use Rattle.vortex_errors.specs.Answers.{Answers, AnswersUnlessMemory}
 pub use Rattle.vortex_types.specs.LogicalTypes.{is_bool_type, bool_type, is_text_type}
 pub use Rattle.vortex_types.specs.TypeOf.{allows_null, type_of}
-pub use Rattle.vortex_columns.specs.ValidityView.{validity_of}
+pub use Rattle.vortex_columns.specs.ValidityView.{validity_of, FitsRows}
 pub use Rattle.vortex_types.specs.Values.{null, number, truth, truth_of}

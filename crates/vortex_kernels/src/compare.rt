@@ -12,7 +12,7 @@ use crate::operators::CompareOperator;
 use crate::pairs::hold_in_rows;
 use crate::validity::both_valid;
 use vortex_columns::{
-    BitBuffer, Column, DType, ExecutionCtx, MismatchPlace, Scalar, VortexError, VortexResult,
+    Column, DType, ExecutionCtx, MismatchPlace, Scalar, VortexError, VortexResult,
 };
 
 /// The comparison of each row, of columns of equal length.
@@ -26,7 +26,7 @@ fn compare_rows<P: Comparison>(
 {
     let bits = hold_in_rows::<P>(ctx.alloc(), lhs, rhs)?;
     let validity = both_valid(ctx.alloc(), lhs, rhs)?;
-    Column::try_bool(ctx.alloc(), BitBuffer::from_vec(bits), validity)
+    Column::try_bool(ctx.alloc(), bits, validity)
 }
 
 /// The comparison of each row, the operator being chosen before the rows.

@@ -4,9 +4,14 @@ ghost use Rattle.vortex_kernels.specs.Words.{CompareOperator, Eq, NotEq, Gt, Gte
 ghost use Rattle.vortex_kernels.specs.Words.{byte_order};
 
 use std::cmp::Ordering;
+use vortex_bits::WordFormula;
 
 /// A comparison.
-pub(crate) trait Comparison {
+pub(crate) trait Comparison: WordFormula + Copy {
+    ghost use Rattle.std.specs.Prelude.{◌≡◌, Bool};
+    ghost use Rattle.std.specs.Ordering.{bool_cmp};
+    ghost use Rattle.vortex_kernels.specs.Words.{CompareOperator, holds, byte_order};
+
     ghost operator: { CompareOperator };
 
     /// Whether it says yes to that order of left and right.
@@ -19,22 +24,47 @@ pub(crate) trait Comparison {
     {
         Self::holds(left.cmp(right))
     }
+
+    /// In words it says of two truth values what it says of their order.
+    ghost of_bits: { (l r : Bool) → Self.says l r ≡ holds operator (bool_cmp l r) };
 }
 
+#[derive(Clone, Copy)]
 pub(crate) struct IsEqual {}
 
+#[derive(Clone, Copy)]
 pub(crate) struct IsNotEqual {}
 
+#[derive(Clone, Copy)]
 pub(crate) struct IsGreater {}
 
+#[derive(Clone, Copy)]
 pub(crate) struct IsGreaterOrEqual {}
 
+#[derive(Clone, Copy)]
 pub(crate) struct IsLess {}
 
+#[derive(Clone, Copy)]
 pub(crate) struct IsLessOrEqual {}
 
+impl WordFormula for IsEqual {
+    ghost use Rattle.std.specs.Ordering.{bool_cmp};
+    ghost use Rattle.vortex_kernels.specs.Words.{Eq, holds};
+
+    ghost says = { λ l r. holds Eq (bool_cmp l r) };
+
+    fn of_words(left: u64, right: u64) -> u64 {
+        !(left ^ right)
+    }
+}
+
 impl Comparison for IsEqual {
+    ghost use Rattle.std.specs.Prelude.{refl};
+    ghost use Rattle.vortex_kernels.specs.Words.{Eq};
+
     ghost operator = { Eq };
+
+    ghost of_bits = { λ l r. refl };
 
     fn holds(order: Ordering) -> bool {
         order.is_eq()
@@ -45,8 +75,24 @@ impl Comparison for IsEqual {
     }
 }
 
+impl WordFormula for IsNotEqual {
+    ghost use Rattle.std.specs.Ordering.{bool_cmp};
+    ghost use Rattle.vortex_kernels.specs.Words.{NotEq, holds};
+
+    ghost says = { λ l r. holds NotEq (bool_cmp l r) };
+
+    fn of_words(left: u64, right: u64) -> u64 {
+        left ^ right
+    }
+}
+
 impl Comparison for IsNotEqual {
+    ghost use Rattle.std.specs.Prelude.{refl};
+    ghost use Rattle.vortex_kernels.specs.Words.{NotEq};
+
     ghost operator = { NotEq };
+
+    ghost of_bits = { λ l r. refl };
 
     fn holds(order: Ordering) -> bool {
         order.is_ne()
@@ -57,32 +103,96 @@ impl Comparison for IsNotEqual {
     }
 }
 
+impl WordFormula for IsGreater {
+    ghost use Rattle.std.specs.Ordering.{bool_cmp};
+    ghost use Rattle.vortex_kernels.specs.Words.{Gt, holds};
+
+    ghost says = { λ l r. holds Gt (bool_cmp l r) };
+
+    fn of_words(left: u64, right: u64) -> u64 {
+        left & !right
+    }
+}
+
 impl Comparison for IsGreater {
+    ghost use Rattle.std.specs.Prelude.{refl};
+    ghost use Rattle.vortex_kernels.specs.Words.{Gt};
+
     ghost operator = { Gt };
+
+    ghost of_bits = { λ l r. refl };
 
     fn holds(order: Ordering) -> bool {
         order.is_gt()
     }
 }
 
+impl WordFormula for IsGreaterOrEqual {
+    ghost use Rattle.std.specs.Ordering.{bool_cmp};
+    ghost use Rattle.vortex_kernels.specs.Words.{Gte, holds};
+
+    ghost says = { λ l r. holds Gte (bool_cmp l r) };
+
+    fn of_words(left: u64, right: u64) -> u64 {
+        left | !right
+    }
+}
+
 impl Comparison for IsGreaterOrEqual {
+    ghost use Rattle.std.specs.Prelude.{refl};
+    ghost use Rattle.vortex_kernels.specs.Words.{Gte};
+
     ghost operator = { Gte };
+
+    ghost of_bits = { λ l r. refl };
 
     fn holds(order: Ordering) -> bool {
         order.is_ge()
     }
 }
 
+impl WordFormula for IsLess {
+    ghost use Rattle.std.specs.Ordering.{bool_cmp};
+    ghost use Rattle.vortex_kernels.specs.Words.{Lt, holds};
+
+    ghost says = { λ l r. holds Lt (bool_cmp l r) };
+
+    fn of_words(left: u64, right: u64) -> u64 {
+        !left & right
+    }
+}
+
 impl Comparison for IsLess {
+    ghost use Rattle.std.specs.Prelude.{refl};
+    ghost use Rattle.vortex_kernels.specs.Words.{Lt};
+
     ghost operator = { Lt };
+
+    ghost of_bits = { λ l r. refl };
 
     fn holds(order: Ordering) -> bool {
         order.is_lt()
     }
 }
 
+impl WordFormula for IsLessOrEqual {
+    ghost use Rattle.std.specs.Ordering.{bool_cmp};
+    ghost use Rattle.vortex_kernels.specs.Words.{Lte, holds};
+
+    ghost says = { λ l r. holds Lte (bool_cmp l r) };
+
+    fn of_words(left: u64, right: u64) -> u64 {
+        !left | right
+    }
+}
+
 impl Comparison for IsLessOrEqual {
+    ghost use Rattle.std.specs.Prelude.{refl};
+    ghost use Rattle.vortex_kernels.specs.Words.{Lte};
+
     ghost operator = { Lte };
+
+    ghost of_bits = { λ l r. refl };
 
     fn holds(order: Ordering) -> bool {
         order.is_le()

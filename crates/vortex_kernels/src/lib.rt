@@ -6,15 +6,16 @@ pub mod boolean;
 pub mod compare;
 mod comparisons;
 mod integer_types;
+pub mod kleene;
 mod numbers;
 pub mod numeric;
 mod pairs;
-mod told_bits;
 mod truths;
 mod validity;
 
 pub use arithmetic_integer::{ArithmeticInteger, apply_checked};
 pub use boolean::{execute_boolean, execute_not};
 pub use compare::{execute_compare, scalar_cmp};
+pub use kleene::kleene_words;
 pub use numeric::execute_numeric;
 pub use vortex_operators::{CompareOperator, Operator, operators};

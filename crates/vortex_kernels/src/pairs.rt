@@ -12,10 +12,12 @@ ghost use Rattle.vortex_kernels.specs.Words.{AreComparisons, IsIntegerType, IsNu
 use crate::comparisons::Comparison;
 use crate::integer_types::with_integer;
 use std::alloc::Global;
-use vortex_columns::{ByteRows, Cell, Column, DType, NativePType, PType, VortexResult};
+use std::marker::PhantomData;
+use vortex_bits::{RowBits, collect_rows, zip_bits, zip_bits_with};
+use vortex_columns::{BitBuffer, ByteRows, Cell, Column, DType, NativePType, PType, VortexResult};
 
 /// Pairs of values, a left and a right one for each row.
-trait Pairs {
+trait Pairs: Copy {
     ghost has_pair: { Self → ℕ → Type 0 };
 
     /// The order of what lies in a row. It says nothing of the row where that lies under a null.
@@ -27,21 +29,37 @@ trait Pairs {
         ensures { result ≡ holds P.operator (order self.now i) };
 }
 
+/// Whether the comparison says yes to each pair.
+#[derive(Clone, Copy)]
+struct Held<P: Comparison, R: Pairs> {
+    pairs: R,
+    comparison: PhantomData<P>,
+}
+
+impl<P: Comparison, R: Pairs> RowBits for Held<P, R> {
+    ghost has_row = { λ h i. R.has_pair h.pairs i };
+
+    ghost row_bit = { λ h i. holds P.operator (R.order h.pairs i) };
+
+    fn bit(&self, i: usize) -> bool {
+        self.pairs.holds_at::<P>(i)
+    }
+}
+
 /// Whether the comparison says yes in each row.
 fn hold_in_pairs<P: Comparison, R: Pairs>(
     alloc: Global,
-    pairs: &R,
+    pairs: R,
     len: usize,
-) -> VortexResult<Vec<bool>>
-    requires { (i : ℕ) → i < len → R.has_pair pairs.now i }
-    ensures { AnswersUnlessMemory result
-        (λ bits. AreHeld P.operator (R.order pairs.now) len bits.items) }
+) -> VortexResult<BitBuffer>
+    requires { (i : ℕ) → i < len → R.has_pair pairs i }
+    ensures { AnswersUnlessMemory result (AreHeld P.operator (R.order pairs) len) }
 {
-    let mut bits = Vec::with_capacity(alloc, len)?;
-    for i in 0..len {
-        bits.push_reserved(pairs.holds_at::<P>(i));
-    }
-    Ok(bits)
+    let rows = Held::<P, R> {
+        pairs,
+        comparison: PhantomData,
+    };
+    collect_rows(alloc, &rows, len)
 }
 
 /// Rows of any type, read where they lie.
@@ -95,40 +113,6 @@ impl<T: NativePType> Pairs for IntsAndOne<'_, T> {
     }
 }
 
-/// The truth values of two columns.
-#[derive(Clone, Copy)]
-struct BitPairs<'a> {
-    left: &'a [bool],
-    right: &'a [bool],
-}
-
-impl Pairs for BitPairs<'_> {
-    ghost has_pair = { λ p i. (i < length p.left.now) × (i < length p.right.now) };
-
-    ghost order = { λ p. bit_orders p.left.now p.right.now };
-
-    fn holds_at<P: Comparison>(&self, i: usize) -> bool {
-        P::holds(self.left[i].cmp(&self.right[i]))
-    }
-}
-
-/// The truth values of a column beside one.
-#[derive(Clone, Copy)]
-struct BitsAndOne<'a> {
-    left: &'a [bool],
-    right: bool,
-}
-
-impl Pairs for BitsAndOne<'_> {
-    ghost has_pair = { λ p i. i < length p.left.now };
-
-    ghost order = { λ p. bit_orders_with p.left.now p.right };
-
-    fn holds_at<P: Comparison>(&self, i: usize) -> bool {
-        P::holds(self.left[i].cmp(&self.right))
-    }
-}
-
 /// The texts or the byte strings of two columns.
 #[derive(Clone, Copy)]
 struct BytesPairs<'a> {
@@ -167,17 +151,17 @@ fn hold_in_cells<P: Comparison>(
     alloc: Global,
     lhs: &Column,
     rhs: &Column,
-) -> VortexResult<Vec<bool>>
+) -> VortexResult<BitBuffer>
     requires { length lhs.now.rows ≡ length rhs.now.rows }
     ensures { AnswersUnlessMemory result
-        (λ bits. AreComparisons P.operator lhs.now.rows rhs.now.rows bits.items) }
+        (AreComparisons P.operator lhs.now.rows rhs.now.rows) }
 {
     let len = lhs.len();
     let pairs = CellPairs {
         left: lhs,
         right: rhs,
     };
-    hold_in_pairs::<P, CellPairs>(alloc, &pairs, len)
+    hold_in_pairs::<P, CellPairs>(alloc, pairs, len)
 }
 
 /// The integer in each row of a constant column of integers of one type, unless it is null.
@@ -207,20 +191,20 @@ fn hold_in_ints<P: Comparison, T: NativePType>(
     alloc: Global,
     lhs: &Column,
     rhs: &Column,
-) -> VortexResult<Vec<bool>>
+) -> VortexResult<BitBuffer>
     requires { length lhs.now.rows ≡ length rhs.now.rows }
     ensures { AnswersUnlessMemory result
-        (λ bits. AreComparisons P.operator lhs.now.rows rhs.now.rows bits.items) }
+        (AreComparisons P.operator lhs.now.rows rhs.now.rows) }
 {
     let len = lhs.len();
     match (lhs.ints::<T>(), rhs.ints::<T>(), constant_int::<T>(rhs)) {
         (Some(left), Some(right), _) => {
-            hold_in_pairs::<P, IntPairs<T>>(alloc, &IntPairs { left, right }, len)
+            hold_in_pairs::<P, IntPairs<T>>(alloc, IntPairs { left, right }, len)
         }
         (Some(left), None, Some(right)) => {
             hold_in_pairs::<P, IntsAndOne<T>>(
                 alloc,
-                &IntsAndOne {
+                IntsAndOne {
                     left,
                     right: &right,
                 },
@@ -235,21 +219,14 @@ fn hold_in_bools<P: Comparison>(
     alloc: Global,
     lhs: &Column,
     rhs: &Column,
-) -> VortexResult<Vec<bool>>
+) -> VortexResult<BitBuffer>
     requires { length lhs.now.rows ≡ length rhs.now.rows }
     ensures { AnswersUnlessMemory result
-        (λ bits. AreComparisons P.operator lhs.now.rows rhs.now.rows bits.items) }
+        (AreComparisons P.operator lhs.now.rows rhs.now.rows) }
 {
-    let len = lhs.len();
     match (lhs.bits(), rhs.bits(), constant_bool(rhs)) {
-        (Some(left), Some(right), _) => {
-            let (left, right) = (left.as_slice(), right.as_slice());
-            hold_in_pairs::<P, BitPairs>(alloc, &BitPairs { left, right }, len)
-        }
-        (Some(left), None, Some(right)) => {
-            let left = left.as_slice();
-            hold_in_pairs::<P, BitsAndOne>(alloc, &BitsAndOne { left, right }, len)
-        }
+        (Some(left), Some(right), _) => zip_bits::<P>(alloc, left, right),
+        (Some(left), None, Some(right)) => zip_bits_with::<P>(alloc, left, right),
         _ => hold_in_cells::<P>(alloc, lhs, rhs),
     }
 }
@@ -271,19 +248,19 @@ fn hold_in_bytes<P: Comparison>(
     alloc: Global,
     lhs: &Column,
     rhs: &Column,
-) -> VortexResult<Vec<bool>>
+) -> VortexResult<BitBuffer>
     requires lengths { length lhs.now.rows ≡ length rhs.now.rows }
     requires kind { is_text_type lhs.now.dtype ≡ is_text_type rhs.now.dtype }
     ensures { AnswersUnlessMemory result
-        (λ bits. AreComparisons P.operator lhs.now.rows rhs.now.rows bits.items) }
+        (AreComparisons P.operator lhs.now.rows rhs.now.rows) }
 {
     let len = lhs.len();
     match (lhs.byte_rows(), rhs.byte_rows(), constant_bytes(rhs)) {
         (Some(left), Some(right), _) => {
-            hold_in_pairs::<P, BytesPairs>(alloc, &BytesPairs { left, right }, len)
+            hold_in_pairs::<P, BytesPairs>(alloc, BytesPairs { left, right }, len)
         }
         (Some(left), None, Some(right)) => {
-            hold_in_pairs::<P, BytesAndOne>(alloc, &BytesAndOne { left, right }, len)
+            hold_in_pairs::<P, BytesAndOne>(alloc, BytesAndOne { left, right }, len)
         }
         _ => hold_in_cells::<P>(alloc, lhs, rhs),
     }
@@ -295,10 +272,10 @@ pub(crate) fn hold_in_rows<P: Comparison>(
     alloc: Global,
     lhs: &Column,
     rhs: &Column,
-) -> VortexResult<Vec<bool>>
+) -> VortexResult<BitBuffer>
     requires { length lhs.now.rows ≡ length rhs.now.rows }
     ensures { AnswersUnlessMemory result
-        (λ bits. AreComparisons P.operator lhs.now.rows rhs.now.rows bits.items) }
+        (AreComparisons P.operator lhs.now.rows rhs.now.rows) }
 {
     match lhs.dtype() {
         DType::Bool(_) => hold_in_bools::<P>(alloc, lhs, rhs),

@@ -1,148 +1,81 @@
-//! The truth values of a column of Bool, in the forms in which they are lent.
-ghost use Rattle.std.specs.Prelude.{◌≡◌, ◌<◌, ℕ, Bool, Option, Some, None, true, false, length};
-ghost use Rattle.std.specs.Prelude.{is_some, slice_index_or};
-ghost use Rattle.vortex_kernels.specs.Words.{AnswersUnlessMemory, is_bool_type, present, IsValueOf};
-ghost use Rattle.vortex_kernels.specs.Words.{IsOperand};
+//! The truth values of one side of And or Or, in the forms in which they are read by words.
+ghost use Rattle.std.specs.Prelude.{◌≡◌, ◌<◌, ℕ, Bool, true, false, length, is_some};
+ghost use Rattle.vortex_kernels.specs.Words.{AnswersUnlessMemory, is_bool_type, FitsRows, valid_view};
+ghost use Rattle.vortex_kernels.specs.Words.{row, truth_of, present, truth_at, operand_truth};
+ghost use Rattle.vortex_kernels.specs.Words.{IsOperandOf, AreTruths};
 
 use crate::pairs::constant_bool;
 use crate::validity::{ValidRows, valid_rows};
 use std::alloc::Global;
-use vortex_columns::{Column, VortexResult};
+use vortex_bits::{AlignedBits, ShiftedBits};
+use vortex_columns::{BitBuffer, Column, VortexResult};
 
-/// A truth value or null for each row, read as two plain bools.
-pub(crate) trait Truths {
-    ghost has_row: { Self → ℕ → Type 0 };
-
-    ghost truth: { Self → ℕ → Option Bool };
-
-    /// The truth value of row `i`. Where there is none it says nothing.
-    fn value(&self, i: usize) -> bool
-        requires { has_row self.now i }
-        ensures { IsValueOf result (truth self.now i) };
-
-    /// Whether row `i` is not null.
-    fn is_valid(&self, i: usize) -> bool
-        requires { has_row self.now i }
-        ensures { result ≡ is_some (truth self.now i) };
-
-    /// Whether a row can be null.
-    fn has_nulls(&self) -> bool
-        ensures { result ≡ false → (i : ℕ) → is_some (truth self.now i) ≡ true };
-}
-
-/// Bits, none of them under a null.
+/// The truth values of one side. Bits that lie under a null say nothing.
 #[derive(Clone, Copy)]
-pub(crate) struct PlainBits<'a> {
-    bits: &'a [bool],
+pub(crate) enum Operand<'a> {
+    /// Bits that begin with a byte, none of them under a null.
+    Aligned(AlignedBits<'a>),
+    /// The same, and which of them are under no null.
+    AlignedMasked(AlignedBits<'a>, AlignedBits<'a>),
+    /// Bits that begin anywhere, none of them under a null.
+    Shifted(ShiftedBits<'a>),
+    /// The same, and which of them are under no null.
+    ShiftedMasked(ShiftedBits<'a>, ShiftedBits<'a>),
+    /// In each row the same: whether there is a truth value, and which.
+    One(bool, bool),
 }
 
-impl Truths for PlainBits<'_> {
-    ghost has_row = { λ p i. i < length p.bits.now };
-
-    ghost truth = { λ p i. Some (slice_index_or p.bits.now i false) };
-
-    fn value(&self, i: usize) -> bool {
-        self.bits[i]
-    }
-
-    fn is_valid(&self, _i: usize) -> bool {
-        true
-    }
-
-    fn has_nulls(&self) -> bool {
-        false
-    }
-}
-
-/// Bits, and which of them are under no null.
-#[derive(Clone, Copy)]
-pub(crate) struct MaskedBits<'a> {
-    bits: &'a [bool],
-    valid: &'a [bool],
-}
-
-impl Truths for MaskedBits<'_> {
-    ghost has_row = { λ p i. (i < length p.bits.now) × (i < length p.valid.now) };
-
-    ghost truth = { λ p i. present
-        (slice_index_or p.valid.now i false) (slice_index_or p.bits.now i false) };
-
-    fn value(&self, i: usize) -> bool {
-        self.bits[i]
-    }
-
-    fn is_valid(&self, i: usize) -> bool {
-        self.valid[i]
-    }
-
-    fn has_nulls(&self) -> bool {
-        true
-    }
-}
-
-/// One truth value, or null, in each row.
-#[derive(Clone, Copy)]
-pub(crate) struct OneTruth {
-    value: bool,
-    valid: bool,
-}
-
-impl OneTruth {
-    fn new(truth: Option<bool>) -> OneTruth
-        ensures { present result.valid result.value ≡ truth }
+impl<'a> Operand<'a> {
+    /// One truth value, or null, in each row.
+    pub(crate) fn one(truth: Option<bool>) -> Operand<'a>
+        ensures { (n : ℕ) → IsOperandOf n (λ i. truth) result }
     {
         match truth {
-            Some(value) => OneTruth { value, valid: true },
-            None => OneTruth {
-                value: false,
-                valid: false,
+            Some(value) => Operand::One(true, value),
+            None => Operand::One(false, false),
+        }
+    }
+
+    /// Bits beside the rows that are valid.
+    pub(crate) fn of_bits(bits: &'a BitBuffer, valid: ValidRows<'a>) -> Operand<'a>
+        requires { FitsRows (valid_view valid) (length bits.now) }
+        ensures { IsOperandOf (length bits.now) (truth_at bits.now (valid_view valid.entry))
+            result }
+    {
+        match valid {
+            ValidRows::Every => match bits.aligned() {
+                Some(values) => Operand::Aligned(values),
+                None => Operand::Shifted(bits.shifted()),
             },
+            ValidRows::No => Operand::One(false, false),
+            ValidRows::Listed(valid) => match (bits.aligned(), valid.aligned()) {
+                (Some(values), Some(valid)) => Operand::AlignedMasked(values, valid),
+                _ => Operand::ShiftedMasked(bits.shifted(), valid.shifted()),
+            },
+        }
+    }
+
+    /// Whether a row can be null.
+    pub(crate) fn has_nulls(&self) -> bool
+        ensures { result ≡ false → AreTruths self.now }
+    {
+        match self {
+            Operand::Aligned(_) => false,
+            Operand::Shifted(_) => false,
+            Operand::One(valid, _) => !valid,
+            _ => true,
         }
     }
 }
 
-impl Truths for OneTruth {
-    ghost has_row = { λ p i. Unit {0} };
-
-    ghost truth = { λ p i. present p.valid p.value };
-
-    fn value(&self, _i: usize) -> bool {
-        self.value
-    }
-
-    fn is_valid(&self, _i: usize) -> bool {
-        self.valid
-    }
-
-    fn has_nulls(&self) -> bool {
-        !self.valid
-    }
-}
-
-/// A column of Bool in one of these forms.
-#[derive(Clone, Copy)]
-pub(crate) enum Operand<'a> {
-    Plain(PlainBits<'a>),
-    Masked(MaskedBits<'a>),
-    One(OneTruth),
-}
-
 /// The form in which a column of Bool lends its truth values. Takes no memory.
-pub(crate) fn lent_truths(alloc: Global, column: &Column) -> VortexResult<Operand<'_>>
+pub(crate) fn operand_of(alloc: Global, column: &Column) -> VortexResult<Operand<'_>>
     requires { is_bool_type column.now.dtype ≡ true }
-    ensures { AnswersUnlessMemory result (IsOperand column.now.rows) }
+    ensures { AnswersUnlessMemory result
+        (IsOperandOf (length column.now.rows) (λ i. truth_of (row column.now.rows i))) }
 {
     match column.bits() {
-        Some(bits) => match valid_rows(alloc, column)? {
-            ValidRows::Every => Ok(Operand::Plain(PlainBits {
-                bits: bits.as_slice(),
-            })),
-            ValidRows::No => Ok(Operand::One(OneTruth::new(None))),
-            ValidRows::Listed(valid) => Ok(Operand::Masked(MaskedBits {
-                bits: bits.as_slice(),
-                valid: valid.as_slice(),
-            })),
-        },
-        None => Ok(Operand::One(OneTruth::new(constant_bool(column)))),
+        Some(bits) => Ok(Operand::of_bits(bits, valid_rows(alloc, column)?)),
+        None => Ok(Operand::one(constant_bool(column))),
     }
 }

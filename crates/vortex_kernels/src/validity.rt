@@ -3,8 +3,8 @@ ghost use Rattle.std.specs.Prelude.{◌≡◌, true, length};
 ghost use Rattle.vortex_kernels.specs.Words.{AnswersUnlessMemory, validity_of, either_nullable};
 ghost use Rattle.vortex_kernels.specs.Words.{valid_view, AreValid, IsValidityOf, IsJointValidity};
 
-use crate::told_bits::{SharedBits, collect_bits};
 use std::alloc::Global;
+use vortex_bits::{Both, zip_bits};
 use vortex_columns::{BitBuffer, Column, Nullability, Validity, VortexResult};
 
 /// The rows of a column that are not null, chosen before the rows.
@@ -71,14 +71,11 @@ fn join_valid(alloc: Global, lhs: &Column, rhs: &Column) -> VortexResult<Validit
     ensures { AnswersUnlessMemory result
         (λ v. IsJointValidity true lhs.now rhs.now (validity_of v)) }
 {
-    let len = lhs.len();
     match (valid_rows(alloc, lhs)?, valid_rows(alloc, rhs)?) {
         (ValidRows::Every, right) => right.to_validity(alloc),
         (left, ValidRows::Every) => left.to_validity(alloc),
         (ValidRows::Listed(left), ValidRows::Listed(right)) => {
-            let (left, right) = (left.as_slice(), right.as_slice());
-            let shared = collect_bits(alloc, &SharedBits { left, right }, len)?;
-            Ok(Validity::Array(BitBuffer::from_vec(shared)))
+            Ok(Validity::Array(zip_bits::<Both>(alloc, left, right)?))
         }
         (ValidRows::No, _) => Ok(Validity::AllInvalid),
         (_, ValidRows::No) => Ok(Validity::AllInvalid),

@@ -1,5 +1,5 @@
-use Rattle.std.proofs.Common.{◌≡◌, List, Bool, length, subst, sym, ◌∙◌}
-use Rattle.std.specs.Prelude.{false, not, slice_index_or}
+use Rattle.std.proofs.Common.{◌≡◌, length, subst, sym, ◌∙◌}
+use Rattle.std.specs.Prelude.{not}
 use Rattle.vortex_errors.specs.Answers.{AnswersUnlessMemory}
 use Rattle.vortex_types.specs.LogicalTypes.{LogicalType, is_nullable}
 use Rattle.vortex_columns.specs.ValidityView.{validity_of}
@@ -8,7 +8,6 @@ use Rattle.vortex_errors.proofs.Answering.{AnswersUnlessMemory-weaker}
 use Rattle.vortex_columns.specs.ColumnView.{ColumnView, row, constant_column}
 use Rattle.vortex_operators.specs.OperatorValues.{not_value}
 use Rattle.vortex_kernels.specs.Rows.{HasRows}
-use Rattle.vortex_kernels.specs.ToldBits.{AreTold}
 use Rattle.vortex_kernels.proofs.Comparing.{constant_image}
 use Rattle.vortex_kernels.proofs.RowLemmas.{bool_answers, bool_dtype, not_row}
 use Rattle.vortex_kernels.proofs.boolean.execute_not.Goals as goal
@@ -29,15 +28,8 @@ returns-in_ok-validity-in-None-Some c =
     let input = c.args.input.now in
     let xs = c.in-None-Some.bits.now in
     let are = c.in-None-Some.ensures'.1 in
-    let bits = c.from_vec.result in
-    let told =
-    subst
-    (λ (bs : List Bool). AreTold (length xs) (λ i b. b ≡ not (slice_index_or xs i false)) bs)
-    (sym c.from_vec.ensures)
-    (rw (
-      c.len-in-None-Some.ensures,
-      c.as_slice.ensures,
-    ) at c.in_ok-values-in-None-Some.ensures) in
+    let bits = c.in_ok-values-in-None-Some.values in
+    let told = c.in_ok-values-in-None-Some.ensures in
     subst
     (λ (t : LogicalType).
     AnswersUnlessMemory c.try_bool.result

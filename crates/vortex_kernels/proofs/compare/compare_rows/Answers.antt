@@ -1,11 +1,10 @@
-use Rattle.std.proofs.Common.{length, subst, sym, List, Bool}
+use Rattle.std.proofs.Common.{length}
 use Rattle.std.specs.Prelude.{false, not, ◌||◌, slice_index_or}
 use Rattle.vortex_types.specs.LogicalTypes.{is_nullable}
 use Rattle.vortex_types.specs.Values.{is_null}
 use Rattle.vortex_columns.specs.ValidityView.{validity_of}
 use Rattle.vortex_columns.specs.ColumnView.{row}
 use Rattle.vortex_operators.specs.OperatorValues.{comparison_value}
-use Rattle.vortex_kernels.specs.Comparison.{AreComparisons}
 use Rattle.vortex_kernels.proofs.Comparing.{comparison_at}
 use Rattle.vortex_kernels.proofs.RowLemmas.{bool_answers}
 use Rattle.vortex_kernels.proofs.compare.compare_rows.Goals as goal
@@ -15,10 +14,8 @@ returns g c =
     let op = g.P.Comparison.operator in
     let l = c.args.lhs.now in
     let r = c.args.rhs.now in
-    let bits = c.from_vec.result in
-    let compared =
-    subst (λ (bs : List Bool). AreComparisons op l.rows r.rows bs) (sym c.from_vec.ensures)
-    c.in_ok-bits.ensures in
+    let bits = c.in_ok-bits.bits in
+    let compared = c.in_ok-bits.ensures in
     bool_answers (is_nullable l.dtype || is_nullable r.dtype) (length l.rows)
     (λ i. not (is_null (row l.rows i) || is_null (row r.rows i)))
     (λ i. comparison_value op (row l.rows i) (row r.rows i)) bits

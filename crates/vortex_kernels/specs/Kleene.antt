@@ -1,0 +1,45 @@
+-- Kleene's And and Or in bits.
+use Rattle.std.specs.Prelude.{◌&&◌, ◌||◌, ℕ, Bool, true, false, Option, refl}
+use Rattle.std.specs.Int.RustNames.{bit_and, bit_or}
+use Rattle.vortex_operators.specs.declared.operators.Operator.{Operator}
+use Rattle.vortex_operators.specs.declared.operators.Operator.TheVariants.{And, Or}
+use Rattle.vortex_operators.specs.Kleene.{kleene}
+use Rattle.vortex_types.specs.LogicalTypes.{bool_type}
+use Rattle.vortex_types.specs.Values.{truth_or_null}
+use Rattle.vortex_columns.specs.ColumnView.{ColumnView}
+use Rattle.vortex_kernels.specs.Rows.{HasRows}
+use Rattle.vortex_kernels.specs.Truths.{present, IsValueOf}
+
+-- the values of 64 rows, whatever lies under nulls
+abbrev pub value_word : Operator → ℕ → ℕ → ℕ
+value_word And a b = bit_and a b
+value_word op a b = bit_or a b
+
+-- in each of n rows what the table says of two truth values or nulls
+abbrev pub HasKleeneRows : Operator → Bool → ℕ → (ℕ → Option Bool) → (ℕ → Option Bool) → ColumnView
+    → Type 0
+HasKleeneRows op nullable n left right =
+    HasRows (bool_type nullable) n (λ i. truth_or_null (kleene op (left i) (right i)))
+
+-- both formulas say the truth value where there is one
+pub and_says : (p q a b : Bool) → IsValueOf (a && b) (kleene And (present p a) (present q b))
+and_says true true true true = refl
+and_says true true true false = refl
+and_says true true false b = refl
+and_says true false true b = tt
+and_says true false false b = refl
+and_says false true a true = tt
+and_says false true true false = refl
+and_says false true false false = refl
+and_says false false a b = tt
+
+pub or_says : (p q a b : Bool) → IsValueOf (a || b) (kleene Or (present p a) (present q b))
+or_says true true true b = refl
+or_says true true false true = refl
+or_says true true false false = refl
+or_says true false true b = refl
+or_says true false false b = tt
+or_says false true a false = tt
+or_says false true true true = refl
+or_says false true false true = refl
+or_says false false a b = tt
