@@ -14,10 +14,6 @@ fn from_bools(alloc: Global, first: bool, second: bool) -> VortexResult<BitBuffe
     BitBuffer::from_bools(alloc, &[first, second])
 }
 
-fn from_vec(alloc: Global, first: bool, second: bool) -> VortexResult<BitBuffer> {
-    Ok(BitBuffer::from_vec(vec![in alloc; first, second]?))
-}
-
 fn copy(alloc: Global, bits: VortexResult<BitBuffer>) -> VortexResult<BitBuffer> {
     bits?.try_clone(alloc)
 }
@@ -26,7 +22,7 @@ fn copy(alloc: Global, bits: VortexResult<BitBuffer>) -> VortexResult<BitBuffer>
 fn bits_are_read(rt: HostRuntime) {
     let alloc = rt.alloc();
     assert!(rt; yes(are(from_bools(alloc, true, false), (true, false))));
-    assert!(rt; yes(are(from_vec(alloc, false, true), (false, true))));
+    assert!(rt; yes(are(from_bools(alloc, false, true), (false, true))));
     assert!(rt; yes(are(copy(alloc, from_bools(alloc, true, false)), (true, false))));
 }
 

@@ -136,7 +136,7 @@ fn greatest_in(alloc: Global, place: usize) -> Made {
         values.push(if i == place { 32767i16 } else { 0 })?;
         valid.push(i != 64)?;
     }
-    let validity = Validity::Array(BitBuffer::from_vec(valid));
+    let validity = Validity::Array(BitBuffer::from_bools(alloc, &valid)?);
     kept(alloc, Column::try_primitive(alloc, values, validity))
 }
 

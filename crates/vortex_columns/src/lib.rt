@@ -14,7 +14,7 @@ pub use cell::{Cell, Sequence, cell_of};
 pub use column::Column;
 pub use scalar::Scalar;
 pub use validity::Validity;
-pub use vortex_bits::{BitBuffer, bits};
+pub use vortex_bits::{BitBuffer, BitView, bits};
 pub use vortex_types::{
     Arity, DType, ExecutionCtx, Ints, MismatchPlace, NativePType, Nullability, NumericOperator,
     PType, ScalarValue, StructFields, VortexError, VortexResult, arity, context, dtype, error, ints,

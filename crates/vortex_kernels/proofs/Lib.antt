@@ -4,3 +4,4 @@ pub mod KleeneBits
 pub mod SameIntegers
 pub mod Calculating
 pub mod WordComparisons
+pub mod KleeneAnswers

@@ -1,14 +1,17 @@
 -- Kleene's And and Or in bits.
-use Rattle.std.specs.Prelude.{◌&&◌, ◌||◌, ℕ, Bool, true, false, Option, refl}
+use Rattle.std.specs.Prelude.{◌≡◌, ◌&&◌, ◌||◌, ℕ, ◌<◌, List, length, is_some, Bool, true, false, Option, refl}
 use Rattle.std.specs.Int.RustNames.{bit_and, bit_or}
 use Rattle.vortex_operators.specs.declared.operators.Operator.{Operator}
 use Rattle.vortex_operators.specs.declared.operators.Operator.TheVariants.{And, Or}
+use Rattle.vortex_operators.specs.Operators.{is_boolean, IsNotBoolean}
+use Rattle.vortex_errors.specs.declared.error.VortexError.{VortexError}
+use Rattle.vortex_columns.specs.ValidityView.{ValidityView}
 use Rattle.vortex_operators.specs.Kleene.{kleene}
 use Rattle.vortex_types.specs.LogicalTypes.{bool_type}
 use Rattle.vortex_types.specs.Values.{truth_or_null}
 use Rattle.vortex_columns.specs.ColumnView.{ColumnView}
 use Rattle.vortex_kernels.specs.Rows.{HasRows}
-use Rattle.vortex_kernels.specs.Truths.{present, IsValueOf}
+use Rattle.vortex_kernels.specs.Truths.{present, IsValueOf, truth_at}
 
 -- the values of 64 rows, whatever lies under nulls
 abbrev pub value_word : Operator → ℕ → ℕ → ℕ
@@ -20,6 +23,19 @@ abbrev pub HasKleeneRows : Operator → Bool → ℕ → (ℕ → Option Bool) �
     → Type 0
 HasKleeneRows op nullable n left right =
     HasRows (bool_type nullable) n (λ i. truth_or_null (kleene op (left i) (right i)))
+
+-- there is a truth value in each row of bits
+abbrev pub HaveTruths : List Bool → ValidityView → Type 0
+HaveTruths bits v = (i : ℕ) → i < length bits → is_some (truth_at bits v i) ≡ true
+
+pub record AnswersKleene (op : Operator) (nullable : Bool) (n : ℕ) (left right : ℕ → Option Bool)
+    (c : ColumnView) : Type 0 where
+  pub operator : is_boolean op ≡ true
+  pub rows : HasKleeneRows op nullable n left right c
+
+-- an operator that is neither And nor Or
+abbrev pub RefusesOperator : Operator → VortexError → Type 0
+RefusesOperator op e = (is_boolean op ≡ false) × IsNotBoolean op e
 
 -- both formulas say the truth value where there is one
 pub and_says : (p q a b : Bool) → IsValueOf (a && b) (kleene And (present p a) (present q b))

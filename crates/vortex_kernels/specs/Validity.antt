@@ -34,3 +34,8 @@ abbrev pub IsJointValidity : Bool → ColumnView → ColumnView → ValidityView
 IsJointValidity nullable l r =
     IsValidity nullable (length l.rows)
     (λ i. not (is_null (row l.rows i) || is_null (row r.rows i)))
+
+-- serves the same numbers of rows, of which the same are valid
+pub record IsAsValid (v w : ValidityView) : Type 0 where
+  pub fits : (n : ℕ) → FitsRows v n → FitsRows w n
+  pub each : (i : ℕ) → is_valid_row w i ≡ is_valid_row v i

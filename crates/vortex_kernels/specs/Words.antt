@@ -18,11 +18,12 @@ pub use Rattle.vortex_kernels.specs.PairOrders.{byte_order, row_orders, int_orde
 pub use Rattle.vortex_kernels.specs.PairOrders.{bit_orders, bit_orders_with, byte_orders}
 pub use Rattle.vortex_kernels.specs.PairOrders.{byte_orders_with}
 pub use Rattle.vortex_kernels.specs.Rows.{HasScalarRows, either_nullable}
-pub use Rattle.vortex_kernels.specs.Kleene.{HasKleeneRows, value_word}
+pub use Rattle.vortex_kernels.specs.Kleene.{HasKleeneRows, value_word, HaveTruths, AnswersKleene}
+pub use Rattle.vortex_kernels.specs.Kleene.{RefusesOperator}
 pub use Rattle.vortex_kernels.specs.Truths.{present, IsValueOf, truth_at, operand_there}
 pub use Rattle.vortex_kernels.specs.Truths.{operand_truth, IsOperandOf, HasTruth, AreTruths}
 pub use Rattle.vortex_kernels.specs.Validity.{valid_view, AreValid, IsValidity, IsValidityOf}
-pub use Rattle.vortex_kernels.specs.Validity.{IsJointValidity}
+pub use Rattle.vortex_kernels.specs.Validity.{IsJointValidity, IsAsValid}
 pub use Rattle.vortex_operators.specs.Arithmetic.{integer_of_both}
 pub use Rattle.vortex_operators.specs.Kleene.{kleene}
 pub use Rattle.vortex_operators.specs.OperatorValues.{not_value, holds}

@@ -1,16 +1,21 @@
 //! And, Or and Not by Kleene's tables.
-ghost use Rattle.std.specs.Prelude.{◌≡◌, true, length};
+ghost use Rattle.std.specs.Prelude.{◌≡◌, ◌<◌, ℕ, true, false, length, is_some};
 ghost use Rattle.vortex_kernels.specs.Words.{Answers, AnswersUnlessMemory, is_bool_type};
 ghost use Rattle.vortex_kernels.specs.Words.{is_boolean, are_bools, not_value, HasBooleanRows};
 ghost use Rattle.vortex_kernels.specs.Words.{HasNotRows, AnswersBoolean, RefusesBoolean};
+ghost use Rattle.vortex_kernels.specs.Words.{allows_null, validity_of, FitsRows, truth_at};
+ghost use Rattle.vortex_kernels.specs.Words.{HaveTruths, HasKleeneRows, AnswersKleene};
+ghost use Rattle.vortex_kernels.specs.Words.{RefusesOperator, operand_there, operand_truth};
+ghost use Rattle.vortex_kernels.specs.Words.{HasTruth};
 
 use crate::kleene::{KleeneTable, kleene_table};
 use crate::operators::Operator;
-use crate::truths::operand_of;
-use crate::validity::same_valid;
+use crate::truths::{Operand, operand_of};
+use crate::validity::{ValidRows, same_valid};
 use vortex_bits::{Both, Either, LeftTurned, zip_bits_with};
 use vortex_columns::{
-    Column, DType, ExecutionCtx, MismatchPlace, Nullability, Scalar, VortexError, VortexResult,
+    BitBuffer, Column, DType, ExecutionCtx, MismatchPlace, Nullability, Scalar, Validity,
+    VortexError, VortexResult,
 };
 
 /// The table of one operator over two columns.
@@ -82,4 +87,80 @@ pub fn execute_not(input: &Column, ctx: &mut ExecutionCtx) -> VortexResult<Colum
         }
         (None, None) => unreachable!(),
     }
+}
+
+/// The table of the operator over two sides.
+fn kleene_sides(
+    left: Operand<'_>,
+    right: Operand<'_>,
+    len: usize,
+    operator: Operator,
+    nullability: Nullability,
+    ctx: &mut ExecutionCtx,
+) -> VortexResult<Column>
+    requires left { (i : ℕ) → i < len → operand_there left i }
+    requires right { (i : ℕ) → i < len → operand_there right i }
+    requires truths { allows_null nullability ≡ false → (i : ℕ) → i < len
+        → HasTruth left i × HasTruth right i }
+    ensures { Answers result
+        (AnswersKleene operator (allows_null nullability) len (operand_truth left.entry)
+        (operand_truth right.entry)) (RefusesOperator operator) }
+{
+    match operator {
+        Operator::And => kleene_table::<Both>(left, right, len, nullability, ctx),
+        Operator::Or => kleene_table::<Either>(left, right, len, nullability, ctx),
+        _ => Err(VortexError::NotBooleanOperator(operator.text())),
+    }
+}
+
+/// And or Or of two lists of truth values row by row: bits, beside the rows that are not null. A column of Bool of the
+/// nullability handed in, which is `Nullable` unless no row on either side is null.
+///
+/// E4 for another operator.
+pub fn kleene_boolean_buffers(
+    lhs: BitBuffer,
+    lhs_validity: Validity,
+    rhs: BitBuffer,
+    rhs_validity: Validity,
+    operator: Operator,
+    nullability: Nullability,
+    ctx: &mut ExecutionCtx,
+) -> VortexResult<Column>
+    requires lengths { length lhs ≡ length rhs }
+    requires left { FitsRows (validity_of lhs_validity) (length lhs) }
+    requires right { FitsRows (validity_of rhs_validity) (length rhs) }
+    requires nulls { allows_null nullability ≡ false
+        → HaveTruths lhs (validity_of lhs_validity) × HaveTruths rhs (validity_of rhs_validity) }
+    ensures { Answers result
+        (AnswersKleene operator (allows_null nullability) (length lhs)
+        (truth_at lhs (validity_of lhs_validity)) (truth_at rhs (validity_of rhs_validity)))
+        (RefusesOperator operator) }
+{
+    let left = Operand::of_bits(&lhs, ValidRows::of(&lhs_validity));
+    let right = Operand::of_bits(&rhs, ValidRows::of(&rhs_validity));
+    kleene_sides(left, right, lhs.len(), operator, nullability, ctx)
+}
+
+/// And or Or of a list of truth values and one truth value or null, row by row. A column of Bool of the nullability
+/// handed in, which is `Nullable` unless nothing on either side is null.
+///
+/// E4 for another operator.
+pub fn kleene_boolean_buffer_scalar(
+    lhs: BitBuffer,
+    lhs_validity: Validity,
+    rhs: Option<bool>,
+    operator: Operator,
+    nullability: Nullability,
+    ctx: &mut ExecutionCtx,
+) -> VortexResult<Column>
+    requires left { FitsRows (validity_of lhs_validity) (length lhs) }
+    requires nulls { allows_null nullability ≡ false
+        → HaveTruths lhs (validity_of lhs_validity) × (is_some rhs ≡ true) }
+    ensures { Answers result
+        (AnswersKleene operator (allows_null nullability) (length lhs)
+        (truth_at lhs (validity_of lhs_validity)) (λ i. rhs)) (RefusesOperator operator) }
+{
+    let left = Operand::of_bits(&lhs, ValidRows::of(&lhs_validity));
+    let right = Operand::one(rhs);
+    kleene_sides(left, right, lhs.len(), operator, nullability, ctx)
 }

@@ -14,7 +14,9 @@ mod truths;
 mod validity;
 
 pub use arithmetic_integer::{ArithmeticInteger, apply_checked};
-pub use boolean::{execute_boolean, execute_not};
+pub use boolean::{
+    execute_boolean, execute_not, kleene_boolean_buffer_scalar, kleene_boolean_buffers,
+};
 pub use compare::{execute_compare, scalar_cmp};
 pub use kleene::kleene_words;
 pub use numeric::execute_numeric;

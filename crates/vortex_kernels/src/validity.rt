@@ -2,6 +2,7 @@
 ghost use Rattle.std.specs.Prelude.{◌≡◌, true, length};
 ghost use Rattle.vortex_kernels.specs.Words.{AnswersUnlessMemory, validity_of, either_nullable};
 ghost use Rattle.vortex_kernels.specs.Words.{valid_view, AreValid, IsValidityOf, IsJointValidity};
+ghost use Rattle.vortex_kernels.specs.Words.{IsAsValid};
 
 use std::alloc::Global;
 use vortex_bits::{Both, zip_bits};
@@ -16,7 +17,19 @@ pub(crate) enum ValidRows<'a> {
     Listed(&'a BitBuffer),
 }
 
-impl ValidRows<'_> {
+impl<'a> ValidRows<'a> {
+    /// The rows that are valid by a validity, whatever its nullability.
+    pub(crate) fn of(validity: &'a Validity) -> ValidRows<'a>
+        ensures { IsAsValid (validity_of validity.now) (valid_view result) }
+    {
+        match validity {
+            Validity::NonNullable => ValidRows::Every,
+            Validity::AllValid => ValidRows::Every,
+            Validity::AllInvalid => ValidRows::No,
+            Validity::Array(bits) => ValidRows::Listed(bits),
+        }
+    }
+
     /// The same as the validity of a nullable type; a list of bits is copied.
     fn to_validity(&self, alloc: Global) -> VortexResult<Validity>
         ensures { AnswersUnlessMemory result (λ v. validity_of v ≡ valid_view self.now) }

@@ -5,7 +5,7 @@ pub use vortex_checked::{
     CheckedAdd, CheckedArithmetic, CheckedDiv, CheckedMul, CheckedPrimitiveOp, CheckedSub, Failure,
 };
 pub use vortex_columns::{
-    Arity, BitBuffer, ByteRows, Cell, Column, DType, ExecutionCtx, Ints, MismatchPlace,
+    Arity, BitBuffer, BitView, ByteRows, Cell, Column, DType, ExecutionCtx, Ints, MismatchPlace,
     NativePType, Nullability, NumericOperator, PType, Scalar, ScalarValue, Sequence, StructFields,
     Validity, VortexError, VortexResult, cell_of,
 };
@@ -16,5 +16,6 @@ pub use vortex_functions::{
 };
 pub use vortex_kernels::{
     ArithmeticInteger, CompareOperator, Operator, apply_checked, execute_boolean, execute_compare,
-    execute_not, execute_numeric, scalar_cmp,
+    execute_not, execute_numeric, kleene_boolean_buffer_scalar, kleene_boolean_buffers, kleene_words,
+    scalar_cmp,
 };
