@@ -3,3 +3,4 @@ pub mod RowLemmas
 pub mod KleeneBits
 pub mod SameIntegers
 pub mod Calculating
+pub mod ConstantResults
