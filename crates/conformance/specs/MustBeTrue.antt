@@ -39,7 +39,7 @@ typed (bool_type n ∷ []) t [] e h = absurd h
 typed (bool_type n ∷ []) t (v ∷ w ∷ vs) e h = absurd h.1
 typed ts t vs e h = cc
 
-only : {A : Type 0} (P : A → Type 0) (x : A) → Any P (x ∷ []) → P x
+pub only : {A : Type 0} (P : A → Type 0) (x : A) → Any P (x ∷ []) → P x
 only {A} P x a = by a.0 a.1 a.2 a.3 a.4
   where
     by : (k : ℕ) (y : A) → k < 1 → slice_index_or (x ∷ []) k y ≡ y → P y → P x

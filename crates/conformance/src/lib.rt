@@ -5,6 +5,9 @@
 mod binding;
 #[cfg(test)]
 mod functions;
+pub mod half;
+#[cfg(test)]
+mod halves;
 pub mod levelled;
 #[cfg(test)]
 mod literals;

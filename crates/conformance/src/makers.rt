@@ -101,6 +101,16 @@ pub fn call_of_leaves<C: ScalarFnVTable>(
     planted(alloc, BoundExpression::try_new(alloc, function, children))
 }
 
+/// A call of a function of one tree.
+pub fn call_of<C: ScalarFnVTable>(
+    alloc: Global,
+    function: ScalarFnRef<C>,
+    child: Tree<C>,
+) -> Tree<C> {
+    let children = one(alloc, child)?;
+    planted(alloc, BoundExpression::try_new(alloc, function, children))
+}
+
 /// A copy of a tree.
 pub fn copied<C: ScalarFnVTable>(alloc: Global, tree: Tree<C>) -> Tree<C> {
     planted(alloc, tree?.try_clone(alloc))
@@ -137,4 +147,12 @@ pub fn answers<C: ScalarFnVTable>(
     wanted: &[Option<bool>],
 ) -> VortexResult<bool> {
     Ok(executed(alloc, tree, columns, wanted.len())?.as_slice() == wanted)
+}
+
+/// Whether a caller's function faults with that number.
+pub fn is_fault<T: Drop>(answer: VortexResult<T>, wanted: u64) -> bool {
+    match answer {
+        Err(VortexError::Custom(number)) => number == wanted,
+        _ => false,
+    }
 }

@@ -64,14 +64,6 @@ fn none(alloc: Global) -> Tree<NoCustom> {
     call_of_leaves(alloc, ScalarFnRef::custom(NoCustom, EmptyOptions), 0)
 }
 
-/// Whether a caller's function faults with that number.
-fn is_fault<T: Drop>(answer: VortexResult<T>, wanted: u64) -> bool {
-    match answer {
-        Err(VortexError::Custom(number)) => number == wanted,
-        _ => false,
-    }
-}
-
 /// Whether a tree lends a column of these rows.
 fn lends<C: ScalarFnVTable>(
     alloc: Global,

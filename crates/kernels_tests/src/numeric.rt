@@ -6,7 +6,7 @@ use crate::questions::{
 };
 use fixtures::{Made, constant, is_refused, is_uneven, kept, nullable_ints, numbers, yes};
 use std::alloc::Global;
-use vortex_columns::{BitBuffer, Column, NumericOperator, PType, Validity, VortexResult};
+use vortex_columns::{BitBuffer, Cell, Column, NumericOperator, PType, Validity, VortexResult};
 
 /// The result of two i8.
 fn i8_by(alloc: Global, left: i8, operator: NumericOperator, right: i8) -> Made {
@@ -112,6 +112,40 @@ fn takes_constants_on_either_side(rt: HostRuntime) {
     assert!(rt; yes(has_numbers(alloc, left, PLAIN, &[Some(4), Some(3)])));
     let both = difference(alloc, same(alloc, 5, 2), same(alloc, 7, 2));
     assert!(rt; yes(has_numbers(alloc, both, PLAIN, &[Some(-2), Some(-2)])));
+}
+
+/// Whether an answer is a constant of that number.
+fn is_constant(answer: Made, wanted: i128) -> VortexResult<bool> {
+    let answer = answer?;
+    Ok(match answer.as_constant() {
+        Some(scalar) => match scalar.cell() {
+            Cell::Int(number) => number == wanted,
+            _ => false,
+        },
+        None => false,
+    })
+}
+
+/// The quotient of two constants of so many rows.
+fn quotient(alloc: Global, left: i128, right: i128, len: usize) -> Made {
+    let (left, right) = (same(alloc, left, len), same(alloc, right, len));
+    calculated(alloc, left, NumericOperator::Div, right)
+}
+
+#[test]
+fn two_constants_answer_a_constant(rt: HostRuntime) {
+    let alloc = rt.alloc();
+    assert!(rt; yes(is_constant(quotient(alloc, -7, 2, 3), -3)));
+    assert!(rt;
+        yes(has_numbers(
+            alloc,
+            quotient(alloc, -7, 2, 2),
+            PLAIN,
+            &[Some(-3), Some(-3)]
+        ))
+    );
+    assert!(rt; is_refused(quotient(alloc, 7, 0, 1), "Arithmetic.Div"));
+    assert!(rt; yes(has_numbers(alloc, quotient(alloc, 7, 0, 0), PLAIN, &[])));
 }
 
 /// Two nulls of i32, as a constant.

@@ -97,7 +97,7 @@ inside_is least greatest z h = by (int_lt z least) (int_lt greatest z) refl refl
     by false true e f k = cc
     by false false e f k = (omega (arith, ints, e), omega (arith, ints, f))
 
-held_result : (p : PType) (o : Option ℤ) (z : ℤ) → FitsResult p o → AnswersExact p o z
+pub held_result : (p : PType) (o : Option ℤ) (z : ℤ) → FitsResult p o → AnswersExact p o z
     → held p o ≡ Some (number z)
 held_result p None z fits answered = absurd fits
 held_result p (Some y) z fits answered =
@@ -107,7 +107,7 @@ held_result p (Some y) z fits answered =
     same : Some y ≡ Some z → y ≡ z
     same e = cc
 
-held_none : (p : PType) (o : Option ℤ) → ¬ FitsResult p o → held p o ≡ None
+pub held_none : (p : PType) (o : Option ℤ) → ¬ FitsResult p o → held p o ≡ None
 held_none p None fault = refl
 held_none p (Some z) fault = by (is_outside (least_of p) (greatest_of p) z) refl
   where

@@ -5,3 +5,4 @@ pub mod SameIntegers
 pub mod Calculating
 pub mod WordComparisons
 pub mod KleeneAnswers
+pub mod ConstantResults

@@ -1,10 +1,11 @@
 //! Arithmetic of columns of one integer type, exact in each row.
 ghost use Rattle.std.specs.Prelude.{◌≡◌, ◌<◌, ℕ, true, length, map, MatchOption, Some};
+ghost use Rattle.std.specs.Prelude.{IfOk, IsSome};
 ghost use Rattle.vortex_kernels.specs.Words.{Answers, AnswersUnlessMemory, integer_of_both};
 ghost use Rattle.vortex_kernels.specs.Words.{AnswersNumeric, RefusesNumeric};
 ghost use Rattle.vortex_kernels.specs.Words.{IsExactOf, row_results, AreNumbers};
 ghost use Rattle.vortex_kernels.specs.Words.{AreResults, TellsFaults, FitWhereValid, FaultsAt};
-ghost use Rattle.vortex_kernels.specs.Words.{HasScalarRows, null_of, type_of};
+ghost use Rattle.vortex_kernels.specs.Words.{HasScalarRows, IsConstantOf, null_of, number, type_of};
 
 use crate::arithmetic_integer::{ArithmeticInteger, apply_checked};
 use crate::integer_types::with_integer;
@@ -15,7 +16,7 @@ use std::alloc::Global;
 use vortex_checked::{CheckedAdd, CheckedDiv, CheckedMul, CheckedPrimitiveOp, CheckedSub};
 use vortex_columns::{
     Column, DType, ExecutionCtx, MismatchPlace, Nullability, NumericOperator, PType, Scalar,
-    VortexError, VortexResult,
+    ScalarValue, VortexError, VortexResult,
 };
 
 /// The value of each row, also where it lies under a null, and evidence that is joined over all rows.
@@ -137,6 +138,36 @@ fn numeric_beside<T: ArithmeticInteger, O: CheckedPrimitiveOp<T>, L: Numbers<T>>
     }
 }
 
+/// The operation on two constant columns of equal length: it is made once, and answered as a constant. Nothing faults
+/// where there are no rows.
+fn numeric_constants<T: ArithmeticInteger, O: CheckedPrimitiveOp<T>>(
+    left: T,
+    right: T,
+    lhs: &Column,
+    rhs: &Column,
+    operator: NumericOperator,
+    ctx: &mut ExecutionCtx,
+) -> VortexResult<Column>
+    requires types { integer_of_both lhs.now.dtype rhs.now.dtype ≡ Some T.ptype }
+    requires lengths { length lhs.now.rows ≡ length rhs.now.rows }
+    requires exact { IsExactOf operator O.exact }
+    requires left { IsConstantOf (number (T.NativePType.number left)) lhs.now }
+    requires right { IsConstantOf (number (T.NativePType.number right)) rhs.now }
+    ensures rows { Answers result (AnswersNumeric operator lhs.now rhs.now)
+        (RefusesNumeric operator lhs.now rhs.now) }
+    ensures constant { IfOk result (λ c. IsSome c.constant) }
+{
+    let (value, fault) = apply_checked::<T, O>(left, right);
+    if fault != O::Fail::default() && lhs.len() != 0 {
+        return Err(VortexError::Arithmetic(operator));
+    }
+    let dtype = lhs.dtype().try_clone(ctx.alloc())?;
+    let nullability = lhs.dtype().nullability() | rhs.dtype().nullability();
+    let value = ScalarValue::Int(value.to_i128());
+    let scalar = Scalar::try_new(dtype.with_nullability(nullability), Some(value))?;
+    Column::constant(ctx.alloc(), scalar, lhs.len())
+}
+
 /// The operation in each row, of columns of equal length. The form of each side is chosen before the rows.
 fn numeric_columns<T: ArithmeticInteger, O: CheckedPrimitiveOp<T>>(
     lhs: &Column,
@@ -155,10 +186,13 @@ fn numeric_columns<T: ArithmeticInteger, O: CheckedPrimitiveOp<T>>(
             let left = ListedNumbers { values };
             numeric_beside::<T, O, ListedNumbers<T>>(&left, lhs, rhs, operator, ctx)
         }
-        (None, Some(value)) => {
-            let left = OneNumber { value };
-            numeric_beside::<T, O, OneNumber<T>>(&left, lhs, rhs, operator, ctx)
-        }
+        (None, Some(value)) => match constant_int::<T>(rhs) {
+            Some(right) => numeric_constants::<T, O>(value, right, lhs, rhs, operator, ctx),
+            None => {
+                let left = OneNumber { value };
+                numeric_beside::<T, O, OneNumber<T>>(&left, lhs, rhs, operator, ctx)
+            }
+        },
         (None, None) => null_rows(lhs, ctx),
     }
 }
@@ -194,7 +228,7 @@ fn integer_of_both(lhs: &DType, rhs: &DType) -> Option<PType>
 }
 
 /// Exact arithmetic of two columns row by row: a column of their integer type, nullable if either is, null exactly
-/// where a row is null on either side. A quotient is truncated toward zero.
+/// where a row is null on either side. A quotient is truncated toward zero. Two constants answer a constant.
 ///
 /// In order: E3 Arithmetic for types that are not one integer type apart from nullability; E2 for columns of two
 /// lengths, with `left` the first; E7 exactly where in some row two operands that are not null have no exact result
