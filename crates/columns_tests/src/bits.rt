@@ -1,6 +1,6 @@
 //! Bits, validity and integers.
 
-use fixtures::yes;
+use fixtures::{is_refused, yes};
 use std::alloc::Global;
 use vortex_columns::{BitBuffer, Ints, NativePType, Nullability, PType, Validity, VortexResult};
 
@@ -24,6 +24,55 @@ fn bits_are_read(rt: HostRuntime) {
     assert!(rt; yes(are(from_bools(alloc, true, false), (true, false))));
     assert!(rt; yes(are(from_bools(alloc, false, true), (false, true))));
     assert!(rt; yes(are(copy(alloc, from_bools(alloc, true, false)), (true, false))));
+}
+
+/// So many zero bytes, as bits from an offset on.
+fn zeros(alloc: Global, bytes: usize, offset: usize, len: usize) -> VortexResult<BitBuffer> {
+    let mut all = Vec::new(alloc);
+    for _ in 0..bytes {
+        all.push(0u8)?;
+    }
+    BitBuffer::new(all, offset, len)
+}
+
+#[test]
+fn bits_past_the_bytes_are_refused(rt: HostRuntime) {
+    let alloc = rt.alloc();
+    assert!(rt; is_refused(zeros(alloc, 9, 7, 70), "InvalidColumn"));
+    assert!(rt; is_refused(zeros(alloc, 0, 1, 0), "InvalidColumn"));
+    assert!(rt; is_refused(zeros(alloc, 1, usize::MAX, 1), "InvalidColumn"));
+    assert!(rt; yes(zeros(alloc, 9, 2, 70).map(|bits| bits.len() == 70)));
+}
+
+/// The bits of bytes 0x80, 0x01, 0x00 and 0xFF from place 7 on.
+fn three_bytes(alloc: Global) -> VortexResult<BitBuffer> {
+    BitBuffer::new(Vec::from_array(alloc, [0x80u8, 0x01, 0x00, 0xFF])?, 7, 20)
+}
+
+/// The words of a range of them.
+fn words(alloc: Global, from: usize, len: usize) -> VortexResult<u64> {
+    let bits = three_bytes(alloc)?;
+    if from > bits.len() || len > bits.len() - from {
+        return Ok(0);
+    }
+    Ok(bits.slice(from, len).word(0))
+}
+
+fn is_word(word: VortexResult<u64>, wanted: u64) -> bool {
+    match word {
+        Ok(word) => word == wanted,
+        Err(_) => false,
+    }
+}
+
+#[test]
+fn words_begin_anywhere_and_end_with_the_range(rt: HostRuntime) {
+    let alloc = rt.alloc();
+    assert!(rt; is_word(words(alloc, 0, 20), 0b1110_0000_0000_0000_0011));
+    assert!(rt; is_word(words(alloc, 1, 19), 0b111_0000_0000_0000_0001));
+    assert!(rt; is_word(words(alloc, 0, 18), 0b10_0000_0000_0000_0011));
+    assert!(rt; is_word(words(alloc, 17, 2), 0b11));
+    assert!(rt; is_word(words(alloc, 20, 0), 0));
 }
 
 /// Whether a validity of those bits, and its copy, fit two rows alone, lend the bits and are nullable.

@@ -21,3 +21,5 @@ mod questions;
 mod scalars;
 #[cfg(test)]
 mod widths;
+#[cfg(test)]
+mod words;
