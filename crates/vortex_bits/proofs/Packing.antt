@@ -135,7 +135,17 @@ module _ (told : List ℕ) (at word : ℕ) (fits : word < 2 ^ 64)
   word_is_raw : word ≡ little raw
   word_is_raw =
       same_from_bits_below 64 word (little raw) fits
-      (omega (arith, below at, below (at + 1), below (at + 2), below (at + 3), below (at + 4), below (at + 5), below (at + 6), below (at + 7)))
+      (omega (
+        arith,
+        below at,
+        below (at + 1),
+        below (at + 2),
+        below (at + 3),
+        below (at + 4),
+        below (at + 5),
+        below (at + 6),
+        below (at + 7),
+      ))
       (λ i lt. same_bit (bit_at word i) (bit_at (little raw) i) (bit_at-lt word i)
       (bit_at-lt (little raw) i)
       (bits i lt ∙ sym (eight_bytes told at i lt) ∙ sym (little_bits raw raw_small i)))

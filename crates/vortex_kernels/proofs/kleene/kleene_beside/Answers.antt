@@ -3,6 +3,7 @@ use Rattle.vortex_kernels.specs.declared.truths.Operand.{Operand}
 use Rattle.vortex_kernels.specs.Truths.{operand_there}
 use Rattle.vortex_kernels.proofs.kleene.kleene_beside.Goals as goal
 
-pub kleene_rows-requires-in-ShiftedMasked-clause-right : goal.kleene_rows-requires-in-ShiftedMasked-clause-right
+pub kleene_rows-requires-in-ShiftedMasked-clause-right :
+    goal.kleene_rows-requires-in-ShiftedMasked-clause-right
 kleene_rows-requires-in-ShiftedMasked-clause-right g c = λ i lt.
     subst (λ (o : Operand). operand_there o i) c.in-ShiftedMasked.is (c.requires.right i lt)

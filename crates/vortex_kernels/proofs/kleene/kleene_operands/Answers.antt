@@ -8,6 +8,7 @@ kleene_beside-requires-in-Shifted-clause-left g c = λ i lt.
     let there = subst (λ (o : Operand). operand_there o i) c.in-Shifted.is (c.requires.left i lt) in
     (there, tt)
 
-pub kleene_beside-requires-in-ShiftedMasked-clause-left : goal.kleene_beside-requires-in-ShiftedMasked-clause-left
+pub kleene_beside-requires-in-ShiftedMasked-clause-left :
+    goal.kleene_beside-requires-in-ShiftedMasked-clause-left
 kleene_beside-requires-in-ShiftedMasked-clause-left g c = λ i lt.
     subst (λ (o : Operand). operand_there o i) c.in-ShiftedMasked.is (c.requires.left i lt)

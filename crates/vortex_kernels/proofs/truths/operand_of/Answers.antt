@@ -10,7 +10,9 @@ some_or_none (Some s) n = refl
 pub returns-in-None : goal.returns-in-None
 returns-in-None c =
     let column = c.args.column.now in
-    let some = some_or_none column.constant (λ none. c.in-None.ensures (record { bool = c.requires; computed = none })) in
+    let some =
+    some_or_none column.constant
+    (λ none. c.in-None.ensures (record { bool = c.requires; computed = none })) in
     let one = c.one.ensures (length column.rows) in
     record {
       there = one.there;
