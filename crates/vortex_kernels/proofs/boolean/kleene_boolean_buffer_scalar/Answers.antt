@@ -1,4 +1,4 @@
-use Rattle.std.proofs.Common.{Bool, ◌∙◌, ◌<◌, false, slice_index_or, ap, arith, length}
+use Rattle.std.proofs.Common.{Option, Bool, ◌∙◌, ◌<◌, false, slice_index_or, ap, arith, length}
 use Rattle.std.specs.Prelude.{is_some}
 use Rattle.vortex_types.specs.TypeOf.{allows_null}
 use Rattle.vortex_columns.specs.ValidityView.{validity_of}
