@@ -1,3 +1,4 @@
 pub mod Tokens
 pub mod TokenKinds
+pub mod Places
 pub mod Options

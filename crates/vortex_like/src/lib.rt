@@ -2,6 +2,7 @@
 #![tactic(auto)]
 
 mod characters;
+mod matching;
 pub mod options;
 mod pattern;
 mod token;
