@@ -1,3 +1,4 @@
 pub mod Walking
 pub mod Counting
 pub mod Walk
+pub mod Testing

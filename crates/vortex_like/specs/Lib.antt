@@ -2,3 +2,4 @@ pub mod Tokens
 pub mod TokenKinds
 pub mod Places
 pub mod Options
+pub mod Patterns

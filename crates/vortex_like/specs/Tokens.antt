@@ -1,7 +1,8 @@
 -- The tokens of a LIKE pattern, and which texts they match: SQL LIKE with backslash escape, and
 -- under ILIKE Unicode's simple case folding, one character at a time.
-use Rattle.std.specs.Prelude.{ℕ, Bool, true, false, ◌==◌, ◌≡◌, List, [], ◌∷◌, ◌++◌}
+use Rattle.std.specs.Prelude.{ℕ, Bool, true, false, ◌==◌, ◌≡◌, ◌&&◌, List, [], ◌∷◌, ◌++◌}
 use Rattle.std.specs.Prelude.{if◌then◌else◌}
+use Rattle.std.specs.List.{list_any}
 use Rattle.unicode.specs.CaseFolding.{simple_fold}
 
 -- any sequence of characters, one character, or that character
@@ -58,3 +59,17 @@ Match case_insensitive (one ∷ rest) text =
 Match case_insensitive (character own ∷ rest) text =
     (c : ℕ) × (after : List ℕ) × (text ≡ c ∷ after)
     × (same_character case_insensitive own c ≡ true) × Match case_insensitive rest after
+
+-- what a text ends with, from the whole text down to nothing
+abbrev pub endings : List ℕ → List (List ℕ)
+endings [] = [] ∷ []
+endings (c ∷ text) = (c ∷ text) ∷ endings text
+
+-- the same as a test
+abbrev pub is_match : Bool → List Token → List ℕ → Bool
+is_match case_insensitive [] [] = true
+is_match case_insensitive [] (c ∷ text) = false
+is_match case_insensitive (any ∷ rest) text = list_any (is_match case_insensitive rest) (endings text)
+is_match case_insensitive (t ∷ rest) [] = false
+is_match case_insensitive (t ∷ rest) (c ∷ text) =
+    accepts case_insensitive t c && is_match case_insensitive rest text

@@ -4,8 +4,9 @@
 mod characters;
 mod matching;
 pub mod options;
-mod pattern;
+pub mod pattern;
 mod token;
 
 pub use options::LikeOptions;
+pub use pattern::LikePattern;
 pub use token::{LikeToken, Looks};

@@ -1,12 +1,14 @@
 //! A pattern, read once, and the texts that it matches.
-ghost use Rattle.std.specs.Prelude.{◌≡◌, ◌+◌, ◌<◌, ◌∷◌, [], length, MatchOption};
-ghost use Rattle.std.specs.Str.{chars};
+ghost use Rattle.std.specs.Prelude.{◌≡◌, ◌+◌, ◌<◌, ◌↔◌, ◌∷◌, [], length, IsTrue, IsUtf8, MatchOption};
+ghost use Rattle.std.specs.Str.{chars, IsAscii};
 ghost use Rattle.vortex_types.specs.Answers.{AnswersUnlessMemory};
-ghost use Rattle.vortex_like.specs.Tokens.{plain_token, tokens_of};
+ghost use Rattle.vortex_like.specs.Tokens.{plain_token, tokens_of, Match, is_match};
 
 use crate::characters::split_first;
+use crate::matching::match_tokens;
 use crate::token::LikeToken;
 use std::alloc::Global;
+use std::marker::Model;
 use vortex_types::VortexResult;
 
 /// The token of a character that is not escaped and escapes none.
@@ -49,4 +51,65 @@ fn tokens_of(alloc: Global, pattern: &str) -> VortexResult<Vec<LikeToken>>
         rest = behind;
     }
     Ok(tokens)
+}
+
+/// A pattern, compiled for many texts.
+#[derive(Drop)]
+pub struct LikePattern {
+    tokens: Vec<LikeToken>,
+    case_insensitive: bool,
+    ascii_haystack: bool,
+}
+
+impl Model for LikePattern {
+    ghost use Rattle.vortex_like.specs.Patterns.{PatternView};
+
+    ghost Value = { PatternView };
+
+    ghost view = { λ a. record {
+        tokens = a.tokens.items;
+        case_insensitive = a.case_insensitive;
+        ascii_haystack = a.ascii_haystack;
+    } };
+}
+
+impl LikePattern {
+    ghost use Rattle.vortex_like.specs.Patterns.{pattern_of};
+
+    /// The pattern of a text: `%` is any sequence of characters, newlines too, `_` one character, a backslash and a
+    /// character that character, a backslash at the end itself, and every other character itself.
+    ///
+    /// With `case_insensitive` a character stands for each with the same simple case folding. `ascii_haystack` promises
+    /// that every text to match is ASCII. Refuses for memory alone (E9).
+    pub fn compile(
+        alloc: Global,
+        pattern: &str,
+        case_insensitive: bool,
+        ascii_haystack: bool,
+    ) -> VortexResult<LikePattern>
+        ensures { AnswersUnlessMemory result
+            (λ p. p ≡ pattern_of pattern.now case_insensitive ascii_haystack) }
+    {
+        let tokens = tokens_of(alloc, pattern)?;
+        Ok(LikePattern {
+            tokens,
+            case_insensitive,
+            ascii_haystack,
+        })
+    }
+
+    /// Whether the pattern matches a text, whole, by the text's UTF-8 bytes. Takes no memory, and no more looks at a
+    /// character than one for each token, at each place of the text.
+    pub fn matches(&self, haystack: &[u8]) -> bool
+        requires utf8 { IsUtf8 haystack.now }
+        requires ascii { IsTrue self.now.ascii_haystack → IsAscii haystack.now }
+        ensures answer { IsTrue result
+            ↔ Match self.now.case_insensitive self.now.tokens (chars haystack.now) }
+        ensures test { result
+            ≡ is_match self.now.case_insensitive self.now.tokens (chars haystack.now) }
+    {
+        let text = unsafe { str::from_utf8_unchecked(haystack) };
+        let (found, _) = match_tokens(self.tokens.as_slice(), text, self.case_insensitive);
+        found
+    }
 }
