@@ -2,3 +2,4 @@ pub mod Walking
 pub mod Counting
 pub mod Walk
 pub mod Testing
+pub mod RowLemmas

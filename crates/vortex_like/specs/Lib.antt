@@ -3,3 +3,4 @@ pub mod TokenKinds
 pub mod Places
 pub mod Options
 pub mod Patterns
+pub mod Rows

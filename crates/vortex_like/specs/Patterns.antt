@@ -20,7 +20,13 @@ pattern_of bytes case_insensitive ascii_haystack =
       ascii_haystack = ascii_haystack;
     }
 
--- whether a LIKE says yes to a text and a pattern, by their bytes
+-- what a pattern answers to a text, by the text's bytes, turned over where negated
+abbrev pub answer : PatternView → Bool → List ℕ → Bool
+answer pattern negated bytes =
+    let found = is_match pattern.case_insensitive pattern.tokens (chars bytes) in
+    if negated then not found else found
+
+-- what LIKE says of a text and a pattern, by their bytes
 abbrev pub like : LikeOptions → List ℕ → List ℕ → Bool
 like options bytes pattern =
     let found = is_match options.case_insensitive (tokens_of (chars pattern)) (chars bytes) in

@@ -5,6 +5,7 @@ mod characters;
 mod matching;
 pub mod options;
 pub mod pattern;
+mod row_bits;
 mod token;
 
 pub use options::LikeOptions;

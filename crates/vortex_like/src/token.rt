@@ -60,21 +60,21 @@ impl Looks {
 
 impl LikeToken {
     /// Any sequence of characters, also none.
-    pub(crate) fn any() -> LikeToken
+    pub fn any() -> LikeToken
         ensures { result ≡ any }
     {
         LikeToken { kind: Kind::Any }
     }
 
     /// One character, whichever.
-    pub(crate) fn one() -> LikeToken
+    pub fn one() -> LikeToken
         ensures { result ≡ one }
     {
         LikeToken { kind: Kind::One }
     }
 
     /// That character.
-    pub(crate) fn character(c: char) -> LikeToken
+    pub fn character(c: char) -> LikeToken
         ensures { result ≡ character c }
     {
         LikeToken {
@@ -83,7 +83,7 @@ impl LikeToken {
     }
 
     /// Whether it is any sequence.
-    pub(crate) fn is_any(&self) -> bool
+    pub fn is_any(&self) -> bool
         ensures { result ≡ is_any self.now }
     {
         match self.kind {
@@ -94,7 +94,7 @@ impl LikeToken {
 
     /// Whether a text of this one character has what the token asks. It is the one place where a token is compared with a
     /// character, and counts as one look.
-    pub(crate) fn accepts(&self, c: char, case_insensitive: bool, looks: &mut Looks) -> bool
+    pub fn accepts(&self, c: char, case_insensitive: bool, looks: &mut Looks) -> bool
         requires { looks.old < 2 ^ 128 - 1 }
         ensures answer { result ≡ accepts case_insensitive self.now c }
         ensures counted { looks.new ≡ looks.old + 1 }
