@@ -41,8 +41,8 @@ ending_passes p [] e =
     no_truth f = cc
 ending_passes p (c ∷ text) e =
     elim (or_cases (p (c ∷ text)) (list_any p (endings text)) e) [
-      inl h ↦ (0, h)
-    | inr f ↦ let r = ending_passes p text f in (suc r.0, r.1)
+      | inl h ↦ (0, h)
+      | inr f ↦ let r = ending_passes p text f in (suc r.0, r.1)
     ]
 
 pub passes_ending : (p : List ℕ → Bool) (text : List ℕ) (j : ℕ) → p (drop j text) ≡ true
@@ -65,7 +65,9 @@ module _ (fold : Bool) where
   match_tested (one ∷ ts) (c ∷ text) e = (c, text, refl, match_tested ts text e)
   match_tested (character own ∷ ts) [] e = cc
   match_tested (character own ∷ ts) (c ∷ text) e = (
-    c, text, refl,
+    c,
+    text,
+    refl,
     and_left (same_character fold own c) (is_match fold ts text) e,
     match_tested ts text (and_right (same_character fold own c) (is_match fold ts text) e),
   )

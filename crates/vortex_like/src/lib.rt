@@ -2,12 +2,14 @@
 #![tactic(auto)]
 
 mod characters;
+pub mod execute;
 mod matching;
 pub mod options;
 pub mod pattern;
 mod row_bits;
 mod token;
 
+pub use execute::execute_like;
 pub use options::LikeOptions;
 pub use pattern::LikePattern;
 pub use token::{LikeToken, Looks};

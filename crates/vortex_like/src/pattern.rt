@@ -67,9 +67,9 @@ impl Model for LikePattern {
     ghost Value = { PatternView };
 
     ghost view = { λ a. record {
-        tokens = a.tokens.items;
-        case_insensitive = a.case_insensitive;
-        ascii_haystack = a.ascii_haystack;
+      tokens = a.tokens.items;
+      case_insensitive = a.case_insensitive;
+      ascii_haystack = a.ascii_haystack;
     } };
 }
 
