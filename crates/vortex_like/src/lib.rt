@@ -8,8 +8,10 @@ pub mod options;
 pub mod pattern;
 mod row_bits;
 mod token;
+pub mod variant;
 
 pub use execute::execute_like;
 pub use options::LikeOptions;
 pub use pattern::LikePattern;
 pub use token::{LikeToken, Looks};
+pub use variant::LikeVariant;

@@ -4,7 +4,7 @@ ghost use Rattle.std.specs.Str.{chars, IsAscii};
 ghost use Rattle.vortex_types.specs.Answers.{AnswersUnlessMemory};
 ghost use Rattle.vortex_like.specs.Tokens.{plain_token, tokens_of, Match, is_match};
 
-use crate::characters::split_first;
+use crate::characters::{Symbol, first_symbol};
 use crate::matching::match_tokens;
 use crate::token::LikeToken;
 use std::alloc::Global;
@@ -29,14 +29,12 @@ fn first_token(pattern: &str) -> Option<(LikeToken, &str)>
     ensures falls { MatchOption result (chars pattern.now ≡ [])
         (λ parts. length (chars parts.1.now) < length (chars pattern.now)) }
 {
-    let (c, after) = split_first(pattern)?;
-    if c != '\\' {
-        return Some((plain_token(c), after));
-    }
-    match split_first(after) {
-        Some((escaped, behind)) => Some((LikeToken::character(escaped), behind)),
-        None => Some((LikeToken::character(c), after)),
-    }
+    let (symbol, behind) = first_symbol(pattern)?;
+    let token = match symbol {
+        Symbol::Plain(c) => plain_token(c),
+        Symbol::Escaped(c) => LikeToken::character(c),
+    };
+    Some((token, behind))
 }
 
 /// The tokens of a pattern.

@@ -18,7 +18,7 @@ pub returns-in_default-clause-answer : goal.returns-in_default-clause-answer
 returns-in_default-clause-answer c =
     ends c.args.case_insensitive c.args.tokens.now (chars c.args.text.now) c.loop-back.at
     c.loop-back.looks c.loop-back.back (sym c.if-begins_with_any.ensures)
-    (rw c.in_default.ensures at c.loop-back.invariant.1)
+    (rw c.in_default.ensures.characters at c.loop-back.invariant.1)
 
 pub first_accepts-requires : goal.first_accepts-requires
 first_accepts-requires c =
@@ -39,7 +39,7 @@ loop-back-preserved-then-first_accepts c = (
       c.in-Some.c c.loop-back.looks c.first_accepts.new.looks (chars c.in-Some.after.now)
       c.loop-back.back (sym c.if-begins_with_any.ensures) (sym c.if-first_accepts.ensures.answer)
       c.first_accepts.ensures.counted
-      (rw c.in-Some.ensures at c.loop-back.invariant.1),
+      (rw c.in-Some.ensures.characters at c.loop-back.invariant.1),
 )
 
 pub loop-back-preserved : goal.loop-back-preserved
@@ -49,6 +49,6 @@ loop-back-preserved c = (
       c.in-Some.c c.in-Some-split_first.field-0-0 c.loop-back.looks c.first_accepts.new.looks
       (chars c.in-Some.after.now) c.in-Some-back.place c.in-Some-split_first.later
       (sym c.if-begins_with_any.ensures) (sym c.if-first_accepts.ensures.answer)
-      c.first_accepts.ensures.counted c.in-Some-split_first.ensures
-      (rw (c.in-Some.ensures, c.in-Some-back.is) at c.loop-back.invariant.1),
+      c.first_accepts.ensures.counted c.in-Some-split_first.ensures.characters
+      (rw (c.in-Some.ensures.characters, c.in-Some-back.is) at c.loop-back.invariant.1),
 )
