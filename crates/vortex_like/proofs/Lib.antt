@@ -3,3 +3,4 @@ pub mod Counting
 pub mod Walk
 pub mod Testing
 pub mod RowLemmas
+pub mod Reading

@@ -5,3 +5,6 @@ pub mod Symbols
 pub mod Options
 pub mod Patterns
 pub mod Rows
+pub mod Variants
+pub mod UnescapedTexts
+pub mod Cuts

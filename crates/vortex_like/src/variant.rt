@@ -1,15 +1,104 @@
 //! The simple shapes of a pattern.
-ghost use Rattle.std.specs.Prelude.{◌≡◌, ◌∷◌, [], MatchOption};
+ghost use Rattle.std.specs.Prelude.{◌≡◌, true, MatchOption};
 ghost use Rattle.std.specs.Str.{chars};
 ghost use Rattle.vortex_types.specs.Answers.{AnswersUnlessMemory};
+ghost use Rattle.vortex_like.specs.Tokens.{tokens_of, character};
+ghost use Rattle.vortex_like.specs.Symbols.{symbol_token};
+ghost use Rattle.vortex_like.specs.Variants.{is_wildcard};
+ghost use Rattle.vortex_like.specs.UnescapedTexts.{IsUnescaped};
+ghost use Rattle.vortex_like.specs.Cuts.{is_special, IsPassed, StartsSpecial, IsCutOf};
 
-use crate::characters::split_first;
+use crate::characters::{Symbol, first_symbol, split_first};
+use std::alloc::Global;
 use std::borrow::CowStr;
 use vortex_types::VortexResult;
 
-/// A pattern that one text alone matches, or what every text that matches it begins with.
+/// A pattern that one text alone matches, or what every text that matches it begins with. Two are equal by form and
+/// text, lent or owned.
 #[derive(Debug, Drop, PartialEq)]
 pub enum LikeVariant<'a> {
+    /// The pattern has no wildcard.
     Exact(CowStr<'a>),
+    /// What stands before the first wildcard.
     Prefix(CowStr<'a>),
+}
+
+/// What a text without escapes is read from a pattern, up to its first wildcard or its end.
+#[derive(Drop)]
+struct Unescaped {
+    text: String,
+    at_wildcard: bool,
+}
+
+/// The character that stands for itself, unless it is a wildcard.
+fn literal(symbol: Symbol) -> Option<char>
+    ensures { MatchOption result (is_wildcard (symbol_token symbol) ≡ true)
+        (λ c. symbol_token symbol ≡ character c) }
+{
+    match symbol {
+        Symbol::Escaped(c) => Some(c),
+        Symbol::Plain('%') => None,
+        Symbol::Plain('_') => None,
+        Symbol::Plain(c) => Some(c),
+    }
+}
+
+/// The text before the first wildcard, without its escapes, or of the whole pattern.
+fn without_escapes(alloc: Global, pattern: &str) -> VortexResult<Unescaped>
+    ensures { AnswersUnlessMemory result (IsUnescaped (chars pattern.now)) }
+{
+    let mut text = String::new(alloc);
+    let mut rest = pattern;
+    while let Some((symbol, behind)) = first_symbol(rest) {
+        let Some(c) = literal(symbol) else {
+            return Ok(Unescaped {
+                text,
+                at_wildcard: true,
+            });
+        };
+        text.push(c)?;
+        rest = behind;
+    }
+    Ok(Unescaped {
+        text,
+        at_wildcard: false,
+    })
+}
+
+/// Whether a character is a wildcard or escapes one.
+fn is_special(c: char) -> bool
+    ensures { result ≡ is_special c }
+{
+    c == '\\' || (c == '%' || c == '_')
+}
+
+/// A pattern, cut before the first character that is special.
+#[derive(Clone, Copy)]
+struct Cut<'a> {
+    front: &'a str,
+    rest: &'a str,
+}
+
+/// What is left of a pattern from its first special character on.
+fn from_special(pattern: &str) -> &str
+    ensures passed { IsPassed pattern.now result.now }
+    ensures special { StartsSpecial (chars result.now) }
+{
+    let mut rest = pattern;
+    while let Some((c, behind)) = split_first(rest) {
+        if is_special(c) {
+            return rest;
+        }
+        rest = behind;
+    }
+    rest
+}
+
+/// The part of a pattern without special characters, and what is behind it.
+fn cut_at_special(pattern: &str) -> Cut<'_>
+    ensures { IsCutOf (chars pattern.now) result }
+{
+    let rest = from_special(pattern);
+    let front = &pattern[..pattern.len() - rest.len()];
+    Cut { front, rest }
 }
