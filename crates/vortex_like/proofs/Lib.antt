@@ -4,3 +4,4 @@ pub mod Walk
 pub mod Testing
 pub mod RowLemmas
 pub mod Reading
+pub mod Shapes

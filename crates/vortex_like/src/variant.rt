@@ -1,10 +1,11 @@
 //! The simple shapes of a pattern.
-ghost use Rattle.std.specs.Prelude.{◌≡◌, true, MatchOption};
+ghost use Rattle.std.specs.Prelude.{◌≡◌, true, Some, MatchOption};
 ghost use Rattle.std.specs.Str.{chars};
 ghost use Rattle.vortex_types.specs.Answers.{AnswersUnlessMemory};
 ghost use Rattle.vortex_like.specs.Tokens.{tokens_of, character};
 ghost use Rattle.vortex_like.specs.Symbols.{symbol_token};
-ghost use Rattle.vortex_like.specs.Variants.{is_wildcard};
+ghost use Rattle.vortex_like.specs.Variants.{is_wildcard, meets_escape, IsVariantOf};
+ghost use Rattle.vortex_like.specs.Variants.{TellsMatches};
 ghost use Rattle.vortex_like.specs.UnescapedTexts.{IsUnescaped};
 ghost use Rattle.vortex_like.specs.Cuts.{is_special, IsPassed, StartsSpecial, IsCutOf};
 
@@ -101,4 +102,50 @@ fn cut_at_special(pattern: &str) -> Cut<'_>
     let rest = from_special(pattern);
     let front = &pattern[..pattern.len() - rest.len()];
     Cut { front, rest }
+}
+
+/// The shape of a pattern that has an escape before its first wildcard.
+fn owned_variant<'a>(alloc: Global, pattern: &str) -> VortexResult<LikeVariant<'a>>
+    requires { meets_escape (chars pattern.now) ≡ true }
+    ensures { AnswersUnlessMemory result (λ v. IsVariantOf (chars pattern.now) (Some v)) }
+{
+    let Unescaped { text, at_wildcard } = without_escapes(alloc, pattern)?;
+    if at_wildcard {
+        Ok(LikeVariant::Prefix(CowStr::Owned(text)))
+    } else {
+        Ok(LikeVariant::Exact(CowStr::Owned(text)))
+    }
+}
+
+/// The shape of a pattern, unless it begins with a wildcard.
+fn variant_of(alloc: Global, pattern: &str) -> VortexResult<Option<LikeVariant<'_>>>
+    ensures { AnswersUnlessMemory result (IsVariantOf (chars pattern.now)) }
+{
+    let cut = cut_at_special(pattern);
+    match split_first(cut.rest) {
+        None => Ok(Some(LikeVariant::Exact(CowStr::Borrowed(cut.front)))),
+        Some((c, _)) => {
+            if c == '\\' {
+                return Ok(Some(owned_variant(alloc, pattern)?));
+            }
+            if cut.front.is_empty() {
+                return Ok(None);
+            }
+            Ok(Some(LikeVariant::Prefix(CowStr::Borrowed(cut.front))))
+        }
+    }
+}
+
+impl<'a> LikeVariant<'a> {
+    /// The simple shape of a pattern of LIKE: the text that it is where it has no wildcard, or what stands before its
+    /// first one, each without its escapes. None exactly where it begins with a wildcard that is not escaped.
+    ///
+    /// The text is lent where no escape was met before that point, a backslash at the end among them. Refuses for memory
+    /// alone (E9).
+    pub fn from_str(alloc: Global, pattern: &'a str) -> VortexResult<Option<LikeVariant<'a>>>
+        ensures variant { AnswersUnlessMemory result (IsVariantOf (chars pattern.now)) }
+        ensures matches { AnswersUnlessMemory result (TellsMatches (chars pattern.now)) }
+    {
+        variant_of(alloc, pattern)
+    }
 }
