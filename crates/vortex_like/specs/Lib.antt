@@ -8,3 +8,4 @@ pub mod Rows
 pub mod Variants
 pub mod UnescapedTexts
 pub mod Cuts
+pub mod Words

@@ -1,8 +1,7 @@
 //! Texts, one character at a time.
 ghost use Rattle.std.specs.Prelude.{◌≡◌, ◌<◌, [], ◌∷◌, ◌++◌, length, MatchOption, encode_utf8};
 ghost use Rattle.std.specs.Str.{chars};
-ghost use Rattle.vortex_like.specs.Tokens.{tokens_of};
-ghost use Rattle.vortex_like.specs.Symbols.{symbol_token};
+ghost use Rattle.vortex_like.specs.Words.{tokens_of, symbol_token};
 
 /// The first character of a text, and the text behind it.
 pub(crate) fn split_first(text: &str) -> Option<(char, &str)>

@@ -1,13 +1,8 @@
 //! LIKE over whole columns.
 ghost use Rattle.std.specs.Prelude.{◌≡◌, ◌<◌, ◌||◌, ℕ, true, false, length, IfSome};
-ghost use Rattle.vortex_types.specs.Answers.{AnswersUnlessMemory};
-ghost use Rattle.vortex_types.specs.LogicalTypes.{is_text_type};
-ghost use Rattle.vortex_types.specs.ValidityView.{validity_of};
-ghost use Rattle.vortex_types.specs.Values.{text, is_null};
-ghost use Rattle.vortex_columns.specs.ColumnView.{row};
-ghost use Rattle.vortex_like.specs.Patterns.{like};
-ghost use Rattle.vortex_like.specs.Rows.{IsAnswer, IsLikeBit, AreLikeBits, IsJointValidity};
-ghost use Rattle.vortex_like.specs.Rows.{IsConstantOf, HasLikeRows};
+ghost use Rattle.vortex_like.specs.Words.{AnswersUnlessMemory, is_text_type, validity_of, text};
+ghost use Rattle.vortex_like.specs.Words.{is_null, row, like, IsAnswer, IsLikeBit, AreLikeBits};
+ghost use Rattle.vortex_like.specs.Words.{IsJointValidity, IsConstantOf, HasLikeRows};
 
 use crate::options::LikeOptions;
 use crate::pattern::LikePattern;

@@ -1,8 +1,7 @@
 //! Tokens beside a text: the matcher.
 ghost use Rattle.std.specs.Prelude.{◌≡◌, ◌+◌, ◌*◌, ◌<◌, ◌≤◌, ◌↔◌, ◌^◌, ◌-◌, IsTrue, length, drop};
 ghost use Rattle.std.specs.Str.{chars};
-ghost use Rattle.vortex_like.specs.Tokens.{Match};
-ghost use Rattle.vortex_like.specs.Places.{begins_with_any, first_accepts};
+ghost use Rattle.vortex_like.specs.Words.{Match, begins_with_any, first_accepts};
 
 use crate::characters::split_first;
 use crate::token::{LikeToken, Looks};
@@ -35,7 +34,6 @@ fn first_accepts(
     requires { at < length tokens.now → looks.old < 2 ^ 128 - 1 }
     ensures answer { result ≡ first_accepts case_insensitive (drop at tokens.now) c }
     ensures counted { looks.new ≤ looks.old + 1 }
-    ensures past { length tokens.now ≤ at → looks.new ≡ looks.old }
 {
     match tokens.get(at) {
         Some(token) => token.accepts(c, case_insensitive, looks),

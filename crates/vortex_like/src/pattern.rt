@@ -1,8 +1,8 @@
 //! A pattern, read once, and the texts that it matches.
 ghost use Rattle.std.specs.Prelude.{◌≡◌, ◌+◌, ◌<◌, ◌↔◌, ◌∷◌, [], length, IsTrue, IsUtf8, MatchOption};
 ghost use Rattle.std.specs.Str.{chars, IsAscii};
-ghost use Rattle.vortex_types.specs.Answers.{AnswersUnlessMemory};
-ghost use Rattle.vortex_like.specs.Tokens.{plain_token, tokens_of, Match, is_match};
+ghost use Rattle.vortex_like.specs.Words.{AnswersUnlessMemory, plain_token, tokens_of, Match};
+ghost use Rattle.vortex_like.specs.Words.{is_match, pattern_of};
 
 use crate::characters::{Symbol, first_symbol};
 use crate::matching::match_tokens;
@@ -72,8 +72,6 @@ impl Model for LikePattern {
 }
 
 impl LikePattern {
-    ghost use Rattle.vortex_like.specs.Patterns.{pattern_of};
-
     /// The pattern of a text: `%` is any sequence of characters, newlines too, `_` one character, a backslash and a
     /// character that character, a backslash at the end itself, and every other character itself.
     ///

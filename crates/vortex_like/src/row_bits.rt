@@ -1,9 +1,6 @@
 //! Bits that are told row by row.
 ghost use Rattle.std.specs.Prelude.{◌≡◌, ◌<◌, ◌||◌, ℕ, Bool, not, length};
-ghost use Rattle.vortex_types.specs.Answers.{AnswersUnlessMemory};
-ghost use Rattle.vortex_types.specs.Values.{is_null};
-ghost use Rattle.vortex_columns.specs.ColumnView.{row};
-ghost use Rattle.vortex_like.specs.Rows.{AreTold};
+ghost use Rattle.vortex_like.specs.Words.{AnswersUnlessMemory, is_null, row, AreTold};
 
 use std::alloc::Global;
 use vortex_columns::{BitBuffer, Column, VortexResult};

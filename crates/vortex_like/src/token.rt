@@ -1,6 +1,6 @@
 //! The tokens of a pattern, and the count of looks at them.
 ghost use Rattle.std.specs.Prelude.{◌≡◌, ◌+◌, ◌<◌, ◌-◌, ◌^◌};
-ghost use Rattle.vortex_like.specs.Tokens.{any, one, character, is_any, accepts};
+ghost use Rattle.vortex_like.specs.Words.{any, one, character, is_any, accepts};
 
 use std::marker::Model;
 use unicode::case::simple_fold;

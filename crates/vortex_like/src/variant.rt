@@ -1,13 +1,10 @@
 //! The simple shapes of a pattern.
 ghost use Rattle.std.specs.Prelude.{◌≡◌, true, Some, MatchOption};
 ghost use Rattle.std.specs.Str.{chars};
-ghost use Rattle.vortex_types.specs.Answers.{AnswersUnlessMemory};
-ghost use Rattle.vortex_like.specs.Tokens.{tokens_of, character};
-ghost use Rattle.vortex_like.specs.Symbols.{symbol_token};
-ghost use Rattle.vortex_like.specs.Variants.{is_wildcard, meets_escape, IsVariantOf};
-ghost use Rattle.vortex_like.specs.Variants.{TellsMatches};
-ghost use Rattle.vortex_like.specs.UnescapedTexts.{IsUnescaped};
-ghost use Rattle.vortex_like.specs.Cuts.{is_special, IsPassed, StartsSpecial, IsCutOf};
+ghost use Rattle.vortex_like.specs.Words.{AnswersUnlessMemory, tokens_of, character, symbol_token};
+ghost use Rattle.vortex_like.specs.Words.{is_wildcard, meets_escape, IsVariantOf, TellsMatches};
+ghost use Rattle.vortex_like.specs.Words.{IsUnescaped, is_special, IsPassed, StartsSpecial};
+ghost use Rattle.vortex_like.specs.Words.{IsCutOf};
 
 use crate::characters::{Symbol, first_symbol, split_first};
 use std::alloc::Global;
