@@ -1,5 +1,5 @@
 -- How many looks the matcher's walk takes: what is still to come falls with each step.
-use Rattle.std.proofs.Common.{ℕ, ◌+◌, ◌-◌, ◌*◌, ◌≤◌, ◌<◌, ◌≡◌, arith}
+use Rattle.std.proofs.Common.{ℕ, ◌+◌, ◌-◌, ◌*◌, ◌≤◌, ◌<◌, arith}
 use Rattle.std.proofs.Math.Nat.{mul-le-mul_right}
 
 -- how many steps there are still at most: with so many tokens, this many of them left, and so many

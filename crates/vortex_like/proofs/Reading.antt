@@ -1,5 +1,5 @@
 -- A pattern that is read up to its first wildcard.
-use Rattle.std.proofs.Common.{◌≡◌, ◌≢◌, ℕ, Bool, true, false, List, [], ◌∷◌, ◌++◌, map, refl, sym, ap}
+use Rattle.std.proofs.Common.{◌≡◌, ℕ, Bool, true, false, List, [], ◌∷◌, ◌++◌, map, refl, sym, ap}
 use Rattle.std.proofs.Common.{◌∙◌, ◌-◌, length, take, append_assoc, length-append, arith}
 use Rattle.std.specs.Prelude.{◌||◌, IsUtf8, encode_utf8, slice_range}
 use Rattle.std.specs.Char.{IsScalar}
@@ -10,7 +10,7 @@ use Rattle.std.proofs.lemmas.Str.{chars-append, chars_past_char, chars-nil, IsUt
 use Rattle.std.proofs.lemmas.Str.{IsUtf8-append, IsCharBoundary-at_seam}
 use Rattle.std.proofs.lemmas.List.{map-append, append-nil}
 use Rattle.vortex_like.specs.Cuts.{is_special, IsPassed}
-use Rattle.vortex_like.specs.Tokens.{Token, any, one, character, tokens_of, plain_token}
+use Rattle.vortex_like.specs.Tokens.{Token, character}
 
 pub chars_pushed : (bytes pushed : List ℕ) (c : ℕ) → IsUtf8 bytes → IsScalar c
     → pushed ≡ bytes ++ encode_utf8 c → chars pushed ≡ chars bytes ++ c ∷ []

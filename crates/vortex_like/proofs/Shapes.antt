@@ -4,7 +4,7 @@ use Rattle.std.proofs.Common.{◌∙◌, arith, cond, eq-eqb, Option, Some, None
 use Rattle.std.proofs.lemmas.List.{append-nil, nil_from_length}
 use Rattle.std.proofs.lemmas.Str.{chars-nil, encodes-chars}
 use Rattle.std.proofs.Common.{length, subst}
-use Rattle.std.specs.Prelude.{◌||◌, ◌==◌, ◌↔◌, not, IsUtf8, encode_utf8_all}
+use Rattle.std.specs.Prelude.{◌||◌, ◌==◌, not, IsUtf8, encode_utf8_all}
 use Rattle.std.specs.List.{list_any}
 use Rattle.std.specs.Str.{chars}
 use Rattle.std.specs.Cow.{cow_str_bytes}

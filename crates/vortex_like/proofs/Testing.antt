@@ -1,9 +1,9 @@
 -- The test says yes exactly where the tokens match.
 use Rattle.std.proofs.Common.{◌≡◌, ◌⊎◌, inl, inr, ℕ, zero, suc, Bool, true, false, List, [], ◌∷◌, drop}
-use Rattle.std.proofs.Common.{refl, sym, ap, subst, ◌∙◌}
+use Rattle.std.proofs.Common.{refl, sym, ap, ◌∙◌}
 use Rattle.std.specs.Prelude.{◌↔◌, ◌||◌, ◌&&◌, IsTrue}
 use Rattle.std.specs.List.{list_any}
-use Rattle.vortex_like.specs.Tokens.{Token, any, one, character, is_any, accepts, Match, is_match}
+use Rattle.vortex_like.specs.Tokens.{Token, any, one, character, Match, is_match}
 use Rattle.vortex_like.specs.Tokens.{endings, same_character}
 use Rattle.vortex_like.proofs.Walking.{any_after, after_any}
 

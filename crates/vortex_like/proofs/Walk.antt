@@ -1,5 +1,5 @@
 -- The state of the matcher's loop.
-use Rattle.std.proofs.Common.{◌≡◌, ◌⊎◌, inl, inr, ℕ, ◌+◌, ◌-◌, ◌*◌, ◌^◌, ◌≤◌, ◌<◌, Bool, true, false}
+use Rattle.std.proofs.Common.{◌≡◌, inl, inr, ℕ, ◌+◌, ◌-◌, ◌*◌, ◌^◌, ◌≤◌, ◌<◌, Bool, true, false}
 use Rattle.std.proofs.Common.{Option, Some, None, List, [], ◌∷◌, length, drop, get_or, refl, ap, subst}
 use Rattle.std.proofs.Common.{◌∙◌, arith, eq-eqb}
 use Rattle.std.specs.Prelude.{◌↔◌, IsTrue, nat_eq}
@@ -13,7 +13,7 @@ use Rattle.vortex_like.specs.Places.{begins_with_any, first_accepts}
 use Rattle.vortex_like.specs.declared.matching.Place.{Place}
 use Rattle.vortex_like.proofs.Counting.{steps_left, steps_any, steps_accept, steps_back}
 use Rattle.vortex_like.proofs.Walking.{Stands, room, walk_start, walk_any, walk_accept, walk_back}
-use Rattle.vortex_like.proofs.Walking.{ends_past, ends_before, fails_first, fails_last, stuck}
+use Rattle.vortex_like.proofs.Walking.{ends_past, ends_before, stuck}
 
 abbrev pub back_of : List Token → Option Place → Option (List Token × List ℕ)
 back_of tokens None = None

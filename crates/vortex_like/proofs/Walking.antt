@@ -1,8 +1,8 @@
 -- The matcher's walk over a text, with the one place to which it can go back.
-use Rattle.std.proofs.Common.{◌≡◌, ◌⊎◌, inl, inr, ℕ, zero, suc, ◌+◌, ◌≤◌, ◌<◌, Bool, true, false}
-use Rattle.std.proofs.Common.{Option, Some, None, List, [], ◌∷◌, ◌++◌, length, take, drop, refl, sym}
+use Rattle.std.proofs.Common.{◌≡◌, ◌⊎◌, inl, inr, ℕ, zero, suc, ◌+◌, ◌≤◌, Bool, true, false}
+use Rattle.std.proofs.Common.{Option, Some, None, List, [], ◌∷◌, length, take, drop, refl, sym}
 use Rattle.std.proofs.Common.{ap, subst, ◌∙◌, arith, add-one}
-use Rattle.std.proofs.Math.Seq.{drop-append_seam, drop-nil}
+use Rattle.std.proofs.Math.Seq.{drop-append_seam}
 use Rattle.std.proofs.lemmas.List.{take-append-drop, drop-drop}
 use Rattle.vortex_like.specs.Tokens.{Token, any, one, character, is_any, accepts, Match}
 use Rattle.vortex_like.specs.Places.{begins_with_any, first_accepts}

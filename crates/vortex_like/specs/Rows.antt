@@ -1,8 +1,6 @@
 -- LIKE over whole columns.
 use Rattle.std.specs.Prelude.{◌≡◌, ◌||◌, ℕ, ◌<◌, List, length, slice_index_or, Bool, false, not}
-use Rattle.std.specs.Prelude.{if◌then◌else◌}
-use Rattle.std.specs.Str.{chars}
-use Rattle.vortex_types.specs.LogicalTypes.{LogicalType, bool_type, is_nullable}
+use Rattle.vortex_types.specs.LogicalTypes.{bool_type, is_nullable}
 use Rattle.vortex_types.specs.Values.{Value, text, is_null}
 use Rattle.vortex_types.specs.ValidityView.{ValidityView, form_allows_null, is_valid_row, FitsRows}
 use Rattle.vortex_columns.specs.ColumnView.{ColumnView, row}

@@ -1,5 +1,5 @@
 -- What is read of a pattern up to its first wildcard.
-use Rattle.std.specs.Prelude.{ℕ, Bool, true, false, List, MatchBool, string_bytes}
+use Rattle.std.specs.Prelude.{ℕ, List, MatchBool, string_bytes}
 use Rattle.std.specs.Str.{chars}
 use Rattle.vortex_like.specs.Tokens.{tokens_of}
 use Rattle.vortex_like.specs.Variants.{AreLiteral, AreLiteralThenWildcard}

@@ -1,9 +1,7 @@
-use Rattle.std.proofs.Common.{◌≡◌, ◌<◌, ◌^◌, ◌≤◌, subst, List, ℕ, ◌∷◌, length, sym, ◌∙◌, true, rules, arith, ap, [], Bool, drop}
-use Rattle.std.specs.Prelude.{IsUtf8}
+use Rattle.std.proofs.Common.{◌<◌, ◌^◌, ◌≤◌, subst, List, ℕ, length, sym, rules, arith}
 use Rattle.std.specs.Str.{chars}
 use Rattle.std.proofs.lemmas.Str.{length-le-encodes, encodes-chars}
-use Rattle.vortex_like.specs.Places.{begins_with_any, first_accepts}
-use Rattle.vortex_like.proofs.Walk.{IsWalk, passes_any, passes_one, goes_back, ends, can_look}
+use Rattle.vortex_like.proofs.Walk.{passes_any, passes_one, goes_back, ends, can_look}
 use Rattle.vortex_like.proofs.matching.match_tokens.Goals as goal
 
 pub loop-back-preserved-then-begins_with_any : goal.loop-back-preserved-then-begins_with_any
