@@ -3,6 +3,8 @@
 use crate::questions::{ILIKE, LIKE, NOT_ILIKE, NOT_LIKE, matches, parts};
 use fixtures::yes;
 use std::alloc::Global;
+use vortex_columns::VortexResult;
+use vortex_like::LikePattern;
 
 const WORDS: [&str; 4] = ["hello", "world", "help", "jello"];
 
@@ -91,6 +93,20 @@ fn goes_back_to_the_last_sequence(rt: HostRuntime) {
     assert!(rt; yes(matches(alloc, LIKE, "%", &[""], &[true])));
     assert!(rt; yes(matches(alloc, LIKE, "%%", &[""], &[true])));
     assert!(rt; yes(matches(alloc, LIKE, "", &["", "x"], &[true, false])));
+}
+
+/// Whether a pattern matches a text with at most so many looks.
+fn looks_at_most(alloc: Global, pattern: &str, text: &str, most: u128) -> VortexResult<bool> {
+    let pattern = LikePattern::compile(alloc, pattern, false, false)?;
+    let (found, looks) = pattern.matches_counted(text.as_bytes());
+    Ok(found && looks.count() <= most)
+}
+
+#[test]
+fn counts_its_looks(rt: HostRuntime) {
+    let alloc = rt.alloc();
+    assert!(rt; yes(looks_at_most(alloc, "%a_b", "aaxaab", 35)));
+    assert!(rt; yes(looks_at_most(alloc, "%", "aaxaab", 0)));
 }
 
 #[test]

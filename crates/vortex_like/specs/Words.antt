@@ -6,7 +6,7 @@ pub use Rattle.vortex_types.specs.Values.{text, is_null}
 pub use Rattle.vortex_columns.specs.ColumnView.{row}
 pub use Rattle.vortex_like.specs.Cuts.{is_special, IsPassed, StartsSpecial, IsCutOf}
 pub use Rattle.vortex_like.specs.Patterns.{pattern_of, like}
-pub use Rattle.vortex_like.specs.Places.{begins_with_any, first_accepts}
+pub use Rattle.vortex_like.specs.Places.{begins_with_any, first_accepts, asked}
 pub use Rattle.vortex_like.specs.Rows.{AreTold, IsAnswer, IsLikeBit, AreLikeBits}
 pub use Rattle.vortex_like.specs.Rows.{IsJointValidity, IsConstantOf, HasLikeRows}
 pub use Rattle.vortex_like.specs.Symbols.{symbol_token}

@@ -1,7 +1,8 @@
 //! Tokens beside a text: the matcher.
-ghost use Rattle.std.specs.Prelude.{◌≡◌, ◌+◌, ◌*◌, ◌<◌, ◌≤◌, ◌↔◌, ◌^◌, ◌-◌, IsTrue, length, drop};
+ghost use Rattle.std.specs.Prelude.{◌≡◌, ◌+◌, ◌*◌, ◌<◌, ◌≤◌, ◌↔◌, ◌^◌, ◌-◌, true, IsTrue, length};
+ghost use Rattle.std.specs.Prelude.{drop};
 ghost use Rattle.std.specs.Str.{chars};
-ghost use Rattle.vortex_like.specs.Words.{Match, begins_with_any, first_accepts};
+ghost use Rattle.vortex_like.specs.Words.{Match, begins_with_any, first_accepts, asked};
 
 use crate::characters::split_first;
 use crate::token::{LikeToken, Looks};
@@ -33,7 +34,9 @@ fn first_accepts(
 ) -> bool
     requires { at < length tokens.now → looks.old < 2 ^ 128 - 1 }
     ensures answer { result ≡ first_accepts case_insensitive (drop at tokens.now) c }
-    ensures counted { looks.new ≤ looks.old + 1 }
+    ensures most { looks.new ≤ looks.old + 1 }
+    ensures least { looks.old ≤ looks.new }
+    ensures counted { result ≡ true → looks.new ≡ looks.old + 1 }
 {
     match tokens.get(at) {
         Some(token) => token.accepts(c, case_insensitive, looks),
@@ -49,7 +52,8 @@ pub(crate) fn match_tokens(
     case_insensitive: bool,
 ) -> (bool, Looks)
     ensures answer { IsTrue result.0 ↔ Match case_insensitive tokens.now (chars text.now) }
-    ensures counted { result.1 ≤ (length (chars text.now) + 1) * (length tokens.now + 1) }
+    ensures most { result.1 ≤ (length (chars text.now) + 1) * (length tokens.now + 1) }
+    ensures least { IsTrue result.0 → asked tokens.now ≤ result.1 }
 {
     let mut looks = Looks::new();
     let mut at = 0;

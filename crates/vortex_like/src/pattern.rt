@@ -1,12 +1,13 @@
 //! A pattern, read once, and the texts that it matches.
-ghost use Rattle.std.specs.Prelude.{◌≡◌, ◌+◌, ◌<◌, ◌↔◌, ◌∷◌, [], length, IsTrue, IsUtf8, MatchOption};
+ghost use Rattle.std.specs.Prelude.{◌≡◌, ◌+◌, ◌*◌, ◌<◌, ◌≤◌, ◌↔◌, ◌∷◌, [], length, IsTrue};
+ghost use Rattle.std.specs.Prelude.{IsUtf8, MatchOption};
 ghost use Rattle.std.specs.Str.{chars, IsAscii};
 ghost use Rattle.vortex_like.specs.Words.{AnswersUnlessMemory, plain_token, tokens_of, Match};
 ghost use Rattle.vortex_like.specs.Words.{is_match, pattern_of};
 
 use crate::characters::{Symbol, first_symbol};
 use crate::matching::match_tokens;
-use crate::token::LikeToken;
+use crate::token::{LikeToken, Looks};
 use std::alloc::Global;
 use std::marker::Model;
 use vortex_types::VortexResult;
@@ -94,8 +95,7 @@ impl LikePattern {
         })
     }
 
-    /// Whether the pattern matches a text, whole, by the text's UTF-8 bytes. Takes no memory, and no more looks at a
-    /// character than one for each token, at each place of the text.
+    /// Whether the pattern matches a text, whole, by the text's UTF-8 bytes. Takes no memory.
     pub fn matches(&self, haystack: &[u8]) -> bool
         requires utf8 { IsUtf8 haystack.now }
         requires ascii { IsTrue self.now.ascii_haystack → IsAscii haystack.now }
@@ -104,8 +104,23 @@ impl LikePattern {
         ensures test { result
             ≡ is_match self.now.case_insensitive self.now.tokens (chars haystack.now) }
     {
-        let text = unsafe { str::from_utf8_unchecked(haystack) };
-        let (found, _) = match_tokens(self.tokens.as_slice(), text, self.case_insensitive);
+        let (found, _) = self.matches_counted(haystack);
         found
+    }
+
+    /// The same, and how often a token was compared with a character: at most as often as the text has characters, and
+    /// once more, for each token and once more.
+    pub fn matches_counted(&self, haystack: &[u8]) -> (bool, Looks)
+        requires utf8 { IsUtf8 haystack.now }
+        requires ascii { IsTrue self.now.ascii_haystack → IsAscii haystack.now }
+        ensures answer { IsTrue result.0
+            ↔ Match self.now.case_insensitive self.now.tokens (chars haystack.now) }
+        ensures test { result.0
+            ≡ is_match self.now.case_insensitive self.now.tokens (chars haystack.now) }
+        ensures looks { result.1
+            ≤ (length (chars haystack.now) + 1) * (length self.now.tokens + 1) }
+    {
+        let text = unsafe { str::from_utf8_unchecked(haystack) };
+        match_tokens(self.tokens.as_slice(), text, self.case_insensitive)
     }
 }
