@@ -11,17 +11,20 @@ use Rattle.vortex_types.specs.Answers.{AnswersUnlessMemory, AnswersWhere}
 use Rattle.vortex_types.specs.LogicalTypes.{LogicalType, null_type, bool_type, integer_type}
 use Rattle.vortex_types.specs.LogicalTypes.{text_type, bytes_type, struct_type, list_type}
 use Rattle.vortex_types.specs.LogicalTypes.{fixed_size_list_type, map_type, is_text_type}
+use Rattle.vortex_types.specs.LogicalTypes.{is_nullable}
 use Rattle.vortex_types.specs.ScalarView.{ScalarView}
 use Rattle.vortex_types.specs.Typing.{HasType, OrNull, IsText}
 use Rattle.vortex_types.specs.ValidityView.{ValidityView, is_valid_row, FitsRows}
+use Rattle.vortex_types.specs.ValidityView.{non_nullable}
 use Rattle.vortex_types.specs.Values.{Value, null, truth, number, text, bytes, list, is_null}
 use Rattle.vortex_types.proofs.Answering.{answers_where}
+use Rattle.vortex_types.proofs.NullValues.{not_null}
 use Rattle.vortex_columns.specs.ColumnView.{ColumnView, row, AreTyped, constant_column}
 use Rattle.vortex_columns.specs.Stored.{bool_column}
 use Rattle.vortex_like.specs.declared.options.LikeOptions.{LikeOptions}
 use Rattle.vortex_like.specs.Patterns.{like_value}
 use Rattle.vortex_like.specs.Rows.{AreTold, IsLikeBit, AreLikeBits, IsJointValidity, HasLikeRows}
-use Rattle.vortex_like.specs.Rows.{IsConstantOf}
+use Rattle.vortex_like.specs.Rows.{IsConstantOf, either_nullable}
 
 module _ {A : Type 0} (other : A) where
   get_or-last : (xs : List A) (x : A) → get_or (xs ++ x ∷ []) (length xs) other ≡ x
@@ -139,3 +142,28 @@ pub constant_row : (s : ScalarView) (c : ColumnView) → c ≡ constant_column s
 constant_row s c e i h =
     ap (λ (d : ColumnView). row d.rows i) e
     ∙ get_or-map-range_with_len (λ k. s.value) 0 (length c.rows) i i null h (omega arith)
+
+-- where neither type has null each row is valid
+pub valid_everywhere : (l r : ColumnView) → length l.rows ≡ length r.rows
+    → AreTyped l.dtype l.rows → AreTyped r.dtype r.rows → either_nullable l r ≡ false
+    → IsJointValidity l r (record { form = non_nullable; bits = [] })
+valid_everywhere l r lengths left right e = record {
+  nullability = sym e;
+  fits = tt;
+  each = λ i lt.
+      let other : i < length r.rows = omega arith in
+      sym
+      (ap (λ (b : Bool). not (b || is_null (row r.rows i)))
+      (not_null l.dtype (row l.rows i) (All-get_or (HasType l.dtype) l.rows i null lt left)
+      (neither.0))
+      ∙ ap not
+      (not_null r.dtype (row r.rows i) (All-get_or (HasType r.dtype) r.rows i null other right)
+      (neither.1)));
+}
+  where
+    by : (a b : Bool) → a || b ≡ false → (a ≡ false) × (b ≡ false)
+    by true b h = cc
+    by false b h = (refl, h)
+
+    neither : (is_nullable l.dtype ≡ false) × (is_nullable r.dtype ≡ false)
+    neither = by (is_nullable l.dtype) (is_nullable r.dtype) e

@@ -1,16 +1,17 @@
 -- The state of the matcher's loop.
 use Rattle.std.proofs.Common.{◌≡◌, inl, inr, ℕ, ◌+◌, ◌-◌, ◌*◌, ◌^◌, ◌≤◌, ◌<◌, Bool, true, false}
 use Rattle.std.proofs.Common.{Option, Some, None, List, [], ◌∷◌, length, take, drop, get_or, refl, ap}
-use Rattle.std.proofs.Common.{subst, ◌∙◌, arith, eq-eqb}
+use Rattle.std.proofs.Common.{subst, sym, ◌∙◌, arith, eq-eqb}
 use Rattle.std.specs.Prelude.{◌↔◌, IsTrue, nat_eq, not}
 use Rattle.std.specs.Str.{chars}
 use Rattle.std.proofs.Math.Nat.{mul-le-mul}
 use Rattle.std.proofs.lemmas.Bool.{cases_lt}
-use Rattle.std.proofs.lemmas.List.{drop_all, drop_more, take_all}
+use Rattle.std.proofs.lemmas.List.{drop_all, drop_more, take_all, append-nil}
 use Rattle.std.proofs.lemmas.List.Sums.{count_by_more_no, count_by_more_yes}
 use denote.Ref.{Bor}
 use Rattle.vortex_like.specs.Tokens.{Token, any, one, character, is_any, accepts, Match}
 use Rattle.vortex_like.specs.Places.{begins_with_any, first_accepts, asked}
+use Rattle.vortex_like.specs.Backs.{IsFurther}
 use Rattle.vortex_like.specs.declared.matching.Place.{Place}
 use Rattle.vortex_like.proofs.Counting.{steps_left, steps_any, steps_accept, steps_back}
 use Rattle.vortex_like.proofs.Walking.{Stands, room, walk_start, walk_any, walk_accept, walk_back}
@@ -223,6 +224,38 @@ module _ (fold : Bool) (tokens : List Token) (whole : List ℕ) where
                   fewer w.counted,
             );
       }
+
+  pub goes_further : (at c looks looks' : ℕ) (rest : List ℕ) (back : Option Place) (place : Place)
+      → begins_with_any (drop at tokens) ≡ false → first_accepts fold (drop at tokens) c ≡ false
+      → looks' ≤ looks + 1 → looks ≤ looks' → IsFurther back place
+      → IsWalk fold tokens whole at (c ∷ rest) back looks
+      → IsWalk fold tokens whole place.at (chars place.text.now) (Some place) looks'
+  goes_further at c looks looks' rest None place e refused le more further w = absurd further
+  goes_further at c looks looks' rest (Some from) place e refused le more further w =
+      subst
+      (λ (n : ℕ).
+      IsWalk fold tokens whole n (chars place.text.now)
+      (Some (record { at = n; text = place.text })) looks')
+      (sym further.0)
+      (goes_back at c further.1.0 looks looks' rest from place.text e refused le more further.1.1 w)
+
+  -- a sequence at the end matches what is left
+  pub ends_any : (at looks : ℕ) (text : Bor (List ℕ)) (back : Option Place)
+      → begins_with_any (drop at tokens) ≡ true → at + 1 ≡ length tokens
+      → IsWalk fold tokens whole at (chars text.now) back looks
+      → Match fold tokens whole × (asked tokens ≤ looks)
+  ends_any at looks text back e last w =
+      let there = any_there tokens at e in
+      let all : asked_before (at + 1) tokens ≡ asked tokens =
+      ap asked (take_all (at + 1) tokens (omega arith)) in
+      let only : drop at tokens ≡ any ∷ [] =
+      there.1 ∙ ap (λ (ts : List Token). any ∷ ts) (drop_all (at + 1) tokens (omega arith)) in (
+        w.stands.sound
+            (inl
+            (subst (λ (ts : List Token). Match fold ts (chars text.now)) (sym only)
+            (chars text.now, [], sym (append-nil (chars text.now)), refl))),
+        omega (arith, w.looked, there.2, all),
+      )
 
   pub ends : (at looks : ℕ) (back : Option Place) → begins_with_any (drop at tokens) ≡ false
       → IsWalk fold tokens whole at [] back looks

@@ -183,15 +183,3 @@ module _ (fold : Bool) (tokens : List Token) (whole : List ℕ) where
       by b f (inl h) = no_match_of_nothing fold t ts single h
       by None f (inr h) = h
       by (Some p) f (inr h) = no_match_of_nothing fold t ts single (f (suc h.0) h.1)
-
-  pub fails_first : (left : List Token) (rest : List ℕ) → (Match fold left rest → ⊥)
-      → Stands fold tokens whole left rest None → Match fold tokens whole → ⊥
-  fails_first left rest stuck_here s m = by (s.complete m)
-    where
-      by : Match fold left rest ⊎ ⊥ → ⊥
-      by (inl h) = stuck_here h
-      by (inr h) = h
-
-  pub fails_last : (left again : List Token) (c : ℕ) (rest : List ℕ)
-      → Stands fold tokens whole left (c ∷ rest) (Some (again, [])) → ⊥
-  fails_last left again c rest s = omega (arith, s.shorter)

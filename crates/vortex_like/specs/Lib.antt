@@ -1,6 +1,7 @@
 pub mod Tokens
 pub mod TokenKinds
 pub mod Places
+pub mod Backs
 pub mod Symbols
 pub mod Options
 pub mod Patterns

@@ -4,6 +4,7 @@ pub use Rattle.vortex_types.specs.LogicalTypes.{is_text_type}
 pub use Rattle.vortex_types.specs.ValidityView.{validity_of}
 pub use Rattle.vortex_types.specs.Values.{text, is_null}
 pub use Rattle.vortex_columns.specs.ColumnView.{row}
+pub use Rattle.vortex_like.specs.Backs.{IsLast, IsFurther}
 pub use Rattle.vortex_like.specs.Cuts.{is_special, IsPassed, StartsSpecial, IsCutOf}
 pub use Rattle.vortex_like.specs.Patterns.{pattern_of, like}
 pub use Rattle.vortex_like.specs.Places.{begins_with_any, first_accepts, asked}

@@ -1,8 +1,9 @@
 //! Tokens beside a text: the matcher.
 ghost use Rattle.std.specs.Prelude.{◌≡◌, ◌+◌, ◌*◌, ◌<◌, ◌≤◌, ◌↔◌, ◌^◌, ◌-◌, true, IsTrue, length};
-ghost use Rattle.std.specs.Prelude.{drop};
+ghost use Rattle.std.specs.Prelude.{drop, MatchOption};
 ghost use Rattle.std.specs.Str.{chars};
-ghost use Rattle.vortex_like.specs.Words.{Match, begins_with_any, first_accepts, asked};
+ghost use Rattle.vortex_like.specs.Words.{Match, begins_with_any, first_accepts, asked, IsLast};
+ghost use Rattle.vortex_like.specs.Words.{IsFurther};
 
 use crate::characters::split_first;
 use crate::token::{LikeToken, Looks};
@@ -44,8 +45,17 @@ fn first_accepts(
     }
 }
 
+/// The same place, one character further on.
+fn one_further(back: Option<Place<'_>>) -> Option<Place<'_>>
+    ensures { MatchOption result (IsLast back.entry) (IsFurther back.entry) }
+{
+    let place = back?;
+    let (_, text) = split_first(place.text)?;
+    Some(Place { at: place.at, text })
+}
+
 /// Whether the tokens match the text, and how often a token was compared with a character. It goes over the text once, and
-/// goes back to the last `%` alone, to try one character further on.
+/// goes back to the last `%` alone, to try one character further on. A `%` at the end matches what is left at once.
 pub(crate) fn match_tokens(
     tokens: &[LikeToken],
     text: &str,
@@ -62,6 +72,9 @@ pub(crate) fn match_tokens(
     loop {
         if begins_with_any(tokens, at) {
             at += 1;
+            if at == tokens.len() {
+                return (true, looks);
+            }
             back = Some(Place { at, text: rest });
             continue;
         }
@@ -73,14 +86,11 @@ pub(crate) fn match_tokens(
             rest = after;
             continue;
         }
-        let Some(place) = back else {
-            return (false, looks);
-        };
-        let Some((_, later)) = split_first(place.text) else {
+        let Some(place) = one_further(back) else {
             return (false, looks);
         };
         at = place.at;
-        rest = later;
-        back = Some(Place { at, text: later });
+        rest = place.text;
+        back = Some(place);
     }
 }

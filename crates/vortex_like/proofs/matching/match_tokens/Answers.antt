@@ -1,8 +1,8 @@
-use Rattle.std.proofs.Common.{◌<◌, ◌^◌, ◌≤◌, subst, List, ℕ, length, sym, rules, arith}
+use Rattle.std.proofs.Common.{◌<◌, ◌^◌, ◌≤◌, subst, List, ℕ, length, sym, refl, rules, arith}
 use Rattle.std.specs.Str.{chars}
 use Rattle.std.proofs.lemmas.Str.{length-le-encodes, encodes-chars}
-use Rattle.vortex_like.proofs.Walk.{passes_any, passes_one, goes_back, ends, ends_looked}
-use Rattle.vortex_like.proofs.Walk.{can_look}
+use Rattle.vortex_like.proofs.Walk.{passes_any, passes_one, goes_further, ends, ends_any}
+use Rattle.vortex_like.proofs.Walk.{ends_looked, can_look}
 use Rattle.vortex_like.proofs.matching.match_tokens.Goals as goal
 
 pub loop-back-preserved-then-begins_with_any : goal.loop-back-preserved-then-begins_with_any
@@ -44,15 +44,31 @@ loop-back-preserved-then-first_accepts c = (
 pub loop-back-preserved : goal.loop-back-preserved
 loop-back-preserved c = (
   search rules,
-  goes_back c.args.case_insensitive c.args.tokens.now (chars c.args.text.now) c.loop-back.at
-      c.in-Some.c c.in-Some-split_first.field-0-0 c.loop-back.looks c.first_accepts.new.looks
-      (chars c.in-Some.after.now) c.in-Some-back.place c.in-Some-split_first.later
-      (sym c.if-begins_with_any.ensures) (sym c.if-first_accepts.ensures.answer)
-      c.first_accepts.ensures.most c.first_accepts.ensures.least c.in-Some-split_first.ensures.characters
-      (rw (c.in-Some.ensures.characters, c.in-Some-back.is) at c.loop-back.invariant.1),
+  goes_further c.args.case_insensitive c.args.tokens.now (chars c.args.text.now) c.loop-back.at
+      c.in-Some.c c.loop-back.looks c.first_accepts.new.looks (chars c.in-Some.after.now)
+      c.loop-back.back c.in-Some-one_further.place (sym c.if-begins_with_any.ensures)
+      (sym c.if-first_accepts.ensures.answer) c.first_accepts.ensures.most
+      c.first_accepts.ensures.least c.in-Some-one_further.ensures
+      (rw c.in-Some.ensures.characters at c.loop-back.invariant.1),
 )
 
 pub returns-in_default-clause-least : goal.returns-in_default-clause-least
 returns-in_default-clause-least c =
     ends_looked c.args.case_insensitive c.args.tokens.now (chars c.args.text.now) c.loop-back.at
     c.loop-back.looks (chars c.loop-back.rest.now) c.loop-back.back c.loop-back.invariant.1
+
+pub returns-then-at-tokens-clause-answer : goal.returns-then-at-tokens-clause-answer
+returns-then-at-tokens-clause-answer c =
+    let found =
+    ends_any c.args.case_insensitive c.args.tokens.now (chars c.args.text.now) c.loop-back.at
+    c.loop-back.looks c.loop-back.rest c.loop-back.back (sym c.if-begins_with_any.ensures)
+    c.if-at-tokens.true c.loop-back.invariant.1 in
+    (λ _. found.0, λ _. refl)
+
+pub returns-then-at-tokens-clause-least : goal.returns-then-at-tokens-clause-least
+returns-then-at-tokens-clause-least c =
+    let found =
+    ends_any c.args.case_insensitive c.args.tokens.now (chars c.args.text.now) c.loop-back.at
+    c.loop-back.looks c.loop-back.rest c.loop-back.back (sym c.if-begins_with_any.ensures)
+    c.if-at-tokens.true c.loop-back.invariant.1 in
+    λ _. found.1
