@@ -38,7 +38,7 @@ is_lent (Borrowed text) = true
 is_lent (Owned text) = false
 
 -- the text of the pattern without its escapes, lent exactly where no escape was met
-abbrev pub IsVariantOf : List ℕ → Option (LikeVariant) → Type 0
+abbrev pub IsVariantOf : List ℕ → Option LikeVariant → Type 0
 IsVariantOf pattern None = AreLiteralThenWildcard (tokens_of pattern) []
 IsVariantOf pattern (Some (Exact text)) =
     AreLiteral (tokens_of pattern) (chars (cow_str_bytes text))
@@ -49,7 +49,7 @@ IsVariantOf pattern (Some (Prefix text)) =
 
 -- what that says of the texts that the pattern matches, by their characters: of an exact one that
 -- text alone, and each that is matched begins with the prefix
-abbrev pub TellsMatches : List ℕ → Option (LikeVariant) → Type 0
+abbrev pub TellsMatches : List ℕ → Option LikeVariant → Type 0
 TellsMatches pattern None = Unit {0}
 TellsMatches pattern (Some (Exact text)) =
     (matched : List ℕ)
