@@ -1,0 +1,121 @@
+//! LIKE of one pattern over several texts.
+
+use crate::questions::{ILIKE, LIKE, NOT_ILIKE, NOT_LIKE, matches, parts};
+use fixtures::yes;
+use std::alloc::Global;
+use vortex_columns::VortexResult;
+use vortex_like::LikePattern;
+
+const WORDS: [&str; 4] = ["hello", "world", "help", "jello"];
+
+/// Whether LIKE of the four words and a pattern is this.
+fn of_words(alloc: Global, pattern: &str, wanted: [bool; 4]) -> bool {
+    yes(matches(alloc, LIKE, pattern, &WORDS, &wanted))
+}
+
+#[test]
+fn literals_and_sequences(rt: HostRuntime) {
+    let alloc = rt.alloc();
+    assert!(rt; of_words(alloc, "hello", [true, false, false, false]));
+    assert!(rt; of_words(alloc, "he%", [true, false, true, false]));
+    assert!(rt; of_words(alloc, "%llo", [true, false, false, true]));
+    assert!(rt; of_words(alloc, "%ell%", [true, false, false, true]));
+}
+
+#[test]
+fn single_characters(rt: HostRuntime) {
+    let alloc = rt.alloc();
+    assert!(rt; of_words(alloc, "h_llo", [true, false, false, false]));
+    assert!(rt; of_words(alloc, "h%o", [true, false, false, false]));
+    assert!(rt; of_words(alloc, "%", [true, true, true, true]));
+    assert!(rt; of_words(alloc, "_____", [true, true, false, true]));
+}
+
+#[test]
+fn escapes(rt: HostRuntime) {
+    let alloc = rt.alloc();
+    let words = ["100%", "100x", "a_b", "axb"];
+    assert!(rt; yes(matches(alloc, LIKE, "100\\%", &words, &[true, false, false, false])));
+    assert!(rt; yes(matches(alloc, LIKE, "a\\_b", &words, &[false, false, true, false])));
+    assert!(rt; yes(parts(alloc, "100\\%", ["100%", "100x"])));
+    assert!(rt; yes(parts(alloc, "\\\\%", ["\\abc", "abc"])));
+}
+
+#[test]
+fn more_escapes(rt: HostRuntime) {
+    let alloc = rt.alloc();
+    assert!(rt; yes(parts(alloc, "foo\\%", ["foo%", "foobar"])));
+    assert!(rt; yes(parts(alloc, "\\%\\_", ["%_", "xx"])));
+    assert!(rt; yes(parts(alloc, "\\a", ["a", "aa"])));
+    assert!(rt; yes(parts(alloc, "\\\\a", ["\\a", "a"])));
+    assert!(rt; yes(parts(alloc, "\\\\", ["\\", ""])));
+}
+
+#[test]
+fn a_last_backslash_is_itself(rt: HostRuntime) {
+    let alloc = rt.alloc();
+    assert!(rt; yes(parts(alloc, "\\", ["\\", ""])));
+    assert!(rt; yes(parts(alloc, "a\\", ["a\\", "a"])));
+}
+
+#[test]
+fn no_other_character_is_special(rt: HostRuntime) {
+    let alloc = rt.alloc();
+    let words = ["a.c", "abc", "a$c"];
+    assert!(rt; yes(matches(alloc, LIKE, "a.%", &words, &[true, false, false])));
+    assert!(rt; yes(parts(alloc, ".", [".", "x"])));
+    assert!(rt; yes(parts(alloc, "$", ["$", "x"])));
+}
+
+#[test]
+fn one_character_of_several_bytes(rt: HostRuntime) {
+    let alloc = rt.alloc();
+    let words = ["h£llo", "hxllo", "h£xllo"];
+    assert!(rt; yes(matches(alloc, LIKE, "h_llo", &words, &[true, true, false])));
+    assert!(rt; yes(parts(alloc, "foo_bar", ["foo£bar", "fooxxbar"])));
+    assert!(rt; yes(parts(alloc, "h_llo w%d", ["h£llo wd", "hxxllo world"])));
+}
+
+#[test]
+fn sequences_with_newlines(rt: HostRuntime) {
+    let alloc = rt.alloc();
+    assert!(rt; yes(parts(alloc, "foo%bar", ["foo\nbar", "xfoobar"])));
+    assert!(rt; yes(parts(alloc, "%foobar%", ["xfoobary", "foo"])));
+    assert!(rt; yes(parts(alloc, "f%o", ["frodo", "frodo!"])));
+    assert!(rt; yes(parts(alloc, "f_o", ["foo", "fooo"])));
+}
+
+#[test]
+fn goes_back_to_the_last_sequence(rt: HostRuntime) {
+    let alloc = rt.alloc();
+    let words = ["aaxaab", "aab", "ab"];
+    assert!(rt; yes(matches(alloc, LIKE, "%a_b", &words, &[true, true, false])));
+    assert!(rt; yes(matches(alloc, LIKE, "%", &[""], &[true])));
+    assert!(rt; yes(matches(alloc, LIKE, "%%", &[""], &[true])));
+    assert!(rt; yes(matches(alloc, LIKE, "", &["", "x"], &[true, false])));
+}
+
+/// Whether a pattern matches a text with at most so many looks.
+fn looks_at_most(alloc: Global, pattern: &str, text: &str, most: u128) -> VortexResult<bool> {
+    let pattern = LikePattern::compile(alloc, pattern, false, false)?;
+    let (found, looks) = pattern.matches_counted(text.as_bytes());
+    Ok(found && looks.count() <= most)
+}
+
+#[test]
+fn counts_its_looks(rt: HostRuntime) {
+    let alloc = rt.alloc();
+    assert!(rt; yes(looks_at_most(alloc, "%a_b", "aaxaab", 35)));
+    assert!(rt; yes(looks_at_most(alloc, "%", "aaxaab", 0)));
+}
+
+#[test]
+fn turned_over(rt: HostRuntime) {
+    let alloc = rt.alloc();
+    let words = ["hello", "world"];
+    assert!(rt; yes(matches(alloc, NOT_LIKE, "he%", &words, &[false, true])));
+    let words = ["HELLO", "world"];
+    assert!(rt; yes(matches(alloc, NOT_ILIKE, "he%", &words, &[false, true])));
+    let words = ["HELLO", "world", "Help"];
+    assert!(rt; yes(matches(alloc, ILIKE, "he%", &words, &[true, false, true])));
+}

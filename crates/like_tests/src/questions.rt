@@ -1,0 +1,130 @@
+//! One call of LIKE each, and short questions to its answer.
+
+use fixtures::{Made, has_rows, kept, texts};
+use std::alloc::Global;
+use vortex_columns::{
+    BitBuffer, Column, ExecutionCtx, Nullability, Scalar, Validity, VortexError, VortexResult,
+};
+use vortex_like::{LikeOptions, execute_like};
+
+pub(crate) const LIKE: LikeOptions = LikeOptions {
+    negated: false,
+    case_insensitive: false,
+};
+
+pub(crate) const NOT_LIKE: LikeOptions = LikeOptions {
+    negated: true,
+    case_insensitive: false,
+};
+
+pub(crate) const ILIKE: LikeOptions = LikeOptions {
+    negated: false,
+    case_insensitive: true,
+};
+
+pub(crate) const NOT_ILIKE: LikeOptions = LikeOptions {
+    negated: true,
+    case_insensitive: true,
+};
+
+pub(crate) const YES: Option<bool> = Some(true);
+
+pub(crate) const NO: Option<bool> = Some(false);
+
+pub(crate) const NULL: Option<bool> = None;
+
+/// LIKE of two columns of texts of one length.
+fn like_of(alloc: Global, input: &Column, pattern: &Column, options: LikeOptions) -> Made {
+    if !input.dtype().is_utf8() || !pattern.dtype().is_utf8() || input.len() != pattern.len() {
+        return Err(VortexError::InvalidColumn);
+    }
+    kept(
+        alloc,
+        execute_like(input, pattern, options, &mut ExecutionCtx::new(alloc)),
+    )
+}
+
+/// LIKE of two columns.
+pub(crate) fn like(alloc: Global, input: Made, options: LikeOptions, pattern: Made) -> Made {
+    let (input, pattern) = (input?, pattern?);
+    like_of(alloc, &*input, &*pattern, options)
+}
+
+/// Non-nullable texts.
+pub(crate) fn plain(alloc: Global, words: &[&str]) -> Made {
+    texts(alloc, words, Validity::NonNullable)
+}
+
+/// Nullable texts, those where `valid` is false under nulls.
+pub(crate) fn nullable(alloc: Global, words: &[&str], valid: &[bool]) -> Made {
+    let valid = Validity::Array(BitBuffer::from_bools(alloc, valid)?);
+    texts(alloc, words, valid)
+}
+
+/// One text in each of so many rows.
+pub(crate) fn one(alloc: Global, word: &str, len: usize) -> Made {
+    kept(
+        alloc,
+        Column::constant(alloc, Scalar::try_from_str(alloc, word)?, len),
+    )
+}
+
+/// Whether an answer is these rows of a Bool of that nullability.
+pub(crate) fn says_or_null(
+    alloc: Global,
+    answer: Made,
+    nullability: Nullability,
+    wanted: &[Option<bool>],
+) -> VortexResult<bool> {
+    let answer = answer?;
+    if !answer.dtype().is_boolean() || answer.dtype().nullability() != nullability {
+        return Ok(false);
+    }
+    has_rows(alloc, Ok(answer), wanted)
+}
+
+/// Whether an answer is these rows of non-nullable Bool.
+pub(crate) fn says(alloc: Global, answer: Made, wanted: &[bool]) -> VortexResult<bool> {
+    let mut rows = Vec::new(alloc);
+    for row in wanted {
+        rows.push(Some(*row))?;
+    }
+    says_or_null(alloc, answer, Nullability::NonNullable, &rows)
+}
+
+/// The pattern in each row of a column that is no constant.
+fn repeated(alloc: Global, word: &str, len: usize) -> Made {
+    let mut words = Vec::new(alloc);
+    for _ in 0..len {
+        words.push(String::from_str(alloc, word)?)?;
+    }
+    kept(alloc, Column::try_utf8(alloc, words, Validity::NonNullable))
+}
+
+/// Whether LIKE of each word and one pattern is this, as a constant and row by row.
+pub(crate) fn matches(
+    alloc: Global,
+    options: LikeOptions,
+    pattern: &str,
+    words: &[&str],
+    wanted: &[bool],
+) -> VortexResult<bool> {
+    let once = like(
+        alloc,
+        plain(alloc, words),
+        options,
+        one(alloc, pattern, words.len()),
+    );
+    let each = like(
+        alloc,
+        plain(alloc, words),
+        options,
+        repeated(alloc, pattern, words.len()),
+    );
+    Ok(says(alloc, once, wanted)? && says(alloc, each, wanted)?)
+}
+
+/// Whether LIKE says yes to the first word and no to the second.
+pub(crate) fn parts(alloc: Global, pattern: &str, words: [&str; 2]) -> VortexResult<bool> {
+    matches(alloc, LIKE, pattern, &words, &[true, false])
+}

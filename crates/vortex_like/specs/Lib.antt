@@ -1,0 +1,12 @@
+pub mod Tokens
+pub mod TokenKinds
+pub mod Places
+pub mod Backs
+pub mod Symbols
+pub mod Options
+pub mod Patterns
+pub mod Rows
+pub mod Variants
+pub mod UnescapedTexts
+pub mod Cuts
+pub mod Words

@@ -1,0 +1,38 @@
+-- What is seen of a pattern, and what LIKE says of two values.
+use Rattle.std.specs.Prelude.{ℕ, List, Bool, not, if◌then◌else◌}
+use Rattle.std.specs.Str.{chars}
+use Rattle.vortex_types.specs.Values.{Value, null, truth, text}
+use Rattle.vortex_like.specs.declared.options.LikeOptions.{LikeOptions}
+use Rattle.vortex_like.specs.Tokens.{Token, tokens_of, is_match}
+
+-- the tokens, whether letters match past case, and whether every text to match is ASCII
+pub record PatternView : Type 0 where
+  pub tokens : List Token
+  pub case_insensitive : Bool
+  pub ascii_haystack : Bool
+
+-- the pattern of these bytes
+abbrev pub pattern_of : List ℕ → Bool → Bool → PatternView
+pattern_of bytes case_insensitive ascii_haystack =
+    record {
+      tokens = tokens_of (chars bytes);
+      case_insensitive = case_insensitive;
+      ascii_haystack = ascii_haystack;
+    }
+
+-- what a pattern answers to a text, by the text's bytes, turned over where negated
+abbrev pub answer : PatternView → Bool → List ℕ → Bool
+answer pattern negated bytes =
+    let found = is_match pattern.case_insensitive pattern.tokens (chars bytes) in
+    if negated then not found else found
+
+-- what LIKE says of a text and a pattern, by their bytes
+abbrev pub like : LikeOptions → List ℕ → List ℕ → Bool
+like options bytes pattern =
+    let found = is_match options.case_insensitive (tokens_of (chars pattern)) (chars bytes) in
+    if options.negated then not found else found
+
+-- null if either value is null
+abbrev pub like_value : LikeOptions → Value → Value → Value
+like_value options (text bytes) (text pattern) = truth (like options bytes pattern)
+like_value options v w = null

@@ -1,0 +1,49 @@
+-- LIKE over whole columns.
+use Rattle.std.specs.Prelude.{◌≡◌, ◌||◌, ℕ, ◌<◌, List, length, slice_index_or, Bool, false, not}
+use Rattle.vortex_types.specs.LogicalTypes.{bool_type, is_nullable}
+use Rattle.vortex_types.specs.Values.{Value, text, is_null}
+use Rattle.vortex_columns.specs.ValidityView.{ValidityView, form_allows_null, is_valid_row, FitsRows}
+use Rattle.vortex_columns.specs.ColumnView.{ColumnView, row}
+use Rattle.vortex_like.specs.declared.options.LikeOptions.{LikeOptions}
+use Rattle.vortex_like.specs.Patterns.{PatternView, like, like_value, answer}
+
+-- a bit for each of n rows, of which so much is told
+pub record AreTold (n : ℕ) (tells : ℕ → Bool → Type 0) (bits : List Bool) : Type 0 where
+  pub count : length bits ≡ n
+  pub each : (i : ℕ) → i < n → tells i (slice_index_or bits i false)
+
+-- what a pattern answers to a text; of what is no text nothing is said
+abbrev pub IsAnswer : PatternView → Bool → Value → Bool → Type 0
+IsAnswer pattern negated (text bytes) b = b ≡ answer pattern negated bytes
+IsAnswer pattern negated v b = Unit {0}
+
+-- what LIKE says of two texts; of what is no text nothing is said
+abbrev pub IsLikeBit : LikeOptions → Value → Value → Bool → Type 0
+IsLikeBit options (text bytes) (text pattern) b = b ≡ like options bytes pattern
+IsLikeBit options v w b = Unit {0}
+
+abbrev pub AreLikeBits : LikeOptions → ColumnView → ColumnView → List Bool → Type 0
+AreLikeBits options l r =
+    AreTold (length l.rows) (λ i b. IsLikeBit options (row l.rows i) (row r.rows i) b)
+
+-- whether either side is nullable
+abbrev pub either_nullable : ColumnView → ColumnView → Bool
+either_nullable l r = is_nullable l.dtype || is_nullable r.dtype
+
+-- the rows that are null on neither side, of a type that has null if either type does
+pub record IsJointValidity (l r : ColumnView) (v : ValidityView) : Type 0 where
+  pub nullability : form_allows_null v.form ≡ either_nullable l r
+  pub fits : FitsRows v (length l.rows)
+  pub each : (i : ℕ) → i < length l.rows
+      → is_valid_row v i ≡ not (is_null (row l.rows i) || is_null (row r.rows i))
+
+-- the same value in each row
+abbrev pub IsConstantOf : Value → ColumnView → Type 0
+IsConstantOf v c = (i : ℕ) → i < length c.rows → row c.rows i ≡ v
+
+-- a column of Bool, nullable if either side is, with what LIKE says of the two values in each row
+pub record HasLikeRows (options : LikeOptions) (l r c : ColumnView) : Type 0 where
+  pub dtype : c.dtype ≡ bool_type (either_nullable l r)
+  pub count : length c.rows ≡ length l.rows
+  pub each : (i : ℕ) → i < length l.rows
+      → row c.rows i ≡ like_value options (row l.rows i) (row r.rows i)

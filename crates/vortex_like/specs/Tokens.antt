@@ -1,0 +1,75 @@
+-- The tokens of a LIKE pattern, and which texts they match: SQL LIKE with backslash escape, and
+-- under ILIKE Unicode's simple case folding, one character at a time.
+use Rattle.std.specs.Prelude.{ℕ, Bool, true, false, ◌==◌, ◌≡◌, ◌&&◌, List, [], ◌∷◌, ◌++◌}
+use Rattle.std.specs.Prelude.{if◌then◌else◌}
+use Rattle.std.specs.List.{list_any}
+use Rattle.unicode.specs.CaseFolding.{simple_fold}
+
+-- any sequence of characters, one character, or that character
+pub data Token : Type 0 where
+  any : Token
+  one : Token
+  character : ℕ → Token
+
+-- `%`, `_` and the backslash, which escapes the character behind it
+abbrev pub percent : ℕ
+percent = 37
+
+abbrev pub underscore : ℕ
+underscore = 95
+
+abbrev pub backslash : ℕ
+backslash = 92
+
+-- the token of a character that is not escaped and escapes none
+abbrev pub plain_token : ℕ → Token
+plain_token c =
+    if c == percent then any else if c == underscore then one else character c
+
+-- the tokens of a pattern, by its characters: a backslash at the end stands for itself
+abbrev pub tokens_of : List ℕ → List Token
+tokens_of [] = []
+tokens_of (c ∷ []) = plain_token c ∷ []
+tokens_of (c ∷ d ∷ rest) =
+    if c == backslash then character d ∷ tokens_of rest else plain_token c ∷ tokens_of (d ∷ rest)
+
+abbrev pub is_any : Token → Bool
+is_any any = true
+is_any t = false
+
+-- whether a character is what a pattern's character asks for
+abbrev pub same_character : Bool → ℕ → ℕ → Bool
+same_character false own c = own == c
+same_character true own c = simple_fold own == simple_fold c
+
+-- whether a text of one character is what the token asks for
+abbrev pub accepts : Bool → Token → ℕ → Bool
+accepts case_insensitive any c = true
+accepts case_insensitive one c = true
+accepts case_insensitive (character own) c = same_character case_insensitive own c
+
+-- the tokens match the text
+abbrev pub Match : Bool → List Token → List ℕ → Type 0
+Match case_insensitive [] text = text ≡ []
+Match case_insensitive (any ∷ rest) text =
+    (before : List ℕ) × (after : List ℕ) × (text ≡ before ++ after)
+    × Match case_insensitive rest after
+Match case_insensitive (one ∷ rest) text =
+    (c : ℕ) × (after : List ℕ) × (text ≡ c ∷ after) × Match case_insensitive rest after
+Match case_insensitive (character own ∷ rest) text =
+    (c : ℕ) × (after : List ℕ) × (text ≡ c ∷ after)
+    × (same_character case_insensitive own c ≡ true) × Match case_insensitive rest after
+
+-- what a text ends with, from the whole text down to nothing
+abbrev pub endings : List ℕ → List (List ℕ)
+endings [] = [] ∷ []
+endings (c ∷ text) = (c ∷ text) ∷ endings text
+
+-- the same as a test
+abbrev pub is_match : Bool → List Token → List ℕ → Bool
+is_match case_insensitive [] [] = true
+is_match case_insensitive [] (c ∷ text) = false
+is_match case_insensitive (any ∷ rest) text = list_any (is_match case_insensitive rest) (endings text)
+is_match case_insensitive (t ∷ rest) [] = false
+is_match case_insensitive (t ∷ rest) (c ∷ text) =
+    accepts case_insensitive t c && is_match case_insensitive rest text

@@ -1,0 +1,17 @@
+-- The words of the contracts, from one place.
+pub use Rattle.vortex_errors.specs.Answers.{AnswersUnlessMemory}
+pub use Rattle.vortex_types.specs.LogicalTypes.{is_text_type}
+pub use Rattle.vortex_columns.specs.ValidityView.{validity_of}
+pub use Rattle.vortex_types.specs.Values.{text, is_null}
+pub use Rattle.vortex_columns.specs.ColumnView.{row}
+pub use Rattle.vortex_like.specs.Backs.{IsLast, IsFurther}
+pub use Rattle.vortex_like.specs.Cuts.{is_special, IsPassed, StartsSpecial, IsCutOf}
+pub use Rattle.vortex_like.specs.Patterns.{pattern_of, like}
+pub use Rattle.vortex_like.specs.Places.{begins_with_any, first_accepts, asked}
+pub use Rattle.vortex_like.specs.Rows.{AreTold, IsAnswer, IsLikeBit, AreLikeBits}
+pub use Rattle.vortex_like.specs.Rows.{IsJointValidity, IsConstantOf, HasLikeRows}
+pub use Rattle.vortex_like.specs.Symbols.{symbol_token}
+pub use Rattle.vortex_like.specs.Tokens.{any, one, character, is_any, accepts, plain_token}
+pub use Rattle.vortex_like.specs.Tokens.{tokens_of, Match, is_match}
+pub use Rattle.vortex_like.specs.UnescapedTexts.{IsUnescaped}
+pub use Rattle.vortex_like.specs.Variants.{is_wildcard, meets_escape, IsVariantOf, TellsMatches}

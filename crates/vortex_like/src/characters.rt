@@ -1,0 +1,42 @@
+//! Texts, one character at a time.
+ghost use Rattle.std.specs.Prelude.{◌≡◌, ◌<◌, [], ◌∷◌, ◌++◌, length, MatchOption, encode_utf8};
+ghost use Rattle.std.specs.Str.{chars};
+ghost use Rattle.vortex_like.specs.Words.{tokens_of, symbol_token};
+
+/// The first character of a text, and the text behind it.
+pub(crate) fn split_first(text: &str) -> Option<(char, &str)>
+    ensures characters { MatchOption result (chars text.now ≡ [])
+        (λ parts. chars text.now ≡ parts.0 ∷ chars parts.1.now) }
+    ensures bytes { MatchOption result (text.now ≡ [])
+        (λ parts. text.now ≡ encode_utf8 parts.0 ++ parts.1.now) }
+{
+    let mut rest = text.chars();
+    let first = rest.next()?;
+    Some((first, rest.as_str()))
+}
+
+/// A character of a pattern, as it is read.
+#[derive(Clone, Copy)]
+pub(crate) enum Symbol {
+    /// It stands behind a backslash.
+    Escaped(char),
+    Plain(char),
+}
+
+/// The first character of a pattern, by what it stands for, and the pattern behind it.
+pub(crate) fn first_symbol(pattern: &str) -> Option<(Symbol, &str)>
+    ensures token { MatchOption result (chars pattern.now ≡ [])
+        (λ parts. tokens_of (chars pattern.now)
+        ≡ symbol_token parts.0 ∷ tokens_of (chars parts.1.now)) }
+    ensures falls { MatchOption result (chars pattern.now ≡ [])
+        (λ parts. length (chars parts.1.now) < length (chars pattern.now)) }
+{
+    let (c, after) = split_first(pattern)?;
+    if c != '\\' {
+        return Some((Symbol::Plain(c), after));
+    }
+    match split_first(after) {
+        Some((escaped, behind)) => Some((Symbol::Escaped(escaped), behind)),
+        None => Some((Symbol::Escaped(c), after)),
+    }
+}

@@ -1,0 +1,148 @@
+//! The simple shapes of a pattern.
+ghost use Rattle.std.specs.Prelude.{◌≡◌, true, Some, MatchOption};
+ghost use Rattle.std.specs.Str.{chars};
+ghost use Rattle.vortex_like.specs.Words.{AnswersUnlessMemory, tokens_of, character, symbol_token};
+ghost use Rattle.vortex_like.specs.Words.{is_wildcard, meets_escape, IsVariantOf, TellsMatches};
+ghost use Rattle.vortex_like.specs.Words.{IsUnescaped, is_special, IsPassed, StartsSpecial};
+ghost use Rattle.vortex_like.specs.Words.{IsCutOf};
+
+use crate::characters::{Symbol, first_symbol, split_first};
+use std::alloc::Global;
+use std::borrow::CowStr;
+use vortex_types::VortexResult;
+
+/// A pattern that one text alone matches, or what every text that matches it begins with. Two are equal by form and
+/// text, lent or owned.
+#[derive(Debug, Drop, PartialEq)]
+pub enum LikeVariant<'a> {
+    /// The pattern has no wildcard.
+    Exact(CowStr<'a>),
+    /// What stands before the first wildcard.
+    Prefix(CowStr<'a>),
+}
+
+/// What a text without escapes is read from a pattern, up to its first wildcard or its end.
+#[derive(Drop)]
+struct Unescaped {
+    text: String,
+    at_wildcard: bool,
+}
+
+/// The character that stands for itself, unless it is a wildcard.
+fn literal(symbol: Symbol) -> Option<char>
+    ensures { MatchOption result (is_wildcard (symbol_token symbol) ≡ true)
+        (λ c. symbol_token symbol ≡ character c) }
+{
+    match symbol {
+        Symbol::Escaped(c) => Some(c),
+        Symbol::Plain('%') => None,
+        Symbol::Plain('_') => None,
+        Symbol::Plain(c) => Some(c),
+    }
+}
+
+/// The text before the first wildcard, without its escapes, or of the whole pattern.
+fn without_escapes(alloc: Global, pattern: &str) -> VortexResult<Unescaped>
+    ensures { AnswersUnlessMemory result (IsUnescaped (chars pattern.now)) }
+{
+    let mut text = String::new(alloc);
+    let mut rest = pattern;
+    while let Some((symbol, behind)) = first_symbol(rest) {
+        let Some(c) = literal(symbol) else {
+            return Ok(Unescaped {
+                text,
+                at_wildcard: true,
+            });
+        };
+        text.push(c)?;
+        rest = behind;
+    }
+    Ok(Unescaped {
+        text,
+        at_wildcard: false,
+    })
+}
+
+/// Whether a character is a wildcard or escapes one.
+fn is_special(c: char) -> bool
+    ensures { result ≡ is_special c }
+{
+    c == '\\' || (c == '%' || c == '_')
+}
+
+/// A pattern, cut before the first character that is special.
+#[derive(Clone, Copy)]
+struct Cut<'a> {
+    front: &'a str,
+    rest: &'a str,
+}
+
+/// What is left of a pattern from its first special character on.
+fn from_special(pattern: &str) -> &str
+    ensures passed { IsPassed pattern.now result.now }
+    ensures special { StartsSpecial (chars result.now) }
+{
+    let mut rest = pattern;
+    while let Some((c, behind)) = split_first(rest) {
+        if is_special(c) {
+            return rest;
+        }
+        rest = behind;
+    }
+    rest
+}
+
+/// The part of a pattern without special characters, and what is behind it.
+fn cut_at_special(pattern: &str) -> Cut<'_>
+    ensures { IsCutOf (chars pattern.now) result }
+{
+    let rest = from_special(pattern);
+    let front = &pattern[..pattern.len() - rest.len()];
+    Cut { front, rest }
+}
+
+/// The shape of a pattern that has an escape before its first wildcard.
+fn owned_variant<'a>(alloc: Global, pattern: &str) -> VortexResult<LikeVariant<'a>>
+    requires { meets_escape (chars pattern.now) ≡ true }
+    ensures { AnswersUnlessMemory result (λ v. IsVariantOf (chars pattern.now) (Some v)) }
+{
+    let Unescaped { text, at_wildcard } = without_escapes(alloc, pattern)?;
+    if at_wildcard {
+        Ok(LikeVariant::Prefix(CowStr::Owned(text)))
+    } else {
+        Ok(LikeVariant::Exact(CowStr::Owned(text)))
+    }
+}
+
+/// The shape of a pattern, unless it begins with a wildcard.
+fn variant_of(alloc: Global, pattern: &str) -> VortexResult<Option<LikeVariant<'_>>>
+    ensures { AnswersUnlessMemory result (IsVariantOf (chars pattern.now)) }
+{
+    let cut = cut_at_special(pattern);
+    match split_first(cut.rest) {
+        None => Ok(Some(LikeVariant::Exact(CowStr::Borrowed(cut.front)))),
+        Some((c, _)) => {
+            if c == '\\' {
+                return Ok(Some(owned_variant(alloc, pattern)?));
+            }
+            if cut.front.is_empty() {
+                return Ok(None);
+            }
+            Ok(Some(LikeVariant::Prefix(CowStr::Borrowed(cut.front))))
+        }
+    }
+}
+
+impl<'a> LikeVariant<'a> {
+    /// The simple shape of a pattern of LIKE: the text that it is where it has no wildcard, or what stands before its
+    /// first one, each without its escapes. None exactly where it begins with a wildcard that is not escaped.
+    ///
+    /// The text is lent where no escape was met before that point, a backslash at the end among them. Refuses for memory
+    /// alone (E9).
+    pub fn from_str(alloc: Global, pattern: &'a str) -> VortexResult<Option<LikeVariant<'a>>>
+        ensures variant { AnswersUnlessMemory result (IsVariantOf (chars pattern.now)) }
+        ensures matches { AnswersUnlessMemory result (TellsMatches (chars pattern.now)) }
+    {
+        variant_of(alloc, pattern)
+    }
+}
