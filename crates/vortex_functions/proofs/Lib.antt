@@ -5,3 +5,4 @@ pub mod Opened
 pub mod Bound
 pub mod Texts
 pub mod TreeTexts
+pub mod Counts

@@ -7,15 +7,14 @@ use crate::erased::ScalarFnRef;
 use crate::literal_text::{Shape, write_literal};
 use std::alloc::Global;
 use std::borrow::Cow;
-use std::fmt;
 use std::marker::Model;
+use std::{fmt, mem};
 use vortex_columns::{
-    Column, DType, ExecutionCtx, Scalar, StructFields, VortexError, VortexResult,
+    Column, DType, ExecutionCtx, Nullability, Scalar, StructFields, VortexError, VortexResult,
 };
 use vortex_interface::{ScalarFnVTable, VecExecutionArgs};
 
 #[cycle(expression)]
-#[derive(Drop)]
 enum Node<C: ScalarFnVTable> {
     /// The place of a column in the scope, its name and its type.
     Column(usize, String, DType),
@@ -27,7 +26,6 @@ enum Node<C: ScalarFnVTable> {
 
 /// A well-typed tree of calls over column leaves and literals.
 #[cycle(expression)]
-#[derive(Drop)]
 pub struct BoundExpression<C: ScalarFnVTable> {
     node: Node<C>,
 }
@@ -52,6 +50,37 @@ impl<C: ScalarFnVTable> Model for BoundExpression<C> {
 
     ghost size_decreases = { λ a h. deep_le-node_count C C.Options C.ScalarFnVTable C.Clone C.Options.Clone C.Options.Debug
         C.Options.Display C.Options.PartialEq C.Options.Hash a.node };
+}
+
+/// Takes a tree down by a work list, and the list is the children's own vector: the depth of a tree takes no stack, and a
+/// chain no memory. Where the list cannot grow, one child goes by a call of its own.
+impl<C: ScalarFnVTable> Drop for BoundExpression<C> {
+    #[tactic(auto, using(crate::proofs::Counts::nodes_count_push))]
+    fn drop(self) {
+        let BoundExpression { node } = self;
+        let mut list = match node {
+            Node::Column(_, _, _) => return,
+            Node::Literal(_, _) => return,
+            Node::Call(_, children, _) => children,
+        };
+        let alloc = *list.allocator();
+        while let Some(tree) = list.pop() {
+            let mut tree = tree;
+            let nothing = Scalar::bool(false, Nullability::NonNullable);
+            match mem::replace(&mut tree.node, Node::Literal(nothing, alloc)) {
+                Node::Column(_, _, _) => {}
+                Node::Literal(_, _) => {}
+                Node::Call(_, children, _) => {
+                    let mut children = children;
+                    while let Some(child) = children.pop() {
+                        if let Err(failed) = list.push(child) {
+                            drop(failed.value);
+                        }
+                    }
+                }
+            }
+        }
+    }
 }
 
 /// The types of trees.
