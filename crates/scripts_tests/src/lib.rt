@@ -10,4 +10,6 @@ mod endings;
 #[cfg(test)]
 mod lines;
 #[cfg(test)]
+mod null_tests;
+#[cfg(test)]
 mod trees;

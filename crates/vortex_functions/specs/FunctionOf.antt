@@ -4,13 +4,16 @@ use Rattle.vortex_functions.specs.declared.erased.ScalarFnRef.{ScalarFnRef}
 use Rattle.vortex_functions.specs.declared.erased.ScalarFnRef.TheVariants as ref
 use Rattle.vortex_functions.specs.declared.typed.TypedScalarFnInstance.{TypedScalarFnInstance}
 use Rattle.vortex_operators.specs.declared.operators.Operator.{Operator}
-use Rattle.vortex_meaning.specs.Shipped.{Binary, Not}
+use Rattle.vortex_meaning.specs.Shipped.{Binary, Not, IsNull, IsNotNull, Cast}
 use Rattle.vortex_meaning.specs.Functions.{Function, ours, custom}
 
 module _ {V O : Type 0} where
   abbrev pub function_of : ScalarFnRef V O → Function V O
   function_of (ref.Binary o) = ours (Binary o)
   function_of ref.Not = ours Not
+  function_of ref.IsNull = ours IsNull
+  function_of ref.IsNotNull = ours IsNotNull
+  function_of ref.Cast = ours Cast
   function_of (ref.Custom f) = custom f.vtable f.options
 
   abbrev pub operator_in : ScalarFnRef V O → Option Operator
@@ -20,6 +23,18 @@ module _ {V O : Type 0} where
   abbrev pub is_not : ScalarFnRef V O → Bool
   is_not ref.Not = true
   is_not f = false
+
+  abbrev pub is_is_null : ScalarFnRef V O → Bool
+  is_is_null ref.IsNull = true
+  is_is_null f = false
+
+  abbrev pub is_is_not_null : ScalarFnRef V O → Bool
+  is_is_not_null ref.IsNotNull = true
+  is_is_not_null f = false
+
+  abbrev pub is_cast : ScalarFnRef V O → Bool
+  is_cast ref.Cast = true
+  is_cast f = false
 
   abbrev pub instance_in : ScalarFnRef V O → Option (TypedScalarFnInstance V O)
   instance_in (ref.Custom f) = Some f

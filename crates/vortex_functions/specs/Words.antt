@@ -9,6 +9,8 @@ pub use Rattle.vortex_meaning.specs.Meaning.{fits}
 pub use Rattle.vortex_meaning.specs.Shipped.{Shipped, shipped_named}
 pub use Rattle.vortex_meaning.specs.Shipped.BinaryFunction.{operator_named, arithmetic_named}
 pub use Rattle.vortex_meaning.specs.Shipped.NotFunction.{is_not_word}
+pub use Rattle.vortex_meaning.specs.Shipped.NullTestFunctions.{is_null_word, is_not_null_word}
+pub use Rattle.vortex_meaning.specs.Shipped.CastFunction.{is_cast_word}
 pub use Rattle.vortex_meaning.specs.Functions.{ours, function_id, function_arity, function_child_name, function_type, function_strict, function_infallible}
 pub use Rattle.vortex_meaning.specs.Answering.{AnswersFunctionType, AnswersFunction}
 pub use Rattle.vortex_meaning.specs.CallTexts.{Appends}

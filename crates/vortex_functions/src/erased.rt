@@ -8,7 +8,7 @@ use std::alloc::Global;
 use vortex_columns::{Arity, Column, DType, ExecutionCtx, VortexResult};
 use vortex_interface::{ChildName, EmptyOptions, ExecutionArgs, ScalarFnId, ScalarFnVTable};
 use vortex_kernels::Operator;
-use vortex_shipped::{Binary, Not};
+use vortex_shipped::{Binary, Cast, CastOptions, IsNotNull, IsNull, Not};
 
 /// The list of the functions, each with its interface and its options.
 macro_rules! with_function {
@@ -22,6 +22,21 @@ macro_rules! with_function {
             ScalarFnRef::Not => {
                 let $f = &Not;
                 let $options = &EmptyOptions;
+                $body
+            }
+            ScalarFnRef::IsNull => {
+                let $f = &IsNull;
+                let $options = &EmptyOptions;
+                $body
+            }
+            ScalarFnRef::IsNotNull => {
+                let $f = &IsNotNull;
+                let $options = &EmptyOptions;
+                $body
+            }
+            ScalarFnRef::Cast => {
+                let $f = &Cast;
+                let $options = &CastOptions;
                 $body
             }
             ScalarFnRef::Custom(custom) => {
@@ -38,6 +53,9 @@ macro_rules! with_function {
 pub enum ScalarFnRef<C: ScalarFnVTable> {
     Binary(Operator),
     Not,
+    IsNull,
+    IsNotNull,
+    Cast,
     Custom(TypedScalarFnInstance<C>),
 }
 
@@ -53,7 +71,8 @@ impl<C: ScalarFnVTable> ScalarFnRef<C> {
     ghost use Rattle.std.specs.Option.{option_copied, option_map};
     ghost use Rattle.vortex_meaning.specs.Functions.{ours};
     ghost use Rattle.vortex_meaning.specs.Shipped.{shipped_named};
-    ghost use Rattle.vortex_functions.specs.FunctionOf.{operator_in, is_not, instance_in};
+    ghost use Rattle.vortex_functions.specs.FunctionOf.{operator_in, instance_in};
+    ghost use Rattle.vortex_functions.specs.FunctionOf.{is_not, is_is_null, is_is_not_null, is_cast};
 
     /// A caller's function with its options.
     pub fn custom(vtable: C, options: C::Options) -> ScalarFnRef<C>
@@ -85,6 +104,36 @@ impl<C: ScalarFnVTable> ScalarFnRef<C> {
     {
         match self {
             ScalarFnRef::Not => true,
+            _ => false,
+        }
+    }
+
+    /// Whether it is IsNull.
+    pub fn is_is_null(&self) -> bool
+        ensures { result ≡ is_is_null self.now }
+    {
+        match self {
+            ScalarFnRef::IsNull => true,
+            _ => false,
+        }
+    }
+
+    /// Whether it is IsNotNull.
+    pub fn is_is_not_null(&self) -> bool
+        ensures { result ≡ is_is_not_null self.now }
+    {
+        match self {
+            ScalarFnRef::IsNotNull => true,
+            _ => false,
+        }
+    }
+
+    /// Whether it is Cast.
+    pub fn is_cast(&self) -> bool
+        ensures { result ≡ is_cast self.now }
+    {
+        match self {
+            ScalarFnRef::Cast => true,
             _ => false,
         }
     }
@@ -174,6 +223,15 @@ impl<C: ScalarFnVTable> ScalarFnRef<C> {
         if let Some(options) = Not.named(word) {
             return Some(Not.bind(options));
         }
+        if let Some(options) = IsNull.named(word) {
+            return Some(IsNull.bind(options));
+        }
+        if let Some(options) = IsNotNull.named(word) {
+            return Some(IsNotNull.bind(options));
+        }
+        if let Some(options) = Cast.named(word) {
+            return Some(Cast.bind(options));
+        }
         None
     }
 
@@ -184,6 +242,9 @@ impl<C: ScalarFnVTable> ScalarFnRef<C> {
         match self {
             ScalarFnRef::Binary(operator) => Ok(ScalarFnRef::Binary(*operator)),
             ScalarFnRef::Not => Ok(ScalarFnRef::Not),
+            ScalarFnRef::IsNull => Ok(ScalarFnRef::IsNull),
+            ScalarFnRef::IsNotNull => Ok(ScalarFnRef::IsNotNull),
+            ScalarFnRef::Cast => Ok(ScalarFnRef::Cast),
             ScalarFnRef::Custom(f) => {
                 let options = f.vtable().clone_options(alloc, f.options())?;
                 let vtable = f.vtable().try_clone(alloc)?;

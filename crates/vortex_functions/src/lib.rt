@@ -3,12 +3,14 @@
 #![tactic(auto)]
 
 mod binary;
+mod cast;
 pub mod custom;
 pub mod erased;
 pub mod ext;
 pub mod laws;
 mod literal_text;
 mod not;
+mod null_tests;
 pub mod tree;
 pub mod typed;
 
@@ -20,4 +22,4 @@ pub use typed::TypedScalarFnInstance;
 pub use vortex_interface::{
     Arity, ChildName, EmptyOptions, ExecutionArgs, ScalarFnId, ScalarFnVTable, VecExecutionArgs,
 };
-pub use vortex_shipped::{Binary, Not};
+pub use vortex_shipped::{Binary, Cast, CastOptions, IsNotNull, IsNull, Not};

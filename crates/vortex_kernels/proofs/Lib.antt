@@ -1,5 +1,6 @@
 pub mod Comparing
 pub mod RowLemmas
+pub mod CastRows
 pub mod KleeneBits
 pub mod SameIntegers
 pub mod Calculating

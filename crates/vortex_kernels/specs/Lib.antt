@@ -3,6 +3,8 @@ pub mod Validity
 pub mod Truths
 pub mod Kleene
 pub mod Boolean
+pub mod NullTests
+pub mod Cast
 pub mod PairOrders
 pub mod Comparison
 pub mod ArithmeticIntegers

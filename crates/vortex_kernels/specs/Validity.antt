@@ -13,6 +13,11 @@ valid_view Every = record { form = all_valid; bits = [] }
 valid_view No = record { form = all_invalid; bits = [] }
 valid_view (Listed bits) = record { form = array; bits = bits.now }
 
+-- told by a list of bits
+abbrev pub IsListed : ValidRows → Type 0
+IsListed (Listed bits) = Unit {0}
+IsListed v = ⊥
+
 -- tells of each row whether it is null
 pub record AreValid (v : ValidityView) (rows : List Value) : Type 0 where
   pub fits : FitsRows v (length rows)
@@ -24,10 +29,12 @@ pub record IsValidity (nullable : Bool) (n : ℕ) (valid : ℕ → Bool) (v : Va
   pub fits : FitsRows v n
   pub each : (i : ℕ) → i < n → is_valid_row v i ≡ valid i
 
--- those rows of a column that are not null
+-- those rows of a column that are not null, for a type that has null or not, and for its own
+abbrev pub IsValidityIn : Bool → ColumnView → ValidityView → Type 0
+IsValidityIn nullable c = IsValidity nullable (length c.rows) (λ i. not (is_null (row c.rows i)))
+
 abbrev pub IsValidityOf : ColumnView → ValidityView → Type 0
-IsValidityOf c =
-    IsValidity (is_nullable c.dtype) (length c.rows) (λ i. not (is_null (row c.rows i)))
+IsValidityOf c = IsValidityIn (is_nullable c.dtype) c
 
 -- the rows that are null on neither side, of a type that has null or not
 abbrev pub IsJointValidity : Bool → ColumnView → ColumnView → ValidityView → Type 0

@@ -6,10 +6,13 @@ pub use Rattle.vortex_columns.specs.LentBytes.{bytes_of}
 pub use Rattle.vortex_kernels.specs.ArithmeticIntegers.{FitsResult, AnswersExact}
 pub use Rattle.vortex_kernels.specs.Boolean.{are_bools, HasBooleanRows, HasNotRows}
 pub use Rattle.vortex_kernels.specs.Boolean.{IsKleeneValidity, AnswersBoolean, RefusesBoolean}
+pub use Rattle.vortex_kernels.specs.Cast.{HasCastRows, KeepsConstant}
 pub use Rattle.vortex_kernels.specs.Comparison.{is_null_constant, IsConstantOf, AnswersScalars}
 pub use Rattle.vortex_kernels.specs.Comparison.{RefusesScalars, HasComparisonRows, AnswersCompare}
 pub use Rattle.vortex_kernels.specs.Comparison.{RefusesCompare, AreHeld, IsConstantBytes}
 pub use Rattle.vortex_kernels.specs.Comparison.{AreComparisons}
+pub use Rattle.vortex_kernels.specs.NullTests.{HasTruths, HasNullTests, HasNotNullTests}
+pub use Rattle.vortex_kernels.specs.NullTests.{IsConstantUnlessListed}
 pub use Rattle.vortex_kernels.specs.Numeric.{AnswersNumeric, RefusesNumeric}
 pub use Rattle.vortex_kernels.specs.Numeric.{IsExactOf, row_results, AreNumbers}
 pub use Rattle.vortex_kernels.specs.Numeric.{AreResults, TellsFaults, FitWhereValid, FaultsAt}
@@ -23,7 +26,7 @@ pub use Rattle.vortex_kernels.specs.Kleene.{RefusesOperator}
 pub use Rattle.vortex_kernels.specs.Truths.{present, IsValueOf, truth_at, operand_there}
 pub use Rattle.vortex_kernels.specs.Truths.{operand_truth, IsOperandOf, HasTruth, AreTruths}
 pub use Rattle.vortex_kernels.specs.Validity.{valid_view, AreValid, IsValidity, IsValidityOf}
-pub use Rattle.vortex_kernels.specs.Validity.{IsJointValidity, IsAsValid}
+pub use Rattle.vortex_kernels.specs.Validity.{IsJointValidity, IsAsValid, IsListed, IsValidityIn}
 pub use Rattle.vortex_operators.specs.Arithmetic.{integer_of_both}
 pub use Rattle.vortex_operators.specs.Kleene.{kleene}
 pub use Rattle.vortex_operators.specs.OperatorValues.{not_value, holds}
@@ -36,5 +39,5 @@ pub use Rattle.vortex_operators.specs.declared.operators.Operator.TheVariants.{A
 pub use Rattle.vortex_errors.specs.Answers.{Answers, AnswersUnlessMemory}
 pub use Rattle.vortex_types.specs.LogicalTypes.{is_bool_type, bool_type, is_text_type}
 pub use Rattle.vortex_types.specs.TypeOf.{allows_null, type_of}
-pub use Rattle.vortex_columns.specs.ValidityView.{validity_of, FitsRows}
+pub use Rattle.vortex_columns.specs.ValidityView.{validity_of, FitsRows, array}
 pub use Rattle.vortex_types.specs.Values.{null, number, truth, truth_of}

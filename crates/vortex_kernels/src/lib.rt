@@ -3,10 +3,12 @@
 
 pub mod arithmetic_integer;
 pub mod boolean;
+pub mod cast;
 pub mod compare;
 mod comparisons;
 mod integer_types;
 pub mod kleene;
+pub mod null_tests;
 mod numbers;
 pub mod numeric;
 mod pairs;
@@ -17,7 +19,9 @@ pub use arithmetic_integer::{ArithmeticInteger, apply_checked};
 pub use boolean::{
     execute_boolean, execute_not, kleene_boolean_buffer_scalar, kleene_boolean_buffers,
 };
+pub use cast::execute_cast;
 pub use compare::{execute_compare, scalar_cmp};
 pub use kleene::kleene_words;
+pub use null_tests::{execute_is_not_null, execute_is_null};
 pub use numeric::execute_numeric;
 pub use vortex_operators::{CompareOperator, Operator, operators};

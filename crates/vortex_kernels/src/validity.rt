@@ -2,7 +2,7 @@
 ghost use Rattle.std.specs.Prelude.{◌≡◌, true, length};
 ghost use Rattle.vortex_kernels.specs.Words.{AnswersUnlessMemory, validity_of, either_nullable};
 ghost use Rattle.vortex_kernels.specs.Words.{valid_view, AreValid, IsValidityOf, IsJointValidity};
-ghost use Rattle.vortex_kernels.specs.Words.{IsAsValid};
+ghost use Rattle.vortex_kernels.specs.Words.{IsAsValid, IsListed, IsValidityIn, array};
 
 use std::alloc::Global;
 use vortex_bits::{Both, zip_bits};
@@ -44,7 +44,8 @@ impl<'a> ValidRows<'a> {
 
 /// Which rows of a column are not null. Takes no memory: where there is a list of bits it is lent.
 pub(crate) fn valid_rows(alloc: Global, column: &Column) -> VortexResult<ValidRows<'_>>
-    ensures { AnswersUnlessMemory result (λ v. AreValid (valid_view v) column.now.rows) }
+    ensures rows { AnswersUnlessMemory result (λ v. AreValid (valid_view v) column.now.rows) }
+    ensures listed { AnswersUnlessMemory result (λ v. IsListed v → column.now.form ≡ array) }
 {
     if let Some(bits) = column.valid_bits() {
         return Ok(ValidRows::Listed(bits));
@@ -62,8 +63,15 @@ pub(crate) fn same_valid(alloc: Global, column: &Column) -> VortexResult<Validit
 {
     match column.dtype().nullability() {
         Nullability::NonNullable => Ok(Validity::NonNullable),
-        Nullability::Nullable => valid_rows(alloc, column)?.to_validity(alloc),
+        Nullability::Nullable => nullable_valid(alloc, column),
     }
+}
+
+/// The validity of the rows of a column, for a nullable type.
+pub(crate) fn nullable_valid(alloc: Global, column: &Column) -> VortexResult<Validity>
+    ensures { AnswersUnlessMemory result (λ v. IsValidityIn true column.now (validity_of v)) }
+{
+    valid_rows(alloc, column)?.to_validity(alloc)
 }
 
 /// The validity of rows that are valid on both sides.

@@ -1,7 +1,7 @@
 -- Where executing a tree of shipped functions errs: exactly where in some row a call of arithmetic has two operands, neither
 -- null, of which its type does not hold the exact result.
 use Rattle.std.specs.Prelude.{◌≡◌, ◌⊎◌, ℕ, ◌<◌, ℤ, List, [], ◌∷◌, Option, Some, None, ⊤, refl}
-use Rattle.std.proofs.Common.{sym, ap, ◌∙◌, inl, inr}
+use Rattle.std.proofs.Common.{sym, ap, ◌∙◌, subst, inl, inr}
 use Rattle.vortex_types.specs.declared.dtype.PType.{PType}
 use Rattle.vortex_errors.specs.declared.error.NumericOperator.{NumericOperator}
 use Rattle.vortex_errors.specs.declared.error.VortexError.{VortexError}
@@ -14,7 +14,7 @@ use Rattle.vortex_operators.specs.Arithmetic.{exact_result, held, arithmetic_val
 use Rattle.vortex_meaning.specs.Outcomes.{Outcome, gives, faults, Fault, arithmetic, error_of, GivesValue, IsRowFault}
 use Rattle.vortex_meaning.specs.Meaning.{Meaning}
 use Rattle.vortex_meaning.specs.Arithmetic.{integer_of, arithmetic_of, arithmetic_means, value_or_fault, arithmetic_fault}
-use Rattle.vortex_meaning.specs.Shipped.{Shipped, Binary, Not, shipped_means}
+use Rattle.vortex_meaning.specs.Shipped.{Shipped, Binary, shipped_means}
 use Rattle.vortex_meaning.specs.Shipped.BinaryFunction.{means_by}
 use Rattle.vortex_meaning.specs.Functions.{Function, ours, custom, function_means}
 use Rattle.vortex_meaning.specs.Trees.{Tree, leaf, constant, call, Trees, no_trees, tree}
@@ -189,21 +189,27 @@ module _ {V O : Type 0} (m : Meaning V O) (cs : List ColumnView) (n : ℕ) where
         ),
       )
 
+  -- a function that always gives a value has no fault in a row
+  no_fault : (s : Shipped)
+      → ((us : List LogicalType) (vs : List Value) → GivesValue (shipped_means s us vs))
+      → (ts : Trees V O) → AllSettled m cs n ts → (e : VortexError)
+      → IsRowFault n (eval m cs (call (ours s) ts)) e → ⊥
+  no_fault s gives_value ts h e r =
+      let p = values_in ts h r.at r.below in
+      let types = types_or_none (tree_types m ts) in
+      let here : shipped_means s types p.0 ≡ faults r.fault =
+      sym (ap (then_means (shipped_means s types)) p.1) ∙ r.here in
+      subst GivesValue here (gives_value types p.0)
+
   fault_of_call : (s : Shipped) (ts : Trees V O) → AllSettled m cs n ts → (e : VortexError)
       → IsRowFault n (eval m cs (call (ours s) ts)) e
       → Tells e (λ o. HasOverflow m cs n o (call (ours s) ts))
-  fault_of_call Not ts h e r = absurd (never (values_in ts h r.at r.below) r.here)
-    where
-      never : (p : (vs : List Value) × (eval_all m cs ts r.at ≡ all_give vs))
-          → eval m cs (call (ours Not) ts) r.at ≡ faults r.fault → ⊥
-      never p here =
-          let means = shipped_means Not (types_or_none (tree_types m ts)) in
-          let gone : means p.0 ≡ faults r.fault = sym (ap (then_means means) p.1) ∙ here in cc
   fault_of_call (Binary op) ts h e r =
       let p = values_in ts h r.at r.below in
       let means = shipped_means (Binary op) (types_or_none (tree_types m ts)) in
       let here = sym (ap (then_means means) p.1) ∙ r.here in
       fault_of_operator op (numeric_operator_of op) refl ts p.0 r.at r.fault e r.below p.1 here r.told
+  fault_of_call s ts h e r = absurd (no_fault s (λ us vs. tt) ts h e r)
 
   mutual
     tells : (t : Tree V O) → OnlyShipped t → (e : VortexError) → IsFirstFault m cs n t e

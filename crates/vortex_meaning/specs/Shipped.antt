@@ -1,6 +1,8 @@
 -- The list of the shipped functions: each stands in a file of its own, and nothing else goes by cases over them.
 pub mod BinaryFunction
 pub mod NotFunction
+pub mod NullTestFunctions
+pub mod CastFunction
 use Rattle.std.specs.Prelude.{◌≡◌, ℕ, zero, suc, List, Option, Some, None, Bool, if◌then◌else◌, refl}
 use Rattle.std.specs.Option.{option_map, option_or}
 use Rattle.std.proofs.Common.{ap}
@@ -15,39 +17,62 @@ use Rattle.vortex_meaning.specs.Meaning.{Meaning, Lawful}
 use Rattle.vortex_meaning.specs.RowFunction.{RowFunction, LawfulRow}
 use Rattle.vortex_meaning.specs.Shipped.BinaryFunction.{operator_function, operator_lawful, operator_named, operator_number, operator_numbered, operator_back}
 use Rattle.vortex_meaning.specs.Shipped.NotFunction.{not_function, not_lawful, is_not_word}
+use Rattle.vortex_meaning.specs.Shipped.NullTestFunctions.{is_null_function, is_null_lawful, is_null_word, is_not_null_function, is_not_null_lawful, is_not_null_word}
+use Rattle.vortex_meaning.specs.Shipped.CastFunction.{cast_function, cast_lawful, is_cast_word}
 
 -- THE LIST: each function with its options
 pub data Shipped : Type 0 where
   Binary : Operator → Shipped
   Not : Shipped
+  IsNull : Shipped
+  IsNotNull : Shipped
+  Cast : Shipped
 
 abbrev pub row_function : Shipped → RowFunction
 row_function (Binary op) = operator_function op
 row_function Not = not_function
+row_function IsNull = is_null_function
+row_function IsNotNull = is_not_null_function
+row_function Cast = cast_function
 
 pub row_lawful : (s : Shipped) → LawfulRow (row_function s)
 row_lawful (Binary op) = operator_lawful op
 row_lawful Not = not_lawful
+row_lawful IsNull = is_null_lawful
+row_lawful IsNotNull = is_not_null_lawful
+row_lawful Cast = cast_lawful
 
 -- the function that a word of a script names
 abbrev pub shipped_named : List ℕ → Option Shipped
 shipped_named w =
     option_or (option_map Binary (operator_named w))
     (option_or (if is_not_word w then Some Not else None)
-    None)
+    (option_or (if is_null_word w then Some IsNull else None)
+    (option_or (if is_not_null_word w then Some IsNotNull else None)
+    (option_or (if is_cast_word w then Some Cast else None)
+    None))))
 
 -- the number of a function and that of its options, in the code of trees
 abbrev pub shipped_number : Shipped → ℕ × ℕ
 shipped_number (Binary op) = (0, operator_number op)
 shipped_number Not = (1, 0)
+shipped_number IsNull = (2, 0)
+shipped_number IsNotNull = (3, 0)
+shipped_number Cast = (4, 0)
 
 abbrev pub shipped_numbered : ℕ → ℕ → Shipped
 shipped_numbered zero n = Binary (operator_numbered n)
-shipped_numbered (suc f) n = Not
+shipped_numbered (suc zero) n = Not
+shipped_numbered (suc (suc zero)) n = IsNull
+shipped_numbered (suc (suc (suc zero))) n = IsNotNull
+shipped_numbered (suc (suc (suc (suc f)))) n = Cast
 
 pub shipped_back : (s : Shipped) → shipped_numbered (shipped_number s).0 (shipped_number s).1 ≡ s
 shipped_back (Binary op) = ap Binary (operator_back op)
 shipped_back Not = refl
+shipped_back IsNull = refl
+shipped_back IsNotNull = refl
+shipped_back Cast = refl
 
 -- What follows is read off the list.
 

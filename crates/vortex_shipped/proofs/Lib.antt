@@ -1,3 +1,5 @@
 pub mod BinaryCalls
 pub mod NotCalls
+pub mod NullTestCalls
+pub mod CastCalls
 pub mod NumericCalls

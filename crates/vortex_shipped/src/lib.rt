@@ -2,7 +2,11 @@
 #![tactic(auto)]
 
 pub mod binary;
+pub mod cast;
 pub mod not;
+pub mod null_tests;
 
 pub use binary::Binary;
+pub use cast::{Cast, CastOptions};
 pub use not::Not;
+pub use null_tests::{IsNotNull, IsNull};

@@ -1,0 +1,29 @@
+//! Cast, as a function of trees.
+ghost use Rattle.std.specs.Prelude.{◌≡◌};
+
+use crate::erased::ScalarFnRef;
+use crate::ext::ScalarFnVTableExt;
+use vortex_interface::ScalarFnVTable;
+use vortex_shipped::{Cast, CastOptions};
+
+impl ScalarFnVTableExt for Cast {
+    ghost use Rattle.std.specs.Prelude.{Some, None, if◌then◌else◌};
+    ghost use Rattle.vortex_meaning.specs.Shipped as shipped;
+    ghost use Rattle.vortex_functions.specs.Words.{is_cast_word};
+
+    ghost ships = { λ _. shipped.Cast };
+
+    ghost names = { λ word. if is_cast_word word then Some shipped.Cast else None };
+
+    fn bind<C: ScalarFnVTable>(&self, _options: CastOptions) -> ScalarFnRef<C> {
+        ScalarFnRef::Cast
+    }
+
+    fn named(&self, word: &str) -> Option<CastOptions> {
+        if word == "cast" {
+            Some(CastOptions)
+        } else {
+            None
+        }
+    }
+}

@@ -1,0 +1,51 @@
+//! The null tests, as functions of trees.
+ghost use Rattle.std.specs.Prelude.{◌≡◌};
+
+use crate::erased::ScalarFnRef;
+use crate::ext::ScalarFnVTableExt;
+use vortex_interface::{EmptyOptions, ScalarFnVTable};
+use vortex_shipped::{IsNotNull, IsNull};
+
+impl ScalarFnVTableExt for IsNull {
+    ghost use Rattle.std.specs.Prelude.{Some, None, if◌then◌else◌};
+    ghost use Rattle.vortex_meaning.specs.Shipped as shipped;
+    ghost use Rattle.vortex_functions.specs.Words.{is_null_word};
+
+    ghost ships = { λ _. shipped.IsNull };
+
+    ghost names = { λ word. if is_null_word word then Some shipped.IsNull else None };
+
+    fn bind<C: ScalarFnVTable>(&self, _options: EmptyOptions) -> ScalarFnRef<C> {
+        ScalarFnRef::IsNull
+    }
+
+    fn named(&self, word: &str) -> Option<EmptyOptions> {
+        if word == "is_null" {
+            Some(EmptyOptions)
+        } else {
+            None
+        }
+    }
+}
+
+impl ScalarFnVTableExt for IsNotNull {
+    ghost use Rattle.std.specs.Prelude.{Some, None, if◌then◌else◌};
+    ghost use Rattle.vortex_meaning.specs.Shipped as shipped;
+    ghost use Rattle.vortex_functions.specs.Words.{is_not_null_word};
+
+    ghost ships = { λ _. shipped.IsNotNull };
+
+    ghost names = { λ word. if is_not_null_word word then Some shipped.IsNotNull else None };
+
+    fn bind<C: ScalarFnVTable>(&self, _options: EmptyOptions) -> ScalarFnRef<C> {
+        ScalarFnRef::IsNotNull
+    }
+
+    fn named(&self, word: &str) -> Option<EmptyOptions> {
+        if word == "is_not_null" {
+            Some(EmptyOptions)
+        } else {
+            None
+        }
+    }
+}

@@ -1,0 +1,116 @@
+//! Cast of Bool to the nullable one.
+ghost use Rattle.vortex_meaning.specs.Shipped as shipped;
+ghost use Rattle.vortex_shipped.specs.Words.{AnswersUnlessMemory, AppendsCall, cast_id};
+ghost use Rattle.vortex_shipped.specs.Words.{shipped_meaning, shipped_lawful, AnswersShippedType};
+
+use std::alloc::Global;
+use std::fmt;
+use vortex_columns::{
+    Arity, Column, DType, ExecutionCtx, MismatchPlace, Nullability, VortexError, VortexResult,
+};
+use vortex_interface::{ChildName, ExecutionArgs, ScalarFnId, ScalarFnVTable, write_call};
+use vortex_kernels::execute_cast;
+
+/// The options of Cast: none but the type that it answers, by which they print.
+#[derive(Clone, Debug, PartialEq, Eq, Hash, Drop)]
+pub struct CastOptions;
+
+impl CastOptions {
+    ghost use Rattle.std.specs.Prelude.{◌≡◌};
+    ghost use Rattle.vortex_shipped.specs.Words.{cast_options_text};
+
+    /// `bool?`, the type of the answer.
+    pub fn text(&self) -> &'static str
+        ensures { result.now ≡ cast_options_text }
+    {
+        "bool?"
+    }
+}
+
+impl fmt::Display for CastOptions {
+    ghost use Rattle.std.specs.Prelude.{Some};
+    ghost use Rattle.vortex_shipped.specs.Words.{cast_options_text};
+
+    ghost output = { λ _. Some cast_options_text };
+
+    fn fmt<W: fmt::Write>(&self, f: &mut fmt::Formatter<W>) -> fmt::Result {
+        write!(f, "{}", self.text())
+    }
+}
+
+/// A Bool, nullable or not, as a nullable one; values and nulls stay.
+#[derive(Clone, Drop)]
+pub struct Cast;
+
+impl ScalarFnVTable for Cast {
+    type Options = CastOptions;
+
+    ghost meaning = { shipped_meaning cast_id (λ _. shipped.Cast) };
+
+    fn id(&self) -> ScalarFnId {
+        "vortex.cast"
+    }
+
+    fn arity(&self, _options: &CastOptions) -> Arity {
+        Arity::Exact(1)
+    }
+
+    fn child_name(&self, _options: &CastOptions, _index: usize) -> ChildName {
+        "input"
+    }
+
+    fn return_dtype(
+        &self,
+        _alloc: Global,
+        _options: &CastOptions,
+        types: &[DType],
+    ) -> VortexResult<DType>
+        ensures { AnswersShippedType shipped.Cast types.now result }
+    {
+        match types {
+            [DType::Bool(_)] => Ok(DType::Bool(Nullability::Nullable)),
+            _ => Err(VortexError::TypeMismatch(MismatchPlace::Cast)),
+        }
+    }
+
+    fn execute<A: ExecutionArgs>(
+        &self,
+        _options: &CastOptions,
+        args: &A,
+        ctx: &mut ExecutionCtx,
+    ) -> VortexResult<Column> {
+        let input = args.get(0)?;
+        execute_cast(input, ctx)
+    }
+
+    /// `vortex.cast(a, opts=bool?)`.
+    fn fmt_sql(
+        &self,
+        options: &CastOptions,
+        children: &[String],
+        out: &mut String,
+    ) -> VortexResult<()>
+        ensures { AnswersUnlessMemory result
+            (λ _. AppendsCall shipped.Cast children.now out.old out.new) }
+    {
+        write_call(out, self.id(), options.text(), children)
+    }
+
+    fn is_strict(&self, _options: &CastOptions) -> bool {
+        true
+    }
+
+    fn is_infallible(&self, _options: &CastOptions) -> bool {
+        true
+    }
+
+    fn try_clone(&self, _alloc: Global) -> VortexResult<Cast> {
+        Ok(Cast)
+    }
+
+    fn clone_options(&self, _alloc: Global, _options: &CastOptions) -> VortexResult<CastOptions> {
+        Ok(CastOptions)
+    }
+
+    ghost lawful = { shipped_lawful cast_id (λ _. shipped.Cast) };
+}
