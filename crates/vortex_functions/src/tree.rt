@@ -61,7 +61,7 @@ impl<C: ScalarFnVTable> Drop for BoundExpression<C> {
         let mut list = match node {
             Node::Column(_, _, _) => return,
             Node::Literal(_, _) => return,
-            Node::Call(_, children, _) => children,
+            Node::Call(_, list, _) => list,
         };
         let alloc = *list.allocator();
         while let Some(tree) = list.pop() {

@@ -8,9 +8,9 @@ mod equality;
 mod fields;
 mod integer_types;
 
-use vortex_errors::VortexResult;
 use std::alloc::{AllocError, Global};
 use std::ops::BitOr;
+use vortex_errors::VortexResult;
 
 /// Whether a type has null.
 #[derive(Clone, Copy, Debug, PartialEq, Eq)]

@@ -6,9 +6,9 @@ mod signed;
 mod unsigned;
 
 use crate::dtype::PType;
-use vortex_errors::VortexResult;
 use std::alloc::{AllocError, Global};
 use std::cmp::Ordering;
+use vortex_errors::VortexResult;
 
 /// Integers of one type.
 #[derive(Drop)]

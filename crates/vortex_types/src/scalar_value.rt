@@ -2,8 +2,8 @@
 ghost use Rattle.std.specs.Prelude.{◌≡◌, IfOk};
 ghost use Rattle.vortex_errors.specs.Answers.{AnswersUnlessMemory};
 
-use vortex_errors::VortexResult;
 use std::alloc::{AllocError, Global};
+use vortex_errors::VortexResult;
 
 /// A value that is not null.
 #[derive(Drop)]

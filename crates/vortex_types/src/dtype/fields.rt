@@ -6,8 +6,8 @@ ghost use Rattle.vortex_errors.specs.declared.error.VortexError.TheVariants.{Inv
 ghost use Rattle.vortex_errors.specs.Answers.{AnswersWhere, AnswersUnlessMemory};
 
 use super::{DType, StructFields};
-use vortex_errors::{VortexError, VortexResult};
 use std::alloc::{AllocError, Global};
+use vortex_errors::{VortexError, VortexResult};
 
 /// Whether a name stands nowhere in the list.
 fn is_new(name: &String, names: &[String]) -> bool
