@@ -33,6 +33,9 @@ pub(crate) fn word_at(bytes: &[u8], at: usize) -> u64
 pub(crate) fn last_word(bytes: &[u8], at: usize) -> u64
     ensures { (j : ℕ) → j < 64 → bit result j ≡ bit_of bytes.now (8 * at + j) }
 {
+    if at < bytes.len() && bytes.len() - at >= 8 {
+        return word_at(bytes, at);
+    }
     let mut part = [0u8; 8];
     for i in 0..8 {
         if at < bytes.len() && i < bytes.len() - at {
