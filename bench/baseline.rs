@@ -24,6 +24,7 @@ macro_rules! integers {
 }
 
 unsafe extern "C" {
+    fn malloc_trim(pad: usize) -> i32;
     fn bench_bools(
         left: *const u8, left_len: usize, left_valid: *const u8, left_valid_len: usize, left_offset: usize,
         right: *const u8, right_len: usize, right_valid: *const u8, right_valid_len: usize, right_offset: usize,
@@ -99,14 +100,14 @@ fn by_words<const N: usize, const M: usize>(
 ) -> [Bits; M] {
     let len = lists[0].len;
     let count = len.div_ceil(64);
-    let mut answers = [(); M].map(|()| vec![0; count + 1]);
-    let outs = answers.each_mut().map(|words| &mut words[..count]);
+    let mut answers = [(); M].map(|()| Vec::with_capacity(count + 1));
+    let outs = answers.each_mut().map(|words| &mut words.spare_capacity_mut()[..count]);
     if lists.iter().all(|bits| bits.offset == 0) {
         let sides = lists.map(|bits| &bits.words[..count]);
         for k in 0..count {
             let said = formula(sides.map(|side| side[k]));
             for m in 0..M {
-                outs[m][k] = said[m];
+                outs[m][k].write(said[m]);
             }
         }
     } else {
@@ -114,11 +115,16 @@ fn by_words<const N: usize, const M: usize>(
         for k in 0..count {
             let said = formula(sides.map(|(bytes, shift)| shifted(bytes, shift, k)));
             for m in 0..M {
-                outs[m][k] = said[m];
+                outs[m][k].write(said[m]);
             }
         }
     }
-    answers.map(|words| Bits { words, offset: 0, len })
+    answers.map(|mut words| {
+        // SAFETY: so many words were written above
+        unsafe { words.set_len(count) };
+        words.push(0);
+        Bits { words, offset: 0, len }
+    })
 }
 
 /// The same where it says one thing.
@@ -262,6 +268,12 @@ fn checked<T: Copy>(
     Some(Rows { values, valid })
 }
 
+/// The sum, and whether it passes the type, told without the flag for which loops are not made into vector code.
+fn add(left: i32, right: i32) -> (i32, bool) {
+    let sum = left.wrapping_add(right);
+    (sum, (right < 0) != (sum < left))
+}
+
 fn divide(left: i32, right: i32) -> (i32, bool) {
     match left.checked_div(right) {
         Some(value) => (value, false),
@@ -356,14 +368,17 @@ struct Shape {
     nulls: bool,
 }
 
-/// The project's calls and those in Rust: each makes its columns, calls `repeat + 1` times, and answers a checksum.
+/// The project's calls and those in Rust: `repeat + 1` of them, and a checksum of the last. The project's columns are made
+/// anew each time, which counts in neither time.
 struct Case {
     name: String,
     ours: Box<dyn Fn(usize) -> u64>,
     rust: Box<dyn Fn(usize) -> u64>,
 }
 
+/// Memory that earlier calls freed is joined first, so that texts lie as they would in a new process.
 fn timed(side: &dyn Fn(usize) -> u64, repeat: usize) -> (Duration, u64) {
+    unsafe { malloc_trim(0) };
     let start = Instant::now();
     let sum = side(repeat);
     (start.elapsed(), sum)
@@ -393,14 +408,14 @@ impl Least {
     }
 }
 
-/// How often to call, so that the calls take the time of a good measure.
-fn repeats(case: &Case, long_enough: f64) -> usize {
+/// How often to call, so that the calls take the time of a good measure, also beside that of making the columns.
+fn repeats(case: &Case) -> usize {
+    let (making, _) = timed(&*case.ours, 0);
+    let long_enough = 0.005 + 0.5 * making.as_secs_f64();
     let mut repeat = 1;
     loop {
         let mut least = Least::NONE;
-        for _ in 0..2 {
-            least.measure(&*case.rust, repeat);
-        }
+        least.measure(&*case.rust, repeat);
         if least.calls() >= long_enough {
             return repeat;
         }
@@ -409,7 +424,7 @@ fn repeats(case: &Case, long_enough: f64) -> usize {
 }
 
 fn ratio(case: &Case, rounds: usize) -> f64 {
-    let repeat = repeats(case, 0.005);
+    let repeat = repeats(case);
     let (mut ours, mut rust) = (Least::NONE, Least::NONE);
     for round in 0..rounds {
         let (one, other) = if round % 2 == 0 {
@@ -461,10 +476,7 @@ fn bool_case(
             l.values.len, is_constant, call, repeat,
         )
     };
-    let rust = move |repeat| {
-        let (left, right) = (left.clone(), right.clone());
-        last_of(repeat, || kernel(black_box(&left), black_box(&right)), sum_of_bools)
-    };
+    let rust = move |repeat| last_of(repeat, || kernel(black_box(&left), black_box(&right)), sum_of_bools);
     Case { name: name.into(), ours: Box::new(ours), rust: Box::new(rust) }
 }
 
@@ -487,10 +499,7 @@ macro_rules! int_cases {
                     constant.is_some(), constant.unwrap_or_default(), call, repeat,
                 )
             };
-            let rust = move |repeat| {
-                let (left, right) = (left.clone(), right.clone());
-                last_of(repeat, || kernel(black_box(&left), black_box(&right)), sum)
-            };
+            let rust = move |repeat| last_of(repeat, || kernel(black_box(&left), black_box(&right)), sum);
             Case { name: name.into(), ours: Box::new(ours), rust: Box::new(rust) }
         }
     };
@@ -521,10 +530,7 @@ fn text_case(
             constant.is_some(), call, repeat,
         )
     };
-    let rust = move |repeat| {
-        let (left, right) = (left.clone(), right.clone());
-        last_of(repeat, || kernel(black_box(&left), black_box(&right)), sum_of_bools)
-    };
+    let rust = move |repeat| last_of(repeat, || kernel(black_box(&left), black_box(&right)), sum_of_bools);
     Case { name: name.into(), ours: Box::new(ours), rust: Box::new(rust) }
 }
 
@@ -543,10 +549,7 @@ fn tree_case(shape: &Shape, chance: &mut Chance) -> Case {
             bits.as_ptr(), bits.len(), cv.as_ptr(), cv.len(), repeat,
         )
     };
-    let rust = move |repeat| {
-        let (a, b, c) = (a.clone(), b.clone(), c.clone());
-        last_of(repeat, || tree(black_box(&a), black_box(&b), black_box(&c)), sum_of_bools)
-    };
+    let rust = move |repeat| last_of(repeat, || tree(black_box(&a), black_box(&b), black_box(&c)), sum_of_bools);
     Case { name: "(a < 10 and b > 5) or not c".into(), ours: Box::new(ours), rust: Box::new(rust) }
 }
 
@@ -588,7 +591,7 @@ fn number_cases(shape: &Shape, chance: &mut Chance) -> Vec<Case> {
         i32_case("i32 < constant", ints, Some(100), LESS, |x, _| with_constant(x, |x| *x < 100), sum_of_bools),
         i64_case("i64 < i64", longs.clone(), None, LESS, less, sum_of_bools),
         i64_case("i64 < constant", longs, Some(below), LESS, move |x, _| with_constant(x, |x| *x < below), sum_of_bools),
-        i32_case("i32 + i32", small.clone(), None, ADD, |x, y| checked(x, y, i32::overflowing_add).unwrap(), sum_of_ints),
+        i32_case("i32 + i32", small.clone(), None, ADD, |x, y| checked(x, y, add).unwrap(), sum_of_ints),
         i32_case("i32 / i32", small, None, DIV, |x, y| checked(x, y, divide).unwrap(), sum_of_ints),
         i64_case("i64 * i64", factors, None, MUL, |x, y| checked(x, y, i64::overflowing_mul).unwrap(), sum_of_ints),
     ]
@@ -623,14 +626,15 @@ fn cases(shape: &Shape) -> Vec<Case> {
     cases
 }
 
-/// A table of ratios. A word behind the program's name picks the cases whose names have it.
+/// A table of ratios. A word behind the program's name picks the cases whose names have it, and `!word` the others.
 fn main() {
     let word = std::env::args().nth(1).unwrap_or_default();
+    let (word, wanted) = word.strip_prefix('!').map_or((&*word, true), |word| (word, false));
     let rounds = std::env::var("ROUNDS").ok().and_then(|n| n.parse().ok()).unwrap_or(15);
     let mut table: Vec<(String, Vec<f64>)> = vec![];
     for rows in [1_000, 65_536, 1_000_000] {
         for nulls in [false, true] {
-            let picked = cases(&Shape { rows, nulls }).into_iter().filter(|case| case.name.contains(&word));
+            let picked = cases(&Shape { rows, nulls }).into_iter().filter(|case| case.name.contains(word) == wanted);
             for (at, case) in picked.enumerate() {
                 if table.len() == at {
                     table.push((case.name.clone(), vec![]));
