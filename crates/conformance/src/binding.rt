@@ -45,6 +45,17 @@ fn types_of_arithmetic_are_refused(rt: HostRuntime) {
     );
 }
 
+/// Cast of a column of i32.
+fn cast_of_numbers<C: ScalarFnVTable>(alloc: Global) -> Tree<C> {
+    let numbers = leaf_of(alloc, DType::Primitive(PType::I32, NO));
+    call_of(alloc, Cast.bind(CastOptions), numbers)
+}
+
+#[test]
+fn cast_of_other_types_is_refused(rt: HostRuntime) {
+    assert!(rt; is_refused(cast_of_numbers::<NoCustom>(rt.alloc()), "TypeMismatch.Cast"));
+}
+
 #[test]
 fn a_comparison_of_other_types_is_refused(rt: HostRuntime) {
     let alloc = rt.alloc();
@@ -73,10 +84,19 @@ fn names_not(word: &str) -> bool {
     }
 }
 
+/// Whether a word of scripts names IsNull.
+fn names_is_null(word: &str) -> bool {
+    match ScalarFnRef::<NoCustom>::named(word) {
+        Some(function) => function.is_is_null(),
+        None => false,
+    }
+}
+
 #[test]
 fn words_name_functions(rt: HostRuntime) {
     assert!(rt; names("and", Operator::And));
     assert!(rt; names("<=", Operator::Lte));
     assert!(rt; names_not("not"));
+    assert!(rt; names_is_null("is_null"));
     assert!(rt; ScalarFnRef::<NoCustom>::named("xor").is_none());
 }

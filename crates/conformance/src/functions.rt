@@ -19,10 +19,9 @@ fn and_is_named<C: ScalarFnVTable>(name: &str, second: &str) -> bool {
     and.id() == name && and.child_name(1) == second
 }
 
-/// Whether Not has that name, and its argument that one.
-fn not_is_named<C: ScalarFnVTable>(name: &str, only: &str) -> bool {
-    let not = ScalarFnRef::<C>::Not;
-    not.id() == name && not.child_name(0) == only
+/// Whether a function has that name, and its argument that one.
+fn is_named<C: ScalarFnVTable>(function: ScalarFnRef<C>, name: &str, only: &str) -> bool {
+    function.id() == name && function.child_name(0) == only
 }
 
 /// Whether a function is marked strict.
@@ -38,6 +37,24 @@ fn is_infallible<C: ScalarFnVTable>(function: ScalarFnRef<C>) -> bool {
 /// Whether a function is Not.
 fn is_not<C: ScalarFnVTable>(function: ScalarFnRef<C>) -> bool {
     function.is_not()
+}
+
+/// Whether a function is IsNull, and not its opposite.
+fn is_null_test<C: ScalarFnVTable>(function: ScalarFnRef<C>) -> bool {
+    function.is_is_null() && !function.is_is_not_null()
+}
+
+/// Whether a function is IsNotNull, and not its opposite.
+fn is_not_null_test<C: ScalarFnVTable>(function: ScalarFnRef<C>) -> bool {
+    function.is_is_not_null() && !function.is_is_null()
+}
+
+/// Whether a copy of a function is Cast.
+fn is_copied_cast<C: ScalarFnVTable>(
+    alloc: Global,
+    function: ScalarFnRef<C>,
+) -> VortexResult<bool> {
+    Ok(function.try_clone(alloc)?.is_cast())
 }
 
 /// Whether a copy of a function is that operator, and neither Not nor a caller's.
@@ -132,7 +149,10 @@ fn are_two_inputs(alloc: Global, first: Made, second: Made) -> VortexResult<bool
 #[test]
 fn shipped_functions_have_names(rt: HostRuntime) {
     assert!(rt; and_is_named::<NoCustom>("vortex.binary", "rhs"));
-    assert!(rt; not_is_named::<NoCustom>("vortex.not", "input"));
+    assert!(rt; is_named::<NoCustom>(ScalarFnRef::Not, "vortex.not", "input"));
+    assert!(rt; is_named::<NoCustom>(ScalarFnRef::IsNull, "vortex.is_null", "input"));
+    assert!(rt; is_named::<NoCustom>(ScalarFnRef::IsNotNull, "vortex.is_not_null", "input"));
+    assert!(rt; is_named::<NoCustom>(ScalarFnRef::Cast, "vortex.cast", "input"));
 }
 
 #[test]
@@ -140,12 +160,20 @@ fn shipped_functions_have_marks(rt: HostRuntime) {
     assert!(rt; !is_strict::<NoCustom>(and()));
     assert!(rt; is_infallible::<NoCustom>(and()));
     assert!(rt; is_strict::<NoCustom>(ScalarFnRef::Not));
+    assert!(rt; !is_strict::<NoCustom>(ScalarFnRef::IsNull));
+    assert!(rt; !is_strict::<NoCustom>(ScalarFnRef::IsNotNull));
+    assert!(rt; is_strict::<NoCustom>(ScalarFnRef::Cast));
+    assert!(rt; is_infallible::<NoCustom>(ScalarFnRef::IsNull));
+    assert!(rt; is_infallible::<NoCustom>(ScalarFnRef::Cast));
 }
 
 #[test]
 fn a_function_tells_what_it_is(rt: HostRuntime) {
     assert!(rt; yes(is_copied::<NoCustom>(rt.alloc(), and(), Operator::And)));
     assert!(rt; is_not::<NoCustom>(ScalarFnRef::Not));
+    assert!(rt; is_null_test::<NoCustom>(ScalarFnRef::IsNull));
+    assert!(rt; is_not_null_test::<NoCustom>(ScalarFnRef::IsNotNull));
+    assert!(rt; yes(is_copied_cast::<NoCustom>(rt.alloc(), ScalarFnRef::Cast)));
     assert!(rt; is_custom(ScalarFnRef::custom(NoCustom, EmptyOptions), "rowfn.none"));
 }
 

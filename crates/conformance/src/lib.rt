@@ -15,6 +15,8 @@ mod literals;
 mod makers;
 pub mod must_be_true;
 #[cfg(test)]
+mod null_tests;
+#[cfg(test)]
 mod readme;
 #[cfg(test)]
 mod texts;

@@ -12,6 +12,8 @@ mod integers;
 #[cfg(test)]
 mod nested;
 #[cfg(test)]
+mod null_tests;
+#[cfg(test)]
 mod numeric;
 #[cfg(test)]
 mod operators;

@@ -1,6 +1,6 @@
 -- From Cast's answer over its input to that of its call.
 use Rattle.std.proofs.Common.{◌≡◌, ℕ, ◌<◌, true, List, [], ◌∷◌, length, Some, refl, sym, ap, ◌∙◌}
-use Rattle.std.proofs.Common.{subst, arith}
+use Rattle.std.proofs.Common.{arith}
 use Rattle.std.specs.Prelude.{IsSome, slice_get, Result}
 use Rattle.vortex_errors.specs.declared.error.VortexError.{VortexError}
 use Rattle.vortex_errors.specs.Answers.{AnswersUnlessMemory}
@@ -11,29 +11,18 @@ use Rattle.vortex_kernels.specs.Cast.{HasCastRows}
 use Rattle.vortex_meaning.specs.Outcomes.{gives, HasCallRows, IsCallFault, types_in, values_at}
 use Rattle.vortex_meaning.specs.Shipped.{Cast, shipped_means}
 use Rattle.vortex_meaning.specs.Shipped.CastFunction.{cast_type}
+use Rattle.vortex_meaning.specs.Shipped.NotFunction.{not_type}
 use Rattle.vortex_meaning.specs.Answering.{AnswersShipped}
+use Rattle.vortex_shipped.proofs.NotCalls.{OneBool, one_bool}
 
--- the one input of Cast
-pub record OneBool (cs : List ColumnView) (c : ColumnView) : Type 0 where
-  pub only : cs ≡ c ∷ []
-  pub bool : is_bool_type c.dtype ≡ true
+-- Cast takes what Not takes
+taken_by_not : (ts : List LogicalType) → IsSome (cast_type ts) → IsSome (not_type ts)
+taken_by_not (bool_type n ∷ []) h = refl
+taken_by_not ts h = cc
 
-one_of : (a : LogicalType) → IsSome (cast_type (a ∷ [])) → is_bool_type a ≡ true
-one_of (bool_type n) h = refl
-one_of a h = cc
-
-not_two : (a b : LogicalType) (ts : List LogicalType) → IsSome (cast_type (a ∷ b ∷ ts)) → ⊥
-not_two (bool_type n) b ts h = cc
-not_two a b ts h = cc
-
-pub one_bool : (cs : List ColumnView) (c : ColumnView)
+pub one_input : (cs : List ColumnView) (c : ColumnView)
     → IsSome (cast_type (types_in cs)) → slice_get cs 0 ≡ Some c → OneBool cs c
-one_bool [] c h p = cc
-one_bool (x ∷ []) c h p =
-    let a : x ≡ c = cc in
-    let bool = subst (λ (d : ColumnView). is_bool_type d.dtype ≡ true) a (one_of x.dtype h) in
-    record { only = cc; bool = bool }
-one_bool (x ∷ y ∷ cs) c h p = absurd (not_two x.dtype y.dtype (types_in cs) h)
+one_input cs c h p = one_bool cs c (taken_by_not (types_in cs) h) p
 
 cast_type_is : (t : LogicalType) → is_bool_type t ≡ true
     → cast_type (t ∷ []) ≡ Some (bool_type true)
