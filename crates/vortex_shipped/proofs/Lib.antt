@@ -3,3 +3,4 @@ pub mod NotCalls
 pub mod NullTestCalls
 pub mod CastCalls
 pub mod NumericCalls
+pub mod LikeCalls

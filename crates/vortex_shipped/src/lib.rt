@@ -3,10 +3,12 @@
 
 pub mod binary;
 pub mod cast;
+pub mod like;
 pub mod not;
 pub mod null_tests;
 
 pub use binary::Binary;
 pub use cast::{Cast, CastOptions};
+pub use like::Like;
 pub use not::Not;
 pub use null_tests::{IsNotNull, IsNull};

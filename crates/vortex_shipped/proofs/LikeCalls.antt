@@ -1,0 +1,87 @@
+-- From LIKE's answer over its two inputs to that of its call.
+use Rattle.std.proofs.Common.{◌≡◌, ℕ, ◌<◌, true, List, [], ◌∷◌, length, Some, refl, sym, ap, ◌∙◌}
+use Rattle.std.proofs.Common.{subst, arith}
+use Rattle.std.specs.Prelude.{IsSome, slice_get, ◌||◌, Result}
+use Rattle.vortex_errors.specs.declared.error.VortexError.{VortexError}
+use Rattle.vortex_errors.specs.Answers.{AnswersUnlessMemory}
+use Rattle.vortex_errors.proofs.Answering.{Answers-weaker}
+use Rattle.vortex_types.specs.LogicalTypes.{LogicalType, bool_type, text_type, is_nullable}
+use Rattle.vortex_types.specs.LogicalTypes.{is_text_type}
+use Rattle.vortex_columns.specs.ColumnView.{ColumnView}
+use Rattle.vortex_like.specs.declared.options.LikeOptions.{LikeOptions}
+use Rattle.vortex_like.specs.Rows.{HasLikeRows}
+use Rattle.vortex_meaning.specs.Outcomes.{gives, HasCallRows, IsCallFault, types_in, values_at}
+use Rattle.vortex_meaning.specs.Shipped.{Like, shipped_means}
+use Rattle.vortex_meaning.specs.Shipped.LikeFunction.{like_type}
+use Rattle.vortex_meaning.specs.Answering.{AnswersShipped}
+
+-- the two inputs of LIKE
+pub record TwoTexts (cs : List ColumnView) (l r : ColumnView) : Type 0 where
+  pub both : cs ≡ l ∷ r ∷ []
+  pub input : is_text_type l.dtype ≡ true
+  pub pattern : is_text_type r.dtype ≡ true
+
+both_of : (a b : LogicalType) → IsSome (like_type (a ∷ b ∷ []))
+    → (is_text_type a ≡ true) × (is_text_type b ≡ true)
+both_of (text_type n) (text_type m) h = (refl, refl)
+both_of a b h = cc
+
+not_three : (a b d : LogicalType) (ts : List LogicalType) → IsSome (like_type (a ∷ b ∷ d ∷ ts)) → ⊥
+not_three (text_type n) (text_type m) d ts h = cc
+not_three a b d ts h = cc
+
+not_one : (a : LogicalType) → IsSome (like_type (a ∷ [])) → ⊥
+not_one (text_type n) h = cc
+not_one a h = cc
+
+pub two_texts : (cs : List ColumnView) (l r : ColumnView)
+    → IsSome (like_type (types_in cs)) → slice_get cs 0 ≡ Some l → slice_get cs 1 ≡ Some r
+    → TwoTexts cs l r
+two_texts [] l r h p q = cc
+two_texts (x ∷ []) l r h p q = absurd (not_one x.dtype h)
+two_texts (x ∷ y ∷ []) l r h p q =
+    let a : x ≡ l = cc in
+    let b : y ≡ r = cc in
+    let k = both_of x.dtype y.dtype h in
+    record {
+      both = cc;
+      input = subst (λ (c : ColumnView). is_text_type c.dtype ≡ true) a k.0;
+      pattern = subst (λ (c : ColumnView). is_text_type c.dtype ≡ true) b k.1;
+    }
+two_texts (x ∷ y ∷ z ∷ cs) l r h p q =
+    absurd (not_three x.dtype y.dtype z.dtype (types_in cs) h)
+
+like_type_is : (a b : LogicalType) → is_text_type a ≡ true → is_text_type b ≡ true
+    → like_type (a ∷ b ∷ []) ≡ Some (bool_type (is_nullable a || is_nullable b))
+like_type_is (text_type n) (text_type m) h k = refl
+like_type_is a b h k = cc
+
+module _ (options : LikeOptions) (cs : List ColumnView) (l r : ColumnView) (n : ℕ)
+    (two : TwoTexts cs l r) where
+  abbrev Rows : ColumnView → Type 0
+  Rows = HasCallRows like_type (shipped_means (Like options)) cs n
+
+  like_rows : (c : ColumnView) → length l.rows ≡ n → HasLikeRows options l r c → Rows c
+  like_rows c e h = record {
+    dtype =
+        ap (λ ds. like_type (types_in ds)) two.both
+        ∙ like_type_is l.dtype r.dtype two.input two.pattern
+        ∙ ap Some (sym h.dtype);
+    count = h.count ∙ e;
+    each = λ i lt.
+        let within : i < length l.rows = omega (arith, e) in
+        ap (λ (ds : List ColumnView). shipped_means (Like options) (types_in ds) (values_at ds i))
+        two.both
+        ∙ ap gives (sym (h.each i within));
+  }
+
+  -- LIKE of a call's inputs answers the call
+  pub like_call : (answer : Result ColumnView VortexError) → length l.rows ≡ n
+      → AnswersUnlessMemory answer (HasLikeRows options l r)
+      → AnswersShipped (Like options) cs n answer
+  like_call answer e h =
+      Answers-weaker answer (HasLikeRows options l r) Rows (λ f. ⊥)
+      (IsCallFault (shipped_means (Like options)) cs n)
+      (λ c p. like_rows c e p)
+      (λ f p. absurd p)
+      h

@@ -1,0 +1,109 @@
+//! LIKE and ILIKE of a text and a pattern.
+ghost use Rattle.std.specs.Prelude.{◌≡◌, length};
+ghost use Rattle.vortex_meaning.specs.Shipped as shipped;
+ghost use Rattle.vortex_shipped.specs.Words.{AnswersUnlessMemory, AppendsCall, like_id, like_words};
+ghost use Rattle.vortex_shipped.specs.Words.{shipped_meaning, shipped_lawful, AnswersShippedType};
+
+use std::alloc::Global;
+use vortex_columns::{
+    Arity, Column, DType, ExecutionCtx, MismatchPlace, VortexError, VortexResult,
+};
+use vortex_interface::{ChildName, ExecutionArgs, ScalarFnId, ScalarFnVTable};
+use vortex_like::{LikeOptions, execute_like};
+
+/// Whether a text matches a pattern of SQL's LIKE with backslash escape; with `case_insensitive` ILIKE, by Unicode's simple
+/// case folding, one character at a time; turned over where `negated`. Bool of two Utf8, nullable if either is, and null
+/// where either is; a null row's pattern is not read.
+#[derive(Clone, Drop)]
+pub struct Like;
+
+/// What stands between the two arguments, as ` not like `.
+fn words(options: &LikeOptions) -> &'static str
+    ensures { result.now ≡ like_words options.now }
+{
+    match (options.negated, options.case_insensitive) {
+        (false, false) => " like ",
+        (true, false) => " not like ",
+        (false, true) => " ilike ",
+        (true, true) => " not ilike ",
+    }
+}
+
+impl ScalarFnVTable for Like {
+    type Options = LikeOptions;
+
+    ghost meaning = { shipped_meaning like_id shipped.Like };
+
+    fn id(&self) -> ScalarFnId {
+        "vortex.like"
+    }
+
+    fn arity(&self, _options: &LikeOptions) -> Arity {
+        Arity::Exact(2)
+    }
+
+    fn child_name(&self, _options: &LikeOptions, index: usize) -> ChildName {
+        if index == 0 { "child" } else { "pattern" }
+    }
+
+    fn return_dtype(
+        &self,
+        _alloc: Global,
+        options: &LikeOptions,
+        types: &[DType],
+    ) -> VortexResult<DType>
+        ensures { AnswersShippedType (shipped.Like options.now) types.now result }
+    {
+        match types {
+            [DType::Utf8(input), DType::Utf8(pattern)] => Ok(DType::Bool(*input | *pattern)),
+            [DType::Utf8(_), ..] => Err(VortexError::TypeMismatch(MismatchPlace::LikePattern)),
+            _ => Err(VortexError::TypeMismatch(MismatchPlace::LikeInput)),
+        }
+    }
+
+    fn execute<A: ExecutionArgs>(
+        &self,
+        options: &LikeOptions,
+        args: &A,
+        ctx: &mut ExecutionCtx,
+    ) -> VortexResult<Column> {
+        let input = args.get(0)?;
+        let pattern = args.get(1)?;
+        execute_like(input, pattern, *options, ctx)
+    }
+
+    /// `a like p`, `a not like p`, `a ilike p` or `a not ilike p`.
+    fn fmt_sql(
+        &self,
+        options: &LikeOptions,
+        children: &[String],
+        out: &mut String,
+    ) -> VortexResult<()>
+        requires { length children.now ≡ 2 }
+        ensures { AnswersUnlessMemory result
+            (λ _. AppendsCall (shipped.Like options.now) children.now out.old out.new) }
+    {
+        out.push_str(children[0].as_str())?;
+        out.push_str(words(options))?;
+        out.push_str(children[1].as_str())?;
+        Ok(())
+    }
+
+    fn is_strict(&self, _options: &LikeOptions) -> bool {
+        true
+    }
+
+    fn is_infallible(&self, _options: &LikeOptions) -> bool {
+        true
+    }
+
+    fn try_clone(&self, _alloc: Global) -> VortexResult<Like> {
+        Ok(Like)
+    }
+
+    fn clone_options(&self, _alloc: Global, options: &LikeOptions) -> VortexResult<LikeOptions> {
+        Ok(*options)
+    }
+
+    ghost lawful = { shipped_lawful like_id shipped.Like };
+}
