@@ -8,7 +8,8 @@ use std::alloc::Global;
 use vortex_columns::{Arity, Column, DType, ExecutionCtx, VortexResult};
 use vortex_interface::{ChildName, EmptyOptions, ExecutionArgs, ScalarFnId, ScalarFnVTable};
 use vortex_kernels::Operator;
-use vortex_shipped::{Binary, Cast, CastOptions, IsNotNull, IsNull, Not};
+use vortex_like::LikeOptions;
+use vortex_shipped::{Binary, Cast, CastOptions, IsNotNull, IsNull, Like, Not};
 
 /// The list of the functions, each with its interface and its options.
 macro_rules! with_function {
@@ -39,6 +40,11 @@ macro_rules! with_function {
                 let $options = &CastOptions;
                 $body
             }
+            ScalarFnRef::Like(like) => {
+                let $f = &Like;
+                let $options = like;
+                $body
+            }
             ScalarFnRef::Custom(custom) => {
                 let $f = custom.vtable();
                 let $options = custom.options();
@@ -56,6 +62,7 @@ pub enum ScalarFnRef<C: ScalarFnVTable> {
     IsNull,
     IsNotNull,
     Cast,
+    Like(LikeOptions),
     Custom(TypedScalarFnInstance<C>),
 }
 
@@ -71,7 +78,7 @@ impl<C: ScalarFnVTable> ScalarFnRef<C> {
     ghost use Rattle.std.specs.Option.{option_copied, option_map};
     ghost use Rattle.vortex_meaning.specs.Functions.{ours};
     ghost use Rattle.vortex_meaning.specs.Shipped.{shipped_named};
-    ghost use Rattle.vortex_functions.specs.FunctionOf.{operator_in, instance_in};
+    ghost use Rattle.vortex_functions.specs.FunctionOf.{operator_in, like_in, instance_in};
     ghost use Rattle.vortex_functions.specs.FunctionOf.{is_not, is_is_null, is_is_not_null, is_cast};
 
     /// A caller's function with its options.
@@ -135,6 +142,16 @@ impl<C: ScalarFnVTable> ScalarFnRef<C> {
         match self {
             ScalarFnRef::Cast => true,
             _ => false,
+        }
+    }
+
+    /// The options, of Like.
+    pub fn as_like(&self) -> Option<LikeOptions>
+        ensures { result ≡ like_in self.now }
+    {
+        match self {
+            ScalarFnRef::Like(options) => Some(*options),
+            _ => None,
         }
     }
 
@@ -232,6 +249,9 @@ impl<C: ScalarFnVTable> ScalarFnRef<C> {
         if let Some(options) = Cast.named(word) {
             return Some(Cast.bind(options));
         }
+        if let Some(options) = Like.named(word) {
+            return Some(Like.bind(options));
+        }
         None
     }
 
@@ -245,6 +265,7 @@ impl<C: ScalarFnVTable> ScalarFnRef<C> {
             ScalarFnRef::IsNull => Ok(ScalarFnRef::IsNull),
             ScalarFnRef::IsNotNull => Ok(ScalarFnRef::IsNotNull),
             ScalarFnRef::Cast => Ok(ScalarFnRef::Cast),
+            ScalarFnRef::Like(options) => Ok(ScalarFnRef::Like(*options)),
             ScalarFnRef::Custom(f) => {
                 let options = f.vtable().clone_options(alloc, f.options())?;
                 let vtable = f.vtable().try_clone(alloc)?;

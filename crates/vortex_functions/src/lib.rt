@@ -8,6 +8,7 @@ pub mod custom;
 pub mod erased;
 pub mod ext;
 pub mod laws;
+mod like;
 mod literal_text;
 mod not;
 mod null_tests;
@@ -22,4 +23,5 @@ pub use typed::TypedScalarFnInstance;
 pub use vortex_interface::{
     Arity, ChildName, EmptyOptions, ExecutionArgs, ScalarFnId, ScalarFnVTable, VecExecutionArgs,
 };
-pub use vortex_shipped::{Binary, Cast, CastOptions, IsNotNull, IsNull, Not};
+pub use vortex_like::LikeOptions;
+pub use vortex_shipped::{Binary, Cast, CastOptions, IsNotNull, IsNull, Like, Not};

@@ -1,0 +1,48 @@
+//! LIKE and ILIKE, as functions of trees.
+ghost use Rattle.std.specs.Prelude.{◌≡◌};
+ghost use Rattle.vortex_functions.specs.Words.{like_named};
+
+use crate::erased::ScalarFnRef;
+use crate::ext::ScalarFnVTableExt;
+use vortex_interface::ScalarFnVTable;
+use vortex_like::LikeOptions;
+use vortex_shipped::Like;
+
+/// The options that a word of a script names: `like`, `not_like`, `ilike`, `not_ilike`.
+fn like_named(word: &str) -> Option<LikeOptions>
+    ensures { result ≡ like_named word.now }
+{
+    let (negated, case_insensitive) = if word == "like" {
+        (false, false)
+    } else if word == "not_like" {
+        (true, false)
+    } else if word == "ilike" {
+        (false, true)
+    } else if word == "not_ilike" {
+        (true, true)
+    } else {
+        return None;
+    };
+    Some(LikeOptions {
+        negated,
+        case_insensitive,
+    })
+}
+
+impl ScalarFnVTableExt for Like {
+    ghost use Rattle.std.specs.Option.{option_map};
+    ghost use Rattle.vortex_meaning.specs.Shipped as shipped;
+    ghost use Rattle.vortex_functions.specs.Words.{like_named};
+
+    ghost ships = { shipped.Like };
+
+    ghost names = { λ word. option_map shipped.Like (like_named word) };
+
+    fn bind<C: ScalarFnVTable>(&self, options: LikeOptions) -> ScalarFnRef<C> {
+        ScalarFnRef::Like(options)
+    }
+
+    fn named(&self, word: &str) -> Option<LikeOptions> {
+        like_named(word)
+    }
+}
