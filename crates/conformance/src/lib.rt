@@ -10,6 +10,8 @@ pub mod half;
 mod halves;
 pub mod levelled;
 #[cfg(test)]
+mod like;
+#[cfg(test)]
 mod literals;
 #[cfg(test)]
 mod makers;

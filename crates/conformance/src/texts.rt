@@ -25,7 +25,7 @@ fn is_shown<C: ScalarFnVTable>(
 }
 
 /// Whether a tree has that text, and Display writes the same bytes.
-fn prints<C: ScalarFnVTable>(alloc: Global, tree: Tree<C>, wanted: &str) -> VortexResult<bool> {
+pub fn prints<C: ScalarFnVTable>(alloc: Global, tree: Tree<C>, wanted: &str) -> VortexResult<bool> {
     let tree = tree?;
     Ok(has_text(alloc, &*tree, wanted)? && is_shown(alloc, &*tree, wanted)?)
 }

@@ -8,6 +8,8 @@ mod cells;
 #[cfg(test)]
 mod endings;
 #[cfg(test)]
+mod like;
+#[cfg(test)]
 mod lines;
 #[cfg(test)]
 mod null_tests;

@@ -11,7 +11,7 @@ pub use vortex_columns::{
 };
 pub use vortex_functions::{
     Binary, BoundExpression, Cast, CastOptions, ChildName, EmptyOptions, ExecutionArgs, IsNotNull,
-    IsNull, NoCustom, Not, ScalarFnId, ScalarFnRef, ScalarFnSignature, ScalarFnVTable,
+    IsNull, Like, NoCustom, Not, ScalarFnId, ScalarFnRef, ScalarFnSignature, ScalarFnVTable,
     ScalarFnVTableExt, TypedScalarFnInstance, VecExecutionArgs,
 };
 pub use vortex_kernels::{
@@ -19,3 +19,4 @@ pub use vortex_kernels::{
     execute_compare, execute_is_not_null, execute_is_null, execute_not, execute_numeric,
     kleene_boolean_buffer_scalar, kleene_boolean_buffers, kleene_words, scalar_cmp,
 };
+pub use vortex_like::{LikeOptions, LikePattern, LikeToken, LikeVariant, Looks, execute_like};
