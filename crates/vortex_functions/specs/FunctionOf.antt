@@ -4,7 +4,8 @@ use Rattle.vortex_functions.specs.declared.erased.ScalarFnRef.{ScalarFnRef}
 use Rattle.vortex_functions.specs.declared.erased.ScalarFnRef.TheVariants as ref
 use Rattle.vortex_functions.specs.declared.typed.TypedScalarFnInstance.{TypedScalarFnInstance}
 use Rattle.vortex_operators.specs.declared.operators.Operator.{Operator}
-use Rattle.vortex_meaning.specs.Shipped.{Binary, Not, IsNull, IsNotNull, Cast}
+use Rattle.vortex_operators.specs.declared.between.BetweenOptions.{BetweenOptions}
+use Rattle.vortex_meaning.specs.Shipped.{Binary, Not, IsNull, IsNotNull, Cast, Between}
 use Rattle.vortex_meaning.specs.Functions.{Function, ours, custom}
 
 module _ {V O : Type 0} where
@@ -14,6 +15,7 @@ module _ {V O : Type 0} where
   function_of ref.IsNull = ours IsNull
   function_of ref.IsNotNull = ours IsNotNull
   function_of ref.Cast = ours Cast
+  function_of (ref.Between o) = ours (Between o)
   function_of (ref.Custom f) = custom f.vtable f.options
 
   abbrev pub operator_in : ScalarFnRef V O → Option Operator
@@ -35,6 +37,10 @@ module _ {V O : Type 0} where
   abbrev pub is_cast : ScalarFnRef V O → Bool
   is_cast ref.Cast = true
   is_cast f = false
+
+  abbrev pub between_in : ScalarFnRef V O → Option BetweenOptions
+  between_in (ref.Between o) = Some o
+  between_in f = None
 
   abbrev pub instance_in : ScalarFnRef V O → Option (TypedScalarFnInstance V O)
   instance_in (ref.Custom f) = Some f

@@ -7,8 +7,8 @@ use crate::typed::TypedScalarFnInstance;
 use std::alloc::Global;
 use vortex_columns::{Arity, Column, DType, ExecutionCtx, VortexResult};
 use vortex_interface::{ChildName, EmptyOptions, ExecutionArgs, ScalarFnId, ScalarFnVTable};
-use vortex_kernels::Operator;
-use vortex_shipped::{Binary, Cast, CastOptions, IsNotNull, IsNull, Not};
+use vortex_kernels::{BetweenOptions, Operator};
+use vortex_shipped::{Between, Binary, Cast, CastOptions, IsNotNull, IsNull, Not};
 
 /// The list of the functions, each with its interface and its options.
 macro_rules! with_function {
@@ -39,6 +39,11 @@ macro_rules! with_function {
                 let $options = &CastOptions;
                 $body
             }
+            ScalarFnRef::Between(between_options) => {
+                let $f = &Between;
+                let $options = between_options;
+                $body
+            }
             ScalarFnRef::Custom(custom) => {
                 let $f = custom.vtable();
                 let $options = custom.options();
@@ -56,6 +61,7 @@ pub enum ScalarFnRef<C: ScalarFnVTable> {
     IsNull,
     IsNotNull,
     Cast,
+    Between(BetweenOptions),
     Custom(TypedScalarFnInstance<C>),
 }
 
@@ -71,7 +77,7 @@ impl<C: ScalarFnVTable> ScalarFnRef<C> {
     ghost use Rattle.std.specs.Option.{option_copied, option_map};
     ghost use Rattle.vortex_meaning.specs.Functions.{ours};
     ghost use Rattle.vortex_meaning.specs.Shipped.{shipped_named};
-    ghost use Rattle.vortex_functions.specs.FunctionOf.{operator_in, instance_in};
+    ghost use Rattle.vortex_functions.specs.FunctionOf.{operator_in, between_in, instance_in};
     ghost use Rattle.vortex_functions.specs.FunctionOf.{is_not, is_is_null, is_is_not_null, is_cast};
 
     /// A caller's function with its options.
@@ -135,6 +141,19 @@ impl<C: ScalarFnVTable> ScalarFnRef<C> {
         match self {
             ScalarFnRef::Cast => true,
             _ => false,
+        }
+    }
+
+    /// The options, of Between.
+    pub fn as_between(&self) -> Option<BetweenOptions>
+        ensures { result ≡ between_in self.now }
+    {
+        match self {
+            ScalarFnRef::Between(options) => Some(BetweenOptions {
+                lower_strict: options.lower_strict,
+                upper_strict: options.upper_strict,
+            }),
+            _ => None,
         }
     }
 
@@ -213,7 +232,8 @@ impl<C: ScalarFnVTable> ScalarFnRef<C> {
         with_function!(self, f, options => f.fmt_sql(options, children, out))
     }
 
-    /// The shipped function that a word of a script names, as `and`.
+    /// The shipped function that a script names, by one word, as `and`, or by words with a space between each two, as
+    /// `between < <=`.
     pub fn named(word: &str) -> Option<ScalarFnRef<C>>
         ensures { option_map function_of result ≡ option_map ours (shipped_named word.now) }
     {
@@ -232,6 +252,9 @@ impl<C: ScalarFnVTable> ScalarFnRef<C> {
         if let Some(options) = Cast.named(word) {
             return Some(Cast.bind(options));
         }
+        if let Some(options) = Between.named(word) {
+            return Some(Between.bind(options));
+        }
         None
     }
 
@@ -245,6 +268,7 @@ impl<C: ScalarFnVTable> ScalarFnRef<C> {
             ScalarFnRef::IsNull => Ok(ScalarFnRef::IsNull),
             ScalarFnRef::IsNotNull => Ok(ScalarFnRef::IsNotNull),
             ScalarFnRef::Cast => Ok(ScalarFnRef::Cast),
+            ScalarFnRef::Between(options) => Ok(ScalarFnRef::Between(options.clone()?)),
             ScalarFnRef::Custom(f) => {
                 let options = f.vtable().clone_options(alloc, f.options())?;
                 let vtable = f.vtable().try_clone(alloc)?;

@@ -2,4 +2,5 @@ pub mod BinaryCalls
 pub mod NotCalls
 pub mod NullTestCalls
 pub mod CastCalls
+pub mod BetweenCalls
 pub mod NumericCalls
