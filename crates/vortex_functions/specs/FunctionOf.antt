@@ -4,8 +4,9 @@ use Rattle.vortex_functions.specs.declared.erased.ScalarFnRef.{ScalarFnRef}
 use Rattle.vortex_functions.specs.declared.erased.ScalarFnRef.TheVariants as ref
 use Rattle.vortex_functions.specs.declared.typed.TypedScalarFnInstance.{TypedScalarFnInstance}
 use Rattle.vortex_operators.specs.declared.operators.Operator.{Operator}
+use Rattle.vortex_operators.specs.declared.between.BetweenOptions.{BetweenOptions}
 use Rattle.vortex_like.specs.declared.options.LikeOptions.{LikeOptions}
-use Rattle.vortex_meaning.specs.Shipped.{Binary, Not, IsNull, IsNotNull, Cast, Like}
+use Rattle.vortex_meaning.specs.Shipped.{Binary, Not, IsNull, IsNotNull, Cast, Between, Like}
 use Rattle.vortex_meaning.specs.Functions.{Function, ours, custom}
 
 module _ {V O : Type 0} where
@@ -15,6 +16,7 @@ module _ {V O : Type 0} where
   function_of ref.IsNull = ours IsNull
   function_of ref.IsNotNull = ours IsNotNull
   function_of ref.Cast = ours Cast
+  function_of (ref.Between o) = ours (Between o)
   function_of (ref.Like options) = ours (Like options)
   function_of (ref.Custom f) = custom f.vtable f.options
 
@@ -37,6 +39,10 @@ module _ {V O : Type 0} where
   abbrev pub is_cast : ScalarFnRef V O → Bool
   is_cast ref.Cast = true
   is_cast f = false
+
+  abbrev pub between_in : ScalarFnRef V O → Option BetweenOptions
+  between_in (ref.Between o) = Some o
+  between_in f = None
 
   abbrev pub like_in : ScalarFnRef V O → Option LikeOptions
   like_in (ref.Like options) = Some options

@@ -11,6 +11,7 @@ pub use Rattle.vortex_meaning.specs.Shipped.BinaryFunction.{operator_named, arit
 pub use Rattle.vortex_meaning.specs.Shipped.NotFunction.{is_not_word}
 pub use Rattle.vortex_meaning.specs.Shipped.NullTestFunctions.{is_null_word, is_not_null_word}
 pub use Rattle.vortex_meaning.specs.Shipped.CastFunction.{is_cast_word}
+pub use Rattle.vortex_meaning.specs.Shipped.BetweenFunction.{between_named}
 pub use Rattle.vortex_meaning.specs.Shipped.LikeFunction.{like_named}
 pub use Rattle.vortex_meaning.specs.Functions.{ours, function_id, function_arity, function_child_name, function_type, function_strict, function_infallible}
 pub use Rattle.vortex_meaning.specs.Answering.{AnswersFunctionType, AnswersFunction}

@@ -7,9 +7,9 @@ use crate::typed::TypedScalarFnInstance;
 use std::alloc::Global;
 use vortex_columns::{Arity, Column, DType, ExecutionCtx, VortexResult};
 use vortex_interface::{ChildName, EmptyOptions, ExecutionArgs, ScalarFnId, ScalarFnVTable};
-use vortex_kernels::Operator;
+use vortex_kernels::{BetweenOptions, Operator};
 use vortex_like::LikeOptions;
-use vortex_shipped::{Binary, Cast, CastOptions, IsNotNull, IsNull, Like, Not};
+use vortex_shipped::{Between, Binary, Cast, CastOptions, IsNotNull, IsNull, Like, Not};
 
 /// The list of the functions, each with its interface and its options.
 macro_rules! with_function {
@@ -40,6 +40,11 @@ macro_rules! with_function {
                 let $options = &CastOptions;
                 $body
             }
+            ScalarFnRef::Between(between_options) => {
+                let $f = &Between;
+                let $options = between_options;
+                $body
+            }
             ScalarFnRef::Like(like) => {
                 let $f = &Like;
                 let $options = like;
@@ -62,6 +67,7 @@ pub enum ScalarFnRef<C: ScalarFnVTable> {
     IsNull,
     IsNotNull,
     Cast,
+    Between(BetweenOptions),
     Like(LikeOptions),
     Custom(TypedScalarFnInstance<C>),
 }
@@ -78,7 +84,7 @@ impl<C: ScalarFnVTable> ScalarFnRef<C> {
     ghost use Rattle.std.specs.Option.{option_copied, option_map};
     ghost use Rattle.vortex_meaning.specs.Functions.{ours};
     ghost use Rattle.vortex_meaning.specs.Shipped.{shipped_named};
-    ghost use Rattle.vortex_functions.specs.FunctionOf.{operator_in, like_in, instance_in};
+    ghost use Rattle.vortex_functions.specs.FunctionOf.{operator_in, between_in, like_in, instance_in};
     ghost use Rattle.vortex_functions.specs.FunctionOf.{is_not, is_is_null, is_is_not_null, is_cast};
 
     /// A caller's function with its options.
@@ -142,6 +148,19 @@ impl<C: ScalarFnVTable> ScalarFnRef<C> {
         match self {
             ScalarFnRef::Cast => true,
             _ => false,
+        }
+    }
+
+    /// The options, of Between.
+    pub fn as_between(&self) -> Option<BetweenOptions>
+        ensures { result ≡ between_in self.now }
+    {
+        match self {
+            ScalarFnRef::Between(options) => Some(BetweenOptions {
+                lower_strict: options.lower_strict,
+                upper_strict: options.upper_strict,
+            }),
+            _ => None,
         }
     }
 
@@ -230,7 +249,8 @@ impl<C: ScalarFnVTable> ScalarFnRef<C> {
         with_function!(self, f, options => f.fmt_sql(options, children, out))
     }
 
-    /// The shipped function that a word of a script names, as `and`.
+    /// The shipped function that a script names, by one word, as `and`, or by words with a space between each two, as
+    /// `between < <=`.
     pub fn named(word: &str) -> Option<ScalarFnRef<C>>
         ensures { option_map function_of result ≡ option_map ours (shipped_named word.now) }
     {
@@ -249,6 +269,9 @@ impl<C: ScalarFnVTable> ScalarFnRef<C> {
         if let Some(options) = Cast.named(word) {
             return Some(Cast.bind(options));
         }
+        if let Some(options) = Between.named(word) {
+            return Some(Between.bind(options));
+        }
         if let Some(options) = Like.named(word) {
             return Some(Like.bind(options));
         }
@@ -265,6 +288,7 @@ impl<C: ScalarFnVTable> ScalarFnRef<C> {
             ScalarFnRef::IsNull => Ok(ScalarFnRef::IsNull),
             ScalarFnRef::IsNotNull => Ok(ScalarFnRef::IsNotNull),
             ScalarFnRef::Cast => Ok(ScalarFnRef::Cast),
+            ScalarFnRef::Between(options) => Ok(ScalarFnRef::Between(options.clone()?)),
             ScalarFnRef::Like(options) => Ok(ScalarFnRef::Like(*options)),
             ScalarFnRef::Custom(f) => {
                 let options = f.vtable().clone_options(alloc, f.options())?;

@@ -2,6 +2,7 @@
 //! here too.
 #![tactic(auto)]
 
+mod between;
 mod binary;
 mod cast;
 pub mod custom;
@@ -24,4 +25,4 @@ pub use vortex_interface::{
     Arity, ChildName, EmptyOptions, ExecutionArgs, ScalarFnId, ScalarFnVTable, VecExecutionArgs,
 };
 pub use vortex_like::LikeOptions;
-pub use vortex_shipped::{Binary, Cast, CastOptions, IsNotNull, IsNull, Like, Not};
+pub use vortex_shipped::{Between, Binary, Cast, CastOptions, IsNotNull, IsNull, Like, Not};

@@ -7,3 +7,4 @@ pub mod Calculating
 pub mod WordComparisons
 pub mod KleeneAnswers
 pub mod ConstantResults
+pub mod BetweenRows

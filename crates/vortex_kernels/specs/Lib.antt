@@ -9,4 +9,5 @@ pub mod PairOrders
 pub mod Comparison
 pub mod ArithmeticIntegers
 pub mod Numeric
+pub mod Between
 pub mod Words

@@ -4,6 +4,7 @@ pub use Rattle.vortex_bits.specs.Rows.{AreRows}
 pub use Rattle.vortex_columns.specs.ColumnView.{row, IsIntegerType}
 pub use Rattle.vortex_columns.specs.LentBytes.{bytes_of}
 pub use Rattle.vortex_kernels.specs.ArithmeticIntegers.{FitsResult, AnswersExact}
+pub use Rattle.vortex_kernels.specs.Between.{HasBetweenRows, AreCompared}
 pub use Rattle.vortex_kernels.specs.Boolean.{are_bools, HasBooleanRows, HasNotRows}
 pub use Rattle.vortex_kernels.specs.Boolean.{IsKleeneValidity, AnswersBoolean, RefusesBoolean}
 pub use Rattle.vortex_kernels.specs.Cast.{HasCastRows, KeepsConstant}
@@ -28,6 +29,7 @@ pub use Rattle.vortex_kernels.specs.Truths.{operand_truth, IsOperandOf, HasTruth
 pub use Rattle.vortex_kernels.specs.Validity.{valid_view, AreValid, IsValidity, IsValidityOf}
 pub use Rattle.vortex_kernels.specs.Validity.{IsJointValidity, IsAsValid, IsListed, IsValidityIn}
 pub use Rattle.vortex_operators.specs.Arithmetic.{integer_of_both}
+pub use Rattle.vortex_operators.specs.Between.{bound_operator}
 pub use Rattle.vortex_operators.specs.Kleene.{kleene}
 pub use Rattle.vortex_operators.specs.OperatorValues.{not_value, holds}
 pub use Rattle.vortex_operators.specs.Operators.{is_boolean}

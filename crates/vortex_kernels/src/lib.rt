@@ -2,6 +2,7 @@
 #![tactic(auto)]
 
 pub mod arithmetic_integer;
+pub mod between;
 pub mod boolean;
 pub mod cast;
 pub mod compare;
@@ -16,6 +17,7 @@ mod truths;
 mod validity;
 
 pub use arithmetic_integer::{ArithmeticInteger, apply_checked};
+pub use between::execute_between;
 pub use boolean::{
     execute_boolean, execute_not, kleene_boolean_buffer_scalar, kleene_boolean_buffers,
 };
@@ -24,4 +26,6 @@ pub use compare::{execute_compare, scalar_cmp};
 pub use kleene::kleene_words;
 pub use null_tests::{execute_is_not_null, execute_is_null};
 pub use numeric::execute_numeric;
-pub use vortex_operators::{CompareOperator, Operator, operators};
+pub use vortex_operators::{
+    BetweenOptions, CompareOperator, Operator, StrictComparison, operators,
+};

@@ -1,4 +1,4 @@
--- One argument, and two.
+-- One argument, two, and three.
 use Rattle.std.specs.Prelude.{◌≡◌, ◌⊎◌, ℕ, zero, suc, ◌<◌, List, [], ◌∷◌, Option, Some, None, Bool, true, false, ◌||◌, Any, slice_index_or, refl}
 use Rattle.std.proofs.Common.{sym, subst, arith, inl, inr}
 use Rattle.vortex_types.specs.LogicalTypes.{bool_type}
@@ -13,6 +13,10 @@ of_one f vs = null
 abbrev pub of_two : (Value → Value → Value) → List Value → Value
 of_two f (v ∷ w ∷ []) = f v w
 of_two f vs = null
+
+abbrev pub of_three : (Value → Value → Value → Value) → List Value → Value
+of_three f (v ∷ w ∷ x ∷ []) = f v w x
+of_three f vs = null
 
 -- what holds of an argument holds of the only one, and of one of the two
 pub only : {A : Type 0} (P : A → Type 0) (x : A) → Any P (x ∷ []) → P x

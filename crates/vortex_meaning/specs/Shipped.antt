@@ -3,6 +3,7 @@ pub mod BinaryFunction
 pub mod NotFunction
 pub mod NullTestFunctions
 pub mod CastFunction
+pub mod BetweenFunction
 pub mod LikeFunction
 use Rattle.std.specs.Prelude.{◌≡◌, ℕ, zero, suc, List, Option, Some, None, Bool, if◌then◌else◌, refl}
 use Rattle.std.specs.Option.{option_map, option_or}
@@ -13,6 +14,7 @@ use Rattle.vortex_errors.specs.declared.error.MismatchPlace.{MismatchPlace}
 use Rattle.vortex_types.specs.LogicalTypes.{LogicalType}
 use Rattle.vortex_types.specs.Values.{Value}
 use Rattle.vortex_operators.specs.declared.operators.Operator.{Operator}
+use Rattle.vortex_operators.specs.declared.between.BetweenOptions.{BetweenOptions}
 use Rattle.vortex_like.specs.declared.options.LikeOptions.{LikeOptions}
 use Rattle.vortex_meaning.specs.Outcomes.{Outcome}
 use Rattle.vortex_meaning.specs.Meaning.{Meaning, Lawful}
@@ -21,6 +23,7 @@ use Rattle.vortex_meaning.specs.Shipped.BinaryFunction.{operator_function, opera
 use Rattle.vortex_meaning.specs.Shipped.NotFunction.{not_function, not_lawful, is_not_word}
 use Rattle.vortex_meaning.specs.Shipped.NullTestFunctions.{is_null_function, is_null_lawful, is_null_word, is_not_null_function, is_not_null_lawful, is_not_null_word}
 use Rattle.vortex_meaning.specs.Shipped.CastFunction.{cast_function, cast_lawful, is_cast_word}
+use Rattle.vortex_meaning.specs.Shipped.BetweenFunction.{between_function, between_lawful, between_named, between_number, between_numbered, between_back}
 use Rattle.vortex_meaning.specs.Shipped.LikeFunction.{like_function, like_lawful, like_named, like_number, like_numbered, like_back}
 
 -- THE LIST: each function with its options
@@ -30,6 +33,7 @@ pub data Shipped : Type 0 where
   IsNull : Shipped
   IsNotNull : Shipped
   Cast : Shipped
+  Between : BetweenOptions → Shipped
   Like : LikeOptions → Shipped
 
 abbrev pub row_function : Shipped → RowFunction
@@ -38,6 +42,7 @@ row_function Not = not_function
 row_function IsNull = is_null_function
 row_function IsNotNull = is_not_null_function
 row_function Cast = cast_function
+row_function (Between options) = between_function options
 row_function (Like options) = like_function options
 
 pub row_lawful : (s : Shipped) → LawfulRow (row_function s)
@@ -46,9 +51,10 @@ row_lawful Not = not_lawful
 row_lawful IsNull = is_null_lawful
 row_lawful IsNotNull = is_not_null_lawful
 row_lawful Cast = cast_lawful
+row_lawful (Between options) = between_lawful options
 row_lawful (Like options) = like_lawful options
 
--- the function that a word of a script names
+-- the function that a name of a script stands for: a word, or words with one space between each two
 abbrev pub shipped_named : List ℕ → Option Shipped
 shipped_named w =
     option_or (option_map Binary (operator_named w))
@@ -56,8 +62,9 @@ shipped_named w =
     (option_or (if is_null_word w then Some IsNull else None)
     (option_or (if is_not_null_word w then Some IsNotNull else None)
     (option_or (if is_cast_word w then Some Cast else None)
+    (option_or (option_map Between (between_named w))
     (option_or (option_map Like (like_named w))
-    None)))))
+    None))))))
 
 -- the number of a function and that of its options, in the code of trees
 abbrev pub shipped_number : Shipped → ℕ × ℕ
@@ -66,7 +73,8 @@ shipped_number Not = (1, 0)
 shipped_number IsNull = (2, 0)
 shipped_number IsNotNull = (3, 0)
 shipped_number Cast = (4, 0)
-shipped_number (Like options) = (5, like_number options)
+shipped_number (Between options) = (5, between_number options)
+shipped_number (Like options) = (6, like_number options)
 
 abbrev pub shipped_numbered : ℕ → ℕ → Shipped
 shipped_numbered zero n = Binary (operator_numbered n)
@@ -74,7 +82,8 @@ shipped_numbered (suc zero) n = Not
 shipped_numbered (suc (suc zero)) n = IsNull
 shipped_numbered (suc (suc (suc zero))) n = IsNotNull
 shipped_numbered (suc (suc (suc (suc zero)))) n = Cast
-shipped_numbered (suc (suc (suc (suc (suc f))))) n = Like (like_numbered n)
+shipped_numbered (suc (suc (suc (suc (suc zero))))) n = Between (between_numbered n)
+shipped_numbered (suc (suc (suc (suc (suc (suc f)))))) n = Like (like_numbered n)
 
 pub shipped_back : (s : Shipped) → shipped_numbered (shipped_number s).0 (shipped_number s).1 ≡ s
 shipped_back (Binary op) = ap Binary (operator_back op)
@@ -82,6 +91,7 @@ shipped_back Not = refl
 shipped_back IsNull = refl
 shipped_back IsNotNull = refl
 shipped_back Cast = refl
+shipped_back (Between options) = ap Between (between_back options)
 shipped_back (Like options) = ap Like (like_back options)
 
 -- What follows is read off the list.

@@ -4,3 +4,4 @@ pub mod OperatorValues
 pub mod Arithmetic
 pub mod ComparisonLaws
 pub mod SwapLaws
+pub mod Between

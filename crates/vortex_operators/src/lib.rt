@@ -1,6 +1,8 @@
 //! The operators of two operands, with the tables and laws that choose kernels.
 #![tactic(auto)]
 
+pub mod between;
 pub mod operators;
 
+pub use between::{BetweenOptions, StrictComparison};
 pub use operators::{CompareOperator, Operator};

@@ -10,13 +10,14 @@ pub use vortex_columns::{
     Validity, VortexError, VortexResult, cell_of,
 };
 pub use vortex_functions::{
-    Binary, BoundExpression, Cast, CastOptions, ChildName, EmptyOptions, ExecutionArgs, IsNotNull,
-    IsNull, Like, NoCustom, Not, ScalarFnId, ScalarFnRef, ScalarFnSignature, ScalarFnVTable,
+    Between, Binary, BoundExpression, Cast, CastOptions, ChildName, EmptyOptions, ExecutionArgs,
+    IsNotNull, IsNull, Like, NoCustom, Not, ScalarFnId, ScalarFnRef, ScalarFnSignature, ScalarFnVTable,
     ScalarFnVTableExt, TypedScalarFnInstance, VecExecutionArgs,
 };
 pub use vortex_kernels::{
-    ArithmeticInteger, CompareOperator, Operator, apply_checked, execute_boolean, execute_cast,
-    execute_compare, execute_is_not_null, execute_is_null, execute_not, execute_numeric,
-    kleene_boolean_buffer_scalar, kleene_boolean_buffers, kleene_words, scalar_cmp,
+    ArithmeticInteger, BetweenOptions, CompareOperator, Operator, StrictComparison, apply_checked,
+    execute_between, execute_boolean, execute_cast, execute_compare, execute_is_not_null,
+    execute_is_null, execute_not, execute_numeric, kleene_boolean_buffer_scalar,
+    kleene_boolean_buffers, kleene_words, scalar_cmp,
 };
 pub use vortex_like::{LikeOptions, LikePattern, LikeToken, LikeVariant, Looks, execute_like};

@@ -6,6 +6,7 @@ pub use Rattle.vortex_meaning.specs.Shipped.BinaryFunction.{binary_id, both_bool
 pub use Rattle.vortex_meaning.specs.Shipped.NotFunction.{not_id}
 pub use Rattle.vortex_meaning.specs.Shipped.NullTestFunctions.{is_null_id, is_not_null_id}
 pub use Rattle.vortex_meaning.specs.Shipped.CastFunction.{cast_id, cast_options_text}
+pub use Rattle.vortex_meaning.specs.Shipped.BetweenFunction.{between_id}
 pub use Rattle.vortex_meaning.specs.Shipped.LikeFunction.{like_id, like_words}
 pub use Rattle.vortex_meaning.specs.Arithmetic.{arithmetic_type}
 pub use Rattle.vortex_meaning.specs.Answering.{AnswersShippedType}

@@ -1,12 +1,14 @@
 //! The shipped row functions, one module each: what a call answers, its type, its marks and its text.
 #![tactic(auto)]
 
+pub mod between;
 pub mod binary;
 pub mod cast;
 pub mod like;
 pub mod not;
 pub mod null_tests;
 
+pub use between::Between;
 pub use binary::Binary;
 pub use cast::{Cast, CastOptions};
 pub use like::Like;

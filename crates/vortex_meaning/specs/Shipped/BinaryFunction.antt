@@ -143,6 +143,13 @@ neither_null t u v w h k e = by (is_nullable t) (is_nullable u) refl refl e
     by false true p q f = cc
     by false false p q f = λ i. not_null t v h p i || not_null u w k q i
 
+-- the comparison of two values is a value of Bool, nullable if either type is
+pub comparison_has_bool : (op : CompareOperator) (t u : LogicalType) (v w : Value)
+    → HasType t v → HasType u w → HasType (comparison_type t u) (comparison_value op v w)
+comparison_has_bool op t u v w h k =
+    typed_unless_null (is_nullable t || is_nullable u) (is_null v || is_null w)
+    (holds op (compare_values v w)) (neither_null t u v w h k)
+
 comparison_typed : (op : CompareOperator) (ts : List LogicalType) (t : LogicalType)
     (vs : List Value)
     → compared_type ts ≡ Some t → HaveTypes ts vs → HasType t (of_two (comparison_value op) vs)
@@ -152,10 +159,7 @@ comparison_typed op (t ∷ u ∷ []) a (v ∷ w ∷ []) e h = by (alike_types t 
         → HasType a (comparison_value op v w)
     by true g =
         let is : comparison_type t u ≡ a = cc in
-        let n = is_nullable t || is_nullable u in
-        let p = is_null v || is_null w in
-        let none = neither_null t u v w h.0 h.1.0 in
-        let bool = typed_unless_null n p (holds op (compare_values v w)) none in
+        let bool = comparison_has_bool op t u v w h.0 h.1.0 in
         subst (λ (x : LogicalType). HasType x (comparison_value op v w)) is bool
     by false g = cc
 comparison_typed op (t ∷ u ∷ []) a [] e h = absurd h

@@ -1,0 +1,137 @@
+//! Between: whether a value lies between two bounds.
+ghost use Rattle.std.specs.Prelude.{◌≡◌, length, map};
+ghost use Rattle.vortex_meaning.specs.Shipped as shipped;
+ghost use Rattle.vortex_shipped.specs.Words.{AnswersUnlessMemory, AppendsCall, AnswersShippedType};
+ghost use Rattle.vortex_shipped.specs.Words.{between_id, shipped_meaning, shipped_lawful};
+
+use std::alloc::Global;
+use vortex_columns::{
+    Arity, Column, DType, ExecutionCtx, MismatchPlace, VortexError, VortexResult,
+};
+use vortex_interface::{ChildName, ExecutionArgs, ScalarFnId, ScalarFnVTable};
+use vortex_kernels::{BetweenOptions, execute_between};
+
+/// Whether each row lies between its bounds, of a type that all three share apart from nullability, by the order of
+/// values: Kleene's And of the two comparisons, so that a row beside one null bound can still be false. The answer is
+/// nullable if any of the three is.
+#[derive(Clone, Drop)]
+pub struct Between;
+
+/// `(lower < array <= upper)`, behind what stands there.
+fn write_between(
+    out: &mut String,
+    options: &BetweenOptions,
+    children: &[String],
+) -> VortexResult<()>
+    requires { length children.now ≡ 3 }
+    ensures { AnswersUnlessMemory result
+        (λ _. AppendsCall (shipped.Between options.now) children.now out.old out.new) }
+{
+    out.push_str("(")?;
+    out.push_str(children[1].as_str())?;
+    out.push_str(" ")?;
+    out.push_str(options.lower_strict.to_operator().text())?;
+    out.push_str(" ")?;
+    out.push_str(children[0].as_str())?;
+    out.push_str(" ")?;
+    out.push_str(options.upper_strict.to_operator().text())?;
+    out.push_str(" ")?;
+    out.push_str(children[2].as_str())?;
+    out.push_str(")")?;
+    Ok(())
+}
+
+impl ScalarFnVTable for Between {
+    type Options = BetweenOptions;
+
+    ghost meaning = { shipped_meaning between_id shipped.Between };
+
+    fn id(&self) -> ScalarFnId {
+        "vortex.between"
+    }
+
+    fn arity(&self, _options: &BetweenOptions) -> Arity {
+        Arity::Exact(3)
+    }
+
+    fn child_name(&self, _options: &BetweenOptions, index: usize) -> ChildName {
+        match index {
+            0 => "array",
+            1 => "lower",
+            _ => "upper",
+        }
+    }
+
+    fn return_dtype(
+        &self,
+        _alloc: Global,
+        options: &BetweenOptions,
+        types: &[DType],
+    ) -> VortexResult<DType>
+        requires { length types.now ≡ 3 }
+        ensures { AnswersShippedType (shipped.Between options.now) types.now result }
+    {
+        let [array, lower, upper] = types else {
+            return Err(VortexError::TypeMismatch(MismatchPlace::BetweenLower));
+        };
+        if !array.eq_ignore_nullability(lower) {
+            return Err(VortexError::TypeMismatch(MismatchPlace::BetweenLower));
+        }
+        if !array.eq_ignore_nullability(upper) {
+            return Err(VortexError::TypeMismatch(MismatchPlace::BetweenUpper));
+        }
+        let nullability = array.nullability() | lower.nullability() | upper.nullability();
+        Ok(DType::Bool(nullability))
+    }
+
+    fn execute<A: ExecutionArgs>(
+        &self,
+        options: &BetweenOptions,
+        args: &A,
+        ctx: &mut ExecutionCtx,
+    ) -> VortexResult<Column> {
+        let array = args.get(0)?;
+        let lower = args.get(1)?;
+        let upper = args.get(2)?;
+        execute_between(array, lower, upper, options, ctx)
+    }
+
+    /// `(lower < array <= upper)`.
+    fn fmt_sql(
+        &self,
+        options: &BetweenOptions,
+        children: &[String],
+        out: &mut String,
+    ) -> VortexResult<()>
+        requires { length children.now ≡ 3 }
+        ensures { AnswersUnlessMemory result
+            (λ _. AppendsCall (shipped.Between options.now) children.now out.old out.new) }
+    {
+        write_between(out, options, children)
+    }
+
+    fn is_strict(&self, _options: &BetweenOptions) -> bool {
+        false
+    }
+
+    fn is_infallible(&self, _options: &BetweenOptions) -> bool {
+        true
+    }
+
+    fn try_clone(&self, _alloc: Global) -> VortexResult<Between> {
+        Ok(Between)
+    }
+
+    fn clone_options(
+        &self,
+        _alloc: Global,
+        options: &BetweenOptions,
+    ) -> VortexResult<BetweenOptions> {
+        Ok(BetweenOptions {
+            lower_strict: options.lower_strict,
+            upper_strict: options.upper_strict,
+        })
+    }
+
+    ghost lawful = { shipped_lawful between_id shipped.Between };
+}
