@@ -121,8 +121,7 @@ module _ {V O P : Type 0} where
         let ts = children_of parent.node.now in
         let more = all_mean_more ts parent.outputs.items t o r.2 r.3 m in
         let count : length os ≡ suc (length parent.outputs.items) =
-        ap length same ∙ length-append parent.outputs.items (o ∷ []) ∙ add-one _ in
-        (
+        ap length same ∙ length-append parent.outputs.items (o ∷ []) ∙ add-one _ in (
           r.0,
           r.1,
           subst (λ (xs : List P). AllMean means (take (length os) ts) xs) (sym same)

@@ -1,5 +1,5 @@
 -- A list of trees that are still to be looked at.
-use Rattle.std.proofs.Common.{◌≡◌, ◌+◌, ◌<◌, List, [], ◌∷◌, ◌++◌, length, map, Bool, IsTrue, refl, sym, ap, subst, ◌∙◌, ◌↔◌, arith}
+use Rattle.std.proofs.Common.{◌≡◌, ◌+◌, ◌<◌, List, [], ◌∷◌, ◌++◌, length, take, take_all, map, ℕ, ◌≤◌, Bool, IsTrue, refl, sym, ap, subst, ◌∙◌, ◌↔◌, arith}
 use Rattle.std.specs.Borrow.{Bor}
 use Rattle.std.proofs.lemmas.List.{map-append}
 use Rattle.vortex_columns.specs.ColumnView.{ColumnView}
@@ -15,9 +15,27 @@ module _ {V O : Type 0} where
   abbrev pub now_of : List (Bor (Tree V O)) → List (Tree V O)
   now_of bs = map (λ b. b.now) bs
 
-  pub popped : (all rest : List (Bor (Tree V O))) (b : Bor (Tree V O)) → all ≡ rest ++ b ∷ []
+  popped : (all rest : List (Bor (Tree V O))) (b : Bor (Tree V O)) → all ≡ rest ++ b ∷ []
       → now_of all ≡ now_of rest ++ b.now ∷ []
   popped all rest b e = ap now_of e ∙ map-append (λ (x : Bor (Tree V O)). x.now) rest (b ∷ [])
+
+  -- what was listed, with a node's children behind it, gives its last
+  pub relisted : (before kids : List (Tree V O)) (list : List (Bor (Tree V O)))
+      (rest : List (Bor (Tree V O))) (next : Bor (Tree V O))
+      → now_of list ≡ before ++ kids → list ≡ rest ++ next ∷ []
+      → before ++ kids ≡ now_of rest ++ next.now ∷ []
+  relisted before kids list rest next e f = sym e ∙ popped list rest next f
+
+  -- or has no last
+  pub nothing_listed : (before kids : List (Tree V O)) (list : List (Bor (Tree V O)))
+      → now_of list ≡ before ++ kids → list ≡ [] → before ++ kids ≡ []
+  nothing_listed before kids list e f = sym e ∙ ap now_of f
+
+  -- all children were listed
+  pub all_listed : (before ts kids now : List (Tree V O)) (k : ℕ)
+      → now ≡ before ++ take k ts → length ts ≤ k → ts ≡ kids → now ≡ before ++ kids
+  all_listed before ts kids now k e h f =
+      e ∙ ap (λ (xs : List (Tree V O)). before ++ xs) (take_all k ts h ∙ f)
 
   same_trees : (ts : Trees V O) → trees_of (list_of ts) ≡ ts
   same_trees no_trees = refl
@@ -76,8 +94,7 @@ module _ {V O : Type 0} where
     listed_fit root t next list rest inv node e =
         let a = fit_append list (children_of t) in
         let b = fit_append rest (next ∷ []) in
-        let q = fits_below t node in
-        (
+        let q = fits_below t node in (
           λ h.
               let g = inv.0 h in
               let all = subst (λ xs. AllFit xs) e (a.1 (g.1, q.1 g.0)) in

@@ -1,18 +1,19 @@
 -- What holds at a node holds at its children, and a child's fault is its parent's.
 use Rattle.std.specs.Prelude.{◌≡◌, ℕ, zero, suc, List, [], ◌∷◌, length, take, slice_get, Some}
-use Rattle.std.proofs.Common.{sym, subst, inl, inr}
+use Rattle.std.proofs.Common.{subst, inl, inr}
 use Rattle.std.specs.declared.borrow.Cow.{Cow}
+use Rattle.std.specs.Cow.{cow_value}
 use Rattle.vortex_errors.specs.declared.error.VortexError.{VortexError}
 use Rattle.vortex_errors.specs.Answers.{UnlessMemory}
 use Rattle.vortex_errors.proofs.Answering.{UnlessMemory-weaker}
 use Rattle.vortex_columns.specs.ColumnView.{ColumnView}
 use Rattle.vortex_meaning.specs.Meaning.{Meaning}
-use Rattle.vortex_meaning.specs.Outcomes.{GivesValue}
 use Rattle.vortex_meaning.specs.Trees.{Tree, leaf, constant, call, Trees, no_trees, tree, children_of, list_of}
-use Rattle.vortex_meaning.specs.Eval.{Settled, IsFirstFault, IsFirstFaultIn}
+use Rattle.vortex_meaning.specs.Eval.{IsFirstFault, IsFirstFaultIn}
 use Rattle.vortex_meaning.specs.Execution.{LeavesFit, AllLeavesFit}
 use Rattle.vortex_functions.specs.Walks.{AllMean}
 use Rattle.vortex_functions.specs.Executing.{HasRows}
+use Rattle.vortex_functions.proofs.Execution.{settled}
 
 module _ {V O : Type 0} where
   fit_among : (cs : List ColumnView) (ts : Trees V O) (child : Tree V O) (k : ℕ)
@@ -29,9 +30,6 @@ module _ {V O : Type 0} where
   fit_downward cs (call f ts) child k at h = fit_among cs ts child k at h
 
   module _ (m : Meaning V O) (cs : List ColumnView) (n : ℕ) where
-    settled : (t : Tree V O) (c : Cow ColumnView) → HasRows m cs n t c → Settled m cs n t
-    settled t c h i lt = subst GivesValue (sym (h.each i lt)) tt
-
     fault_among : (ts : Trees V O) (child : Tree V O) (os : List (Cow ColumnView))
         (e : VortexError)
         → AllMean (HasRows m cs n) (take (length os) (list_of ts)) os
@@ -41,7 +39,7 @@ module _ {V O : Type 0} where
     fault_among (tree t ts) child [] e h at r =
         let q : child ≡ t = cc in inl (subst (λ (x : Tree V O). IsFirstFault m cs n x e) q r)
     fault_among (tree t ts) child (o ∷ os) e h at r =
-        inr (settled t o h.0, fault_among ts child os e h.1 at r)
+        inr (settled m cs n t (cow_value o) h.0, fault_among ts child os e h.1 at r)
 
     call_upward : (t child : Tree V O) (os : List (Cow ColumnView)) (e : VortexError)
         → AllMean (HasRows m cs n) (take (length os) (children_of t)) os

@@ -37,4 +37,5 @@ macro_rules! walk {
         }
     }};
 }
+
 pub(crate) use walk;

@@ -2,9 +2,9 @@
 ghost use Rattle.std.specs.List.{flat_map};
 ghost use Rattle.vortex_interface.specs.Words.{AnswersUnlessMemory, Appends, cell_value, sequence_value, sequence_values, IsCell, IsSequence, hex_text, shape_type, WritesLiteral, WritesElements, WritesFields};
 
+use crate::printing::write_separator;
 use std::fmt::Write;
 use vortex_columns::{Cell, DType, Sequence, VortexResult};
-use crate::printing::write_separator;
 
 /// A type where it lies: one of its own, or that of a map's entries, by key and value.
 #[derive(Clone, Copy)]

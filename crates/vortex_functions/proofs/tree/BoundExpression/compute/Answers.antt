@@ -20,9 +20,12 @@ loop-inputs-preserved-then-len-children g c =
     let same : length c.loop-inputs.inputs.items ≡ k = omega arith in
     rw (c.in_ok-push.ensures.items, c.new-inputs-then-len-children.ensures.items)
     (descended (Fits c.args.columns.now c.args.row_count) (HasRows g.C.ScalarFnVTable.meaning c.args.columns.now c.args.row_count) c.args.self.now c.child-child.result.now c.loop-inputs.above.items _ k
-    c.loop-inputs.invariant same c.child-child.ensures (fit_downward c.args.columns.now
-    c.loop-inputs.node.now c.child-child.result.now k c.child-child.ensures
-    c.loop-inputs.invariant.1.0, c.loop-inputs.invariant.1.1))
+    c.loop-inputs.invariant same c.child-child.ensures (
+      fit_downward c.args.columns.now
+          c.loop-inputs.node.now c.child-child.result.now k c.child-child.ensures
+          c.loop-inputs.invariant.1.0,
+      c.loop-inputs.invariant.1.1,
+    ))
 
 pub loop-inputs-smaller : goal.loop-inputs-smaller
 loop-inputs-smaller g c =
