@@ -1,5 +1,5 @@
 -- From the children's columns to a call's column or its refusal.
-use Rattle.std.proofs.Common.{◌≡◌, ℕ, zero, suc, ◌<◌, ◌≤◌, refl, sym, ap, subst, ◌∙◌, List, [], ◌∷◌, ◌++◌, length, get_or, take, inl, inr, Bool, true, false, Option, Some, None, arith, nat_eq}
+use Rattle.std.proofs.Common.{◌≡◌, ℕ, zero, suc, ◌<◌, refl, sym, ap, subst, ◌∙◌, List, [], ◌∷◌, ◌++◌, length, get_or, take, inr, Bool, true, false, Option, Some, None, arith, nat_eq}
 use Rattle.std.specs.Prelude.{slice_get, if◌then◌else◌, ⊤}
 use Rattle.std.specs.Option.{option_and_then}
 use borrow.Author.Tests.{eqb-true}
@@ -16,9 +16,9 @@ use Rattle.vortex_errors.proofs.Answering.{UnlessMemory-weaker}
 use Rattle.vortex_meaning.specs.Outcomes.{gives, GivesValue, HasCallRows, IsCallFault, call_row, types_in, values_at}
 use Rattle.vortex_meaning.specs.Meaning.{Meaning, fits}
 use Rattle.vortex_meaning.specs.Functions.{Function, function_arity, function_type, function_means, call_type}
-use Rattle.vortex_meaning.specs.Trees.{place, Tree, leaf, constant, call, trees_of, node_count, nodes_count}
-use Rattle.vortex_meaning.specs.Eval.{tree_type, tree_types, with_type, types_or_none, eval, eval_all, then_means, all_give, Settled, AllSettled, IsFirstFault, IsFirstFaultIn, HasTreeRows}
-use Rattle.vortex_meaning.specs.Execution.{LeavesFit, AllLeavesFit, other_length}
+use Rattle.vortex_meaning.specs.Trees.{place, Tree, leaf, constant, call, trees_of}
+use Rattle.vortex_meaning.specs.Eval.{tree_type, tree_types, with_type, types_or_none, eval, eval_all, then_means, all_give, Settled, AllSettled, IsFirstFault, HasTreeRows}
+use Rattle.vortex_meaning.specs.Execution.{LeavesFit, other_length}
 
 -- each tree's rows stand in the column beside it
 abbrev pub AllHaveRows : {V O : Type 0} → Meaning V O → List ColumnView → ℕ → List (Tree V O)
@@ -34,28 +34,6 @@ where_true true o t e = (refl, e)
 where_true false o t e = cc
 
 module _ {V O : Type 0} where
-  pub fits_at : (cs : List ColumnView) (ts : List (Tree V O)) (i : ℕ) (t : Tree V O)
-      → AllLeavesFit cs (trees_of ts) → i < length ts → t ≡ get_or ts i t → LeavesFit cs t
-  fits_at cs [] i t h lt e = absurd (omega arith)
-  fits_at cs (x ∷ xs) zero t h lt e = subst (λ (y : Tree V O). LeavesFit cs y) (sym e) h.0
-  fits_at cs (x ∷ xs) (suc i) t h lt e = fits_at cs xs i t h.1 (omega arith) e
-
-  pub fits_more : (cs : List ColumnView) (ts : List (Tree V O)) (i : ℕ) (t : Tree V O)
-      → AllLeavesFit cs (trees_of (take i ts)) → i < length ts → t ≡ get_or ts i t → LeavesFit cs t
-      → AllLeavesFit cs (trees_of (take (suc i) ts))
-  fits_more cs [] i t h lt e q = absurd (omega arith)
-  fits_more cs (x ∷ xs) zero t h lt e q = (subst (λ (y : Tree V O). LeavesFit cs y) e q, tt)
-  fits_more cs (x ∷ xs) (suc i) t h lt e q = (h.0, fits_more cs xs i t h.1 (omega arith) e q)
-
-  pub child_smaller : (ts : List (Tree V O)) (i : ℕ) (t : Tree V O) → i < length ts
-      → t ≡ get_or ts i t → node_count t ≤ nodes_count (trees_of ts)
-  child_smaller [] i t lt e = absurd (omega arith)
-  child_smaller (x ∷ xs) zero t lt e =
-      let q : node_count t ≡ node_count x = ap node_count e in omega arith
-  child_smaller (x ∷ xs) (suc i) t lt e =
-      let q : node_count t ≤ nodes_count (trees_of xs) = child_smaller xs i t (omega arith) e in
-      omega arith
-
   module _ (m : Meaning V O) where
     pub types_more : (ts : List (Tree V O)) (ks : List LogicalType) (i : ℕ) (t : Tree V O)
         (k : LogicalType)
@@ -89,31 +67,8 @@ module _ {V O : Type 0} where
             ∙ ap (λ (ys : List LogicalType). Some (ys ++ k ∷ [])) (sym w.4)
 
     module _ (cs : List ColumnView) (n : ℕ) where
-      settled : (t : Tree V O) (d : ColumnView) → HasTreeRows m cs n t d → Settled m cs n t
+      pub settled : (t : Tree V O) (d : ColumnView) → HasTreeRows m cs n t d → Settled m cs n t
       settled t d h i lt = subst GivesValue (sym (h.each i lt)) tt
-
-      pub faults_at : (ts : List (Tree V O)) (ds : List ColumnView) (i : ℕ) (t : Tree V O)
-          (e : VortexError)
-          → AllHaveRows m cs n (take i ts) ds → i < length ts → t ≡ get_or ts i t
-          → IsFirstFault m cs n t e → IsFirstFaultIn m cs n (trees_of ts) e
-      faults_at [] ds i t e h lt q r = absurd (omega arith)
-      faults_at (x ∷ xs) ds zero t e h lt q r =
-          inl (subst (λ (y : Tree V O). IsFirstFault m cs n y e) q r)
-      faults_at (x ∷ xs) [] (suc i) t e h lt q r = absurd h
-      faults_at (x ∷ xs) (d ∷ ds) (suc i) t e h lt q r =
-          inr (settled x d h.0, faults_at xs ds i t e h.1 (omega arith) q r)
-
-      pub more_rows : (ts : List (Tree V O)) (ds : List ColumnView) (i : ℕ) (t : Tree V O)
-          (d : ColumnView)
-          → AllHaveRows m cs n (take i ts) ds → i < length ts → t ≡ get_or ts i t
-          → HasTreeRows m cs n t d → AllHaveRows m cs n (take (suc i) ts) (ds ++ d ∷ [])
-      more_rows [] ds i t d h lt q r = absurd (omega arith)
-      more_rows (x ∷ xs) [] zero t d h lt q r =
-          (subst (λ (y : Tree V O). HasTreeRows m cs n y d) q r, tt)
-      more_rows (x ∷ xs) (c ∷ ds) zero t d h lt q r = absurd h
-      more_rows (x ∷ xs) [] (suc i) t d h lt q r = absurd h
-      more_rows (x ∷ xs) (c ∷ ds) (suc i) t d h lt q r =
-          (h.0, more_rows xs ds i t d h.1 (omega arith) q r)
 
       pub types_are : (ts : List (Tree V O)) (ds : List ColumnView) → AllHaveRows m cs n ts ds
           → tree_types m (trees_of ts) ≡ Some (types_in ds)
@@ -199,14 +154,6 @@ module _ {V O : Type 0} where
       -- the same for a tree that is known to be a call
       module _ (self : Tree V O) (f : Function V O) (ts : List (Tree V O))
           (is : self ≡ call f (trees_of ts)) where
-        pub child_faults : (ds : List ColumnView) (i : ℕ) (t : Tree V O) (e : VortexError)
-            → AllHaveRows m cs n (take i ts) ds → i < length ts → t ≡ get_or ts i t
-            → UnlessMemory (IsFirstFault m cs n t) e → UnlessMemory (IsFirstFault m cs n self) e
-        child_faults ds i t e h lt q r =
-            UnlessMemory-weaker (IsFirstFault m cs n t) (IsFirstFault m cs n self)
-            (λ d p. subst (λ (s : Tree V O). IsFirstFault m cs n s d) (sym is)
-            (inl (faults_at ts ds i t d h lt q p))) e r
-
         pub self_faults : (ds : List ColumnView) (e : VortexError) → AllHaveRows m cs n ts ds
             → UnlessMemory (IsCallFault (function_means m f) ds n) e
             → UnlessMemory (IsFirstFault m cs n self) e
@@ -221,11 +168,6 @@ module _ {V O : Type 0} where
         self_rows ds c k h e r =
             subst (λ (s : Tree V O). HasTreeRows m cs n s c) (sym is)
             (call_rows f ts ds c k h (ap (tree_type m) (sym is) ∙ e) r)
-
-        pub child_fits : (i : ℕ) (t : Tree V O) → LeavesFit cs self → i < length ts
-            → t ≡ get_or ts i t → LeavesFit cs t
-        child_fits i t h lt e =
-            fits_at cs ts i t (subst (λ (s : Tree V O). LeavesFit cs s) is h) lt e
 
 where_none : (b : Bool) (o : Option ℕ) (l : ℕ) → (if b then o else Some l) ≡ None
     → (b ≡ true) × (o ≡ None)

@@ -3,6 +3,9 @@ pub mod TreeLists
 pub mod Execution
 pub mod Opened
 pub mod Bound
-pub mod Texts
 pub mod TreeTexts
 pub mod Counts
+pub mod Chains
+pub mod Upward
+pub mod Inputs
+pub mod Listed

@@ -4,10 +4,7 @@ use Rattle.std.specs.Prelude.{List, slice_get}
 use Rattle.vortex_types.specs.LogicalTypes.{LogicalType}
 use Rattle.vortex_types.specs.TypeEquality.{type_eq, type_eq-decides}
 use Rattle.vortex_columns.specs.ColumnView.{ColumnView}
-use Rattle.vortex_meaning.specs.Meaning.{Meaning}
-use Rattle.vortex_meaning.specs.Functions.{Function}
-use Rattle.vortex_meaning.specs.Trees.{Tree, place, call, trees_of}
-use Rattle.vortex_meaning.specs.Eval.{tree_type}
+use Rattle.vortex_meaning.specs.Trees.{place}
 use Rattle.vortex_meaning.specs.Execution.{LeafFits}
 
 -- an answer no, by what a yes would need
@@ -41,16 +38,3 @@ pub past_end : (cs : List ColumnView) (p : ℕ) → length cs ≤ p → slice_ge
 past_end [] p h = refl
 past_end (c ∷ cs) zero h = absurd (omega arith)
 past_end (c ∷ cs) (suc p) h = past_end cs p (omega arith)
-
-module _ {V O : Type 0} where
-  -- a tree that was opened as a call, whose children are read as a list
-  pub opened_call : (self seen : Tree V O) (f : Function V O) (items ts : List (Tree V O))
-      → seen ≡ self → seen ≡ call f (trees_of items) → ts ≡ items → self ≡ call f (trees_of ts)
-  opened_call self seen f items ts v e h =
-      sym v ∙ e ∙ ap (λ (xs : List (Tree V O)). call f (trees_of xs)) (sym h)
-
-  pub opened_type : (m : Meaning V O) (f : Function V O) (items ts : List (Tree V O)) (k : LogicalType)
-      → tree_type m (call f (trees_of items)) ≡ Some k → ts ≡ items
-      → tree_type m (call f (trees_of ts)) ≡ Some k
-  opened_type m f items ts k e h =
-      ap (λ (xs : List (Tree V O)). tree_type m (call f (trees_of xs))) h ∙ e

@@ -1,7 +1,7 @@
 -- From the children's texts to a call's.
-use Rattle.std.proofs.Common.{◌≡◌, ℕ, zero, suc, ◌<◌, List, [], ◌∷◌, ◌++◌, length, take, get_or, Option, Some, None, Bool, true, false, refl, sym, ap, ◌∙◌, subst, arith}
-use Rattle.std.proofs.lemmas.List.{length-append, length-take}
-use Rattle.std.specs.Prelude.{IfSome, if◌then◌else◌}
+use Rattle.std.proofs.Common.{◌≡◌, ℕ, suc, List, [], ◌∷◌, ◌++◌, length, map, Option, Some, None, Bool, true, false, refl, sym, ap, ◌∙◌, subst}
+use Rattle.std.specs.Prelude.{IfSome, if◌then◌else◌, string_bytes, String}
+use Rattle.std.specs.declared.alloc.Global.{Global}
 use Rattle.std.specs.Option.{option_and_then}
 use Rattle.vortex_types.specs.LogicalTypes.{LogicalType}
 use Rattle.vortex_types.specs.Values.{Value}
@@ -11,6 +11,8 @@ use Rattle.vortex_meaning.specs.Functions.{Function, function_arity, function_ty
 use Rattle.vortex_meaning.specs.Trees.{Tree, constant, call, trees_of}
 use Rattle.vortex_meaning.specs.Eval.{tree_type, tree_types}
 use Rattle.vortex_meaning.specs.Printing.{literal_text, tree_text, tree_texts, with_text, function_text}
+use Rattle.vortex_functions.specs.Walks.{AllMean}
+use Rattle.vortex_functions.specs.Texts.{IsTextOf}
 use Rattle.vortex_functions.proofs.Bound.{type_count}
 
 where_fits : (b : Bool) (o : Option LogicalType) (t : LogicalType)
@@ -32,40 +34,21 @@ module _ {V O : Type 0} where
       (length texts ≡ length ts) ×
       ((ks : List (List ℕ)) → tree_texts (trees_of ts) ≡ Some ks → texts ≡ ks)
 
-  split : (ts : List (Tree V O)) (i : ℕ) (t : Tree V O) (js : List (List ℕ)) → i < length ts
-      → t ≡ get_or ts i t → tree_texts (trees_of (take (suc i) ts)) ≡ Some js
-      → (ks : List (List ℕ)) × (k : List ℕ) × (tree_texts (trees_of (take i ts)) ≡ Some ks) ×
-      (tree_text t ≡ Some k) × (js ≡ ks ++ k ∷ [])
-  split [] i t js lt e p = absurd (omega arith)
-  split (x ∷ xs) zero t js lt e p =
-      let w = parts (tree_text x) (Some []) js p in
-      let none : w.1 ≡ [] = some_same w.1 [] (sym w.3) in
-      ([], w.0, refl, ap tree_text e ∙ w.2, w.4 ∙ ap (λ (r : List (List ℕ)). w.0 ∷ r) none)
-    where
-      some_same : (a b : List (List ℕ)) → Some a ≡ Some b → a ≡ b
-      some_same a b q = cc
-  split (x ∷ xs) (suc i) t js lt e p =
-      let w = parts (tree_text x) (tree_texts (trees_of (take (suc i) xs))) js p in
-      let r = split xs i t w.1 (omega arith) e w.3 in (
-        w.0 ∷ r.0,
-        r.1,
-        (λ j. with_text (w.2 j) (r.2 j)),
-        r.3,
-        w.4
-            ∙ ap (λ (q : List (List ℕ)). w.0 ∷ q) r.4,
+  -- each text is its tree's
+  pub all_texts : (ts : List (Tree V O)) (os : List (String Global)) → AllMean IsTextOf ts os
+      → AreTexts ts (map string_bytes os)
+  all_texts [] [] h = (refl, λ ks p. cc)
+  all_texts [] (o ∷ os) h = absurd h
+  all_texts (t ∷ ts) [] h = absurd h
+  all_texts (t ∷ ts) (o ∷ os) h =
+      let r = all_texts ts os h.1 in (
+        ap suc r.0,
+        λ ks p.
+            let w = parts (tree_text t) (tree_texts (trees_of ts)) ks p in
+            let one : string_bytes o ≡ w.0 =
+            subst (λ a. IfSome a (λ b. string_bytes o ≡ b)) w.2 h.0 in
+            (λ j. one j ∷ r.1 w.1 w.3 j) ∙ sym w.4,
       )
-
-  pub texts_more : (ts : List (Tree V O)) (i : ℕ) (t : Tree V O) (texts : List (List ℕ))
-      (s : List ℕ)
-      → AreTexts (take i ts) texts → i < length ts → t ≡ get_or ts i t
-      → IfSome (tree_text t) (λ b. s ≡ b) → AreTexts (take (suc i) ts) (texts ++ s ∷ [])
-  texts_more ts i t texts s h lt e g = (
-    length-append texts (s ∷ []) ∙ omega (arith, h.0, length-take i ts, length-take (suc i) ts),
-    λ js p.
-        let w = split ts i t js lt e p in
-        let one : s ≡ w.1 = subst (λ o. IfSome o (λ b. s ≡ b)) w.3 g in
-        (λ j. h.1 w.0 w.2 j ++ one j ∷ []) ∙ sym w.4,
-  )
 
   -- the text of a tree that is known to be a call
   pub call_has_text : (self : Tree V O) (f : Function V O) (ts : List (Tree V O))

@@ -1,24 +1,27 @@
 -- What executing a tree answers, which may be lent.
-use Rattle.std.specs.Prelude.{◌≡◌, ℕ, List, None, Result, IsOkAnd}
+use Rattle.std.specs.Prelude.{◌≡◌, ℕ, List, None, Result, IsOkAnd, ⊤}
 use Rattle.std.specs.Cow.{cow_value}
 use Rattle.std.specs.declared.borrow.Cow.{Cow}
 use Rattle.vortex_errors.specs.declared.error.VortexError.{VortexError}
 use Rattle.vortex_errors.specs.Answers.{Answers}
 use Rattle.vortex_columns.specs.ColumnView.{ColumnView}
 use Rattle.vortex_meaning.specs.Meaning.{Meaning}
-use Rattle.vortex_meaning.specs.Trees.{Tree}
+use Rattle.vortex_meaning.specs.Trees.{Tree, leaf}
 use Rattle.vortex_meaning.specs.Eval.{HasTreeRows, IsFirstFault}
-use Rattle.vortex_meaning.specs.Execution.{LeavesFit, other_length, Executes, RefusesExecution}
+use Rattle.vortex_meaning.specs.Execution.{LeafFits, LeavesFit, other_length, Executes, RefusesExecution}
 use Rattle.vortex_functions.specs.Binding.{IsLeaf, IsLentLeaf}
 
 abbrev Answer : Type 0
 Answer = Result (Cow ColumnView) VortexError
 
 module _ {V O : Type 0} (m : Meaning V O) (columns : List ColumnView) (n : ℕ) (t : Tree V O) where
+  -- the column, which may be lent, has the tree's rows
+  abbrev pub HasRows : Cow ColumnView → Type 0
+  HasRows c = HasTreeRows m columns n t (cow_value c)
+
   -- over columns that fit: the tree's rows, or the first fault
   abbrev pub AnswersTree : Answer → Type 0
-  AnswersTree result =
-      Answers result (λ c. HasTreeRows m columns n t (cow_value c)) (IsFirstFault m columns n t)
+  AnswersTree result = Answers result HasRows (IsFirstFault m columns n t)
 
   -- over any columns
   abbrev pub AnswersExecution : Answer → Type 0
@@ -28,6 +31,11 @@ module _ {V O : Type 0} (m : Meaning V O) (columns : List ColumnView) (n : ℕ) 
 -- a lone leaf is lent, and no memory is taken
 abbrev pub LendsLeaf : {V O : Type 0} → List ColumnView → Tree V O → Answer → Type 0
 LendsLeaf columns t result = IsLeaf t → IsOkAnd result (IsLentLeaf columns t)
+
+-- what a node alone asks of the columns: a leaf, that its own is there
+abbrev pub NodeFits : {V O : Type 0} → List ColumnView → Tree V O → Type 0
+NodeFits columns (leaf l) = LeafFits columns l
+NodeFits columns t = ⊤
 
 -- the columns fit the leaves, and each has so many rows
 abbrev pub Fits : {V O : Type 0} → List ColumnView → ℕ → Tree V O → Type 0

@@ -4,6 +4,6 @@ pub mod Nodes
 pub mod NodeFalls
 pub mod Binding
 pub mod Executing
-pub mod Shapes
 pub mod Texts
+pub mod Walks
 pub mod Words

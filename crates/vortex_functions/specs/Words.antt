@@ -1,9 +1,6 @@
 -- What the contracts of this crate name.
 pub use Rattle.vortex_errors.specs.Answers.{AnswersUnlessMemory}
-pub use Rattle.vortex_types.specs.LogicalTypes.{field_count, field_type}
-pub use Rattle.vortex_types.specs.FieldNames.{field_name}
 pub use Rattle.vortex_types.specs.TypeOf.{type_of, struct_fields}
-pub use Rattle.vortex_columns.specs.Cells.{cell_value, sequence_value, sequence_values, IsCell, IsSequence}
 pub use Rattle.vortex_meaning.specs.Outcomes.{types_in}
 pub use Rattle.vortex_meaning.specs.Meaning.{fits}
 pub use Rattle.vortex_meaning.specs.Shipped.{Shipped, shipped_named}
@@ -19,9 +16,9 @@ pub use Rattle.vortex_meaning.specs.CallTexts.{Appends}
 pub use Rattle.vortex_meaning.specs.Trees.{constant, trees_of, children_of, called, literal}
 pub use Rattle.vortex_meaning.specs.Eval.{tree_type, tree_types}
 pub use Rattle.vortex_meaning.specs.Execution.{LeavesFit, other_length}
-pub use Rattle.vortex_meaning.specs.Printing.{hex_text, suffix, element_type, tree_text}
+pub use Rattle.vortex_meaning.specs.Printing.{tree_text}
 pub use Rattle.vortex_functions.specs.FunctionOf.{function_of, operator_in, is_not, instance_in}
-pub use Rattle.vortex_functions.specs.Shapes.{shape_type, is_struct, fields_in}
-pub use Rattle.vortex_functions.specs.Texts.{AppendsText, IsTextOf, WritesLiteral, WritesElements, WritesFields}
-pub use Rattle.vortex_functions.specs.Binding.{AnswersLeaf, AnswersBinding}
-pub use Rattle.vortex_functions.specs.Executing.{AnswersTree, AnswersExecution, LendsLeaf, Fits}
+pub use Rattle.vortex_functions.specs.Texts.{AppendsText, IsTextOf}
+pub use Rattle.vortex_functions.specs.Binding.{AnswersLeaf, AnswersBinding, IsLeaf}
+pub use Rattle.vortex_functions.specs.Executing.{HasRows, NodeFits, AnswersTree, AnswersExecution, LendsLeaf, Fits}
+pub use Rattle.vortex_functions.specs.Walks.{AllMean, IsCopy}

@@ -10,11 +10,11 @@ pub mod erased;
 pub mod ext;
 pub mod laws;
 mod like;
-mod literal_text;
 mod not;
 mod null_tests;
 pub mod tree;
 pub mod typed;
+mod walk;
 
 pub use custom::NoCustom;
 pub use erased::{ScalarFnRef, ScalarFnSignature};

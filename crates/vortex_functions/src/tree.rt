@@ -1,18 +1,18 @@
 //! Expression trees over the columns of a scope.
-ghost use Rattle.std.specs.Prelude.{◌≡◌, ◌<◌, ◌↔◌, None, Some, IsTrue, MatchOption, length, map, slice_get};
+ghost use Rattle.std.specs.Prelude.{◌≡◌, ◌<◌, None, Some, MatchOption, length, map, slice_get};
 ghost use Rattle.std.specs.Option.{option_copied};
-ghost use Rattle.vortex_functions.specs.Words.{type_of, struct_fields, constant, trees_of, children_of, called, literal, tree_type, tree_types, LeavesFit, other_length, function_of, AnswersUnlessMemory, AnswersLeaf, AnswersBinding, AnswersTree, AnswersExecution, LendsLeaf, Fits, IsTextOf};
+ghost use Rattle.vortex_functions.specs.Words.{type_of, struct_fields, constant, trees_of, children_of, called, literal, tree_type, tree_types, function_of, AnswersUnlessMemory, AnswersLeaf, AnswersBinding};
 
 use crate::erased::ScalarFnRef;
-use crate::literal_text::{Shape, write_literal};
 use std::alloc::Global;
-use std::borrow::Cow;
 use std::marker::Model;
-use std::{fmt, mem};
-use vortex_columns::{
-    Column, DType, ExecutionCtx, Nullability, Scalar, StructFields, VortexError, VortexResult,
-};
-use vortex_interface::{ScalarFnVTable, VecExecutionArgs};
+use std::mem;
+use vortex_columns::{DType, Nullability, Scalar, StructFields, VortexError, VortexResult};
+use vortex_interface::ScalarFnVTable;
+
+mod copies;
+mod execution;
+mod text;
 
 #[cycle(expression)]
 enum Node<C: ScalarFnVTable> {
@@ -96,18 +96,6 @@ fn dtypes_of<C: ScalarFnVTable>(
         dtypes.push(child.dtype().try_clone(alloc)?)?;
     }
     Ok(dtypes)
-}
-
-/// The length of the first column that has not so many rows.
-fn first_other_length(columns: &[Column], row_count: usize) -> Option<usize>
-    ensures { result ≡ other_length row_count columns.now }
-{
-    for column in columns {
-        if column.len() != row_count {
-            return Some(column.len());
-        }
-    }
-    None
 }
 
 impl<C: ScalarFnVTable> BoundExpression<C> {
@@ -212,161 +200,6 @@ impl<C: ScalarFnVTable> BoundExpression<C> {
             Node::Literal(scalar, _) => Some(scalar),
             Node::Column(_, _, _) => None,
             Node::Call(_, _, _) => None,
-        }
-    }
-
-    /// A copy that equals its source.
-    pub fn try_clone(&self, alloc: Global) -> VortexResult<BoundExpression<C>>
-        ensures { AnswersUnlessMemory result (λ t. t ≡ self.now) }
-    {
-        match &self.node {
-            Node::Column(place, name, dtype) => {
-                let name = String::from_str(alloc, name.as_str())?;
-                let dtype = dtype.try_clone(alloc)?;
-                Ok(BoundExpression {
-                    node: Node::Column(*place, name, dtype),
-                })
-            }
-            Node::Literal(scalar, _) => Ok(BoundExpression::lit(alloc, scalar.try_clone(alloc)?)),
-            Node::Call(function, children, dtype) => {
-                let mut copies = Vec::new(alloc);
-                for child in children {
-                    copies.push(child.try_clone(alloc)?)?;
-                }
-                let function = function.try_clone(alloc)?;
-                let dtype = dtype.try_clone(alloc)?;
-                Ok(BoundExpression {
-                    node: Node::Call(function, copies, dtype),
-                })
-            }
-        }
-    }
-
-    /// The tree as a text, as `(1i32 > $.a)`. Refuses for memory alone.
-    ///
-    /// A column leaf is `$.name`, a literal its value, an operator stands between its operands in parentheses, and every
-    /// other call is `id(a, b)`. What a caller's function writes of a call is its own.
-    pub fn sql_text(&self, alloc: Global) -> VortexResult<String>
-        ensures { AnswersUnlessMemory result (IsTextOf self.now) }
-    {
-        let mut text = String::new(alloc);
-        match &self.node {
-            Node::Column(_, name, _) => {
-                text.push_str("$.")?;
-                text.push_str(name.as_str())?;
-                Ok(text)
-            }
-            Node::Literal(scalar, _) => {
-                write_literal(&mut text, Shape::Of(scalar.dtype()), &scalar.cell())?;
-                Ok(text)
-            }
-            Node::Call(function, children, _) => {
-                let mut texts = Vec::new(alloc);
-                for child in children {
-                    texts.push(child.sql_text(alloc)?)?;
-                }
-                function.fmt_sql(&texts, &mut text)?;
-                Ok(text)
-            }
-        }
-    }
-
-    /// The allocator that a part of the tree holds.
-    fn alloc(&self) -> Global {
-        match &self.node {
-            Node::Column(_, name, _) => *name.allocator(),
-            Node::Literal(_, alloc) => *alloc,
-            Node::Call(_, children, _) => *children.allocator(),
-        }
-    }
-
-    /// Whether each leaf's column is there, of the leaf's type.
-    fn leaves_fit(&self, columns: &[Column]) -> bool
-        ensures { IsTrue result ↔ LeavesFit columns.now self.now }
-    {
-        match &self.node {
-            Node::Column(place, _, dtype) => match columns.get(*place) {
-                Some(column) => *column.dtype() == *dtype,
-                None => false,
-            },
-            Node::Literal(_, _) => true,
-            Node::Call(_, children, _) => {
-                for child in children {
-                    if !child.leaves_fit(columns) {
-                        return false;
-                    }
-                }
-                true
-            }
-        }
-    }
-
-    /// From the leaves upward, children left to right.
-    fn compute<'a>(
-        &self,
-        columns: &'a [Column],
-        row_count: usize,
-        ctx: &mut ExecutionCtx,
-    ) -> VortexResult<Cow<'a, Column>>
-        requires fit { LeavesFit columns.now self.now }
-        requires lengths { other_length row_count columns.now ≡ None }
-        ensures answer { AnswersTree C.meaning columns.now row_count self.now result }
-        ensures lent { LendsLeaf columns.now self.now result }
-    {
-        match &self.node {
-            Node::Column(place, _, _) => Ok(Cow::Borrowed(&columns[*place])),
-            Node::Literal(scalar, _) => {
-                let scalar = scalar.try_clone(ctx.alloc())?;
-                Ok(Cow::Owned(Column::constant(ctx.alloc(), scalar, row_count)?))
-            }
-            Node::Call(function, children, _) => {
-                let mut inputs = Vec::new(ctx.alloc());
-                for child in children {
-                    inputs.push(child.compute(columns, row_count, ctx)?)?;
-                }
-                let args = VecExecutionArgs::new(inputs, row_count);
-                Ok(Cow::Owned(function.execute(&args, ctx)?))
-            }
-        }
-    }
-
-    /// The tree's meaning, row by row, over the columns of its scope: a column of the tree's type.
-    ///
-    /// In order: E11 where a leaf's column is missing or of another type; E2 where a column has not `row_count` rows, with
-    /// `left` the row count and `right` the length of the first such column; then the fault of the first call, in post-order,
-    /// that faults in some row. A lone column leaf is lent, and takes no memory.
-    pub fn execute<'a>(
-        &self,
-        columns: &'a [Column],
-        row_count: usize,
-        ctx: &mut ExecutionCtx,
-    ) -> VortexResult<Cow<'a, Column>>
-        ensures answer { AnswersExecution C.meaning columns.now row_count self.now result }
-        ensures lent { Fits columns.now row_count self.now → LendsLeaf columns.now self.now result }
-    {
-        if !self.leaves_fit(columns) {
-            return Err(VortexError::ScopeMismatch);
-        }
-        if let Some(right) = first_other_length(columns, row_count) {
-            return Err(VortexError::LengthMismatch {
-                left: row_count,
-                right,
-            });
-        }
-        self.compute(columns, row_count, ctx)
-    }
-}
-
-/// The bytes of `sql_text`; want of memory is an error.
-impl<C: ScalarFnVTable> fmt::Display for BoundExpression<C> {
-    ghost use Rattle.vortex_meaning.specs.Printing.{tree_text};
-
-    ghost output = { tree_text };
-
-    fn fmt<W: fmt::Write>(&self, f: &mut fmt::Formatter<W>) -> fmt::Result {
-        match self.sql_text(self.alloc()) {
-            Ok(text) => write!(f, "{text}"),
-            Err(_) => Err(fmt::Error),
         }
     }
 }

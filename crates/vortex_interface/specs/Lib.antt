@@ -1,3 +1,4 @@
 pub mod Args
+pub mod Shapes
 pub mod Texts
 pub mod Words

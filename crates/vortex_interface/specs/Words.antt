@@ -1,9 +1,12 @@
 -- What the contracts of this crate name.
 pub use Rattle.vortex_errors.specs.Answers.{AnswersUnlessMemory}
 pub use Rattle.vortex_columns.specs.ColumnView.{ColumnView}
+pub use Rattle.vortex_columns.specs.Cells.{cell_value, sequence_value, sequence_values, IsCell, IsSequence}
 pub use Rattle.vortex_meaning.specs.Outcomes.{types_in}
 pub use Rattle.vortex_meaning.specs.Meaning.{Meaning, Lawful, fits}
 pub use Rattle.vortex_meaning.specs.Answering.{AnswersType, AnswersCall}
 pub use Rattle.vortex_meaning.specs.CallTexts.{Continues, Appends, joined, separator_before, options_text}
 pub use Rattle.vortex_interface.specs.Args.{ArgsView, coded_args, AreOfLength, PastInputs}
-pub use Rattle.vortex_interface.specs.Texts.{AppendsCall}
+pub use Rattle.vortex_meaning.specs.Printing.{hex_text}
+pub use Rattle.vortex_interface.specs.Shapes.{shape_type}
+pub use Rattle.vortex_interface.specs.Texts.{AppendsCall, WritesLiteral, WritesElements, WritesFields}

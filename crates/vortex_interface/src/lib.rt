@@ -2,11 +2,13 @@
 #![tactic(auto)]
 
 pub mod args;
+pub mod literal_text;
 pub mod options;
 pub mod printing;
 pub mod vtable;
 
 pub use args::VecExecutionArgs;
+pub use literal_text::{Shape, write_literal};
 pub use options::EmptyOptions;
 pub use printing::{write_call, write_separator};
 pub use vortex_columns::Arity;

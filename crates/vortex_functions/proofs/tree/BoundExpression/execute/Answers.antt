@@ -4,5 +4,5 @@ use Rattle.vortex_functions.proofs.tree.BoundExpression.execute.Goals as goal
 
 pub returns-in-Some-clause-answer : goal.returns-in-Some-clause-answer
 returns-in-Some-clause-answer g c =
-    uneven c.in-Some.right (c.leaves_fit.ensures.0 c.if-not-leaves_fit.false)
+    uneven c.in-Some.right (c.in_ok-leaves_fit.ensures.answer.0 c.if-not-branch.false)
     (sym c.in-Some.ensures) (search)

@@ -1,0 +1,52 @@
+use Rattle.std.proofs.Common.{◌≡◌, sym, ap, ◌∙◌, subst, length, map, string_bytes, Some, ℕ}
+use Rattle.std.proofs.lemmas.List.{length-map}
+use Rattle.vortex_columns.specs.Cells.{cell_value}
+use Rattle.vortex_types.specs.TypeOf.{type_of}
+use Rattle.vortex_meaning.specs.Meaning.{fits}
+use Rattle.vortex_meaning.specs.Functions.{function_arity}
+use Rattle.vortex_meaning.specs.Trees.{call, trees_of}
+use Rattle.vortex_meaning.specs.Eval.{tree_type}
+use Rattle.vortex_functions.specs.FunctionOf.{function_of}
+use Rattle.vortex_functions.specs.Nodes.{IsNode, node_tree}
+use Rattle.vortex_functions.specs.Texts.{IsTextOf}
+use Rattle.vortex_functions.proofs.Inputs.{made_of_items}
+use Rattle.vortex_functions.proofs.TreeTexts.{AreTexts, all_texts, call_has_text, literal_has_text, children_fit}
+use Rattle.vortex_functions.proofs.tree.BoundExpression.text_over.Goals as goal
+
+pub fmt_sql-requires : goal.fmt_sql-requires
+fmt_sql-requires g c =
+    let m = g.C.ScalarFnVTable.meaning in
+    let f = function_of c.in-Call.function in
+    let ts = c.in-Call.field-1.items in
+    let is : c.args.self.now ≡ call f (trees_of ts) =
+    sym c.self.view_is ∙ ap node_tree c.in-Call.is in
+    let typed : tree_type m (call f (trees_of ts)) ≡ Some (type_of c.in-Call.field-2) =
+    subst (λ n. IsNode m n) c.in-Call.is c.self.invariant in
+    let all : AreTexts ts (map string_bytes c.args.texts.items) =
+    all_texts ts c.args.texts.items
+    (made_of_items IsTextOf c.args.self.now f ts c.args.texts.items is c.requires) in
+    let count : length c.deref.result.now ≡ length ts =
+    ap length c.deref.ensures.value ∙ sym (length-map c.args.texts.items string_bytes) ∙ all.0 in
+    ap (λ (n : ℕ). fits (function_arity m f) n) count
+    ∙ children_fit m f ts (type_of c.in-Call.field-2) typed
+
+pub returns : goal.returns
+returns g c =
+    let f = function_of c.in-Call.function in
+    let ts = c.in-Call.field-1.items in
+    let is : c.args.self.now ≡ call f (trees_of ts) =
+    sym c.self.view_is ∙ ap node_tree c.in-Call.is in
+    let all : AreTexts ts (map string_bytes c.deref.result.now) =
+    rw c.deref.ensures.value
+    (all_texts ts c.args.texts.items
+    (made_of_items IsTextOf c.args.self.now f ts c.args.texts.items is c.requires)) in
+    call_has_text c.args.self.now f ts (map string_bytes c.deref.result.now)
+    (string_bytes c.new-text.result) (string_bytes c.fmt_sql.new.out) is all
+    c.new-text.ensures.bytes c.in_ok-fmt_sql-in-Call.ensures
+
+pub returns-in-Literal : goal.returns-in-Literal
+returns-in-Literal g c =
+    literal_has_text c.args.self.now c.in-Literal.scalar (string_bytes c.new-text.result)
+    (string_bytes c.write_literal.new.out) (type_of c.dtype.result.now) (cell_value c.cell.result)
+    (sym c.self.view_is ∙ ap node_tree c.in-Literal.is) c.new-text.ensures.bytes
+    c.in_ok-write_literal-in-Literal.ensures c.dtype.ensures.dtype c.cell.ensures.value

@@ -1,0 +1,8 @@
+use Rattle.std.proofs.Common.{◌≡◌, drop}
+use Rattle.vortex_meaning.specs.Execution.{other_length}
+use Rattle.vortex_functions.proofs.tree.execution.first_other_length.Given as goal
+
+-- those that were passed have the row count
+abbrev pub invariant-loop-column : goal.invariant-loop-column
+invariant-loop-column l =
+    other_length l.row_count l.columns ≡ other_length l.row_count (drop l.column-index l.columns)
