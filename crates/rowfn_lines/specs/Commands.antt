@@ -1,7 +1,7 @@
 -- What a line of a script says.
 use Rattle.std.specs.Prelude.{◌==◌, ℕ, zero, suc, ℤ, pos, negsuc, ◌+◌, ◌-◌, ◌*◌, ◌&&◌, ◌||◌, nat_le}
 use Rattle.std.specs.Prelude.{nat_lt, List, [], ◌∷◌, length, Bool, true, false, Option, Some, None}
-use Rattle.std.specs.Prelude.{codes, if◌then◌else◌}
+use Rattle.std.specs.Prelude.{◌++◌, codes, if◌then◌else◌, string_bytes}
 use Rattle.std.specs.List.{list_all}
 use Rattle.std.specs.Option.{option_and_then, option_map}
 use Rattle.std.specs.Char.{is_ascii_alphanumeric, is_ascii_digit}
@@ -27,7 +27,7 @@ use Rattle.rowfn_lines.specs.Lines.{Word, plain, quoted, words_of, after_spaces}
 -- column: a name, and the column that it names from here on
 -- get: the column of a name
 -- literal: a value in each row
--- call: the function that a word names, of the last trees
+-- call: the function of that name, of the last trees
 -- show: the last tree's text
 -- run: the last tree's column
 pub data Command : Type 0 where
@@ -201,8 +201,20 @@ literal_command ws = malformed
 abbrev pub get_command : List Word → Command
 get_command ws = or_malformed get (option_and_then name_of (only_word ws))
 
+-- three words with a space between each two
+abbrev pub spaced : List ℕ → List ℕ → List ℕ → List ℕ
+spaced w lower upper = w ++ codes " " ++ lower ++ codes " " ++ upper
+
+-- the function of a name, which is one word, or that and the words of two bounds, a space between
+-- each two
+abbrev pub call_of : List ℕ → List Word → Command
+call_of w [] = call w
+call_of w (plain lower ∷ plain upper ∷ []) = call (spaced w lower upper)
+call_of w ws = malformed
+
 abbrev pub call_command : List Word → Command
-call_command ws = or_malformed call (only_word ws)
+call_command (plain w ∷ ws) = call_of w ws
+call_command ws = malformed
 
 -- what a first word says that no other follows
 abbrev pub alone : Command → List Word → Command
@@ -241,6 +253,6 @@ command_in (line.Rows n) = rows n
 command_in (line.Column name c) = column name.now c
 command_in (line.Get name) = get name.now
 command_in (line.Literal s) = literal s
-command_in (line.Call word) = call word.now
+command_in (line.Call name) = call (string_bytes name)
 command_in line.Show = show
 command_in line.Run = run

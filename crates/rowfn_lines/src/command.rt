@@ -19,8 +19,8 @@ pub enum Line<'a> {
     Get(&'a str),
     /// A value in each row.
     Literal(Scalar),
-    /// The function that a word names, of the last trees.
-    Call(&'a str),
+    /// The function of that name, of the last trees: one word, or three with a space between each two.
+    Call(String),
     /// The text of the last tree, printed.
     Show,
     /// The column of the last tree, printed.

@@ -1,9 +1,11 @@
 //! Reads a line.
-ghost use Rattle.std.specs.Prelude.{◌≡◌, map, option_map};
+ghost use Rattle.std.specs.Prelude.{◌≡◌, map, option_map, string_bytes};
+ghost use Rattle.vortex_errors.specs.Answers.{AnswersUnlessMemory};
 ghost use Rattle.rowfn_lines.specs.Lines.{word_in};
 ghost use Rattle.rowfn_lines.specs.Commands.{begins_comment, is_name, count_of, only_word, alone};
 ghost use Rattle.rowfn_lines.specs.Commands.{rows_command, column_command, get_command};
-ghost use Rattle.rowfn_lines.specs.Commands.{literal_command, call_command, command_by};
+ghost use Rattle.rowfn_lines.specs.Commands.{literal_command, spaced, call_of, call_command};
+ghost use Rattle.rowfn_lines.specs.Commands.{command_by};
 ghost use Rattle.rowfn_lines.specs.Commands.{command_of_words, command_of_text, command_of};
 ghost use Rattle.rowfn_lines.specs.Commands.{command_in};
 ghost use Rattle.rowfn_lines.specs.Answering.{AnswersCommand};
@@ -105,12 +107,33 @@ fn get_line<'a>(words: &[Word<'a>]) -> Line<'a>
     }
 }
 
-fn call_line<'a>(words: &[Word<'a>]) -> Line<'a>
-    ensures { command_in result ≡ call_command (map word_in words.now) }
+/// Three words with a space between each two.
+fn spaced(alloc: Global, word: &str, lower: &str, upper: &str) -> VortexResult<String>
+    ensures { AnswersUnlessMemory result
+        (λ text. string_bytes text ≡ spaced word.now lower.now upper.now) }
 {
-    match only(words) {
-        Some(word) => Line::Call(word),
-        None => Line::Malformed,
+    Ok(format!(in alloc; "{word} {lower} {upper}")?)
+}
+
+/// A call by a word and what follows it: nothing, or the words of two bounds.
+fn call_of<'a>(alloc: Global, word: &str, bounds: &[Word<'a>]) -> VortexResult<Line<'a>>
+    ensures { AnswersCommand (call_of word.now (map word_in bounds.now)) result }
+{
+    match bounds {
+        [] => Ok(Line::Call(String::from_str(alloc, word)?)),
+        [Word::Plain(lower), Word::Plain(upper)] => {
+            Ok(Line::Call(spaced(alloc, word, lower, upper)?))
+        }
+        _ => Ok(Line::Malformed),
+    }
+}
+
+fn call_line<'a>(alloc: Global, words: &[Word<'a>]) -> VortexResult<Line<'a>>
+    ensures { AnswersCommand (call_command (map word_in words.now)) result }
+{
+    match words {
+        [Word::Plain(word), bounds @ ..] => call_of(alloc, word, bounds),
+        _ => Ok(Line::Malformed),
     }
 }
 
@@ -138,7 +161,7 @@ fn line_of<'a>(alloc: Global, first: &'a str, words: &[Word<'a>]) -> VortexResul
     } else if first == "lit" {
         literal_line(alloc, words)
     } else if first == "call" {
-        Ok(call_line(words))
+        call_line(alloc, words)
     } else if first == "show" {
         Ok(alone(Line::Show, words))
     } else if first == "run" {

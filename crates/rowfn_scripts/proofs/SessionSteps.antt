@@ -97,6 +97,12 @@ module _ {V O : Type 0} where
       → goes_on (record s { stack = t ∷ below }) ≡ goes_on (record s { stack = u ∷ s.stack })
   same_leaf s t u below e f = λ i. goes_on (record s { stack = f i ∷ e i })
 
+  -- before the row count is said
+  pub before_rows : (r : Option ℕ) (f : ℕ → Step V O) → is_none r ≡ true
+      → is_malformed ≡ after_rows r f
+  before_rows None f h = refl
+  before_rows (Some n) f h = cc
+
   after_some : (r : Option ℕ) (x : Step V O) → is_none r ≡ false → x ≡ after_rows r (λ n. x)
   after_some None x h = cc
   after_some (Some n) x h = refl

@@ -105,7 +105,7 @@ module _ {V O : Type 0} where
     with_taken f s None = is_malformed
     with_taken f s (Some p) = with_tree f s p.0 p.1
 
-    -- the function that the word names takes its arguments from the stack
+    -- the function that is named takes its arguments from the stack
     abbrev pub with_call : SessionView V O → Option Shipped → Step V O
     with_call s None = is_malformed
     with_call s (Some f) = with_taken f s (taken (least_count (shipped_arity f)) s.stack)
@@ -132,6 +132,6 @@ module _ {V O : Type 0} where
     StepsTo (get name) s r =
         r ≡ after_rows s.row_count (λ n. with_leaf name s (find_field name s.fields))
     StepsTo (literal l) s r = r ≡ after_rows s.row_count (λ n. with_literal l s)
-    StepsTo (call word) s r = r ≡ after_rows s.row_count (λ n. with_call s (shipped_named word))
+    StepsTo (call name) s r = r ≡ after_rows s.row_count (λ n. with_call s (shipped_named name))
     StepsTo show s r = ShowsTop s.row_count s.stack s r
     StepsTo run s r = RunsTop s.row_count s.stack s r

@@ -62,8 +62,9 @@ fn run_script<C: ScalarFnVTable>(alloc: Global, script: &[u8]) -> Outcome
 ///   at most 4,294,967,295 bytes.
 /// - `get name` pushes the column's leaf, and `lit type cell` a literal.
 /// - `call f` calls `and`, `or`, `=`, `!=`, `<`, `<=`, `>`, `>=`, `+`, `-`, `*` or `/` on the last
-///   two trees, the last being on the right, or `not` on the last one. E3 where it does not accept
-///   their types.
+///   two trees, the last being on the right, or `not`, `is_null`, `is_not_null` or `cast` on the
+///   last one; or `between` and two words, each `<` or `<=`, on the last three: a value, its lower
+///   bound by the first, its upper bound by the second. E3 where it does not accept their types.
 /// - `show` prints the last tree's text, and `run` its column: the type, a colon, and each cell
 ///   after a space. E7 where in some row two numbers have no result that their type holds.
 ///

@@ -126,13 +126,13 @@ impl<C: ScalarFnVTable> Session<C> {
         Ok(())
     }
 
-    fn push_call(&mut self, alloc: Global, word: &str) -> Result<(), Stop>
-        ensures { MakesStep (StepsTo C.meaning (call word.now)) self.old result self.new }
+    fn push_call(&mut self, alloc: Global, name: &str) -> Result<(), Stop>
+        ensures { MakesStep (StepsTo C.meaning (call name.now)) self.old result self.new }
     {
         if self.row_count.is_none() {
             return Err(Stop::Malformed);
         }
-        let Some(function) = ScalarFnRef::<C>::named(word) else {
+        let Some(function) = ScalarFnRef::<C>::named(name) else {
             return Err(Stop::Malformed);
         };
         let count = least_count(function.signature().arity);
@@ -209,7 +209,7 @@ impl<C: ScalarFnVTable> Session<C> {
             Line::Column(name, column) => self.add_column(alloc, name, column),
             Line::Get(name) => self.push_leaf(alloc, name),
             Line::Literal(scalar) => self.push_literal(alloc, scalar),
-            Line::Call(word) => self.push_call(alloc, word),
+            Line::Call(name) => self.push_call(alloc, name.as_str()),
             Line::Show => self.show(alloc),
             Line::Run => self.run(alloc),
         }

@@ -50,7 +50,7 @@ are_compared op n l r bits v held valid = record {
 }
 
 -- the sides the other way round
-turned : (op : CompareOperator) (v w : Value)
+pub turned : (op : CompareOperator) (v w : Value)
     → holds (compare_swap op) (compare_values w v) ≡ holds op (compare_values v w)
 turned op v w =
     sym (ap (holds op) (compare_values_total.antisymm v w) ∙ holds-swap op (compare_values w v))

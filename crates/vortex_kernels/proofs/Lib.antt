@@ -8,3 +8,4 @@ pub mod WordComparisons
 pub mod KleeneAnswers
 pub mod ConstantResults
 pub mod BetweenRows
+pub mod BoundedRows

@@ -4,7 +4,8 @@ pub use Rattle.vortex_bits.specs.Rows.{AreRows}
 pub use Rattle.vortex_columns.specs.ColumnView.{row, IsIntegerType}
 pub use Rattle.vortex_columns.specs.LentBytes.{bytes_of}
 pub use Rattle.vortex_kernels.specs.ArithmeticIntegers.{FitsResult, AnswersExact}
-pub use Rattle.vortex_kernels.specs.Between.{HasBetweenRows, AreCompared}
+pub use Rattle.vortex_kernels.specs.Between.{HasBetweenRows, AreBeside, AreBounded, HasNoNull}
+pub use Rattle.vortex_kernels.specs.Between.{any_nullable, between_scalar}
 pub use Rattle.vortex_kernels.specs.Boolean.{are_bools, HasBooleanRows, HasNotRows}
 pub use Rattle.vortex_kernels.specs.Boolean.{IsKleeneValidity, AnswersBoolean, RefusesBoolean}
 pub use Rattle.vortex_kernels.specs.Cast.{HasCastRows, KeepsConstant}
@@ -31,8 +32,8 @@ pub use Rattle.vortex_kernels.specs.Validity.{IsJointValidity, IsAsValid, IsList
 pub use Rattle.vortex_operators.specs.Arithmetic.{integer_of_both}
 pub use Rattle.vortex_operators.specs.Between.{bound_operator}
 pub use Rattle.vortex_operators.specs.Kleene.{kleene}
-pub use Rattle.vortex_operators.specs.OperatorValues.{not_value, holds}
-pub use Rattle.vortex_operators.specs.Operators.{is_boolean}
+pub use Rattle.vortex_operators.specs.OperatorValues.{not_value, holds, comparison_value}
+pub use Rattle.vortex_operators.specs.Operators.{is_boolean, compare_swap}
 pub use Rattle.vortex_operators.specs.declared.operators.CompareOperator.{CompareOperator}
 pub use Rattle.vortex_operators.specs.declared.operators.CompareOperator.TheVariants.{Eq, NotEq, Gt}
 pub use Rattle.vortex_operators.specs.declared.operators.CompareOperator.TheVariants.{Gte, Lt, Lte}

@@ -4,6 +4,7 @@
 pub mod arithmetic_integer;
 pub mod between;
 pub mod boolean;
+mod bounds;
 pub mod cast;
 pub mod compare;
 mod comparisons;

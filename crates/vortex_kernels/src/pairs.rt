@@ -17,7 +17,7 @@ use vortex_bits::{RowBits, collect_rows, zip_bits, zip_bits_with};
 use vortex_columns::{BitBuffer, ByteRows, Cell, Column, DType, NativePType, PType, VortexResult};
 
 /// Pairs of values, a left and a right one for each row.
-trait Pairs: Copy {
+pub(crate) trait Pairs: Copy {
     ghost has_pair: { Self → ℕ → Type 0 };
 
     /// The order of what lies in a row. It says nothing of the row where that lies under a null.
@@ -81,9 +81,9 @@ impl Pairs for CellPairs<'_> {
 
 /// The integers of two columns.
 #[derive(Clone, Copy)]
-struct IntPairs<'a, T: NativePType> {
-    left: &'a [T],
-    right: &'a [T],
+pub(crate) struct IntPairs<'a, T: NativePType> {
+    pub(crate) left: &'a [T],
+    pub(crate) right: &'a [T],
 }
 
 impl<T: NativePType> Pairs for IntPairs<'_, T> {
@@ -98,9 +98,9 @@ impl<T: NativePType> Pairs for IntPairs<'_, T> {
 
 /// The integers of a column beside one.
 #[derive(Clone, Copy)]
-struct IntsAndOne<'a, T: NativePType> {
-    left: &'a [T],
-    right: &'a T,
+pub(crate) struct IntsAndOne<'a, T: NativePType> {
+    pub(crate) left: &'a [T],
+    pub(crate) right: &'a T,
 }
 
 impl<T: NativePType> Pairs for IntsAndOne<'_, T> {
@@ -115,9 +115,9 @@ impl<T: NativePType> Pairs for IntsAndOne<'_, T> {
 
 /// The texts or the byte strings of two columns.
 #[derive(Clone, Copy)]
-struct BytesPairs<'a> {
-    left: ByteRows<'a>,
-    right: ByteRows<'a>,
+pub(crate) struct BytesPairs<'a> {
+    pub(crate) left: ByteRows<'a>,
+    pub(crate) right: ByteRows<'a>,
 }
 
 impl Pairs for BytesPairs<'_> {
@@ -132,9 +132,9 @@ impl Pairs for BytesPairs<'_> {
 
 /// The texts or the byte strings of a column beside one.
 #[derive(Clone, Copy)]
-struct BytesAndOne<'a> {
-    left: ByteRows<'a>,
-    right: &'a [u8],
+pub(crate) struct BytesAndOne<'a> {
+    pub(crate) left: ByteRows<'a>,
+    pub(crate) right: &'a [u8],
 }
 
 impl Pairs for BytesAndOne<'_> {
@@ -232,7 +232,7 @@ fn hold_in_bools<P: Comparison>(
 }
 
 /// The bytes of the text or byte string in each row of a constant column.
-fn constant_bytes(column: &Column) -> Option<&[u8]>
+pub(crate) fn constant_bytes(column: &Column) -> Option<&[u8]>
     ensures { IfSome result (λ bs. IsConstantBytes column.now bs.now) }
 {
     let scalar = column.as_constant()?;

@@ -1,8 +1,9 @@
 //! Which rows of one column are not null, and of two.
-ghost use Rattle.std.specs.Prelude.{◌≡◌, true, length};
+ghost use Rattle.std.specs.Prelude.{◌≡◌, true, false, length};
 ghost use Rattle.vortex_kernels.specs.Words.{AnswersUnlessMemory, validity_of, either_nullable};
 ghost use Rattle.vortex_kernels.specs.Words.{valid_view, AreValid, IsValidityOf, IsJointValidity};
-ghost use Rattle.vortex_kernels.specs.Words.{IsAsValid, IsListed, IsValidityIn, array};
+ghost use Rattle.vortex_kernels.specs.Words.{IsAsValid, IsListed, IsValidityIn, array, allows_null};
+ghost use Rattle.vortex_types.specs.LogicalTypes.{is_nullable};
 
 use std::alloc::Global;
 use vortex_bits::{Both, zip_bits};
@@ -72,6 +73,22 @@ pub(crate) fn nullable_valid(alloc: Global, column: &Column) -> VortexResult<Val
     ensures { AnswersUnlessMemory result (λ v. IsValidityIn true column.now (validity_of v)) }
 {
     valid_rows(alloc, column)?.to_validity(alloc)
+}
+
+/// The validity of the rows of a column, for a type of that nullability, which is nullable if the column's is.
+pub(crate) fn valid_in(
+    alloc: Global,
+    column: &Column,
+    nullability: Nullability,
+) -> VortexResult<Validity>
+    requires { allows_null nullability ≡ false → is_nullable column.now.dtype ≡ false }
+    ensures { AnswersUnlessMemory result
+        (λ v. IsValidityIn (allows_null nullability) column.now (validity_of v)) }
+{
+    match nullability {
+        Nullability::NonNullable => same_valid(alloc, column),
+        Nullability::Nullable => nullable_valid(alloc, column),
+    }
 }
 
 /// The validity of rows that are valid on both sides.

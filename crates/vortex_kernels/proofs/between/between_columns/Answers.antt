@@ -1,9 +1,8 @@
-use Rattle.std.proofs.Common.{◌∙◌, ap}
-use Rattle.std.specs.Prelude.{◌||◌}
-use Rattle.vortex_types.specs.LogicalTypes.{is_nullable}
+use Rattle.std.proofs.Common.{◌∙◌}
 use Rattle.vortex_types.specs.TypeOf.{allows_null}
 use Rattle.vortex_columns.specs.ValidityView.{validity_of}
 use Rattle.vortex_operators.specs.Between.{bound_operator}
+use Rattle.vortex_kernels.specs.Between.{any_nullable}
 use Rattle.vortex_kernels.specs.Rows.{either_nullable}
 use Rattle.vortex_kernels.proofs.BetweenRows.{are_compared, between_answers}
 use Rattle.vortex_kernels.proofs.between.between_columns.Goals as goal
@@ -18,13 +17,12 @@ returns c =
     let below = c.in_ok-below.below in
     let v = validity_of c.in_ok-above_valid.above_valid in
     let w = validity_of c.in_ok-below_valid.below_valid in
-    let array_null = c.nullability.ensures ∙ ap is_nullable c.dtype.ensures.dtype in
-    let lower_null = c.nullability-2.ensures ∙ ap is_nullable c.dtype-2.ensures.dtype in
-    let upper_null = c.nullability-3.ensures ∙ ap is_nullable c.dtype-3.ensures.dtype in
-    let both = c.bitor.ensures ∙ (λ i. array_null i || lower_null i) in
-    between_answers options x lower upper (allows_null c.bitor-nullability.result) above below v w
-    c.kleene_boolean_buffers.result c.requires.lower
-    (c.bitor-nullability.ensures ∙ (λ i. both i || upper_null i))
+    between_answers options x lower upper (allows_null c.nullability_of-nullability.result) above
+    below v w c.kleene_boolean_buffers.result c.requires.lower
+    (c.nullability_of-nullability.ensures
+    ∙ (λ i.
+    any_nullable (c.dtype.ensures.dtype i) (c.dtype-2.ensures.dtype i)
+    (c.dtype-3.ensures.dtype i)))
     (are_compared (bound_operator options.lower_strict) (either_nullable lower x) lower x above v
     c.in_ok-above.ensures c.in_ok-above_valid.ensures)
     (are_compared (bound_operator options.upper_strict) (either_nullable x upper) x upper below w

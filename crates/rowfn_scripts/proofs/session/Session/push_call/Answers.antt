@@ -1,4 +1,4 @@
-use Rattle.std.proofs.Common.{rules, ◌≡◌, ◌∙◌, ◌+◌, ◌-◌, ap, sym, not, subst, length, arith, false}
+use Rattle.std.proofs.Common.{rules, ◌≡◌, ◌∙◌, ◌+◌, ◌-◌, ap, sym, not, subst, length, arith, false, refl, None}
 use Rattle.std.specs.Option.{is_none}
 use Rattle.std.proofs.lemmas.List.{length-drop}
 use Rattle.vortex_errors.specs.declared.error.VortexError.{VortexError}
@@ -8,16 +8,39 @@ use Rattle.vortex_meaning.specs.Functions.{Function, function_arity}
 use Rattle.vortex_functions.specs.FunctionOf.{function_of}
 use Rattle.vortex_functions.specs.Binding.{IsCall, RefusesCall}
 use Rattle.rowfn_lines.specs.Commands.{call}
-use Rattle.rowfn_scripts.specs.Sessions.{refuses, least_count, StepsTo}
+use Rattle.rowfn_scripts.specs.Sessions.{refuses, least_count, StepsTo, taken}
 use Rattle.rowfn_scripts.proofs.SessionSteps.{row_count_of, stack_of, printed_of, named_is}
 use Rattle.rowfn_scripts.proofs.SessionSteps.{call_taken, call_refused, call_made, same_stacked}
+use Rattle.rowfn_scripts.proofs.SessionSteps.{too_few, no_arguments}
 use Rattle.rowfn_scripts.proofs.SessionSteps.{stops}
 use Rattle.rowfn_scripts.proofs.session.Session.push_call.Goals as goal
+
+pub returns-then-len-count : goal.returns-then-len-count
+returns-then-len-count g c =
+    let m = g.C.ScalarFnVTable.meaning in
+    let word = c.args.name.now in
+    let s = c.args.self.now in
+    let items = c.self.inside.stack.items in
+    let known : is_none s.row_count ≡ false =
+    ap is_none (sym (row_count_of c.self.view_is))
+    ∙ ap not c.is_none.ensures
+    ∙ ap (λ b. not (not b)) c.if-is_none.false in
+    let named = named_is (function_of c.in-Some.function) (shipped_named word) c.in-Some.ensures in
+    let f = named.0 in
+    let n = least_count (shipped_arity f) in
+    let count : c.least_count-count.result ≡ n =
+    c.least_count-count.ensures
+    ∙ ap least_count (c.signature.ensures.arity ∙ ap (function_arity m) named.2) in
+    let all : c.len.result ≡ length items = search rules in
+    let few : taken n s.stack ≡ None =
+    ap (taken n) (sym (stack_of c.self.view_is))
+    ∙ too_few n items (omega (arith, all, count, c.if-len-count.true)) in
+    (no_arguments m word s known f named.1 few, refl)
 
 pub returns-in_err-tree : goal.returns-in_err-tree
 returns-in_err-tree g c =
     let m = g.C.ScalarFnVTable.meaning in
-    let word = c.args.word.now in
+    let word = c.args.name.now in
     let s = c.args.self.now in
     let items = c.self.inside.stack.items in
     let ts = c.in_ok-children.children.items in
@@ -54,7 +77,7 @@ returns-in_err-tree g c =
 pub returns : goal.returns
 returns g c =
     let m = g.C.ScalarFnVTable.meaning in
-    let word = c.args.word.now in
+    let word = c.args.name.now in
     let s = c.args.self.now in
     let items = c.self.inside.stack.items in
     let ts = c.in_ok-children.children.items in
