@@ -284,6 +284,28 @@ fn a_leaf_without_its_column_is_refused(rt: HostRuntime) {
     );
 }
 
+/// Not of And of Not of Not of `a`, and of `b`.
+fn deep<C: ScalarFnVTable>(alloc: Global) -> Tree<C> {
+    let below = not_of(alloc, not_of(alloc, leaf(alloc, "a")));
+    not_of(alloc, between(alloc, below, Operator::And, leaf(alloc, "b")))
+}
+
+#[test]
+fn the_deepest_leaf_is_refused_without_its_column(rt: HostRuntime) {
+    let alloc = rt.alloc();
+    assert!(rt;
+        is_refused(
+            executed::<NoCustom>(
+                alloc,
+                deep(alloc),
+                one(alloc, nullable_bools(alloc, &[None])),
+                1,
+            ),
+            "ScopeMismatch",
+        )
+    );
+}
+
 #[test]
 fn a_leaf_over_a_column_of_another_type_is_refused_before_lengths(rt: HostRuntime) {
     let alloc = rt.alloc();

@@ -88,3 +88,11 @@ fn trees_are_shown(rt: HostRuntime) {
         "rows 1\ncol a bool true\ncol b bool? null\nget a\nget b\ncall and\ncall not\nshow\n";
     assert!(rt; prints(alloc, script, "vortex.not(($.a and $.b))\n"));
 }
+
+#[test]
+fn the_deepest_fault_is_told(rt: HostRuntime) {
+    let alloc = rt.alloc();
+    let script =
+        "rows 1\ncol a u8 255\nget a\nlit u8 1\ncall +\nlit u8 9\ncall <\ncall not\ncall not\nrun\n";
+    assert!(rt; is_refused(alloc, script, "", "error: Arithmetic.Add\n"));
+}
