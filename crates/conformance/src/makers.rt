@@ -13,7 +13,10 @@ pub const NO: Nullability = Nullability::NonNullable;
 pub type Tree<C> = VortexResult<Box<BoundExpression<C>>>;
 
 /// A tree, put on the heap.
-fn planted<C: ScalarFnVTable>(alloc: Global, tree: VortexResult<BoundExpression<C>>) -> Tree<C> {
+pub fn planted<C: ScalarFnVTable>(
+    alloc: Global,
+    tree: VortexResult<BoundExpression<C>>,
+) -> Tree<C> {
     Ok(Box::new(alloc, tree?)?)
 }
 
@@ -33,6 +36,18 @@ pub fn two<T: Drop>(
     let mut items = Vec::new(alloc);
     items.push(Box::into_inner(first?))?;
     items.push(Box::into_inner(second?))?;
+    Ok(items)
+}
+
+/// A list of three.
+pub fn three<T: Drop>(
+    alloc: Global,
+    first: VortexResult<Box<T>>,
+    second: VortexResult<Box<T>>,
+    third: VortexResult<Box<T>>,
+) -> VortexResult<Vec<T>> {
+    let mut items = two(alloc, first, second)?;
+    items.push(Box::into_inner(third?))?;
     Ok(items)
 }
 

@@ -4,6 +4,8 @@
 #[cfg(test)]
 mod arithmetic;
 #[cfg(test)]
+mod between;
+#[cfg(test)]
 mod cells;
 #[cfg(test)]
 mod endings;

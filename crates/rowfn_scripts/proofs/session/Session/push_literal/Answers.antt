@@ -1,19 +1,14 @@
-use Rattle.std.proofs.Common.{◌≡◌, ◌∙◌, ℕ, Option, Some, None, ap, sym, not, true, refl}
+use Rattle.std.proofs.Common.{◌≡◌, ◌∙◌, ap, sym, not, true, refl}
 use Rattle.std.specs.Option.{is_none}
-use Rattle.rowfn_scripts.specs.Sessions.{Step, is_malformed, after_rows, with_literal}
-use Rattle.rowfn_scripts.proofs.SessionSteps.{row_count_of}
+use Rattle.rowfn_scripts.specs.Sessions.{with_literal}
+use Rattle.rowfn_scripts.proofs.SessionSteps.{row_count_of, before_rows}
 use Rattle.rowfn_scripts.proofs.session.Session.push_literal.Goals as goal
-
-before_rows : {V O : Type 0} (count : Option ℕ) (f : ℕ → Step V O)
-    → is_none count ≡ true → is_malformed ≡ after_rows count f
-before_rows None f h = refl
-before_rows (Some n) f h = cc
 
 pub returns-then-is_none : goal.returns-then-is_none
 returns-then-is_none g c =
     let s = c.args.self.now in
-    let unknown : is_none s.row_count ≡ true =
+    let none : is_none s.row_count ≡ true =
     ap is_none (sym (row_count_of c.self.view_is))
     ∙ ap not c.is_none.ensures
     ∙ ap (λ b. not (not b)) c.if-is_none.true in
-    (before_rows s.row_count (λ n. with_literal c.args.scalar s) unknown, refl)
+    (before_rows s.row_count (λ n. with_literal c.args.scalar s) none, refl)
