@@ -15,6 +15,7 @@ pub mod Rules
 pub mod ValidityRules
 pub mod ReduceRules
 pub mod SimplifyRules
+pub mod Rewrites
 pub mod ComparisonTrees
 pub mod ArithmeticFaults
 pub mod Printing
