@@ -1,0 +1,3 @@
+pub mod TypedCalls
+pub mod TypedValues
+pub mod Rewriting
