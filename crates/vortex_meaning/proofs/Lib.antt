@@ -1,3 +1,5 @@
 pub mod TypedCalls
 pub mod TypedValues
 pub mod Rewriting
+pub mod KleeneConstants
+pub mod BooleanCalls

@@ -71,6 +71,17 @@ module _ {V O : Type 0} (m : Meaning V O) where
       let b = guarded (fits (function_arity m f) (length a.0)) (function_type m f a.0) t a.2 in
       record { types = a.0; children = a.1; fitting = b.0; returns = b.1 }
 
+  -- the type of a call, by those of one child and of two
+  pub type_of_one : (f : Function V O) (x : Tree V O) (t : LogicalType) → tree_type m x ≡ Some t
+      → tree_type m (call f (tree x no_trees)) ≡ call_type m f (t ∷ [])
+  type_of_one f x t h = ap (λ a. option_and_then (call_type m f) (with_type a (Some []))) h
+
+  pub type_of_two : (f : Function V O) (x y : Tree V O) (t u : LogicalType)
+      → tree_type m x ≡ Some t → tree_type m y ≡ Some u
+      → tree_type m (call f (tree x (tree y no_trees))) ≡ call_type m f (t ∷ u ∷ [])
+  type_of_two f x y t u h k =
+      λ j. option_and_then (call_type m f) (with_type (h j) (with_type (k j) (Some [])))
+
   module _ (cs : List ColumnView) (i : ℕ) where
     -- the children's values, of which the function gives the call's
     pub record IsCallValue (f : Function V O) (ts : Trees V O) (types : List LogicalType) (w : Value)
