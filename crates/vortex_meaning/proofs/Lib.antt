@@ -3,3 +3,4 @@ pub mod TypedValues
 pub mod Rewriting
 pub mod KleeneConstants
 pub mod BooleanCalls
+pub mod Simplifying
