@@ -4,3 +4,4 @@ pub mod Rewriting
 pub mod KleeneConstants
 pub mod BooleanCalls
 pub mod Simplifying
+pub mod JoinedByAnd
