@@ -5,3 +5,4 @@ pub mod KleeneConstants
 pub mod BooleanCalls
 pub mod Simplifying
 pub mod JoinedByAnd
+pub mod Validities

@@ -16,7 +16,8 @@ pub and_then_some : {A B : Type 0} (f : A → Option B) (o : Option A) (y : B)
 and_then_some f None y h = cc
 and_then_some f (Some x) y h = (x, refl, h)
 
-guarded : {A : Type 0} (b : Bool) (o : Option A) (y : A)
+-- what a rule answers where its test says yes
+pub guarded : {A : Type 0} (b : Bool) (o : Option A) (y : A)
     → (if b then o else None) ≡ Some y → (b ≡ true) × (o ≡ Some y)
 guarded true o y h = (refl, h)
 guarded false o y h = cc
