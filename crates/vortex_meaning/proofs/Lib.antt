@@ -6,3 +6,5 @@ pub mod BooleanCalls
 pub mod Simplifying
 pub mod JoinedByAnd
 pub mod Validities
+pub mod NullTestRules
+pub mod Reducing
