@@ -23,6 +23,7 @@ use Rattle.vortex_meaning.proofs.TypedCalls.{two_types, typed_call, type_of_one,
 use Rattle.vortex_meaning.proofs.TypedValues.{value_typed}
 use Rattle.vortex_meaning.proofs.Rewriting.{asks_nothing}
 use Rattle.vortex_meaning.proofs.KleeneConstants.{left_decides, right_decides, left_leaves, right_leaves, truth_back, truth_is}
+use Rattle.vortex_meaning.proofs.RuleAnswers.{gives_is}
 
 -- the operands' types, where And or Or accepts them
 bools_in : (t u r : LogicalType) → both_bool (t ∷ u ∷ []) ≡ Some r
@@ -44,6 +45,12 @@ boolean_type And ts h = refl
 boolean_type Or ts h = refl
 boolean_type op ts h = cc
 
+bools_of : (op : Operator) (t u r : LogicalType) (types : List LogicalType) → is_boolean op ≡ true
+    → t ∷ u ∷ [] ≡ types → operator_type op types ≡ Some r
+    → (n : Bool) × (p : Bool) × (t ≡ bool_type n) × (u ≡ bool_type p) × (bool_type (n || p) ≡ r)
+bools_of op t u r types b e h =
+    bools_in t u r (sym (boolean_type op (t ∷ u ∷ []) b) ∙ ap (operator_type op) e ∙ h)
+
 boolean_means : (op : Operator) (ts : List LogicalType) (v w : Value) → is_boolean op ≡ true
     → operator_means op ts (v ∷ w ∷ []) ≡ gives (boolean_value op v w)
 boolean_means And ts v w h = refl
@@ -60,24 +67,30 @@ module _ {V O : Type 0} (m : Meaning V O) where
     pub either : (left_null || right_null) ≡ n
     pub node : tree_type m (operated op x y) ≡ Some (bool_type n)
 
+  of_bools : (op : Operator) (x y : Tree V O) (k l t : LogicalType) (n p : Bool)
+      → tree_type m x ≡ Some k → tree_type m y ≡ Some l → k ≡ bool_type n → l ≡ bool_type p
+      → bool_type (n || p) ≡ t → tree_type m (operated op x y) ≡ Some t
+      → IsBoolCall op x y (is_nullable_tree m (operated op x y))
+  of_bools op x y k l t n p a b f g e h =
+      let is : tree_type m (operated op x y) ≡ Some (bool_type (n || p)) = h ∙ ap Some (sym e) in
+      let null : (n || p) ≡ is_nullable_tree m (operated op x y) = sym (ap may_be_null is) in
+      record {
+        left_null = n;
+        right_null = p;
+        left = a ∙ ap Some f;
+        right = b ∙ ap Some g;
+        either = null;
+        node = is ∙ ap (λ z. Some (bool_type z)) null;
+      }
+
   pub bool_call : (op : Operator) (x y : Tree V O) (t : LogicalType) → is_boolean op ≡ true
       → tree_type m (operated op x y) ≡ Some t
       → IsBoolCall op x y (is_nullable_tree m (operated op x y))
   bool_call op x y t b h =
       let c = typed_call m (ours (Binary op)) (tree x (tree y no_trees)) t h in
       let two = two_types (tree_type m x) (tree_type m y) c.types c.children in
-      let returns = ap (operator_type op) two.4 ∙ c.returns in
-      let bools = bools_in two.0 two.1 t (sym (boolean_type op (two.0 ∷ two.1 ∷ []) b) ∙ returns) in
-      let is = h ∙ ap Some (sym bools.4) in
-      let null = sym (ap may_be_null is) in
-      record {
-        left_null = bools.0;
-        right_null = bools.1;
-        left = two.2 ∙ ap Some bools.2;
-        right = two.3 ∙ ap Some bools.3;
-        either = null;
-        node = is ∙ ap (λ n. Some (bool_type n)) null;
-      }
+      let is = bools_of op two.0 two.1 t c.types b two.4 c.returns in
+      of_bools op x y two.0 two.1 t is.0 is.1 two.2 two.3 is.2 is.3 is.4 h
 
   -- the values of the operands, and back
   pub bool_values : (cs : List ColumnView) (i : ℕ) (op : Operator) (x y : Tree V O) (w : Value)
@@ -87,8 +100,9 @@ module _ {V O : Type 0} (m : Meaning V O) where
   bool_values cs i op x y w b e =
       let a = two_values m cs i (ours (Binary op)) x y w e in
       let ts = types_or_none (tree_types m (tree x (tree y no_trees))) in
-      let same : gives (boolean_value op a.0 a.1) ≡ gives w = sym (boolean_means op ts a.0 a.1 b) ∙ a.4 in
-      (a.0, a.1, a.2, a.3, cc)
+      let is = sym (boolean_means op ts a.0 a.1 b) ∙ a.4 in
+      let same = gives_is (boolean_value op a.0 a.1) w is in
+      (a.0, a.1, a.2, a.3, same)
 
   pub eval_bool : (cs : List ColumnView) (i : ℕ) (op : Operator) (x y : Tree V O) (v w : Value)
       → is_boolean op ≡ true → eval m cs x i ≡ gives v → eval m cs y i ≡ gives w
@@ -140,9 +154,6 @@ module _ {V O : Type 0} (m : Meaning V O) where
   pub asks_right : (op : Operator) (x y : Tree V O) → AsksNoMore (operated op x y) y
   asks_right op x y = record { leaves = λ cs h. h.1.0; rows = λ cs i h. h.1.0 }
 
-  value_is : (v w : Value) → gives v ≡ gives w → v ≡ w
-  value_is v w h = cc
-
   module _ (op : Operator) (b : is_boolean op ≡ true) (x y : Tree V O) (n a : Bool)
       (c : IsBoolCall op x y n) where
     -- a constant that decides, on either side
@@ -153,7 +164,7 @@ module _ {V O : Type 0} (m : Meaning V O) where
       asks = asks_nothing (operated op x y) n a;
       value = λ cs i w p e.
           let q = bool_values cs i op x y w b e in
-          let is = value_is q.0 (truth a) (sym q.2 ∙ constant_given cs i x a h) in
+          let is = gives_is q.0 (truth a) (sym q.2 ∙ constant_given cs i x a h) in
           let value = ap (λ v. boolean_value op v q.1) (sym is) ∙ q.4 in
           ap gives (ap truth_or_null (sym (left_decides op a (truth_of q.1) d)) ∙ value);
     }
@@ -165,23 +176,24 @@ module _ {V O : Type 0} (m : Meaning V O) where
       asks = asks_nothing (operated op x y) n a;
       value = λ cs i w p e.
           let q = bool_values cs i op x y w b e in
-          let is = value_is q.1 (truth a) (sym q.3 ∙ constant_given cs i y a h) in
+          let is = gives_is q.1 (truth a) (sym q.3 ∙ constant_given cs i y a h) in
           let value = ap (boolean_value op q.0) (sym is) ∙ q.4 in
           ap gives (ap truth_or_null (sym (right_decides op a (truth_of q.0) d)) ∙ value);
     }
 
     module _ (lawful : Lawful m) where
       -- a constant that does not, beside the other operand
-      pub left_left_out : constant_truth x ≡ Some a → decides op a ≡ false
+      pub left_undecided : constant_truth x ≡ Some a → decides op a ≡ false
           → Rewrites m (operated op x y) (widened m n y)
-      left_left_out h d = record {
+      left_undecided h d = record {
         dtype = widened_type n c.right_null y c.right wide ∙ sym c.node;
         asks = widened_asks (operated op x y) y n (asks_right op x y);
         value = λ cs i w p e.
             let q = bool_values cs i op x y w b e in
-            let is = value_is q.0 (truth a) (sym q.2 ∙ constant_given cs i x a h) in
+            let is = gives_is q.0 (truth a) (sym q.2 ∙ constant_given cs i x a h) in
             let value = ap (λ v. boolean_value op v q.1) (sym is) ∙ q.4 in
-            let typed = value_typed m lawful cs i y (bool_type c.right_null) q.1 c.right p.1.0 q.3 in
+            let t = bool_type c.right_null in
+            let typed = value_typed m lawful cs i y t q.1 c.right p.1.0 q.3 in
             let back = sym (truth_back c.right_null q.1 typed) in
             let kleene = ap truth_or_null (sym (left_leaves op a (truth_of q.1) b d)) in
             widened_value cs i n y q.1 q.3 ∙ ap gives (back ∙ kleene ∙ value);
@@ -190,16 +202,17 @@ module _ {V O : Type 0} (m : Meaning V O) where
           wide : c.right_null ≡ true → n ≡ true
           wide e = sym c.either ∙ or_either c.left_null c.right_null (inr e)
 
-      pub right_left_out : constant_truth y ≡ Some a → decides op a ≡ false
+      pub right_undecided : constant_truth y ≡ Some a → decides op a ≡ false
           → Rewrites m (operated op x y) (widened m n x)
-      right_left_out h d = record {
+      right_undecided h d = record {
         dtype = widened_type n c.left_null x c.left wide ∙ sym c.node;
         asks = widened_asks (operated op x y) x n (asks_left op x y);
         value = λ cs i w p e.
             let q = bool_values cs i op x y w b e in
-            let is = value_is q.1 (truth a) (sym q.3 ∙ constant_given cs i y a h) in
+            let is = gives_is q.1 (truth a) (sym q.3 ∙ constant_given cs i y a h) in
             let value = ap (boolean_value op q.0) (sym is) ∙ q.4 in
-            let typed = value_typed m lawful cs i x (bool_type c.left_null) q.0 c.left p.0 q.2 in
+            let t = bool_type c.left_null in
+            let typed = value_typed m lawful cs i x t q.0 c.left p.0 q.2 in
             let back = sym (truth_back c.left_null q.0 typed) in
             let kleene = ap truth_or_null (sym (right_leaves op a (truth_of q.0) b d)) in
             widened_value cs i n x q.0 q.2 ∙ ap gives (back ∙ kleene ∙ value);

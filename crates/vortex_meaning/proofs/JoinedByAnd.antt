@@ -1,4 +1,5 @@
--- Trees joined by And in rounds: what goes over from two trees to their And goes over from all of them to the one that is left.
+-- Trees joined by And in rounds: what goes over from two trees to their And goes over from all of
+-- them to the one that is left.
 use Rattle.std.proofs.Common.{◌≡◌, ℕ, zero, suc, ◌+◌, ◌≤◌, Bool, true, false, List, [], ◌∷◌, length, refl, sym, ap, ◌∙◌, subst, arith}
 use Rattle.std.specs.Prelude.{◌&&◌}
 use Rattle.vortex_operators.specs.declared.operators.Operator.TheVariants.{And}
@@ -83,13 +84,15 @@ module _ {V O : Type 0} where
         e,
         and_first p r s ∙ ap (λ z. p && z) f ∙ g,
       )
-      round_says (t ∷ u ∷ x ∷ []) b (p, q, a, (r, s, c, (y, z, d, e, f), g), k) = (
-        ((p && r) && y),
-        z,
-        goes_over (operated And t u) x (p && r) y (goes_over t u p r a c) d,
-        e,
-        and_first (p && r) y z ∙ ap (λ o. (p && r) && o) f ∙ and_first p r s ∙ ap (λ o. p && o) g ∙ k,
-      )
+      round_says (t ∷ u ∷ x ∷ []) b (p, q, a, (r, s, c, (y, z, d, e, f), g), k) =
+          let both = goes_over t u p r a c in
+          let three = and_first (p && r) y z ∙ ap (λ o. (p && r) && o) f ∙ and_first p r s in (
+            ((p && r) && y),
+            z,
+            goes_over (operated And t u) x (p && r) y both d,
+            e,
+            three ∙ ap (λ o. p && o) g ∙ k,
+          )
       round_says (t ∷ u ∷ x ∷ y ∷ ts) b (p, q, a, (r, s, c, e, f), g) = (
         p && r,
         s,

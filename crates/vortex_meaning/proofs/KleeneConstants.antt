@@ -69,3 +69,29 @@ truth_is (number z) b h = cc
 truth_is (text bs) b h = cc
 truth_is (bytes bs) b h = cc
 truth_is (list vs) b h = cc
+
+-- a value of Bool without null
+pub truth_in : (v : Value) → HasType (bool_type false) v → (c : Bool) × (v ≡ truth c)
+truth_in null h = cc
+truth_in (truth b) h = (b, refl)
+truth_in (number z) h = absurd h
+truth_in (text bs) h = absurd h
+truth_in (bytes bs) h = absurd h
+truth_in (list vs) h = absurd h
+
+-- the order of the operands is free
+pub kleene_turned : (op : Operator) (c : Bool) (a : Option Bool) → is_boolean op ≡ true
+    → kleene op a (Some c) ≡ kleene op (Some c) a
+kleene_turned And true None h = refl
+kleene_turned And true (Some true) h = refl
+kleene_turned And true (Some false) h = refl
+kleene_turned And false None h = refl
+kleene_turned And false (Some true) h = refl
+kleene_turned And false (Some false) h = refl
+kleene_turned Or true None h = refl
+kleene_turned Or true (Some true) h = refl
+kleene_turned Or true (Some false) h = refl
+kleene_turned Or false None h = refl
+kleene_turned Or false (Some true) h = refl
+kleene_turned Or false (Some false) h = refl
+kleene_turned op c a h = cc

@@ -1,3 +1,4 @@
+pub mod RuleAnswers
 pub mod TypedCalls
 pub mod TypedValues
 pub mod Rewriting

@@ -1,10 +1,8 @@
--- Null tests that need not compute their child: of a child that is never null, one whose validity is a tree, and And or Or with
--- one nullable operand.
+-- Null tests that need not compute their child: of a child that is never null, one whose validity
+-- is a tree, and And or Or with one nullable operand.
 use Rattle.std.proofs.Common.{◌≡◌, ℕ, Bool, true, false, not, List, [], ◌∷◌, Option, Some, None, refl, sym, ap, ◌∙◌, subst}
-use Rattle.std.specs.Option.{option_map}
 use Rattle.vortex_types.specs.LogicalTypes.{LogicalType, bool_type, is_nullable}
-use Rattle.vortex_types.specs.Values.{Value, null, truth, number, text, bytes, list, is_null, truth_of, truth_or_null}
-use Rattle.vortex_types.specs.Typing.{HasType}
+use Rattle.vortex_types.specs.Values.{Value, truth, is_null, truth_of, truth_or_null}
 use Rattle.vortex_columns.specs.ColumnView.{ColumnView}
 use Rattle.vortex_operators.specs.declared.operators.Operator.{Operator}
 use Rattle.vortex_operators.specs.declared.operators.Operator.TheVariants.{And, Or}
@@ -24,57 +22,21 @@ use Rattle.vortex_meaning.specs.Rewrites.{HasRow, AsksNoMore, Rewrites, IsValidi
 use Rattle.vortex_meaning.proofs.TypedCalls.{type_of_one, type_of_two, one_value, eval_one}
 use Rattle.vortex_meaning.proofs.TypedValues.{value_typed, never_null}
 use Rattle.vortex_meaning.proofs.Rewriting.{asks_same, asks_nothing}
-use Rattle.vortex_meaning.proofs.KleeneConstants.{truth_back}
+use Rattle.vortex_meaning.proofs.KleeneConstants.{truth_back, truth_in, kleene_turned}
 use Rattle.vortex_meaning.proofs.BooleanCalls.{bool_call, bool_values, eval_bool}
-
-gives_truth : (b : Bool) (w : Value) → gives (truth b) ≡ gives w → truth b ≡ w
-gives_truth b w h = cc
-
-not_not : (b : Bool) → not (not b) ≡ b
-not_not true = refl
-not_not false = refl
-
--- a value of Bool without null
-truth_in : (v : Value) → HasType (bool_type false) v → (c : Bool) × (v ≡ truth c)
-truth_in null h = cc
-truth_in (truth b) h = (b, refl)
-truth_in (number z) h = absurd h
-truth_in (text bs) h = absurd h
-truth_in (bytes bs) h = absurd h
-truth_in (list vs) h = absurd h
-
--- a rule made from what may be there
-pub mapped : {A B : Type 0} (f : A → B) (o : Option A) (u : B) → option_map f o ≡ Some u
-    → (x : A) × (o ≡ Some x) × (f x ≡ u)
-mapped f None u h = cc
-mapped f (Some x) u h = (x, refl, cc)
-
--- the order of the operands is free
-kleene_turned : (op : Operator) (c : Bool) (a : Option Bool) → is_boolean op ≡ true
-    → kleene op a (Some c) ≡ kleene op (Some c) a
-kleene_turned And true None h = refl
-kleene_turned And true (Some true) h = refl
-kleene_turned And true (Some false) h = refl
-kleene_turned And false None h = refl
-kleene_turned And false (Some true) h = refl
-kleene_turned And false (Some false) h = refl
-kleene_turned Or true None h = refl
-kleene_turned Or true (Some true) h = refl
-kleene_turned Or true (Some false) h = refl
-kleene_turned Or false None h = refl
-kleene_turned Or false (Some true) h = refl
-kleene_turned Or false (Some false) h = refl
-kleene_turned op c a h = cc
+use Rattle.vortex_meaning.proofs.RuleAnswers.{mapped, not_not}
 
 -- a null test by what it says of a value
 abbrev pub Tests : Shipped → (Value → Bool) → Type 0
 Tests test says = (ts : List LogicalType) (v : Value)
     → shipped_means test ts (v ∷ []) ≡ gives (truth (says v))
 
--- what the test says of And or Or is said by `join` of the test of the nullable operand and of the other, turned
+-- what a test says of And or Or is what `join` says of the test of the nullable operand and of the
+-- other one, turned
 abbrev SaidBy : Operator → (Value → Bool) → Operator → (Bool → Bool) → Type 0
 SaidBy op says join turn =
-    (a : Option Bool) (c : Bool) → boolean_value join (truth (says (truth_or_null a))) (truth (turn c))
+    (a : Option Bool) (c : Bool)
+    → boolean_value join (truth (says (truth_or_null a))) (truth (turn c))
     ≡ truth (says (truth_or_null (kleene op a (Some c))))
 
 abbrev is_not_null : Value → Bool
@@ -124,9 +86,12 @@ module _ {V O : Type 0} (m : Meaning V O) where
         → (a : Option Bool) × (c : Bool) × (eval m cs x i ≡ gives (truth_or_null a))
         × (eval m cs y i ≡ gives (truth c)) × (truth_or_null (kleene op a (Some c)) ≡ w)
 
-  -- the type of a null test, and its value in a row
+  -- the type of a null test, which accepts every type, and its value in a row
+  abbrev AcceptsAll : Shipped → Type 0
+  AcceptsAll test = (t : LogicalType) → call_type m (ours test) (t ∷ []) ≡ Some (bool_type false)
+
   module _ (test : Shipped) (says : Value → Bool) (tests : Tests test says)
-      (accepts : (t : LogicalType) → call_type m (ours test) (t ∷ []) ≡ Some (bool_type false)) where
+      (accepts : AcceptsAll test) where
     abbrev tested : Tree V O → Tree V O
     tested x = call (ours test) (tree x no_trees)
 
@@ -176,9 +141,11 @@ module _ {V O : Type 0} (m : Meaning V O) where
           ∙ joined_type join b ∙ sym (test_type node t h);
       asks = record {
         leaves = λ cs k.
-            ((s.asks_nullable.leaves cs k.0, tt), (asks.leaves cs (s.asks_other.leaves cs k.0), tt));
+            let right = asks.leaves cs (s.asks_other.leaves cs k.0) in
+            ((s.asks_nullable.leaves cs k.0, tt), (right, tt));
         rows = λ cs i k.
-            ((s.asks_nullable.rows cs i k.0, tt), (asks.rows cs i (s.asks_other.rows cs i k.0), tt));
+            let right = asks.rows cs i (s.asks_other.rows cs i k.0) in
+            ((s.asks_nullable.rows cs i k.0, tt), (right, tt));
       };
       value = λ cs i w p e.
           let a = test_value cs i node w e in
@@ -224,7 +191,8 @@ module _ {V O : Type 0} (m : Meaning V O) where
       asks_other = record { leaves = λ cs p. p.1.0; rows = λ cs i p. p.1.0 };
       values = λ cs i w p e.
           let q = bool_values m cs i op x y w b e in
-          let back = truth_back true q.0 (value_typed m lawful cs i x (bool_type true) q.0 h p.0 q.2) in
+          let typed = value_typed m lawful cs i x (bool_type true) q.0 h p.0 q.2 in
+          let back = truth_back true q.0 typed in
           let c = truth_in q.1 (value_typed m lawful cs i y (bool_type false) q.1 k p.1.0 q.3) in (
             truth_of q.0,
             c.0,
@@ -244,7 +212,8 @@ module _ {V O : Type 0} (m : Meaning V O) where
       asks_other = record { leaves = λ cs p. p.0; rows = λ cs i p. p.0 };
       values = λ cs i w p e.
           let q = bool_values m cs i op x y w b e in
-          let back = truth_back true q.1 (value_typed m lawful cs i y (bool_type true) q.1 k p.1.0 q.3) in
+          let typed = value_typed m lawful cs i y (bool_type true) q.1 k p.1.0 q.3 in
+          let back = truth_back true q.1 typed in
           let c = truth_in q.0 (value_typed m lawful cs i x (bool_type false) q.0 h p.0 q.2) in (
             truth_of q.1,
             c.0,
@@ -261,8 +230,9 @@ module _ {V O : Type 0} (m : Meaning V O) where
         → by_nullability m x y ≡ Some p → IsSplit op (operated op x y) p.0 p.1
     split_of op x y t p b h e =
         let c = bool_call m op x y t b h in
-        let left = ap (λ z. nullable_first (may_be_null z) (is_nullable_tree m y) x y) (sym c.left) in
         let right = ap (λ z. nullable_first c.left_null (may_be_null z) x y) (sym c.right) in
+        let left = ap (λ z. nullable_first (may_be_null z) (is_nullable_tree m y) x y) (sym c.left)
+        in
         by c.left_null c.right_null c.left c.right (right ∙ left ∙ e)
       where
         by : (n k : Bool) → tree_type m x ≡ Some (bool_type n) → tree_type m y ≡ Some (bool_type k)
@@ -278,40 +248,66 @@ module _ {V O : Type 0} (m : Meaning V O) where
         by true true f g q = cc
         by false false f g q = cc
 
-    abbrev Halves : Type 0
-    Halves = Tree V O × Tree V O
-
     -- null tests of And and Or with one nullable operand
+    null_within : (op : Operator) (x y : Tree V O) (t : LogicalType) (p : Tree V O × Tree V O)
+        → is_boolean op ≡ true → tree_type m (operated op x y) ≡ Some t
+        → by_nullability m x y ≡ Some p → SaidBy op is_null And (λ c. c)
+        → Rewrites m (is_null_of (operated op x y)) (operated And (is_null_of p.0) p.1)
+    null_within op x y t p b h e said =
+        let split = split_of op x y t p b h e in
+        split_as_is IsNull is_null (λ ts v. refl) (λ k. refl) op And (operated op x y)
+        p.0 p.1 t refl h split said
+
+    null_within_negated : (op : Operator) (x y : Tree V O) (t : LogicalType)
+        (p : Tree V O × Tree V O) → is_boolean op ≡ true → tree_type m (operated op x y) ≡ Some t
+        → by_nullability m x y ≡ Some p → SaidBy op is_null And not
+        → Rewrites m (is_null_of (operated op x y)) (operated And (is_null_of p.0) (negated p.1))
+    null_within_negated op x y t p b h e said =
+        let split = split_of op x y t p b h e in
+        split_negated IsNull is_null (λ ts v. refl) (λ k. refl) op And (operated op x y)
+        p.0 p.1 t refl h split said
+
+    not_null_within : (op : Operator) (x y : Tree V O) (t : LogicalType) (p : Tree V O × Tree V O)
+        → is_boolean op ≡ true → tree_type m (operated op x y) ≡ Some t
+        → by_nullability m x y ≡ Some p → SaidBy op is_not_null Or (λ c. c)
+        → Rewrites m (is_not_null_of (operated op x y)) (operated Or (is_not_null_of p.0) p.1)
+    not_null_within op x y t p b h e said =
+        let split = split_of op x y t p b h e in
+        split_as_is IsNotNull is_not_null (λ ts v. refl) (λ k. refl) op Or (operated op x y)
+        p.0 p.1 t refl h split said
+
+    not_null_within_negated : (op : Operator) (x y : Tree V O) (t : LogicalType)
+        (p : Tree V O × Tree V O) → is_boolean op ≡ true → tree_type m (operated op x y) ≡ Some t
+        → by_nullability m x y ≡ Some p → SaidBy op is_not_null Or not
+        → Rewrites m (is_not_null_of (operated op x y))
+        (operated Or (is_not_null_of p.0) (negated p.1))
+    not_null_within_negated op x y t p b h e said =
+        let split = split_of op x y t p b h e in
+        split_negated IsNotNull is_not_null (λ ts v. refl) (λ k. refl) op Or (operated op x y)
+        p.0 p.1 t refl h split said
+
     pub is_null_within_sound : (x u : Tree V O) (t : LogicalType) → tree_type m x ≡ Some t
         → is_null_within m x ≡ Some u → Rewrites m (is_null_of x) u
     is_null_within_sound (call (ours (Binary And)) (tree x (tree y no_trees))) u t h e =
-        let a = mapped (λ (p : Halves). operated And (is_null_of p.0) p.1) (by_nullability m x y) u e in
-        let s = split_of And x y t a.0 refl h a.1 in
+        let a = mapped _ (by_nullability m x y) u e in
         subst (Rewrites m (is_null_of (operated And x y))) a.2
-        (split_as_is IsNull is_null (λ ts v. refl) (λ k. refl) And And (operated And x y) a.0.0 a.0.1 t
-        refl h s and_is_null)
+        (null_within And x y t a.0 refl h a.1 and_is_null)
     is_null_within_sound (call (ours (Binary Or)) (tree x (tree y no_trees))) u t h e =
-        let a = mapped (λ (p : Halves). operated And (is_null_of p.0) (negated p.1)) (by_nullability m x y) u e in
-        let s = split_of Or x y t a.0 refl h a.1 in
+        let a = mapped _ (by_nullability m x y) u e in
         subst (Rewrites m (is_null_of (operated Or x y))) a.2
-        (split_negated IsNull is_null (λ ts v. refl) (λ k. refl) Or And (operated Or x y) a.0.0 a.0.1 t
-        refl h s or_is_null)
+        (null_within_negated Or x y t a.0 refl h a.1 or_is_null)
     is_null_within_sound x u t h e = cc
 
     pub is_not_null_within_sound : (x u : Tree V O) (t : LogicalType) → tree_type m x ≡ Some t
         → is_not_null_within m x ≡ Some u → Rewrites m (is_not_null_of x) u
     is_not_null_within_sound (call (ours (Binary And)) (tree x (tree y no_trees))) u t h e =
-        let a = mapped (λ (p : Halves). operated Or (is_not_null_of p.0) (negated p.1)) (by_nullability m x y) u e in
-        let s = split_of And x y t a.0 refl h a.1 in
+        let a = mapped _ (by_nullability m x y) u e in
         subst (Rewrites m (is_not_null_of (operated And x y))) a.2
-        (split_negated IsNotNull is_not_null (λ ts v. refl) (λ k. refl) And Or (operated And x y) a.0.0 a.0.1 t
-        refl h s and_is_not_null)
+        (not_null_within_negated And x y t a.0 refl h a.1 and_is_not_null)
     is_not_null_within_sound (call (ours (Binary Or)) (tree x (tree y no_trees))) u t h e =
-        let a = mapped (λ (p : Halves). operated Or (is_not_null_of p.0) p.1) (by_nullability m x y) u e in
-        let s = split_of Or x y t a.0 refl h a.1 in
+        let a = mapped _ (by_nullability m x y) u e in
         subst (Rewrites m (is_not_null_of (operated Or x y))) a.2
-        (split_as_is IsNotNull is_not_null (λ ts v. refl) (λ k. refl) Or Or (operated Or x y) a.0.0 a.0.1 t
-        refl h s or_is_not_null)
+        (not_null_within Or x y t a.0 refl h a.1 or_is_not_null)
     is_not_null_within_sound x u t h e = cc
 
     -- of a child that is never null

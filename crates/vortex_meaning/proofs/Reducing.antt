@@ -3,7 +3,7 @@ use Rattle.std.proofs.Common.{◌≡◌, Bool, true, false, Option, Some, None, 
 use Rattle.std.specs.Prelude.{if◌then◌else◌}
 use Rattle.std.specs.Option.{option_map, option_or}
 use Rattle.vortex_types.specs.LogicalTypes.{LogicalType, bool_type}
-use Rattle.vortex_types.specs.Values.{Value, truth, truth_or_null}
+use Rattle.vortex_types.specs.Values.{truth, truth_or_null}
 use Rattle.vortex_types.specs.Typing.{HasType}
 use Rattle.vortex_operators.specs.declared.operators.Operator.{Operator}
 use Rattle.vortex_operators.specs.declared.operators.Operator.TheVariants.{And, Or}
@@ -22,10 +22,10 @@ use Rattle.vortex_meaning.specs.ValidityRules.{validity}
 use Rattle.vortex_meaning.specs.ReduceRules.{table_constant, is_null_within, is_not_null_within, reduce_is_null, reduce_is_not_null, of_constants, reduce_boolean, reduce_operator, reduce_shipped, reduce}
 use Rattle.vortex_meaning.specs.Rewrites.{Rewrites, LawfulRules}
 use Rattle.vortex_meaning.proofs.TypedCalls.{one_type, typed_call}
-use Rattle.vortex_meaning.proofs.BooleanCalls.{IsBoolCall, bool_call, bool_values, constant_given, left_decided, right_decided, left_left_out, right_left_out}
-use Rattle.vortex_meaning.proofs.Simplifying.{first_there}
+use Rattle.vortex_meaning.proofs.BooleanCalls.{IsBoolCall, bool_call, bool_values, constant_given, left_decided, right_decided, left_undecided, right_undecided}
 use Rattle.vortex_meaning.proofs.Validities.{validity_sound}
-use Rattle.vortex_meaning.proofs.NullTestRules.{mapped, is_null_within_sound, is_not_null_within_sound, never_null_is_null, never_null_is_not_null, is_null_by_validity, is_not_null_by_validity}
+use Rattle.vortex_meaning.proofs.NullTestRules.{is_null_within_sound, is_not_null_within_sound, never_null_is_null, never_null_is_not_null, is_null_by_validity, is_not_null_by_validity}
+use Rattle.vortex_meaning.proofs.RuleAnswers.{some_is, gives_is, first_there, mapped}
 
 table_typed : (op : Operator) (n a b : Bool) → is_boolean op ≡ true
     → HasType (bool_type n) (truth_or_null (kleene op (Some a) (Some b)))
@@ -36,12 +36,6 @@ table_typed Or n true b h = tt
 table_typed Or n false true h = tt
 table_typed Or n false false h = tt
 table_typed op n a b h = cc
-
-some_is : {A : Type 0} (x u : A) → Some x ≡ Some u → x ≡ u
-some_is x u h = cc
-
-gives_is : (v w : Value) → gives v ≡ gives w → v ≡ w
-gives_is v w h = cc
 
 module _ {V O : Type 0} (m : Meaning V O) where
   -- two constants
@@ -67,12 +61,12 @@ module _ {V O : Type 0} (m : Meaning V O) where
       constant_left : (a d : Bool) → decides op a ≡ d → constant_truth x ≡ Some a
           → Sound (if d then truth_constant n a else widened m n y)
       constant_left a true e h = left_decided m op b x y n a c h e
-      constant_left a false e h = left_left_out m op b x y n a c lawful h e
+      constant_left a false e h = left_undecided m op b x y n a c lawful h e
 
       constant_right : (a d : Bool) → decides op a ≡ d → constant_truth y ≡ Some a
           → Sound (if d then truth_constant n a else widened m n x)
       constant_right a true e h = right_decided m op b x y n a c h e
-      constant_right a false e h = right_left_out m op b x y n a c lawful h e
+      constant_right a false e h = right_undecided m op b x y n a c lawful h e
 
       constants_sound : (l r : Option Bool) (u : Tree V O) → constant_truth x ≡ l
           → constant_truth y ≡ r → of_constants m op n x y l r ≡ Some u → Sound u
@@ -124,7 +118,8 @@ module _ {V O : Type 0} (m : Meaning V O) where
               → Rewrites m (is_null_of x) u
           by false p q =
               let k = child_type IsNull x t h in
-              let never = never_null_is_null m lawful x k.0 k.1 (sym (ap may_be_null k.1) ∙ p) in
+              let solid = sym (ap may_be_null k.1) ∙ p in
+              let never = never_null_is_null m lawful x k.0 k.1 solid in
               subst (Rewrites m (is_null_of x)) (some_is _ u q) never
           by true p q =
               let k = child_type IsNull x t h in
@@ -149,7 +144,8 @@ module _ {V O : Type 0} (m : Meaning V O) where
               → Rewrites m (is_not_null_of x) u
           by false p q =
               let k = child_type IsNotNull x t h in
-              let never = never_null_is_not_null m lawful x k.0 k.1 (sym (ap may_be_null k.1) ∙ p) in
+              let solid = sym (ap may_be_null k.1) ∙ p in
+              let never = never_null_is_not_null m lawful x k.0 k.1 solid in
               subst (Rewrites m (is_not_null_of x)) (some_is _ u q) never
           by true p q =
               let k = child_type IsNotNull x t h in

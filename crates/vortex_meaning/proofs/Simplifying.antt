@@ -1,7 +1,6 @@
 -- What Simplify answers is a rewrite.
-use Rattle.std.proofs.Common.{◌≡◌, ℕ, Bool, true, false, List, [], ◌∷◌, Option, Some, None, refl, sym, ap, ◌∙◌, subst, inl, inr, cond}
-use Rattle.std.specs.Prelude.{◌||◌, ◌&&◌, ◌⊎◌, if◌then◌else◌}
-use Rattle.std.specs.Option.{option_or}
+use Rattle.std.proofs.Common.{◌≡◌, ℕ, Bool, true, List, [], ◌∷◌, Option, Some, None, refl, sym, ap, ◌∙◌, subst, inl, inr, cond}
+use Rattle.std.specs.Prelude.{◌||◌, ◌&&◌, ◌⊎◌}
 use Rattle.vortex_types.specs.LogicalTypes.{LogicalType, bool_type, is_nullable}
 use Rattle.vortex_types.specs.TypeEquality.{alike_types}
 use Rattle.vortex_types.specs.Values.{Value, null, truth, is_null}
@@ -27,32 +26,8 @@ use Rattle.vortex_meaning.specs.Rules.{Rules, constant_truth, decides, is_nullab
 use Rattle.vortex_meaning.specs.SimplifyRules.{is_null_literal, simplify_comparison, decided, left_of_nulls, undecided, simplify_operands, simplify_boolean, simplify_operator, simplify_shipped, simplify}
 use Rattle.vortex_meaning.specs.Rewrites.{Rewrites, LawfulRules}
 use Rattle.vortex_meaning.proofs.TypedCalls.{two_types, typed_call, two_values}
-use Rattle.vortex_meaning.proofs.BooleanCalls.{IsBoolCall, bool_call, bool_values, asks_left, left_decided, right_decided, left_left_out, right_left_out}
-
--- the first of two that is there
-pub first_there : {A : Type 0} (a b : Option A) (u : A) (P : Type 0) → option_or a b ≡ Some u
-    → (a ≡ Some u → P) → (b ≡ Some u → P) → P
-first_there (Some x) b u P h f g = f h
-first_there None b u P h f g = g h
-
-both_true : (a b : Bool) → (a && b) ≡ true → (a ≡ true) × (b ≡ true)
-both_true true b h = (refl, h)
-both_true false b h = cc
-
-either_true : (a b : Bool) → (a || b) ≡ true → (a ≡ true) ⊎ (b ≡ true)
-either_true true b h = inl refl
-either_true false b h = inr h
-
--- what a rule answers where its test says yes
-pub answer_if : {A : Type 0} (b : Bool) (x u : A) → (if b then Some x else None) ≡ Some u
-    → (b ≡ true) × (x ≡ u)
-answer_if true x u h = (refl, cc)
-answer_if false x u h = cc
-
-pub answer_unless : {A : Type 0} (b : Bool) (x u : A) → (if b then None else Some x) ≡ Some u
-    → (b ≡ false) × (x ≡ u)
-answer_unless false x u h = (refl, cc)
-answer_unless true x u h = cc
+use Rattle.vortex_meaning.proofs.BooleanCalls.{IsBoolCall, bool_call, bool_values, asks_left, left_decided, right_decided, left_undecided, right_undecided}
+use Rattle.vortex_meaning.proofs.RuleAnswers.{first_there, answer_if, answer_unless, both_true, either_true}
 
 -- the type of a comparison of accepted types
 compared_is : (t u r : LogicalType) → compared_type (t ∷ u ∷ []) ≡ Some r
@@ -118,7 +93,8 @@ module _ {V O : Type 0} (m : Meaning V O) where
         let returns = sym (comparison_accepts op (two.0 ∷ two.1 ∷ []))
         ∙ ap (operator_type (operator_of op)) two.4 ∙ c.returns in
         let is = compared_is two.0 two.1 t returns in
-        let nullable = or_either (is_nullable two.0) (is_nullable two.1) (types two.0 two.1 two.2 two.3 nulls) in
+        let null_here = types two.0 two.1 two.2 two.3 nulls in
+        let nullable = or_either (is_nullable two.0) (is_nullable two.1) null_here in
         sym (h ∙ ap Some (sym is) ∙ ap (λ n. Some (bool_type n)) nullable);
     asks = record { leaves = λ cs k. tt; rows = λ cs i k. refl };
     value = λ cs i w p e.
@@ -153,8 +129,8 @@ module _ {V O : Type 0} (m : Meaning V O) where
   null_kleene Or h = refl
   null_kleene op h = cc
 
-  module _ (lawful : Lawful m) (op : Operator) (b : is_boolean op ≡ true) (x y : Tree V O) (n : Bool)
-      (c : IsBoolCall m op x y n) where
+  module _ (lawful : Lawful m) (op : Operator) (b : is_boolean op ≡ true) (x y : Tree V O)
+      (n : Bool) (c : IsBoolCall m op x y n) where
     -- two null literals
     nulls_left : is_null_literal x ≡ true → is_null_literal y ≡ true
         → Rewrites m (operated op x y) x
@@ -168,7 +144,8 @@ module _ {V O : Type 0} (m : Meaning V O) where
           let q = bool_values m cs i op x y w b e in
           let left = null_value cs i x q.0 h q.2 in
           let right = null_value cs i y q.1 k q.3 in
-          q.2 ∙ ap gives (left ∙ sym (null_kleene op b) ∙ (λ j. boolean_value op (sym left j) (sym right j)) ∙ q.4);
+          let value = (λ j. boolean_value op (left j) (right j)) ∙ null_kleene op b in
+          q.2 ∙ ap gives (left ∙ sym value ∙ q.4);
     }
 
     abbrev Sound : Tree V O → Type 0
@@ -193,14 +170,14 @@ module _ {V O : Type 0} (m : Meaning V O) where
     left_out_by None u h e = cc
     left_out_by (Some a) u h e =
         let d = answer_unless (decides op a) _ u e in
-        subst Sound d.1 (left_left_out m op b x y n a c lawful h d.0)
+        subst Sound d.1 (left_undecided m op b x y n a c lawful h d.0)
 
     right_out_by : (o : Option Bool) (u : Tree V O) → constant_truth y ≡ o
         → undecided m op n o x ≡ Some u → Sound u
     right_out_by None u h e = cc
     right_out_by (Some a) u h e =
         let d = answer_unless (decides op a) _ u e in
-        subst Sound d.1 (right_left_out m op b x y n a c lawful h d.0)
+        subst Sound d.1 (right_undecided m op b x y n a c lawful h d.0)
 
     nulls_by : (u : Tree V O) → left_of_nulls x y ≡ Some u → Sound u
     nulls_by u e =

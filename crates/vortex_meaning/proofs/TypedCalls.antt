@@ -1,6 +1,5 @@
 -- The types and the outcomes of calls, taken apart and put together.
-use Rattle.std.proofs.Common.{◌≡◌, ℕ, Bool, true, false, List, [], ◌∷◌, length, Option, Some, None, refl, ap, subst}
-use Rattle.std.specs.Prelude.{if◌then◌else◌}
+use Rattle.std.proofs.Common.{◌≡◌, ℕ, true, List, [], ◌∷◌, length, Option, Some, None, refl, ap, subst}
 use Rattle.std.specs.Option.{option_and_then}
 use Rattle.vortex_types.specs.LogicalTypes.{LogicalType}
 use Rattle.vortex_types.specs.Values.{Value}
@@ -10,21 +9,16 @@ use Rattle.vortex_meaning.specs.Meaning.{Meaning, fits}
 use Rattle.vortex_meaning.specs.Functions.{Function, function_arity, function_type, function_means, call_type}
 use Rattle.vortex_meaning.specs.Trees.{Tree, call, Trees, no_trees, tree}
 use Rattle.vortex_meaning.specs.Eval.{Inputs, all_give, one_faults, with_first, then_means, types_or_none, with_type, tree_type, tree_types, eval, eval_all}
+use Rattle.vortex_meaning.proofs.RuleAnswers.{guarded}
 
 pub and_then_some : {A B : Type 0} (f : A → Option B) (o : Option A) (y : B)
     → option_and_then f o ≡ Some y → (x : A) × (o ≡ Some x) × (f x ≡ Some y)
 and_then_some f None y h = cc
 and_then_some f (Some x) y h = (x, refl, h)
 
--- what a rule answers where its test says yes
-pub guarded : {A : Type 0} (b : Bool) (o : Option A) (y : A)
-    → (if b then o else None) ≡ Some y → (b ≡ true) × (o ≡ Some y)
-guarded true o y h = (refl, h)
-guarded false o y h = cc
-
 -- the types of a first tree and of the others
-pub types_parts : (a : Option LogicalType) (o : Option (List LogicalType)) (types : List LogicalType)
-    → with_type a o ≡ Some types
+pub types_parts : (a : Option LogicalType) (o : Option (List LogicalType))
+    (types : List LogicalType) → with_type a o ≡ Some types
     → (t : LogicalType) × (rest : List LogicalType) × (a ≡ Some t) × (o ≡ Some rest)
     × (t ∷ rest ≡ types)
 types_parts None o types h = cc
@@ -32,7 +26,8 @@ types_parts (Some t) None types h = cc
 types_parts (Some t) (Some rest) types h = (t, rest, refl, refl, cc)
 
 -- the types of one tree, and of two
-pub one_type : (a : Option LogicalType) (types : List LogicalType) → with_type a (Some []) ≡ Some types
+pub one_type : (a : Option LogicalType) (types : List LogicalType)
+    → with_type a (Some []) ≡ Some types
     → (t : LogicalType) × (a ≡ Some t) × (t ∷ [] ≡ types)
 one_type None types h = cc
 one_type (Some t) types h = (t, refl, cc)
@@ -45,7 +40,8 @@ two_types (Some t) None types h = cc
 two_types (Some t) (Some u) types h = (t, u, refl, refl, cc)
 
 -- the values of the children where a call gives a value, and of a first child and the others
-pub means_parts : (means : List Value → Outcome) (x : Inputs) (w : Value) → then_means means x ≡ gives w
+pub means_parts : (means : List Value → Outcome) (x : Inputs) (w : Value)
+    → then_means means x ≡ gives w
     → (vs : List Value) × (x ≡ all_give vs) × (means vs ≡ gives w)
 means_parts means (one_faults f) w h = cc
 means_parts means (all_give vs) w h = (vs, refl, h)
@@ -85,8 +81,8 @@ module _ {V O : Type 0} (m : Meaning V O) where
 
   module _ (cs : List ColumnView) (i : ℕ) where
     -- the children's values, of which the function gives the call's
-    pub record IsCallValue (f : Function V O) (ts : Trees V O) (types : List LogicalType) (w : Value)
-        : Type 0 where
+    pub record IsCallValue (f : Function V O) (ts : Trees V O) (types : List LogicalType)
+        (w : Value) : Type 0 where
       pub values : List Value
       pub children : eval_all m cs ts i ≡ all_give values
       pub means : function_means m f types values ≡ gives w
@@ -148,5 +144,5 @@ module _ {V O : Type 0} (m : Meaning V O) where
         → eval m cs (call f (tree x (tree y no_trees))) i
         ≡ function_means m f (types_or_none (tree_types m (tree x (tree y no_trees)))) (v ∷ w ∷ [])
     eval_two f x y v w h k =
-        λ j. then_means (function_means m f (types_or_none (tree_types m (tree x (tree y no_trees)))))
-        (with_first (h j) (with_first (k j) (all_give [])))
+        ap (then_means (function_means m f (types_or_none (tree_types m (tree x (tree y no_trees))))))
+        (λ j. with_first (h j) (with_first (k j) (all_give [])))

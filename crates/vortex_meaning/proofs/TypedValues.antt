@@ -1,4 +1,5 @@
--- The value of a well-typed tree has the tree's type, in each row in which the leaves have values of theirs.
+-- The value of a well-typed tree has the tree's type, in each row in which the leaves have values
+-- of theirs.
 use Rattle.std.proofs.Common.{◌≡◌, ℕ, List, [], ◌∷◌, Some, subst, true, false}
 use Rattle.std.specs.Prelude.{Any}
 use Rattle.vortex_types.specs.LogicalTypes.{LogicalType, is_nullable}
@@ -17,8 +18,9 @@ use Rattle.vortex_meaning.proofs.TypedCalls.{types_parts, values_parts, typed_ca
 
 -- the laws of a caller's function are those of a shipped one
 module _ {V O : Type 0} (m : Meaning V O) (lawful : Lawful m) where
-  pub function_typed : (f : Function V O) (ts : List LogicalType) (t : LogicalType) (vs : List Value)
-      → function_type m f ts ≡ Some t → HaveTypes ts vs → GivesType t (function_means m f ts vs)
+  pub function_typed : (f : Function V O) (ts : List LogicalType) (t : LogicalType)
+      (vs : List Value) → function_type m f ts ≡ Some t → HaveTypes ts vs
+      → GivesType t (function_means m f ts vs)
   function_typed (ours s) ts t vs e h = (row_lawful s).typed ts t vs e h
   function_typed (custom f o) ts t vs e h = lawful.typed f o ts t vs e h
 

@@ -23,12 +23,12 @@ use Rattle.vortex_meaning.specs.ComparisonTrees.{operated}
 use Rattle.vortex_meaning.specs.Rules.{Rules, truth_constant, is_not_null_of, may_be_null, is_nullable_tree}
 use Rattle.vortex_meaning.specs.ValidityRules.{validity_column, column_validity, is_null_type, without_null, null_tests, union_child_validities, validity_over, validity_of_typed, default_validity, validity}
 use Rattle.vortex_meaning.specs.Rewrites.{FormTells, HasTypedRow, HasRow, AllHaveRow, AsksNoMore, IsValidityOf, LawfulRules}
-use Rattle.vortex_meaning.proofs.TypedCalls.{guarded, types_parts, values_parts, typed_call, type_of_one, type_of_two, call_value, eval_one}
+use Rattle.vortex_meaning.proofs.TypedCalls.{types_parts, values_parts, typed_call, type_of_one, type_of_two, call_value, eval_one}
 use Rattle.vortex_meaning.proofs.TypedValues.{function_typed, function_alike, function_null, values_typed}
 use Rattle.vortex_meaning.proofs.Rewriting.{asks_nothing}
 use Rattle.vortex_meaning.proofs.BooleanCalls.{eval_bool}
-use Rattle.vortex_meaning.proofs.Simplifying.{answer_unless}
 use Rattle.vortex_meaning.proofs.JoinedByAnd.{AllSay, all_of_says}
+use Rattle.vortex_meaning.proofs.RuleAnswers.{gives_is, guarded, guarded_unless, answer_unless, not_not}
 
 -- no value is null
 abbrev pub none_null : List Value → Bool
@@ -106,22 +106,10 @@ never_null_type : (o : Option LogicalType) → may_be_null o ≡ false
 never_null_type None h = cc
 never_null_type (Some t) h = (t, refl, h)
 
-gives_same : (v w : Value) → gives v ≡ gives w → v ≡ w
-gives_same v w h = cc
-
 and_truths : (p q : Bool) → boolean_value And (truth p) (truth q) ≡ truth (p && q)
 and_truths true true = refl
 and_truths true false = refl
 and_truths false q = refl
-
-not_not : (b : Bool) → not (not b) ≡ b
-not_not true = refl
-not_not false = refl
-
-answer_after : {A : Type 0} (b : Bool) (o : Option A) (u : A) → (if b then None else o) ≡ Some u
-    → o ≡ Some u
-answer_after false o u h = h
-answer_after true o u h = cc
 
 -- the column of validity bits, row by row
 validity_at : (c : ColumnView) (i : ℕ) → i < length c.rows
@@ -199,7 +187,8 @@ module _ {V O : Type 0} (m : Meaning V O) where
   and_type : (t u : Tree V O) (p q : Bool) → tree_type m t ≡ Some (bool_type false)
       → tree_type m u ≡ Some (bool_type false)
       → tree_type m (operated And t u) ≡ Some (bool_type false)
-  and_type t u p q h k = type_of_two m (ours (Binary And)) t u (bool_type false) (bool_type false) h k
+  and_type t u p q h k =
+      type_of_two m (ours (Binary And)) t u (bool_type false) (bool_type false) h k
 
   and_says : (cs : List ColumnView) (i : ℕ) (t u : Tree V O) (p q : Bool) → Says cs i t p
       → Says cs i u q → Says cs i (operated And t u) (p && q)
@@ -210,8 +199,8 @@ module _ {V O : Type 0} (m : Meaning V O) where
   union_type : (ts : Trees V O) (types : List LogicalType) → tree_types m ts ≡ Some types
       → tree_type m (union_child_validities m ts) ≡ Some (bool_type false)
   union_type ts types h =
-      all_of_says (λ u p. tree_type m u ≡ Some (bool_type false)) and_type refl (null_tests m ts) true
-      (tests_typed ts types h)
+      all_of_says (λ u p. tree_type m u ≡ Some (bool_type false)) and_type refl (null_tests m ts)
+      true (tests_typed ts types h)
 
   union_asks : (f : Function V O) (ts : Trees V O)
       → AsksNoMore (call f ts) (union_child_validities m ts)
@@ -275,14 +264,14 @@ module _ {V O : Type 0} (m : Meaning V O) where
         → function_strict m f ≡ true → validity_over m f ts types ≡ Some v
         → IsValidityOf m (call f ts) v
     over_sound f ts types t v h r s e =
-        let a = answer_after (list_any is_null_type types) _ v e in
-        let b = answer_unless (may_be_null (function_type m f (without_null types))) _ v a in
+        let a = guarded_unless (list_any is_null_type types) _ v e in
+        let b = answer_unless (may_be_null (function_type m f (without_null types))) _ v a.1 in
         let c = never_null_type (function_type m f (without_null types)) b.0 in
         subst (IsValidityOf m (call f ts)) b.1 (union_sound f ts types t c.0 h r s c.1 c.2)
 
     -- the default validity of a well-typed call, for a caller's function too
-    pub default_validity_sound : (f : Function V O) (ts : Trees V O) (t : LogicalType) (v : Tree V O)
-        → tree_type m (call f ts) ≡ Some t → default_validity m f ts ≡ Some v
+    pub default_validity_sound : (f : Function V O) (ts : Trees V O) (t : LogicalType)
+        (v : Tree V O) → tree_type m (call f ts) ≡ Some t → default_validity m f ts ≡ Some v
         → IsValidityOf m (call f ts) v
     default_validity_sound f ts t v h e =
         let a = guarded (function_strict m f) (validity_of_typed m f ts (tree_types m ts)) v e in
@@ -296,7 +285,7 @@ module _ {V O : Type 0} (m : Meaning V O) where
       dtype = refl;
       asks = asks_nothing (constant s) false (not (is_null s.value));
       value = λ cs i w p e.
-          ap (λ v. gives (truth (not (is_null v)))) (gives_same s.value w e);
+          ap (λ v. gives (truth (not (is_null v)))) (gives_is s.value w e);
     }
 
     -- a form that tells the same of all rows
@@ -308,18 +297,19 @@ module _ {V O : Type 0} (m : Meaning V O) where
       asks = asks_nothing (leaf (held c)) false b;
       value = λ cs i w p e.
           let null = told i p in
-          let is = gives_same (row c.rows i) w e in
+          let is = gives_is (row c.rows i) w e in
           ap (λ a. gives (truth a))
           (sym (not_not b) ∙ ap not (sym null) ∙ ap (λ v. not (is_null v)) is);
     }
 
-    array_sound : (c : ColumnView) → IsValidityOf m (leaf (held c)) (leaf (held (validity_column c)))
+    array_sound : (c : ColumnView)
+        → IsValidityOf m (leaf (held c)) (leaf (held (validity_column c)))
     array_sound c = record {
       dtype = refl;
       asks = record { leaves = λ cs h. tt; rows = λ cs i h. validity_row c i h };
       value = λ cs i w p e.
           ap gives (validity_at c i p.within)
-          ∙ ap (λ v. gives (truth (not (is_null v)))) (gives_same (row c.rows i) w e);
+          ∙ ap (λ v. gives (truth (not (is_null v)))) (gives_is (row c.rows i) w e);
     }
 
     column_sound : (c : ColumnView) (form : ValidityForm) → c.form ≡ form

@@ -1,4 +1,5 @@
--- What rules owe: a rewritten tree has the type and the values of the old one, and the validity of a tree says where it is null.
+-- What rules owe: a rewritten tree has the type and the values of the old one, and the validity of
+-- a tree says where it is null.
 use Rattle.std.specs.Prelude.{◌≡◌, ℕ, ◌<◌, List, Some, ⊤, true, false, not, length}
 use Rattle.vortex_types.specs.LogicalTypes.{LogicalType, bool_type}
 use Rattle.vortex_types.specs.Values.{Value, truth, is_null}
@@ -31,8 +32,7 @@ abbrev pub LeafHasRow : List ColumnView → ℕ → Leaf → Type 0
 LeafHasRow cs i (place p name t) = HasType t (leaf_value cs (place p name t) i)
 LeafHasRow cs i (held c) = HasTypedRow c i
 
--- The leaves and the constants of a tree have values of their types in row i. So they do in each row of columns that fit the
--- leaves.
+-- the leaves and the constants of a tree have values of their types in row i
 abbrev mutual
   pub HasRow : {V O : Type 0} → List ColumnView → ℕ → Tree V O → Type 0
   HasRow cs i (leaf l) = LeafHasRow cs i l
@@ -43,21 +43,22 @@ abbrev mutual
   AllHaveRow cs i no_trees = ⊤
   AllHaveRow cs i (tree t ts) = HasRow cs i t × AllHaveRow cs i ts
 
--- the new tree asks no more of columns: what fits the old one's leaves fits its own, and so in each row
+-- the new tree asks no more of columns: where they fit the old one's leaves they fit its own, and
+-- so in each row
 pub record AsksNoMore {V O : Type 0} (t u : Tree V O) : Type 0 where
   pub leaves : (cs : List ColumnView) → LeavesFit cs t → LeavesFit cs u
   pub rows : (cs : List ColumnView) (i : ℕ) → HasRow cs i t → HasRow cs i u
 
--- The new tree has the old one's type, asks no more of columns, and has the same value in each row in which the old one has a
--- value; so no fault appears.
+-- The new tree has the old one's type, asks no more of columns, and has the same value in each row
+-- in which the old one has a value; so no fault appears.
 pub record Rewrites {V O : Type 0} (m : Meaning V O) (t u : Tree V O) : Type 0 where
   pub dtype : tree_type m u ≡ tree_type m t
   pub asks : AsksNoMore t u
   pub value : (cs : List ColumnView) (i : ℕ) (w : Value) → HasRow cs i t
       → eval m cs t i ≡ gives w → eval m cs u i ≡ gives w
 
--- The second tree is of Bool without null, asks no more of columns, and says in each row in which the first one has a value
--- whether that is not null.
+-- The second tree is of Bool without null, asks no more of columns, and says in each row in which
+-- the first one has a value whether that is not null.
 pub record IsValidityOf {V O : Type 0} (m : Meaning V O) (t v : Tree V O) : Type 0 where
   pub dtype : tree_type m v ≡ Some (bool_type false)
   pub asks : AsksNoMore t v
