@@ -9,3 +9,5 @@ pub mod JoinedByAnd
 pub mod Validities
 pub mod NullTestRules
 pub mod Reducing
+pub mod RewrittenRows
+pub mod RuleExamples

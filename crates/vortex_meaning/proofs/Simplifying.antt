@@ -1,5 +1,5 @@
 -- What Simplify answers is a rewrite.
-use Rattle.std.proofs.Common.{◌≡◌, ℕ, Bool, true, List, [], ◌∷◌, Option, Some, None, refl, sym, ap, ◌∙◌, subst, inl, inr, cond}
+use Rattle.std.proofs.Common.{◌≡◌, ℕ, Bool, true, false, List, [], ◌∷◌, Option, Some, None, refl, sym, ap, ◌∙◌, subst, inl, inr, cond}
 use Rattle.std.specs.Prelude.{◌||◌, ◌&&◌, ◌⊎◌}
 use Rattle.vortex_types.specs.LogicalTypes.{LogicalType, bool_type, is_nullable}
 use Rattle.vortex_types.specs.TypeEquality.{alike_types}
@@ -23,11 +23,14 @@ use Rattle.vortex_meaning.specs.Trees.{Tree, leaf, constant, call, Trees, no_tre
 use Rattle.vortex_meaning.specs.Eval.{types_or_none, tree_type, tree_types, eval}
 use Rattle.vortex_meaning.specs.ComparisonTrees.{operated, compared}
 use Rattle.vortex_meaning.specs.Rules.{Rules, constant_truth, decides, is_nullable_tree}
-use Rattle.vortex_meaning.specs.SimplifyRules.{is_null_literal, simplify_comparison, decided, left_of_nulls, undecided, simplify_operands, simplify_boolean, simplify_operator, simplify_shipped, simplify}
+use Rattle.vortex_meaning.specs.SimplifyRules.{is_null_scalar, is_null_literal, simplify_comparison, decided, left_of_nulls, undecided, simplify_operands, simplify_boolean, simplify_operator, simplify_shipped, simplify}
 use Rattle.vortex_meaning.specs.Rewrites.{Rewrites, LawfulRules}
 use Rattle.vortex_meaning.proofs.TypedCalls.{two_types, typed_call, two_values}
 use Rattle.vortex_meaning.proofs.BooleanCalls.{IsBoolCall, bool_call, bool_values, asks_left, left_decided, right_decided, left_undecided, right_undecided}
 use Rattle.vortex_meaning.proofs.RuleAnswers.{first_there, answer_if, answer_unless, both_true, either_true}
+use Rattle.vortex_types.specs.ScalarView.{ScalarView}
+use Rattle.vortex_types.specs.Typing.{HasType}
+use Rattle.vortex_types.proofs.NullValues.{not_null}
 
 -- the type of a comparison of accepted types
 compared_is : (t u r : LogicalType) → compared_type (t ∷ u ∷ []) ≡ Some r
@@ -58,6 +61,16 @@ null_beside op v w (inl p) = ap (λ x. comparison_value op x w) p
 null_beside op v w (inr q) =
     let null_here = or_either (is_null v) (is_null w) (inr (ap is_null q)) in
     ap (λ b. cond b null (truth (holds op (compare_values v w)))) null_here
+
+-- of a scalar whose value has its type the test of the value says all
+pub null_scalar : (s : ScalarView) → HasType s.dtype s.value
+    → is_null_scalar (Some s) ≡ is_null s.value
+null_scalar s h = by (is_null s.value) (is_nullable s.dtype) refl refl
+  where
+    by : (b n : Bool) → is_null s.value ≡ b → is_nullable s.dtype ≡ n → (b && n) ≡ b
+    by false n e g = refl
+    by true true e g = refl
+    by true false e g = let solid = not_null s.dtype s.value h g in cc
 
 module _ {V O : Type 0} (m : Meaning V O) where
   null_literal_type : (x : Tree V O) (t : LogicalType) → is_null_literal x ≡ true

@@ -144,5 +144,6 @@ module _ {V O : Type 0} (m : Meaning V O) where
         → eval m cs (call f (tree x (tree y no_trees))) i
         ≡ function_means m f (types_or_none (tree_types m (tree x (tree y no_trees)))) (v ∷ w ∷ [])
     eval_two f x y v w h k =
-        ap (then_means (function_means m f (types_or_none (tree_types m (tree x (tree y no_trees))))))
-        (λ j. with_first (h j) (with_first (k j) (all_give [])))
+        let means =
+        function_means m f (types_or_none (tree_types m (tree x (tree y no_trees)))) in
+        ap (then_means means) (λ j. with_first (h j) (with_first (k j) (all_give [])))
