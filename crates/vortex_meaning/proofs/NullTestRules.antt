@@ -39,6 +39,7 @@ SaidBy op says join turn =
     → boolean_value join (truth (says (truth_or_null a))) (truth (turn c))
     ≡ truth (says (truth_or_null (kleene op a (Some c))))
 
+-- what the other null test says
 abbrev is_not_null : Value → Bool
 is_not_null v = not (is_null v)
 
@@ -92,6 +93,7 @@ module _ {V O : Type 0} (m : Meaning V O) where
 
   module _ (test : Shipped) (says : Value → Bool) (tests : Tests test says)
       (accepts : AcceptsAll test) where
+    -- the test of a tree
     abbrev tested : Tree V O → Tree V O
     tested x = call (ours test) (tree x no_trees)
 

@@ -55,6 +55,7 @@ module _ {V O : Type 0} (m : Meaning V O) where
   module _ (lawful : Lawful m) where
     module _ (op : Operator) (b : is_boolean op ≡ true) (x y : Tree V O) (n : Bool)
         (c : IsBoolCall m op x y n) where
+      -- a rewrite of the node
       abbrev Sound : Tree V O → Type 0
       Sound u = Rewrites m (operated op x y) u
 

@@ -23,6 +23,7 @@ abbrev mutual
   IsMade n (constant s) = HasType s.dtype s.value
   IsMade n (call f ts) = AllMade n ts
 
+  -- so are several trees
   pub AllMade : {V O : Type 0} → ℕ → Trees V O → Type 0
   AllMade n no_trees = ⊤
   AllMade n (tree t ts) = IsMade n t × AllMade n ts

@@ -46,43 +46,43 @@ module _ {V O : Type 0} (m : Meaning V O) (r : Rules V O) where
   no_number = constant (record { dtype = integer_type I32 true; value = null })
 
   -- validity
-  pub of_place : validity m r x ≡ None
+  of_place : validity m r x ≡ None
   of_place = refl
 
-  pub of_null : validity m r no_number ≡ Some (truth_constant false false)
+  of_null : validity m r no_number ≡ Some (truth_constant false false)
   of_null = refl
 
-  pub of_not : validity m r (negated x) ≡ Some (is_not_null_of x)
+  of_not : validity m r (negated x) ≡ Some (is_not_null_of x)
   of_not = refl
 
-  pub of_not_solid : validity m r (negated y) ≡ Some (truth_constant false true)
+  of_not_solid : validity m r (negated y) ≡ Some (truth_constant false true)
   of_not_solid = refl
 
-  pub of_comparison : validity m r (operated Eq i i)
+  of_comparison : validity m r (operated Eq i i)
       ≡ Some (operated And (is_not_null_of i) (is_not_null_of i))
   of_comparison = refl
 
-  pub of_sum : validity m r (operated Add j i) ≡ Some (is_not_null_of i)
+  of_sum : validity m r (operated Add j i) ≡ Some (is_not_null_of i)
   of_sum = refl
 
-  pub of_like : (options : LikeOptions)
+  of_like : (options : LikeOptions)
       → validity m r (call (ours (Like options)) (tree s (tree s no_trees)))
       ≡ Some (operated And (is_not_null_of s) (is_not_null_of s))
   of_like options = refl
 
-  pub of_null_type : validity m r (operated Eq n n) ≡ None
+  of_null_type : validity m r (operated Eq n n) ≡ None
   of_null_type = refl
 
-  pub of_and : validity m r (operated And x y) ≡ None
+  of_and : validity m r (operated And x y) ≡ None
   of_and = refl
 
-  pub of_cast : validity m r (cast_of y) ≡ None
+  of_cast : validity m r (cast_of y) ≡ None
   of_cast = refl
 
-  pub of_null_test : validity m r (is_null_of x) ≡ None
+  of_null_test : validity m r (is_null_of x) ≡ None
   of_null_test = refl
 
-  pub of_between : (options : BetweenOptions)
+  of_between : (options : BetweenOptions)
       → validity m r (call (ours (Between options)) (tree i (tree j (tree j no_trees)))) ≡ None
   of_between options = refl
 
@@ -105,92 +105,92 @@ module _ {V O : Type 0} (m : Meaning V O) (r : Rules V O) where
         form = non_nullable;
       }
 
-  pub of_all_valid : validity m r (leaf (held (held_in all_valid)))
+  of_all_valid : validity m r (leaf (held (held_in all_valid)))
       ≡ Some (truth_constant false true)
   of_all_valid = refl
 
-  pub of_all_invalid : validity m r (leaf (held (held_in all_invalid)))
+  of_all_invalid : validity m r (leaf (held (held_in all_invalid)))
       ≡ Some (truth_constant false false)
   of_all_invalid = refl
 
-  pub of_array : validity m r (leaf (held (held_in array)))
+  of_array : validity m r (leaf (held (held_in array)))
       ≡ Some (leaf (held bits))
   of_array = refl
 
   -- joining by And
-  pub three_joined : (a b c : Tree V O)
+  three_joined : (a b c : Tree V O)
       → all_of (a ∷ b ∷ c ∷ []) ≡ operated And (operated And a b) c
   three_joined a b c = refl
 
-  pub five_joined : (a b c d e : Tree V O)
+  five_joined : (a b c d e : Tree V O)
       → all_of (a ∷ b ∷ c ∷ d ∷ e ∷ [])
       ≡ operated And (operated And a b) (operated And (operated And c d) e)
   five_joined a b c d e = refl
 
   -- Reduce
-  pub test_of_solid : reduce m r (is_null_of y) ≡ Some (truth_constant false false)
+  test_of_solid : reduce m r (is_null_of y) ≡ Some (truth_constant false false)
   test_of_solid = refl
 
-  pub test_of_place : reduce m r (is_not_null_of x) ≡ None
+  test_of_place : reduce m r (is_not_null_of x) ≡ None
   test_of_place = refl
 
-  pub test_of_not : reduce m r (is_null_of (negated x)) ≡ Some (negated (is_not_null_of x))
+  test_of_not : reduce m r (is_null_of (negated x)) ≡ Some (negated (is_not_null_of x))
   test_of_not = refl
 
-  pub null_and : reduce m r (is_null_of (operated And x y)) ≡ Some (operated And (is_null_of x) y)
+  null_and : reduce m r (is_null_of (operated And x y)) ≡ Some (operated And (is_null_of x) y)
   null_and = refl
 
-  pub null_and_right : reduce m r (is_null_of (operated And y x))
+  null_and_right : reduce m r (is_null_of (operated And y x))
       ≡ Some (operated And (is_null_of x) y)
   null_and_right = refl
 
-  pub null_or : reduce m r (is_null_of (operated Or y x))
+  null_or : reduce m r (is_null_of (operated Or y x))
       ≡ Some (operated And (is_null_of x) (negated y))
   null_or = refl
 
-  pub not_null_and : reduce m r (is_not_null_of (operated And y x))
+  not_null_and : reduce m r (is_not_null_of (operated And y x))
       ≡ Some (operated Or (is_not_null_of x) (negated y))
   not_null_and = refl
 
-  pub not_null_or : reduce m r (is_not_null_of (operated Or x y))
+  not_null_or : reduce m r (is_not_null_of (operated Or x y))
       ≡ Some (operated Or (is_not_null_of x) y)
   not_null_or = refl
 
-  pub null_and_both : reduce m r (is_null_of (operated And x x)) ≡ None
+  null_and_both : reduce m r (is_null_of (operated And x x)) ≡ None
   null_and_both = refl
 
-  pub two_constants :
+  two_constants :
       reduce m r (operated Or (truth_constant true false) (truth_constant false false))
       ≡ Some (truth_constant true false)
   two_constants = refl
 
-  pub false_and : reduce m r (operated And x (truth_constant false false))
+  false_and : reduce m r (operated And x (truth_constant false false))
       ≡ Some (truth_constant true false)
   false_and = refl
 
-  pub true_and : reduce m r (operated And (truth_constant true true) y) ≡ Some (cast_of y)
+  true_and : reduce m r (operated And (truth_constant true true) y) ≡ Some (cast_of y)
   true_and = refl
 
-  pub true_and_null : reduce m r (operated And (truth_constant false true) no_truth) ≡ Some no_truth
+  true_and_null : reduce m r (operated And (truth_constant false true) no_truth) ≡ Some no_truth
   true_and_null = refl
 
-  pub null_and_place : reduce m r (operated And no_truth x) ≡ None
+  null_and_place : reduce m r (operated And no_truth x) ≡ None
   null_and_place = refl
 
   -- Simplify
-  pub null_compared : simplify m r (operated Eq j no_number) ≡ Some no_truth
+  null_compared : simplify m r (operated Eq j no_number) ≡ Some no_truth
   null_compared = refl
 
-  pub null_added : simplify m r (operated Add j no_number) ≡ None
+  null_added : simplify m r (operated Add j no_number) ≡ None
   null_added = refl
 
-  pub true_and_false :
+  true_and_false :
       simplify m r (operated And (truth_constant true true) (truth_constant false false))
       ≡ Some (truth_constant true false)
   true_and_false = refl
 
-  pub or_false : simplify m r (operated Or x (truth_constant false false)) ≡ Some x
+  or_false : simplify m r (operated Or x (truth_constant false false)) ≡ Some x
   or_false = refl
 
-  pub two_nulls : simplify m r (operated Or no_truth no_truth) ≡ Some no_truth
+  two_nulls : simplify m r (operated Or no_truth no_truth) ≡ Some no_truth
   two_nulls = refl

@@ -161,6 +161,7 @@ module _ {V O : Type 0} (m : Meaning V O) where
           q.2 ∙ ap gives (left ∙ sym value ∙ q.4);
     }
 
+    -- a rewrite of the node
     abbrev Sound : Tree V O → Type 0
     Sound u = Rewrites m (operated op x y) u
 

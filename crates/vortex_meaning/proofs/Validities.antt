@@ -20,8 +20,8 @@ use Rattle.vortex_meaning.specs.Trees.{place, held, Tree, leaf, constant, call, 
 use Rattle.vortex_meaning.specs.Eval.{all_give, tree_type, tree_types, eval, eval_all}
 use Rattle.vortex_meaning.specs.Execution.{LeavesFit, AllLeavesFit}
 use Rattle.vortex_meaning.specs.ComparisonTrees.{operated}
-use Rattle.vortex_meaning.specs.Rules.{Rules, truth_constant, is_not_null_of, may_be_null, is_nullable_tree}
-use Rattle.vortex_meaning.specs.ValidityRules.{validity_column, column_validity, is_null_type, without_null, null_tests, union_child_validities, validity_over, validity_of_typed, default_validity, validity}
+use Rattle.vortex_meaning.specs.Rules.{Rules, no_rules, truth_constant, is_not_null_of, may_be_null, is_nullable_tree}
+use Rattle.vortex_meaning.specs.ValidityRules.{validity_column, column_validity, is_null_type, without_null, null_tests, union_child_validities, validity_over, validity_of_typed, default_validity, default_rules, validity}
 use Rattle.vortex_meaning.specs.Rewrites.{FormTells, HasTypedRow, HasRow, AllHaveRow, AsksNoMore, IsValidityOf, LawfulRules}
 use Rattle.vortex_meaning.proofs.TypedCalls.{types_parts, values_parts, typed_call, type_of_one, type_of_two, call_value, eval_one}
 use Rattle.vortex_meaning.proofs.TypedValues.{function_typed, function_alike, function_null, values_typed}
@@ -334,3 +334,18 @@ module _ {V O : Type 0} (m : Meaning V O) where
         subst (IsValidityOf m (constant s)) is (constant_sound s)
     validity_sound r rules (call (ours s) ts) v t h e = default_validity_sound (ours s) ts t v h e
     validity_sound r rules (call (custom f o) ts) v t h e = rules.validity f o ts t v h e
+
+    -- functions without rules, and with the default validity alone, have lawful ones
+    pub no_rules_lawful : LawfulRules m no_rules
+    no_rules_lawful = record {
+      validity = λ f o ts t v h e. cc;
+      reduce = λ f o ts t u h e. cc;
+      simplify = λ f o ts t u h e. cc;
+    }
+
+    pub default_rules_lawful : LawfulRules m (default_rules m)
+    default_rules_lawful = record {
+      validity = λ f o ts t v h e. default_validity_sound (custom f o) ts t v h e;
+      reduce = λ f o ts t u h e. cc;
+      simplify = λ f o ts t u h e. cc;
+    }

@@ -1,5 +1,6 @@
 -- What Reduce makes of a node, in expressions and in trees over arrays: null tests that need not
--- compute their child, and And and Or with a constant.
+-- compute their child, and And and Or with a constant. A constant column of a tree over arrays
+-- stands in it as that constant, and a rule makes the same constant in either kind of tree.
 use Rattle.std.specs.Prelude.{Option, Some, None, Bool, true, false, if◌then◌else◌}
 use Rattle.std.specs.Option.{option_map, option_or}
 use Rattle.vortex_types.specs.LogicalTypes.{bool_type}
@@ -85,18 +86,20 @@ module _ {V O : Type 0} (m : Meaning V O) where
       of_constants op n x y (constant_truth x) (constant_truth y)
   reduce_boolean op ts = None
 
-  -- the rules of Reduce for an operator, for a shipped function, and for a node
+  -- the rules for an operator: And and Or alone have some
   abbrev pub reduce_operator : Operator → Trees V O → Option (Tree V O)
   reduce_operator And ts = reduce_boolean And ts
   reduce_operator Or ts = reduce_boolean Or ts
   reduce_operator op ts = None
 
+  -- the rules for a shipped function: operators and null tests alone have some
   abbrev pub reduce_shipped : Rules V O → Shipped → Trees V O → Option (Tree V O)
   reduce_shipped r (Binary op) ts = reduce_operator op ts
   reduce_shipped r IsNull ts = reduce_is_null r ts
   reduce_shipped r IsNotNull ts = reduce_is_not_null r ts
   reduce_shipped r s ts = None
 
+  -- what a node is reduced to, where a rule applies
   abbrev pub reduce : Rules V O → Tree V O → Option (Tree V O)
   reduce r (leaf l) = None
   reduce r (constant s) = None

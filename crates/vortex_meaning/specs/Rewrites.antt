@@ -39,6 +39,7 @@ abbrev mutual
   HasRow cs i (constant s) = HasType s.dtype s.value
   HasRow cs i (call f ts) = AllHaveRow cs i ts
 
+  -- so have those of several trees
   pub AllHaveRow : {V O : Type 0} → List ColumnView → ℕ → Trees V O → Type 0
   AllHaveRow cs i no_trees = ⊤
   AllHaveRow cs i (tree t ts) = HasRow cs i t × AllHaveRow cs i ts
@@ -65,7 +66,9 @@ pub record IsValidityOf {V O : Type 0} (m : Meaning V O) (t v : Tree V O) : Type
   pub value : (cs : List ColumnView) (i : ℕ) (w : Value) → HasRow cs i t
       → eval m cs t i ≡ gives w → eval m cs v i ≡ gives (truth (not (is_null w)))
 
--- what a caller's rules answer for a well-typed call: its validity, and rewrites of it
+-- of each well-typed call of a caller's function:
+-- validity: a tree that is told as its validity says in which rows it is null
+-- reduce, simplify: a tree that it is reduced or simplified to is a rewrite of it
 pub record LawfulRules {V O : Type 0} (m : Meaning V O) (r : Rules V O) : Type 0 where
   pub validity : (f : V) (o : O) (ts : Trees V O) (t : LogicalType) (v : Tree V O)
       → tree_type m (call (custom f o) ts) ≡ Some t → r.validity_of f o ts ≡ Some v

@@ -18,17 +18,28 @@ pub record Rules (V O : Type 0) : Type 0 where
   pub reduce_of : V → O → Trees V O → Option (Tree V O)
   pub simplify_of : V → O → Trees V O → Option (Tree V O)
 
+-- the rules of functions that have none
+abbrev pub no_rules : {V O : Type 0} → Rules V O
+no_rules =
+    record {
+      validity_of = λ f o ts. None;
+      reduce_of = λ f o ts. None;
+      simplify_of = λ f o ts. None;
+    }
+
 -- the constant of a truth value, of Bool, nullable or not
 abbrev pub truth_constant : {V O : Type 0} → Bool → Bool → Tree V O
 truth_constant n b = constant (record { dtype = bool_type n; value = truth b })
 
--- the calls of the null tests and of Cast
+-- whether the tree is null
 abbrev pub is_null_of : {V O : Type 0} → Tree V O → Tree V O
 is_null_of t = call (ours IsNull) (tree t no_trees)
 
+-- whether it is not
 abbrev pub is_not_null_of : {V O : Type 0} → Tree V O → Tree V O
 is_not_null_of t = call (ours IsNotNull) (tree t no_trees)
 
+-- the tree, of nullable Bool
 abbrev pub cast_of : {V O : Type 0} → Tree V O → Tree V O
 cast_of t = call (ours Cast) (tree t no_trees)
 

@@ -59,7 +59,7 @@ module _ {V O : Type 0} (m : Meaning V O) where
   abbrev pub simplify_boolean : Operator → Tree V O → Tree V O → Option (Tree V O)
   simplify_boolean op x y = simplify_operands op (is_nullable_tree m (operated op x y)) x y
 
-  -- the rules of Simplify for an operator, for a shipped function, and for a node
+  -- the rules for an operator: arithmetic has none
   abbrev pub simplify_operator : Operator → Tree V O → Tree V O → Option (Tree V O)
   simplify_operator And x y = simplify_boolean And x y
   simplify_operator Or x y = simplify_boolean Or x y
@@ -69,10 +69,12 @@ module _ {V O : Type 0} (m : Meaning V O) where
   simplify_operator Div x y = None
   simplify_operator comparison x y = simplify_comparison x y
 
+  -- the rules for a shipped function: operators alone have some
   abbrev pub simplify_shipped : Shipped → Trees V O → Option (Tree V O)
   simplify_shipped (Binary op) (tree x (tree y no_trees)) = simplify_operator op x y
   simplify_shipped s ts = None
 
+  -- what a node of an expression is simplified to, where a rule applies
   abbrev pub simplify : Rules V O → Tree V O → Option (Tree V O)
   simplify r (leaf l) = None
   simplify r (constant s) = None

@@ -98,6 +98,15 @@ module _ {V O : Type 0} (m : Meaning V O) where
   default_validity f ts =
       if function_strict m f then validity_of_typed f ts (tree_types m ts) else None
 
+  -- the rules of functions that have the default validity and no others
+  abbrev pub default_rules : Rules V O
+  default_rules =
+      record {
+        validity_of = λ f o ts. default_validity (custom f o) ts;
+        reduce_of = λ f o ts. None;
+        simplify_of = λ f o ts. None;
+      }
+
   -- the validity of a node, or none: a constant's is whether it is not null
   abbrev pub validity : Rules V O → Tree V O → Option (Tree V O)
   validity r (leaf l) = leaf_validity l
