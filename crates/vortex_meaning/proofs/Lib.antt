@@ -1,0 +1,13 @@
+pub mod RuleAnswers
+pub mod TypedCalls
+pub mod TypedValues
+pub mod Rewriting
+pub mod KleeneConstants
+pub mod BooleanCalls
+pub mod Simplifying
+pub mod JoinedByAnd
+pub mod Validities
+pub mod NullTestRules
+pub mod Reducing
+pub mod RewrittenRows
+pub mod RuleExamples
