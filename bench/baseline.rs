@@ -1,9 +1,11 @@
 //! The same kernels in plain Rust over the same layout, and the program that times the project's calls beside them.
 
+mod like;
+mod timing;
+
+use like::{matches, tokens_of};
 use std::hint::black_box;
-use std::slice::Iter;
-use std::str::Chars;
-use std::time::{Duration, Instant};
+use timing::{Case, last_of, ratio};
 
 // ---- the calls of the project, by the numbers that they have in kernels/src/measured.rt
 
@@ -26,7 +28,6 @@ macro_rules! integers {
 }
 
 unsafe extern "C" {
-    fn malloc_trim(pad: usize) -> i32;
     fn bench_bools(
         left: *const u8, left_len: usize, left_valid: *const u8, left_valid_len: usize, left_offset: usize,
         right: *const u8, right_len: usize, right_valid: *const u8, right_valid_len: usize, right_offset: usize,
@@ -347,58 +348,6 @@ fn between(array: &Ints, lower: &Ints, upper: &Ints) -> Bools {
     }
 }
 
-/// What a pattern asks at one place: any characters, one character, or that one.
-enum Token {
-    Any,
-    One,
-    Char(char),
-}
-
-fn tokens_of(pattern: &str) -> Vec<Token> {
-    let mut chars = pattern.chars();
-    let mut tokens = vec![];
-    while let Some(c) = chars.next() {
-        tokens.push(match c {
-            '%' => Token::Any,
-            '_' => Token::One,
-            '\\' => Token::Char(chars.next().unwrap_or(c)),
-            _ => Token::Char(c),
-        });
-    }
-    tokens
-}
-
-/// One walk over a text, that goes back to its last `%` alone, to try one character further on.
-fn matches(tokens: &[Token], text: &str) -> bool {
-    let (mut ahead, mut rest) = (tokens.iter(), text.chars());
-    let mut back: Option<(Iter<Token>, Chars)> = None;
-    loop {
-        let token = ahead.next();
-        if let Some(Token::Any) = token {
-            if ahead.as_slice().is_empty() {
-                return true;
-            }
-            back = Some((ahead.clone(), rest.clone()));
-            continue;
-        }
-        let Some(c) = rest.next() else {
-            return token.is_none();
-        };
-        let accepts = match token {
-            Some(Token::Char(own)) => *own == c,
-            _ => token.is_some(),
-        };
-        if accepts {
-            continue;
-        }
-        let Some((tokens, text)) = &mut back else {
-            return false;
-        };
-        text.next();
-        (ahead, rest) = (tokens.clone(), text.clone());
-    }
-}
-
 /// LIKE of one pattern.
 fn like(texts: &Texts, pattern: &str) -> Bools {
     let tokens = tokens_of(pattern);
@@ -428,6 +377,12 @@ fn sum_of_ints<T: Copy + Into<i64>>(answer: &Rows<Vec<T>>) -> u64 {
 }
 
 // ---- columns of chance
+
+#[derive(Clone, Copy)]
+struct Shape {
+    rows: usize,
+    nulls: bool,
+}
 
 /// Texts of mixed lengths: two begin with x, two end in oxide, three have nitr, and one is i%o_i.
 const WORDS: [&str; 12] = [
@@ -486,95 +441,6 @@ impl Chance {
             .collect();
         self.rows(shape, |chance| pool[chance as usize % 100].clone())
     }
-}
-
-// ---- time
-
-#[derive(Clone, Copy)]
-struct Shape {
-    rows: usize,
-    nulls: bool,
-}
-
-/// The project's calls and those in Rust: `repeat + 1` of them, and a checksum of the last. The project's columns are made
-/// anew each time, which counts in neither time.
-struct Case {
-    name: String,
-    ours: Box<dyn Fn(usize) -> u64>,
-    rust: Box<dyn Fn(usize) -> u64>,
-}
-
-/// Memory that earlier calls freed is joined first, so that texts lie as they would in a new process.
-fn timed(side: &dyn Fn(usize) -> u64, repeat: usize) -> (Duration, u64) {
-    unsafe { malloc_trim(0) };
-    let start = Instant::now();
-    let sum = side(repeat);
-    (start.elapsed(), sum)
-}
-
-/// The time of `repeat` calls, by the least times with and without them.
-#[derive(Clone, Copy)]
-struct Least {
-    once: Duration,
-    more: Duration,
-}
-
-impl Least {
-    const NONE: Least = Least { once: Duration::MAX, more: Duration::MAX };
-
-    fn measure(&mut self, side: &dyn Fn(usize) -> u64, repeat: usize) -> u64 {
-        let (once, sum) = timed(side, 0);
-        let (more, again) = timed(side, repeat);
-        assert_eq!(sum, again);
-        self.once = self.once.min(once);
-        self.more = self.more.min(more);
-        sum
-    }
-
-    fn calls(&self) -> f64 {
-        self.more.saturating_sub(self.once).as_secs_f64()
-    }
-}
-
-/// How often to call, so that the calls take the time of a good measure, also beside that of making the columns.
-fn repeats(case: &Case) -> usize {
-    let (making, _) = timed(&*case.ours, 0);
-    let long_enough = 0.005 + 0.5 * making.as_secs_f64();
-    let mut repeat = 1;
-    loop {
-        let mut least = Least::NONE;
-        for _ in 0..3 {
-            least.measure(&*case.rust, repeat);
-        }
-        if least.calls() >= long_enough {
-            return repeat;
-        }
-        repeat *= 2;
-    }
-}
-
-fn ratio(case: &Case, rounds: usize) -> f64 {
-    let repeat = repeats(case);
-    let (mut ours, mut rust) = (Least::NONE, Least::NONE);
-    for round in 0..rounds {
-        let (one, other) = if round % 2 == 0 {
-            let one = ours.measure(&*case.ours, repeat);
-            (one, rust.measure(&*case.rust, repeat))
-        } else {
-            let other = rust.measure(&*case.rust, repeat);
-            (ours.measure(&*case.ours, repeat), other)
-        };
-        assert_eq!(one, other, "{}: the answers differ", case.name);
-    }
-    ours.calls() / rust.calls()
-}
-
-/// The checksum of the last of `repeat + 1` calls.
-fn last_of<A>(repeat: usize, call: impl Fn() -> A, sum: impl Fn(&A) -> u64) -> u64 {
-    for _ in 0..repeat {
-        drop(black_box(call()));
-    }
-    sum(&black_box(call()))
 }
 
 // ---- cases
