@@ -1,7 +1,11 @@
 //! The same kernels in plain Rust over the same layout, and the program that times the project's calls beside them.
 
+mod like;
+mod timing;
+
+use like::{matches, tokens_of};
 use std::hint::black_box;
-use std::time::{Duration, Instant};
+use timing::{Case, last_of, ratio};
 
 // ---- the calls of the project, by the numbers that they have in kernels/src/measured.rt
 
@@ -24,7 +28,6 @@ macro_rules! integers {
 }
 
 unsafe extern "C" {
-    fn malloc_trim(pad: usize) -> i32;
     fn bench_bools(
         left: *const u8, left_len: usize, left_valid: *const u8, left_valid_len: usize, left_offset: usize,
         right: *const u8, right_len: usize, right_valid: *const u8, right_valid_len: usize, right_offset: usize,
@@ -44,6 +47,26 @@ unsafe extern "C" {
         b: *const i32, b_len: usize, b_valid: *const u8, b_valid_len: usize,
         c: *const u8, c_len: usize, c_valid: *const u8, c_valid_len: usize,
         repeat: usize,
+    ) -> u64;
+    fn bench_i32_between(
+        array: *const i32, array_len: usize, array_valid: *const u8, array_valid_len: usize,
+        lower: *const i32, lower_len: usize, lower_valid: *const u8, lower_valid_len: usize,
+        upper: *const i32, upper_len: usize, upper_valid: *const u8, upper_valid_len: usize,
+        repeat: usize,
+    ) -> u64;
+    fn bench_texts_between(
+        width: usize,
+        array: *const u8, array_len: usize, array_valid: *const u8, array_valid_len: usize,
+        lower: *const u8, lower_len: usize, upper: *const u8, upper_len: usize, repeat: usize,
+    ) -> u64;
+    fn bench_i32_null_tests(
+        input: *const i32, input_len: usize, input_valid: *const u8, input_valid_len: usize,
+        is_negated: bool, repeat: usize,
+    ) -> u64;
+    fn bench_like(
+        texts: *const u8, texts_len: usize, lengths: *const usize, lengths_len: usize,
+        texts_valid: *const u8, texts_valid_len: usize,
+        pattern: *const u8, pattern_len: usize, repeat: usize,
     ) -> u64;
 }
 
@@ -143,6 +166,8 @@ fn both_valid(left: &Option<Bits>, right: &Option<Bits>) -> Option<Bits> {
 }
 
 type Bools = Rows<Bits>;
+type Ints = Rows<Vec<i32>>;
+type Texts = Rows<Vec<String>>;
 
 /// And; by the law of De Morgan, Or is Not of And of Not of both, and the same words tell which rows are valid.
 #[inline(always)]
@@ -288,6 +313,47 @@ fn tree(a: &Rows<Vec<i32>>, b: &Rows<Vec<i32>>, c: &Bools) -> Bools {
     or(&and(&below, &above), &not(c))
 }
 
+/// Whether each value lies between the bounds of its row, both comparisons in one pass.
+fn tested_bounds(array: &[i32], lower: &[i32], upper: &[i32]) -> Bits {
+    let mut words = Vec::with_capacity(array.len() / 64 + 2);
+    let blocks = array.chunks_exact(64).zip(lower.chunks_exact(64)).zip(upper.chunks_exact(64));
+    words.extend(blocks.map(|((array, lower), upper)| {
+        let mut told = [false; 64];
+        for (told, ((x, low), high)) in told.iter_mut().zip(array.iter().zip(lower).zip(upper)) {
+            *told = (low <= x) & (x <= high);
+        }
+        packed(&told)
+    }));
+    let whole = array.len() / 64 * 64;
+    let rest = array[whole..].iter().zip(&lower[whole..]).zip(&upper[whole..]).enumerate();
+    words.push(rest.fold(0, |word, (i, ((x, low), high))| word | u64::from((low <= x) & (x <= high)) << i));
+    words.push(0);
+    Bits { words, offset: 0, len: array.len() }
+}
+
+/// The same of columns. A row beside one null bound can be false, so with nulls it needs each comparison: those by a pass
+/// each, which was no slower than one for both.
+fn between(array: &Ints, lower: &Ints, upper: &Ints) -> Bools {
+    match (&array.valid, &lower.valid, &upper.valid) {
+        (Some(p), Some(q), Some(r)) => {
+            let above = tested(&lower.values, &array.values, |low, x| low <= x);
+            let below = tested(&array.values, &upper.values, |x, high| x <= high);
+            let [values, valid] = by_words([&above, &below, p, q, r], |[above, below, p, q, r]| {
+                [above & below, p & ((q & r) | (q & !above) | (r & !below))]
+            });
+            Rows { values, valid: Some(valid) }
+        }
+        (None, None, None) => Rows { values: tested_bounds(&array.values, &lower.values, &upper.values), valid: None },
+        _ => unreachable!("nulls in all three or in none"),
+    }
+}
+
+/// LIKE of one pattern.
+fn like(texts: &Texts, pattern: &str) -> Bools {
+    let tokens = tokens_of(pattern);
+    with_constant(texts, |text| matches(&tokens, text))
+}
+
 // ---- checksums, as kernels/src/checksum.rt makes them
 
 fn joined(sum: u64, word: u64) -> u64 {
@@ -311,6 +377,18 @@ fn sum_of_ints<T: Copy + Into<i64>>(answer: &Rows<Vec<T>>) -> u64 {
 }
 
 // ---- columns of chance
+
+#[derive(Clone, Copy)]
+struct Shape {
+    rows: usize,
+    nulls: bool,
+}
+
+/// Texts of mixed lengths: two begin with x, two end in oxide, three have nitr, and one is i%o_i.
+const WORDS: [&str; 12] = [
+    "iron oxide", "nitrogen", "indium oxoid", "xenon", "ammonium nitrate", "zinc dioxide", "xylene", "ion foci", "iodine",
+    "potassium nitrite", "water", "carbon",
+];
 
 struct Chance(u64);
 
@@ -348,6 +426,11 @@ impl Chance {
         Rows { values: self.bits(offset, shape.rows, 50), valid: self.valid(shape, offset) }
     }
 
+    /// A word of a short list in each row.
+    fn words(&mut self, shape: &Shape) -> Texts {
+        self.rows(shape, |chance| WORDS[chance as usize % WORDS.len()].into())
+    }
+
     /// One of a hundred texts in each row; long ones begin alike.
     fn texts(&mut self, shape: &Shape, width: usize) -> Rows<Vec<String>> {
         let pool: Vec<String> = (0..100)
@@ -358,93 +441,6 @@ impl Chance {
             .collect();
         self.rows(shape, |chance| pool[chance as usize % 100].clone())
     }
-}
-
-// ---- time
-
-#[derive(Clone, Copy)]
-struct Shape {
-    rows: usize,
-    nulls: bool,
-}
-
-/// The project's calls and those in Rust: `repeat + 1` of them, and a checksum of the last. The project's columns are made
-/// anew each time, which counts in neither time.
-struct Case {
-    name: String,
-    ours: Box<dyn Fn(usize) -> u64>,
-    rust: Box<dyn Fn(usize) -> u64>,
-}
-
-/// Memory that earlier calls freed is joined first, so that texts lie as they would in a new process.
-fn timed(side: &dyn Fn(usize) -> u64, repeat: usize) -> (Duration, u64) {
-    unsafe { malloc_trim(0) };
-    let start = Instant::now();
-    let sum = side(repeat);
-    (start.elapsed(), sum)
-}
-
-/// The time of `repeat` calls, by the least times with and without them.
-#[derive(Clone, Copy)]
-struct Least {
-    once: Duration,
-    more: Duration,
-}
-
-impl Least {
-    const NONE: Least = Least { once: Duration::MAX, more: Duration::MAX };
-
-    fn measure(&mut self, side: &dyn Fn(usize) -> u64, repeat: usize) -> u64 {
-        let (once, sum) = timed(side, 0);
-        let (more, again) = timed(side, repeat);
-        assert_eq!(sum, again);
-        self.once = self.once.min(once);
-        self.more = self.more.min(more);
-        sum
-    }
-
-    fn calls(&self) -> f64 {
-        self.more.saturating_sub(self.once).as_secs_f64()
-    }
-}
-
-/// How often to call, so that the calls take the time of a good measure, also beside that of making the columns.
-fn repeats(case: &Case) -> usize {
-    let (making, _) = timed(&*case.ours, 0);
-    let long_enough = 0.005 + 0.5 * making.as_secs_f64();
-    let mut repeat = 1;
-    loop {
-        let mut least = Least::NONE;
-        least.measure(&*case.rust, repeat);
-        if least.calls() >= long_enough {
-            return repeat;
-        }
-        repeat *= 2;
-    }
-}
-
-fn ratio(case: &Case, rounds: usize) -> f64 {
-    let repeat = repeats(case);
-    let (mut ours, mut rust) = (Least::NONE, Least::NONE);
-    for round in 0..rounds {
-        let (one, other) = if round % 2 == 0 {
-            let one = ours.measure(&*case.ours, repeat);
-            (one, rust.measure(&*case.rust, repeat))
-        } else {
-            let other = rust.measure(&*case.rust, repeat);
-            (ours.measure(&*case.ours, repeat), other)
-        };
-        assert_eq!(one, other, "{}: the answers differ", case.name);
-    }
-    ours.calls() / rust.calls()
-}
-
-/// The checksum of the last of `repeat + 1` calls.
-fn last_of<A>(repeat: usize, call: impl Fn() -> A, sum: impl Fn(&A) -> u64) -> u64 {
-    for _ in 0..repeat {
-        drop(black_box(call()));
-    }
-    sum(&black_box(call()))
 }
 
 // ---- cases
@@ -509,8 +505,6 @@ int_cases!(u8_case, u8, bench_u8);
 int_cases!(i32_case, i32, bench_i32);
 int_cases!(i64_case, i64, bench_i64);
 
-type Texts = Rows<Vec<String>>;
-
 fn text_case(
     name: &str,
     width: usize,
@@ -551,6 +545,65 @@ fn tree_case(shape: &Shape, chance: &mut Chance) -> Case {
     };
     let rust = move |repeat| last_of(repeat, || tree(black_box(&a), black_box(&b), black_box(&c)), sum_of_bools);
     Case { name: "(a < 10 and b > 5) or not c".into(), ours: Box::new(ours), rust: Box::new(rust) }
+}
+
+fn between_case(name: &str, sides: [Ints; 3], kernel: impl Fn(&[Ints; 3]) -> Bools + 'static) -> Case {
+    let own = sides.clone();
+    let ours = move |repeat| unsafe {
+        let [array, lower, upper] = &own;
+        let (av, lv, uv) = (bytes_of(&array.valid), bytes_of(&lower.valid), bytes_of(&upper.valid));
+        bench_i32_between(
+            array.values.as_ptr(), array.values.len(), av.as_ptr(), av.len(),
+            lower.values.as_ptr(), lower.values.len(), lv.as_ptr(), lv.len(),
+            upper.values.as_ptr(), upper.values.len(), uv.as_ptr(), uv.len(), repeat,
+        )
+    };
+    let rust = move |repeat| last_of(repeat, || kernel(black_box(&sides)), sum_of_bools);
+    Case { name: name.into(), ours: Box::new(ours), rust: Box::new(rust) }
+}
+
+fn text_between_case(width: usize, texts: Texts, lower: String, upper: String) -> Case {
+    let name = format!("text of {width} bytes between constants");
+    let own = (texts.values.concat(), texts.valid.clone(), lower.clone(), upper.clone());
+    let ours = move |repeat| unsafe {
+        let (texts, valid, lower, upper) = (&own.0, bytes_of(&own.1), &own.2, &own.3);
+        bench_texts_between(
+            width, texts.as_ptr(), texts.len(), valid.as_ptr(), valid.len(),
+            lower.as_ptr(), lower.len(), upper.as_ptr(), upper.len(), repeat,
+        )
+    };
+    let kernel = move |texts: &Texts| with_constant(texts, |x| (lower <= *x) & (*x <= upper));
+    let rust = move |repeat| last_of(repeat, || kernel(black_box(&texts)), sum_of_bools);
+    Case { name, ours: Box::new(ours), rust: Box::new(rust) }
+}
+
+fn null_case(name: &str, input: Ints, is_negated: bool, kernel: fn(&Bits) -> Bits) -> Case {
+    let own = input.clone();
+    let ours = move |repeat| unsafe {
+        let valid = bytes_of(&own.valid);
+        bench_i32_null_tests(own.values.as_ptr(), own.values.len(), valid.as_ptr(), valid.len(), is_negated, repeat)
+    };
+    let answer = move || {
+        let values = kernel(black_box(&input).valid.as_ref().unwrap());
+        Rows { values, valid: None }
+    };
+    let rust = move |repeat| last_of(repeat, &answer, sum_of_bools);
+    Case { name: name.into(), ours: Box::new(ours), rust: Box::new(rust) }
+}
+
+fn like_case(texts: &Texts, pattern: &'static str) -> Case {
+    let lengths: Vec<usize> = texts.values.iter().map(String::len).collect();
+    let own = (texts.values.concat(), lengths, texts.valid.clone());
+    let ours = move |repeat| unsafe {
+        let (texts, lengths, valid) = (&own.0, &own.1, bytes_of(&own.2));
+        bench_like(
+            texts.as_ptr(), texts.len(), lengths.as_ptr(), lengths.len(), valid.as_ptr(), valid.len(),
+            pattern.as_ptr(), pattern.len(), repeat,
+        )
+    };
+    let texts = texts.clone();
+    let rust = move |repeat| last_of(repeat, || like(black_box(&texts), black_box(pattern)), sum_of_bools);
+    Case { name: format!("text like {pattern}"), ours: Box::new(ours), rust: Box::new(rust) }
 }
 
 fn with_constant<T>(left: &Rows<Vec<T>>, test: impl Fn(&T) -> bool) -> Bools {
@@ -617,12 +670,53 @@ fn text_cases(shape: &Shape, chance: &mut Chance) -> Vec<Case> {
     cases
 }
 
+fn between_cases(shape: &Shape, chance: &mut Chance) -> Vec<Case> {
+    let hundreds = |x: u64| (x % 1000) as i32;
+    let array = chance.rows(shape, hundreds);
+    let bounds = (chance.rows(shape, |x| (x % 500) as i32), chance.rows(shape, |x| (x % 500) as i32 + 500));
+    let one = |value| Rows { values: vec![value], valid: None };
+    let mut cases = vec![
+        between_case("i32 between columns", [array.clone(), bounds.0, bounds.1], |[x, low, high]| between(x, low, high)),
+        between_case("i32 between constants", [array, one(300), one(700)], |[x, low, high]| {
+            let (low, high) = (low.values[0], high.values[0]);
+            with_constant(x, |x| (low <= *x) & (*x <= high))
+        }),
+    ];
+    for width in [8, 20] {
+        let texts = chance.texts(shape, width);
+        let (one, other) = (texts.values[0].clone(), texts.values[1].clone());
+        let (lower, upper) = (one.clone().min(other.clone()), one.max(other));
+        cases.push(text_between_case(width, texts, lower, upper));
+    }
+    cases
+}
+
+/// Without nulls the answer is a constant, and there is nothing to time.
+fn null_cases(shape: &Shape, chance: &mut Chance) -> Vec<Case> {
+    if !shape.nulls {
+        return vec![];
+    }
+    let input = chance.rows(shape, |x| x as i32);
+    vec![
+        null_case("i32 is null", input.clone(), false, |valid| by_word([valid], |[word]| !word)),
+        null_case("i32 is not null", input, true, Bits::clone),
+    ]
+}
+
+fn like_cases(shape: &Shape, chance: &mut Chance) -> Vec<Case> {
+    let texts = chance.words(shape);
+    ["x%", "%oxide", "%nitr%", "i%o_i"].map(|pattern| like_case(&texts, pattern)).into()
+}
+
 fn cases(shape: &Shape) -> Vec<Case> {
     let mut chance = Chance(88172645463325252);
     let mut cases = bool_cases(shape, &mut chance);
     cases.extend(number_cases(shape, &mut chance));
     cases.extend(text_cases(shape, &mut chance));
     cases.push(tree_case(shape, &mut chance));
+    cases.extend(between_cases(shape, &mut chance));
+    cases.extend(null_cases(shape, &mut chance));
+    cases.extend(like_cases(shape, &mut chance));
     cases
 }
 
@@ -631,22 +725,24 @@ fn main() {
     let word = std::env::args().nth(1).unwrap_or_default();
     let (word, wanted) = word.strip_prefix('!').map_or((&*word, true), |word| (word, false));
     let rounds = std::env::var("ROUNDS").ok().and_then(|n| n.parse().ok()).unwrap_or(15);
-    let mut table: Vec<(String, Vec<f64>)> = vec![];
-    for rows in [1_000, 65_536, 1_000_000] {
+    let mut table: Vec<(String, [Option<f64>; 6])> = vec![];
+    for (at, rows) in [1_000, 65_536, 1_000_000].into_iter().enumerate() {
         for nulls in [false, true] {
             let picked = cases(&Shape { rows, nulls }).into_iter().filter(|case| case.name.contains(word) == wanted);
-            for (at, case) in picked.enumerate() {
-                if table.len() == at {
-                    table.push((case.name.clone(), vec![]));
+            for case in picked {
+                let found = table.iter().position(|(name, _)| *name == case.name);
+                let line = found.unwrap_or(table.len());
+                if found.is_none() {
+                    table.push((case.name.clone(), [None; 6]));
                 }
-                table[at].1.push(ratio(&case, rounds));
+                table[line].1[2 * at + usize::from(nulls)] = Some(ratio(&case, rounds));
             }
         }
     }
     println!("| time over that of Rust | 1,000 rows | with nulls | 65,536 rows | with nulls | 1,000,000 rows | with nulls |");
     println!("|---|---|---|---|---|---|---|");
     for (name, ratios) in table {
-        let ratios: Vec<String> = ratios.iter().map(|ratio| format!("{ratio:.2}")).collect();
+        let ratios = ratios.map(|ratio| ratio.map_or("-".into(), |ratio| format!("{ratio:.2}")));
         println!("| {name} | {} |", ratios.join(" | "));
     }
 }
