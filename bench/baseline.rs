@@ -28,6 +28,7 @@ macro_rules! integers {
 }
 
 unsafe extern "C" {
+    fn bench_deep(calls: usize) -> u64;
     fn bench_bools(
         left: *const u8, left_len: usize, left_valid: *const u8, left_valid_len: usize, left_offset: usize,
         right: *const u8, right_len: usize, right_valid: *const u8, right_valid_len: usize, right_offset: usize,
@@ -720,9 +721,22 @@ fn cases(shape: &Shape) -> Vec<Case> {
     cases
 }
 
+/// How long it takes to make, copy, execute and let go of a chain of calls, on the stack that a program has.
+fn deep() {
+    for calls in [250_000, 500_000, 1_000_000] {
+        let began = Instant::now();
+        let succeeded = unsafe { bench_deep(calls) };
+        assert_eq!(succeeded, 1);
+        println!("a chain of {calls} calls made, copied, executed and let go: {} ms", began.elapsed().as_millis());
+    }
+}
+
 /// A table of ratios. A word behind the program's name picks the cases whose names have it, and `!word` the others.
 fn main() {
     let word = std::env::args().nth(1).unwrap_or_default();
+    if word == "deep" {
+        return deep();
+    }
     let (word, wanted) = word.strip_prefix('!').map_or((&*word, true), |word| (word, false));
     let rounds = std::env::var("ROUNDS").ok().and_then(|n| n.parse().ok()).unwrap_or(15);
     let mut table: Vec<(String, [Option<f64>; 6])> = vec![];

@@ -1,5 +1,5 @@
 -- A column without a false row answers the function that faults at false.
-use Rattle.std.proofs.Common.{◌≡◌, ◌≢◌, ℕ, zero, suc, ◌<◌, Bool, true, false, List, [], ◌∷◌, length, map, Option, Some, None, refl, sym, ap, ◌∙◌, subst, arith}
+use Rattle.std.proofs.Common.{◌≡◌, ◌≢◌, ℕ, zero, suc, ◌<◌, Bool, true, false, List, [], ◌∷◌, length, map, Some, refl, sym, ap, ◌∙◌, subst, arith}
 use Rattle.std.specs.Prelude.{All, IsSome, slice_get, Result}
 use Rattle.vortex_errors.specs.declared.error.VortexError.{VortexError}
 use Rattle.vortex_types.specs.LogicalTypes.{LogicalType, bool_type, is_bool_type, is_nullable}
@@ -9,7 +9,7 @@ use Rattle.vortex_columns.specs.ColumnView.{ColumnView, row, AreTyped}
 use Rattle.vortex_errors.specs.Answers.{Answers, AnswersUnlessMemory}
 use Rattle.vortex_errors.proofs.Answering.{Answers-weaker}
 use Rattle.vortex_kernels.proofs.RowLemmas.{bool_dtype}
-use Rattle.vortex_meaning.specs.Outcomes.{Outcome, gives, faults, custom, HasCallRows, IsCallFault, types_in}
+use Rattle.vortex_meaning.specs.Outcomes.{gives, faults, custom, HasCallRows, IsCallFault, types_in}
 use Rattle.conformance.specs.MustBeTrue.{must_be_true, same_bool}
 
 pub record OneBool (cs : List ColumnView) (c : ColumnView) : Type 0 where

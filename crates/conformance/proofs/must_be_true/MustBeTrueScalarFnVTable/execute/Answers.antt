@@ -1,4 +1,4 @@
-use Rattle.std.proofs.Common.{◌≡◌, ℕ, ◌<◌, sym, ap, ◌∙◌, arith, refl, Some}
+use Rattle.std.proofs.Common.{◌<◌, sym, ap, ◌∙◌, arith, refl, Some}
 use Rattle.vortex_types.specs.ScalarView.{ScalarView}
 use Rattle.vortex_types.specs.Values.{truth_of}
 use Rattle.vortex_meaning.specs.Outcomes.{custom}
