@@ -5,6 +5,7 @@ mod timing;
 
 use like::{matches, tokens_of};
 use std::hint::black_box;
+use std::time::Instant;
 use timing::{Case, last_of, ratio};
 
 // ---- the calls of the project, by the numbers that they have in kernels/src/measured.rt

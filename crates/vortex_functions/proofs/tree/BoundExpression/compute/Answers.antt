@@ -16,16 +16,18 @@ loop-inputs-smaller-then-len-children g c =
 
 pub loop-inputs-preserved-then-len-children : goal.loop-inputs-preserved-then-len-children
 loop-inputs-preserved-then-len-children g c =
+    let cs = c.args.columns.now in
+    let n = c.args.row_count in
     let k = c.len-then-len-children.result in
+    let child = c.child-child.result.now in
     let same : length c.loop-inputs.inputs.items ≡ k = omega arith in
+    let fit =
+    fit_downward cs c.loop-inputs.node.now child k c.child-child.ensures
+    c.loop-inputs.invariant.1.0 in
     rw (c.in_ok-push.ensures.items, c.new-inputs-then-len-children.ensures.items)
-    (descended (Fits c.args.columns.now c.args.row_count) (HasRows g.C.ScalarFnVTable.meaning c.args.columns.now c.args.row_count) c.args.self.now c.child-child.result.now c.loop-inputs.above.items _ k
-    c.loop-inputs.invariant same c.child-child.ensures (
-      fit_downward c.args.columns.now
-          c.loop-inputs.node.now c.child-child.result.now k c.child-child.ensures
-          c.loop-inputs.invariant.1.0,
-      c.loop-inputs.invariant.1.1,
-    ))
+    (descended (Fits cs n) (HasRows g.C.ScalarFnVTable.meaning cs n) c.args.self.now child
+    c.loop-inputs.above.items _ k c.loop-inputs.invariant same c.child-child.ensures
+    (fit, c.loop-inputs.invariant.1.1))
 
 pub loop-inputs-smaller : goal.loop-inputs-smaller
 loop-inputs-smaller g c =
@@ -35,8 +37,10 @@ loop-inputs-smaller g c =
 
 pub loop-inputs-preserved : goal.loop-inputs-preserved
 loop-inputs-preserved g c =
-    risen (Fits c.args.columns.now c.args.row_count) (HasRows g.C.ScalarFnVTable.meaning c.args.columns.now c.args.row_count) c.args.self.now c.loop-inputs.node.now c.loop-inputs.above.items
-    c.pop.new.self.items c.in-Some.parent c.push-else-len-children.new.self.items
+    let cs = c.args.columns.now in
+    let n = c.args.row_count in
+    risen (Fits cs n) (HasRows g.C.ScalarFnVTable.meaning cs n) c.args.self.now
+    c.loop-inputs.node.now c.loop-inputs.above.items c.pop.new.self.items c.in-Some.parent c.push-else-len-children.new.self.items
     c.in_ok-output.output c.loop-inputs.invariant.0 c.in-Some.ensures.items c.in_ok-output.ensures
     c.in_ok-push-2.ensures.items
 

@@ -3,8 +3,12 @@ use Rattle.vortex_functions.specs.Executing.{Fits, HasRows}
 use Rattle.vortex_functions.proofs.Chains.{Walking, steps_from, steps_above}
 use Rattle.vortex_functions.proofs.tree.BoundExpression.compute.Given as goal
 
+-- a walk, with the columns of the node's first children
 abbrev pub invariant-loop-inputs : goal.invariant-loop-inputs
-invariant-loop-inputs g l = Walking (Fits l.columns l.row_count) (HasRows g.C.ScalarFnVTable.meaning l.columns l.row_count) l.self l.above.items l.node l.inputs.items
+invariant-loop-inputs g l =
+    Walking (Fits l.columns l.row_count)
+    (HasRows g.C.ScalarFnVTable.meaning l.columns l.row_count) l.self l.above.items l.node
+    l.inputs.items
 
 abbrev pub decreases-loop-inputs : goal.decreases-loop-inputs
 decreases-loop-inputs g l = steps_above l.above.items + steps_from l.node (length l.inputs.items)
