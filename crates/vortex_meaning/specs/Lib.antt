@@ -11,6 +11,11 @@ pub mod Trees
 pub mod TreeCodes
 pub mod Eval
 pub mod Execution
+pub mod Rules
+pub mod ValidityRules
+pub mod ReduceRules
+pub mod SimplifyRules
+pub mod Rewrites
 pub mod ComparisonTrees
 pub mod ArithmeticFaults
 pub mod Printing
