@@ -10,6 +10,13 @@ use vortex_columns::{DType, Scalar, VortexResult};
 use vortex_functions::ScalarFnRef;
 use vortex_interface::ScalarFnVTable;
 
+/// The only refusal of a rule, E9 of the calls that it makes.
+///
+/// A type of its own, since a function whose signature names `VortexError`, which holds a `&'static str`, cannot be called
+/// with a node that has a lifetime as its type argument.
+#[derive(Clone, Copy, Debug, PartialEq, Eq)]
+pub struct WantOfMemory;
+
 /// A node that stands for one well-typed tree, over a caller's functions `C`.
 ///
 /// A rule that is written over it serves every kind of tree, and gives what it makes as a node of the same kind.
