@@ -28,7 +28,8 @@ fn constant_truth<C: ScalarFnVTable, T: ReduceTree<C>>(node: &T) -> Option<bool>
     }
 }
 
-/// Whether the value decides the operator, whatever the other operand: false does And, and true does Or.
+/// Whether the value decides the operator, whatever the other operand: false does And, and true
+/// does Or.
 fn decides(operator: Operator, value: bool) -> bool
     ensures { result ≡ decides operator value }
 {
@@ -167,9 +168,9 @@ fn reduce_call<C: ScalarFnVTable, T: ReduceTree<C>>(
     of_constants(alloc, node, operator, nullability, left, right)
 }
 
-/// Reduce of a call of And or Or: two constants give the table's value, one that decides gives its own, and beside one that
-/// does not the other operand stays, cast where only the node is nullable. None where neither operand is a constant of a
-/// truth value.
+/// Reduce of a call of And or Or: two constants give the table's value, one that decides gives its
+/// own, and beside one that does not the other operand stays, cast where only the node is nullable.
+/// None where neither operand is a constant of a truth value.
 pub fn reduce_boolean<C: ScalarFnVTable, T: ReduceTree<C>>(
     alloc: Global,
     operator: Operator,

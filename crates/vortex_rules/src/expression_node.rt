@@ -1,6 +1,6 @@
 //! Nodes over expressions.
 ghost use Rattle.std.specs.Prelude.{◌≡◌, ℕ, IfOk, map};
-ghost use Rattle.std.specs.Cow.{cow_value};
+ghost use Rattle.std.specs.Cow.{cow_value, IsBorrowed};
 ghost use Rattle.vortex_functions.specs.Words.{function_of, AnswersUnlessMemory};
 ghost use Rattle.vortex_rules.specs.Making.{AnswersCall};
 
@@ -29,7 +29,8 @@ impl<'a, C: ScalarFnVTable> Drop for ExpressionReduceNode<'a, C> {
 impl<'a, C: ScalarFnVTable> ExpressionReduceNode<'a, C> {
     /// The node of an expression.
     pub fn new(expression: Cow<'a, BoundExpression<C>>) -> Self
-        ensures { cow_value result.expression ≡ cow_value expression.entry }
+        ensures value { cow_value result.expression ≡ cow_value expression.entry }
+        ensures lent { IsBorrowed expression.entry → IsBorrowed result.expression }
     {
         ExpressionReduceNode { expression }
     }
@@ -75,6 +76,8 @@ impl<'a, C: ScalarFnVTable> ReduceTree<C> for ExpressionReduceNode<'a, C> {
     ghost tree = { λ n. cow_value n.expression };
 
     ghost rows = { λ _. 0 };
+
+    ghost lent = { λ n. IsBorrowed n.expression };
 
     fn node_dtype(&self) -> &DType {
         self.expression().dtype()
