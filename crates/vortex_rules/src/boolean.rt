@@ -1,0 +1,189 @@
+//! The rule of And and of Or beside a constant.
+ghost use Rattle.std.specs.Prelude.{◌≡◌, IfOk, IfSome, IsTrue, Some, true};
+ghost use Rattle.std.specs.Option.{option_map};
+ghost use Rattle.vortex_types.specs.TypeOf.{allows_null};
+ghost use Rattle.vortex_types.specs.LogicalTypes.{bool_type};
+ghost use Rattle.vortex_operators.specs.Kleene.{kleene};
+ghost use Rattle.vortex_operators.specs.Operators.{is_boolean};
+ghost use Rattle.vortex_meaning.specs.Shipped.{Binary};
+ghost use Rattle.vortex_meaning.specs.Rules.{truth_constant, cast_of, constant_truth, decides, widened};
+ghost use Rattle.vortex_meaning.specs.ReduceRules.{beside_constant, of_constants};
+ghost use Rattle.vortex_functions.specs.Words.{ours, called, tree_type, AnswersUnlessMemory};
+ghost use Rattle.vortex_rules.specs.Reduced.{IsReduced};
+
+use crate::node::{ReduceTree, WantOfMemory};
+use std::alloc::Global;
+use vortex_columns::{Nullability, Scalar, VortexResult};
+use vortex_functions::ScalarFnRef;
+use vortex_interface::ScalarFnVTable;
+use vortex_operators::Operator;
+
+/// The truth value of a constant that has one: of Bool, and not null.
+fn constant_truth<C: ScalarFnVTable, T: ReduceTree<C>>(node: &T) -> Option<bool>
+    ensures { result ≡ constant_truth (T.tree node.now) }
+{
+    match node.as_constant() {
+        Some(scalar) => scalar.as_bool_opt(),
+        None => None,
+    }
+}
+
+/// Whether the value decides the operator, whatever the other operand: false does And, and true
+/// does Or.
+fn decides(operator: Operator, value: bool) -> bool
+    ensures { result ≡ decides operator value }
+{
+    match operator {
+        Operator::And => !value,
+        Operator::Or => value,
+        _ => false,
+    }
+}
+
+/// What And or Or says of two truth values.
+fn of_both(operator: Operator, left: bool, right: bool) -> bool
+    requires { IsTrue (is_boolean operator) }
+    ensures { kleene operator (Some left) (Some right) ≡ Some result }
+{
+    match operator {
+        Operator::And => left && right,
+        _ => left || right,
+    }
+}
+
+/// The constant of a truth value.
+fn truth_node<C: ScalarFnVTable, T: ReduceTree<C>>(
+    alloc: Global,
+    node: &T,
+    nullability: Nullability,
+    value: bool,
+) -> VortexResult<T>
+    ensures answer { AnswersUnlessMemory result
+        (λ made. T.tree made ≡ truth_constant (allows_null nullability) value) }
+    ensures same_rows { IfOk result (λ made. T.rows made ≡ T.rows node.now) }
+{
+    node.new_constant(alloc, Scalar::bool(value, nullability))
+}
+
+/// An operand in place of the node, cast where only the node is nullable.
+fn widened<C: ScalarFnVTable, T: ReduceTree<C>>(
+    alloc: Global,
+    node: &T,
+    nullability: Nullability,
+    operand: T,
+) -> VortexResult<T>
+    requires casts { tree_type C.meaning (cast_of (T.tree operand)) ≡ Some (bool_type true) }
+    requires same_rows { T.rows operand ≡ T.rows node.now }
+    ensures answer { AnswersUnlessMemory result
+        (λ made. T.tree made ≡ widened C.meaning (allows_null nullability) (T.tree operand)) }
+    ensures same_rows { IfOk result (λ made. T.rows made ≡ T.rows node.now) }
+{
+    if !nullability.is_nullable() {
+        return Ok(operand);
+    }
+    if operand.node_dtype().is_nullable() {
+        return Ok(operand);
+    }
+    let mut operands = Vec::new(alloc);
+    operands.push(operand)?;
+    node.new_node(alloc, ScalarFnRef::Cast, &operands)
+}
+
+/// The node where one operand is a constant of that value: it decides, or the other operand stays.
+fn beside_constant<C: ScalarFnVTable, T: ReduceTree<C>>(
+    alloc: Global,
+    node: &T,
+    operator: Operator,
+    nullability: Nullability,
+    value: bool,
+    other: T,
+) -> VortexResult<T>
+    requires casts { tree_type C.meaning (cast_of (T.tree other)) ≡ Some (bool_type true) }
+    requires same_rows { T.rows other ≡ T.rows node.now }
+    ensures answer { AnswersUnlessMemory result (λ made. T.tree made
+        ≡ beside_constant C.meaning operator (allows_null nullability) value (T.tree other)) }
+    ensures same_rows { IfOk result (λ made. T.rows made ≡ T.rows node.now) }
+{
+    if decides(operator, value) {
+        truth_node(alloc, node, nullability, value)
+    } else {
+        widened(alloc, node, nullability, other)
+    }
+}
+
+/// The node by the constants among its operands.
+fn of_constants<C: ScalarFnVTable, T: ReduceTree<C>>(
+    alloc: Global,
+    node: &T,
+    operator: Operator,
+    nullability: Nullability,
+    left: T,
+    right: T,
+) -> VortexResult<Option<T>>
+    requires boolean { IsTrue (is_boolean operator) }
+    requires casts_left { tree_type C.meaning (cast_of (T.tree left)) ≡ Some (bool_type true) }
+    requires casts_right { tree_type C.meaning (cast_of (T.tree right)) ≡ Some (bool_type true) }
+    requires left_rows { T.rows left ≡ T.rows node.now }
+    requires right_rows { T.rows right ≡ T.rows node.now }
+    ensures answer { AnswersUnlessMemory result (λ answer. option_map T.tree answer
+        ≡ of_constants C.meaning operator (allows_null nullability) (T.tree left) (T.tree right)
+        (constant_truth (T.tree left)) (constant_truth (T.tree right))) }
+    ensures same_rows { IfOk result
+        (λ answer. IfSome answer (λ made. T.rows made ≡ T.rows node.now)) }
+{
+    let value_left = constant_truth(&left);
+    let value_right = constant_truth(&right);
+    match (value_left, value_right) {
+        (Some(a), Some(b)) => {
+            let made = truth_node(alloc, node, nullability, of_both(operator, a, b))?;
+            Ok(Some(made))
+        }
+        (Some(a), None) => {
+            let made = beside_constant(alloc, node, operator, nullability, a, right)?;
+            Ok(Some(made))
+        }
+        (None, Some(b)) => {
+            let made = beside_constant(alloc, node, operator, nullability, b, left)?;
+            Ok(Some(made))
+        }
+        (None, None) => Ok(None),
+    }
+}
+
+/// The node of And or Or, by the constants among its operands; E9 alone.
+fn reduce_call<C: ScalarFnVTable, T: ReduceTree<C>>(
+    alloc: Global,
+    operator: Operator,
+    node: &T,
+) -> VortexResult<Option<T>>
+    requires boolean { IsTrue (is_boolean operator) }
+    requires call { called (T.tree node.now) ≡ Some (ours (Binary operator)) }
+    ensures answer { AnswersUnlessMemory result (IsReduced C.meaning T.tree (T.tree node.now)) }
+    ensures same_rows { IfOk result
+        (λ answer. IfSome answer (λ made. T.rows made ≡ T.rows node.now)) }
+{
+    let nullability = node.node_dtype().nullability();
+    let left = node.child(alloc, 0)?;
+    let right = node.child(alloc, 1)?;
+    of_constants(alloc, node, operator, nullability, left, right)
+}
+
+/// Reduce of a call of And or Or: two constants give the table's value, one that decides gives its
+/// own, and beside one that does not the other operand stays, cast where only the node is nullable.
+/// None where neither operand is a constant of a truth value.
+pub fn reduce_boolean<C: ScalarFnVTable, T: ReduceTree<C>>(
+    alloc: Global,
+    operator: Operator,
+    node: &T,
+) -> Result<Option<T>, WantOfMemory>
+    requires boolean { IsTrue (is_boolean operator) }
+    requires call { called (T.tree node.now) ≡ Some (ours (Binary operator)) }
+    ensures answer { IfOk result (IsReduced C.meaning T.tree (T.tree node.now)) }
+    ensures same_rows { IfOk result
+        (λ answer. IfSome answer (λ made. T.rows made ≡ T.rows node.now)) }
+{
+    match reduce_call(alloc, operator, node) {
+        Ok(answer) => Ok(answer),
+        Err(_) => Err(WantOfMemory),
+    }
+}
