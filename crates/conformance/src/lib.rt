@@ -23,6 +23,8 @@ mod null_tests;
 #[cfg(test)]
 mod readme;
 #[cfg(test)]
+mod rules;
+#[cfg(test)]
 mod texts;
 #[cfg(test)]
 mod trees;

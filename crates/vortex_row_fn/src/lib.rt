@@ -21,3 +21,6 @@ pub use vortex_kernels::{
     kleene_boolean_buffers, kleene_words, scalar_cmp,
 };
 pub use vortex_like::{LikeOptions, LikePattern, LikeToken, LikeVariant, Looks, execute_like};
+pub use vortex_rules::{
+    ExpressionReduceNode, ReduceTree, WantOfMemory, reduce_boolean, reduce_boolean_expression,
+};
