@@ -287,7 +287,10 @@ fn a_leaf_without_its_column_is_refused(rt: HostRuntime) {
 /// Not of And of Not of Not of `a`, and of `b`.
 fn deep<C: ScalarFnVTable>(alloc: Global) -> Tree<C> {
     let below = not_of(alloc, not_of(alloc, leaf(alloc, "a")));
-    not_of(alloc, between(alloc, below, Operator::And, leaf(alloc, "b")))
+    not_of(
+        alloc,
+        between(alloc, below, Operator::And, leaf(alloc, "b")),
+    )
 }
 
 #[test]

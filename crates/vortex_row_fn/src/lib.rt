@@ -11,8 +11,8 @@ pub use vortex_columns::{
 };
 pub use vortex_functions::{
     Between, Binary, BoundExpression, Cast, CastOptions, ChildName, EmptyOptions, ExecutionArgs,
-    IsNotNull, IsNull, Like, NoCustom, Not, ScalarFnId, ScalarFnRef, ScalarFnSignature, ScalarFnVTable,
-    ScalarFnVTableExt, TypedScalarFnInstance, VecExecutionArgs,
+    IsNotNull, IsNull, Like, NoCustom, Not, ScalarFnId, ScalarFnRef, ScalarFnSignature,
+    ScalarFnVTable, ScalarFnVTableExt, TypedScalarFnInstance, VecExecutionArgs,
 };
 pub use vortex_kernels::{
     ArithmeticInteger, BetweenOptions, CompareOperator, Operator, StrictComparison, apply_checked,
