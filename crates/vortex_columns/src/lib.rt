@@ -17,6 +17,6 @@ pub use validity::Validity;
 pub use vortex_bits::{BitBuffer, BitView, bits};
 pub use vortex_types::{
     Arity, DType, ExecutionCtx, Ints, MismatchPlace, NativePType, Nullability, NumericOperator,
-    PType, ScalarValue, StructFields, VortexError, VortexResult, arity, context, dtype, error,
-    ints, scalar_value,
+    OperatorText, PType, ScalarValue, StructFields, VortexError, VortexResult, arity, context,
+    dtype, error, ints, scalar_value,
 };

@@ -1,3 +1,4 @@
 pub mod Arities
 pub mod Answers
 pub mod Errors
+pub mod OperatorTexts

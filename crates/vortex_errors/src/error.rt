@@ -4,6 +4,7 @@ ghost use Rattle.vortex_errors.specs.declared.error.VortexError.TheVariants.{Out
 ghost use Rattle.vortex_errors.specs.Errors.{fault_text};
 
 use crate::arity::Arity;
+use crate::operator_text::OperatorText;
 use std::alloc::{AllocError, AllocFailed};
 use thiserror::Error;
 
@@ -49,10 +50,10 @@ pub enum VortexError {
     TypeMismatch(MismatchPlace),
     /// E4: the operator, by its text, is neither And nor Or.
     #[error("{0} is no boolean operator")]
-    NotBooleanOperator(&'static str),
+    NotBooleanOperator(OperatorText),
     /// E5: the operator, by its text, is no comparison.
     #[error("{0} is no comparison")]
-    NotCompareOperator(&'static str),
+    NotCompareOperator(OperatorText),
     /// E6: a call with too few or too many arguments.
     #[error("{given} arguments where {arity} are taken")]
     ArityMismatch { arity: Arity, given: usize },

@@ -49,7 +49,7 @@ pub fn execute_boolean(
         (RefusesBoolean operator lhs.now rhs.now) }
 {
     if !operator.is_boolean() {
-        return Err(VortexError::NotBooleanOperator(operator.text()));
+        return Err(VortexError::NotBooleanOperator(operator.as_text()));
     }
     if !lhs.dtype().is_boolean() || !rhs.dtype().is_boolean() {
         return Err(VortexError::TypeMismatch(MismatchPlace::Boolean));
@@ -57,7 +57,7 @@ pub fn execute_boolean(
     match operator {
         Operator::And => execute_kleene::<Both>(lhs, rhs, ctx),
         Operator::Or => execute_kleene::<Either>(lhs, rhs, ctx),
-        _ => Err(VortexError::NotBooleanOperator(operator.text())),
+        _ => Err(VortexError::NotBooleanOperator(operator.as_text())),
     }
 }
 
@@ -109,7 +109,7 @@ fn kleene_sides(
     match operator {
         Operator::And => kleene_table::<Both>(left, right, len, nullability, ctx),
         Operator::Or => kleene_table::<Either>(left, right, len, nullability, ctx),
-        _ => Err(VortexError::NotBooleanOperator(operator.text())),
+        _ => Err(VortexError::NotBooleanOperator(operator.as_text())),
     }
 }
 

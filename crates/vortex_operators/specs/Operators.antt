@@ -3,6 +3,7 @@ use Rattle.std.specs.Prelude.{◌≡◌, ℕ, List, Bool, true, false, Option, S
 use Rattle.vortex_errors.specs.declared.error.VortexError.{VortexError}
 use Rattle.vortex_errors.specs.declared.error.VortexError.TheVariants.{NotBooleanOperator}
 use Rattle.vortex_errors.specs.declared.error.VortexError.TheVariants.{NotCompareOperator}
+use Rattle.vortex_errors.specs.OperatorTexts.{operator_text}
 use Rattle.vortex_operators.specs.declared.operators.Operator.{Operator}
 use Rattle.vortex_operators.specs.declared.operators.Operator.TheVariants.{Eq, NotEq, Gt, Gte, Lt}
 use Rattle.vortex_operators.specs.declared.operators.Operator.TheVariants.{Lte, And, Or, Add, Sub}
@@ -104,9 +105,9 @@ is_boolean o = false
 -- the refusal of an operator that is neither And nor Or, and of one that is no comparison, by its
 -- text
 abbrev pub IsNotBoolean : Operator → VortexError → Type 0
-IsNotBoolean o (NotBooleanOperator s) = s.now ≡ text_of o
+IsNotBoolean o (NotBooleanOperator s) = operator_text s ≡ text_of o
 IsNotBoolean o e = ⊥
 
 abbrev pub IsNotCompare : Operator → VortexError → Type 0
-IsNotCompare o (NotCompareOperator s) = s.now ≡ text_of o
+IsNotCompare o (NotCompareOperator s) = operator_text s ≡ text_of o
 IsNotCompare o e = ⊥

@@ -1,5 +1,6 @@
 //! The operators of two operands, and their laws.
 ghost use Rattle.std.specs.Prelude.{◌≡◌, IfSome};
+ghost use Rattle.vortex_errors.specs.OperatorTexts.{operator_text};
 ghost use Rattle.vortex_operators.specs.Operators.{text_of, operator_of, compare_operator_of};
 ghost use Rattle.vortex_operators.specs.Operators.{compare_inverse, compare_swap, inverse_of};
 ghost use Rattle.vortex_operators.specs.Operators.{logical_inverse_of, swap_of, is_arithmetic};
@@ -9,7 +10,7 @@ ghost use Rattle.vortex_operators.specs.Arithmetic.{numeric_operator_of};
 
 use std::cmp::Ordering;
 use std::fmt;
-use vortex_types::{NumericOperator, VortexError, VortexResult};
+use vortex_types::{NumericOperator, OperatorText, VortexError, VortexResult};
 
 /// An operator of two operands. The order is that of the variants.
 #[derive(Clone, Copy, Debug, PartialEq, Eq, PartialOrd, Hash)]
@@ -43,24 +44,31 @@ impl Operator {
     ghost use Rattle.std.specs.Prelude.{is_some};
     ghost use Rattle.vortex_operators.specs.SwapLaws.{AreTurned};
 
+    /// The operator by its text, as refusals carry it.
+    pub fn as_text(&self) -> OperatorText
+        ensures { operator_text result ≡ text_of self.now }
+    {
+        match self {
+            Operator::Eq => OperatorText::Eq,
+            Operator::NotEq => OperatorText::NotEq,
+            Operator::Gt => OperatorText::Gt,
+            Operator::Gte => OperatorText::Gte,
+            Operator::Lt => OperatorText::Lt,
+            Operator::Lte => OperatorText::Lte,
+            Operator::And => OperatorText::And,
+            Operator::Or => OperatorText::Or,
+            Operator::Add => OperatorText::Add,
+            Operator::Sub => OperatorText::Sub,
+            Operator::Mul => OperatorText::Mul,
+            Operator::Div => OperatorText::Div,
+        }
+    }
+
     /// The operator as SQL writes it, as `<=` and `and`.
     pub fn text(&self) -> &'static str
         ensures { result.now ≡ text_of self.now }
     {
-        match self {
-            Operator::Eq => "=",
-            Operator::NotEq => "!=",
-            Operator::Gt => ">",
-            Operator::Gte => ">=",
-            Operator::Lt => "<",
-            Operator::Lte => "<=",
-            Operator::And => "and",
-            Operator::Or => "or",
-            Operator::Add => "+",
-            Operator::Sub => "-",
-            Operator::Mul => "*",
-            Operator::Div => "/",
-        }
+        self.as_text().as_str()
     }
 
     /// The comparison that holds where this one does not.
@@ -238,6 +246,7 @@ impl CompareOperator {
 
 impl fmt::Display for CompareOperator {
     ghost use Rattle.std.specs.Prelude.{Some};
+    ghost use Rattle.vortex_errors.specs.OperatorTexts.{operator_text};
     ghost use Rattle.vortex_operators.specs.Operators.{text_of, operator_of};
 
     ghost output = { λ operator. Some (text_of (operator_of operator)) };
@@ -281,7 +290,7 @@ impl TryFrom<Operator> for CompareOperator {
     fn try_from(operator: Operator) -> VortexResult<CompareOperator> {
         match operator.to_compare_operator() {
             Some(compare) => Ok(compare),
-            None => Err(VortexError::NotCompareOperator(operator.text())),
+            None => Err(VortexError::NotCompareOperator(operator.as_text())),
         }
     }
 }

@@ -10,6 +10,6 @@ pub use dtype::{DType, Nullability, PType, StructFields};
 pub use ints::{Ints, NativePType};
 pub use scalar_value::ScalarValue;
 pub use vortex_errors::{
-    Arity, ExecutionCtx, MismatchPlace, NumericOperator, VortexError, VortexResult, arity, context,
-    error,
+    Arity, ExecutionCtx, MismatchPlace, NumericOperator, OperatorText, VortexError, VortexResult,
+    arity, context, error,
 };
