@@ -169,7 +169,7 @@ module _ {V O : Type 0} where
             subst (λ (s : Tree V O). HasTreeRows m cs n s c) (sym is)
             (call_rows f ts ds c k h (ap (tree_type m) (sym is) ∙ e) r)
 
-where_none : (b : Bool) (o : Option ℕ) (l : ℕ) → (if b then o else Some l) ≡ None
+pub where_none : (b : Bool) (o : Option ℕ) (l : ℕ) → (if b then o else Some l) ≡ None
     → (b ≡ true) × (o ≡ None)
 where_none true o l e = (refl, e)
 where_none false o l e = cc

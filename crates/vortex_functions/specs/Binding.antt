@@ -52,6 +52,11 @@ abbrev pub IsLeaf : {V O : Type 0} → Tree V O → Type 0
 IsLeaf (leaf l) = Unit {0}
 IsLeaf t = ⊥
 
+-- the leaf of a column at that place of a scope
+abbrev pub IsLeafAt : {V O : Type 0} → ℕ → Tree V O → Type 0
+IsLeafAt k (leaf (place p name t)) = k ≡ p
+IsLeafAt k t = ⊥
+
 -- the answer is the column at the leaf's place, lent
 abbrev pub IsLentLeaf : {V O : Type 0} → List ColumnView → Tree V O → Cow ColumnView → Type 0
 IsLentLeaf cs (leaf (place p name t)) (cow.Borrowed c) = slice_get cs p ≡ Some c.now

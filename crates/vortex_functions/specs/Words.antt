@@ -19,6 +19,6 @@ pub use Rattle.vortex_meaning.specs.Execution.{LeavesFit, other_length}
 pub use Rattle.vortex_meaning.specs.Printing.{tree_text}
 pub use Rattle.vortex_functions.specs.FunctionOf.{function_of, operator_in, is_not, instance_in}
 pub use Rattle.vortex_functions.specs.Texts.{AppendsText, IsTextOf}
-pub use Rattle.vortex_functions.specs.Binding.{AnswersLeaf, AnswersBinding, IsLeaf}
+pub use Rattle.vortex_functions.specs.Binding.{AnswersLeaf, AnswersBinding, IsLeaf, IsLeafAt}
 pub use Rattle.vortex_functions.specs.Executing.{HasRows, NodeFits, AnswersTree, AnswersExecution, LendsLeaf, Fits}
 pub use Rattle.vortex_functions.specs.Walks.{AllMean, IsCopy}

@@ -14,7 +14,7 @@ mod not;
 mod null_tests;
 pub mod tree;
 pub mod typed;
-mod walk;
+pub mod walk;
 
 pub use custom::NoCustom;
 pub use erased::{ScalarFnRef, ScalarFnSignature};

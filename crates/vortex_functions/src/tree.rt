@@ -1,7 +1,7 @@
 //! Expression trees over the columns of a scope.
 ghost use Rattle.std.specs.Prelude.{◌≡◌, ◌<◌, None, Some, MatchOption, length, map, slice_get};
 ghost use Rattle.std.specs.Option.{option_copied};
-ghost use Rattle.vortex_functions.specs.Words.{type_of, struct_fields, constant, trees_of, children_of, called, literal, tree_type, tree_types, function_of, AnswersUnlessMemory, AnswersLeaf, AnswersBinding};
+ghost use Rattle.vortex_functions.specs.Words.{type_of, struct_fields, constant, trees_of, children_of, called, literal, tree_type, tree_types, function_of, AnswersUnlessMemory, AnswersLeaf, AnswersBinding, IsLeaf, IsLeafAt};
 
 use crate::erased::ScalarFnRef;
 use std::alloc::Global;
@@ -189,6 +189,17 @@ impl<C: ScalarFnVTable> BoundExpression<C> {
             Node::Call(function, _, _) => Some(function),
             Node::Column(_, _, _) => None,
             Node::Literal(_, _) => None,
+        }
+    }
+
+    /// The place of a column leaf in its scope; none of any other tree.
+    pub fn as_column(&self) -> Option<usize>
+        ensures { MatchOption result (¬ IsLeaf self.now) (λ place. IsLeafAt place self.now) }
+    {
+        match &self.node {
+            Node::Column(place, _, _) => Some(*place),
+            Node::Literal(_, _) => None,
+            Node::Call(_, _, _) => None,
         }
     }
 

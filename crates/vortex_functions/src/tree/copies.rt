@@ -3,7 +3,7 @@ ghost use Rattle.std.specs.Prelude.{◌≡◌};
 ghost use Rattle.vortex_functions.specs.Words.{children_of, AllMean, AnswersUnlessMemory, IsCopy};
 
 use super::{BoundExpression, Node};
-use crate::walk::{Frame, walk};
+use crate::walk;
 use std::alloc::Global;
 use vortex_columns::VortexResult;
 use vortex_interface::ScalarFnVTable;

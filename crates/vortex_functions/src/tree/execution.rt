@@ -3,7 +3,7 @@ ghost use Rattle.std.specs.Prelude.{◌≡◌, ◌↔◌, None, IsTrue, IsOk};
 ghost use Rattle.vortex_functions.specs.Words.{children_of, AllMean, AnswersUnlessMemory, HasRows, LeavesFit, NodeFits, other_length, AnswersTree, AnswersExecution, LendsLeaf, IsLeaf, Fits};
 
 use super::{BoundExpression, Node};
-use crate::walk::{Frame, walk};
+use crate::walk;
 use std::borrow::Cow;
 use vortex_columns::{Column, ExecutionCtx, VortexError, VortexResult};
 use vortex_interface::{ScalarFnVTable, VecExecutionArgs};

@@ -2,7 +2,7 @@
 ghost use Rattle.vortex_functions.specs.Words.{children_of, AllMean, AnswersUnlessMemory, IsTextOf};
 
 use super::{BoundExpression, Node};
-use crate::walk::{Frame, walk};
+use crate::walk;
 use std::alloc::Global;
 use std::fmt;
 use vortex_columns::VortexResult;
