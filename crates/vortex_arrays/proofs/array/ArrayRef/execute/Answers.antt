@@ -1,0 +1,13 @@
+use Rattle.std.proofs.Common.{subst}
+use Rattle.vortex_arrays.specs.Nodes.{IsNode}
+use Rattle.vortex_arrays.proofs.Children.{seen}
+use Rattle.vortex_arrays.proofs.Columns.{column_rows}
+use Rattle.vortex_arrays.proofs.array.ArrayRef.execute.Goals as goal
+
+pub returns-in-Column-clause-answer : goal.returns-in-Column-clause-answer
+returns-in-Column-clause-answer g c =
+    let m = g.C.ScalarFnVTable.meaning in
+    let n = c.self.inside.len in
+    let is = seen c.args.self.now c.self.inside _ c.self.view_is c.in-Column.is in
+    let node = subst (λ x. IsNode m n x) c.in-Column.is c.self.invariant in
+    column_rows m c.args.self.now _ n is node.0 node.1

@@ -1,0 +1,87 @@
+use Rattle.std.proofs.Common.{◌≡◌, ap, sym, ◌∙◌, length, map, refl, true}
+use Rattle.std.specs.Prelude.{Some, None}
+use Rattle.std.proofs.lemmas.Result.{err_from_is_err_and}
+use Rattle.vortex_types.specs.TypeOf.{type_of}
+use Rattle.vortex_meaning.specs.Meaning.{fits}
+use Rattle.vortex_meaning.specs.Functions.{function_arity}
+use Rattle.vortex_meaning.specs.Trees.{trees_of}
+use Rattle.vortex_meaning.specs.Eval.{tree_types}
+use Rattle.vortex_functions.specs.FunctionOf.{function_of}
+use Rattle.vortex_arrays.specs.Arrays.{trees_in, other_rows}
+use Rattle.vortex_arrays.specs.Calls.{operands, lengths}
+use Rattle.vortex_arrays.proofs.Calls.{dtypes_fit, array_is_typed, array_types_refused}
+use Rattle.vortex_arrays.proofs.call.ScalarFnArray.try_new_with_len.Goals as goal
+
+pub returns-in-Some : goal.returns-in-Some
+returns-in-Some g c =
+    let arity : fits (function_arity g.C.ScalarFnVTable.meaning (function_of c.args.function))
+    (length c.args.children.items) ≡ true =
+    (λ j. fits (sym c.signature-arity.ensures.arity j)
+    (sym (c.len-given.ensures ∙ c.args.children.ok.0) j))
+    ∙ sym c.matches.ensures
+    ∙ c.if-not-matches.false in
+    operands arity
+    (lengths c.in-Some.right
+    (ap (other_rows c.args.len) (sym c.deref.ensures.value) ∙ sym c.in-Some.ensures) refl)
+
+pub return_dtype-requires : goal.return_dtype-requires
+return_dtype-requires g c =
+    let m = g.C.ScalarFnVTable.meaning in
+    let f = function_of c.args.function in
+    let xs = c.args.children.items in
+    let arity : fits (function_arity m f) (length xs) ≡ true =
+    (λ j. fits (sym c.signature-arity.ensures.arity j)
+    (sym (c.len-given.ensures ∙ c.args.children.ok.0) j))
+    ∙ sym c.matches.ensures
+    ∙ c.if-not-matches.false in
+    let even : other_rows c.args.len xs ≡ None =
+    ap (other_rows c.args.len) (sym c.deref.ensures.value) ∙ sym c.in_default.ensures in
+    let typed : tree_types m (trees_of (trees_in xs)) ≡ Some (map type_of c.deref-3.result.now) =
+    ap (λ ys. tree_types m (trees_of (trees_in ys))) (sym c.deref-2.ensures.value)
+    ∙ c.in_ok-dtypes.ensures
+    ∙ ap (λ ds. Some (map type_of ds)) (sym c.deref-3.ensures.value) in
+    dtypes_fit m f xs c.args.len c.deref-3.result.now typed arity even
+
+pub returns-in_err-dtype : goal.returns-in_err-dtype
+returns-in_err-dtype g c =
+    let m = g.C.ScalarFnVTable.meaning in
+    let f = function_of c.args.function in
+    let xs = c.args.children.items in
+    let arity : fits (function_arity m f) (length xs) ≡ true =
+    (λ j. fits (sym c.signature-arity.ensures.arity j)
+    (sym (c.len-given.ensures ∙ c.args.children.ok.0) j))
+    ∙ sym c.matches.ensures
+    ∙ c.if-not-matches.false in
+    let even : other_rows c.args.len xs ≡ None =
+    ap (other_rows c.args.len) (sym c.deref.ensures.value) ∙ sym c.in_default.ensures in
+    let typed : tree_types m (trees_of (trees_in xs)) ≡ Some (map type_of c.deref-3.result.now) =
+    ap (λ ys. tree_types m (trees_of (trees_in ys))) (sym c.deref-2.ensures.value)
+    ∙ c.in_ok-dtypes.ensures
+    ∙ ap (λ ds. Some (map type_of ds)) (sym c.deref-3.ensures.value) in
+    let p =
+    err_from_is_err_and c.from_residual-in_err-dtype.result
+    c.from_residual-in_err-dtype.ensures.1 in
+    rw (p.1, p.2)
+    (array_types_refused m f xs c.args.len c.deref-3.result.now typed arity even _
+    c.in_err-dtype.ensures)
+
+pub invariant_of-result : goal.invariant_of-result
+invariant_of-result g c =
+    let m = g.C.ScalarFnVTable.meaning in
+    let f = function_of c.args.function in
+    let xs = c.args.children.items in
+    let arity : fits (function_arity m f) (length xs) ≡ true =
+    (λ j. fits (sym c.signature-arity.ensures.arity j)
+    (sym (c.len-given.ensures ∙ c.args.children.ok.0) j))
+    ∙ sym c.matches.ensures
+    ∙ c.if-not-matches.false in
+    let even : other_rows c.args.len xs ≡ None =
+    ap (other_rows c.args.len) (sym c.deref.ensures.value) ∙ sym c.in_default.ensures in
+    let typed : tree_types m (trees_of (trees_in xs)) ≡ Some (map type_of c.deref-3.result.now) =
+    ap (λ ys. tree_types m (trees_of (trees_in ys))) (sym c.deref-2.ensures.value)
+    ∙ c.in_ok-dtypes.ensures
+    ∙ ap (λ ds. Some (map type_of ds)) (sym c.deref-3.ensures.value) in (
+      array_is_typed m f xs c.args.len c.deref-3.result.now typed arity even
+          (type_of c.in_ok-dtype.dtype) c.in_ok-dtype.ensures,
+      even,
+    )

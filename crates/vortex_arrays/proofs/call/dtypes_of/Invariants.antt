@@ -1,0 +1,12 @@
+use Rattle.std.proofs.Common.{◌≡◌, map, take, Some}
+use Rattle.vortex_types.specs.TypeOf.{type_of}
+use Rattle.vortex_meaning.specs.Trees.{trees_of}
+use Rattle.vortex_meaning.specs.Eval.{tree_types}
+use Rattle.vortex_arrays.specs.Arrays.{trees_in}
+use Rattle.vortex_arrays.proofs.call.dtypes_of.Given as goal
+
+-- the types so far
+abbrev pub invariant-loop-child : goal.invariant-loop-child
+invariant-loop-child g l =
+    tree_types g.C.ScalarFnVTable.meaning
+    (trees_of (take l.child-index (trees_in l.children))) ≡ Some (map type_of l.dtypes.items)

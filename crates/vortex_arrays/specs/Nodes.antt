@@ -1,0 +1,41 @@
+-- How an array's node is seen.
+use Rattle.std.specs.Prelude.{◌≡◌, ℕ, ◌+◌, ◌≤◌, List, [], ◌∷◌, Some, None, IfSome, length}
+use Rattle.std.proofs.Common.{arith}
+use denote.Param.Weighed.{most}
+use Rattle.vortex_arrays.specs.declared.array.Node.{Node}
+use Rattle.vortex_arrays.specs.declared.array.Node.TheVariants.{Column, Call}
+use Rattle.vortex_arrays.specs.declared.array.ArrayRef.TheInside.{Inside}
+use Rattle.vortex_types.specs.TypeOf.{type_of}
+use Rattle.vortex_columns.specs.ColumnView.{ColumnView, constant_column}
+use Rattle.vortex_meaning.specs.Meaning.{Meaning}
+use Rattle.vortex_meaning.specs.Trees.{Tree, call, trees_of, node_count, nodes_count}
+use Rattle.vortex_meaning.specs.Eval.{tree_type}
+use Rattle.vortex_functions.specs.FunctionOf.{function_of}
+use Rattle.vortex_arrays.specs.Arrays.{Array, column_tree, tree_in, trees_in, other_rows}
+
+abbrev pub node_tree : {V O : Type 0} → Node V O → Tree V O
+node_tree (Column c) = column_tree c
+node_tree (Call f children t) = call (function_of f) (trees_of (trees_in children.items))
+
+abbrev pub array_view : {V O : Type 0} → Inside V O → Array V O
+array_view a = (node_tree a.node, a.len)
+
+-- a column that is seen as a constant one has the scalar in each row
+abbrev pub TellsConstant : ColumnView → Type 0
+TellsConstant c = IfSome c.constant (λ s. c ≡ constant_column s (length c.rows))
+
+-- a column has so many rows; a call is well typed, has the type beside it, and no child has another
+-- row count
+abbrev pub IsNode : {V O : Type 0} → Meaning V O → ℕ → Node V O → Type 0
+IsNode m n (Column c) = (length c.rows ≡ n) × TellsConstant c
+IsNode m n (Call f children t) =
+    (tree_type m (call (function_of f) (trees_of (trees_in children.items))) ≡ Some (type_of t)) ×
+    (other_rows n children.items ≡ None)
+
+abbrev pub IsArray : {V O : Type 0} → Meaning V O → Inside V O → Type 0
+IsArray m a = IsNode m a.len a.node
+
+pub most_le-nodes_count : {V O : Type 0} (xs : List (Array V O))
+    → most (λ a. node_count (tree_in a) + 1) xs ≤ nodes_count (trees_of (trees_in xs)) + 1
+most_le-nodes_count [] = omega arith
+most_le-nodes_count (a ∷ xs) = omega (arith, most_le-nodes_count xs)
