@@ -1,3 +1,9 @@
 pub mod Calls
 pub mod BooleanNodes
 pub mod Kept
+pub mod Listed
+pub mod NullTestNodes
+pub mod DefaultValidities
+pub mod NotRefused
+pub mod Simplified
+pub mod Unions

@@ -1,2 +1,9 @@
+pub mod ExpressionOf
+pub mod FixedRules
+pub mod Identities
 pub mod Making
+pub mod NullTests
 pub mod Reduced
+pub mod Simplified
+pub mod Told
+pub mod Union

@@ -11,7 +11,8 @@ ghost use Rattle.vortex_meaning.specs.ReduceRules.{beside_constant, of_constants
 ghost use Rattle.vortex_functions.specs.Words.{ours, called, tree_type, AnswersUnlessMemory};
 ghost use Rattle.vortex_rules.specs.Reduced.{IsReduced};
 
-use crate::node::{ReduceTree, WantOfMemory};
+use crate::making::call_on_one;
+use crate::node::ReduceTree;
 use std::alloc::Global;
 use vortex_columns::{Nullability, Scalar, VortexResult};
 use vortex_functions::ScalarFnRef;
@@ -19,7 +20,7 @@ use vortex_interface::ScalarFnVTable;
 use vortex_operators::Operator;
 
 /// The truth value of a constant that has one: of Bool, and not null.
-fn constant_truth<C: ScalarFnVTable, T: ReduceTree<C>>(node: &T) -> Option<bool>
+pub(crate) fn constant_truth<C: ScalarFnVTable, T: ReduceTree<C>>(node: &T) -> Option<bool>
     ensures { result ≡ constant_truth (T.tree node.now) }
 {
     match node.as_constant() {
@@ -30,7 +31,7 @@ fn constant_truth<C: ScalarFnVTable, T: ReduceTree<C>>(node: &T) -> Option<bool>
 
 /// Whether the value decides the operator, whatever the other operand: false does And, and true
 /// does Or.
-fn decides(operator: Operator, value: bool) -> bool
+pub(crate) fn decides(operator: Operator, value: bool) -> bool
     ensures { result ≡ decides operator value }
 {
     match operator {
@@ -52,7 +53,7 @@ fn of_both(operator: Operator, left: bool, right: bool) -> bool
 }
 
 /// The constant of a truth value.
-fn truth_node<C: ScalarFnVTable, T: ReduceTree<C>>(
+pub(crate) fn truth_node<C: ScalarFnVTable, T: ReduceTree<C>>(
     alloc: Global,
     node: &T,
     nullability: Nullability,
@@ -84,13 +85,11 @@ fn widened<C: ScalarFnVTable, T: ReduceTree<C>>(
     if operand.node_dtype().is_nullable() {
         return Ok(operand);
     }
-    let mut operands = Vec::new(alloc);
-    operands.push(operand)?;
-    node.new_node(alloc, ScalarFnRef::Cast, &operands)
+    call_on_one(alloc, node, ScalarFnRef::Cast, operand)
 }
 
 /// The node where one operand is a constant of that value: it decides, or the other operand stays.
-fn beside_constant<C: ScalarFnVTable, T: ReduceTree<C>>(
+pub(crate) fn beside_constant<C: ScalarFnVTable, T: ReduceTree<C>>(
     alloc: Global,
     node: &T,
     operator: Operator,
@@ -150,8 +149,10 @@ fn of_constants<C: ScalarFnVTable, T: ReduceTree<C>>(
     }
 }
 
-/// The node of And or Or, by the constants among its operands; E9 alone.
-fn reduce_call<C: ScalarFnVTable, T: ReduceTree<C>>(
+/// Reduce of a call of And or Or: two constants give the table's value, one that decides gives its
+/// own, and beside one that does not the other operand stays, cast where only the node is nullable.
+/// None where neither operand is a constant of a truth value. E9 alone.
+pub fn reduce_boolean<C: ScalarFnVTable, T: ReduceTree<C>>(
     alloc: Global,
     operator: Operator,
     node: &T,
@@ -166,24 +167,4 @@ fn reduce_call<C: ScalarFnVTable, T: ReduceTree<C>>(
     let left = node.child(alloc, 0)?;
     let right = node.child(alloc, 1)?;
     of_constants(alloc, node, operator, nullability, left, right)
-}
-
-/// Reduce of a call of And or Or: two constants give the table's value, one that decides gives its
-/// own, and beside one that does not the other operand stays, cast where only the node is nullable.
-/// None where neither operand is a constant of a truth value.
-pub fn reduce_boolean<C: ScalarFnVTable, T: ReduceTree<C>>(
-    alloc: Global,
-    operator: Operator,
-    node: &T,
-) -> Result<Option<T>, WantOfMemory>
-    requires boolean { IsTrue (is_boolean operator) }
-    requires call { called (T.tree node.now) ≡ Some (ours (Binary operator)) }
-    ensures answer { IfOk result (IsReduced C.meaning T.tree (T.tree node.now)) }
-    ensures same_rows { IfOk result
-        (λ answer. IfSome answer (λ made. T.rows made ≡ T.rows node.now)) }
-{
-    match reduce_call(alloc, operator, node) {
-        Ok(answer) => Ok(answer),
-        Err(_) => Err(WantOfMemory),
-    }
 }

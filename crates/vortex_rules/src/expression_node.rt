@@ -4,10 +4,12 @@ ghost use Rattle.std.specs.Cow.{cow_value, IsBorrowed};
 ghost use Rattle.vortex_functions.specs.Words.{function_of, AnswersUnlessMemory};
 ghost use Rattle.vortex_rules.specs.Making.{AnswersCall};
 
-use crate::node::ReduceTree;
+use crate::dispatch::validity_call;
+use crate::node::{ReduceNodeValidity, ReduceTree};
+use crate::rules::{ReduceNode, ScalarFnRules};
 use std::alloc::Global;
 use std::borrow::Cow;
-use vortex_columns::{DType, Scalar, VortexResult};
+use vortex_columns::{DType, Nullability, Scalar, VortexResult};
 use vortex_functions::{BoundExpression, ScalarFnRef};
 use vortex_interface::ScalarFnVTable;
 
@@ -130,5 +132,20 @@ impl<'a, C: ScalarFnVTable> ReduceTree<C> for ExpressionReduceNode<'a, C> {
         Ok(ExpressionReduceNode {
             expression: Cow::Owned(BoundExpression::lit(alloc, scalar)),
         })
+    }
+}
+
+impl<'a, C: ScalarFnRules> ReduceNode<C> for ExpressionReduceNode<'a, C> {
+    fn validity(&self, alloc: Global) -> VortexResult<ReduceNodeValidity<Self>> {
+        if let Some(scalar) = self.as_constant() {
+            let valid = Scalar::bool(!scalar.is_null(), Nullability::NonNullable);
+            let node = self.new_constant(alloc, valid)?;
+            return Ok(ReduceNodeValidity::Reduced(node));
+        }
+        let _leaf = self.expression().as_column();
+        match self.scalar_fn() {
+            Some(function) => validity_call(alloc, function, self),
+            None => Ok(ReduceNodeValidity::Irreducible),
+        }
     }
 }

@@ -10,12 +10,14 @@ use vortex_columns::{DType, Scalar, VortexResult};
 use vortex_functions::ScalarFnRef;
 use vortex_interface::ScalarFnVTable;
 
-/// The only refusal of a rule, E9 of the calls that it makes.
-///
-/// A type of its own, since a function whose signature names `VortexError`, which holds a `&'static
-/// str`, cannot be called with a node that has a lifetime as its type argument.
-#[derive(Clone, Copy, Debug, PartialEq, Eq)]
-pub struct WantOfMemory;
+/// What a node's validity is reduced to.
+#[derive(Drop)]
+pub enum ReduceNodeValidity<T> {
+    /// A tree of non-nullable Bool that says whether the node is not null.
+    Reduced(T),
+    /// No tree says it.
+    Irreducible,
+}
 
 /// A node that stands for one well-typed tree, over a caller's functions `C`.
 ///

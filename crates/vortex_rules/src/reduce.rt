@@ -1,54 +1,66 @@
-//! The rules of Reduce at the root of an expression.
-ghost use Rattle.std.specs.Prelude.{◌≡◌, IfSome, IsTrue, Some};
-ghost use Rattle.vortex_operators.specs.Operators.{is_boolean};
-ghost use Rattle.vortex_meaning.specs.Shipped.{Binary};
+//! Rules at the root of an expression.
+ghost use Rattle.std.specs.Prelude.{◌≡◌, IfSome, Some};
+ghost use Rattle.vortex_meaning.specs.Functions.{Function};
 ghost use Rattle.vortex_meaning.specs.Rewrites.{Rewrites};
-ghost use Rattle.vortex_functions.specs.Words.{ours, called, AnswersUnlessMemory};
-ghost use Rattle.vortex_rules.specs.Reduced.{IsReduced};
+ghost use Rattle.vortex_functions.specs.Words.{called, function_of, AnswersUnlessMemory};
+ghost use Rattle.vortex_rules.specs.Reduced.{IsReducedBy, IsSimplifiedBy};
+ghost use Rattle.vortex_rules.specs.ExpressionOf.{expression_of};
 
-use crate::boolean::reduce_boolean;
+use crate::dispatch::{reduce_call, simplify_call};
 use crate::expression_node::ExpressionReduceNode;
+use crate::rules::ScalarFnRules;
 use std::alloc::Global;
-use std::borrow::Cow;
-use vortex_columns::{VortexError, VortexResult};
-use vortex_functions::BoundExpression;
-use vortex_interface::ScalarFnVTable;
-use vortex_operators::Operator;
+use vortex_columns::VortexResult;
+use vortex_functions::{BoundExpression, ScalarFnRef};
 
-/// The expression as a node, reduced; E9 alone.
-fn reduced<C: ScalarFnVTable>(
-    alloc: Global,
-    operator: Operator,
-    expression: &BoundExpression<C>,
-) -> VortexResult<Option<BoundExpression<C>>>
-    requires boolean { IsTrue (is_boolean operator) }
-    requires call { called expression.now ≡ Some (ours (Binary operator)) }
-    ensures { AnswersUnlessMemory result (IsReduced C.meaning (λ t. t) expression.now) }
-{
-    let node = ExpressionReduceNode::new(Cow::Borrowed(expression));
-    match reduce_boolean(alloc, operator, &node) {
-        Ok(Some(made)) => {
-            let expression = made.into_expression(alloc)?;
-            Ok(Some(expression))
-        }
-        Ok(None) => Ok(None),
-        Err(_) => Err(VortexError::OutOfMemory),
-    }
+/// The rules of a function with its options, at the root of an expression that is a call of it.
+pub trait ReduceExpression<C: ScalarFnRules> {
+    ghost function: { Self → Function C C.Options };
+
+    /// What Reduce makes of the call: of its type, and of its value in each row in which it has
+    /// one. None where no rule applies. E9 alone.
+    fn reduce_expression<'a>(
+        &self,
+        alloc: Global,
+        node: &ExpressionReduceNode<'a, C>,
+    ) -> VortexResult<Option<ExpressionReduceNode<'a, C>>>
+        requires { called (expression_of node.now) ≡ Some (function self.now) }
+        ensures answer { AnswersUnlessMemory result
+            (IsReducedBy C.meaning C.rules expression_of (expression_of node.now)) }
+        ensures kept { AnswersUnlessMemory result (λ answer. IfSome answer
+            (λ made. Rewrites C.meaning (expression_of node.now) (expression_of made))) };
+
+    /// The same of Simplify.
+    fn simplify_expression(
+        &self,
+        alloc: Global,
+        expression: &BoundExpression<C>,
+    ) -> VortexResult<Option<BoundExpression<C>>>
+        requires { called expression.now ≡ Some (function self.now) }
+        ensures answer { AnswersUnlessMemory result
+            (IsSimplifiedBy C.meaning C.rules (λ t. t) expression.now) }
+        ensures kept { AnswersUnlessMemory result
+            (λ answer. IfSome answer (Rewrites C.meaning expression.now)) };
 }
 
-/// Reduce of an expression that is a call of And or Or: of the same type, and of the same value in
-/// each row in which the call has one. None where no rule applies. E9 alone.
-pub fn reduce_boolean_expression<C: ScalarFnVTable>(
-    alloc: Global,
-    operator: Operator,
-    expression: &BoundExpression<C>,
-) -> VortexResult<Option<BoundExpression<C>>>
-    requires boolean { IsTrue (is_boolean operator) }
-    requires call { called expression.now ≡ Some (ours (Binary operator)) }
-    ensures answer { AnswersUnlessMemory result (IsReduced C.meaning (λ t. t) expression.now) }
-    ensures kept { AnswersUnlessMemory result
-        (λ answer. IfSome answer (Rewrites C.meaning expression.now)) }
-{
-    let _typed = expression.dtype();
-    reduced(alloc, operator, expression)
+impl<C: ScalarFnRules> ReduceExpression<C> for ScalarFnRef<C> {
+    ghost function = { function_of };
+
+    fn reduce_expression<'a>(
+        &self,
+        alloc: Global,
+        node: &ExpressionReduceNode<'a, C>,
+    ) -> VortexResult<Option<ExpressionReduceNode<'a, C>>> {
+        let _typed = node.expression().dtype();
+        reduce_call(alloc, self, node)
+    }
+
+    fn simplify_expression(
+        &self,
+        alloc: Global,
+        expression: &BoundExpression<C>,
+    ) -> VortexResult<Option<BoundExpression<C>>> {
+        let _typed = expression.dtype();
+        simplify_call(alloc, self, expression)
+    }
 }

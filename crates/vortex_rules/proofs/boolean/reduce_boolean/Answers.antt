@@ -7,7 +7,7 @@ use Rattle.vortex_meaning.specs.Rules.{constant_truth}
 use Rattle.vortex_meaning.specs.ReduceRules.{of_constants}
 use Rattle.vortex_rules.specs.Reduced.{IsReduced}
 use Rattle.vortex_rules.proofs.BooleanNodes.{two_operands, is_operated, casts_left, casts_right, reduced}
-use Rattle.vortex_rules.proofs.boolean.reduce_call.Goals as goal
+use Rattle.vortex_rules.proofs.boolean.reduce_boolean.Goals as goal
 
 pub child-requires : goal.child-requires
 child-requires g c =

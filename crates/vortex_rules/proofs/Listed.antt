@@ -1,0 +1,101 @@
+-- What the table of rules has for the call of a function, by the list of functions.
+use Rattle.std.proofs.Common.{◌≡◌, false, Option, Some, None, refl, sym, ap, ◌∙◌}
+use Rattle.std.specs.Prelude.{ℕ, MatchOption}
+use Rattle.vortex_operators.specs.declared.operators.Operator.{Operator}
+use Rattle.vortex_operators.specs.declared.operators.Operator.TheVariants.{And, Or}
+use Rattle.vortex_operators.specs.Operators.{is_boolean}
+use Rattle.vortex_meaning.specs.Meaning.{Meaning}
+use Rattle.vortex_meaning.specs.Shipped.{Shipped, Binary, Not, IsNull, IsNotNull, Cast, Between, Like}
+use Rattle.vortex_meaning.specs.Functions.{ours, custom}
+use Rattle.vortex_meaning.specs.Trees.{place, held, Tree, leaf, constant, call, Trees, no_trees, tree, trees_of, list_of, children_of, called, literal}
+use Rattle.vortex_meaning.specs.Rules.{Rules}
+use Rattle.vortex_meaning.specs.ReduceRules.{reduce_operator, reduce_shipped, reduce}
+use Rattle.vortex_meaning.specs.SimplifyRules.{simplify_shipped, simplify}
+use Rattle.vortex_meaning.specs.ValidityRules.{default_validity, default_rules, validity}
+use Rattle.vortex_functions.specs.declared.erased.ScalarFnRef.{ScalarFnRef}
+use Rattle.vortex_functions.specs.declared.erased.ScalarFnRef.TheVariants as ref
+use Rattle.vortex_functions.specs.declared.typed.TypedScalarFnInstance.{TypedScalarFnInstance}
+use Rattle.vortex_functions.specs.Binding.{IsLeaf, IsLeafAt}
+use Rattle.vortex_functions.specs.FunctionOf.{function_of, instance_in}
+
+module _ {V O : Type 0} (m : Meaning V O) (r : Rules V O) where
+  -- Reduce has nothing for a function that has no rule
+  pub not_reduced : (t : Tree V O) (s : Shipped) → called t ≡ Some (ours s)
+      → ((ts : Trees V O) → reduce_shipped m r s ts ≡ None) → None ≡ reduce m r t
+  not_reduced (leaf l) s c none = cc
+  not_reduced (constant k) s c none = cc
+  not_reduced (call f ts) s c none =
+      let is : f ≡ ours s = cc in
+      sym (none ts) ∙ ap (λ g. reduce m r (call g ts)) (sym is)
+
+  -- nor for an operator that is neither And nor Or
+  no_operator : (op : Operator) → is_boolean op ≡ false → (ts : Trees V O)
+      → reduce_operator m op ts ≡ None
+  no_operator And h ts = cc
+  no_operator Or h ts = cc
+  no_operator op h ts = refl
+
+  pub operator_not_reduced : (t : Tree V O) (op : Operator)
+      → called t ≡ Some (ours (Binary op)) → is_boolean op ≡ false → None ≡ reduce m r t
+  operator_not_reduced t op c h = not_reduced t (Binary op) c (no_operator op h)
+
+  same_children : (ts : Trees V O) → trees_of (list_of ts) ≡ ts
+  same_children no_trees = refl
+  same_children (tree t ts) = ap (tree t) (same_children ts)
+
+  -- the validity of a call of a shipped function is the default one
+  pub shipped_validity : (t : Tree V O) (s : Shipped) → called t ≡ Some (ours s)
+      → default_validity m (ours s) (trees_of (children_of t)) ≡ validity m r t
+  shipped_validity (leaf l) s c = cc
+  shipped_validity (constant k) s c = cc
+  shipped_validity (call f ts) s c =
+      let is : f ≡ ours s = cc in
+      ap (default_validity m (ours s)) (same_children ts)
+      ∙ ap (λ g. validity m r (call g ts)) (sym is)
+
+  -- Simplify has nothing for a function that is no operator
+  pub not_simplified : (t : Tree V O) (s : Shipped) → called t ≡ Some (ours s)
+      → ((ts : Trees V O) → simplify_shipped m s ts ≡ None) → None ≡ simplify m r t
+  not_simplified (leaf l) s c none = cc
+  not_simplified (constant k) s c none = cc
+  not_simplified (call f ts) s c none =
+      let is : f ≡ ours s = cc in
+      sym (none ts) ∙ ap (λ g. simplify m r (call g ts)) (sym is)
+
+  -- so it is for a reference to any function but a caller's
+  pub listed_validity : (f : ScalarFnRef V O) (t : Tree V O) → instance_in f ≡ None
+      → called t ≡ Some (function_of f)
+      → default_validity m (function_of f) (trees_of (children_of t)) ≡ validity m r t
+  listed_validity (ref.Binary op) t n c = shipped_validity t (Binary op) c
+  listed_validity ref.Not t n c = shipped_validity t Not c
+  listed_validity ref.IsNull t n c = shipped_validity t IsNull c
+  listed_validity ref.IsNotNull t n c = shipped_validity t IsNotNull c
+  listed_validity ref.Cast t n c = shipped_validity t Cast c
+  listed_validity (ref.Between options) t n c = shipped_validity t (Between options) c
+  listed_validity (ref.Like options) t n c = shipped_validity t (Like options) c
+  listed_validity (ref.Custom f) t n c = cc
+
+  -- an expression that is neither a literal nor a call has no validity
+  pub no_validity : (t : Tree V O) (at : Option ℕ) → literal t ≡ None → called t ≡ None
+      → MatchOption at (¬ IsLeaf t) (λ p. IsLeafAt p t) → None ≡ validity m r t
+  no_validity (leaf (place p name k)) at l c h = refl
+  no_validity (leaf (held column)) None l c h = absurd (h tt)
+  no_validity (leaf (held column)) (Some p) l c h = absurd h
+  no_validity (constant k) at l c h = cc
+  no_validity (call f ts) at l c h = cc
+
+module _ {V O : Type 0} (m : Meaning V O) where
+  -- the default validity of a caller's function is its own, where it has no rule
+  pub own_validity : (t : Tree V O) (f : V) (o : O) → called t ≡ Some (custom f o)
+      → default_validity m (custom f o) (trees_of (children_of t)) ≡ validity m (default_rules m) t
+  own_validity (leaf l) f o c = cc
+  own_validity (constant k) f o c = cc
+  own_validity (call g ts) f o c =
+      let is : g ≡ custom f o = cc in
+      ap (default_validity m (custom f o)) (same_children m (default_rules m) ts)
+      ∙ ap (λ h. validity m (default_rules m) (call h ts)) (sym is)
+
+  pub no_instance : (f : ScalarFnRef V O)
+      → ((i : TypedScalarFnInstance V O) → f ≡ ref.Custom i → ⊥) → instance_in f ≡ None
+  no_instance (ref.Custom i) n = absurd (n i refl)
+  no_instance f n = refl
