@@ -1,0 +1,3 @@
+pub mod ArrayCalls
+pub mod ArrayChildren
+pub mod ValidBits

@@ -1,0 +1,2 @@
+pub mod ArrayOf
+pub mod ColumnValidity
