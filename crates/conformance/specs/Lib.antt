@@ -1,2 +1,4 @@
+pub mod First
+pub mod FirstRules
 pub mod Half
 pub mod MustBeTrue

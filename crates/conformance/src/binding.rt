@@ -5,14 +5,6 @@ use fixtures::is_refused;
 use std::alloc::Global;
 use vortex_row_fn::*;
 
-/// Whether a count of children is refused, for that arity.
-fn is_misfit<T: Drop>(answer: VortexResult<T>, wanted: Arity, count: usize) -> bool {
-    match answer {
-        Err(VortexError::ArityMismatch { arity, given }) => arity == wanted && given == count,
-        _ => false,
-    }
-}
-
 /// The sum of so many leaves of Bool.
 fn sum_of_truths<C: ScalarFnVTable>(alloc: Global, count: usize) -> Tree<C> {
     call_of_leaves(alloc, Binary.bind(Operator::Add), count)

@@ -2,9 +2,12 @@
 #![tactic(auto)]
 
 #[cfg(test)]
+mod arrays;
+#[cfg(test)]
 mod between;
 #[cfg(test)]
 mod binding;
+pub mod first;
 #[cfg(test)]
 mod functions;
 pub mod half;

@@ -184,3 +184,11 @@ pub fn is_fault<T: Drop>(answer: VortexResult<T>, wanted: u64) -> bool {
         _ => false,
     }
 }
+
+/// Whether a count of children is refused, for that arity.
+pub fn is_misfit<T: Drop>(answer: VortexResult<T>, wanted: Arity, count: usize) -> bool {
+    match answer {
+        Err(VortexError::ArityMismatch { arity, given }) => arity == wanted && given == count,
+        _ => false,
+    }
+}

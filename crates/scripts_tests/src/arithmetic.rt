@@ -2,6 +2,22 @@
 
 use crate::endings::{is_refused, prints};
 
+const FAULTS_ON_BOTH_SIDES: &str = "rows 2
+col a u8 1 1
+col b u8 1 0
+col c u8 200 1
+col d u8 100 1
+get a
+get b
+call /
+get c
+get d
+call +
+call +
+show
+run
+";
+
 #[test]
 fn operators_calculate(rt: HostRuntime) {
     let alloc = rt.alloc();
@@ -35,10 +51,15 @@ fn types_of_arithmetic_are_refused(rt: HostRuntime) {
 #[test]
 fn the_first_call_that_faults_is_told(rt: HostRuntime) {
     let alloc = rt.alloc();
-    let script =
-        "rows 2\ncol a u8 1 1\ncol b u8 1 0\ncol c u8 200 1\ncol d u8 100 1\nget a\nget b\ncall /\nget c\nget d\ncall +\ncall +\nshow\nrun\n";
     let shown = "(($.a / $.b) + ($.c + $.d))\n";
-    assert!(rt; is_refused(alloc, script, shown, "error: Arithmetic.Div\n"));
+    assert!(rt;
+        is_refused(
+            alloc,
+            FAULTS_ON_BOTH_SIDES,
+            shown,
+            "error: Arithmetic.Div\n"
+        )
+    );
 }
 
 #[test]

@@ -3,13 +3,25 @@
 use crate::endings::{ends, is_refused, prints};
 use std::alloc::Global;
 
+const BETWEEN_COLUMNS: &str = "rows 3
+col x i32 10 10 1
+col l i32? null null 0
+col u i32 5 50 5
+get x
+get l
+get u
+call between <= <=
+show
+run
+call is_not_null
+run
+";
+
 #[test]
 fn between_runs(rt: HostRuntime) {
     let alloc = rt.alloc();
-    let script =
-        "rows 3\ncol x i32 10 10 1\ncol l i32? null null 0\ncol u i32 5 50 5\nget x\nget l\nget u\ncall between <= <=\nshow\nrun\ncall is_not_null\nrun\n";
     let out = "($.l <= $.x <= $.u)\nbool?: false null true\nbool: true false true\n";
-    assert!(rt; prints(alloc, script, out));
+    assert!(rt; prints(alloc, BETWEEN_COLUMNS, out));
     let script =
         "rows 2\ncol x i32 0 1\nget x\nlit i32 0\nlit i32 1\ncall between  <  <=\nshow\nrun\n";
     assert!(rt; prints(alloc, script, "(0i32 < $.x <= 1i32)\nbool: false true\n"));

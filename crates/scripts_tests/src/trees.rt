@@ -10,6 +10,19 @@ get a
 get b
 ";
 
+const TRUTHS_COMPARED: &str = "rows 4
+col a bool false false true true
+col b bool false true false true
+get a
+get b
+call <
+run
+get a
+get b
+call >=
+run
+";
+
 /// Those lines behind columns `a` and `b`, of which both are taken.
 fn behind_columns(alloc: Global, lines: &str) -> String {
     let mut script = String::new(alloc);
@@ -63,10 +76,8 @@ fn texts_and_truth_values_compare(rt: HostRuntime) {
     let alloc = rt.alloc();
     let script = "rows 3\ncol s utf8? \"a\" null \"b c\"\nget s\nlit utf8 \"b\"\ncall <\nrun\n";
     assert!(rt; prints(alloc, script, "bool?: true null false\n"));
-    let script =
-        "rows 4\ncol a bool false false true true\ncol b bool false true false true\nget a\nget b\ncall <\nrun\nget a\nget b\ncall >=\nrun\n";
     let out = "bool: false true false false\nbool: true false true true\n";
-    assert!(rt; prints(alloc, script, out));
+    assert!(rt; prints(alloc, TRUTHS_COMPARED, out));
 }
 
 #[test]

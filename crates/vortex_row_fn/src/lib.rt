@@ -1,13 +1,17 @@
 //! Row functions over columns: what the crates below offer, under one name.
 #![tactic(auto)]
 
+pub use vortex_array_rules::{ArrayReduceNode, ReduceArray};
+pub use vortex_arrays::{
+    ArrayRef, BetweenCall, BinaryCall, LikeCall, NullTestCall, ScalarFnArray, UnaryCall,
+};
 pub use vortex_checked::{
     CheckedAdd, CheckedArithmetic, CheckedDiv, CheckedMul, CheckedPrimitiveOp, CheckedSub, Failure,
 };
 pub use vortex_columns::{
     Arity, BitBuffer, BitView, ByteRows, Cell, Column, DType, ExecutionCtx, Ints, MismatchPlace,
-    NativePType, Nullability, NumericOperator, PType, Scalar, ScalarValue, Sequence, StructFields,
-    Validity, VortexError, VortexResult, cell_of,
+    NativePType, Nullability, NumericOperator, OperatorText, PType, Scalar, ScalarValue, Sequence,
+    StructFields, Validity, VortexError, VortexResult, cell_of,
 };
 pub use vortex_functions::{
     Between, Binary, BoundExpression, Cast, CastOptions, ChildName, EmptyOptions, ExecutionArgs,
@@ -22,5 +26,7 @@ pub use vortex_kernels::{
 };
 pub use vortex_like::{LikeOptions, LikePattern, LikeToken, LikeVariant, Looks, execute_like};
 pub use vortex_rules::{
-    ExpressionReduceNode, ReduceTree, WantOfMemory, reduce_boolean, reduce_boolean_expression,
+    ExpressionReduceNode, NullTest, ReduceExpression, ReduceNode, ReduceNodeValidity, ReduceTree,
+    ScalarFnRules, ShippedRules, default_validity, reduce_boolean, reduce_call, reduce_null_test,
+    simplify_call, simplify_operator, union_child_validities, validity_call,
 };
