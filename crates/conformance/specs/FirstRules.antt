@@ -1,18 +1,17 @@
 -- The rules of the function that answers its first argument are lawful.
-use Rattle.std.specs.Prelude.{◌≡◌, ℕ, codes, get_or, List, [], ◌∷◌, Some, refl}
+use Rattle.std.specs.Prelude.{◌≡◌, ℕ, codes, get_or, List, [], ◌∷◌, Some}
 use Rattle.std.proofs.Common.{sym, ap, ◌∙◌, subst, arith}
 use Rattle.vortex_types.specs.LogicalTypes.{LogicalType}
 use Rattle.vortex_types.specs.Values.{Value}
 use Rattle.vortex_columns.specs.ColumnView.{ColumnView}
 use Rattle.vortex_meaning.specs.Outcomes.{gives}
 use Rattle.vortex_meaning.specs.Meaning.{Meaning}
-use Rattle.vortex_meaning.specs.Shipped.{Shipped, shipped_id, Binary, Not, IsNull, IsNotNull, Cast, Between, Like}
 use Rattle.vortex_meaning.specs.Functions.{custom}
 use Rattle.vortex_meaning.specs.Trees.{Tree, call, Trees, no_trees, tree}
 use Rattle.vortex_meaning.specs.Eval.{tree_type, tree_types, eval, eval_all}
 use Rattle.vortex_meaning.specs.Rewrites.{Rewrites, LawfulRules, HasRow}
 use Rattle.vortex_meaning.proofs.TypedCalls.{typed_call, types_parts, means_parts, values_parts}
-use Rattle.vortex_rules.specs.Identities.{IsOwnIdentity}
+use Rattle.vortex_rules.specs.Identities.{IsOwnIdentity, first_letter}
 use Rattle.conformance.specs.First.{first_value, first_type, first_tree, first_meaning, first_rules}
 
 module _ {V O : Type 0} where
@@ -42,16 +41,6 @@ module _ {V O : Type 0} where
     reduce = λ f o ts t u h e. first_rewrites f o ts t u h e;
     simplify = λ f o ts t u h e. first_rewrites f o ts t u h e;
   }
-
--- the identity of a shipped function begins as `vortex` does
-first_letter : (s : Shipped) → get_or (shipped_id s) 0 0 ≡ 118
-first_letter (Binary op) = refl
-first_letter Not = refl
-first_letter IsNull = refl
-first_letter IsNotNull = refl
-first_letter Cast = refl
-first_letter (Between options) = refl
-first_letter (Like options) = refl
 
 pub first_identity : {V : Type 0} → V → IsOwnIdentity (codes "test.first")
 first_identity f s e =

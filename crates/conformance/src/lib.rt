@@ -2,6 +2,10 @@
 #![tactic(auto)]
 
 #[cfg(test)]
+mod array_makers;
+#[cfg(test)]
+mod array_rules;
+#[cfg(test)]
 mod arrays;
 #[cfg(test)]
 mod between;

@@ -1,26 +1,15 @@
 -- The function without arguments that answers false has the default validity and no rules.
-use Rattle.std.specs.Prelude.{◌≡◌, codes, get_or, refl}
+use Rattle.std.specs.Prelude.{◌≡◌, codes, get_or}
 use Rattle.std.proofs.Common.{ap, ◌∙◌, arith}
 use Rattle.vortex_meaning.specs.Rewrites.{LawfulRules}
-use Rattle.vortex_meaning.specs.Shipped.{Shipped, shipped_id, Binary, Not, IsNull, IsNotNull, Cast, Between, Like}
 use Rattle.vortex_meaning.specs.ValidityRules.{default_rules}
 use Rattle.vortex_meaning.proofs.Validities.{default_rules_lawful}
 use Rattle.vortex_functions.specs.Fixed.{fixed_meaning, fixed_lawful}
-use Rattle.vortex_rules.specs.Identities.{IsOwnIdentity}
+use Rattle.vortex_rules.specs.Identities.{IsOwnIdentity, first_letter}
 
 pub fixed_rules_lawful : {V O : Type 0}
     → LawfulRules (fixed_meaning {V = V} {O = O}) (default_rules fixed_meaning)
 fixed_rules_lawful = default_rules_lawful fixed_meaning fixed_lawful
-
--- the identity of a shipped function begins as `vortex` does
-first_letter : (s : Shipped) → get_or (shipped_id s) 0 0 ≡ 118
-first_letter (Binary op) = refl
-first_letter Not = refl
-first_letter IsNull = refl
-first_letter IsNotNull = refl
-first_letter Cast = refl
-first_letter (Between options) = refl
-first_letter (Like options) = refl
 
 pub fixed_identity : {V : Type 0} → V → IsOwnIdentity (codes "rowfn.none")
 fixed_identity f s e =
