@@ -1,8 +1,9 @@
 -- An array tree as a value: a tree over columns, and how many rows each of its nodes has.
-use Rattle.std.specs.Prelude.{ℕ, List, [], ◌∷◌, Option, Some, None, map, length, nat_eq, if◌then◌else◌}
+use Rattle.std.specs.Prelude.{ℕ, ◌<◌, List, [], ◌∷◌, Option, Some, None, map, length, nat_eq, if◌then◌else◌}
 use Rattle.vortex_columns.specs.ColumnView.{ColumnView, constant_column}
 use Rattle.vortex_types.specs.ScalarView.{ScalarView}
 use Rattle.vortex_meaning.specs.Trees.{held, Tree, leaf, constant, children_of}
+use Rattle.vortex_meaning.specs.Rewrites.{HasRow}
 
 abbrev pub Array : Type 0 → Type 0 → Type 0
 Array V O = Tree V O × ℕ
@@ -36,6 +37,13 @@ module _ {V O : Type 0} where
 
   abbrev pub column_in : Array V O → Option ColumnView
   column_in a = column_of (tree_in a) (rows_in a)
+
+  -- what an array holds has a value of its type in each of so many rows
+  abbrev pub AreRowsTyped : ℕ → Tree V O → Type 0
+  AreRowsTyped n t = (i : ℕ) → i < n → HasRow [] i t
+
+  abbrev pub IsTyped : Array V O → Type 0
+  IsTyped a = AreRowsTyped (rows_in a) (tree_in a)
 
   -- each child has its parent's row count
   abbrev pub children_in : Array V O → List (Array V O)

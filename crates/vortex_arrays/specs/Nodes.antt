@@ -11,7 +11,7 @@ use Rattle.vortex_meaning.specs.Meaning.{Meaning}
 use Rattle.vortex_meaning.specs.Trees.{Tree, call, trees_of, node_count, nodes_count}
 use Rattle.vortex_meaning.specs.Eval.{tree_type}
 use Rattle.vortex_functions.specs.FunctionOf.{function_of}
-use Rattle.vortex_arrays.specs.Arrays.{Array, column_tree, tree_in, trees_in, other_rows}
+use Rattle.vortex_arrays.specs.Arrays.{Array, column_tree, tree_in, trees_in, other_rows, AreRowsTyped}
 
 abbrev pub node_tree : {V O : Type 0} → Node V O → Tree V O
 node_tree (Column c) = column_tree c
@@ -32,8 +32,9 @@ IsNode m n (Call f children t) =
     (tree_type m (call (function_of f) (trees_of (trees_in children.items))) ≡ Some (type_of t)) ×
     (other_rows n children.items ≡ None)
 
+-- and what it holds has values of its types in each row
 abbrev pub IsArray : {V O : Type 0} → Meaning V O → Inside V O → Type 0
-IsArray m a = IsNode m a.len a.node
+IsArray m a = IsNode m a.len a.node × AreRowsTyped a.len (node_tree a.node)
 
 pub most_le-nodes_count : {V O : Type 0} (xs : List (Array V O))
     → most (λ a. node_count (tree_in a) + 1) xs ≤ nodes_count (trees_of (trees_in xs)) + 1

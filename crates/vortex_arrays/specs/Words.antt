@@ -6,6 +6,6 @@ pub use Rattle.vortex_meaning.specs.Trees.{called, literal, trees_of}
 pub use Rattle.vortex_meaning.specs.Eval.{tree_type, tree_types}
 pub use Rattle.vortex_functions.specs.FunctionOf.{function_of}
 pub use Rattle.vortex_functions.specs.Walks.{AllMean, IsCopy}
-pub use Rattle.vortex_arrays.specs.Arrays.{tree_in, rows_in, trees_in, column_array, column_in, children_in, other_rows}
+pub use Rattle.vortex_arrays.specs.Arrays.{tree_in, rows_in, trees_in, column_array, column_in, children_in, other_rows, IsTyped}
 pub use Rattle.vortex_arrays.specs.Calls.{IsArrayCall, AnswersCallOfRows, AnswersCall, AnswersOperands}
 pub use Rattle.vortex_arrays.specs.Executing.{HasArrayRows, AnswersArray, LendsColumn}

@@ -2,7 +2,7 @@
 ghost use Rattle.std.specs.Prelude.{◌≡◌, ◌↔◌, ◌<◌, IfSome, IsTrue, None, Some, MatchOption, length, slice_get};
 ghost use Rattle.std.specs.Option.{option_copied};
 ghost use Rattle.vortex_arrays.specs.Words.{type_of, called, literal, tree_type, function_of};
-ghost use Rattle.vortex_arrays.specs.Words.{tree_in, rows_in, column_array, column_in, children_in};
+ghost use Rattle.vortex_arrays.specs.Words.{tree_in, rows_in, column_array, column_in, children_in, IsTyped};
 
 use std::marker::Model;
 use std::mem;
@@ -85,8 +85,11 @@ impl<C: ScalarFnVTable> ArrayRef<C> {
     pub fn column(column: Column) -> ArrayRef<C>
         ensures { result ≡ column_array column }
     {
-        // What it answers says that the scalar of a constant column stands in each row.
+        // They say that each row has the type, and that the scalar of a constant column stands in
+        // each.
+        let _typed = column.dtype();
         let _told = column.as_constant();
+        column.tells_truly();
         let len = column.len();
         ArrayRef {
             node: Node::Column(column),
@@ -94,9 +97,11 @@ impl<C: ScalarFnVTable> ArrayRef<C> {
         }
     }
 
-    /// The type of the array's values.
+    /// The type of the array's values. What it holds has values of its types in each row, null
+    /// included.
     pub fn dtype(&self) -> &DType
-        ensures { tree_type C.meaning (tree_in self.now) ≡ Some (type_of result.now) }
+        ensures dtype { tree_type C.meaning (tree_in self.now) ≡ Some (type_of result.now) }
+        ensures typed { IsTyped self.now }
     {
         match &self.node {
             Node::Column(column) => column.dtype(),

@@ -1,7 +1,7 @@
 //! Calls over arrays.
-ghost use Rattle.std.specs.Prelude.{◌≡◌, Some, map};
+ghost use Rattle.std.specs.Prelude.{◌≡◌, All, IfOk, Some, map};
 ghost use Rattle.vortex_arrays.specs.Words.{AnswersUnlessMemory, AnswersCall, AnswersCallOfRows};
-ghost use Rattle.vortex_arrays.specs.Words.{function_of, other_rows, tree_types, trees_in, trees_of, type_of};
+ghost use Rattle.vortex_arrays.specs.Words.{function_of, other_rows, tree_types, trees_in, trees_of, type_of, IsTyped};
 
 use crate::array::{ArrayRef, Node};
 use std::alloc::Global;
@@ -33,8 +33,9 @@ impl<C: ScalarFnVTable> Model for ScalarFnArray<C> {
 
 /// The types of arrays.
 fn dtypes_of<C: ScalarFnVTable>(alloc: Global, children: &[ArrayRef<C>]) -> VortexResult<Vec<DType>>
-    ensures { AnswersUnlessMemory result (λ dtypes.
+    ensures types { AnswersUnlessMemory result (λ dtypes.
         tree_types C.meaning (trees_of (trees_in children.now)) ≡ Some (map type_of dtypes.items)) }
+    ensures typed { IfOk result (λ dtypes. All IsTyped children.now) }
 {
     let mut dtypes = Vec::new(alloc);
     for child in children {

@@ -2,7 +2,7 @@
 use Rattle.std.proofs.Common.{◌≡◌, ℕ, ◌+◌, ◌*◌, ◌<◌, ◌≤◌, suc, take, drop, pos, Bool, true, false}
 use Rattle.std.proofs.Common.{not, IsTrue, List, [], ◌∷◌, map, length, refl, sym, ap, ◌∙◌, subst}
 use Rattle.std.proofs.Common.{arith, cond}
-use Rattle.std.specs.Prelude.{slice_index, slice_index_or, All, Option, Result}
+use Rattle.std.specs.Prelude.{slice_index, slice_index_or, All, Option, IfSome, Result}
 use Rattle.std.proofs.lemmas.List.{get_or_default, same_lists, get_or-map, length-map}
 use Rattle.std.proofs.lemmas.List.FromFn.{get_or-map-range_with_len, length-map-range_with_len}
 use Rattle.vortex_types.specs.LogicalTypes.{LogicalType, Fields, no_fields, field, is_nullable}
@@ -11,13 +11,14 @@ use Rattle.vortex_types.specs.Values.{is_null}
 use Rattle.vortex_types.specs.Typing.{HasType, HaveFields, IsList, IsPair}
 use Rattle.vortex_types.specs.TypeOf.{type_of}
 use Rattle.vortex_columns.specs.ColumnView.{ColumnView, row, AreTyped, valid_rows, constant_form}
-use Rattle.vortex_columns.specs.ColumnView.{entries}
+use Rattle.vortex_columns.specs.ColumnView.{entries, FormTells, TellsTruly}
 use Rattle.vortex_columns.specs.ValidityView.{ValidityForm, non_nullable, all_valid, all_invalid}
 use Rattle.vortex_columns.specs.ValidityView.{array, ValidityView, is_valid_by, is_valid_row}
 use Rattle.vortex_columns.specs.ValidityView.{form_allows_null, FitsRowsBy, FitsRows, ReachesBy}
 use Rattle.vortex_columns.specs.Stored.{Kept, bools, integers, texts, byte_strings, structs, lists}
 use Rattle.vortex_columns.specs.Stored.{fixed_size_lists, maps, AreFields, Stored, nulls}
 use Rattle.vortex_columns.specs.Stored.{constant_of, kept, stored_of, stored_validity, kept_at}
+use Rattle.vortex_columns.specs.Stored.{constant_in}
 use Rattle.vortex_columns.specs.Stored.{value_at, row_at, rows_of, AreKept, IsStored, column_view}
 use Rattle.vortex_columns.specs.Stored.{IsColumn, HasPlace, HasRow}
 use Rattle.vortex_columns.specs.declared.column.Column.TheInside.{Inside}
@@ -253,6 +254,29 @@ typed_rows n t s a i d h =
     let here : i < n = omega (arith, length_rows n s) in
     subst (λ (v : Value). HasType t v) (sym (row_is n s i d here)) (typed_row n t s i here a)
 
+valid_not_null : (b : Bool) → true ≡ not b → b ≡ false
+valid_not_null true h = cc
+valid_not_null false h = refl
+
+invalid_null : (b : Bool) → false ≡ not b → b ≡ true
+invalid_null true h = refl
+invalid_null false h = cc
+
+-- whether a row is valid, by the form
+valid_told : (f : ValidityForm) (bits : List Bool) (i : ℕ) (v : Value)
+    → is_valid_by f bits i ≡ not (is_null v) → FormTells f v
+valid_told non_nullable bits i v h = valid_not_null (is_null v) h
+valid_told all_valid bits i v h = valid_not_null (is_null v) h
+valid_told all_invalid bits i v h = invalid_null (is_null v) h
+valid_told array bits i v h = tt
+
+-- the scalar of a constant has its type
+constant_typed : (n : ℕ) (t : LogicalType) (s : Stored) → IsStored n t s
+    → IfSome (constant_in s) (λ s. HasType s.dtype s.value)
+constant_typed n t nulls ok = tt
+constant_typed n t (constant_of s) ok = ok.1
+constant_typed n t (kept k v) ok = tt
+
 -- the same of a column that is opened
 module _ (a : Inside) (c : ColumnView) (is : column_view a ≡ c) where
   pub opened_len : a.len ≡ length c.rows
@@ -272,6 +296,19 @@ module _ (a : Inside) (c : ColumnView) (is : column_view a ≡ c) where
       → is_valid_row (stored_validity (stored_of a.storage)) i ≡ not (is_null (row c.rows i))
   opened_validity i h =
       valid_is (stored_of a.storage) i ∙ ap (λ v. not (is_null v)) (sym (opened_row i h))
+
+  form_is : (stored_validity (stored_of a.storage)).form ≡ c.form
+  form_is = ap (λ (d : ColumnView). d.form) is
+
+  pub opened_told : IsColumn a → TellsTruly c
+  opened_told ok = (
+    λ i h.
+        let v = stored_validity (stored_of a.storage) in
+        subst (λ (f : ValidityForm). FormTells f (row c.rows i)) form_is
+        (valid_told v.form v.bits i (row c.rows i) (opened_validity i h)),
+    subst (λ (d : ColumnView). IfSome d.constant (λ s. HasType s.dtype s.value)) is
+        (constant_typed a.len (type_of a.dtype) (stored_of a.storage) ok),
+  )
 
   pub opened_fits : IsColumn a → FitsRows (stored_validity (stored_of a.storage)) (length c.rows)
   opened_fits ok =
@@ -310,7 +347,7 @@ module _ (a : Inside) (c : ColumnView) (is : column_view a ≡ c) where
       let fits =
       array_bits (length c.rows) array bits refl
       (subst (λ (v : ValidityView). FitsRows v (length c.rows)) e (opened_fits ok)) in (
-        sym (ap (λ (d : ColumnView). d.form) is) ∙ ap (λ (v : ValidityView). v.form) e,
+        sym form_is ∙ ap (λ (v : ValidityView). v.form) e,
         same_lists bits (valid_rows c.rows) (fits ∙ sym (length-map c.rows (λ v. not (is_null v))))
             (λ k d h.
             let within : k < length c.rows = omega (arith, fits) in

@@ -1,7 +1,7 @@
 -- What is seen of a column: its type, its rows, the scalar that it is a constant of, if any, and
 -- the form of its validity. What lies under a null is not seen.
 use Rattle.std.specs.Prelude.{◌≡◌, ℕ, zero, suc, ◌+◌, ◌*◌, ◌<◌, ◌≤◌, ℤ, pos, Bool, true, false}
-use Rattle.std.specs.Prelude.{not, if◌then◌else◌, Option, Some, None, refl, String, string_bytes}
+use Rattle.std.specs.Prelude.{not, if◌then◌else◌, Option, Some, None, IfSome, refl, String, string_bytes}
 use Rattle.std.specs.Prelude.{List, [], ◌∷◌, map, length, take, drop, All}
 use Rattle.std.specs.Prelude.{slice_index, slice_index_or}
 use Rattle.std.specs.List.{range_with_len}
@@ -40,6 +40,19 @@ valid_rows = map (λ v. not (is_null v))
 -- the validity tells of each row whether it is null
 abbrev pub TellsNulls : List Value → ValidityView → Type 0
 TellsNulls rows v = (i : ℕ) → i < length rows → is_valid_row v i ≡ not (is_null (row rows i))
+
+-- the form of a column's validity tells truly whether this value of it is null
+abbrev pub FormTells : ValidityForm → Value → Type 0
+FormTells non_nullable v = is_null v ≡ false
+FormTells all_valid v = is_null v ≡ false
+FormTells all_invalid v = is_null v ≡ true
+FormTells array v = Unit {0}
+
+-- the form tells truly of each row, and the scalar that the column is a constant of has its type
+abbrev pub TellsTruly : ColumnView → Type 0
+TellsTruly c =
+    ((i : ℕ) → i < length c.rows → FormTells c.form (row c.rows i))
+    × IfSome c.constant (λ s. HasType s.dtype s.value)
 
 -- one row with its type
 abbrev pub scalar_in : ColumnView → ℕ → ScalarView

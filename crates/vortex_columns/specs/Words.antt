@@ -14,7 +14,7 @@ pub use Rattle.vortex_columns.specs.Cells.{cell_value, sequence_value, sequence_
 pub use Rattle.vortex_columns.specs.Cells.{IsCell, IsSequence}
 pub use Rattle.vortex_columns.specs.CellTypes.{values_in, ArePair, IsEntryOf, AreSoMany}
 pub use Rattle.vortex_columns.specs.ColumnView.{row, part, valid_rows, scalar_in, AreTyped}
-pub use Rattle.vortex_columns.specs.ColumnView.{TellsNulls, constant_form, constant_column}
+pub use Rattle.vortex_columns.specs.ColumnView.{TellsNulls, TellsTruly, constant_form, constant_column}
 pub use Rattle.vortex_columns.specs.ColumnView.{null_column, HasBits, AreBits, HasInts, AreInts}
 pub use Rattle.vortex_columns.specs.ColumnView.{HasBytes, AreBytes, AreBytesAt, LieWithin}
 pub use Rattle.vortex_columns.specs.ColumnView.{HasField, IsField, HasKind, AreLists, AreMaps}

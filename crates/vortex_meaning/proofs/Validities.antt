@@ -9,7 +9,7 @@ use Rattle.vortex_types.specs.Typing.{HasType, OrNull, IsTruth, IsNumber, FitsPT
 use Rattle.vortex_types.specs.ScalarView.{ScalarView}
 use Rattle.vortex_operators.specs.OperatorValues.{boolean_value}
 use Rattle.vortex_types.proofs.NullValues.{null_is, not_null}
-use Rattle.vortex_columns.specs.ColumnView.{ColumnView, row}
+use Rattle.vortex_columns.specs.ColumnView.{ColumnView, row, FormTells}
 use Rattle.vortex_columns.specs.ValidityView.{ValidityForm, non_nullable, all_valid, all_invalid, array}
 use Rattle.vortex_operators.specs.declared.operators.Operator.TheVariants.{And}
 use Rattle.vortex_meaning.specs.Outcomes.{gives, GivesType, GivesNull}
@@ -22,7 +22,7 @@ use Rattle.vortex_meaning.specs.Execution.{LeavesFit, AllLeavesFit}
 use Rattle.vortex_meaning.specs.ComparisonTrees.{operated}
 use Rattle.vortex_meaning.specs.Rules.{Rules, no_rules, truth_constant, is_not_null_of, may_be_null, is_nullable_tree}
 use Rattle.vortex_meaning.specs.ValidityRules.{validity_column, column_validity, is_null_type, without_null, null_tests, union_child_validities, validity_over, validity_of_typed, default_validity, default_rules, validity}
-use Rattle.vortex_meaning.specs.Rewrites.{FormTells, HasTypedRow, HasRow, AllHaveRow, AsksNoMore, IsValidityOf, LawfulRules}
+use Rattle.vortex_meaning.specs.Rewrites.{HasTypedRow, HasRow, AllHaveRow, AsksNoMore, IsValidityOf, LawfulRules}
 use Rattle.vortex_meaning.proofs.TypedCalls.{types_parts, values_parts, typed_call, type_of_one, type_of_two, call_value, eval_one}
 use Rattle.vortex_meaning.proofs.TypedValues.{function_typed, function_alike, function_null, values_typed}
 use Rattle.vortex_meaning.proofs.Rewriting.{asks_nothing}

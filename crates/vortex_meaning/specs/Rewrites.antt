@@ -1,11 +1,10 @@
 -- What rules owe: a rewritten tree has the type and the values of the old one, and the validity of
 -- a tree says where it is null.
-use Rattle.std.specs.Prelude.{◌≡◌, ℕ, ◌<◌, List, Some, ⊤, true, false, not, length}
+use Rattle.std.specs.Prelude.{◌≡◌, ℕ, ◌<◌, List, Some, ⊤, false, not, length}
 use Rattle.vortex_types.specs.LogicalTypes.{LogicalType, bool_type}
 use Rattle.vortex_types.specs.Values.{Value, truth, is_null}
 use Rattle.vortex_types.specs.Typing.{HasType}
-use Rattle.vortex_columns.specs.ColumnView.{ColumnView, row}
-use Rattle.vortex_columns.specs.ValidityView.{ValidityForm, non_nullable, all_valid, all_invalid, array}
+use Rattle.vortex_columns.specs.ColumnView.{ColumnView, row, FormTells}
 use Rattle.vortex_meaning.specs.Outcomes.{gives}
 use Rattle.vortex_meaning.specs.Meaning.{Meaning}
 use Rattle.vortex_meaning.specs.Functions.{custom}
@@ -13,13 +12,6 @@ use Rattle.vortex_meaning.specs.Trees.{Leaf, place, held, Tree, leaf, constant, 
 use Rattle.vortex_meaning.specs.Eval.{leaf_value, tree_type, eval}
 use Rattle.vortex_meaning.specs.Execution.{LeavesFit}
 use Rattle.vortex_meaning.specs.Rules.{Rules}
-
--- the form of a column's validity tells truly whether this value of it is null
-abbrev pub FormTells : ValidityForm → Value → Type 0
-FormTells non_nullable v = is_null v ≡ false
-FormTells all_valid v = is_null v ≡ false
-FormTells all_invalid v = is_null v ≡ true
-FormTells array v = ⊤
 
 -- a held column has that row, a value of its type, of which its form tells truly
 pub record HasTypedRow (c : ColumnView) (i : ℕ) : Type 0 where

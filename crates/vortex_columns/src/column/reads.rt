@@ -13,7 +13,7 @@ use vortex_bits::BitBuffer;
 use vortex_types::{DType, NativePType, VortexResult};
 
 impl Column {
-    ghost use Rattle.vortex_columns.specs.Words.{AreTyped, TellsNulls, FitsRows, validity_of};
+    ghost use Rattle.vortex_columns.specs.Words.{AreTyped, TellsNulls, TellsTruly, FitsRows, validity_of};
     ghost use Rattle.vortex_columns.specs.Words.{cell_value, IsCell, scalar_in, compare_values};
     ghost use Rattle.vortex_columns.specs.Words.{constant_column};
 
@@ -40,6 +40,14 @@ impl Column {
         ensures rows { AnswersUnlessMemory result (λ v. TellsNulls self.now.rows (validity_of v)) }
     {
         self.storage.validity(alloc)
+    }
+
+    /// Does nothing: its contract is what is known of every column. The form of its validity is true of each row,
+    /// and the scalar that it is a constant of has its type, also where there are no rows.
+    pub fn tells_truly(&self)
+        ensures { TellsTruly self.now }
+    {
+        let _opened = &self.storage;
     }
 
     /// Whether row `i` is not null.

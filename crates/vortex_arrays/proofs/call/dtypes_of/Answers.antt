@@ -1,14 +1,26 @@
-use Rattle.std.proofs.Common.{map, add-one, ap, sym, ◌∙◌}
-use Rattle.std.specs.Prelude.{Some}
-use Rattle.std.proofs.lemmas.List.{map-append}
+use Rattle.std.proofs.Common.{map, add-one, ap, sym, subst, ◌∙◌, arith}
+use Rattle.std.specs.Prelude.{All, Some}
+use Rattle.std.proofs.lemmas.List.{map-append, take_all}
 use Rattle.vortex_types.specs.TypeOf.{type_of}
+use Rattle.vortex_arrays.specs.Arrays.{IsTyped}
 use Rattle.vortex_arrays.proofs.Calls.{array_types_more}
+use Rattle.vortex_arrays.proofs.Columns.{typed_more}
 use Rattle.vortex_arrays.proofs.call.dtypes_of.Goals as goal
 
 pub loop-child-preserved : goal.loop-child-preserved
-loop-child-preserved g c =
-    rw (c.in_ok-push.ensures.items, map-append, add-one)
-    (array_types_more g.C.ScalarFnVTable.meaning c.args.children.now
-    (map type_of c.loop-child.dtypes.items) c.loop-child.child-index c.child-item.result _
-    c.loop-child.invariant c.loop-child-test.true c.child-item.is
-    (c.dtype.ensures ∙ ap Some (sym c.in_ok-try_clone.ensures)))
+loop-child-preserved g c = (
+  rw (c.in_ok-push.ensures.items, map-append, add-one)
+      (array_types_more g.C.ScalarFnVTable.meaning c.args.children.now
+      (map type_of c.loop-child.dtypes.items) c.loop-child.child-index c.child-item.result _
+      c.loop-child.invariant.0 c.loop-child-test.true c.child-item.is
+      (c.dtype.ensures.dtype ∙ ap Some (sym c.in_ok-try_clone.ensures))),
+  rw add-one
+      (typed_more c.args.children.now c.loop-child.child-index c.child-item.result
+      c.loop-child.invariant.1 c.loop-child-test.true c.child-item.is c.dtype.ensures.typed),
+)
+
+pub returns-clause-typed : goal.returns-clause-typed
+returns-clause-typed g c =
+    subst (All IsTyped)
+    (take_all c.loop-child.child-index c.args.children.now (omega (arith, c.loop-child-test.false)))
+    c.loop-child.invariant.1

@@ -16,7 +16,7 @@ returns-clause-kept g c =
     let r = g.C.ScalarFnRules.rules in
     let t = tree_of c.args.node.now in
     let k = type_of c.dtype-typed.result.now in
-    let typed = ap (λ a. tree_type m (tree_in a)) (sym c.array.ensures) ∙ c.dtype-typed.ensures in
+    let typed = ap (λ a. tree_type m (tree_in a)) (sym c.array.ensures) ∙ c.dtype-typed.ensures.dtype in
     AnswersUnlessMemory-weaker c.reduce_call.result (IsReducedBy m r tree_of t)
     (λ answer. IfSome answer (λ made. Rewrites m t (tree_of made)))
     (λ answer e. reduced_kept m tree_of g.met.C.ScalarFnVTable.lawful r

@@ -1,14 +1,17 @@
 use Rattle.std.proofs.Common.{rules, ℕ, ◌<◌, arith, sym, ap, ◌∙◌, List}
 use Rattle.vortex_meaning.specs.Trees.{nodes_count, trees_of}
 use Rattle.vortex_arrays.specs.Arrays.{Array, trees_in}
-use Rattle.vortex_arrays.proofs.Columns.{null_is_node}
+use Rattle.vortex_arrays.proofs.Columns.{null_is_node, null_is_typed}
 use Rattle.vortex_arrays.proofs.Children.{array_nodes, nodes_count_push, seen}
 use Rattle.vortex_arrays.proofs.array.ArrayRef.+drop.Goals as goal
 
 pub invariant_of-array : goal.invariant_of-array
-invariant_of-array g t c =
-    null_is_node g.C.ScalarFnVTable.meaning c.array.inside.len c.replace.new.dest
-    c.null-nothing.result c.replace.ensures.after c.null-nothing.ensures
+invariant_of-array g t c = (
+  null_is_node g.C.ScalarFnVTable.meaning c.array.inside.len c.replace.new.dest
+      c.null-nothing.result c.replace.ensures.after c.null-nothing.ensures,
+  null_is_typed c.array.inside.len c.replace.new.dest c.null-nothing.result
+      c.replace.ensures.after c.null-nothing.ensures,
+)
 
 -- a child of what was listed is smaller than the array
 pub drop-requires-in-Err : goal.drop-requires-in-Err

@@ -27,7 +27,7 @@ execute-requires-clause-arity g c =
     let f = function_of c.in-Call.function in
     let xs = c.in-Call.field-1.items in
     let is = seen c.args.self.now c.self.inside _ c.self.view_is c.in-Call.is in
-    let node = subst (λ x. IsNode m n x) c.in-Call.is c.self.invariant in
+    let node = subst (λ x. IsNode m n x) c.in-Call.is c.self.invariant.0 in
     let given = c.new-args.result.columns in
     let all : AllHaveRows m [] n (trees_in xs) given =
     rw c.new-args.ensures.columns
@@ -41,7 +41,7 @@ execute-requires-clause-accepted g c =
     let f = function_of c.in-Call.function in
     let xs = c.in-Call.field-1.items in
     let is = seen c.args.self.now c.self.inside _ c.self.view_is c.in-Call.is in
-    let node = subst (λ x. IsNode m n x) c.in-Call.is c.self.invariant in
+    let node = subst (λ x. IsNode m n x) c.in-Call.is c.self.invariant.0 in
     let given = c.new-args.result.columns in
     let all : AllHaveRows m [] n (trees_in xs) given =
     rw c.new-args.ensures.columns
@@ -75,7 +75,7 @@ returns g c =
     let xs = c.in-Call.field-1.items in
     let dtype = type_of c.in-Call.field-2 in
     let is = seen c.args.self.now c.self.inside _ c.self.view_is c.in-Call.is in
-    let node = subst (λ x. IsNode m n x) c.in-Call.is c.self.invariant in
+    let node = subst (λ x. IsNode m n x) c.in-Call.is c.self.invariant.0 in
     let given = c.new-args.result.columns in
     let all : AllHaveRows m [] n (trees_in xs) given =
     rw c.new-args.ensures.columns
@@ -90,5 +90,5 @@ returns-in-Column g c =
     let m = g.C.ScalarFnVTable.meaning in
     let n = c.self.inside.len in
     let is = seen c.args.self.now c.self.inside _ c.self.view_is c.in-Column.is in
-    let node = subst (λ x. IsNode m n x) c.in-Column.is c.self.invariant in
+    let node = subst (λ x. IsNode m n x) c.in-Column.is c.self.invariant.0 in
     column_rows m c.args.self.now _ n is node.0 node.1

@@ -1,5 +1,5 @@
-use Rattle.std.proofs.Common.{◌≡◌, ap, sym, ◌∙◌, length, map, refl, true}
-use Rattle.std.specs.Prelude.{Some, None}
+use Rattle.std.proofs.Common.{◌≡◌, subst, ap, sym, ◌∙◌, length, map, refl, true}
+use Rattle.std.specs.Prelude.{All, Some, None}
 use Rattle.std.proofs.lemmas.Result.{err_from_is_err_and}
 use Rattle.vortex_types.specs.TypeOf.{type_of}
 use Rattle.vortex_meaning.specs.Meaning.{fits}
@@ -7,9 +7,10 @@ use Rattle.vortex_meaning.specs.Functions.{function_arity}
 use Rattle.vortex_meaning.specs.Trees.{trees_of}
 use Rattle.vortex_meaning.specs.Eval.{tree_types}
 use Rattle.vortex_functions.specs.FunctionOf.{function_of}
-use Rattle.vortex_arrays.specs.Arrays.{trees_in, other_rows}
+use Rattle.vortex_arrays.specs.Arrays.{trees_in, other_rows, IsTyped}
 use Rattle.vortex_arrays.specs.Calls.{operands, lengths}
 use Rattle.vortex_arrays.proofs.Calls.{dtypes_fit, array_is_typed, array_types_refused}
+use Rattle.vortex_arrays.proofs.Columns.{children_typed}
 use Rattle.vortex_arrays.proofs.call.ScalarFnArray.try_new_with_len.Goals as goal
 
 pub returns-in-Some : goal.returns-in-Some
@@ -38,7 +39,7 @@ return_dtype-requires g c =
     ap (other_rows c.args.len) (sym c.deref.ensures.value) ∙ sym c.in_default.ensures in
     let typed : tree_types m (trees_of (trees_in xs)) ≡ Some (map type_of c.deref-3.result.now) =
     ap (λ ys. tree_types m (trees_of (trees_in ys))) (sym c.deref-2.ensures.value)
-    ∙ c.in_ok-dtypes.ensures
+    ∙ c.in_ok-dtypes.ensures.types
     ∙ ap (λ ds. Some (map type_of ds)) (sym c.deref-3.ensures.value) in
     dtypes_fit m f xs c.args.len c.deref-3.result.now typed arity even
 
@@ -56,7 +57,7 @@ returns-in_err-dtype g c =
     ap (other_rows c.args.len) (sym c.deref.ensures.value) ∙ sym c.in_default.ensures in
     let typed : tree_types m (trees_of (trees_in xs)) ≡ Some (map type_of c.deref-3.result.now) =
     ap (λ ys. tree_types m (trees_of (trees_in ys))) (sym c.deref-2.ensures.value)
-    ∙ c.in_ok-dtypes.ensures
+    ∙ c.in_ok-dtypes.ensures.types
     ∙ ap (λ ds. Some (map type_of ds)) (sym c.deref-3.ensures.value) in
     let p =
     err_from_is_err_and c.from_residual-in_err-dtype.result
@@ -79,9 +80,13 @@ invariant_of-result g c =
     ap (other_rows c.args.len) (sym c.deref.ensures.value) ∙ sym c.in_default.ensures in
     let typed : tree_types m (trees_of (trees_in xs)) ≡ Some (map type_of c.deref-3.result.now) =
     ap (λ ys. tree_types m (trees_of (trees_in ys))) (sym c.deref-2.ensures.value)
-    ∙ c.in_ok-dtypes.ensures
-    ∙ ap (λ ds. Some (map type_of ds)) (sym c.deref-3.ensures.value) in (
-      array_is_typed m f xs c.args.len c.deref-3.result.now typed arity even
-          (type_of c.in_ok-dtype.dtype) c.in_ok-dtype.ensures,
-      even,
+    ∙ c.in_ok-dtypes.ensures.types
+    ∙ ap (λ ds. Some (map type_of ds)) (sym c.deref-3.ensures.value) in
+    let all = subst (All IsTyped) c.deref-2.ensures.value c.in_ok-dtypes.ensures.typed in (
+      (
+        array_is_typed m f xs c.args.len c.deref-3.result.now typed arity even
+            (type_of c.in_ok-dtype.dtype) c.in_ok-dtype.ensures,
+        even,
+      ),
+      children_typed c.args.len xs even all,
     )
