@@ -1,15 +1,11 @@
 -- The rules of the function that answers its first argument are lawful.
-use Rattle.std.specs.Prelude.{◌≡◌, ℕ, codes, get_or, List, [], ◌∷◌, Some}
+use Rattle.std.specs.Prelude.{◌≡◌, codes, get_or, Some}
 use Rattle.std.proofs.Common.{sym, ap, ◌∙◌, subst, arith}
 use Rattle.vortex_types.specs.LogicalTypes.{LogicalType}
-use Rattle.vortex_types.specs.Values.{Value}
-use Rattle.vortex_columns.specs.ColumnView.{ColumnView}
-use Rattle.vortex_meaning.specs.Outcomes.{gives}
-use Rattle.vortex_meaning.specs.Meaning.{Meaning}
 use Rattle.vortex_meaning.specs.Functions.{custom}
 use Rattle.vortex_meaning.specs.Trees.{Tree, call, Trees, no_trees, tree}
 use Rattle.vortex_meaning.specs.Eval.{tree_type, tree_types, eval, eval_all}
-use Rattle.vortex_meaning.specs.Rewrites.{Rewrites, LawfulRules, HasRow}
+use Rattle.vortex_meaning.specs.Rewrites.{Rewrites, LawfulRules}
 use Rattle.vortex_meaning.proofs.TypedCalls.{typed_call, types_parts, means_parts, values_parts}
 use Rattle.vortex_rules.specs.Identities.{IsOwnIdentity, first_letter}
 use Rattle.conformance.specs.First.{first_value, first_type, first_tree, first_meaning, first_rules}

@@ -30,7 +30,7 @@ pub fn over_columns<C: ScalarFnVTable>(
 }
 
 /// Whether an array's copy has these rows.
-pub fn answers<C: ScalarFnVTable>(
+pub fn array_answers<C: ScalarFnVTable>(
     alloc: Global,
     array: Held<C>,
     wanted: &[Option<bool>],

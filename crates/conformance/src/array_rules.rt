@@ -148,11 +148,11 @@ fn whether_and_is_null_is_split(rt: HostRuntime) {
     let left = first_of(alloc, split_is_null::<NoCustom>(alloc, x(alloc), y(alloc)));
     assert!(rt; yes(calls(left, "vortex.is_null")));
     let tested = first_of(alloc, split_is_null::<NoCustom>(alloc, x(alloc), y(alloc)));
-    assert!(rt; yes(answers(alloc, tested, &WHERE_NULL)));
+    assert!(rt; yes(array_answers(alloc, tested, &WHERE_NULL)));
     let right = second_of(alloc, split_is_null::<NoCustom>(alloc, x(alloc), y(alloc)));
     assert!(rt; yes(is_column(alloc, right, &Y)));
     let executed = split_is_null::<NoCustom>(alloc, x(alloc), y(alloc));
-    assert!(rt; yes(answers(alloc, executed, &WHERE_NULL)));
+    assert!(rt; yes(array_answers(alloc, executed, &WHERE_NULL)));
 }
 
 #[test]
@@ -165,7 +165,7 @@ fn whether_and_is_null_is_split_with_the_nullable_one_on_the_right(rt: HostRunti
     let right = second_of(alloc, split_is_null::<NoCustom>(alloc, y(alloc), x(alloc)));
     assert!(rt; yes(is_column(alloc, right, &Y)));
     let executed = split_is_null::<NoCustom>(alloc, y(alloc), x(alloc));
-    assert!(rt; yes(answers(alloc, executed, &WHERE_NULL)));
+    assert!(rt; yes(array_answers(alloc, executed, &WHERE_NULL)));
 }
 
 /// Whether `x` is null, reduced.
@@ -202,7 +202,7 @@ fn whether_or_is_not_null_is_split(rt: HostRuntime) {
     );
     assert!(rt; yes(is_column(alloc, right, &Y)));
     let executed = split_is_not_null::<NoCustom>(alloc, x(alloc), y(alloc));
-    assert!(rt; yes(answers(alloc, executed, &ALL)));
+    assert!(rt; yes(array_answers(alloc, executed, &ALL)));
 }
 
 #[test]
@@ -221,7 +221,7 @@ fn whether_or_is_not_null_is_split_with_the_nullable_one_on_the_right(rt: HostRu
     );
     assert!(rt; yes(is_column(alloc, right, &Y)));
     let executed = split_is_not_null::<NoCustom>(alloc, y(alloc), x(alloc));
-    assert!(rt; yes(answers(alloc, executed, &ALL)));
+    assert!(rt; yes(array_answers(alloc, executed, &ALL)));
 }
 
 /// And of true of nullable Bool and of `y`, reduced.
@@ -237,7 +237,7 @@ fn a_column_beside_a_nullable_true_is_cast(rt: HostRuntime) {
     let cast = reduced_beside_nullable_true::<NoCustom>(alloc);
     assert!(rt; yes(is_nullable(cast)));
     let cast = reduced_beside_nullable_true::<NoCustom>(alloc);
-    assert!(rt; yes(answers(alloc, cast, &Y)));
+    assert!(rt; yes(array_answers(alloc, cast, &Y)));
 }
 
 /// An operator between a column and a constant one of three rows, reduced.

@@ -85,7 +85,7 @@ fn an_array_tree_answers_its_rows(rt: HostRuntime) {
     let right = nullable_bools(alloc, &[Some(true), Some(true), None]);
     let both = over_columns::<NoCustom>(alloc, left, Operator::And, right);
     assert!(rt;
-        yes(answers(
+        yes(array_answers(
             alloc,
             is_there(alloc, both),
             &[Some(true), Some(false), Some(true)]
@@ -96,7 +96,7 @@ fn an_array_tree_answers_its_rows(rt: HostRuntime) {
 #[test]
 fn a_call_without_children_has_its_rows(rt: HostRuntime) {
     let alloc = rt.alloc();
-    assert!(rt; yes(answers(alloc, none_of_rows(alloc, 2), &[Some(false), Some(false)])));
+    assert!(rt; yes(array_answers(alloc, none_of_rows(alloc, 2), &[Some(false), Some(false)])));
 }
 
 #[test]
@@ -141,7 +141,7 @@ fn large_sum<C: ScalarFnVTable>(alloc: Global) -> Held<C> {
 fn a_sum_out_of_range_faults(rt: HostRuntime) {
     let alloc = rt.alloc();
     let wanted = [None, None];
-    let sum = answers::<NoCustom>(alloc, large_sum(alloc), &wanted);
+    let sum = array_answers::<NoCustom>(alloc, large_sum(alloc), &wanted);
     assert!(rt; is_refused(sum, "Arithmetic.Add"));
 }
 
@@ -149,5 +149,5 @@ fn a_sum_out_of_range_faults(rt: HostRuntime) {
 fn or_beside_a_null_answers(rt: HostRuntime) {
     let alloc = rt.alloc();
     let either = over_columns::<NoCustom>(alloc, x(alloc), Operator::Or, y(alloc));
-    assert!(rt; yes(answers(alloc, either, &[Some(true), Some(true), Some(true)])));
+    assert!(rt; yes(array_answers(alloc, either, &[Some(true), Some(true), Some(true)])));
 }
