@@ -1,3 +1,4 @@
 pub mod ArrayCalls
 pub mod ArrayChildren
 pub mod ValidBits
+pub mod ValuesKept

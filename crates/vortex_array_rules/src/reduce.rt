@@ -4,7 +4,8 @@ ghost use Rattle.vortex_meaning.specs.Functions.{Function};
 ghost use Rattle.vortex_meaning.specs.Rewrites.{Rewrites};
 ghost use Rattle.vortex_functions.specs.Words.{called, function_of, AnswersUnlessMemory};
 ghost use Rattle.vortex_rules.specs.Reduced.{IsReducedBy};
-ghost use Rattle.vortex_array_rules.specs.ArrayOf.{tree_of, rows_of};
+ghost use Rattle.vortex_arrays.specs.Executing.{KeepsValues};
+ghost use Rattle.vortex_array_rules.specs.ArrayOf.{array_of, tree_of, rows_of};
 
 use crate::array_node::ArrayReduceNode;
 use std::alloc::Global;
@@ -28,6 +29,8 @@ pub trait ReduceArray<C: ScalarFnRules> {
             (IsReducedBy C.meaning C.rules tree_of (tree_of node.now)) }
         ensures kept { AnswersUnlessMemory result (λ answer. IfSome answer
             (λ made. Rewrites C.meaning (tree_of node.now) (tree_of made))) }
+        ensures values { AnswersUnlessMemory result (λ answer. IfSome answer
+            (λ made. KeepsValues C.meaning (array_of node.now) (array_of made))) }
         ensures same_rows { IfOk result
             (λ answer. IfSome answer (λ made. rows_of made ≡ rows_of node.now)) };
 }
