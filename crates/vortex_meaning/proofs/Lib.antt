@@ -11,3 +11,4 @@ pub mod NullTestRules
 pub mod Reducing
 pub mod RewrittenRows
 pub mod RuleExamples
+pub mod Weighed
