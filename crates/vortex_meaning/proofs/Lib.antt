@@ -12,3 +12,5 @@ pub mod Reducing
 pub mod RewrittenRows
 pub mod RuleExamples
 pub mod Weighed
+pub mod Stepwise
+pub mod Driving
