@@ -14,3 +14,5 @@ pub mod RuleExamples
 pub mod Weighed
 pub mod Stepwise
 pub mod Driving
+pub mod Lightening
+pub mod LighterParts

@@ -30,13 +30,16 @@ added_small : {V O : Type 0} (f : Function V O) (n : Bool) → IsSmall (added f 
 added_small (ours s) n = shipped_small s n
 added_small (custom f o) n = (omega arith, omega arith)
 
+pub added_positive : {V O : Type 0} (f : Function V O) (n : Bool) → 0 < added f n
+added_positive f n = (added_small f n).0
+
 module _ {V O : Type 0} (m : Meaning V O) where
   pub weight_positive : (t : Tree V O) → 0 < weight m t
   weight_positive (leaf l) = omega arith
   weight_positive (constant s) = omega arith
   weight_positive (call f ts) =
-      let small = (added_small f (is_nullable_tree m (call f ts))).0 in
-      omega (arith, small)
+      let some = added_positive f (is_nullable_tree m (call f ts)) in
+      omega (arith, some)
 
   mutual
     pub weight_bound : (t : Tree V O) → weight m t ≤ 5 * node_count t

@@ -1,12 +1,14 @@
 -- The weight of a tree, of which a rule over shipped functions takes some, and trees of shipped
 -- functions alone.
-use Rattle.std.specs.Prelude.{ℕ, ◌+◌, Bool, ⊤, if◌then◌else◌}
+use Rattle.std.specs.Prelude.{◌≡◌, ℕ, ◌+◌, ◌≤◌, Bool, Option, Some, ⊤, if◌then◌else◌}
+use Rattle.vortex_types.specs.LogicalTypes.{LogicalType}
 use Rattle.vortex_operators.specs.declared.operators.Operator.{Operator}
 use Rattle.vortex_operators.specs.declared.operators.Operator.TheVariants.{And, Or}
 use Rattle.vortex_meaning.specs.Meaning.{Meaning}
 use Rattle.vortex_meaning.specs.Shipped.{Shipped, Binary, Not, IsNull, IsNotNull, Cast, Between, Like}
 use Rattle.vortex_meaning.specs.Functions.{Function, ours, custom}
 use Rattle.vortex_meaning.specs.Trees.{Tree, leaf, constant, call, Trees, no_trees, tree}
+use Rattle.vortex_meaning.specs.Eval.{tree_type}
 use Rattle.vortex_meaning.specs.Rules.{is_nullable_tree}
 
 -- what a call of an operator, of a shipped function and of any function adds to the weight of its
@@ -55,3 +57,17 @@ abbrev mutual
   pub AllShipped : {V O : Type 0} → Trees V O → Type 0
   AllShipped no_trees = ⊤
   AllShipped (tree t ts) = OnlyShipped t × AllShipped ts
+
+module _ {V O : Type 0} (m : Meaning V O) where
+  -- the new tree has the old one's type, calls shipped functions alone, and weighs less by that
+  -- much or more
+  pub record IsLighter (n : ℕ) (t u : Tree V O) : Type 0 where
+    pub dtype : tree_type m u ≡ tree_type m t
+    pub shipped : OnlyShipped u
+    pub lighter : n + weight m u ≤ weight m t
+
+  -- a rule makes well-typed trees of shipped functions alone lighter
+  abbrev pub Lightens : (Tree V O → Option (Tree V O)) → Type 0
+  Lightens rule =
+      (t u : Tree V O) (k : LogicalType) → tree_type m t ≡ Some k → OnlyShipped t
+      → rule t ≡ Some u → IsLighter 1 t u
