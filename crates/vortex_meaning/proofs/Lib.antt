@@ -16,3 +16,5 @@ pub mod Stepwise
 pub mod Driving
 pub mod Lightening
 pub mod LighterParts
+pub mod LighterSimplified
+pub mod ValidityWeights

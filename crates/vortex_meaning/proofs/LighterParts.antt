@@ -25,14 +25,15 @@ module _ {V O : Type 0} (m : Meaning V O) where
       let more = added_positive f (is_nullable_tree m (call f (tree x ts))) in
       (s, omega (arith, more))
 
-  pub constant_less : (f : Function V O) (x : Tree V O) (ts : Trees V O) (s : ScalarView)
-      → IsLess (call f (tree x ts)) (constant s)
-  constant_less f x ts s =
+  -- and more than a constant
+  pub above_one : (f : Function V O) (x : Tree V O) (ts : Trees V O)
+      → 1 < weight m (call f (tree x ts))
+  above_one f x ts =
       let more = added_positive f (is_nullable_tree m (call f (tree x ts))) in
       let some = weight_positive m x in
-      (tt, omega (arith, more, some))
+      omega (arith, more, some)
 
-  -- an operand of two, though it be cast
+  -- an operand is lighter than a call of two, though it be cast
   widened_weight : (n : Bool) (x : Tree V O) → weight m (widened m n x) ≤ 1 + weight m x
   widened_weight false x = omega arith
   widened_weight true x = by (is_nullable_tree m x)
