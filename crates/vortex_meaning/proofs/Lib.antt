@@ -18,3 +18,4 @@ pub mod Lightening
 pub mod LighterParts
 pub mod LighterSimplified
 pub mod ValidityWeights
+pub mod LighterReduced
