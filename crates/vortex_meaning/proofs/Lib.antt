@@ -9,11 +9,11 @@ pub mod JoinedByAnd
 pub mod Validities
 pub mod NullTestRules
 pub mod Reducing
-pub mod RewrittenRows
 pub mod RuleExamples
 pub mod Weighed
 pub mod Stepwise
 pub mod Driving
+pub mod RewrittenRows
 pub mod Lightening
 pub mod LighterParts
 pub mod LighterSimplified
