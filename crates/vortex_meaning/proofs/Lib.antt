@@ -19,3 +19,5 @@ pub mod LighterParts
 pub mod LighterSimplified
 pub mod ValidityWeights
 pub mod LighterReduced
+pub mod DriverSteps
+pub mod DriverLists
