@@ -6,9 +6,10 @@ use Rattle.std.proofs.lemmas.List.{take_all}
 use Rattle.vortex_meaning.specs.Meaning.{Meaning}
 use Rattle.vortex_meaning.specs.Functions.{Function, call_type}
 use Rattle.vortex_meaning.specs.Trees.{Tree, leaf, constant, call, no_trees, tree, trees_of, list_of, children_of, called, node_count, nodes_count}
-use Rattle.vortex_meaning.specs.Eval.{with_type, tree_type, tree_types}
+use Rattle.vortex_meaning.specs.Eval.{tree_type}
 use Rattle.vortex_meaning.specs.Places.{with_child, rewritten}
 use Rattle.vortex_meaning.specs.Driver.{step, step_in}
+use Rattle.vortex_meaning.proofs.TypedCalls.{types_with}
 use Rattle.vortex_meaning.proofs.Stepwise.{same_trees}
 
 neither : {A : Type 0} (a b : Option A) → option_or a b ≡ None → (a ≡ None) × (b ≡ None)
@@ -65,23 +66,13 @@ module _ {V O : Type 0} where
       omega (arith, among, same)
 
   module _ (m : Meaning V O) where
-    types_kept : (ts : List (Tree V O)) (k : ℕ) (x u : Tree V O) → slice_get ts k ≡ Some x
-        → tree_type m u ≡ tree_type m x
-        → tree_types m (trees_of (slice_set ts k u)) ≡ tree_types m (trees_of ts)
-    types_kept [] k x u h e = cc
-    types_kept (t ∷ ts) zero x u h e =
-        let is : x ≡ t = cc in
-        ap (λ z. with_type z (tree_types m (trees_of ts))) (e ∙ ap (tree_type m) is)
-    types_kept (t ∷ ts) (suc k) x u h e =
-        ap (with_type (tree_type m t)) (types_kept ts k x u h e)
-
     -- another child of the same type keeps the type of the call
     pub with_child_type : (t : Tree V O) (f : Function V O) (k : ℕ) (x u : Tree V O)
         → called t ≡ Some f → slice_get (children_of t) k ≡ Some x
         → tree_type m u ≡ tree_type m x
         → tree_type m (call f (trees_of (slice_set (children_of t) k u))) ≡ tree_type m t
     with_child_type t f k x u h there e =
-        ap (option_and_then (call_type m f)) (types_kept (children_of t) k x u there e)
+        ap (option_and_then (call_type m f)) (types_with m (children_of t) k x u there e)
         ∙ ap (tree_type m) (sym (call_again t f h))
 
   module _ (rule : Tree V O → Option (Tree V O)) where

@@ -1,18 +1,19 @@
 -- Rewrites at places, steps and runs of a rule that makes trees lighter make them lighter, so there
 -- are fewer of them than the weight of the tree.
-use Rattle.std.proofs.Common.{◌≡◌, ℕ, zero, suc, ◌+◌, ◌<◌, ◌≤◌, List, [], ◌∷◌, Option, Some, refl, sym, ap, ◌∙◌, subst, arith}
-use Rattle.std.specs.Prelude.{slice_get, slice_set}
+use Rattle.std.proofs.Common.{◌≡◌, ℕ, zero, suc, ◌+◌, ◌<◌, ◌≤◌, List, [], ◌∷◌, Option, Some, None, refl, ap, ◌∙◌, subst, inl, inr, arith}
+use Rattle.std.specs.Prelude.{◌⊎◌, slice_get, slice_set}
 use Rattle.std.specs.Option.{option_and_then, option_or}
 use Rattle.vortex_types.specs.LogicalTypes.{LogicalType}
 use Rattle.vortex_meaning.specs.Meaning.{Meaning}
 use Rattle.vortex_meaning.specs.Functions.{Function, call_type}
 use Rattle.vortex_meaning.specs.Trees.{Tree, call, trees_of}
-use Rattle.vortex_meaning.specs.Eval.{with_type, tree_type, tree_types}
+use Rattle.vortex_meaning.specs.Eval.{tree_type}
 use Rattle.vortex_meaning.specs.Rules.{may_be_null}
 use Rattle.vortex_meaning.specs.Weights.{added, weight, weights, OnlyShipped, AllShipped, IsLighter, Lightens}
 use Rattle.vortex_meaning.specs.Places.{rewritten, rewritten_list}
 use Rattle.vortex_meaning.specs.Driver.{step, Runs}
 use Rattle.vortex_meaning.proofs.RuleAnswers.{first_there}
+use Rattle.vortex_meaning.proofs.TypedCalls.{types_with}
 use Rattle.vortex_meaning.proofs.Weighed.{weight_positive}
 use Rattle.vortex_meaning.proofs.Stepwise.{GoesOver, Keeps, rewritten_keeps, rewritten_list_keeps, step_keeps, runs_keep}
 use Rattle.vortex_meaning.proofs.Driving.{IsWellTyped, child_typed}
@@ -28,44 +29,37 @@ module _ {V O : Type 0} (m : Meaning V O) where
   one_shipped (x ∷ xs) zero t s h = let is : x ≡ t = cc in subst OnlyShipped is s.0
   one_shipped (x ∷ xs) (suc k) t s h = one_shipped xs k t s.1 h
 
-  -- the same of trees side by side
-  record AllLighter (ts us : List (Tree V O)) : Type 0 where
-    pub dtypes : tree_types m (trees_of us) ≡ tree_types m (trees_of ts)
-    pub shipped : AllShipped (trees_of us)
-    pub lighter : 1 + weights m (trees_of us) ≤ weights m (trees_of ts)
+  all_shipped : (ts : List (Tree V O)) (k : ℕ) (u : Tree V O) → AllShipped (trees_of ts)
+      → OnlyShipped u → AllShipped (trees_of (slice_set ts k u))
+  all_shipped [] k u s z = tt
+  all_shipped (x ∷ xs) zero u s z = (z, s.1)
+  all_shipped (x ∷ xs) (suc k) u s z = (s.0, all_shipped xs k u s.1 z)
 
-  one_lighter : (ts : List (Tree V O)) (k : ℕ) (t u : Tree V O) → AllShipped (trees_of ts)
-      → slice_get ts k ≡ Some t → IsLighter m 1 t u → AllLighter ts (slice_set ts k u)
-  one_lighter [] k t u s h a = cc
-  one_lighter (x ∷ xs) zero t u s h a =
+  -- what trees weigh with another one in place of one of them
+  weights_with : (ts : List (Tree V O)) (k : ℕ) (t u : Tree V O) → slice_get ts k ≡ Some t
+      → weights m (trees_of (slice_set ts k u)) + weight m t ≡ weights m (trees_of ts) + weight m u
+  weights_with [] k t u h = cc
+  weights_with (x ∷ xs) zero t u h =
       let is : t ≡ x = cc in
-      let b = subst (λ z. IsLighter m 1 z u) is a in
-      record {
-        dtypes = ap (λ z. with_type z (tree_types m (trees_of xs))) b.dtype;
-        shipped = (b.shipped, s.1);
-        lighter = let less = b.lighter in omega (arith, less);
-      }
-  one_lighter (x ∷ xs) (suc k) t u s h a =
-      let b = one_lighter xs k t u s.1 h a in
-      record {
-        dtypes = ap (with_type (tree_type m x)) b.dtypes;
-        shipped = (s.0, b.shipped);
-        lighter = let less = b.lighter in omega (arith, less);
-      }
+      let same = ap (weight m) is in
+      omega (arith, same)
+  weights_with (x ∷ xs) (suc k) t u h =
+      let others = weights_with xs k t u h in
+      omega (arith, others)
 
   call_lighter : (f : Function V O) (ts : List (Tree V O)) (k : ℕ) (t u : Tree V O)
       → OnlyShipped (call f (trees_of ts)) → slice_get ts k ≡ Some t → IsLighter m 1 t u
       → IsLighter m 1 (call f (trees_of ts)) (call f (trees_of (slice_set ts k u)))
   call_lighter f ts k t u s h a =
-      let all = one_lighter ts k t u s.1 h a in
-      let typed = ap (option_and_then (call_type m f)) all.dtypes in
+      let typed = ap (option_and_then (call_type m f)) (types_with m ts k t u h a.dtype) in
       record {
         dtype = typed;
-        shipped = (s.0, all.shipped);
+        shipped = (s.0, all_shipped ts k u s.1 a.shipped);
         lighter =
             let same = ap (λ z. added f (may_be_null z)) typed in
-            let less = all.lighter in
-            omega (arith, same, less);
+            let less = a.lighter in
+            let below = weights_with ts k t u h in
+            omega (arith, same, less, below);
       }
 
   lighter_over : GoesOver IsTypedShipped (IsLighter m)
@@ -137,6 +131,47 @@ module _ {V O : Type 0} (m : Meaning V O) where
       → n < weight m t
   runs_bound rule lightens n t u k h s e =
       fewer n t u (runs_lighter rule lightens n t u k h s e)
+
+  module _ (rule : Tree V O → Option (Tree V O)) (lightens : Lightens m rule) (t : Tree V O)
+      (k : LogicalType) (h : tree_type m t ≡ Some k) (s : OnlyShipped t) where
+    -- a run of so many steps is over
+    pub run_is_over : (n : ℕ) (u : Tree V O) → Runs rule n t u → weight m t ≤ n + 1
+        → step rule u ≡ None
+    run_is_over n u run enough = by (step rule u) refl
+      where
+        by : (o : Option (Tree V O)) → step rule u ≡ o → o ≡ None
+        by None e = refl
+        by (Some v) e =
+            let more = runs_bound rule lightens (suc n) t v k h s (u, run, e) in
+            absurd (omega (arith, more, enough))
+
+    -- some run is over
+    abbrev pub Ends : Type 0
+    Ends = (n : ℕ) × (u : Tree V O) × Runs rule n t u × (step rule u ≡ None)
+
+    -- or one has n steps
+    run_on : (n : ℕ) → Ends ⊎ ((u : Tree V O) × Runs rule n t u)
+    run_on zero = inr (t, refl)
+    run_on (suc n) = by (run_on n)
+      where
+        by : Ends ⊎ ((u : Tree V O) × Runs rule n t u)
+            → Ends ⊎ ((u : Tree V O) × Runs rule (suc n) t u)
+        by (inl a) = inl a
+        by (inr (u, run)) = on (step rule u) refl
+          where
+            on : (o : Option (Tree V O)) → step rule u ≡ o
+                → Ends ⊎ ((u : Tree V O) × Runs rule (suc n) t u)
+            on None e = inl (n, u, run, e)
+            on (Some v) e = inr (v, (u, run, e))
+
+    pub run_ends : Ends
+    run_ends = by (run_on (weight m t))
+      where
+        by : Ends ⊎ ((u : Tree V O) × Runs rule (weight m t) t u) → Ends
+        by (inl a) = a
+        by (inr (u, run)) =
+            let more = runs_bound rule lightens (weight m t) t u k h s run in
+            absurd (omega (arith, more))
 
   -- of two rules that do so the first that applies
   pub first_lightens : (a b : Tree V O → Option (Tree V O)) → Lightens m a → Lightens m b

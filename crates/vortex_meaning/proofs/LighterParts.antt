@@ -1,16 +1,15 @@
 -- What rules for shipped functions make of a call weighs less than it: a constant, or an operand,
 -- cast where need be.
-use Rattle.std.proofs.Common.{◌≡◌, ℕ, ◌+◌, ◌<◌, ◌≤◌, Bool, true, false, Option, Some, None, arith, subst}
+use Rattle.std.proofs.Common.{◌+◌, ◌<◌, ◌≤◌, Bool, true, false, arith}
 use Rattle.std.specs.Prelude.{if◌then◌else◌}
-use Rattle.vortex_types.specs.ScalarView.{ScalarView}
 use Rattle.vortex_operators.specs.declared.operators.Operator.{Operator}
 use Rattle.vortex_meaning.specs.Meaning.{Meaning}
 use Rattle.vortex_meaning.specs.Shipped.{Binary}
 use Rattle.vortex_meaning.specs.Functions.{Function, ours}
-use Rattle.vortex_meaning.specs.Trees.{Tree, constant, call, Trees, no_trees, tree}
+use Rattle.vortex_meaning.specs.Trees.{Tree, call, Trees, tree}
 use Rattle.vortex_meaning.specs.ComparisonTrees.{operated}
 use Rattle.vortex_meaning.specs.Rules.{cast_of, is_nullable_tree, widened}
-use Rattle.vortex_meaning.specs.Weights.{added, weight, weights, OnlyShipped}
+use Rattle.vortex_meaning.specs.Weights.{weight, OnlyShipped}
 use Rattle.vortex_meaning.proofs.Weighed.{added_positive, weight_positive}
 
 module _ {V O : Type 0} (m : Meaning V O) where

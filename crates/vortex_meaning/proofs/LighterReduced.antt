@@ -1,5 +1,6 @@
--- Reduce makes trees of shipped functions lighter, whatever the rules of other functions.
-use Rattle.std.proofs.Common.{◌≡◌, ℕ, ◌+◌, ◌<◌, ◌≤◌, Bool, true, false, Option, Some, None, refl, sym, ap, ◌∙◌, subst, inl, inr, arith}
+-- Reduce makes trees of shipped functions lighter, whatever the rules of other functions, and so does
+-- the rule for expressions.
+use Rattle.std.proofs.Common.{◌≡◌, ◌+◌, ◌≤◌, Bool, true, false, Option, Some, None, refl, sym, ap, ◌∙◌, subst, inl, inr, arith}
 use Rattle.std.specs.Prelude.{◌||◌, ◌⊎◌, if◌then◌else◌}
 use Rattle.std.specs.Option.{option_map, option_or}
 use Rattle.vortex_types.specs.LogicalTypes.{LogicalType, bool_type}
@@ -16,12 +17,16 @@ use Rattle.vortex_meaning.specs.ComparisonTrees.{negated, operated}
 use Rattle.vortex_meaning.specs.Rules.{Rules, no_rules, truth_constant, is_null_of, is_not_null_of, constant_truth, decides, may_be_null, is_nullable_tree, widened}
 use Rattle.vortex_meaning.specs.ValidityRules.{validity}
 use Rattle.vortex_meaning.specs.ReduceRules.{nullable_first, by_nullability, is_null_within, is_not_null_within, reduce_is_null, reduce_is_not_null, of_constants, reduce_boolean, reduce_operator, reduce_shipped, reduce}
+use Rattle.vortex_meaning.specs.SimplifyRules.{simplify}
+use Rattle.vortex_meaning.specs.Driver.{simplify_or_reduce}
 use Rattle.vortex_meaning.specs.Weights.{operator_added, shipped_added, weight, OnlyShipped, AllShipped, Lightens}
 use Rattle.vortex_meaning.proofs.RuleAnswers.{some_is, first_there, mapped}
-use Rattle.vortex_meaning.proofs.TypedCalls.{one_type, typed_call, type_of_one}
+use Rattle.vortex_meaning.proofs.TypedCalls.{only_child_type, type_of_one}
 use Rattle.vortex_meaning.proofs.BooleanCalls.{bool_call}
 use Rattle.vortex_meaning.proofs.Validities.{no_rules_lawful}
 use Rattle.vortex_meaning.proofs.Reducing.{reduce_sound}
+use Rattle.vortex_meaning.proofs.Lightening.{first_lightens}
+use Rattle.vortex_meaning.proofs.LighterSimplified.{simplify_lightens}
 use Rattle.vortex_meaning.proofs.LighterParts.{IsLess, above_one, left_less, right_less}
 use Rattle.vortex_meaning.proofs.ValidityWeights.{validity_no_heavier}
 
@@ -190,15 +195,6 @@ module _ {V O : Type 0} (m : Meaning V O) where
   is_not_null_within_less x u t h s k e = cc
 
   module _ (r : Rules V O) where
-    -- the type of the only child of a null test
-    child_type : (test : Shipped) (x : Tree V O) (t : LogicalType)
-        → tree_type m (call (ours test) (tree x no_trees)) ≡ Some t
-        → (k : LogicalType) × (tree_type m x ≡ Some k)
-    child_type test x t h =
-        let c = typed_call m (ours test) (tree x no_trees) t h in
-        let a = one_type (tree_type m x) c.types c.children in
-        (a.0, a.1)
-
     is_null_less : (ts : Trees V O) (u : Tree V O) (t : LogicalType)
         → tree_type m (call (ours IsNull) ts) ≡ Some t → AllShipped ts
         → tree_type m u ≡ tree_type m (call (ours IsNull) ts) → reduce_is_null m r ts ≡ Some u
@@ -215,7 +211,7 @@ module _ {V O : Type 0} (m : Meaning V O) where
             subst (IsLess m (is_null_of x)) (some_is _ u q)
             (tt, above_one m (ours IsNull) x no_trees)
         by true q =
-            let c = child_type IsNull x t h in
+            let c = only_child_type m (ours IsNull) x t h in
             let typed = k ∙ type_of_one m (ours IsNull) x c.0 c.1 in
             first_there _ _ u (IsLess m (is_null_of x) u) q
             (λ g.
@@ -244,7 +240,7 @@ module _ {V O : Type 0} (m : Meaning V O) where
             subst (IsLess m (is_not_null_of x)) (some_is _ u q)
             (tt, above_one m (ours IsNotNull) x no_trees)
         by true q =
-            let c = child_type IsNotNull x t h in
+            let c = only_child_type m (ours IsNotNull) x t h in
             let typed = k ∙ type_of_one m (ours IsNotNull) x c.0 c.1 in
             first_there _ _ u (IsLess m (is_not_null_of x) u) q
             (λ g.
@@ -318,3 +314,8 @@ module _ {V O : Type 0} (m : Meaning V O) where
           shipped = less.0;
           lighter = let weighs = less.1 in omega (arith, weighs);
         }
+
+    pub simplify_or_reduce_lightens : Lawful m → Lightens m (simplify_or_reduce m r)
+    simplify_or_reduce_lightens lawful =
+        first_lightens m (simplify m r) (reduce m r) (simplify_lightens m r lawful)
+        (reduce_lightens lawful)

@@ -1,9 +1,9 @@
 -- A tree weighs something, and no more than five for each of its nodes.
-use Rattle.std.proofs.Common.{ℕ, ◌+◌, ◌*◌, ◌<◌, ◌≤◌, Bool, true, false, arith}
+use Rattle.std.proofs.Common.{ℕ, ◌*◌, ◌<◌, ◌≤◌, Bool, true, false, arith}
 use Rattle.vortex_operators.specs.declared.operators.Operator.{Operator}
 use Rattle.vortex_operators.specs.declared.operators.Operator.TheVariants.{And, Or}
 use Rattle.vortex_meaning.specs.Meaning.{Meaning}
-use Rattle.vortex_meaning.specs.Shipped.{Shipped, Binary, Not, IsNull, IsNotNull, Cast, Between, Like}
+use Rattle.vortex_meaning.specs.Shipped.{Shipped, Binary, Not}
 use Rattle.vortex_meaning.specs.Functions.{Function, ours, custom}
 use Rattle.vortex_meaning.specs.Trees.{Tree, leaf, constant, call, Trees, no_trees, tree, node_count, nodes_count}
 use Rattle.vortex_meaning.specs.Rules.{is_nullable_tree}
