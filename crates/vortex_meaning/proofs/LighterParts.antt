@@ -32,7 +32,7 @@ module _ {V O : Type 0} (m : Meaning V O) where
       let some = weight_positive m x in
       omega (arith, more, some)
 
-  -- an operand is lighter than a call of two, though it be cast
+  -- a cast adds one at most
   widened_weight : (n : Bool) (x : Tree V O) → weight m (widened m n x) ≤ 1 + weight m x
   widened_weight false x = omega arith
   widened_weight true x = by (is_nullable_tree m x)
@@ -49,18 +49,27 @@ module _ {V O : Type 0} (m : Meaning V O) where
       by true = s
       by false = (tt, (s, tt))
 
+  -- a call of two weighs more than both
+  operated_weight : (op : Operator) (x y : Tree V O)
+      → weight m x + weight m y < weight m (operated op x y)
+  operated_weight op x y =
+      let f : Function V O = ours (Binary op) in
+      let more = added_positive f (is_nullable_tree m (operated op x y)) in
+      omega (arith, more)
+
+  -- and so more than one, though that be cast
   pub left_less : (op : Operator) (n : Bool) (x y : Tree V O) → OnlyShipped x
       → IsLess (operated op x y) (widened m n x)
   left_less op n x y s =
-      let more = added_positive {V = V} {O = O} (ours (Binary op)) (is_nullable_tree m (operated op x y)) in
+      let both = operated_weight op x y in
       let other = weight_positive m y in
       let wide = widened_weight n x in
-      (widened_shipped n x s, omega (arith, more, other, wide))
+      (widened_shipped n x s, omega (arith, both, other, wide))
 
   pub right_less : (op : Operator) (n : Bool) (x y : Tree V O) → OnlyShipped y
       → IsLess (operated op x y) (widened m n y)
   right_less op n x y s =
-      let more = added_positive {V = V} {O = O} (ours (Binary op)) (is_nullable_tree m (operated op x y)) in
+      let both = operated_weight op x y in
       let other = weight_positive m x in
       let wide = widened_weight n y in
-      (widened_shipped n y s, omega (arith, more, other, wide))
+      (widened_shipped n y s, omega (arith, both, other, wide))

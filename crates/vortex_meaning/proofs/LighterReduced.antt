@@ -1,5 +1,5 @@
--- Reduce makes trees of shipped functions lighter, whatever the rules of other functions, and so does
--- the rule for expressions.
+-- Reduce makes trees of shipped functions lighter, whatever the rules of other functions, and so
+-- does the rule for expressions.
 use Rattle.std.proofs.Common.{◌≡◌, ◌+◌, ◌≤◌, Bool, true, false, Option, Some, None, refl, sym, ap, ◌∙◌, subst, inl, inr, arith}
 use Rattle.std.specs.Prelude.{◌||◌, ◌⊎◌, if◌then◌else◌}
 use Rattle.std.specs.Option.{option_map, option_or}
@@ -120,8 +120,7 @@ module _ {V O : Type 0} (m : Meaning V O) where
       × (is_nullable_tree m y ≡ false)
   never_adds op x y b h =
       let c = bool_call m op x y (bool_type false) b h in
-      let never = ap may_be_null h in
-      (
+      let never = ap may_be_null h in (
         ap (operator_added op) never ∙ boolean_added op false b,
         ap may_be_null c.right ∙ right_false c.left_null c.right_null (c.either ∙ never),
       )
@@ -144,8 +143,7 @@ module _ {V O : Type 0} (m : Meaning V O) where
         let answer = (never_adds join (tested p.0) right j typed).0 in
         let old = two (is_nullable_tree m (tested (operated op x y))) in
         let new = two (is_nullable_tree m (tested p.0)) in
-        let same = turn.weighs in
-        (
+        let same = turn.weighs in (
           (tt, ((tt, (turn.shipped.0, tt)), (shipped, tt))),
           omega (arith, node, answer, old, new, same, no_more),
         )

@@ -26,8 +26,8 @@ module _ {V O : Type 0} where
 
   -- after a first rule, by what that made of the tree, the others: of what it made if it applied,
   -- and otherwise of the same tree
-  abbrev pub then_others : (Tree V O → Option (Tree V O × ℕ)) → Tree V O → Option (Option (Tree V O))
-      → Option (Tree V O × ℕ)
+  abbrev pub then_others : (Tree V O → Option (Tree V O × ℕ)) → Tree V O
+      → Option (Option (Tree V O)) → Option (Tree V O × ℕ)
   then_others others t None = None
   then_others others t (Some None) = others t
   then_others others t (Some (Some u)) = option_map one_more (others u)
