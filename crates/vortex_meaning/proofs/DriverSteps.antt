@@ -9,16 +9,9 @@ use Rattle.vortex_meaning.specs.Trees.{Tree, leaf, constant, call, no_trees, tre
 use Rattle.vortex_meaning.specs.Eval.{tree_type}
 use Rattle.vortex_meaning.specs.Places.{with_child, rewritten}
 use Rattle.vortex_meaning.specs.Driver.{step, step_in}
+use Rattle.vortex_meaning.proofs.RuleAnswers.{neither, map_none}
 use Rattle.vortex_meaning.proofs.TypedCalls.{types_with}
-use Rattle.vortex_meaning.proofs.Stepwise.{same_trees}
-
-neither : {A : Type 0} (a b : Option A) → option_or a b ≡ None → (a ≡ None) × (b ≡ None)
-neither None b h = (refl, h)
-neither (Some x) b h = cc
-
-map_none : {A B : Type 0} (f : A → B) (o : Option A) → option_map f o ≡ None → o ≡ None
-map_none f None h = refl
-map_none f (Some x) h = cc
+use Rattle.vortex_meaning.proofs.StepPlaces.{same_trees}
 
 -- the elements up to the next
 pub take_next : {A : Type 0} (xs : List A) (k : ℕ) (x : A) → slice_get xs k ≡ Some x

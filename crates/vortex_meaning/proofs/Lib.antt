@@ -11,6 +11,7 @@ pub mod NullTestRules
 pub mod Reducing
 pub mod RuleExamples
 pub mod Weighed
+pub mod StepPlaces
 pub mod Stepwise
 pub mod Driving
 pub mod RewrittenRows
@@ -21,3 +22,4 @@ pub mod ValidityWeights
 pub mod LighterReduced
 pub mod DriverSteps
 pub mod DriverLists
+pub mod DriverExamples
