@@ -21,7 +21,7 @@ use Rattle.vortex_meaning.specs.Rules.{Rules, truth_constant, is_null_of, is_not
 use Rattle.vortex_meaning.specs.ValidityRules.{validity}
 use Rattle.vortex_meaning.specs.ReduceRules.{table_constant, is_null_within, is_not_null_within, reduce_is_null, reduce_is_not_null, of_constants, reduce_boolean, reduce_operator, reduce_shipped, reduce}
 use Rattle.vortex_meaning.specs.Rewrites.{Rewrites, LawfulRules}
-use Rattle.vortex_meaning.proofs.TypedCalls.{one_type, typed_call}
+use Rattle.vortex_meaning.proofs.TypedCalls.{only_child_type}
 use Rattle.vortex_meaning.proofs.BooleanCalls.{IsBoolCall, bool_call, bool_values, constant_given, left_decided, right_decided, left_undecided, right_undecided}
 use Rattle.vortex_meaning.proofs.Validities.{validity_sound}
 use Rattle.vortex_meaning.proofs.NullTestRules.{is_null_within_sound, is_not_null_within_sound, never_null_is_null, never_null_is_not_null, is_null_by_validity, is_not_null_by_validity}
@@ -96,15 +96,6 @@ module _ {V O : Type 0} (m : Meaning V O) where
     operator_sound Or ts u t h e = boolean_sound Or ts u t refl h e
     operator_sound op ts u t h e = cc
 
-    -- the type of the only child of a null test
-    child_type : (test : Shipped) (x : Tree V O) (t : LogicalType)
-        → tree_type m (call (ours test) (tree x no_trees)) ≡ Some t
-        → (k : LogicalType) × (tree_type m x ≡ Some k)
-    child_type test x t h =
-        let c = typed_call m (ours test) (tree x no_trees) t h in
-        let a = one_type (tree_type m x) c.types c.children in
-        (a.0, a.1)
-
     module _ (r : Rules V O) (rules : LawfulRules m r) where
       is_null_sound : (ts : Trees V O) (u : Tree V O) (t : LogicalType)
           → tree_type m (call (ours IsNull) ts) ≡ Some t → reduce_is_null m r ts ≡ Some u
@@ -118,12 +109,12 @@ module _ {V O : Type 0} (m : Meaning V O) where
               else Some (truth_constant false false)) ≡ Some u
               → Rewrites m (is_null_of x) u
           by false p q =
-              let k = child_type IsNull x t h in
+              let k = only_child_type m (ours IsNull) x t h in
               let solid = sym (ap may_be_null k.1) ∙ p in
               let never = never_null_is_null m lawful x k.0 k.1 solid in
               subst (Rewrites m (is_null_of x)) (some_is _ u q) never
           by true p q =
-              let k = child_type IsNull x t h in
+              let k = only_child_type m (ours IsNull) x t h in
               first_there _ _ u (Rewrites m (is_null_of x) u) q
               (λ g.
               let a = mapped negated (validity m r x) u g in
@@ -144,12 +135,12 @@ module _ {V O : Type 0} (m : Meaning V O) where
               else Some (truth_constant false true)) ≡ Some u
               → Rewrites m (is_not_null_of x) u
           by false p q =
-              let k = child_type IsNotNull x t h in
+              let k = only_child_type m (ours IsNotNull) x t h in
               let solid = sym (ap may_be_null k.1) ∙ p in
               let never = never_null_is_not_null m lawful x k.0 k.1 solid in
               subst (Rewrites m (is_not_null_of x)) (some_is _ u q) never
           by true p q =
-              let k = child_type IsNotNull x t h in
+              let k = only_child_type m (ours IsNotNull) x t h in
               first_there _ _ u (Rewrites m (is_not_null_of x) u) q
               (λ g.
               is_not_null_by_validity m x u k.0 k.1

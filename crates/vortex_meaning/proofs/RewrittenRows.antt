@@ -1,6 +1,6 @@
 -- What executing a rewritten tree answers: the old tree's column, where that has one.
 use Rattle.std.proofs.Common.{◌≡◌, ℕ, zero, suc, ◌<◌, Bool, true, false, List, [], ◌∷◌, length, Option, Some, None, refl, sym, ◌∙◌, subst, arith, nat_eq}
-use Rattle.std.specs.Prelude.{All, slice_get, ⊤, if◌then◌else◌}
+use Rattle.std.specs.Prelude.{All, slice_get, if◌then◌else◌}
 use Rattle.std.proofs.lemmas.Option.{get_or_from_slice_get, slice_get_within}
 use Rattle.vortex_types.specs.LogicalTypes.{LogicalType}
 use Rattle.vortex_types.specs.Typing.{HasType}
@@ -9,24 +9,11 @@ use Rattle.vortex_meaning.specs.Meaning.{Meaning}
 use Rattle.vortex_meaning.specs.Trees.{Leaf, place, held, Tree, leaf, constant, call, Trees, no_trees, tree}
 use Rattle.vortex_meaning.specs.Eval.{HasTreeRows, rows_or_none}
 use Rattle.vortex_meaning.specs.Execution.{LeafFits, LeavesFit, AllLeavesFit, other_length, Executes}
-use Rattle.vortex_meaning.specs.Rewrites.{HasTypedRow, LeafHasRow, HasRow, AllHaveRow, Rewrites}
-
--- a held column has n rows of its type, of which its form tells truly
-abbrev pub IsMadeLeaf : ℕ → Leaf → Type 0
-IsMadeLeaf n (place p name t) = ⊤
-IsMadeLeaf n (held c) = (i : ℕ) → i < n → HasTypedRow c i
-
--- and each constant has its type, as all that constructors make has
-abbrev mutual
-  pub IsMade : {V O : Type 0} → ℕ → Tree V O → Type 0
-  IsMade n (leaf l) = IsMadeLeaf n l
-  IsMade n (constant s) = HasType s.dtype s.value
-  IsMade n (call f ts) = AllMade n ts
-
-  -- so are several trees
-  pub AllMade : {V O : Type 0} → ℕ → Trees V O → Type 0
-  AllMade n no_trees = ⊤
-  AllMade n (tree t ts) = IsMade n t × AllMade n ts
+use Rattle.vortex_meaning.specs.Rewrites.{LeafHasRow, HasRow, AllHaveRow, Rewrites, IsSound}
+use Rattle.vortex_meaning.specs.Made.{IsMadeLeaf, IsMade, AllMade}
+use Rattle.vortex_meaning.specs.Places.{rewritten_list}
+use Rattle.vortex_meaning.specs.Driver.{Runs}
+use Rattle.vortex_meaning.proofs.Driving.{rewritten_list_sound, runs_sound}
 
 -- columns of one length have it each
 same_length : (n : ℕ) (cs : List ColumnView) (p : ℕ) (c : ColumnView) → other_length n cs ≡ None
@@ -98,3 +85,18 @@ module _ {V O : Type 0} (m : Meaning V O) (cs : List ColumnView) (n : ℕ) where
         lengths = k.lengths;
         rows = rewritten_rows t u c a rows k.rows;
       }
+
+  -- so does what a list of rules makes of it, each sound, and what a run of a sound rule leads to
+  pub rewritten_list_executes : {A : Type 0} (apply : A → Tree V O → Option (Tree V O))
+      → ((a : A) → IsSound m (apply a)) → (steps : List (A × List ℕ)) (t u : Tree V O) (k : ℕ)
+      (c : ColumnView) → All (λ c. AreTyped c.dtype c.rows) cs → IsMade n t
+      → rewritten_list apply steps t ≡ Some (u, k) → Executes m cs n t c → Executes m cs n u c
+  rewritten_list_executes apply sound steps t u k c typed made e x =
+      rewritten_executes t u c
+      (rewritten_list_sound m apply sound steps t u k c.dtype x.rows.dtype e) typed made x
+
+  pub run_executes : (rule : Tree V O → Option (Tree V O)) → IsSound m rule → (k : ℕ)
+      (t u : Tree V O) (c : ColumnView) → All (λ c. AreTyped c.dtype c.rows) cs → IsMade n t
+      → Runs rule k t u → Executes m cs n t c → Executes m cs n u c
+  run_executes rule sound k t u c typed made e x =
+      rewritten_executes t u c (runs_sound m rule sound k t u c.dtype x.rows.dtype e) typed made x

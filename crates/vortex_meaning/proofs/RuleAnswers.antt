@@ -23,6 +23,15 @@ pub mapped : {A B : Type 0} (f : A → B) (o : Option A) (u : B) → option_map 
 mapped f None u h = cc
 mapped f (Some x) u h = (x, refl, cc)
 
+-- no answer, of two and of a part
+pub neither : {A : Type 0} (a b : Option A) → option_or a b ≡ None → (a ≡ None) × (b ≡ None)
+neither None b h = (refl, h)
+neither (Some x) b h = cc
+
+pub map_none : {A B : Type 0} (f : A → B) (o : Option A) → option_map f o ≡ None → o ≡ None
+map_none f None h = refl
+map_none f (Some x) h = cc
+
 -- what is answered where a test says yes, and where it says no
 pub guarded : {A : Type 0} (b : Bool) (o : Option A) (u : A) → (if b then o else None) ≡ Some u
     → (b ≡ true) × (o ≡ Some u)

@@ -1,5 +1,6 @@
 -- The types and the outcomes of calls, taken apart and put together.
-use Rattle.std.proofs.Common.{◌≡◌, ℕ, true, List, [], ◌∷◌, length, Option, Some, None, refl, ap, subst}
+use Rattle.std.proofs.Common.{◌≡◌, ℕ, zero, suc, true, List, [], ◌∷◌, length, Option, Some, None, refl, ap, ◌∙◌, subst}
+use Rattle.std.specs.Prelude.{slice_get, slice_set}
 use Rattle.std.specs.Option.{option_and_then}
 use Rattle.vortex_types.specs.LogicalTypes.{LogicalType}
 use Rattle.vortex_types.specs.Values.{Value}
@@ -7,7 +8,7 @@ use Rattle.vortex_columns.specs.ColumnView.{ColumnView}
 use Rattle.vortex_meaning.specs.Outcomes.{Outcome, gives, faults}
 use Rattle.vortex_meaning.specs.Meaning.{Meaning, fits}
 use Rattle.vortex_meaning.specs.Functions.{Function, function_arity, function_type, function_means, call_type}
-use Rattle.vortex_meaning.specs.Trees.{Tree, call, Trees, no_trees, tree}
+use Rattle.vortex_meaning.specs.Trees.{Tree, call, Trees, no_trees, tree, trees_of}
 use Rattle.vortex_meaning.specs.Eval.{Inputs, all_give, one_faults, with_first, then_means, types_or_none, with_type, tree_type, tree_types, eval, eval_all}
 use Rattle.vortex_meaning.proofs.RuleAnswers.{guarded}
 
@@ -67,6 +68,25 @@ module _ {V O : Type 0} (m : Meaning V O) where
       let a = and_then_some (call_type m f) (tree_types m ts) t h in
       let b = guarded (fits (function_arity m f) (length a.0)) (function_type m f a.0) t a.2 in
       record { types = a.0; children = a.1; fitting = b.0; returns = b.1 }
+
+  -- the type of an only child
+  pub only_child_type : (f : Function V O) (x : Tree V O) (t : LogicalType)
+      → tree_type m (call f (tree x no_trees)) ≡ Some t
+      → (k : LogicalType) × (tree_type m x ≡ Some k)
+  only_child_type f x t h =
+      let c = typed_call f (tree x no_trees) t h in
+      let a = one_type (tree_type m x) c.types c.children in
+      (a.0, a.1)
+
+  -- trees with another one of the same type have their types
+  pub types_with : (ts : List (Tree V O)) (k : ℕ) (t u : Tree V O) → slice_get ts k ≡ Some t
+      → tree_type m u ≡ tree_type m t
+      → tree_types m (trees_of (slice_set ts k u)) ≡ tree_types m (trees_of ts)
+  types_with [] k t u h e = cc
+  types_with (x ∷ xs) zero t u h e =
+      let is : t ≡ x = cc in
+      ap (λ a. with_type a (tree_types m (trees_of xs))) (e ∙ ap (tree_type m) is)
+  types_with (x ∷ xs) (suc k) t u h e = ap (with_type (tree_type m x)) (types_with xs k t u h e)
 
   -- the type of a call, by those of one child and of two
   pub type_of_one : (f : Function V O) (x : Tree V O) (t : LogicalType) → tree_type m x ≡ Some t

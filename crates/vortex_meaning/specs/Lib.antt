@@ -16,6 +16,10 @@ pub mod ValidityRules
 pub mod ReduceRules
 pub mod SimplifyRules
 pub mod Rewrites
+pub mod Made
+pub mod Weights
+pub mod Places
+pub mod Driver
 pub mod ComparisonTrees
 pub mod ArithmeticFaults
 pub mod Printing

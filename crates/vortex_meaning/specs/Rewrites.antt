@@ -1,6 +1,6 @@
 -- What rules owe: a rewritten tree has the type and the values of the old one, and the validity of
 -- a tree says where it is null.
-use Rattle.std.specs.Prelude.{◌≡◌, ℕ, ◌<◌, List, Some, ⊤, false, not, length}
+use Rattle.std.specs.Prelude.{◌≡◌, ℕ, ◌<◌, List, Option, Some, ⊤, false, not, length}
 use Rattle.vortex_types.specs.LogicalTypes.{LogicalType, bool_type}
 use Rattle.vortex_types.specs.Values.{Value, truth, is_null}
 use Rattle.vortex_types.specs.Typing.{HasType}
@@ -71,3 +71,8 @@ pub record LawfulRules {V O : Type 0} (m : Meaning V O) (r : Rules V O) : Type 0
   pub simplify : (f : V) (o : O) (ts : Trees V O) (t : LogicalType) (u : Tree V O)
       → tree_type m (call (custom f o) ts) ≡ Some t → r.simplify_of f o ts ≡ Some u
       → Rewrites m (call (custom f o) ts) u
+
+-- a rule of trees makes rewrites of well-typed ones
+abbrev pub IsSound : {V O : Type 0} → Meaning V O → (Tree V O → Option (Tree V O)) → Type 0
+IsSound {V} {O} m rule =
+    (t u : Tree V O) (k : LogicalType) → tree_type m t ≡ Some k → rule t ≡ Some u → Rewrites m t u

@@ -1,0 +1,73 @@
+-- The weight of a tree, of which a rule over shipped functions takes some, and trees of shipped
+-- functions alone.
+use Rattle.std.specs.Prelude.{◌≡◌, ℕ, ◌+◌, ◌≤◌, Bool, Option, Some, ⊤, if◌then◌else◌}
+use Rattle.vortex_types.specs.LogicalTypes.{LogicalType}
+use Rattle.vortex_operators.specs.declared.operators.Operator.{Operator}
+use Rattle.vortex_operators.specs.declared.operators.Operator.TheVariants.{And, Or}
+use Rattle.vortex_meaning.specs.Meaning.{Meaning}
+use Rattle.vortex_meaning.specs.Shipped.{Shipped, Binary, Not, IsNull, IsNotNull, Cast, Between, Like}
+use Rattle.vortex_meaning.specs.Functions.{Function, ours, custom}
+use Rattle.vortex_meaning.specs.Trees.{Tree, leaf, constant, call, Trees, no_trees, tree}
+use Rattle.vortex_meaning.specs.Eval.{tree_type}
+use Rattle.vortex_meaning.specs.Rules.{is_nullable_tree}
+
+-- what a call of an operator, of a shipped function and of any function adds to the weight of its
+-- children, where the call is nullable and where it is not
+abbrev pub operator_added : Operator → Bool → ℕ
+operator_added And n = if n then 3 else 1
+operator_added Or n = if n then 3 else 1
+operator_added op n = 5
+
+abbrev pub shipped_added : Shipped → Bool → ℕ
+shipped_added (Binary op) n = operator_added op n
+shipped_added Not n = if n then 2 else 1
+shipped_added IsNull n = 2
+shipped_added IsNotNull n = 2
+shipped_added Cast n = 1
+shipped_added (Between options) n = 1
+shipped_added (Like options) n = 5
+
+abbrev pub added : {V O : Type 0} → Function V O → Bool → ℕ
+added (ours s) n = shipped_added s n
+added (custom f o) n = 1
+
+module _ {V O : Type 0} (m : Meaning V O) where
+  abbrev mutual
+    pub weight : Tree V O → ℕ
+    weight (leaf l) = 1
+    weight (constant s) = 1
+    weight (call f ts) = added f (is_nullable_tree m (call f ts)) + weights ts
+
+    pub weights : Trees V O → ℕ
+    weights no_trees = 0
+    weights (tree t ts) = weight t + weights ts
+
+-- no function of a caller's is called
+abbrev pub IsOurs : {V O : Type 0} → Function V O → Type 0
+IsOurs (ours s) = ⊤
+IsOurs (custom f o) = ⊥
+
+abbrev mutual
+  pub OnlyShipped : {V O : Type 0} → Tree V O → Type 0
+  OnlyShipped (leaf l) = ⊤
+  OnlyShipped (constant s) = ⊤
+  OnlyShipped (call f ts) = IsOurs f × AllShipped ts
+
+  -- so in several trees
+  pub AllShipped : {V O : Type 0} → Trees V O → Type 0
+  AllShipped no_trees = ⊤
+  AllShipped (tree t ts) = OnlyShipped t × AllShipped ts
+
+module _ {V O : Type 0} (m : Meaning V O) where
+  -- the new tree has the old one's type, calls shipped functions alone, and weighs less by that
+  -- much or more
+  pub record IsLighter (n : ℕ) (t u : Tree V O) : Type 0 where
+    pub dtype : tree_type m u ≡ tree_type m t
+    pub shipped : OnlyShipped u
+    pub lighter : n + weight m u ≤ weight m t
+
+  -- a rule makes well-typed trees of shipped functions alone lighter
+  abbrev pub Lightens : (Tree V O → Option (Tree V O)) → Type 0
+  Lightens rule =
+      (t u : Tree V O) (k : LogicalType) → tree_type m t ≡ Some k → OnlyShipped t
+      → rule t ≡ Some u → IsLighter 1 t u
