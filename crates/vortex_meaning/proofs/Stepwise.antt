@@ -12,7 +12,10 @@ use Rattle.vortex_meaning.proofs.TypedCalls.{and_then_some}
 use Rattle.vortex_meaning.proofs.StepPlaces.{same_trees, step_place}
 
 module _ {V O : Type 0} where
-  -- what n rewrites make of a tree of which P holds, where R says it of one at any place
+  -- R says what n rewrites make of a tree of which P holds:
+  -- same, after: none, and some after others
+  -- kept: P holds of what they make
+  -- child, below: P holds of a child, and one rewrite of a child is one of its call
   module _ (P : Tree V O → Type 0) (R : ℕ → Tree V O → Tree V O → Type 0) where
     pub record GoesOver : Type 0 where
       pub same : (t : Tree V O) → P t → R 0 t t
@@ -24,7 +27,7 @@ module _ {V O : Type 0} where
           → P (call f (trees_of ts)) → slice_get ts k ≡ Some t → R 1 t u
           → R 1 (call f (trees_of ts)) (call f (trees_of (slice_set ts k u)))
 
-    -- a rule of which it is said
+    -- what the rule makes of such a tree is one rewrite
     abbrev pub Keeps : (Tree V O → Option (Tree V O)) → Type 0
     Keeps rule = (t u : Tree V O) → P t → rule t ≡ Some u → R 1 t u
 
