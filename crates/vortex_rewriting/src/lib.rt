@@ -1,6 +1,8 @@
 //! Rules at any place of a tree.
 #![tactic(auto)]
 
+mod array;
+mod expression;
 pub mod rule;
 pub mod tree;
 
