@@ -1,0 +1,2 @@
+pub mod OtherChildren
+pub mod RewrittenAt
