@@ -1,2 +1,4 @@
 pub mod OtherChildren
 pub mod ArrayChildren
+pub mod AnotherChild
+pub mod RewrittenAt

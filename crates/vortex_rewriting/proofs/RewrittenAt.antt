@@ -1,0 +1,33 @@
+-- What is kept by what a rule makes of a tree at a place.
+use Rattle.std.proofs.Common.{◌≡◌, ℕ, List, Option, Some, None, Ok, Err, IfOk}
+use Rattle.std.specs.Prelude.{Result, IfSome}
+use Rattle.vortex_errors.specs.declared.error.VortexError.{VortexError}
+use Rattle.vortex_types.specs.LogicalTypes.{LogicalType}
+use Rattle.vortex_meaning.specs.Meaning.{Meaning}
+use Rattle.vortex_meaning.specs.Trees.{Tree}
+use Rattle.vortex_meaning.specs.Eval.{tree_type}
+use Rattle.vortex_meaning.specs.Rewrites.{Rewrites, IsSound}
+use Rattle.vortex_meaning.specs.Weights.{OnlyShipped, IsLighter, Lightens}
+use Rattle.vortex_meaning.proofs.Driving.{rewritten_sound}
+use Rattle.vortex_meaning.proofs.Lightening.{rewritten_lighter}
+use Rattle.vortex_rewriting.specs.Rewriting.{AnswersRewritten}
+
+module _ {V O T : Type 0} (m : Meaning V O) (tree_in : T → Tree V O)
+    (rule : Tree V O → Option (Tree V O)) (path : List ℕ) (t : Tree V O) (k : LogicalType)
+    (typed : tree_type m t ≡ Some k) where
+  pub at_place_kept : IsSound m rule → (result : Result (Option T) VortexError)
+      → AnswersRewritten tree_in rule path t result
+      → IfOk result (λ answer. IfSome answer (λ made. Rewrites m t (tree_in made)))
+  at_place_kept sound (Err e) h = tt
+  at_place_kept sound (Ok None) h = tt
+  at_place_kept sound (Ok (Some made)) h =
+      rewritten_sound m rule sound path t (tree_in made) k typed h
+
+  pub at_place_lighter : Lightens m rule → (result : Result (Option T) VortexError)
+      → AnswersRewritten tree_in rule path t result
+      → IfOk result (λ answer. IfSome answer
+      (λ made. OnlyShipped t → IsLighter m 1 t (tree_in made)))
+  at_place_lighter lightens (Err e) h = tt
+  at_place_lighter lightens (Ok None) h = tt
+  at_place_lighter lightens (Ok (Some made)) h =
+      λ shipped. rewritten_lighter m rule lightens path t (tree_in made) k typed shipped h

@@ -1,0 +1,16 @@
+-- What rewriting at places answers.
+use Rattle.std.specs.Prelude.{◌≡◌, ℕ, List, Option, Some, None, Result}
+use Rattle.std.specs.Option.{option_map}
+use Rattle.vortex_errors.specs.Answers.{Answers}
+use Rattle.vortex_errors.specs.declared.error.VortexError.{VortexError}
+use Rattle.vortex_errors.specs.declared.error.VortexError.TheVariants.{NoSuchPlace}
+use Rattle.vortex_meaning.specs.Trees.{Tree}
+use Rattle.vortex_meaning.specs.Places.{rewritten}
+
+-- what the rule makes of the tree at the place that the path leads to, refused where the path
+-- leaves the tree; or memory ran out
+abbrev pub AnswersRewritten : {V O T : Type 0} → (T → Tree V O) → (Tree V O → Option (Tree V O))
+    → List ℕ → Tree V O → Result (Option T) VortexError → Type 0
+AnswersRewritten tree_in rule path t result =
+    Answers result (λ answer. rewritten rule path t ≡ Some (option_map tree_in answer))
+    (λ e. (e ≡ NoSuchPlace) × (rewritten rule path t ≡ None))
