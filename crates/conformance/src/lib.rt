@@ -30,6 +30,8 @@ mod null_tests;
 #[cfg(test)]
 mod readme;
 #[cfg(test)]
+mod rewriting;
+#[cfg(test)]
 mod rules;
 #[cfg(test)]
 mod texts;
