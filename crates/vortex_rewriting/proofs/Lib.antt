@@ -2,3 +2,6 @@ pub mod OtherChildren
 pub mod ArrayChildren
 pub mod AnotherChild
 pub mod RewrittenAt
+pub mod FirstSteps
+pub mod StepWalks
+pub mod Optimizing

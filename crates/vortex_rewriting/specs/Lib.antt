@@ -1,3 +1,4 @@
+pub mod Driving
 pub mod Places
 pub mod Rewriting
 pub mod Rules

@@ -3,11 +3,13 @@
 
 mod array;
 mod children;
+pub mod driver;
 mod expression;
 pub mod places;
 pub mod rule;
 pub mod tree;
 
+pub use driver::{Optimized, optimize_recursive};
 pub use places::rewrite_at;
 pub use rule::Rule;
 pub use tree::RewriteTree;
