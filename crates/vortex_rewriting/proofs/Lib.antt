@@ -1,2 +1,3 @@
 pub mod OtherChildren
 pub mod RewrittenAt
+pub mod RewrittenList

@@ -6,6 +6,6 @@ pub mod places;
 pub mod rule;
 pub mod tree;
 
-pub use places::rewrite_at;
+pub use places::{Rewritten, rewrite_at, rewrite_list};
 pub use rule::Rule;
 pub use tree::RewriteTree;
