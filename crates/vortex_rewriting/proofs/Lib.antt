@@ -2,6 +2,7 @@ pub mod OtherChildren
 pub mod ArrayChildren
 pub mod AnotherChild
 pub mod RewrittenAt
+pub mod RewrittenList
 pub mod FirstSteps
 pub mod StepWalks
 pub mod Optimizing

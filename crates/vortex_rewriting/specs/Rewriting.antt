@@ -1,5 +1,6 @@
 -- What rewriting at places answers.
-use Rattle.std.specs.Prelude.{◌≡◌, ℕ, List, Option, Some, None, Result}
+use Rattle.std.specs.Prelude.{◌≡◌, ℕ, List, Option, Some, None, Result, map}
+use Rattle.std.specs.Borrow.{Bor}
 use Rattle.std.specs.Option.{option_map}
 use Rattle.vortex_errors.specs.Answers.{Answers}
 use Rattle.vortex_errors.specs.declared.error.VortexError.{VortexError}
@@ -14,3 +15,10 @@ abbrev pub AnswersRewritten : {V O T : Type 0} → (T → Tree V O) → (Tree V 
 AnswersRewritten tree_in rule path t result =
     Answers result (λ answer. rewritten rule path t ≡ Some (option_map tree_in answer))
     (λ e. (e ≡ NoSuchPlace) × (rewritten rule path t ≡ None))
+
+-- steps as code has them, a path and a rule, as rules at paths
+abbrev pub rule_at : {A : Type 0} → Bor (List ℕ) × A → A × List ℕ
+rule_at s = (s.1, s.0.now)
+
+abbrev pub steps_of : {A : Type 0} → List (Bor (List ℕ) × A) → List (A × List ℕ)
+steps_of steps = map rule_at steps

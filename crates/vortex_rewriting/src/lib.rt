@@ -10,6 +10,6 @@ pub mod rule;
 pub mod tree;
 
 pub use driver::{Optimized, optimize_recursive};
-pub use places::rewrite_at;
+pub use places::{Rewritten, rewrite_at, rewrite_list};
 pub use rule::Rule;
 pub use tree::RewriteTree;

@@ -1,8 +1,11 @@
 //! A rule at a place of a tree.
-ghost use Rattle.std.specs.Prelude.{◌≡◌, IfOk, IfSome};
+ghost use Rattle.std.specs.Prelude.{◌≡◌, ◌<◌, IfOk, IfSome, None, Some};
+ghost use Rattle.vortex_errors.specs.Answers.{Answers};
+ghost use Rattle.vortex_errors.specs.declared.error.VortexError.TheVariants.{NoSuchPlace};
+ghost use Rattle.vortex_meaning.specs.Places.{rewritten_list};
 ghost use Rattle.vortex_meaning.specs.Rewrites.{Rewrites};
-ghost use Rattle.vortex_meaning.specs.Weights.{OnlyShipped, IsLighter};
-ghost use Rattle.vortex_rewriting.specs.Rewriting.{AnswersRewritten};
+ghost use Rattle.vortex_meaning.specs.Weights.{weight, OnlyShipped, IsLighter};
+ghost use Rattle.vortex_rewriting.specs.Rewriting.{AnswersRewritten, steps_of};
 
 use crate::children::with_child;
 use crate::rule::Rule;
@@ -60,4 +63,48 @@ pub fn rewrite_at<C: ScalarFnRules, T: RewriteTree<C>>(
 {
     let _typed = tree.dtype();
     made_at(alloc, tree, path, rule)
+}
+
+/// A tree that rules made, and how many of them applied.
+#[derive(Drop)]
+pub struct Rewritten<T> {
+    pub tree: T,
+    pub applied: usize,
+}
+
+/// What rules at places make of a tree, one after another: each step, a path of child numbers and a
+/// rule, is taken on the tree that those before it left. A step whose rule does not apply at its
+/// place changes nothing, and is not counted. E13 where the path of a step leaves the tree, and
+/// else E9 alone.
+pub fn rewrite_list<C: ScalarFnRules, T: RewriteTree<C>>(
+    alloc: Global,
+    tree: &T,
+    steps: &[(&[usize], Rule)],
+) -> VortexResult<Rewritten<T>>
+    ensures answer { Answers result
+        (λ made. rewritten_list T.applied (steps_of steps.now) (T.tree tree.now)
+        ≡ Some (T.tree made.tree, made.applied))
+        (λ e. (e ≡ NoSuchPlace)
+        × (rewritten_list T.applied (steps_of steps.now) (T.tree tree.now) ≡ None)) }
+    ensures kept { IfOk result (λ made. Rewrites C.meaning (T.tree tree.now) (T.tree made.tree)) }
+    ensures lighter { IfOk result (λ made. OnlyShipped (T.tree tree.now)
+        → IsLighter C.meaning made.applied (T.tree tree.now) (T.tree made.tree)) }
+    ensures fewer { IfOk result (λ made. OnlyShipped (T.tree tree.now)
+        → made.applied < weight C.meaning (T.tree tree.now)) }
+    ensures same_rows { IfOk result (λ made. T.rows made.tree ≡ T.rows tree.now) }
+{
+    let _typed = tree.dtype();
+    let mut last = tree.try_clone(alloc)?;
+    let mut applied = 0;
+    for step in steps {
+        let (path, rule) = *step;
+        if let Some(new) = rewrite_at(alloc, &last, path, rule)? {
+            last = new;
+            applied += 1;
+        }
+    }
+    Ok(Rewritten {
+        tree: last,
+        applied,
+    })
 }

@@ -1,0 +1,14 @@
+use Rattle.std.proofs.Common.{◌≡◌, ◌≤◌, Some, take}
+use Rattle.vortex_meaning.specs.Places.{rewritten_list}
+use Rattle.vortex_rewriting.specs.Rewriting.{steps_of}
+use Rattle.vortex_rewriting.proofs.places.rewrite_list.Given as goal
+
+-- the steps so far were taken
+abbrev pub invariant-loop-step : goal.invariant-loop-step
+invariant-loop-step g l =
+    let tree = g.T.RewriteTree.tree in
+    let rows = g.T.RewriteTree.rows in
+    (rewritten_list g.T.RewriteTree.applied (take l.step-index (steps_of l.steps)) (tree l.tree)
+    ≡ Some (tree l.last, l.applied))
+    × (l.applied ≤ l.step-index)
+    × (rows l.last ≡ rows l.tree)
