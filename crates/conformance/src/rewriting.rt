@@ -1,7 +1,7 @@
 //! Rules at places of a tree, and the driver.
 
 use crate::makers::*;
-use fixtures::{is_refused, names, yes};
+use fixtures::{are_rows, is_refused, names, nullable_bools, yes};
 use std::alloc::Global;
 use vortex_row_fn::*;
 
@@ -66,4 +66,107 @@ fn a_rule_applies_at_a_place(rt: HostRuntime) {
     assert!(rt; yes(stays(alloc, is_there::<NoCustom>(alloc), &[])));
     let nowhere = reduced_at(alloc, is_there::<NoCustom>(alloc), &[1]);
     assert!(rt; is_refused(nowhere, "NoSuchPlace"));
+}
+
+/// What a list of steps makes of a tree.
+fn listed<C: ScalarFnRules>(
+    alloc: Global,
+    tree: Tree<C>,
+    steps: &[(&[usize], Rule)],
+) -> VortexResult<Box<Rewritten<BoundExpression<C>>>> {
+    Ok(Box::new(alloc, rewrite_list(alloc, &*tree?, steps)?)?)
+}
+
+/// Whether a list of steps makes a tree of that text, so many of them applied.
+fn lists_to<C: ScalarFnRules>(
+    alloc: Global,
+    tree: Tree<C>,
+    steps: &[(&[usize], Rule)],
+    wanted: (&str, usize),
+) -> VortexResult<bool> {
+    let made = listed(alloc, tree, steps)?;
+    let text = made.tree.sql_text(alloc)?;
+    Ok(text.as_str() == wanted.0 && made.applied == wanted.1)
+}
+
+/// The tree that no rule applies to any more.
+const SPLIT: &str =
+    "vortex.not(((is_not_null($.a) and is_not_null($.b)) and is_not_null($.c)))";
+
+#[test]
+fn rules_apply_one_after_another(rt: HostRuntime) {
+    let alloc = rt.alloc();
+    let sum = unknown_sum::<NoCustom>(alloc);
+    let steps: [(&[usize], Rule); 3] =
+        [(&[], Rule::Reduce), (&[0], Rule::Reduce), (&[0, 0], Rule::Reduce)];
+    assert!(rt; yes(lists_to(alloc, sum, &steps, (SPLIT, 2))));
+    let outside: [(&[usize], Rule); 2] = [(&[], Rule::Reduce), (&[0, 5], Rule::Reduce)];
+    let refused = listed(alloc, unknown_sum::<NoCustom>(alloc), &outside);
+    assert!(rt; is_refused(refused, "NoSuchPlace"));
+}
+
+/// Whether a run of at most so many steps makes a tree of that text, in so many steps, and is done.
+fn optimizes_to<C: ScalarFnRules>(
+    alloc: Global,
+    tree: Tree<C>,
+    limit: u64,
+    wanted: (&str, u64, bool),
+) -> VortexResult<bool> {
+    let made = Box::new(alloc, optimize_recursive(alloc, &*tree?, limit)?)?;
+    let (text, steps, done) = wanted;
+    Ok(made.tree.sql_text(alloc)?.as_str() == text && made.steps == steps && made.done == done)
+}
+
+#[test]
+fn a_run_goes_up_to_its_limit(rt: HostRuntime) {
+    let alloc = rt.alloc();
+    let sum = unknown_sum::<NoCustom>(alloc);
+    let unchanged = ("vortex.is_null((($.a + $.b) = $.c))", 0, false);
+    assert!(rt; yes(optimizes_to(alloc, sum, 0, unchanged)));
+    let sum = unknown_sum::<NoCustom>(alloc);
+    let text = "vortex.not((is_not_null(($.a + $.b)) and is_not_null($.c)))";
+    assert!(rt; yes(optimizes_to(alloc, sum, 1, (text, 1, false))));
+}
+
+#[test]
+fn a_run_is_done_where_no_rule_applies(rt: HostRuntime) {
+    let alloc = rt.alloc();
+    let sum = unknown_sum::<NoCustom>(alloc);
+    assert!(rt; yes(optimizes_to(alloc, sum, 2, (SPLIT, 2, true))));
+    let null = literal(alloc, Ok(Scalar::null(DType::Bool(YES))));
+    let test = call_of::<NoCustom>(alloc, IsNull.bind(EmptyOptions), null);
+    assert!(rt; yes(optimizes_to(alloc, test, 5, ("vortex.not(false)", 1, true))));
+}
+
+/// Whether the array of a column without rules at its root is left as it is, with its rows.
+fn column_stays(alloc: Global, rows: &[Option<bool>]) -> VortexResult<bool> {
+    let column = nullable_bools(alloc, rows)?;
+    let array = Box::new(alloc, ArrayRef::<NoCustom>::column(Box::into_inner(column)))?;
+    let made = Box::new(alloc, optimize_recursive(alloc, &*array, 3)?)?;
+    let is_same = made.done && made.steps == 0 && made.tree.len() == rows.len();
+    Ok(is_same && made.tree.as_column().is_some())
+}
+
+/// Whether an array tests for null, optimized, answers these rows after so many steps.
+fn null_test_answers(
+    alloc: Global,
+    rows: &[Option<bool>],
+    wanted: &[Option<bool>],
+) -> VortexResult<bool> {
+    let column = nullable_bools(alloc, rows)?;
+    let array = ArrayRef::<NoCustom>::column(Box::into_inner(column));
+    let test = Box::new(alloc, IsNull::new(alloc, array)?.into_array())?;
+    let made = Box::new(alloc, optimize_recursive(alloc, &*test, 5)?)?;
+    let mut ctx = ExecutionCtx::new(alloc);
+    let answer = Box::new(alloc, made.tree.execute(&mut ctx)?)?;
+    Ok(are_rows(alloc, &**answer, wanted)? && made.done && made.steps == 1)
+}
+
+#[test]
+fn array_trees_are_rewritten(rt: HostRuntime) {
+    let alloc = rt.alloc();
+    let rows = [Some(true), Some(true), None];
+    assert!(rt; yes(column_stays(alloc, &rows)));
+    let missing = [Some(false), Some(false), Some(true)];
+    assert!(rt; yes(null_test_answers(alloc, &rows, &missing)));
 }
