@@ -1,3 +1,3 @@
 pub mod FirstSteps
-pub mod StepWalks
 pub mod Optimizing
+pub mod StepWalks

@@ -1,11 +1,13 @@
 //! The driver: rules at the first place at which one applies, again and again.
-ghost use Rattle.std.specs.Prelude.{◌≡◌, ◌<◌, ◌≤◌, ◌↔◌, IfOk, IfSome, IsTrue, None, false, length, map, slice_set};
+ghost use Rattle.std.specs.Prelude.{◌≡◌, ◌<◌, ◌≤◌, ◌↔◌, IfOk, IfSome, IsTrue, None, false};
+ghost use Rattle.std.specs.Prelude.{length, slice_set};
 ghost use Rattle.std.specs.Option.{option_map};
 ghost use Rattle.vortex_meaning.specs.Places.{with_child};
 ghost use Rattle.vortex_meaning.specs.Rewrites.{Rewrites};
 ghost use Rattle.vortex_meaning.specs.Weights.{weight, OnlyShipped};
 ghost use Rattle.vortex_meaning.specs.Driver.{step, Runs};
-ghost use Rattle.vortex_functions.specs.Words.{trees_of, children_of, tree_types, AllMean, AnswersUnlessMemory};
+ghost use Rattle.vortex_functions.specs.Words.{trees_of, children_of, tree_types, AllMean};
+ghost use Rattle.vortex_functions.specs.Words.{AnswersUnlessMemory};
 ghost use Rattle.vortex_rewriting.specs.Driving.{first_rule, first_some, IsStepOf};
 
 use crate::rule::Rule;
