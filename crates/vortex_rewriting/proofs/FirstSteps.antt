@@ -141,7 +141,7 @@ module _ {V O N : Type 0} (rule : Tree V O → Option (Tree V O)) (of_node : N �
 
 module _ {V O : Type 0} (rule : Tree V O → Option (Tree V O)) where
   -- the step of a node, from the step in its children
-  pub step_in_child : (t : Tree V O) (k : ℕ) (u : Tree V O)
+  step_in_child : (t : Tree V O) (k : ℕ) (u : Tree V O)
       → step_in rule (trees_of (children_of t)) ≡ Some (trees_of (slice_set (children_of t) k u))
       → step rule t ≡ Some (with_child t k u)
   step_in_child (leaf l) k u e = cc
@@ -159,6 +159,15 @@ module _ {V O : Type 0} (rule : Tree V O → Option (Tree V O)) where
       let in_call : Option (Trees V O) → Option (Tree V O) =
       λ o. option_or (option_map (call f) o) (rule (call f ts)) in
       ap in_call (ap (step_in rule) (sym (same_trees ts)) ∙ e)
+
+  -- the node with the child that is made is its step
+  pub child_step : {N : Type 0} (of_node : N → Tree V O) (rows : N → ℕ) (n : ℕ) (t : Tree V O)
+      (k : ℕ) (u : Tree V O) (whole : N)
+      → step_in rule (trees_of (children_of t)) ≡ Some (trees_of (slice_set (children_of t) k u))
+      → of_node whole ≡ with_child t k u → rows whole ≡ n
+      → IsStepOf rule of_node rows n t (Some whole)
+  child_step of_node rows n t k u whole e is same =
+      (ap Some is ∙ sym (step_in_child t k u e), same)
 
   -- what the rule makes of the node itself is its step, where no child has one
   pub own_step : {N : Type 0} (of_node : N → Tree V O) (rows : N → ℕ) (n : ℕ) (t : Tree V O)

@@ -4,5 +4,5 @@ pub mod AnotherChild
 pub mod RewrittenAt
 pub mod RewrittenList
 pub mod FirstSteps
-pub mod StepWalks
 pub mod Optimizing
+pub mod StepWalks

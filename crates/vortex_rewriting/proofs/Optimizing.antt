@@ -1,11 +1,15 @@
--- The rule of the driver is sound, and makes trees lighter.
-use Rattle.std.proofs.Common.{Option}
+-- The rule of the driver is sound and makes trees lighter, so a run of its steps is a rewrite, and of
+-- fewer steps than the weight of the tree.
+use Rattle.std.proofs.Common.{◌≡◌, ℕ, ◌<◌, Option, Some}
+use Rattle.vortex_types.specs.LogicalTypes.{LogicalType}
 use Rattle.vortex_meaning.specs.Meaning.{Meaning}
 use Rattle.vortex_meaning.specs.Trees.{Tree}
-use Rattle.vortex_meaning.specs.Rewrites.{IsSound}
-use Rattle.vortex_meaning.specs.Weights.{Lightens}
-use Rattle.vortex_meaning.proofs.Driving.{first_sound}
-use Rattle.vortex_meaning.proofs.Lightening.{first_lightens}
+use Rattle.vortex_meaning.specs.Eval.{tree_type}
+use Rattle.vortex_meaning.specs.Rewrites.{IsSound, Rewrites}
+use Rattle.vortex_meaning.specs.Weights.{weight, OnlyShipped, Lightens}
+use Rattle.vortex_meaning.specs.Driver.{Runs}
+use Rattle.vortex_meaning.proofs.Driving.{first_sound, runs_sound}
+use Rattle.vortex_meaning.proofs.Lightening.{first_lightens, runs_bound}
 use Rattle.vortex_rewriting.specs.declared.rule.Rule.{Rule}
 use Rattle.vortex_rewriting.specs.declared.rule.Rule.TheVariants.{Simplify, Reduce}
 use Rattle.vortex_rewriting.specs.Driving.{first_rule}
@@ -19,3 +23,12 @@ module _ {V O : Type 0} (m : Meaning V O) (applied : Rule → Tree V O → Optio
       → Lightens m (first_rule applied)
   first_rule_lightens lightens =
       first_lightens m (applied Simplify) (applied Reduce) (lightens Simplify) (lightens Reduce)
+
+  module _ (n : ℕ) (t u : Tree V O) (k : LogicalType) (h : tree_type m t ≡ Some k)
+      (run : Runs (first_rule applied) n t u) where
+    pub run_rewrites : ((rule : Rule) → IsSound m (applied rule)) → Rewrites m t u
+    run_rewrites sound = runs_sound m (first_rule applied) (first_rule_sound sound) n t u k h run
+
+    pub run_fewer : ((rule : Rule) → Lightens m (applied rule)) → OnlyShipped t → n < weight m t
+    run_fewer lightens shipped =
+        runs_bound m (first_rule applied) (first_rule_lightens lightens) n t u k h shipped run

@@ -3,6 +3,7 @@ use Rattle.vortex_rewriting.specs.Driving.{first_rule}
 use Rattle.vortex_rewriting.proofs.StepWalks.{steps_left, Stepping}
 use Rattle.vortex_rewriting.proofs.driver.first_step.Given as goal
 
+-- on the way down from the root, with the steps of the children so far
 abbrev pub invariant-loop-of-walk : goal.invariant-loop-of-walk
 invariant-loop-of-walk g l =
     let R = g.T.RewriteTree in

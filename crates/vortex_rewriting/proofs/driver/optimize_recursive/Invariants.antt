@@ -3,6 +3,7 @@ use Rattle.vortex_meaning.specs.Driver.{Runs}
 use Rattle.vortex_rewriting.specs.Driving.{first_rule}
 use Rattle.vortex_rewriting.proofs.driver.optimize_recursive.Given as goal
 
+-- the run so far
 abbrev pub invariant-loop-steps : goal.invariant-loop-steps
 invariant-loop-steps g l = record {
   run : Runs (first_rule g.T.RewriteTree.applied) l.steps (g.T.RewriteTree.tree l.tree)

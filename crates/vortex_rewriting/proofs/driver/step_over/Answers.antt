@@ -1,8 +1,8 @@
-use Rattle.std.proofs.Common.{Some, ap, sym, ◌∙◌}
+use Rattle.std.proofs.Common.{sym, ◌∙◌}
 use Rattle.vortex_meaning.specs.Trees.{children_of}
 use Rattle.vortex_functions.specs.Words.{type_of}
 use Rattle.vortex_rewriting.specs.Driving.{first_rule}
-use Rattle.vortex_rewriting.proofs.FirstSteps.{none_made, one_made, made_type, step_in_child, step_at_node, own_step}
+use Rattle.vortex_rewriting.proofs.FirstSteps.{none_made, one_made, made_type, child_step, step_at_node, own_step}
 use Rattle.vortex_rewriting.proofs.Optimizing.{first_rule_sound}
 use Rattle.vortex_rewriting.proofs.driver.step_over.Goals as goal
 
@@ -36,14 +36,14 @@ with_child-requires-clause-same_rows g c =
 pub returns-in_ok-whole-in-Some : goal.returns-in_ok-whole-in-Some
 returns-in_ok-whole-in-Some g c =
     let R = g.T.RewriteTree in
+    let n = R.rows c.args.node.now in
     let t = R.tree c.args.node.now in
     let rule = first_rule R.applied in
-    let made = one_made rule R.tree R.rows (R.rows c.args.node.now) (children_of t)
-    c.args.outputs.items c.in-Some.index c.in-Some.made c.requires (sym c.first_made.ensures ∙ c.in-Some.is) in (
-      ap Some c.in_ok-whole-in-Some.ensures.answer
-          ∙ sym (step_in_child rule t c.in-Some.index (R.tree c.in-Some.made) made.others),
-      c.in_ok-whole-in-Some.ensures.same_rows,
-    )
+    child_step rule R.tree R.rows n t c.in-Some.index (R.tree c.in-Some.made)
+    c.in_ok-whole-in-Some.whole
+    (one_made rule R.tree R.rows n (children_of t) c.args.outputs.items c.in-Some.index
+    c.in-Some.made c.requires (sym c.first_made.ensures ∙ c.in-Some.is)).others
+    c.in_ok-whole-in-Some.ensures.answer c.in_ok-whole-in-Some.ensures.same_rows
 
 pub returns-in-None : goal.returns-in-None
 returns-in-None g c =
