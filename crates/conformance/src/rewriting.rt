@@ -90,15 +90,17 @@ fn lists_to<C: ScalarFnRules>(
 }
 
 /// The tree that no rule applies to any more.
-const SPLIT: &str =
-    "vortex.not(((is_not_null($.a) and is_not_null($.b)) and is_not_null($.c)))";
+const SPLIT: &str = "vortex.not(((is_not_null($.a) and is_not_null($.b)) and is_not_null($.c)))";
 
 #[test]
 fn rules_apply_one_after_another(rt: HostRuntime) {
     let alloc = rt.alloc();
     let sum = unknown_sum::<NoCustom>(alloc);
-    let steps: [(&[usize], Rule); 3] =
-        [(&[], Rule::Reduce), (&[0], Rule::Reduce), (&[0, 0], Rule::Reduce)];
+    let steps: [(&[usize], Rule); 3] = [
+        (&[], Rule::Reduce),
+        (&[0], Rule::Reduce),
+        (&[0, 0], Rule::Reduce),
+    ];
     assert!(rt; yes(lists_to(alloc, sum, &steps, (SPLIT, 2))));
     let outside: [(&[usize], Rule); 2] = [(&[], Rule::Reduce), (&[0, 5], Rule::Reduce)];
     let refused = listed(alloc, unknown_sum::<NoCustom>(alloc), &outside);
