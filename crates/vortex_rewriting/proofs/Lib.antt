@@ -1,3 +1,4 @@
+pub mod DownAndUp
 pub mod OtherChildren
 pub mod RewrittenAt
 pub mod RewrittenList

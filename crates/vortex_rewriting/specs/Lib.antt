@@ -1,3 +1,4 @@
 pub mod Places
 pub mod Rewriting
 pub mod Rules
+pub mod Ways

@@ -5,6 +5,7 @@ mod children;
 pub mod places;
 pub mod rule;
 pub mod tree;
+mod ways;
 
 pub use places::{Rewritten, rewrite_at, rewrite_list};
 pub use rule::Rule;
