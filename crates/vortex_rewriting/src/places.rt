@@ -26,6 +26,7 @@ fn made_at<C: ScalarFnRules, T: RewriteTree<C>>(
         (λ answer. IfSome answer (λ made. T.rows made ≡ T.rows tree.now)) }
 {
     let way = way_down(alloc, tree, path)?;
+    // what the rule makes there has the old type, since the tree there is well typed
     let _typed = way.place.dtype();
     match way.place.apply(alloc, rule)? {
         None => Ok(None),

@@ -57,7 +57,7 @@ pub(crate) fn way_down<'t, C: ScalarFnRules, T: RewriteTree<C>>(
     Ok(Way { parents, place })
 }
 
-/// The tree with another one at the end of the way.
+/// The tree with another one, of the old one's type and row count, at the end of the way. E9 alone.
 pub(crate) fn way_up<'t, C: ScalarFnRules, T: RewriteTree<C>>(
     alloc: Global,
     tree: &T,
@@ -66,7 +66,8 @@ pub(crate) fn way_up<'t, C: ScalarFnRules, T: RewriteTree<C>>(
 ) -> VortexResult<T>
     requires way { IsWay (map (λ p. (T.tree p.node.now, p.index)) way.parents.items)
         (T.tree tree.now) (T.tree way.place.now) }
-    requires same_type { tree_type C.meaning (T.tree new) ≡ tree_type C.meaning (T.tree way.place.now) }
+    requires same_type { tree_type C.meaning (T.tree new)
+        ≡ tree_type C.meaning (T.tree way.place.now) }
     requires parent_rows { All (λ p. T.rows p.node.now ≡ T.rows tree.now) way.parents.items }
     requires same_rows { T.rows new ≡ T.rows tree.now }
     ensures answer { AnswersUnlessMemory result (λ made. T.tree made
