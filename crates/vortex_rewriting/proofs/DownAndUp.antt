@@ -1,17 +1,17 @@
 -- By which code goes down a tree, and up again.
-use Rattle.std.proofs.Common.{◌≡◌, ◌<◌, ℕ, zero, suc, List, [], ◌∷◌, ◌++◌, length, Option, Some, None, refl, sym, ap, ◌∙◌, subst, map, arith}
+use Rattle.std.proofs.Common.{◌≡◌, ◌<◌, ℕ, zero, suc, List, [], ◌∷◌, ◌++◌, length, map}
+use Rattle.std.proofs.Common.{Option, Some, None, refl, sym, ap, ◌∙◌, subst, arith}
 use Rattle.std.proofs.lemmas.List.{map-append}
 use Rattle.std.specs.Prelude.{slice_get}
 use Rattle.std.specs.Option.{option_map, option_and_then}
 use Rattle.vortex_meaning.specs.Meaning.{Meaning}
 use Rattle.vortex_meaning.specs.Functions.{call_type}
 use Rattle.vortex_meaning.specs.Trees.{Tree, leaf, constant, call, children_of, list_of}
-use Rattle.vortex_meaning.specs.Eval.{tree_type}
+use Rattle.vortex_meaning.specs.Eval.{tree_type, tree_types}
 use Rattle.vortex_meaning.specs.Places.{with_child, rewritten}
 use Rattle.vortex_meaning.proofs.DriverSteps.{child_at}
 use Rattle.vortex_meaning.proofs.StepPlaces.{same_trees}
 use Rattle.vortex_meaning.proofs.TypedCalls.{types_with}
-use Rattle.vortex_meaning.specs.Eval.{tree_types}
 use Rattle.vortex_rewriting.specs.Ways.{IsWay, with_parents, LeadsOn}
 
 pub is_within : {A : Type 0} (xs : List A) (k : ℕ) (x : A) → slice_get xs k ≡ Some x
