@@ -1,3 +1,4 @@
+pub mod DownAndUp
 pub mod OtherChildren
 pub mod ArrayChildren
 pub mod AnotherChild

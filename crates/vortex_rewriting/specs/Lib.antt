@@ -2,3 +2,4 @@ pub mod Driving
 pub mod Places
 pub mod Rewriting
 pub mod Rules
+pub mod Ways

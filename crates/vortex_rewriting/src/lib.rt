@@ -8,6 +8,7 @@ mod expression;
 pub mod places;
 pub mod rule;
 pub mod tree;
+mod ways;
 
 pub use driver::{Optimized, optimize_recursive};
 pub use places::{Rewritten, rewrite_at, rewrite_list};

@@ -7,11 +7,11 @@ ghost use Rattle.vortex_meaning.specs.Rewrites.{Rewrites};
 ghost use Rattle.vortex_meaning.specs.Weights.{weight, OnlyShipped, IsLighter};
 ghost use Rattle.vortex_rewriting.specs.Rewriting.{AnswersRewritten, steps_of};
 
-use crate::children::with_child;
 use crate::rule::Rule;
 use crate::tree::RewriteTree;
+use crate::ways::{way_down, way_up};
 use std::alloc::Global;
-use vortex_columns::{VortexError, VortexResult};
+use vortex_columns::VortexResult;
 use vortex_rules::ScalarFnRules;
 
 /// What the rule makes of the tree at the place that the path leads to, all else as it was.
@@ -25,20 +25,13 @@ fn made_at<C: ScalarFnRules, T: RewriteTree<C>>(
     ensures same_rows { IfOk result
         (λ answer. IfSome answer (λ made. T.rows made ≡ T.rows tree.now)) }
 {
-    let Some((first, rest)) = path.split_first() else {
-        return tree.apply(alloc, rule);
-    };
-    let index = *first;
-    if index >= tree.children().len() {
-        return Err(VortexError::NoSuchPlace);
-    }
-    let child = tree.child(index);
-    let _typed = child.dtype();
-    match made_at(alloc, child, rest, rule) {
-        Err(error) => Err(error),
-        Ok(None) => Ok(None),
-        Ok(Some(new)) => {
-            let made = with_child(alloc, tree, index, new)?;
+    let way = way_down(alloc, tree, path)?;
+    // what the rule makes there has the old type, since the tree there is well typed
+    let _typed = way.place.dtype();
+    match way.place.apply(alloc, rule)? {
+        None => Ok(None),
+        Some(new) => {
+            let made = way_up(alloc, tree, way, new)?;
             Ok(Some(made))
         }
     }
