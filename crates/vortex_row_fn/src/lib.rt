@@ -1,35 +1,109 @@
 //! Row functions over columns: what the crates below offer, under one name.
 #![tactic(auto)]
 
-pub use vortex_array_rules::{ArrayReduceNode, ReduceArray};
-pub use vortex_arrays::{
-    ArrayRef, BetweenCall, BinaryCall, LikeCall, NullTestCall, ScalarFnArray, UnaryCall,
-};
-pub use vortex_checked::{
-    CheckedAdd, CheckedArithmetic, CheckedDiv, CheckedMul, CheckedPrimitiveOp, CheckedSub, Failure,
-};
-pub use vortex_columns::{
-    Arity, BitBuffer, BitView, ByteRows, Cell, Column, DType, ExecutionCtx, Ints, MismatchPlace,
-    NativePType, Nullability, NumericOperator, OperatorText, PType, Scalar, ScalarValue, Sequence,
-    StructFields, Validity, VortexError, VortexResult, cell_of,
-};
-pub use vortex_functions::{
-    Between, Binary, BoundExpression, Cast, CastOptions, ChildName, EmptyOptions, ExecutionArgs,
-    IsNotNull, IsNull, Like, NoCustom, Not, ScalarFnId, ScalarFnRef, ScalarFnSignature,
-    ScalarFnVTable, ScalarFnVTableExt, TypedScalarFnInstance, VecExecutionArgs,
-};
-pub use vortex_kernels::{
-    ArithmeticInteger, BetweenOptions, CompareOperator, Operator, StrictComparison, apply_checked,
-    execute_between, execute_boolean, execute_cast, execute_compare, execute_is_not_null,
-    execute_is_null, execute_not, execute_numeric, kleene_boolean_buffer_scalar,
-    kleene_boolean_buffers, kleene_words, scalar_cmp,
-};
-pub use vortex_like::{LikeOptions, LikePattern, LikeToken, LikeVariant, Looks, execute_like};
-pub use vortex_rewriting::{
-    Optimized, RewriteTree, Rewritten, Rule, optimize_recursive, rewrite_at, rewrite_list,
-};
-pub use vortex_rules::{
-    ExpressionReduceNode, NullTest, ReduceExpression, ReduceNode, ReduceNodeValidity, ReduceTree,
-    ScalarFnRules, ShippedRules, default_validity, reduce_boolean, reduce_call, reduce_null_test,
-    simplify_call, simplify_operator, union_child_validities, validity_call,
-};
+pub use vortex_array_rules::ArrayReduceNode;
+pub use vortex_array_rules::ReduceArray;
+pub use vortex_arrays::ArrayRef;
+pub use vortex_arrays::BetweenCall;
+pub use vortex_arrays::BinaryCall;
+pub use vortex_arrays::LikeCall;
+pub use vortex_arrays::NullTestCall;
+pub use vortex_arrays::ScalarFnArray;
+pub use vortex_arrays::UnaryCall;
+pub use vortex_checked::CheckedAdd;
+pub use vortex_checked::CheckedArithmetic;
+pub use vortex_checked::CheckedDiv;
+pub use vortex_checked::CheckedMul;
+pub use vortex_checked::CheckedPrimitiveOp;
+pub use vortex_checked::CheckedSub;
+pub use vortex_checked::Failure;
+pub use vortex_columns::Arity;
+pub use vortex_columns::BitBuffer;
+pub use vortex_columns::BitView;
+pub use vortex_columns::ByteRows;
+pub use vortex_columns::Cell;
+pub use vortex_columns::Column;
+pub use vortex_columns::DType;
+pub use vortex_columns::ExecutionCtx;
+pub use vortex_columns::Ints;
+pub use vortex_columns::MismatchPlace;
+pub use vortex_columns::NativePType;
+pub use vortex_columns::Nullability;
+pub use vortex_columns::NumericOperator;
+pub use vortex_columns::OperatorText;
+pub use vortex_columns::PType;
+pub use vortex_columns::Scalar;
+pub use vortex_columns::ScalarValue;
+pub use vortex_columns::Sequence;
+pub use vortex_columns::StructFields;
+pub use vortex_columns::Validity;
+pub use vortex_columns::VortexError;
+pub use vortex_columns::VortexResult;
+pub use vortex_columns::cell_of;
+pub use vortex_functions::Between;
+pub use vortex_functions::Binary;
+pub use vortex_functions::BoundExpression;
+pub use vortex_functions::Cast;
+pub use vortex_functions::CastOptions;
+pub use vortex_functions::ChildName;
+pub use vortex_functions::EmptyOptions;
+pub use vortex_functions::ExecutionArgs;
+pub use vortex_functions::IsNotNull;
+pub use vortex_functions::IsNull;
+pub use vortex_functions::Like;
+pub use vortex_functions::NoCustom;
+pub use vortex_functions::Not;
+pub use vortex_functions::ScalarFnId;
+pub use vortex_functions::ScalarFnRef;
+pub use vortex_functions::ScalarFnSignature;
+pub use vortex_functions::ScalarFnVTable;
+pub use vortex_functions::ScalarFnVTableExt;
+pub use vortex_functions::TypedScalarFnInstance;
+pub use vortex_functions::VecExecutionArgs;
+pub use vortex_kernels::ArithmeticInteger;
+pub use vortex_kernels::BetweenOptions;
+pub use vortex_kernels::CompareOperator;
+pub use vortex_kernels::Operator;
+pub use vortex_kernels::StrictComparison;
+pub use vortex_kernels::apply_checked;
+pub use vortex_kernels::execute_between;
+pub use vortex_kernels::execute_boolean;
+pub use vortex_kernels::execute_cast;
+pub use vortex_kernels::execute_compare;
+pub use vortex_kernels::execute_is_not_null;
+pub use vortex_kernels::execute_is_null;
+pub use vortex_kernels::execute_not;
+pub use vortex_kernels::execute_numeric;
+pub use vortex_kernels::kleene_boolean_buffer_scalar;
+pub use vortex_kernels::kleene_boolean_buffers;
+pub use vortex_kernels::kleene_words;
+pub use vortex_kernels::scalar_cmp;
+pub use vortex_like::LikeOptions;
+pub use vortex_like::LikePattern;
+pub use vortex_like::LikeToken;
+pub use vortex_like::LikeVariant;
+pub use vortex_like::Looks;
+pub use vortex_like::execute_like;
+pub use vortex_rewriting::Optimized;
+pub use vortex_rewriting::RewriteTree;
+pub use vortex_rewriting::Rewritten;
+pub use vortex_rewriting::Rule;
+pub use vortex_rewriting::optimize_recursive;
+pub use vortex_rewriting::rewrite_at;
+pub use vortex_rewriting::rewrite_list;
+pub use vortex_rules::ExpressionReduceNode;
+pub use vortex_rules::NullTest;
+pub use vortex_rules::ReduceExpression;
+pub use vortex_rules::ReduceNode;
+pub use vortex_rules::ReduceNodeValidity;
+pub use vortex_rules::ReduceTree;
+pub use vortex_rules::ScalarFnRules;
+pub use vortex_rules::ShippedRules;
+pub use vortex_rules::default_validity;
+pub use vortex_rules::reduce_boolean;
+pub use vortex_rules::reduce_call;
+pub use vortex_rules::reduce_null_test;
+pub use vortex_rules::simplify_call;
+pub use vortex_rules::simplify_operator;
+pub use vortex_rules::union_child_validities;
+pub use vortex_rules::validity_call;
