@@ -22,8 +22,8 @@ use Rattle.std.specs.Option.{is_some, option_and_then}
 use Rattle.std.specs.Prelude.{codes, IfSome}
 use Rattle.vortex_meaning.specs.Printing.{literal_text, function_text, tree_texts, with_text}
 use Rattle.vortex_meaning.specs.Eval.{IsFirstFault, tree_type, tree_types, types_or_none}
-use Rattle.vortex_meaning.specs.Execution.{LeafFits, LeavesFit, AllLeavesFit, other_length, unfit}
-use Rattle.vortex_meaning.specs.Execution.{uneven, faulty}
+use Rattle.vortex_meaning.specs.Execution.{LeafFits, LeavesFit, AllLeavesFit, other_length}
+use Rattle.vortex_meaning.proofs.ArithmeticErrs.{refuses_first}
 use Rattle.rowfn_lines.specs.Commands.{Command, nothing, malformed, rows, column, get, literal}
 use Rattle.rowfn_lines.specs.Commands.{call, show, run}
 use Rattle.rowfn_scripts.specs.Sessions.{SessionView, goes_on, refuses, is_malformed, least_count}
@@ -332,10 +332,10 @@ module _ {V O : Type 0} (m : Meaning V O) where
       → other_length n s.columns ≡ None → LeavesFit s.columns t → Runs m n t s (refuses e)
       → IsFirstFault m s.columns n t e
   run_faults s n t stack e counted fit (prints c h is) = cc
-  run_faults s n t stack e counted fit (refused d (unfit h k) is) = absurd (h fit)
-  run_faults s n t stack e counted fit (refused d (uneven l h k q) is) = cc
-  run_faults s n t stack e counted fit (refused d (faulty h k q) is) =
-      let same : d ≡ e = cc in subst (λ (x : VortexError). IsFirstFault m s.columns n t x) same q
+  run_faults s n t stack e counted fit (refused d r is) =
+      let same : d ≡ e = cc in
+      subst (λ (x : VortexError). IsFirstFault m s.columns n t x) same
+      (refuses_first m s.columns n t d fit counted r)
 
   pub refuses_faults_alone : (lines : List (List ℕ)) (read n : ℕ) (s : SessionView V O)
       (t : Tree V O) (stack : List (Tree V O)) (e : VortexError)

@@ -22,7 +22,8 @@ use Rattle.vortex_meaning.specs.Trees.{tree, trees_of}
 use Rattle.vortex_meaning.specs.Eval.{Inputs, all_give, one_faults, with_first, then_means}
 use Rattle.vortex_meaning.specs.Eval.{tree_type, tree_types, types_or_none, eval, eval_all, Settled}
 use Rattle.vortex_meaning.specs.Eval.{AllSettled, IsFirstFault, IsFirstFaultIn, HasTreeRows}
-use Rattle.vortex_meaning.specs.Execution.{Executes, RefusesExecution, unfit, uneven, faulty}
+use Rattle.vortex_meaning.specs.Execution.{Executes, RefusesExecution}
+use Rattle.vortex_meaning.proofs.ArithmeticErrs.{refuses_first}
 use Rattle.rowfn_scripts.specs.declared.ending.End.{End}
 use Rattle.rowfn_scripts.specs.declared.ending.End.TheVariants.{Done, Refused, Malformed}
 use Rattle.rowfn_lines.specs.Lines.{lines_of}
@@ -87,9 +88,8 @@ module _ {V O : Type 0} (m : Meaning V O) where
   executes_or_refuses : (cs : List ColumnView) (n : ℕ) (t : Tree V O) (c : ColumnView)
       (e : VortexError)
       → Executes m cs n t c → RefusesExecution m cs n t e → ⊥
-  executes_or_refuses cs n t c e h (unfit k q) = k h.fit
-  executes_or_refuses cs n t c e h (uneven l k q r) = let none = h.lengths in cc
-  executes_or_refuses cs n t c e h (faulty k q f) = no_fault m cs n e t (settled cs n t c h.rows) f
+  executes_or_refuses cs n t c e h r =
+      no_fault m cs n e t (settled cs n t c h.rows) (refuses_first m cs n t e h.fit h.lengths r)
 
   one_text : (cs : List ColumnView) (n : ℕ) (t : Tree V O) (c d : ColumnView) → Executes m cs n t c
       → Executes m cs n t d → column_text c ≡ column_text d

@@ -23,3 +23,6 @@ pub mod LighterReduced
 pub mod DriverSteps
 pub mod DriverLists
 pub mod DriverExamples
+pub mod FaultyRows
+pub mod ArithmeticErrs
+pub mod AfterRun

@@ -1,5 +1,5 @@
 -- A step rewrites a tree at the first place at which the rule applies, and a run is of steps.
-use Rattle.std.specs.Prelude.{◌≡◌, ℕ, zero, suc, Option, Some, None}
+use Rattle.std.specs.Prelude.{◌≡◌, ◌⊎◌, ◌≤◌, ℕ, zero, suc, Option, Some, None}
 use Rattle.std.specs.Option.{option_map, option_or}
 use Rattle.vortex_meaning.specs.Meaning.{Meaning}
 use Rattle.vortex_meaning.specs.Trees.{Tree, leaf, constant, call, Trees, no_trees, tree}
@@ -31,3 +31,7 @@ module _ {V O : Type 0} (rule : Tree V O → Option (Tree V O)) where
   abbrev pub Runs : ℕ → Tree V O → Tree V O → Type 0
   Runs zero t u = t ≡ u
   Runs (suc n) t v = (u : Tree V O) × Runs n t u × (step u ≡ Some v)
+
+  -- so many steps at most lead there: that many, or fewer to where none is left
+  abbrev pub RunsTo : ℕ → Tree V O → Tree V O → Type 0
+  RunsTo limit t u = (n : ℕ) × (n ≤ limit) × Runs n t u × ((step u ≡ None) ⊎ (n ≡ limit))

@@ -35,11 +35,16 @@ pub record Executes {V O : Type 0} (m : Meaning V O) (cs : List ColumnView) (n :
   pub lengths : other_length n cs ≡ None
   pub rows : HasTreeRows m cs n t c
 
--- first a leaf that does not fit, then a column of another length, then the first fault
+-- columns that do not serve a tree: first a leaf that does not fit, then a column of another length
+pub data RefusesColumns {V O : Type 0} (cs : List ColumnView) (n : ℕ) (t : Tree V O)
+    (e : VortexError) : Type 0 where
+  unfit : ¬ LeavesFit cs t → e ≡ ScopeMismatch → RefusesColumns cs n t e
+  uneven : (l : ℕ) → LeavesFit cs t → other_length n cs ≡ Some l → e ≡ LengthMismatch n l
+      → RefusesColumns cs n t e
+
+-- first columns that do not serve, then the first fault
 pub data RefusesExecution {V O : Type 0} (m : Meaning V O) (cs : List ColumnView) (n : ℕ)
     (t : Tree V O) (e : VortexError) : Type 0 where
-  unfit : ¬ LeavesFit cs t → e ≡ ScopeMismatch → RefusesExecution m cs n t e
-  uneven : (l : ℕ) → LeavesFit cs t → other_length n cs ≡ Some l → e ≡ LengthMismatch n l
-      → RefusesExecution m cs n t e
+  misfit : RefusesColumns cs n t e → RefusesExecution m cs n t e
   faulty : LeavesFit cs t → other_length n cs ≡ None → IsFirstFault m cs n t e
       → RefusesExecution m cs n t e

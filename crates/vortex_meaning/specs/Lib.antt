@@ -20,6 +20,7 @@ pub mod Made
 pub mod Weights
 pub mod Places
 pub mod Driver
+pub mod Running
 pub mod ComparisonTrees
 pub mod ArithmeticFaults
 pub mod Printing

@@ -1,6 +1,6 @@
 -- The weight of a tree, of which a rule over shipped functions takes some, and trees of shipped
 -- functions alone.
-use Rattle.std.specs.Prelude.{◌≡◌, ℕ, ◌+◌, ◌≤◌, Bool, Option, Some, ⊤, if◌then◌else◌}
+use Rattle.std.specs.Prelude.{◌≡◌, ℕ, ◌+◌, ◌≤◌, min, Bool, Option, Some, ⊤, if◌then◌else◌}
 use Rattle.vortex_types.specs.LogicalTypes.{LogicalType}
 use Rattle.vortex_operators.specs.declared.operators.Operator.{Operator}
 use Rattle.vortex_operators.specs.declared.operators.Operator.TheVariants.{And, Or}
@@ -41,6 +41,10 @@ module _ {V O : Type 0} (m : Meaning V O) where
     pub weights : Trees V O → ℕ
     weights no_trees = 0
     weights (tree t ts) = weight t + weights ts
+
+  -- as 64 bits tell it: the greatest number of those where it is larger
+  abbrev pub weight_told : Tree V O → ℕ
+  weight_told t = min (weight t) 18446744073709551615
 
 -- no function of a caller's is called
 abbrev pub IsOurs : {V O : Type 0} → Function V O → Type 0
