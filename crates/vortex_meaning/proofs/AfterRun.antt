@@ -1,31 +1,35 @@
 -- What a column or a refusal of the tree that a run leads to is to the old tree.
-use Rattle.std.proofs.Common.{◌≡◌, ℕ, ◌<◌, List, Option, Some, refl, sym, ◌∙◌}
+use Rattle.std.proofs.Common.{◌≡◌, ℕ, ◌<◌, List, Option, Some, None, refl, sym, ◌∙◌}
+use Rattle.std.specs.Prelude.{All}
 use Rattle.vortex_errors.specs.declared.error.VortexError.{VortexError}
 use Rattle.vortex_types.specs.LogicalTypes.{LogicalType}
 use Rattle.vortex_types.specs.Values.{Value}
-use Rattle.vortex_columns.specs.ColumnView.{ColumnView, row}
+use Rattle.vortex_columns.specs.ColumnView.{ColumnView, row, AreTyped}
 use Rattle.vortex_meaning.specs.Outcomes.{Outcome, gives, faults, Fault}
 use Rattle.vortex_meaning.specs.Meaning.{Meaning}
 use Rattle.vortex_meaning.specs.Trees.{Leaf, place, held, Tree, leaf, constant, call, Trees, no_trees, tree}
 use Rattle.vortex_meaning.specs.Eval.{tree_type, eval, HasTreeRows, IsFirstFault}
+use Rattle.vortex_meaning.specs.Execution.{LeavesFit, other_length, Executes, RefusesExecution}
 use Rattle.vortex_meaning.specs.Rewrites.{Rewrites, IsSound}
 use Rattle.vortex_meaning.specs.Made.{IsMadeLeaf, IsMade, AllMade, IsPlace, IsBound, AllBound}
 use Rattle.vortex_meaning.specs.Driver.{RunsTo}
 use Rattle.vortex_meaning.specs.Running.{KeepsRows, FaultsSomewhere, HasRowsAfter, IsFaultAfter}
+use Rattle.vortex_meaning.specs.Running.{ExecutesAfter, RefusesAfter, faulty}
 use Rattle.vortex_meaning.proofs.Driving.{runs_sound}
-use Rattle.vortex_meaning.proofs.RewrittenRows.{HasRows}
+use Rattle.vortex_meaning.proofs.RewrittenRows.{HasRows, fitting_row}
 use Rattle.vortex_meaning.proofs.RuleAnswers.{gives_is}
 use Rattle.vortex_meaning.proofs.FaultyRows.{no_value_faults, fault_row}
+use Rattle.vortex_meaning.proofs.ArithmeticErrs.{refuses_first}
 
 -- an expression is as constructors make it, over any rows
-module _ {V O : Type 0} (n : ℕ) where
-  place_made : (l : Leaf) → IsPlace l → IsMadeLeaf n l
-  place_made (place p name t) h = tt
-  place_made (held c) h = absurd h
+place_made : (n : ℕ) (l : Leaf) → IsPlace l → IsMadeLeaf n l
+place_made n (place p name t) h = tt
+place_made n (held c) h = absurd h
 
+module _ {V O : Type 0} (n : ℕ) where
   mutual
     pub bound_made : (t : Tree V O) → IsBound t → IsMade n t
-    bound_made (leaf l) h = place_made l h
+    bound_made (leaf l) h = place_made n l h
     bound_made (constant s) h = h
     bound_made (call f ts) h = all_bound_made ts h
 
@@ -74,3 +78,20 @@ module _ {V O : Type 0} (m : Meaning V O) (rule : Tree V O → Option (Tree V O)
       first = h;
       old = old_faults m cs n t u run_rewrites typed (fault_row m cs n u e h);
     }
+
+  -- over typed columns that serve the old tree, which is an expression
+  module _ (typed : All (λ c. AreTyped c.dtype c.rows) cs) (bound : IsBound t)
+      (fit : LeavesFit cs t) (lengths : other_length n cs ≡ None) where
+    with_rows : HasRows m cs n t
+    with_rows = λ i lt. fitting_row cs n lengths typed t i lt fit (bound_made n t bound)
+
+    pub executes_after : (c : ColumnView) → Executes m cs n u c
+        → ExecutesAfter m cs n rule limit t c
+    executes_after c h =
+        record { fit = fit; lengths = lengths; rows = rows_after with_rows c h.rows }
+
+    pub refuses_after : (e : VortexError) → RefusesExecution m cs n u e
+        → RefusesAfter m cs n rule limit t e
+    refuses_after e h =
+        let fits = run_rewrites.asks.leaves cs fit in
+        faulty fit lengths (fault_after with_rows e (refuses_first m cs n u e fits lengths h))
