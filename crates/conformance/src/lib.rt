@@ -34,6 +34,8 @@ mod rewriting;
 #[cfg(test)]
 mod rules;
 #[cfg(test)]
+mod running;
+#[cfg(test)]
 mod texts;
 #[cfg(test)]
 mod trees;

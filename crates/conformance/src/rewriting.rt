@@ -172,3 +172,27 @@ fn array_trees_are_rewritten(rt: HostRuntime) {
     let missing = [Some(false), Some(false), Some(true)];
     assert!(rt; yes(null_test_answers(alloc, &rows, &missing)));
 }
+
+/// Whether a tree weighs so much, and what Reduce makes of it at its root so much.
+fn weighs<C: ScalarFnRules>(
+    alloc: Global,
+    tree: Tree<C>,
+    wanted: (u64, u64),
+) -> VortexResult<bool> {
+    let tree = tree?;
+    let made = Box::new(alloc, optimize_recursive(alloc, &*tree, 1)?)?;
+    Ok((tree.weight(), made.tree.weight()) == wanted)
+}
+
+/// True of nullable Bool and column `b`, which is not nullable.
+fn true_and_b_alone<C: ScalarFnVTable>(alloc: Global) -> Tree<C> {
+    let truth = literal(alloc, Scalar::try_new(DType::Bool(YES), Some(ScalarValue::Bool(true))));
+    between(alloc, truth, Operator::And, leaf_of(alloc, DType::Bool(NO)))
+}
+
+#[test]
+fn a_rewrite_makes_a_tree_lighter(rt: HostRuntime) {
+    let alloc = rt.alloc();
+    assert!(rt; yes(weighs(alloc, unknown_sum::<NoCustom>(alloc), (15, 14))));
+    assert!(rt; yes(weighs(alloc, true_and_b_alone::<NoCustom>(alloc), (5, 2))));
+}

@@ -7,3 +7,4 @@ pub mod RewrittenList
 pub mod FirstSteps
 pub mod Optimizing
 pub mod StepWalks
+pub mod RunAnswers

@@ -3,3 +3,4 @@ pub mod Places
 pub mod Rewriting
 pub mod Rules
 pub mod Ways
+pub mod Runs

@@ -7,10 +7,12 @@ pub mod driver;
 mod expression;
 pub mod places;
 pub mod rule;
+pub mod running;
 pub mod tree;
 mod ways;
 
 pub use driver::{Optimized, optimize_recursive};
 pub use places::{Rewritten, rewrite_at, rewrite_list};
 pub use rule::Rule;
+pub use running::{run, run_array};
 pub use tree::RewriteTree;

@@ -91,6 +91,8 @@ pub use vortex_rewriting::Rule;
 pub use vortex_rewriting::optimize_recursive;
 pub use vortex_rewriting::rewrite_at;
 pub use vortex_rewriting::rewrite_list;
+pub use vortex_rewriting::run;
+pub use vortex_rewriting::run_array;
 pub use vortex_rules::ExpressionReduceNode;
 pub use vortex_rules::NullTest;
 pub use vortex_rules::ReduceExpression;
