@@ -23,7 +23,7 @@ use Rattle.vortex_meaning.proofs.TypedCalls.{type_of_one, type_of_two, one_value
 use Rattle.vortex_meaning.proofs.TypedValues.{value_typed, never_null}
 use Rattle.vortex_meaning.proofs.Rewriting.{asks_same, asks_nothing}
 use Rattle.vortex_meaning.proofs.KleeneConstants.{truth_back, truth_in, kleene_turned}
-use Rattle.vortex_meaning.proofs.BooleanCalls.{bool_call, bool_values, eval_bool}
+use Rattle.vortex_meaning.proofs.BooleanCalls.{bool_call, bool_values, eval_bool, asks_left, asks_right}
 use Rattle.vortex_meaning.proofs.RuleAnswers.{mapped, not_not}
 
 -- a null test by what it says of a value
@@ -148,6 +148,9 @@ module _ {V O : Type 0} (m : Meaning V O) where
         rows = λ cs i k.
             let right = asks.rows cs i (s.asks_other.rows cs i k.0) in
             ((s.asks_nullable.rows cs i k.0, tt), (right, tt));
+        bound = λ k.
+            let right = asks.bound (s.asks_other.bound k.0) in
+            ((s.asks_nullable.bound k.0, tt), (right, tt));
       };
       value = λ cs i w p e.
           let a = test_value cs i node w e in
@@ -179,7 +182,7 @@ module _ {V O : Type 0} (m : Meaning V O) where
     split_negated op join node x y t b h s said =
         split_test op join not node x y (negated y) t b h s
         (type_of_one m (ours Not) y (bool_type false) s.other)
-        (record { leaves = λ cs k. (k, tt); rows = λ cs i k. (k, tt) })
+        (record { leaves = λ cs k. (k, tt); rows = λ cs i k. (k, tt); bound = λ k. (k, tt) })
         (λ cs i c e. eval_one m cs i (ours Not) y (truth c) e) said
 
   module _ (lawful : Lawful m) where
@@ -189,8 +192,8 @@ module _ {V O : Type 0} (m : Meaning V O) where
     split_left op x y b h k = record {
       nullable = h;
       other = k;
-      asks_nullable = record { leaves = λ cs p. p.0; rows = λ cs i p. p.0 };
-      asks_other = record { leaves = λ cs p. p.1.0; rows = λ cs i p. p.1.0 };
+      asks_nullable = asks_left m op x y;
+      asks_other = asks_right m op x y;
       values = λ cs i w p e.
           let q = bool_values m cs i op x y w b e in
           let typed = value_typed m lawful cs i x (bool_type true) q.0 h p.0 q.2 in
@@ -210,8 +213,8 @@ module _ {V O : Type 0} (m : Meaning V O) where
     split_right op x y b h k = record {
       nullable = k;
       other = h;
-      asks_nullable = record { leaves = λ cs p. p.1.0; rows = λ cs i p. p.1.0 };
-      asks_other = record { leaves = λ cs p. p.0; rows = λ cs i p. p.0 };
+      asks_nullable = asks_right m op x y;
+      asks_other = asks_left m op x y;
       values = λ cs i w p e.
           let q = bool_values m cs i op x y w b e in
           let typed = value_typed m lawful cs i y (bool_type true) q.1 k p.1.0 q.3 in
@@ -335,6 +338,7 @@ module _ {V O : Type 0} (m : Meaning V O) where
     asks = record {
       leaves = λ cs k. (valid.asks.leaves cs k.0, tt);
       rows = λ cs i k. (valid.asks.rows cs i k.0, tt);
+      bound = λ k. (valid.asks.bound k.0, tt);
     };
     value = λ cs i w p e.
         let a = test_value IsNull is_null (λ ts z. refl) (λ k. refl) cs i x w e in
@@ -350,6 +354,7 @@ module _ {V O : Type 0} (m : Meaning V O) where
     asks = record {
       leaves = λ cs k. valid.asks.leaves cs k.0;
       rows = λ cs i k. valid.asks.rows cs i k.0;
+      bound = λ k. valid.asks.bound k.0;
     };
     value = λ cs i w p e.
         let a = test_value IsNotNull is_not_null (λ ts z. refl) (λ k. refl) cs i x w e in

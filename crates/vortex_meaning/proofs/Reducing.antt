@@ -44,7 +44,11 @@ module _ {V O : Type 0} (m : Meaning V O) where
       → Rewrites m (operated op x y) (table_constant op n (Some a) (Some z))
   both_constant op x y n a z b c h k = record {
     dtype = sym c.node;
-    asks = record { leaves = λ cs p. tt; rows = λ cs i p. table_typed op n a z b };
+    asks = record {
+      leaves = λ cs p. tt;
+      rows = λ cs i p. table_typed op n a z b;
+      bound = λ p. table_typed op n a z b;
+    };
     value = λ cs i w p e.
         let q = bool_values m cs i op x y w b e in
         let left = gives_is (truth a) q.0 (sym (constant_given m cs i x a h) ∙ q.2) in

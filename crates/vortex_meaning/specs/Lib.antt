@@ -15,6 +15,7 @@ pub mod Rules
 pub mod ValidityRules
 pub mod ReduceRules
 pub mod SimplifyRules
+pub mod Bound
 pub mod Rewrites
 pub mod Made
 pub mod Weights

@@ -1,0 +1,21 @@
+-- Expressions: they hold no column, and each constant has its type.
+use Rattle.std.specs.Prelude.{⊤}
+use Rattle.vortex_types.specs.Typing.{HasType}
+use Rattle.vortex_meaning.specs.Trees.{Leaf, place, held, Tree, leaf, constant, call, Trees, no_trees, tree}
+
+-- a place in a scope
+abbrev pub IsPlace : Leaf → Type 0
+IsPlace (place p name t) = ⊤
+IsPlace (held c) = ⊥
+
+-- the leaves of an expression are places, and each constant has its type
+abbrev mutual
+  pub IsBound : {V O : Type 0} → Tree V O → Type 0
+  IsBound (leaf l) = IsPlace l
+  IsBound (constant s) = HasType s.dtype s.value
+  IsBound (call f ts) = AllBound ts
+
+  -- so are those of several trees
+  pub AllBound : {V O : Type 0} → Trees V O → Type 0
+  AllBound no_trees = ⊤
+  AllBound (tree t ts) = IsBound t × AllBound ts
