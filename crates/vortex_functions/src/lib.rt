@@ -8,7 +8,6 @@ mod cast;
 pub mod custom;
 pub mod erased;
 pub mod ext;
-pub mod laws;
 mod like;
 mod not;
 mod null_tests;
@@ -23,6 +22,7 @@ pub use tree::BoundExpression;
 pub use typed::TypedScalarFnInstance;
 pub use vortex_interface::{
     Arity, ChildName, EmptyOptions, ExecutionArgs, ScalarFnId, ScalarFnVTable, VecExecutionArgs,
+    laws,
 };
 pub use vortex_like::LikeOptions;
 pub use vortex_shipped::{Between, Binary, Cast, CastOptions, IsNotNull, IsNull, Like, Not};

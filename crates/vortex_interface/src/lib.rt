@@ -1,7 +1,8 @@
-//! The interface of row functions, and the inputs of their calls.
+//! The interface of row functions, the inputs of their calls, and what follows from what functions mean.
 #![tactic(auto)]
 
 pub mod args;
+pub mod laws;
 pub mod literal_text;
 pub mod options;
 pub mod printing;

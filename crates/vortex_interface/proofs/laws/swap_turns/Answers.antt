@@ -1,5 +1,5 @@
 use Rattle.vortex_meaning.specs.ComparisonTrees.{swap_turns}
-use Rattle.vortex_functions.proofs.laws.swap_turns.Goals as goal
+use Rattle.vortex_interface.proofs.laws.swap_turns.Goals as goal
 
 pub returns : goal.returns
 returns g c = swap_turns g.C.ScalarFnVTable.meaning

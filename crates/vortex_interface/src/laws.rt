@@ -2,7 +2,7 @@
 ghost use Rattle.vortex_meaning.specs.ComparisonTrees.{InverseNegates, SwapTurns};
 ghost use Rattle.vortex_meaning.specs.ArithmeticFaults.{ErrsWhereArithmeticDoes};
 
-use vortex_interface::ScalarFnVTable;
+use crate::vtable::ScalarFnVTable;
 
 /// `not (a op b)` and `a inverse b` have one outcome in every row, for each comparison and all trees `a` and `b`.
 pub fn inverse_negates<C: ScalarFnVTable>()
