@@ -24,7 +24,7 @@ module _ {V O : Type 0} where
       subst (Rewrites first_meaning (call (custom f o) (tree x ts))) is
       (record {
         dtype = p.2 ∙ same ∙ sym h;
-        asks = record { leaves = λ cs k. k.0; rows = λ cs i k. k.0; bound = λ k. k.0 };
+        asks = record { leaves = λ cs k. k.0; rows = λ cs i k. k.0; places = λ k. k.0 };
         value = λ cs i w k e.
             let q = means_parts first_value _ w e in
             let r = values_parts (eval first_meaning cs x i) (eval_all first_meaning cs ts i) q.0 q.1 in

@@ -146,15 +146,15 @@ module _ {V O : Type 0} (m : Meaning V O) where
       by false = record {
         leaves = λ cs h. (a.leaves cs h, tt);
         rows = λ cs i h. (a.rows cs i h, tt);
-        bound = λ h. (a.bound h, tt);
+        places = λ h. (a.places h, tt);
       }
 
   pub asks_left : (op : Operator) (x y : Tree V O) → AsksNoMore (operated op x y) x
-  asks_left op x y = record { leaves = λ cs h. h.0; rows = λ cs i h. h.0; bound = λ h. h.0 }
+  asks_left op x y = record { leaves = λ cs h. h.0; rows = λ cs i h. h.0; places = λ h. h.0 }
 
   pub asks_right : (op : Operator) (x y : Tree V O) → AsksNoMore (operated op x y) y
   asks_right op x y =
-      record { leaves = λ cs h. h.1.0; rows = λ cs i h. h.1.0; bound = λ h. h.1.0 }
+      record { leaves = λ cs h. h.1.0; rows = λ cs i h. h.1.0; places = λ h. h.1.0 }
 
   module _ (op : Operator) (b : is_boolean op ≡ true) (x y : Tree V O) (n a : Bool)
       (c : IsBoolCall op x y n) where

@@ -148,9 +148,9 @@ module _ {V O : Type 0} (m : Meaning V O) where
         rows = λ cs i k.
             let right = asks.rows cs i (s.asks_other.rows cs i k.0) in
             ((s.asks_nullable.rows cs i k.0, tt), (right, tt));
-        bound = λ k.
-            let right = asks.bound (s.asks_other.bound k.0) in
-            ((s.asks_nullable.bound k.0, tt), (right, tt));
+        places = λ k.
+            let right = asks.places (s.asks_other.places k.0) in
+            ((s.asks_nullable.places k.0, tt), (right, tt));
       };
       value = λ cs i w p e.
           let a = test_value cs i node w e in
@@ -182,7 +182,7 @@ module _ {V O : Type 0} (m : Meaning V O) where
     split_negated op join node x y t b h s said =
         split_test op join not node x y (negated y) t b h s
         (type_of_one m (ours Not) y (bool_type false) s.other)
-        (record { leaves = λ cs k. (k, tt); rows = λ cs i k. (k, tt); bound = λ k. (k, tt) })
+        (record { leaves = λ cs k. (k, tt); rows = λ cs i k. (k, tt); places = λ k. (k, tt) })
         (λ cs i c e. eval_one m cs i (ours Not) y (truth c) e) said
 
   module _ (lawful : Lawful m) where
@@ -338,7 +338,7 @@ module _ {V O : Type 0} (m : Meaning V O) where
     asks = record {
       leaves = λ cs k. (valid.asks.leaves cs k.0, tt);
       rows = λ cs i k. (valid.asks.rows cs i k.0, tt);
-      bound = λ k. (valid.asks.bound k.0, tt);
+      places = λ k. (valid.asks.places k.0, tt);
     };
     value = λ cs i w p e.
         let a = test_value IsNull is_null (λ ts z. refl) (λ k. refl) cs i x w e in
@@ -354,7 +354,7 @@ module _ {V O : Type 0} (m : Meaning V O) where
     asks = record {
       leaves = λ cs k. valid.asks.leaves cs k.0;
       rows = λ cs i k. valid.asks.rows cs i k.0;
-      bound = λ k. valid.asks.bound k.0;
+      places = λ k. valid.asks.places k.0;
     };
     value = λ cs i w p e.
         let a = test_value IsNotNull is_not_null (λ ts z. refl) (λ k. refl) cs i x w e in

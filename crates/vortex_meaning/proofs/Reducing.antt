@@ -47,7 +47,7 @@ module _ {V O : Type 0} (m : Meaning V O) where
     asks = record {
       leaves = λ cs p. tt;
       rows = λ cs i p. table_typed op n a z b;
-      bound = λ p. table_typed op n a z b;
+      places = λ p. tt;
     };
     value = λ cs i w p e.
         let q = bool_values m cs i op x y w b e in

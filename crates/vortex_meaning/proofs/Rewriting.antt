@@ -11,23 +11,23 @@ use Rattle.vortex_meaning.specs.Eval.{all_give, with_first, then_means, types_or
 use Rattle.vortex_meaning.specs.Execution.{AllLeavesFit}
 use Rattle.vortex_meaning.specs.Rules.{truth_constant}
 use Rattle.vortex_meaning.specs.Rewrites.{AllHaveRow, AsksNoMore, Rewrites}
-use Rattle.vortex_meaning.specs.Bound.{AllBound}
+use Rattle.vortex_meaning.specs.Bound.{AllOnlyPlaces}
 use Rattle.vortex_meaning.proofs.TypedCalls.{means_parts, values_parts}
 
 module _ {V O : Type 0} where
   pub asks_same : (t : Tree V O) → AsksNoMore t t
-  asks_same t = record { leaves = λ cs h. h; rows = λ cs i h. h; bound = λ h. h }
+  asks_same t = record { leaves = λ cs h. h; rows = λ cs i h. h; places = λ h. h }
 
   pub asks_trans : (t u v : Tree V O) → AsksNoMore t u → AsksNoMore u v → AsksNoMore t v
   asks_trans t u v a b = record {
     leaves = λ cs h. b.leaves cs (a.leaves cs h);
     rows = λ cs i h. b.rows cs i (a.rows cs i h);
-    bound = λ h. b.bound (a.bound h);
+    places = λ h. b.places (a.places h);
   }
 
   -- a truth value asks nothing
   pub asks_nothing : (t : Tree V O) (n b : _) → AsksNoMore t (truth_constant n b)
-  asks_nothing t n b = record { leaves = λ cs h. tt; rows = λ cs i h. tt; bound = λ h. tt }
+  asks_nothing t n b = record { leaves = λ cs h. tt; rows = λ cs i h. tt; places = λ h. tt }
 
   module _ (m : Meaning V O) where
     pub rewrites_same : (t : Tree V O) → Rewrites m t t
@@ -45,7 +45,7 @@ module _ {V O : Type 0} where
       pub dtypes : tree_types m us ≡ tree_types m ts
       pub leaves : (cs : List ColumnView) → AllLeavesFit cs ts → AllLeavesFit cs us
       pub rows : (cs : List ColumnView) (i : ℕ) → AllHaveRow cs i ts → AllHaveRow cs i us
-      pub bound : AllBound ts → AllBound us
+      pub places : AllOnlyPlaces ts → AllOnlyPlaces us
       pub values : (cs : List ColumnView) (i : ℕ) (ws : List Value) → AllHaveRow cs i ts
           → eval_all m cs ts i ≡ all_give ws → eval_all m cs us i ≡ all_give ws
 
@@ -54,7 +54,7 @@ module _ {V O : Type 0} where
       dtypes = refl;
       leaves = λ cs h. h;
       rows = λ cs i h. h;
-      bound = λ h. h;
+      places = λ h. h;
       values = λ cs i ws p e. e;
     }
 
@@ -64,7 +64,7 @@ module _ {V O : Type 0} where
       dtypes = λ j. with_type (a.dtype j) (b.dtypes j);
       leaves = λ cs h. (a.asks.leaves cs h.0, b.leaves cs h.1);
       rows = λ cs i h. (a.asks.rows cs i h.0, b.rows cs i h.1);
-      bound = λ h. (a.asks.bound h.0, b.bound h.1);
+      places = λ h. (a.asks.places h.0, b.places h.1);
       values = λ cs i ws p e.
           let q = values_parts (eval m cs t i) (eval_all m cs ts i) ws e in
           let one = a.value cs i q.0 p.0 q.2 in
@@ -77,7 +77,7 @@ module _ {V O : Type 0} where
         → Rewrites m (call f ts) (call f us)
     call_rewrites f ts us a = record {
       dtype = ap (option_and_then (call_type m f)) a.dtypes;
-      asks = record { leaves = a.leaves; rows = a.rows; bound = a.bound };
+      asks = record { leaves = a.leaves; rows = a.rows; places = a.places };
       value = λ cs i w p e.
           let means = function_means m f (types_or_none (tree_types m ts)) in
           let q = means_parts means (eval_all m cs ts i) w e in

@@ -22,7 +22,7 @@ use Rattle.vortex_meaning.specs.Execution.{LeavesFit, AllLeavesFit}
 use Rattle.vortex_meaning.specs.ComparisonTrees.{operated}
 use Rattle.vortex_meaning.specs.Rules.{Rules, no_rules, truth_constant, is_not_null_of, may_be_null, is_nullable_tree}
 use Rattle.vortex_meaning.specs.ValidityRules.{validity_column, column_validity, is_null_type, without_null, null_tests, union_child_validities, validity_over, validity_of_typed, default_validity, default_rules, validity}
-use Rattle.vortex_meaning.specs.Bound.{IsBound, AllBound}
+use Rattle.vortex_meaning.specs.Bound.{OnlyPlaces, AllOnlyPlaces}
 use Rattle.vortex_meaning.specs.Rewrites.{HasTypedRow, HasRow, AllHaveRow, AsksNoMore, IsValidityOf, LawfulRules}
 use Rattle.vortex_meaning.proofs.TypedCalls.{types_parts, values_parts, typed_call, type_of_one, type_of_two, call_value, eval_one}
 use Rattle.vortex_meaning.proofs.TypedValues.{function_typed, function_alike, function_null, values_typed}
@@ -156,10 +156,10 @@ module _ {V O : Type 0} (m : Meaning V O) where
       each_test (HasRow cs i) t (null_tests m ts) (is_nullable_tree m t) (h.0, tt)
       (tests_have_row cs i ts h.1)
 
-  tests_bound : (ts : Trees V O) → AllBound ts → AllSay (λ u p. IsBound u) (null_tests m ts) true
-  tests_bound no_trees h = refl
-  tests_bound (tree t ts) h =
-      each_test IsBound t (null_tests m ts) (is_nullable_tree m t) (h.0, tt) (tests_bound ts h.1)
+  tests_hold_none : (ts : Trees V O) → AllOnlyPlaces ts → AllSay (λ u p. OnlyPlaces u) (null_tests m ts) true
+  tests_hold_none no_trees h = refl
+  tests_hold_none (tree t ts) h =
+      each_test OnlyPlaces t (null_tests m ts) (is_nullable_tree m t) (h.0, tt) (tests_hold_none ts h.1)
 
   -- in a row the tests say together that no child is null
   abbrev Says : List ColumnView → ℕ → Tree V O → Bool → Type 0
@@ -217,9 +217,9 @@ module _ {V O : Type 0} (m : Meaning V O) where
     rows = λ cs i h.
         all_of_says (λ u p. HasRow cs i u) (λ t u p q a b. (a, (b, tt))) tt (null_tests m ts) true
         (tests_have_row cs i ts h);
-    bound = λ h.
-        all_of_says (λ u p. IsBound u) (λ t u p q a b. (a, (b, tt))) tt (null_tests m ts) true
-        (tests_bound ts h);
+    places = λ h.
+        all_of_says (λ u p. OnlyPlaces u) (λ t u p q a b. (a, (b, tt))) tt (null_tests m ts) true
+        (tests_hold_none ts h);
   }
 
   union_says : (cs : List ColumnView) (i : ℕ) (ts : Trees V O) (types : List LogicalType)
@@ -318,7 +318,7 @@ module _ {V O : Type 0} (m : Meaning V O) where
       asks = record {
         leaves = λ cs h. tt;
         rows = λ cs i h. validity_row c i h;
-        bound = λ h. absurd h;
+        places = λ h. absurd h;
       };
       value = λ cs i w p e.
           ap gives (validity_at c i p.within)

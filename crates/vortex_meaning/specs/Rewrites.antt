@@ -12,7 +12,7 @@ use Rattle.vortex_meaning.specs.Trees.{Leaf, place, held, Tree, leaf, constant, 
 use Rattle.vortex_meaning.specs.Eval.{leaf_value, tree_type, eval}
 use Rattle.vortex_meaning.specs.Execution.{LeavesFit}
 use Rattle.vortex_meaning.specs.Rules.{Rules}
-use Rattle.vortex_meaning.specs.Bound.{IsBound}
+use Rattle.vortex_meaning.specs.Bound.{OnlyPlaces}
 
 -- a held column has that row, a value of its type, of which its form tells truly
 pub record HasTypedRow (c : ColumnView) (i : ℕ) : Type 0 where
@@ -38,11 +38,11 @@ abbrev mutual
   AllHaveRow cs i (tree t ts) = HasRow cs i t × AllHaveRow cs i ts
 
 -- the new tree asks no more of columns: where they fit the old one's leaves they fit its own, and
--- so in each row; and it is an expression where the old one is
+-- so in each row; and it holds no column where the old one holds none
 pub record AsksNoMore {V O : Type 0} (t u : Tree V O) : Type 0 where
   pub leaves : (cs : List ColumnView) → LeavesFit cs t → LeavesFit cs u
   pub rows : (cs : List ColumnView) (i : ℕ) → HasRow cs i t → HasRow cs i u
-  pub bound : IsBound t → IsBound u
+  pub places : OnlyPlaces t → OnlyPlaces u
 
 -- The new tree has the old one's type, asks no more of columns, and has the same value in each row
 -- in which the old one has a value; so no fault appears.
