@@ -9,3 +9,5 @@ pub mod Chains
 pub mod Upward
 pub mod Inputs
 pub mod Listed
+pub mod CallWeights
+pub mod BoundTrees

@@ -8,7 +8,7 @@ use Rattle.vortex_columns.specs.ColumnView.{ColumnView}
 use Rattle.vortex_meaning.specs.Meaning.{Meaning}
 use Rattle.vortex_meaning.specs.Trees.{Tree, leaf}
 use Rattle.vortex_meaning.specs.Eval.{HasTreeRows, IsFirstFault}
-use Rattle.vortex_meaning.specs.Execution.{LeafFits, LeavesFit, other_length, Executes, RefusesExecution}
+use Rattle.vortex_meaning.specs.Execution.{LeafFits, LeavesFit, other_length, Executes, RefusesColumns, RefusesExecution}
 use Rattle.vortex_functions.specs.Binding.{IsLeaf, IsLentLeaf}
 
 abbrev Answer : Type 0
@@ -40,3 +40,9 @@ NodeFits columns t = ⊤
 -- the columns fit the leaves, and each has so many rows
 abbrev pub Fits : {V O : Type 0} → List ColumnView → ℕ → Tree V O → Type 0
 Fits columns n t = LeavesFit columns t × (other_length n columns ≡ None)
+
+-- whether the columns do, and what those that do not are refused for
+abbrev pub AnswersColumns : {V O A : Type 0} → List ColumnView → ℕ → Tree V O
+    → Result A VortexError → Type 0
+AnswersColumns columns n t result =
+    Answers result (λ _. Fits columns n t) (RefusesColumns columns n t)

@@ -1,6 +1,7 @@
 -- What the contracts of this crate name.
 pub use Rattle.vortex_errors.specs.Answers.{AnswersUnlessMemory}
 pub use Rattle.vortex_types.specs.TypeOf.{type_of, struct_fields}
+pub use Rattle.vortex_columns.specs.ColumnView.{AreTyped}
 pub use Rattle.vortex_meaning.specs.Outcomes.{types_in}
 pub use Rattle.vortex_meaning.specs.Meaning.{fits}
 pub use Rattle.vortex_meaning.specs.Shipped.{Shipped, shipped_named}
@@ -16,9 +17,11 @@ pub use Rattle.vortex_meaning.specs.CallTexts.{Appends}
 pub use Rattle.vortex_meaning.specs.Trees.{constant, trees_of, children_of, called, literal}
 pub use Rattle.vortex_meaning.specs.Eval.{tree_type, tree_types}
 pub use Rattle.vortex_meaning.specs.Execution.{LeavesFit, other_length}
+pub use Rattle.vortex_meaning.specs.Made.{IsBound}
+pub use Rattle.vortex_meaning.specs.Weights.{added, weights, weight_told}
 pub use Rattle.vortex_meaning.specs.Printing.{tree_text}
 pub use Rattle.vortex_functions.specs.FunctionOf.{function_of, operator_in, is_not, instance_in}
 pub use Rattle.vortex_functions.specs.Texts.{AppendsText, IsTextOf}
 pub use Rattle.vortex_functions.specs.Binding.{AnswersLeaf, AnswersBinding, IsLeaf, IsLeafAt}
-pub use Rattle.vortex_functions.specs.Executing.{HasRows, NodeFits, AnswersTree, AnswersExecution, LendsLeaf, Fits}
+pub use Rattle.vortex_functions.specs.Executing.{HasRows, NodeFits, AnswersTree, AnswersExecution, AnswersColumns, LendsLeaf, Fits}
 pub use Rattle.vortex_functions.specs.Walks.{AllMean, IsCopy}

@@ -1,6 +1,6 @@
 //! A function with its options: a shipped one or a caller's.
 ghost use Rattle.std.specs.Prelude.{◌≡◌, Some, None, IsTrue, IsSome, MatchResult, length};
-ghost use Rattle.vortex_functions.specs.Words.{types_in, fits, function_of, function_id, function_arity, function_child_name, function_type, function_strict, function_infallible, AnswersUnlessMemory, AnswersFunctionType, AnswersFunction, AppendsText};
+ghost use Rattle.vortex_functions.specs.Words.{types_in, fits, function_of, function_id, function_arity, function_child_name, function_type, function_strict, function_infallible, AnswersUnlessMemory, AnswersFunctionType, AnswersFunction, AppendsText, added};
 
 use crate::ext::ScalarFnVTableExt;
 use crate::typed::TypedScalarFnInstance;
@@ -206,6 +206,22 @@ impl<C: ScalarFnVTable> ScalarFnRef<C> {
             is_strict: f.is_strict(options),
             is_infallible: f.is_infallible(options),
         })
+    }
+
+    /// What a call of it adds to the weight of its children, where the call is nullable or not.
+    pub fn added_weight(&self, nullable: bool) -> u64
+        ensures { result ≡ added (function_of self.now) nullable }
+    {
+        match self {
+            ScalarFnRef::Binary(Operator::And) | ScalarFnRef::Binary(Operator::Or) => {
+                if nullable { 3 } else { 1 }
+            }
+            ScalarFnRef::Binary(_) => 5,
+            ScalarFnRef::Not => if nullable { 2 } else { 1 },
+            ScalarFnRef::IsNull | ScalarFnRef::IsNotNull => 2,
+            ScalarFnRef::Cast | ScalarFnRef::Between(_) | ScalarFnRef::Custom(_) => 1,
+            ScalarFnRef::Like(_) => 5,
+        }
     }
 
     /// The name of an argument, as `lhs`; past the arguments that a call has, any name serves.

@@ -1,7 +1,8 @@
 //! Expression trees over the columns of a scope.
-ghost use Rattle.std.specs.Prelude.{◌≡◌, ◌<◌, None, Some, MatchOption, length, map, slice_get};
+ghost use Rattle.std.specs.Prelude.{◌≡◌, ◌<◌, ◌+◌, All, IfOk, None, Some, MatchOption, length, map, min, slice_get};
 ghost use Rattle.std.specs.Option.{option_copied};
 ghost use Rattle.vortex_functions.specs.Words.{type_of, struct_fields, constant, trees_of, children_of, called, literal, tree_type, tree_types, function_of, AnswersUnlessMemory, AnswersLeaf, AnswersBinding, IsLeaf, IsLeafAt};
+ghost use Rattle.vortex_functions.specs.Words.{added, weights, weight_told, IsBound};
 
 use crate::erased::ScalarFnRef;
 use std::alloc::Global;
@@ -20,8 +21,8 @@ enum Node<C: ScalarFnVTable> {
     Column(usize, String, DType),
     /// A value, and the allocator for its text.
     Literal(Scalar, Global),
-    /// A function, its children, and the type of its answer.
-    Call(ScalarFnRef<C>, Vec<BoundExpression<C>>, DType),
+    /// A function, its children, the type of its answer, and the weight of the call.
+    Call(ScalarFnRef<C>, Vec<BoundExpression<C>>, DType, u64),
 }
 
 /// A well-typed tree of calls over column leaves and literals.
@@ -61,7 +62,7 @@ impl<C: ScalarFnVTable> Drop for BoundExpression<C> {
         let mut list = match node {
             Node::Column(_, _, _) => return,
             Node::Literal(_, _) => return,
-            Node::Call(_, list, _) => list,
+            Node::Call(_, list, _, _) => list,
         };
         let alloc = *list.allocator();
         while let Some(tree) = list.pop() {
@@ -70,7 +71,7 @@ impl<C: ScalarFnVTable> Drop for BoundExpression<C> {
             match mem::replace(&mut tree.node, Node::Literal(nothing, alloc)) {
                 Node::Column(_, _, _) => {}
                 Node::Literal(_, _) => {}
-                Node::Call(_, children, _) => {
+                Node::Call(_, children, _, _) => {
                     let mut children = children;
                     while let Some(child) = children.pop() {
                         if let Err(failed) = list.push(child) {
@@ -88,14 +89,33 @@ fn dtypes_of<C: ScalarFnVTable>(
     alloc: Global,
     children: &[BoundExpression<C>],
 ) -> VortexResult<Vec<DType>>
-    ensures { AnswersUnlessMemory result
+    ensures types { AnswersUnlessMemory result
         (λ dtypes. tree_types C.meaning (trees_of children.now) ≡ Some (map type_of dtypes.items)) }
+    ensures bound { IfOk result (λ dtypes. All IsBound children.now) }
 {
     let mut dtypes = Vec::new(alloc);
     for child in children {
+        child.tells_types();
         dtypes.push(child.dtype().try_clone(alloc)?)?;
     }
     Ok(dtypes)
+}
+
+/// The weight of a call that is nullable or not: its children's, and what the function adds. Where that is past the greatest
+/// number, it is that number.
+fn call_weight<C: ScalarFnVTable>(
+    function: &ScalarFnRef<C>,
+    children: &[BoundExpression<C>],
+    nullable: bool,
+) -> u64
+    ensures { result ≡ min (added (function_of function.now) nullable
+        + weights C.meaning (trees_of children.now)) 18446744073709551615 }
+{
+    let mut weight = function.added_weight(nullable);
+    for child in children {
+        weight = weight.saturating_add(child.weight());
+    }
+    weight
 }
 
 impl<C: ScalarFnVTable> BoundExpression<C> {
@@ -123,6 +143,8 @@ impl<C: ScalarFnVTable> BoundExpression<C> {
     pub fn lit(alloc: Global, scalar: Scalar) -> BoundExpression<C>
         ensures { result ≡ constant scalar }
     {
+        // It says that the value has the type.
+        let _typed = scalar.dtype();
         BoundExpression {
             node: Node::Literal(scalar, alloc),
         }
@@ -144,8 +166,9 @@ impl<C: ScalarFnVTable> BoundExpression<C> {
         }
         let dtypes = dtypes_of(alloc, &children)?;
         let dtype = function.return_dtype(alloc, &dtypes)?;
+        let weight = call_weight(&function, &children, dtype.is_nullable());
         Ok(BoundExpression {
-            node: Node::Call(function, children, dtype),
+            node: Node::Call(function, children, dtype, weight),
         })
     }
 
@@ -156,7 +179,26 @@ impl<C: ScalarFnVTable> BoundExpression<C> {
         match &self.node {
             Node::Column(_, _, dtype) => dtype,
             Node::Literal(scalar, _) => scalar.dtype(),
-            Node::Call(_, _, dtype) => dtype,
+            Node::Call(_, _, dtype, _) => dtype,
+        }
+    }
+
+    /// Does nothing: its contract is what is known of every expression. Each leaf is a place in a scope, and each literal has
+    /// its type.
+    pub fn tells_types(&self)
+        ensures { IsBound self.now }
+    {
+        let _opened = &self.node;
+    }
+
+    /// The weight, which rules over shipped functions lessen. Where it is past the greatest number, it is that number.
+    pub fn weight(&self) -> u64
+        ensures { result ≡ weight_told C.meaning self.now }
+    {
+        match &self.node {
+            Node::Column(_, _, _) => 1,
+            Node::Literal(_, _) => 1,
+            Node::Call(_, _, _, weight) => *weight,
         }
     }
 
@@ -166,7 +208,7 @@ impl<C: ScalarFnVTable> BoundExpression<C> {
         ensures { result.now ≡ children_of self.now }
     {
         match &self.node {
-            Node::Call(_, children, _) => children,
+            Node::Call(_, children, _, _) => children,
             Node::Column(_, _, _) => &[],
             Node::Literal(_, _) => &[],
         }
@@ -186,7 +228,7 @@ impl<C: ScalarFnVTable> BoundExpression<C> {
             (called self.now ≡ None) (λ f. called self.now ≡ Some (function_of f.now)) }
     {
         match &self.node {
-            Node::Call(function, _, _) => Some(function),
+            Node::Call(function, _, _, _) => Some(function),
             Node::Column(_, _, _) => None,
             Node::Literal(_, _) => None,
         }
@@ -199,7 +241,7 @@ impl<C: ScalarFnVTable> BoundExpression<C> {
         match &self.node {
             Node::Column(place, _, _) => Some(*place),
             Node::Literal(_, _) => None,
-            Node::Call(_, _, _) => None,
+            Node::Call(_, _, _, _) => None,
         }
     }
 
@@ -210,7 +252,7 @@ impl<C: ScalarFnVTable> BoundExpression<C> {
         match &self.node {
             Node::Literal(scalar, _) => Some(scalar),
             Node::Column(_, _, _) => None,
-            Node::Call(_, _, _) => None,
+            Node::Call(_, _, _, _) => None,
         }
     }
 }

@@ -27,11 +27,11 @@ impl<C: ScalarFnVTable> BoundExpression<C> {
                 })
             }
             Node::Literal(scalar, _) => Ok(BoundExpression::lit(alloc, scalar.try_clone(alloc)?)),
-            Node::Call(function, _, dtype) => {
+            Node::Call(function, _, dtype, weight) => {
                 let function = function.try_clone(alloc)?;
                 let dtype = dtype.try_clone(alloc)?;
                 Ok(BoundExpression {
-                    node: Node::Call(function, copies, dtype),
+                    node: Node::Call(function, copies, dtype, *weight),
                 })
             }
         }

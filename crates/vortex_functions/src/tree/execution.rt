@@ -1,6 +1,7 @@
 //! A tree over columns.
-ghost use Rattle.std.specs.Prelude.{◌≡◌, ◌↔◌, None, IsTrue, IsOk};
+ghost use Rattle.std.specs.Prelude.{◌≡◌, ◌↔◌, All, None, IfNone, IfOk, IsTrue, IsOk};
 ghost use Rattle.vortex_functions.specs.Words.{children_of, AllMean, AnswersUnlessMemory, HasRows, LeavesFit, NodeFits, other_length, AnswersTree, AnswersExecution, LendsLeaf, IsLeaf, Fits};
+ghost use Rattle.vortex_functions.specs.Words.{AnswersColumns, AreTyped};
 
 use super::{BoundExpression, Node};
 use crate::walk;
@@ -8,11 +9,14 @@ use std::borrow::Cow;
 use vortex_columns::{Column, ExecutionCtx, VortexError, VortexResult};
 use vortex_interface::{ScalarFnVTable, VecExecutionArgs};
 
-/// The length of the first column that has not so many rows.
+/// The length of the first column that has not so many rows. Where there is none, the columns' rows have their types.
 fn first_other_length(columns: &[Column], row_count: usize) -> Option<usize>
-    ensures { result ≡ other_length row_count columns.now }
+    ensures other { result ≡ other_length row_count columns.now }
+    ensures typed { IfNone result (All (λ c. AreTyped c.dtype c.rows) columns.now) }
 {
     for column in columns {
+        // It says that the rows have the type.
+        let _typed = column.dtype();
         if column.len() != row_count {
             return Some(column.len());
         }
@@ -31,7 +35,7 @@ impl<C: ScalarFnVTable> BoundExpression<C> {
                 None => false,
             },
             Node::Literal(_, _) => true,
-            Node::Call(_, _, _) => true,
+            Node::Call(_, _, _, _) => true,
         }
     }
 
@@ -63,8 +67,35 @@ impl<C: ScalarFnVTable> BoundExpression<C> {
         match &self.node {
             Node::Column(_, _, _) => Ok(self.node_fits(columns)),
             Node::Literal(_, _) => Ok(true),
-            Node::Call(_, _, _) => self.nodes_fit(columns, ctx),
+            Node::Call(_, _, _, _) => self.nodes_fit(columns, ctx),
         }
+    }
+
+    /// Whether the columns serve the tree, and have its row count: what `execute` looks at first.
+    ///
+    /// In order: E11 where a leaf's column is missing or of another type; E2 where a column has not `row_count` rows, with
+    /// `left` the row count and `right` the length of the first such column. A lone leaf takes no memory. Columns that serve
+    /// have rows of their types.
+    pub fn check_columns(
+        &self,
+        columns: &[Column],
+        row_count: usize,
+        ctx: &mut ExecutionCtx,
+    ) -> VortexResult<()>
+        ensures answer { AnswersColumns columns.now row_count self.now result }
+        ensures typed { IfOk result (λ _. All (λ c. AreTyped c.dtype c.rows) columns.now) }
+        ensures lone { IsLeaf self.now → Fits columns.now row_count self.now → IsOk result }
+    {
+        if !self.leaves_fit(columns, ctx)? {
+            return Err(VortexError::ScopeMismatch);
+        }
+        if let Some(right) = first_other_length(columns, row_count) {
+            return Err(VortexError::LengthMismatch {
+                left: row_count,
+                right,
+            });
+        }
+        Ok(())
     }
 
     /// The node's rows, over those of its children.
@@ -86,7 +117,7 @@ impl<C: ScalarFnVTable> BoundExpression<C> {
                 let scalar = scalar.try_clone(ctx.alloc())?;
                 Ok(Cow::Owned(Column::constant(ctx.alloc(), scalar, row_count)?))
             }
-            Node::Call(function, _, _) => {
+            Node::Call(function, _, _, _) => {
                 let args = VecExecutionArgs::new(inputs, row_count);
                 Ok(Cow::Owned(function.execute(&args, ctx)?))
             }
@@ -120,7 +151,7 @@ impl<C: ScalarFnVTable> BoundExpression<C> {
         match &self.node {
             Node::Column(place, _, _) => Ok(Cow::Borrowed(&columns[*place])),
             Node::Literal(_, _) => self.compute(columns, row_count, ctx),
-            Node::Call(_, _, _) => self.compute(columns, row_count, ctx),
+            Node::Call(_, _, _, _) => self.compute(columns, row_count, ctx),
         }
     }
 
@@ -138,15 +169,7 @@ impl<C: ScalarFnVTable> BoundExpression<C> {
         ensures answer { AnswersExecution C.meaning columns.now row_count self.now result }
         ensures lent { Fits columns.now row_count self.now → LendsLeaf columns.now self.now result }
     {
-        if !self.leaves_fit(columns, ctx)? {
-            return Err(VortexError::ScopeMismatch);
-        }
-        if let Some(right) = first_other_length(columns, row_count) {
-            return Err(VortexError::LengthMismatch {
-                left: row_count,
-                right,
-            });
-        }
+        self.check_columns(columns, row_count, ctx)?;
         self.compute_or_lend(columns, row_count, ctx)
     }
 }

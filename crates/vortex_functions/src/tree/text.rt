@@ -25,7 +25,7 @@ impl<C: ScalarFnVTable> BoundExpression<C> {
                 write_literal(&mut text, Shape::Of(scalar.dtype()), &scalar.cell())?;
                 Ok(text)
             }
-            Node::Call(function, _, _) => {
+            Node::Call(function, _, _, _) => {
                 function.fmt_sql(&texts, &mut text)?;
                 Ok(text)
             }
@@ -47,7 +47,7 @@ impl<C: ScalarFnVTable> BoundExpression<C> {
         match &self.node {
             Node::Column(_, name, _) => *name.allocator(),
             Node::Literal(_, alloc) => *alloc,
-            Node::Call(_, children, _) => *children.allocator(),
+            Node::Call(_, children, _, _) => *children.allocator(),
         }
     }
 }

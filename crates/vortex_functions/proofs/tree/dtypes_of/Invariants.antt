@@ -1,11 +1,14 @@
 use Rattle.std.proofs.Common.{◌≡◌, map, take, Some}
+use Rattle.std.specs.Prelude.{All}
 use Rattle.vortex_types.specs.TypeOf.{type_of}
 use Rattle.vortex_meaning.specs.Trees.{trees_of}
 use Rattle.vortex_meaning.specs.Eval.{tree_types}
+use Rattle.vortex_meaning.specs.Made.{IsBound}
 use Rattle.vortex_functions.proofs.tree.dtypes_of.Given as goal
 
--- the types so far
+-- the types so far, of trees that are bound
 abbrev pub invariant-loop-child : goal.invariant-loop-child
 invariant-loop-child g l =
-    tree_types g.C.ScalarFnVTable.meaning (trees_of (take l.child-index l.children)) ≡ Some
-    (map type_of l.dtypes.items)
+    (tree_types g.C.ScalarFnVTable.meaning (trees_of (take l.child-index l.children)) ≡ Some
+    (map type_of l.dtypes.items))
+    × All IsBound (take l.child-index l.children)

@@ -33,7 +33,7 @@ execute-requires-clause-arity g c =
     let is : c.args.self.now ≡ call f (trees_of ts) =
     sym c.self.view_is ∙ ap node_tree c.in-Call.is in
     let typed : tree_type m (call f (trees_of ts)) ≡ Some dtype =
-    subst (λ x. IsNode m x) c.in-Call.is c.self.invariant in
+    (subst (λ x. IsNode m x) c.in-Call.is c.self.invariant.0).0 in
     let given = c.new-args.result.columns in
     let all : AllHaveRows m cs n ts given =
     rw c.new-args.ensures.columns
@@ -51,7 +51,7 @@ execute-requires-clause-accepted g c =
     let is : c.args.self.now ≡ call f (trees_of ts) =
     sym c.self.view_is ∙ ap node_tree c.in-Call.is in
     let typed : tree_type m (call f (trees_of ts)) ≡ Some dtype =
-    subst (λ x. IsNode m x) c.in-Call.is c.self.invariant in
+    (subst (λ x. IsNode m x) c.in-Call.is c.self.invariant.0).0 in
     let given = c.new-args.result.columns in
     let all : AllHaveRows m cs n ts given =
     rw c.new-args.ensures.columns
@@ -90,7 +90,7 @@ returns g c =
     let is : c.args.self.now ≡ call f (trees_of ts) =
     sym c.self.view_is ∙ ap node_tree c.in-Call.is in
     let typed : tree_type m (call f (trees_of ts)) ≡ Some dtype =
-    subst (λ x. IsNode m x) c.in-Call.is c.self.invariant in
+    (subst (λ x. IsNode m x) c.in-Call.is c.self.invariant.0).0 in
     let given = c.new-args.result.columns in
     let all : AllHaveRows m cs n ts given =
     rw c.new-args.ensures.columns

@@ -1,16 +1,17 @@
 use Rattle.std.proofs.Common.{◌≡◌, Some, sym, ap, ◌∙◌, subst}
 use Rattle.std.specs.Option.{option_and_then}
-use Rattle.vortex_types.specs.TypeOf.{type_of}
 use Rattle.vortex_meaning.specs.Functions.{call_type}
 use Rattle.vortex_meaning.specs.Trees.{call, trees_of}
-use Rattle.vortex_meaning.specs.Eval.{tree_type, tree_types}
+use Rattle.vortex_meaning.specs.Eval.{tree_types}
+use Rattle.vortex_meaning.specs.Made.{IsBound}
+use Rattle.vortex_meaning.specs.Weights.{weight_told}
 use Rattle.vortex_functions.specs.FunctionOf.{function_of}
 use Rattle.vortex_functions.specs.Nodes.{IsNode, node_tree}
 use Rattle.vortex_functions.specs.Walks.{IsCopy}
 use Rattle.vortex_functions.proofs.Inputs.{made_of_items, same_copies}
 use Rattle.vortex_functions.proofs.tree.BoundExpression.copy_over.Goals as goal
 
--- the copy is typed as its source is
+-- the copy has its source's type and weight, and is bound as that is
 pub invariant_of-result-in-Call : goal.invariant_of-result-in-Call
 invariant_of-result-in-Call g c =
     let m = g.C.ScalarFnVTable.meaning in
@@ -23,11 +24,16 @@ invariant_of-result-in-Call g c =
     (made_of_items IsCopy c.args.self.now f ts c.args.copies.items is c.requires) in
     let same : function_of c.in_ok-function-in-Call.function ≡ f =
     ap function_of c.in_ok-function-in-Call.ensures in
-    let typed : tree_type m (call f (trees_of ts)) ≡ Some (type_of c.in-Call.dtype) =
-    subst (λ n. IsNode m n) c.in-Call.is c.self.invariant in
-    (λ k. option_and_then (call_type m (same k)) (tree_types m (trees_of (all k))))
-    ∙ typed
-    ∙ ap Some (sym c.in_ok-dtype-in-Call.ensures)
+    let node = subst (λ n. IsNode m n) c.in-Call.is c.self.invariant.0 in
+    let bound = subst (λ n. IsBound (node_tree n)) c.in-Call.is c.self.invariant.1 in (
+      (
+        (λ k. option_and_then (call_type m (same k)) (tree_types m (trees_of (all k))))
+            ∙ node.0
+            ∙ ap Some (sym c.in_ok-dtype-in-Call.ensures),
+        node.1 ∙ sym (λ k. weight_told m (call (same k) (trees_of (all k)))),
+      ),
+      subst IsBound (sym (λ k. call (same k) (trees_of (all k)))) bound,
+    )
 
 pub returns-in_ok-dtype-in-Call : goal.returns-in_ok-dtype-in-Call
 returns-in_ok-dtype-in-Call g c =

@@ -21,7 +21,7 @@ fmt_sql-requires g c =
     let is : c.args.self.now ≡ call f (trees_of ts) =
     sym c.self.view_is ∙ ap node_tree c.in-Call.is in
     let typed : tree_type m (call f (trees_of ts)) ≡ Some (type_of c.in-Call.field-2) =
-    subst (λ n. IsNode m n) c.in-Call.is c.self.invariant in
+    (subst (λ n. IsNode m n) c.in-Call.is c.self.invariant.0).0 in
     let all : AreTexts ts (map string_bytes c.args.texts.items) =
     all_texts ts c.args.texts.items
     (made_of_items IsTextOf c.args.self.now f ts c.args.texts.items is c.requires) in
