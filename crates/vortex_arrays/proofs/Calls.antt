@@ -1,5 +1,5 @@
 -- A call over arrays that is made.
-use Rattle.std.proofs.Common.{◌≡◌, ℕ, zero, suc, ◌<◌, Bool, true, false, List, [], ◌∷◌, ◌++◌, length, map, take, get_or, Some, None, refl, sym, ap, subst, ◌∙◌}
+use Rattle.std.proofs.Common.{◌≡◌, ℕ, zero, suc, ◌+◌, ◌<◌, Bool, true, false, List, [], ◌∷◌, ◌++◌, length, map, take, get_or, Some, None, refl, sym, ap, subst, ◌∙◌}
 use Rattle.std.specs.Prelude.{slice_get, Result, Ok, Err}
 use Rattle.std.proofs.lemmas.List.{length-map}
 use Rattle.vortex_types.specs.declared.dtype.DType.{DType}
@@ -13,15 +13,23 @@ use Rattle.vortex_meaning.specs.Meaning.{Meaning, fits}
 use Rattle.vortex_meaning.specs.Functions.{Function, function_arity, function_type, RefusesTypes}
 use Rattle.vortex_meaning.specs.Trees.{trees_of, call}
 use Rattle.vortex_meaning.specs.Eval.{tree_type, tree_types}
+use Rattle.vortex_meaning.specs.Weights.{weights, weight_told}
 use Rattle.vortex_functions.specs.Binding.{RefusesCall}
 use Rattle.vortex_functions.specs.Binding as binding
 use Rattle.vortex_functions.proofs.Bound.{count_fits, call_is_typed, types_refused}
+use Rattle.vortex_functions.proofs.CallWeights.{told, sum_more}
 use Rattle.vortex_functions.proofs.Execution.{types_more}
 use Rattle.vortex_arrays.specs.Arrays.{Array, tree_in, rows_in, trees_in, other_rows}
 use Rattle.vortex_arrays.specs.Calls.{IsArrayCall, RefusesOperands, types, RefusesArrayCall, count, operands, AnswersCallOfRows, AnswersCall, AnswersOperands}
 
 fits_not : {A : Type 0} (b : Bool) → b ≡ true → b ≡ false → A
 fits_not b p q = cc
+
+mapped : {V O : Type 0} (xs : List (Array V O)) (j : ℕ) (a : Array V O)
+    → tree_in (get_or xs j a) ≡ get_or (trees_in xs) j (tree_in a)
+mapped [] j a = refl
+mapped (x ∷ xs) zero a = refl
+mapped (x ∷ xs) (suc j) a = mapped xs j a
 
 module _ {V O : Type 0} (m : Meaning V O) where
   -- the types of one more array
@@ -33,13 +41,17 @@ module _ {V O : Type 0} (m : Meaning V O) where
   array_types_more xs ks i a k h lt e q =
       types_more m (trees_in xs) ks i (tree_in a) k h
       (subst (λ (n : ℕ). i < n) (sym (length-map xs (λ (x : Array V O). x.0))) lt)
-      (ap tree_in e ∙ mapped xs i) q
-    where
-      mapped : (xs : List (Array V O)) (j : ℕ)
-          → tree_in (get_or xs j a) ≡ get_or (trees_in xs) j (tree_in a)
-      mapped [] j = refl
-      mapped (x ∷ xs) zero = refl
-      mapped (x ∷ xs) (suc j) = mapped xs j
+      (ap tree_in e ∙ mapped xs i a) q
+
+  -- a sum of weights that is cut off, and one more array
+  pub array_sum_more : (b : ℕ) (xs : List (Array V O)) (i : ℕ) (a : Array V O) (sum one : ℕ)
+      → sum ≡ told (b + weights m (trees_of (take i (trees_in xs)))) → i < length xs
+      → a ≡ get_or xs i a → one ≡ weight_told m (tree_in a)
+      → told (sum + one) ≡ told (b + weights m (trees_of (take (suc i) (trees_in xs))))
+  array_sum_more b xs i a sum one so_far lt e weighs =
+      sum_more m b (trees_in xs) i (tree_in a) sum one so_far
+      (subst (λ (n : ℕ). i < n) (sym (length-map xs (λ (x : Array V O). x.0))) lt)
+      (ap tree_in e ∙ mapped xs i a) weighs
 
   module _ (f : Function V O) (xs : List (Array V O)) (n : ℕ) (dtypes : List DType)
       (typed : tree_types m (trees_of (trees_in xs)) ≡ Some (map type_of dtypes))

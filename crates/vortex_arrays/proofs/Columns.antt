@@ -16,6 +16,7 @@ use Rattle.vortex_meaning.specs.Meaning.{Meaning}
 use Rattle.vortex_meaning.specs.Eval.{HasTreeRows}
 use Rattle.vortex_meaning.specs.Trees.{trees_of}
 use Rattle.vortex_meaning.specs.Rewrites.{AllHaveRow, HasTypedRow}
+use Rattle.vortex_meaning.specs.Weights.{weight_told}
 use Rattle.vortex_functions.proofs.Execution.{constant_rows, where_none}
 use Rattle.vortex_arrays.specs.Arrays.{Array, held_or_constant, column_tree, tree_in, rows_in, trees_in, other_rows, AreRowsTyped, IsTyped}
 use Rattle.vortex_arrays.specs.Nodes.{IsNode, TellsConstant, node_tree}
@@ -44,6 +45,16 @@ module _ {V O : Type 0} (m : Meaning V O) where
       subst (λ (x : Node V O). IsNode m n x) (sym is)
       (subst (λ (d : ColumnView). (length d.rows ≡ n) × TellsConstant d) (sym e)
       (length-map-range_with_len (λ i. null) 0 n, tt))
+
+  -- a column weighs one, seen as a constant one or not
+  pub column_weighs : (self : Array V O) (c : ColumnView) (n : ℕ) → self ≡ (column_tree c, n)
+      → 1 ≡ weight_told m (tree_in self)
+  column_weighs self c n is =
+      sym (ap (λ (a : Array V O). weight_told m (tree_in a)) is ∙ go c.constant)
+    where
+      go : (o : Option ScalarView) → weight_told m (held_or_constant c o) ≡ 1
+      go None = refl
+      go (Some s) = refl
 
   -- a column has the rows of its array
   pub column_rows : (self : Array V O) (c : ColumnView) (n : ℕ) → self ≡ (column_tree c, n)

@@ -10,12 +10,13 @@ use Rattle.vortex_columns.specs.ColumnView.{ColumnView, constant_column}
 use Rattle.vortex_meaning.specs.Meaning.{Meaning}
 use Rattle.vortex_meaning.specs.Trees.{Tree, call, trees_of, node_count, nodes_count}
 use Rattle.vortex_meaning.specs.Eval.{tree_type}
+use Rattle.vortex_meaning.specs.Weights.{weight_told}
 use Rattle.vortex_functions.specs.FunctionOf.{function_of}
 use Rattle.vortex_arrays.specs.Arrays.{Array, column_tree, tree_in, trees_in, other_rows, AreRowsTyped}
 
 abbrev pub node_tree : {V O : Type 0} → Node V O → Tree V O
 node_tree (Column c) = column_tree c
-node_tree (Call f children t) = call (function_of f) (trees_of (trees_in children.items))
+node_tree (Call f children t w) = call (function_of f) (trees_of (trees_in children.items))
 
 abbrev pub array_view : {V O : Type 0} → Inside V O → Array V O
 array_view a = (node_tree a.node, a.len)
@@ -24,13 +25,14 @@ array_view a = (node_tree a.node, a.len)
 abbrev pub TellsConstant : ColumnView → Type 0
 TellsConstant c = IfSome c.constant (λ s. c ≡ constant_column s (length c.rows))
 
--- a column has so many rows; a call is well typed, has the type beside it, and no child has another
--- row count
+-- a column has so many rows; a call is well typed, has the type and the weight beside it, and no
+-- child has another row count
 abbrev pub IsNode : {V O : Type 0} → Meaning V O → ℕ → Node V O → Type 0
 IsNode m n (Column c) = (length c.rows ≡ n) × TellsConstant c
-IsNode m n (Call f children t) =
+IsNode m n (Call f children t w) =
     (tree_type m (call (function_of f) (trees_of (trees_in children.items))) ≡ Some (type_of t)) ×
-    (other_rows n children.items ≡ None)
+    (other_rows n children.items ≡ None) ×
+    (w ≡ weight_told m (call (function_of f) (trees_of (trees_in children.items))))
 
 -- and what it holds has values of its types in each row
 abbrev pub IsArray : {V O : Type 0} → Meaning V O → Inside V O → Type 0

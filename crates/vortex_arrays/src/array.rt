@@ -2,7 +2,7 @@
 ghost use Rattle.std.specs.Prelude.{◌≡◌, ◌↔◌, ◌<◌, IfSome, IsTrue, None, Some, MatchOption, length, slice_get};
 ghost use Rattle.std.specs.Option.{option_copied};
 ghost use Rattle.vortex_arrays.specs.Words.{type_of, called, literal, tree_type, function_of};
-ghost use Rattle.vortex_arrays.specs.Words.{tree_in, rows_in, column_array, column_in, children_in, IsTyped};
+ghost use Rattle.vortex_arrays.specs.Words.{tree_in, rows_in, column_array, column_in, children_in, IsTyped, weight_told};
 
 use std::marker::Model;
 use std::mem;
@@ -16,8 +16,8 @@ mod execution;
 #[cycle(array)]
 pub(crate) enum Node<C: ScalarFnVTable> {
     Column(Column),
-    /// A function, its children, and the type of its answer.
-    Call(ScalarFnRef<C>, Vec<ArrayRef<C>>, DType),
+    /// A function, its children, the type of its answer, and the weight of the call.
+    Call(ScalarFnRef<C>, Vec<ArrayRef<C>>, DType, u64),
 }
 
 /// A column, or a well-typed call over arrays, all of one row count.
@@ -60,14 +60,14 @@ impl<C: ScalarFnVTable> Drop for ArrayRef<C> {
         let ArrayRef { node, len: _ } = self;
         let mut list = match node {
             Node::Column(_) => return,
-            Node::Call(_, list, _) => list,
+            Node::Call(_, list, _, _) => list,
         };
         while let Some(array) = list.pop() {
             let mut array = array;
             let nothing = Column::null(array.len);
             match mem::replace(&mut array.node, Node::Column(nothing)) {
                 Node::Column(_) => {}
-                Node::Call(_, children, _) => {
+                Node::Call(_, children, _, _) => {
                     let mut children = children;
                     while let Some(child) = children.pop() {
                         if let Err(failed) = list.push(child) {
@@ -105,7 +105,18 @@ impl<C: ScalarFnVTable> ArrayRef<C> {
     {
         match &self.node {
             Node::Column(column) => column.dtype(),
-            Node::Call(_, _, dtype) => dtype,
+            Node::Call(_, _, dtype, _) => dtype,
+        }
+    }
+
+    /// The weight, which rules over shipped functions lessen. Where it is past the greatest number,
+    /// it is that number.
+    pub fn weight(&self) -> u64
+        ensures { result ≡ weight_told C.meaning (tree_in self.now) }
+    {
+        match &self.node {
+            Node::Column(_) => 1,
+            Node::Call(_, _, _, weight) => *weight,
         }
     }
 
@@ -128,7 +139,7 @@ impl<C: ScalarFnVTable> ArrayRef<C> {
         ensures { result.now ≡ children_in self.now }
     {
         match &self.node {
-            Node::Call(_, children, _) => children,
+            Node::Call(_, children, _, _) => children,
             Node::Column(_) => &[],
         }
     }
@@ -147,7 +158,7 @@ impl<C: ScalarFnVTable> ArrayRef<C> {
             (λ f. called (tree_in self.now) ≡ Some (function_of f.now)) }
     {
         match &self.node {
-            Node::Call(function, _, _) => Some(function),
+            Node::Call(function, _, _, _) => Some(function),
             Node::Column(_) => None,
         }
     }
@@ -158,7 +169,7 @@ impl<C: ScalarFnVTable> ArrayRef<C> {
     {
         match &self.node {
             Node::Column(column) => column.as_constant(),
-            Node::Call(_, _, _) => None,
+            Node::Call(_, _, _, _) => None,
         }
     }
 
@@ -169,7 +180,7 @@ impl<C: ScalarFnVTable> ArrayRef<C> {
     {
         match &self.node {
             Node::Column(column) => Some(column),
-            Node::Call(_, _, _) => None,
+            Node::Call(_, _, _, _) => None,
         }
     }
 }

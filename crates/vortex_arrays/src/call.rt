@@ -1,7 +1,8 @@
 //! Calls over arrays.
-ghost use Rattle.std.specs.Prelude.{◌≡◌, All, IfOk, Some, map};
+ghost use Rattle.std.specs.Prelude.{◌≡◌, ◌+◌, All, IfOk, Some, map, min};
 ghost use Rattle.vortex_arrays.specs.Words.{AnswersUnlessMemory, AnswersCall, AnswersCallOfRows};
 ghost use Rattle.vortex_arrays.specs.Words.{function_of, other_rows, tree_types, trees_in, trees_of, type_of, IsTyped};
+ghost use Rattle.vortex_arrays.specs.Words.{added, weights};
 
 use crate::array::{ArrayRef, Node};
 use std::alloc::Global;
@@ -42,6 +43,23 @@ fn dtypes_of<C: ScalarFnVTable>(alloc: Global, children: &[ArrayRef<C>]) -> Vort
         dtypes.push(child.dtype().try_clone(alloc)?)?;
     }
     Ok(dtypes)
+}
+
+/// The weight of a call that is nullable or not: its children's, and what the function adds. Where
+/// that is past the greatest number, it is that number.
+fn call_weight<C: ScalarFnVTable>(
+    function: &ScalarFnRef<C>,
+    children: &[ArrayRef<C>],
+    nullable: bool,
+) -> u64
+    ensures { result ≡ min (added (function_of function.now) nullable
+        + weights C.meaning (trees_of (trees_in children.now))) 18446744073709551615 }
+{
+    let mut weight = function.added_weight(nullable);
+    for child in children {
+        weight = weight.saturating_add(child.weight());
+    }
+    weight
 }
 
 /// The row count of the first array that has not so many rows.
@@ -100,9 +118,10 @@ impl<C: ScalarFnVTable> ScalarFnArray<C> {
         }
         let dtypes = dtypes_of(alloc, &children)?;
         let dtype = function.return_dtype(alloc, &dtypes)?;
+        let weight = call_weight(&function, &children, dtype.is_nullable());
         Ok(ScalarFnArray {
             array: ArrayRef {
-                node: Node::Call(function, children, dtype),
+                node: Node::Call(function, children, dtype, weight),
                 len,
             },
         })

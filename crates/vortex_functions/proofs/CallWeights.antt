@@ -1,11 +1,10 @@
 -- Sums of weights that are cut off at the greatest number of 64 bits, and the weight of a call.
-use Rattle.std.proofs.Common.{◌≡◌, ℕ, zero, suc, ◌+◌, ◌<◌, ◌≤◌, ◌⊎◌, inl, inr, refl, sym, ap, ◌∙◌, List, [], ◌∷◌, length, take, get_or, Bool, Some, arith}
+use Rattle.std.proofs.Common.{◌≡◌, ℕ, zero, suc, ◌+◌, ◌<◌, sym, ap, ◌∙◌, List, [], ◌∷◌, length, take, get_or, Bool, Some, arith}
 use Rattle.std.specs.Prelude.{min}
-use Rattle.std.proofs.Math.Nat.{min-eq_left, min-eq_right}
 use Rattle.vortex_types.specs.LogicalTypes.{LogicalType, is_nullable}
 use Rattle.vortex_meaning.specs.Meaning.{Meaning}
 use Rattle.vortex_meaning.specs.Functions.{Function}
-use Rattle.vortex_meaning.specs.Trees.{Tree, leaf, constant, call, trees_of}
+use Rattle.vortex_meaning.specs.Trees.{Tree, call, trees_of}
 use Rattle.vortex_meaning.specs.Eval.{tree_type}
 use Rattle.vortex_meaning.specs.Rules.{may_be_null}
 use Rattle.vortex_meaning.specs.Weights.{added, weight, weights, weight_told}

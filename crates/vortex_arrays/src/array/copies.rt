@@ -22,11 +22,11 @@ impl<C: ScalarFnVTable> ArrayRef<C> {
                     len: self.len,
                 })
             }
-            Node::Call(function, _, dtype) => {
+            Node::Call(function, _, dtype, weight) => {
                 let function = function.try_clone(alloc)?;
                 let dtype = dtype.try_clone(alloc)?;
                 Ok(ArrayRef {
-                    node: Node::Call(function, copies, dtype),
+                    node: Node::Call(function, copies, dtype, *weight),
                     len: self.len,
                 })
             }

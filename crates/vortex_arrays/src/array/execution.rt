@@ -19,7 +19,7 @@ impl<C: ScalarFnVTable> ArrayRef<C> {
     {
         match &self.node {
             Node::Column(column) => Ok(Cow::Borrowed(column)),
-            Node::Call(function, _, _) => {
+            Node::Call(function, _, _, _) => {
                 let args = VecExecutionArgs::new(inputs, self.len);
                 Ok(Cow::Owned(function.execute(&args, ctx)?))
             }
@@ -42,7 +42,7 @@ impl<C: ScalarFnVTable> ArrayRef<C> {
     {
         match &self.node {
             Node::Column(column) => Ok(Cow::Borrowed(column)),
-            Node::Call(_, _, _) => self.compute(ctx),
+            Node::Call(_, _, _, _) => self.compute(ctx),
         }
     }
 }

@@ -41,15 +41,6 @@ impl<C: ScalarFnVTable> BoundExpression<C> {
     {
         walk!(self, alloc, node, texts => node.text_over(texts, alloc))
     }
-
-    /// The allocator that a part of the tree holds.
-    fn alloc(&self) -> Global {
-        match &self.node {
-            Node::Column(_, name, _) => *name.allocator(),
-            Node::Literal(_, alloc) => *alloc,
-            Node::Call(_, children, _, _) => *children.allocator(),
-        }
-    }
 }
 
 /// The bytes of `sql_text`; want of memory is an error.
@@ -59,7 +50,13 @@ impl<C: ScalarFnVTable> fmt::Display for BoundExpression<C> {
     ghost output = { tree_text };
 
     fn fmt<W: fmt::Write>(&self, f: &mut fmt::Formatter<W>) -> fmt::Result {
-        match self.sql_text(self.alloc()) {
+        // The allocator that a part of the tree holds.
+        let alloc = match &self.node {
+            Node::Column(_, name, _) => *name.allocator(),
+            Node::Literal(_, alloc) => *alloc,
+            Node::Call(_, children, _, _) => *children.allocator(),
+        };
+        match self.sql_text(alloc) {
             Ok(text) => write!(f, "{text}"),
             Err(_) => Err(fmt::Error),
         }

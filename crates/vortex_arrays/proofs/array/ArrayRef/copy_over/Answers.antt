@@ -4,6 +4,7 @@ use Rattle.vortex_columns.specs.ColumnView.{ColumnView}
 use Rattle.vortex_meaning.specs.Functions.{call_type}
 use Rattle.vortex_meaning.specs.Trees.{call, trees_of}
 use Rattle.vortex_meaning.specs.Eval.{tree_types}
+use Rattle.vortex_meaning.specs.Weights.{weight_told}
 use Rattle.vortex_functions.specs.FunctionOf.{function_of}
 use Rattle.vortex_functions.specs.Walks.{AllMean, IsCopy}
 use Rattle.vortex_functions.proofs.Inputs.{same_copies}
@@ -29,7 +30,7 @@ returns-in_ok-column-in-Column g c =
     let is = seen c.args.self.now c.self.inside _ c.self.view_is c.in-Column.is in
     ap (λ (d : ColumnView). (column_tree d, n)) c.in_ok-column-in-Column.ensures ∙ sym is
 
--- the copy is typed as its source is, and has its rows
+-- the copy is typed as its source is, and has its rows and its weight
 pub invariant_of-result-in-Call : goal.invariant_of-result-in-Call
 invariant_of-result-in-Call g c =
     let m = g.C.ScalarFnVTable.meaning in
@@ -49,6 +50,7 @@ invariant_of-result-in-Call g c =
             ∙ node.0
             ∙ ap Some (sym c.in_ok-dtype-in-Call.ensures),
         ap (other_rows n) all ∙ node.1,
+        node.2 ∙ sym (λ k. weight_told m (call (same k) (trees_of (trees_in (all k))))),
       ),
       subst (AreRowsTyped n) (sym (λ k. call (same k) (trees_of (trees_in (all k))))) rows,
     )

@@ -1,4 +1,4 @@
-use Rattle.std.proofs.Common.{◌≡◌, subst, ap, sym, ◌∙◌, length, map, refl, true}
+use Rattle.std.proofs.Common.{◌≡◌, ◌+◌, subst, ap, sym, ◌∙◌, length, map, refl, true}
 use Rattle.std.specs.Prelude.{All, Some, None}
 use Rattle.std.proofs.lemmas.Result.{err_from_is_err_and}
 use Rattle.vortex_types.specs.TypeOf.{type_of}
@@ -6,7 +6,9 @@ use Rattle.vortex_meaning.specs.Meaning.{fits}
 use Rattle.vortex_meaning.specs.Functions.{function_arity}
 use Rattle.vortex_meaning.specs.Trees.{trees_of}
 use Rattle.vortex_meaning.specs.Eval.{tree_types}
+use Rattle.vortex_meaning.specs.Weights.{added, weights}
 use Rattle.vortex_functions.specs.FunctionOf.{function_of}
+use Rattle.vortex_functions.proofs.CallWeights.{told, call_is_weighed}
 use Rattle.vortex_arrays.specs.Arrays.{trees_in, other_rows, IsTyped}
 use Rattle.vortex_arrays.specs.Calls.{operands, lengths}
 use Rattle.vortex_arrays.proofs.Calls.{dtypes_fit, array_is_typed, array_types_refused}
@@ -82,11 +84,17 @@ invariant_of-result g c =
     ap (λ ys. tree_types m (trees_of (trees_in ys))) (sym c.deref-2.ensures.value)
     ∙ c.in_ok-dtypes.ensures.types
     ∙ ap (λ ds. Some (map type_of ds)) (sym c.deref-3.ensures.value) in
-    let all = subst (All IsTyped) c.deref-2.ensures.value c.in_ok-dtypes.ensures.typed in (
+    let all = subst (All IsTyped) c.deref-2.ensures.value c.in_ok-dtypes.ensures.typed in
+    let has_type = array_is_typed m f xs c.args.len c.deref-3.result.now typed arity even
+    (type_of c.in_ok-dtype.dtype) c.in_ok-dtype.ensures in (
       (
-        array_is_typed m f xs c.args.len c.deref-3.result.now typed arity even
-            (type_of c.in_ok-dtype.dtype) c.in_ok-dtype.ensures,
+        has_type,
         even,
+        call_is_weighed m f (trees_in xs) (type_of c.in_ok-dtype.dtype) c.is_nullable.result
+            c.call_weight-weight.result has_type c.is_nullable.ensures
+            (c.call_weight-weight.ensures
+            ∙ ap (λ ys. told (added f c.is_nullable.result + weights m (trees_of (trees_in ys))))
+            c.deref-4.ensures.value),
       ),
       children_typed c.args.len xs even all,
     )

@@ -1,0 +1,13 @@
+use Rattle.std.proofs.Common.{◌≡◌, ◌+◌, take}
+use Rattle.vortex_meaning.specs.Trees.{trees_of}
+use Rattle.vortex_meaning.specs.Weights.{added, weights}
+use Rattle.vortex_functions.specs.FunctionOf.{function_of}
+use Rattle.vortex_functions.proofs.CallWeights.{told}
+use Rattle.vortex_arrays.specs.Arrays.{trees_in}
+use Rattle.vortex_arrays.proofs.call.call_weight.Given as goal
+
+-- the weights so far
+abbrev pub invariant-loop-child : goal.invariant-loop-child
+invariant-loop-child g l =
+    l.weight ≡ told (added (function_of l.function) l.nullable
+    + weights g.C.ScalarFnVTable.meaning (trees_of (take l.child-index (trees_in l.children))))
