@@ -186,7 +186,10 @@ fn weighs<C: ScalarFnRules>(
 
 /// True of nullable Bool and column `b`, which is not nullable.
 fn true_and_b_alone<C: ScalarFnVTable>(alloc: Global) -> Tree<C> {
-    let truth = literal(alloc, Scalar::try_new(DType::Bool(YES), Some(ScalarValue::Bool(true))));
+    let truth = literal(
+        alloc,
+        Scalar::try_new(DType::Bool(YES), Some(ScalarValue::Bool(true))),
+    );
     between(alloc, truth, Operator::And, leaf_of(alloc, DType::Bool(NO)))
 }
 

@@ -49,8 +49,14 @@ fn bytes(alloc: Global) -> VortexResult<Vec<Column>> {
     right.extend_from_slice(&[10u8, 1])?;
     two(
         alloc,
-        kept(alloc, Column::try_primitive(alloc, left, Validity::Array(valid))),
-        kept(alloc, Column::try_primitive(alloc, right, Validity::NonNullable)),
+        kept(
+            alloc,
+            Column::try_primitive(alloc, left, Validity::Array(valid)),
+        ),
+        kept(
+            alloc,
+            Column::try_primitive(alloc, right, Validity::NonNullable),
+        ),
     )
 }
 

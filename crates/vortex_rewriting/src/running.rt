@@ -39,7 +39,7 @@ pub fn run<'a, C: ScalarFnRules>(
 
 /// The column itself, copied where it is lent. E9 alone.
 fn own_column(alloc: Global, column: Cow<'_, Column>) -> VortexResult<Column>
-    ensures { AnswersUnlessMemory result (λ own. own ≡ cow_value column) }
+    ensures { AnswersUnlessMemory result (λ own. own ≡ cow_value column.entry) }
 {
     match column {
         Cow::Borrowed(column) => column.try_clone(alloc),

@@ -14,8 +14,7 @@ returns-in_err-check_columns g c =
     let n = c.args.row_count in
     let rule = expression_step m g.C.ScalarFnRules.rules in
     let p =
-    err_from_is_err_and c.from_residual-in_err-check_columns.result
-    c.from_residual-in_err-check_columns.ensures.1 in
+    err_from_is_err_and c.from_residual.result c.from_residual.ensures.1 in
     rw (p.1, p.2)
     (UnlessMemory-weaker (RefusesColumns cs n c.args.tree.now)
     (RefusesAfter m cs n rule c.args.limit c.args.tree.now) (λ e h. misfit h) _
