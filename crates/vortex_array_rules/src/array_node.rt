@@ -1,6 +1,6 @@
 //! Nodes over array trees.
-ghost use Rattle.std.specs.Prelude.{◌≡◌, All, IfOk, map};
-ghost use Rattle.std.specs.Cow.{cow_value, IsBorrowed};
+ghost use Rattle.std.specs.Prelude.{◌≡◌, All, IfOk, IsOk, map};
+ghost use Rattle.std.specs.Cow.{cow_value, IsBorrowed, IsOwned};
 ghost use Rattle.vortex_functions.specs.Words.{function_of, AnswersUnlessMemory};
 ghost use Rattle.vortex_rules.specs.Making.{AnswersCall};
 ghost use Rattle.vortex_array_rules.specs.ArrayOf.{array_of, tree_of, rows_of};
@@ -34,6 +34,7 @@ impl<'a, C: ScalarFnVTable> ArrayReduceNode<'a, C> {
     pub fn new(array: Cow<'a, ArrayRef<C>>) -> Self
         ensures value { cow_value result.array ≡ cow_value array.entry }
         ensures lent { IsBorrowed array.entry → IsBorrowed result.array }
+        ensures owned { IsOwned array.entry → IsOwned result.array }
     {
         ArrayReduceNode { array }
     }
@@ -48,9 +49,11 @@ impl<'a, C: ScalarFnVTable> ArrayReduceNode<'a, C> {
         }
     }
 
-    /// The array tree that it stood for. A lent one is copied, and so can answer E9.
+    /// The array tree that it stood for. A lent one is copied, and so can answer E9; one of its own
+    /// takes no memory.
     pub fn into_array(self, alloc: Global) -> VortexResult<ArrayRef<C>>
-        ensures { AnswersUnlessMemory result (λ a. a ≡ array_of self.entry) }
+        ensures answer { AnswersUnlessMemory result (λ a. a ≡ array_of self.entry) }
+        ensures owned { IsOwned self.entry.array → IsOk result }
     {
         let ArrayReduceNode { array } = self;
         match array {

@@ -8,6 +8,8 @@ use Rattle.vortex_types.specs.Values.{Value}
 use Rattle.vortex_meaning.specs.Outcomes.{gives}
 use Rattle.vortex_meaning.specs.Meaning.{Meaning}
 use Rattle.vortex_meaning.specs.Eval.{eval}
+use Rattle.vortex_meaning.specs.Weights.{OnlyShipped}
+use Rattle.vortex_meaning.specs.ArithmeticFaults.{FaultsExactly}
 use Rattle.vortex_functions.specs.Executing.{HasRows, AnswersTree}
 use Rattle.vortex_arrays.specs.Arrays.{Array, tree_in, rows_in, column_in}
 
@@ -22,6 +24,11 @@ module _ {V O : Type 0} (m : Meaning V O) (a : Array V O) where
   -- the array's rows, or the first fault
   abbrev pub AnswersArray : Answer → Type 0
   AnswersArray result = AnswersTree m [] (rows_in a) (tree_in a) result
+
+-- of an array tree of shipped functions: refused exactly where in some row arithmetic overflows
+abbrev pub ArraysErrWhereArithmeticDoes : {V O : Type 0} → Meaning V O → Type 0
+ArraysErrWhereArithmeticDoes {V} {O} m =
+    (a : Array V O) → OnlyShipped (tree_in a) → FaultsExactly m [] (rows_in a) (tree_in a)
 
 -- in each row in which the first array has a value the second one has the same
 abbrev pub KeepsValues : {V O : Type 0} → Meaning V O → Array V O → Array V O → Type 0

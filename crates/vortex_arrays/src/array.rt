@@ -1,8 +1,8 @@
 //! Trees of calls over columns that they hold.
-ghost use Rattle.std.specs.Prelude.{◌≡◌, ◌↔◌, ◌<◌, IfSome, IsTrue, None, Some, MatchOption, length, slice_get};
+ghost use Rattle.std.specs.Prelude.{◌≡◌, ◌↔◌, ◌<◌, ◌≤◌, ◌*◌, IfSome, IsTrue, None, Some, MatchOption, length, slice_get};
 ghost use Rattle.std.specs.Option.{option_copied};
 ghost use Rattle.vortex_arrays.specs.Words.{type_of, called, literal, tree_type, function_of};
-ghost use Rattle.vortex_arrays.specs.Words.{tree_in, rows_in, column_array, column_in, children_in, IsTyped, weight_told};
+ghost use Rattle.vortex_arrays.specs.Words.{tree_in, rows_in, column_array, column_in, children_in, node_count, IsTyped, weight_told};
 
 use std::marker::Model;
 use std::mem;
@@ -109,10 +109,11 @@ impl<C: ScalarFnVTable> ArrayRef<C> {
         }
     }
 
-    /// The weight, which rules over shipped functions lessen. Where it is past the greatest number,
-    /// it is that number.
+    /// The weight, which rules over shipped functions lessen: at most five for each node. Where it
+    /// is past the greatest number, it is that number.
     pub fn weight(&self) -> u64
-        ensures { result ≡ weight_told C.meaning (tree_in self.now) }
+        ensures told { result ≡ weight_told C.meaning (tree_in self.now) }
+        ensures bounded { result ≤ 5 * node_count (tree_in self.now) }
     {
         match &self.node {
             Node::Column(_) => 1,

@@ -4,6 +4,7 @@
 pub mod array;
 pub mod call;
 pub mod functions;
+pub mod laws;
 
 pub use array::ArrayRef;
 pub use call::ScalarFnArray;

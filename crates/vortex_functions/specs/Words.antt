@@ -14,7 +14,7 @@ pub use Rattle.vortex_meaning.specs.Shipped.LikeFunction.{like_named}
 pub use Rattle.vortex_meaning.specs.Functions.{ours, function_id, function_arity, function_child_name, function_type, function_strict, function_infallible}
 pub use Rattle.vortex_meaning.specs.Answering.{AnswersFunctionType, AnswersFunction}
 pub use Rattle.vortex_meaning.specs.CallTexts.{Appends}
-pub use Rattle.vortex_meaning.specs.Trees.{constant, trees_of, children_of, called, literal}
+pub use Rattle.vortex_meaning.specs.Trees.{constant, trees_of, children_of, called, literal, node_count}
 pub use Rattle.vortex_meaning.specs.Eval.{tree_type, tree_types}
 pub use Rattle.vortex_meaning.specs.Execution.{LeavesFit, other_length}
 pub use Rattle.vortex_meaning.specs.Made.{IsBound}

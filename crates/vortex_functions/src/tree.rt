@@ -1,8 +1,8 @@
 //! Expression trees over the columns of a scope.
-ghost use Rattle.std.specs.Prelude.{◌≡◌, ◌<◌, ◌+◌, All, IfOk, None, Some, MatchOption, length, map, min, slice_get};
+ghost use Rattle.std.specs.Prelude.{◌≡◌, ◌<◌, ◌≤◌, ◌+◌, ◌*◌, All, IfOk, None, Some, MatchOption, length, map, min, slice_get};
 ghost use Rattle.std.specs.Option.{option_copied};
 ghost use Rattle.vortex_functions.specs.Words.{type_of, struct_fields, constant, trees_of, children_of, called, literal, tree_type, tree_types, function_of, AnswersUnlessMemory, AnswersLeaf, AnswersBinding, IsLeaf, IsLeafAt};
-ghost use Rattle.vortex_functions.specs.Words.{added, weights, weight_told, IsBound};
+ghost use Rattle.vortex_functions.specs.Words.{added, node_count, weights, weight_told, IsBound};
 
 use crate::erased::ScalarFnRef;
 use std::alloc::Global;
@@ -191,9 +191,11 @@ impl<C: ScalarFnVTable> BoundExpression<C> {
         let _opened = &self.node;
     }
 
-    /// The weight, which rules over shipped functions lessen. Where it is past the greatest number, it is that number.
+    /// The weight, which rules over shipped functions lessen: at most five for each node. Where it is past the greatest
+    /// number, it is that number.
     pub fn weight(&self) -> u64
-        ensures { result ≡ weight_told C.meaning self.now }
+        ensures told { result ≡ weight_told C.meaning self.now }
+        ensures bounded { result ≤ 5 * node_count self.now }
     {
         match &self.node {
             Node::Column(_, _, _) => 1,

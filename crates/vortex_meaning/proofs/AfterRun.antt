@@ -40,7 +40,7 @@ module _ {V O : Type 0} (n : ℕ) where
 module _ {V O : Type 0} (m : Meaning V O) (cs : List ColumnView) (n : ℕ) (t u : Tree V O)
     (a : Rewrites m t u) (typed : HasRows m cs n t) where
   -- where the new tree faults the old one does
-  old_fault : (i : ℕ) (x : Outcome) (y : Fault) → i < n → eval m cs t i ≡ x
+  pub old_fault : (i : ℕ) (x : Outcome) (y : Fault) → i < n → eval m cs t i ≡ x
       → eval m cs u i ≡ faults y → (z : Fault) × (x ≡ faults z)
   old_fault i (faults z) y lt e h = (z, refl)
   old_fault i (gives w) y lt e h =

@@ -20,7 +20,7 @@ use Rattle.vortex_meaning.specs.Eval.{all_give, then_means, tree_types, types_or
 use Rattle.vortex_meaning.specs.Execution.{LeavesFit, other_length, RefusesColumns, unfit, uneven, RefusesExecution, misfit, faulty}
 use Rattle.vortex_meaning.specs.Weights.{OnlyShipped, AllShipped}
 use Rattle.vortex_meaning.specs.Running.{FaultsSomewhere}
-use Rattle.vortex_meaning.specs.ArithmeticFaults.{Overflows, HasOverflow, AnyHasOverflow, ErrsWhereArithmeticDoes}
+use Rattle.vortex_meaning.specs.ArithmeticFaults.{Overflows, HasOverflow, AnyHasOverflow, FaultsExactly, ErrsWhereArithmeticDoes}
 use Rattle.vortex_meaning.proofs.FaultyRows.{no_value_faults, values_in, InputsFault, call_faults, first_faults, later_faults}
 
 module _ {V O : Type 0} (m : Meaning V O) (cs : List ColumnView) (n : ℕ) (o : NumericOperator) where
@@ -171,12 +171,21 @@ module _ {V O : Type 0} (m : Meaning V O) (cs : List ColumnView) (n : ℕ) (t : 
   refuses_first (misfit h) = absurd (serves h)
   refuses_first (faulty h other first) = first
 
-pub errs_where_arithmetic_does : {V O : Type 0} (m : Meaning V O) → ErrsWhereArithmeticDoes m
-errs_where_arithmetic_does m cs n t own fit even = record {
-  refused = λ e r.
-      let first = refuses_first m cs n t e fit even r in
-      (first, tells m cs n t own e first);
+pub faults_exactly : {V O : Type 0} (m : Meaning V O) (cs : List ColumnView) (n : ℕ)
+    (t : Tree V O) → OnlyShipped t → FaultsExactly m cs n t
+faults_exactly m cs n t own = record {
+  refused = tells m cs n t own;
   answered = λ c h o k.
       let r = row_faults m cs n o t k in
-      no_value_faults (eval m cs t r.0) r.2 r.3 _ (h.rows.each r.0 r.1);
+      no_value_faults (eval m cs t r.0) r.2 r.3 _ (h.each r.0 r.1);
 }
+
+pub errs_where_arithmetic_does : {V O : Type 0} (m : Meaning V O) → ErrsWhereArithmeticDoes m
+errs_where_arithmetic_does m cs n t own fit even =
+    let exactly = faults_exactly m cs n t own in
+    record {
+      refused = λ e r.
+          let first = refuses_first m cs n t e fit even r in
+          (first, exactly.refused e first);
+      answered = λ c h. exactly.answered c h.rows;
+    }

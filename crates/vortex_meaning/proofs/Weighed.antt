@@ -7,7 +7,7 @@ use Rattle.vortex_meaning.specs.Shipped.{Shipped, Binary, Not}
 use Rattle.vortex_meaning.specs.Functions.{Function, ours, custom}
 use Rattle.vortex_meaning.specs.Trees.{Tree, leaf, constant, call, Trees, no_trees, tree, node_count, nodes_count}
 use Rattle.vortex_meaning.specs.Rules.{is_nullable_tree}
-use Rattle.vortex_meaning.specs.Weights.{operator_added, shipped_added, added, weight, weights}
+use Rattle.vortex_meaning.specs.Weights.{operator_added, shipped_added, added, weight, weights, weight_told}
 
 -- a call adds one to five
 abbrev IsSmall : ℕ → Type 0
@@ -56,3 +56,6 @@ module _ {V O : Type 0} (m : Meaning V O) where
         let first = weight_bound t in
         let others = weights_bound ts in
         omega (arith, first, others)
+
+  pub told_bound : (t : Tree V O) → weight_told m t ≤ 5 * node_count t
+  told_bound t = let most = weight_bound t in omega (arith, most)

@@ -14,7 +14,7 @@ use Rattle.vortex_meaning.specs.Arithmetic.{integer_of}
 use Rattle.vortex_meaning.specs.Shipped.{Binary}
 use Rattle.vortex_meaning.specs.Functions.{Function, ours}
 use Rattle.vortex_meaning.specs.Trees.{Tree, leaf, constant, call, Trees, no_trees, tree}
-use Rattle.vortex_meaning.specs.Eval.{all_give, tree_types, types_or_none, eval_all, IsFirstFault}
+use Rattle.vortex_meaning.specs.Eval.{all_give, tree_types, types_or_none, eval_all, IsFirstFault, HasTreeRows}
 use Rattle.vortex_meaning.specs.Execution.{LeavesFit, other_length, Executes, RefusesExecution}
 use Rattle.vortex_meaning.specs.Weights.{OnlyShipped}
 
@@ -43,6 +43,15 @@ module _ {V O : Type 0} (m : Meaning V O) (cs : List ColumnView) (n : ℕ) (o : 
     pub AnyHasOverflow : Trees V O → Type 0
     AnyHasOverflow no_trees = ⊥
     AnyHasOverflow (tree t ts) = HasOverflow t ⊎ AnyHasOverflow ts
+
+-- In n rows of a tree of shipped functions: where there is a first fault, some call of arithmetic overflows in some row, and the
+-- fault is E7 of such a call; where a column has the tree's rows, none does.
+pub record FaultsExactly {V O : Type 0} (m : Meaning V O) (cs : List ColumnView) (n : ℕ)
+    (t : Tree V O) : Type 0 where
+  pub refused : (e : VortexError) → IsFirstFault m cs n t e
+      → (o : NumericOperator) × (e ≡ Arithmetic o) × HasOverflow m cs n o t
+  pub answered : (c : ColumnView) → HasTreeRows m cs n t c
+      → (o : NumericOperator) → HasOverflow m cs n o t → ⊥
 
 -- Executing a tree of shipped functions over columns that fit it, and that are equally long: where it is refused, some call of
 -- arithmetic overflows in some row, and the refusal is E7 of such a call, the first; where it answers, none does. Want of memory

@@ -8,3 +8,4 @@ pub mod FirstSteps
 pub mod Optimizing
 pub mod StepWalks
 pub mod RunAnswers
+pub mod KeptRows

@@ -6,10 +6,10 @@ use Rattle.vortex_meaning.specs.Meaning.{Meaning}
 use Rattle.vortex_meaning.specs.Trees.{Tree}
 use Rattle.vortex_meaning.specs.Eval.{tree_type}
 use Rattle.vortex_meaning.specs.Rewrites.{IsSound, Rewrites}
-use Rattle.vortex_meaning.specs.Weights.{weight, OnlyShipped, Lightens}
+use Rattle.vortex_meaning.specs.Weights.{weight, OnlyShipped, IsLighter, Lightens}
 use Rattle.vortex_meaning.specs.Driver.{Runs}
 use Rattle.vortex_meaning.proofs.Driving.{first_sound, runs_sound}
-use Rattle.vortex_meaning.proofs.Lightening.{first_lightens, runs_bound}
+use Rattle.vortex_meaning.proofs.Lightening.{first_lightens, runs_lighter, runs_bound}
 use Rattle.vortex_rewriting.specs.declared.rule.Rule.{Rule}
 use Rattle.vortex_rewriting.specs.declared.rule.Rule.TheVariants.{Simplify, Reduce}
 use Rattle.vortex_rewriting.specs.Driving.{first_rule}
@@ -28,6 +28,11 @@ module _ {V O : Type 0} (m : Meaning V O) (applied : Rule → Tree V O → Optio
       (run : Runs (first_rule applied) n t u) where
     pub run_rewrites : ((rule : Rule) → IsSound m (applied rule)) → Rewrites m t u
     run_rewrites sound = runs_sound m (first_rule applied) (first_rule_sound sound) n t u k h run
+
+    pub run_lighter : ((rule : Rule) → Lightens m (applied rule)) → OnlyShipped t
+        → IsLighter m n t u
+    run_lighter lightens shipped =
+        runs_lighter m (first_rule applied) (first_rule_lightens lightens) n t u k h shipped run
 
     pub run_fewer : ((rule : Rule) → Lightens m (applied rule)) → OnlyShipped t → n < weight m t
     run_fewer lightens shipped =

@@ -1,5 +1,5 @@
 -- What is kept by what a rule makes of a tree at a place.
-use Rattle.std.proofs.Common.{◌≡◌, ℕ, List, Option, Some, None, Ok, Err, IfOk}
+use Rattle.std.proofs.Common.{◌≡◌, ℕ, ◌<◌, List, Option, Some, None, Ok, Err, IfOk}
 use Rattle.std.specs.Prelude.{Result, IfSome}
 use Rattle.vortex_errors.specs.declared.error.VortexError.{VortexError}
 use Rattle.vortex_types.specs.LogicalTypes.{LogicalType}
@@ -7,9 +7,9 @@ use Rattle.vortex_meaning.specs.Meaning.{Meaning}
 use Rattle.vortex_meaning.specs.Trees.{Tree}
 use Rattle.vortex_meaning.specs.Eval.{tree_type}
 use Rattle.vortex_meaning.specs.Rewrites.{Rewrites, IsSound}
-use Rattle.vortex_meaning.specs.Weights.{OnlyShipped, IsLighter, Lightens}
+use Rattle.vortex_meaning.specs.Weights.{weight, OnlyShipped, IsLighter, Lightens}
 use Rattle.vortex_meaning.proofs.Driving.{rewritten_sound}
-use Rattle.vortex_meaning.proofs.Lightening.{rewritten_lighter}
+use Rattle.vortex_meaning.proofs.Lightening.{rewritten_lighter, fewer}
 use Rattle.vortex_rewriting.specs.Rewriting.{AnswersRewritten}
 
 module _ {V O T : Type 0} (m : Meaning V O) (tree_in : T → Tree V O)
@@ -31,3 +31,13 @@ module _ {V O T : Type 0} (m : Meaning V O) (tree_in : T → Tree V O)
   at_place_lighter lightens (Ok None) h = tt
   at_place_lighter lightens (Ok (Some made)) h =
       λ shipped. rewritten_lighter m rule lightens path t (tree_in made) k typed shipped h
+
+  -- so one rewrite is fewer than the weight
+  pub at_place_fewer : Lightens m rule → (result : Result (Option T) VortexError)
+      → AnswersRewritten tree_in rule path t result
+      → IfOk result (λ answer. IfSome answer (λ made. OnlyShipped t → 1 < weight m t))
+  at_place_fewer lightens (Err e) h = tt
+  at_place_fewer lightens (Ok None) h = tt
+  at_place_fewer lightens (Ok (Some made)) h = λ shipped.
+      fewer m 1 t (tree_in made)
+      (rewritten_lighter m rule lightens path t (tree_in made) k typed shipped h)

@@ -1,23 +1,23 @@
 -- How runs end, and what executing after them answers.
-use Rattle.std.proofs.Common.{◌≡◌, ◌⊎◌, ◌↔◌, ℕ, ◌≤◌, Bool, true, false, IsTrue, Option, Some, None, refl, inl, inr, subst}
+use Rattle.std.proofs.Common.{◌≡◌, ◌⊎◌, ◌↔◌, ℕ, ◌≤◌, Bool, true, false, IsTrue, Option, Some, None, refl, inl, inr, subst, Ok, Err}
 use Rattle.std.specs.Cow.{cow_value}
 use Rattle.std.specs.declared.borrow.Cow.{Cow}
 use Rattle.std.specs.Prelude.{All, List, [], Result}
 use Rattle.vortex_errors.specs.declared.error.VortexError.{VortexError}
-use Rattle.vortex_errors.proofs.Answering.{Answers-weaker}
+use Rattle.vortex_errors.proofs.Answering.{UnlessMemory-weaker}
 use Rattle.vortex_types.specs.LogicalTypes.{LogicalType}
 use Rattle.vortex_columns.specs.ColumnView.{ColumnView, AreTyped}
 use Rattle.vortex_meaning.specs.Meaning.{Meaning, Lawful}
 use Rattle.vortex_meaning.specs.Trees.{Tree}
 use Rattle.vortex_meaning.specs.Eval.{tree_type, HasTreeRows, IsFirstFault}
-use Rattle.vortex_meaning.specs.Execution.{Executes, RefusesExecution}
+use Rattle.vortex_meaning.specs.Execution.{RefusesExecution}
 use Rattle.vortex_meaning.specs.Made.{IsBound}
 use Rattle.vortex_meaning.specs.Rules.{Rules}
 use Rattle.vortex_meaning.specs.Rewrites.{IsSound, LawfulRules}
 use Rattle.vortex_meaning.specs.Driver.{step, Runs, RunsTo}
 use Rattle.vortex_meaning.specs.Running.{ExecutesAfter, RefusesAfter, HasRowsAfter, IsFaultAfter}
 use Rattle.vortex_meaning.proofs.AfterRun.{executes_after, refuses_after, rows_after, fault_after}
-use Rattle.vortex_functions.specs.Executing.{Fits, AnswersExecution}
+use Rattle.vortex_functions.specs.Executing.{Fits, AnswersExecution, LendsLeaf}
 use Rattle.vortex_arrays.specs.Arrays.{Array, tree_in, rows_in, IsTyped}
 use Rattle.vortex_rewriting.specs.Rules.{expression_rule, expression_sound, array_rule, array_sound}
 use Rattle.vortex_rewriting.specs.Runs.{expression_step, array_step, AnswersRun}
@@ -43,16 +43,20 @@ module _ {V O : Type 0} (m : Meaning V O) (lawful : Lawful m) (r : Rules V O)
       (result : Result (Cow ColumnView) VortexError) → tree_type m t ≡ Some k → IsBound t
       → Fits cs n t → All (λ c. AreTyped c.dtype c.rows) cs
       → RunsTo (expression_step m r) limit t u → AnswersExecution m cs n u result
-      → AnswersRun m r limit cs n t result
-  run_answers cs n t u k result is bound fits typed run h =
+      → LendsLeaf cs u result → AnswersRun m r limit cs n t result
+  run_answers cs n t u k (Ok c) is bound fits typed run h lends =
+      let after =
+      executes_after m (expression_step m r) expressions_sound cs n limit t u k is run typed bound
+      fits.0 fits.1 (cow_value c) h in
+      let rows = record { last = u; run = run; rows = h.rows; kept = after.rows.kept } in
+      record {
+        executes = record { fit = fits.0; lengths = fits.1; rows = rows };
+        lent = lends;
+      }
+  run_answers cs n t u k (Err e) is bound fits typed run h lends =
       let rule = expression_step m r in
-      Answers-weaker result (λ c. Executes m cs n u (cow_value c))
-      (λ c. ExecutesAfter m cs n rule limit t (cow_value c)) (RefusesExecution m cs n u)
-      (RefusesAfter m cs n rule limit t)
-      (λ c x. executes_after m rule expressions_sound cs n limit t u k is run typed bound fits.0
-      fits.1 (cow_value c) x)
-      (λ e x. refuses_after m rule expressions_sound cs n limit t u k is run typed bound fits.0
-      fits.1 e x) h
+      UnlessMemory-weaker (RefusesExecution m cs n u) (RefusesAfter m cs n rule limit t)
+      (refuses_after m rule expressions_sound cs n limit t u k is run typed bound fits.0 fits.1) e h
 
   module _ (a b : Array V O) (k : LogicalType) (is : tree_type m (tree_in a) ≡ Some k)
       (typed : IsTyped a) (same : rows_in b ≡ rows_in a)

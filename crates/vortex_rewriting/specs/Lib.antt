@@ -4,3 +4,4 @@ pub mod Rewriting
 pub mod Rules
 pub mod Ways
 pub mod Runs
+pub mod Keeping

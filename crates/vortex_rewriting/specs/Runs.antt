@@ -9,6 +9,7 @@ use Rattle.vortex_meaning.specs.Meaning.{Meaning}
 use Rattle.vortex_meaning.specs.Trees.{Tree}
 use Rattle.vortex_meaning.specs.Rules.{Rules}
 use Rattle.vortex_meaning.specs.Running.{ExecutesAfter, RefusesAfter, HasRowsAfter, IsFaultAfter}
+use Rattle.vortex_functions.specs.Binding.{IsLeaf, IsLentLeaf}
 use Rattle.vortex_arrays.specs.Arrays.{Array, tree_in, rows_in}
 use Rattle.vortex_rewriting.specs.Rules.{expression_rule, array_rule}
 use Rattle.vortex_rewriting.specs.Driving.{first_rule}
@@ -22,12 +23,18 @@ module _ {V O : Type 0} (m : Meaning V O) (r : Rules V O) where
   array_step = first_rule (array_rule m r)
 
   module _ (limit : ℕ) where
+    -- the column, which may be lent, has the rows of the tree that a run leads to; where that tree is
+    -- a lone leaf it is the leaf's column, lent
+    pub record IsRunAnswer (cs : List ColumnView) (n : ℕ) (t : Tree V O) (c : Cow ColumnView)
+        : Type 0 where
+      pub executes : ExecutesAfter m cs n expression_step limit t (cow_value c)
+      pub lent : IsLeaf executes.rows.last → IsLentLeaf cs executes.rows.last c
+
     -- over columns, each of so many rows
     abbrev pub AnswersRun : List ColumnView → ℕ → Tree V O → Result (Cow ColumnView) VortexError
         → Type 0
     AnswersRun cs n t result =
-        Answers result (λ c. ExecutesAfter m cs n expression_step limit t (cow_value c))
-        (RefusesAfter m cs n expression_step limit t)
+        Answers result (IsRunAnswer cs n t) (RefusesAfter m cs n expression_step limit t)
 
     -- no column stands outside an array tree
     abbrev pub AnswersRunOfArray : Array V O → Result ColumnView VortexError → Type 0

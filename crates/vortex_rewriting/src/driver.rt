@@ -2,7 +2,7 @@
 ghost use Rattle.std.specs.Prelude.{◌≡◌, ◌<◌, ◌≤◌, ◌↔◌, IfOk, IfSome, IsTrue, None, false};
 ghost use Rattle.std.specs.Option.{option_map};
 ghost use Rattle.vortex_meaning.specs.Rewrites.{Rewrites};
-ghost use Rattle.vortex_meaning.specs.Weights.{weight, OnlyShipped};
+ghost use Rattle.vortex_meaning.specs.Weights.{weight, OnlyShipped, IsLighter};
 ghost use Rattle.vortex_meaning.specs.Driver.{step, Runs};
 ghost use Rattle.vortex_functions.specs.Words.{children_of, AllMean, AnswersUnlessMemory};
 ghost use Rattle.vortex_rewriting.specs.Driving.{first_rule, first_some, IsStepOf};
@@ -105,6 +105,8 @@ pub fn optimize_recursive<C: ScalarFnRules, T: RewriteTree<C>>(
     ensures done { IfOk result
         (λ o. IsTrue o.done ↔ (step (first_rule T.applied) (T.tree o.tree) ≡ None)) }
     ensures stopped { IfOk result (λ o. o.done ≡ false → o.steps ≡ limit) }
+    ensures lighter { IfOk result (λ o. OnlyShipped (T.tree tree.now)
+        → IsLighter C.meaning o.steps (T.tree tree.now) (T.tree o.tree)) }
     ensures fewer { IfOk result (λ o. OnlyShipped (T.tree tree.now)
         → o.steps < weight C.meaning (T.tree tree.now)) }
     ensures ends { IfOk result (λ o. OnlyShipped (T.tree tree.now)

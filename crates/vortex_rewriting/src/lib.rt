@@ -5,6 +5,7 @@ mod array;
 mod children;
 pub mod driver;
 mod expression;
+pub mod laws;
 pub mod places;
 pub mod rule;
 pub mod running;

@@ -51,6 +51,8 @@ pub fn rewrite_at<C: ScalarFnRules, T: RewriteTree<C>>(
         (λ made. Rewrites C.meaning (T.tree tree.now) (T.tree made))) }
     ensures lighter { IfOk result (λ answer. IfSome answer (λ made. OnlyShipped (T.tree tree.now)
         → IsLighter C.meaning 1 (T.tree tree.now) (T.tree made))) }
+    ensures fewer { IfOk result (λ answer. IfSome answer (λ made. OnlyShipped (T.tree tree.now)
+        → 1 < weight C.meaning (T.tree tree.now))) }
     ensures same_rows { IfOk result
         (λ answer. IfSome answer (λ made. T.rows made ≡ T.rows tree.now)) }
 {

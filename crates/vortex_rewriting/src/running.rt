@@ -13,7 +13,8 @@ use vortex_functions::BoundExpression;
 use vortex_rules::ScalarFnRules;
 
 /// The rows, over columns, of the tree that a run of at most `limit` steps leads to: in each row in
-/// which the tree itself has a value they are that value.
+/// which the tree itself has a value they are that value. Where the run leads to a lone leaf, its
+/// column is lent.
 ///
 /// In order: E11 where a leaf of the tree itself has a column that is missing or of another type,
 /// though a step would drop the leaf; E2 where a column has not `row_count` rows, with `left` the

@@ -1,6 +1,6 @@
 //! Nodes over expressions.
-ghost use Rattle.std.specs.Prelude.{◌≡◌, ℕ, IfOk, map};
-ghost use Rattle.std.specs.Cow.{cow_value, IsBorrowed};
+ghost use Rattle.std.specs.Prelude.{◌≡◌, ℕ, IfOk, IsOk, map};
+ghost use Rattle.std.specs.Cow.{cow_value, IsBorrowed, IsOwned};
 ghost use Rattle.vortex_functions.specs.Words.{function_of, AnswersUnlessMemory};
 ghost use Rattle.vortex_rules.specs.Making.{AnswersCall};
 
@@ -33,6 +33,7 @@ impl<'a, C: ScalarFnVTable> ExpressionReduceNode<'a, C> {
     pub fn new(expression: Cow<'a, BoundExpression<C>>) -> Self
         ensures value { cow_value result.expression ≡ cow_value expression.entry }
         ensures lent { IsBorrowed expression.entry → IsBorrowed result.expression }
+        ensures owned { IsOwned expression.entry → IsOwned result.expression }
     {
         ExpressionReduceNode { expression }
     }
@@ -47,9 +48,11 @@ impl<'a, C: ScalarFnVTable> ExpressionReduceNode<'a, C> {
         }
     }
 
-    /// The expression that it stood for. A lent one is copied, and so can answer E9.
+    /// The expression that it stood for. A lent one is copied, and so can answer E9; one of its
+    /// own takes no memory.
     pub fn into_expression(self, alloc: Global) -> VortexResult<BoundExpression<C>>
-        ensures { AnswersUnlessMemory result (λ e. e ≡ cow_value self.entry.expression) }
+        ensures answer { AnswersUnlessMemory result (λ e. e ≡ cow_value self.entry.expression) }
+        ensures owned { IsOwned self.entry.expression → IsOk result }
     {
         let ExpressionReduceNode { expression } = self;
         match expression {

@@ -11,4 +11,4 @@ loop-child-preserved g c =
     ∙ sum_more g.C.ScalarFnVTable.meaning
     (added (function_of c.args.function.now) c.args.nullable) c.args.children.now
     c.loop-child.child-index c.child-item.result c.loop-child.weight c.weight.result
-    c.loop-child.invariant c.loop-child-test.true c.child-item.is c.weight.ensures)
+    c.loop-child.invariant c.loop-child-test.true c.child-item.is c.weight.ensures.told)

@@ -1,5 +1,5 @@
 use Rattle.vortex_types.specs.TypeOf.{type_of}
-use Rattle.vortex_rewriting.proofs.RewrittenAt.{at_place_kept, at_place_lighter}
+use Rattle.vortex_rewriting.proofs.RewrittenAt.{at_place_kept, at_place_lighter, at_place_fewer}
 use Rattle.vortex_rewriting.proofs.places.rewrite_at.Goals as goal
 
 pub returns-clause-kept : goal.returns-clause-kept
@@ -15,5 +15,13 @@ returns-clause-lighter g c =
     let tree = g.T.RewriteTree.tree in
     let rule = c.args.rule in
     at_place_lighter g.C.ScalarFnVTable.meaning tree (g.T.RewriteTree.applied rule) c.args.path.now
+    (tree c.args.tree.now) (type_of c.dtype-typed.result.now) c.dtype-typed.ensures
+    (g.met.T.RewriteTree.lightens rule) c.made_at.result c.made_at.ensures.answer
+
+pub returns-clause-fewer : goal.returns-clause-fewer
+returns-clause-fewer g c =
+    let tree = g.T.RewriteTree.tree in
+    let rule = c.args.rule in
+    at_place_fewer g.C.ScalarFnVTable.meaning tree (g.T.RewriteTree.applied rule) c.args.path.now
     (tree c.args.tree.now) (type_of c.dtype-typed.result.now) c.dtype-typed.ensures
     (g.met.T.RewriteTree.lightens rule) c.made_at.result c.made_at.ensures.answer
