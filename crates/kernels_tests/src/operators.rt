@@ -22,8 +22,8 @@ const OPERATORS: [Operator; 12] = [
     Operator::Div,
 ];
 
-/// Whether each operator is greater than the one before it.
-fn are_in_order(operators: &[Operator]) -> bool {
+/// Whether each is greater than the one before it.
+fn are_in_order<T: PartialOrd + Copy>(operators: &[T]) -> bool {
     let mut last = None;
     for operator in operators {
         if !(last < Some(*operator)) {
@@ -33,6 +33,16 @@ fn are_in_order(operators: &[Operator]) -> bool {
     }
     true
 }
+
+/// The comparisons in their order.
+const COMPARISONS: [CompareOperator; 6] = [
+    CompareOperator::Eq,
+    CompareOperator::NotEq,
+    CompareOperator::Gt,
+    CompareOperator::Gte,
+    CompareOperator::Lt,
+    CompareOperator::Lte,
+];
 
 /// Whether an operator is written so.
 fn is_written(alloc: Global, operator: Operator, text: &str) -> VortexResult<bool> {
@@ -101,7 +111,7 @@ fn is_turned(
 #[test]
 fn orders_the_operators(rt: HostRuntime) {
     assert!(rt; are_in_order(&OPERATORS));
-    assert!(rt; CompareOperator::Eq < CompareOperator::Lte);
+    assert!(rt; are_in_order(&COMPARISONS));
 }
 
 #[test]

@@ -4,7 +4,7 @@ use Rattle.std.proofs.Common.{refl, sym, ap, ◌∙◌}
 use Rattle.std.specs.Prelude.{◌↔◌, ◌||◌, ◌&&◌, IsTrue}
 use Rattle.std.specs.List.{list_any}
 use Rattle.vortex_like.specs.Tokens.{Token, any, one, character, Match, is_match}
-use Rattle.vortex_like.specs.Tokens.{endings, same_character}
+use Rattle.vortex_like.specs.Tokens.{endings, same_character, TestDecidesMatch}
 use Rattle.vortex_like.proofs.Walking.{any_after, after_any}
 
 or_cases : (a b : Bool) → a || b ≡ true → (a ≡ true) ⊎ (b ≡ true)
@@ -96,3 +96,6 @@ module _ (fold : Bool) where
       by true t f g = sym (f refl)
       by false true f g = g refl
       by false false f g = refl
+
+pub test_decides_match : TestDecidesMatch
+test_decides_match fold ts text = (match_tested fold ts text, test_matched fold ts text)

@@ -1,7 +1,7 @@
 -- The tokens of a LIKE pattern, and which texts they match: SQL LIKE with backslash escape, and
 -- under ILIKE Unicode's simple case folding, one character at a time.
 use Rattle.std.specs.Prelude.{ℕ, Bool, true, false, ◌==◌, ◌≡◌, ◌&&◌, List, [], ◌∷◌, ◌++◌}
-use Rattle.std.specs.Prelude.{if◌then◌else◌}
+use Rattle.std.specs.Prelude.{◌↔◌, IsTrue, if◌then◌else◌}
 use Rattle.std.specs.List.{list_any}
 use Rattle.unicode.specs.CaseFolding.{simple_fold}
 
@@ -73,3 +73,8 @@ is_match case_insensitive (any ∷ rest) text = list_any (is_match case_insensit
 is_match case_insensitive (t ∷ rest) [] = false
 is_match case_insensitive (t ∷ rest) (c ∷ text) =
     accepts case_insensitive t c && is_match case_insensitive rest text
+
+-- the test says yes exactly where the tokens match
+abbrev pub TestDecidesMatch : Type 0
+TestDecidesMatch = (case_insensitive : Bool) (tokens : List Token) (text : List ℕ)
+    → IsTrue (is_match case_insensitive tokens text) ↔ Match case_insensitive tokens text

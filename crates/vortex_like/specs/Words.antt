@@ -12,6 +12,6 @@ pub use Rattle.vortex_like.specs.Rows.{AreTold, IsAnswer, IsLikeBit, AreLikeBits
 pub use Rattle.vortex_like.specs.Rows.{IsJointValidity, IsConstantOf, HasLikeRows}
 pub use Rattle.vortex_like.specs.Symbols.{symbol_token}
 pub use Rattle.vortex_like.specs.Tokens.{any, one, character, is_any, accepts, plain_token}
-pub use Rattle.vortex_like.specs.Tokens.{tokens_of, Match, is_match}
+pub use Rattle.vortex_like.specs.Tokens.{tokens_of, Match, is_match, TestDecidesMatch}
 pub use Rattle.vortex_like.specs.UnescapedTexts.{IsUnescaped}
 pub use Rattle.vortex_like.specs.Variants.{is_wildcard, meets_escape, IsVariantOf, TellsMatches}

@@ -3,6 +3,7 @@
 
 mod characters;
 pub mod execute;
+pub mod laws;
 mod matching;
 pub mod options;
 pub mod pattern;

@@ -3,7 +3,7 @@ ghost use Rattle.std.specs.Prelude.{◌≡◌, ◌+◌, ◌*◌, ◌<◌, ◌≤
 ghost use Rattle.std.specs.Prelude.{IsUtf8, MatchOption};
 ghost use Rattle.std.specs.Str.{chars, IsAscii};
 ghost use Rattle.vortex_like.specs.Words.{AnswersUnlessMemory, plain_token, tokens_of, Match};
-ghost use Rattle.vortex_like.specs.Words.{is_match, pattern_of};
+ghost use Rattle.vortex_like.specs.Words.{is_match, pattern_of, asked};
 
 use crate::characters::{Symbol, first_symbol};
 use crate::matching::match_tokens;
@@ -109,7 +109,7 @@ impl LikePattern {
     }
 
     /// The same, and how often a token was compared with a character: at most as often as the text has characters, and
-    /// once more, for each token and once more.
+    /// once more, for each token and once more; and where it matches at least once for each token but `%`.
     pub fn matches_counted(&self, haystack: &[u8]) -> (bool, Looks)
         requires utf8 { IsUtf8 haystack.now }
         requires ascii { IsTrue self.now.ascii_haystack → IsAscii haystack.now }
@@ -119,6 +119,7 @@ impl LikePattern {
             ≡ is_match self.now.case_insensitive self.now.tokens (chars haystack.now) }
         ensures looks { result.1
             ≤ (length (chars haystack.now) + 1) * (length self.now.tokens + 1) }
+        ensures least { IsTrue result.0 → asked self.now.tokens ≤ result.1 }
     {
         let text = unsafe { str::from_utf8_unchecked(haystack) };
         match_tokens(self.tokens.as_slice(), text, self.case_insensitive)

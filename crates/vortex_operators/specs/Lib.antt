@@ -1,4 +1,5 @@
 pub mod Operators
+pub mod Places
 pub mod Kleene
 pub mod OperatorValues
 pub mod Arithmetic

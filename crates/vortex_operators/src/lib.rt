@@ -2,6 +2,7 @@
 #![tactic(auto)]
 
 pub mod between;
+pub mod laws;
 pub mod operators;
 
 pub use between::{BetweenOptions, StrictComparison};
