@@ -1,6 +1,8 @@
 //! Row functions over columns: what the crates below offer, under one name.
 #![tactic(auto)]
 
+pub mod laws;
+
 pub use vortex_array_rules::ArrayReduceNode;
 pub use vortex_array_rules::ReduceArray;
 pub use vortex_arrays::ArrayRef;
@@ -94,7 +96,6 @@ pub use vortex_rewriting::rewrite_list;
 pub use vortex_rewriting::run;
 pub use vortex_rewriting::run_array;
 pub use vortex_rules::ExpressionReduceNode;
-pub use vortex_rules::NullTest;
 pub use vortex_rules::ReduceExpression;
 pub use vortex_rules::ReduceNode;
 pub use vortex_rules::ReduceNodeValidity;
@@ -102,10 +103,4 @@ pub use vortex_rules::ReduceTree;
 pub use vortex_rules::ScalarFnRules;
 pub use vortex_rules::ShippedRules;
 pub use vortex_rules::default_validity;
-pub use vortex_rules::reduce_boolean;
-pub use vortex_rules::reduce_call;
-pub use vortex_rules::reduce_null_test;
-pub use vortex_rules::simplify_call;
-pub use vortex_rules::simplify_operator;
 pub use vortex_rules::union_child_validities;
-pub use vortex_rules::validity_call;
