@@ -22,6 +22,16 @@ const OPERATORS: [Operator; 12] = [
     Operator::Div,
 ];
 
+/// The comparisons in their order.
+const COMPARISONS: [CompareOperator; 6] = [
+    CompareOperator::Eq,
+    CompareOperator::NotEq,
+    CompareOperator::Gt,
+    CompareOperator::Gte,
+    CompareOperator::Lt,
+    CompareOperator::Lte,
+];
+
 /// Whether each is greater than the one before it.
 fn are_in_order<T: PartialOrd + Copy>(operators: &[T]) -> bool {
     let mut last = None;
@@ -33,16 +43,6 @@ fn are_in_order<T: PartialOrd + Copy>(operators: &[T]) -> bool {
     }
     true
 }
-
-/// The comparisons in their order.
-const COMPARISONS: [CompareOperator; 6] = [
-    CompareOperator::Eq,
-    CompareOperator::NotEq,
-    CompareOperator::Gt,
-    CompareOperator::Gte,
-    CompareOperator::Lt,
-    CompareOperator::Lte,
-];
 
 /// Whether an operator is written so.
 fn is_written(alloc: Global, operator: Operator, text: &str) -> VortexResult<bool> {

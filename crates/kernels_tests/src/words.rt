@@ -1,4 +1,6 @@
 //! And, Or, Not and comparisons of bits at any offset, whatever lies under nulls and outside the range.
+ghost use Rattle.std.specs.Prelude.{◌≡◌, true};
+ghost use Rattle.vortex_operators.specs.Operators.{is_boolean};
 
 use crate::questions::{
     COMPARISONS, NO, NULL, NULLABLE, YES, combined, compared, has_rows, negated, says, says_or_null,
@@ -9,7 +11,7 @@ use vortex_columns::{
     BitBuffer, Column, ExecutionCtx, Nullability, Validity, VortexError, VortexResult,
 };
 use vortex_kernels::{
-    CompareOperator, Operator, kleene_boolean_buffer_scalar, kleene_boolean_buffers,
+    CompareOperator, Operator, kleene_boolean_buffer_scalar, kleene_boolean_buffers, kleene_words,
 };
 
 /// Eight bits of a list that begins at an offset; around it all are alike.
@@ -289,6 +291,25 @@ fn buffers_follow_kleenes_tables(rt: HostRuntime) {
     assert!(rt; yes(says_or_null(alloc, buffers(alloc, Operator::And), &[NO, NULL])));
     assert!(rt; yes(says_or_null(alloc, buffers(alloc, Operator::Or), &[NULL, YES])));
     assert!(rt; is_refused(buffers(alloc, Operator::Eq), "NotBooleanOperator"));
+}
+
+/// Yes, No and null, three times each, with Yes, No and null in turn; a bit is set under each null.
+fn nine_rows(operator: Operator) -> (u64, u64)
+    requires { is_boolean operator ≡ true }
+{
+    kleene_words(
+        operator,
+        0b111_000_111,
+        0b000_111_111,
+        0b101_101_101,
+        0b011_011_011,
+    )
+}
+
+#[test]
+fn words_follow_kleenes_tables(rt: HostRuntime) {
+    assert!(rt; nine_rows(Operator::And) == (0b101_000_101, 0b010_111_011));
+    assert!(rt; nine_rows(Operator::Or) == (0b111_101_111, 0b001_011_111));
 }
 
 /// Yes, No and null, with a null scalar.

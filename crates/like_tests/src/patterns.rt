@@ -95,18 +95,73 @@ fn goes_back_to_the_last_sequence(rt: HostRuntime) {
     assert!(rt; yes(matches(alloc, LIKE, "", &["", "x"], &[true, false])));
 }
 
-/// Whether a pattern matches a text with at most so many looks.
-fn looks_at_most(alloc: Global, pattern: &str, text: &str, most: u128) -> VortexResult<bool> {
+/// Whether a pattern that is compiled once says yes to the first text and no to the second.
+fn compiled_parts(
+    alloc: Global,
+    pattern: &str,
+    case_insensitive: bool,
+    texts: [&str; 2],
+) -> VortexResult<bool> {
+    let pattern = LikePattern::compile(alloc, pattern, case_insensitive, false)?;
+    Ok(pattern.matches(texts[0].as_bytes()) && !pattern.matches(texts[1].as_bytes()))
+}
+
+#[test]
+fn a_compiled_pattern_serves_many_texts(rt: HostRuntime) {
+    let alloc = rt.alloc();
+    assert!(rt; yes(compiled_parts(alloc, "%a_b", false, ["aaxaab", "ab"])));
+    assert!(rt; yes(compiled_parts(alloc, "100\\%", false, ["100%", "100x"])));
+    assert!(rt; yes(compiled_parts(alloc, "_", false, ["\n", ""])));
+    assert!(rt; yes(compiled_parts(alloc, "k", true, ["K", "x"])));
+}
+
+/// Whether a pattern says so of a text, with at least and at most so many looks.
+fn looks_between(
+    alloc: Global,
+    pattern: &str,
+    text: &str,
+    wanted: bool,
+    looks: (u128, u128),
+) -> VortexResult<bool> {
     let pattern = LikePattern::compile(alloc, pattern, false, false)?;
-    let (found, looks) = pattern.matches_counted(text.as_bytes());
-    Ok(found && looks.count() <= most)
+    let (found, count) = pattern.matches_counted(text.as_bytes());
+    let count = count.count();
+    Ok(found == wanted && looks.0 <= count && count <= looks.1)
 }
 
 #[test]
 fn counts_its_looks(rt: HostRuntime) {
     let alloc = rt.alloc();
-    assert!(rt; yes(looks_at_most(alloc, "%a_b", "aaxaab", 35)));
-    assert!(rt; yes(looks_at_most(alloc, "%", "aaxaab", 0)));
+    assert!(rt; yes(looks_between(alloc, "%a_b", "aaxaab", true, (3, 35))));
+    assert!(rt; yes(looks_between(alloc, "%", "aaxaab", true, (0, 0))));
+}
+
+/// A text, so many times.
+fn repeated(alloc: Global, part: &str, times: usize) -> VortexResult<String> {
+    let mut text = String::new(alloc);
+    for _ in 0..times {
+        text.push_str(part)?;
+    }
+    Ok(text)
+}
+
+/// Whether 500 times `a%` says so of so many letters, within those bounds.
+fn many_looks(
+    alloc: Global,
+    letters: usize,
+    wanted: bool,
+    looks: (u128, u128),
+) -> VortexResult<bool> {
+    let pattern = repeated(alloc, "a%", 500)?;
+    let text = repeated(alloc, "a", letters)?;
+    looks_between(alloc, &pattern, &text, wanted, looks)
+}
+
+#[test]
+fn counts_many_looks(rt: HostRuntime) {
+    let alloc = rt.alloc();
+    assert!(rt; yes(many_looks(alloc, 500, true, (500, 501_501))));
+    assert!(rt; yes(many_looks(alloc, 499, false, (0, 500_500))));
 }
 
 #[test]

@@ -4,6 +4,7 @@ pub mod Truths
 pub mod Kleene
 pub mod Boolean
 pub mod NullTests
+pub mod Constants
 pub mod Cast
 pub mod PairOrders
 pub mod Comparison

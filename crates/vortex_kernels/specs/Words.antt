@@ -1,18 +1,20 @@
 -- The words of the contracts, from one place.
 pub use Rattle.vortex_bits.specs.Bits.{bit}
 pub use Rattle.vortex_bits.specs.Rows.{AreRows}
-pub use Rattle.vortex_columns.specs.ColumnView.{row, IsIntegerType}
+pub use Rattle.vortex_columns.specs.ColumnView.{row, IsIntegerType, AreInts}
 pub use Rattle.vortex_columns.specs.LentBytes.{bytes_of}
 pub use Rattle.vortex_kernels.specs.ArithmeticIntegers.{FitsResult, AnswersExact}
 pub use Rattle.vortex_kernels.specs.Between.{HasBetweenRows, AreBeside, AreBounded, HasNoNull}
 pub use Rattle.vortex_kernels.specs.Between.{any_nullable, between_scalar}
 pub use Rattle.vortex_kernels.specs.Boolean.{are_bools, HasBooleanRows, HasNotRows}
 pub use Rattle.vortex_kernels.specs.Boolean.{IsKleeneValidity, AnswersBoolean, RefusesBoolean}
-pub use Rattle.vortex_kernels.specs.Cast.{HasCastRows, KeepsConstant}
+pub use Rattle.vortex_kernels.specs.Cast.{HasCastRows}
 pub use Rattle.vortex_kernels.specs.Comparison.{is_null_constant, IsConstantOf, AnswersScalars}
 pub use Rattle.vortex_kernels.specs.Comparison.{RefusesScalars, HasComparisonRows, AnswersCompare}
 pub use Rattle.vortex_kernels.specs.Comparison.{RefusesCompare, AreHeld, IsConstantBytes}
 pub use Rattle.vortex_kernels.specs.Comparison.{AreComparisons}
+pub use Rattle.vortex_kernels.specs.Constants.{KeepsConstant, KeepsTwoConstants}
+pub use Rattle.vortex_kernels.specs.Constants.{KeepsThreeConstants}
 pub use Rattle.vortex_kernels.specs.NullTests.{HasTruths, HasNullTests, HasNotNullTests}
 pub use Rattle.vortex_kernels.specs.NullTests.{IsConstantUnlessListed}
 pub use Rattle.vortex_kernels.specs.Numeric.{AnswersNumeric, RefusesNumeric}

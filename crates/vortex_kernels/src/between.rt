@@ -1,10 +1,10 @@
 //! Whether each row of a column lies between two bounds.
-ghost use Rattle.std.specs.Prelude.{◌≡◌, true, length, IfSome};
+ghost use Rattle.std.specs.Prelude.{◌≡◌, true, length, IfSome, IfOk};
 ghost use Rattle.vortex_kernels.specs.Words.{AnswersUnlessMemory, AreComparisons, AreBounded};
 ghost use Rattle.vortex_kernels.specs.Words.{bound_operator, HasBetweenRows, HasNoNull};
 ghost use Rattle.vortex_kernels.specs.Words.{allows_null, any_nullable, between_scalar};
 ghost use Rattle.vortex_kernels.specs.Words.{comparison_value, compare_swap, kleene, And, truth_of};
-ghost use Rattle.vortex_kernels.specs.Words.{type_of};
+ghost use Rattle.vortex_kernels.specs.Words.{type_of, KeepsThreeConstants};
 
 use crate::boolean::kleene_boolean_buffers;
 use crate::bounds::hold_between;
@@ -193,8 +193,9 @@ pub fn execute_between(
 ) -> VortexResult<Column>
     requires lower { length lower.now.rows ≡ length array.now.rows }
     requires upper { length upper.now.rows ≡ length array.now.rows }
-    ensures { AnswersUnlessMemory result
+    ensures rows { AnswersUnlessMemory result
         (HasBetweenRows options.now array.now lower.now upper.now) }
+    ensures constant { IfOk result (KeepsThreeConstants array.now lower.now upper.now) }
 {
     if let (Some(value), Some(low), Some(high)) = (
         array.as_constant(),

@@ -6,7 +6,7 @@ ghost use Rattle.vortex_kernels.specs.Words.{HasNotRows, AnswersBoolean, Refuses
 ghost use Rattle.vortex_kernels.specs.Words.{allows_null, validity_of, FitsRows, truth_at};
 ghost use Rattle.vortex_kernels.specs.Words.{HaveTruths, HasKleeneRows, AnswersKleene};
 ghost use Rattle.vortex_kernels.specs.Words.{RefusesOperator, operand_there, operand_truth};
-ghost use Rattle.vortex_kernels.specs.Words.{HasTruth};
+ghost use Rattle.vortex_kernels.specs.Words.{HasTruth, KeepsConstant};
 
 use crate::kleene::{KleeneTable, kleene_table};
 use crate::operators::Operator;
@@ -73,10 +73,11 @@ fn not_scalar(scalar: &Scalar) -> Scalar
     }
 }
 
-/// Not of a Bool column, row by row; a null stays null, and the type is the input's.
+/// Not of a Bool column, row by row; a null stays null, a constant a constant, and the type is the input's.
 pub fn execute_not(input: &Column, ctx: &mut ExecutionCtx) -> VortexResult<Column>
     requires { is_bool_type input.now.dtype ≡ true }
-    ensures { AnswersUnlessMemory result (HasNotRows input.now) }
+    ensures rows { AnswersUnlessMemory result (HasNotRows input.now) }
+    ensures constant { AnswersUnlessMemory result (KeepsConstant input.now) }
 {
     match (input.as_constant(), input.bits()) {
         (Some(scalar), _) => Column::constant(ctx.alloc(), not_scalar(scalar), input.len()),

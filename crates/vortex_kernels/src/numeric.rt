@@ -6,6 +6,7 @@ ghost use Rattle.vortex_kernels.specs.Words.{AnswersNumeric, RefusesNumeric};
 ghost use Rattle.vortex_kernels.specs.Words.{IsExactOf, row_results, AreNumbers};
 ghost use Rattle.vortex_kernels.specs.Words.{AreResults, TellsFaults, FitWhereValid, FaultsAt};
 ghost use Rattle.vortex_kernels.specs.Words.{HasScalarRows, IsConstantOf, null_of, number, type_of};
+ghost use Rattle.vortex_kernels.specs.Words.{KeepsTwoConstants, AreInts};
 
 use crate::arithmetic_integer::{ArithmeticInteger, apply_checked};
 use crate::integer_types::with_integer;
@@ -100,19 +101,20 @@ fn numeric_rows<T: ArithmeticInteger, O: CheckedPrimitiveOp<T>, L: Numbers<T>, R
     Column::try_primitive(ctx.alloc(), values, validity)
 }
 
-/// Null in each row, of the nullable form of the type.
+/// Null in each row, of the nullable form of the type: a constant.
 fn null_rows(lhs: &Column, ctx: &mut ExecutionCtx) -> VortexResult<Column>
-    ensures { AnswersUnlessMemory result
+    ensures rows { AnswersUnlessMemory result
         (HasScalarRows (null_of lhs.now.dtype) (length lhs.now.rows)) }
+    ensures constant { IfOk result (λ c. IsSome c.constant) }
 {
     let dtype = lhs.dtype().try_clone(ctx.alloc())?;
     let null = Scalar::null(dtype.with_nullability(Nullability::Nullable));
     Column::constant(ctx.alloc(), null, lhs.len())
 }
 
-/// The same as `numeric_columns`, the form of the left side being chosen.
-fn numeric_beside<T: ArithmeticInteger, O: CheckedPrimitiveOp<T>, L: Numbers<T>>(
-    left: &L,
+/// The same as `numeric_columns`, the integers of the left side being listed.
+fn numeric_listed<T: ArithmeticInteger, O: CheckedPrimitiveOp<T>>(
+    values: &[T],
     lhs: &Column,
     rhs: &Column,
     operator: NumericOperator,
@@ -121,18 +123,23 @@ fn numeric_beside<T: ArithmeticInteger, O: CheckedPrimitiveOp<T>, L: Numbers<T>>
     requires types { integer_of_both lhs.now.dtype rhs.now.dtype ≡ Some T.ptype }
     requires lengths { length lhs.now.rows ≡ length rhs.now.rows }
     requires exact { IsExactOf operator O.exact }
-    requires left { AreNumbers lhs.now (L.has_row left.now) (L.number_at left.now) }
+    requires left { AreInts lhs.now (map T.NativePType.number values.now) }
     ensures { Answers result (AnswersNumeric operator lhs.now rhs.now)
         (RefusesNumeric operator lhs.now rhs.now) }
 {
+    let left = ListedNumbers { values };
     match (rhs.ints::<T>(), constant_int::<T>(rhs)) {
         (Some(values), _) => {
             let right = ListedNumbers { values };
-            numeric_rows::<T, O, L, ListedNumbers<T>>(left, &right, lhs, rhs, operator, ctx)
+            numeric_rows::<T, O, ListedNumbers<T>, ListedNumbers<T>>(
+                &left, &right, lhs, rhs, operator, ctx,
+            )
         }
         (None, Some(value)) => {
             let right = OneNumber { value };
-            numeric_rows::<T, O, L, OneNumber<T>>(left, &right, lhs, rhs, operator, ctx)
+            numeric_rows::<T, O, ListedNumbers<T>, OneNumber<T>>(
+                &left, &right, lhs, rhs, operator, ctx,
+            )
         }
         (None, None) => null_rows(lhs, ctx),
     }
@@ -168,6 +175,35 @@ fn numeric_constants<T: ArithmeticInteger, O: CheckedPrimitiveOp<T>>(
     Column::constant(ctx.alloc(), scalar, lhs.len())
 }
 
+/// The same as `numeric_columns`, the left side being a constant.
+fn numeric_constant<T: ArithmeticInteger, O: CheckedPrimitiveOp<T>>(
+    value: T,
+    lhs: &Column,
+    rhs: &Column,
+    operator: NumericOperator,
+    ctx: &mut ExecutionCtx,
+) -> VortexResult<Column>
+    requires types { integer_of_both lhs.now.dtype rhs.now.dtype ≡ Some T.ptype }
+    requires lengths { length lhs.now.rows ≡ length rhs.now.rows }
+    requires exact { IsExactOf operator O.exact }
+    requires left { IsConstantOf (number (T.NativePType.number value)) lhs.now }
+    ensures rows { Answers result (AnswersNumeric operator lhs.now rhs.now)
+        (RefusesNumeric operator lhs.now rhs.now) }
+    ensures constant { IfOk result (λ c. IsSome rhs.now.constant → IsSome c.constant) }
+{
+    match (rhs.ints::<T>(), constant_int::<T>(rhs)) {
+        (Some(values), _) => {
+            let left = OneNumber { value };
+            let right = ListedNumbers { values };
+            numeric_rows::<T, O, OneNumber<T>, ListedNumbers<T>>(
+                &left, &right, lhs, rhs, operator, ctx,
+            )
+        }
+        (None, Some(right)) => numeric_constants::<T, O>(value, right, lhs, rhs, operator, ctx),
+        (None, None) => null_rows(lhs, ctx),
+    }
+}
+
 /// The operation in each row, of columns of equal length. The form of each side is chosen before the rows.
 fn numeric_columns<T: ArithmeticInteger, O: CheckedPrimitiveOp<T>>(
     lhs: &Column,
@@ -178,21 +214,13 @@ fn numeric_columns<T: ArithmeticInteger, O: CheckedPrimitiveOp<T>>(
     requires types { integer_of_both lhs.now.dtype rhs.now.dtype ≡ Some T.ptype }
     requires lengths { length lhs.now.rows ≡ length rhs.now.rows }
     requires exact { IsExactOf operator O.exact }
-    ensures { Answers result (AnswersNumeric operator lhs.now rhs.now)
+    ensures rows { Answers result (AnswersNumeric operator lhs.now rhs.now)
         (RefusesNumeric operator lhs.now rhs.now) }
+    ensures constant { IfOk result (KeepsTwoConstants lhs.now rhs.now) }
 {
     match (lhs.ints::<T>(), constant_int::<T>(lhs)) {
-        (Some(values), _) => {
-            let left = ListedNumbers { values };
-            numeric_beside::<T, O, ListedNumbers<T>>(&left, lhs, rhs, operator, ctx)
-        }
-        (None, Some(value)) => match constant_int::<T>(rhs) {
-            Some(right) => numeric_constants::<T, O>(value, right, lhs, rhs, operator, ctx),
-            None => {
-                let left = OneNumber { value };
-                numeric_beside::<T, O, OneNumber<T>>(&left, lhs, rhs, operator, ctx)
-            }
-        },
+        (Some(values), _) => numeric_listed::<T, O>(values, lhs, rhs, operator, ctx),
+        (None, Some(value)) => numeric_constant::<T, O>(value, lhs, rhs, operator, ctx),
         (None, None) => null_rows(lhs, ctx),
     }
 }
@@ -206,8 +234,9 @@ fn numeric_in<T: ArithmeticInteger>(
 ) -> VortexResult<Column>
     requires types { integer_of_both lhs.now.dtype rhs.now.dtype ≡ Some T.ptype }
     requires lengths { length lhs.now.rows ≡ length rhs.now.rows }
-    ensures { Answers result (AnswersNumeric operator lhs.now rhs.now)
+    ensures rows { Answers result (AnswersNumeric operator lhs.now rhs.now)
         (RefusesNumeric operator lhs.now rhs.now) }
+    ensures constant { IfOk result (KeepsTwoConstants lhs.now rhs.now) }
 {
     match operator {
         NumericOperator::Add => numeric_columns::<T, CheckedAdd>(lhs, rhs, operator, ctx),
@@ -239,8 +268,9 @@ pub fn execute_numeric(
     operator: NumericOperator,
     ctx: &mut ExecutionCtx,
 ) -> VortexResult<Column>
-    ensures { Answers result (AnswersNumeric operator lhs.now rhs.now)
+    ensures rows { Answers result (AnswersNumeric operator lhs.now rhs.now)
         (RefusesNumeric operator lhs.now rhs.now) }
+    ensures constant { IfOk result (KeepsTwoConstants lhs.now rhs.now) }
 {
     let Some(ptype) = integer_of_both(lhs.dtype(), rhs.dtype()) else {
         return Err(VortexError::TypeMismatch(MismatchPlace::Arithmetic));

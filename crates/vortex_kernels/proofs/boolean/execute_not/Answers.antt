@@ -12,8 +12,8 @@ use Rattle.vortex_kernels.proofs.Comparing.{constant_image}
 use Rattle.vortex_kernels.proofs.RowLemmas.{bool_answers, bool_dtype, not_row}
 use Rattle.vortex_kernels.proofs.boolean.execute_not.Goals as goal
 
-pub returns-in-Some-default : goal.returns-in-Some-default
-returns-in-Some-default c =
+pub returns-in-Some-default-clause-rows : goal.returns-in-Some-default-clause-rows
+returns-in-Some-default-clause-rows c =
     let input = c.args.input.now in
     let s = c.not_scalar.result in
     AnswersUnlessMemory-weaker c.constant.result
@@ -23,8 +23,8 @@ returns-in-Some-default c =
     c.not_scalar.ensures)
     (rw c.len.ensures at c.constant.ensures)
 
-pub returns-in_ok-validity-in-None-Some : goal.returns-in_ok-validity-in-None-Some
-returns-in_ok-validity-in-None-Some c =
+pub returns-in_ok-validity-in-None-Some-clause-rows : goal.returns-in_ok-validity-in-None-Some-clause-rows
+returns-in_ok-validity-in-None-Some-clause-rows c =
     let input = c.args.input.now in
     let xs = c.in-None-Some.bits.now in
     let are = c.in-None-Some.ensures'.1 in

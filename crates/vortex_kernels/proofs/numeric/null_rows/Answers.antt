@@ -9,8 +9,8 @@ use Rattle.vortex_kernels.specs.Numeric.{null_of}
 use Rattle.vortex_kernels.proofs.Comparing.{constant_has_rows}
 use Rattle.vortex_kernels.proofs.numeric.null_rows.Goals as goal
 
-pub returns : goal.returns
-returns c =
+pub returns-clause-rows : goal.returns-clause-rows
+returns-clause-rows c =
     let t = c.args.lhs.now.dtype in
     let n = length c.args.lhs.now.rows in
     let s = c.null-null.result in

@@ -33,4 +33,4 @@ returns g c =
     halved_answers cs input c.in_ok-two.two n one c.dtype-typed.ensures.typed count
     (rw (c.from.ensures, c.len.ensures, count) at c.in_ok-two.ensures)
     (λ k z h. c.loop-i.invariant k z (omega (arith, c.len-i-end.ensures, count)))
-    c.execute_numeric.result c.execute_numeric.ensures
+    c.execute_numeric.result c.execute_numeric.ensures.rows

@@ -14,4 +14,4 @@ returns g c =
     three_alike cs x lower upper c.requires.accepted here.input c.in_ok-lower.ensures.input
     c.in_ok-upper.ensures.input in
     between_call options cs x lower upper n three c.execute_between.result here.count
-    c.execute_between.ensures
+    c.execute_between.ensures.rows

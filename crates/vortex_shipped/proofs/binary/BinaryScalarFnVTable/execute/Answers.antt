@@ -34,7 +34,7 @@ returns-in-Some-to_numeric_operator g c =
     let right = c.in_ok-rhs.ensures in
     let two : TwoIntegers op o cs l r =
     two_integers op o cs l r is c.requires.accepted left.input right.input in
-    numeric_call op o cs l r n two answer left.count right.count c.execute_numeric.ensures
+    numeric_call op o cs l r n two answer left.count right.count c.execute_numeric.ensures.rows
 
 pub returns-in-None : goal.returns-in-None
 returns-in-None g c =

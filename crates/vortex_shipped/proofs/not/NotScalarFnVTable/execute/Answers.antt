@@ -14,4 +14,4 @@ returns g c =
     let input = c.in_ok-input.input.now in
     let here = c.in_ok-input.ensures in
     let one : OneBool cs input = one_bool cs input c.requires.accepted here.input in
-    not_call cs input n c.execute_not.result one here.count c.execute_not.ensures
+    not_call cs input n c.execute_not.result one here.count c.execute_not.ensures.rows
