@@ -1,5 +1,5 @@
 -- A tree weighs something, and no more than five for each of its nodes.
-use Rattle.std.proofs.Common.{ℕ, ◌*◌, ◌<◌, ◌≤◌, Bool, true, false, arith}
+use Rattle.std.proofs.Common.{◌≡◌, ℕ, ◌*◌, ◌<◌, ◌≤◌, Bool, true, false, arith}
 use Rattle.vortex_operators.specs.declared.operators.Operator.{Operator}
 use Rattle.vortex_operators.specs.declared.operators.Operator.TheVariants.{And, Or}
 use Rattle.vortex_meaning.specs.Meaning.{Meaning}
@@ -57,5 +57,6 @@ module _ {V O : Type 0} (m : Meaning V O) where
         let others = weights_bound ts in
         omega (arith, first, others)
 
-  pub told_bound : (t : Tree V O) → weight_told m t ≤ 5 * node_count t
-  told_bound t = let most = weight_bound t in omega (arith, most)
+  -- so it is with the weight as 64 bits tell it
+  pub told_bound : (t : Tree V O) (w : ℕ) → w ≡ weight_told m t → w ≤ 5 * node_count t
+  told_bound t w told = let most = weight_bound t in omega (arith, told, most)

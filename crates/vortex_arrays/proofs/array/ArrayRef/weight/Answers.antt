@@ -1,8 +1,29 @@
+use Rattle.std.proofs.Common.{subst, sym, ap, ◌∙◌}
+use Rattle.vortex_meaning.specs.Weights.{weight_told}
+use Rattle.vortex_meaning.proofs.Weighed.{told_bound}
+use Rattle.vortex_arrays.specs.Arrays.{tree_in}
+use Rattle.vortex_arrays.specs.Nodes.{IsNode}
 use Rattle.vortex_arrays.proofs.Children.{seen}
 use Rattle.vortex_arrays.proofs.Columns.{column_weighs}
 use Rattle.vortex_arrays.proofs.array.ArrayRef.weight.Goals as goal
 
-pub returns-in-Column : goal.returns-in-Column
-returns-in-Column g c =
+pub returns-in-Column-clause-told : goal.returns-in-Column-clause-told
+returns-in-Column-clause-told g c =
     column_weighs g.C.ScalarFnVTable.meaning c.args.self.now c.in-Column.field-0
     c.self.inside.len (seen c.args.self.now c.self.inside _ c.self.view_is c.in-Column.is)
+
+pub returns-in-Column-clause-bounded : goal.returns-in-Column-clause-bounded
+returns-in-Column-clause-bounded g c =
+    let m = g.C.ScalarFnVTable.meaning in
+    told_bound m (tree_in c.args.self.now) 1
+    (column_weighs m c.args.self.now c.in-Column.field-0 c.self.inside.len
+    (seen c.args.self.now c.self.inside _ c.self.view_is c.in-Column.is))
+
+pub returns-in-Call-clause-bounded : goal.returns-in-Call-clause-bounded
+returns-in-Call-clause-bounded g c =
+    let m = g.C.ScalarFnVTable.meaning in
+    let node = subst (IsNode m c.self.inside.len) c.in-Call.is c.self.invariant.0 in
+    told_bound m (tree_in c.args.self.now) c.in-Call.weight
+    (node.2
+    ∙ ap (λ a. weight_told m (tree_in a))
+    (sym (seen c.args.self.now c.self.inside _ c.self.view_is c.in-Call.is)))
