@@ -16,4 +16,6 @@ mod lines;
 #[cfg(test)]
 mod null_tests;
 #[cfg(test)]
+mod page;
+#[cfg(test)]
 mod trees;
