@@ -43,15 +43,16 @@ module _ {V O : Type 0} (m : Meaning V O) (lawful : Lawful m) (r : Rules V O)
       (result : Result (Cow ColumnView) VortexError) → tree_type m t ≡ Some k → IsBound t
       → Fits cs n t → All (λ c. AreTyped c.dtype c.rows) cs
       → RunsTo (expression_step m r) limit t u → AnswersExecution m cs n u result
-      → LendsLeaf cs u result → AnswersRun m r limit cs n t result
+      → (Fits cs n u → LendsLeaf cs u result) → AnswersRun m r limit cs n t result
   run_answers cs n t u k (Ok c) is bound fits typed run h lends =
       let after =
       executes_after m (expression_step m r) expressions_sound cs n limit t u k is run typed bound
       fits.0 fits.1 (cow_value c) h in
-      let rows = record { last = u; run = run; rows = h.rows; kept = after.rows.kept } in
+      let rows : HasRowsAfter m cs n (expression_step m r) limit t (cow_value c) =
+      record { last = u; run = run; rows = h.rows; kept = after.rows.kept } in
       record {
         executes = record { fit = fits.0; lengths = fits.1; rows = rows };
-        lent = lends;
+        lent = lends (h.fit, h.lengths);
       }
   run_answers cs n t u k (Err e) is bound fits typed run h lends =
       let rule = expression_step m r in
