@@ -1,0 +1,7 @@
+//! Tests of what trees answer over columns.
+#![tactic(auto)]
+
+#[cfg(test)]
+mod null_tests;
+#[cfg(test)]
+mod trees;
