@@ -2,6 +2,7 @@
 
 use fixtures::{are_rows, is_refused, names, nullable_bools, yes};
 use std::alloc::Global;
+use tree_fixtures::array_makers::*;
 use tree_fixtures::makers::*;
 use vortex_row_fn::*;
 
@@ -66,6 +67,89 @@ fn a_rule_applies_at_a_place(rt: HostRuntime) {
     assert!(rt; yes(stays(alloc, is_there::<NoCustom>(alloc), &[])));
     let nowhere = reduced_at(alloc, is_there::<NoCustom>(alloc), &[1]);
     assert!(rt; is_refused(nowhere, "NoSuchPlace"));
+}
+
+/// What Simplify makes of a tree at a place.
+fn simplified_at<C: ScalarFnRules>(
+    alloc: Global,
+    tree: Tree<C>,
+    path: &[usize],
+) -> VortexResult<Option<Box<BoundExpression<C>>>> {
+    match rewrite_at(alloc, &*tree?, path, Rule::Simplify)? {
+        Some(made) => Ok(Some(planted(alloc, Ok(made))?)),
+        None => Ok(None),
+    }
+}
+
+/// Whether Simplify at a place makes a tree of that text.
+fn simplifies_to<C: ScalarFnRules>(
+    alloc: Global,
+    tree: Tree<C>,
+    path: &[usize],
+    wanted: &str,
+) -> VortexResult<bool> {
+    match simplified_at(alloc, tree, path)? {
+        Some(made) => Ok(made.sql_text(alloc)?.as_str() == wanted),
+        None => Ok(false),
+    }
+}
+
+/// And of a literal and column `a`.
+fn beside_a<C: ScalarFnVTable>(alloc: Global, left: Scalar) -> Tree<C> {
+    let left = literal(alloc, Ok(left));
+    between(alloc, left, Operator::And, leaf(alloc, "a"))
+}
+
+/// Not of And of false and column `a`.
+fn not_of_false<C: ScalarFnVTable>(alloc: Global) -> Tree<C> {
+    not_of(alloc, beside_a(alloc, Scalar::from(false)))
+}
+
+#[test]
+fn simplify_applies_at_a_place(rt: HostRuntime) {
+    let alloc = rt.alloc();
+    let decided = beside_a::<NoCustom>(alloc, Scalar::from(false));
+    assert!(rt; yes(simplifies_to(alloc, decided, &[], "false")));
+    let below = not_of_false::<NoCustom>(alloc);
+    assert!(rt; yes(simplifies_to(alloc, below, &[0], "vortex.not(false)")));
+    let nowhere = simplified_at(alloc, not_of_false::<NoCustom>(alloc), &[1]);
+    assert!(rt; is_refused(nowhere, "NoSuchPlace"));
+}
+
+/// Whether neither rule applies to a tree at its root.
+fn neither_applies<C: ScalarFnRules>(alloc: Global, tree: Tree<C>) -> VortexResult<bool> {
+    let tree = tree?;
+    let reduced = rewrite_at(alloc, &*tree, &[], Rule::Reduce)?;
+    let simplified = rewrite_at(alloc, &*tree, &[], Rule::Simplify)?;
+    Ok(reduced.is_none() && simplified.is_none())
+}
+
+#[test]
+fn and_beside_null_stays(rt: HostRuntime) {
+    let alloc = rt.alloc();
+    let null = beside_a::<NoCustom>(alloc, Scalar::null(DType::Bool(YES)));
+    assert!(rt; yes(neither_applies(alloc, null)));
+}
+
+/// A null test of an operator between columns `a` of nullable Bool and `b` of Bool.
+fn split<C: ScalarFnVTable>(
+    alloc: Global,
+    function: ScalarFnRef<C>,
+    operator: Operator,
+) -> Tree<C> {
+    let types = (DType::Bool(YES), DType::Bool(NO));
+    let both = call_of_columns(alloc, Binary.bind(operator), types);
+    call_of(alloc, function, both)
+}
+
+#[test]
+fn null_tests_are_split_at_the_root(rt: HostRuntime) {
+    let alloc = rt.alloc();
+    let there = split::<NoCustom>(alloc, IsNotNull.bind(EmptyOptions), Operator::Or);
+    assert!(rt; yes(reduces_to(alloc, there, &[], "(is_not_null($.a) or $.b)")));
+    let missing = split::<NoCustom>(alloc, IsNull.bind(EmptyOptions), Operator::Or);
+    let text = "(vortex.is_null($.a) and vortex.not($.b))";
+    assert!(rt; yes(reduces_to(alloc, missing, &[], text)));
 }
 
 /// What a list of steps makes of a tree.
@@ -171,6 +255,103 @@ fn array_trees_are_rewritten(rt: HostRuntime) {
     assert!(rt; yes(column_stays(alloc, &rows)));
     let missing = [Some(false), Some(false), Some(true)];
     assert!(rt; yes(null_test_answers(alloc, &rows, &missing)));
+}
+
+/// Whether And of `x` and `y` is null, as an array tree.
+fn missing_both<C: ScalarFnVTable>(alloc: Global) -> Held<C> {
+    let both = Box::into_inner(over_columns(alloc, x(alloc), Operator::And, y(alloc))?);
+    made(alloc, IsNull::new(alloc, both))
+}
+
+/// What a rule makes of an array at a place.
+fn array_at<C: ScalarFnRules>(
+    alloc: Global,
+    array: Held<C>,
+    path: &[usize],
+    rule: Rule,
+) -> VortexResult<Option<Box<ArrayRef<C>>>> {
+    match rewrite_at(alloc, &*array?, path, rule)? {
+        Some(made) => Ok(Some(Box::new(alloc, made)?)),
+        None => Ok(None),
+    }
+}
+
+/// Whether a rule at a place of an array makes one of these rows.
+fn array_becomes<C: ScalarFnRules>(
+    alloc: Global,
+    array: Held<C>,
+    path: &[usize],
+    rule: Rule,
+    wanted: &[Option<bool>],
+) -> VortexResult<bool> {
+    match array_at(alloc, array, path, rule)? {
+        Some(made) => array_answers(alloc, Ok(made), wanted),
+        None => Ok(false),
+    }
+}
+
+/// Whether a rule does not apply at a place of an array.
+fn array_stays<C: ScalarFnRules>(
+    alloc: Global,
+    array: Held<C>,
+    path: &[usize],
+    rule: Rule,
+) -> VortexResult<bool> {
+    Ok(array_at(alloc, array, path, rule)?.is_none())
+}
+
+/// Where `x` is null.
+const MISSING: [Option<bool>; 3] = [Some(false), Some(false), Some(true)];
+
+#[test]
+fn a_rule_applies_at_a_place_of_an_array(rt: HostRuntime) {
+    let alloc = rt.alloc();
+    let missing = missing_both::<NoCustom>(alloc);
+    assert!(rt; yes(array_becomes(alloc, missing, &[], Rule::Reduce, &MISSING)));
+    let missing = missing_both::<NoCustom>(alloc);
+    assert!(rt; yes(array_stays(alloc, missing, &[0], Rule::Reduce)));
+    let missing = missing_both::<NoCustom>(alloc);
+    assert!(rt; yes(array_stays(alloc, missing, &[], Rule::Simplify)));
+    let nowhere = array_at(alloc, missing_both::<NoCustom>(alloc), &[1], Rule::Reduce);
+    assert!(rt; is_refused(nowhere, "NoSuchPlace"));
+}
+
+/// What a list of steps makes of an array.
+fn array_listed<C: ScalarFnRules>(
+    alloc: Global,
+    array: Held<C>,
+    steps: &[(&[usize], Rule)],
+) -> VortexResult<Box<Rewritten<ArrayRef<C>>>> {
+    Ok(Box::new(alloc, rewrite_list(alloc, &*array?, steps)?)?)
+}
+
+/// Whether a list of steps makes an array of these rows, so many of them applied.
+fn array_lists_to<C: ScalarFnRules>(
+    alloc: Global,
+    array: Held<C>,
+    steps: &[(&[usize], Rule)],
+    wanted: &[Option<bool>],
+    applied: usize,
+) -> VortexResult<bool> {
+    let made = array_listed(alloc, array, steps)?;
+    let mut ctx = ExecutionCtx::new(alloc);
+    let answer = Box::new(alloc, made.tree.execute(&mut ctx)?)?;
+    Ok(are_rows(alloc, &**answer, wanted)? && made.applied == applied)
+}
+
+#[test]
+fn rules_apply_to_an_array_one_after_another(rt: HostRuntime) {
+    let alloc = rt.alloc();
+    let steps: [(&[usize], Rule); 3] = [
+        (&[], Rule::Reduce),
+        (&[0], Rule::Reduce),
+        (&[0], Rule::Simplify),
+    ];
+    let missing = missing_both::<NoCustom>(alloc);
+    assert!(rt; yes(array_lists_to(alloc, missing, &steps, &MISSING, 2)));
+    let outside: [(&[usize], Rule); 2] = [(&[], Rule::Reduce), (&[0, 5], Rule::Reduce)];
+    let refused = array_listed(alloc, missing_both::<NoCustom>(alloc), &outside);
+    assert!(rt; is_refused(refused, "NoSuchPlace"));
 }
 
 /// Whether a tree weighs so much, and what Reduce makes of it at its root so much.

@@ -1,7 +1,8 @@
 //! Execution after a run of rules.
 
-use fixtures::{integer, is_refused, kept, nullable_bools, rows_of, yes};
+use fixtures::{are_rows, integer, is_refused, kept, nullable_bools, rows_of, yes};
 use std::alloc::Global;
+use std::borrow::Cow;
 use tree_fixtures::array_makers::*;
 use tree_fixtures::makers::*;
 use vortex_row_fn::*;
@@ -69,6 +70,51 @@ fn a_fault_goes_with_the_call_that_a_step_drops(rt: HostRuntime) {
     assert!(rt; yes(runs_to::<NoCustom>(alloc, unknown_sum(alloc), bytes(alloc), &wanted)));
     let unchanged = ran::<NoCustom>(alloc, unknown_sum(alloc), bytes(alloc), 2, 0);
     assert!(rt; is_refused(unchanged, "Arithmetic.Add"));
+}
+
+/// Whether an answer is a lent column of these rows.
+fn is_lent(
+    alloc: Global,
+    answer: VortexResult<Cow<'_, Column>>,
+    wanted: &[Option<bool>],
+) -> VortexResult<bool> {
+    let answer = Box::new(alloc, answer?)?;
+    Ok(matches!(&*answer, Cow::Borrowed(_)) && are_rows(alloc, &**answer, wanted)?)
+}
+
+/// Whether a tree answers a lent column of these rows after a run of at most ten steps.
+fn lends<C: ScalarFnRules>(
+    alloc: Global,
+    tree: Tree<C>,
+    columns: VortexResult<Vec<Column>>,
+    wanted: &[Option<bool>],
+) -> VortexResult<bool> {
+    let (tree, columns) = (tree?, columns?);
+    let mut ctx = ExecutionCtx::new(alloc);
+    let answer = run(&*tree, &columns, wanted.len(), 10, &mut ctx);
+    is_lent(alloc, answer, wanted)
+}
+
+/// True and column `a`.
+fn true_and_a<C: ScalarFnVTable>(alloc: Global) -> Tree<C> {
+    let truth = literal(alloc, Ok(Scalar::from(true)));
+    between(alloc, truth, Operator::And, leaf(alloc, "a"))
+}
+
+/// Column `a`: true, false, null.
+fn truths(alloc: Global) -> VortexResult<Vec<Column>> {
+    one(
+        alloc,
+        nullable_bools(alloc, &[Some(true), Some(false), None]),
+    )
+}
+
+#[test]
+fn a_run_that_leaves_a_column_lends_it(rt: HostRuntime) {
+    let alloc = rt.alloc();
+    let rows = [Some(true), Some(false), None];
+    assert!(rt; yes(lends::<NoCustom>(alloc, leaf(alloc, "a"), truths(alloc), &rows)));
+    assert!(rt; yes(lends::<NoCustom>(alloc, true_and_a(alloc), truths(alloc), &rows)));
 }
 
 /// False and whether 1 through 0 is 1.

@@ -1,6 +1,6 @@
 //! The null tests and Cast in trees.
 
-use fixtures::{bools, nullable_ints, yes};
+use fixtures::{bools, kept, nullable_ints, yes};
 use std::alloc::Global;
 use tree_fixtures::makers::*;
 use vortex_columns::*;
@@ -64,6 +64,28 @@ fn null_tests_answer(rt: HostRuntime) {
     let alloc = rt.alloc();
     assert!(rt; yes(tests::<NoCustom>(alloc, IsNull.bind(EmptyOptions), &NULLS)));
     assert!(rt; yes(tests::<NoCustom>(alloc, IsNotNull.bind(EmptyOptions), &VALUES)));
+}
+
+/// Whether a column of type Null is null.
+fn is_null_of_nulls<C: ScalarFnVTable>(alloc: Global) -> Tree<C> {
+    call_of(
+        alloc,
+        IsNull.bind(EmptyOptions),
+        leaf_of(alloc, DType::Null),
+    )
+}
+
+/// Column `a` of type Null, of two rows.
+fn two_nulls(alloc: Global) -> VortexResult<Vec<Column>> {
+    one(alloc, kept(alloc, Ok(Column::null(2))))
+}
+
+#[test]
+fn each_row_of_type_null_is_null(rt: HostRuntime) {
+    let alloc = rt.alloc();
+    let wanted = [Some(true), Some(true)];
+    let tree = is_null_of_nulls::<NoCustom>(alloc);
+    assert!(rt; yes(answers(alloc, tree, two_nulls(alloc), &wanted)));
 }
 
 #[test]
