@@ -3,9 +3,9 @@
 use crate::first::First;
 use crate::levelled::{Level, Levelled};
 use fixtures::yes;
+use rule_fixtures::rewritten::*;
 use std::alloc::Global;
 use tree_fixtures::makers::*;
-use tree_fixtures::rewritten::*;
 use vortex_row_fn::*;
 
 /// The function that answers its first argument, over five columns.

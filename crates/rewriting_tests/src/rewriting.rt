@@ -1,8 +1,8 @@
 //! Rules at places of a tree, and the driver.
 
 use fixtures::{are_rows, is_refused, names, nullable_bools, yes};
+use rule_fixtures::array_makers::*;
 use std::alloc::Global;
-use tree_fixtures::array_makers::*;
 use tree_fixtures::makers::*;
 use vortex_row_fn::*;
 

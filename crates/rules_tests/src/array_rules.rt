@@ -1,9 +1,9 @@
 //! The rules of rewriting at the root of array trees.
 
 use fixtures::{Made, are_rows, bools, kept, yes};
+use rule_fixtures::array_makers::*;
 use std::alloc::Global;
 use std::borrow::Cow;
-use tree_fixtures::array_makers::*;
 use tree_fixtures::makers::*;
 use vortex_array_rules::*;
 use vortex_arrays::*;

@@ -1,9 +1,9 @@
 //! Array trees: how they are made, and what they answer.
 
 use fixtures::{is_refused, is_uneven, nullable_bools, numbers, yes};
+use rule_fixtures::array_makers::*;
 use std::alloc::Global;
 use std::borrow::Cow;
-use tree_fixtures::array_makers::*;
 use tree_fixtures::makers::*;
 use vortex_array_rules::*;
 use vortex_arrays::*;

@@ -1,9 +1,9 @@
 //! Rules of rewriting at the root of an expression.
 
 use fixtures::yes;
+use rule_fixtures::rewritten::*;
 use std::alloc::Global;
 use tree_fixtures::makers::*;
-use tree_fixtures::rewritten::*;
 use vortex_columns::*;
 use vortex_functions::*;
 use vortex_operators::*;

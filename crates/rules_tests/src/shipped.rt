@@ -3,10 +3,10 @@ ghost use Rattle.std.specs.Prelude.{◌≡◌, Some};
 ghost use Rattle.vortex_functions.specs.Words.{called, function_of};
 
 use fixtures::yes;
+use rule_fixtures::rewritten::{Rewritten, becomes, is_not_null, is_null, mixed, stays};
 use std::alloc::Global;
 use std::borrow::Cow;
 use tree_fixtures::makers::*;
-use tree_fixtures::rewritten::{Rewritten, becomes, is_not_null, is_null, mixed, stays};
 use vortex_columns::*;
 use vortex_functions::*;
 use vortex_operators::*;

@@ -1,9 +1,9 @@
 //! What rules make of expressions at their root, and trees that they are asked of.
 
-use crate::makers::*;
 use fixtures::{fields, names};
 use std::alloc::Global;
 use std::borrow::Cow;
+use tree_fixtures::makers::*;
 use vortex_columns::*;
 use vortex_functions::*;
 use vortex_rules::*;
