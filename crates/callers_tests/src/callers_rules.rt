@@ -6,7 +6,7 @@ use fixtures::yes;
 use rule_fixtures::rewritten::*;
 use std::alloc::Global;
 use tree_fixtures::makers::*;
-use vortex_row_fn::*;
+use vortex_functions::*;
 
 /// The function that answers its first argument, over five columns.
 fn first_of_five(alloc: Global) -> Tree<First> {

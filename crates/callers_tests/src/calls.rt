@@ -5,7 +5,7 @@ use crate::must_be_true::MustBeTrue;
 use fixtures::yes;
 use std::alloc::Global;
 use tree_fixtures::makers::*;
-use vortex_row_fn::*;
+use vortex_functions::*;
 
 /// The caller's function that faults at false, over column `a`.
 fn must_be_true(alloc: Global) -> Tree<MustBeTrue> {

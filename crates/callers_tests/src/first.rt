@@ -3,11 +3,13 @@ ghost use Rattle.callers_tests.specs.First.{first_meaning, first_lawful, first_r
 ghost use Rattle.callers_tests.specs.FirstRules.{first_rules_lawful, first_identity};
 
 use std::alloc::Global;
-use vortex_row_fn::{
-    Arity, BoundExpression, ChildName, Column, DType, EmptyOptions, ExecutionArgs, ExecutionCtx,
-    MismatchPlace, ReduceNodeValidity, ReduceTree, ScalarFnId, ScalarFnRules, ScalarFnVTable,
-    VortexError, VortexResult,
+use vortex_columns::{
+    Arity, Column, DType, ExecutionCtx, MismatchPlace, VortexError, VortexResult,
 };
+use vortex_functions::{
+    BoundExpression, ChildName, EmptyOptions, ExecutionArgs, ScalarFnId, ScalarFnVTable,
+};
+use vortex_rules::{ReduceNodeValidity, ReduceTree, ScalarFnRules};
 
 /// The first of one argument or more, of any types. Both rules put the first argument in the place
 /// of the call.

@@ -2,11 +2,12 @@
 ghost use Rattle.callers_tests.specs.Half.{half_meaning, half_lawful};
 
 use std::alloc::Global;
-use vortex_row_fn::{
-    Arity, Cell, ChildName, Column, DType, EmptyOptions, ExecutionArgs, ExecutionCtx,
-    MismatchPlace, NumericOperator, PType, Scalar, ScalarFnId, ScalarFnVTable, VortexError,
-    VortexResult, execute_numeric,
+use vortex_columns::{
+    Arity, Cell, Column, DType, ExecutionCtx, MismatchPlace, NumericOperator, PType, Scalar,
+    VortexError, VortexResult,
 };
+use vortex_functions::{ChildName, EmptyOptions, ExecutionArgs, ScalarFnId, ScalarFnVTable};
+use vortex_kernels::execute_numeric;
 
 /// Over I32: half of an even number; E10 with the number 1 where its argument is odd. A null stays null.
 #[derive(Clone, Drop)]

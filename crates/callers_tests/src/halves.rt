@@ -4,7 +4,8 @@ use crate::half::Half;
 use fixtures::{Made, kept, nullable_ints, yes};
 use std::alloc::Global;
 use tree_fixtures::makers::{Tree, YES, call_of, is_fault, leaf_of, numbers_by, one};
-use vortex_row_fn::*;
+use vortex_columns::*;
+use vortex_functions::*;
 
 /// Half of a column `a` of nullable i32.
 fn half(alloc: Global) -> Tree<Half> {

@@ -7,11 +7,12 @@ ghost use Rattle.callers_tests.specs.LevelledRules.{levelled_meaning, levelled_r
 
 use std::alloc::Global;
 use std::fmt;
-use vortex_row_fn::{
-    Arity, BoundExpression, ChildName, Column, DType, EmptyOptions, ExecutionArgs, ExecutionCtx,
-    Not, ReduceNodeValidity, ReduceTree, ScalarFnId, ScalarFnRef, ScalarFnRules, ScalarFnVTable,
-    VortexResult, default_validity,
+use vortex_columns::{Arity, Column, DType, ExecutionCtx, VortexResult};
+use vortex_functions::{
+    BoundExpression, ChildName, EmptyOptions, ExecutionArgs, Not, ScalarFnId, ScalarFnRef,
+    ScalarFnVTable,
 };
+use vortex_rules::{ReduceNodeValidity, ReduceTree, ScalarFnRules, default_validity};
 
 /// Options that have a text.
 #[derive(Clone, Debug, PartialEq, Eq, Hash, Drop)]

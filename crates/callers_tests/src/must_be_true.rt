@@ -6,10 +6,10 @@ ghost use Rattle.vortex_columns.specs.ColumnView.{row};
 ghost use Rattle.callers_tests.specs.MustBeTrue.{must_be_true_meaning, must_be_true_lawful};
 
 use std::alloc::Global;
-use vortex_row_fn::{
-    Arity, ChildName, Column, DType, EmptyOptions, ExecutionArgs, ExecutionCtx, MismatchPlace,
-    ScalarFnId, ScalarFnVTable, VortexError, VortexResult,
+use vortex_columns::{
+    Arity, Column, DType, ExecutionCtx, MismatchPlace, VortexError, VortexResult,
 };
+use vortex_functions::{ChildName, EmptyOptions, ExecutionArgs, ScalarFnId, ScalarFnVTable};
 
 /// Over Bool: E10 with the number 1 where its argument is false; true stays true, and a null stays null.
 #[derive(Clone, Drop)]
