@@ -131,6 +131,13 @@ fn like_is_turned_over_and_folds_case(rt: HostRuntime) {
     assert!(rt; yes(says(alloc, ILIKE, "%WORLD", &words, &[true, false])));
 }
 
+#[test]
+fn characters_fold_one_by_one(rt: HostRuntime) {
+    let alloc = rt.alloc();
+    assert!(rt; yes(says(alloc, ILIKE, "ss", &["\u{df}"], &[false])));
+    assert!(rt; yes(says(alloc, ILIKE, "k", &["K"], &[true])));
+}
+
 /// Column `a`: the same text three times, and `b`: a pattern for each.
 fn three_patterns(alloc: Global) -> VortexResult<Vec<Column>> {
     two(
@@ -147,4 +154,27 @@ fn each_row_has_its_pattern(rt: HostRuntime) {
     let tree = call_of_columns::<NoCustom>(alloc, Like.bind(LIKE), types);
     let wanted = [Some(true), Some(false), Some(true)];
     assert!(rt; yes(answers(alloc, tree, three_patterns(alloc), &wanted)));
+}
+
+/// Column `a`: the same text four times, and `b`: patterns of which one is null.
+fn a_null_pattern(alloc: Global) -> VortexResult<Vec<Column>> {
+    let valid = BitBuffer::from_bools(alloc, &[true, true, false, true])?;
+    two(
+        alloc,
+        texts(
+            alloc,
+            &["hello", "hello", "hello", "hello"],
+            Validity::NonNullable,
+        ),
+        texts(alloc, &["he%", "he%", "he%", "he%"], Validity::Array(valid)),
+    )
+}
+
+#[test]
+fn a_null_pattern_gives_null(rt: HostRuntime) {
+    let alloc = rt.alloc();
+    let types = (DType::Utf8(NO), DType::Utf8(YES));
+    let tree = call_of_columns::<NoCustom>(alloc, Like.bind(LIKE), types);
+    let wanted = [Some(true), Some(true), None, Some(true)];
+    assert!(rt; yes(answers(alloc, tree, a_null_pattern(alloc), &wanted)));
 }

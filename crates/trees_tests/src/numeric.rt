@@ -21,6 +21,8 @@ fn quotients_go_toward_zero(rt: HostRuntime) {
     let alloc = rt.alloc();
     let (left, right) = (numbers(alloc, &[-7i8]), numbers(alloc, &[2i8]));
     assert!(rt; yes(computes(alloc, left, Operator::Div, right, &[Some(-3)])));
+    let (left, right) = (numbers(alloc, &[-7i16]), numbers(alloc, &[2i16]));
+    assert!(rt; yes(computes(alloc, left, Operator::Div, right, &[Some(-3)])));
     let (left, right) = (numbers(alloc, &[-7i32]), numbers(alloc, &[2i32]));
     assert!(rt; yes(computes(alloc, left, Operator::Div, right, &[Some(-3)])));
     let (left, right) = (numbers(alloc, &[-7i64]), numbers(alloc, &[2i64]));
