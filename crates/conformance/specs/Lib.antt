@@ -1,4 +1,0 @@
-pub mod First
-pub mod FirstRules
-pub mod Half
-pub mod MustBeTrue

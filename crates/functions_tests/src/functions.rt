@@ -1,0 +1,197 @@
+//! The names, the marks and the parts of functions, and the inputs of calls.
+
+ghost use Rattle.std.specs.Prelude.{◌≡◌, length};
+
+use fixtures::{Made, nullable_bools, yes};
+use std::alloc::Global;
+use std::borrow::Cow;
+use tree_fixtures::makers::{Tree, call_of_leaves};
+use vortex_columns::*;
+use vortex_functions::*;
+use vortex_operators::*;
+
+/// And, by its function and its operator.
+fn and<C: ScalarFnVTable>() -> ScalarFnRef<C> {
+    TypedScalarFnInstance::new(Binary, Operator::And).erased()
+}
+
+/// Whether And has that name, and its second argument that one.
+fn and_is_named<C: ScalarFnVTable>(name: &str, second: &str) -> bool {
+    let and = TypedScalarFnInstance::new(Binary, Operator::And).erased::<C>();
+    and.id() == name && and.child_name(1) == second
+}
+
+/// Whether a function has that name, and its argument that one.
+fn is_named<C: ScalarFnVTable>(function: ScalarFnRef<C>, name: &str, only: &str) -> bool {
+    function.id() == name && function.child_name(0) == only
+}
+
+/// Whether a function is marked strict.
+fn is_strict<C: ScalarFnVTable>(function: ScalarFnRef<C>) -> bool {
+    function.signature().is_strict
+}
+
+/// Whether a function is marked infallible.
+fn is_infallible<C: ScalarFnVTable>(function: ScalarFnRef<C>) -> bool {
+    function.signature().is_infallible
+}
+
+/// Whether a function is Not.
+fn is_not<C: ScalarFnVTable>(function: ScalarFnRef<C>) -> bool {
+    function.is_not()
+}
+
+/// Whether a function is IsNull, and not its opposite.
+fn is_null_test<C: ScalarFnVTable>(function: ScalarFnRef<C>) -> bool {
+    function.is_is_null() && !function.is_is_not_null()
+}
+
+/// Whether a function is IsNotNull, and not its opposite.
+fn is_not_null_test<C: ScalarFnVTable>(function: ScalarFnRef<C>) -> bool {
+    function.is_is_not_null() && !function.is_is_null()
+}
+
+/// Whether a copy of a function is Cast.
+fn is_copied_cast<C: ScalarFnVTable>(
+    alloc: Global,
+    function: ScalarFnRef<C>,
+) -> VortexResult<bool> {
+    Ok(function.try_clone(alloc)?.is_cast())
+}
+
+/// Whether a copy of a function is that operator, and neither Not nor a caller's.
+fn is_copied<C: ScalarFnVTable>(
+    alloc: Global,
+    function: ScalarFnRef<C>,
+    operator: Operator,
+) -> VortexResult<bool> {
+    let copy = function.try_clone(alloc)?;
+    Ok(copy.as_binary() == Some(operator) && !copy.is_not() && copy.as_custom().is_none())
+}
+
+/// Whether a tree is a call of an operator with so many children.
+fn calls_operator<C: ScalarFnVTable>(tree: &BoundExpression<C>, count: usize) -> bool {
+    match tree.as_scalar() {
+        Some(function) => function.as_binary().is_some() && tree.children().len() == count,
+        None => false,
+    }
+}
+
+/// Whether a tree that was made is a call of an operator with so many children.
+fn is_operator_over<C: ScalarFnVTable>(tree: Tree<C>, count: usize) -> VortexResult<bool> {
+    Ok(calls_operator(&*tree?, count))
+}
+
+/// Whether a function has that name, and is a caller's of that name.
+fn is_custom<C: ScalarFnVTable>(function: ScalarFnRef<C>, name: &str) -> bool {
+    function.id() == name
+        && match function.into_custom() {
+            Ok(instance) => instance.vtable().id() == name,
+            Err(_) => false,
+        }
+}
+
+/// One lent and one owned input.
+fn two_inputs<'a>(
+    alloc: Global,
+    first: &'a Column,
+    second: Column,
+) -> VortexResult<VecExecutionArgs<'a>>
+    requires first { length first.now.rows ≡ 1 }
+    requires second { length second.rows ≡ 1 }
+{
+    let mut inputs = Vec::new(alloc);
+    inputs.push(Cow::Borrowed(first))?;
+    inputs.push(Cow::Owned(second))?;
+    Ok(VecExecutionArgs::new(inputs, 1))
+}
+
+/// Whether there are so many inputs of so many rows.
+fn has_counts<A: ExecutionArgs>(args: &A, num_inputs: usize, row_count: usize) -> bool {
+    args.num_inputs() == num_inputs && args.row_count() == row_count
+}
+
+/// Whether the input of an index has so many rows.
+fn has_rows<A: ExecutionArgs>(args: &A, index: usize, row_count: usize) -> bool {
+    match args.get(index) {
+        Ok(column) => column.len() == row_count,
+        Err(_) => false,
+    }
+}
+
+/// Whether an input past the end is refused, by its index and the count of inputs.
+fn is_past<A: ExecutionArgs>(args: &A, wanted: usize, count: usize) -> bool {
+    match args.get(wanted) {
+        Err(VortexError::IndexOutOfBounds { index, num_inputs }) => {
+            index == wanted && num_inputs == count
+        }
+        _ => false,
+    }
+}
+
+/// Whether there are two inputs of one row, the second has one row, and there is no third.
+fn are_two<A: ExecutionArgs>(args: &A) -> bool {
+    has_counts(args, 2, 1) && has_rows(args, 1, 1) && is_past(args, 2, 2)
+}
+
+/// Whether two columns of one row are two inputs.
+fn are_inputs(alloc: Global, first: &Column, second: Column) -> VortexResult<bool> {
+    if first.len() != 1 || second.len() != 1 {
+        return Ok(false);
+    }
+    Ok(are_two(&two_inputs(alloc, first, second)?))
+}
+
+/// Whether two columns that were made are two inputs.
+fn are_two_inputs(alloc: Global, first: Made, second: Made) -> VortexResult<bool> {
+    let (first, second) = (first?, second?);
+    are_inputs(alloc, &*first, Box::into_inner(second))
+}
+
+#[test]
+fn shipped_functions_have_names(rt: HostRuntime) {
+    assert!(rt; and_is_named::<NoCustom>("vortex.binary", "rhs"));
+    assert!(rt; is_named::<NoCustom>(ScalarFnRef::Not, "vortex.not", "input"));
+    assert!(rt; is_named::<NoCustom>(ScalarFnRef::IsNull, "vortex.is_null", "input"));
+    assert!(rt; is_named::<NoCustom>(ScalarFnRef::IsNotNull, "vortex.is_not_null", "input"));
+    assert!(rt; is_named::<NoCustom>(ScalarFnRef::Cast, "vortex.cast", "input"));
+}
+
+#[test]
+fn shipped_functions_have_marks(rt: HostRuntime) {
+    assert!(rt; !is_strict::<NoCustom>(and()));
+    assert!(rt; is_infallible::<NoCustom>(and()));
+    assert!(rt; is_strict::<NoCustom>(ScalarFnRef::Not));
+    assert!(rt; !is_strict::<NoCustom>(ScalarFnRef::IsNull));
+    assert!(rt; !is_strict::<NoCustom>(ScalarFnRef::IsNotNull));
+    assert!(rt; is_strict::<NoCustom>(ScalarFnRef::Cast));
+    assert!(rt; is_infallible::<NoCustom>(ScalarFnRef::IsNull));
+    assert!(rt; is_infallible::<NoCustom>(ScalarFnRef::Cast));
+}
+
+#[test]
+fn a_function_tells_what_it_is(rt: HostRuntime) {
+    assert!(rt; yes(is_copied::<NoCustom>(rt.alloc(), and(), Operator::And)));
+    assert!(rt; is_not::<NoCustom>(ScalarFnRef::Not));
+    assert!(rt; is_null_test::<NoCustom>(ScalarFnRef::IsNull));
+    assert!(rt; is_not_null_test::<NoCustom>(ScalarFnRef::IsNotNull));
+    assert!(rt; yes(is_copied_cast::<NoCustom>(rt.alloc(), ScalarFnRef::Cast)));
+    assert!(rt; is_custom(ScalarFnRef::custom(NoCustom, EmptyOptions), "rowfn.none"));
+}
+
+#[test]
+fn a_call_tells_its_function_and_children(rt: HostRuntime) {
+    assert!(rt; yes(is_operator_over::<NoCustom>(call_of_leaves(rt.alloc(), and(), 2), 2)));
+}
+
+#[test]
+fn inputs_end(rt: HostRuntime) {
+    let alloc = rt.alloc();
+    assert!(rt;
+        yes(are_two_inputs(
+            alloc,
+            nullable_bools(alloc, &[Some(true)]),
+            nullable_bools(alloc, &[None]),
+        ))
+    );
+}

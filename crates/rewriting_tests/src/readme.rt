@@ -1,0 +1,49 @@
+//! The caller that the README shows.
+
+use fixtures::{are_rows, fields, numbers, yes};
+use std::alloc::Global;
+use tree_fixtures::makers::one;
+use vortex_row_fn::*;
+
+/// `price < 10`, over columns of these fields.
+fn below_ten<C: ScalarFnVTable>(
+    alloc: Global,
+    scope: &StructFields,
+) -> VortexResult<BoundExpression<C>> {
+    let mut operands = Vec::new(alloc);
+    operands.push(BoundExpression::column(alloc, scope, "price")?)?;
+    operands.push(BoundExpression::lit(alloc, Scalar::from(10i32)))?;
+    Binary.try_new_bound_expr(alloc, Operator::Lt, operands)
+}
+
+/// Whether `price < 10` answers these rows over those columns.
+fn answers_below_ten<C: ScalarFnVTable>(
+    alloc: Global,
+    scope: &StructFields,
+    columns: &[Column],
+    wanted: &[Option<bool>],
+) -> VortexResult<bool> {
+    let tree = Box::new(alloc, below_ten::<C>(alloc, scope)?)?;
+    let mut ctx = ExecutionCtx::new(alloc);
+    let answer = Box::new(alloc, tree.execute(columns, wanted.len(), &mut ctx)?)?;
+    are_rows(alloc, &**answer, wanted)
+}
+
+/// Fields `price` of i32, and `name` of texts.
+fn goods(alloc: Global) -> VortexResult<StructFields> {
+    let price = DType::Primitive(PType::I32, Nullability::NonNullable);
+    let name = DType::Utf8(Nullability::NonNullable);
+    fields(alloc, ("price", "name"), (price, name))
+}
+
+/// Whether of 7 and 12 the first alone is below 10.
+fn first_is_below_ten<C: ScalarFnVTable>(alloc: Global) -> VortexResult<bool> {
+    let scope = goods(alloc)?;
+    let prices = one(alloc, numbers(alloc, &[7i32, 12]))?;
+    answers_below_ten::<C>(alloc, &scope, &prices, &[Some(true), Some(false)])
+}
+
+#[test]
+fn the_readme_says_what_happens(rt: HostRuntime) {
+    assert!(rt; yes(first_is_below_ten::<NoCustom>(rt.alloc())));
+}

@@ -1,0 +1,382 @@
+//! Rules at places of a tree, and the driver.
+
+use fixtures::{are_rows, is_refused, names, nullable_bools, yes};
+use rule_fixtures::array_makers::*;
+use std::alloc::Global;
+use tree_fixtures::makers::*;
+use vortex_row_fn::*;
+
+/// A column of nullable i32, among `a`, `b` and `c`.
+fn number<C: ScalarFnVTable>(alloc: Global, name: &str) -> Tree<C> {
+    let mut dtypes = Vec::new(alloc);
+    for _ in 0..3 {
+        dtypes.push(DType::Primitive(PType::I32, YES))?;
+    }
+    let scope = StructFields::try_new(alloc, names(alloc, &["a", "b", "c"])?, dtypes)?;
+    planted(alloc, BoundExpression::column(alloc, &scope, name))
+}
+
+/// Whether `a + b = c` is null.
+fn unknown_sum<C: ScalarFnVTable>(alloc: Global) -> Tree<C> {
+    let sum = between(alloc, number(alloc, "a"), Operator::Add, number(alloc, "b"));
+    let equal = between(alloc, sum, Operator::Eq, number(alloc, "c"));
+    call_of(alloc, IsNull.bind(EmptyOptions), equal)
+}
+
+/// Not of whether true is null.
+fn is_there<C: ScalarFnVTable>(alloc: Global) -> Tree<C> {
+    let truth = literal(alloc, Ok(Scalar::from(true)));
+    not_of(alloc, call_of(alloc, IsNull.bind(EmptyOptions), truth))
+}
+
+/// What Reduce makes of a tree at a place.
+fn reduced_at<C: ScalarFnRules>(
+    alloc: Global,
+    tree: Tree<C>,
+    path: &[usize],
+) -> VortexResult<Option<Box<BoundExpression<C>>>> {
+    match rewrite_at(alloc, &*tree?, path, Rule::Reduce)? {
+        Some(made) => Ok(Some(planted(alloc, Ok(made))?)),
+        None => Ok(None),
+    }
+}
+
+/// Whether Reduce at a place makes a tree of that text.
+fn reduces_to<C: ScalarFnRules>(
+    alloc: Global,
+    tree: Tree<C>,
+    path: &[usize],
+    wanted: &str,
+) -> VortexResult<bool> {
+    match reduced_at(alloc, tree, path)? {
+        Some(made) => Ok(made.sql_text(alloc)?.as_str() == wanted),
+        None => Ok(false),
+    }
+}
+
+/// Whether Reduce does not apply at a place.
+fn stays<C: ScalarFnRules>(alloc: Global, tree: Tree<C>, path: &[usize]) -> VortexResult<bool> {
+    Ok(reduced_at(alloc, tree, path)?.is_none())
+}
+
+#[test]
+fn a_rule_applies_at_a_place(rt: HostRuntime) {
+    let alloc = rt.alloc();
+    let there = is_there::<NoCustom>(alloc);
+    assert!(rt; yes(reduces_to(alloc, there, &[0], "vortex.not(false)")));
+    assert!(rt; yes(stays(alloc, is_there::<NoCustom>(alloc), &[])));
+    let nowhere = reduced_at(alloc, is_there::<NoCustom>(alloc), &[1]);
+    assert!(rt; is_refused(nowhere, "NoSuchPlace"));
+}
+
+/// What Simplify makes of a tree at a place.
+fn simplified_at<C: ScalarFnRules>(
+    alloc: Global,
+    tree: Tree<C>,
+    path: &[usize],
+) -> VortexResult<Option<Box<BoundExpression<C>>>> {
+    match rewrite_at(alloc, &*tree?, path, Rule::Simplify)? {
+        Some(made) => Ok(Some(planted(alloc, Ok(made))?)),
+        None => Ok(None),
+    }
+}
+
+/// Whether Simplify at a place makes a tree of that text.
+fn simplifies_to<C: ScalarFnRules>(
+    alloc: Global,
+    tree: Tree<C>,
+    path: &[usize],
+    wanted: &str,
+) -> VortexResult<bool> {
+    match simplified_at(alloc, tree, path)? {
+        Some(made) => Ok(made.sql_text(alloc)?.as_str() == wanted),
+        None => Ok(false),
+    }
+}
+
+/// And of a literal and column `a`.
+fn beside_a<C: ScalarFnVTable>(alloc: Global, left: Scalar) -> Tree<C> {
+    let left = literal(alloc, Ok(left));
+    between(alloc, left, Operator::And, leaf(alloc, "a"))
+}
+
+/// Not of And of false and column `a`.
+fn not_of_false<C: ScalarFnVTable>(alloc: Global) -> Tree<C> {
+    not_of(alloc, beside_a(alloc, Scalar::from(false)))
+}
+
+#[test]
+fn simplify_applies_at_a_place(rt: HostRuntime) {
+    let alloc = rt.alloc();
+    let decided = beside_a::<NoCustom>(alloc, Scalar::from(false));
+    assert!(rt; yes(simplifies_to(alloc, decided, &[], "false")));
+    let below = not_of_false::<NoCustom>(alloc);
+    assert!(rt; yes(simplifies_to(alloc, below, &[0], "vortex.not(false)")));
+    let nowhere = simplified_at(alloc, not_of_false::<NoCustom>(alloc), &[1]);
+    assert!(rt; is_refused(nowhere, "NoSuchPlace"));
+}
+
+/// Whether neither rule applies to a tree at its root.
+fn neither_applies<C: ScalarFnRules>(alloc: Global, tree: Tree<C>) -> VortexResult<bool> {
+    let tree = tree?;
+    let reduced = rewrite_at(alloc, &*tree, &[], Rule::Reduce)?;
+    let simplified = rewrite_at(alloc, &*tree, &[], Rule::Simplify)?;
+    Ok(reduced.is_none() && simplified.is_none())
+}
+
+#[test]
+fn and_beside_null_stays(rt: HostRuntime) {
+    let alloc = rt.alloc();
+    let null = beside_a::<NoCustom>(alloc, Scalar::null(DType::Bool(YES)));
+    assert!(rt; yes(neither_applies(alloc, null)));
+}
+
+/// A null test of an operator between columns `a` of nullable Bool and `b` of Bool.
+fn split<C: ScalarFnVTable>(
+    alloc: Global,
+    function: ScalarFnRef<C>,
+    operator: Operator,
+) -> Tree<C> {
+    let types = (DType::Bool(YES), DType::Bool(NO));
+    let both = call_of_columns(alloc, Binary.bind(operator), types);
+    call_of(alloc, function, both)
+}
+
+#[test]
+fn null_tests_are_split_at_the_root(rt: HostRuntime) {
+    let alloc = rt.alloc();
+    let there = split::<NoCustom>(alloc, IsNotNull.bind(EmptyOptions), Operator::Or);
+    assert!(rt; yes(reduces_to(alloc, there, &[], "(is_not_null($.a) or $.b)")));
+    let missing = split::<NoCustom>(alloc, IsNull.bind(EmptyOptions), Operator::Or);
+    let text = "(vortex.is_null($.a) and vortex.not($.b))";
+    assert!(rt; yes(reduces_to(alloc, missing, &[], text)));
+}
+
+/// What a list of steps makes of a tree.
+fn listed<C: ScalarFnRules>(
+    alloc: Global,
+    tree: Tree<C>,
+    steps: &[(&[usize], Rule)],
+) -> VortexResult<Box<Rewritten<BoundExpression<C>>>> {
+    Ok(Box::new(alloc, rewrite_list(alloc, &*tree?, steps)?)?)
+}
+
+/// Whether a list of steps makes a tree of that text, so many of them applied.
+fn lists_to<C: ScalarFnRules>(
+    alloc: Global,
+    tree: Tree<C>,
+    steps: &[(&[usize], Rule)],
+    wanted: (&str, usize),
+) -> VortexResult<bool> {
+    let made = listed(alloc, tree, steps)?;
+    let text = made.tree.sql_text(alloc)?;
+    Ok(text.as_str() == wanted.0 && made.applied == wanted.1)
+}
+
+/// The tree that no rule applies to any more.
+const SPLIT: &str = "vortex.not(((is_not_null($.a) and is_not_null($.b)) and is_not_null($.c)))";
+
+#[test]
+fn rules_apply_one_after_another(rt: HostRuntime) {
+    let alloc = rt.alloc();
+    let sum = unknown_sum::<NoCustom>(alloc);
+    let steps: [(&[usize], Rule); 3] = [
+        (&[], Rule::Reduce),
+        (&[0], Rule::Reduce),
+        (&[0, 0], Rule::Reduce),
+    ];
+    assert!(rt; yes(lists_to(alloc, sum, &steps, (SPLIT, 2))));
+    let outside: [(&[usize], Rule); 2] = [(&[], Rule::Reduce), (&[0, 5], Rule::Reduce)];
+    let refused = listed(alloc, unknown_sum::<NoCustom>(alloc), &outside);
+    assert!(rt; is_refused(refused, "NoSuchPlace"));
+}
+
+/// Whether a run of at most so many steps makes a tree of that text, in so many steps, and is done.
+fn optimizes_to<C: ScalarFnRules>(
+    alloc: Global,
+    tree: Tree<C>,
+    limit: u64,
+    wanted: (&str, u64, bool),
+) -> VortexResult<bool> {
+    let made = Box::new(alloc, optimize_recursive(alloc, &*tree?, limit)?)?;
+    let (text, steps, done) = wanted;
+    Ok(made.tree.sql_text(alloc)?.as_str() == text && made.steps == steps && made.done == done)
+}
+
+#[test]
+fn a_run_goes_up_to_its_limit(rt: HostRuntime) {
+    let alloc = rt.alloc();
+    let sum = unknown_sum::<NoCustom>(alloc);
+    let unchanged = ("vortex.is_null((($.a + $.b) = $.c))", 0, false);
+    assert!(rt; yes(optimizes_to(alloc, sum, 0, unchanged)));
+    let sum = unknown_sum::<NoCustom>(alloc);
+    let text = "vortex.not((is_not_null(($.a + $.b)) and is_not_null($.c)))";
+    assert!(rt; yes(optimizes_to(alloc, sum, 1, (text, 1, false))));
+}
+
+#[test]
+fn a_run_is_done_where_no_rule_applies(rt: HostRuntime) {
+    let alloc = rt.alloc();
+    let sum = unknown_sum::<NoCustom>(alloc);
+    assert!(rt; yes(optimizes_to(alloc, sum, 2, (SPLIT, 2, true))));
+    let null = literal(alloc, Ok(Scalar::null(DType::Bool(YES))));
+    let test = call_of::<NoCustom>(alloc, IsNull.bind(EmptyOptions), null);
+    assert!(rt; yes(optimizes_to(alloc, test, 5, ("vortex.not(false)", 1, true))));
+}
+
+/// Whether the array of a column without rules at its root is left as it is, with its rows.
+fn column_stays(alloc: Global, rows: &[Option<bool>]) -> VortexResult<bool> {
+    let column = nullable_bools(alloc, rows)?;
+    let array = Box::new(alloc, ArrayRef::<NoCustom>::column(Box::into_inner(column)))?;
+    let made = Box::new(alloc, optimize_recursive(alloc, &*array, 3)?)?;
+    let is_same = made.done && made.steps == 0 && made.tree.len() == rows.len();
+    Ok(is_same && made.tree.as_column().is_some())
+}
+
+/// Whether an array tests for null, optimized, answers these rows after so many steps.
+fn null_test_answers(
+    alloc: Global,
+    rows: &[Option<bool>],
+    wanted: &[Option<bool>],
+) -> VortexResult<bool> {
+    let column = nullable_bools(alloc, rows)?;
+    let array = ArrayRef::<NoCustom>::column(Box::into_inner(column));
+    let test = Box::new(alloc, IsNull::new(alloc, array)?.into_array())?;
+    let made = Box::new(alloc, optimize_recursive(alloc, &*test, 5)?)?;
+    let mut ctx = ExecutionCtx::new(alloc);
+    let answer = Box::new(alloc, made.tree.execute(&mut ctx)?)?;
+    Ok(are_rows(alloc, &**answer, wanted)? && made.done && made.steps == 1)
+}
+
+#[test]
+fn array_trees_are_rewritten(rt: HostRuntime) {
+    let alloc = rt.alloc();
+    let rows = [Some(true), Some(true), None];
+    assert!(rt; yes(column_stays(alloc, &rows)));
+    let missing = [Some(false), Some(false), Some(true)];
+    assert!(rt; yes(null_test_answers(alloc, &rows, &missing)));
+}
+
+/// Whether And of `x` and `y` is null, as an array tree.
+fn missing_both<C: ScalarFnVTable>(alloc: Global) -> Held<C> {
+    let both = Box::into_inner(over_columns(alloc, x(alloc), Operator::And, y(alloc))?);
+    made(alloc, IsNull::new(alloc, both))
+}
+
+/// What a rule makes of an array at a place.
+fn array_at<C: ScalarFnRules>(
+    alloc: Global,
+    array: Held<C>,
+    path: &[usize],
+    rule: Rule,
+) -> VortexResult<Option<Box<ArrayRef<C>>>> {
+    match rewrite_at(alloc, &*array?, path, rule)? {
+        Some(made) => Ok(Some(Box::new(alloc, made)?)),
+        None => Ok(None),
+    }
+}
+
+/// Whether a rule at a place of an array makes one of these rows.
+fn array_becomes<C: ScalarFnRules>(
+    alloc: Global,
+    array: Held<C>,
+    path: &[usize],
+    rule: Rule,
+    wanted: &[Option<bool>],
+) -> VortexResult<bool> {
+    match array_at(alloc, array, path, rule)? {
+        Some(made) => array_answers(alloc, Ok(made), wanted),
+        None => Ok(false),
+    }
+}
+
+/// Whether a rule does not apply at a place of an array.
+fn array_stays<C: ScalarFnRules>(
+    alloc: Global,
+    array: Held<C>,
+    path: &[usize],
+    rule: Rule,
+) -> VortexResult<bool> {
+    Ok(array_at(alloc, array, path, rule)?.is_none())
+}
+
+/// Where `x` is null.
+const MISSING: [Option<bool>; 3] = [Some(false), Some(false), Some(true)];
+
+#[test]
+fn a_rule_applies_at_a_place_of_an_array(rt: HostRuntime) {
+    let alloc = rt.alloc();
+    let missing = missing_both::<NoCustom>(alloc);
+    assert!(rt; yes(array_becomes(alloc, missing, &[], Rule::Reduce, &MISSING)));
+    let missing = missing_both::<NoCustom>(alloc);
+    assert!(rt; yes(array_stays(alloc, missing, &[0], Rule::Reduce)));
+    let missing = missing_both::<NoCustom>(alloc);
+    assert!(rt; yes(array_stays(alloc, missing, &[], Rule::Simplify)));
+    let nowhere = array_at(alloc, missing_both::<NoCustom>(alloc), &[1], Rule::Reduce);
+    assert!(rt; is_refused(nowhere, "NoSuchPlace"));
+}
+
+/// What a list of steps makes of an array.
+fn array_listed<C: ScalarFnRules>(
+    alloc: Global,
+    array: Held<C>,
+    steps: &[(&[usize], Rule)],
+) -> VortexResult<Box<Rewritten<ArrayRef<C>>>> {
+    Ok(Box::new(alloc, rewrite_list(alloc, &*array?, steps)?)?)
+}
+
+/// Whether a list of steps makes an array of these rows, so many of them applied.
+fn array_lists_to<C: ScalarFnRules>(
+    alloc: Global,
+    array: Held<C>,
+    steps: &[(&[usize], Rule)],
+    wanted: &[Option<bool>],
+    applied: usize,
+) -> VortexResult<bool> {
+    let made = array_listed(alloc, array, steps)?;
+    let mut ctx = ExecutionCtx::new(alloc);
+    let answer = Box::new(alloc, made.tree.execute(&mut ctx)?)?;
+    Ok(are_rows(alloc, &**answer, wanted)? && made.applied == applied)
+}
+
+#[test]
+fn rules_apply_to_an_array_one_after_another(rt: HostRuntime) {
+    let alloc = rt.alloc();
+    let steps: [(&[usize], Rule); 3] = [
+        (&[], Rule::Reduce),
+        (&[0], Rule::Reduce),
+        (&[0], Rule::Simplify),
+    ];
+    let missing = missing_both::<NoCustom>(alloc);
+    assert!(rt; yes(array_lists_to(alloc, missing, &steps, &MISSING, 2)));
+    let outside: [(&[usize], Rule); 2] = [(&[], Rule::Reduce), (&[0, 5], Rule::Reduce)];
+    let refused = array_listed(alloc, missing_both::<NoCustom>(alloc), &outside);
+    assert!(rt; is_refused(refused, "NoSuchPlace"));
+}
+
+/// Whether a tree weighs so much, and what Reduce makes of it at its root so much.
+fn weighs<C: ScalarFnRules>(
+    alloc: Global,
+    tree: Tree<C>,
+    wanted: (u64, u64),
+) -> VortexResult<bool> {
+    let tree = tree?;
+    let made = Box::new(alloc, optimize_recursive(alloc, &*tree, 1)?)?;
+    Ok((tree.weight(), made.tree.weight()) == wanted)
+}
+
+/// True of nullable Bool and column `b`, which is not nullable.
+fn true_and_b_alone<C: ScalarFnVTable>(alloc: Global) -> Tree<C> {
+    let truth = literal(
+        alloc,
+        Scalar::try_new(DType::Bool(YES), Some(ScalarValue::Bool(true))),
+    );
+    between(alloc, truth, Operator::And, leaf_of(alloc, DType::Bool(NO)))
+}
+
+#[test]
+fn a_rewrite_makes_a_tree_lighter(rt: HostRuntime) {
+    let alloc = rt.alloc();
+    assert!(rt; yes(weighs(alloc, unknown_sum::<NoCustom>(alloc), (15, 14))));
+    assert!(rt; yes(weighs(alloc, true_and_b_alone::<NoCustom>(alloc), (5, 2))));
+}

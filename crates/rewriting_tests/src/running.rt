@@ -1,0 +1,188 @@
+//! Execution after a run of rules.
+
+use fixtures::{are_rows, integer, is_refused, kept, nullable_bools, rows_of, yes};
+use rule_fixtures::array_makers::*;
+use std::alloc::Global;
+use std::borrow::Cow;
+use tree_fixtures::makers::*;
+use vortex_row_fn::*;
+
+/// The rows of Bool that a tree answers after a run of at most so many steps.
+fn ran<C: ScalarFnRules>(
+    alloc: Global,
+    tree: Tree<C>,
+    columns: VortexResult<Vec<Column>>,
+    row_count: usize,
+    limit: u64,
+) -> VortexResult<Vec<Option<bool>>> {
+    let (tree, columns) = (tree?, columns?);
+    let mut ctx = ExecutionCtx::new(alloc);
+    let answer = Box::new(alloc, run(&*tree, &columns, row_count, limit, &mut ctx)?)?;
+    rows_of(alloc, &**answer)
+}
+
+/// Whether a tree answers these rows after a run of at most ten steps.
+fn runs_to<C: ScalarFnRules>(
+    alloc: Global,
+    tree: Tree<C>,
+    columns: VortexResult<Vec<Column>>,
+    wanted: &[Option<bool>],
+) -> VortexResult<bool> {
+    Ok(ran(alloc, tree, columns, wanted.len(), 10)?.as_slice() == wanted)
+}
+
+/// Whether `a + b` is null, of columns of u8, where `a` is nullable.
+fn unknown_sum<C: ScalarFnVTable>(alloc: Global) -> Tree<C> {
+    let types = (
+        DType::Primitive(PType::U8, YES),
+        DType::Primitive(PType::U8, NO),
+    );
+    let sum = call_of_columns(alloc, Binary.bind(Operator::Add), types);
+    call_of(alloc, IsNull.bind(EmptyOptions), sum)
+}
+
+/// 250, null; and 10, 1.
+fn bytes(alloc: Global) -> VortexResult<Vec<Column>> {
+    let valid = BitBuffer::from_bools(alloc, &[true, false])?;
+    let mut left = Vec::new(alloc);
+    left.extend_from_slice(&[250u8, 0])?;
+    let mut right = Vec::new(alloc);
+    right.extend_from_slice(&[10u8, 1])?;
+    two(
+        alloc,
+        kept(
+            alloc,
+            Column::try_primitive(alloc, left, Validity::Array(valid)),
+        ),
+        kept(
+            alloc,
+            Column::try_primitive(alloc, right, Validity::NonNullable),
+        ),
+    )
+}
+
+#[test]
+fn a_fault_goes_with_the_call_that_a_step_drops(rt: HostRuntime) {
+    let alloc = rt.alloc();
+    let executed = executed::<NoCustom>(alloc, unknown_sum(alloc), bytes(alloc), 2);
+    assert!(rt; is_refused(executed, "Arithmetic.Add"));
+    let wanted = [Some(false), Some(true)];
+    assert!(rt; yes(runs_to::<NoCustom>(alloc, unknown_sum(alloc), bytes(alloc), &wanted)));
+    let unchanged = ran::<NoCustom>(alloc, unknown_sum(alloc), bytes(alloc), 2, 0);
+    assert!(rt; is_refused(unchanged, "Arithmetic.Add"));
+}
+
+/// Whether an answer is a lent column of these rows.
+fn is_lent(
+    alloc: Global,
+    answer: VortexResult<Cow<'_, Column>>,
+    wanted: &[Option<bool>],
+) -> VortexResult<bool> {
+    let answer = Box::new(alloc, answer?)?;
+    Ok(matches!(&*answer, Cow::Borrowed(_)) && are_rows(alloc, &**answer, wanted)?)
+}
+
+/// Whether a tree answers a lent column of these rows after a run of at most ten steps.
+fn lends<C: ScalarFnRules>(
+    alloc: Global,
+    tree: Tree<C>,
+    columns: VortexResult<Vec<Column>>,
+    wanted: &[Option<bool>],
+) -> VortexResult<bool> {
+    let (tree, columns) = (tree?, columns?);
+    let mut ctx = ExecutionCtx::new(alloc);
+    let answer = run(&*tree, &columns, wanted.len(), 10, &mut ctx);
+    is_lent(alloc, answer, wanted)
+}
+
+/// True and column `a`.
+fn true_and_a<C: ScalarFnVTable>(alloc: Global) -> Tree<C> {
+    let truth = literal(alloc, Ok(Scalar::from(true)));
+    between(alloc, truth, Operator::And, leaf(alloc, "a"))
+}
+
+/// Column `a`: true, false, null.
+fn truths(alloc: Global) -> VortexResult<Vec<Column>> {
+    one(
+        alloc,
+        nullable_bools(alloc, &[Some(true), Some(false), None]),
+    )
+}
+
+#[test]
+fn a_run_that_leaves_a_column_lends_it(rt: HostRuntime) {
+    let alloc = rt.alloc();
+    let rows = [Some(true), Some(false), None];
+    assert!(rt; yes(lends::<NoCustom>(alloc, leaf(alloc, "a"), truths(alloc), &rows)));
+    assert!(rt; yes(lends::<NoCustom>(alloc, true_and_a(alloc), truths(alloc), &rows)));
+}
+
+/// False and whether 1 through 0 is 1.
+fn false_and_quotient<C: ScalarFnVTable>(alloc: Global) -> Tree<C> {
+    let dividend = literal(alloc, integer(PType::I32, 1));
+    let divisor = literal(alloc, integer(PType::I32, 0));
+    let quotient = between(alloc, dividend, Operator::Div, divisor);
+    let wanted = literal(alloc, integer(PType::I32, 1));
+    let equal = between(alloc, quotient, Operator::Eq, wanted);
+    let falsehood = literal(alloc, Ok(Scalar::from(false)));
+    between(alloc, falsehood, Operator::And, equal)
+}
+
+#[test]
+fn a_deciding_literal_leaves_no_fault(rt: HostRuntime) {
+    let alloc = rt.alloc();
+    let none = Ok(Vec::new(alloc));
+    let executed = executed::<NoCustom>(alloc, false_and_quotient(alloc), none, 1);
+    assert!(rt; is_refused(executed, "Arithmetic.Div"));
+    let none = Ok(Vec::new(alloc));
+    let tree = false_and_quotient::<NoCustom>(alloc);
+    assert!(rt; yes(runs_to(alloc, tree, none, &[Some(false)])));
+}
+
+/// False and column `a`.
+fn false_and_a<C: ScalarFnVTable>(alloc: Global) -> Tree<C> {
+    let falsehood = literal(alloc, Ok(Scalar::from(false)));
+    between(alloc, falsehood, Operator::And, leaf(alloc, "a"))
+}
+
+#[test]
+fn leaves_are_looked_at_before_a_step_drops_them(rt: HostRuntime) {
+    let alloc = rt.alloc();
+    let none = Ok(Vec::new(alloc));
+    let refused = ran::<NoCustom>(alloc, false_and_a(alloc), none, 1, 10);
+    assert!(rt; is_refused(refused, "ScopeMismatch"));
+    let given = one(alloc, nullable_bools(alloc, &[None]));
+    let refused = ran::<NoCustom>(alloc, false_and_a(alloc), given, 2, 10);
+    assert!(rt; is_refused(refused, "LengthMismatch"));
+    let given = one(alloc, nullable_bools(alloc, &[None]));
+    assert!(rt; yes(runs_to::<NoCustom>(alloc, false_and_a(alloc), given, &[Some(false)])));
+}
+
+/// Whether an array answers these rows after a run of at most ten steps.
+fn array_runs_to<C: ScalarFnRules>(
+    alloc: Global,
+    array: Held<C>,
+    wanted: &[Option<bool>],
+) -> VortexResult<bool> {
+    let array = array?;
+    let mut ctx = ExecutionCtx::new(alloc);
+    let answer = Box::new(alloc, run_array(&*array, 10, &mut ctx)?)?;
+    Ok(rows_of(alloc, &*answer)?.as_slice() == wanted)
+}
+
+/// Whether an array is null.
+fn test_of<C: ScalarFnVTable>(alloc: Global, input: Held<C>) -> Held<C> {
+    let input = Box::into_inner(input?);
+    let test = IsNull::new(alloc, input)?;
+    Ok(Box::new(alloc, test.into_array())?)
+}
+
+#[test]
+fn arrays_are_executed_after_a_run(rt: HostRuntime) {
+    let alloc = rt.alloc();
+    let both = over_columns::<NoCustom>(alloc, x(alloc), Operator::And, y(alloc));
+    let missing = [Some(false), Some(false), Some(true)];
+    assert!(rt; yes(array_runs_to(alloc, test_of(alloc, both), &missing)));
+    let rows = [Some(true), Some(true), None];
+    assert!(rt; yes(array_runs_to::<NoCustom>(alloc, held(alloc, x(alloc)), &rows)));
+}

@@ -1,0 +1,55 @@
+//! Array trees by their parts, and what they answer.
+
+use fixtures::{Made, are_rows, bools, nullable_bools};
+use std::alloc::Global;
+use vortex_arrays::*;
+use vortex_columns::*;
+use vortex_functions::*;
+use vortex_operators::*;
+
+/// An array on the heap, or why it could not be made.
+pub type Held<C> = VortexResult<Box<ArrayRef<C>>>;
+
+/// The array of a column.
+pub fn held<C: ScalarFnVTable>(alloc: Global, column: Made) -> Held<C> {
+    Ok(Box::new(alloc, ArrayRef::column(Box::into_inner(column?)))?)
+}
+
+/// The array of a call.
+pub fn made<C: ScalarFnVTable>(alloc: Global, call: VortexResult<ScalarFnArray<C>>) -> Held<C> {
+    Ok(Box::new(alloc, call?.into_array())?)
+}
+
+/// An operator between two columns.
+pub fn over_columns<C: ScalarFnVTable>(
+    alloc: Global,
+    left: Made,
+    operator: Operator,
+    right: Made,
+) -> Held<C> {
+    let left = Box::into_inner(held(alloc, left)?);
+    let right = Box::into_inner(held(alloc, right)?);
+    made(alloc, Binary::try_new(alloc, left, right, operator))
+}
+
+/// Whether an array's copy has these rows.
+pub fn array_answers<C: ScalarFnVTable>(
+    alloc: Global,
+    array: Held<C>,
+    wanted: &[Option<bool>],
+) -> VortexResult<bool> {
+    let copy = array?.try_clone(alloc)?;
+    let mut ctx = ExecutionCtx::new(alloc);
+    let column = copy.execute(&mut ctx)?;
+    are_rows(alloc, &*column, wanted)
+}
+
+/// True, true, null.
+pub fn x(alloc: Global) -> Made {
+    nullable_bools(alloc, &[Some(true), Some(true), None])
+}
+
+/// True, false, true.
+pub fn y(alloc: Global) -> Made {
+    bools(alloc, &[true, false, true])
+}

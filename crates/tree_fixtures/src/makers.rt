@@ -1,0 +1,264 @@
+//! Trees and their columns by their parts, and questions to trees. Each function over trees stays generic in the caller's
+//! functions; the tests pick the one they run.
+
+use fixtures::{fields, names, nullable_bools, rows_of};
+use std::alloc::Global;
+use vortex_columns::*;
+use vortex_functions::*;
+use vortex_operators::*;
+
+pub const YES: Nullability = Nullability::Nullable;
+
+pub const NO: Nullability = Nullability::NonNullable;
+
+/// A tree on the heap, or why it could not be made.
+pub type Tree<C> = VortexResult<Box<BoundExpression<C>>>;
+
+/// A tree, put on the heap.
+pub fn planted<C: ScalarFnVTable>(
+    alloc: Global,
+    tree: VortexResult<BoundExpression<C>>,
+) -> Tree<C> {
+    Ok(Box::new(alloc, tree?)?)
+}
+
+/// A list of one.
+pub fn one<T: Drop>(alloc: Global, only: VortexResult<Box<T>>) -> VortexResult<Vec<T>> {
+    let mut items = Vec::new(alloc);
+    items.push(Box::into_inner(only?))?;
+    Ok(items)
+}
+
+/// A list of two.
+pub fn two<T: Drop>(
+    alloc: Global,
+    first: VortexResult<Box<T>>,
+    second: VortexResult<Box<T>>,
+) -> VortexResult<Vec<T>> {
+    let mut items = Vec::new(alloc);
+    items.push(Box::into_inner(first?))?;
+    items.push(Box::into_inner(second?))?;
+    Ok(items)
+}
+
+/// A list of three.
+pub fn three<T: Drop>(
+    alloc: Global,
+    first: VortexResult<Box<T>>,
+    second: VortexResult<Box<T>>,
+    third: VortexResult<Box<T>>,
+) -> VortexResult<Vec<T>> {
+    let mut items = two(alloc, first, second)?;
+    items.push(Box::into_inner(third?))?;
+    Ok(items)
+}
+
+/// Columns `a` and `b` of nullable Bool.
+pub fn scope(alloc: Global) -> VortexResult<StructFields> {
+    fields(alloc, ("a", "b"), (DType::Bool(YES), DType::Bool(YES)))
+}
+
+/// The same nullable Bool in columns `a` and `b`.
+pub fn twice(alloc: Global, rows: &[Option<bool>]) -> VortexResult<Vec<Column>> {
+    two(
+        alloc,
+        nullable_bools(alloc, rows),
+        nullable_bools(alloc, rows),
+    )
+}
+
+/// The leaf of the column of that name.
+pub fn leaf<C: ScalarFnVTable>(alloc: Global, name: &str) -> Tree<C> {
+    let scope = scope(alloc)?;
+    planted(alloc, BoundExpression::column(alloc, &scope, name))
+}
+
+/// The leaf of column `a` of that type, alone in its scope.
+pub fn leaf_of<C: ScalarFnVTable>(alloc: Global, dtype: DType) -> Tree<C> {
+    let mut dtypes = Vec::new(alloc);
+    dtypes.push(dtype)?;
+    let scope = StructFields::try_new(alloc, names(alloc, &["a"])?, dtypes)?;
+    planted(alloc, BoundExpression::column(alloc, &scope, "a"))
+}
+
+/// The leaf of a scalar.
+pub fn literal<C: ScalarFnVTable>(alloc: Global, scalar: VortexResult<Scalar>) -> Tree<C> {
+    planted(alloc, Ok(BoundExpression::lit(alloc, scalar?)))
+}
+
+/// Not of a tree.
+pub fn not_of<C: ScalarFnVTable>(alloc: Global, child: Tree<C>) -> Tree<C> {
+    let children = one(alloc, child)?;
+    planted(alloc, Not.try_new_bound_expr(alloc, EmptyOptions, children))
+}
+
+/// An operator between two trees.
+pub fn between<C: ScalarFnVTable>(
+    alloc: Global,
+    left: Tree<C>,
+    operator: Operator,
+    right: Tree<C>,
+) -> Tree<C> {
+    let children = two(alloc, left, right)?;
+    planted(alloc, Binary.try_new_bound_expr(alloc, operator, children))
+}
+
+/// And of true and column `b`.
+pub fn true_and_b<C: ScalarFnVTable>(alloc: Global) -> Tree<C> {
+    between(
+        alloc,
+        literal(alloc, Ok(Scalar::from(true))),
+        Operator::And,
+        leaf(alloc, "b"),
+    )
+}
+
+/// A call over the first so many of the leaves `a`, `b`, `a`.
+pub fn call_of_leaves<C: ScalarFnVTable>(
+    alloc: Global,
+    function: ScalarFnRef<C>,
+    count: usize,
+) -> Tree<C> {
+    let mut children = Vec::new(alloc);
+    for i in 0..count {
+        let name = if i % 2 == 0 { "a" } else { "b" };
+        children.push(Box::into_inner(leaf(alloc, name)?))?;
+    }
+    planted(alloc, BoundExpression::try_new(alloc, function, children))
+}
+
+/// A call of a function of one tree.
+pub fn call_of<C: ScalarFnVTable>(
+    alloc: Global,
+    function: ScalarFnRef<C>,
+    child: Tree<C>,
+) -> Tree<C> {
+    let children = one(alloc, child)?;
+    planted(alloc, BoundExpression::try_new(alloc, function, children))
+}
+
+/// A call of a function of the columns `a` and `b` of those types.
+pub fn call_of_columns<C: ScalarFnVTable>(
+    alloc: Global,
+    function: ScalarFnRef<C>,
+    types: (DType, DType),
+) -> Tree<C> {
+    let scope = fields(alloc, ("a", "b"), types)?;
+    let first = planted(alloc, BoundExpression::column(alloc, &scope, "a"));
+    let second = planted(alloc, BoundExpression::column(alloc, &scope, "b"));
+    let children = two(alloc, first, second)?;
+    planted(alloc, BoundExpression::try_new(alloc, function, children))
+}
+
+/// A copy of a tree.
+pub fn copied<C: ScalarFnVTable>(alloc: Global, tree: Tree<C>) -> Tree<C> {
+    planted(alloc, tree?.try_clone(alloc))
+}
+
+/// The rows of Bool that a tree answers.
+fn rows_by<C: ScalarFnVTable>(
+    alloc: Global,
+    tree: &BoundExpression<C>,
+    columns: &[Column],
+    row_count: usize,
+) -> VortexResult<Vec<Option<bool>>> {
+    let mut ctx = ExecutionCtx::new(alloc);
+    let answer = Box::new(alloc, tree.execute(columns, row_count, &mut ctx)?)?;
+    rows_of(alloc, &**answer)
+}
+
+/// The rows of Bool that a tree answers over so many rows of those columns.
+pub fn executed<C: ScalarFnVTable>(
+    alloc: Global,
+    tree: Tree<C>,
+    columns: VortexResult<Vec<Column>>,
+    row_count: usize,
+) -> VortexResult<Vec<Option<bool>>> {
+    let (tree, columns) = (tree?, columns?);
+    rows_by(alloc, &*tree, &columns, row_count)
+}
+
+/// Whether a tree answers these rows over those columns.
+pub fn answers<C: ScalarFnVTable>(
+    alloc: Global,
+    tree: Tree<C>,
+    columns: VortexResult<Vec<Column>>,
+    wanted: &[Option<bool>],
+) -> VortexResult<bool> {
+    Ok(executed(alloc, tree, columns, wanted.len())?.as_slice() == wanted)
+}
+
+/// The number in each row, where there is one.
+fn numbers_of(alloc: Global, column: &Column) -> VortexResult<Vec<Option<i128>>> {
+    let mut rows = Vec::new(alloc);
+    for i in 0..column.len() {
+        rows.push(match column.cell(i) {
+            Cell::Int(number) => Some(number),
+            _ => None,
+        })?;
+    }
+    Ok(rows)
+}
+
+/// The numbers that a tree answers.
+pub fn numbers_by<C: ScalarFnVTable>(
+    alloc: Global,
+    tree: &BoundExpression<C>,
+    columns: &[Column],
+    row_count: usize,
+) -> VortexResult<Vec<Option<i128>>> {
+    let mut ctx = ExecutionCtx::new(alloc);
+    let answer = Box::new(alloc, tree.execute(columns, row_count, &mut ctx)?)?;
+    numbers_of(alloc, &**answer)
+}
+
+/// Whether a tree answers these numbers over those columns.
+pub fn calculates<C: ScalarFnVTable>(
+    alloc: Global,
+    tree: Tree<C>,
+    columns: VortexResult<Vec<Column>>,
+    wanted: &[Option<i128>],
+) -> VortexResult<bool> {
+    let (tree, columns) = (tree?, columns?);
+    Ok(numbers_by(alloc, &*tree, &columns, wanted.len())?.as_slice() == wanted)
+}
+
+/// Whether `sql_text` gives that text.
+pub fn has_text<C: ScalarFnVTable>(
+    alloc: Global,
+    tree: &BoundExpression<C>,
+    wanted: &str,
+) -> VortexResult<bool> {
+    Ok(tree.sql_text(alloc)?.as_str() == wanted)
+}
+
+/// Whether Display writes that text.
+pub fn is_shown<C: ScalarFnVTable>(
+    alloc: Global,
+    tree: &BoundExpression<C>,
+    wanted: &str,
+) -> VortexResult<bool> {
+    Ok(tree.to_string(alloc)?.as_str() == wanted)
+}
+
+/// Whether a tree has that text, and Display writes the same bytes.
+pub fn prints<C: ScalarFnVTable>(alloc: Global, tree: Tree<C>, wanted: &str) -> VortexResult<bool> {
+    let tree = tree?;
+    Ok(has_text(alloc, &*tree, wanted)? && is_shown(alloc, &*tree, wanted)?)
+}
+
+/// Whether a caller's function faults with that number.
+pub fn is_fault<T: Drop>(answer: VortexResult<T>, wanted: u64) -> bool {
+    match answer {
+        Err(VortexError::Custom(number)) => number == wanted,
+        _ => false,
+    }
+}
+
+/// Whether a count of children is refused, for that arity.
+pub fn is_misfit<T: Drop>(answer: VortexResult<T>, wanted: Arity, count: usize) -> bool {
+    match answer {
+        Err(VortexError::ArityMismatch { arity, given }) => arity == wanted && given == count,
+        _ => false,
+    }
+}
