@@ -1,6 +1,7 @@
 //! Forms over packed bits.
 
 use crate::columns::{Bits, Bools, Rows, overlapping};
+use std::arch::x86_64::*;
 
 /// Lists of bits of one length, whose words are told together, written once into room that is not filled first.
 #[inline(always)]
@@ -131,6 +132,70 @@ pub fn and_by_passes((left, right): &(Bools, Bools)) -> Bools {
         _ => None,
     };
     Rows { values: by_word([a, b], |[a, b]| a & b), valid }
+}
+
+/// Two words from word `k` on that begin within a word, by two vectors that overlap; a shift by 64 leaves nothing.
+#[inline(always)]
+fn two_words(words: &[u64], shift: usize, k: usize) -> __m128i {
+    assert!(k + 3 <= words.len());
+    // SAFETY: three words stand there
+    unsafe {
+        let (low, high) = (words.as_ptr().add(k), words.as_ptr().add(k + 1));
+        let (low, high) = (_mm_loadu_si128(low.cast()), _mm_loadu_si128(high.cast()));
+        let counts = (_mm_cvtsi64_si128(shift as i64), _mm_cvtsi64_si128(64 - shift as i64));
+        _mm_or_si128(_mm_srl_epi64(low, counts.0), _mm_sll_epi64(high, counts.1))
+    }
+}
+
+/// The words that vectors of two words answer: one more word than there are rows for is read of each list, and so many are
+/// written that the last vector is whole.
+#[inline(always)]
+fn by_vectors<const N: usize, const M: usize>(
+    lists: [&Bits; N],
+    formula: impl Fn([__m128i; N]) -> [__m128i; M],
+) -> [Bits; M] {
+    let len = lists[0].len;
+    let count = len.div_ceil(64);
+    let mut answers = [(); M].map(|()| Vec::<u64>::with_capacity(count + 2));
+    for k in (0..count).step_by(2) {
+        let said = if k + 3 <= lists[0].words.len() {
+            formula(lists.map(|bits| two_words(&bits.words, bits.offset, k)))
+        } else {
+            let last = lists.map(|bits| [bits.words[k], bits.words[k + 1], 0]);
+            formula(std::array::from_fn(|n| two_words(&last[n], lists[n].offset, 0)))
+        };
+        for m in 0..M {
+            // SAFETY: there is room for `count + 2` words
+            unsafe { _mm_storeu_si128(answers[m].as_mut_ptr().add(k).cast(), said[m]) };
+        }
+    }
+    answers.map(|mut words| {
+        // SAFETY: so many words were written above
+        unsafe { words.set_len(count) };
+        words.push(0);
+        Bits { words, offset: 0, len }
+    })
+}
+
+/// And by vectors.
+pub fn and_by_vectors((left, right): &(Bools, Bools)) -> Bools {
+    // SAFETY: SSE 2
+    let and = |x, y| unsafe { _mm_and_si128(x, y) };
+    let (a, b) = (&left.values, &right.values);
+    match (&left.valid, &right.valid) {
+        (Some(p), Some(q)) => {
+            // SAFETY: SSE 2
+            let [values, valid] = by_vectors([a, p, b, q], |[a, p, b, q]| unsafe {
+                let one_is_false = _mm_or_si128(_mm_andnot_si128(a, p), _mm_andnot_si128(b, q));
+                [and(a, b), _mm_or_si128(and(p, q), one_is_false)]
+            });
+            Rows { values, valid: Some(valid) }
+        }
+        _ => {
+            let [values] = by_vectors([a, b], |[a, b]| [and(a, b)]);
+            Rows { values, valid: None }
+        }
+    }
 }
 
 /// The words that an iterator over whole words answers.

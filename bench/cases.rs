@@ -23,6 +23,7 @@ fn bool_cases(shape: &Shape, chance: &mut Chance) -> Vec<Case> {
             form("words", pair, bits::and),
             form("words, a pass each for values and nulls", pair, bits::and_by_passes),
             form("words and the byte behind", pair, bits::and_by_bytes),
+            form("vectors", pair, bits::and_by_vectors),
         ]
     };
     let not_forms = || {
@@ -124,7 +125,7 @@ impl TextPair {
     }
 
     fn equal_to_constant(&self) -> Case {
-        let [one, two, three, four] = std::array::from_fn(|_| self.constant.clone());
+        let [one, two, three, four, five] = std::array::from_fn(|_| self.constant.clone());
         self.case("= constant", true, project::EQUAL, vec![
             form("strings", &self.strings, move |(x, _)| of_string_column(x, |x| *x == one)),
             form("strings by words", &self.strings, move |(x, _)| {
@@ -132,11 +133,12 @@ impl TextPair {
             }),
             form("views by words", &self.views, move |(x, _)| equal_one_view(x, &three)),
             form("views at once", &self.views, move |(x, _)| equal_one_view_at_once(x, &four)),
+            form("views by vectors", &self.views, move |(x, _)| equal_one_view_by_vectors(x, &five)),
         ])
     }
 
     fn below_constant(&self) -> Case {
-        let [one, two, three, four] = std::array::from_fn(|_| self.constant.clone());
+        let [one, two, three, four, five] = std::array::from_fn(|_| self.constant.clone());
         self.case("< constant", true, project::LESS, vec![
             form("strings", &self.strings, move |(x, _)| of_string_column(x, |x| *x < one)),
             form("strings by words", &self.strings, move |(x, _)| {
@@ -144,6 +146,7 @@ impl TextPair {
             }),
             form("views", &self.views, move |(x, _)| less_one_view(x, &three)),
             form("views by words", &self.views, move |(x, _)| less_one_view_by_words(x, &four)),
+            form("views by vectors", &self.views, move |(x, _)| less_one_view_by_vectors(x, &five)),
         ])
     }
 
@@ -154,6 +157,7 @@ impl TextPair {
                 form("strings by words", &self.strings, equal_texts_by_words),
                 form("views", &self.views, equal_views),
                 form("views by words", &self.views, equal_views_by_words),
+                form("views by vectors", &self.views, equal_views_by_vectors),
             ]),
             self.equal_to_constant(),
             self.case("< text", false, project::LESS, vec![
@@ -161,6 +165,7 @@ impl TextPair {
                 form("strings by words", &self.strings, less_texts_by_words),
                 form("views", &self.views, less_views),
                 form("views by words", &self.views, less_views_by_words),
+                form("views by vectors", &self.views, less_views_by_vectors),
             ]),
             self.below_constant(),
         ]
@@ -208,7 +213,7 @@ fn text_between_case(shape: &Shape, chance: &mut Chance, width: usize) -> Case {
     let views = Rc::new(views_of(&texts));
     let (one, other) = (texts.values[0].clone(), texts.values[1].clone());
     let bounds = Rc::new((one.clone().min(other.clone()), one.max(other)));
-    let [ours, by_calls, by_words, by_views, by_keys] = std::array::from_fn(|_| bounds.clone());
+    let [ours, by_calls, by_words, by_views, by_keys, by_vectors] = std::array::from_fn(|_| bounds.clone());
     let name = format!("text of {width} bytes between constants");
     case(&name, &texts, move |texts| project::texts_between(width, texts, &ours.0, &ours.1), vec![
         form("strings", &texts, move |texts| {
@@ -220,6 +225,9 @@ fn text_between_case(shape: &Shape, chance: &mut Chance, width: usize) -> Case {
         }),
         form("views", &views, move |texts| between_views(texts, &by_views.0, &by_views.1)),
         form("views by words", &views, move |texts| between_views_by_words(texts, &by_keys.0, &by_keys.1)),
+        form("views by vectors", &views, move |texts| {
+            between_views_by_vectors(texts, &by_vectors.0, &by_vectors.1)
+        }),
     ])
 }
 

@@ -3,6 +3,7 @@
 use crate::bits::both_valid;
 use crate::columns::{Bits, Bools, INLINE, Rows, TextViews, Texts, View, Views};
 use crate::vectors::{tested, tested_pairs};
+use std::arch::x86_64::*;
 use std::cmp::Ordering;
 
 // ---- strings
@@ -186,6 +187,75 @@ pub fn between_views_by_words(texts: &TextViews, lower: &str, upper: &str) -> Bo
     let (lows, highs) = (&low.rows()[0], &high.rows()[0]);
     of_view_column(texts, |x| {
         !less_by_keys([&texts.values, &low], [x, lows]) & !less_by_keys([&high, &texts.values], [highs, x])
+    })
+}
+
+// ---- views by vectors
+
+/// How two long texts compare whose first four bytes are the same: the first of 16 bytes that differs tells. So many bytes
+/// stand behind each buffer that more than a text has can be read.
+#[inline(always)]
+fn order_tails(columns: [&Views; 2], [x, y]: [&View; 2]) -> Ordering {
+    let len = x.len().min(y.len());
+    let (left, right) = (columns[0].start(x), columns[1].start(y));
+    for at in (4..len).step_by(16) {
+        // SAFETY: as above
+        let same = unsafe {
+            let bytes = |start: *const u8| _mm_loadu_si128(start.add(at).cast());
+            _mm_movemask_epi8(_mm_cmpeq_epi8(bytes(left), bytes(right)))
+        };
+        let place = at + (!same).trailing_zeros() as usize;
+        if same != 0xffff && place < len {
+            // SAFETY: a byte of both texts
+            return unsafe { (*left.add(place)).cmp(&*right.add(place)) };
+        }
+    }
+    x.len().cmp(&y.len())
+}
+
+/// By the first four bytes, then by the other eight where both lie in their views, else by vectors.
+#[inline(always)]
+fn order_by_vectors(columns: [&Views; 2], [x, y]: [&View; 2]) -> Ordering {
+    let (first, other) = (x.prefix(), y.prefix());
+    if first != other {
+        return first.cmp(&other);
+    }
+    if (x.len() <= INLINE) & (y.len() <= INLINE) {
+        return (x.tail.swap_bytes(), x.len()).cmp(&(y.tail.swap_bytes(), y.len()));
+    }
+    order_tails(columns, [x, y])
+}
+
+#[inline(always)]
+fn are_same_by_vectors(columns: [&Views; 2], [x, y]: [&View; 2]) -> bool {
+    x.head == y.head && if x.len() <= INLINE { x.tail == y.tail } else { order_tails(columns, [x, y]).is_eq() }
+}
+
+pub fn equal_views_by_vectors(pair: &(TextViews, TextViews)) -> Bools {
+    let columns = [&pair.0.values, &pair.1.values];
+    of_views(pair, |x, y| are_same_by_vectors(columns, [x, y]))
+}
+
+pub fn less_views_by_vectors(pair: &(TextViews, TextViews)) -> Bools {
+    let columns = [&pair.0.values, &pair.1.values];
+    of_views(pair, |x, y| order_by_vectors(columns, [x, y]).is_lt())
+}
+
+pub fn equal_one_view_by_vectors(texts: &TextViews, constant: &str) -> Bools {
+    let one = lone(constant);
+    of_view_column(texts, |x| are_same_by_vectors([&texts.values, &one], [x, &one.rows()[0]]))
+}
+
+pub fn less_one_view_by_vectors(texts: &TextViews, constant: &str) -> Bools {
+    let one = lone(constant);
+    of_view_column(texts, |x| order_by_vectors([&texts.values, &one], [x, &one.rows()[0]]).is_lt())
+}
+
+pub fn between_views_by_vectors(texts: &TextViews, lower: &str, upper: &str) -> Bools {
+    let (low, high) = (lone(lower), lone(upper));
+    of_view_column(texts, |x| {
+        let is_above = order_by_vectors([&low, &texts.values], [&low.rows()[0], x]).is_le();
+        is_above && order_by_vectors([&texts.values, &high], [x, &high.rows()[0]]).is_le()
     })
 }
 
