@@ -173,10 +173,8 @@ fn after<'a>(part: &[Place], text: &'a [u8]) -> Option<&'a [u8]> {
         match place {
             Place::Byte(own) if own == byte => {}
             Place::Character if !is_inner(*byte) => {
-                while let Some((inner, further)) = behind.split_first().filter(|(byte, _)| is_inner(**byte)) {
-                    let _ = inner;
-                    behind = further;
-                }
+                let inner = behind.iter().take_while(|byte| is_inner(**byte)).count();
+                behind = &behind[inner..];
             }
             _ => return None,
         }
@@ -299,7 +297,6 @@ pub fn folded_by_words<T: ByteRows>(texts: &Rows<T>, pattern: &str) -> Bools {
     let small: String = pattern.chars().map(folded).collect();
     let tokens = tokens_of(&small);
     let rows = &texts.values;
-    // one comparison a byte tells what is not ASCII, and past the first byte of a character none can match
     let walk = |text: &[u8]| matches(&tokens, as_text(text), folded);
     let values = match Plan::of(&small) {
         Plan::Prefix(own) if own.len() == 1 => {
