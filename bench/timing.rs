@@ -1,89 +1,167 @@
 //! The time of a case on both sides.
 
+use crate::columns::Answer;
+use std::cell::RefCell;
 use std::hint::black_box;
+use std::rc::Rc;
 use std::time::{Duration, Instant};
 
 unsafe extern "C" {
     fn malloc_trim(pad: usize) -> i32;
 }
 
-/// The project's calls and those in Rust: `repeat + 1` of them, and a checksum of the last. The project's columns are made
-/// anew each time, which counts in neither time.
+/// One way to do it in Rust, over columns that are there.
+pub struct Form {
+    pub name: &'static str,
+    calls: Box<dyn Fn(usize)>,
+    sum: Box<dyn Fn() -> u64>,
+}
+
+pub fn form<I: 'static, A: Answer>(name: &'static str, input: &Rc<I>, kernel: impl Fn(&I) -> A + 'static) -> Form {
+    let call = Rc::new({
+        let input = input.clone();
+        move || kernel(black_box(&input))
+    });
+    let again = call.clone();
+    let calls = move |repeat| (0..repeat).for_each(|_| drop(black_box(call())));
+    Form { name, calls: Box::new(calls), sum: Box::new(move || again().sum()) }
+}
+
+/// The project's call, which makes its columns, makes the call as often as `bench_next` asks for, and answers a checksum; and
+/// the forms in Rust.
 pub struct Case {
     pub name: String,
-    pub ours: Box<dyn Fn(usize) -> u64>,
-    pub rust: Box<dyn Fn(usize) -> u64>,
+    pub ours: Box<dyn Fn() -> u64>,
+    pub forms: Vec<Form>,
 }
 
-/// Memory that earlier calls freed is joined first, so that texts lie as they would in a new process.
-fn timed(side: &dyn Fn(usize) -> u64, repeat: usize) -> (Duration, u64) {
-    unsafe { malloc_trim(0) };
-    let start = Instant::now();
-    let sum = side(repeat);
-    (start.elapsed(), sum)
+impl Case {
+    /// Whether all forms answer the same; which.
+    pub fn sum(&self) -> u64 {
+        let sums: Vec<u64> = self.forms.iter().map(|form| (form.sum)()).collect();
+        for (form, sum) in self.forms.iter().zip(&sums) {
+            assert_eq!(*sum, sums[0], "{}: the answers of the form {:?} differ", self.name, form.name);
+        }
+        sums[0]
+    }
 }
 
-/// The time of `repeat` calls, by the least times with and without them.
-#[derive(Clone, Copy)]
+/// Calls that are long enough for a good measure, and short enough to find the processor idle.
+const LONG_ENOUGH: Duration = Duration::from_millis(3);
+
+/// So many calls, and the least time that they took.
 struct Least {
-    once: Duration,
-    more: Duration,
+    repeat: usize,
+    time: Duration,
 }
 
 impl Least {
-    const NONE: Least = Least { once: Duration::MAX, more: Duration::MAX };
+    const NONE: Least = Least { repeat: 1, time: Duration::MAX };
 
-    fn measure(&mut self, side: &dyn Fn(usize) -> u64, repeat: usize) -> u64 {
-        let (once, sum) = timed(side, 0);
-        let (more, again) = timed(side, repeat);
-        assert_eq!(sum, again);
-        self.once = self.once.min(once);
-        self.more = self.more.min(more);
-        sum
-    }
-
-    fn calls(&self) -> f64 {
-        self.more.saturating_sub(self.once).as_secs_f64()
-    }
-}
-
-/// How often to call, so that the calls take the time of a good measure, also beside that of making the columns.
-fn repeats(case: &Case) -> usize {
-    let (making, _) = timed(&*case.ours, 0);
-    let long_enough = 0.005 + 0.5 * making.as_secs_f64();
-    let mut repeat = 1;
-    loop {
-        let mut least = Least::NONE;
-        for _ in 0..3 {
-            least.measure(&*case.rust, repeat);
-        }
-        if least.calls() >= long_enough {
-            return repeat;
-        }
-        repeat *= 2;
-    }
-}
-
-pub fn ratio(case: &Case, rounds: usize) -> f64 {
-    let repeat = repeats(case);
-    let (mut ours, mut rust) = (Least::NONE, Least::NONE);
-    for round in 0..rounds {
-        let (one, other) = if round % 2 == 0 {
-            let one = ours.measure(&*case.ours, repeat);
-            (one, rust.measure(&*case.rust, repeat))
+    /// Whether there were enough calls for their time to count.
+    fn counts(&mut self, time: Duration) -> bool {
+        let is_enough = time >= LONG_ENOUGH;
+        if is_enough {
+            self.time = self.time.min(time);
         } else {
-            let other = rust.measure(&*case.rust, repeat);
-            (ours.measure(&*case.ours, repeat), other)
-        };
-        assert_eq!(one, other, "{}: the answers differ", case.name);
+            self.repeat *= 2;
+            self.time = Duration::MAX;
+        }
+        is_enough
     }
-    ours.calls() / rust.calls()
+
+    fn of_one(&self) -> f64 {
+        self.time.as_secs_f64() / self.repeat as f64
+    }
 }
 
-/// The checksum of the last of `repeat + 1` calls.
-pub fn last_of<A>(repeat: usize, call: impl Fn() -> A, sum: impl Fn(&A) -> u64) -> u64 {
-    for _ in 0..repeat {
-        drop(black_box(call()));
+/// The sides take turns: the project's calls, and then those of each form.
+struct Turns {
+    forms: Vec<Form>,
+    rounds_left: usize,
+    began: Option<Instant>,
+    ours: Least,
+    rust: Vec<Least>,
+}
+
+thread_local! {
+    static TURNS: RefCell<Option<Turns>> = const { RefCell::new(None) };
+}
+
+impl Turns {
+    fn forms_turn(&mut self) {
+        for (form, least) in self.forms.iter().zip(&mut self.rust) {
+            loop {
+                let began = Instant::now();
+                (form.calls)(least.repeat);
+                if least.counts(began.elapsed()) {
+                    break;
+                }
+            }
+        }
     }
-    sum(&black_box(call()))
+
+    /// What the project's calls took that ended now, and how many it is to make next.
+    fn next(&mut self, now: Instant) -> usize {
+        if let Some(began) = self.began.take()
+            && self.ours.counts(now - began)
+        {
+            self.forms_turn();
+            self.rounds_left -= 1;
+        }
+        if self.rounds_left == 0 { 0 } else { self.ours.repeat }
+    }
+}
+
+/// The project's side asks between its calls how many to make next; none ends it. So its columns are made once, and no clock
+/// runs while they are made.
+#[unsafe(no_mangle)]
+extern "C" fn bench_next() -> usize {
+    let now = Instant::now();
+    TURNS.with_borrow_mut(|turns| {
+        let turns = turns.as_mut().expect("a case is measured");
+        let repeat = turns.next(now);
+        turns.began = Some(Instant::now());
+        repeat
+    })
+}
+
+/// The project's time over that of the best form, which that is, and the time of each form over that of the best.
+pub struct Seen {
+    pub ratio: f64,
+    pub best: &'static str,
+    pub forms: Vec<(&'static str, f64)>,
+}
+
+pub fn measured(case: Case, rounds: usize) -> Seen {
+    // memory that earlier cases freed is joined, so that the project's texts lie as they would in a new process
+    unsafe { malloc_trim(0) };
+    let sum = case.sum();
+    let rust = case.forms.iter().map(|_| Least::NONE).collect();
+    let turns = Turns { forms: case.forms, rounds_left: rounds, began: None, ours: Least::NONE, rust };
+    TURNS.set(Some(turns));
+    assert_eq!((case.ours)(), sum, "{}: the answers of both sides differ", case.name);
+    let turns = TURNS.take().unwrap();
+    let names = turns.forms.iter().map(|form| form.name);
+    seen(turns.ours.of_one(), names.zip(turns.rust.iter().map(Least::of_one)).collect())
+}
+
+fn seen(ours: f64, mut forms: Vec<(&'static str, f64)>) -> Seen {
+    let (best, least) = forms.iter().copied().min_by(|x, y| x.1.total_cmp(&y.1)).unwrap();
+    for (_, time) in &mut forms {
+        *time /= least;
+    }
+    Seen { ratio: ours / least, best, forms }
+}
+
+/// The forms alone: the time of each over that of the best.
+pub fn forms_alone(case: Case, rounds: usize) -> Seen {
+    case.sum();
+    let rust = case.forms.iter().map(|_| Least::NONE).collect();
+    let mut turns = Turns { forms: case.forms, rounds_left: rounds, began: None, ours: Least::NONE, rust };
+    for _ in 0..rounds {
+        turns.forms_turn();
+    }
+    let names = turns.forms.iter().map(|form| form.name);
+    seen(f64::NAN, names.zip(turns.rust.iter().map(Least::of_one)).collect())
 }

@@ -1,0 +1,406 @@
+//! Forms over integers: comparisons, Between, arithmetic, and the tree.
+
+use crate::bits::{and_words, both_valid, by_word, by_words, filled};
+use crate::columns::{Bits, Bools, Ints, Rows};
+use crate::vectors::*;
+use std::arch::x86_64::*;
+
+type Pair<T> = (Rows<Vec<T>>, Rows<Vec<T>>);
+
+// ---- comparisons
+
+#[inline(always)]
+fn compared<T>((left, right): &Pair<T>, bits: impl Fn(&[T], &[T]) -> Bits) -> Bools {
+    Rows { values: bits(&left.values, &right.values), valid: both_valid(&left.valid, &right.valid) }
+}
+
+#[inline(always)]
+fn compared_one<T>((left, _): &Pair<T>, bits: impl Fn(&[T]) -> Bits) -> Bools {
+    Rows { values: bits(&left.values), valid: left.valid.clone() }
+}
+
+pub fn less<T: Ord>(pair: &Pair<T>) -> Bools {
+    compared(pair, |l, r| tested_pairs(l, r, |x, y| x < y))
+}
+
+pub fn less_one<T: Ord>(pair: &Pair<T>, constant: T) -> Bools {
+    compared_one(pair, |l| tested(l, |x| *x < constant))
+}
+
+pub fn less_u8(pair: &Pair<u8>) -> Bools {
+    let word = |l: &[u8; 64], r: &[u8; 64]| less_bytes_word(|i| sixteen(l, i), |i| sixteen(r, i));
+    compared(pair, |l, r| worded_pairs(l, r, word, |x, y| x < y))
+}
+
+pub fn less_one_u8(pair: &Pair<u8>, constant: u8) -> Bools {
+    let right = sixteens(constant);
+    let word = |l: &[u8; 64]| less_bytes_word(|i| sixteen(l, i), |_| right);
+    compared_one(pair, |l| worded(l, word, |x| *x < constant))
+}
+
+pub fn less_i32_narrowed(pair: &Pair<i32>) -> Bools {
+    let word = |l: &[i32; 64], r: &[i32; 64]| narrowed_word(|i| greater_four(four(r, i), four(l, i)));
+    compared(pair, |l, r| worded_pairs(l, r, word, |x, y| x < y))
+}
+
+pub fn less_i32_masked(pair: &Pair<i32>) -> Bools {
+    let word = |l: &[i32; 64], r: &[i32; 64]| masked_word(|i| greater_four(four(r, i), four(l, i)));
+    compared(pair, |l, r| worded_pairs(l, r, word, |x, y| x < y))
+}
+
+pub fn less_one_i32_narrowed(pair: &Pair<i32>, constant: i32) -> Bools {
+    let right = fours(constant);
+    let word = |l: &[i32; 64]| narrowed_word(|i| greater_four(right, four(l, i)));
+    compared_one(pair, |l| worded(l, word, |x| *x < constant))
+}
+
+pub fn less_one_i32_masked(pair: &Pair<i32>, constant: i32) -> Bools {
+    let right = fours(constant);
+    let word = |l: &[i32; 64]| masked_word(|i| greater_four(right, four(l, i)));
+    compared_one(pair, |l| worded(l, word, |x| *x < constant))
+}
+
+/// Which of rows `4 * i` to `4 * i + 3` are below those beside them.
+#[inline(always)]
+fn less_twos(left: &[i64; 64], right: impl Fn(usize) -> __m128i, i: usize) -> __m128i {
+    let mask = |i| greater_two(right(i), two(left, i));
+    halved(mask(2 * i), mask(2 * i + 1))
+}
+
+pub fn less_i64_narrowed(pair: &Pair<i64>) -> Bools {
+    let word = |l: &[i64; 64], r: &[i64; 64]| narrowed_word(|i| less_twos(l, |i| two(r, i), i));
+    compared(pair, |l, r| worded_pairs(l, r, word, |x, y| x < y))
+}
+
+pub fn less_i64_masked(pair: &Pair<i64>) -> Bools {
+    let word = |l: &[i64; 64], r: &[i64; 64]| masked_word_of_twos(|i| greater_two(two(r, i), two(l, i)));
+    compared(pair, |l, r| worded_pairs(l, r, word, |x, y| x < y))
+}
+
+pub fn less_one_i64_narrowed(pair: &Pair<i64>, constant: i64) -> Bools {
+    let right = twos(constant);
+    let word = |l: &[i64; 64]| narrowed_word(|i| less_twos(l, |_| right, i));
+    compared_one(pair, |l| worded(l, word, |x| *x < constant))
+}
+
+pub fn less_one_i64_masked(pair: &Pair<i64>, constant: i64) -> Bools {
+    let right = twos(constant);
+    let word = |l: &[i64; 64]| masked_word_of_twos(|i| greater_two(right, two(l, i)));
+    compared_one(pair, |l| worded(l, word, |x| *x < constant))
+}
+
+// ---- Between, both bounds among what is allowed
+
+type Bounded = (Ints, Ints, Ints);
+
+/// The words of the answer, and of the rows in which it is not null: a row beside one null bound can be false.
+#[inline(always)]
+fn bounded_words([under, over]: [u64; 2], [p, q, r]: [u64; 3]) -> [u64; 2] {
+    [!(under | over), p & ((q & r) | (q & under) | (r & over))]
+}
+
+/// A pass for each comparison, and one for the nulls.
+pub fn between_by_passes((array, lower, upper): &Bounded) -> Bools {
+    let under = tested_pairs(&array.values, &lower.values, |x, low| x < low);
+    let over = tested_pairs(&array.values, &upper.values, |x, high| x > high);
+    match (&array.valid, &lower.valid, &upper.valid) {
+        (Some(p), Some(q), Some(r)) => {
+            let lists = [&under, &over, p, q, r];
+            let [values, valid] = by_words(lists, |[under, over, p, q, r]| bounded_words([under, over], [p, q, r]));
+            Rows { values, valid: Some(valid) }
+        }
+        _ => Rows { values: by_word([&under, &over], |[under, over]| !(under | over)), valid: None },
+    }
+}
+
+/// Rows from row `64 * k` on; past the end, zeros.
+fn block<T: Copy + Default>(rows: &[T], k: usize) -> [T; 64] {
+    let mut block = [T::default(); 64];
+    let rest = &rows[64 * k..];
+    block[..rest.len()].copy_from_slice(rest);
+    block
+}
+
+/// One pass, where `outside` says which of 64 rows fall below their lower bounds, and which pass the upper.
+#[inline(always)]
+fn between_in_one_pass(
+    (array, lower, upper): &Bounded,
+    outside: impl Fn([&[i32; 64]; 3]) -> [u64; 2],
+) -> Bools {
+    let lists = [&array.values, &lower.values, &upper.values];
+    let len = array.values.len();
+    let blocks = lists.map(|list| &list.as_chunks::<64>().0[..len / 64]);
+    let told = |k: usize| outside(blocks.map(|blocks| &blocks[k]));
+    let last = || outside(lists.map(|list| block(list, len / 64)).each_ref());
+    if let (Some(p), Some(q), Some(r)) = (&array.valid, &lower.valid, &upper.valid) {
+        let words = [p, q, r].map(|bits| &bits.words[..len / 64 + 1]);
+        let valid = |k: usize| words.map(|words| words[k]);
+        let said = |k| bounded_words(told(k), valid(k));
+        let [values, valid] = filled(len, said, || bounded_words(last(), valid(len / 64)));
+        return Rows { values, valid: Some(valid) };
+    }
+    let within = |[under, over]: [u64; 2]| [!(under | over)];
+    let [values] = filled(len, |k| within(told(k)), || within(last()));
+    Rows { values, valid: None }
+}
+
+pub fn between_by_products(sides: &Bounded) -> Bools {
+    between_in_one_pass(sides, |[x, low, high]| {
+        let told = |test: fn(i32, i32) -> bool, bounds: &[i32; 64]| {
+            let pairs: [bool; 64] = std::array::from_fn(|i| test(x[i], bounds[i]));
+            packed(&pairs)
+        };
+        [told(|x, low| x < low, low), told(|x, high| x > high, high)]
+    })
+}
+
+pub fn between_by_vectors(sides: &Bounded) -> Bools {
+    between_in_one_pass(sides, |[x, low, high]| {
+        [
+            narrowed_word(|i| greater_four(four(low, i), four(x, i))),
+            narrowed_word(|i| greater_four(four(x, i), four(high, i))),
+        ]
+    })
+}
+
+/// Without nulls, what falls outside is joined before it is narrowed.
+pub fn between_by_joined_vectors(sides: &Bounded) -> Bools {
+    if sides.0.valid.is_some() {
+        return between_by_vectors(sides);
+    }
+    between_in_one_pass(sides, |[x, low, high]| {
+        let outside = |i| {
+            let x = four(x, i);
+            or_four(greater_four(four(low, i), x), greater_four(x, four(high, i)))
+        };
+        [narrowed_word(outside), 0]
+    })
+}
+
+fn bounds(sides: &Bounded) -> (i32, i32) {
+    (sides.1.values[0], sides.2.values[0])
+}
+
+#[inline(always)]
+fn tested_ints(array: &Ints, word: impl Fn(&[i32; 64]) -> u64, test: impl Fn(&i32) -> bool) -> Bools {
+    Rows { values: worded(&array.values, word, test), valid: array.valid.clone() }
+}
+
+pub fn between_constants(sides: &Bounded) -> Bools {
+    let (low, high) = bounds(sides);
+    let test = |x: &i32| (low <= *x) & (*x <= high);
+    tested_ints(&sides.0, |rows| tested_word(rows, test), test)
+}
+
+/// One comparison without sign.
+pub fn between_constants_by_span(sides: &Bounded) -> Bools {
+    let (low, high) = bounds(sides);
+    let span = high.wrapping_sub(low) as u32;
+    let test = |x: &i32| x.wrapping_sub(low) as u32 <= span;
+    tested_ints(&sides.0, |rows| tested_word(rows, test), test)
+}
+
+pub fn between_constants_by_vectors(sides: &Bounded) -> Bools {
+    let (low, high) = bounds(sides);
+    let (lows, highs) = (fours(low), fours(high));
+    let word = |rows: &[i32; 64]| {
+        !narrowed_word(|i| or_four(greater_four(lows, four(rows, i)), greater_four(four(rows, i), highs)))
+    };
+    tested_ints(&sides.0, word, |x| (low <= *x) & (*x <= high))
+}
+
+pub fn between_constants_by_vector_spans(sides: &Bounded) -> Bools {
+    let (low, high) = bounds(sides);
+    let (lows, spans) = (fours(low), fours(high.wrapping_sub(low)));
+    let word = |rows: &[i32; 64]| narrowed_word(|i| within_four(four(rows, i), lows, spans));
+    tested_ints(&sides.0, word, |x| (low <= *x) & (*x <= high))
+}
+
+// ---- arithmetic
+
+/// The answer, unless a row that is not null faults; where no row does, none is looked at again.
+fn unless_fault<T: Copy>(
+    (left, right): &Pair<T>,
+    values: Vec<T>,
+    may_fault: bool,
+    faults: impl Fn(T, T) -> bool,
+) -> Rows<Vec<T>> {
+    let valid = both_valid(&left.valid, &right.valid);
+    if may_fault {
+        let mut pairs = left.values.iter().zip(&right.values).enumerate();
+        let is_valid = |i| valid.as_ref().is_none_or(|valid| valid.bit(i));
+        assert!(!pairs.any(|(i, (x, y))| is_valid(i) && faults(*x, *y)), "a fault");
+    }
+    Rows { values, valid }
+}
+
+/// Faults joined over all rows.
+#[inline(always)]
+pub fn joined<T: Copy>(pair: &Pair<T>, apply: impl Fn(T, T) -> (T, bool)) -> Rows<Vec<T>> {
+    let mut fault = false;
+    let pairs = pair.0.values.iter().zip(&pair.1.values);
+    let values = pairs
+        .map(|(x, y)| {
+            let (value, overflows) = apply(*x, *y);
+            fault |= overflows;
+            value
+        })
+        .collect();
+    unless_fault(pair, values, fault, |x, y| apply(x, y).1)
+}
+
+/// A loop that ends at the first row that faults; then all rows once more, as the fault may lie under a null.
+#[inline(always)]
+pub fn ending<T: Copy + Default>(pair: &Pair<T>, apply: impl Fn(T, T) -> Option<T>) -> Rows<Vec<T>> {
+    let len = pair.0.values.len();
+    let mut values = Vec::with_capacity(len);
+    let room = &mut values.spare_capacity_mut()[..len];
+    let mut rows = room.iter_mut().zip(pair.0.values.iter().zip(&pair.1.values));
+    let faults = rows.any(|(room, (x, y))| apply(*x, *y).map(|value| room.write(value)).is_none());
+    if faults {
+        return joined(pair, |x, y| apply(x, y).map_or((T::default(), true), |value| (value, false)));
+    }
+    // SAFETY: no row ended the loop, so each was written
+    unsafe { values.set_len(len) };
+    unless_fault(pair, values, false, |_, _| false)
+}
+
+/// The sum, and whether it passes the type, told without the flag for which loops are not made into vector code.
+pub fn add(left: i32, right: i32) -> (i32, bool) {
+    let sum = left.wrapping_add(right);
+    (sum, (right < 0) != (sum < left))
+}
+
+/// The same; a sum overflows where its sign differs from both signs.
+pub fn add_by_signs(pair: &Pair<i32>) -> Ints {
+    let mut signs = 0;
+    let pairs = pair.0.values.iter().zip(&pair.1.values);
+    let values = pairs
+        .map(|(x, y)| {
+            let sum = x.wrapping_add(*y);
+            signs |= (x ^ sum) & (y ^ sum);
+            sum
+        })
+        .collect();
+    unless_fault(pair, values, signs < 0, |x, y| x.overflowing_add(y).1)
+}
+
+pub fn divide(left: i32, right: i32) -> (i32, bool) {
+    left.checked_div(right).map_or((0, true), |value| (value, false))
+}
+
+/// Four quotients by way of `f64`, which holds each of them closely enough; one that is not an `i32` answers the least.
+#[inline(always)]
+fn four_quotients(left: __m128i, right: __m128i) -> __m128i {
+    // SAFETY: SSE 2
+    unsafe {
+        let quotients = |l, r| _mm_cvttpd_epi32(_mm_div_pd(_mm_cvtepi32_pd(l), _mm_cvtepi32_pd(r)));
+        let low = quotients(left, right);
+        let high = quotients(_mm_srli_si128::<8>(left), _mm_srli_si128::<8>(right));
+        _mm_unpacklo_epi64(low, high)
+    }
+}
+
+pub fn divide_by_doubles(pair: &Pair<i32>) -> Ints {
+    let (left, right) = (&pair.0.values, &pair.1.values);
+    let len = left.len();
+    let mut values: Vec<i32> = Vec::with_capacity(len);
+    let least = fours(i32::MIN);
+    let mut seen = fours(0);
+    let (lefts, rest) = left.as_chunks::<4>();
+    let (rights, others) = right.as_chunks::<4>();
+    for (i, (l, r)) in lefts.iter().zip(rights).enumerate() {
+        // SAFETY: four rows are read of each list, and written to room for them
+        unsafe {
+            let value = four_quotients(_mm_loadu_si128(l.as_ptr().cast()), _mm_loadu_si128(r.as_ptr().cast()));
+            seen = _mm_or_si128(seen, _mm_cmpeq_epi32(value, least));
+            _mm_storeu_si128(values.as_mut_ptr().add(4 * i).cast(), value);
+        }
+    }
+    // SAFETY: so many were written
+    unsafe { values.set_len(len - rest.len()) };
+    values.extend(rest.iter().zip(others).map(|(x, y)| x.checked_div(*y).unwrap_or(0)));
+    // SAFETY: SSE 2
+    let may_fault = unsafe { _mm_movemask_epi8(seen) } != 0 || others.iter().any(|y| matches!(y, 0 | -1));
+    unless_fault(pair, values, may_fault, |x, y| x.checked_div(y).is_none())
+}
+
+// ---- (a < 10 and b > 5) or not c
+
+type Sides = (Ints, Ints, Bools);
+
+/// What the tree says of 64 rows, and which of them it is not null in.
+#[inline(always)]
+fn tree_words([below, p, above, q, c, r]: [u64; 6]) -> [u64; 2] {
+    let [both, valid] = and_words(below, p, above, q);
+    [both | !c, (valid & r) | (valid & both) | (r & !c)]
+}
+
+fn below_ten(rows: &[i32; 64]) -> u64 {
+    narrowed_word(|i| greater_four(fours(10), four(rows, i)))
+}
+
+fn above_five(rows: &[i32; 64]) -> u64 {
+    narrowed_word(|i| greater_four(four(rows, i), fours(5)))
+}
+
+/// Both comparisons and the words of the rest, an operator at a time.
+#[inline(always)]
+fn tree_by_operators((a, b, c): &Sides, below: impl Fn(&[i32]) -> Bits, above: impl Fn(&[i32]) -> Bits) -> Bools {
+    let below = Rows { values: below(&a.values), valid: a.valid.clone() };
+    let above = Rows { values: above(&b.values), valid: b.valid.clone() };
+    let both = crate::bits::and(&(below, above));
+    let not = crate::bits::not(c);
+    let (x, y) = (&both.values, &not.values);
+    match (&both.valid, &not.valid) {
+        (Some(p), Some(q)) => {
+            let [values, valid] =
+                by_words([x, p, y, q], |[x, p, y, q]| [x | y, (p & q) | (p & x) | (q & y)]);
+            Rows { values, valid: Some(valid) }
+        }
+        _ => Rows { values: by_word([x, y], |[x, y]| x | y), valid: None },
+    }
+}
+
+pub fn tree_by_products(sides: &Sides) -> Bools {
+    tree_by_operators(sides, |rows| tested(rows, |x| *x < 10), |rows| tested(rows, |x| *x > 5))
+}
+
+pub fn tree_by_vectors(sides: &Sides) -> Bools {
+    let below = |rows: &[i32]| worded(rows, below_ten, |x| *x < 10);
+    tree_by_operators(sides, below, |rows| worded(rows, above_five, |x| *x > 5))
+}
+
+/// One pass over the columns.
+#[inline(always)]
+fn tree_in_one_pass(
+    (a, b, c): &Sides,
+    below: impl Fn(&[i32; 64]) -> u64,
+    above: impl Fn(&[i32; 64]) -> u64,
+) -> Bools {
+    let len = a.values.len();
+    let (lefts, rights) = (&a.values.as_chunks::<64>().0[..len / 64], &b.values.as_chunks::<64>().0[..len / 64]);
+    let told = |k: usize| (below(&lefts[k]), above(&rights[k]));
+    let last = || (below(&block(&a.values, len / 64)), above(&block(&b.values, len / 64)));
+    let third = &c.values.words[..len / 64 + 1];
+    if let (Some(p), Some(q), Some(r)) = (&a.valid, &b.valid, &c.valid) {
+        let words = [p, q, r].map(|bits| &bits.words[..len / 64 + 1]);
+        let said = |(below, above), k: usize| {
+            let [p, q, r] = words.map(|words| words[k]);
+            tree_words([below, p, above, q, third[k], r])
+        };
+        let [values, valid] = filled(len, |k| said(told(k), k), || said(last(), len / 64));
+        return Rows { values, valid: Some(valid) };
+    }
+    let said = |(below, above): (u64, u64), k: usize| [(below & above) | !third[k]];
+    let [values] = filled(len, |k| said(told(k), k), || said(last(), len / 64));
+    Rows { values, valid: None }
+}
+
+pub fn tree_in_one_pass_by_products(sides: &Sides) -> Bools {
+    tree_in_one_pass(sides, |rows| tested_word(rows, |x| *x < 10), |rows| tested_word(rows, |x| *x > 5))
+}
+
+pub fn tree_in_one_pass_by_vectors(sides: &Sides) -> Bools {
+    tree_in_one_pass(sides, below_ten, above_five)
+}

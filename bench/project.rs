@@ -1,0 +1,167 @@
+//! The project's exported calls, over lent columns. Each asks `bench_next` how often to call, and answers a checksum.
+
+use crate::columns::{Bits, Bools, Ints, Rows, Texts};
+
+/// The calls by the numbers that they have in kernels/measured.rt.txt.
+pub const AND: u32 = 0;
+pub const NOT: u32 = 1;
+pub const LESS: u32 = 2;
+pub const EQUAL: u32 = 3;
+pub const ADD: u32 = 4;
+pub const MUL: u32 = 5;
+pub const DIV: u32 = 6;
+
+macro_rules! integers {
+    ($name:ident, $t:ty) => {
+        fn $name(
+            left: *const $t, left_len: usize, left_valid: *const u8, left_valid_len: usize,
+            right: *const $t, right_len: usize, right_valid: *const u8, right_valid_len: usize,
+            is_constant: bool, constant: $t, call: u32,
+        ) -> u64;
+    };
+}
+
+unsafe extern "C" {
+    fn bench_deep(calls: usize) -> u64;
+    fn bench_bools(
+        left: *const u8, left_len: usize, left_valid: *const u8, left_valid_len: usize, left_offset: usize,
+        right: *const u8, right_len: usize, right_valid: *const u8, right_valid_len: usize, right_offset: usize,
+        rows: usize, is_constant: bool, call: u32,
+    ) -> u64;
+    integers!(bench_u8, u8);
+    integers!(bench_i32, i32);
+    integers!(bench_i64, i64);
+    fn bench_texts(
+        width: usize,
+        left: *const u8, left_len: usize, left_valid: *const u8, left_valid_len: usize,
+        right: *const u8, right_len: usize, right_valid: *const u8, right_valid_len: usize,
+        is_constant: bool, call: u32,
+    ) -> u64;
+    fn bench_tree(
+        a: *const i32, a_len: usize, a_valid: *const u8, a_valid_len: usize,
+        b: *const i32, b_len: usize, b_valid: *const u8, b_valid_len: usize,
+        c: *const u8, c_len: usize, c_valid: *const u8, c_valid_len: usize,
+    ) -> u64;
+    fn bench_i32_between(
+        array: *const i32, array_len: usize, array_valid: *const u8, array_valid_len: usize,
+        lower: *const i32, lower_len: usize, lower_valid: *const u8, lower_valid_len: usize,
+        upper: *const i32, upper_len: usize, upper_valid: *const u8, upper_valid_len: usize,
+    ) -> u64;
+    fn bench_texts_between(
+        width: usize,
+        array: *const u8, array_len: usize, array_valid: *const u8, array_valid_len: usize,
+        lower: *const u8, lower_len: usize, upper: *const u8, upper_len: usize,
+    ) -> u64;
+    fn bench_i32_null_tests(
+        input: *const i32, input_len: usize, input_valid: *const u8, input_valid_len: usize, is_negated: bool,
+    ) -> u64;
+    fn bench_like(
+        texts: *const u8, texts_len: usize, lengths: *const usize, lengths_len: usize,
+        texts_valid: *const u8, texts_valid_len: usize,
+        pattern: *const u8, pattern_len: usize, case_insensitive: bool,
+    ) -> u64;
+}
+
+fn bytes_of(valid: &Option<Bits>) -> &[u8] {
+    valid.as_ref().map_or(&[], Bits::bytes)
+}
+
+pub fn deep(calls: usize) -> u64 {
+    unsafe { bench_deep(calls) }
+}
+
+pub fn bools((l, r): &(Bools, Bools), call: u32, is_constant: bool) -> u64 {
+    let (lv, rv) = (bytes_of(&l.valid), bytes_of(&r.valid));
+    let (lb, rb) = (l.values.bytes(), r.values.bytes());
+    unsafe {
+        bench_bools(
+            lb.as_ptr(), lb.len(), lv.as_ptr(), lv.len(), l.values.offset,
+            rb.as_ptr(), rb.len(), rv.as_ptr(), rv.len(), r.values.offset,
+            l.values.len, is_constant, call,
+        )
+    }
+}
+
+macro_rules! integer_calls {
+    ($name:ident, $t:ty, $export:ident) => {
+        pub fn $name((l, r): &(Rows<Vec<$t>>, Rows<Vec<$t>>), constant: Option<$t>, call: u32) -> u64 {
+            let (lv, rv) = (bytes_of(&l.valid), bytes_of(&r.valid));
+            unsafe {
+                $export(
+                    l.values.as_ptr(), l.values.len(), lv.as_ptr(), lv.len(),
+                    r.values.as_ptr(), r.values.len(), rv.as_ptr(), rv.len(),
+                    constant.is_some(), constant.unwrap_or_default(), call,
+                )
+            }
+        }
+    };
+}
+
+integer_calls!(u8s, u8, bench_u8);
+integer_calls!(i32s, i32, bench_i32);
+integer_calls!(i64s, i64, bench_i64);
+
+pub fn texts(width: usize, (l, r): &(Texts, Texts), constant: Option<&str>, call: u32) -> u64 {
+    let (lv, rv) = (bytes_of(&l.valid), bytes_of(&r.valid));
+    let (left, right) = (l.values.concat(), r.values.concat());
+    let side = constant.unwrap_or(&right);
+    unsafe {
+        bench_texts(
+            width,
+            left.as_ptr(), left.len(), lv.as_ptr(), lv.len(),
+            side.as_ptr(), side.len(), rv.as_ptr(), rv.len(),
+            constant.is_some(), call,
+        )
+    }
+}
+
+pub fn tree((a, b, c): &(Ints, Ints, Bools)) -> u64 {
+    let (av, bv, cv) = (bytes_of(&a.valid), bytes_of(&b.valid), bytes_of(&c.valid));
+    let bits = c.values.bytes();
+    unsafe {
+        bench_tree(
+            a.values.as_ptr(), a.values.len(), av.as_ptr(), av.len(),
+            b.values.as_ptr(), b.values.len(), bv.as_ptr(), bv.len(),
+            bits.as_ptr(), bits.len(), cv.as_ptr(), cv.len(),
+        )
+    }
+}
+
+pub fn between((array, lower, upper): &(Ints, Ints, Ints)) -> u64 {
+    let (av, lv, uv) = (bytes_of(&array.valid), bytes_of(&lower.valid), bytes_of(&upper.valid));
+    unsafe {
+        bench_i32_between(
+            array.values.as_ptr(), array.values.len(), av.as_ptr(), av.len(),
+            lower.values.as_ptr(), lower.values.len(), lv.as_ptr(), lv.len(),
+            upper.values.as_ptr(), upper.values.len(), uv.as_ptr(), uv.len(),
+        )
+    }
+}
+
+pub fn texts_between(width: usize, texts: &Texts, lower: &str, upper: &str) -> u64 {
+    let (bytes, valid) = (texts.values.concat(), bytes_of(&texts.valid));
+    unsafe {
+        bench_texts_between(
+            width, bytes.as_ptr(), bytes.len(), valid.as_ptr(), valid.len(),
+            lower.as_ptr(), lower.len(), upper.as_ptr(), upper.len(),
+        )
+    }
+}
+
+pub fn null_tests(input: &Ints, is_negated: bool) -> u64 {
+    let valid = bytes_of(&input.valid);
+    unsafe {
+        bench_i32_null_tests(input.values.as_ptr(), input.values.len(), valid.as_ptr(), valid.len(), is_negated)
+    }
+}
+
+pub fn like(texts: &Texts, pattern: &str, case_insensitive: bool) -> u64 {
+    let lengths: Vec<usize> = texts.values.iter().map(String::len).collect();
+    let (bytes, valid) = (texts.values.concat(), bytes_of(&texts.valid));
+    unsafe {
+        bench_like(
+            bytes.as_ptr(), bytes.len(), lengths.as_ptr(), lengths.len(), valid.as_ptr(), valid.len(),
+            pattern.as_ptr(), pattern.len(), case_insensitive,
+        )
+    }
+}
