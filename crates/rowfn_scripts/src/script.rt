@@ -63,13 +63,14 @@ fn run_script<C: ScalarFnVTable>(alloc: Global, script: &[u8]) -> Outcome
 /// - `get name` pushes the column's leaf, and `lit type cell` a literal.
 /// - `call f` calls `and`, `or`, `=`, `!=`, `<`, `<=`, `>`, `>=`, `+`, `-`, `*` or `/` on the last
 ///   two trees, the last being on the right, or `not`, `is_null`, `is_not_null` or `cast` on the
-///   last one; or `like`, `not_like`, `ilike` or `not_ilike` on the last two, a text and a pattern;
-///   or `between` and two words, each `<` or `<=`, on the last three: a value, its lower bound by
-///   the first, its upper bound by the second. E3 where it does not accept their types.
+///   last one; or `between` and two words, each `<` or `<=`, on the last three: a value, its lower
+///   bound by the first, its upper bound by the second; or `like`, `not_like`, `ilike` or
+///   `not_ilike` on the last two: a text, and its pattern on the right. E3 where it does not accept
+///   their types.
 /// - `show` prints the last tree's text, and `run` its column: the type, a colon, and each cell
 ///   after a space. E7 where in some row two numbers have no result that their type holds.
 ///
-/// Any other line is malformed. `docs/SCRIPTS.md` has every line with an example.
+/// Any other line is malformed. docs/SCRIPTS.md has every line with an example.
 ///
 /// The script ends at the first line that is malformed or whose call is refused; E11 for `get` of
 /// an unknown name. What the lines before it printed stays. E9 where memory runs out, at whichever

@@ -18,6 +18,14 @@ pub fn prints(alloc: Global, script: &str, out: &str) -> bool {
     ends(alloc, script.as_bytes(), out, 0, "")
 }
 
+/// Whether lines behind others are read to their end, and print that.
+pub fn prints_after(alloc: Global, before: &str, lines: &str, out: &str) -> bool {
+    let mut script = String::new(alloc);
+    let _ = script.push_str(before);
+    let _ = script.push_str(lines);
+    prints(alloc, script.as_str(), out)
+}
+
 /// Whether a script prints `out` and is then refused, with that line.
 pub fn is_refused(alloc: Global, script: &str, out: &str, line: &str) -> bool {
     ends(alloc, script.as_bytes(), out, 1, line)

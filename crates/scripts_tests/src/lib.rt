@@ -8,6 +8,8 @@ mod between;
 #[cfg(test)]
 mod cells;
 #[cfg(test)]
+mod docs;
+#[cfg(test)]
 mod endings;
 #[cfg(test)]
 mod like;
