@@ -18,6 +18,4 @@ mod lines;
 #[cfg(test)]
 mod null_tests;
 #[cfg(test)]
-mod page;
-#[cfg(test)]
 mod trees;
