@@ -15,12 +15,12 @@ returns-clause-answer g c =
     let of_node = g.T.ReduceTree.tree in
     let t = of_node c.args.node.now in
     let f = c.custom-function.result in
-    let same : function_of f ≡ custom c.args.self.now c.args.options.now =
+    let same : function_of f ≡ custom c.args.self.now c.args.level.now =
     ap function_of c.custom-function.ensures
     ∙ (λ j. custom (c.in_ok-try_clone.ensures j) (c.in_ok-options.ensures j)) in
     AnswersUnlessMemory-weaker c.default_validity.result
     (IsTold of_node (default_validity levelled_meaning (function_of f) (trees_of (children_of t))))
     (IsValidityBy levelled_meaning (default_rules levelled_meaning) of_node t)
     (λ told e. e ∙ ap (λ h. default_validity levelled_meaning h (trees_of (children_of t))) same
-    ∙ own_validity levelled_meaning t c.args.self.now c.args.options.now c.requires)
+    ∙ own_validity levelled_meaning t c.args.self.now c.args.level.now c.requires)
     c.default_validity.ensures.answer
