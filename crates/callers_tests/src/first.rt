@@ -21,6 +21,8 @@ impl ScalarFnVTable for First {
 
     ghost meaning = { first_meaning };
 
+    ghost rules = { first_rules };
+
     fn id(&self) -> ScalarFnId {
         "test.first"
     }
@@ -74,8 +76,6 @@ impl ScalarFnVTable for First {
 }
 
 impl ScalarFnRules for First {
-    ghost rules = { first_rules };
-
     fn reduce<T: ReduceTree<First>>(
         &self,
         alloc: Global,

@@ -1,4 +1,5 @@
 //! A caller's function that stands on arithmetic, with a fault of its own.
+ghost use Rattle.vortex_meaning.specs.Rules.{no_rules};
 ghost use Rattle.callers_tests.specs.Half.{half_meaning, half_lawful};
 
 use std::alloc::Global;
@@ -17,6 +18,8 @@ impl ScalarFnVTable for Half {
     type Options = EmptyOptions;
 
     ghost meaning = { half_meaning };
+
+    ghost rules = { no_rules };
 
     fn id(&self) -> ScalarFnId {
         "test.half"

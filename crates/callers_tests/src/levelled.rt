@@ -35,6 +35,8 @@ impl ScalarFnVTable for Levelled {
 
     ghost meaning = { levelled_meaning };
 
+    ghost rules = { default_rules levelled_meaning };
+
     fn id(&self) -> ScalarFnId {
         "test.levelled"
     }
@@ -80,8 +82,6 @@ impl ScalarFnVTable for Levelled {
 }
 
 impl ScalarFnRules for Levelled {
-    ghost rules = { default_rules levelled_meaning };
-
     fn reduce<T: ReduceTree<Levelled>>(
         &self,
         _alloc: Global,

@@ -3,6 +3,7 @@ ghost use Rattle.std.specs.Prelude.{◌≡◌, ◌<◌, length, true};
 ghost use Rattle.vortex_errors.specs.Answers.{Answers};
 ghost use Rattle.vortex_types.specs.LogicalTypes.{is_bool_type};
 ghost use Rattle.vortex_columns.specs.ColumnView.{row};
+ghost use Rattle.vortex_meaning.specs.Rules.{no_rules};
 ghost use Rattle.callers_tests.specs.MustBeTrue.{must_be_true_meaning, must_be_true_lawful};
 
 use std::alloc::Global;
@@ -19,6 +20,8 @@ impl ScalarFnVTable for MustBeTrue {
     type Options = EmptyOptions;
 
     ghost meaning = { must_be_true_meaning };
+
+    ghost rules = { no_rules };
 
     fn id(&self) -> ScalarFnId {
         "test.must_be_true"

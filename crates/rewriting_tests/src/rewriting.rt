@@ -227,7 +227,8 @@ fn a_run_is_done_where_no_rule_applies(rt: HostRuntime) {
 /// Whether the array of a column without rules at its root is left as it is, with its rows.
 fn column_stays(alloc: Global, rows: &[Option<bool>]) -> VortexResult<bool> {
     let column = nullable_bools(alloc, rows)?;
-    let array = Box::new(alloc, ArrayRef::<NoCustom>::column(Box::into_inner(column)))?;
+    let array = ArrayRef::<NoCustom>::column(alloc, Box::into_inner(column))?;
+    let array = Box::new(alloc, array)?;
     let made = Box::new(alloc, optimize_recursive(alloc, &*array, 3)?)?;
     let is_same = made.done && made.steps == 0 && made.tree.len() == rows.len();
     Ok(is_same && made.tree.as_column().is_some())
@@ -240,7 +241,7 @@ fn null_test_answers(
     wanted: &[Option<bool>],
 ) -> VortexResult<bool> {
     let column = nullable_bools(alloc, rows)?;
-    let array = ArrayRef::<NoCustom>::column(Box::into_inner(column));
+    let array = ArrayRef::<NoCustom>::column(alloc, Box::into_inner(column))?;
     let test = Box::new(alloc, IsNull::new(alloc, array)?.into_array())?;
     let made = Box::new(alloc, optimize_recursive(alloc, &*test, 5)?)?;
     let mut ctx = ExecutionCtx::new(alloc);

@@ -12,7 +12,7 @@ pub type Held<C> = VortexResult<Box<ArrayRef<C>>>;
 
 /// The array of a column.
 pub fn held<C: ScalarFnVTable>(alloc: Global, column: Made) -> Held<C> {
-    Ok(Box::new(alloc, ArrayRef::column(Box::into_inner(column?)))?)
+    Ok(Box::new(alloc, ArrayRef::column(alloc, Box::into_inner(column?))?)?)
 }
 
 /// The array of a call.

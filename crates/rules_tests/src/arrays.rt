@@ -5,7 +5,6 @@ use rule_fixtures::array_makers::*;
 use std::alloc::Global;
 use std::borrow::Cow;
 use tree_fixtures::makers::*;
-use vortex_array_rules::*;
 use vortex_arrays::*;
 use vortex_columns::*;
 use vortex_functions::*;

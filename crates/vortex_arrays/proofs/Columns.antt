@@ -11,12 +11,15 @@ use Rattle.std.proofs.lemmas.List.Elements.{All-nil, All-cons}
 use Rattle.std.proofs.lemmas.List.FromFn.{get_or-map-range_with_len, length-map-range_with_len}
 use borrow.Author.Tests.{eqb-true}
 use Rattle.vortex_arrays.specs.declared.array.Node.{Node}
-use Rattle.vortex_arrays.specs.declared.array.Node.TheVariants.{Column}
+use Rattle.vortex_arrays.specs.declared.array.Node.TheVariants.{Nulls}
 use Rattle.vortex_meaning.specs.Meaning.{Meaning}
 use Rattle.vortex_meaning.specs.Eval.{HasTreeRows}
 use Rattle.vortex_meaning.specs.Trees.{trees_of}
 use Rattle.vortex_meaning.specs.Rewrites.{AllHaveRow, HasTypedRow}
 use Rattle.vortex_meaning.specs.Weights.{weight_told}
+use Rattle.vortex_meaning.specs.Rules.{Rules}
+use Rattle.vortex_meaning.specs.ReduceRules.{reduce}
+use Rattle.vortex_meaning.specs.Driver.{step}
 use Rattle.vortex_functions.proofs.Execution.{constant_rows, where_none}
 use Rattle.vortex_arrays.specs.Arrays.{Array, held_or_constant, column_tree, tree_in, rows_in, trees_in, other_rows, AreRowsTyped, IsTyped}
 use Rattle.vortex_arrays.specs.Nodes.{IsNode, TellsConstant, node_tree}
@@ -39,10 +42,10 @@ tells_constant c (Some s) h =
 
 module _ {V O : Type 0} (m : Meaning V O) where
   -- nulls in the place of what a node held
-  pub null_is_node : (n : ℕ) (node : Node V O) (c : ColumnView) → node ≡ Column c
-      → c ≡ null_column n → IsNode m n node
-  null_is_node n node c is e =
-      subst (λ (x : Node V O). IsNode m n x) (sym is)
+  pub null_is_node : (r : Rules V O) (n : ℕ) (node : Node V O) (c : ColumnView) → node ≡ Nulls c
+      → c ≡ null_column n → IsNode m r n node
+  null_is_node r n node c is e =
+      subst (λ (x : Node V O). IsNode m r n x) (sym is)
       (subst (λ (d : ColumnView). (length d.rows ≡ n) × TellsConstant d) (sym e)
       (length-map-range_with_len (λ i. null) 0 n, tt))
 
@@ -53,6 +56,16 @@ module _ {V O : Type 0} (m : Meaning V O) where
       sym (ap (λ (a : Array V O). weight_told m (tree_in a)) is ∙ go c.constant)
     where
       go : (o : Option ScalarView) → weight_told m (held_or_constant c o) ≡ 1
+      go None = refl
+      go (Some s) = refl
+
+  -- no rule reduces a column
+  pub column_settled : (r : Rules V O) (self : Array V O) (c : ColumnView) (n : ℕ)
+      → self ≡ (column_tree c, n) → step (reduce m r) (tree_in self) ≡ None
+  column_settled r self c n is =
+      ap (λ (a : Array V O). step (reduce m r) (tree_in a)) is ∙ go c.constant
+    where
+      go : (o : Option ScalarView) → step (reduce m r) (held_or_constant c o) ≡ None
       go None = refl
       go (Some s) = refl
 
@@ -96,7 +109,7 @@ nulls_typed n i lt =
 
 module _ {V O : Type 0} where
   -- so in the place of what a node held
-  pub null_is_typed : (n : ℕ) (node : Node V O) (c : ColumnView) → node ≡ Column c
+  pub null_is_typed : (n : ℕ) (node : Node V O) (c : ColumnView) → node ≡ Nulls c
       → c ≡ null_column n → AreRowsTyped n (node_tree node)
   null_is_typed n node c is e =
       subst (λ (x : Node V O). AreRowsTyped n (node_tree x)) (sym is)

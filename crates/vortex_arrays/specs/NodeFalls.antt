@@ -2,7 +2,7 @@
 use Rattle.std.specs.Prelude.{◌≤◌, max}
 use Rattle.std.proofs.Common.{arith}
 use Rattle.vortex_arrays.specs.declared.array.Node.{Node}
-use Rattle.vortex_arrays.specs.declared.array.Node.TheVariants.{Column, Call}
+use Rattle.vortex_arrays.specs.declared.array.Node.TheVariants.{Column, Nulls, Call}
 use Rattle.vortex_arrays.specs.declared.array.ArrayRef.TheDeep.{deep-Node}
 use Rattle.vortex_meaning.specs.Trees.{node_count}
 use Rattle.vortex_arrays.specs.Nodes.{node_tree, most_le-nodes_count}
@@ -11,5 +11,6 @@ pub deep_le-node_count : (V O : Type 0) (a : _) (b : _) (c : _) (d : _) (e : _) 
     (n : Node V O)
     → max (deep-Node V O a b c d e f g n) 0 ≤ node_count (node_tree n)
 deep_le-node_count V O a b c d e f g (Column h) = omega arith
-deep_le-node_count V O a b c d e f g (Call h children t w) =
-    omega (arith, most_le-nodes_count children.items)
+deep_le-node_count V O a b c d e f g (Nulls h) = omega arith
+deep_le-node_count V O a b c d e f g (Call parts) =
+    omega (arith, most_le-nodes_count parts.value.children.items)

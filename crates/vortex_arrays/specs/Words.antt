@@ -4,6 +4,8 @@ pub use Rattle.vortex_types.specs.TypeOf.{type_of}
 pub use Rattle.vortex_meaning.specs.Functions.{ours}
 pub use Rattle.vortex_meaning.specs.Trees.{called, literal, trees_of, node_count}
 pub use Rattle.vortex_meaning.specs.Eval.{tree_type, tree_types}
+pub use Rattle.vortex_meaning.specs.ReduceRules.{reduce}
+pub use Rattle.vortex_meaning.specs.Driver.{step}
 pub use Rattle.vortex_meaning.specs.Weights.{added, weights, weight_told}
 pub use Rattle.vortex_functions.specs.FunctionOf.{function_of}
 pub use Rattle.vortex_functions.specs.Walks.{AllMean, IsCopy}

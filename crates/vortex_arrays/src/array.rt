@@ -1,23 +1,43 @@
 //! Trees of calls over columns that they hold.
 ghost use Rattle.std.specs.Prelude.{◌≡◌, ◌↔◌, ◌<◌, ◌≤◌, ◌*◌, IfSome, IsTrue, None, Some, MatchOption, length, slice_get};
 ghost use Rattle.std.specs.Option.{option_copied};
-ghost use Rattle.vortex_arrays.specs.Words.{type_of, called, literal, tree_type, function_of};
-ghost use Rattle.vortex_arrays.specs.Words.{tree_in, rows_in, column_array, column_in, children_in, node_count, IsTyped, weight_told};
+ghost use Rattle.vortex_arrays.specs.Words.{AnswersUnlessMemory, type_of, called, literal, tree_type, function_of};
+ghost use Rattle.vortex_arrays.specs.Words.{tree_in, rows_in, column_array, column_in, children_in, node_count, IsTyped, weight_told, reduce, step};
 
+use std::alloc::Global;
 use std::marker::Model;
 use std::mem;
-use vortex_columns::{Column, DType, Scalar};
+use std::rc::Rc;
+use vortex_columns::{Column, DType, Scalar, VortexResult};
 use vortex_functions::ScalarFnRef;
 use vortex_interface::ScalarFnVTable;
 
 mod copies;
 mod execution;
 
+/// What a call is made of.
 #[cycle(array)]
+#[derive(Drop)]
+pub(crate) struct Parts<C: ScalarFnVTable> {
+    pub(crate) function: ScalarFnRef<C>,
+    pub(crate) children: Vec<ArrayRef<C>>,
+    /// The type of the call's answer.
+    pub(crate) dtype: DType,
+    /// The weight of the call.
+    pub(crate) weight: u64,
+    /// Where it is set, Reduce applies at no place of the call.
+    pub(crate) settled: bool,
+}
+
+#[cycle(array)]
+#[derive(Drop)]
 pub(crate) enum Node<C: ScalarFnVTable> {
-    Column(Column),
-    /// A function, its children, the type of its answer, and the weight of the call.
-    Call(ScalarFnRef<C>, Vec<ArrayRef<C>>, DType, u64),
+    /// A handle of a column, which every copy of the array shares.
+    Column(Rc<Column>),
+    /// A handle of a call's parts, which every copy of the call shares.
+    Call(Rc<Parts<C>>),
+    /// The Null column that stands where a call was taken down: no handle, since that takes memory.
+    Nulls(Column),
 }
 
 /// A column, or a well-typed call over arrays, all of one row count.
@@ -41,7 +61,7 @@ impl<C: ScalarFnVTable> Model for ArrayRef<C> {
 
     ghost view = { array_view };
 
-    ghost invariant = { λ a. IsArray C.meaning a };
+    ghost invariant = { λ a. IsArray C.meaning C.rules a };
 
     ghost size = { λ a. node_count a.0 };
 
@@ -52,26 +72,35 @@ impl<C: ScalarFnVTable> Model for ArrayRef<C> {
         a.node };
 }
 
-/// Takes an array down by a work list, which is the children's own vector: the depth takes no
-/// stack, and a chain no memory. Where the list cannot grow, one child goes by a call of its own.
+/// The last handle of a call takes it down, by a work list, which is the children's own vector: the
+/// depth takes no stack, and a chain no memory. Where the list cannot grow, one child goes by a call
+/// of its own.
 impl<C: ScalarFnVTable> Drop for ArrayRef<C> {
     #[tactic(auto, using(crate::proofs::Children::nodes_count_push))]
     fn drop(self) {
         let ArrayRef { node, len: _ } = self;
         let mut list = match node {
-            Node::Column(_) => return,
-            Node::Call(_, list, _, _) => list,
+            // the column is named, and so let go of by itself, and not by letting go of a node
+            Node::Column(_column) => return,
+            Node::Nulls(_column) => return,
+            Node::Call(parts) => match Rc::into_inner(parts) {
+                Some(parts) => parts.children,
+                None => return,
+            },
         };
         while let Some(array) = list.pop() {
             let mut array = array;
             let nothing = Column::null(array.len);
-            match mem::replace(&mut array.node, Node::Column(nothing)) {
-                Node::Column(_) => {}
-                Node::Call(_, children, _, _) => {
-                    let mut children = children;
-                    while let Some(child) = children.pop() {
-                        if let Err(failed) = list.push(child) {
-                            drop(failed.value);
+            match mem::replace(&mut array.node, Node::Nulls(nothing)) {
+                Node::Column(_column) => {}
+                Node::Nulls(_column) => {}
+                Node::Call(parts) => {
+                    if let Some(parts) = Rc::into_inner(parts) {
+                        let mut children = parts.children;
+                        while let Some(child) = children.pop() {
+                            if let Err(failed) = list.push(child) {
+                                drop(failed.value);
+                            }
                         }
                     }
                 }
@@ -81,9 +110,10 @@ impl<C: ScalarFnVTable> Drop for ArrayRef<C> {
 }
 
 impl<C: ScalarFnVTable> ArrayRef<C> {
-    /// The array of a column, of the column's rows. Takes no memory.
-    pub fn column(column: Column) -> ArrayRef<C>
-        ensures { result ≡ column_array column }
+    /// The array of a column, of the column's rows, which are not copied, neither here nor where the
+    /// array is copied. E9 alone.
+    pub fn column(alloc: Global, column: Column) -> VortexResult<ArrayRef<C>>
+        ensures { AnswersUnlessMemory result (λ a. a ≡ column_array column) }
     {
         // They say that each row has the type, and that the scalar of a constant column stands in
         // each.
@@ -91,10 +121,10 @@ impl<C: ScalarFnVTable> ArrayRef<C> {
         let _told = column.as_constant();
         column.tells_truly();
         let len = column.len();
-        ArrayRef {
-            node: Node::Column(column),
+        Ok(ArrayRef {
+            node: Node::Column(Rc::new(alloc, column)?),
             len,
-        }
+        })
     }
 
     /// The type of the array's values. What it holds has values of its types in each row, null
@@ -105,7 +135,8 @@ impl<C: ScalarFnVTable> ArrayRef<C> {
     {
         match &self.node {
             Node::Column(column) => column.dtype(),
-            Node::Call(_, _, dtype, _) => dtype,
+            Node::Nulls(column) => column.dtype(),
+            Node::Call(parts) => &parts.dtype,
         }
     }
 
@@ -117,7 +148,32 @@ impl<C: ScalarFnVTable> ArrayRef<C> {
     {
         match &self.node {
             Node::Column(_) => 1,
-            Node::Call(_, _, _, weight) => *weight,
+            Node::Nulls(_) => 1,
+            Node::Call(parts) => parts.weight,
+        }
+    }
+
+    /// Whether the array is known to be settled: Reduce applies at no place of it. Of a column that
+    /// is known; of a call where it, or what it is a copy of, was marked.
+    pub fn is_settled(&self) -> bool
+        ensures { IsTrue result → step (reduce C.meaning C.rules) (tree_in self.now) ≡ None }
+    {
+        match &self.node {
+            Node::Column(_) => true,
+            Node::Nulls(_) => true,
+            Node::Call(parts) => parts.settled,
+        }
+    }
+
+    /// Marks a settled array as one, where this is its only handle; elsewhere it does nothing.
+    pub fn mark_settled(&mut self)
+        requires { step (reduce C.meaning C.rules) (tree_in self.old) ≡ None }
+        ensures { self.new ≡ self.old }
+    {
+        if let Node::Call(parts) = &mut self.node {
+            if let Some(parts) = Rc::get_mut(parts) {
+                parts.settled = true;
+            }
         }
     }
 
@@ -140,8 +196,9 @@ impl<C: ScalarFnVTable> ArrayRef<C> {
         ensures { result.now ≡ children_in self.now }
     {
         match &self.node {
-            Node::Call(_, children, _, _) => children,
+            Node::Call(parts) => &parts.children,
             Node::Column(_) => &[],
+            Node::Nulls(_) => &[],
         }
     }
 
@@ -159,8 +216,9 @@ impl<C: ScalarFnVTable> ArrayRef<C> {
             (λ f. called (tree_in self.now) ≡ Some (function_of f.now)) }
     {
         match &self.node {
-            Node::Call(function, _, _, _) => Some(function),
+            Node::Call(parts) => Some(&parts.function),
             Node::Column(_) => None,
+            Node::Nulls(_) => None,
         }
     }
 
@@ -170,7 +228,8 @@ impl<C: ScalarFnVTable> ArrayRef<C> {
     {
         match &self.node {
             Node::Column(column) => column.as_constant(),
-            Node::Call(_, _, _, _) => None,
+            Node::Nulls(column) => column.as_constant(),
+            Node::Call(_) => None,
         }
     }
 
@@ -180,8 +239,9 @@ impl<C: ScalarFnVTable> ArrayRef<C> {
         ensures rows { IfSome result (λ c. length c.now.rows ≡ rows_in self.now) }
     {
         match &self.node {
-            Node::Column(column) => Some(column),
-            Node::Call(_, _, _, _) => None,
+            Node::Column(column) => Some(&**column),
+            Node::Nulls(column) => Some(column),
+            Node::Call(_) => None,
         }
     }
 }

@@ -4,9 +4,10 @@ ghost use Rattle.vortex_arrays.specs.Words.{AnswersUnlessMemory, AnswersCall, An
 ghost use Rattle.vortex_arrays.specs.Words.{function_of, other_rows, tree_types, trees_in, trees_of, type_of, IsTyped};
 ghost use Rattle.vortex_arrays.specs.Words.{added, weights};
 
-use crate::array::{ArrayRef, Node};
+use crate::array::{ArrayRef, Node, Parts};
 use std::alloc::Global;
 use std::marker::Model;
+use std::rc::Rc;
 use vortex_columns::{DType, VortexError, VortexResult};
 use vortex_functions::ScalarFnRef;
 use vortex_interface::ScalarFnVTable;
@@ -119,9 +120,16 @@ impl<C: ScalarFnVTable> ScalarFnArray<C> {
         let dtypes = dtypes_of(alloc, &children)?;
         let dtype = function.return_dtype(alloc, &dtypes)?;
         let weight = call_weight(&function, &children, dtype.is_nullable());
+        let parts = Parts {
+            function,
+            children,
+            dtype,
+            weight,
+            settled: false,
+        };
         Ok(ScalarFnArray {
             array: ArrayRef {
-                node: Node::Call(function, children, dtype, weight),
+                node: Node::Call(Rc::new(alloc, parts)?),
                 len,
             },
         })

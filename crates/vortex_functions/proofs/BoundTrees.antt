@@ -1,16 +1,9 @@
 -- Trees whose leaves are places and whose constants have their types.
-use Rattle.std.proofs.Common.{◌≡◌, ℕ, zero, suc, ◌<◌, sym, subst, List, [], ◌∷◌, length, take, get_or, arith}
+use Rattle.std.proofs.Common.{◌≡◌, ℕ, zero, suc, ◌<◌, subst, List, [], ◌∷◌, length, take, get_or, arith}
 use Rattle.std.specs.Prelude.{All}
-use Rattle.std.specs.declared.alloc.Global.{Global}
 use Rattle.std.proofs.lemmas.List.Elements.{All-nil, All-cons}
-use Rattle.vortex_types.specs.Typing.{HasType}
-use Rattle.vortex_types.specs.ScalarView.{ScalarView}
-use Rattle.vortex_meaning.specs.Meaning.{Meaning}
 use Rattle.vortex_meaning.specs.Trees.{Tree, trees_of}
 use Rattle.vortex_meaning.specs.Made.{IsBound, AllBound}
-use Rattle.vortex_functions.specs.declared.tree.Node.{Node}
-use Rattle.vortex_functions.specs.declared.tree.Node.TheVariants.{Literal}
-use Rattle.vortex_functions.specs.Nodes.{node_tree, IsNode}
 
 -- one more element for which P holds
 pub all_more : {A : Type 0} (P : A → Type 0) (xs : List A) (i : ℕ) (a : A) → All P (take i xs)
@@ -26,9 +19,3 @@ module _ {V O : Type 0} where
   all_bound [] h = tt
   all_bound (t ∷ ts) h =
       (h zero t (omega arith), all_bound ts (λ i d lt. h (suc i) d (omega (arith, lt))))
-
-  -- a literal in the place of what a node held
-  pub literal_stands : (m : Meaning V O) (node : Node V O) (s : ScalarView) (alloc : Global)
-      → node ≡ Literal s alloc → HasType s.dtype s.value → IsNode m node × IsBound (node_tree node)
-  literal_stands m node s alloc is typed =
-      subst (λ (x : Node V O). IsNode m x × IsBound (node_tree x)) (sym is) (tt, typed)

@@ -12,5 +12,5 @@ pub deep_le-node_count : (V O : Type 0) (a : _) (b : _) (c : _) (d : _) (e : _) 
     → max (deep-Node V O a b c d e f g n) 0 ≤ node_count (node_tree n)
 deep_le-node_count V O a b c d e f g (Column p name t) = omega arith
 deep_le-node_count V O a b c d e f g (Literal s alloc) = omega arith
-deep_le-node_count V O a b c d e f g (Call h children t w) =
-    omega (arith, most_le-nodes_count children.items)
+deep_le-node_count V O a b c d e f g (Call parts) =
+    omega (arith, most_le-nodes_count parts.value.children.items)

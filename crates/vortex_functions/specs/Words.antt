@@ -17,6 +17,7 @@ pub use Rattle.vortex_meaning.specs.CallTexts.{Appends}
 pub use Rattle.vortex_meaning.specs.Trees.{constant, trees_of, children_of, called, literal, node_count}
 pub use Rattle.vortex_meaning.specs.Eval.{tree_type, tree_types}
 pub use Rattle.vortex_meaning.specs.Execution.{LeavesFit, other_length}
+pub use Rattle.vortex_meaning.specs.Driver.{simplify_or_reduce, step}
 pub use Rattle.vortex_meaning.specs.Made.{IsBound}
 pub use Rattle.vortex_meaning.specs.Weights.{added, weights, weight_told}
 pub use Rattle.vortex_meaning.specs.Printing.{tree_text}

@@ -1,5 +1,6 @@
 //! The function that stands where a caller has none.
 ghost use Rattle.std.specs.Prelude.{◌≡◌, IfOk, false, replicate};
+ghost use Rattle.vortex_meaning.specs.ValidityRules.{default_rules};
 ghost use Rattle.vortex_functions.specs.Fixed.{fixed_meaning, fixed_lawful};
 
 use std::alloc::{AllocError, Global};
@@ -23,6 +24,8 @@ impl ScalarFnVTable for NoCustom {
     type Options = EmptyOptions;
 
     ghost meaning = { fixed_meaning };
+
+    ghost rules = { default_rules fixed_meaning };
 
     fn id(&self) -> ScalarFnId {
         "rowfn.none"

@@ -1,13 +1,14 @@
 //! Expression trees over the columns of a scope.
-ghost use Rattle.std.specs.Prelude.{◌≡◌, ◌<◌, ◌≤◌, ◌+◌, ◌*◌, All, IfOk, None, Some, MatchOption, length, map, min, slice_get};
+ghost use Rattle.std.specs.Prelude.{◌≡◌, ◌<◌, ◌≤◌, ◌+◌, ◌*◌, All, IfOk, None, Some, IsTrue, MatchOption, length, map, min, slice_get};
 ghost use Rattle.std.specs.Option.{option_copied};
 ghost use Rattle.vortex_functions.specs.Words.{type_of, struct_fields, constant, trees_of, children_of, called, literal, tree_type, tree_types, function_of, AnswersUnlessMemory, AnswersLeaf, AnswersBinding, IsLeaf, IsLeafAt};
-ghost use Rattle.vortex_functions.specs.Words.{added, node_count, weights, weight_told, IsBound};
+ghost use Rattle.vortex_functions.specs.Words.{added, node_count, weights, weight_told, IsBound, simplify_or_reduce, step};
 
 use crate::erased::ScalarFnRef;
 use std::alloc::Global;
 use std::marker::Model;
 use std::mem;
+use std::rc::Rc;
 use vortex_columns::{DType, Nullability, Scalar, StructFields, VortexError, VortexResult};
 use vortex_interface::ScalarFnVTable;
 
@@ -15,14 +16,29 @@ mod copies;
 mod execution;
 mod text;
 
+/// What a call is made of.
 #[cycle(expression)]
+#[derive(Drop)]
+struct Parts<C: ScalarFnVTable> {
+    function: ScalarFnRef<C>,
+    children: Vec<BoundExpression<C>>,
+    /// The type of the call's answer.
+    dtype: DType,
+    /// The weight of the call.
+    weight: u64,
+    /// Where it is set, no rule applies at any place of the call.
+    settled: bool,
+}
+
+#[cycle(expression)]
+#[derive(Drop)]
 enum Node<C: ScalarFnVTable> {
     /// The place of a column in the scope, its name and its type.
     Column(usize, String, DType),
     /// A value, and the allocator for its text.
     Literal(Scalar, Global),
-    /// A function, its children, the type of its answer, and the weight of the call.
-    Call(ScalarFnRef<C>, Vec<BoundExpression<C>>, DType, u64),
+    /// A handle of a call's parts, which every copy of the call shares.
+    Call(Rc<Parts<C>>),
 }
 
 /// A well-typed tree of calls over column leaves and literals.
@@ -43,7 +59,7 @@ impl<C: ScalarFnVTable> Model for BoundExpression<C> {
 
     ghost view = { expression_view };
 
-    ghost invariant = { λ a. IsExpression C.meaning a };
+    ghost invariant = { λ a. IsExpression C.meaning C.rules a };
 
     ghost size = { node_count };
 
@@ -53,29 +69,35 @@ impl<C: ScalarFnVTable> Model for BoundExpression<C> {
         C.Options.Display C.Options.PartialEq C.Options.Hash a.node };
 }
 
-/// Takes a tree down by a work list, and the list is the children's own vector: the depth of a tree takes no stack, and a
-/// chain no memory. Where the list cannot grow, one child goes by a call of its own.
+/// The last handle of a call takes it down, by a work list, and the list is the children's own vector: the depth of a tree
+/// takes no stack, and a chain no memory. Where the list cannot grow, one child goes by a call of its own.
 impl<C: ScalarFnVTable> Drop for BoundExpression<C> {
     #[tactic(auto, using(crate::proofs::Counts::nodes_count_push))]
     fn drop(self) {
         let BoundExpression { node } = self;
         let mut list = match node {
-            Node::Column(_, _, _) => return,
-            Node::Literal(_, _) => return,
-            Node::Call(_, list, _, _) => list,
+            // the leaf's parts are named, and so let go of one by one, and not by letting go of a node
+            Node::Column(_place, _name, _dtype) => return,
+            Node::Literal(_scalar, _alloc) => return,
+            Node::Call(parts) => match Rc::into_inner(parts) {
+                Some(parts) => parts.children,
+                None => return,
+            },
         };
         let alloc = *list.allocator();
         while let Some(tree) = list.pop() {
             let mut tree = tree;
             let nothing = Scalar::bool(false, Nullability::NonNullable);
             match mem::replace(&mut tree.node, Node::Literal(nothing, alloc)) {
-                Node::Column(_, _, _) => {}
-                Node::Literal(_, _) => {}
-                Node::Call(_, children, _, _) => {
-                    let mut children = children;
-                    while let Some(child) = children.pop() {
-                        if let Err(failed) = list.push(child) {
-                            drop(failed.value);
+                Node::Column(_place, _name, _dtype) => {}
+                Node::Literal(_scalar, _alloc) => {}
+                Node::Call(parts) => {
+                    if let Some(parts) = Rc::into_inner(parts) {
+                        let mut children = parts.children;
+                        while let Some(child) = children.pop() {
+                            if let Err(failed) = list.push(child) {
+                                drop(failed.value);
+                            }
                         }
                     }
                 }
@@ -167,8 +189,15 @@ impl<C: ScalarFnVTable> BoundExpression<C> {
         let dtypes = dtypes_of(alloc, &children)?;
         let dtype = function.return_dtype(alloc, &dtypes)?;
         let weight = call_weight(&function, &children, dtype.is_nullable());
+        let parts = Parts {
+            function,
+            children,
+            dtype,
+            weight,
+            settled: false,
+        };
         Ok(BoundExpression {
-            node: Node::Call(function, children, dtype, weight),
+            node: Node::Call(Rc::new(alloc, parts)?),
         })
     }
 
@@ -179,7 +208,7 @@ impl<C: ScalarFnVTable> BoundExpression<C> {
         match &self.node {
             Node::Column(_, _, dtype) => dtype,
             Node::Literal(scalar, _) => scalar.dtype(),
-            Node::Call(_, _, dtype, _) => dtype,
+            Node::Call(parts) => &parts.dtype,
         }
     }
 
@@ -200,7 +229,31 @@ impl<C: ScalarFnVTable> BoundExpression<C> {
         match &self.node {
             Node::Column(_, _, _) => 1,
             Node::Literal(_, _) => 1,
-            Node::Call(_, _, _, weight) => *weight,
+            Node::Call(parts) => parts.weight,
+        }
+    }
+
+    /// Whether the tree is known to be settled: neither Simplify nor Reduce applies at any place of it. Of a leaf that is
+    /// known; of a call where it, or what it is a copy of, was marked.
+    pub fn is_settled(&self) -> bool
+        ensures { IsTrue result → step (simplify_or_reduce C.meaning C.rules) self.now ≡ None }
+    {
+        match &self.node {
+            Node::Column(_, _, _) => true,
+            Node::Literal(_, _) => true,
+            Node::Call(parts) => parts.settled,
+        }
+    }
+
+    /// Marks a settled tree as one, where this is its only handle; elsewhere it does nothing.
+    pub fn mark_settled(&mut self)
+        requires { step (simplify_or_reduce C.meaning C.rules) self.old ≡ None }
+        ensures { self.new ≡ self.old }
+    {
+        if let Node::Call(parts) = &mut self.node {
+            if let Some(parts) = Rc::get_mut(parts) {
+                parts.settled = true;
+            }
         }
     }
 
@@ -210,7 +263,7 @@ impl<C: ScalarFnVTable> BoundExpression<C> {
         ensures { result.now ≡ children_of self.now }
     {
         match &self.node {
-            Node::Call(_, children, _, _) => children,
+            Node::Call(parts) => &parts.children,
             Node::Column(_, _, _) => &[],
             Node::Literal(_, _) => &[],
         }
@@ -230,7 +283,7 @@ impl<C: ScalarFnVTable> BoundExpression<C> {
             (called self.now ≡ None) (λ f. called self.now ≡ Some (function_of f.now)) }
     {
         match &self.node {
-            Node::Call(function, _, _, _) => Some(function),
+            Node::Call(parts) => Some(&parts.function),
             Node::Column(_, _, _) => None,
             Node::Literal(_, _) => None,
         }
@@ -243,7 +296,7 @@ impl<C: ScalarFnVTable> BoundExpression<C> {
         match &self.node {
             Node::Column(place, _, _) => Some(*place),
             Node::Literal(_, _) => None,
-            Node::Call(_, _, _, _) => None,
+            Node::Call(_) => None,
         }
     }
 
@@ -254,7 +307,7 @@ impl<C: ScalarFnVTable> BoundExpression<C> {
         match &self.node {
             Node::Literal(scalar, _) => Some(scalar),
             Node::Column(_, _, _) => None,
-            Node::Call(_, _, _, _) => None,
+            Node::Call(_) => None,
         }
     }
 }

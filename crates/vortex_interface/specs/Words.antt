@@ -4,6 +4,7 @@ pub use Rattle.vortex_columns.specs.ColumnView.{ColumnView}
 pub use Rattle.vortex_columns.specs.Cells.{cell_value, sequence_value, sequence_values, IsCell, IsSequence}
 pub use Rattle.vortex_meaning.specs.Outcomes.{types_in}
 pub use Rattle.vortex_meaning.specs.Meaning.{Meaning, Lawful, fits}
+pub use Rattle.vortex_meaning.specs.Rules.{Rules, no_rules}
 pub use Rattle.vortex_meaning.specs.Answering.{AnswersType, AnswersCall}
 pub use Rattle.vortex_meaning.specs.CallTexts.{Continues, Appends, joined, separator_before, options_text}
 pub use Rattle.vortex_interface.specs.Args.{ArgsView, coded_args, AreOfLength, PastInputs}

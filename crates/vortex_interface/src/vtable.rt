@@ -1,6 +1,6 @@
 //! The interface of a row function.
 ghost use Rattle.std.specs.Prelude.{◌≡◌, ℕ, List, length, map, IsTrue, IsSome, IfOk, MatchResult, slice_get, string_bytes, Some};
-ghost use Rattle.vortex_interface.specs.Words.{ColumnView, Meaning, Lawful, fits, types_in, AnswersUnlessMemory, AnswersType, AnswersCall, Continues, PastInputs};
+ghost use Rattle.vortex_interface.specs.Words.{ColumnView, Meaning, Lawful, Rules, fits, types_in, AnswersUnlessMemory, AnswersType, AnswersCall, Continues, PastInputs};
 
 use crate::printing::write_call;
 use std::alloc::Global;
@@ -44,6 +44,10 @@ pub trait ScalarFnVTable: Sized + Clone + Drop {
     type Options: Clone + Debug + Display + Eq + Hash + Drop;
 
     ghost meaning: { Meaning Self Self.Options };
+
+    /// What calls of the function are rewritten to. `ScalarFnRules` above has the calls that answer it; it stands here since a
+    /// tree's mark, that no rule applies in it, speaks of it.
+    ghost rules: { Rules Self Self.Options };
 
     /// The function's identity, as `vortex.binary`.
     fn id(&self) -> ScalarFnId

@@ -1,6 +1,5 @@
 pub mod DownAndUp
 pub mod OtherChildren
-pub mod ArrayChildren
 pub mod AnotherChild
 pub mod RewrittenAt
 pub mod RewrittenList

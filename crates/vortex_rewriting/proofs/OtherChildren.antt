@@ -3,7 +3,7 @@ use Rattle.std.proofs.Common.{◌≡◌, List, Some, sym, ap, ◌∙◌}
 use Rattle.std.specs.Prelude.{Result}
 use Rattle.std.specs.Option.{option_and_then}
 use Rattle.vortex_errors.specs.declared.error.VortexError.{VortexError}
-use Rattle.vortex_errors.specs.Answers.{AnswersUnlessMemory}
+use Rattle.vortex_errors.specs.Answers.{Answers, AnswersUnlessMemory}
 use Rattle.vortex_errors.proofs.Answering.{Answers-weaker}
 use Rattle.vortex_types.specs.LogicalTypes.{LogicalType}
 use Rattle.vortex_meaning.specs.Meaning.{Meaning}
@@ -11,7 +11,7 @@ use Rattle.vortex_meaning.specs.Functions.{Function, call_type}
 use Rattle.vortex_meaning.specs.Trees.{Tree, leaf, constant, call, trees_of, called, children_of}
 use Rattle.vortex_meaning.specs.Eval.{tree_type, tree_types}
 use Rattle.vortex_meaning.proofs.DriverSteps.{call_again}
-use Rattle.vortex_functions.specs.Binding.{IsCall, RefusesCall, AnswersBinding}
+use Rattle.vortex_functions.specs.Binding.{IsCall, RefusesCall}
 use Rattle.vortex_rules.proofs.NotRefused.{not_refused}
 use Rattle.vortex_rewriting.specs.Places.{with_children}
 
@@ -36,8 +36,10 @@ module _ {V O : Type 0} where
     pub others_refused : (e : VortexError) → RefusesCall m f us e → ⊥
     others_refused = not_refused m f us k others_typed
 
-    pub others_called : (r : Result (Tree V O) VortexError) → AnswersBinding m f us r
-        → AnswersUnlessMemory r (λ made. made ≡ with_children t us)
-    others_called r h =
-        Answers-weaker r (IsCall m f us) (λ made. made ≡ with_children t us) (RefusesCall m f us)
-        (λ e. ⊥) (λ made p. p.is ∙ with_children_call t f us is) others_refused h
+    pub others_called : {T : Type 0} (tree : T → Tree V O) (r : Result T VortexError)
+        → Answers r (λ made. IsCall m f us (tree made)) (RefusesCall m f us)
+        → AnswersUnlessMemory r (λ made. tree made ≡ with_children t us)
+    others_called tree r h =
+        Answers-weaker r (λ made. IsCall m f us (tree made))
+        (λ made. tree made ≡ with_children t us) (RefusesCall m f us) (λ e. ⊥)
+        (λ made p. p.is ∙ with_children_call t f us is) others_refused h

@@ -3,8 +3,6 @@
 
 pub mod laws;
 
-pub use vortex_array_rules::ArrayReduceNode;
-pub use vortex_array_rules::ReduceArray;
 pub use vortex_arrays::ArrayRef;
 pub use vortex_arrays::BetweenCall;
 pub use vortex_arrays::BinaryCall;
@@ -95,12 +93,16 @@ pub use vortex_rewriting::rewrite_at;
 pub use vortex_rewriting::rewrite_list;
 pub use vortex_rewriting::run;
 pub use vortex_rewriting::run_array;
+pub use vortex_rules::ArrayReduceNode;
+pub use vortex_rules::BoundTree;
 pub use vortex_rules::ExpressionReduceNode;
+pub use vortex_rules::ReduceArray;
 pub use vortex_rules::ReduceExpression;
 pub use vortex_rules::ReduceNode;
 pub use vortex_rules::ReduceNodeValidity;
 pub use vortex_rules::ReduceTree;
 pub use vortex_rules::ScalarFnRules;
 pub use vortex_rules::ShippedRules;
+pub use vortex_rules::TreeReduceNode;
 pub use vortex_rules::default_validity;
 pub use vortex_rules::union_child_validities;

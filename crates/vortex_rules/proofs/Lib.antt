@@ -7,3 +7,7 @@ pub mod DefaultValidities
 pub mod NotRefused
 pub mod Simplified
 pub mod Unions
+pub mod ArrayTrees
+pub mod ValidBits
+pub mod ValuesKept
+pub mod NodeLists

@@ -1,4 +1,6 @@
-pub mod ExpressionOf
+pub mod NodeTrees
+pub mod LeafValidity
+pub mod ColumnValidity
 pub mod FixedRules
 pub mod Identities
 pub mod Making

@@ -6,11 +6,11 @@ ghost use Rattle.vortex_rules.specs.Told.{told_node};
 ghost use Rattle.vortex_rules.specs.Reduced.{IsReducedBy, IsSimplifiedBy, IsValidityBy};
 
 use crate::boolean::reduce_boolean;
-use crate::expression_node::ExpressionReduceNode;
 use crate::node::{ReduceNodeValidity, ReduceTree};
 use crate::null_tests::{NullTest, reduce_null_test};
 use crate::rules::{ReduceNode, ScalarFnRules};
 use crate::simplify::simplify_operator;
+use crate::tree_node::ExpressionReduceNode;
 use crate::validity::default_validity;
 use std::alloc::Global;
 use std::borrow::Cow;

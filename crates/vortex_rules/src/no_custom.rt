@@ -1,6 +1,4 @@
 //! The function that stands where a caller has none has no rules.
-ghost use Rattle.vortex_meaning.specs.ValidityRules.{default_rules};
-ghost use Rattle.vortex_functions.specs.Fixed.{fixed_meaning};
 ghost use Rattle.vortex_rules.specs.FixedRules.{fixed_rules_lawful, fixed_identity};
 
 use crate::node::{ReduceNodeValidity, ReduceTree};
@@ -12,8 +10,6 @@ use vortex_functions::{BoundExpression, NoCustom, ScalarFnRef};
 use vortex_interface::{EmptyOptions, ScalarFnVTable};
 
 impl ScalarFnRules for NoCustom {
-    ghost rules = { default_rules fixed_meaning };
-
     fn reduce<T: ReduceTree<NoCustom>>(
         &self,
         _alloc: Global,

@@ -4,11 +4,11 @@ ghost use Rattle.vortex_meaning.specs.Functions.{Function};
 ghost use Rattle.vortex_meaning.specs.Rewrites.{Rewrites};
 ghost use Rattle.vortex_functions.specs.Words.{called, function_of, AnswersUnlessMemory};
 ghost use Rattle.vortex_rules.specs.Reduced.{IsReducedBy, IsSimplifiedBy};
-ghost use Rattle.vortex_rules.specs.ExpressionOf.{expression_of};
+ghost use Rattle.vortex_rules.specs.NodeTrees.{expression_of};
 
 use crate::dispatch::{reduce_call, simplify_call};
-use crate::expression_node::ExpressionReduceNode;
 use crate::rules::ScalarFnRules;
+use crate::tree_node::ExpressionReduceNode;
 use std::alloc::Global;
 use vortex_columns::VortexResult;
 use vortex_functions::{BoundExpression, ScalarFnRef};

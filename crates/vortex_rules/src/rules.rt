@@ -1,7 +1,6 @@
 //! The rules of callers' functions, and nodes that tell their validity.
 ghost use Rattle.std.specs.Prelude.{◌≡◌, IfOk, IfSome, Some};
 ghost use Rattle.vortex_meaning.specs.Functions.{custom};
-ghost use Rattle.vortex_meaning.specs.Rules.{Rules};
 ghost use Rattle.vortex_meaning.specs.Rewrites.{LawfulRules};
 ghost use Rattle.vortex_functions.specs.Words.{called, AnswersUnlessMemory};
 ghost use Rattle.vortex_rules.specs.Identities.{IsOwnIdentity};
@@ -16,13 +15,11 @@ use vortex_interface::ScalarFnVTable;
 
 /// The rules of a caller's function.
 ///
-/// What they say is a ghost member, of trees as values; the calls answer what it says of the tree
-/// that a node stands for, and refuse for memory alone. The member is lawful: what a call is
+/// What they say is the ghost member `rules` of the interface, of trees as values; the calls answer what it says of the
+/// tree that a node stands for, and refuse for memory alone. The member is lawful: what a call is
 /// rewritten to has its type and its values, and its validity says where it is null. A function
 /// without rules answers `Ok(None)`, and `default_validity`.
 pub trait ScalarFnRules: ScalarFnVTable {
-    ghost rules: { Rules Self Self.Options };
-
     /// What a call of this function with these options is reduced to, if a rule applies.
     fn reduce<T: ReduceTree<Self>>(
         &self,
@@ -32,7 +29,7 @@ pub trait ScalarFnRules: ScalarFnVTable {
     ) -> VortexResult<Option<T>>
         requires { called (T.tree node.now) ≡ Some (custom self.now options.now) }
         ensures answer { AnswersUnlessMemory result
-            (IsReducedBy Self.meaning rules T.tree (T.tree node.now)) }
+            (IsReducedBy Self.meaning Self.rules T.tree (T.tree node.now)) }
         ensures same_rows { IfOk result
             (λ answer. IfSome answer (λ made. T.rows made ≡ T.rows node.now)) };
 
@@ -45,7 +42,7 @@ pub trait ScalarFnRules: ScalarFnVTable {
     ) -> VortexResult<ReduceNodeValidity<T>>
         requires { called (T.tree node.now) ≡ Some (custom self.now options.now) }
         ensures answer { AnswersUnlessMemory result
-            (IsValidityBy Self.meaning rules T.tree (T.tree node.now)) }
+            (IsValidityBy Self.meaning Self.rules T.tree (T.tree node.now)) }
         ensures same_rows { IfOk result
             (λ answer. IfSome (told_node answer) (λ made. T.rows made ≡ T.rows node.now)) };
 
@@ -58,9 +55,9 @@ pub trait ScalarFnRules: ScalarFnVTable {
     ) -> VortexResult<Option<BoundExpression<Self>>>
         requires { called expression.now ≡ Some (custom self.now options.now) }
         ensures { AnswersUnlessMemory result
-            (IsSimplifiedBy Self.meaning rules (λ t. t) expression.now) };
+            (IsSimplifiedBy Self.meaning Self.rules (λ t. t) expression.now) };
 
-    ghost rules_lawful: { LawfulRules Self.meaning rules };
+    ghost rules_lawful: { LawfulRules Self.meaning Self.rules };
 
     ghost own_identity: { (f : Self) → IsOwnIdentity (Self.meaning.id f) };
 }

@@ -1,6 +1,7 @@
 -- What the contracts of this crate name.
 pub use Rattle.vortex_errors.specs.Answers.{AnswersUnlessMemory}
 pub use Rattle.vortex_types.specs.TypeOf.{type_of}
+pub use Rattle.vortex_meaning.specs.Rules.{no_rules}
 pub use Rattle.vortex_meaning.specs.Shipped.{Shipped, shipped_meaning, shipped_lawful}
 pub use Rattle.vortex_meaning.specs.Shipped.BinaryFunction.{binary_id, both_bool, compared_type, operator_type, operator_place}
 pub use Rattle.vortex_meaning.specs.Shipped.NotFunction.{not_id}

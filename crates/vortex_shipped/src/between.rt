@@ -1,7 +1,7 @@
 //! Between: whether a value lies between two bounds.
 ghost use Rattle.std.specs.Prelude.{◌≡◌, length, map};
 ghost use Rattle.vortex_meaning.specs.Shipped as shipped;
-ghost use Rattle.vortex_shipped.specs.Words.{AnswersUnlessMemory, AppendsCall, AnswersShippedType};
+ghost use Rattle.vortex_shipped.specs.Words.{no_rules, AnswersUnlessMemory, AppendsCall, AnswersShippedType};
 ghost use Rattle.vortex_shipped.specs.Words.{between_id, shipped_meaning, shipped_lawful};
 
 use std::alloc::Global;
@@ -45,6 +45,8 @@ impl ScalarFnVTable for Between {
     type Options = BetweenOptions;
 
     ghost meaning = { shipped_meaning between_id shipped.Between };
+
+    ghost rules = { no_rules };
 
     fn id(&self) -> ScalarFnId {
         "vortex.between"

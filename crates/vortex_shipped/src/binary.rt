@@ -1,7 +1,7 @@
 //! The operators of two operands.
 ghost use Rattle.std.specs.Prelude.{◌≡◌, length, map};
 ghost use Rattle.vortex_meaning.specs.Shipped as shipped;
-ghost use Rattle.vortex_shipped.specs.Words.{AnswersUnlessMemory, type_of, AppendsCall, AppendsOperator, binary_id, both_bool, compared_type, arithmetic_type, operator_type, operator_place, shipped_meaning, shipped_lawful, AnswersShippedType, IsTypeFound};
+ghost use Rattle.vortex_shipped.specs.Words.{no_rules, AnswersUnlessMemory, type_of, AppendsCall, AppendsOperator, binary_id, both_bool, compared_type, arithmetic_type, operator_type, operator_place, shipped_meaning, shipped_lawful, AnswersShippedType, IsTypeFound};
 
 use std::alloc::Global;
 use vortex_columns::{
@@ -106,6 +106,8 @@ impl ScalarFnVTable for Binary {
     type Options = Operator;
 
     ghost meaning = { shipped_meaning binary_id shipped.Binary };
+
+    ghost rules = { no_rules };
 
     fn id(&self) -> ScalarFnId {
         "vortex.binary"

@@ -1,6 +1,6 @@
 //! Cast of Bool to the nullable one.
 ghost use Rattle.vortex_meaning.specs.Shipped as shipped;
-ghost use Rattle.vortex_shipped.specs.Words.{AnswersUnlessMemory, AppendsCall, cast_id};
+ghost use Rattle.vortex_shipped.specs.Words.{no_rules, AnswersUnlessMemory, AppendsCall, cast_id};
 ghost use Rattle.vortex_shipped.specs.Words.{shipped_meaning, shipped_lawful, AnswersShippedType};
 
 use std::alloc::Global;
@@ -46,6 +46,8 @@ impl ScalarFnVTable for Cast {
     type Options = CastOptions;
 
     ghost meaning = { shipped_meaning cast_id (λ _. shipped.Cast) };
+
+    ghost rules = { no_rules };
 
     fn id(&self) -> ScalarFnId {
         "vortex.cast"

@@ -1,7 +1,7 @@
 //! LIKE and ILIKE of a text and a pattern.
 ghost use Rattle.std.specs.Prelude.{◌≡◌, length};
 ghost use Rattle.vortex_meaning.specs.Shipped as shipped;
-ghost use Rattle.vortex_shipped.specs.Words.{AnswersUnlessMemory, AppendsCall, like_id, like_words};
+ghost use Rattle.vortex_shipped.specs.Words.{no_rules, AnswersUnlessMemory, AppendsCall, like_id, like_words};
 ghost use Rattle.vortex_shipped.specs.Words.{shipped_meaning, shipped_lawful, AnswersShippedType};
 
 use std::alloc::Global;
@@ -33,6 +33,8 @@ impl ScalarFnVTable for Like {
     type Options = LikeOptions;
 
     ghost meaning = { shipped_meaning like_id shipped.Like };
+
+    ghost rules = { no_rules };
 
     fn id(&self) -> ScalarFnId {
         "vortex.like"

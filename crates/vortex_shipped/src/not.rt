@@ -1,6 +1,6 @@
 //! Kleene's Not.
 ghost use Rattle.vortex_meaning.specs.Shipped as shipped;
-ghost use Rattle.vortex_shipped.specs.Words.{AnswersUnlessMemory, AppendsCall, not_id, shipped_meaning, shipped_lawful, AnswersShippedType};
+ghost use Rattle.vortex_shipped.specs.Words.{no_rules, AnswersUnlessMemory, AppendsCall, not_id, shipped_meaning, shipped_lawful, AnswersShippedType};
 
 use std::alloc::Global;
 use vortex_columns::{
@@ -19,6 +19,8 @@ impl ScalarFnVTable for Not {
     type Options = EmptyOptions;
 
     ghost meaning = { shipped_meaning not_id (λ _. shipped.Not) };
+
+    ghost rules = { no_rules };
 
     fn id(&self) -> ScalarFnId {
         "vortex.not"

@@ -1,7 +1,7 @@
 //! The null tests: whether a row of any type is null, and whether it is not.
 ghost use Rattle.std.specs.Prelude.{◌≡◌, length};
 ghost use Rattle.vortex_meaning.specs.Shipped as shipped;
-ghost use Rattle.vortex_shipped.specs.Words.{AnswersUnlessMemory, AppendsCall, AnswersShippedType};
+ghost use Rattle.vortex_shipped.specs.Words.{no_rules, AnswersUnlessMemory, AppendsCall, AnswersShippedType};
 ghost use Rattle.vortex_shipped.specs.Words.{is_null_id, is_not_null_id, shipped_meaning};
 ghost use Rattle.vortex_shipped.specs.Words.{shipped_lawful};
 
@@ -20,6 +20,8 @@ impl ScalarFnVTable for IsNull {
     type Options = EmptyOptions;
 
     ghost meaning = { shipped_meaning is_null_id (λ _. shipped.IsNull) };
+
+    ghost rules = { no_rules };
 
     fn id(&self) -> ScalarFnId {
         "vortex.is_null"
@@ -95,6 +97,8 @@ impl ScalarFnVTable for IsNotNull {
     type Options = EmptyOptions;
 
     ghost meaning = { shipped_meaning is_not_null_id (λ _. shipped.IsNotNull) };
+
+    ghost rules = { no_rules };
 
     fn id(&self) -> ScalarFnId {
         "vortex.is_not_null"

@@ -1,42 +1,26 @@
 //! Copies of an array.
 ghost use Rattle.std.specs.Prelude.{◌≡◌};
-ghost use Rattle.vortex_arrays.specs.Words.{children_in, AllMean, AnswersUnlessMemory, IsCopy};
+ghost use Rattle.vortex_arrays.specs.Words.{AnswersUnlessMemory};
 
 use super::{ArrayRef, Node};
 use std::alloc::Global;
 use vortex_columns::VortexResult;
-use vortex_functions::walk;
 use vortex_interface::ScalarFnVTable;
 
 impl<C: ScalarFnVTable> ArrayRef<C> {
-    /// A copy of the node, over those of its children.
-    fn copy_over(&self, copies: Vec<ArrayRef<C>>, alloc: Global) -> VortexResult<ArrayRef<C>>
-        requires { AllMean IsCopy (children_in self.now) copies.items }
-        ensures { AnswersUnlessMemory result (IsCopy self.now) }
-    {
-        match &self.node {
-            Node::Column(column) => {
-                let column = column.try_clone(alloc)?;
-                Ok(ArrayRef {
-                    node: Node::Column(column),
-                    len: self.len,
-                })
-            }
-            Node::Call(function, _, dtype, weight) => {
-                let function = function.try_clone(alloc)?;
-                let dtype = dtype.try_clone(alloc)?;
-                Ok(ArrayRef {
-                    node: Node::Call(function, copies, dtype, *weight),
-                    len: self.len,
-                })
-            }
-        }
-    }
-
-    /// A copy that equals its source.
+    /// A copy that equals its source. It is a handle: it shares the columns and the calls, takes no
+    /// memory, and is refused only where no more handles can be counted.
     pub fn try_clone(&self, alloc: Global) -> VortexResult<ArrayRef<C>>
         ensures { AnswersUnlessMemory result (λ a. a ≡ self.now) }
     {
-        walk!(self, alloc, node, copies => node.copy_over(copies, alloc))
+        let node = match &self.node {
+            Node::Column(column) => Node::Column(column.clone()?),
+            Node::Nulls(column) => Node::Nulls(column.try_clone(alloc)?),
+            Node::Call(parts) => Node::Call(parts.clone()?),
+        };
+        Ok(ArrayRef {
+            node,
+            len: self.len,
+        })
     }
 }

@@ -18,10 +18,11 @@ impl<C: ScalarFnVTable> ArrayRef<C> {
         ensures { AnswersArray C.meaning self.now result }
     {
         match &self.node {
-            Node::Column(column) => Ok(Cow::Borrowed(column)),
-            Node::Call(function, _, _, _) => {
+            Node::Column(column) => Ok(Cow::Borrowed(&**column)),
+            Node::Nulls(column) => Ok(Cow::Borrowed(column)),
+            Node::Call(parts) => {
                 let args = VecExecutionArgs::new(inputs, self.len);
-                Ok(Cow::Owned(function.execute(&args, ctx)?))
+                Ok(Cow::Owned(parts.function.execute(&args, ctx)?))
             }
         }
     }
@@ -41,8 +42,9 @@ impl<C: ScalarFnVTable> ArrayRef<C> {
         ensures lent { LendsColumn self.now result }
     {
         match &self.node {
-            Node::Column(column) => Ok(Cow::Borrowed(column)),
-            Node::Call(_, _, _, _) => self.compute(ctx),
+            Node::Column(column) => Ok(Cow::Borrowed(&**column)),
+            Node::Nulls(column) => Ok(Cow::Borrowed(column)),
+            Node::Call(_) => self.compute(ctx),
         }
     }
 }

@@ -35,7 +35,7 @@ impl<C: ScalarFnVTable> BoundExpression<C> {
                 None => false,
             },
             Node::Literal(_, _) => true,
-            Node::Call(_, _, _, _) => true,
+            Node::Call(_) => true,
         }
     }
 
@@ -67,7 +67,7 @@ impl<C: ScalarFnVTable> BoundExpression<C> {
         match &self.node {
             Node::Column(_, _, _) => Ok(self.node_fits(columns)),
             Node::Literal(_, _) => Ok(true),
-            Node::Call(_, _, _, _) => self.nodes_fit(columns, ctx),
+            Node::Call(_) => self.nodes_fit(columns, ctx),
         }
     }
 
@@ -117,9 +117,9 @@ impl<C: ScalarFnVTable> BoundExpression<C> {
                 let scalar = scalar.try_clone(ctx.alloc())?;
                 Ok(Cow::Owned(Column::constant(ctx.alloc(), scalar, row_count)?))
             }
-            Node::Call(function, _, _, _) => {
+            Node::Call(parts) => {
                 let args = VecExecutionArgs::new(inputs, row_count);
-                Ok(Cow::Owned(function.execute(&args, ctx)?))
+                Ok(Cow::Owned(parts.function.execute(&args, ctx)?))
             }
         }
     }
@@ -151,7 +151,7 @@ impl<C: ScalarFnVTable> BoundExpression<C> {
         match &self.node {
             Node::Column(place, _, _) => Ok(Cow::Borrowed(&columns[*place])),
             Node::Literal(_, _) => self.compute(columns, row_count, ctx),
-            Node::Call(_, _, _, _) => self.compute(columns, row_count, ctx),
+            Node::Call(_) => self.compute(columns, row_count, ctx),
         }
     }
 

@@ -25,8 +25,8 @@ impl<C: ScalarFnVTable> BoundExpression<C> {
                 write_literal(&mut text, Shape::Of(scalar.dtype()), &scalar.cell())?;
                 Ok(text)
             }
-            Node::Call(function, _, _, _) => {
-                function.fmt_sql(&texts, &mut text)?;
+            Node::Call(parts) => {
+                parts.function.fmt_sql(&texts, &mut text)?;
                 Ok(text)
             }
         }
@@ -54,7 +54,7 @@ impl<C: ScalarFnVTable> fmt::Display for BoundExpression<C> {
         let alloc = match &self.node {
             Node::Column(_, name, _) => *name.allocator(),
             Node::Literal(_, alloc) => *alloc,
-            Node::Call(_, children, _, _) => *children.allocator(),
+            Node::Call(parts) => *parts.children.allocator(),
         };
         match self.sql_text(alloc) {
             Ok(text) => write!(f, "{text}"),

@@ -4,7 +4,7 @@ use Rattle.vortex_rewriting.proofs.children.children_with.Goals as goal
 
 pub returns-clause-answer : goal.returns-clause-answer
 returns-clause-answer g c =
-    let tree = g.T.RewriteTree.tree in
+    let tree = g.T.BoundTree.tree in
     let child = c.args.child in
     let old = c.children-old-items.result.now in
     let whole = take_all c.loop-old.old-index old (omega (arith, c.loop-old-test.false)) in

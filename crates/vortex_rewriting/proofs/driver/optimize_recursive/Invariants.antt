@@ -6,10 +6,10 @@ use Rattle.vortex_rewriting.proofs.driver.optimize_recursive.Given as goal
 -- the run so far
 abbrev pub invariant-loop-steps : goal.invariant-loop-steps
 invariant-loop-steps g l = record {
-  run : Runs (first_rule g.T.RewriteTree.applied) l.steps (g.T.RewriteTree.tree l.tree)
-      (g.T.RewriteTree.tree l.last);
+  run : Runs (first_rule g.T.RewriteTree.applied) l.steps (g.T.BoundTree.tree l.tree)
+      (g.T.BoundTree.tree l.last);
   within : l.steps ≤ l.limit;
-  same_rows : g.T.RewriteTree.rows l.last ≡ g.T.RewriteTree.rows l.tree;
+  same_rows : g.T.BoundTree.rows l.last ≡ g.T.BoundTree.rows l.tree;
 }
 
 abbrev pub decreases-loop-steps : goal.decreases-loop-steps

@@ -4,7 +4,7 @@ use Rattle.vortex_rewriting.proofs.places.rewrite_at.Goals as goal
 
 pub returns-clause-kept : goal.returns-clause-kept
 returns-clause-kept g c =
-    let tree = g.T.RewriteTree.tree in
+    let tree = g.T.BoundTree.tree in
     let rule = c.args.rule in
     at_place_kept g.C.ScalarFnVTable.meaning tree (g.T.RewriteTree.applied rule) c.args.path.now
     (tree c.args.tree.now) (type_of c.dtype-typed.result.now) c.dtype-typed.ensures
@@ -12,7 +12,7 @@ returns-clause-kept g c =
 
 pub returns-clause-lighter : goal.returns-clause-lighter
 returns-clause-lighter g c =
-    let tree = g.T.RewriteTree.tree in
+    let tree = g.T.BoundTree.tree in
     let rule = c.args.rule in
     at_place_lighter g.C.ScalarFnVTable.meaning tree (g.T.RewriteTree.applied rule) c.args.path.now
     (tree c.args.tree.now) (type_of c.dtype-typed.result.now) c.dtype-typed.ensures
@@ -20,7 +20,7 @@ returns-clause-lighter g c =
 
 pub returns-clause-fewer : goal.returns-clause-fewer
 returns-clause-fewer g c =
-    let tree = g.T.RewriteTree.tree in
+    let tree = g.T.BoundTree.tree in
     let rule = c.args.rule in
     at_place_fewer g.C.ScalarFnVTable.meaning tree (g.T.RewriteTree.applied rule) c.args.path.now
     (tree c.args.tree.now) (type_of c.dtype-typed.result.now) c.dtype-typed.ensures

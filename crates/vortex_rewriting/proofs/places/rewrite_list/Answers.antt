@@ -11,7 +11,7 @@ use Rattle.vortex_rewriting.proofs.places.rewrite_list.Goals.{in-Some, in_defaul
 
 pub loop-step-preserved : goal.loop-step-preserved
 loop-step-preserved g c =
-    let tree = g.T.RewriteTree.tree in
+    let tree = g.T.BoundTree.tree in
     let apply = g.T.RewriteTree.applied in
     let steps = c.args.steps.now in
     let k = c.loop-step.step-index in
@@ -39,7 +39,7 @@ loop-step-preserved g c =
 
 pub returns-in_err-new-clause-answer : goal.returns-in_err-new-clause-answer
 returns-in_err-new-clause-answer g c =
-    let tree = g.T.RewriteTree.tree in
+    let tree = g.T.BoundTree.tree in
     let apply = g.T.RewriteTree.applied in
     let steps = c.args.steps.now in
     let t = tree c.args.tree.now in
@@ -53,7 +53,7 @@ returns-in_err-new-clause-answer g c =
 
 pub returns-clause-kept : goal.returns-clause-kept
 returns-clause-kept g c =
-    let tree = g.T.RewriteTree.tree in
+    let tree = g.T.BoundTree.tree in
     let apply = g.T.RewriteTree.applied in
     let steps = c.args.steps.now in
     let t = tree c.args.tree.now in
@@ -66,7 +66,7 @@ returns-clause-kept g c =
 
 pub returns-clause-lighter : goal.returns-clause-lighter
 returns-clause-lighter g c =
-    let tree = g.T.RewriteTree.tree in
+    let tree = g.T.BoundTree.tree in
     let apply = g.T.RewriteTree.applied in
     let steps = c.args.steps.now in
     let t = tree c.args.tree.now in
@@ -80,7 +80,7 @@ returns-clause-lighter g c =
 
 pub returns-clause-fewer : goal.returns-clause-fewer
 returns-clause-fewer g c =
-    let tree = g.T.RewriteTree.tree in
+    let tree = g.T.BoundTree.tree in
     let apply = g.T.RewriteTree.applied in
     let steps = c.args.steps.now in
     let t = tree c.args.tree.now in

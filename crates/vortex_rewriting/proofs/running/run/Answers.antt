@@ -12,7 +12,7 @@ returns-in_err-check_columns g c =
     let m = g.C.ScalarFnVTable.meaning in
     let cs = c.args.columns.now in
     let n = c.args.row_count in
-    let rule = expression_step m g.C.ScalarFnRules.rules in
+    let rule = expression_step m g.C.ScalarFnVTable.rules in
     let p =
     err_from_is_err_and c.from_residual.result c.from_residual.ensures.1 in
     rw (p.1, p.2)
@@ -23,7 +23,7 @@ returns-in_err-check_columns g c =
 pub returns : goal.returns
 returns g c =
     let m = g.C.ScalarFnVTable.meaning in
-    let r = g.C.ScalarFnRules.rules in
+    let r = g.C.ScalarFnVTable.rules in
     let o = c.in_ok-optimized.optimized in
     let ended = runs_to (expression_step m r) c.args.limit o.steps c.args.tree.now o.tree o.done
     c.in_ok-optimized.ensures.run c.in_ok-optimized.ensures.limited c.in_ok-optimized.ensures.done

@@ -14,7 +14,7 @@ use Rattle.vortex_rewriting.proofs.running.run_array.Goals as goal
 pub returns-in_err-column : goal.returns-in_err-column
 returns-in_err-column g c =
     let m = g.C.ScalarFnVTable.meaning in
-    let r = g.C.ScalarFnRules.rules in
+    let r = g.C.ScalarFnVTable.rules in
     let a = c.args.tree.now in
     let o = c.in_ok-optimized.optimized in
     let ended = runs_to (array_step m r) c.args.limit o.steps (tree_in a) (tree_in o.tree) o.done
@@ -34,7 +34,7 @@ returns-in_err-column g c =
 pub returns : goal.returns
 returns g c =
     let m = g.C.ScalarFnVTable.meaning in
-    let r = g.C.ScalarFnRules.rules in
+    let r = g.C.ScalarFnVTable.rules in
     let a = c.args.tree.now in
     let o = c.in_ok-optimized.optimized in
     let ended = runs_to (array_step m r) c.args.limit o.steps (tree_in a) (tree_in o.tree) o.done

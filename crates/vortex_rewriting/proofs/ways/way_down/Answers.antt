@@ -8,8 +8,8 @@ use Rattle.vortex_rewriting.proofs.ways.way_down.Goals as goal
 
 pub loop-first-preserved : goal.loop-first-preserved
 loop-first-preserved g c =
-    let tree = g.T.RewriteTree.tree in
-    let rows = g.T.RewriteTree.rows in
+    let tree = g.T.BoundTree.tree in
+    let rows = g.T.BoundTree.rows in
     let f : Parent g.row.T.Denot → Tree g.row.C.Denot g.row.C-Options.Denot × ℕ =
     λ p. (tree p.node.now, p.index) in
     let i = c.loop-first.invariant in

@@ -9,7 +9,7 @@ use Rattle.vortex_rewriting.proofs.ways.way_up.Goals as goal
 
 pub with_child-requires-clause-is_child : goal.with_child-requires-clause-is_child
 with_child-requires-clause-is_child g c =
-    let tree = g.T.RewriteTree.tree in
+    let tree = g.T.BoundTree.tree in
     let i = c.loop-parent.invariant in
     let p = c.in-Some.parent in
     let at = way_above (λ (p : Parent g.row.T.Denot). (tree p.node.now, p.index))
@@ -20,7 +20,7 @@ with_child-requires-clause-is_child g c =
 pub with_child-requires-clause-same_type : goal.with_child-requires-clause-same_type
 with_child-requires-clause-same_type g c =
     let m = g.C.ScalarFnVTable.meaning in
-    let tree = g.T.RewriteTree.tree in
+    let tree = g.T.BoundTree.tree in
     let i = c.loop-parent.invariant in
     let p = c.in-Some.parent in
     let at = way_above (λ (p : Parent g.row.T.Denot). (tree p.node.now, p.index))
@@ -33,8 +33,8 @@ with_child-requires-clause-same_type g c =
 pub loop-parent-preserved : goal.loop-parent-preserved
 loop-parent-preserved g c =
     let m = g.C.ScalarFnVTable.meaning in
-    let tree = g.T.RewriteTree.tree in
-    let rows = g.T.RewriteTree.rows in
+    let tree = g.T.BoundTree.tree in
+    let rows = g.T.BoundTree.rows in
     let f : Parent g.row.T.Denot → Tree g.row.C.Denot g.row.C-Options.Denot × ℕ =
     λ p. (tree p.node.now, p.index) in
     let i = c.loop-parent.invariant in

@@ -11,7 +11,7 @@ use Rattle.vortex_rules.proofs.dispatch.validity_call.Goals as goal
 pub returns-in_default : goal.returns-in_default
 returns-in_default g c =
     let m = g.C.ScalarFnVTable.meaning in
-    let r = g.C.ScalarFnRules.rules in
+    let r = g.C.ScalarFnVTable.rules in
     let of_node = g.T.ReduceTree.tree in
     let t = of_node c.args.node.now in
     let f = c.args.function.now in

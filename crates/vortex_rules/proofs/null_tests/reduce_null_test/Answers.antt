@@ -21,7 +21,7 @@ child-requires g c =
 pub by_validity-requires-clause-truth : goal.by_validity-requires-clause-truth
 by_validity-requires-clause-truth g c =
     let m = g.C.ScalarFnVTable.meaning in
-    let r = g.C.ScalarFnRules.rules in
+    let r = g.C.ScalarFnVTable.rules in
     let of_node = g.T.ReduceTree.tree in
     let x = of_node c.in_ok-operand.operand in
     let v = of_node c.in-Reduced.valid in
@@ -35,7 +35,7 @@ by_validity-requires-clause-truth g c =
 pub returns-clause-answer : goal.returns-clause-answer
 returns-clause-answer g c =
     let m = g.C.ScalarFnVTable.meaning in
-    let r = g.C.ScalarFnRules.rules in
+    let r = g.C.ScalarFnVTable.rules in
     let of_node = g.T.ReduceTree.tree in
     let t = of_node c.args.node.now in
     let x = of_node c.in_ok-operand.operand in

@@ -1,4 +1,4 @@
-use Rattle.std.proofs.Common.{◌≡◌, ◌+◌, subst, ap, sym, ◌∙◌, length, map, refl, true}
+use Rattle.std.proofs.Common.{◌≡◌, ◌+◌, subst, ap, sym, ◌∙◌, length, map, refl, true, true≢false}
 use Rattle.std.specs.Prelude.{All, Some, None}
 use Rattle.std.proofs.lemmas.Result.{err_from_is_err_and}
 use Rattle.vortex_types.specs.TypeOf.{type_of}
@@ -19,7 +19,7 @@ pub returns-in-Some : goal.returns-in-Some
 returns-in-Some g c =
     let arity : fits (function_arity g.C.ScalarFnVTable.meaning (function_of c.args.function))
     (length c.args.children.items) ≡ true =
-    (λ j. fits (sym c.signature-arity.ensures.arity j)
+    (λ j. fits (sym c.signature.ensures.arity j)
     (sym (c.len-given.ensures ∙ c.args.children.ok.0) j))
     ∙ sym c.matches.ensures
     ∙ c.if-not-matches.false in
@@ -33,7 +33,7 @@ return_dtype-requires g c =
     let f = function_of c.args.function in
     let xs = c.args.children.items in
     let arity : fits (function_arity m f) (length xs) ≡ true =
-    (λ j. fits (sym c.signature-arity.ensures.arity j)
+    (λ j. fits (sym c.signature.ensures.arity j)
     (sym (c.len-given.ensures ∙ c.args.children.ok.0) j))
     ∙ sym c.matches.ensures
     ∙ c.if-not-matches.false in
@@ -51,7 +51,7 @@ returns-in_err-dtype g c =
     let f = function_of c.args.function in
     let xs = c.args.children.items in
     let arity : fits (function_arity m f) (length xs) ≡ true =
-    (λ j. fits (sym c.signature-arity.ensures.arity j)
+    (λ j. fits (sym c.signature.ensures.arity j)
     (sym (c.len-given.ensures ∙ c.args.children.ok.0) j))
     ∙ sym c.matches.ensures
     ∙ c.if-not-matches.false in
@@ -74,7 +74,7 @@ invariant_of-result g c =
     let f = function_of c.args.function in
     let xs = c.args.children.items in
     let arity : fits (function_arity m f) (length xs) ≡ true =
-    (λ j. fits (sym c.signature-arity.ensures.arity j)
+    (λ j. fits (sym c.signature.ensures.arity j)
     (sym (c.len-given.ensures ∙ c.args.children.ok.0) j))
     ∙ sym c.matches.ensures
     ∙ c.if-not-matches.false in
@@ -86,7 +86,8 @@ invariant_of-result g c =
     ∙ ap (λ ds. Some (map type_of ds)) (sym c.deref-3.ensures.value) in
     let all = subst (All IsTyped) c.deref-2.ensures.value c.in_ok-dtypes.ensures.typed in
     let has_type = array_is_typed m f xs c.args.len c.deref-3.result.now typed arity even
-    (type_of c.in_ok-dtype.dtype) c.in_ok-dtype.ensures in (
+    (type_of c.in_ok-dtype.dtype) c.in_ok-dtype.ensures in
+    rw c.in_ok-new.ensures.ok (
       (
         has_type,
         even,
@@ -95,6 +96,7 @@ invariant_of-result g c =
             (c.call_weight-weight.ensures
             ∙ ap (λ ys. told (added f c.is_nullable.result + weights m (trees_of (trees_in ys))))
             c.deref-4.ensures.value),
+        λ marked. absurd (true≢false (sym marked)),
       ),
       children_typed c.args.len xs even all,
     )

@@ -6,7 +6,7 @@ use Rattle.vortex_types.specs.TypeOf.{type_of}
 use Rattle.vortex_meaning.specs.Trees.{call, trees_of}
 use Rattle.vortex_meaning.specs.Eval.{tree_type}
 use Rattle.vortex_functions.specs.FunctionOf.{function_of}
-use Rattle.vortex_functions.specs.Nodes.{IsNode, node_tree}
+use Rattle.vortex_functions.specs.Nodes.{IsNode, call_of, node_tree}
 use Rattle.vortex_functions.proofs.Execution.{AllHaveRows, self_faults, self_rows, counts_are, accepted, leaf_rows, constant_rows}
 use Rattle.vortex_functions.proofs.Inputs.{rows_beside}
 use Rattle.vortex_functions.proofs.tree.BoundExpression.compute_over.Goals as goal
@@ -14,8 +14,8 @@ use Rattle.vortex_functions.proofs.tree.BoundExpression.compute_over.Goals as go
 pub new-args-requires : goal.new-args-requires
 new-args-requires g c =
     let m = g.C.ScalarFnVTable.meaning in
-    let f = function_of c.in-Call.function in
-    let ts = c.in-Call.field-1.items in
+    let f = function_of c.in-Call.parts.value.function in
+    let ts = c.in-Call.parts.value.children.items in
     let is : c.args.self.now ≡ call f (trees_of ts) =
     sym c.self.view_is ∙ ap node_tree c.in-Call.is in
     counts_are m c.args.columns.now c.args.row_count _ _
@@ -27,13 +27,16 @@ execute-requires-clause-arity g c =
     let m = g.C.ScalarFnVTable.meaning in
     let cs = c.args.columns.now in
     let n = c.args.row_count in
-    let f = function_of c.in-Call.function in
-    let ts = c.in-Call.field-1.items in
-    let dtype = type_of c.in-Call.field-2 in
+    let parts = c.deref.result.now in
+    let f = function_of parts.function in
+    let ts = parts.children.items in
+    let dtype = type_of parts.dtype in
+    let lent : c.in-Call.parts.value ≡ parts = sym c.deref.ensures in
     let is : c.args.self.now ≡ call f (trees_of ts) =
-    sym c.self.view_is ∙ ap node_tree c.in-Call.is in
+    sym c.self.view_is ∙ ap node_tree c.in-Call.is ∙ ap call_of lent in
+    let node = subst (IsNode m g.C.ScalarFnVTable.rules) c.in-Call.is c.self.invariant.0 in
     let typed : tree_type m (call f (trees_of ts)) ≡ Some dtype =
-    (subst (λ x. IsNode m x) c.in-Call.is c.self.invariant.0).0 in
+    subst (λ p. tree_type m (call_of p) ≡ Some (type_of p.dtype)) lent node.0 in
     let given = c.new-args.result.columns in
     let all : AllHaveRows m cs n ts given =
     rw c.new-args.ensures.columns
@@ -45,13 +48,16 @@ execute-requires-clause-accepted g c =
     let m = g.C.ScalarFnVTable.meaning in
     let cs = c.args.columns.now in
     let n = c.args.row_count in
-    let f = function_of c.in-Call.function in
-    let ts = c.in-Call.field-1.items in
-    let dtype = type_of c.in-Call.field-2 in
+    let parts = c.deref.result.now in
+    let f = function_of parts.function in
+    let ts = parts.children.items in
+    let dtype = type_of parts.dtype in
+    let lent : c.in-Call.parts.value ≡ parts = sym c.deref.ensures in
     let is : c.args.self.now ≡ call f (trees_of ts) =
-    sym c.self.view_is ∙ ap node_tree c.in-Call.is in
+    sym c.self.view_is ∙ ap node_tree c.in-Call.is ∙ ap call_of lent in
+    let node = subst (IsNode m g.C.ScalarFnVTable.rules) c.in-Call.is c.self.invariant.0 in
     let typed : tree_type m (call f (trees_of ts)) ≡ Some dtype =
-    (subst (λ x. IsNode m x) c.in-Call.is c.self.invariant.0).0 in
+    subst (λ p. tree_type m (call_of p) ≡ Some (type_of p.dtype)) lent node.0 in
     let given = c.new-args.result.columns in
     let all : AllHaveRows m cs n ts given =
     rw c.new-args.ensures.columns
@@ -64,10 +70,11 @@ returns-in_err-execute-in-Call g c =
     let m = g.C.ScalarFnVTable.meaning in
     let cs = c.args.columns.now in
     let n = c.args.row_count in
-    let f = function_of c.in-Call.function in
-    let ts = c.in-Call.field-1.items in
+    let parts = c.deref.result.now in
+    let f = function_of parts.function in
+    let ts = parts.children.items in
     let is : c.args.self.now ≡ call f (trees_of ts) =
-    sym c.self.view_is ∙ ap node_tree c.in-Call.is in
+    sym c.self.view_is ∙ ap node_tree c.in-Call.is ∙ ap call_of (sym c.deref.ensures) in
     let given = c.new-args.result.columns in
     let all : AllHaveRows m cs n ts given =
     rw c.new-args.ensures.columns
@@ -84,13 +91,16 @@ returns g c =
     let m = g.C.ScalarFnVTable.meaning in
     let cs = c.args.columns.now in
     let n = c.args.row_count in
-    let f = function_of c.in-Call.function in
-    let ts = c.in-Call.field-1.items in
-    let dtype = type_of c.in-Call.field-2 in
+    let parts = c.deref.result.now in
+    let f = function_of parts.function in
+    let ts = parts.children.items in
+    let dtype = type_of parts.dtype in
+    let lent : c.in-Call.parts.value ≡ parts = sym c.deref.ensures in
     let is : c.args.self.now ≡ call f (trees_of ts) =
-    sym c.self.view_is ∙ ap node_tree c.in-Call.is in
+    sym c.self.view_is ∙ ap node_tree c.in-Call.is ∙ ap call_of lent in
+    let node = subst (IsNode m g.C.ScalarFnVTable.rules) c.in-Call.is c.self.invariant.0 in
     let typed : tree_type m (call f (trees_of ts)) ≡ Some dtype =
-    (subst (λ x. IsNode m x) c.in-Call.is c.self.invariant.0).0 in
+    subst (λ p. tree_type m (call_of p) ≡ Some (type_of p.dtype)) lent node.0 in
     let given = c.new-args.result.columns in
     let all : AllHaveRows m cs n ts given =
     rw c.new-args.ensures.columns

@@ -7,7 +7,7 @@ use Rattle.vortex_meaning.specs.Functions.{function_arity}
 use Rattle.vortex_meaning.specs.Trees.{call, trees_of}
 use Rattle.vortex_meaning.specs.Eval.{tree_type}
 use Rattle.vortex_functions.specs.FunctionOf.{function_of}
-use Rattle.vortex_functions.specs.Nodes.{IsNode, node_tree}
+use Rattle.vortex_functions.specs.Nodes.{IsNode, call_of, node_tree}
 use Rattle.vortex_functions.specs.Texts.{IsTextOf}
 use Rattle.vortex_functions.proofs.Inputs.{made_of_items}
 use Rattle.vortex_functions.proofs.TreeTexts.{AreTexts, all_texts, call_has_text, literal_has_text, children_fit}
@@ -16,31 +16,35 @@ use Rattle.vortex_functions.proofs.tree.BoundExpression.text_over.Goals as goal
 pub fmt_sql-requires : goal.fmt_sql-requires
 fmt_sql-requires g c =
     let m = g.C.ScalarFnVTable.meaning in
-    let f = function_of c.in-Call.function in
-    let ts = c.in-Call.field-1.items in
+    let parts = c.deref.result.now in
+    let f = function_of parts.function in
+    let ts = parts.children.items in
+    let lent : c.in-Call.parts.value ≡ parts = sym c.deref.ensures in
     let is : c.args.self.now ≡ call f (trees_of ts) =
-    sym c.self.view_is ∙ ap node_tree c.in-Call.is in
-    let typed : tree_type m (call f (trees_of ts)) ≡ Some (type_of c.in-Call.field-2) =
-    (subst (λ n. IsNode m n) c.in-Call.is c.self.invariant.0).0 in
+    sym c.self.view_is ∙ ap node_tree c.in-Call.is ∙ ap call_of lent in
+    let node = subst (IsNode m g.C.ScalarFnVTable.rules) c.in-Call.is c.self.invariant.0 in
+    let typed : tree_type m (call f (trees_of ts)) ≡ Some (type_of parts.dtype) =
+    subst (λ p. tree_type m (call_of p) ≡ Some (type_of p.dtype)) lent node.0 in
     let all : AreTexts ts (map string_bytes c.args.texts.items) =
     all_texts ts c.args.texts.items
     (made_of_items IsTextOf c.args.self.now f ts c.args.texts.items is c.requires) in
-    let count : length c.deref.result.now ≡ length ts =
-    ap length c.deref.ensures.value ∙ sym (length-map c.args.texts.items string_bytes) ∙ all.0 in
+    let count : length c.deref-in-Call.result.now ≡ length ts =
+    ap length c.deref-in-Call.ensures.value ∙ sym (length-map c.args.texts.items string_bytes) ∙ all.0 in
     ap (λ (n : ℕ). fits (function_arity m f) n) count
-    ∙ children_fit m f ts (type_of c.in-Call.field-2) typed
+    ∙ children_fit m f ts (type_of parts.dtype) typed
 
 pub returns : goal.returns
 returns g c =
-    let f = function_of c.in-Call.function in
-    let ts = c.in-Call.field-1.items in
+    let parts = c.deref.result.now in
+    let f = function_of parts.function in
+    let ts = parts.children.items in
     let is : c.args.self.now ≡ call f (trees_of ts) =
-    sym c.self.view_is ∙ ap node_tree c.in-Call.is in
-    let all : AreTexts ts (map string_bytes c.deref.result.now) =
-    rw c.deref.ensures.value
+    sym c.self.view_is ∙ ap node_tree c.in-Call.is ∙ ap call_of (sym c.deref.ensures) in
+    let all : AreTexts ts (map string_bytes c.deref-in-Call.result.now) =
+    rw c.deref-in-Call.ensures.value
     (all_texts ts c.args.texts.items
     (made_of_items IsTextOf c.args.self.now f ts c.args.texts.items is c.requires)) in
-    call_has_text c.args.self.now f ts (map string_bytes c.deref.result.now)
+    call_has_text c.args.self.now f ts (map string_bytes c.deref-in-Call.result.now)
     (string_bytes c.new-text.result) (string_bytes c.fmt_sql.new.out) is all
     c.new-text.ensures.bytes c.in_ok-fmt_sql-in-Call.ensures
 

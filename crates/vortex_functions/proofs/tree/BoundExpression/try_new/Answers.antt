@@ -1,4 +1,4 @@
-use Rattle.std.proofs.Common.{◌≡◌, ◌+◌, ap, sym, subst, ◌∙◌, length, map, true}
+use Rattle.std.proofs.Common.{◌≡◌, ◌+◌, ap, sym, subst, ◌∙◌, length, map, true, true≢false}
 use Rattle.std.specs.Prelude.{All, Some}
 use Rattle.std.proofs.lemmas.Result.{err_from_is_err_and}
 use Rattle.vortex_types.specs.TypeOf.{type_of}
@@ -18,7 +18,7 @@ pub return_dtype-requires : goal.return_dtype-requires
 return_dtype-requires g c =
     let arity : fits (function_arity g.C.ScalarFnVTable.meaning (function_of c.args.function))
     (length c.args.children.items) ≡ true =
-    (λ j. fits (sym c.signature-arity.ensures.arity j)
+    (λ j. fits (sym c.signature.ensures.arity j)
     (sym (c.len-given.ensures ∙ c.args.children.ok.0) j))
     ∙ sym c.matches.ensures
     ∙ c.if-not-matches.false in
@@ -34,7 +34,7 @@ pub returns-in_err-dtype : goal.returns-in_err-dtype
 returns-in_err-dtype g c =
     let arity : fits (function_arity g.C.ScalarFnVTable.meaning (function_of c.args.function))
     (length c.args.children.items) ≡ true =
-    (λ j. fits (sym c.signature-arity.ensures.arity j)
+    (λ j. fits (sym c.signature.ensures.arity j)
     (sym (c.len-given.ensures ∙ c.args.children.ok.0) j))
     ∙ sym c.matches.ensures
     ∙ c.if-not-matches.false in
@@ -54,7 +54,7 @@ pub invariant_of-result : goal.invariant_of-result
 invariant_of-result g c =
     let arity : fits (function_arity g.C.ScalarFnVTable.meaning (function_of c.args.function))
     (length c.args.children.items) ≡ true =
-    (λ j. fits (sym c.signature-arity.ensures.arity j)
+    (λ j. fits (sym c.signature.ensures.arity j)
     (sym (c.len-given.ensures ∙ c.args.children.ok.0) j))
     ∙ sym c.matches.ensures
     ∙ c.if-not-matches.false in
@@ -67,7 +67,8 @@ invariant_of-result g c =
     let f = function_of c.args.function in
     let xs = c.args.children.items in
     let has_type = call_is_typed m f xs c.deref-2.result.now typed arity
-    (type_of c.in_ok-dtype.dtype) c.in_ok-dtype.ensures in (
+    (type_of c.in_ok-dtype.dtype) c.in_ok-dtype.ensures in
+    rw c.in_ok-new.ensures.ok (
       (
         has_type,
         call_is_weighed m f xs (type_of c.in_ok-dtype.dtype) c.is_nullable.result
@@ -75,6 +76,7 @@ invariant_of-result g c =
             (c.call_weight-weight.ensures
             ∙ ap (λ ts. told (added f c.is_nullable.result + weights m (trees_of ts)))
             c.deref-3.ensures.value),
+        λ marked. absurd (true≢false (sym marked)),
       ),
       all_bound xs (subst (All IsBound) c.deref.ensures.value c.in_ok-dtypes.ensures.bound),
     )

@@ -4,7 +4,7 @@ use Rattle.vortex_errors.proofs.Answering.{AnswersUnlessMemory-weaker}
 use Rattle.vortex_types.specs.TypeOf.{type_of}
 use Rattle.vortex_meaning.specs.Eval.{tree_type}
 use Rattle.vortex_meaning.specs.Rewrites.{Rewrites}
-use Rattle.vortex_rules.specs.ExpressionOf.{expression_of}
+use Rattle.vortex_rules.specs.NodeTrees.{expression_of}
 use Rattle.vortex_rules.specs.Reduced.{IsReducedBy}
 use Rattle.vortex_rules.proofs.Kept.{reduced_kept}
 use Rattle.vortex_rules.proofs.reduce.ScalarFnRefReduceExpression.reduce_expression.Goals as goal
@@ -12,7 +12,7 @@ use Rattle.vortex_rules.proofs.reduce.ScalarFnRefReduceExpression.reduce_express
 pub returns-clause-kept : goal.returns-clause-kept
 returns-clause-kept g c =
     let m = g.C.ScalarFnVTable.meaning in
-    let r = g.C.ScalarFnRules.rules in
+    let r = g.C.ScalarFnVTable.rules in
     let t = expression_of c.args.node.now in
     let k = type_of c.dtype-typed.result.now in
     let typed = ap (tree_type m) (sym c.expression.ensures) ∙ c.dtype-typed.ensures in

@@ -9,7 +9,7 @@ use Rattle.vortex_rules.proofs.reduce.ScalarFnRefReduceExpression.simplify_expre
 pub returns-clause-kept : goal.returns-clause-kept
 returns-clause-kept g c =
     let m = g.C.ScalarFnVTable.meaning in
-    let r = g.C.ScalarFnRules.rules in
+    let r = g.C.ScalarFnVTable.rules in
     let t = c.args.expression.now in
     let k = type_of c.dtype-typed.result.now in
     AnswersUnlessMemory-weaker c.simplify_call.result (IsSimplifiedBy m r (λ u. u) t)

@@ -1,4 +1,0 @@
-pub mod ArrayCalls
-pub mod ArrayChildren
-pub mod ValidBits
-pub mod ValuesKept

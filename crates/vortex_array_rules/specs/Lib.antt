@@ -1,2 +1,0 @@
-pub mod ArrayOf
-pub mod ColumnValidity
