@@ -1,3 +1,4 @@
 pub mod Faults
 pub mod Firsts
+pub mod Growing
 pub mod Halving

@@ -6,6 +6,9 @@ mod callers_rules;
 #[cfg(test)]
 mod calls;
 pub mod first;
+pub mod grow;
+#[cfg(test)]
+mod growing;
 pub mod half;
 #[cfg(test)]
 mod halves;

@@ -35,7 +35,7 @@ fn reduced_at<C: ScalarFnRules>(
     tree: Tree<C>,
     path: &[usize],
 ) -> VortexResult<Option<Box<BoundExpression<C>>>> {
-    match rewrite_at(alloc, &*tree?, path, Rule::Reduce)? {
+    match tree?.rewrite_at(alloc, path, Rule::Reduce)? {
         Some(made) => Ok(Some(planted(alloc, Ok(made))?)),
         None => Ok(None),
     }
@@ -57,6 +57,25 @@ fn reduces_to<C: ScalarFnRules>(
 /// Whether Reduce does not apply at a place.
 fn stays<C: ScalarFnRules>(alloc: Global, tree: Tree<C>, path: &[usize]) -> VortexResult<bool> {
     Ok(reduced_at(alloc, tree, path)?.is_none())
+}
+
+/// Not of whether column `b` of Bool, which has no null, is null.
+fn not_missing<C: ScalarFnVTable>(alloc: Global) -> Tree<C> {
+    let missing = call_of(
+        alloc,
+        IsNull.bind(EmptyOptions),
+        leaf_of(alloc, DType::Bool(NO)),
+    );
+    not_of(alloc, missing)
+}
+
+#[test]
+fn a_column_without_null_is_never_null(rt: HostRuntime) {
+    let alloc = rt.alloc();
+    let missing = not_missing::<NoCustom>(alloc);
+    assert!(rt; yes(reduces_to(alloc, missing, &[0], "vortex.not(false)")));
+    let nowhere = reduced_at(alloc, not_missing::<NoCustom>(alloc), &[1]);
+    assert!(rt; is_refused(nowhere, "NoSuchPlace"));
 }
 
 #[test]
@@ -158,7 +177,7 @@ fn listed<C: ScalarFnRules>(
     tree: Tree<C>,
     steps: &[(&[usize], Rule)],
 ) -> VortexResult<Box<Rewritten<BoundExpression<C>>>> {
-    Ok(Box::new(alloc, rewrite_list(alloc, &*tree?, steps)?)?)
+    Ok(Box::new(alloc, tree?.rewrite_list(alloc, steps)?)?)
 }
 
 /// Whether a list of steps makes a tree of that text, so many of them applied.
@@ -186,7 +205,12 @@ fn rules_apply_one_after_another(rt: HostRuntime) {
         (&[0, 0], Rule::Reduce),
     ];
     assert!(rt; yes(lists_to(alloc, sum, &steps, (SPLIT, 2))));
-    let outside: [(&[usize], Rule); 2] = [(&[], Rule::Reduce), (&[0, 5], Rule::Reduce)];
+    let outside: [(&[usize], Rule); 4] = [
+        (&[], Rule::Reduce),
+        (&[0], Rule::Reduce),
+        (&[0, 0], Rule::Reduce),
+        (&[0, 5], Rule::Reduce),
+    ];
     let refused = listed(alloc, unknown_sum::<NoCustom>(alloc), &outside);
     assert!(rt; is_refused(refused, "NoSuchPlace"));
 }
@@ -198,7 +222,7 @@ fn optimizes_to<C: ScalarFnRules>(
     limit: u64,
     wanted: (&str, u64, bool),
 ) -> VortexResult<bool> {
-    let made = Box::new(alloc, optimize_recursive(alloc, &*tree?, limit)?)?;
+    let made = Box::new(alloc, tree?.optimize_recursive(alloc, limit)?)?;
     let (text, steps, done) = wanted;
     Ok(made.tree.sql_text(alloc)?.as_str() == text && made.steps == steps && made.done == done)
 }
@@ -224,6 +248,29 @@ fn a_run_is_done_where_no_rule_applies(rt: HostRuntime) {
     assert!(rt; yes(optimizes_to(alloc, test, 5, ("vortex.not(false)", 1, true))));
 }
 
+/// Whether a run of one step and one from where it stopped make, of a tree, one of that text, in
+/// one step each, and leave the tree itself as it was.
+fn goes_on_to<C: ScalarFnRules>(
+    alloc: Global,
+    tree: Tree<C>,
+    wanted: (&str, &str),
+) -> VortexResult<bool> {
+    let tree = tree?;
+    let first = Box::new(alloc, tree.optimize_recursive(alloc, 1)?)?;
+    let second = Box::new(alloc, first.tree.optimize_recursive(alloc, 5)?)?;
+    let steps = first.steps == 1 && !first.done && second.steps == 1 && second.done;
+    let (before, after) = (tree.sql_text(alloc)?, second.tree.sql_text(alloc)?);
+    Ok(steps && (before.as_str(), after.as_str()) == wanted)
+}
+
+#[test]
+fn a_run_goes_on_where_another_stopped(rt: HostRuntime) {
+    let alloc = rt.alloc();
+    let sum = unknown_sum::<NoCustom>(alloc);
+    let wanted = ("vortex.is_null((($.a + $.b) = $.c))", SPLIT);
+    assert!(rt; yes(goes_on_to(alloc, sum, wanted)));
+}
+
 /// Whether the array of a column without rules at its root is left as it is, with its rows.
 fn column_stays(alloc: Global, rows: &[Option<bool>]) -> VortexResult<bool> {
     let column = nullable_bools(alloc, rows)?;
@@ -243,7 +290,7 @@ fn null_test_answers(
     let column = nullable_bools(alloc, rows)?;
     let array = ArrayRef::<NoCustom>::column(alloc, Box::into_inner(column))?;
     let test = Box::new(alloc, IsNull::new(alloc, array)?.into_array())?;
-    let made = Box::new(alloc, optimize_recursive(alloc, &*test, 5)?)?;
+    let made = Box::new(alloc, test.optimize_recursive(alloc, 5)?)?;
     let mut ctx = ExecutionCtx::new(alloc);
     let answer = Box::new(alloc, made.tree.execute(&mut ctx)?)?;
     Ok(are_rows(alloc, &**answer, wanted)? && made.done && made.steps == 1)
@@ -355,15 +402,16 @@ fn rules_apply_to_an_array_one_after_another(rt: HostRuntime) {
     assert!(rt; is_refused(refused, "NoSuchPlace"));
 }
 
-/// Whether a tree weighs so much, and what Reduce makes of it at its root so much.
+/// Whether a tree weighs so much, and after one step and after two so much.
 fn weighs<C: ScalarFnRules>(
     alloc: Global,
     tree: Tree<C>,
-    wanted: (u64, u64),
+    wanted: (u64, u64, u64),
 ) -> VortexResult<bool> {
     let tree = tree?;
-    let made = Box::new(alloc, optimize_recursive(alloc, &*tree, 1)?)?;
-    Ok((tree.weight(), made.tree.weight()) == wanted)
+    let once = Box::new(alloc, optimize_recursive(alloc, &*tree, 1)?)?;
+    let twice = Box::new(alloc, optimize_recursive(alloc, &*tree, 2)?)?;
+    Ok((tree.weight(), once.tree.weight(), twice.tree.weight()) == wanted)
 }
 
 /// True of nullable Bool and column `b`, which is not nullable.
@@ -378,6 +426,6 @@ fn true_and_b_alone<C: ScalarFnVTable>(alloc: Global) -> Tree<C> {
 #[test]
 fn a_rewrite_makes_a_tree_lighter(rt: HostRuntime) {
     let alloc = rt.alloc();
-    assert!(rt; yes(weighs(alloc, unknown_sum::<NoCustom>(alloc), (15, 14))));
-    assert!(rt; yes(weighs(alloc, true_and_b_alone::<NoCustom>(alloc), (5, 2))));
+    assert!(rt; yes(weighs(alloc, unknown_sum::<NoCustom>(alloc), (15, 14, 12))));
+    assert!(rt; yes(weighs(alloc, true_and_b_alone::<NoCustom>(alloc), (5, 2, 2))));
 }

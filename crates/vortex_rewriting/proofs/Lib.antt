@@ -1,10 +1,11 @@
 pub mod DownAndUp
+pub mod StepsBelow
+pub mod FrameWalks
 pub mod OtherChildren
 pub mod AnotherChild
 pub mod RewrittenAt
 pub mod RewrittenList
-pub mod FirstSteps
+pub mod Walking
 pub mod Optimizing
-pub mod StepWalks
 pub mod RunAnswers
 pub mod KeptRows

@@ -1,6 +1,7 @@
 -- The rule of the driver is sound and makes trees lighter, so a run of its steps is a rewrite, and of
 -- fewer steps than the weight of the tree.
-use Rattle.std.proofs.Common.{◌≡◌, ℕ, ◌<◌, Option, Some}
+use Rattle.std.proofs.Common.{◌≡◌, ℕ, ◌<◌, Option, Some, ◌∙◌}
+use Rattle.std.specs.Prelude.{IsSome}
 use Rattle.vortex_types.specs.LogicalTypes.{LogicalType}
 use Rattle.vortex_meaning.specs.Meaning.{Meaning}
 use Rattle.vortex_meaning.specs.Trees.{Tree}
@@ -13,6 +14,7 @@ use Rattle.vortex_meaning.proofs.Lightening.{first_lightens, runs_lighter, runs_
 use Rattle.vortex_rewriting.specs.declared.rule.Rule.{Rule}
 use Rattle.vortex_rewriting.specs.declared.rule.Rule.TheVariants.{Simplify, Reduce}
 use Rattle.vortex_rewriting.specs.Driving.{first_rule}
+use Rattle.vortex_rewriting.proofs.FrameWalks.{some_is}
 
 module _ {V O : Type 0} (m : Meaning V O) (applied : Rule → Tree V O → Option (Tree V O)) where
   pub first_rule_sound : ((rule : Rule) → IsSound m (applied rule)) → IsSound m (first_rule applied)
@@ -28,6 +30,9 @@ module _ {V O : Type 0} (m : Meaning V O) (applied : Rule → Tree V O → Optio
       (run : Runs (first_rule applied) n t u) where
     pub run_rewrites : ((rule : Rule) → IsSound m (applied rule)) → Rewrites m t u
     run_rewrites sound = runs_sound m (first_rule applied) (first_rule_sound sound) n t u k h run
+
+    pub run_typed : ((rule : Rule) → IsSound m (applied rule)) → IsSome (tree_type m u)
+    run_typed sound = some_is (tree_type m u) k ((run_rewrites sound).dtype ∙ h)
 
     pub run_lighter : ((rule : Rule) → Lightens m (applied rule)) → OnlyShipped t
         → IsLighter m n t u

@@ -1,19 +1,19 @@
--- The same call on other children of the same types is typed as it is, and so is not refused.
-use Rattle.std.proofs.Common.{◌≡◌, List, Some, sym, ap, ◌∙◌}
-use Rattle.std.specs.Prelude.{Result}
+-- The same call on other children, on which it is well typed, is not refused.
+use Rattle.std.proofs.Common.{◌≡◌, List, Some, None, refl, ap, ◌∙◌}
+use Rattle.std.specs.Prelude.{Result, IsSome}
 use Rattle.std.specs.Option.{option_and_then}
 use Rattle.vortex_errors.specs.declared.error.VortexError.{VortexError}
 use Rattle.vortex_errors.specs.Answers.{Answers, AnswersUnlessMemory}
 use Rattle.vortex_errors.proofs.Answering.{Answers-weaker}
-use Rattle.vortex_types.specs.LogicalTypes.{LogicalType}
 use Rattle.vortex_meaning.specs.Meaning.{Meaning}
 use Rattle.vortex_meaning.specs.Functions.{Function, call_type}
 use Rattle.vortex_meaning.specs.Trees.{Tree, leaf, constant, call, trees_of, called, children_of}
 use Rattle.vortex_meaning.specs.Eval.{tree_type, tree_types}
-use Rattle.vortex_meaning.proofs.DriverSteps.{call_again}
+use Rattle.vortex_meaning.proofs.StepPlaces.{same_trees}
 use Rattle.vortex_functions.specs.Binding.{IsCall, RefusesCall}
 use Rattle.vortex_rules.proofs.NotRefused.{not_refused}
 use Rattle.vortex_rewriting.specs.Places.{with_children}
+use Rattle.vortex_rewriting.proofs.FrameWalks.{some_of}
 
 module _ {V O : Type 0} where
   pub with_children_call : (t : Tree V O) (f : Function V O) (us : List (Tree V O))
@@ -24,17 +24,28 @@ module _ {V O : Type 0} where
       let is : f ≡ g = cc in
       ap (λ x. call x (trees_of us)) is
 
-  module _ (m : Meaning V O) (t : Tree V O) (f : Function V O) (is : called t ≡ Some f)
-      (k : LogicalType) (typed : tree_type m t ≡ Some k) (us : List (Tree V O))
-      (same : tree_types m (trees_of us) ≡ tree_types m (trees_of (children_of t))) where
-    others_typed : tree_type m (call f (trees_of us)) ≡ Some k
-    others_typed =
-        ap (option_and_then (call_type m f)) same
-        ∙ ap (tree_type m) (sym (call_again t f is))
-        ∙ typed
+  pub with_children_leaf : (t : Tree V O) (us : List (Tree V O)) → called t ≡ None
+      → t ≡ with_children t us
+  with_children_leaf (leaf l) us h = refl
+  with_children_leaf (constant s) us h = refl
+  with_children_leaf (call g ts) us h = cc
 
+  -- other children of the same types keep the type
+  pub others_typed : (m : Meaning V O) (t : Tree V O) (us : List (Tree V O))
+      → tree_types m (trees_of us) ≡ tree_types m (trees_of (children_of t))
+      → tree_type m (with_children t us) ≡ tree_type m t
+  others_typed m (leaf l) us same = refl
+  others_typed m (constant s) us same = refl
+  others_typed m (call f ts) us same =
+      ap (option_and_then (call_type m f)) (same ∙ ap (tree_types m) (same_trees ts))
+
+  module _ (m : Meaning V O) (t : Tree V O) (f : Function V O) (is : called t ≡ Some f)
+      (us : List (Tree V O)) (typed : IsSome (tree_type m (with_children t us))) where
     pub others_refused : (e : VortexError) → RefusesCall m f us e → ⊥
-    others_refused = not_refused m f us k others_typed
+    others_refused =
+        let is_typed = some_of (tree_type m (with_children t us)) typed in
+        not_refused m f us is_typed.0
+        (ap (tree_type m) (with_children_call t f us is) ∙ is_typed.1)
 
     pub others_called : {T : Type 0} (tree : T → Tree V O) (r : Result T VortexError)
         → Answers r (λ made. IsCall m f us (tree made)) (RefusesCall m f us)

@@ -3,5 +3,7 @@ pub mod Places
 pub mod Rewriting
 pub mod Rules
 pub mod Ways
+pub mod Frames
+pub mod Found
 pub mod Runs
 pub mod Keeping

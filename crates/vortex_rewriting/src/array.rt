@@ -28,6 +28,14 @@ impl<C: ScalarFnRules> RewriteTree<C> for ArrayRef<C> {
         }
     }
 
+    fn is_settled(&self) -> bool {
+        self.is_settled()
+    }
+
+    fn mark_settled(&mut self) {
+        self.mark_settled()
+    }
+
     ghost sound = { array_sound C.meaning C.rules C.ScalarFnVTable.lawful
         C.ScalarFnRules.rules_lawful };
 

@@ -46,6 +46,7 @@ pub(crate) fn with_child<C: ScalarFnRules, T: RewriteTree<C>>(
         (λ made. T.tree made ≡ with_child (T.tree parent.now) index (T.tree child)) }
     ensures same_rows { IfOk result (λ made. T.rows made ≡ T.rows parent.now) }
 {
+    let _typed = parent.dtype();
     let copies = children_with(alloc, parent, index, child)?;
     parent.with_children(alloc, copies)
 }

@@ -1,18 +1,19 @@
 //! The driver: rules at the first place at which one applies, again and again.
-ghost use Rattle.std.specs.Prelude.{◌≡◌, ◌<◌, ◌≤◌, ◌↔◌, IfOk, IfSome, IsTrue, None, false};
+ghost use Rattle.std.specs.Prelude.{◌≡◌, ◌<◌, ◌≤◌, ◌↔◌, IfOk, IfSome, IsSome, IsTrue, None, false};
 ghost use Rattle.std.specs.Option.{option_map};
 ghost use Rattle.vortex_meaning.specs.Rewrites.{Rewrites};
 ghost use Rattle.vortex_meaning.specs.Weights.{weight, OnlyShipped, IsLighter};
 ghost use Rattle.vortex_meaning.specs.Driver.{step, Runs};
-ghost use Rattle.vortex_functions.specs.Words.{children_of, AllMean, AnswersUnlessMemory};
-ghost use Rattle.vortex_rewriting.specs.Driving.{first_rule, first_some, IsStepOf};
+ghost use Rattle.vortex_functions.specs.Words.{tree_type, AnswersUnlessMemory};
+ghost use Rattle.vortex_rewriting.specs.Driving.{first_rule};
+ghost use Rattle.vortex_rewriting.specs.Frames.{plug, frames_in, AreFrames, HaveRows};
+ghost use Rattle.vortex_rewriting.specs.Found.{IsFound, FoundHasRows};
 
-use crate::children::with_child;
+use crate::frames::{Frame, next_child, over_children, whole_tree};
 use crate::rule::Rule;
 use crate::tree::RewriteTree;
 use std::alloc::Global;
 use vortex_columns::VortexResult;
-use vortex_functions::walk;
 use vortex_rules::ScalarFnRules;
 
 /// What Simplify makes of the tree at its root, or else what Reduce makes of it.
@@ -31,52 +32,59 @@ fn apply_first<C: ScalarFnRules, T: RewriteTree<C>>(
     }
 }
 
-/// The first output that is there, with its index.
-fn first_made<T: Drop>(mut outputs: Vec<Option<T>>) -> Option<(usize, T)>
-    ensures { result ≡ first_some outputs.items }
-{
-    let mut first = None;
-    while let Some(output) = outputs.pop() {
-        // going back from the last, the one that is found last comes first
-        if let Some(made) = output {
-            first = Some((outputs.len(), made));
-        }
-    }
-    first
+/// What a search for the next place comes to.
+#[derive(Drop)]
+enum Found<T> {
+    /// There is none, and this is the whole tree.
+    Settled(T),
+    /// The frames above the place, the tree there, and what a rule makes of it.
+    Place(Vec<Frame<T>>, T, T),
 }
 
-/// The step of a node, over those of its children: the first of theirs, in the node, or else what
-/// the rule makes of the node itself.
-fn step_over<C: ScalarFnRules, T: RewriteTree<C>>(
+/// Goes on from a tree below frames to the next place at which a rule applies. What is settled on
+/// the way is marked, and what is marked is passed over.
+fn seek<C: ScalarFnRules, T: RewriteTree<C>>(
     alloc: Global,
-    node: &T,
-    outputs: Vec<Option<T>>,
-) -> VortexResult<Option<T>>
-    requires { AllMean (IsStepOf (first_rule T.applied) T.tree T.rows (T.rows node.now))
-        (children_of (T.tree node.now)) outputs.items }
-    ensures { AnswersUnlessMemory result
-        (IsStepOf (first_rule T.applied) T.tree T.rows (T.rows node.now) (T.tree node.now)) }
+    above: Vec<Frame<T>>,
+    node: T,
+) -> VortexResult<Found<T>>
+    requires frames { AreFrames (first_rule T.applied) (frames_in T.tree above.items) }
+    requires typed { IsSome (tree_type C.meaning
+        (plug (frames_in T.tree above.items) (T.tree node))) }
+    requires same_rows { HaveRows T.rows (T.rows node) above.items }
+    ensures answer { AnswersUnlessMemory result (IsFound (first_rule T.applied) T.tree
+        (plug (frames_in T.tree above.items) (T.tree node))) }
+    ensures same_rows { IfOk result (FoundHasRows T.rows (T.rows node)) }
 {
-    let _typed = node.dtype();
-    match first_made(outputs) {
-        Some((index, made)) => {
-            let whole = with_child(alloc, node, index, made)?;
-            Ok(Some(whole))
+    let mut above = above;
+    let mut node = node;
+    let mut done = Vec::new(alloc);
+    loop {
+        match next_child(alloc, &node, &done)? {
+            Some(child) => {
+                if child.is_settled() {
+                    done.push(child)?;
+                } else {
+                    above.push(Frame { node, done })?;
+                    node = child;
+                    done = Vec::new(alloc);
+                }
+            }
+            None => {
+                let mut whole = over_children(alloc, node, done)?;
+                if let Some(made) = apply_first(alloc, &whole)? {
+                    return Ok(Found::Place(above, whole, made));
+                }
+                whole.mark_settled();
+                let Some(parent) = above.pop() else {
+                    return Ok(Found::Settled(whole));
+                };
+                node = parent.node;
+                done = parent.done;
+                done.push(whole)?;
+            }
         }
-        None => apply_first(alloc, node),
     }
-}
-
-/// The tree with the rule at the first place, children from left to right before their parent, at
-/// which it applies. None where it applies nowhere.
-fn first_step<C: ScalarFnRules, T: RewriteTree<C>>(
-    alloc: Global,
-    tree: &T,
-) -> VortexResult<Option<T>>
-    ensures { AnswersUnlessMemory result
-        (IsStepOf (first_rule T.applied) T.tree T.rows (T.rows tree.now) (T.tree tree.now)) }
-{
-    walk!(tree, alloc, node, outputs => step_over(alloc, node, outputs))
 }
 
 /// A tree after a run of steps.
@@ -88,6 +96,49 @@ pub struct Optimized<T: Drop> {
     pub steps: u64,
     /// Whether no rule applies at any place of it.
     pub done: bool,
+}
+
+/// At most `limit` steps from a tree. After one it goes on within what the rule made there.
+fn take_steps<C: ScalarFnRules, T: RewriteTree<C>>(
+    alloc: Global,
+    tree: &T,
+    limit: u64,
+) -> VortexResult<Optimized<T>>
+    ensures run { AnswersUnlessMemory result
+        (λ o. Runs (first_rule T.applied) o.steps (T.tree tree.now) (T.tree o.tree)) }
+    ensures limited { IfOk result (λ o. o.steps ≤ limit) }
+    ensures done { IfOk result
+        (λ o. IsTrue o.done ↔ (step (first_rule T.applied) (T.tree o.tree) ≡ None)) }
+    ensures stopped { IfOk result (λ o. o.done ≡ false → o.steps ≡ limit) }
+    ensures same_rows { IfOk result (λ o. T.rows o.tree ≡ T.rows tree.now) }
+{
+    let _typed = tree.dtype();
+    let mut above = Vec::new(alloc);
+    let mut place = tree.try_clone(alloc)?;
+    let mut steps = 0;
+    loop {
+        match seek(alloc, above, place)? {
+            Found::Settled(tree) => {
+                return Ok(Optimized {
+                    tree,
+                    steps,
+                    done: true,
+                });
+            }
+            Found::Place(frames, old, made) => {
+                if steps == limit {
+                    return Ok(Optimized {
+                        tree: whole_tree(alloc, frames, old)?,
+                        steps,
+                        done: false,
+                    });
+                }
+                above = frames;
+                place = made;
+                steps += 1;
+            }
+        }
+    }
 }
 
 /// A run of steps: each rewrites the first place, children from left to right before their parent,
@@ -114,23 +165,6 @@ pub fn optimize_recursive<C: ScalarFnRules, T: RewriteTree<C>>(
     ensures same_rows { IfOk result (λ o. T.rows o.tree ≡ T.rows tree.now) }
 {
     let _typed = tree.dtype();
-    let mut last = tree.try_clone(alloc)?;
-    let mut steps = 0;
-    while steps < limit {
-        let Some(next) = first_step(alloc, &last)? else {
-            return Ok(Optimized {
-                tree: last,
-                steps,
-                done: true,
-            });
-        };
-        last = next;
-        steps += 1;
-    }
-    let done = first_step(alloc, &last)?.is_none();
-    Ok(Optimized {
-        tree: last,
-        steps,
-        done,
-    })
+    let optimized = take_steps(alloc, tree, limit)?;
+    Ok(optimized)
 }

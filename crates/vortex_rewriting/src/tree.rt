@@ -1,10 +1,11 @@
 //! Trees that are rewritten.
-ghost use Rattle.std.specs.Prelude.{◌≡◌, ◌<◌, All, IfOk, IfSome, Option, length, map};
+ghost use Rattle.std.specs.Prelude.{◌≡◌, All, IfOk, IfSome, IsSome, IsTrue, None, Option, map};
 ghost use Rattle.std.specs.Option.{option_map};
 ghost use Rattle.vortex_meaning.specs.Trees.{Tree};
 ghost use Rattle.vortex_meaning.specs.Weights.{Lightens};
 ghost use Rattle.vortex_meaning.specs.Rewrites.{IsSound};
-ghost use Rattle.vortex_functions.specs.Words.{children_of, trees_of, tree_types, AnswersUnlessMemory};
+ghost use Rattle.vortex_functions.specs.Words.{step, tree_type, AnswersUnlessMemory};
+ghost use Rattle.vortex_rewriting.specs.Driving.{first_rule};
 ghost use Rattle.vortex_rewriting.specs.declared.rule.Rule.{Rule};
 ghost use Rattle.vortex_rewriting.specs.Places.{with_children};
 
@@ -25,21 +26,29 @@ pub trait RewriteTree<C: ScalarFnRules>: BoundTree<C> {
         ensures same_rows { IfOk result
             (λ answer. IfSome answer (λ made. Self.rows made ≡ Self.rows self.now)) };
 
+    /// Whether the tree is known to be settled: no rule applies at any place of it. Of a leaf that
+    /// is known; of a call where it, or what it is a copy of, was marked.
+    fn is_settled(&self) -> bool
+        ensures { IsTrue result → step (first_rule applied) (Self.tree self.now) ≡ None };
+
+    /// Marks a settled tree as one, where this is its only handle; elsewhere it does nothing.
+    fn mark_settled(&mut self)
+        requires { step (first_rule applied) (Self.tree self.old) ≡ None }
+        ensures { self.new ≡ self.old };
+
     ghost sound: { (rule : Rule) → IsSound C.meaning (applied rule) };
 
     ghost lightens: { (rule : Rule) → Lightens C.meaning (applied rule) };
 
-    /// The same call on other children, of the same types and row count. E9 alone.
+    /// The same call on other children, of the same row count, on which it is well typed. E9 alone.
     final fn with_children(&self, alloc: Global, children: Vec<Self>) -> VortexResult<Self>
-        requires call { 0 < length (children_of (Self.tree self.now)) }
-        requires same_types { tree_types C.meaning (trees_of (map Self.tree children.items))
-            ≡ tree_types C.meaning (trees_of (children_of (Self.tree self.now))) }
+        requires typed { IsSome (tree_type C.meaning
+            (with_children (Self.tree self.now) (map Self.tree children.items))) }
         requires same_rows { All (λ child. Self.rows child ≡ Self.rows self.now) children.items }
         ensures answer { AnswersUnlessMemory result (λ made.
             Self.tree made ≡ with_children (Self.tree self.now) (map Self.tree children.items)) }
         ensures same_rows { IfOk result (λ made. Self.rows made ≡ Self.rows self.now) }
     {
-        let _typed = self.dtype();
         match self.as_scalar() {
             Some(function) => self.new_call(alloc, function.try_clone(alloc)?, children),
             None => self.try_clone(alloc),

@@ -85,6 +85,7 @@ pub use vortex_like::LikeVariant;
 pub use vortex_like::Looks;
 pub use vortex_like::execute_like;
 pub use vortex_rewriting::Optimized;
+pub use vortex_rewriting::Rewrite;
 pub use vortex_rewriting::RewriteTree;
 pub use vortex_rewriting::Rewritten;
 pub use vortex_rewriting::Rule;

@@ -1,56 +1,46 @@
-use Rattle.std.proofs.Common.{arith}
-use Rattle.vortex_functions.specs.Words.{type_of}
+use Rattle.std.proofs.Common.{◌≡◌, ℕ, ◌<◌, Bool, true, false, refl, arith}
+use Rattle.std.specs.Prelude.{IsTrue}
+use Rattle.vortex_types.specs.TypeOf.{type_of}
 use Rattle.vortex_rewriting.proofs.Optimizing.{run_rewrites, run_lighter, run_fewer}
 use Rattle.vortex_rewriting.proofs.driver.optimize_recursive.Goals as goal
 
-pub returns-in_default-clause-kept : goal.returns-in_default-clause-kept
-returns-in_default-clause-kept g c =
-    let R = g.T.RewriteTree in
-    run_rewrites g.C.ScalarFnVTable.meaning R.applied c.loop-steps.steps
-    (R.tree c.args.tree.now) (R.tree c.loop-steps.last) (type_of c.dtype-typed.result.now)
-    c.dtype-typed.ensures c.loop-steps.invariant.run g.met.T.RewriteTree.sound
-
-pub returns-in_default-clause-lighter : goal.returns-in_default-clause-lighter
-returns-in_default-clause-lighter g c =
-    let R = g.T.RewriteTree in
-    run_lighter g.C.ScalarFnVTable.meaning R.applied c.loop-steps.steps
-    (R.tree c.args.tree.now) (R.tree c.loop-steps.last) (type_of c.dtype-typed.result.now)
-    c.dtype-typed.ensures c.loop-steps.invariant.run g.met.T.RewriteTree.lightens
-
-pub returns-in_default-clause-fewer : goal.returns-in_default-clause-fewer
-returns-in_default-clause-fewer g c =
-    let R = g.T.RewriteTree in
-    run_fewer g.C.ScalarFnVTable.meaning R.applied c.loop-steps.steps
-    (R.tree c.args.tree.now) (R.tree c.loop-steps.last) (type_of c.dtype-typed.result.now)
-    c.dtype-typed.ensures c.loop-steps.invariant.run g.met.T.RewriteTree.lightens
-
 pub returns-clause-kept : goal.returns-clause-kept
 returns-clause-kept g c =
-    let R = g.T.RewriteTree in
-    run_rewrites g.C.ScalarFnVTable.meaning R.applied c.loop-steps.steps
-    (R.tree c.args.tree.now) (R.tree c.loop-steps.last) (type_of c.dtype-typed.result.now)
-    c.dtype-typed.ensures c.loop-steps.invariant.run g.met.T.RewriteTree.sound
+    let tree = g.T.BoundTree.tree in
+    let o = c.in_ok-optimized.optimized in
+    run_rewrites g.C.ScalarFnVTable.meaning g.T.RewriteTree.applied o.steps (tree c.args.tree.now)
+    (tree o.tree) (type_of c.dtype-typed.result.now) c.dtype-typed.ensures
+    c.in_ok-optimized.ensures.run g.met.T.RewriteTree.sound
 
 pub returns-clause-lighter : goal.returns-clause-lighter
 returns-clause-lighter g c =
-    let R = g.T.RewriteTree in
-    run_lighter g.C.ScalarFnVTable.meaning R.applied c.loop-steps.steps
-    (R.tree c.args.tree.now) (R.tree c.loop-steps.last) (type_of c.dtype-typed.result.now)
-    c.dtype-typed.ensures c.loop-steps.invariant.run g.met.T.RewriteTree.lightens
+    let tree = g.T.BoundTree.tree in
+    let o = c.in_ok-optimized.optimized in
+    run_lighter g.C.ScalarFnVTable.meaning g.T.RewriteTree.applied o.steps (tree c.args.tree.now)
+    (tree o.tree) (type_of c.dtype-typed.result.now) c.dtype-typed.ensures
+    c.in_ok-optimized.ensures.run g.met.T.RewriteTree.lightens
 
 pub returns-clause-fewer : goal.returns-clause-fewer
 returns-clause-fewer g c =
-    let R = g.T.RewriteTree in
-    run_fewer g.C.ScalarFnVTable.meaning R.applied c.loop-steps.steps
-    (R.tree c.args.tree.now) (R.tree c.loop-steps.last) (type_of c.dtype-typed.result.now)
-    c.dtype-typed.ensures c.loop-steps.invariant.run g.met.T.RewriteTree.lightens
+    let tree = g.T.BoundTree.tree in
+    let o = c.in_ok-optimized.optimized in
+    run_fewer g.C.ScalarFnVTable.meaning g.T.RewriteTree.applied o.steps (tree c.args.tree.now)
+    (tree o.tree) (type_of c.dtype-typed.result.now) c.dtype-typed.ensures
+    c.in_ok-optimized.ensures.run g.met.T.RewriteTree.lightens
+
+must_be_done : (done : Bool) (steps limit : ℕ) → (done ≡ false → steps ≡ limit) → steps < limit
+    → IsTrue done
+must_be_done true steps limit stopped few = refl
+must_be_done false steps limit stopped few =
+    let all = stopped refl in absurd (omega (arith, all, few))
 
 -- as many steps as the tree weighs are too many
 pub returns-clause-ends : goal.returns-clause-ends
 returns-clause-ends g c = λ shipped enough.
-    let R = g.T.RewriteTree in
-    let fewer = run_fewer g.C.ScalarFnVTable.meaning R.applied c.loop-steps.steps
-    (R.tree c.args.tree.now) (R.tree c.loop-steps.last) (type_of c.dtype-typed.result.now)
-    c.dtype-typed.ensures c.loop-steps.invariant.run g.met.T.RewriteTree.lightens
-    shipped in
-    absurd (omega (arith, fewer, enough))
+    let tree = g.T.BoundTree.tree in
+    let o = c.in_ok-optimized.optimized in
+    let fewer = run_fewer g.C.ScalarFnVTable.meaning g.T.RewriteTree.applied o.steps
+    (tree c.args.tree.now) (tree o.tree) (type_of c.dtype-typed.result.now) c.dtype-typed.ensures
+    c.in_ok-optimized.ensures.run g.met.T.RewriteTree.lightens shipped in
+    must_be_done o.done o.steps c.args.limit c.in_ok-optimized.ensures.stopped
+    (omega (arith, fewer, enough))

@@ -1,0 +1,85 @@
+-- The function that grows: its argument, and what its rule makes of a call.
+use Rattle.std.proofs.Common.{◌≡◌, ℕ, zero, suc, ◌<◌, List, [], ◌∷◌, length, Bool, Option, Some, None, true, sym, refl, ap, ◌∙◌, arith}
+use Rattle.std.specs.Prelude.{slice_get, IsSome}
+use Rattle.vortex_errors.specs.declared.arity.Arity.TheVariants.{Exact}
+use Rattle.vortex_types.specs.LogicalTypes.{LogicalType, bool_type}
+use Rattle.vortex_meaning.specs.Meaning.{fits}
+use Rattle.vortex_meaning.specs.Shipped.{Not}
+use Rattle.vortex_meaning.specs.Shipped.NotFunction.{not_type}
+use Rattle.vortex_meaning.specs.Functions.{Function, ours, custom}
+use Rattle.vortex_meaning.specs.Trees.{Tree, leaf, constant, call, no_trees, tree, children_of, called}
+use Rattle.vortex_meaning.specs.Eval.{tree_type, tree_types}
+use Rattle.vortex_meaning.specs.ReduceRules.{reduce}
+use Rattle.vortex_meaning.proofs.TypedCalls.{typed_call, types_parts, one_type, type_of_one}
+use Rattle.vortex_rules.proofs.Calls.{children_fit}
+use Rattle.callers_tests.specs.Grow.{grow_meaning, grow_rules, not_of}
+use Rattle.callers_tests.specs.GrowRules.{is_bool}
+
+at_least_one : (n : ℕ) → fits (Exact 1) n ≡ true → 0 < n
+at_least_one zero h = cc
+at_least_one (suc n) h = omega arith
+
+two_refused : (a b : LogicalType) (rest : List LogicalType) (t : LogicalType)
+    → not_type (a ∷ b ∷ rest) ≡ Some t → ⊥
+two_refused (bool_type n) b rest t e = cc
+two_refused a b rest t e = cc
+
+pub some_is : {A : Type 0} (o : Option A) (a : A) → o ≡ Some a → IsSome o
+some_is None a e = cc
+some_is (Some x) a e = refl
+
+module _ {V O : Type 0} where
+  -- a well-typed call has an argument
+  pub has_input : (t : Tree V O) (f : V) (o : O) (k : LogicalType) → called t ≡ Some (custom f o)
+      → tree_type grow_meaning t ≡ Some k → 0 < length (children_of t)
+  has_input t f o k c h =
+      at_least_one (length (children_of t)) (children_fit grow_meaning t (custom f o) k c h)
+
+  -- which is of Bool, and the only one
+  pub record IsGrowing (f : V) (o : O) (t x : Tree V O) : Type 0 where
+    pub nullable : Bool
+    pub typed : tree_type grow_meaning x ≡ Some (bool_type nullable)
+    pub is : t ≡ call (custom f o) (tree x no_trees)
+
+  pub growing : (t x : Tree V O) (f : V) (o : O) (k : LogicalType) → called t ≡ Some (custom f o)
+      → tree_type grow_meaning t ≡ Some k → slice_get (children_of t) 0 ≡ Some x
+      → IsGrowing f o t x
+  growing (leaf l) x f o k c h e = cc
+  growing (constant s) x f o k c h e = cc
+  growing (call g no_trees) x f o k c h e = cc
+  growing (call g (tree y (tree z ts))) x f o k c h e =
+      let is : g ≡ custom f o = cc in
+      let call_typed = typed_call grow_meaning (custom f o) (tree y (tree z ts)) k
+      (ap (λ u. tree_type grow_meaning (call u (tree y (tree z ts)))) (sym is) ∙ h) in
+      let a = types_parts (tree_type grow_meaning y) (tree_types grow_meaning (tree z ts))
+      call_typed.types call_typed.children in
+      let b = types_parts (tree_type grow_meaning z) (tree_types grow_meaning ts) a.1 a.3 in
+      absurd (two_refused a.0 b.0 b.1 k
+      (ap (λ us. not_type (a.0 ∷ us)) b.4 ∙ ap not_type a.4 ∙ call_typed.returns))
+  growing (call g (tree y no_trees)) x f o k c h e =
+      let is : g ≡ custom f o = cc in
+      let same : y ≡ x = cc in
+      let call_typed = typed_call grow_meaning (custom f o) (tree y no_trees) k
+      (ap (λ u. tree_type grow_meaning (call u (tree y no_trees))) (sym is) ∙ h) in
+      let a = one_type (tree_type grow_meaning y) call_typed.types call_typed.children in
+      let b = is_bool a.0 k (ap not_type a.2 ∙ call_typed.returns) in
+      record {
+        nullable = b.0;
+        typed = ap (tree_type grow_meaning) (sym same) ∙ a.1 ∙ ap Some b.1;
+        is = λ j. call (is j) (tree (same j) no_trees);
+      }
+
+  pub not_typed : (x : Tree V O) (n : Bool) → tree_type grow_meaning x ≡ Some (bool_type n)
+      → tree_type grow_meaning (not_of x) ≡ Some (bool_type n)
+  not_typed x n h = type_of_one grow_meaning (ours Not) x (bool_type n) h
+
+  pub grow_typed : (f : V) (o : O) (x : Tree V O) (n : Bool)
+      → tree_type grow_meaning x ≡ Some (bool_type n)
+      → tree_type grow_meaning (call (custom f o) (tree x no_trees)) ≡ Some (bool_type n)
+  grow_typed f o x n h = type_of_one grow_meaning (custom f o) x (bool_type n) h
+
+  -- what the rule makes of it
+  pub grown_is : (t x u : Tree V O) (f : V) (o : O) → IsGrowing f o t x
+      → u ≡ call (custom f o) (tree (not_of (not_of x)) no_trees)
+      → Some u ≡ reduce grow_meaning grow_rules t
+  grown_is t x u f o g e = ap Some e ∙ ap (reduce grow_meaning grow_rules) (sym g.is)

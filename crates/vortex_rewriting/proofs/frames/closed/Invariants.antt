@@ -1,0 +1,19 @@
+use Rattle.std.proofs.Common.{◌≡◌, ◌-◌, All, length, map}
+use Rattle.vortex_meaning.specs.Trees.{children_of}
+use Rattle.vortex_rewriting.specs.Frames.{partly}
+use Rattle.vortex_rewriting.proofs.frames.closed.Given as goal
+
+-- further children as they were are no change
+abbrev pub invariant-loop-done : goal.invariant-loop-done
+invariant-loop-done g l =
+    let tree = g.T.BoundTree.tree in
+    let rows = g.T.BoundTree.rows in
+    record {
+      same : partly (tree l.node) (map tree l.done.items)
+          ≡ partly (tree l.node) (map tree l.initial.done.items);
+      same_rows : All (λ child. rows child ≡ rows l.node) l.done.items;
+    }
+
+abbrev pub decreases-loop-done : goal.decreases-loop-done
+decreases-loop-done g l =
+    length (children_of (g.T.BoundTree.tree l.node)) - length l.done.items

@@ -1,0 +1,22 @@
+-- What a search for the next place comes to.
+use Rattle.std.specs.Prelude.{◌≡◌, ℕ, Option, Some, None}
+use Rattle.vortex_rewriting.specs.declared.driver.Found.{Found}
+use Rattle.vortex_rewriting.specs.declared.driver.Found.TheVariants.{Settled, Place}
+use Rattle.vortex_meaning.specs.Trees.{Tree}
+use Rattle.vortex_meaning.specs.Driver.{step}
+use Rattle.vortex_rewriting.specs.Frames.{plug, AreFrames, frames_in, HaveRows}
+
+-- the tree is settled, or its step is that at the place
+abbrev pub IsFound : {T V O : Type 0} → (Tree V O → Option (Tree V O)) → (T → Tree V O) → Tree V O
+    → Found T → Type 0
+IsFound rule tree t (Settled whole) = (t ≡ tree whole) × (step rule t ≡ None)
+IsFound rule tree t (Place above old made) =
+    AreFrames rule (frames_in tree above.items)
+    × (t ≡ plug (frames_in tree above.items) (tree old))
+    × (step rule (tree old) ≡ Some (tree made))
+
+-- each tree in it has so many rows
+abbrev pub FoundHasRows : {T : Type 0} → (T → ℕ) → ℕ → Found T → Type 0
+FoundHasRows rows n (Settled whole) = rows whole ≡ n
+FoundHasRows rows n (Place above old made) =
+    HaveRows rows n above.items × (rows old ≡ n) × (rows made ≡ n)

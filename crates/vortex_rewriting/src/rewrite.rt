@@ -1,0 +1,100 @@
+//! Rewriting, as methods of trees.
+ghost use Rattle.std.specs.Prelude.{◌≡◌, ◌<◌, ◌≤◌, ◌↔◌, IfOk, IfSome, IsTrue, None, Some, false};
+ghost use Rattle.vortex_errors.specs.Answers.{Answers};
+ghost use Rattle.vortex_errors.specs.declared.error.VortexError.TheVariants.{NoSuchPlace};
+ghost use Rattle.vortex_meaning.specs.Places.{rewritten_list};
+ghost use Rattle.vortex_meaning.specs.Rewrites.{Rewrites};
+ghost use Rattle.vortex_meaning.specs.Weights.{weight, OnlyShipped, IsLighter};
+ghost use Rattle.vortex_meaning.specs.Driver.{step, Runs};
+ghost use Rattle.vortex_functions.specs.Words.{AnswersUnlessMemory};
+ghost use Rattle.vortex_rewriting.specs.Driving.{first_rule};
+ghost use Rattle.vortex_rewriting.specs.Rewriting.{AnswersRewritten, steps_of};
+
+use crate::driver::{self, Optimized};
+use crate::places::{self, Rewritten};
+use crate::rule::Rule;
+use crate::tree::RewriteTree;
+use std::alloc::Global;
+use vortex_columns::VortexResult;
+use vortex_rules::ScalarFnRules;
+
+/// Rewriting, as methods of every tree that is rewritten.
+pub trait Rewrite<C: ScalarFnRules>: RewriteTree<C> {
+    /// What a rule makes of the tree at the place that the path of child numbers leads to, all else
+    /// as it was; None where the rule does not apply there. E13 where the path leaves the tree, and
+    /// else E9 alone.
+    fn rewrite_at(&self, alloc: Global, path: &[usize], rule: Rule) -> VortexResult<Option<Self>>
+        ensures answer { AnswersRewritten Self.tree (Self.applied rule) path.now
+            (Self.tree self.now) result }
+        ensures kept { IfOk result (λ answer. IfSome answer
+            (λ made. Rewrites C.meaning (Self.tree self.now) (Self.tree made))) }
+        ensures lighter { IfOk result (λ answer. IfSome answer
+            (λ made. OnlyShipped (Self.tree self.now)
+            → IsLighter C.meaning 1 (Self.tree self.now) (Self.tree made))) }
+        ensures fewer { IfOk result (λ answer. IfSome answer
+            (λ made. OnlyShipped (Self.tree self.now)
+            → 1 < weight C.meaning (Self.tree self.now))) }
+        ensures same_rows { IfOk result
+            (λ answer. IfSome answer (λ made. Self.rows made ≡ Self.rows self.now)) };
+
+    /// What rules at places make of the tree, one after another: each step, a path of child numbers
+    /// and a rule, is taken on the tree that those before it left. A step whose rule does not apply
+    /// at its place changes nothing, and is not counted. E13 where the path of a step leaves the
+    /// tree, and else E9 alone.
+    fn rewrite_list(
+        &self,
+        alloc: Global,
+        steps: &[(&[usize], Rule)],
+    ) -> VortexResult<Rewritten<Self>>
+        ensures answer { Answers result
+            (λ made. rewritten_list Self.applied (steps_of steps.now) (Self.tree self.now)
+            ≡ Some (Self.tree made.tree, made.applied))
+            (λ e. (e ≡ NoSuchPlace)
+            × (rewritten_list Self.applied (steps_of steps.now) (Self.tree self.now) ≡ None)) }
+        ensures kept { IfOk result
+            (λ made. Rewrites C.meaning (Self.tree self.now) (Self.tree made.tree)) }
+        ensures lighter { IfOk result (λ made. OnlyShipped (Self.tree self.now)
+            → IsLighter C.meaning made.applied (Self.tree self.now) (Self.tree made.tree)) }
+        ensures fewer { IfOk result (λ made. OnlyShipped (Self.tree self.now)
+            → made.applied < weight C.meaning (Self.tree self.now)) }
+        ensures same_rows { IfOk result (λ made. Self.rows made.tree ≡ Self.rows self.now) };
+
+    /// A run of steps: each rewrites the first place, children from left to right before their
+    /// parent, at which a rule applies, by Simplify before Reduce. It stops where no rule applies
+    /// anywhere, or after `limit` steps; a tree of shipped functions alone needs fewer than it
+    /// weighs. E9 alone.
+    fn optimize_recursive(&self, alloc: Global, limit: u64) -> VortexResult<Optimized<Self>>
+        ensures run { AnswersUnlessMemory result (λ o.
+            Runs (first_rule Self.applied) o.steps (Self.tree self.now) (Self.tree o.tree)) }
+        ensures kept { IfOk result
+            (λ o. Rewrites C.meaning (Self.tree self.now) (Self.tree o.tree)) }
+        ensures limited { IfOk result (λ o. o.steps ≤ limit) }
+        ensures done { IfOk result
+            (λ o. IsTrue o.done ↔ (step (first_rule Self.applied) (Self.tree o.tree) ≡ None)) }
+        ensures stopped { IfOk result (λ o. o.done ≡ false → o.steps ≡ limit) }
+        ensures lighter { IfOk result (λ o. OnlyShipped (Self.tree self.now)
+            → IsLighter C.meaning o.steps (Self.tree self.now) (Self.tree o.tree)) }
+        ensures fewer { IfOk result (λ o. OnlyShipped (Self.tree self.now)
+            → o.steps < weight C.meaning (Self.tree self.now)) }
+        ensures ends { IfOk result (λ o. OnlyShipped (Self.tree self.now)
+            → weight C.meaning (Self.tree self.now) ≤ limit → IsTrue o.done) }
+        ensures same_rows { IfOk result (λ o. Self.rows o.tree ≡ Self.rows self.now) };
+}
+
+impl<C: ScalarFnRules, T: RewriteTree<C>> Rewrite<C> for T {
+    fn rewrite_at(&self, alloc: Global, path: &[usize], rule: Rule) -> VortexResult<Option<T>> {
+        places::rewrite_at(alloc, self, path, rule)
+    }
+
+    fn rewrite_list(
+        &self,
+        alloc: Global,
+        steps: &[(&[usize], Rule)],
+    ) -> VortexResult<Rewritten<T>> {
+        places::rewrite_list(alloc, self, steps)
+    }
+
+    fn optimize_recursive(&self, alloc: Global, limit: u64) -> VortexResult<Optimized<T>> {
+        driver::optimize_recursive(alloc, self, limit)
+    }
+}
