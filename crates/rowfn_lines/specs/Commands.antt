@@ -29,7 +29,9 @@ use Rattle.rowfn_lines.specs.Lines.{Word, plain, quoted, words_of, after_spaces}
 -- literal: a value in each row
 -- call: the function of that name, of the last trees
 -- show: the last tree's text
+-- optimize: a run of rules from the last tree, which takes its place
 -- run: the last tree's column
+-- run_after: the column of the tree that a run of so many steps at most leads to
 pub data Command : Type 0 where
   nothing : Command
   malformed : Command
@@ -39,7 +41,9 @@ pub data Command : Type 0 where
   literal : ScalarView → Command
   call : List ℕ → Command
   show : Command
+  optimize : Command
   run : Command
+  run_after : ℕ → Command
 
 abbrev pub begins_comment : List ℕ → Bool
 begins_comment [] = false
@@ -171,6 +175,14 @@ column_said t ws = option_and_then (column_where t) (cells_of t ws)
 abbrev pub literal_said : LogicalType → Word → Option ScalarView
 literal_said t w = option_map (λ v. record { dtype = t; value = v }) (cell_of t w)
 
+-- a number that 64 bits hold
+abbrev pub held_by_64_bits : ℕ → Option ℕ
+held_by_64_bits n = if nat_le n 18446744073709551615 then Some n else None
+
+-- the number of steps that digits say
+abbrev pub limit_of : List ℕ → Option ℕ
+limit_of w = option_and_then held_by_64_bits (digits_of w)
+
 -- the word, of a line that has one more, which stands in no quotes
 abbrev pub only_word : List Word → Option (List ℕ)
 only_word (plain w ∷ []) = Some w
@@ -221,6 +233,12 @@ abbrev pub alone : Command → List Word → Command
 alone k [] = k
 alone k ws = malformed
 
+-- nothing, or how many steps go before
+abbrev pub run_command : List Word → Command
+run_command [] = run
+run_command (w ∷ ws) =
+    or_malformed run_after (option_and_then limit_of (only_word (w ∷ ws)))
+
 -- by the first word
 abbrev pub command_by : List ℕ → List Word → Command
 command_by w ws =
@@ -230,8 +248,9 @@ command_by w ws =
     else (if bytes_eq w (codes "lit") then literal_command ws
     else (if bytes_eq w (codes "call") then call_command ws
     else (if bytes_eq w (codes "show") then alone show ws
-    else (if bytes_eq w (codes "run") then alone run ws
-    else malformed))))))
+    else (if bytes_eq w (codes "optimize") then alone optimize ws
+    else (if bytes_eq w (codes "run") then run_command ws
+    else malformed)))))))
 
 abbrev pub command_of_words : List Word → Command
 command_of_words [] = nothing
@@ -255,4 +274,6 @@ command_in (line.Get name) = get name.now
 command_in (line.Literal s) = literal s
 command_in (line.Call name) = call (string_bytes name)
 command_in line.Show = show
+command_in line.Optimize = optimize
 command_in line.Run = run
+command_in (line.RunAfter n) = run_after n

@@ -19,10 +19,15 @@ pub enum Line<'a> {
     Get(&'a str),
     /// A value in each row.
     Literal(Scalar),
-    /// The function of that name, of the last trees: one word, or three with a space between each two.
+    /// The function of that name, of the last trees: one word, or three with a space between each
+    /// two.
     Call(String),
     /// The text of the last tree, printed.
     Show,
+    /// A run of rules from the last tree, which takes that one's place; its steps, printed.
+    Optimize,
     /// The column of the last tree, printed.
     Run,
+    /// The column of the tree that a run of so many steps at most leads to, printed.
+    RunAfter(u64),
 }

@@ -2,7 +2,8 @@
 ghost use Rattle.std.specs.Prelude.{◌≡◌, map, option_map, string_bytes};
 ghost use Rattle.vortex_errors.specs.Answers.{AnswersUnlessMemory};
 ghost use Rattle.rowfn_lines.specs.Lines.{word_in};
-ghost use Rattle.rowfn_lines.specs.Commands.{begins_comment, is_name, count_of, only_word, alone};
+ghost use Rattle.rowfn_lines.specs.Commands.{begins_comment, is_name, count_of, limit_of};
+ghost use Rattle.rowfn_lines.specs.Commands.{only_word, alone, run_command};
 ghost use Rattle.rowfn_lines.specs.Commands.{rows_command, column_command, get_command};
 ghost use Rattle.rowfn_lines.specs.Commands.{literal_command, spaced, call_of, call_command};
 ghost use Rattle.rowfn_lines.specs.Commands.{command_by};
@@ -41,6 +42,16 @@ fn count(word: &str) -> Option<usize>
         return None;
     }
     word.parse::<usize>().ok()
+}
+
+/// The number that digits say, where 64 bits hold it.
+fn limit(word: &str) -> Option<u64>
+    ensures { result ≡ limit_of word.now }
+{
+    if !are_digits(word) {
+        return None;
+    }
+    word.parse::<u64>().ok()
 }
 
 /// The word, where there is one and no other, and it stands in no quotes.
@@ -148,6 +159,22 @@ fn alone<'a>(line: Line<'a>, words: &[Word<'a>]) -> Line<'a>
     }
 }
 
+/// `run`, by what follows it: nothing, or how many steps of rules go before.
+fn run_line<'a>(words: &[Word<'a>]) -> Line<'a>
+    ensures { command_in result ≡ run_command (map word_in words.now) }
+{
+    if words.is_empty() {
+        return Line::Run;
+    }
+    let Some(word) = only(words) else {
+        return Line::Malformed;
+    };
+    match limit(word) {
+        Some(limit) => Line::RunAfter(limit),
+        None => Line::Malformed,
+    }
+}
+
 /// What the words after a first word say.
 fn line_of<'a>(alloc: Global, first: &'a str, words: &[Word<'a>]) -> VortexResult<Line<'a>>
     ensures { AnswersCommand (command_by first.now (map word_in words.now)) result }
@@ -164,8 +191,10 @@ fn line_of<'a>(alloc: Global, first: &'a str, words: &[Word<'a>]) -> VortexResul
         call_line(alloc, words)
     } else if first == "show" {
         Ok(alone(Line::Show, words))
+    } else if first == "optimize" {
+        Ok(alone(Line::Optimize, words))
     } else if first == "run" {
-        Ok(alone(Line::Run, words))
+        Ok(run_line(words))
     } else {
         Ok(Line::Malformed)
     }

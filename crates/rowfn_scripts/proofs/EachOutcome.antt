@@ -17,6 +17,13 @@ use Rattle.vortex_columns.specs.ColumnView.{ColumnView, row}
 use Rattle.vortex_meaning.specs.Outcomes.{Fault, arithmetic, custom, Outcome, gives, faults}
 use Rattle.vortex_meaning.specs.Outcomes.{error_of, GivesValue, IsRowFault}
 use Rattle.vortex_meaning.specs.Meaning.{Meaning}
+use Rattle.vortex_meaning.specs.Rules.{Rules}
+use Rattle.vortex_meaning.specs.Weights.{weight_told}
+use Rattle.vortex_meaning.specs.Driver.{RunsTo}
+use Rattle.vortex_meaning.specs.Rewrites.{HasRow}
+use Rattle.vortex_meaning.specs.Running.{faulty as faulty_after}
+use Rattle.vortex_meaning.proofs.AfterRun.{rows_after, fault_after}
+use Rattle.vortex_rewriting.specs.Runs.{expression_step}
 use Rattle.vortex_meaning.specs.Functions.{Function}
 use Rattle.vortex_meaning.specs.Shipped.{Shipped, shipped_arity, shipped_named, shipped_place}
 use Rattle.vortex_meaning.specs.Trees.{Tree, leaf, constant, call as call_tree, Trees, no_trees}
@@ -25,7 +32,7 @@ use Rattle.vortex_meaning.specs.Eval.{tree_type, tree_types, types_or_none, eval
 use Rattle.vortex_meaning.specs.Eval.{AllSettled, IsFirstFault, IsFirstFaultIn}
 use Rattle.vortex_meaning.specs.Execution.{Executes, LeavesFit, other_length, faulty}
 use Rattle.rowfn_lines.specs.Commands.{Command, nothing, malformed, rows, column, get, literal}
-use Rattle.rowfn_lines.specs.Commands.{call, show, run}
+use Rattle.rowfn_lines.specs.Commands.{call, show, optimize, run, run_after}
 use Rattle.rowfn_lines.specs.Lines.{lines_of}
 use Rattle.rowfn_lines.specs.Printing.{column_text}
 use Rattle.rowfn_scripts.specs.declared.ending.End.{End}
@@ -34,10 +41,14 @@ use Rattle.rowfn_scripts.specs.Sessions.{SessionView, Step, goes_on, refuses, is
 use Rattle.rowfn_scripts.specs.Sessions.{least_count, taken, with_rows, after_rows, with_column}
 use Rattle.rowfn_scripts.specs.Sessions.{added, with_leaf, with_literal, call_of, refused_at}
 use Rattle.rowfn_scripts.specs.Sessions.{with_taken, with_call, shown_by, ShowsTop, prints, refused}
-use Rattle.rowfn_scripts.specs.Sessions.{RunsTop, StepsTo}
+use Rattle.rowfn_scripts.specs.Sessions.{RunsTop, optimized, OptimizesTop, prints_after}
+use Rattle.rowfn_scripts.specs.Sessions.{refused_after, RunsAfterTop, StepsTo}
 use Rattle.rowfn_scripts.specs.Scripts.{Reaches, begins, one_more, command_at, EndsAt, IsOutcome}
-use Rattle.rowfn_scripts.specs.Fitting.{Counted, AllShown, AllHaveTypes, AllFit, Fits}
+use Rattle.rowfn_scripts.specs.Fitting.{Counted, AllShown, AllHaveTypes, AllFit, StackHasRows}
+use Rattle.rowfn_scripts.specs.Fitting.{HaveRows, Fits}
 use Rattle.rowfn_scripts.specs.Telling.{EachHasFullOutcome}
+use Rattle.rowfn_scripts.proofs.OneRun.{some_run}
+use Rattle.rowfn_scripts.proofs.AfterRules.{the_type, AreSound, rewritten, rewritten_typed}
 use Rattle.rowfn_scripts.proofs.Fitting.{reached_fits}
 
 -- a fault is told, and not by want of memory
@@ -138,10 +149,6 @@ column_rows o (suc n) h =
     each vs k zero lt = first.1
     each vs k (suc i) lt = k i (omega arith)
 
-the_type : (o : Option LogicalType) → is_some o ≡ true → (t : LogicalType) × (o ≡ Some t)
-the_type None h = cc
-the_type (Some t) h = (t, refl)
-
 module _ {V O : Type 0} (m : Meaning V O) where
   -- a tree that fits, has a type and faults in no row is executed
   executed : (cs : List ColumnView) (n : ℕ) (t : Tree V O) → LeavesFit cs t
@@ -159,7 +166,7 @@ module _ {V O : Type 0} (m : Meaning V O) where
         },
       )
 
-  module _ (s : SessionView V O) where
+  module _ (rs : Rules V O) (laws : AreSound m rs) (s : SessionView V O) where
     -- a step of the command, and not for want of memory
     abbrev Makes : (Step V O → Type 0) → Type 0
     Makes P = (r : Step V O) × P r × (r ≢ refuses OutOfMemory)
@@ -252,7 +259,57 @@ module _ {V O : Type 0} (m : Meaning V O) where
     runs (Some n) (t ∷ stack) counted fit typed =
         runs_by n t stack fit.0 counted typed.0 (settled_or_faulty m s.columns n t)
 
-    steps : Fits m s → (k : Command) → Makes (StepsTo m k s)
+    -- a run of rules within a limit, from a tree that fits the columns in each row
+    module _ (limit n : ℕ) (t u : Tree V O) (run : RunsTo (expression_step m rs) limit t u)
+        (fit : LeavesFit s.columns t) (lengths : other_length n s.columns ≡ None)
+        (typed : is_some (tree_type m t) ≡ true) (rows : (i : ℕ) → i < n → HasRow s.columns i t)
+        (stack : List (Tree V O)) where
+      runs_after_by : Settled m s.columns n u ⊎ Faults m s.columns n u
+          → Makes (RunsAfterTop m rs limit (Some n) (t ∷ stack) s)
+      runs_after_by (inl settled) =
+          let k = the_type (tree_type m t) typed in
+          let fits = (rewritten m rs laws limit t u run typed).asks.leaves s.columns fit in
+          let c = executed s.columns n u fits lengths
+          (rewritten_typed m rs laws limit t u run typed) settled in
+          let after =
+          rows_after m (expression_step m rs) laws.sound s.columns n limit t u k.0 k.1 run rows c.0
+          c.1.rows in
+          let next : SessionView V O = record s { printed = s.printed ++ column_text c.0 } in (
+            goes_on next,
+            prints_after c.0 (record { fit = fit; lengths = lengths; rows = after }) refl,
+            λ e. cc,
+          )
+      runs_after_by (inr p) =
+          let k = the_type (tree_type m t) typed in
+          let after =
+          fault_after m (expression_step m rs) laws.sound s.columns n limit t u k.0 k.1 run rows p.0
+          p.1 in (
+            refuses p.0,
+            refused_after p.0 (faulty_after fit lengths after) refl,
+            λ e. p.2 (told _ p.0 refl e),
+          )
+
+    runs_after : (limit : ℕ) (r : Option ℕ) (stack : List (Tree V O)) → Counted r s.columns
+        → AllFit s.columns stack → AllHaveTypes m stack → HaveRows r s.columns stack
+        → Makes (RunsAfterTop m rs limit r stack s)
+    runs_after limit None stack counted fit typed with_rows = made is_malformed (λ e. cc)
+    runs_after limit (Some n) [] counted fit typed with_rows = made is_malformed (λ e. cc)
+    runs_after limit (Some n) (t ∷ stack) counted fit typed with_rows =
+        let u = some_run (expression_step m rs) t limit in
+        runs_after_by limit n t u.0 u.1 fit.0 counted typed.0 with_rows.0 stack
+        (settled_or_faulty m s.columns n u.0)
+
+    optimizes : (r : Option ℕ) (stack : List (Tree V O)) → Makes (OptimizesTop m rs r stack s)
+    optimizes None stack = made is_malformed (λ e. cc)
+    optimizes (Some n) [] = made is_malformed (λ e. cc)
+    optimizes (Some n) (t ∷ stack) =
+        let u = some_run (expression_step m rs) t (weight_told m t) in (
+          optimized m rs u.1.0 u.0 stack s,
+          record { last = u.0; run = u.1; is = refl },
+          λ e. cc,
+        )
+
+    steps : Fits m s → (k : Command) → Makes (StepsTo m rs k s)
     steps fits nothing = made (goes_on s) (λ e. cc)
     steps fits malformed = made is_malformed (λ e. cc)
     steps fits (rows n) = made _ (rows_want n s.row_count)
@@ -261,29 +318,33 @@ module _ {V O : Type 0} (m : Meaning V O) where
     steps fits (literal l) = made _ (literal_want l s.row_count)
     steps fits (call word) = made _ (call_want word s.row_count)
     steps fits show = shows s.row_count s.stack fits.shown
+    steps fits optimize = optimizes s.row_count s.stack
     steps fits run = runs s.row_count s.stack fits.counted fits.fit fits.with_types
+    steps fits (run_after limit) =
+        runs_after limit s.row_count s.stack fits.counted fits.fit fits.with_types fits.with_rows
 
 or_memory : (Q : VortexError → Type 0) (e : VortexError) → Q e → UnlessMemory Q e
 or_memory Q OutOfMemory h = tt
 or_memory Q e h = h
 
-module _ {V O : Type 0} (m : Meaning V O) (lines : List (List ℕ)) where
+module _ {V O : Type 0} (m : Meaning V O) (rs : Rules V O) (laws : AreSound m rs)
+    (lines : List (List ℕ)) where
   -- from a session that lines reach the script comes to an end
   abbrev Ends : Type 0
   Ends = (n : ℕ) × (s : SessionView V O) × (ending : End)
-      × Reaches m lines n s × EndsAt m lines n s ending × (ending ≢ Refused OutOfMemory)
+      × Reaches m rs lines n s × EndsAt m rs lines n s ending × (ending ≢ Refused OutOfMemory)
 
   abbrev After : ℕ → SessionView V O → Type 0
-  After n s = Reaches m lines n s → Ends
+  After n s = Reaches m rs lines n s → Ends
 
-  by_step : (n : ℕ) (s : SessionView V O) → Reaches m lines n s → n < length lines
+  by_step : (n : ℕ) (s : SessionView V O) → Reaches m rs lines n s → n < length lines
       → ((t : SessionView V O) → After (suc n) t)
-      → (r : Step V O) → StepsTo m (command_at lines n) s r → r ≢ refuses OutOfMemory → Ends
+      → (r : Step V O) → StepsTo m rs (command_at lines n) s r → r ≢ refuses OutOfMemory → Ends
   by_step n s reached lt later (goes_on t) step memory =
       later t (one_more n s t reached lt step)
   by_step n s reached lt later (refuses e) step memory =
       let Q =
-      λ (d : VortexError). (n < length lines) × StepsTo m (command_at lines n) s (refuses d) in
+      λ (d : VortexError). (n < length lines) × StepsTo m rs (command_at lines n) s (refuses d) in
       (n, s, Refused e, reached, or_memory Q e (lt, step), λ h. memory (ap refuses (told h)))
     where
       told : Refused e ≡ Refused OutOfMemory → e ≡ OutOfMemory
@@ -298,15 +359,17 @@ module _ {V O : Type 0} (m : Meaning V O) (lines : List (List ℕ)) where
   ends_after (suc left) n s over reached =
       let lt : n < length lines = omega arith in
       let more : suc n + left ≡ length lines = omega arith in
-      let step = steps m s (reached_fits m lines n s reached) (command_at lines n) in
+      let fits = reached_fits m rs laws lines n s reached in
+      let step = steps m rs laws s fits (command_at lines n) in
       by_step n s reached lt (λ t. ends_after left (suc n) t more) step.0 step.1 step.2
 
-pub each_has_full_outcome : {V O : Type 0} (m : Meaning V O) → EachHasFullOutcome m
-each_has_full_outcome m script =
+pub each_has_full_outcome : {V O : Type 0} (m : Meaning V O) (rs : Rules V O) → AreSound m rs
+    → EachHasFullOutcome m rs
+each_has_full_outcome m rs laws script =
     let lines = lines_of script in
     let all : 0 + length lines ≡ length lines = omega arith in
-    let last = ends_after m lines (length lines) 0 fresh all begins in
-    let outcome : IsOutcome m script last.1.printed last.2 =
+    let last = ends_after m rs laws lines (length lines) 0 fresh all begins in
+    let outcome : IsOutcome m rs script last.1.printed last.2 =
     record {
       read = last.0;
       session = last.1;

@@ -1,5 +1,8 @@
 pub mod SessionSteps
 pub mod Reading
+pub mod OneRun
+pub mod Shown
+pub mod AfterRules
 pub mod Fitting
 pub mod Telling
 pub mod EachOutcome

@@ -2,6 +2,7 @@
 use Rattle.std.proofs.Common.{◌≡◌, ◌==◌, ℕ, suc, ◌+◌, ◌-◌, ◌<◌, Bool, true, false, Option, Some}
 use Rattle.std.proofs.Common.{None, Result, List, [], ◌∷◌, ◌++◌, length, take, drop, get_or}
 use Rattle.std.proofs.Common.{reverse, refl, sym, ap, subst, ◌∙◌, arith, ◌&&◌, if◌then◌else◌}
+use Rattle.std.proofs.Common.{◌≤◌, ◌⊎◌, inl, inr, ◌↔◌, IsTrue}
 use Rattle.std.specs.Prelude.{IfSome, MatchOption, nat_le, not}
 use Rattle.std.specs.Cmp.{unsigned_Decides}
 use Rattle.std.specs.Option.{is_some, is_none, option_and_then, option_map}
@@ -18,6 +19,11 @@ use Rattle.vortex_errors.specs.Answers.{Answers, UnlessMemory}
 use Rattle.vortex_types.specs.LogicalTypes.{LogicalType, Fields, with_field, find_field}
 use Rattle.vortex_columns.specs.ColumnView.{ColumnView}
 use Rattle.vortex_meaning.specs.Meaning.{Meaning, fits}
+use Rattle.vortex_meaning.specs.Rules.{Rules}
+use Rattle.vortex_meaning.specs.Weights.{weight_told}
+use Rattle.vortex_meaning.specs.Driver.{step, Runs}
+use Rattle.vortex_meaning.specs.Running.{ExecutesAfter, RefusesAfter}
+use Rattle.vortex_rewriting.specs.Runs.{expression_step}
 use Rattle.vortex_meaning.specs.Shipped.{Shipped, row_function, shipped_arity, shipped_named}
 use Rattle.vortex_meaning.specs.Shipped.{shipped_place}
 use Rattle.vortex_meaning.specs.Functions.{Function, ours, function_arity, function_type, call_type}
@@ -33,7 +39,9 @@ use Rattle.rowfn_scripts.specs.declared.stop.Stop.TheVariants.{Refused}
 use Rattle.rowfn_scripts.specs.Sessions.{SessionView, Step, goes_on, refuses, is_malformed}
 use Rattle.rowfn_scripts.specs.Sessions.{least_count, taken, after_rows, added, with_column}
 use Rattle.rowfn_scripts.specs.Sessions.{with_leaf, call_of, refused_at, with_taken, with_call}
-use Rattle.rowfn_scripts.specs.Sessions.{shown_by, ShowsTop, prints, refused, RunsTop}
+use Rattle.rowfn_scripts.specs.Sessions.{shown_by, ShowsTop, prints, refused, RunsTop, steps_text}
+use Rattle.rowfn_scripts.specs.Sessions.{Optimizes, OptimizesTop, prints_after, refused_after}
+use Rattle.rowfn_scripts.specs.Sessions.{RunsAfterTop}
 use Rattle.rowfn_scripts.specs.Stepping.{MakesStep}
 
 counted_parts : (a : Option LogicalType) (b : Option (List LogicalType)) (ks : List LogicalType)
@@ -91,6 +99,26 @@ module _ {V O : Type 0} where
       ∙ ap (λ (st : List (Tree V O)). goes_on (record v { stack = st }))
       (reverse-append kept (t ∷ []))
       ∙ ap (λ (u : SessionView V O). goes_on (record u { stack = t ∷ reverse kept })) e
+
+  -- one more tree, and a text that was printed
+  pub same_optimized : (v s : SessionView V O) (t : Tree V O) (kept after : List (Tree V O))
+      (printed text : List ℕ) → v ≡ s → after ≡ kept ++ t ∷ [] → printed ≡ v.printed ++ text
+      → goes_on (record v { stack = reverse after; printed = printed })
+      ≡ goes_on (record s { stack = t ∷ reverse kept; printed = s.printed ++ text })
+  same_optimized v s t kept after printed text e a b =
+      ap (λ (st : List (Tree V O)). goes_on (record v { stack = reverse st; printed = printed })) a
+      ∙ ap (λ (st : List (Tree V O)). goes_on (record v { stack = st; printed = printed }))
+      (reverse-append kept (t ∷ []))
+      ∙ ap (λ (x : List ℕ). goes_on (record v { stack = t ∷ reverse kept; printed = x })) b
+      ∙ ap
+      (λ (u : SessionView V O).
+      goes_on (record u { stack = t ∷ reverse kept; printed = u.printed ++ text }))
+      e
+
+  -- the tree that was popped was the top
+  pub popped : (items kept : List (Tree V O)) (t : Tree V O) → items ≡ kept ++ t ∷ []
+      → reverse items ≡ t ∷ reverse kept
+  popped items kept t e = ap reverse e ∙ reverse-append kept (t ∷ [])
 
   pub same_leaf : (s : SessionView V O) (t u : Tree V O) (below : List (Tree V O)) → below ≡ s.stack
       → t ≡ u
@@ -310,6 +338,68 @@ module _ {V O : Type 0} where
       top_refused e h =
           subst (λ (stack : List (Tree V O)). RunsTop m (Some n) stack s (refuses e)) (sym top)
           (refused e h refl)
+
+      module _ (rs : Rules V O) (limit : ℕ) where
+        pub top_printed_after : (c : ColumnView) (text : List ℕ)
+            → ExecutesAfter m s.columns n (expression_step m rs) limit t c → text ≡ column_text c
+            → RunsAfterTop m rs limit (Some n) s.stack s
+            (goes_on (record s { printed = s.printed ++ text }))
+        top_printed_after c text h e =
+            subst
+            (λ (stack : List (Tree V O)).
+            RunsAfterTop m rs limit (Some n) stack s
+            (goes_on (record s { printed = s.printed ++ text })))
+            (sym top)
+            (prints_after c h
+            (ap (λ (b : List ℕ). goes_on (record s { printed = s.printed ++ b })) e))
+
+        pub top_refused_after : (e : VortexError)
+            → RefusesAfter m s.columns n (expression_step m rs) limit t e
+            → RunsAfterTop m rs limit (Some n) s.stack s (refuses e)
+        top_refused_after e h =
+            subst
+            (λ (stack : List (Tree V O)). RunsAfterTop m rs limit (Some n) stack s (refuses e))
+            (sym top) (refused_after e h refl)
+
+    -- a run whose end is told by a flag takes the place of the last tree
+    module _ (rs : Rules V O) (s : SessionView V O) (t last : Tree V O)
+        (rest : List (Tree V O)) (count : ℕ) (done : Bool) where
+      abbrev Replaced : List ℕ → Step V O
+      Replaced text = goes_on (record s { stack = last ∷ rest; printed = s.printed ++ text })
+
+      in_place : (r : Option ℕ) (x : Step V O) → is_none r ≡ false → Optimizes m rs t rest s x
+          → OptimizesTop m rs r (t ∷ rest) s x
+      in_place None x h o = cc
+      in_place (Some n) x h o = o
+
+      ended : (limit : ℕ) (b : Bool) (P : Type 0) → (IsTrue b ↔ P) → (b ≡ false → count ≡ limit)
+          → P ⊎ (count ≡ limit)
+      ended limit true P over stopped = inl (over.0 refl)
+      ended limit false P over stopped = inr (stopped refl)
+
+      told_by : (b : Bool) (o : Option (Tree V O)) → (IsTrue b ↔ (o ≡ None)) → b ≡ is_none o
+      told_by true o over = sym (ap is_none (over.0 refl))
+      told_by false None over = over.1 refl
+      told_by false (Some u) over = refl
+
+      pub top_optimized : is_none s.row_count ≡ false → s.stack ≡ t ∷ rest
+          → Runs (expression_step m rs) count t last → count ≤ weight_told m t
+          → (IsTrue done ↔ (step (expression_step m rs) last ≡ None))
+          → (done ≡ false → count ≡ weight_told m t) → (text : List ℕ)
+          → text ≡ steps_text count done
+          → OptimizesTop m rs s.row_count s.stack s (Replaced text)
+      top_optimized known top run most over stopped text e =
+          let limit = weight_told m t in
+          let end = ended limit done (step (expression_step m rs) last ≡ None) over stopped in
+          let flag = told_by done (step (expression_step m rs) last) over in
+          let made : Optimizes m rs t rest s (Replaced text) =
+          record {
+            last = last;
+            run = (count, most, run, end);
+            is = ap Replaced (e ∙ ap (steps_text count) flag);
+          } in
+          subst (λ (stack : List (Tree V O)). OptimizesTop m rs s.row_count stack s (Replaced text))
+          (sym top) (in_place s.row_count (Replaced text) known made)
 
   -- the same, of a line
   pub stops : (P : SessionView V O → Step V O → Type 0) (s t : SessionView V O)

@@ -1,15 +1,20 @@
--- The trees of a session fit its columns, so where `run` refuses, a row faults; each has a type,
--- which a column of it has; and each has a text, which `show` prints.
-use Rattle.std.specs.Prelude.{◌≡◌, ℕ, List, [], ◌∷◌, true, Option, Some, None, is_some, ⊤}
+-- The trees of a session fit its columns, so where `run` refuses, with a number or without, a row
+-- faults; each has a type, which a column of it has; and each has a text, which `show` prints.
+use Rattle.std.specs.Prelude.{◌≡◌, ℕ, ◌<◌, List, [], ◌∷◌, true, Option, Some, None, is_some, ⊤}
+use Rattle.std.specs.Prelude.{All}
 use Rattle.vortex_errors.specs.declared.error.VortexError.{VortexError}
 use Rattle.vortex_types.specs.LogicalTypes.{Fields, no_fields, field}
-use Rattle.vortex_columns.specs.ColumnView.{ColumnView}
+use Rattle.vortex_columns.specs.ColumnView.{ColumnView, AreTyped}
 use Rattle.vortex_meaning.specs.Meaning.{Meaning}
+use Rattle.vortex_meaning.specs.Rules.{Rules}
 use Rattle.vortex_meaning.specs.Trees.{Tree}
 use Rattle.vortex_meaning.specs.Printing.{tree_text}
 use Rattle.vortex_meaning.specs.Eval.{tree_type, IsFirstFault}
 use Rattle.vortex_meaning.specs.Execution.{LeavesFit, other_length}
-use Rattle.rowfn_lines.specs.Commands.{run}
+use Rattle.vortex_meaning.specs.Rewrites.{HasRow}
+use Rattle.vortex_meaning.specs.Running.{IsFaultAfter}
+use Rattle.vortex_rewriting.specs.Runs.{expression_step}
+use Rattle.rowfn_lines.specs.Commands.{run, run_after}
 use Rattle.rowfn_scripts.specs.Sessions.{SessionView, refuses, StepsTo}
 use Rattle.rowfn_scripts.specs.Scripts.{Reaches}
 
@@ -41,24 +46,46 @@ abbrev pub AllHaveTypes : {V O : Type 0} → Meaning V O → List (Tree V O) →
 AllHaveTypes m [] = ⊤
 AllHaveTypes m (t ∷ ts) = (is_some (tree_type m t) ≡ true) × AllHaveTypes m ts
 
+-- in each of n rows the leaves and the constants of each tree have values of their types; there is
+-- no tree before the row count is said
+abbrev pub StackHasRows : {V O : Type 0} → List ColumnView → ℕ → List (Tree V O) → Type 0
+StackHasRows cs n [] = ⊤
+StackHasRows cs n (t ∷ ts) = ((i : ℕ) → i < n → HasRow cs i t) × StackHasRows cs n ts
+
+abbrev pub HaveRows : {V O : Type 0} → Option ℕ → List ColumnView → List (Tree V O) → Type 0
+HaveRows None cs ts = ts ≡ []
+HaveRows (Some n) cs ts = StackHasRows cs n ts
+
 pub record Fits {V O : Type 0} (m : Meaning V O) (s : SessionView V O) : Type 0 where
   pub counted : Counted s.row_count s.columns
   pub typed : AreTypes s.fields s.columns
+  pub typed_rows : All (λ c. AreTyped c.dtype c.rows) s.columns
+  pub with_rows : HaveRows s.row_count s.columns s.stack
   pub fit : AllFit s.columns s.stack
   pub with_types : AllHaveTypes m s.stack
   pub shown : AllShown s.stack
 
 -- in a session that lines reach, `run` is refused with the first fault of the last tree, and never
 -- for its leaves or lengths
-abbrev pub RefusesFaultsAlone : {V O : Type 0} → Meaning V O → Type 0
-RefusesFaultsAlone {V} {O} m =
+abbrev pub RefusesFaultsAlone : {V O : Type 0} → Meaning V O → Rules V O → Type 0
+RefusesFaultsAlone {V} {O} m rs =
     (lines : List (List ℕ)) (read n : ℕ) (s : SessionView V O)
     (t : Tree V O) (stack : List (Tree V O)) (e : VortexError)
-    → Reaches m lines read s → s.row_count ≡ Some n → s.stack ≡ t ∷ stack
-    → StepsTo m run s (refuses e) → IsFirstFault m s.columns n t e
+    → Reaches m rs lines read s → s.row_count ≡ Some n → s.stack ≡ t ∷ stack
+    → StepsTo m rs run s (refuses e) → IsFirstFault m s.columns n t e
+
+-- nor is `run` with a number: it is refused with the first fault of the tree that its run leads to,
+-- where a row of the last tree faults too
+abbrev pub RefusesFaultsAfterAlone : {V O : Type 0} → Meaning V O → Rules V O → Type 0
+RefusesFaultsAfterAlone {V} {O} m rs =
+    (lines : List (List ℕ)) (read n limit : ℕ) (s : SessionView V O)
+    (t : Tree V O) (stack : List (Tree V O)) (e : VortexError)
+    → Reaches m rs lines read s → s.row_count ≡ Some n → s.stack ≡ t ∷ stack
+    → StepsTo m rs (run_after limit) s (refuses e)
+    → IsFaultAfter m s.columns n (expression_step m rs) limit t e
 
 -- in a session that lines reach, each tree has a text, so `show` prints it
-abbrev pub TreesHaveTexts : {V O : Type 0} → Meaning V O → Type 0
-TreesHaveTexts {V} {O} m =
+abbrev pub TreesHaveTexts : {V O : Type 0} → Meaning V O → Rules V O → Type 0
+TreesHaveTexts {V} {O} m rs =
     (lines : List (List ℕ)) (read : ℕ) (s : SessionView V O)
-    → Reaches m lines read s → AllShown s.stack
+    → Reaches m rs lines read s → AllShown s.stack

@@ -1,6 +1,8 @@
 -- What a line makes of what the lines before it made.
 use Rattle.std.specs.Prelude.{◌≡◌, ◌==◌, ◌&&◌, ℕ, List, [], ◌∷◌, ◌++◌, length, take, drop, reverse}
-use Rattle.std.specs.Prelude.{nat_le, Option, Some, None, is_some, is_none, IfSome, if◌then◌else◌}
+use Rattle.std.specs.Prelude.{nat_le, Bool, Option, Some, None, is_some, is_none, IfSome, codes}
+use Rattle.std.specs.Prelude.{if◌then◌else◌}
+use Rattle.std.specs.Fmt.{decimal}
 use Rattle.vortex_errors.specs.declared.arity.Arity.{Arity}
 use Rattle.vortex_errors.specs.declared.arity.Arity.TheVariants.{Exact, Variadic}
 use Rattle.vortex_errors.specs.declared.error.MismatchPlace.{MismatchPlace}
@@ -8,6 +10,7 @@ use Rattle.vortex_errors.specs.declared.error.VortexError.{VortexError}
 use Rattle.vortex_errors.specs.declared.error.VortexError.TheVariants.{ScopeMismatch, TypeMismatch}
 use Rattle.vortex_types.specs.LogicalTypes.{LogicalType, Fields, no_fields, with_field, find_field}
 use Rattle.vortex_types.specs.ScalarView.{ScalarView}
+use Rattle.vortex_types.specs.Values.{truth}
 use Rattle.vortex_columns.specs.ColumnView.{ColumnView}
 use Rattle.vortex_meaning.specs.Meaning.{Meaning}
 use Rattle.vortex_meaning.specs.Shipped.{Shipped, shipped_arity, shipped_named, shipped_place}
@@ -16,9 +19,14 @@ use Rattle.vortex_meaning.specs.Trees.{Tree, leaf, place, constant, call as call
 use Rattle.vortex_meaning.specs.Eval.{tree_type, tree_types, types_or_none}
 use Rattle.vortex_meaning.specs.Printing.{tree_text}
 use Rattle.vortex_meaning.specs.Execution.{Executes, RefusesExecution}
+use Rattle.vortex_meaning.specs.Rules.{Rules}
+use Rattle.vortex_meaning.specs.Weights.{weight_told}
+use Rattle.vortex_meaning.specs.Driver.{step, RunsTo}
+use Rattle.vortex_meaning.specs.Running.{ExecutesAfter, RefusesAfter}
+use Rattle.vortex_rewriting.specs.Runs.{expression_step}
 use Rattle.rowfn_lines.specs.Commands.{Command, nothing, malformed, rows, column, get, literal}
-use Rattle.rowfn_lines.specs.Commands.{call, show, run}
-use Rattle.rowfn_lines.specs.Printing.{column_text}
+use Rattle.rowfn_lines.specs.Commands.{call, show, optimize, run, run_after}
+use Rattle.rowfn_lines.specs.Printing.{value_text, column_text}
 
 -- the row count once it is said, the columns and the fields that name them in the order of their
 -- lines, the trees with the last one first, and what was printed
@@ -46,6 +54,11 @@ least_count (Variadic least most) = least
 abbrev pub taken : {V O : Type 0} → ℕ → List (Tree V O) → Option (List (Tree V O) × List (Tree V O))
 taken n stack =
     if nat_le n (length stack) then Some (reverse (take n stack), drop n stack) else None
+
+-- how many steps a run took, and whether no rule is left
+abbrev pub steps_text : ℕ → Bool → List ℕ
+steps_text n done =
+    (codes "steps " ++ decimal n) ++ (codes " done " ++ (value_text (truth done) ++ (10 ∷ [])))
 
 module _ {V O : Type 0} where
   -- a line that says the row count stands once, before every other that says something
@@ -123,15 +136,55 @@ module _ {V O : Type 0} where
     RunsTop (Some n) [] s r = r ≡ is_malformed
     RunsTop (Some n) (t ∷ stack) s r = Runs n t s r
 
-    -- by what the line says
-    abbrev pub StepsTo : Command → SessionView V O → Step V O → Type 0
-    StepsTo nothing s r = r ≡ goes_on s
-    StepsTo malformed s r = r ≡ is_malformed
-    StepsTo (rows n) s r = r ≡ with_rows n s s.row_count
-    StepsTo (column name c) s r = r ≡ after_rows s.row_count (with_column name c s)
-    StepsTo (get name) s r =
-        r ≡ after_rows s.row_count (λ n. with_leaf name s (find_field name s.fields))
-    StepsTo (literal l) s r = r ≡ after_rows s.row_count (λ n. with_literal l s)
-    StepsTo (call name) s r = r ≡ after_rows s.row_count (λ n. with_call s (shipped_named name))
-    StepsTo show s r = ShowsTop s.row_count s.stack s r
-    StepsTo run s r = RunsTop s.row_count s.stack s r
+    module _ (rs : Rules V O) where
+      -- another tree in the place of the last one, and printed how many steps led to it
+      abbrev pub optimized : ℕ → Tree V O → List (Tree V O) → SessionView V O → Step V O
+      optimized n last stack s =
+          let done = is_none (step (expression_step m rs) last) in
+          goes_on
+          (record s { stack = last ∷ stack; printed = s.printed ++ steps_text n done })
+
+      -- as many steps lead to it as the last tree weighs, or fewer, to where no rule is left
+      pub record Optimizes (t : Tree V O) (stack : List (Tree V O)) (s : SessionView V O)
+          (r : Step V O) : Type 0 where
+        pub last : Tree V O
+        pub run : RunsTo (expression_step m rs) (weight_told m t) t last
+        pub is : r ≡ optimized run.0 last stack s
+
+      abbrev pub OptimizesTop : Option ℕ → List (Tree V O) → SessionView V O → Step V O → Type 0
+      OptimizesTop None stack s r = r ≡ is_malformed
+      OptimizesTop (Some n) [] s r = r ≡ is_malformed
+      OptimizesTop (Some n) (t ∷ stack) s r = Optimizes t stack s r
+
+      -- the column of the tree that a run of at most so many steps leads to is printed, or that
+      -- tree is refused: with a fault of one of its rows, as `Fitting` shows
+      pub data RunsAfter (limit n : ℕ) (t : Tree V O) (s : SessionView V O) (r : Step V O)
+          : Type 0 where
+        prints_after : (c : ColumnView)
+            → ExecutesAfter m s.columns n (expression_step m rs) limit t c
+            → r ≡ goes_on (record s { printed = s.printed ++ column_text c })
+            → RunsAfter limit n t s r
+        refused_after : (e : VortexError)
+            → RefusesAfter m s.columns n (expression_step m rs) limit t e
+            → r ≡ refuses e → RunsAfter limit n t s r
+
+      abbrev pub RunsAfterTop : ℕ → Option ℕ → List (Tree V O) → SessionView V O → Step V O
+          → Type 0
+      RunsAfterTop limit None stack s r = r ≡ is_malformed
+      RunsAfterTop limit (Some n) [] s r = r ≡ is_malformed
+      RunsAfterTop limit (Some n) (t ∷ stack) s r = RunsAfter limit n t s r
+
+      -- by what the line says
+      abbrev pub StepsTo : Command → SessionView V O → Step V O → Type 0
+      StepsTo nothing s r = r ≡ goes_on s
+      StepsTo malformed s r = r ≡ is_malformed
+      StepsTo (rows n) s r = r ≡ with_rows n s s.row_count
+      StepsTo (column name c) s r = r ≡ after_rows s.row_count (with_column name c s)
+      StepsTo (get name) s r =
+          r ≡ after_rows s.row_count (λ n. with_leaf name s (find_field name s.fields))
+      StepsTo (literal l) s r = r ≡ after_rows s.row_count (λ n. with_literal l s)
+      StepsTo (call name) s r = r ≡ after_rows s.row_count (λ n. with_call s (shipped_named name))
+      StepsTo show s r = ShowsTop s.row_count s.stack s r
+      StepsTo optimize s r = OptimizesTop s.row_count s.stack s r
+      StepsTo run s r = RunsTop s.row_count s.stack s r
+      StepsTo (run_after limit) s r = RunsAfterTop limit s.row_count s.stack s r

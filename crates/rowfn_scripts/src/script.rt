@@ -1,5 +1,6 @@
 //! Runs a script.
 ghost use Rattle.std.specs.Prelude.{◌≡◌};
+ghost use Rattle.vortex_meaning.specs.ValidityRules.{default_rules};
 ghost use Rattle.vortex_functions.specs.Fixed.{fixed_meaning};
 ghost use Rattle.vortex_functions.specs.declared.custom.NoCustom.{NoCustom};
 ghost use Rattle.vortex_interface.specs.declared.options.EmptyOptions.{EmptyOptions};
@@ -11,7 +12,8 @@ use crate::session::Session;
 use rowfn_lines::lines;
 use std::alloc::Global;
 use vortex_columns::VortexError;
-use vortex_functions::{NoCustom, ScalarFnVTable};
+use vortex_functions::NoCustom;
+use vortex_rules::ScalarFnRules;
 
 /// What a script prints, and how it ends.
 #[derive(Drop)]
@@ -23,9 +25,9 @@ pub struct Outcome {
 }
 
 /// Reads the lines one by one, up to the first that does not go on.
-fn read_lines<C: ScalarFnVTable>(alloc: Global, script: &[u8], session: &mut Session<C>) -> End
+fn read_lines<C: ScalarFnRules>(alloc: Global, script: &[u8], session: &mut Session<C>) -> End
     requires { session.old ≡ fresh }
-    ensures { IsOutcome C.meaning script.now session.new.printed result }
+    ensures { IsOutcome C.meaning C.rules script.now session.new.printed result }
 {
     let Ok(lines) = lines(alloc, script) else {
         return End::Refused(VortexError::OutOfMemory);
@@ -38,8 +40,8 @@ fn read_lines<C: ScalarFnVTable>(alloc: Global, script: &[u8], session: &mut Ses
     End::Done
 }
 
-fn run_script<C: ScalarFnVTable>(alloc: Global, script: &[u8]) -> Outcome
-    ensures { IsOutcome C.meaning script.now result.out.items result.ending }
+fn run_script<C: ScalarFnRules>(alloc: Global, script: &[u8]) -> Outcome
+    ensures { IsOutcome C.meaning C.rules script.now result.out.items result.ending }
 {
     let mut session = Session::<C>::new(alloc);
     let ending = read_lines(alloc, script, &mut session);
@@ -69,6 +71,10 @@ fn run_script<C: ScalarFnVTable>(alloc: Global, script: &[u8]) -> Outcome
 ///   their types.
 /// - `show` prints the last tree's text, and `run` its column: the type, a colon, and each cell
 ///   after a space. E7 where in some row two numbers have no result that their type holds.
+/// - `optimize` puts into the last tree's place what `optimize_recursive` makes of it, with its
+///   weight as the limit, and prints `steps`, their number, `done`, and whether no rule is left.
+/// - `run k` prints the column that `run` of `vortex_rewriting` answers with the limit k, and
+///   leaves the tree as it is. E7 as `run`, of the tree that the rules make.
 ///
 /// Any other line is malformed. docs/SCRIPTS.md has every line with an example.
 ///
@@ -76,8 +82,8 @@ fn run_script<C: ScalarFnVTable>(alloc: Global, script: &[u8]) -> Outcome
 /// an unknown name. What the lines before it printed stays. E9 where memory runs out, at whichever
 /// line.
 pub fn interpret(alloc: Global, script: &[u8]) -> Outcome
-    ensures { IsOutcome {V = NoCustom} {O = EmptyOptions} fixed_meaning script.now result.out.items
-        result.ending }
+    ensures { IsOutcome {V = NoCustom} {O = EmptyOptions} fixed_meaning
+        (default_rules fixed_meaning) script.now result.out.items result.ending }
 {
     run_script::<NoCustom>(alloc, script)
 }

@@ -1,9 +1,10 @@
 //! What a script has made so far.
-ghost use Rattle.std.specs.Prelude.{◌≡◌, Some};
+ghost use Rattle.std.specs.Prelude.{◌≡◌, Some, string_bytes};
 ghost use Rattle.rowfn_scripts.specs.Words.{Answers, AnswersUnlessMemory, rows, column, get};
-ghost use Rattle.rowfn_scripts.specs.Words.{literal, call, show, run, command_in, command_of};
-ghost use Rattle.rowfn_scripts.specs.Words.{refuses, fresh, least_count, ShowsTop, RunsTop};
-ghost use Rattle.rowfn_scripts.specs.Words.{StepsTo, MakesStep, after_text};
+ghost use Rattle.rowfn_scripts.specs.Words.{literal, call, show, optimize, run, run_after};
+ghost use Rattle.rowfn_scripts.specs.Words.{command_in, command_of};
+ghost use Rattle.rowfn_scripts.specs.Words.{refuses, fresh, least_count, steps_text, ShowsTop};
+ghost use Rattle.rowfn_scripts.specs.Words.{RunsTop, RunsAfterTop, StepsTo, MakesStep, after_text};
 
 use crate::stop::Stop;
 use rowfn_lines::parse::parse;
@@ -12,6 +13,8 @@ use std::alloc::Global;
 use std::marker::Model;
 use vortex_columns::{Arity, Column, ExecutionCtx, Scalar, StructFields, VortexResult};
 use vortex_functions::{BoundExpression, ScalarFnRef, ScalarFnVTable};
+use vortex_rewriting::{Optimized, optimize_recursive, run};
+use vortex_rules::ScalarFnRules;
 
 /// The row count, the columns and the fields that name them, the trees that lines have pushed, and
 /// what was printed.
@@ -44,6 +47,13 @@ impl<C: ScalarFnVTable> Model for Session<C> {
     } };
 }
 
+/// How many steps a run took, and whether no rule is left, as a line. E9 alone.
+fn steps_text(alloc: Global, steps: u64, done: bool) -> VortexResult<String>
+    ensures { AnswersUnlessMemory result (λ text. string_bytes text ≡ steps_text steps done) }
+{
+    Ok(format!(in alloc; "steps {steps} done {done}\n")?)
+}
+
 /// How many trees a function takes: the least count that fits its arity.
 fn least_count(arity: Arity) -> usize
     ensures { result ≡ least_count arity }
@@ -54,7 +64,7 @@ fn least_count(arity: Arity) -> usize
     }
 }
 
-impl<C: ScalarFnVTable> Session<C> {
+impl<C: ScalarFnRules> Session<C> {
     /// Nothing yet; takes no memory.
     pub fn new(alloc: Global) -> Session<C>
         ensures { result ≡ fresh }
@@ -77,7 +87,7 @@ impl<C: ScalarFnVTable> Session<C> {
     }
 
     fn begin(&mut self, count: usize) -> Result<(), Stop>
-        ensures { MakesStep (StepsTo C.meaning (rows count)) self.old result self.new }
+        ensures { MakesStep (StepsTo C.meaning C.rules (rows count)) self.old result self.new }
     {
         if self.row_count.is_some() {
             return Err(Stop::Malformed);
@@ -87,7 +97,8 @@ impl<C: ScalarFnVTable> Session<C> {
     }
 
     fn add_column(&mut self, alloc: Global, name: &str, added: Column) -> Result<(), Stop>
-        ensures { MakesStep (StepsTo C.meaning (column name.now added)) self.old result self.new }
+        ensures { MakesStep (StepsTo C.meaning C.rules (column name.now added))
+            self.old result self.new }
     {
         let Some(count) = self.row_count else {
             return Err(Stop::Malformed);
@@ -106,7 +117,7 @@ impl<C: ScalarFnVTable> Session<C> {
     }
 
     fn push_leaf(&mut self, alloc: Global, name: &str) -> Result<(), Stop>
-        ensures { MakesStep (StepsTo C.meaning (get name.now)) self.old result self.new }
+        ensures { MakesStep (StepsTo C.meaning C.rules (get name.now)) self.old result self.new }
     {
         if self.row_count.is_none() {
             return Err(Stop::Malformed);
@@ -117,7 +128,7 @@ impl<C: ScalarFnVTable> Session<C> {
     }
 
     fn push_literal(&mut self, alloc: Global, scalar: Scalar) -> Result<(), Stop>
-        ensures { MakesStep (StepsTo C.meaning (literal scalar)) self.old result self.new }
+        ensures { MakesStep (StepsTo C.meaning C.rules (literal scalar)) self.old result self.new }
     {
         if self.row_count.is_none() {
             return Err(Stop::Malformed);
@@ -127,7 +138,7 @@ impl<C: ScalarFnVTable> Session<C> {
     }
 
     fn push_call(&mut self, alloc: Global, name: &str) -> Result<(), Stop>
-        ensures { MakesStep (StepsTo C.meaning (call name.now)) self.old result self.new }
+        ensures { MakesStep (StepsTo C.meaning C.rules (call name.now)) self.old result self.new }
     {
         if self.row_count.is_none() {
             return Err(Stop::Malformed);
@@ -161,7 +172,7 @@ impl<C: ScalarFnVTable> Session<C> {
     }
 
     fn run(&mut self, alloc: Global) -> Result<(), Stop>
-        ensures { MakesStep (StepsTo C.meaning run) self.old result self.new }
+        ensures { MakesStep (StepsTo C.meaning C.rules run) self.old result self.new }
     {
         let Some(count) = self.row_count else {
             return Err(Stop::Malformed);
@@ -169,6 +180,54 @@ impl<C: ScalarFnVTable> Session<C> {
         let Some(text) = self.top_text(alloc, count)? else {
             return Err(Stop::Malformed);
         };
+        self.out.extend_from_slice(text.as_bytes())?;
+        Ok(())
+    }
+
+    /// The text of the column of the tree that a run of at most `limit` steps leads to from the
+    /// last one; nothing where there is no tree.
+    fn text_after(&self, alloc: Global, count: usize, limit: u64) -> VortexResult<Option<String>>
+        ensures { Answers result
+            (λ text. RunsAfterTop C.meaning C.rules limit (Some count) self.now.stack self.now
+            (after_text self.now text))
+            (λ e. RunsAfterTop C.meaning C.rules limit (Some count) self.now.stack self.now
+            (refuses e)) }
+    {
+        let Some(old) = self.stack.last() else {
+            return Ok(None);
+        };
+        let mut ctx = ExecutionCtx::new(alloc);
+        let column = run(old, &self.columns, count, limit, &mut ctx)?;
+        Ok(Some(column_text(alloc, &column)?))
+    }
+
+    fn run_after(&mut self, alloc: Global, limit: u64) -> Result<(), Stop>
+        ensures { MakesStep (StepsTo C.meaning C.rules (run_after limit)) self.old result self.new }
+    {
+        let Some(count) = self.row_count else {
+            return Err(Stop::Malformed);
+        };
+        let Some(text) = self.text_after(alloc, count, limit)? else {
+            return Err(Stop::Malformed);
+        };
+        self.out.extend_from_slice(text.as_bytes())?;
+        Ok(())
+    }
+
+    /// A run of rules from the last tree, of at most as many steps as it weighs: what it leads to
+    /// takes the tree's place.
+    fn optimize(&mut self, alloc: Global) -> Result<(), Stop>
+        ensures { MakesStep (StepsTo C.meaning C.rules optimize) self.old result self.new }
+    {
+        if self.row_count.is_none() {
+            return Err(Stop::Malformed);
+        }
+        let Some(old) = self.stack.pop() else {
+            return Err(Stop::Malformed);
+        };
+        let Optimized { tree, steps, done } = optimize_recursive(alloc, &old, old.weight())?;
+        let text = steps_text(alloc, steps, done)?;
+        self.stack.push(tree)?;
         self.out.extend_from_slice(text.as_bytes())?;
         Ok(())
     }
@@ -187,7 +246,7 @@ impl<C: ScalarFnVTable> Session<C> {
     }
 
     fn show(&mut self, alloc: Global) -> Result<(), Stop>
-        ensures { MakesStep (StepsTo C.meaning show) self.old result self.new }
+        ensures { MakesStep (StepsTo C.meaning C.rules show) self.old result self.new }
     {
         let Some(count) = self.row_count else {
             return Err(Stop::Malformed);
@@ -200,7 +259,8 @@ impl<C: ScalarFnVTable> Session<C> {
     }
 
     fn step(&mut self, alloc: Global, line: Line<'_>) -> Result<(), Stop>
-        ensures { MakesStep (StepsTo C.meaning (command_in line.entry)) self.old result self.new }
+        ensures { MakesStep (StepsTo C.meaning C.rules (command_in line.entry))
+            self.old result self.new }
     {
         match line {
             Line::Nothing => Ok(()),
@@ -211,14 +271,17 @@ impl<C: ScalarFnVTable> Session<C> {
             Line::Literal(scalar) => self.push_literal(alloc, scalar),
             Line::Call(name) => self.push_call(alloc, name.as_str()),
             Line::Show => self.show(alloc),
+            Line::Optimize => self.optimize(alloc),
             Line::Run => self.run(alloc),
+            Line::RunAfter(limit) => self.run_after(alloc, limit),
         }
     }
 
     /// Does what the line says, or stops: where the line is malformed, where its call is refused,
     /// or where memory runs out. What was printed stays.
     pub fn read_line(&mut self, alloc: Global, line: &[u8]) -> Result<(), Stop>
-        ensures { MakesStep (StepsTo C.meaning (command_of line.now)) self.old result self.new }
+        ensures { MakesStep (StepsTo C.meaning C.rules (command_of line.now))
+            self.old result self.new }
     {
         let line = parse(alloc, line)?;
         self.step(alloc, line)

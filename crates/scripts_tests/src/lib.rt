@@ -18,4 +18,6 @@ mod lines;
 #[cfg(test)]
 mod null_tests;
 #[cfg(test)]
+mod rewriting;
+#[cfg(test)]
 mod trees;

@@ -20,26 +20,28 @@ returns-in_default g c =
 pub loop-i-init : goal.loop-i-init
 loop-i-init g c =
     subst
-    (λ (s : SessionView _ _). Reaches g.C.ScalarFnVTable.meaning (lines_of c.args.script.now) 0 s)
+    (λ (s : SessionView _ _).
+    Reaches g.C.ScalarFnVTable.meaning g.C.ScalarFnVTable.rules (lines_of c.args.script.now) 0 s)
     (sym c.requires) begins
 
 pub returns-in-Err : goal.returns-in-Err
 returns-in-Err g c =
     let m = g.C.ScalarFnVTable.meaning in
+    let rs = g.C.ScalarFnVTable.rules in
     let items = c.deref-line-items.result.now in
     let lines = lines_of c.args.script.now in
     let d : Bor (List ℕ) = record { ref_ptr = (0, 0); now = [] } in
     let read : map (λ l. l.now) items ≡ lines =
     ap (map (λ l. l.now)) c.deref-line-items.ensures.value ∙ c.in-Ok.ensures in
     let ends =
-    ends_here m items lines c.loop-i.i d read c.loop-i-test.true c.loop-i.session c.in-Err.stop
+    ends_here m rs items lines c.loop-i.i d read c.loop-i-test.true c.loop-i.session c.in-Err.stop
     c.in-Err.ensures.0 in
     record {
       read = c.loop-i.i;
       session = c.loop-i.session;
       reached = c.loop-i.invariant;
       ends =
-          subst (λ (ending : End). EndsAt m lines c.loop-i.i c.loop-i.session ending)
+          subst (λ (ending : End). EndsAt m rs lines c.loop-i.i c.loop-i.session ending)
           (sym c.ending.ensures) ends;
       printed = c.in-Err.ensures.1;
     }
@@ -47,10 +49,11 @@ returns-in-Err g c =
 pub loop-i-preserved : goal.loop-i-preserved
 loop-i-preserved g c =
     let m = g.C.ScalarFnVTable.meaning in
+    let rs = g.C.ScalarFnVTable.rules in
     let items = c.deref-line-items.result.now in
     let lines = lines_of c.args.script.now in
     let d : Bor (List ℕ) = record { ref_ptr = (0, 0); now = [] } in
     let read : map (λ l. l.now) items ≡ lines =
     ap (map (λ l. l.now)) c.deref-line-items.ensures.value ∙ c.in-Ok.ensures in
-    reaches_more m items lines c.loop-i.i d read c.loop-i-test.true c.loop-i.session
+    reaches_more m rs items lines c.loop-i.i d read c.loop-i-test.true c.loop-i.session
     c.read_line.new.self c.loop-i.invariant c.in_default-read_line.ensures

@@ -4,4 +4,5 @@ use Rattle.rowfn_scripts.proofs.script.read_lines.Given as goal
 
 -- the lines so far went on
 abbrev pub invariant-loop-i : goal.invariant-loop-i
-invariant-loop-i g l = Reaches g.C.ScalarFnVTable.meaning (lines_of l.script) l.i l.session
+invariant-loop-i g l =
+    Reaches g.C.ScalarFnVTable.meaning g.C.ScalarFnVTable.rules (lines_of l.script) l.i l.session

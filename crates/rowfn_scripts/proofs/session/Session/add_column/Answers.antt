@@ -24,7 +24,8 @@ returns-then-is_some g c =
 pub returns-in_err-dtype : goal.returns-in_err-dtype
 returns-in_err-dtype g c =
     let s = c.args.self.now in
-    let P = StepsTo g.C.ScalarFnVTable.meaning (column c.args.name.now c.args.added) in
+    let P = StepsTo g.C.ScalarFnVTable.meaning g.C.ScalarFnVTable.rules
+    (column c.args.name.now c.args.added) in
     let e = c.in_err-dtype.field-0.0 in
     let memory =
     UnlessMemory-weaker (λ e. ⊥) (λ e. P s (refuses e)) (λ d h. absurd h) e
@@ -35,14 +36,16 @@ returns-in_err-dtype g c =
 pub returns-in_err-push : goal.returns-in_err-push
 returns-in_err-push g c =
     let s = c.args.self.now in
-    let P = StepsTo g.C.ScalarFnVTable.meaning (column c.args.name.now c.args.added) in
+    let P = StepsTo g.C.ScalarFnVTable.meaning g.C.ScalarFnVTable.rules
+    (column c.args.name.now c.args.added) in
     stops P s _ c.from_residual-in_err-push.result OutOfMemory c.from_residual-in_err-push.ensures.1
     tt (printed_of c.self.view_is)
 
 pub returns-in_err-push-2 : goal.returns-in_err-push-2
 returns-in_err-push-2 g c =
     let s = c.args.self.now in
-    let P = StepsTo g.C.ScalarFnVTable.meaning (column c.args.name.now c.args.added) in
+    let P = StepsTo g.C.ScalarFnVTable.meaning g.C.ScalarFnVTable.rules
+    (column c.args.name.now c.args.added) in
     let e = c.in_err-push-2.field-0.0 in
     let memory =
     UnlessMemory-weaker (λ e. ⊥) (λ e. P s (refuses e)) (λ d h. absurd h) e

@@ -1,4 +1,5 @@
-use Rattle.std.proofs.Common.{rules, ◌≡◌, ◌∙◌, ◌+◌, ◌-◌, ap, sym, not, subst, length, arith, false, refl, None}
+use Rattle.std.proofs.Common.{rules, ◌≡◌, ◌∙◌, ◌+◌, ◌-◌, ap, sym, not, subst, length, arith, false, refl}
+use Rattle.std.proofs.Common.{None}
 use Rattle.std.specs.Option.{is_none}
 use Rattle.std.proofs.lemmas.List.{length-drop}
 use Rattle.vortex_errors.specs.declared.error.VortexError.{VortexError}
@@ -63,7 +64,7 @@ returns-in_err-tree g c =
     ap length c.in_ok-children.ensures.tail ∙ omega (arith, length-drop k items, counted) in
     let found = call_taken n items s.stack ts kept k (sym (stack_of c.self.view_is)) counted
     c.in_ok-children.ensures.tail c.in_ok-children.ensures.items in
-    let P = StepsTo m (call word) in
+    let P = StepsTo m g.C.ScalarFnVTable.rules (call word) in
     let e = c.in_err-tree.field-0.0 in
     let refusal : (d : VortexError) → RefusesCall m (function_of c.in-Some.function) ts d
     → P s (refuses d) =

@@ -1,0 +1,67 @@
+use Rattle.std.proofs.Common.{◌∙◌, ap, sym, subst, List, reverse, Some}
+use Rattle.vortex_columns.specs.ColumnView.{ColumnView}
+use Rattle.vortex_errors.proofs.Answering.{UnlessMemory-weaker}
+use Rattle.vortex_meaning.specs.Running.{ExecutesAfter, RefusesAfter}
+use Rattle.std.specs.Cow.{cow_value}
+use Rattle.vortex_rewriting.specs.Runs.{expression_step}
+use Rattle.rowfn_scripts.specs.Sessions.{refuses, RunsAfterTop}
+use Rattle.rowfn_lines.specs.Printing.{column_text}
+use Rattle.rowfn_scripts.specs.Stepping.{after_text}
+use Rattle.rowfn_scripts.proofs.SessionSteps.{columns_of, stack_of, last_is_top, answers_refusal}
+use Rattle.rowfn_scripts.proofs.SessionSteps.{top_printed_after, top_refused_after}
+use Rattle.rowfn_scripts.proofs.session.Session.text_after.Goals as goal
+
+pub returns-in_err-column : goal.returns-in_err-column
+returns-in_err-column g c =
+    let m = g.C.ScalarFnVTable.meaning in
+    let rs = g.C.ScalarFnVTable.rules in
+    let s = c.args.self.now in
+    let n = c.args.count in
+    let limit = c.args.limit in
+    let tree = c.in-Some.old.now in
+    let rule = expression_step m rs in
+    let top =
+    sym (stack_of c.self.view_is) ∙ ap reverse (sym c.deref.ensures.value)
+    ∙ last_is_top c.deref.result.now tree c.in-Some.ensures.item.3.0 c.in-Some.ensures.item.1 in
+    let columns = c.deref-2.ensures.value ∙ columns_of c.self.view_is in
+    answers_refusal (λ text. RunsAfterTop m rs limit (Some n) s.stack s (after_text s text))
+    (λ e. RunsAfterTop m rs limit (Some n) s.stack s (refuses e)) c.from_residual.result
+    c.in_err-column.field-0.0 c.from_residual.ensures.1
+    (UnlessMemory-weaker (RefusesAfter m c.deref-2.result.now n rule limit tree)
+    (λ e. RunsAfterTop m rs limit (Some n) s.stack s (refuses e))
+    (λ e h.
+    top_refused_after m n s tree _ top rs limit e
+    (subst (λ (cs : List ColumnView). RefusesAfter m cs n rule limit tree e) columns h))
+    c.in_err-column.field-0.0 c.in_err-column.ensures)
+
+pub returns : goal.returns
+returns g c =
+    let m = g.C.ScalarFnVTable.meaning in
+    let rs = g.C.ScalarFnVTable.rules in
+    let n = c.args.count in
+    let limit = c.args.limit in
+    let tree = c.in-Some.old.now in
+    let column = cow_value c.in_ok-column.column in
+    let top =
+    sym (stack_of c.self.view_is) ∙ ap reverse (sym c.deref.ensures.value)
+    ∙ last_is_top c.deref.result.now tree c.in-Some.ensures.item.3.0 c.in-Some.ensures.item.1 in
+    let columns = c.deref-2.ensures.value ∙ columns_of c.self.view_is in
+    top_printed_after m n c.args.self.now tree _ top rs limit column _
+    (subst
+    (λ (cs : List ColumnView). ExecutesAfter m cs n (expression_step m rs) limit tree column)
+    columns c.in_ok-column.ensures.executes)
+    (c.in_ok-column_text.ensures ∙ ap column_text c.deref-3.ensures)
+
+pub returns-in_err-column_text : goal.returns-in_err-column_text
+returns-in_err-column_text g c =
+    let m = g.C.ScalarFnVTable.meaning in
+    let rs = g.C.ScalarFnVTable.rules in
+    let s = c.args.self.now in
+    let n = c.args.count in
+    let limit = c.args.limit in
+    answers_refusal (λ text. RunsAfterTop m rs limit (Some n) s.stack s (after_text s text))
+    (λ e. RunsAfterTop m rs limit (Some n) s.stack s (refuses e))
+    c.from_residual-in_err-column_text.result c.in_err-column_text.field-0.0
+    c.from_residual-in_err-column_text.ensures.1
+    (UnlessMemory-weaker (λ e. ⊥) (λ e. RunsAfterTop m rs limit (Some n) s.stack s (refuses e))
+    (λ e h. absurd h) c.in_err-column_text.field-0.0 c.in_err-column_text.ensures)
