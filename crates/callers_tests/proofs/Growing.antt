@@ -1,12 +1,18 @@
 -- The function that grows: its argument, and what its rule makes of a call.
 use Rattle.std.proofs.Common.{◌≡◌, ℕ, zero, suc, ◌<◌, List, [], ◌∷◌, length, Bool, Option, Some, None, true, sym, refl, ap, ◌∙◌, arith}
-use Rattle.std.specs.Prelude.{slice_get, IsSome}
+use Rattle.std.specs.Prelude.{slice_get, IsSome, Result}
+use Rattle.vortex_errors.specs.declared.error.VortexError.{VortexError}
+use Rattle.vortex_errors.specs.Answers.{Answers, AnswersUnlessMemory}
+use Rattle.vortex_errors.proofs.Answering.{Answers-weaker}
+use Rattle.vortex_columns.specs.ColumnView.{ColumnView, row}
+use Rattle.vortex_meaning.specs.Outcomes.{gives, types_in, HasCallRows, IsCallFault}
+use Rattle.callers_tests.specs.First.{first_value}
 use Rattle.vortex_errors.specs.declared.arity.Arity.TheVariants.{Exact}
 use Rattle.vortex_types.specs.LogicalTypes.{LogicalType, bool_type}
 use Rattle.vortex_meaning.specs.Meaning.{fits}
 use Rattle.vortex_meaning.specs.Shipped.{Not}
 use Rattle.vortex_meaning.specs.Shipped.NotFunction.{not_type}
-use Rattle.vortex_meaning.specs.Functions.{Function, ours, custom}
+use Rattle.vortex_meaning.specs.Functions.{ours, custom}
 use Rattle.vortex_meaning.specs.Trees.{Tree, leaf, constant, call, no_trees, tree, children_of, called}
 use Rattle.vortex_meaning.specs.Eval.{tree_type, tree_types}
 use Rattle.vortex_meaning.specs.ReduceRules.{reduce}
@@ -27,6 +33,45 @@ two_refused a b rest t e = cc
 pub some_is : {A : Type 0} (o : Option A) (a : A) → o ≡ Some a → IsSome o
 some_is None a e = cc
 some_is (Some x) a e = refl
+
+one_accepted : (t : LogicalType) → IsSome (not_type (t ∷ [])) → not_type (t ∷ []) ≡ Some t
+one_accepted (bool_type n) h = refl
+one_accepted t h = cc
+
+two_accepted : (a b : LogicalType) (rest : List LogicalType) → IsSome (not_type (a ∷ b ∷ rest)) → ⊥
+two_accepted (bool_type n) b rest h = cc
+two_accepted a b rest h = cc
+
+only_input : (cs : List ColumnView) (c : ColumnView) → IsSome (not_type (types_in cs))
+    → slice_get cs 0 ≡ Some c → not_type (types_in cs) ≡ Some c.dtype
+only_input [] c h e = cc
+only_input (x ∷ []) c h e =
+    let is : x ≡ c = cc in one_accepted x.dtype h ∙ ap (λ (z : ColumnView). Some z.dtype) is
+only_input (x ∷ y ∷ cs) c h e = absurd (two_accepted x.dtype y.dtype (types_in cs) h)
+
+rows_are : (cs : List ColumnView) (c d : ColumnView) (n : ℕ) → IsSome (not_type (types_in cs))
+    → slice_get cs 0 ≡ Some c → length c.rows ≡ n → d ≡ c
+    → HasCallRows not_type (λ ts. first_value) cs n d
+rows_are [] c d n a h e is = cc
+rows_are (x ∷ cs) c d n a h e is =
+    let same : x ≡ c = cc in
+    let all : x ≡ d = same ∙ sym is in
+    record {
+      dtype = only_input (x ∷ cs) c a h ∙ ap (λ (z : ColumnView). Some z.dtype) (sym is);
+      count = ap (λ (z : ColumnView). length z.rows) is ∙ e;
+      each = λ i lt. ap (λ (z : ColumnView). gives (row z.rows i)) all;
+    }
+
+-- a copy of the input is the answer
+pub copy_is_input : (cs : List ColumnView) (c : ColumnView) (n : ℕ)
+    (answer : Result ColumnView VortexError) → IsSome (not_type (types_in cs))
+    → slice_get cs 0 ≡ Some c → length c.rows ≡ n → AnswersUnlessMemory answer (λ d. d ≡ c)
+    → Answers answer (HasCallRows not_type (λ ts. first_value) cs n)
+    (IsCallFault (λ ts. first_value) cs n)
+copy_is_input cs c n answer accepted h e a =
+    Answers-weaker answer (λ d. d ≡ c) (HasCallRows not_type (λ ts. first_value) cs n) (λ f. ⊥)
+    (IsCallFault (λ ts. first_value) cs n) (λ d p. rows_are cs c d n accepted h e p)
+    (λ f p. absurd p) a
 
 module _ {V O : Type 0} where
   -- a well-typed call has an argument

@@ -6,7 +6,7 @@ use Rattle.vortex_errors.specs.declared.arity.Arity.TheVariants.{Exact}
 use Rattle.vortex_types.specs.LogicalTypes.{LogicalType, bool_type}
 use Rattle.vortex_types.specs.Values.{Value, null}
 use Rattle.vortex_types.specs.Typing.{HasType}
-use Rattle.vortex_meaning.specs.Outcomes.{Outcome, gives, GivesType, GivesNull, GivesValue}
+use Rattle.vortex_meaning.specs.Outcomes.{GivesType, GivesNull, GivesValue}
 use Rattle.vortex_meaning.specs.Meaning.{Meaning, Lawful, HaveTypes}
 use Rattle.vortex_meaning.specs.Arguments.{only}
 use Rattle.vortex_meaning.specs.Shipped.{Not}

@@ -93,7 +93,8 @@ fn call_on<T: ReduceTree<Grow>>(
         (λ made. T.tree made ≡ call (function_of function) (tree (T.tree operand) no_trees)) }
     ensures same_rows { IfOk result (λ made. T.rows made ≡ T.rows node.now) }
 {
-    let operands = vec![in alloc; operand]?;
+    let mut operands = Vec::new(alloc);
+    operands.push(operand)?;
     node.new_node(alloc, function, &operands)
 }
 

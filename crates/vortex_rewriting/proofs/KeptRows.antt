@@ -1,5 +1,5 @@
 -- A rewrite keeps the rows of a tree over columns that have its rows.
-use Rattle.std.proofs.Common.{◌≡◌, ℕ, ◌<◌, List, [], None, refl}
+use Rattle.std.proofs.Common.{ℕ, List, [], refl}
 use Rattle.std.specs.Prelude.{All}
 use Rattle.vortex_columns.specs.ColumnView.{ColumnView, AreTyped}
 use Rattle.vortex_meaning.specs.Meaning.{Meaning}

@@ -1,5 +1,5 @@
 -- How runs end, and what executing after them answers.
-use Rattle.std.proofs.Common.{◌≡◌, ◌⊎◌, ◌↔◌, ℕ, ◌≤◌, Bool, true, false, IsTrue, Option, Some, None, refl, inl, inr, subst, Ok, Err}
+use Rattle.std.proofs.Common.{◌≡◌, ◌↔◌, ℕ, ◌≤◌, Bool, true, false, IsTrue, Option, Some, None, refl, inl, inr, subst, Ok, Err}
 use Rattle.std.specs.Cow.{cow_value}
 use Rattle.std.specs.declared.borrow.Cow.{Cow}
 use Rattle.std.specs.Prelude.{All, List, [], Result}
@@ -15,7 +15,7 @@ use Rattle.vortex_meaning.specs.Made.{IsBound}
 use Rattle.vortex_meaning.specs.Rules.{Rules}
 use Rattle.vortex_meaning.specs.Rewrites.{IsSound, LawfulRules}
 use Rattle.vortex_meaning.specs.Driver.{step, Runs, RunsTo}
-use Rattle.vortex_meaning.specs.Running.{ExecutesAfter, RefusesAfter, HasRowsAfter, IsFaultAfter}
+use Rattle.vortex_meaning.specs.Running.{RefusesAfter, HasRowsAfter, IsFaultAfter}
 use Rattle.vortex_meaning.proofs.AfterRun.{executes_after, refuses_after, rows_after, fault_after}
 use Rattle.vortex_functions.specs.Executing.{Fits, AnswersExecution, LendsLeaf}
 use Rattle.vortex_arrays.specs.Arrays.{Array, tree_in, rows_in, IsTyped}
