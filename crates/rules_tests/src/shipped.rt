@@ -3,10 +3,12 @@ ghost use Rattle.std.specs.Prelude.{◌≡◌, Some};
 ghost use Rattle.vortex_functions.specs.Words.{called, function_of};
 
 use fixtures::yes;
+use rule_fixtures::array_makers::{Held, array_answers, held, made, over_columns, x, y};
 use rule_fixtures::rewritten::{Rewritten, becomes, is_not_null, is_null, mixed, stays};
 use std::alloc::Global;
 use std::borrow::Cow;
 use tree_fixtures::makers::*;
+use vortex_arrays::{NullTestCall, UnaryCall};
 use vortex_columns::*;
 use vortex_functions::*;
 use vortex_operators::*;
@@ -72,23 +74,23 @@ fn simplified_by<C: ScalarFnRules>(
     }
 }
 
-/// What Reduce makes of a node that is a call.
-fn reduced_node<'a, C: ScalarFnRules>(
+/// What Reduce makes of a node of either kind that is a call.
+fn reduced_node<'a, C: ScalarFnRules, T: BoundTree<C>>(
     alloc: Global,
-    node: &ExpressionReduceNode<'a, C>,
-) -> VortexResult<Option<ExpressionReduceNode<'a, C>>> {
-    match node.expression().as_scalar() {
+    node: &TreeReduceNode<'a, T>,
+) -> VortexResult<Option<TreeReduceNode<'a, T>>> {
+    match node.tree().as_scalar() {
         Some(function) => reduced_by(alloc, function, node),
         None => Err(VortexError::ScopeMismatch),
     }
 }
 
-/// What says where a node that is a call is not null.
-fn validity_of_node<'a, C: ScalarFnRules>(
+/// What says where a node of either kind that is a call is not null.
+fn validity_of_node<'a, C: ScalarFnRules, T: BoundTree<C>>(
     alloc: Global,
-    node: &ExpressionReduceNode<'a, C>,
-) -> VortexResult<ReduceNodeValidity<ExpressionReduceNode<'a, C>>> {
-    match node.expression().as_scalar() {
+    node: &TreeReduceNode<'a, T>,
+) -> VortexResult<ReduceNodeValidity<TreeReduceNode<'a, T>>> {
+    match node.tree().as_scalar() {
         Some(function) => validity_by(alloc, function, node),
         None => Err(VortexError::ScopeMismatch),
     }
@@ -242,4 +244,47 @@ fn other_functions_are_not_simplified(rt: HostRuntime) {
     assert!(rt; yes(stays(simplified(alloc, between_truths::<NoCustom>(alloc)))));
     let test = is_null::<NoCustom>(alloc, mixed(alloc, "b"));
     assert!(rt; yes(stays(simplified(alloc, test))));
+}
+
+/// What Reduce makes of an array; a refusal where no rule applies.
+fn reduced_array<C: ScalarFnRules>(alloc: Global, array: Held<C>) -> Held<C> {
+    let array = array?;
+    let node = ArrayReduceNode::new(Cow::Borrowed(&*array));
+    match reduced_node(alloc, &node)? {
+        Some(made) => Ok(Box::new(alloc, made.into_array(alloc)?)?),
+        None => Err(VortexError::ScopeMismatch),
+    }
+}
+
+/// What says where an array is not null; a refusal where nothing says it.
+fn validity_of_array<C: ScalarFnRules>(alloc: Global, array: Held<C>) -> Held<C> {
+    let array = array?;
+    let node = ArrayReduceNode::new(Cow::Borrowed(&*array));
+    match validity_of_node(alloc, &node)? {
+        ReduceNodeValidity::Reduced(made) => Ok(Box::new(alloc, made.into_array(alloc)?)?),
+        ReduceNodeValidity::Irreducible => Err(VortexError::ScopeMismatch),
+    }
+}
+
+/// Whether And of true, true, null and of true, false, true is null.
+fn unknown_both<C: ScalarFnVTable>(alloc: Global) -> Held<C> {
+    let both = over_columns(alloc, x(alloc), Operator::And, y(alloc))?;
+    made(alloc, IsNull::new(alloc, Box::into_inner(both)))
+}
+
+/// Not of true, true, null.
+fn not_x<C: ScalarFnVTable>(alloc: Global) -> Held<C> {
+    let column = Box::into_inner(held(alloc, x(alloc))?);
+    made(alloc, Not::try_new(alloc, column))
+}
+
+#[test]
+fn calls_over_arrays_are_reduced_and_have_a_validity(rt: HostRuntime) {
+    let alloc = rt.alloc();
+    let missing = reduced_array(alloc, unknown_both::<NoCustom>(alloc));
+    let rows = [Some(false), Some(false), Some(true)];
+    assert!(rt; yes(array_answers(alloc, missing, &rows)));
+    let there = validity_of_array(alloc, not_x::<NoCustom>(alloc));
+    let rows = [Some(true), Some(true), Some(false)];
+    assert!(rt; yes(array_answers(alloc, there, &rows)));
 }
