@@ -1,4 +1,4 @@
 pub mod Faults
 pub mod Firsts
-pub mod Growing
+pub mod Grown
 pub mod Halving

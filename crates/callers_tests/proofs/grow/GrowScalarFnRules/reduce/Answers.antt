@@ -5,7 +5,7 @@ use Rattle.vortex_meaning.specs.Trees.{call, tree, no_trees}
 use Rattle.vortex_meaning.specs.Eval.{tree_type}
 use Rattle.vortex_functions.specs.FunctionOf.{function_of}
 use Rattle.callers_tests.specs.Grow.{grow_meaning}
-use Rattle.callers_tests.proofs.Growing.{has_input, growing, not_typed, grow_typed, some_is}
+use Rattle.callers_tests.proofs.Grown.{has_input, growing, not_typed, grow_typed, some_is}
 use Rattle.callers_tests.proofs.grow.GrowScalarFnRules.reduce.Goals as goal
 
 pub child-requires : goal.child-requires

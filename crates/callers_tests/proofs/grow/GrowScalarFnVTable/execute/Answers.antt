@@ -1,4 +1,4 @@
-use Rattle.callers_tests.proofs.Growing.{copy_is_input}
+use Rattle.callers_tests.proofs.Grown.{copy_is_input}
 use Rattle.callers_tests.proofs.grow.GrowScalarFnVTable.execute.Goals as goal
 
 pub returns : goal.returns
