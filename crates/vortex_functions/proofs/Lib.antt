@@ -4,6 +4,7 @@ pub mod Execution
 pub mod Opened
 pub mod Bound
 pub mod TreeTexts
+pub mod WrittenTexts
 pub mod Counts
 pub mod Chains
 pub mod Upward

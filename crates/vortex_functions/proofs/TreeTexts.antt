@@ -20,7 +20,7 @@ where_fits : (b : Bool) (o : Option LogicalType) (t : LogicalType)
 where_fits true o t e = refl
 where_fits false o t e = cc
 
-parts : (a : Option (List ℕ)) (o : Option (List (List ℕ))) (js : List (List ℕ))
+pub parts : (a : Option (List ℕ)) (o : Option (List (List ℕ))) (js : List (List ℕ))
     → with_text a o ≡ Some js
     → (j : List ℕ) × (rest : List (List ℕ)) × (a ≡ Some j) × (o ≡ Some rest) × (js ≡ j ∷ rest)
 parts None o js p = cc

@@ -5,5 +5,6 @@ pub mod NodeFalls
 pub mod Binding
 pub mod Executing
 pub mod Texts
+pub mod TreePieces
 pub mod Walks
 pub mod Words

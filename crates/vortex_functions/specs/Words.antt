@@ -14,6 +14,7 @@ pub use Rattle.vortex_meaning.specs.Shipped.LikeFunction.{like_named}
 pub use Rattle.vortex_meaning.specs.Functions.{ours, function_id, function_arity, function_child_name, function_type, function_strict, function_infallible}
 pub use Rattle.vortex_meaning.specs.Answering.{AnswersFunctionType, AnswersFunction}
 pub use Rattle.vortex_meaning.specs.CallTexts.{Appends}
+pub use Rattle.vortex_interface.specs.Pieces.{piece_of}
 pub use Rattle.vortex_meaning.specs.Trees.{constant, trees_of, children_of, called, literal, node_count}
 pub use Rattle.vortex_meaning.specs.Eval.{tree_type, tree_types}
 pub use Rattle.vortex_meaning.specs.Execution.{LeavesFit, other_length}
@@ -23,6 +24,7 @@ pub use Rattle.vortex_meaning.specs.Weights.{added, weights, weight_told}
 pub use Rattle.vortex_meaning.specs.Printing.{tree_text}
 pub use Rattle.vortex_functions.specs.FunctionOf.{function_of, operator_in, is_not, instance_in}
 pub use Rattle.vortex_functions.specs.Texts.{AppendsText, IsTextOf}
+pub use Rattle.vortex_functions.specs.TreePieces.{pieces_of, tree_pieces, leaf_text, BeginsText, WritesPiece}
 pub use Rattle.vortex_functions.specs.Binding.{AnswersLeaf, AnswersBinding, IsLeaf, IsLeafAt}
 pub use Rattle.vortex_functions.specs.Executing.{HasRows, NodeFits, AnswersTree, AnswersExecution, AnswersColumns, LendsLeaf, Fits}
 pub use Rattle.vortex_functions.specs.Walks.{AllMean, IsCopy}

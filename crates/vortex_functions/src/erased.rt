@@ -1,19 +1,21 @@
 //! A function with its options: a shipped one or a caller's.
-ghost use Rattle.std.specs.Prelude.{◌≡◌, Some, None, IsTrue, IsSome, MatchResult, length};
-ghost use Rattle.vortex_functions.specs.Words.{types_in, fits, function_of, function_id, function_arity, function_child_name, function_type, function_strict, function_infallible, AnswersUnlessMemory, AnswersFunctionType, AnswersFunction, AppendsText, added};
+ghost use Rattle.std.specs.Prelude.{◌≡◌, ◌<◌, slice_get, Some, None, IsTrue, IsSome, MatchResult, length};
+ghost use Rattle.vortex_functions.specs.Words.{types_in, fits, function_of, function_id, function_arity, function_child_name, function_type, function_strict, function_infallible, AnswersUnlessMemory, AnswersFunctionType, AnswersFunction, AppendsText, added, pieces_of, piece_of};
 
 use crate::ext::ScalarFnVTableExt;
 use crate::typed::TypedScalarFnInstance;
 use std::alloc::Global;
 use vortex_columns::{Arity, Column, DType, ExecutionCtx, VortexResult};
-use vortex_interface::{ChildName, EmptyOptions, ExecutionArgs, ScalarFnId, ScalarFnVTable};
+use vortex_interface::{
+    ChildName, EmptyOptions, ExecutionArgs, ScalarFnId, ScalarFnVTable, TextPiece, TextPieces,
+};
 use vortex_kernels::{BetweenOptions, Operator};
 use vortex_like::LikeOptions;
 use vortex_shipped::{Between, Binary, Cast, CastOptions, IsNotNull, IsNull, Like, Not};
 
-/// The list of the functions, each with its interface and its options.
-macro_rules! with_function {
-    ($function:expr, $f:ident, $options:ident => $body:expr) => {
+/// The list of the functions, each with its interface and its options; of a caller's function the last expression.
+macro_rules! with_shipped {
+    ($function:expr, $f:ident, $options:ident => $body:expr, $custom:ident => $else:expr) => {
         match $function {
             ScalarFnRef::Binary(operator) => {
                 let $f = &Binary;
@@ -50,12 +52,19 @@ macro_rules! with_function {
                 let $options = like;
                 $body
             }
-            ScalarFnRef::Custom(custom) => {
-                let $f = custom.vtable();
-                let $options = custom.options();
-                $body
-            }
+            ScalarFnRef::Custom($custom) => $else,
         }
+    };
+}
+
+/// The same for every function, a caller's too.
+macro_rules! with_function {
+    ($function:expr, $f:ident, $options:ident => $body:expr) => {
+        with_shipped!($function, $f, $options => $body, custom => {
+            let $f = custom.vtable();
+            let $options = custom.options();
+            $body
+        })
     };
 }
 
@@ -263,6 +272,21 @@ impl<C: ScalarFnVTable> ScalarFnRef<C> {
             (λ _. AppendsText (function_of self.now) children.now out.old out.new) }
     {
         with_function!(self, f, options => f.fmt_sql(options, children, out))
+    }
+
+    /// How many pieces the text of a call has; of a caller's function none.
+    pub(crate) fn piece_count(&self) -> usize
+        ensures { result ≡ length (pieces_of (function_of self.now)) }
+    {
+        with_shipped!(self, f, options => f.piece_count(options), _custom => 0)
+    }
+
+    /// The piece of that place in the text of a call.
+    pub(crate) fn text_piece(&self, index: usize) -> TextPiece
+        requires { index < length (pieces_of (function_of self.now)) }
+        ensures { slice_get (pieces_of (function_of self.now)) index ≡ Some (piece_of result) }
+    {
+        with_shipped!(self, f, options => f.text_piece(options, index), _custom => unreachable!())
     }
 
     /// The shipped function that a script names, by one word, as `and`, or by words with a space between each two, as

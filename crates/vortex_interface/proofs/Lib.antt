@@ -1,3 +1,4 @@
+pub mod PieceTexts
 pub mod InputLemmas
 pub mod JoinedTexts
 pub mod LiteralTexts

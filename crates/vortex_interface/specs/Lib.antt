@@ -1,4 +1,5 @@
 pub mod Args
+pub mod Pieces
 pub mod Shapes
 pub mod Texts
 pub mod Words

@@ -5,6 +5,7 @@ use Rattle.vortex_types.specs.LogicalTypes.{LogicalType, is_nullable}
 use Rattle.vortex_types.specs.Values.{Value, null}
 use Rattle.vortex_meaning.specs.Outcomes.{Fault, Outcome, faults, GivesValue, GivesType, GivesNull}
 use Rattle.vortex_meaning.specs.Meaning.{HaveTypes, AreAlike}
+use Rattle.vortex_meaning.specs.CallTexts.{Piece}
 
 -- id: the identity
 -- count: how many arguments
@@ -14,7 +15,8 @@ use Rattle.vortex_meaning.specs.Meaning.{HaveTypes, AreAlike}
 -- means: the row meaning of argument types and values
 -- strict: null where an argument is
 -- infallible: no row faults
--- text: the text of a call, by those of its arguments
+-- pieces: the text of a call, with the places of its arguments' texts
+-- added: what a call adds to the weight of its arguments, where it is nullable and where it is not
 pub record RowFunction : Type 0 where
   pub id : List ℕ
   pub count : ℕ
@@ -24,7 +26,8 @@ pub record RowFunction : Type 0 where
   pub means : List LogicalType → List Value → Outcome
   pub strict : Bool
   pub infallible : Bool
-  pub text : List (List ℕ) → List ℕ
+  pub pieces : List Piece
+  pub added : Bool → ℕ
 
 -- the laws of a lawful function, as `Meaning` says them of any, and one more
 -- one_fault: whatever it is called on, it has one fault at most, so its refusal tells the same of any row

@@ -18,6 +18,7 @@ use Rattle.vortex_operators.specs.declared.between.BetweenOptions.{BetweenOption
 use Rattle.vortex_like.specs.declared.options.LikeOptions.{LikeOptions}
 use Rattle.vortex_meaning.specs.Outcomes.{Outcome}
 use Rattle.vortex_meaning.specs.Meaning.{Meaning, Lawful}
+use Rattle.vortex_meaning.specs.CallTexts.{Piece, told}
 use Rattle.vortex_meaning.specs.RowFunction.{RowFunction, LawfulRow}
 use Rattle.vortex_meaning.specs.Shipped.BinaryFunction.{operator_function, operator_lawful, operator_named, operator_number, operator_numbered, operator_back}
 use Rattle.vortex_meaning.specs.Shipped.NotFunction.{not_function, not_lawful, is_not_word}
@@ -121,7 +122,13 @@ abbrev pub is_infallible : Shipped → Bool
 is_infallible s = (row_function s).infallible
 
 abbrev pub shipped_text : Shipped → List (List ℕ) → List ℕ
-shipped_text s texts = (row_function s).text texts
+shipped_text s texts = told (row_function s).pieces texts
+
+abbrev pub shipped_pieces : Shipped → List Piece
+shipped_pieces s = (row_function s).pieces
+
+abbrev pub shipped_added : Shipped → Bool → ℕ
+shipped_added s nullable = (row_function s).added nullable
 
 -- the functions of one identity whose options name a shipped function each
 abbrev pub shipped_meaning : {V O : Type 0} → List ℕ → (O → Shipped) → Meaning V O

@@ -1,32 +1,17 @@
 -- The weight of a tree, of which a rule over shipped functions takes some, and trees of shipped
 -- functions alone.
-use Rattle.std.specs.Prelude.{◌≡◌, ℕ, ◌+◌, ◌≤◌, min, Bool, Option, Some, ⊤, if◌then◌else◌}
+use Rattle.std.specs.Prelude.{◌≡◌, ℕ, ◌+◌, ◌≤◌, min, Bool, Option, Some, ⊤}
 use Rattle.vortex_types.specs.LogicalTypes.{LogicalType}
-use Rattle.vortex_operators.specs.declared.operators.Operator.{Operator}
-use Rattle.vortex_operators.specs.declared.operators.Operator.TheVariants.{And, Or}
 use Rattle.vortex_meaning.specs.Meaning.{Meaning}
-use Rattle.vortex_meaning.specs.Shipped.{Shipped, Binary, Not, IsNull, IsNotNull, Cast, Between, Like}
+pub use Rattle.vortex_meaning.specs.Shipped.{shipped_added}
+pub use Rattle.vortex_meaning.specs.Shipped.BinaryFunction.{operator_added}
 use Rattle.vortex_meaning.specs.Functions.{Function, ours, custom}
 use Rattle.vortex_meaning.specs.Trees.{Tree, leaf, constant, call, Trees, no_trees, tree}
 use Rattle.vortex_meaning.specs.Eval.{tree_type}
 use Rattle.vortex_meaning.specs.Rules.{is_nullable_tree}
 
--- what a call of an operator, of a shipped function and of any function adds to the weight of its
--- children, where the call is nullable and where it is not
-abbrev pub operator_added : Operator → Bool → ℕ
-operator_added And n = if n then 3 else 1
-operator_added Or n = if n then 3 else 1
-operator_added op n = 5
-
-abbrev pub shipped_added : Shipped → Bool → ℕ
-shipped_added (Binary op) n = operator_added op n
-shipped_added Not n = if n then 2 else 1
-shipped_added IsNull n = 2
-shipped_added IsNotNull n = 2
-shipped_added Cast n = 1
-shipped_added (Between options) n = 1
-shipped_added (Like options) n = 5
-
+-- what a call of any function adds to the weight of its children, where the call is nullable and
+-- where it is not
 abbrev pub added : {V O : Type 0} → Function V O → Bool → ℕ
 added (ours s) n = shipped_added s n
 added (custom f o) n = 1

@@ -1,18 +1,9 @@
 -- When the text of a call is written behind what a text holds already.
 use Rattle.std.specs.Prelude.{List, map, string_bytes, String}
 use Rattle.std.specs.declared.alloc.Global.{Global}
-use Rattle.vortex_operators.specs.declared.operators.Operator.{Operator}
-use Rattle.vortex_operators.specs.Operators.{text_of}
 use Rattle.vortex_meaning.specs.CallTexts.{Appends}
 use Rattle.vortex_meaning.specs.Shipped.{Shipped, shipped_text}
-use Rattle.vortex_meaning.specs.Shipped.BinaryFunction.{operator_text}
 
 -- a call of a shipped function, by the texts of its arguments
 abbrev pub AppendsCall : Shipped → List (String Global) → String Global → String Global → Type 0
 AppendsCall s texts old new = Appends old (shipped_text s (map string_bytes texts)) new
-
--- an operator between its operands
-abbrev pub AppendsOperator : Operator → List (String Global)
-    → String Global → String Global → Type 0
-AppendsOperator o texts old new =
-    Appends old (operator_text (text_of o) (map string_bytes texts)) new

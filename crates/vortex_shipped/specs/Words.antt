@@ -2,7 +2,7 @@
 pub use Rattle.vortex_errors.specs.Answers.{AnswersUnlessMemory}
 pub use Rattle.vortex_types.specs.TypeOf.{type_of}
 pub use Rattle.vortex_meaning.specs.Rules.{no_rules}
-pub use Rattle.vortex_meaning.specs.Shipped.{Shipped, shipped_meaning, shipped_lawful}
+pub use Rattle.vortex_meaning.specs.Shipped.{Shipped, shipped_meaning, shipped_lawful, shipped_pieces}
 pub use Rattle.vortex_meaning.specs.Shipped.BinaryFunction.{binary_id, both_bool, compared_type, operator_type, operator_place}
 pub use Rattle.vortex_meaning.specs.Shipped.NotFunction.{not_id}
 pub use Rattle.vortex_meaning.specs.Shipped.NullTestFunctions.{is_null_id, is_not_null_id}
@@ -12,4 +12,4 @@ pub use Rattle.vortex_meaning.specs.Shipped.LikeFunction.{like_id, like_words}
 pub use Rattle.vortex_meaning.specs.Arithmetic.{arithmetic_type}
 pub use Rattle.vortex_meaning.specs.Answering.{AnswersShippedType}
 pub use Rattle.vortex_shipped.specs.Typing.{IsTypeFound}
-pub use Rattle.vortex_shipped.specs.Texts.{AppendsCall, AppendsOperator}
+pub use Rattle.vortex_shipped.specs.Texts.{AppendsCall}

@@ -1,14 +1,16 @@
 //! Between: whether a value lies between two bounds.
 ghost use Rattle.std.specs.Prelude.{◌≡◌, length, map};
 ghost use Rattle.vortex_meaning.specs.Shipped as shipped;
-ghost use Rattle.vortex_shipped.specs.Words.{no_rules, AnswersUnlessMemory, AppendsCall, AnswersShippedType};
+ghost use Rattle.vortex_shipped.specs.Words.{no_rules, shipped_pieces, AnswersUnlessMemory, AppendsCall, AnswersShippedType};
 ghost use Rattle.vortex_shipped.specs.Words.{between_id, shipped_meaning, shipped_lawful};
 
 use std::alloc::Global;
 use vortex_columns::{
     Arity, Column, DType, ExecutionCtx, MismatchPlace, VortexError, VortexResult,
 };
-use vortex_interface::{ChildName, ExecutionArgs, ScalarFnId, ScalarFnVTable};
+use vortex_interface::{
+    ChildName, ExecutionArgs, ScalarFnId, ScalarFnVTable, TextPiece, TextPieces, write_pieces,
+};
 use vortex_kernels::{BetweenOptions, execute_between};
 
 /// Whether each row lies between its bounds, of a type that all three share apart from nullability, by the order of
@@ -16,30 +18,6 @@ use vortex_kernels::{BetweenOptions, execute_between};
 /// nullable if any of the three is.
 #[derive(Clone, Drop)]
 pub struct Between;
-
-/// `(lower < array <= upper)`, behind what stands there.
-fn write_between(
-    out: &mut String,
-    options: &BetweenOptions,
-    children: &[String],
-) -> VortexResult<()>
-    requires { length children.now ≡ 3 }
-    ensures { AnswersUnlessMemory result
-        (λ _. AppendsCall (shipped.Between options.now) children.now out.old out.new) }
-{
-    out.push_str("(")?;
-    out.push_str(children[1].as_str())?;
-    out.push_str(" ")?;
-    out.push_str(options.lower_strict.to_operator().text())?;
-    out.push_str(" ")?;
-    out.push_str(children[0].as_str())?;
-    out.push_str(" ")?;
-    out.push_str(options.upper_strict.to_operator().text())?;
-    out.push_str(" ")?;
-    out.push_str(children[2].as_str())?;
-    out.push_str(")")?;
-    Ok(())
-}
 
 impl ScalarFnVTable for Between {
     type Options = BetweenOptions;
@@ -105,11 +83,10 @@ impl ScalarFnVTable for Between {
         children: &[String],
         out: &mut String,
     ) -> VortexResult<()>
-        requires { length children.now ≡ 3 }
         ensures { AnswersUnlessMemory result
             (λ _. AppendsCall (shipped.Between options.now) children.now out.old out.new) }
     {
-        write_between(out, options, children)
+        write_pieces(out, self, options, children)
     }
 
     fn is_strict(&self, _options: &BetweenOptions) -> bool {
@@ -136,4 +113,26 @@ impl ScalarFnVTable for Between {
     }
 
     ghost lawful = { shipped_lawful between_id shipped.Between };
+}
+
+/// `(lower < array <= upper)`.
+impl TextPieces<BetweenOptions> for Between {
+    ghost pieces = { λ options. shipped_pieces (shipped.Between options) };
+
+    fn piece_count(&self, _options: &BetweenOptions) -> usize {
+        11
+    }
+
+    fn text_piece(&self, options: &BetweenOptions, index: usize) -> TextPiece {
+        match index {
+            0 => TextPiece::Said("("),
+            1 => TextPiece::Argument(1),
+            3 => TextPiece::Said(options.lower_strict.to_operator().text()),
+            5 => TextPiece::Argument(0),
+            7 => TextPiece::Said(options.upper_strict.to_operator().text()),
+            9 => TextPiece::Argument(2),
+            10 => TextPiece::Said(")"),
+            _ => TextPiece::Said(" "),
+        }
+    }
 }

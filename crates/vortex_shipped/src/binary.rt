@@ -1,13 +1,15 @@
 //! The operators of two operands.
 ghost use Rattle.std.specs.Prelude.{◌≡◌, length, map};
 ghost use Rattle.vortex_meaning.specs.Shipped as shipped;
-ghost use Rattle.vortex_shipped.specs.Words.{no_rules, AnswersUnlessMemory, type_of, AppendsCall, AppendsOperator, binary_id, both_bool, compared_type, arithmetic_type, operator_type, operator_place, shipped_meaning, shipped_lawful, AnswersShippedType, IsTypeFound};
+ghost use Rattle.vortex_shipped.specs.Words.{no_rules, shipped_pieces, AnswersUnlessMemory, type_of, AppendsCall, binary_id, both_bool, compared_type, arithmetic_type, operator_type, operator_place, shipped_meaning, shipped_lawful, AnswersShippedType, IsTypeFound};
 
 use std::alloc::Global;
 use vortex_columns::{
     Arity, Column, DType, ExecutionCtx, MismatchPlace, VortexError, VortexResult,
 };
-use vortex_interface::{ChildName, ExecutionArgs, ScalarFnId, ScalarFnVTable};
+use vortex_interface::{
+    ChildName, ExecutionArgs, ScalarFnId, ScalarFnVTable, TextPiece, TextPieces, write_pieces,
+};
 use vortex_kernels::{Operator, execute_boolean, execute_compare, execute_numeric};
 
 /// And and Or of two Bool, by Kleene's tables; the comparisons of two types that agree apart from nullability, by the order
@@ -86,22 +88,6 @@ fn operator_dtype(operator: Operator, types: &[DType]) -> Option<DType>
     }
 }
 
-/// `(a op b)`, behind what stands there.
-fn write_operator(out: &mut String, operator: Operator, operands: &[String]) -> VortexResult<()>
-    requires { length operands.now ≡ 2 }
-    ensures { AnswersUnlessMemory result
-        (λ _. AppendsOperator operator operands.now out.old out.new) }
-{
-    out.push_str("(")?;
-    out.push_str(operands[0].as_str())?;
-    out.push_str(" ")?;
-    out.push_str(operator.text())?;
-    out.push_str(" ")?;
-    out.push_str(operands[1].as_str())?;
-    out.push_str(")")?;
-    Ok(())
-}
-
 impl ScalarFnVTable for Binary {
     type Options = Operator;
 
@@ -156,11 +142,10 @@ impl ScalarFnVTable for Binary {
         children: &[String],
         out: &mut String,
     ) -> VortexResult<()>
-        requires { length children.now ≡ 2 }
         ensures { AnswersUnlessMemory result
             (λ _. AppendsCall (shipped.Binary operator.now) children.now out.old out.new) }
     {
-        write_operator(out, *operator, children)
+        write_pieces(out, self, operator, children)
     }
 
     fn is_strict(&self, operator: &Operator) -> bool {
@@ -180,4 +165,25 @@ impl ScalarFnVTable for Binary {
     }
 
     ghost lawful = { shipped_lawful binary_id shipped.Binary };
+}
+
+/// `(a op b)`.
+impl TextPieces<Operator> for Binary {
+    ghost pieces = { λ operator. shipped_pieces (shipped.Binary operator) };
+
+    fn piece_count(&self, _operator: &Operator) -> usize {
+        7
+    }
+
+    fn text_piece(&self, operator: &Operator, index: usize) -> TextPiece {
+        match index {
+            0 => TextPiece::Said("("),
+            1 => TextPiece::Argument(0),
+            2 => TextPiece::Said(" "),
+            3 => TextPiece::Said(operator.text()),
+            4 => TextPiece::Said(" "),
+            5 => TextPiece::Argument(1),
+            _ => TextPiece::Said(")"),
+        }
+    }
 }

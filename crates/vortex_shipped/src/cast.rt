@@ -1,6 +1,6 @@
 //! Cast of Bool to the nullable one.
 ghost use Rattle.vortex_meaning.specs.Shipped as shipped;
-ghost use Rattle.vortex_shipped.specs.Words.{no_rules, AnswersUnlessMemory, AppendsCall, cast_id};
+ghost use Rattle.vortex_shipped.specs.Words.{no_rules, shipped_pieces, AnswersUnlessMemory, AppendsCall, cast_id};
 ghost use Rattle.vortex_shipped.specs.Words.{shipped_meaning, shipped_lawful, AnswersShippedType};
 
 use std::alloc::Global;
@@ -8,7 +8,10 @@ use std::fmt;
 use vortex_columns::{
     Arity, Column, DType, ExecutionCtx, MismatchPlace, Nullability, VortexError, VortexResult,
 };
-use vortex_interface::{ChildName, ExecutionArgs, ScalarFnId, ScalarFnVTable, write_call};
+use vortex_interface::{
+    ChildName, ExecutionArgs, ScalarFnId, ScalarFnVTable, TextPiece, TextPieces, unary_piece,
+    write_pieces,
+};
 use vortex_kernels::execute_cast;
 
 /// The options of Cast: none but the type that it answers, by which they print.
@@ -95,7 +98,7 @@ impl ScalarFnVTable for Cast {
         ensures { AnswersUnlessMemory result
             (λ _. AppendsCall shipped.Cast children.now out.old out.new) }
     {
-        write_call(out, self.id(), options.text(), children)
+        write_pieces(out, self, options, children)
     }
 
     fn is_strict(&self, _options: &CastOptions) -> bool {
@@ -115,4 +118,17 @@ impl ScalarFnVTable for Cast {
     }
 
     ghost lawful = { shipped_lawful cast_id (λ _. shipped.Cast) };
+}
+
+/// `vortex.cast(a, opts=bool?)`.
+impl TextPieces<CastOptions> for Cast {
+    ghost pieces = { λ _. shipped_pieces shipped.Cast };
+
+    fn piece_count(&self, _options: &CastOptions) -> usize {
+        4
+    }
+
+    fn text_piece(&self, _options: &CastOptions, index: usize) -> TextPiece {
+        unary_piece("vortex.cast", ", opts=bool?)", index)
+    }
 }

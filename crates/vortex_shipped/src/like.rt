@@ -1,14 +1,16 @@
 //! LIKE and ILIKE of a text and a pattern.
 ghost use Rattle.std.specs.Prelude.{◌≡◌, length};
 ghost use Rattle.vortex_meaning.specs.Shipped as shipped;
-ghost use Rattle.vortex_shipped.specs.Words.{no_rules, AnswersUnlessMemory, AppendsCall, like_id, like_words};
+ghost use Rattle.vortex_shipped.specs.Words.{no_rules, shipped_pieces, AnswersUnlessMemory, AppendsCall, like_id, like_words};
 ghost use Rattle.vortex_shipped.specs.Words.{shipped_meaning, shipped_lawful, AnswersShippedType};
 
 use std::alloc::Global;
 use vortex_columns::{
     Arity, Column, DType, ExecutionCtx, MismatchPlace, VortexError, VortexResult,
 };
-use vortex_interface::{ChildName, ExecutionArgs, ScalarFnId, ScalarFnVTable};
+use vortex_interface::{
+    ChildName, ExecutionArgs, ScalarFnId, ScalarFnVTable, TextPiece, TextPieces, write_pieces,
+};
 use vortex_like::{LikeOptions, execute_like};
 
 /// Whether a text matches a pattern of SQL's LIKE with backslash escape; with `case_insensitive` ILIKE, by Unicode's simple
@@ -81,14 +83,10 @@ impl ScalarFnVTable for Like {
         children: &[String],
         out: &mut String,
     ) -> VortexResult<()>
-        requires { length children.now ≡ 2 }
         ensures { AnswersUnlessMemory result
             (λ _. AppendsCall (shipped.Like options.now) children.now out.old out.new) }
     {
-        out.push_str(children[0].as_str())?;
-        out.push_str(words(options))?;
-        out.push_str(children[1].as_str())?;
-        Ok(())
+        write_pieces(out, self, options, children)
     }
 
     fn is_strict(&self, _options: &LikeOptions) -> bool {
@@ -108,4 +106,21 @@ impl ScalarFnVTable for Like {
     }
 
     ghost lawful = { shipped_lawful like_id shipped.Like };
+}
+
+/// `a like p`, `a not like p`, `a ilike p` or `a not ilike p`.
+impl TextPieces<LikeOptions> for Like {
+    ghost pieces = { λ options. shipped_pieces (shipped.Like options) };
+
+    fn piece_count(&self, _options: &LikeOptions) -> usize {
+        3
+    }
+
+    fn text_piece(&self, options: &LikeOptions, index: usize) -> TextPiece {
+        match index {
+            0 => TextPiece::Argument(0),
+            1 => TextPiece::Said(words(options)),
+            _ => TextPiece::Argument(1),
+        }
+    }
 }

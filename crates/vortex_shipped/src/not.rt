@@ -1,13 +1,14 @@
 //! Kleene's Not.
 ghost use Rattle.vortex_meaning.specs.Shipped as shipped;
-ghost use Rattle.vortex_shipped.specs.Words.{no_rules, AnswersUnlessMemory, AppendsCall, not_id, shipped_meaning, shipped_lawful, AnswersShippedType};
+ghost use Rattle.vortex_shipped.specs.Words.{no_rules, shipped_pieces, AnswersUnlessMemory, AppendsCall, not_id, shipped_meaning, shipped_lawful, AnswersShippedType};
 
 use std::alloc::Global;
 use vortex_columns::{
     Arity, Column, DType, ExecutionCtx, MismatchPlace, VortexError, VortexResult,
 };
 use vortex_interface::{
-    ChildName, EmptyOptions, ExecutionArgs, ScalarFnId, ScalarFnVTable, write_call,
+    ChildName, EmptyOptions, ExecutionArgs, ScalarFnId, ScalarFnVTable, TextPiece, TextPieces,
+    unary_piece, write_pieces,
 };
 use vortex_kernels::execute_not;
 
@@ -61,14 +62,14 @@ impl ScalarFnVTable for Not {
     /// `vortex.not(a)`.
     fn fmt_sql(
         &self,
-        _options: &EmptyOptions,
+        options: &EmptyOptions,
         children: &[String],
         out: &mut String,
     ) -> VortexResult<()>
         ensures { AnswersUnlessMemory result
             (λ _. AppendsCall shipped.Not children.now out.old out.new) }
     {
-        write_call(out, self.id(), "", children)
+        write_pieces(out, self, options, children)
     }
 
     fn is_strict(&self, _options: &EmptyOptions) -> bool {
@@ -88,4 +89,17 @@ impl ScalarFnVTable for Not {
     }
 
     ghost lawful = { shipped_lawful not_id (λ _. shipped.Not) };
+}
+
+/// `vortex.not(a)`.
+impl TextPieces<EmptyOptions> for Not {
+    ghost pieces = { λ _. shipped_pieces shipped.Not };
+
+    fn piece_count(&self, _options: &EmptyOptions) -> usize {
+        4
+    }
+
+    fn text_piece(&self, _options: &EmptyOptions, index: usize) -> TextPiece {
+        unary_piece("vortex.not", ")", index)
+    }
 }

@@ -1,14 +1,15 @@
 //! The null tests: whether a row of any type is null, and whether it is not.
 ghost use Rattle.std.specs.Prelude.{◌≡◌, length};
 ghost use Rattle.vortex_meaning.specs.Shipped as shipped;
-ghost use Rattle.vortex_shipped.specs.Words.{no_rules, AnswersUnlessMemory, AppendsCall, AnswersShippedType};
+ghost use Rattle.vortex_shipped.specs.Words.{no_rules, shipped_pieces, AnswersUnlessMemory, AppendsCall, AnswersShippedType};
 ghost use Rattle.vortex_shipped.specs.Words.{is_null_id, is_not_null_id, shipped_meaning};
 ghost use Rattle.vortex_shipped.specs.Words.{shipped_lawful};
 
 use std::alloc::Global;
 use vortex_columns::{Arity, Column, DType, ExecutionCtx, Nullability, VortexResult};
 use vortex_interface::{
-    ChildName, EmptyOptions, ExecutionArgs, ScalarFnId, ScalarFnVTable, write_call,
+    ChildName, EmptyOptions, ExecutionArgs, ScalarFnId, ScalarFnVTable, TextPiece, TextPieces,
+    unary_piece, write_pieces,
 };
 use vortex_kernels::{execute_is_not_null, execute_is_null};
 
@@ -60,14 +61,14 @@ impl ScalarFnVTable for IsNull {
     /// `vortex.is_null(a)`.
     fn fmt_sql(
         &self,
-        _options: &EmptyOptions,
+        options: &EmptyOptions,
         children: &[String],
         out: &mut String,
     ) -> VortexResult<()>
         ensures { AnswersUnlessMemory result
             (λ _. AppendsCall shipped.IsNull children.now out.old out.new) }
     {
-        write_call(out, self.id(), "", children)
+        write_pieces(out, self, options, children)
     }
 
     fn is_strict(&self, _options: &EmptyOptions) -> bool {
@@ -87,6 +88,19 @@ impl ScalarFnVTable for IsNull {
     }
 
     ghost lawful = { shipped_lawful is_null_id (λ _. shipped.IsNull) };
+}
+
+/// `vortex.is_null(a)`.
+impl TextPieces<EmptyOptions> for IsNull {
+    ghost pieces = { λ _. shipped_pieces shipped.IsNull };
+
+    fn piece_count(&self, _options: &EmptyOptions) -> usize {
+        4
+    }
+
+    fn text_piece(&self, _options: &EmptyOptions, index: usize) -> TextPiece {
+        unary_piece("vortex.is_null", ")", index)
+    }
 }
 
 /// Whether each row is not null: non-nullable Bool, of any type. No row is read.
@@ -137,14 +151,14 @@ impl ScalarFnVTable for IsNotNull {
     /// `is_not_null(a)`.
     fn fmt_sql(
         &self,
-        _options: &EmptyOptions,
+        options: &EmptyOptions,
         children: &[String],
         out: &mut String,
     ) -> VortexResult<()>
         ensures { AnswersUnlessMemory result
             (λ _. AppendsCall shipped.IsNotNull children.now out.old out.new) }
     {
-        write_call(out, "is_not_null", "", children)
+        write_pieces(out, self, options, children)
     }
 
     fn is_strict(&self, _options: &EmptyOptions) -> bool {
@@ -164,4 +178,17 @@ impl ScalarFnVTable for IsNotNull {
     }
 
     ghost lawful = { shipped_lawful is_not_null_id (λ _. shipped.IsNotNull) };
+}
+
+/// `is_not_null(a)`.
+impl TextPieces<EmptyOptions> for IsNotNull {
+    ghost pieces = { λ _. shipped_pieces shipped.IsNotNull };
+
+    fn piece_count(&self, _options: &EmptyOptions) -> usize {
+        4
+    }
+
+    fn text_piece(&self, _options: &EmptyOptions, index: usize) -> TextPiece {
+        unary_piece("is_not_null", ")", index)
+    }
 }

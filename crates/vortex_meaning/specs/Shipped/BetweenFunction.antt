@@ -1,5 +1,5 @@
 -- Between: whether a value lies between two bounds, by Kleene's And of two comparisons.
-use Rattle.std.specs.Prelude.{◌≡◌, ◌||◌, ◌&&◌, ◌++◌, ℕ, zero, suc, List, [], ◌∷◌, Option, Some, None, Bool, true, false, codes, if◌then◌else◌, refl}
+use Rattle.std.specs.Prelude.{◌≡◌, ◌||◌, ◌&&◌, ℕ, zero, suc, List, [], ◌∷◌, Option, Some, None, Bool, true, false, codes, if◌then◌else◌, refl}
 use Rattle.std.specs.Str.{bytes_eq}
 use Rattle.std.proofs.Common.{subst, cond}
 use Rattle.vortex_errors.specs.declared.error.MismatchPlace.{MismatchPlace}
@@ -19,6 +19,7 @@ use Rattle.vortex_operators.proofs.KleeneNulls.{allowed, kleene_allowed}
 use Rattle.vortex_meaning.specs.Outcomes.{gives}
 use Rattle.vortex_meaning.specs.Meaning.{HaveTypes}
 use Rattle.vortex_meaning.specs.Arguments.{of_three, has_bool}
+use Rattle.vortex_meaning.specs.CallTexts.{Piece, said, argument}
 use Rattle.vortex_meaning.specs.RowFunction.{RowFunction, LawfulRow}
 use Rattle.vortex_meaning.specs.Shipped.BinaryFunction.{comparison_has_bool}
 
@@ -43,11 +44,11 @@ between_place (t ∷ lower ∷ ts) =
 between_place ts = place.BetweenLower
 
 -- `(lower < array <= upper)`, each operator as chosen
-abbrev pub between_text : BetweenOptions → List (List ℕ) → List ℕ
-between_text options (array ∷ lower ∷ upper ∷ []) =
-    codes "(" ++ lower ++ codes " " ++ bound_text options.lower_strict ++ codes " " ++ array
-    ++ codes " " ++ bound_text options.upper_strict ++ codes " " ++ upper ++ codes ")"
-between_text options texts = []
+abbrev pub between_pieces : BetweenOptions → List Piece
+between_pieces options =
+    said (codes "(") ∷ argument 1 ∷ said (codes " ") ∷ said (bound_text options.lower_strict)
+    ∷ said (codes " ") ∷ argument 0 ∷ said (codes " ") ∷ said (bound_text options.upper_strict)
+    ∷ said (codes " ") ∷ argument 2 ∷ said (codes ")") ∷ []
 
 abbrev pub between_function : BetweenOptions → RowFunction
 between_function options = record {
@@ -59,7 +60,8 @@ between_function options = record {
   means = λ ts vs. gives (of_three (λ x lower upper. between_value options lower x upper) vs);
   strict = false;
   infallible = true;
-  text = between_text options;
+  pieces = between_pieces options;
+  added = λ nullable. 1;
 }
 
 abbrev pub between_options : StrictComparison → StrictComparison → BetweenOptions

@@ -1,5 +1,5 @@
 -- The operators of two operands: Kleene's And and Or, the comparisons by the order of values, and exact arithmetic.
-use Rattle.std.specs.Prelude.{◌≡◌, ◌⊎◌, ℕ, zero, suc, List, [], ◌∷◌, ◌++◌, Option, Some, None, Bool, true, false, ◌||◌, not, codes, Any, if◌then◌else◌, refl}
+use Rattle.std.specs.Prelude.{◌≡◌, ◌⊎◌, ℕ, zero, suc, List, [], ◌∷◌, Option, Some, None, Bool, true, false, ◌||◌, not, codes, Any, if◌then◌else◌, refl}
 use Rattle.std.specs.Str.{bytes_eq}
 use Rattle.std.proofs.Common.{sym, ap, ◌∙◌, subst, cond, inl, inr}
 use Rattle.vortex_errors.specs.declared.error.MismatchPlace.{MismatchPlace}
@@ -26,6 +26,7 @@ use Rattle.vortex_meaning.specs.Outcomes.{Outcome, gives, faults, Fault, GivesVa
 use Rattle.vortex_meaning.specs.Meaning.{HaveTypes, AreAlike}
 use Rattle.vortex_meaning.specs.Arithmetic.{arithmetic_type, arithmetic_means, arithmetic_typed, arithmetic_alike, arithmetic_nullable, arithmetic_null, arithmetic_fault}
 use Rattle.vortex_meaning.specs.Arguments.{of_two, either_of, or_either, has_bool}
+use Rattle.vortex_meaning.specs.CallTexts.{Piece, said, argument}
 use Rattle.vortex_meaning.specs.RowFunction.{RowFunction, LawfulRow}
 
 abbrev pub binary_id : List ℕ
@@ -65,10 +66,16 @@ operator_place Div = place.Arithmetic
 operator_place o = place.Compare
 
 -- the operator between its two operands
-abbrev pub operator_text : List ℕ → List (List ℕ) → List ℕ
-operator_text operator (left ∷ right ∷ []) =
-    codes "(" ++ left ++ codes " " ++ operator ++ codes " " ++ right ++ codes ")"
-operator_text operator texts = []
+abbrev pub operator_pieces : List ℕ → List Piece
+operator_pieces operator =
+    said (codes "(") ∷ argument 0 ∷ said (codes " ") ∷ said operator ∷ said (codes " ")
+    ∷ argument 1 ∷ said (codes ")") ∷ []
+
+-- And and Or weigh more where they are nullable, since rules turn them into more than one call
+abbrev pub operator_added : Operator → Bool → ℕ
+operator_added And nullable = if nullable then 3 else 1
+operator_added Or nullable = if nullable then 3 else 1
+operator_added o nullable = 5
 
 -- arithmetic by the type of its operands, the others by their values alone
 abbrev pub means_by : Option NumericOperator → Operator → List LogicalType → List Value → Outcome
@@ -88,7 +95,8 @@ operator_function o = record {
   means = operator_means o;
   strict = not (is_boolean o);
   infallible = not (is_arithmetic o);
-  text = operator_text (text_of o);
+  pieces = operator_pieces (text_of o);
+  added = operator_added o;
 }
 
 -- the words of scripts

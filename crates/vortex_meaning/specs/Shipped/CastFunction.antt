@@ -9,7 +9,7 @@ use Rattle.vortex_types.specs.Typing.{HasType}
 use Rattle.vortex_meaning.specs.Outcomes.{gives}
 use Rattle.vortex_meaning.specs.Meaning.{HaveTypes}
 use Rattle.vortex_meaning.specs.Arguments.{of_one, only}
-use Rattle.vortex_meaning.specs.CallTexts.{call_text}
+use Rattle.vortex_meaning.specs.CallTexts.{unary_pieces, call_end}
 use Rattle.vortex_meaning.specs.RowFunction.{RowFunction, LawfulRow}
 
 abbrev pub cast_id : List ℕ
@@ -34,7 +34,8 @@ cast_function = record {
   means = λ ts vs. gives (of_one (λ v. v) vs);
   strict = true;
   infallible = true;
-  text = call_text cast_id cast_options_text;
+  pieces = unary_pieces cast_id (call_end cast_options_text);
+  added = λ nullable. 1;
 }
 
 -- the word of scripts

@@ -1,5 +1,5 @@
 -- SQL's LIKE of a text and a pattern, and ILIKE past case; either turned over where negated.
-use Rattle.std.specs.Prelude.{◌≡◌, ◌⊎◌, ℕ, zero, suc, List, [], ◌∷◌, ◌++◌, Option, Some, None, Bool, true, false, ◌||◌, codes, Any, if◌then◌else◌, refl}
+use Rattle.std.specs.Prelude.{◌≡◌, ◌⊎◌, ℕ, zero, suc, List, [], ◌∷◌, Option, Some, None, Bool, true, false, ◌||◌, codes, Any, if◌then◌else◌, refl}
 use Rattle.std.specs.Str.{bytes_eq}
 use Rattle.std.proofs.Common.{sym, ap, ◌∙◌, subst, inl, inr}
 use Rattle.vortex_errors.specs.declared.error.MismatchPlace.{MismatchPlace}
@@ -12,6 +12,7 @@ use Rattle.vortex_like.specs.Patterns.{like_value}
 use Rattle.vortex_meaning.specs.Outcomes.{gives}
 use Rattle.vortex_meaning.specs.Meaning.{HaveTypes}
 use Rattle.vortex_meaning.specs.Arguments.{of_two, either_of, or_either}
+use Rattle.vortex_meaning.specs.CallTexts.{Piece, said, argument}
 use Rattle.vortex_meaning.specs.RowFunction.{RowFunction, LawfulRow}
 
 abbrev pub like_id : List ℕ
@@ -42,9 +43,8 @@ abbrev pub like_words : LikeOptions → List ℕ
 like_words options = words_by options.negated options.case_insensitive
 
 -- the words between the two arguments
-abbrev pub like_call_text : LikeOptions → List (List ℕ) → List ℕ
-like_call_text options (input ∷ pattern ∷ []) = input ++ like_words options ++ pattern
-like_call_text options texts = []
+abbrev pub like_pieces : LikeOptions → List Piece
+like_pieces options = argument 0 ∷ said (like_words options) ∷ argument 1 ∷ []
 
 abbrev pub like_function : LikeOptions → RowFunction
 like_function options = record {
@@ -56,7 +56,8 @@ like_function options = record {
   means = λ ts vs. gives (of_two (like_value options) vs);
   strict = true;
   infallible = true;
-  text = like_call_text options;
+  pieces = like_pieces options;
+  added = λ nullable. 5;
 }
 
 abbrev pub like_options : Bool → Bool → LikeOptions

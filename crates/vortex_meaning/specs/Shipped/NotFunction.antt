@@ -1,5 +1,5 @@
 -- Kleene's Not of a Bool.
-use Rattle.std.specs.Prelude.{◌≡◌, ℕ, List, [], ◌∷◌, Option, Some, None, Bool, true, codes, Any, refl}
+use Rattle.std.specs.Prelude.{◌≡◌, ℕ, List, [], ◌∷◌, Option, Some, None, Bool, true, codes, Any, if◌then◌else◌, refl}
 use Rattle.std.specs.Str.{bytes_eq}
 use Rattle.std.proofs.Common.{sym, ap, ◌∙◌, subst}
 use Rattle.vortex_errors.specs.declared.error.MismatchPlace.TheVariants as place
@@ -12,7 +12,7 @@ use Rattle.vortex_operators.proofs.KleeneNulls.{allowed, not_allowed}
 use Rattle.vortex_meaning.specs.Outcomes.{gives}
 use Rattle.vortex_meaning.specs.Meaning.{HaveTypes}
 use Rattle.vortex_meaning.specs.Arguments.{of_one, only, has_bool}
-use Rattle.vortex_meaning.specs.CallTexts.{call_text}
+use Rattle.vortex_meaning.specs.CallTexts.{unary_pieces, call_end}
 use Rattle.vortex_meaning.specs.RowFunction.{RowFunction, LawfulRow}
 
 abbrev pub not_id : List ℕ
@@ -33,7 +33,8 @@ not_function = record {
   means = λ ts vs. gives (of_one not_value vs);
   strict = true;
   infallible = true;
-  text = call_text not_id [];
+  pieces = unary_pieces not_id (call_end []);
+  added = λ nullable. if nullable then 2 else 1;
 }
 
 -- the word of scripts

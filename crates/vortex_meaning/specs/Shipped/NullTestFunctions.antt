@@ -8,7 +8,7 @@ use Rattle.vortex_types.specs.Typing.{HasType}
 use Rattle.vortex_meaning.specs.Outcomes.{gives}
 use Rattle.vortex_meaning.specs.Meaning.{HaveTypes}
 use Rattle.vortex_meaning.specs.Arguments.{of_one}
-use Rattle.vortex_meaning.specs.CallTexts.{call_text}
+use Rattle.vortex_meaning.specs.CallTexts.{unary_pieces, call_end}
 use Rattle.vortex_meaning.specs.RowFunction.{RowFunction, LawfulRow}
 
 abbrev pub is_null_id : List ℕ
@@ -33,7 +33,8 @@ null_test id printed test = record {
   means = λ ts vs. gives (of_one (λ v. truth (test v)) vs);
   strict = false;
   infallible = true;
-  text = call_text printed [];
+  pieces = unary_pieces printed (call_end []);
+  added = λ nullable. 2;
 }
 
 abbrev pub is_null_function : RowFunction

@@ -1,16 +1,16 @@
 use Rattle.std.proofs.Common.{◌≡◌, sym, ap, ◌∙◌, subst, length, map, string_bytes, Some, ℕ}
 use Rattle.std.proofs.lemmas.List.{length-map}
-use Rattle.vortex_columns.specs.Cells.{cell_value}
 use Rattle.vortex_types.specs.TypeOf.{type_of}
 use Rattle.vortex_meaning.specs.Meaning.{fits}
 use Rattle.vortex_meaning.specs.Functions.{function_arity}
-use Rattle.vortex_meaning.specs.Trees.{call, trees_of}
+use Rattle.vortex_meaning.specs.Trees.{call, called, trees_of}
 use Rattle.vortex_meaning.specs.Eval.{tree_type}
 use Rattle.vortex_functions.specs.FunctionOf.{function_of}
 use Rattle.vortex_functions.specs.Nodes.{IsNode, call_of, node_tree}
 use Rattle.vortex_functions.specs.Texts.{IsTextOf}
 use Rattle.vortex_functions.proofs.Inputs.{made_of_items}
-use Rattle.vortex_functions.proofs.TreeTexts.{AreTexts, all_texts, call_has_text, literal_has_text, children_fit}
+use Rattle.vortex_functions.proofs.TreeTexts.{AreTexts, all_texts, call_has_text, children_fit}
+use Rattle.vortex_functions.proofs.WrittenTexts.{leaf_has_text}
 use Rattle.vortex_functions.proofs.tree.BoundExpression.text_over.Goals as goal
 
 pub fmt_sql-requires : goal.fmt_sql-requires
@@ -33,8 +33,8 @@ fmt_sql-requires g c =
     ap (λ (n : ℕ). fits (function_arity m f) n) count
     ∙ children_fit m f ts (type_of parts.dtype) typed
 
-pub returns : goal.returns
-returns g c =
+pub returns-in-Call : goal.returns-in-Call
+returns-in-Call g c =
     let parts = c.deref.result.now in
     let f = function_of parts.function in
     let ts = parts.children.items in
@@ -48,9 +48,9 @@ returns g c =
     (string_bytes c.new-text.result) (string_bytes c.fmt_sql.new.out) is all
     c.new-text.ensures.bytes c.in_ok-fmt_sql-in-Call.ensures
 
-pub returns-in-Literal : goal.returns-in-Literal
-returns-in-Literal g c =
-    literal_has_text c.args.self.now c.in-Literal.scalar (string_bytes c.new-text.result)
-    (string_bytes c.write_literal.new.out) (type_of c.dtype.result.now) (cell_value c.cell.result)
-    (sym c.self.view_is ∙ ap node_tree c.in-Literal.is) c.new-text.ensures.bytes
-    c.in_ok-write_literal-in-Literal.ensures c.dtype.ensures.dtype c.cell.ensures.value
+pub returns-in-Column : goal.returns-in-Column
+returns-in-Column g c =
+    leaf_has_text c.args.self.now (string_bytes c.new-text.result)
+    (string_bytes c.write_leaf.new.out)
+    (ap called (sym c.self.view_is ∙ ap node_tree c.in-Column.is)) c.new-text.ensures.bytes
+    c.in_ok-write_leaf-in-Column.ensures
