@@ -25,3 +25,4 @@ pub mod Running
 pub mod ComparisonTrees
 pub mod ArithmeticFaults
 pub mod Printing
+pub mod OptionBytes
