@@ -26,3 +26,4 @@ pub mod ComparisonTrees
 pub mod ArithmeticFaults
 pub mod Printing
 pub mod OptionBytes
+pub mod FunctionTexts
