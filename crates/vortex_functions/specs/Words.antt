@@ -28,3 +28,5 @@ pub use Rattle.vortex_functions.specs.TreePieces.{pieces_of, tree_pieces, leaf_t
 pub use Rattle.vortex_functions.specs.Binding.{AnswersLeaf, AnswersBinding, IsLeaf, IsLeafAt}
 pub use Rattle.vortex_functions.specs.Executing.{HasRows, NodeFits, AnswersTree, AnswersExecution, AnswersColumns, LendsLeaf, Fits}
 pub use Rattle.vortex_functions.specs.Walks.{AllMean, IsCopy}
+pub use Rattle.vortex_meaning.specs.OptionBytes.{WritesOptionsOf}
+pub use Rattle.vortex_meaning.specs.FunctionTexts.{held_text, value_text}

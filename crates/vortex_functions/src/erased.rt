@@ -67,9 +67,14 @@ macro_rules! with_function {
         })
     };
 }
+pub(crate) use with_function;
 
 /// A function with its options: a shipped one, or a caller's of type `C`.
+///
+/// Two are equal where they are the same shipped function with the same options, or two of a caller's of one identity and
+/// equal options; equal ones hash equally.
 #[derive(Drop)]
+#[derive_where(PartialEq, Eq, Hash)]
 pub enum ScalarFnRef<C: ScalarFnVTable> {
     Binary(Operator),
     Not,

@@ -8,6 +8,7 @@ mod cast;
 pub mod custom;
 pub mod erased;
 pub mod ext;
+pub mod function_values;
 mod like;
 mod not;
 mod null_tests;
@@ -18,6 +19,7 @@ pub mod walk;
 pub use custom::NoCustom;
 pub use erased::{ScalarFnRef, ScalarFnSignature};
 pub use ext::ScalarFnVTableExt;
+pub use function_values::ScalarFnOptions;
 pub use tree::BoundExpression;
 pub use typed::TypedScalarFnInstance;
 pub use vortex_interface::{

@@ -13,3 +13,4 @@ pub use Rattle.vortex_interface.specs.Args.{ArgsView, coded_args, AreOfLength, P
 pub use Rattle.vortex_meaning.specs.Printing.{hex_text}
 pub use Rattle.vortex_interface.specs.Shapes.{shape_type}
 pub use Rattle.vortex_interface.specs.Texts.{AppendsCall, WritesLiteral, WritesElements, WritesFields}
+pub use Rattle.vortex_meaning.specs.OptionBytes.{ReadsOrRefuses}

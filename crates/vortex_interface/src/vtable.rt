@@ -1,12 +1,12 @@
 //! The interface of a row function.
-ghost use Rattle.std.specs.Prelude.{◌≡◌, ℕ, List, length, map, IsTrue, IsSome, IfOk, MatchResult, slice_get, string_bytes, Some};
-ghost use Rattle.vortex_interface.specs.Words.{ColumnView, Meaning, Lawful, Rules, fits, types_in, AnswersUnlessMemory, AnswersType, AnswersCall, Continues, PastInputs};
+ghost use Rattle.std.specs.Prelude.{◌≡◌, ℕ, List, length, map, IsTrue, IsSome, IfOk, MatchResult, slice_get, string_bytes, Some, ⊤};
+ghost use Rattle.vortex_interface.specs.Words.{ColumnView, Meaning, Lawful, Rules, fits, types_in, AnswersUnlessMemory, AnswersType, AnswersCall, Continues, PastInputs, ReadsOrRefuses};
 
 use crate::printing::write_call;
 use std::alloc::Global;
 use std::fmt::{Debug, Display};
 use std::hash::Hash;
-use vortex_columns::{Arity, Column, DType, ExecutionCtx, VortexResult};
+use vortex_columns::{Arity, Column, DType, ExecutionCtx, VortexError, VortexResult};
 
 /// A function's identity, as `vortex.binary`.
 pub type ScalarFnId = &'static str;
@@ -52,6 +52,20 @@ pub trait ScalarFnVTable: Sized + Clone + Drop {
     /// The function's identity, as `vortex.binary`.
     fn id(&self) -> ScalarFnId
         ensures { result.now ≡ meaning.id self.now };
+
+    /// The options as bytes, where the function writes them. Refuses for memory alone; the default writes none.
+    fn serialize(&self, alloc: Global, options: &Self::Options) -> VortexResult<Option<Vec<u8>>>
+        ensures { AnswersUnlessMemory result (λ _. ⊤) }
+    {
+        Ok(None)
+    }
+
+    /// The options that the bytes are read as, or E8. The default reads none.
+    fn deserialize(&self, alloc: Global, bytes: &[u8]) -> VortexResult<Self::Options>
+        ensures { ReadsOrRefuses result }
+    {
+        Err(VortexError::BadOptions)
+    }
 
     /// How many arguments a call takes.
     fn arity(&self, options: &Self::Options) -> Arity

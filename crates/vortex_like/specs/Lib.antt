@@ -10,3 +10,4 @@ pub mod Variants
 pub mod UnescapedTexts
 pub mod Cuts
 pub mod Words
+pub mod OptionBytes

@@ -5,6 +5,7 @@ mod characters;
 pub mod execute;
 pub mod laws;
 mod matching;
+pub mod option_bytes;
 pub mod options;
 pub mod pattern;
 mod row_bits;

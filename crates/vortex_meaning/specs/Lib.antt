@@ -25,3 +25,5 @@ pub mod Running
 pub mod ComparisonTrees
 pub mod ArithmeticFaults
 pub mod Printing
+pub mod OptionBytes
+pub mod FunctionTexts

@@ -6,3 +6,4 @@ pub mod Arithmetic
 pub mod ComparisonLaws
 pub mod SwapLaws
 pub mod Between
+pub mod OptionBytes

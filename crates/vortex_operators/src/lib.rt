@@ -4,6 +4,7 @@
 pub mod between;
 pub mod laws;
 pub mod operators;
+pub mod option_bytes;
 
 pub use between::{BetweenOptions, StrictComparison};
 pub use operators::{CompareOperator, Operator};

@@ -5,3 +5,4 @@ pub mod CastCalls
 pub mod BetweenCalls
 pub mod NumericCalls
 pub mod LikeCalls
+pub mod OptionFormats

@@ -13,3 +13,8 @@ pub use Rattle.vortex_meaning.specs.Arithmetic.{arithmetic_type}
 pub use Rattle.vortex_meaning.specs.Answering.{AnswersShippedType}
 pub use Rattle.vortex_shipped.specs.Typing.{IsTypeFound}
 pub use Rattle.vortex_shipped.specs.Texts.{AppendsCall}
+pub use Rattle.vortex_operators.specs.OptionBytes.{operator_bytes, operator_read, between_bytes, between_read}
+pub use Rattle.vortex_like.specs.OptionBytes.{like_bytes, like_read}
+pub use Rattle.vortex_meaning.specs.OptionBytes.{WritesBytes, WritesOptions, ReadsOptions}
+pub use Rattle.vortex_meaning.specs.OptionBytes.{shipped_bytes, with_options}
+pub use Rattle.vortex_errors.specs.OptionBytes.{IsFormat}

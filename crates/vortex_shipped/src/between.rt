@@ -3,7 +3,9 @@ ghost use Rattle.std.specs.Prelude.{◌≡◌, length, map};
 ghost use Rattle.vortex_meaning.specs.Shipped as shipped;
 ghost use Rattle.vortex_shipped.specs.Words.{no_rules, shipped_pieces, AnswersUnlessMemory, AppendsCall, AnswersShippedType};
 ghost use Rattle.vortex_shipped.specs.Words.{between_id, shipped_meaning, shipped_lawful};
+ghost use Rattle.vortex_shipped.specs.Words.{WritesOptions, ReadsOptions, between_read};
 
+use crate::option_bytes::write_byte;
 use std::alloc::Global;
 use vortex_columns::{
     Arity, Column, DType, ExecutionCtx, MismatchPlace, VortexError, VortexResult,
@@ -28,6 +30,20 @@ impl ScalarFnVTable for Between {
 
     fn id(&self) -> ScalarFnId {
         "vortex.between"
+    }
+
+    /// One byte: bit 0 where the lower bound is strict, bit 1 where the upper is.
+    fn serialize(&self, alloc: Global, options: &BetweenOptions) -> VortexResult<Option<Vec<u8>>>
+        ensures { AnswersUnlessMemory result (WritesOptions (shipped.Between options.now)) }
+    {
+        write_byte(alloc, options.to_byte())
+    }
+
+    /// E8 exactly for bytes that are written of no options; takes no memory.
+    fn deserialize(&self, _alloc: Global, bytes: &[u8]) -> VortexResult<BetweenOptions>
+        ensures { ReadsOptions (between_read bytes.now) result }
+    {
+        BetweenOptions::from_bytes(bytes).ok_or(VortexError::BadOptions)
     }
 
     fn arity(&self, _options: &BetweenOptions) -> Arity {

@@ -2,7 +2,9 @@
 ghost use Rattle.std.specs.Prelude.{◌≡◌, length, map};
 ghost use Rattle.vortex_meaning.specs.Shipped as shipped;
 ghost use Rattle.vortex_shipped.specs.Words.{no_rules, shipped_pieces, AnswersUnlessMemory, type_of, AppendsCall, binary_id, both_bool, compared_type, arithmetic_type, operator_type, operator_place, shipped_meaning, shipped_lawful, AnswersShippedType, IsTypeFound};
+ghost use Rattle.vortex_shipped.specs.Words.{WritesOptions, ReadsOptions, operator_read};
 
+use crate::option_bytes::write_byte;
 use std::alloc::Global;
 use vortex_columns::{
     Arity, Column, DType, ExecutionCtx, MismatchPlace, VortexError, VortexResult,
@@ -97,6 +99,20 @@ impl ScalarFnVTable for Binary {
 
     fn id(&self) -> ScalarFnId {
         "vortex.binary"
+    }
+
+    /// The operator's byte.
+    fn serialize(&self, alloc: Global, operator: &Operator) -> VortexResult<Option<Vec<u8>>>
+        ensures { AnswersUnlessMemory result (WritesOptions (shipped.Binary operator.now)) }
+    {
+        write_byte(alloc, operator.to_byte())
+    }
+
+    /// E8 exactly for bytes that are written of no options; takes no memory.
+    fn deserialize(&self, _alloc: Global, bytes: &[u8]) -> VortexResult<Operator>
+        ensures { ReadsOptions (operator_read bytes.now) result }
+    {
+        Operator::from_bytes(bytes).ok_or(VortexError::BadOptions)
     }
 
     fn arity(&self, _operator: &Operator) -> Arity {

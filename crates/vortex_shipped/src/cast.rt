@@ -2,6 +2,8 @@
 ghost use Rattle.vortex_meaning.specs.Shipped as shipped;
 ghost use Rattle.vortex_shipped.specs.Words.{no_rules, shipped_pieces, AnswersUnlessMemory, AppendsCall, cast_id};
 ghost use Rattle.vortex_shipped.specs.Words.{shipped_meaning, shipped_lawful, AnswersShippedType};
+ghost use Rattle.std.specs.Prelude.{IsOk};
+ghost use Rattle.vortex_shipped.specs.Words.{WritesOptions};
 
 use std::alloc::Global;
 use std::fmt;
@@ -54,6 +56,20 @@ impl ScalarFnVTable for Cast {
 
     fn id(&self) -> ScalarFnId {
         "vortex.cast"
+    }
+
+    /// No bytes.
+    fn serialize(&self, alloc: Global, _options: &CastOptions) -> VortexResult<Option<Vec<u8>>>
+        ensures { AnswersUnlessMemory result (WritesOptions shipped.Cast) }
+    {
+        Ok(Some(Vec::new(alloc)))
+    }
+
+    /// Any bytes are read; takes no memory.
+    fn deserialize(&self, _alloc: Global, _bytes: &[u8]) -> VortexResult<CastOptions>
+        ensures { IsOk result }
+    {
+        Ok(CastOptions)
     }
 
     fn arity(&self, _options: &CastOptions) -> Arity {

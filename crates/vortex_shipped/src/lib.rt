@@ -4,9 +4,11 @@
 pub mod between;
 pub mod binary;
 pub mod cast;
+pub mod laws;
 pub mod like;
 pub mod not;
 pub mod null_tests;
+mod option_bytes;
 
 pub use between::Between;
 pub use binary::Binary;

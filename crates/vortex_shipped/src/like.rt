@@ -3,7 +3,9 @@ ghost use Rattle.std.specs.Prelude.{◌≡◌, length};
 ghost use Rattle.vortex_meaning.specs.Shipped as shipped;
 ghost use Rattle.vortex_shipped.specs.Words.{no_rules, shipped_pieces, AnswersUnlessMemory, AppendsCall, like_id, like_words};
 ghost use Rattle.vortex_shipped.specs.Words.{shipped_meaning, shipped_lawful, AnswersShippedType};
+ghost use Rattle.vortex_shipped.specs.Words.{WritesOptions, ReadsOptions, like_read};
 
+use crate::option_bytes::write_byte;
 use std::alloc::Global;
 use vortex_columns::{
     Arity, Column, DType, ExecutionCtx, MismatchPlace, VortexError, VortexResult,
@@ -40,6 +42,20 @@ impl ScalarFnVTable for Like {
 
     fn id(&self) -> ScalarFnId {
         "vortex.like"
+    }
+
+    /// One byte: bit 0 where negated, bit 1 where case insensitive.
+    fn serialize(&self, alloc: Global, options: &LikeOptions) -> VortexResult<Option<Vec<u8>>>
+        ensures { AnswersUnlessMemory result (WritesOptions (shipped.Like options.now)) }
+    {
+        write_byte(alloc, options.to_byte())
+    }
+
+    /// E8 exactly for bytes that are written of no options; takes no memory.
+    fn deserialize(&self, _alloc: Global, bytes: &[u8]) -> VortexResult<LikeOptions>
+        ensures { ReadsOptions (like_read bytes.now) result }
+    {
+        LikeOptions::from_bytes(bytes).ok_or(VortexError::BadOptions)
     }
 
     fn arity(&self, _options: &LikeOptions) -> Arity {

@@ -1,6 +1,8 @@
 //! Kleene's Not.
 ghost use Rattle.vortex_meaning.specs.Shipped as shipped;
 ghost use Rattle.vortex_shipped.specs.Words.{no_rules, shipped_pieces, AnswersUnlessMemory, AppendsCall, not_id, shipped_meaning, shipped_lawful, AnswersShippedType};
+ghost use Rattle.std.specs.Prelude.{IsOk};
+ghost use Rattle.vortex_shipped.specs.Words.{WritesOptions};
 
 use std::alloc::Global;
 use vortex_columns::{
@@ -25,6 +27,20 @@ impl ScalarFnVTable for Not {
 
     fn id(&self) -> ScalarFnId {
         "vortex.not"
+    }
+
+    /// No bytes.
+    fn serialize(&self, alloc: Global, _options: &EmptyOptions) -> VortexResult<Option<Vec<u8>>>
+        ensures { AnswersUnlessMemory result (WritesOptions shipped.Not) }
+    {
+        Ok(Some(Vec::new(alloc)))
+    }
+
+    /// Any bytes are read; takes no memory.
+    fn deserialize(&self, _alloc: Global, _bytes: &[u8]) -> VortexResult<EmptyOptions>
+        ensures { IsOk result }
+    {
+        Ok(EmptyOptions)
     }
 
     fn arity(&self, _options: &EmptyOptions) -> Arity {

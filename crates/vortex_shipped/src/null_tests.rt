@@ -4,6 +4,8 @@ ghost use Rattle.vortex_meaning.specs.Shipped as shipped;
 ghost use Rattle.vortex_shipped.specs.Words.{no_rules, shipped_pieces, AnswersUnlessMemory, AppendsCall, AnswersShippedType};
 ghost use Rattle.vortex_shipped.specs.Words.{is_null_id, is_not_null_id, shipped_meaning};
 ghost use Rattle.vortex_shipped.specs.Words.{shipped_lawful};
+ghost use Rattle.std.specs.Prelude.{IsOk};
+ghost use Rattle.vortex_shipped.specs.Words.{WritesOptions};
 
 use std::alloc::Global;
 use vortex_columns::{Arity, Column, DType, ExecutionCtx, Nullability, VortexResult};
@@ -26,6 +28,20 @@ impl ScalarFnVTable for IsNull {
 
     fn id(&self) -> ScalarFnId {
         "vortex.is_null"
+    }
+
+    /// No bytes.
+    fn serialize(&self, alloc: Global, _options: &EmptyOptions) -> VortexResult<Option<Vec<u8>>>
+        ensures { AnswersUnlessMemory result (WritesOptions shipped.IsNull) }
+    {
+        Ok(Some(Vec::new(alloc)))
+    }
+
+    /// Any bytes are read; takes no memory.
+    fn deserialize(&self, _alloc: Global, _bytes: &[u8]) -> VortexResult<EmptyOptions>
+        ensures { IsOk result }
+    {
+        Ok(EmptyOptions)
     }
 
     fn arity(&self, _options: &EmptyOptions) -> Arity {
@@ -116,6 +132,20 @@ impl ScalarFnVTable for IsNotNull {
 
     fn id(&self) -> ScalarFnId {
         "vortex.is_not_null"
+    }
+
+    /// No bytes.
+    fn serialize(&self, alloc: Global, _options: &EmptyOptions) -> VortexResult<Option<Vec<u8>>>
+        ensures { AnswersUnlessMemory result (WritesOptions shipped.IsNotNull) }
+    {
+        Ok(Some(Vec::new(alloc)))
+    }
+
+    /// Any bytes are read; takes no memory.
+    fn deserialize(&self, _alloc: Global, _bytes: &[u8]) -> VortexResult<EmptyOptions>
+        ensures { IsOk result }
+    {
+        Ok(EmptyOptions)
     }
 
     fn arity(&self, _options: &EmptyOptions) -> Arity {

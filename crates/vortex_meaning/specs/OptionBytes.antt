@@ -1,0 +1,53 @@
+-- The bytes that the options of a shipped function are written as, and what byte strings are read as.
+use Rattle.std.specs.Prelude.{◌≡◌, ℕ, List, [], Option, Some, None, IsSomeAnd, Vec, Result, MatchResult, ⊤}
+use Rattle.std.specs.Option.{option_map}
+use Rattle.std.specs.declared.alloc.Global.{Global}
+use Rattle.vortex_errors.specs.declared.error.VortexError.{VortexError}
+use Rattle.vortex_errors.specs.declared.error.VortexError.TheVariants.{BadOptions}
+use Rattle.vortex_errors.specs.Answers.{Answers}
+use Rattle.vortex_operators.specs.OptionBytes.{operator_bytes, operator_read, between_bytes, between_read}
+use Rattle.vortex_like.specs.OptionBytes.{like_bytes, like_read}
+use Rattle.vortex_meaning.specs.Shipped.{Shipped, Binary, Not, IsNull, IsNotNull, Cast, Between, Like}
+use Rattle.vortex_meaning.specs.Functions.{Function, ours, custom}
+
+-- one byte of Binary, Between and Like; none of the others
+abbrev pub shipped_bytes : Shipped → List ℕ
+shipped_bytes (Binary operator) = operator_bytes operator
+shipped_bytes Not = []
+shipped_bytes IsNull = []
+shipped_bytes IsNotNull = []
+shipped_bytes Cast = []
+shipped_bytes (Between options) = between_bytes options
+shipped_bytes (Like options) = like_bytes options
+
+-- the same function with the options that the bytes are read as; those without options read any bytes
+abbrev pub with_options : Shipped → List ℕ → Option Shipped
+with_options (Binary operator) bytes = option_map Binary (operator_read bytes)
+with_options (Between options) bytes = option_map Between (between_read bytes)
+with_options (Like options) bytes = option_map Like (like_read bytes)
+with_options f bytes = Some f
+
+abbrev pub Written : Type 0
+Written = Option (Vec ℕ Global)
+
+-- these bytes are written
+abbrev pub WritesBytes : List ℕ → Written → Type 0
+WritesBytes bytes written = IsSomeAnd written (λ v. v.items ≡ bytes)
+
+-- the options of a shipped function are
+abbrev pub WritesOptions : Shipped → Written → Type 0
+WritesOptions f = WritesBytes (shipped_bytes f)
+
+-- the same of any function; what a caller's writes stays open
+abbrev pub WritesOptionsOf : {V O : Type 0} → Function V O → Written → Type 0
+WritesOptionsOf (ours s) written = WritesOptions s written
+WritesOptionsOf (custom f o) written = ⊤
+
+-- any options; or E8, or memory ran out
+abbrev pub ReadsOrRefuses : {O : Type 0} → Result O VortexError → Type 0
+ReadsOrRefuses result = Answers result (λ options. ⊤) (λ e. e ≡ BadOptions)
+
+-- the options that the bytes are read as; E8 exactly where there are none. No memory is taken
+abbrev pub ReadsOptions : {O : Type 0} → Option O → Result O VortexError → Type 0
+ReadsOptions found result =
+    MatchResult result (λ o. found ≡ Some o) (λ e. (found ≡ None) × (e ≡ BadOptions))

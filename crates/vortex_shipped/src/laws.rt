@@ -1,0 +1,18 @@
+//! What follows from the bytes of options. These functions do nothing: their contracts are proved.
+ghost use Rattle.std.specs.Prelude.{◌≡◌, Some};
+ghost use Rattle.vortex_meaning.specs.Shipped.{Shipped};
+ghost use Rattle.vortex_shipped.specs.Words.{IsFormat, operator_bytes, operator_read, between_bytes, between_read};
+ghost use Rattle.vortex_shipped.specs.Words.{like_bytes, like_read, shipped_bytes, with_options};
+
+/// The options of Binary, Between and Like are read back from the bytes that they are written as, and are read from these
+/// bytes alone.
+pub fn options_are_read_from_their_bytes_alone()
+    ensures binary { IsFormat operator_bytes operator_read }
+    ensures between { IsFormat between_bytes between_read }
+    ensures like { IsFormat like_bytes like_read }
+{}
+
+/// The options of each shipped function, those without any among them, are read back from the bytes that they are written as.
+pub fn options_are_read_back()
+    ensures { (f : Shipped) → with_options f (shipped_bytes f) ≡ Some f }
+{}
