@@ -60,14 +60,14 @@ macro_rules! with_shipped {
 /// The same for every function, a caller's too.
 macro_rules! with_function {
     ($function:expr, $f:ident, $options:ident => $body:expr) => {
-        with_shipped!($function, $f, $options => $body, custom => {
+        $crate::erased::with_shipped!($function, $f, $options => $body, custom => {
             let $f = custom.vtable();
             let $options = custom.options();
             $body
         })
     };
 }
-pub(crate) use with_function;
+pub(crate) use {with_function, with_shipped};
 
 /// A function with its options: a shipped one, or a caller's of type `C`.
 ///
