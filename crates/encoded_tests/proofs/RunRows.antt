@@ -30,12 +30,19 @@ use Rattle.vortex_operators.specs.declared.operators.CompareOperator.{CompareOpe
 use Rattle.vortex_types.specs.TypeEquality.{alike_types}
 use Rattle.vortex_kernels.specs.Validity.{IsValidity}
 use Rattle.vortex_kernels.proofs.Comparing.{constant_row}
-use Rattle.vortex_kernels.proofs.RowLemmas.{bool_answers, bool_dtype}
+use Rattle.vortex_kernels.proofs.RowLemmas.{bool_answers, bool_dtype, get_or-last, get_or-before}
 use Rattle.vortex_encoded.specs.Encoded.{IsDecoded}
 use Rattle.encoded_tests.specs.RunLength.{run_at, run_column, HasRunRows, IsRunValidity}
 use Rattle.encoded_tests.specs.RunLength.{AreRunInts, is_true, is_i32, are_kept}
 use Rattle.vortex_types.specs.declared.dtype.PType.TheVariants.{I32}
 use Rattle.std.specs.Prelude.{◌||◌, ◌&&◌, is_some, Option, Some, None}
+use Rattle.std.proofs.lemmas.List.{get_or-map}
+use Rattle.std.proofs.Common.{get_or, ◌+◌, ◌++◌, [], ◌∷◌, ◌⊎◌, inl, inr, length-append}
+use Rattle.vortex_kernels.specs.Comparison.{is_settled}
+use Rattle.vortex_kernels.specs.Boolean.{AnswersBoolean, HasBooleanRows, are_bools}
+use Rattle.vortex_operators.specs.Operators.{is_boolean}
+use Rattle.vortex_operators.specs.OperatorValues.{boolean_value, comparison_value, comparison_type}
+use Rattle.vortex_operators.specs.declared.operators.Operator.{Operator}
 
 pub run_within : (starts : List ℕ) (i n : ℕ) → length starts < n → run_at starts i < n
 run_within starts i n h =
@@ -235,3 +242,83 @@ not_refused c s d e alike is (uneven h p) = absurd (h (constant_length s (length
 not_refused c s d e alike is (unlike same open_ h p) =
     let dtype : d.dtype ≡ s.dtype = ap (λ (x : ColumnView). x.dtype) is in
     let yes_ : alike_types c.dtype d.dtype ≡ true = ap (alike_types c.dtype) dtype ∙ alike in cc
+
+pub boolean_of_runs : (op : Operator) (c v other runs r d : ColumnView) (s : ScalarView)
+    (starts : List ℕ) (n : ℕ)
+    → v ≡ c → r ≡ runs → length starts < length c.rows → other ≡ constant_column s (length other.rows)
+    → length (run_column c starts n).rows ≡ length other.rows → is_boolean op ≡ true
+    → are_bools (run_column c starts n) other ≡ true
+    → HasBooleanRows op v (constant_column s (length v.rows)) runs → HasRunRows r starts n d
+    → AnswersBoolean op (run_column c starts n) other d
+boolean_of_runs op c v other runs r d s starts n at from within is lengths boolean bools told h =
+    let rows =
+        rows_of_runs (boolean_value op) (bool_type (is_nullable c.dtype || is_nullable s.dtype)) c
+        other runs d s starts n within is (sym (run_count c starts n) ∙ lengths) (subst (λ (x : ColumnView). HasBooleanRows op x (constant_column s (length x.rows)) runs) at told)
+        (subst (λ (x : ColumnView). HasRunRows x starts n d) from h) in
+    record {
+      operator = boolean;
+      bools = bools;
+      rows = record {
+        dtype =
+            rows.dtype
+            ∙ ap (λ (x : ColumnView). bool_type (is_nullable c.dtype || is_nullable x.dtype)) (sym is);
+        count = rows.count;
+        each = rows.each;
+      };
+    }
+
+pub comparison_of_runs : (op : CompareOperator) (c v other runs r d : ColumnView) (s : ScalarView)
+    (starts : List ℕ) (n : ℕ)
+    → v ≡ c → r ≡ runs → length starts < length c.rows → other ≡ constant_column s (length other.rows)
+    → length (run_column c starts n).rows ≡ length other.rows
+    → alike_types c.dtype other.dtype ≡ true
+    → HasComparisonRows op v (constant_column s (length v.rows)) runs → HasRunRows r starts n d
+    → AnswersCompare op (run_column c starts n) other d
+comparison_of_runs op c v other runs r d s starts n at from within is lengths alike told h =
+    let rows =
+        rows_of_runs (comparison_value op) (comparison_type c.dtype s.dtype) c other runs d s starts
+        n within is (sym (run_count c starts n) ∙ lengths) (subst (λ (x : ColumnView). HasComparisonRows op x (constant_column s (length x.rows)) runs) at told)
+        (subst (λ (x : ColumnView). HasRunRows x starts n d) from h) in
+    record {
+      lengths = lengths;
+      accepted = either_true (is_settled (run_column c starts n) other) (alike_types c.dtype other.dtype) alike;
+      rows = record {
+        dtype = rows.dtype ∙ ap (λ (x : ColumnView). comparison_type c.dtype x.dtype) (sym is);
+        count = rows.count;
+        each = rows.each;
+      };
+    }
+
+-- one integer more
+pub no_ints : (values : List ℤ) (starts : List ℕ) → AreRunInts values starts 0 []
+no_ints values starts = record { count = refl; each = λ i lt. absurd (omega arith) }
+
+pub more_ints : (values : List ℤ) (starts : List ℕ) (n : ℕ) (rows : List ℤ) (z : ℤ)
+    → AreRunInts values starts n rows → z ≡ slice_index_or values (run_at starts n) (pos 0)
+    → AreRunInts values starts (n + 1) (rows ++ z ∷ [])
+more_ints values starts n rows z are is = record {
+  count = length-append rows (z ∷ []) ∙ ap (λ m. m + 1) are.count;
+  each = λ i lt. by i (is_or_less i lt);
+}
+  where
+    is_or_less : (i : ℕ) → i < n + 1 → (i < n) ⊎ (i ≡ n)
+    is_or_less i lt = grind arith
+
+    by : (i : ℕ) → (i < n) ⊎ (i ≡ n)
+        → slice_index_or (rows ++ z ∷ []) i (pos 0) ≡ slice_index_or values (run_at starts i) (pos 0)
+    by i (inl lt) =
+        get_or-before (pos 0) rows z i (omega (arith, are.count, lt)) ∙ are.each i lt
+    by i (inr e) =
+        ap (λ k. slice_index_or (rows ++ z ∷ []) k (pos 0)) (e ∙ sym are.count)
+        ∙ get_or-last (pos 0) rows z ∙ is
+        ∙ ap (λ k. slice_index_or values (run_at starts k) (pos 0)) (sym e)
+
+-- the number of what is read
+pub read_map : {A : Type 0} (of : A → ℤ) (values : List A) (starts : List ℕ) (i k : ℕ) (x : A)
+    → k ≡ run_at starts i → length starts < length values → x ≡ get_or values k x
+    → of x ≡ slice_index_or (map of values) (run_at starts i) (pos 0)
+read_map of values starts i k x e within is =
+    ap of is
+    ∙ sym (get_or-map of values k x (pos 0)
+     (subst (λ (j : ℕ). j < length values) (sym e) (run_within starts i (length values) within)))
+    ∙ ap (λ j. slice_index_or (map of values) j (pos 0)) e

@@ -27,9 +27,8 @@ const NULLABLE: Nullability = Nullability::Nullable;
 
 /// Runs of these values, the second and third beginning at these rows.
 fn runs(alloc: Global, values: Made, starts: &[usize], len: usize) -> Runs {
-    let values = Box::into_inner(values?);
     let starts = starts.to_vec(alloc)?;
-    Ok(Box::new(alloc, RunLength::try_new(values, starts, len)?)?)
+    Ok(Box::new(alloc, RunLength::try_new(values?, starts, len)?)?)
 }
 
 /// An answer, put on the heap.

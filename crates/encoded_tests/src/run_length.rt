@@ -15,11 +15,11 @@ use vortex_kernels::{CompareOperator, Operator, execute_boolean, execute_compare
 /// there are. Its kernels answer beside constants: And and Or beside null, comparisons beside any other value.
 #[derive(Drop)]
 pub struct RunLength {
-    values: Column,
+    values: Box<Column>,
     starts: Vec<usize>,
     len: usize,
-    ghost within: { length starts.items < length values.rows },
-    ghost kept: { are_kept values ≡ true },
+    ghost within: { length starts.items < length values.value.rows },
+    ghost kept: { are_kept values.value ≡ true },
 }
 
 /// Whether a column is of Bool, or of i32 and no constant.
@@ -51,11 +51,15 @@ fn rows_of(
 
 impl RunLength {
     /// E12 for fewer values than runs, and for values that are neither Bool nor i32, or a constant column of the latter.
-    pub fn try_new(values: Column, starts: Vec<usize>, len: usize) -> VortexResult<RunLength> {
+    pub fn try_new(
+        values: Box<Column>,
+        starts: Vec<usize>,
+        len: usize,
+    ) -> VortexResult<RunLength> {
         if starts.len() >= values.len() {
             return Err(VortexError::InvalidColumn);
         }
-        if !is_kept(&values) {
+        if !is_kept(&*values) {
             return Err(VortexError::InvalidColumn);
         }
         Ok(RunLength {
@@ -67,7 +71,7 @@ impl RunLength {
 }
 
 impl EncodedColumn for RunLength {
-    ghost column = { λ a. run_column a.values a.starts.items a.len };
+    ghost column = { λ a. run_column a.values.value a.starts.items a.len };
 
     fn dtype(&self) -> &DType {
         self.values.dtype()
@@ -78,7 +82,7 @@ impl EncodedColumn for RunLength {
     }
 
     fn decode(&self, ctx: &mut ExecutionCtx) -> VortexResult<Column> {
-        rows_of(&self.values, self.starts.as_slice(), self.len, ctx)
+        rows_of(&*self.values, self.starts.as_slice(), self.len, ctx)
     }
 }
 
@@ -101,11 +105,17 @@ fn value_of(column: &Column) -> Option<&Scalar>
 }
 
 /// A scalar beside each run.
-fn beside_runs(values: &Column, scalar: &Scalar, ctx: &mut ExecutionCtx) -> VortexResult<Column>
+fn beside_runs(
+    values: &Column,
+    scalar: &Scalar,
+    ctx: &mut ExecutionCtx,
+) -> VortexResult<Box<Column>>
     ensures { AnswersUnlessMemory result
-        (λ c. c ≡ constant_column scalar.now (length values.now.rows)) }
+        (λ c. c.value ≡ constant_column scalar.now (length values.now.rows)) }
 {
-    Column::constant(ctx.alloc(), scalar.try_clone(ctx.alloc())?, values.len())
+    let alloc = ctx.alloc();
+    let column = Column::constant(alloc, scalar.try_clone(alloc)?, values.len())?;
+    Ok(Box::new(alloc, column)?)
 }
 
 /// And or Or of the value of each run with a scalar.
@@ -114,15 +124,17 @@ fn boolean_runs(
     scalar: &Scalar,
     operator: Operator,
     ctx: &mut ExecutionCtx,
-) -> VortexResult<Column>
+) -> VortexResult<Box<Column>>
     requires operator { is_boolean operator ≡ true }
     requires bool { is_bool_type values.now.dtype ≡ true }
     requires other { is_bool_type scalar.now.dtype ≡ true }
     ensures { AnswersUnlessMemory result
-        (HasBooleanRows operator values.now (constant_column scalar.now (length values.now.rows))) }
+        (λ c. HasBooleanRows operator values.now
+        (constant_column scalar.now (length values.now.rows)) c.value) }
 {
     let beside = beside_runs(values, scalar, ctx)?;
-    execute_boolean(values, &beside, operator, ctx)
+    let runs = execute_boolean(values, &*beside, operator, ctx)?;
+    Ok(Box::new(ctx.alloc(), runs)?)
 }
 
 /// The comparison of the value of each run with a scalar.
@@ -131,14 +143,15 @@ fn compare_runs(
     scalar: &Scalar,
     operator: CompareOperator,
     ctx: &mut ExecutionCtx,
-) -> VortexResult<Column>
+) -> VortexResult<Box<Column>>
     requires { alike_types values.now.dtype scalar.now.dtype ≡ true }
     ensures { AnswersUnlessMemory result
-        (HasComparisonRows operator values.now
-        (constant_column scalar.now (length values.now.rows))) }
+        (λ c. HasComparisonRows operator values.now
+        (constant_column scalar.now (length values.now.rows)) c.value) }
 {
     let beside = beside_runs(values, scalar, ctx)?;
-    execute_compare(values, &beside, operator, ctx)
+    let runs = execute_compare(values, &*beside, operator, ctx)?;
+    Ok(Box::new(ctx.alloc(), runs)?)
 }
 
 impl BooleanKernel for RunLength {
@@ -156,9 +169,9 @@ impl BooleanKernel for RunLength {
         match null_of(rhs) {
             None => Ok(None),
             Some(scalar) => {
-                let runs = boolean_runs(&self.values, scalar, operator, ctx)?;
+                let runs = boolean_runs(&*self.values, scalar, operator, ctx)?;
                 let starts = self.starts.as_slice();
-                Ok(Some(bool_runs(ctx.alloc(), &runs, starts, self.len)?))
+                Ok(Some(bool_runs(ctx.alloc(), &*runs, starts, self.len)?))
             }
         }
     }
@@ -176,9 +189,9 @@ impl CompareKernel for RunLength {
         match value_of(rhs) {
             None => Ok(None),
             Some(scalar) => {
-                let runs = compare_runs(&self.values, scalar, operator, ctx)?;
+                let runs = compare_runs(&*self.values, scalar, operator, ctx)?;
                 let starts = self.starts.as_slice();
-                Ok(Some(bool_runs(ctx.alloc(), &runs, starts, self.len)?))
+                Ok(Some(bool_runs(ctx.alloc(), &*runs, starts, self.len)?))
             }
         }
     }
