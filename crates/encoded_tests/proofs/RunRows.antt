@@ -230,18 +230,10 @@ pub constant_length : (s : ScalarView) (m : ℕ) (d : ColumnView) → d ≡ cons
 constant_length s m d e =
     sym (ap (λ (x : ColumnView). length x.rows) e ∙ length-map-range_with_len (λ i. s.value) 0 m)
 
-pub compared_runs : (op : CompareOperator) (c : ColumnView) (s : ScalarView) (d r : ColumnView)
-    → d ≡ constant_column s (length c.rows) → AnswersCompare op c d r
-    → HasComparisonRows op c (constant_column s (length c.rows)) r
-compared_runs op c s d r e h = subst (λ (x : ColumnView). HasComparisonRows op c x r) e h.rows
-
-pub not_refused : (c : ColumnView) (s : ScalarView) (d : ColumnView) (e : VortexError)
-    → alike_types c.dtype s.dtype ≡ true → d ≡ constant_column s (length c.rows)
-    → RefusesCompare c d e → ⊥
-not_refused c s d e alike is (uneven h p) = absurd (h (constant_length s (length c.rows) d is))
-not_refused c s d e alike is (unlike same open_ h p) =
-    let dtype : d.dtype ≡ s.dtype = ap (λ (x : ColumnView). x.dtype) is in
-    let yes_ : alike_types c.dtype d.dtype ≡ true = ap (alike_types c.dtype) dtype ∙ alike in cc
+pub not_refused : (c d : ColumnView) (e : VortexError) → alike_types c.dtype d.dtype ≡ true
+    → length c.rows ≡ length d.rows → RefusesCompare c d e → ⊥
+not_refused c d e alike lengths (uneven h p) = absurd (h lengths)
+not_refused c d e alike lengths (unlike same settled h p) = cc
 
 pub boolean_of_runs : (op : Operator) (c v other runs r d : ColumnView) (s : ScalarView)
     (starts : List ℕ) (n : ℕ)
@@ -252,9 +244,9 @@ pub boolean_of_runs : (op : Operator) (c v other runs r d : ColumnView) (s : Sca
     → AnswersBoolean op (run_column c starts n) other d
 boolean_of_runs op c v other runs r d s starts n at from within is lengths boolean bools told h =
     let rows =
-        rows_of_runs (boolean_value op) (bool_type (is_nullable c.dtype || is_nullable s.dtype)) c
-        other runs d s starts n within is (sym (run_count c starts n) ∙ lengths) (subst (λ (x : ColumnView). HasBooleanRows op x (constant_column s (length x.rows)) runs) at told)
-        (subst (λ (x : ColumnView). HasRunRows x starts n d) from h) in
+    rows_of_runs (boolean_value op) (bool_type (is_nullable c.dtype || is_nullable s.dtype)) c
+    other runs d s starts n within is (sym (run_count c starts n) ∙ lengths) (subst (λ (x : ColumnView). HasBooleanRows op x (constant_column s (length x.rows)) runs) at told)
+    (subst (λ (x : ColumnView). HasRunRows x starts n d) from h) in
     record {
       operator = boolean;
       bools = bools;
@@ -276,9 +268,9 @@ pub comparison_of_runs : (op : CompareOperator) (c v other runs r d : ColumnView
     → AnswersCompare op (run_column c starts n) other d
 comparison_of_runs op c v other runs r d s starts n at from within is lengths alike told h =
     let rows =
-        rows_of_runs (comparison_value op) (comparison_type c.dtype s.dtype) c other runs d s starts
-        n within is (sym (run_count c starts n) ∙ lengths) (subst (λ (x : ColumnView). HasComparisonRows op x (constant_column s (length x.rows)) runs) at told)
-        (subst (λ (x : ColumnView). HasRunRows x starts n d) from h) in
+    rows_of_runs (comparison_value op) (comparison_type c.dtype s.dtype) c other runs d s starts
+    n within is (sym (run_count c starts n) ∙ lengths) (subst (λ (x : ColumnView). HasComparisonRows op x (constant_column s (length x.rows)) runs) at told)
+    (subst (λ (x : ColumnView). HasRunRows x starts n d) from h) in
     record {
       lengths = lengths;
       accepted = either_true (is_settled (run_column c starts n) other) (alike_types c.dtype other.dtype) alike;
@@ -320,5 +312,5 @@ pub read_map : {A : Type 0} (of : A → ℤ) (values : List A) (starts : List �
 read_map of values starts i k x e within is =
     ap of is
     ∙ sym (get_or-map of values k x (pos 0)
-     (subst (λ (j : ℕ). j < length values) (sym e) (run_within starts i (length values) within)))
+    (subst (λ (j : ℕ). j < length values) (sym e) (run_within starts i (length values) within)))
     ∙ ap (λ j. slice_index_or (map of values) j (pos 0)) e

@@ -143,7 +143,13 @@ fn a_kernel_is_asked_with_the_swapped_comparison(rt: HostRuntime) {
 #[test]
 fn other_operators_and_children_are_not_answered(rt: HostRuntime) {
     let alloc = rt.alloc();
-    let sum = compared(alloc, one_two_three(alloc), Operator::Add, twos(alloc, 3), 1);
+    let sum = compared(
+        alloc,
+        one_two_three(alloc),
+        Operator::Add,
+        twos(alloc, 3),
+        1,
+    );
     assert!(rt; yes(is_none(sum)));
     let third = compared(alloc, one_two_three(alloc), Operator::Lt, twos(alloc, 3), 2);
     assert!(rt; yes(is_none(third)));
@@ -153,7 +159,13 @@ fn other_operators_and_children_are_not_answered(rt: HostRuntime) {
 fn a_null_constant_and_no_rows_are_settled(rt: HostRuntime) {
     let alloc = rt.alloc();
     // neither is asked of the kernel, which answers beside other constants alone
-    let nulls = compared(alloc, one_two_three(alloc), Operator::Lt, null_numbers(alloc), 1);
+    let nulls = compared(
+        alloc,
+        one_two_three(alloc),
+        Operator::Lt,
+        null_numbers(alloc),
+        1,
+    );
     assert!(rt; yes(has_rows(alloc, nulls, NULLABLE, &[NULL, NULL, NULL])));
     let none = runs(alloc, numbers(alloc, &[1i32]), &[], 0);
     let empty = compared(alloc, none, Operator::Lt, numbers::<i32>(alloc, &[]), 1);
@@ -167,12 +179,18 @@ fn truths(alloc: Global) -> Runs {
 
 /// A truth value in each of three rows.
 fn constant_truth(alloc: Global, value: bool, nullability: Nullability) -> Made {
-    kept(alloc, Column::constant(alloc, Scalar::bool(value, nullability), 3))
+    kept(
+        alloc,
+        Column::constant(alloc, Scalar::bool(value, nullability), 3),
+    )
 }
 
 /// A null of Bool in each of three rows.
 fn null_truths(alloc: Global) -> Made {
-    kept(alloc, Column::constant(alloc, Scalar::null(DType::Bool(NULLABLE)), 3))
+    kept(
+        alloc,
+        Column::constant(alloc, Scalar::null(DType::Bool(NULLABLE)), 3),
+    )
 }
 
 #[test]

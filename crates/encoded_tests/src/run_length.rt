@@ -51,11 +51,7 @@ fn rows_of(
 
 impl RunLength {
     /// E12 for fewer values than runs, and for values that are neither Bool nor i32, or a constant column of the latter.
-    pub fn try_new(
-        values: Box<Column>,
-        starts: Vec<usize>,
-        len: usize,
-    ) -> VortexResult<RunLength> {
+    pub fn try_new(values: Box<Column>, starts: Vec<usize>, len: usize) -> VortexResult<RunLength> {
         if starts.len() >= values.len() {
             return Err(VortexError::InvalidColumn);
         }
@@ -137,6 +133,20 @@ fn boolean_runs(
     Ok(Box::new(ctx.alloc(), runs)?)
 }
 
+/// The comparison of columns of one length and like types.
+fn compare_alike(
+    lhs: &Column,
+    rhs: &Column,
+    operator: CompareOperator,
+    ctx: &mut ExecutionCtx,
+) -> VortexResult<Column>
+    requires alike { alike_types lhs.now.dtype rhs.now.dtype ≡ true }
+    requires lengths { length lhs.now.rows ≡ length rhs.now.rows }
+    ensures { AnswersUnlessMemory result (HasComparisonRows operator lhs.now rhs.now) }
+{
+    execute_compare(lhs, rhs, operator, ctx)
+}
+
 /// The comparison of the value of each run with a scalar.
 fn compare_runs(
     values: &Column,
@@ -150,7 +160,7 @@ fn compare_runs(
         (constant_column scalar.now (length values.now.rows)) c.value) }
 {
     let beside = beside_runs(values, scalar, ctx)?;
-    let runs = execute_compare(values, &*beside, operator, ctx)?;
+    let runs = compare_alike(values, &*beside, operator, ctx)?;
     Ok(Box::new(ctx.alloc(), runs)?)
 }
 

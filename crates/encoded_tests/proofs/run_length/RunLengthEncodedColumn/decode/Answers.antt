@@ -16,4 +16,5 @@ returns c =
     subst (λ (x : ColumnView). AnswersUnlessMemory c.rows_of.result (IsDecoded (run_column x starts n)))
     c.deref.ensures
     (AnswersUnlessMemory-weaker c.rows_of.result (HasRunRows v starts n)
-    (IsDecoded (run_column v starts n)) (runs_decoded v starts n) c.rows_of.ensures)
+    (IsDecoded (run_column v starts n)) (runs_decoded v starts n)
+    (rw c.as_slice.ensures.value at c.rows_of.ensures))
