@@ -1,15 +1,14 @@
 -- The rows of runs, and what a kernel says of the value of each run.
-use Rattle.std.proofs.Common.{◌≡◌, ℕ, zero, suc, ◌<◌, ◌≤◌, Bool, true, false, List, length, refl, sym, ap}
+use Rattle.std.proofs.Common.{◌≡◌, ℕ, ◌<◌, Bool, true, false, List, length, refl, sym, ap}
 use Rattle.std.proofs.Common.{subst, ◌∙◌, arith, cond}
 use Rattle.std.specs.Prelude.{not, map, nat_le, ℤ, pos, Result, slice_index_or}
-use Rattle.std.specs.List.{range_with_len}
 use Rattle.std.proofs.lemmas.List.{ext_get_or}
 use Rattle.std.proofs.lemmas.List.FromFn.{get_or-map-range_with_len, length-map-range_with_len}
 use Rattle.std.proofs.lemmas.List.Sums.{count_by-le-length}
 use Rattle.vortex_errors.specs.declared.error.VortexError.{VortexError}
 use Rattle.vortex_errors.specs.declared.error.VortexError.TheVariants.{InvalidColumn}
 use Rattle.vortex_errors.specs.Answers.{AnswersUnlessMemory, AnswersWhere}
-use Rattle.vortex_errors.proofs.Answering.{answers_where, AnswersUnlessMemory-weaker}
+use Rattle.vortex_errors.proofs.Answering.{answers_where}
 use Rattle.vortex_bits.specs.Rows.{AreRows}
 use Rattle.vortex_types.specs.declared.dtype.PType.{PType}
 use Rattle.vortex_types.specs.LogicalTypes.{LogicalType, bool_type, integer_type, is_bool_type}
@@ -28,7 +27,6 @@ use Rattle.vortex_kernels.specs.Rows.{HasRows}
 use Rattle.vortex_kernels.specs.Comparison.{AnswersCompare, RefusesCompare, HasComparisonRows, uneven, unlike}
 use Rattle.vortex_operators.specs.declared.operators.CompareOperator.{CompareOperator}
 use Rattle.vortex_types.specs.TypeEquality.{alike_types}
-use Rattle.vortex_kernels.specs.Validity.{IsValidity}
 use Rattle.vortex_kernels.proofs.Comparing.{constant_row}
 use Rattle.vortex_kernels.proofs.RowLemmas.{bool_answers, bool_dtype, get_or-last, get_or-before}
 use Rattle.vortex_encoded.specs.Encoded.{IsDecoded}

@@ -1,5 +1,4 @@
 use Rattle.std.proofs.Common.{◌∙◌, sym, map}
-use Rattle.std.proofs.lemmas.Grind.{common_steps}
 use Rattle.std.proofs.Math.ListN.{length-map}
 use Rattle.vortex_columns.specs.ValidityView.{validity_of}
 use Rattle.encoded_tests.proofs.RunRows.{int_run_rows}

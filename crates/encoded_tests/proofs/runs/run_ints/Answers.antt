@@ -1,7 +1,7 @@
-use Rattle.std.proofs.Common.{◌≡◌, ℕ, ◌≤◌, ◌+◌, ◌++◌, [], ◌∷◌, List, ℤ, length, sym, ap, ◌∙◌, subst, arith}
-use Rattle.std.specs.Prelude.{map, pos, slice_index_or}
-use Rattle.std.proofs.lemmas.List.{map-append, length-map}
-use Rattle.encoded_tests.specs.RunLength.{AreRunInts, run_at}
+use Rattle.std.proofs.Common.{◌≡◌, ℕ, ◌+◌, [], ◌∷◌, sym, ap, ◌∙◌, subst, arith}
+use Rattle.std.specs.Prelude.{map}
+use Rattle.std.proofs.lemmas.List.{map-append}
+use Rattle.encoded_tests.specs.RunLength.{AreRunInts}
 use Rattle.encoded_tests.proofs.RunRows.{no_ints, more_ints, read_map}
 use Rattle.encoded_tests.proofs.runs.run_ints.Goals as goal
 
