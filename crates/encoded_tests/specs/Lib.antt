@@ -1,0 +1,2 @@
+pub mod RunLength
+pub mod Words
