@@ -1,0 +1,2 @@
+pub mod ViewBytes
+pub mod ValueWords

@@ -1,0 +1,39 @@
+//! Words of bytes, zero past the end.
+ghost use Rattle.std.specs.Prelude.{◌≡◌, ◌≤◌, ◌<◌, ◌+◌, ℕ, length, slice_index, drop};
+ghost use Rattle.std.specs.Int.{w32, w64, from_le_bytes, from_be_bytes};
+ghost use Rattle.vortex_views.specs.ViewBytes.{padded};
+
+/// Byte `at`, or zero where there is none.
+#[inline(always)]
+pub(crate) fn byte_at(bytes: &[u8], at: usize) -> u8
+    ensures { result ≡ slice_index bytes.now at }
+{
+    if at < bytes.len() { bytes[at] } else { 0 }
+}
+
+/// The four bytes from byte `at` on.
+#[inline(always)]
+pub(crate) fn four_at(bytes: &[u8], at: usize) -> [u8; 4]
+    requires { at + 4 ≤ length bytes.now }
+    ensures { result ≡ padded 4 (drop at bytes.now) }
+{
+    [bytes[at], bytes[at + 1], bytes[at + 2], bytes[at + 3]]
+}
+
+/// The eight bytes from byte `at` on.
+#[inline(always)]
+pub(crate) fn eight_at(bytes: &[u8], at: usize) -> [u8; 8]
+    requires { at + 8 ≤ length bytes.now }
+    ensures { result ≡ padded 8 (drop at bytes.now) }
+{
+    [
+        bytes[at],
+        bytes[at + 1],
+        bytes[at + 2],
+        bytes[at + 3],
+        bytes[at + 4],
+        bytes[at + 5],
+        bytes[at + 6],
+        bytes[at + 7],
+    ]
+}
