@@ -15,10 +15,11 @@ padded n value = map (λ i. slice_index value i) (range_with_len 0 n)
 abbrev pub inlined_view : List ℕ → List ℕ
 inlined_view value = to_le_bytes w32 (length value) ++ padded 12 value
 
--- the length, then the first four bytes of a longer value, its buffer's number and its offset there
+-- the length, then the first four bytes of what begins a longer value, its buffer's number and its
+-- offset there
 abbrev pub long_view : ℕ → List ℕ → ℕ → ℕ → List ℕ
-long_view len prefix buffer offset =
-    to_le_bytes w32 len ++ prefix ++ to_le_bytes w32 buffer ++ to_le_bytes w32 offset
+long_view len start buffer offset =
+    to_le_bytes w32 len ++ padded 4 start ++ to_le_bytes w32 buffer ++ to_le_bytes w32 offset
 
 -- the length of the value
 abbrev pub view_len : List ℕ → ℕ

@@ -5,7 +5,7 @@ ghost use Rattle.vortex_views.specs.ViewBytes.{view_bytes, view_len, view_buffer
 ghost use Rattle.vortex_views.specs.ViewBytes.{inlined_view, long_view, padded, IsInlined};
 ghost use Rattle.vortex_views.specs.ValueWords.{head_word, order_prefix_word, order_tail_word};
 
-use crate::words::{eight_at, four_at};
+use crate::words::{eight_at, first_four, four_at, next_eight};
 
 /// The 16 bytes of a view: the length of a value (four bytes, the lowest first), then a value of at most 12 bytes, zero
 /// padded; or a longer value's first four bytes, the number of its buffer and its offset there, four bytes each.
@@ -18,12 +18,50 @@ impl BinaryView {
     /// A value of so many bytes lies in its view.
     pub const MAX_INLINED_SIZE: usize = 12;
 
+    /// The view of a short value, which lies in it.
+    #[inline]
+    pub fn new_inlined(value: &[u8]) -> BinaryView
+        requires { length value.now ≤ 12 }
+        ensures { view_bytes result ≡ inlined_view value.now }
+    {
+        let [l0, l1, l2, l3] = (value.len() as u32).to_le_bytes();
+        let [a, b, c, d] = first_four(value);
+        let [t0, t1, t2, t3, t4, t5, t6, t7] = next_eight(value, 4);
+        BinaryView {
+            bytes: [l0, l1, l2, l3, a, b, c, d, t0, t1, t2, t3, t4, t5, t6, t7],
+        }
+    }
+
+    /// The view of a value of `len` bytes, more than 12, that begins with `prefix` and lies at `offset` of a buffer.
+    #[inline]
+    pub fn new_long(len: u32, prefix: [u8; 4], buffer: u32, offset: u32) -> BinaryView
+        requires { 12 < len }
+        ensures { view_bytes result ≡ long_view len prefix buffer offset }
+    {
+        let [l0, l1, l2, l3] = len.to_le_bytes();
+        let [a, b, c, d] = prefix;
+        let [b0, b1, b2, b3] = buffer.to_le_bytes();
+        let [o0, o1, o2, o3] = offset.to_le_bytes();
+        BinaryView {
+            bytes: [l0, l1, l2, l3, a, b, c, d, b0, b1, b2, b3, o0, o1, o2, o3],
+        }
+    }
+
     /// These bytes, whatever they say.
     #[inline(always)]
     pub fn from_bytes(bytes: [u8; 16]) -> BinaryView
         ensures { view_bytes result ≡ bytes }
     {
         BinaryView { bytes }
+    }
+
+    /// The bytes as they stand.
+    #[inline(always)]
+    pub fn as_bytes(&self) -> &[u8]
+        ensures value { result.now ≡ view_bytes self.now }
+        ensures len { length result.now ≡ 16 }
+    {
+        &self.bytes
     }
 
     /// The length of the value, in bytes.
@@ -105,5 +143,43 @@ impl BinaryView {
         ensures { result ≡ view_offset (view_bytes self.now) }
     {
         u32::from_le_bytes(four_at(&self.bytes, 12))
+    }
+
+    /// The head of the views of a value.
+    #[inline]
+    pub fn head_of(value: &[u8]) -> u64
+        requires { length value.now ≤ 4294967295 }
+        ensures { result ≡ head_word value.now }
+    {
+        let [l0, l1, l2, l3] = (value.len() as u32).to_le_bytes();
+        let [a, b, c, d] = first_four(value);
+        u64::from_le_bytes([l0, l1, l2, l3, a, b, c, d])
+    }
+
+    /// The first four bytes of a value, zero padded.
+    #[inline]
+    pub fn prefix_of(value: &[u8]) -> [u8; 4]
+        requires { length value.now ≤ 4294967295 }
+        ensures { result ≡ padded 4 value.now }
+    {
+        first_four(value)
+    }
+
+    /// The first four bytes of a value, zero padded, the first of them the highest.
+    #[inline]
+    pub fn order_prefix_of(value: &[u8]) -> u32
+        requires { length value.now ≤ 4294967295 }
+        ensures { result ≡ order_prefix_word value.now }
+    {
+        u32::from_be_bytes(first_four(value))
+    }
+
+    /// The next eight bytes of a value, likewise.
+    #[inline]
+    pub fn order_tail_of(value: &[u8]) -> u64
+        requires { length value.now ≤ 4294967295 }
+        ensures { result ≡ order_tail_word value.now }
+    {
+        u64::from_be_bytes(next_eight(value, 4))
     }
 }

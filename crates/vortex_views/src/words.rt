@@ -1,5 +1,5 @@
 //! Words of bytes, zero past the end.
-ghost use Rattle.std.specs.Prelude.{◌≡◌, ◌≤◌, ◌<◌, ◌+◌, ℕ, length, slice_index, drop};
+ghost use Rattle.std.specs.Prelude.{◌≡◌, ◌≤◌, ◌<◌, ◌+◌, ◌^◌, ℕ, length, slice_index, drop};
 ghost use Rattle.std.specs.Int.{w32, w64, from_le_bytes, from_be_bytes};
 ghost use Rattle.vortex_views.specs.ViewBytes.{padded};
 
@@ -36,4 +36,38 @@ pub(crate) fn eight_at(bytes: &[u8], at: usize) -> [u8; 8]
         bytes[at + 6],
         bytes[at + 7],
     ]
+}
+
+/// The first four bytes, zero past the end.
+#[inline]
+pub(crate) fn first_four(bytes: &[u8]) -> [u8; 4]
+    ensures { result ≡ padded 4 bytes.now }
+{
+    if bytes.len() >= 4 {
+        four_at(bytes, 0)
+    } else {
+        [byte_at(bytes, 0), byte_at(bytes, 1), byte_at(bytes, 2), 0]
+    }
+}
+
+/// The eight bytes from byte `at` on, zero past the end.
+#[inline]
+pub(crate) fn next_eight(bytes: &[u8], at: usize) -> [u8; 8]
+    requires { at < 2 ^ 63 }
+    ensures { result ≡ padded 8 (drop at bytes.now) }
+{
+    if bytes.len() >= at + 8 {
+        eight_at(bytes, at)
+    } else {
+        [
+            byte_at(bytes, at),
+            byte_at(bytes, at + 1),
+            byte_at(bytes, at + 2),
+            byte_at(bytes, at + 3),
+            byte_at(bytes, at + 4),
+            byte_at(bytes, at + 5),
+            byte_at(bytes, at + 6),
+            byte_at(bytes, at + 7),
+        ]
+    }
 }

@@ -1,0 +1,4 @@
+pub mod Digits
+pub mod ByteOrder
+pub mod WordOrder
+pub mod Layouts
