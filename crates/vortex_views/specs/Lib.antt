@@ -1,2 +1,4 @@
 pub mod ViewBytes
 pub mod ValueWords
+pub mod Resolved
+pub mod LentValues

@@ -2,7 +2,9 @@
 #![tactic(auto)]
 
 pub mod laws;
+pub mod resolved;
 pub mod view;
 mod words;
 
+pub use resolved::ResolvedViews;
 pub use view::BinaryView;

@@ -1,0 +1,110 @@
+//! Views and the buffers that their long values lie in, lent together.
+ghost use Rattle.std.specs.Prelude.{◌≡◌, ◌<◌, ◌≤◌, ◌+◌, ◌↔◌, [], IsTrue, length, map, slice_index_or};
+ghost use Rattle.std.specs.Prelude.{take, drop};
+ghost use Rattle.vortex_views.specs.ViewBytes.{view_bytes, inlined_value, inlined_view, IsInlined};
+ghost use Rattle.vortex_views.specs.Resolved.{AreViewsIn, IsViewIn, IsViewOf, values_in};
+ghost use Rattle.vortex_views.specs.Resolved.{LiesIn, long_value, value_in};
+
+use crate::laws::equal_words_say_equal_views;
+use crate::view::BinaryView;
+
+/// The values of a list of views, each where it lies. Takes no memory.
+#[derive(Clone, Copy)]
+pub struct ResolvedViews<'a> {
+    views: &'a Vec<BinaryView>,
+    buffers: &'a Vec<Vec<u8>>,
+    ghost fit: { AreViewsIn (map (λ b. b.items) buffers.now.items) views.now.items },
+}
+
+impl<'a> ResolvedViews<'a> {
+    ghost use Rattle.vortex_views.specs.LentValues.{lent_values};
+
+    /// These views over these buffers, in which each of them lies.
+    pub fn new(views: &'a Vec<BinaryView>, buffers: &'a Vec<Vec<u8>>) -> ResolvedViews<'a>
+        requires { AreViewsIn (map (λ b. b.items) buffers.now.items) views.now.items }
+        ensures { lent_values result ≡ values_in (map (λ b. b.items) buffers.now.items) views.now.items }
+    {
+        ResolvedViews { views, buffers }
+    }
+
+    /// How many values there are.
+    #[inline(always)]
+    pub fn len(&self) -> usize
+        ensures { result ≡ length (lent_values self.now) }
+    {
+        self.views.len()
+    }
+
+    /// The view of value `i`.
+    #[inline(always)]
+    pub fn view(&self, i: usize) -> &'a BinaryView
+        requires { i < length (lent_values self.now) }
+        ensures { IsViewOf (slice_index_or (lent_values self.now) i []) (view_bytes result.now) }
+    {
+        &self.views[i]
+    }
+
+    /// The bytes of value `i`, where they lie: in its view or in a buffer.
+    #[inline]
+    pub fn bytes(&self, i: usize) -> &'a [u8]
+        requires { i < length (lent_values self.now) }
+        ensures { result.now ≡ slice_index_or (lent_values self.now) i [] }
+    {
+        value_of(&self.views[i], self.buffers)
+    }
+}
+
+/// So many bytes from byte `at` on.
+#[inline(always)]
+fn part(buffer: &[u8], at: usize, len: usize) -> &[u8]
+    requires { at + len ≤ length buffer.now }
+    ensures { result.now ≡ take len (drop at buffer.now) }
+{
+    &buffer[at..at + len]
+}
+
+/// The bytes of buffer `k`.
+#[inline(always)]
+fn buffer_at<'a>(buffers: &'a Vec<Vec<u8>>, k: usize) -> &'a [u8]
+    requires { k < length (map (λ b. b.items) buffers.now.items) }
+    ensures { result.now ≡ slice_index_or (map (λ b. b.items) buffers.now.items) k [] }
+{
+    buffers[k].as_slice()
+}
+
+/// The bytes that a long view names.
+#[inline(always)]
+fn long_value<'a>(view: &BinaryView, buffers: &'a Vec<Vec<u8>>) -> &'a [u8]
+    requires { LiesIn (map (λ b. b.items) buffers.now.items) (view_bytes view.now) }
+    ensures { result.now ≡ long_value (map (λ b. b.items) buffers.now.items) (view_bytes view.now) }
+{
+    part(
+        buffer_at(buffers, view.buffer() as usize),
+        view.offset() as usize,
+        view.len() as usize,
+    )
+}
+
+/// The bytes of a view.
+#[inline(always)]
+fn value_of<'a>(view: &'a BinaryView, buffers: &'a Vec<Vec<u8>>) -> &'a [u8]
+    requires { IsViewIn (map (λ b. b.items) buffers.now.items) (view_bytes view.now) }
+    ensures { result.now ≡ value_in (map (λ b. b.items) buffers.now.items) (view_bytes view.now) }
+{
+    if view.is_inlined() {
+        part(view.as_bytes(), 4, view.len() as usize)
+    } else {
+        long_value(view, buffers)
+    }
+}
+
+/// Whether a view of a short value is padded with zeros.
+fn is_padded(view: &BinaryView) -> bool
+    requires { IsInlined (view_bytes view.now) }
+    ensures { IsTrue result
+        ↔ (view_bytes view.now ≡ inlined_view (inlined_value (view_bytes view.now))) }
+{
+    let padded = BinaryView::new_inlined(part(view.as_bytes(), 4, view.len() as usize));
+    equal_words_say_equal_views(view, &padded);
+    view.as_u128() == padded.as_u128()
+}
