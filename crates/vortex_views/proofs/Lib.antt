@@ -2,3 +2,4 @@ pub mod Digits
 pub mod ByteOrder
 pub mod WordOrder
 pub mod Layouts
+pub mod Resolving

@@ -6,7 +6,7 @@ use Rattle.std.proofs.lemmas.Cmp.{ranked}
 use Rattle.std.specs.declared.cmp.Ordering.TheVariants.{Equal}
 use Rattle.std.specs.Ordering.{nat_cmp, ordering_then}
 use Rattle.vortex_views.specs.ValueWords.{compare_bytes, order_prefix_word, order_tail_word}
-use Rattle.vortex_views.proofs.Digits.{digits, AreBytes, digits-below, first_decides}
+use Rattle.vortex_views.proofs.Digits.{digits, AreBytes, digits-below, first_decides, cmp_equal}
 use Rattle.vortex_views.proofs.ByteOrder.{by_words_and_lengths, by_words_and_rests, then_then, decided}
 
 pub prefix_digits : (xs : List ℕ) → order_prefix_word xs ≡ digits 4 0 xs
@@ -84,3 +84,47 @@ pub different_prefixes : (xs ys : List ℕ) → AreBytes xs → AreBytes ys
     → compare_bytes xs ys ≡ nat_cmp (order_prefix_word xs) (order_prefix_word ys)
 different_prefixes xs ys h k differ =
     prefix_order xs ys h k (cmp_differ (order_prefix_word xs) (order_prefix_word ys) differ)
+
+decided_by : (o p q : Ordering) → o ≡ Equal → p ≡ ordering_then o q → p ≡ q
+decided_by o p q e f = f ∙ ap (λ r. ordering_then r q) e
+
+tail_by_size : (xs ys : List ℕ) → AreBytes xs → AreBytes ys
+    → (length xs ≤ 12) ⊎ (length ys ≤ 12) ⊎ ((12 ≤ length xs) × (12 ≤ length ys))
+    → nat_cmp (order_prefix_word xs) (order_prefix_word ys) ≡ Equal
+    → (nat_cmp (order_tail_word xs) (order_tail_word ys) ≡ Equal → ⊥)
+    → compare_bytes xs ys ≡ nat_cmp (order_tail_word xs) (order_tail_word ys)
+tail_by_size xs ys h k (inl s) e differ =
+    decided _ _ _ differ (decided_by _ _ _ e (short_order xs ys h k (inl s)))
+tail_by_size xs ys h k (inr (inl s)) e differ =
+    decided _ _ _ differ (decided_by _ _ _ e (short_order xs ys h k (inr s)))
+tail_by_size xs ys h k (inr (inr s)) e differ =
+    decided _ _ _ differ (decided_by _ _ _ e (long_order xs ys h k s.0 s.1))
+
+-- after equal first words different second ones decide
+pub different_tails : (xs ys : List ℕ) → AreBytes xs → AreBytes ys
+    → order_prefix_word xs ≡ order_prefix_word ys
+    → (order_tail_word xs ≡ order_tail_word ys → ⊥)
+    → compare_bytes xs ys ≡ nat_cmp (order_tail_word xs) (order_tail_word ys)
+different_tails xs ys h k e differ =
+    tail_by_size xs ys h k (sizes (length xs) (length ys) (cases_lt (length xs) 12) (cases_lt (length ys) 12))
+        (cmp_equal (order_prefix_word xs) (order_prefix_word ys) e)
+        (cmp_differ (order_tail_word xs) (order_tail_word ys) differ)
+
+-- after equal words the lengths decide of a short value
+pub short_lengths : (xs ys : List ℕ) → AreBytes xs → AreBytes ys
+    → order_prefix_word xs ≡ order_prefix_word ys → order_tail_word xs ≡ order_tail_word ys
+    → (length xs ≤ 12) ⊎ (length ys ≤ 12) → compare_bytes xs ys ≡ nat_cmp (length xs) (length ys)
+short_lengths xs ys h k e f s =
+    decided_by (nat_cmp (order_tail_word xs) (order_tail_word ys)) _ _
+        (cmp_equal (order_tail_word xs) (order_tail_word ys) f)
+        (decided_by (nat_cmp (order_prefix_word xs) (order_prefix_word ys)) _ _
+            (cmp_equal (order_prefix_word xs) (order_prefix_word ys) e) (short_order xs ys h k s))
+
+-- equal words of longer values are of equal bytes
+pub long_starts : (xs ys : List ℕ) → AreBytes xs → AreBytes ys
+    → order_prefix_word xs ≡ order_prefix_word ys → order_tail_word xs ≡ order_tail_word ys
+    → 12 ≤ length xs → 12 ≤ length ys → take 12 xs ≡ take 12 ys
+long_starts xs ys h k e f p q =
+    same_start 12 xs ys h k p q
+        (twelve_digits xs ∙ ap (λ z. z * 256 ^ 8 + order_tail_word xs) e
+            ∙ ap (λ z. order_prefix_word ys * 256 ^ 8 + z) f ∙ sym (twelve_digits ys))

@@ -4,4 +4,4 @@ use Rattle.vortex_views.specs.declared.resolved.ResolvedViews.{ResolvedViews}
 use Rattle.vortex_views.specs.Resolved.{values_in}
 
 abbrev pub lent_values : ResolvedViews → List (List ℕ)
-lent_values r = values_in (map (λ b. b.items) r.buffers.now.items) r.views.now.items
+lent_values r = values_in (map (λ b. b.items) r.buffers.now) r.views.now

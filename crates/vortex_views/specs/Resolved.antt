@@ -15,12 +15,15 @@ abbrev pub value_in : List (List ℕ) → List ℕ → List ℕ
 value_in buffers view =
     cond (nat_le (view_len view) 12) (inlined_value view) (long_value buffers view)
 
--- the buffer is there, the bytes are in it, and the view tells the first four of them
+-- the bytes are in the buffer, and the view tells the first four of them
+pub record LiesInBuffer (buffer : List ℕ) (view : List ℕ) : Type 0 where
+  pub within : view_offset view + view_len view ≤ length buffer
+  pub start : take 4 (drop 4 view) ≡ take 4 (drop (view_offset view) buffer)
+
+-- the buffer is there, and the bytes are in it
 pub record LiesIn (buffers : List (List ℕ)) (view : List ℕ) : Type 0 where
   pub there : view_buffer view < length buffers
-  pub within : view_offset view + view_len view
-      ≤ length (slice_index_or buffers (view_buffer view) [])
-  pub start : take 4 (drop 4 view) ≡ take 4 (long_value buffers view)
+  pub lies : LiesInBuffer (slice_index_or buffers (view_buffer view) []) view
 
 -- a short value is padded with zeros, a longer one lies in a buffer
 pub record IsViewIn (buffers : List (List ℕ)) (view : List ℕ) : Type 0 where

@@ -1,5 +1,5 @@
 //! What the words of values and of views say. These functions do nothing: their contracts are proved.
-ghost use Rattle.std.specs.Prelude.{◌≡◌, ◌≢◌, ◌≤◌, ◌<◌, ◌⊎◌, ◌↔◌, length, drop};
+ghost use Rattle.std.specs.Prelude.{◌≡◌, ◌≢◌, ◌≤◌, ◌<◌, ◌⊎◌, ◌↔◌, length, take, drop};
 ghost use Rattle.std.specs.Int.{w32, w64, w128, from_le_bytes, from_be_bytes};
 ghost use Rattle.std.specs.Ordering.{nat_cmp, ordering_then};
 ghost use Rattle.vortex_views.specs.ViewBytes.{view_bytes, inlined_view, long_view, padded};
@@ -105,4 +105,20 @@ pub fn short_and_long_values_have_different_heads(short: &[u8], long: &[u8])
     requires long { 12 < length long.now }
     requires in_u32 { length long.now ≤ 4294967295 }
     ensures { head_word short.now ≢ head_word long.now }
+{}
+
+/// How the words of two values order them, step by step.
+pub fn words_order_values(a: &[u8], b: &[u8])
+    ensures prefix { order_prefix_word a.now ≢ order_prefix_word b.now
+        → compare_bytes a.now b.now ≡ nat_cmp (order_prefix_word a.now) (order_prefix_word b.now) }
+    ensures tail { order_prefix_word a.now ≡ order_prefix_word b.now
+        → order_tail_word a.now ≢ order_tail_word b.now
+        → compare_bytes a.now b.now ≡ nat_cmp (order_tail_word a.now) (order_tail_word b.now) }
+    ensures short { order_prefix_word a.now ≡ order_prefix_word b.now
+        → order_tail_word a.now ≡ order_tail_word b.now
+        → (length a.now ≤ 12) ⊎ (length b.now ≤ 12)
+        → compare_bytes a.now b.now ≡ nat_cmp (length a.now) (length b.now) }
+    ensures long { order_prefix_word a.now ≡ order_prefix_word b.now
+        → order_tail_word a.now ≡ order_tail_word b.now
+        → 12 ≤ length a.now → 12 ≤ length b.now → take 12 a.now ≡ take 12 b.now }
 {}

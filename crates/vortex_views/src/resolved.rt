@@ -1,28 +1,29 @@
 //! Views and the buffers that their long values lie in, lent together.
 ghost use Rattle.std.specs.Prelude.{◌≡◌, ◌<◌, ◌≤◌, ◌+◌, ◌↔◌, [], IsTrue, length, map, slice_index_or};
 ghost use Rattle.std.specs.Prelude.{take, drop};
-ghost use Rattle.vortex_views.specs.ViewBytes.{view_bytes, inlined_value, inlined_view, IsInlined};
+ghost use Rattle.vortex_views.specs.ViewBytes.{view_bytes, view_len, inlined_value, inlined_view, IsInlined};
 ghost use Rattle.vortex_views.specs.Resolved.{AreViewsIn, IsViewIn, IsViewOf, values_in};
-ghost use Rattle.vortex_views.specs.Resolved.{LiesIn, long_value, value_in};
+ghost use Rattle.vortex_views.specs.Resolved.{LiesIn, LiesInBuffer, long_value, value_in};
 
 use crate::laws::equal_words_say_equal_views;
 use crate::view::BinaryView;
+use crate::words::same_four;
 
 /// The values of a list of views, each where it lies. Takes no memory.
 #[derive(Clone, Copy)]
 pub struct ResolvedViews<'a> {
-    views: &'a Vec<BinaryView>,
-    buffers: &'a Vec<Vec<u8>>,
-    ghost fit: { AreViewsIn (map (λ b. b.items) buffers.now.items) views.now.items },
+    views: &'a [BinaryView],
+    buffers: &'a [Vec<u8>],
+    ghost fit: { AreViewsIn (map (λ b. b.items) buffers.now) views.now },
 }
 
 impl<'a> ResolvedViews<'a> {
     ghost use Rattle.vortex_views.specs.LentValues.{lent_values};
 
     /// These views over these buffers, in which each of them lies.
-    pub fn new(views: &'a Vec<BinaryView>, buffers: &'a Vec<Vec<u8>>) -> ResolvedViews<'a>
-        requires { AreViewsIn (map (λ b. b.items) buffers.now.items) views.now.items }
-        ensures { lent_values result ≡ values_in (map (λ b. b.items) buffers.now.items) views.now.items }
+    pub fn new(views: &'a [BinaryView], buffers: &'a [Vec<u8>]) -> ResolvedViews<'a>
+        requires { AreViewsIn (map (λ b. b.items) buffers.now) views.now }
+        ensures { lent_values result ≡ values_in (map (λ b. b.items) buffers.now) views.now }
     {
         ResolvedViews { views, buffers }
     }
@@ -41,7 +42,7 @@ impl<'a> ResolvedViews<'a> {
         requires { i < length (lent_values self.now) }
         ensures { IsViewOf (slice_index_or (lent_values self.now) i []) (view_bytes result.now) }
     {
-        &self.views[i]
+        view_at(self.views, i)
     }
 
     /// The bytes of value `i`, where they lie: in its view or in a buffer.
@@ -50,8 +51,17 @@ impl<'a> ResolvedViews<'a> {
         requires { i < length (lent_values self.now) }
         ensures { result.now ≡ slice_index_or (lent_values self.now) i [] }
     {
-        value_of(&self.views[i], self.buffers)
+        value_of(view_at(self.views, i), self.buffers)
     }
+}
+
+/// View `i`.
+#[inline(always)]
+fn view_at<'a>(views: &'a [BinaryView], i: usize) -> &'a BinaryView
+    requires { i < length views.now }
+    ensures { result.now ≡ slice_index_or views.now i result.now }
+{
+    &views[i]
 }
 
 /// So many bytes from byte `at` on.
@@ -65,18 +75,18 @@ fn part(buffer: &[u8], at: usize, len: usize) -> &[u8]
 
 /// The bytes of buffer `k`.
 #[inline(always)]
-fn buffer_at<'a>(buffers: &'a Vec<Vec<u8>>, k: usize) -> &'a [u8]
-    requires { k < length (map (λ b. b.items) buffers.now.items) }
-    ensures { result.now ≡ slice_index_or (map (λ b. b.items) buffers.now.items) k [] }
+fn buffer_at<'a>(buffers: &'a [Vec<u8>], k: usize) -> &'a [u8]
+    requires { k < length (map (λ b. b.items) buffers.now) }
+    ensures { result.now ≡ slice_index_or (map (λ b. b.items) buffers.now) k [] }
 {
     buffers[k].as_slice()
 }
 
 /// The bytes that a long view names.
 #[inline(always)]
-fn long_value<'a>(view: &BinaryView, buffers: &'a Vec<Vec<u8>>) -> &'a [u8]
-    requires { LiesIn (map (λ b. b.items) buffers.now.items) (view_bytes view.now) }
-    ensures { result.now ≡ long_value (map (λ b. b.items) buffers.now.items) (view_bytes view.now) }
+fn long_value<'a>(view: &BinaryView, buffers: &'a [Vec<u8>]) -> &'a [u8]
+    requires { LiesIn (map (λ b. b.items) buffers.now) (view_bytes view.now) }
+    ensures { result.now ≡ long_value (map (λ b. b.items) buffers.now) (view_bytes view.now) }
 {
     part(
         buffer_at(buffers, view.buffer() as usize),
@@ -87,9 +97,9 @@ fn long_value<'a>(view: &BinaryView, buffers: &'a Vec<Vec<u8>>) -> &'a [u8]
 
 /// The bytes of a view.
 #[inline(always)]
-fn value_of<'a>(view: &'a BinaryView, buffers: &'a Vec<Vec<u8>>) -> &'a [u8]
-    requires { IsViewIn (map (λ b. b.items) buffers.now.items) (view_bytes view.now) }
-    ensures { result.now ≡ value_in (map (λ b. b.items) buffers.now.items) (view_bytes view.now) }
+fn value_of<'a>(view: &'a BinaryView, buffers: &'a [Vec<u8>]) -> &'a [u8]
+    requires { IsViewIn (map (λ b. b.items) buffers.now) (view_bytes view.now) }
+    ensures { result.now ≡ value_in (map (λ b. b.items) buffers.now) (view_bytes view.now) }
 {
     if view.is_inlined() {
         part(view.as_bytes(), 4, view.len() as usize)
@@ -107,4 +117,52 @@ fn is_padded(view: &BinaryView) -> bool
     let padded = BinaryView::new_inlined(part(view.as_bytes(), 4, view.len() as usize));
     equal_words_say_equal_views(view, &padded);
     view.as_u128() == padded.as_u128()
+}
+
+/// Whether the bytes of a long view lie in this buffer, and begin as the view says.
+fn lies_in_buffer(view: &BinaryView, buffer: &[u8]) -> bool
+    requires { 12 < view_len (view_bytes view.now) }
+    ensures { IsTrue result ↔ LiesInBuffer buffer.now (view_bytes view.now) }
+{
+    let at = view.offset() as usize;
+    let len = view.len() as usize;
+    if at > buffer.len() || len > buffer.len() - at {
+        return false;
+    }
+    same_four(view.as_bytes(), 4, buffer, at)
+}
+
+/// Whether a long view lies among buffers.
+fn lies_in(view: &BinaryView, buffers: &[Vec<u8>]) -> bool
+    requires { 12 < view_len (view_bytes view.now) }
+    ensures { IsTrue result ↔ LiesIn (map (λ b. b.items) buffers.now) (view_bytes view.now) }
+{
+    let number = view.buffer() as usize;
+    if number >= buffers.len() {
+        return false;
+    }
+    lies_in_buffer(view, buffer_at(buffers, number))
+}
+
+/// Whether a view lies among buffers.
+pub fn fits(view: &BinaryView, buffers: &[Vec<u8>]) -> bool
+    ensures { IsTrue result ↔ IsViewIn (map (λ b. b.items) buffers.now) (view_bytes view.now) }
+{
+    if view.is_inlined() {
+        is_padded(view)
+    } else {
+        lies_in(view, buffers)
+    }
+}
+
+/// Whether each view lies among the buffers. Takes no memory.
+pub fn check_views(views: &[BinaryView], buffers: &[Vec<u8>]) -> bool
+    ensures { IsTrue result ↔ AreViewsIn (map (λ b. b.items) buffers.now) views.now }
+{
+    for view in views {
+        if !fits(view, buffers) {
+            return false;
+        }
+    }
+    true
 }

@@ -1,5 +1,6 @@
 //! Words of bytes, zero past the end.
-ghost use Rattle.std.specs.Prelude.{◌≡◌, ◌≤◌, ◌<◌, ◌+◌, ◌^◌, ℕ, length, slice_index, drop};
+ghost use Rattle.std.specs.Prelude.{◌≡◌, ◌≤◌, ◌<◌, ◌+◌, ◌^◌, ◌↔◌, ℕ, IsTrue};
+ghost use Rattle.std.specs.Prelude.{length, slice_index, take, drop};
 ghost use Rattle.std.specs.Int.{w32, w64, from_le_bytes, from_be_bytes};
 ghost use Rattle.vortex_views.specs.ViewBytes.{padded};
 
@@ -70,4 +71,14 @@ pub(crate) fn next_eight(bytes: &[u8], at: usize) -> [u8; 8]
             byte_at(bytes, at + 7),
         ]
     }
+}
+
+/// Whether the four bytes of `a` from byte `i` on are those of `b` from byte `j` on.
+#[inline(always)]
+pub(crate) fn same_four(a: &[u8], i: usize, b: &[u8], j: usize) -> bool
+    requires a_room { i + 4 ≤ length a.now }
+    requires b_room { j + 4 ≤ length b.now }
+    ensures { IsTrue result ↔ (take 4 (drop i a.now) ≡ take 4 (drop j b.now)) }
+{
+    u32::from_be_bytes(four_at(a, i)) == u32::from_be_bytes(four_at(b, j))
 }

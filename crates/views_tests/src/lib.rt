@@ -1,0 +1,7 @@
+//! Tests of views and of their words.
+#![tactic(auto)]
+
+#[cfg(test)]
+mod fitting;
+#[cfg(test)]
+mod layout;
