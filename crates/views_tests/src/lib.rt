@@ -5,3 +5,5 @@
 mod fitting;
 #[cfg(test)]
 mod layout;
+#[cfg(test)]
+mod order;

@@ -1,11 +1,13 @@
 -- A view among buffers is the view of its value.
 use Rattle.std.proofs.Common.{◌≡◌, ℕ, ◌+◌, ◌<◌, ◌≤◌, cond, nat_le, List, [], ◌∷◌, zero, suc, length, map, get_or, take, drop, sym, subst, leb, true, ◌∙◌, ap, arith, inl, inr, ◌⊎◌, refl}
-use Rattle.std.proofs.lemmas.List.{get_or-map, length-map, length-take, length-drop}
+use Rattle.std.proofs.lemmas.List.{get_or-map, length-map, length-take, length-drop, get_or-take}
 use Rattle.std.proofs.lemmas.Bool.{cases_lt, cond-true, cond-false, le-leb, leb-true, false_from_ne_true}
 use Rattle.vortex_views.specs.declared.view.BinaryView.{BinaryView}
 use Rattle.vortex_views.specs.ViewBytes.{view_bytes, view_len, view_offset, view_buffer, inlined_view, inlined_value}
 use Rattle.vortex_views.specs.Resolved.{AreViewsIn, IsViewIn, IsViewOf, LiesIn, values_in, value_in, long_value}
-use Rattle.vortex_views.proofs.Layouts.{short_len}
+use Rattle.vortex_views.proofs.Layouts.{short_len, short_tail}
+use Rattle.vortex_views.specs.ValueWords.{order_prefix_word, order_tail_word}
+use Rattle.std.specs.Int.{w32, w64, from_be_bytes}
 
 pub view_at : (bufs : List (List ℕ)) (views : List BinaryView) (i : ℕ) (v : BinaryView) → AreViewsIn bufs views
     → i < length (values_in bufs views) → v ≡ get_or views i v → IsViewIn bufs (view_bytes v)
@@ -86,3 +88,28 @@ pub misfit : (bufs : List (List ℕ)) (views : List BinaryView) (i : ℕ) (d : B
     → (IsViewIn bufs (view_bytes (get_or views i d)) → ⊥) → AreViewsIn bufs views → ⊥
 misfit bufs views i d q bad all =
     bad (subst (IsViewIn bufs) (get_or-map view_bytes views i d [] q) (all i q))
+
+first_at : (i : ℕ) (v w : List ℕ) → i < 4 → take 4 v ≡ take 4 w → get_or v i 0 ≡ get_or w i 0
+first_at i v w h e =
+    sym (get_or-take 4 v i 0 h) ∙ ap (λ z. get_or z i 0) e ∙ get_or-take 4 w i 0 h
+
+same_prefix : (v w : List ℕ) → take 4 v ≡ take 4 w → from_be_bytes w32 v ≡ order_prefix_word w
+same_prefix v w e =
+    omega (arith, first_at 0 v w (omega arith) e, first_at 1 v w (omega arith) e, first_at 2 v w (omega arith) e,
+        first_at 3 v w (omega arith) e)
+
+prefix_by : (value v : List ℕ) → IsViewOf value v → (12 < length value) ⊎ (length value ≤ 12)
+    → from_be_bytes w32 (drop 4 v) ≡ order_prefix_word value
+prefix_by value v h (inl l) = same_prefix (drop 4 v) value (h.start l)
+prefix_by value v h (inr s) = ap (λ z. from_be_bytes w32 (drop 4 z)) (h.inlined s)
+
+-- a view has the first word of its value
+pub prefix_of_view : (value v : List ℕ) → IsViewOf value v → from_be_bytes w32 (drop 4 v) ≡ order_prefix_word value
+prefix_of_view value v h = prefix_by value v h (cases_lt 12 (length value))
+
+-- and the second, of a short one
+pub tail_of_view : (value v : List ℕ) → IsViewOf value v → view_len v ≤ 12
+    → from_be_bytes w64 (drop 8 v) ≡ order_tail_word value
+tail_of_view value v h s =
+    let short : length value ≤ 12 = omega (arith, h.len) in
+    ap (λ z. from_be_bytes w64 (drop 8 z)) (h.inlined short) ∙ short_tail value

@@ -1,13 +1,14 @@
 -- The order of values by their words.
-use Rattle.std.proofs.Common.{◌≡◌, ℕ, ◌+◌, ◌*◌, ◌^◌, ◌<◌, ◌≤◌, List, length, drop, sym, ◌∙◌, ap, arith, inl, inr, ◌⊎◌}
+use Rattle.std.proofs.Common.{take, Ordering, ◌≡◌, ℕ, ◌+◌, ◌*◌, ◌^◌, ◌<◌, ◌≤◌, List, length, drop, sym, ◌∙◌, ap, arith, inl, inr, ◌⊎◌}
 use Rattle.std.proofs.lemmas.List.{get_or-drop}
 use Rattle.std.proofs.lemmas.Bool.{cases_lt}
 use Rattle.std.proofs.lemmas.Cmp.{ranked}
+use Rattle.std.proofs.lemmas.Map.Lookups.{exact_bytes}
 use Rattle.std.specs.declared.cmp.Ordering.TheVariants.{Equal}
 use Rattle.std.specs.Ordering.{nat_cmp, ordering_then}
 use Rattle.vortex_views.specs.ValueWords.{compare_bytes, order_prefix_word, order_tail_word}
 use Rattle.vortex_views.proofs.Digits.{digits, AreBytes, digits-below, first_decides, cmp_equal}
-use Rattle.vortex_views.proofs.ByteOrder.{by_words_and_lengths, by_words_and_rests, then_then, decided}
+use Rattle.vortex_views.proofs.ByteOrder.{by_words_and_lengths, by_words_and_rests, then_then, decided, same_start}
 
 pub prefix_digits : (xs : List ℕ) → order_prefix_word xs ≡ digits 4 0 xs
 prefix_digits xs = omega arith
@@ -128,3 +129,14 @@ long_starts xs ys h k e f p q =
     same_start 12 xs ys h k p q
         (twelve_digits xs ∙ ap (λ z. z * 256 ^ 8 + order_tail_word xs) e
             ∙ ap (λ z. order_prefix_word ys * 256 ^ 8 + z) f ∙ sym (twelve_digits ys))
+
+-- equal lengths and words of short values are of equal values
+pub short_equal : (xs ys : List ℕ) → AreBytes xs → AreBytes ys → length xs ≡ length ys → length xs ≤ 12
+    → order_prefix_word xs ≡ order_prefix_word ys → order_tail_word xs ≡ order_tail_word ys → xs ≡ ys
+short_equal xs ys h k l s e f =
+    exact_bytes xs ys (short_lengths xs ys h k e f (inl s) ∙ cmp_equal (length xs) (length ys) l)
+
+pub long_alike : (xs ys : List ℕ) → AreBytes xs → AreBytes ys → 4 ≤ length xs → 4 ≤ length ys
+    → order_prefix_word xs ≡ order_prefix_word ys → take 4 xs ≡ take 4 ys
+long_alike xs ys h k p q e =
+    same_start 4 xs ys h k p q (sym (prefix_digits xs) ∙ e ∙ prefix_digits ys)

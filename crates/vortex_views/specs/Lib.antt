@@ -2,3 +2,4 @@ pub mod ViewBytes
 pub mod ValueWords
 pub mod Resolved
 pub mod LentValues
+pub mod LentValue

@@ -122,3 +122,12 @@ pub fn words_order_values(a: &[u8], b: &[u8])
         → order_tail_word a.now ≡ order_tail_word b.now
         → 12 ≤ length a.now → 12 ≤ length b.now → take 12 a.now ≡ take 12 b.now }
 {}
+
+/// How the words of two values tell that they are equal, or begin alike.
+pub fn words_tell_equal_values(a: &[u8], b: &[u8])
+    ensures short { length a.now ≡ length b.now → length a.now ≤ 12
+        → order_prefix_word a.now ≡ order_prefix_word b.now
+        → order_tail_word a.now ≡ order_tail_word b.now → a.now ≡ b.now }
+    ensures long { 4 ≤ length a.now → 4 ≤ length b.now
+        → order_prefix_word a.now ≡ order_prefix_word b.now → take 4 a.now ≡ take 4 b.now }
+{}

@@ -5,6 +5,7 @@ ghost use Rattle.vortex_views.specs.ViewBytes.{view_bytes, view_len, inlined_val
 ghost use Rattle.vortex_views.specs.Resolved.{AreViewsIn, IsViewIn, IsViewOf, values_in};
 ghost use Rattle.vortex_views.specs.Resolved.{LiesIn, LiesInBuffer, long_value, value_in};
 
+use crate::ordered::Row;
 use crate::laws::equal_words_say_equal_views;
 use crate::view::BinaryView;
 use crate::words::same_four;
@@ -19,6 +20,7 @@ pub struct ResolvedViews<'a> {
 
 impl<'a> ResolvedViews<'a> {
     ghost use Rattle.vortex_views.specs.LentValues.{lent_values};
+    ghost use Rattle.vortex_views.specs.LentValue.{row_value};
 
     /// These views over these buffers, in which each of them lies.
     pub fn new(views: &'a [BinaryView], buffers: &'a [Vec<u8>]) -> ResolvedViews<'a>
@@ -43,6 +45,15 @@ impl<'a> ResolvedViews<'a> {
         ensures { IsViewOf (slice_index_or (lent_values self.now) i []) (view_bytes result.now) }
     {
         view_at(self.views, i)
+    }
+
+    /// Value `i`, with its words.
+    #[inline(always)]
+    pub fn row(&self, i: usize) -> Row<'a>
+        requires { i < length (lent_values self.now) }
+        ensures { row_value result ≡ slice_index_or (lent_values self.now) i [] }
+    {
+        Row::new(view_at(self.views, i), self.buffers)
     }
 
     /// The bytes of value `i`, where they lie: in its view or in a buffer.
@@ -97,7 +108,7 @@ fn long_value<'a>(view: &BinaryView, buffers: &'a [Vec<u8>]) -> &'a [u8]
 
 /// The bytes of a view.
 #[inline(always)]
-fn value_of<'a>(view: &'a BinaryView, buffers: &'a [Vec<u8>]) -> &'a [u8]
+pub(crate) fn value_of<'a>(view: &'a BinaryView, buffers: &'a [Vec<u8>]) -> &'a [u8]
     requires { IsViewIn (map (λ b. b.items) buffers.now) (view_bytes view.now) }
     ensures { result.now ≡ value_in (map (λ b. b.items) buffers.now) (view_bytes view.now) }
 {

@@ -4,7 +4,7 @@ use Rattle.std.specs.Int.{w64, from_be_bytes}
 use Rattle.vortex_views.specs.ViewBytes.{padded}
 use Rattle.vortex_views.proofs.Digits.{are_bytes}
 use Rattle.vortex_views.proofs.ByteOrder.{eight_more, all_same}
-use Rattle.vortex_views.proofs.compare.equal_after.Goals as goal
+use Rattle.vortex_views.proofs.byte_words.equal_after.Goals as goal
 
 pub loop-at-preserved : goal.loop-at-preserved
 loop-at-preserved c = record {

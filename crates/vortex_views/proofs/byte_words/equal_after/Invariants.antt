@@ -1,5 +1,5 @@
 use Rattle.std.proofs.Common.{◌≡◌, ◌≤◌, ◌-◌, ◌+◌, length, take}
-use Rattle.vortex_views.proofs.compare.equal_after.Given as goal
+use Rattle.vortex_views.proofs.byte_words.equal_after.Given as goal
 
 abbrev pub invariant-loop-at : goal.invariant-loop-at
 invariant-loop-at l = record { within : l.at ≤ length l.a; alike : take l.at l.a ≡ take l.at l.b }

@@ -1,5 +1,5 @@
 use Rattle.std.proofs.Common.{◌≡◌, ◌≤◌, ◌-◌, ◌+◌, length, take}
-use Rattle.vortex_views.proofs.compare.compare_after.Given as goal
+use Rattle.vortex_views.proofs.byte_words.compare_after.Given as goal
 
 abbrev pub invariant-loop-at : goal.invariant-loop-at
 invariant-loop-at l = record { a_within : l.at ≤ length l.a; b_within : l.at ≤ length l.b; alike : take l.at l.a ≡ take l.at l.b }

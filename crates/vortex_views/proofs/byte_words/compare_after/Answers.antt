@@ -3,7 +3,7 @@ use Rattle.std.specs.Int.{w64, from_be_bytes}
 use Rattle.vortex_views.specs.ViewBytes.{padded}
 use Rattle.vortex_views.proofs.Digits.{are_bytes}
 use Rattle.vortex_views.proofs.ByteOrder.{eight_more, shorter_start, word_answer, lengths_decide, shorter_ends}
-use Rattle.vortex_views.proofs.compare.compare_after.Goals as goal
+use Rattle.vortex_views.proofs.byte_words.compare_after.Goals as goal
 
 pub loop-at-preserved : goal.loop-at-preserved
 loop-at-preserved c = record {
