@@ -38,9 +38,11 @@ fn lent_above(alloc: Global, below: &[u8]) -> VortexResult<bool> {
     }
     let lent = ResolvedViews::new(&views, &buffers);
     let row = lent.row(0);
-    Ok(compare(&ConstantBytes::new(below), &row) == Ordering::Less
-        && equal(&row, &ConstantBytes::new(b"hello, world!"))
-        && lent.bytes(0).len() == 13)
+    Ok(
+        compare(&ConstantBytes::new(below), &row) == Ordering::Less
+            && equal(&row, &ConstantBytes::new(b"hello, world!"))
+            && lent.bytes(0).len() == 13,
+    )
 }
 
 fn says(answer: VortexResult<bool>) -> bool {

@@ -142,11 +142,12 @@ pub tells_four : (i j : ℕ) (xs ys : List ℕ) (a b : ℕ) → AreBytes xs → 
     → i + 4 ≤ length xs → j + 4 ≤ length ys
     → a ≡ from_be_bytes w32 (padded 4 (drop i xs)) → b ≡ from_be_bytes w32 (padded 4 (drop j ys))
     → (a ≡ b → take 4 (drop i xs) ≡ take 4 (drop j ys)) × (take 4 (drop i xs) ≡ take 4 (drop j ys) → a ≡ b)
-tells_four i j xs ys a b h k p q d e =
-    ( (λ s. same_bytes_at 4 i j xs ys h k p q
-        (sym (four_digits (drop i xs)) ∙ sym d ∙ s ∙ e ∙ four_digits (drop j ys)))
-    , (λ s. d ∙ four_digits (drop i xs) ∙ same_words 4 (drop i xs) (drop j ys) s
-        ∙ sym (four_digits (drop j ys)) ∙ sym e) )
+tells_four i j xs ys a b h k p q d e = (
+  (λ s. same_bytes_at 4 i j xs ys h k p q
+      (sym (four_digits (drop i xs)) ∙ sym d ∙ s ∙ e ∙ four_digits (drop j ys))),
+  (λ s. d ∙ four_digits (drop i xs) ∙ same_words 4 (drop i xs) (drop j ys) s
+      ∙ sym (four_digits (drop j ys)) ∙ sym e),
+)
 
 eight_digits : (xs : List ℕ) → from_be_bytes w64 (padded 8 xs) ≡ digits 8 0 xs
 eight_digits xs = omega arith
@@ -160,7 +161,7 @@ eight_more n xs ys h k p q same e =
     take-add n 8 xs
     ∙ ap (λ zs. zs ++ take 8 (drop n xs)) same
     ∙ ap (λ zs. take n ys ++ zs) (same_bytes_at 8 n n xs ys h k p q
-        (sym (eight_digits (drop n xs)) ∙ e ∙ eight_digits (drop n ys)))
+    (sym (eight_digits (drop n xs)) ∙ e ∙ eight_digits (drop n ys)))
     ∙ sym (take-add n 8 ys)
 
 -- a beginning of an equal beginning
@@ -181,19 +182,19 @@ word_first : (xs ys : List ℕ) → AreBytes xs → AreBytes ys → 8 ≤ length
     → compare_bytes xs ys ≡ nat_cmp (from_be_bytes w64 (padded 8 xs)) (from_be_bytes w64 (padded 8 ys))
 word_first xs ys h k p q differ =
     decided (nat_cmp (from_be_bytes w64 (padded 8 xs)) (from_be_bytes w64 (padded 8 ys))) (compare_bytes xs ys)
-        (compare_bytes (drop 8 xs) (drop 8 ys))
-        (λ e. differ (ranked (from_be_bytes w64 (padded 8 xs)) (from_be_bytes w64 (padded 8 ys)) Equal (sym e)))
-        (by_words_and_rests 8 xs ys h k p q
-        ∙ ap (λ d. ordering_then (nat_cmp d (digits 8 0 ys)) (compare_bytes (drop 8 xs) (drop 8 ys))) (sym (eight_digits xs))
-        ∙ ap (λ d. ordering_then (nat_cmp (from_be_bytes w64 (padded 8 xs)) d) (compare_bytes (drop 8 xs) (drop 8 ys)))
-            (sym (eight_digits ys)))
+    (compare_bytes (drop 8 xs) (drop 8 ys))
+    (λ e. differ (ranked (from_be_bytes w64 (padded 8 xs)) (from_be_bytes w64 (padded 8 ys)) Equal (sym e)))
+    (by_words_and_rests 8 xs ys h k p q
+    ∙ ap (λ d. ordering_then (nat_cmp d (digits 8 0 ys)) (compare_bytes (drop 8 xs) (drop 8 ys))) (sym (eight_digits xs))
+    ∙ ap (λ d. ordering_then (nat_cmp (from_be_bytes w64 (padded 8 xs)) d) (compare_bytes (drop 8 xs) (drop 8 ys)))
+    (sym (eight_digits ys)))
 
 -- different words decide
 pub word_decides : (n : ℕ) (xs ys : List ℕ) → AreBytes xs → AreBytes ys
     → n + 8 ≤ length xs → n + 8 ≤ length ys → take n xs ≡ take n ys
     → (from_be_bytes w64 (padded 8 (drop n xs)) ≡ from_be_bytes w64 (padded 8 (drop n ys)) → ⊥)
     → compare_bytes xs ys
-        ≡ nat_cmp (from_be_bytes w64 (padded 8 (drop n xs))) (from_be_bytes w64 (padded 8 (drop n ys)))
+    ≡ nat_cmp (from_be_bytes w64 (padded 8 (drop n xs))) (from_be_bytes w64 (padded 8 (drop n ys)))
 word_decides n xs ys h k p q same differ =
     after_same_start n xs ys (omega arith) (omega arith) same
     ∙ word_first (drop n xs) (drop n ys) (later n xs h) (later n ys k) (room n 8 xs p) (room n 8 ys q) differ

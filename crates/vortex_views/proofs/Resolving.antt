@@ -14,7 +14,7 @@ pub view_at : (bufs : List (List ℕ)) (views : List BinaryView) (i : ℕ) (v : 
 view_at bufs views i v h p e =
     let q : i < length views = omega (arith, length-map views (λ w. value_in bufs (view_bytes w))) in
     let same : get_or (map view_bytes views) i [] ≡ view_bytes v =
-        get_or-map view_bytes views i v [] q ∙ ap view_bytes (sym e) in
+    get_or-map view_bytes views i v [] q ∙ ap view_bytes (sym e) in
     subst (IsViewIn bufs) same (h i q)
 
 pub value_at : (bufs : List (List ℕ)) (views : List BinaryView) (i : ℕ) (v : BinaryView)
@@ -35,7 +35,7 @@ above m n h e = absurd (omega (arith, leb-true n m e))
 pub long_in : (bufs : List (List ℕ)) (v : List ℕ) → 12 < view_len v → value_in bufs v ≡ long_value bufs v
 long_in bufs v h =
     cond-false (nat_le (view_len v) 12) (inlined_value v) (long_value bufs v)
-        (false_from_ne_true (nat_le (view_len v) 12) (above 12 (view_len v) h))
+    (false_from_ne_true (nat_le (view_len v) 12) (above 12 (view_len v) h))
 
 short_length : (n : ℕ) (xs : List ℕ) → n ≤ 12 → length (take n xs) ≤ 12
 short_length n xs h = omega (arith, length-take n xs)
@@ -46,7 +46,7 @@ view_of_short v h e =
     record {
       len = ap view_len e ∙ short_len (inlined_value v) short;
       inlined = λ _. e;
-      start = λ q. absurd (omega (arith, short, q))
+      start = λ q. absurd (omega (arith, short, q));
     }
 
 long_length : (n o : ℕ) (xs : List ℕ) → o + n ≤ length xs → n ≡ length (take n (drop o xs))
@@ -64,12 +64,12 @@ four_of_many n xs h = absurd (omega arith)
 view_of_long : (bufs : List (List ℕ)) (v : List ℕ) → 12 < view_len v → LiesIn bufs v → IsViewOf (long_value bufs v) v
 view_of_long bufs v h l =
     let same : view_len v ≡ length (long_value bufs v) =
-        long_length (view_len v) (view_offset v) (get_or bufs (view_buffer v) []) l.lies.within in
+    long_length (view_len v) (view_offset v) (get_or bufs (view_buffer v) []) l.lies.within in
     record {
       len = same;
       inlined = λ q. absurd (omega (arith, same, q, h));
       start = λ _. l.lies.start
-        ∙ sym (four_of_many (view_len v) (drop (view_offset v) (get_or bufs (view_buffer v) [])) (omega arith))
+          ∙ sym (four_of_many (view_len v) (drop (view_offset v) (get_or bufs (view_buffer v) [])) (omega arith));
     }
 
 by_length : (bufs : List (List ℕ)) (v : List ℕ) → IsViewIn bufs v → (12 < view_len v) ⊎ (view_len v ≤ 12)
@@ -95,8 +95,13 @@ first_at i v w h e =
 
 same_prefix : (v w : List ℕ) → take 4 v ≡ take 4 w → from_be_bytes w32 v ≡ order_prefix_word w
 same_prefix v w e =
-    omega (arith, first_at 0 v w (omega arith) e, first_at 1 v w (omega arith) e, first_at 2 v w (omega arith) e,
-        first_at 3 v w (omega arith) e)
+    omega (
+      arith,
+      first_at 0 v w (omega arith) e,
+      first_at 1 v w (omega arith) e,
+      first_at 2 v w (omega arith) e,
+      first_at 3 v w (omega arith) e,
+    )
 
 prefix_by : (value v : List ℕ) → IsViewOf value v → (12 < length value) ⊎ (length value ≤ 12)
     → from_be_bytes w32 (drop 4 v) ≡ order_prefix_word value

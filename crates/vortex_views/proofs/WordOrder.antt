@@ -108,8 +108,8 @@ pub different_tails : (xs ys : List ℕ) → AreBytes xs → AreBytes ys
     → compare_bytes xs ys ≡ nat_cmp (order_tail_word xs) (order_tail_word ys)
 different_tails xs ys h k e differ =
     tail_by_size xs ys h k (sizes (length xs) (length ys) (cases_lt (length xs) 12) (cases_lt (length ys) 12))
-        (cmp_equal (order_prefix_word xs) (order_prefix_word ys) e)
-        (cmp_differ (order_tail_word xs) (order_tail_word ys) differ)
+    (cmp_equal (order_prefix_word xs) (order_prefix_word ys) e)
+    (cmp_differ (order_tail_word xs) (order_tail_word ys) differ)
 
 -- after equal words the lengths decide of a short value
 pub short_lengths : (xs ys : List ℕ) → AreBytes xs → AreBytes ys
@@ -117,9 +117,9 @@ pub short_lengths : (xs ys : List ℕ) → AreBytes xs → AreBytes ys
     → (length xs ≤ 12) ⊎ (length ys ≤ 12) → compare_bytes xs ys ≡ nat_cmp (length xs) (length ys)
 short_lengths xs ys h k e f s =
     decided_by (nat_cmp (order_tail_word xs) (order_tail_word ys)) _ _
-        (cmp_equal (order_tail_word xs) (order_tail_word ys) f)
-        (decided_by (nat_cmp (order_prefix_word xs) (order_prefix_word ys)) _ _
-            (cmp_equal (order_prefix_word xs) (order_prefix_word ys) e) (short_order xs ys h k s))
+    (cmp_equal (order_tail_word xs) (order_tail_word ys) f)
+    (decided_by (nat_cmp (order_prefix_word xs) (order_prefix_word ys)) _ _
+    (cmp_equal (order_prefix_word xs) (order_prefix_word ys) e) (short_order xs ys h k s))
 
 -- equal words of longer values are of equal bytes
 pub long_starts : (xs ys : List ℕ) → AreBytes xs → AreBytes ys
@@ -127,8 +127,8 @@ pub long_starts : (xs ys : List ℕ) → AreBytes xs → AreBytes ys
     → 12 ≤ length xs → 12 ≤ length ys → take 12 xs ≡ take 12 ys
 long_starts xs ys h k e f p q =
     same_start 12 xs ys h k p q
-        (twelve_digits xs ∙ ap (λ z. z * 256 ^ 8 + order_tail_word xs) e
-            ∙ ap (λ z. order_prefix_word ys * 256 ^ 8 + z) f ∙ sym (twelve_digits ys))
+    (twelve_digits xs ∙ ap (λ z. z * 256 ^ 8 + order_tail_word xs) e
+    ∙ ap (λ z. order_prefix_word ys * 256 ^ 8 + z) f ∙ sym (twelve_digits ys))
 
 -- equal lengths and words of short values are of equal values
 pub short_equal : (xs ys : List ℕ) → AreBytes xs → AreBytes ys → length xs ≡ length ys → length xs ≤ 12

@@ -5,8 +5,8 @@ ghost use Rattle.vortex_views.specs.ViewBytes.{view_bytes, view_len, inlined_val
 ghost use Rattle.vortex_views.specs.Resolved.{AreViewsIn, IsViewIn, IsViewOf, values_in};
 ghost use Rattle.vortex_views.specs.Resolved.{LiesIn, LiesInBuffer, long_value, value_in};
 
-use crate::ordered::Row;
 use crate::laws::equal_words_say_equal_views;
+use crate::ordered::Row;
 use crate::view::BinaryView;
 use crate::words::same_four;
 
