@@ -1,0 +1,42 @@
+//! Which views lie among which buffers.
+
+use std::alloc::Global;
+use vortex_errors::VortexResult;
+use vortex_views::{BinaryView, check_views};
+
+/// Whether a view lies in the one buffer of thirteen bytes, `hello, world!`.
+fn lies(alloc: Global, view: BinaryView) -> VortexResult<bool> {
+    let mut buffers = Vec::new(alloc);
+    buffers.push(b"hello, world!".to_vec(alloc)?)?;
+    Ok(check_views(&[view], &buffers))
+}
+
+fn says(answer: VortexResult<bool>, wanted: bool) -> bool {
+    match answer {
+        Ok(answer) => answer == wanted,
+        Err(_) => false,
+    }
+}
+
+/// `hello`, with this as its last byte of padding.
+fn hello(padding: u8) -> BinaryView {
+    BinaryView::from_bytes([
+        5, 0, 0, 0, b'h', b'e', b'l', b'l', b'o', 0, 0, 0, 0, 0, 0, padding,
+    ])
+}
+
+#[test]
+fn padding_is_zero(rt: HostRuntime) {
+    let alloc = rt.alloc();
+    assert!(rt; says(lies(alloc, hello(0)), true));
+    assert!(rt; says(lies(alloc, hello(1)), false));
+}
+
+#[test]
+fn long_views_lie_in_buffers(rt: HostRuntime) {
+    let alloc = rt.alloc();
+    assert!(rt; says(lies(alloc, BinaryView::new_long(13, *b"hell", 0, 0)), true));
+    assert!(rt; says(lies(alloc, BinaryView::new_long(13, *b"hell", 1, 0)), false));
+    assert!(rt; says(lies(alloc, BinaryView::new_long(13, *b"ello", 0, 1)), false));
+    assert!(rt; says(lies(alloc, BinaryView::new_long(13, *b"help", 0, 0)), false));
+}

@@ -1,0 +1,9 @@
+//! Tests of views and of their words.
+#![tactic(auto)]
+
+#[cfg(test)]
+mod fitting;
+#[cfg(test)]
+mod layout;
+#[cfg(test)]
+mod order;

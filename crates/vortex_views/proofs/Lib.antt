@@ -1,0 +1,5 @@
+pub mod Digits
+pub mod ByteOrder
+pub mod WordOrder
+pub mod Layouts
+pub mod Resolving

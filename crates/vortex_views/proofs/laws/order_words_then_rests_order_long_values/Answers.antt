@@ -1,0 +1,8 @@
+use Rattle.vortex_views.proofs.Digits.{are_bytes}
+use Rattle.vortex_views.proofs.WordOrder.{long_order}
+use Rattle.vortex_views.proofs.laws.order_words_then_rests_order_long_values.Goals as goal
+
+pub returns : goal.returns
+returns c =
+    long_order c.args.a.now c.args.b.now (are_bytes _ c.type_inv.a) (are_bytes _ c.type_inv.b)
+    c.requires.a_long c.requires.b_long

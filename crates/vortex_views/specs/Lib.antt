@@ -1,0 +1,5 @@
+pub mod ViewBytes
+pub mod ValueWords
+pub mod Resolved
+pub mod LentValues
+pub mod LentValue

@@ -1,0 +1,13 @@
+//! Arrow's and Umbra's 16-byte views of texts and byte strings.
+#![tactic(auto)]
+
+mod byte_words;
+pub mod laws;
+pub mod ordered;
+pub mod resolved;
+pub mod view;
+mod words;
+
+pub use ordered::{ConstantBytes, Row, WordsOfBytes, compare, equal};
+pub use resolved::{ResolvedViews, check_views, fits};
+pub use view::BinaryView;
