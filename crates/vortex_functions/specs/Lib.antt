@@ -6,4 +6,5 @@ pub mod Binding
 pub mod Executing
 pub mod Texts
 pub mod Walks
+pub mod SameFunctions
 pub mod Words
