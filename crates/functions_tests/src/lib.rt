@@ -6,6 +6,8 @@ mod between;
 #[cfg(test)]
 mod binding;
 #[cfg(test)]
+mod function_values;
+#[cfg(test)]
 mod functions;
 #[cfg(test)]
 mod like;

@@ -12,3 +12,5 @@ pub mod Inputs
 pub mod Listed
 pub mod CallWeights
 pub mod BoundTrees
+pub mod SameValues
+pub mod Identities

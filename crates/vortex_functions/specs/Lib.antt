@@ -7,4 +7,5 @@ pub mod Executing
 pub mod Texts
 pub mod TreePieces
 pub mod Walks
+pub mod SameFunctions
 pub mod Words

@@ -11,7 +11,7 @@ pub use Rattle.vortex_meaning.specs.Shipped.NullTestFunctions.{is_null_word, is_
 pub use Rattle.vortex_meaning.specs.Shipped.CastFunction.{is_cast_word}
 pub use Rattle.vortex_meaning.specs.Shipped.BetweenFunction.{between_named}
 pub use Rattle.vortex_meaning.specs.Shipped.LikeFunction.{like_named}
-pub use Rattle.vortex_meaning.specs.Functions.{ours, function_id, function_arity, function_child_name, function_type, function_strict, function_infallible}
+pub use Rattle.vortex_meaning.specs.Functions.{ours, function_id, function_arity, function_child_name, function_type, function_means, function_strict, function_infallible}
 pub use Rattle.vortex_meaning.specs.Answering.{AnswersFunctionType, AnswersFunction}
 pub use Rattle.vortex_meaning.specs.CallTexts.{Appends}
 pub use Rattle.vortex_interface.specs.Pieces.{piece_of}
@@ -30,3 +30,4 @@ pub use Rattle.vortex_functions.specs.Executing.{HasRows, NodeFits, AnswersTree,
 pub use Rattle.vortex_functions.specs.Walks.{AllMean, IsCopy}
 pub use Rattle.vortex_meaning.specs.OptionBytes.{WritesOptionsOf}
 pub use Rattle.vortex_meaning.specs.FunctionTexts.{held_text, value_text}
+pub use Rattle.vortex_functions.specs.SameFunctions.{AreSame, SameByIdentityAndOptions}

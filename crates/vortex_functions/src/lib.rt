@@ -14,6 +14,7 @@ mod not;
 mod null_tests;
 pub mod tree;
 pub mod typed;
+pub mod value_laws;
 pub mod walk;
 
 pub use custom::NoCustom;

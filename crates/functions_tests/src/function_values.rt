@@ -1,0 +1,222 @@
+//! Options as bytes, and functions as values: their texts, and which are found where others are kept.
+
+use fixtures::{is_refused, yes};
+use std::alloc::Global;
+use std::collections::HashMap;
+use vortex_columns::*;
+use vortex_functions::*;
+use vortex_operators::StrictComparison::{NonStrict, Strict};
+use vortex_operators::*;
+
+type Function = ScalarFnRef<NoCustom>;
+
+/// Whether bytes are read as those options.
+fn reads<V: ScalarFnVTable>(
+    alloc: Global,
+    function: V,
+    bytes: &[u8],
+    wanted: V::Options,
+) -> VortexResult<bool> {
+    Ok(function.deserialize(alloc, bytes)? == wanted)
+}
+
+/// Whether bytes are those of no options.
+fn refuses<V: ScalarFnVTable>(alloc: Global, function: V, bytes: &[u8]) -> bool {
+    is_refused(function.deserialize(alloc, bytes), "BadOptions")
+}
+
+/// Whether options are read back from what is written of them, and are written as those bytes.
+fn keeps<V: ScalarFnVTable>(
+    alloc: Global,
+    function: V,
+    options: V::Options,
+    wanted: &[u8],
+) -> VortexResult<bool> {
+    let Some(bytes) = function.serialize(alloc, &options)? else {
+        return Ok(false);
+    };
+    Ok(bytes.as_slice() == wanted && function.deserialize(alloc, &bytes)? == options)
+}
+
+/// Whether a function writes those bytes of its options.
+fn writes(alloc: Global, function: Function, wanted: &[u8]) -> VortexResult<bool> {
+    match function.options().serialize(alloc)? {
+        Some(bytes) => Ok(bytes.as_slice() == wanted),
+        None => Ok(false),
+    }
+}
+
+/// Whether a function writes nothing of its options.
+fn writes_nothing(alloc: Global, function: Function) -> VortexResult<bool> {
+    Ok(function.options().serialize(alloc)?.is_none())
+}
+
+/// Whether a function has that text, and its options have that one.
+fn is_shown(alloc: Global, function: Function, text: &str, options: &str) -> VortexResult<bool> {
+    let shown = function.to_string(alloc)?;
+    Ok(shown.as_str() == text && function.options().to_string(alloc)?.as_str() == options)
+}
+
+/// Whether what stands for a debugger is the same of both.
+fn debugs_alike(alloc: Global, one: Function, other: Function) -> VortexResult<bool> {
+    let shown = format!(in alloc; "{one:?}")?;
+    let again = format!(in alloc; "{other:?}")?;
+    let options = one.options();
+    let held = format!(in alloc; "{options:?}")?;
+    Ok(shown.as_str() == again.as_str() && held.len() < shown.len())
+}
+
+/// Whether a function is found where another is kept, which is where the two are equal.
+fn is_found(alloc: Global, kept: Function, sought: Function) -> VortexResult<bool> {
+    let equal = kept == sought;
+    let mut functions = HashMap::new(alloc);
+    functions.insert(kept, 1u8)?;
+    Ok(functions.get(&sought).is_some() && equal)
+}
+
+/// Whether a function is not found where another is kept, which is where the two differ.
+fn is_missed(alloc: Global, kept: Function, sought: Function) -> VortexResult<bool> {
+    let equal = kept == sought;
+    let mut functions = HashMap::new(alloc);
+    functions.insert(kept, 1u8)?;
+    Ok(functions.get(&sought).is_none() && !equal)
+}
+
+fn bounds(lower_strict: StrictComparison, upper_strict: StrictComparison) -> BetweenOptions {
+    BetweenOptions {
+        lower_strict,
+        upper_strict,
+    }
+}
+
+fn like(negated: bool, case_insensitive: bool) -> LikeOptions {
+    LikeOptions {
+        negated,
+        case_insensitive,
+    }
+}
+
+fn operator(operator: Operator) -> Function {
+    Binary.bind(operator)
+}
+
+/// A caller's function.
+fn own() -> Function {
+    ScalarFnRef::custom(NoCustom, EmptyOptions)
+}
+
+#[test]
+fn option_bytes_are_read(rt: HostRuntime) {
+    let alloc = rt.alloc();
+    assert!(rt; yes(reads(alloc, Binary, &[11], Operator::Div)));
+    assert!(rt; yes(reads(alloc, Binary, &[0], Operator::Eq)));
+    assert!(rt; yes(reads(alloc, Like, &[0], like(false, false))));
+    assert!(rt; yes(reads(alloc, Like, &[3], like(true, true))));
+    assert!(rt; yes(reads(alloc, Between, &[1], bounds(Strict, NonStrict))));
+    assert!(rt; yes(reads(alloc, Not, &[7, 7], EmptyOptions)));
+}
+
+#[test]
+fn other_bytes_are_refused(rt: HostRuntime) {
+    let alloc = rt.alloc();
+    assert!(rt; refuses(alloc, Binary, &[12]));
+    assert!(rt; refuses(alloc, Binary, &[]));
+    assert!(rt; refuses(alloc, Binary, &[0, 0]));
+    assert!(rt; refuses(alloc, Like, &[4]));
+    assert!(rt; refuses(alloc, Between, &[4]));
+    assert!(rt; refuses(alloc, NoCustom, &[]));
+}
+
+#[test]
+fn operators_come_back(rt: HostRuntime) {
+    let alloc = rt.alloc();
+    assert!(rt; yes(keeps(alloc, Binary, Operator::Eq, &[0])));
+    assert!(rt; yes(keeps(alloc, Binary, Operator::NotEq, &[1])));
+    assert!(rt; yes(keeps(alloc, Binary, Operator::Gt, &[2])));
+    assert!(rt; yes(keeps(alloc, Binary, Operator::Gte, &[3])));
+    assert!(rt; yes(keeps(alloc, Binary, Operator::Lt, &[4])));
+    assert!(rt; yes(keeps(alloc, Binary, Operator::Lte, &[5])));
+    assert!(rt; yes(keeps(alloc, Binary, Operator::And, &[6])));
+    assert!(rt; yes(keeps(alloc, Binary, Operator::Or, &[7])));
+    assert!(rt; yes(keeps(alloc, Binary, Operator::Add, &[8])));
+    assert!(rt; yes(keeps(alloc, Binary, Operator::Sub, &[9])));
+    assert!(rt; yes(keeps(alloc, Binary, Operator::Mul, &[10])));
+    assert!(rt; yes(keeps(alloc, Binary, Operator::Div, &[11])));
+}
+
+#[test]
+fn other_options_come_back(rt: HostRuntime) {
+    let alloc = rt.alloc();
+    assert!(rt; yes(keeps(alloc, Between, bounds(NonStrict, NonStrict), &[0])));
+    assert!(rt; yes(keeps(alloc, Between, bounds(Strict, NonStrict), &[1])));
+    assert!(rt; yes(keeps(alloc, Between, bounds(NonStrict, Strict), &[2])));
+    assert!(rt; yes(keeps(alloc, Between, bounds(Strict, Strict), &[3])));
+    assert!(rt; yes(keeps(alloc, Like, like(false, false), &[0])));
+    assert!(rt; yes(keeps(alloc, Like, like(true, false), &[1])));
+    assert!(rt; yes(keeps(alloc, Like, like(false, true), &[2])));
+    assert!(rt; yes(keeps(alloc, Like, like(true, true), &[3])));
+    assert!(rt; yes(keeps(alloc, Not, EmptyOptions, &[])));
+    assert!(rt; yes(keeps(alloc, IsNull, EmptyOptions, &[])));
+    assert!(rt; yes(keeps(alloc, IsNotNull, EmptyOptions, &[])));
+    assert!(rt; yes(keeps(alloc, Cast, CastOptions, &[])));
+}
+
+#[test]
+fn values_write_their_options(rt: HostRuntime) {
+    let alloc = rt.alloc();
+    assert!(rt; yes(writes(alloc, operator(Operator::Add), &[8])));
+    assert!(rt; yes(writes(alloc, Between.bind(bounds(NonStrict, Strict)), &[2])));
+    assert!(rt; yes(writes(alloc, Like.bind(like(true, false)), &[1])));
+    assert!(rt; yes(writes(alloc, Not.bind(EmptyOptions), &[])));
+    assert!(rt; yes(writes_nothing(alloc, own())));
+}
+
+#[test]
+fn values_print(rt: HostRuntime) {
+    let alloc = rt.alloc();
+    let text = "lower_strict: <, upper_strict: <=";
+    let between = "vortex.between(lower_strict: <, upper_strict: <=)";
+    assert!(rt;
+        yes(is_shown(
+            alloc,
+            Between.bind(bounds(Strict, NonStrict)),
+            between,
+            text
+        ))
+    );
+    assert!(rt; yes(is_shown(alloc, operator(Operator::Add), "vortex.binary(+)", "+")));
+    assert!(rt; yes(is_shown(alloc, Cast.bind(CastOptions), "vortex.cast(bool?)", "bool?")));
+    assert!(rt; yes(is_shown(alloc, Not.bind(EmptyOptions), "vortex.not()", "")));
+    assert!(rt; yes(is_shown(alloc, own(), "rowfn.none()", "")));
+    assert!(rt; yes(debugs_alike(alloc, own(), own())));
+}
+
+#[test]
+fn equal_values_are_found(rt: HostRuntime) {
+    let alloc = rt.alloc();
+    assert!(rt; yes(is_found(alloc, operator(Operator::Add), operator(Operator::Add))));
+    assert!(rt;
+        yes(is_found(
+            alloc,
+            Like.bind(like(true, false)),
+            Like.bind(like(true, false))
+        ))
+    );
+    assert!(rt; yes(is_found(alloc, Cast.bind(CastOptions), Cast.bind(CastOptions))));
+    assert!(rt; yes(is_found(alloc, own(), own())));
+}
+
+#[test]
+fn other_values_are_missed(rt: HostRuntime) {
+    let alloc = rt.alloc();
+    assert!(rt; yes(is_missed(alloc, operator(Operator::Add), operator(Operator::Sub))));
+    assert!(rt;
+        yes(is_missed(
+            alloc,
+            Like.bind(like(true, false)),
+            Like.bind(like(false, true))
+        ))
+    );
+    assert!(rt; yes(is_missed(alloc, Not.bind(EmptyOptions), IsNull.bind(EmptyOptions))));
+    assert!(rt; yes(is_missed(alloc, Not.bind(EmptyOptions), own())));
+}

@@ -1,0 +1,81 @@
+-- Options are equal where they are the same, and a function that is the same as a shipped one is that one.
+use Rattle.std.proofs.Common.{◌≡◌, ℕ, List, Bool, true, false, ◌&&◌, refl, ap}
+use Rattle.std.proofs.lemmas.Slice.Eq.{bytes_eq-Decides}
+use Rattle.std.specs.Str.{bytes_eq}
+use mathlib.Core.Bool.{beq}
+use denote.Enum.Bare.{sameb, same_true, true_same}
+use Rattle.vortex_operators.specs.declared.operators.Operator.{Operator}
+use Rattle.vortex_operators.specs.contracts.operators.Operator as operator
+use Rattle.vortex_operators.specs.declared.between.StrictComparison.{StrictComparison}
+use Rattle.vortex_operators.specs.contracts.between.StrictComparison as strict
+use Rattle.vortex_operators.specs.declared.between.BetweenOptions.{BetweenOptions}
+use Rattle.vortex_like.specs.declared.options.LikeOptions.{LikeOptions}
+use Rattle.vortex_meaning.specs.Shipped.{Shipped}
+use Rattle.vortex_meaning.specs.Functions.{Function, ours, custom}
+use Rattle.vortex_functions.specs.SameFunctions.{AreSame}
+
+both_true : (a b : Bool) → (a && b) ≡ true → (a ≡ true) × (b ≡ true)
+both_true true b e = (refl, e)
+both_true false b e = cc
+
+and_true : (a b : Bool) → a ≡ true → b ≡ true → (a && b) ≡ true
+and_true true b p q = q
+and_true false b p q = p
+
+-- a test, and what it tells
+abbrev pub Tells : Bool → Type 0 → Type 0
+Tells b P = (b ≡ true → P) × (P → b ≡ true)
+
+tells_both : (a b : Bool) (P Q : Type 0) → Tells a P → Tells b Q → Tells (a && b) (P × Q)
+tells_both a b P Q p q =
+    (λ e. let both = both_true a b e in (p.0 both.0, q.0 both.1),
+    λ h. and_true a b (p.1 h.0) (q.1 h.1))
+
+pub operators_tell : (a b : Operator) → Tells (sameb operator.the_type a b) (a ≡ b)
+operators_tell a b =
+    (λ e. same_true operator.the_type tt a b e, λ e. true_same operator.the_type a b e)
+
+abbrev strict_eq : StrictComparison → StrictComparison → Bool
+strict_eq a b = sameb strict.the_type a b
+
+strict_tell : (a b : StrictComparison) → Tells (strict_eq a b) (a ≡ b)
+strict_tell a b = (λ e. same_true strict.the_type tt a b e, λ e. true_same strict.the_type a b e)
+
+pub bounds_tell : (a b : BetweenOptions) → Tells
+    (strict_eq a.lower_strict b.lower_strict && strict_eq a.upper_strict b.upper_strict) (a ≡ b)
+bounds_tell a b =
+    let both = tells_both (strict_eq a.lower_strict b.lower_strict)
+    (strict_eq a.upper_strict b.upper_strict) (a.lower_strict ≡ b.lower_strict)
+    (a.upper_strict ≡ b.upper_strict) (strict_tell a.lower_strict b.lower_strict)
+    (strict_tell a.upper_strict b.upper_strict) in
+    (λ e. let h = both.0 e in λ i. record { lower_strict = h.0 i; upper_strict = h.1 i },
+    λ e. both.1 (ap (λ (o : BetweenOptions). o.lower_strict) e,
+    ap (λ (o : BetweenOptions). o.upper_strict) e))
+
+flags_tell : (a b : Bool) → Tells (beq a b) (a ≡ b)
+flags_tell true true = (λ e. refl, λ e. refl)
+flags_tell false false = (λ e. refl, λ e. refl)
+flags_tell true false = (λ e. cc, λ e. cc)
+flags_tell false true = (λ e. cc, λ e. cc)
+
+pub likes_tell : (a b : LikeOptions) → Tells
+    (beq a.negated b.negated && beq a.case_insensitive b.case_insensitive) (a ≡ b)
+likes_tell a b =
+    let both = tells_both (beq a.negated b.negated) (beq a.case_insensitive b.case_insensitive)
+    (a.negated ≡ b.negated) (a.case_insensitive ≡ b.case_insensitive)
+    (flags_tell a.negated b.negated) (flags_tell a.case_insensitive b.case_insensitive) in
+    (λ e. let h = both.0 e in λ i. record { negated = h.0 i; case_insensitive = h.1 i },
+    λ e. both.1 (ap (λ (o : LikeOptions). o.negated) e,
+    ap (λ (o : LikeOptions). o.case_insensitive) e))
+
+pub instances_tell : (id other : List ℕ) (b : Bool)
+    → Tells (bytes_eq id other && b) ((id ≡ other) × (b ≡ true))
+instances_tell id other b =
+    tells_both (bytes_eq id other) b (id ≡ other) (b ≡ true) (bytes_eq-Decides id other)
+    (λ e. e, λ e. e)
+
+pub same_as_shipped : {V O : Type 0} (id : V → List ℕ) (E : O → O → Bool) (f g : Function V O)
+    (s : Shipped) → f ≡ ours s → AreSame id E f g → f ≡ g
+same_as_shipped id E (ours t) (ours u) s e h = ap ours h
+same_as_shipped id E (ours t) (custom g p) s e h = absurd h
+same_as_shipped id E (custom f o) g s e h = cc
