@@ -27,9 +27,10 @@ abbrev pub Tells : Bool → Type 0 → Type 0
 Tells b P = (b ≡ true → P) × (P → b ≡ true)
 
 tells_both : (a b : Bool) (P Q : Type 0) → Tells a P → Tells b Q → Tells (a && b) (P × Q)
-tells_both a b P Q p q =
-    (λ e. let both = both_true a b e in (p.0 both.0, q.0 both.1),
-    λ h. and_true a b (p.1 h.0) (q.1 h.1))
+tells_both a b P Q p q = (
+  λ e. let both = both_true a b e in (p.0 both.0, q.0 both.1),
+  λ h. and_true a b (p.1 h.0) (q.1 h.1),
+)
 
 pub operators_tell : (a b : Operator) → Tells (sameb operator.the_type a b) (a ≡ b)
 operators_tell a b =
@@ -47,10 +48,13 @@ bounds_tell a b =
     let both = tells_both (strict_eq a.lower_strict b.lower_strict)
     (strict_eq a.upper_strict b.upper_strict) (a.lower_strict ≡ b.lower_strict)
     (a.upper_strict ≡ b.upper_strict) (strict_tell a.lower_strict b.lower_strict)
-    (strict_tell a.upper_strict b.upper_strict) in
-    (λ e. let h = both.0 e in λ i. record { lower_strict = h.0 i; upper_strict = h.1 i },
-    λ e. both.1 (ap (λ (o : BetweenOptions). o.lower_strict) e,
-    ap (λ (o : BetweenOptions). o.upper_strict) e))
+    (strict_tell a.upper_strict b.upper_strict) in (
+      λ e. let h = both.0 e in λ i. record { lower_strict = h.0 i; upper_strict = h.1 i },
+      λ e. both.1 (
+        ap (λ (o : BetweenOptions). o.lower_strict) e,
+        ap (λ (o : BetweenOptions). o.upper_strict) e,
+      ),
+    )
 
 flags_tell : (a b : Bool) → Tells (beq a b) (a ≡ b)
 flags_tell true true = (λ e. refl, λ e. refl)
@@ -63,10 +67,13 @@ pub likes_tell : (a b : LikeOptions) → Tells
 likes_tell a b =
     let both = tells_both (beq a.negated b.negated) (beq a.case_insensitive b.case_insensitive)
     (a.negated ≡ b.negated) (a.case_insensitive ≡ b.case_insensitive)
-    (flags_tell a.negated b.negated) (flags_tell a.case_insensitive b.case_insensitive) in
-    (λ e. let h = both.0 e in λ i. record { negated = h.0 i; case_insensitive = h.1 i },
-    λ e. both.1 (ap (λ (o : LikeOptions). o.negated) e,
-    ap (λ (o : LikeOptions). o.case_insensitive) e))
+    (flags_tell a.negated b.negated) (flags_tell a.case_insensitive b.case_insensitive) in (
+      λ e. let h = both.0 e in λ i. record { negated = h.0 i; case_insensitive = h.1 i },
+      λ e. both.1 (
+        ap (λ (o : LikeOptions). o.negated) e,
+        ap (λ (o : LikeOptions). o.case_insensitive) e,
+      ),
+    )
 
 pub instances_tell : (id other : List ℕ) (b : Bool)
     → Tells (bytes_eq id other && b) ((id ≡ other) × (b ≡ true))

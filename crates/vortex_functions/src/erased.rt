@@ -67,7 +67,9 @@ macro_rules! with_function {
         })
     };
 }
-pub(crate) use {with_function, with_shipped};
+
+pub(crate) use with_function;
+pub(crate) use with_shipped;
 
 /// A function with its options: a shipped one, or a caller's of type `C`.
 ///
