@@ -3,3 +3,5 @@ pub mod ByteOrder
 pub mod WordOrder
 pub mod Layouts
 pub mod Resolving
+pub mod Placed
+pub mod Pushing

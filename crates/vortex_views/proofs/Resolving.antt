@@ -1,5 +1,5 @@
 -- A view among buffers is the view of its value.
-use Rattle.std.proofs.Common.{◌≡◌, ℕ, ◌+◌, ◌<◌, ◌≤◌, cond, nat_le, List, [], ◌∷◌, zero, suc, length, map, get_or, take, drop, sym, subst, leb, true, ◌∙◌, ap, arith, inl, inr, ◌⊎◌, refl}
+use Rattle.std.proofs.Common.{◌≡◌, ℕ, ◌+◌, ◌<◌, ◌≤◌, nat_le, List, [], ◌∷◌, suc, length, map, get_or, take, drop, sym, subst, leb, true, ◌∙◌, ap, arith, inl, inr, ◌⊎◌, refl}
 use Rattle.std.proofs.lemmas.List.{get_or-map, length-map, length-take, length-drop, get_or-take}
 use Rattle.std.proofs.lemmas.Bool.{cases_lt, cond-true, cond-false, le-leb, leb-true, false_from_ne_true}
 use Rattle.vortex_views.specs.declared.view.BinaryView.{BinaryView}
@@ -29,7 +29,7 @@ pub short_in : (bufs : List (List ℕ)) (v : List ℕ) → view_len v ≤ 12 →
 short_in bufs v h =
     cond-true (nat_le (view_len v) 12) (inlined_value v) (long_value bufs v) (le-leb (view_len v) 12 h)
 
-above : (m n : ℕ) → m < n → leb n m ≡ true → ⊥
+pub above : (m n : ℕ) → m < n → leb n m ≡ true → ⊥
 above m n h e = absurd (omega (arith, leb-true n m e))
 
 pub long_in : (bufs : List (List ℕ)) (v : List ℕ) → 12 < view_len v → value_in bufs v ≡ long_value bufs v

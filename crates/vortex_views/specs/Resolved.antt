@@ -1,9 +1,9 @@
 -- What views stand for among buffers, and what a view says of its value.
-use Rattle.std.specs.Prelude.{◌≡◌, ℕ, ◌+◌, ◌<◌, ◌≤◌, Bool, cond, nat_le, List, [], length, map, take, drop}
+use Rattle.std.specs.Prelude.{◌≡◌, ℕ, ◌+◌, ◌<◌, ◌≤◌, cond, nat_le, List, [], length, map, take, drop}
 use Rattle.std.specs.Prelude.{slice_index_or}
 use Rattle.vortex_views.specs.declared.view.BinaryView.{BinaryView}
 use Rattle.vortex_views.specs.ViewBytes.{view_bytes, view_len, view_buffer, view_offset}
-use Rattle.vortex_views.specs.ViewBytes.{inlined_view, inlined_value, IsInlined}
+use Rattle.vortex_views.specs.ViewBytes.{inlined_view, inlined_value}
 
 -- the bytes that a long view names
 abbrev pub long_value : List (List ℕ) → List ℕ → List ℕ

@@ -1,13 +1,17 @@
 //! Arrow's and Umbra's 16-byte views of texts and byte strings.
 #![tactic(auto)]
 
+pub mod builder;
 mod byte_words;
 pub mod laws;
 pub mod ordered;
 pub mod resolved;
+pub mod values;
 pub mod view;
 mod words;
 
+pub use builder::ViewsBuilder;
 pub use ordered::{ConstantBytes, Row, WordsOfBytes, compare, equal};
 pub use resolved::{ResolvedViews, check_views, fits};
+pub use values::BinaryViews;
 pub use view::BinaryView;

@@ -1,6 +1,4 @@
-use Rattle.std.proofs.Common.{◌-◌, ◌+◌, ◌≤◌, ◌≡◌, length, drop, take, ap, sym, ◌∙◌, arith}
-use Rattle.std.specs.Int.{w64, from_be_bytes}
-use Rattle.vortex_views.specs.ViewBytes.{padded}
+use Rattle.std.proofs.Common.{◌-◌, ◌+◌, length, sym, ◌∙◌, arith}
 use Rattle.vortex_views.proofs.Digits.{are_bytes}
 use Rattle.vortex_views.proofs.ByteOrder.{eight_more, shorter_start, word_answer, lengths_decide, shorter_ends}
 use Rattle.vortex_views.proofs.byte_words.compare_after.Goals as goal

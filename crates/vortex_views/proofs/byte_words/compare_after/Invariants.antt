@@ -1,4 +1,4 @@
-use Rattle.std.proofs.Common.{◌≡◌, ◌≤◌, ◌-◌, ◌+◌, length, take}
+use Rattle.std.proofs.Common.{◌≡◌, ◌≤◌, ◌-◌, length, take}
 use Rattle.vortex_views.proofs.byte_words.compare_after.Given as goal
 
 abbrev pub invariant-loop-at : goal.invariant-loop-at

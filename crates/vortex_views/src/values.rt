@@ -1,0 +1,95 @@
+//! Values kept as views, with the buffers that longer ones lie in.
+ghost use Rattle.std.specs.Prelude.{◌≡◌, IfOk, length, map};
+ghost use Rattle.vortex_errors.specs.Answers.{MadeWhere};
+ghost use Rattle.vortex_errors.specs.declared.error.VortexError.TheVariants.{InvalidColumn};
+ghost use Rattle.vortex_views.specs.Resolved.{AreViewsIn, values_in};
+ghost use Rattle.vortex_views.specs.LentValues.{lent_values};
+
+use crate::resolved::{ResolvedViews, check_views};
+use crate::view::BinaryView;
+use std::alloc::AllocError;
+use std::marker::Model;
+use vortex_errors::{VortexError, VortexResult};
+
+/// A list of byte strings: a view of 16 bytes for each, and the buffers that the longer ones lie in, where they may share
+/// bytes and overlap.
+#[derive(Drop)]
+pub struct BinaryViews {
+    views: Vec<BinaryView>,
+    buffers: Vec<Vec<u8>>,
+}
+
+impl Model for BinaryViews {
+    ghost use Rattle.std.specs.Prelude.{List, ℕ, map};
+    ghost use Rattle.vortex_views.specs.Resolved.{AreViewsIn, values_in};
+
+    ghost Value = { List (List ℕ) };
+
+    ghost view = { λ a. values_in (map (λ b. b.items) a.buffers.items) a.views.items };
+
+    ghost invariant = { λ a. AreViewsIn (map (λ b. b.items) a.buffers.items) a.views.items };
+}
+
+impl BinaryViews {
+    /// These views over these buffers, which are taken over as they are. Takes no memory.
+    ///
+    /// E12 exactly where a view names bytes that no buffer has, tells another beginning than its value's, or is not padded
+    /// with zeros.
+    pub fn try_new(views: Vec<BinaryView>, buffers: Vec<Vec<u8>>) -> VortexResult<BinaryViews>
+        ensures { MadeWhere result
+            (AreViewsIn (map (λ b. b.items) buffers.items) views.items)
+            (λ v. v ≡ values_in (map (λ b. b.items) buffers.items) views.items)
+            InvalidColumn }
+    {
+        if check_views(views.as_slice(), buffers.as_slice()) {
+            Ok(BinaryViews { views, buffers })
+        } else {
+            Err(VortexError::InvalidColumn)
+        }
+    }
+
+    /// The same of views that are known to lie among the buffers.
+    pub(crate) fn of_parts(views: Vec<BinaryView>, buffers: Vec<Vec<u8>>) -> BinaryViews
+        requires { AreViewsIn (map (λ b. b.items) buffers.items) views.items }
+        ensures { result ≡ values_in (map (λ b. b.items) buffers.items) views.items }
+    {
+        BinaryViews { views, buffers }
+    }
+
+    /// How many values there are.
+    pub fn len(&self) -> usize
+        ensures { result ≡ length self.now }
+    {
+        self.views.len()
+    }
+
+    /// The values, each where it lies. Takes no memory.
+    pub fn resolved(&self) -> ResolvedViews<'_>
+        ensures { lent_values result ≡ self.now }
+    {
+        ResolvedViews::new(self.views.as_slice(), self.buffers.as_slice())
+    }
+}
+
+/// Copies of buffers, byte for byte.
+fn copy_buffers(buffers: &Vec<Vec<u8>>) -> Result<Vec<Vec<u8>>, AllocError>
+    ensures { IfOk result
+        (λ copies. map (λ b. b.items) copies.items ≡ map (λ b. b.items) buffers.now.items) }
+{
+    let mut copies = Vec::new(*buffers.allocator());
+    for buffer in buffers {
+        copies.push(buffer.as_slice().to_vec(*buffer.allocator())?)?;
+    }
+    Ok(copies)
+}
+
+/// The same values; views and buffers are copied as they are.
+impl Clone for BinaryViews {
+    ghost is_clone = { λ values copy. copy ≡ values };
+
+    fn clone(&self) -> Result<BinaryViews, AllocError> {
+        let views = self.views.as_slice().to_vec(*self.views.allocator())?;
+        let buffers = copy_buffers(&self.buffers)?;
+        Ok(BinaryViews { views, buffers })
+    }
+}
