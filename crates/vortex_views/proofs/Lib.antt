@@ -5,3 +5,4 @@ pub mod Layouts
 pub mod Resolving
 pub mod Placed
 pub mod Pushing
+pub mod Collecting

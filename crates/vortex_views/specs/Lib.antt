@@ -6,3 +6,4 @@ pub mod LentValue
 pub mod Placing
 pub mod Building
 pub mod Built
+pub mod Collected

@@ -3,6 +3,7 @@
 
 pub mod builder;
 mod byte_words;
+pub mod collect;
 pub mod laws;
 pub mod ordered;
 pub mod resolved;
@@ -11,6 +12,7 @@ pub mod view;
 mod words;
 
 pub use builder::ViewsBuilder;
+pub use collect::{ByteString, collect_views};
 pub use ordered::{ConstantBytes, Row, WordsOfBytes, compare, equal};
 pub use resolved::{ResolvedViews, check_views, fits};
 pub use values::BinaryViews;
