@@ -20,7 +20,7 @@ use Rattle.vortex_columns.specs.Stored.{fixed_size_lists, maps, AreFields, Store
 use Rattle.vortex_columns.specs.Stored.{constant_of, kept, stored_of, stored_validity, kept_at}
 use Rattle.vortex_columns.specs.Stored.{constant_in}
 use Rattle.vortex_columns.specs.Stored.{value_at, row_at, rows_of, AreKept, IsStored, column_view}
-use Rattle.vortex_columns.specs.Stored.{IsColumn, HasPlace, HasRow}
+use Rattle.vortex_columns.specs.Stored.{IsColumn, HasPlace, HasRow, IsTextAt}
 use Rattle.vortex_columns.specs.declared.column.Column.TheInside.{Inside}
 use Rattle.vortex_types.specs.declared.dtype.DType.{DType}
 use Rattle.vortex_types.specs.declared.scalar_value.ScalarValue.{ScalarValue}
@@ -80,7 +80,7 @@ pub has_row : (n : ℕ) (t : LogicalType) (s : Stored) (i : ℕ) → i < n → I
 has_row n t nulls i h a = tt
 has_row n t (constant_of s) i h a = tt
 has_row n t (kept k v) i h a =
-    (has_place n t (form_allows_null v.form) k i h a.0, reaches v.form v.bits n i h a.1)
+    (has_place n t (form_allows_null v.form) k i h a.0, reaches v.form v.bits n i h a.1, a.2 i h)
 
 plain_form : (b : Bool) (n : ℕ) → FitsRowsBy (cond b all_valid non_nullable) [] n
 plain_form true n = tt
@@ -163,9 +163,9 @@ null_where_allowed all_valid bits i h = refl
 null_where_allowed all_invalid bits i h = refl
 null_where_allowed array bits i h = refl
 
-typed_by : (t : LogicalType) (b : Bool) (x : Value) → HasType t x → (b ≡ false → HasType t null)
-    → HasType t (cond b x null)
-typed_by t true x h g = h
+typed_by : (t : LogicalType) (b : Bool) (x : Value) → (b ≡ true → HasType t x)
+    → (b ≡ false → HasType t null) → HasType t (cond b x null)
+typed_by t true x h g = h refl
 typed_by t false x h g = g refl
 
 -- a record of columns that have the fields' types
@@ -179,55 +179,51 @@ record_typed n i (field name t fs) (c ∷ cs) h a = (
 record_typed n i no_fields (c ∷ cs) h a = absurd a
 record_typed n i (field name t fs) [] h a = absurd a
 
--- a value of a row has the type, and null too where the type has it
+-- a value of a row has the type, a text if it is UTF-8
 typed_kept : (n : ℕ) (t : LogicalType) (m : Bool) (k : Kept) (i : ℕ) → i < n → AreKept n t m k
-    → HasType t (kept_at k i) × (IsTrue m → HasType t null)
-typed_kept n t m (bools bits) i h a =
-    subst (λ (u : LogicalType). HasType u (kept_at (bools bits) i) × (IsTrue m → HasType u null))
-    (sym a.0) (tt, λ e. e)
-typed_kept n t m (integers p ns) i h a =
-    subst (λ (u : LogicalType). HasType u (kept_at (integers p ns) i) × (IsTrue m → HasType u null))
-    (sym a.0) (a.2 i (pos 0) (omega (arith, a.1)), λ e. e)
-typed_kept n t m (texts ts) i h a =
-    subst (λ (u : LogicalType). HasType u (kept_at (texts ts) i) × (IsTrue m → HasType u null))
-    (sym a.0) (a.2 i [] (omega (arith, a.1)), λ e. e)
-typed_kept n t m (byte_strings bs) i h a =
-    subst
-    (λ (u : LogicalType). HasType u (kept_at (byte_strings bs) i) × (IsTrue m → HasType u null))
-    (sym a.0) (a.2 i [] (omega (arith, a.1)), λ e. e)
-typed_kept n t m (structs cs) i h a =
-    subst (λ (u : LogicalType). HasType u (kept_at (structs cs) i) × (IsTrue m → HasType u null))
-    (sym a.1) (record_typed n i a.0 cs h a.2, λ e. e)
-typed_kept n t m (lists e offsets sizes) i h a =
+    → IsTextAt i k → HasType t (kept_at k i)
+typed_kept n t m (bools bits) i h a x =
+    subst (λ (u : LogicalType). HasType u (kept_at (bools bits) i)) (sym a.0) tt
+typed_kept n t m (integers p ns) i h a x =
+    subst (λ (u : LogicalType). HasType u (kept_at (integers p ns) i)) (sym a.0)
+    (a.2 i (pos 0) (omega (arith, a.1)))
+typed_kept n t m (texts ts) i h a x =
+    subst (λ (u : LogicalType). HasType u (kept_at (texts ts) i)) (sym a.0) x
+typed_kept n t m (byte_strings bs) i h a x =
+    subst (λ (u : LogicalType). HasType u (kept_at (byte_strings bs) i)) (sym a.0)
+    (a.2 i [] (omega (arith, a.1)))
+typed_kept n t m (structs cs) i h a x =
+    subst (λ (u : LogicalType). HasType u (kept_at (structs cs) i)) (sym a.1)
+    (record_typed n i a.0 cs h a.2)
+typed_kept n t m (lists e offsets sizes) i h a x =
     let within = a.3 i (omega (arith, a.1)) in
-    subst
-    (λ (u : LogicalType). HasType u (kept_at (lists e offsets sizes) i)
-    × (IsTrue m → HasType u null))
-    (sym a.0) (part_each (HasType e.dtype) e.rows _ _ within a.4, λ e. e)
-typed_kept n t m (fixed_size_lists e size) i h a =
+    subst (λ (u : LogicalType). HasType u (kept_at (lists e offsets sizes) i)) (sym a.0)
+    (part_each (HasType e.dtype) e.rows _ _ within a.4)
+typed_kept n t m (fixed_size_lists e size) i h a x =
     let within : size * i + size ≤ length e.rows = omega (arith, a.1, one_more_fits size i n h) in
-    subst
-    (λ (u : LogicalType). HasType u (kept_at (fixed_size_lists e size) i)
-    × (IsTrue m → HasType u null))
-    (sym a.0) (
-      (
-        value_count_of (take size (drop (size * i) e.rows))
-            ∙ length_part e.rows (size * i) size within,
-        part_each (HasType e.dtype) e.rows (size * i) size within a.2,
-      ),
-      λ e. e,
+    subst (λ (u : LogicalType). HasType u (kept_at (fixed_size_lists e size) i)) (sym a.0) (
+      value_count_of (take size (drop (size * i) e.rows))
+          ∙ length_part e.rows (size * i) size within,
+      part_each (HasType e.dtype) e.rows (size * i) size within a.2,
     )
-typed_kept n t m (maps k v offsets sizes) i h a =
+typed_kept n t m (maps k v offsets sizes) i h a x =
     let within : slice_index offsets i + slice_index sizes i ≤ length (entries k.rows v.rows) =
     omega (arith, a.4 i (omega (arith, a.1)), length_entries k.rows v.rows a.3) in
-    subst
-    (λ (u : LogicalType). HasType u (kept_at (maps k v offsets sizes) i)
-    × (IsTrue m → HasType u null))
-    (sym a.0) (
-      part_each (IsList (IsPair (HasType k.dtype) (HasType v.dtype))) (entries k.rows v.rows) _ _
-          within (entries_typed (HasType k.dtype) (HasType v.dtype) k.rows v.rows a.3 a.5 a.6),
-      λ e. e,
-    )
+    subst (λ (u : LogicalType). HasType u (kept_at (maps k v offsets sizes) i)) (sym a.0)
+    (part_each (IsList (IsPair (HasType k.dtype) (HasType v.dtype))) (entries k.rows v.rows) _ _
+    within (entries_typed (HasType k.dtype) (HasType v.dtype) k.rows v.rows a.3 a.5 a.6))
+
+-- and null too where the type has it
+typed_null : (n : ℕ) (t : LogicalType) (m : Bool) (k : Kept) → AreKept n t m k → IsTrue m
+    → HasType t null
+typed_null n t m (bools bits) a e = subst (λ (u : LogicalType). HasType u null) (sym a.0) e
+typed_null n t m (integers p ns) a e = subst (λ (u : LogicalType). HasType u null) (sym a.0) e
+typed_null n t m (texts ts) a e = subst (λ (u : LogicalType). HasType u null) (sym a.0) e
+typed_null n t m (byte_strings bs) a e = subst (λ (u : LogicalType). HasType u null) (sym a.0) e
+typed_null n t m (structs cs) a e = subst (λ (u : LogicalType). HasType u null) (sym a.1) e
+typed_null n t m (lists f offsets sizes) a e = subst (λ (u : LogicalType). HasType u null) (sym a.0) e
+typed_null n t m (fixed_size_lists f size) a e = subst (λ (u : LogicalType). HasType u null) (sym a.0) e
+typed_null n t m (maps k v offsets sizes) a e = subst (λ (u : LogicalType). HasType u null) (sym a.0) e
 
 pub row_constant : (s : ScalarView) (i : ℕ) → row_at (constant_of s) i ≡ s.value
 row_constant s i = by (is_null s.value) refl
@@ -245,9 +241,9 @@ typed_row n t (constant_of s) i h a =
     subst (λ (u : LogicalType). HasType u (row_at (constant_of s) i)) (sym a.0)
     (subst (λ (v : Value). HasType s.dtype v) (sym (row_constant s i)) a.1)
 typed_row n t (kept k v) i h a =
-    let here = typed_kept n t (form_allows_null v.form) k i h a.0 in
-    typed_by t (is_valid_row v i) (kept_at k i) here.0
-    (λ e. here.1 (null_where_allowed v.form v.bits i e))
+    typed_by t (is_valid_row v i) (kept_at k i)
+    (λ e. typed_kept n t (form_allows_null v.form) k i h a.0 (a.2 i h e))
+    (λ e. typed_null n t (form_allows_null v.form) k a.0 (null_where_allowed v.form v.bits i e))
 
 pub typed_rows : (n : ℕ) (t : LogicalType) (s : Stored) → IsStored n t s → AreTyped t (rows_of n s)
 typed_rows n t s a i d h =

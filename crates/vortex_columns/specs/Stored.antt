@@ -1,8 +1,8 @@
 -- How a column's parts are seen. What is seen of its storage is a function of `Stored`, which
 -- forgets where lists lie: so a
 -- copy of a storage is seen as its source.
-use Rattle.std.specs.Prelude.{◌≡◌, ℕ, ◌+◌, ◌*◌, ◌<◌, ◌≤◌, ℤ, pos, Bool, false, List, [], ◌∷◌}
-use Rattle.std.specs.Prelude.{map, length, String, string_bytes, slice_index, slice_index_or}
+use Rattle.std.specs.Prelude.{◌≡◌, ℕ, ◌+◌, ◌*◌, ◌<◌, ◌≤◌, ℤ, pos, Bool, true, false, List, [], ◌∷◌}
+use Rattle.std.specs.Prelude.{map, length, String, slice_index, slice_index_or}
 use Rattle.std.specs.Prelude.{if◌then◌else◌, All, IsUtf8, Option, Some, None}
 use Rattle.std.specs.List.{range_with_len}
 use Rattle.vortex_columns.specs.declared.column.Column.TheInside.{Inside}
@@ -45,8 +45,8 @@ pub data Stored : Type 0 where
 abbrev pub kept_of : Elements → Kept
 kept_of (elements.Bool bits) = bools bits
 kept_of (elements.Primitive ints) = integers (ptype_of ints) (numbers ints)
-kept_of (elements.Utf8 values) = texts (map string_bytes values.items)
-kept_of (elements.Binary values) = byte_strings (map (λ b. b.items) values.items)
+kept_of (elements.Utf8 values) = texts values
+kept_of (elements.Binary values) = byte_strings values
 kept_of (elements.Struct fields) = structs fields.items
 kept_of (elements.List e offsets sizes) = lists e.value offsets.items sizes.items
 kept_of (elements.FixedSizeList e size) = fixed_size_lists e.value size
@@ -102,7 +102,7 @@ AreFields n fs cs = ⊥
 abbrev pub AreKept : ℕ → LogicalType → Bool → Kept → Type 0
 AreKept n t m (bools bits) = (t ≡ bool_type m) × (length bits ≡ n)
 AreKept n t m (integers p ns) = (t ≡ integer_type p m) × (length ns ≡ n) × All (FitsPType p) ns
-AreKept n t m (texts ts) = (t ≡ text_type m) × (length ts ≡ n) × All IsUtf8 ts
+AreKept n t m (texts ts) = (t ≡ text_type m) × (length ts ≡ n)
 AreKept n t m (byte_strings bs) = (t ≡ bytes_type m) × (length bs ≡ n) × All (All (λ b. b < 256)) bs
 AreKept n t m (structs cs) = (fs : Fields) × (t ≡ struct_type fs m) × AreFields n fs cs
 AreKept n t m (lists e offsets sizes) =
@@ -115,10 +115,21 @@ AreKept n t m (maps k v offsets sizes) =
     × (length k.rows ≡ length v.rows) × LieWithin (length k.rows) offsets sizes
     × AreTyped k.dtype k.rows × AreTyped v.dtype v.rows
 
+-- what lies in a place is a text, if texts are kept
+abbrev pub IsTextAt : ℕ → Kept → Type 0
+IsTextAt i (texts ts) = IsUtf8 (slice_index_or ts i [])
+IsTextAt i k = Unit {0}
+
+-- in a row that is not null; under a null any bytes may lie
+abbrev pub IsTextIfValid : ℕ → Kept → ValidityView → Type 0
+IsTextIfValid i k v = is_valid_row v i ≡ true → IsTextAt i k
+
 abbrev pub IsStored : ℕ → LogicalType → Stored → Type 0
 IsStored n t nulls = t ≡ null_type
 IsStored n t (constant_of s) = (t ≡ s.dtype) × HasType s.dtype s.value
-IsStored n t (kept k v) = AreKept n t (form_allows_null v.form) k × FitsRows v n
+IsStored n t (kept k v) =
+    AreKept n t (form_allows_null v.form) k × FitsRows v n
+    × ((i : ℕ) → i < n → IsTextIfValid i k v)
 
 abbrev pub column_view : Inside → ColumnView
 column_view a =
@@ -149,7 +160,7 @@ HasPlace i (maps k v offsets sizes) =
     × (length k.rows ≡ length v.rows)
 
 abbrev pub HasRow : ℕ → Stored → Type 0
-HasRow i (kept k v) = HasPlace i k × Reaches v i
+HasRow i (kept k v) = HasPlace i k × Reaches v i × IsTextIfValid i k v
 HasRow i s = Unit {0}
 
 -- what a constructor makes: a value in each row that is valid, and null in the others

@@ -20,9 +20,12 @@ pub use Rattle.vortex_columns.specs.ColumnView.{HasBytes, AreBytes, AreBytesAt, 
 pub use Rattle.vortex_columns.specs.ColumnView.{HasField, IsField, HasKind, AreLists, AreMaps}
 pub use Rattle.vortex_columns.specs.ColumnView.{AreFixedSizeLists, is_list_type, is_map_type}
 pub use Rattle.vortex_columns.specs.ColumnView.{is_fixed_size_list_type}
-pub use Rattle.vortex_columns.specs.LentBytes.{bytes_of}
+pub use Rattle.vortex_views.specs.LentValues.{lent_values}
+pub use Rattle.vortex_views.specs.Resolved.{values_in as values_among}
 pub use Rattle.vortex_columns.specs.Stored.{bool_column, MakeStructs, MakeLists}
-pub use Rattle.vortex_columns.specs.Made.{int_column, text_column, byte_string_column}
+pub use Rattle.vortex_columns.specs.Made.{int_column, text_column, byte_string_column, text_rows}
+pub use Rattle.vortex_columns.specs.Made.{byte_string_rows, byte_strings_of, MakeTextRows}
+pub use Rattle.vortex_columns.specs.Made.{MakeTextViews, MakeByteStringViews}
 pub use Rattle.vortex_columns.specs.Made.{struct_column, list_column, fixed_size_list_column}
 pub use Rattle.vortex_columns.specs.Made.{map_column, MakeTexts, MakeByteStrings, MakeMaps}
 pub use Rattle.vortex_columns.specs.Made.{MakeFixedSizeLists}

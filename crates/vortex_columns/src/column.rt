@@ -11,6 +11,7 @@ use crate::validity::Validity;
 use std::marker::Model;
 use vortex_bits::BitBuffer;
 use vortex_types::{DType, Ints};
+use vortex_views::BinaryViews;
 
 /// Rows of one type.
 #[cycle(column)]
@@ -38,8 +39,8 @@ enum Storage {
 enum Elements {
     Bool(BitBuffer),
     Primitive(Ints),
-    Utf8(Vec<String>),
-    Binary(Vec<Vec<u8>>),
+    Utf8(BinaryViews),
+    Binary(BinaryViews),
     Struct(Vec<Column>),
     /// Elements, offsets and sizes.
     List(Box<Column>, Vec<usize>, Vec<usize>),

@@ -1,7 +1,6 @@
 //! Columns of typed rows, scalars, and cells that are lent from both; with the types that stand below.
 #![tactic(auto)]
 
-pub mod byte_rows;
 pub mod cell;
 pub mod column;
 mod lists;
@@ -9,7 +8,6 @@ pub mod scalar;
 pub mod typing;
 pub mod validity;
 
-pub use byte_rows::ByteRows;
 pub use cell::{Cell, Sequence, cell_of};
 pub use column::Column;
 pub use scalar::Scalar;
@@ -20,3 +18,4 @@ pub use vortex_types::{
     OperatorText, PType, ScalarValue, StructFields, VortexError, VortexResult, arity, context,
     dtype, error, ints, scalar_value,
 };
+pub use vortex_views::{BinaryView, BinaryViews, ResolvedViews, ViewsBuilder};

@@ -1,34 +1,35 @@
 //! The lists that a column keeps: whether they fit, and copies of them.
-ghost use Rattle.std.specs.Prelude.{◌≡◌, ◌*◌, ◌<◌, ◌≤◌, ◌↔◌, IsTrue, IfOk, All, map};
-ghost use Rattle.std.specs.Prelude.{length, string_bytes};
+ghost use Rattle.std.specs.Prelude.{◌≡◌, ◌*◌, ◌<◌, ◌↔◌, ℕ, IsTrue, IsUtf8, All, [], length, true};
+ghost use Rattle.std.specs.Prelude.{slice_index_or};
 ghost use Rattle.vortex_columns.specs.ColumnView.{LieWithin};
+ghost use Rattle.vortex_columns.specs.ValidityView.{FitsRows, is_valid_row, validity_of};
 
 use crate::typing::are_bytes;
-use std::alloc::AllocError;
+use crate::validity::Validity;
+use vortex_views::BinaryViews;
 
-/// The most bytes that a value of a column may have.
-const MOST_BYTES: usize = 4294967295;
-
-/// Whether no text is too long.
-pub(crate) fn texts_fit(values: &[String]) -> bool
-    ensures { IsTrue result ↔ All (λ t. length (string_bytes t) ≤ 4294967295) values.now }
+/// Whether each value of a row that is not null is UTF-8.
+pub(crate) fn are_texts(values: &BinaryViews, validity: &Validity) -> bool
+    requires { FitsRows (validity_of validity.now) (length values.now) }
+    ensures { IsTrue result ↔ ((i : ℕ) → i < length values.now
+        → is_valid_row (validity_of validity.now) i ≡ true → IsUtf8 (slice_index_or values.now i [])) }
 {
-    values.iter().all(|t| t.len() <= MOST_BYTES)
+    let rows = values.resolved();
+    for i in 0..rows.len() {
+        if validity.is_valid(i) && str::from_utf8(rows.bytes(i)).is_err() {
+            return false;
+        }
+    }
+    true
 }
 
-/// Whether no list of bytes is too long.
-pub(crate) fn bytes_fit(values: &[Vec<u8>]) -> bool
-    ensures { IsTrue result ↔ All (λ b. length b.items ≤ 4294967295) values.now }
+/// Looks at each value, whose bytes are below 256.
+pub(crate) fn learn_bytes(values: &BinaryViews)
+    ensures { All (All (λ b. b < 256)) values.now }
 {
-    values.iter().all(|b| b.len() <= MOST_BYTES)
-}
-
-/// Looks at each list of bytes.
-pub(crate) fn learn_bytes(values: &[Vec<u8>])
-    ensures { All (λ b. All (λ n. n < 256) b.items) values.now }
-{
-    for value in values {
-        let _ = are_bytes(value);
+    let rows = values.resolved();
+    for i in 0..rows.len() {
+        let _ = are_bytes(rows.bytes(i));
     }
 }
 
@@ -53,28 +54,4 @@ pub(crate) fn is_product(elements: usize, size: u32, len: usize) -> bool
         Some(count) => elements == count,
         None => false,
     }
-}
-
-/// A copy of texts.
-pub(crate) fn copy_texts(values: &Vec<String>) -> Result<Vec<String>, AllocError>
-    ensures { IfOk result
-        (λ copies. map string_bytes copies.items ≡ map string_bytes values.now.items) }
-{
-    let mut copies = Vec::new(*values.allocator());
-    for value in values {
-        copies.push(value.clone()?)?;
-    }
-    Ok(copies)
-}
-
-/// A copy of lists of bytes.
-pub(crate) fn copy_bytes(values: &Vec<Vec<u8>>) -> Result<Vec<Vec<u8>>, AllocError>
-    ensures { IfOk result
-        (λ copies. map (λ b. b.items) copies.items ≡ map (λ b. b.items) values.now.items) }
-{
-    let mut copies = Vec::new(*values.allocator());
-    for value in values {
-        copies.push(value.as_slice().to_vec(*value.allocator())?)?;
-    }
-    Ok(copies)
 }

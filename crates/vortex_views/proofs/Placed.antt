@@ -161,9 +161,9 @@ module _ (value : List ℕ) (old new : Buffers) (view : List ℕ) (long : 12 < l
         value_is = ap (λ (bs : List (List ℕ)). value_in bs view) all
             ∙ value_last (full_of old) old.last.items value view long most few range.fill is;
         filled_is = (λ i. record {
-            count = (counted old new (full_of old) h.full ∙ full_count old) i + 1;
-            fill = (ap length h.last ∙ length-append old.last.items value) i;
-          }) ∙ filled_behind (filled old) (length value) long room;
+          count = (counted old new (full_of old) h.full ∙ full_count old) i + 1;
+          fill = (ap length h.last ∙ length-append old.last.items value) i;
+        }) ∙ filled_behind (filled old) (length value) long room;
       }
 
   pub placed_begun : AreInRange (filled old) → length old.full.items + 1 ≤ 4294967295
@@ -184,9 +184,9 @@ module _ (value : List ℕ) (old new : Buffers) (view : List ℕ) (long : 12 < l
         value_is = ap (λ (bs : List (List ℕ)). value_in bs view) all
             ∙ value_last (all_buffers old) [] value view long most few (omega arith) is;
         filled_is = (λ i. record {
-            count = (counted old new (all_buffers old) h.full ∙ count) i + 1;
-            fill = ap length h.last i;
-          }) ∙ filled_next (filled old) (length value) long past;
+          count = (counted old new (all_buffers old) h.full ∙ count) i + 1;
+          fill = ap length h.last i;
+        }) ∙ filled_next (filled old) (length value) long past;
       }
 
 pub unless_where : {A : Type 0} (r : Result A VortexError) (C : Type 0) (P Q : A → Type 0)

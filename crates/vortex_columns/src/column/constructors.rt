@@ -4,13 +4,14 @@ ghost use Rattle.vortex_columns.specs.Words.{AnswersUnlessMemory, AnswersWhere, 
 ghost use Rattle.vortex_columns.specs.Words.{AreTyped, FitsRows, type_of, validity_of};
 
 use super::{Column, Elements, Storage};
-use crate::lists::{bytes_fit, is_product, learn_bytes, lie_within, texts_fit};
+use crate::lists::{are_texts, is_product, learn_bytes, lie_within};
 use crate::scalar::Scalar;
 use crate::validity::Validity;
 use std::alloc::Global;
 use vortex_bits::BitBuffer;
 use vortex_types::ints::learn_ranges;
 use vortex_types::{DType, NativePType, StructFields, VortexError, VortexResult};
+use vortex_views::{BinaryView, BinaryViews, collect_views};
 
 /// Looks at each column, whose rows have its type.
 fn learn_types(columns: &Vec<Column>)
@@ -51,7 +52,10 @@ impl Column {
     ghost use Rattle.vortex_columns.specs.Words.{constant_column, null_column, bool_column};
     ghost use Rattle.vortex_columns.specs.Words.{int_column, text_column, byte_string_column};
     ghost use Rattle.vortex_columns.specs.Words.{struct_column, list_column, map_column};
-    ghost use Rattle.vortex_columns.specs.Words.{fixed_size_list_column, MakeTexts};
+    ghost use Rattle.vortex_columns.specs.Words.{fixed_size_list_column, MakeTexts, text_rows};
+    ghost use Rattle.vortex_columns.specs.Words.{byte_string_rows, byte_strings_of, MakeTextRows};
+    ghost use Rattle.vortex_columns.specs.Words.{MakeTextViews, MakeByteStringViews};
+    ghost use Rattle.vortex_columns.specs.Words.{values_among};
     ghost use Rattle.vortex_columns.specs.Words.{MakeByteStrings, MakeStructs, MakeLists};
     ghost use Rattle.vortex_columns.specs.Words.{MakeFixedSizeLists, MakeMaps};
 
@@ -122,30 +126,24 @@ impl Column {
         })
     }
 
-    /// A column of texts. E12 exactly where a list of valid bits has another length, or a text is longer than
-    /// 4,294,967,295 bytes.
-    pub fn try_utf8(_alloc: Global, values: Vec<String>, validity: Validity) -> VortexResult<Column>
+    /// A column of texts. E12 exactly where a list of valid bits has another length, a text is longer than 4,294,967,295
+    /// bytes, or more than 4,294,967,296 buffers of so many bytes would be needed.
+    pub fn try_utf8(alloc: Global, values: Vec<String>, validity: Validity) -> VortexResult<Column>
         ensures { AnswersWhere result
             (MakeTexts values.items (validity_of validity))
             (λ c. c ≡ text_column values.items (validity_of validity))
             InvalidColumn }
     {
-        let len = values.len();
-        if !validity.fits(len) || !texts_fit(&values) {
+        if !validity.fits(values.len()) {
             return Err(VortexError::InvalidColumn);
         }
-        let dtype = DType::Utf8(validity.nullability());
-        Ok(Column {
-            dtype,
-            len,
-            storage: Storage::Rows(Elements::Utf8(values), validity),
-        })
+        let views = collect_views(alloc, values.as_slice())?;
+        Ok(Column::of_texts(views, validity))
     }
 
-    /// A column of bytes. E12 exactly where a list of valid bits has another length, or a value is longer than
-    /// 4,294,967,295 bytes.
+    /// A column of bytes. E12 as for texts.
     pub fn try_binary(
-        _alloc: Global,
+        alloc: Global,
         values: Vec<Vec<u8>>,
         validity: Validity,
     ) -> VortexResult<Column>
@@ -154,17 +152,110 @@ impl Column {
             (λ c. c ≡ byte_string_column values.items (validity_of validity))
             InvalidColumn }
     {
-        let len = values.len();
-        if !validity.fits(len) || !bytes_fit(&values) {
+        if !validity.fits(values.len()) {
             return Err(VortexError::InvalidColumn);
         }
+        let views = collect_views(alloc, values.as_slice())?;
+        Ok(Column::of_byte_strings(views, validity))
+    }
+
+    /// A column of texts that are views over buffers, which are taken over as they are. E12 exactly where a list of valid
+    /// bits has another length, a view does not lie among the buffers as it says, under a null too, or a value of a row that
+    /// is not null is not UTF-8.
+    pub fn try_utf8_views(
+        alloc: Global,
+        views: Vec<BinaryView>,
+        buffers: Vec<Vec<u8>>,
+        validity: Validity,
+    ) -> VortexResult<Column>
+        ensures { AnswersWhere result
+            (MakeTextViews views.items buffers.items (validity_of validity))
+            (λ c. c ≡ text_rows (values_among (byte_strings_of buffers.items) views.items)
+            (validity_of validity))
+            InvalidColumn }
+    {
+        Column::try_utf8_values(alloc, BinaryViews::try_new(views, buffers)?, validity)
+    }
+
+    /// A column of bytes that are views over buffers, which are taken over as they are. E12 exactly where a list of valid
+    /// bits has another length, or a view does not lie among the buffers as it says, under a null too.
+    pub fn try_binary_views(
+        alloc: Global,
+        views: Vec<BinaryView>,
+        buffers: Vec<Vec<u8>>,
+        validity: Validity,
+    ) -> VortexResult<Column>
+        ensures { AnswersWhere result
+            (MakeByteStringViews views.items buffers.items (validity_of validity))
+            (λ c. c ≡ byte_string_rows (values_among (byte_strings_of buffers.items) views.items)
+            (validity_of validity))
+            InvalidColumn }
+    {
+        Column::try_binary_values(alloc, BinaryViews::try_new(views, buffers)?, validity)
+    }
+
+    /// A column of texts that a builder has made. E12 exactly where a list of valid bits has another length, or a value of
+    /// a row that is not null is not UTF-8.
+    pub fn try_utf8_values(
+        _alloc: Global,
+        values: BinaryViews,
+        validity: Validity,
+    ) -> VortexResult<Column>
+        ensures { AnswersWhere result
+            (MakeTextRows values (validity_of validity))
+            (λ c. c ≡ text_rows values (validity_of validity))
+            InvalidColumn }
+    {
+        if !validity.fits(values.len()) || !are_texts(&values, &validity) {
+            return Err(VortexError::InvalidColumn);
+        }
+        Ok(Column::of_texts(values, validity))
+    }
+
+    /// A column of bytes that a builder has made. E12 exactly where a list of valid bits has another length.
+    pub fn try_binary_values(
+        _alloc: Global,
+        values: BinaryViews,
+        validity: Validity,
+    ) -> VortexResult<Column>
+        ensures { AnswersWhere result
+            (FitsRows (validity_of validity) (length values))
+            (λ c. c ≡ byte_string_rows values (validity_of validity))
+            InvalidColumn }
+    {
+        if !validity.fits(values.len()) {
+            return Err(VortexError::InvalidColumn);
+        }
+        Ok(Column::of_byte_strings(values, validity))
+    }
+
+    /// A column of these texts.
+    fn of_texts(values: BinaryViews, validity: Validity) -> Column
+        requires { MakeTextRows values (validity_of validity) }
+        ensures { result ≡ text_rows values (validity_of validity) }
+    {
+        let len = values.len();
+        let dtype = DType::Utf8(validity.nullability());
+        Column {
+            dtype,
+            len,
+            storage: Storage::Rows(Elements::Utf8(values), validity),
+        }
+    }
+
+    /// A column of these byte strings.
+    fn of_byte_strings(values: BinaryViews, validity: Validity) -> Column
+        requires { FitsRows (validity_of validity) (length values) }
+        ensures { result ≡ byte_string_rows values (validity_of validity) }
+    {
+        let len = values.len();
         learn_bytes(&values);
         let dtype = DType::Binary(validity.nullability());
-        Ok(Column {
+        Column {
             dtype,
             len,
             storage: Storage::Rows(Elements::Binary(values), validity),
-        })
+        }
     }
 
     /// A column of records, named field by field. E12 exactly where there are not as many names as fields, a name

@@ -4,7 +4,6 @@ ghost use Rattle.vortex_columns.specs.Words.{AnswersUnlessMemory};
 ghost use Rattle.vortex_columns.specs.Stored.{kept_of, stored_of};
 
 use super::{Column, Elements, Storage};
-use crate::lists::{copy_bytes, copy_texts};
 use std::alloc::{AllocError, Global};
 use vortex_types::VortexResult;
 
@@ -35,8 +34,8 @@ impl Elements {
         match self {
             Elements::Bool(bits) => Ok(Elements::Bool(bits.clone()?)),
             Elements::Primitive(ints) => Ok(Elements::Primitive(ints.clone()?)),
-            Elements::Utf8(values) => Ok(Elements::Utf8(copy_texts(values)?)),
-            Elements::Binary(values) => Ok(Elements::Binary(copy_bytes(values)?)),
+            Elements::Utf8(values) => Ok(Elements::Utf8(values.clone()?)),
+            Elements::Binary(values) => Ok(Elements::Binary(values.clone()?)),
             Elements::Struct(fields) => Ok(Elements::Struct(copy_columns(fields)?)),
             Elements::List(elements, offsets, sizes) => {
                 let elements = Box::new(*Box::allocator(elements), elements.copy()?)?;

@@ -3,7 +3,6 @@ ghost use Rattle.std.specs.Prelude.{◌≡◌, ◌≢◌, ◌<◌, MatchOption, 
 ghost use Rattle.vortex_columns.specs.Words.{row, is_null, type_of, AnswersUnlessMemory};
 
 use super::{Column, Storage};
-use crate::byte_rows::ByteRows;
 use crate::cell::Cell;
 use crate::scalar::Scalar;
 use crate::validity::Validity;
@@ -11,6 +10,7 @@ use std::alloc::Global;
 use std::cmp::Ordering;
 use vortex_bits::BitBuffer;
 use vortex_types::{DType, NativePType, VortexResult};
+use vortex_views::ResolvedViews;
 
 impl Column {
     ghost use Rattle.vortex_columns.specs.Words.{AreTyped, TellsNulls, TellsTruly, FitsRows, validity_of};
@@ -105,7 +105,7 @@ impl Column {
 /// The parts of a column that is no constant, lent. Takes no memory.
 impl Column {
     ghost use Rattle.vortex_columns.specs.Words.{HasBits, AreBits, HasInts, AreInts, HasBytes};
-    ghost use Rattle.vortex_columns.specs.Words.{AreBytes, AreBytesAt, bytes_of, array, valid_rows};
+    ghost use Rattle.vortex_columns.specs.Words.{AreBytes, AreBytesAt, lent_values, array, valid_rows};
     ghost use Rattle.vortex_columns.specs.Words.{HasField, IsField, HasKind, AreLists, AreMaps};
     ghost use Rattle.vortex_columns.specs.Words.{AreFixedSizeLists, is_list_type, is_map_type};
     ghost use Rattle.vortex_columns.specs.Words.{is_fixed_size_list_type};
@@ -133,14 +133,14 @@ impl Column {
         }
     }
 
-    /// The texts or byte strings, one a row, of a column of texts or bytes that is no constant. What lies under a null
-    /// says nothing.
-    pub fn byte_rows(&self) -> Option<ByteRows<'_>>
+    /// The texts or byte strings, one a row, of a column of texts or bytes that is no constant, as views with their
+    /// buffers. What lies under a null says nothing, and need not be UTF-8.
+    pub fn views(&self) -> Option<ResolvedViews<'_>>
         ensures { MatchOption result (¬ HasBytes self.now)
-            (λ rows. HasBytes self.now × AreBytes self.now (bytes_of rows)) }
+            (λ views. HasBytes self.now × AreBytes self.now (lent_values views)) }
     {
         match &self.storage {
-            Storage::Rows(elements, _) => elements.byte_rows(),
+            Storage::Rows(elements, _) => elements.views(),
             _ => None,
         }
     }
@@ -152,8 +152,8 @@ impl Column {
         ensures { MatchOption result (¬ HasBytes self.now)
             (λ bs. HasBytes self.now × AreBytesAt i self.now bs.now) }
     {
-        let rows = self.byte_rows()?;
-        Some(rows.bytes(i))
+        let views = self.views()?;
+        Some(views.bytes(i))
     }
 
     /// The rows that are not null, where the validity's form is an array of bits.

@@ -1,14 +1,15 @@
 //! The stored rows of a column, read where they lie.
-ghost use Rattle.std.specs.Prelude.{◌≡◌, ◌≢◌, ◌+◌, ◌*◌, ◌≤◌, MatchOption, length, map};
-ghost use Rattle.vortex_columns.specs.Words.{cell_value, IsCell, bytes_of, part};
+ghost use Rattle.std.specs.Prelude.{◌≡◌, ◌≢◌, ◌+◌, ◌*◌, ◌<◌, ◌≤◌, MatchOption, length, map};
+ghost use Rattle.std.specs.Prelude.{[], true, slice_index_or};
+ghost use Rattle.vortex_columns.specs.Words.{cell_value, IsCell, lent_values, part};
 
 use super::{Column, Elements, Storage};
-use crate::byte_rows::ByteRows;
 use crate::cell::{Cell, Sequence};
 use crate::validity::Validity;
 use std::alloc::Global;
 use vortex_bits::BitBuffer;
 use vortex_types::{NativePType, VortexResult};
+use vortex_views::{BinaryViews, ResolvedViews};
 
 /// List `i` of lists of one size.
 fn fixed_cell(elements: &Column, size: usize, i: usize) -> Cell<'_>
@@ -21,24 +22,35 @@ fn fixed_cell(elements: &Column, size: usize, i: usize) -> Cell<'_>
     Cell::Sequence(Sequence::Elements(elements, size * i, size))
 }
 
+/// The bytes of value `i`.
+fn bytes_of(values: &BinaryViews, i: usize) -> &[u8]
+    requires { i < length values.now }
+    ensures { result.now ≡ slice_index_or values.now i [] }
+{
+    values.resolved().bytes(i)
+}
+
 impl Elements {
     ghost use Rattle.vortex_columns.specs.Stored.{bools, integers, lists, fixed_size_lists, maps};
-    ghost use Rattle.vortex_columns.specs.Stored.{kept_of, kept_at, HasPlace};
+    ghost use Rattle.vortex_columns.specs.Stored.{kept_of, kept_at, HasPlace, IsTextAt};
     ghost use Rattle.vortex_columns.specs.KeptParts.{KeptBits, KeptInts, KeptBytes, KeptField};
     ghost use Rattle.vortex_columns.specs.KeptParts.{IsKeptField, KeptLists, KeptFixedSizeLists};
     ghost use Rattle.vortex_columns.specs.KeptParts.{KeptMaps, kept_bytes};
 
     /// The value in place `i`.
     pub(super) fn cell(&self, i: usize) -> Cell<'_>
-        requires { HasPlace i (kept_of self.now) }
+        requires place { HasPlace i (kept_of self.now) }
+        requires text { IsTextAt i (kept_of self.now) }
         ensures whole { IsCell result }
         ensures value { cell_value result ≡ kept_at (kept_of self.now) i }
     {
         match self {
             Elements::Bool(bits) => Cell::Bool(bits.value(i)),
             Elements::Primitive(ints) => Cell::Int(ints.at(i)),
-            Elements::Utf8(values) => Cell::Text(values[i].as_str()),
-            Elements::Binary(values) => Cell::Bytes(values[i].as_slice()),
+            Elements::Utf8(values) => {
+                Cell::Text(unsafe { str::from_utf8_unchecked(bytes_of(values, i)) })
+            }
+            Elements::Binary(values) => Cell::Bytes(bytes_of(values, i)),
             Elements::Struct(fields) => Cell::Sequence(Sequence::Fields(fields, i)),
             Elements::List(elements, offsets, sizes) => {
                 Cell::Sequence(Sequence::Elements(elements, offsets[i], sizes[i]))
@@ -70,14 +82,14 @@ impl Elements {
         }
     }
 
-    pub(super) fn byte_rows(&self) -> Option<ByteRows<'_>>
+    pub(super) fn views(&self) -> Option<ResolvedViews<'_>>
         ensures { MatchOption result (¬ KeptBytes (kept_of self.now))
-            (λ rows. KeptBytes (kept_of self.now)
-            × (kept_bytes (kept_of self.now) ≡ bytes_of rows)) }
+            (λ views. KeptBytes (kept_of self.now)
+            × (kept_bytes (kept_of self.now) ≡ lent_values views)) }
     {
         match self {
-            Elements::Utf8(values) => Some(ByteRows::of_texts(values)),
-            Elements::Binary(values) => Some(ByteRows::of_byte_strings(values)),
+            Elements::Utf8(values) => Some(values.resolved()),
+            Elements::Binary(values) => Some(values.resolved()),
             _ => None,
         }
     }
@@ -145,7 +157,8 @@ impl Storage {
 
     /// The value of a row that is valid.
     pub(super) fn cell(&self, i: usize) -> Cell<'_>
-        requires { HasRow i (stored_of self.now) }
+        requires row { HasRow i (stored_of self.now) }
+        requires valid { is_valid_row (stored_validity (stored_of self.now)) i ≡ true }
         ensures whole { IsCell result }
         ensures value { cell_value result ≡ value_at (stored_of self.now) i }
     {

@@ -7,7 +7,10 @@ is_valid-requires c =
     opened_has_row c.self.inside _ c.self.view_is c.args.i c.self.invariant c.requires
 
 pub cell-requires : goal.cell-requires
-cell-requires c = opened_has_row c.self.inside _ c.self.view_is c.args.i c.self.invariant c.requires
+cell-requires c = record {
+  row = opened_has_row c.self.inside _ c.self.view_is c.args.i c.self.invariant c.requires;
+  valid = sym c.is_valid.ensures ∙ c.if-is_valid.true;
+}
 
 pub returns-then-is_valid-clause-value : goal.returns-then-is_valid-clause-value
 returns-then-is_valid-clause-value c =

@@ -19,6 +19,7 @@ invariant_of-result c =
             (c.all_have_len.ensures.0 (search rules)) c.learn_types.ensures,
       ),
       c.fits.ensures.0 (search rules),
+      λ i h valid. tt,
     )
 
 pub returns : goal.returns
