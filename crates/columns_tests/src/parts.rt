@@ -140,7 +140,7 @@ fn lends_second(column: &Column, wanted: &[u8]) -> bool {
     if column.len() != 2 {
         return false;
     }
-    match column.byte_rows() {
+    match column.views() {
         Some(rows) if rows.len() == 2 => {
             rows.bytes(1) == wanted && column.bytes_at(1) == Some(wanted)
         }

@@ -9,3 +9,4 @@ pub mod KleeneAnswers
 pub mod ConstantResults
 pub mod BetweenRows
 pub mod BoundedRows
+pub mod EqualBytes

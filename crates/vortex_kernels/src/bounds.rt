@@ -11,7 +11,7 @@ use crate::pairs::{
 use std::alloc::Global;
 use std::marker::PhantomData;
 use vortex_bits::{RowBits, collect_rows};
-use vortex_columns::{BitBuffer, ByteRows, Column, DType, NativePType, PType, VortexResult};
+use vortex_columns::{BitBuffer, Column, DType, NativePType, PType, VortexResult};
 
 /// Whether both comparisons say yes, each to its pair.
 #[derive(Clone, Copy)]
@@ -135,10 +135,10 @@ fn texts_beside<P: Comparison, Q: Comparison, L: Pairs>(
         upper.now.rows)) }
 {
     let len = array.len();
-    let Some(left) = array.byte_rows() else {
+    let Some(left) = array.views() else {
         return Ok(None);
     };
-    if let Some(right) = upper.byte_rows() {
+    if let Some(right) = upper.views() {
         let pairs = BytesPairs { left, right };
         let bits = hold_in_both::<P, Q, L, BytesPairs>(alloc, lower, pairs, len)?;
         return Ok(Some(bits));
@@ -165,10 +165,10 @@ fn texts_between<P: Comparison, Q: Comparison>(
         (AreBounded P.operator Q.operator array.now.rows lower.now.rows upper.now.rows)) }
 {
     let _ = array.len();
-    let Some(left) = array.byte_rows() else {
+    let Some(left) = array.views() else {
         return Ok(None);
     };
-    if let Some(right) = lower.byte_rows() {
+    if let Some(right) = lower.views() {
         let pairs = BytesPairs { left, right };
         return texts_beside::<P, Q, BytesPairs>(alloc, array, pairs, upper);
     }

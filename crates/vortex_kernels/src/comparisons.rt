@@ -5,6 +5,7 @@ ghost use Rattle.vortex_kernels.specs.Words.{byte_order};
 
 use std::cmp::Ordering;
 use vortex_bits::WordFormula;
+use vortex_views::{WordsOfBytes, compare, equal};
 
 /// A comparison.
 pub(crate) trait Comparison: WordFormula + Copy {
@@ -19,10 +20,10 @@ pub(crate) trait Comparison: WordFormula + Copy {
         ensures { result ≡ holds operator order };
 
     /// Whether it says yes to those texts or byte strings.
-    fn holds_of_bytes(left: &[u8], right: &[u8]) -> bool
-        ensures { result ≡ holds operator (byte_order left.now right.now) }
+    fn holds_of_bytes<A: WordsOfBytes, B: WordsOfBytes>(left: &A, right: &B) -> bool
+        ensures { result ≡ holds operator (byte_order (A.value left.now) (B.value right.now)) }
     {
-        Self::holds(left.cmp(right))
+        Self::holds(compare(left, right))
     }
 
     /// In words it says of two truth values what it says of their order.
@@ -70,8 +71,8 @@ impl Comparison for IsEqual {
         order.is_eq()
     }
 
-    fn holds_of_bytes(left: &[u8], right: &[u8]) -> bool {
-        left == right
+    fn holds_of_bytes<A: WordsOfBytes, B: WordsOfBytes>(left: &A, right: &B) -> bool {
+        equal(left, right)
     }
 }
 
@@ -98,8 +99,8 @@ impl Comparison for IsNotEqual {
         order.is_ne()
     }
 
-    fn holds_of_bytes(left: &[u8], right: &[u8]) -> bool {
-        left != right
+    fn holds_of_bytes<A: WordsOfBytes, B: WordsOfBytes>(left: &A, right: &B) -> bool {
+        !equal(left, right)
     }
 }
 

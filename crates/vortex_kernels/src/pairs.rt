@@ -3,9 +3,9 @@ ghost use Rattle.std.specs.Prelude.{◌≡◌, ◌<◌, ℕ, true, map, length};
 ghost use Rattle.std.specs.Prelude.{IsSome, IfSome, IfNone};
 ghost use Rattle.std.specs.declared.cmp.Ordering.{Ordering};
 ghost use Rattle.vortex_kernels.specs.Words.{AnswersUnlessMemory, number, truth, truth_of};
-ghost use Rattle.vortex_kernels.specs.Words.{is_text_type, row, bytes_of, holds, row_orders};
+ghost use Rattle.vortex_kernels.specs.Words.{is_text_type, row, lent_values, holds, row_orders};
 ghost use Rattle.vortex_kernels.specs.Words.{int_orders, int_orders_with, bit_orders};
-ghost use Rattle.vortex_kernels.specs.Words.{bit_orders_with, byte_orders, byte_orders_with};
+ghost use Rattle.vortex_kernels.specs.Words.{bit_orders_with, byte_orders, byte_orders_with, constant_value};
 ghost use Rattle.vortex_kernels.specs.Words.{AreHeld, IsConstantOf, IsConstantBytes};
 ghost use Rattle.vortex_kernels.specs.Words.{AreComparisons, IsIntegerType, IsNullColumn};
 
@@ -14,7 +14,10 @@ use crate::integer_types::with_integer;
 use std::alloc::Global;
 use std::marker::PhantomData;
 use vortex_bits::{RowBits, collect_rows, zip_bits, zip_bits_with};
-use vortex_columns::{BitBuffer, ByteRows, Cell, Column, DType, NativePType, PType, VortexResult};
+use vortex_columns::{
+    BitBuffer, Cell, Column, DType, NativePType, PType, ResolvedViews, VortexResult,
+};
+use vortex_views::ConstantBytes;
 
 /// Pairs of values, a left and a right one for each row.
 pub(crate) trait Pairs: Copy {
@@ -116,34 +119,34 @@ impl<T: NativePType> Pairs for IntsAndOne<'_, T> {
 /// The texts or the byte strings of two columns.
 #[derive(Clone, Copy)]
 pub(crate) struct BytesPairs<'a> {
-    pub(crate) left: ByteRows<'a>,
-    pub(crate) right: ByteRows<'a>,
+    pub(crate) left: ResolvedViews<'a>,
+    pub(crate) right: ResolvedViews<'a>,
 }
 
 impl Pairs for BytesPairs<'_> {
-    ghost has_pair = { λ p i. (i < length (bytes_of p.left)) × (i < length (bytes_of p.right)) };
+    ghost has_pair = { λ p i. (i < length (lent_values p.left)) × (i < length (lent_values p.right)) };
 
-    ghost order = { λ p. byte_orders (bytes_of p.left) (bytes_of p.right) };
+    ghost order = { λ p. byte_orders (lent_values p.left) (lent_values p.right) };
 
     fn holds_at<P: Comparison>(&self, i: usize) -> bool {
-        P::holds_of_bytes(self.left.bytes(i), self.right.bytes(i))
+        P::holds_of_bytes(&self.left.row(i), &self.right.row(i))
     }
 }
 
 /// The texts or the byte strings of a column beside one.
 #[derive(Clone, Copy)]
 pub(crate) struct BytesAndOne<'a> {
-    pub(crate) left: ByteRows<'a>,
-    pub(crate) right: &'a [u8],
+    pub(crate) left: ResolvedViews<'a>,
+    pub(crate) right: ConstantBytes<'a>,
 }
 
 impl Pairs for BytesAndOne<'_> {
-    ghost has_pair = { λ p i. i < length (bytes_of p.left) };
+    ghost has_pair = { λ p i. i < length (lent_values p.left) };
 
-    ghost order = { λ p. byte_orders_with (bytes_of p.left) p.right.now };
+    ghost order = { λ p. byte_orders_with (lent_values p.left) (constant_value p.right) };
 
     fn holds_at<P: Comparison>(&self, i: usize) -> bool {
-        P::holds_of_bytes(self.left.bytes(i), self.right)
+        P::holds_of_bytes(&self.left.row(i), &self.right)
     }
 }
 
@@ -231,8 +234,19 @@ fn hold_in_bools<P: Comparison>(
     }
 }
 
+/// Bytes with their words, if a view can tell their length.
+fn with_words(bytes: &[u8]) -> Option<ConstantBytes<'_>>
+    ensures { IfSome result (λ one. constant_value one ≡ bytes.now) }
+{
+    if bytes.len() <= 4294967295 {
+        Some(ConstantBytes::new(bytes))
+    } else {
+        None
+    }
+}
+
 /// The bytes of the text or byte string in each row of a constant column.
-pub(crate) fn constant_bytes(column: &Column) -> Option<&[u8]>
+fn constant_slice(column: &Column) -> Option<&[u8]>
     ensures { IfSome result (λ bs. IsConstantBytes column.now bs.now) }
 {
     let scalar = column.as_constant()?;
@@ -242,6 +256,13 @@ pub(crate) fn constant_bytes(column: &Column) -> Option<&[u8]>
         Cell::Bytes(bytes) => Some(bytes),
         _ => None,
     }
+}
+
+/// The same, with its words.
+pub(crate) fn constant_bytes(column: &Column) -> Option<ConstantBytes<'_>>
+    ensures { IfSome result (λ one. IsConstantBytes column.now (constant_value one)) }
+{
+    with_words(constant_slice(column)?)
 }
 
 fn hold_in_bytes<P: Comparison>(
@@ -255,7 +276,7 @@ fn hold_in_bytes<P: Comparison>(
         (AreComparisons P.operator lhs.now.rows rhs.now.rows) }
 {
     let len = lhs.len();
-    match (lhs.byte_rows(), rhs.byte_rows(), constant_bytes(rhs)) {
+    match (lhs.views(), rhs.views(), constant_bytes(rhs)) {
         (Some(left), Some(right), _) => {
             hold_in_pairs::<P, BytesPairs>(alloc, BytesPairs { left, right }, len)
         }

@@ -1,6 +1,7 @@
-use Rattle.std.proofs.Common.{◌∙◌, sym}
-use Rattle.std.proofs.lemmas.Map.Text.{is_eq-slice_cmp}
+use Rattle.vortex_kernels.proofs.EqualBytes.{equal_by_order}
 use Rattle.vortex_kernels.proofs.comparisons.IsEqualComparison.holds_of_bytes.Goals as goal
 
 pub returns : goal.returns
-returns c = c.eq.ensures ∙ sym (is_eq-slice_cmp c.args.left.now c.args.right.now)
+returns g c =
+    equal_by_order c.equal.result (g.A.WordsOfBytes.value c.args.left.now)
+    (g.B.WordsOfBytes.value c.args.right.now) c.equal.ensures

@@ -2,7 +2,7 @@ use Rattle.std.proofs.Common.{sym, ap, ◌∙◌}
 use Rattle.vortex_columns.specs.Cells.{cell_value}
 use Rattle.vortex_types.specs.Values.{text}
 use Rattle.vortex_kernels.proofs.Comparing.{constant_text, constant_bytes}
-use Rattle.vortex_kernels.proofs.pairs.constant_bytes.Goals as goal
+use Rattle.vortex_kernels.proofs.pairs.constant_slice.Goals as goal
 
 pub returns-in-Text : goal.returns-in-Text
 returns-in-Text c =
