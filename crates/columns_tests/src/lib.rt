@@ -17,3 +17,5 @@ mod scalars;
 mod types;
 #[cfg(test)]
 mod values;
+#[cfg(test)]
+mod views;

@@ -3,12 +3,15 @@ use Rattle.std.proofs.Common.{tests, ◌≡◌, ℕ, zero, suc, ◌+◌, add-one
 use Rattle.std.proofs.Common.{false, Option, Some, None, Result, List, [], ◌∷◌, ◌++◌, ℤ, pos, map}
 use Rattle.std.proofs.Common.{length, get_or, refl, sym, ap, subst, ◌∙◌, arith, length-append}
 use Rattle.std.proofs.Common.{append_assoc, option_map, ◌&&◌, if◌then◌else◌, All}
-use Rattle.std.specs.Prelude.{slice_index_or, is_some, unwrap_or}
+use Rattle.std.specs.Prelude.{slice_index_or, is_some, unwrap_or, nat_le}
+use Rattle.vortex_views.specs.Placing.{Placed, none_placed, placed_from, most_bytes, most_buffers}
+use Rattle.vortex_views.specs.Placing.{buffers_needed}
+use Rattle.vortex_views.specs.Collected.{HaveRoom}
 use Rattle.std.proofs.Math.Seq.{drop-cons}
 use Rattle.std.specs.List.{list_all}
 use Rattle.std.specs.Option.{option_and_then}
-use Rattle.std.proofs.lemmas.Bool.{and_from, and_parts}
-use Rattle.std.proofs.lemmas.List.{get_or-map, length-map, map-append, ext_get_or}
+use Rattle.std.proofs.lemmas.Bool.{and_from, and_parts, le-leb, leb-true}
+use Rattle.std.proofs.lemmas.List.{get_or-map, length-map, map-append, map_push, ext_get_or}
 use Rattle.std.proofs.lemmas.List.FromFn.{get_or-map-range_with_len, length-map-range_with_len}
 use Rattle.vortex_errors.specs.declared.error.VortexError.{VortexError}
 use Rattle.vortex_errors.specs.Answers.{AnswersWhere}
@@ -23,7 +26,7 @@ use Rattle.vortex_columns.specs.Stored.{made_of}
 use Rattle.rowfn_lines.specs.Lines.{Word, plain, quoted}
 use Rattle.rowfn_lines.specs.Ranges.{in_range}
 use Rattle.rowfn_lines.specs.Commands.{integer_of, number_where, cell_of, cells_of, with_cell}
-use Rattle.rowfn_lines.specs.Commands.{value_said, says_null, fits_column, column_of, column_where}
+use Rattle.rowfn_lines.specs.Commands.{value_said, says_null, text_bytes, texts_fit, fit_column, column_of, column_where}
 use Rattle.rowfn_lines.specs.Cells.{cells_from, item_or_null, IsMade, AreItems, AreCells}
 use Rattle.rowfn_lines.specs.Cells.{cells_validity}
 
@@ -76,27 +79,63 @@ texts_at f (x ∷ xs) zero h = refl
 texts_at f (x ∷ xs) (suc i) h = texts_at f xs i (omega arith)
 
 -- which values fit a column
-pub all_fit : {X : Type 0} (f : X → Value) → ((x : X) → fits_column (f x) ≡ true) → (xs : List X)
-    → list_all fits_column (map f xs) ≡ true
-all_fit f h [] = refl
-all_fit f h (x ∷ xs) = λ i. h x i && all_fit f h xs i
+texts_of_none : {X : Type 0} (f : X → Value) → ((x : X) → text_bytes (f x) ≡ []) → (xs : List X)
+    → map text_bytes (map f xs) ≡ map (λ x. []) xs
+texts_of_none f h [] = refl
+texts_of_none f h (x ∷ xs) = λ i. h x i ∷ texts_of_none f h xs i
 
-pub texts_fit : {X : Type 0} (f : X → List ℕ) (xs : List X)
-    → All (λ x. length (f x) ≤ 4294967295) xs
-    → list_all fits_column (map (λ x. text (f x)) xs) ≡ true
-texts_fit f [] h = refl
-texts_fit f (x ∷ xs) h =
-    and_from _ _ (grind (arith, tests, h 0 x (omega arith)))
-    (texts_fit f xs (λ k d lt. h (suc k) d (omega arith)))
+none_long : {X : Type 0} (xs : List X)
+    → list_all (λ (t : List ℕ). nat_le (length t) most_bytes) (map (λ x. []) xs) ≡ true
+none_long [] = refl
+none_long (x ∷ xs) = none_long xs
 
-pub fitting_texts : {X : Type 0} (f : X → List ℕ) (xs : List X)
-    → list_all fits_column (map (λ x. text (f x)) xs) ≡ true
-    → All (λ x. length (f x) ≤ 4294967295) xs
-fitting_texts f [] h k d lt = absurd (omega arith)
-fitting_texts f (x ∷ xs) h zero d lt =
-    let here = (and_parts (fits_column (text (f x))) _ h).0 in grind (arith, tests)
-fitting_texts f (x ∷ xs) h (suc k) d lt =
-    fitting_texts f xs (and_parts (fits_column (text (f x))) _ h).1 k d (omega arith)
+none_place : {X : Type 0} (p : Placed) (xs : List X) → placed_from p (map (λ x. []) xs) ≡ p
+none_place p [] = refl
+none_place p (x ∷ xs) = none_place p xs
+
+none_fit : {X : Type 0} (xs : List X) → texts_fit (map (λ x. []) xs) ≡ true
+none_fit xs = λ i. none_long xs i && nat_le (none_place none_placed xs i).count most_buffers
+
+pub all_fit : {X : Type 0} (f : X → Value) → ((x : X) → text_bytes (f x) ≡ []) → (xs : List X)
+    → fit_column (map f xs) ≡ true
+all_fit f h xs = ap texts_fit (texts_of_none f h xs) ∙ none_fit xs
+
+texts_of_texts : {X : Type 0} (f : X → List ℕ) (xs : List X)
+    → map text_bytes (map (λ x. text (f x)) xs) ≡ map f xs
+texts_of_texts f [] = refl
+texts_of_texts f (x ∷ xs) = λ i. f x ∷ texts_of_texts f xs i
+
+short_all : (ts : List (List ℕ)) → All (λ t. length t ≤ most_bytes) ts
+    → list_all (λ t. nat_le (length t) most_bytes) ts ≡ true
+short_all [] h = refl
+short_all (t ∷ ts) h =
+    and_from _ _ (grind (arith, tests, h 0 t (omega arith)))
+    (short_all ts (λ k d lt. h (suc k) d (omega arith)))
+
+all_short : (ts : List (List ℕ)) → list_all (λ t. nat_le (length t) most_bytes) ts ≡ true
+    → All (λ t. length t ≤ most_bytes) ts
+all_short [] h k d lt = absurd (omega arith)
+all_short (t ∷ ts) h zero d lt =
+    let here = (and_parts (nat_le (length t) most_bytes) _ h).0 in grind (arith, tests)
+all_short (t ∷ ts) h (suc k) d lt =
+    all_short ts (and_parts (nat_le (length t) most_bytes) _ h).1 k d (omega arith)
+
+pub room_fits : {X : Type 0} (f : X → List ℕ) (xs : List X) → HaveRoom (map f xs)
+    → fit_column (map (λ x. text (f x)) xs) ≡ true
+room_fits f xs h =
+    ap texts_fit (texts_of_texts f xs)
+    ∙ and_from _ _ (short_all (map f xs) h.lens) (le-leb (buffers_needed (map f xs)) most_buffers h.buffers)
+
+pub fitting_room : {X : Type 0} (f : X → List ℕ) (xs : List X)
+    → fit_column (map (λ x. text (f x)) xs) ≡ true → HaveRoom (map f xs)
+fitting_room f xs h =
+    let both =
+    and_parts (list_all (λ (t : List ℕ). nat_le (length t) most_bytes) (map f xs)) _
+    (sym (ap texts_fit (texts_of_texts f xs)) ∙ h) in
+    record {
+      lens = all_short (map f xs) both.0;
+      buffers = leb-true (buffers_needed (map f xs)) most_buffers both.1;
+    }
 
 cells_more : (vs : List Value) (valid : List Bool) (v : Value) (b : Bool) → length valid ≡ length vs
     → cells_from (vs ++ v ∷ []) (valid ++ b ∷ [])
@@ -107,25 +146,10 @@ cells_more (w ∷ ws) [] v b h = absurd (omega (arith, h))
 cells_more (w ∷ ws) (c ∷ cs) v b h =
     ap (λ (xs : List Value). (if c then w else null) ∷ xs) (cells_more ws cs v b (omega (arith, h)))
 
-all_more : (vs : List Value) (v : Value)
-    → list_all fits_column (vs ++ v ∷ []) ≡ (list_all fits_column vs && fits_column v)
-all_more [] v = by (fits_column v)
-  where
-    by : (b : Bool) → (b && true) ≡ (true && b)
-    by true = refl
-    by false = refl
-all_more (w ∷ ws) v =
-    ap (λ b. fits_column w && b) (all_more ws v)
-    ∙ assoc (fits_column w) (list_all fits_column ws) (fits_column v)
-  where
-    assoc : (a b c : Bool) → (a && (b && c)) ≡ ((a && b) && c)
-    assoc true b c = refl
-    assoc false b c = refl
-
-fits_alike : (v : Value) (b : Bool) → (b ≡ false → fits_column v ≡ true)
-    → fits_column (if b then v else null) ≡ fits_column v
-fits_alike v true h = refl
-fits_alike v false h = sym (h refl)
+texts_alike : (v : Value) (b : Bool) → (b ≡ false → text_bytes v ≡ [])
+    → text_bytes (if b then v else null) ≡ text_bytes v
+texts_alike v true h = refl
+texts_alike v false h = sym (h refl)
 
 last_or_before : (xs : List Bool) (x : Bool) (i : ℕ) → i < length (xs ++ x ∷ [])
     → ((k : ℕ) → k < length xs → slice_index_or xs k true ≡ true) → x ≡ true
@@ -138,16 +162,16 @@ last_or_before (y ∷ ys) x (suc i) lt h e =
 
 -- one more item
 pub items_more : (n : Bool) (vs : List Value) (valid : List Bool) (v : Value) (b : Bool)
-    → AreItems n vs valid → (n ≡ false → b ≡ true) → (b ≡ false → fits_column v ≡ true)
+    → AreItems n vs valid → (n ≡ false → b ≡ true) → (b ≡ false → text_bytes v ≡ [])
     → AreItems n (vs ++ v ∷ []) (valid ++ b ∷ [])
 items_more n vs valid v b h p f = record {
   count = omega (arith, length-append vs (v ∷ []), length-append valid (b ∷ []), h.count);
   plain = λ e i lt. last_or_before valid b i lt (h.plain e) (p e);
-  fit =
-      ap (list_all fits_column) (cells_more vs valid v b h.count)
-      ∙ all_more (cells_from vs valid) (if b then v else null)
-      ∙ (λ i. h.fit i && fits_alike v b f i)
-      ∙ sym (all_more vs v);
+  texts =
+      ap (map text_bytes) (cells_more vs valid v b h.count)
+      ∙ map_push text_bytes (cells_from vs valid) (if b then v else null)
+      ∙ (λ i. h.texts i ++ texts_alike v b f i ∷ [])
+      ∙ sym (map_push text_bytes vs v);
 }
 
 one_more_after : (xs : List Value) (v : Value) (rest : Option (List Value))
@@ -246,13 +270,13 @@ fits_cells false vs valid e = tt
 pub column_made : (kind : Bool → LogicalType) (n : Bool) (vs : List Value) (valid : List Bool)
     (said : Option (List Value)) (v : ValidityView) (c : ColumnView)
     → is_nullable (kind n) ≡ n → AreCells n vs valid said → v ≡ cells_validity n valid
-    → list_all fits_column vs ≡ true → IsMade kind v vs c
+    → fit_column vs ≡ true → IsMade kind v vs c
     → Some c ≡ option_and_then (column_where (kind n)) said
 column_made kind n vs valid said v c nullable cells validity fit made =
     ap Some is
     ∙ sym
     (ap (λ b. if b then Some (column_of (kind n) (cells_from vs valid)) else None)
-    (cells.items.fit ∙ fit))
+    (ap texts_fit cells.items.texts ∙ fit))
     ∙ sym (ap (option_and_then (column_where (kind n))) cells.says)
   where
     rows_are : c.rows ≡ cells_from vs valid
@@ -286,11 +310,11 @@ column_made kind n vs valid said v c nullable cells validity fit made =
 pub column_unmade : (t : LogicalType) (n : Bool) (vs : List Value) (valid : List Bool)
     (said : Option (List Value)) (v : ValidityView)
     → AreCells n vs valid said → v ≡ cells_validity n valid
-    → ¬ (FitsRows v (length vs) × (list_all fits_column vs ≡ true))
+    → ¬ (FitsRows v (length vs) × (fit_column vs ≡ true))
     → None ≡ option_and_then (column_where t) said
-column_unmade t n vs valid said v cells validity unfit = by (list_all fits_column vs) refl
+column_unmade t n vs valid said v cells validity unfit = by (fit_column vs) refl
   where
-    by : (b : Bool) → list_all fits_column vs ≡ b → None ≡ option_and_then (column_where t) said
+    by : (b : Bool) → fit_column vs ≡ b → None ≡ option_and_then (column_where t) said
     by true e =
         absurd (unfit (
           subst (λ (u : ValidityView). FitsRows u (length vs)) (sym validity)
@@ -301,15 +325,15 @@ column_unmade t n vs valid said v cells validity unfit = by (list_all fits_colum
         sym
         (ap (option_and_then (column_where t)) cells.says
         ∙ ap (λ b. if b then Some (column_of t (cells_from vs valid)) else None)
-        (cells.items.fit ∙ e))
+        (ap texts_fit cells.items.texts ∙ e))
 
 item_is : {X : Type 0} (f : X → Value) (o : Option X) (d : X)
     → item_or_null f o ≡ (if is_some o then f (unwrap_or o d) else null)
 item_is f None d = refl
 item_is f (Some x) d = refl
 
-blank_fits : {X : Type 0} (f : X → Value) (o : Option X) (d : X) → fits_column (f d) ≡ true
-    → is_some o ≡ false → fits_column (f (unwrap_or o d)) ≡ true
+blank_fits : {X : Type 0} (f : X → Value) (o : Option X) (d : X) → text_bytes (f d) ≡ []
+    → is_some o ≡ false → text_bytes (f (unwrap_or o d)) ≡ []
 blank_fits f None d h e = h
 blank_fits f (Some x) d h e = cc
 
@@ -327,7 +351,7 @@ pub cell_read : {W X : Type 0} (t : LogicalType) (n : Bool) (word : W → Word) 
     (cells_of t (map word (drop i words)))
     ≡ all
     → cell_of t (word (get_or words i d)) ≡ Some (item_or_null value cell)
-    → fits_column (value blank) ≡ true
+    → text_bytes (value blank) ≡ []
     → AreItems n (map value (items ++ unwrap_or cell blank ∷ [])) (valid ++ is_some cell ∷ [])
     × (option_map
     (λ ys.

@@ -23,7 +23,7 @@ use Rattle.rowfn_lines.specs.Lines.{after_quotes, after_spaces}
 use Rattle.rowfn_lines.specs.Commands.{Command, nothing, malformed, rows, column, get, literal}
 use Rattle.rowfn_lines.specs.Commands.{call, show, optimize, run, run_after, begins_comment}
 use Rattle.rowfn_lines.specs.Commands.{is_name, number_where, integer_of, value_said, says_null}
-use Rattle.rowfn_lines.specs.Commands.{cell_of, with_cell, cells_of, fits_column, column_of}
+use Rattle.rowfn_lines.specs.Commands.{cell_of, with_cell, cells_of, fit_column, column_of}
 use Rattle.rowfn_lines.specs.Commands.{column_where, column_said, literal_said, only_word}
 use Rattle.rowfn_lines.specs.Commands.{or_malformed, rows_command, count_of, limit_of, name_of}
 use Rattle.rowfn_lines.specs.Commands.{type_of_word, column_command, literal_command, get_command}
@@ -244,7 +244,7 @@ column_in : (t : LogicalType) (o : Option (List Value)) (c : ColumnView)
     → ((vs : List Value) → o ≡ Some vs → AreTyped t vs)
     → option_and_then (column_where t) o ≡ Some c → AreTyped c.dtype c.rows
 column_in t None c h e = cc
-column_in t (Some vs) c h e = column_by t vs c (list_all fits_column vs) (h vs refl) e
+column_in t (Some vs) c h e = column_by t vs c (fit_column vs) (h vs refl) e
 
 column_typed : (ws : List Word) → AreTexts ws → (o : Option LogicalType) (c : ColumnView)
     → option_and_then (λ t. column_said t ws) o ≡ Some c → AreTyped c.dtype c.rows

@@ -13,7 +13,7 @@ use Rattle.vortex_columns.specs.ColumnView.{ColumnView}
 use Rattle.rowfn_lines.specs.declared.command.Line.{Line}
 use Rattle.rowfn_lines.specs.declared.text.Word as read
 use Rattle.rowfn_lines.specs.Lines.{Word, with_word, words_of, word_in}
-use Rattle.rowfn_lines.specs.Commands.{Command, command_in, value_said, cell_of, fits_column}
+use Rattle.rowfn_lines.specs.Commands.{Command, command_in, value_said, cell_of, fit_column}
 use Rattle.rowfn_lines.specs.Cells.{item_or_null, IsMade}
 
 -- a first word and what follows it, of a text that says these words; nothing where it says none
@@ -43,5 +43,5 @@ module _ {X : Type 0} (value : X → Value) where
       → Result ColumnView VortexError → Type 0
   MakesColumn kind v items result =
       let values = map value items in
-      AnswersWhere result (FitsRows v (length items) × (list_all fits_column values ≡ true))
+      AnswersWhere result (FitsRows v (length items) × (fit_column values ≡ true))
       (IsMade kind v values) InvalidColumn

@@ -1,14 +1,14 @@
 -- Items that were read, with a blank under each null, and the column that is made of them.
 use Rattle.std.specs.Int.{w128}
 use Rattle.std.specs.Prelude.{◌≡◌, ℤ, MatchOption, FitsSigned, ℕ, ◌<◌, Bool, true, false, Option}
-use Rattle.std.specs.Prelude.{Some, None, List, [], ◌∷◌, length, slice_index_or, if◌then◌else◌}
+use Rattle.std.specs.Prelude.{Some, None, List, [], ◌∷◌, length, map, slice_index_or, if◌then◌else◌}
 use Rattle.vortex_types.specs.LogicalTypes.{LogicalType}
 use Rattle.vortex_types.specs.Values.{Value, null}
 use Rattle.vortex_columns.specs.ValidityView.{ValidityView, is_valid_row, form_allows_null}
 use Rattle.vortex_columns.specs.ValidityView.{non_nullable, array}
 use Rattle.vortex_columns.specs.ColumnView.{ColumnView, row}
 use Rattle.std.specs.List.{list_all}
-use Rattle.rowfn_lines.specs.Commands.{fits_column}
+use Rattle.rowfn_lines.specs.Commands.{text_bytes}
 
 -- the value of an item, and null where there is none
 abbrev pub item_or_null : {X : Type 0} → (X → Value) → Option X → Value
@@ -30,12 +30,12 @@ pub record IsMade (kind : Bool → LogicalType) (v : ValidityView) (vs : List Va
   pub computed : c.constant ≡ None
   pub form : c.form ≡ v.form
 
--- values with marks beside them: each is valid where null is not allowed, and what stands under a
--- null fits a column
+-- values with marks beside them: each is valid where null is not allowed, and no bytes of a text stand
+-- under a null
 pub record AreItems (n : Bool) (vs : List Value) (valid : List Bool) : Type 0 where
   pub count : length valid ≡ length vs
   pub plain : n ≡ false → (i : ℕ) → i < length valid → slice_index_or valid i true ≡ true
-  pub fit : list_all fits_column (cells_from vs valid) ≡ list_all fits_column vs
+  pub texts : map text_bytes (cells_from vs valid) ≡ map text_bytes vs
 
 -- the values that cells said
 pub record AreCells (n : Bool) (vs : List Value) (valid : List Bool)

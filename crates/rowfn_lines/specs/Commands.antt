@@ -1,6 +1,6 @@
 -- What a line of a script says.
 use Rattle.std.specs.Prelude.{◌==◌, ℕ, zero, suc, ℤ, pos, negsuc, ◌+◌, ◌-◌, ◌*◌, ◌&&◌, ◌||◌, nat_le}
-use Rattle.std.specs.Prelude.{nat_lt, List, [], ◌∷◌, length, Bool, true, false, Option, Some, None}
+use Rattle.std.specs.Prelude.{nat_lt, map, List, [], ◌∷◌, length, Bool, true, false, Option, Some, None}
 use Rattle.std.specs.Prelude.{◌++◌, codes, if◌then◌else◌, string_bytes}
 use Rattle.std.specs.List.{list_all}
 use Rattle.std.specs.Option.{option_and_then, option_map}
@@ -15,6 +15,7 @@ use Rattle.vortex_types.specs.ScalarView.{ScalarView}
 use Rattle.rowfn_lines.specs.Ranges.{in_range}
 use Rattle.vortex_types.specs.Values.{Value, null, truth, number, text}
 use Rattle.vortex_columns.specs.ColumnView.{ColumnView}
+use Rattle.vortex_views.specs.Placing.{most_bytes, most_buffers, buffers_needed}
 use Rattle.vortex_columns.specs.ValidityView.{array, non_nullable}
 use Rattle.rowfn_lines.specs.declared.types.Kind.{Kind}
 use Rattle.rowfn_lines.specs.declared.types.Kind.TheVariants as kind
@@ -151,10 +152,18 @@ abbrev pub cells_of : LogicalType → List Word → Option (List Value)
 cells_of t [] = Some []
 cells_of t (w ∷ ws) = with_cell (cell_of t w) (cells_of t ws)
 
--- a text of a column has at most 4,294,967,295 bytes
-abbrev pub fits_column : Value → Bool
-fits_column (text bs) = nat_le (length bs) 4294967295
-fits_column v = true
+-- the bytes of a text, and none of what is no text
+abbrev pub text_bytes : Value → List ℕ
+text_bytes (text bs) = bs
+text_bytes v = []
+
+-- a text of a column has at most 4,294,967,295 bytes, and its texts take no more buffers than a column has
+abbrev pub texts_fit : List (List ℕ) → Bool
+texts_fit ts =
+    list_all (λ t. nat_le (length t) most_bytes) ts && nat_le (buffers_needed ts) most_buffers
+
+abbrev pub fit_column : List Value → Bool
+fit_column vs = texts_fit (map text_bytes vs)
 
 abbrev pub column_of : LogicalType → List Value → ColumnView
 column_of t vs =
@@ -166,7 +175,7 @@ column_of t vs =
     }
 
 abbrev pub column_where : LogicalType → List Value → Option ColumnView
-column_where t vs = if list_all fits_column vs then Some (column_of t vs) else None
+column_where t vs = if fit_column vs then Some (column_of t vs) else None
 
 -- the column that the cells say
 abbrev pub column_said : LogicalType → List Word → Option ColumnView

@@ -1,5 +1,5 @@
 //! Columns and values that are read from words.
-ghost use Rattle.std.specs.Prelude.{◌≡◌, refl, pos, ◌∷◌, Bool, true, false, Some, None, is_some};
+ghost use Rattle.std.specs.Prelude.{◌≡◌, refl, pos, [], ◌∷◌, Bool, true, false, Some, None, is_some};
 ghost use Rattle.std.specs.Prelude.{map, option_map, length, string_bytes, MatchOption};
 ghost use Rattle.std.specs.List.{list_all};
 ghost use Rattle.std.specs.Char.{is_ascii_digit};
@@ -13,7 +13,7 @@ ghost use Rattle.vortex_types.specs.Typing.{HasType};
 ghost use Rattle.vortex_columns.specs.ValidityView.{validity_of};
 ghost use Rattle.rowfn_lines.specs.Lines.{word_in};
 ghost use Rattle.rowfn_lines.specs.Commands.{digits_of, negative, integer_of, says_null, cells_of};
-ghost use Rattle.rowfn_lines.specs.Commands.{fits_column, column_said, literal_said, kind_type};
+ghost use Rattle.rowfn_lines.specs.Commands.{text_bytes, column_said, literal_said, kind_type};
 ghost use Rattle.rowfn_lines.specs.Cells.{ReadsNumber, AreCells, cells_validity};
 ghost use Rattle.rowfn_lines.specs.Answering.{ReadsItem, ReadsCell, MakesColumn};
 
@@ -86,15 +86,15 @@ trait CellKind {
 
     /// What stands under a null. Takes no memory.
     fn blank(alloc: Global) -> Self::Item
-        ensures { fits_column (value result) ≡ true };
+        ensures { text_bytes (value result) ≡ [] };
 
     /// The value for a scalar, of the kind's types.
     fn scalar_value(item: Self::Item) -> ScalarValue
         ensures value { value_of result ≡ value item }
         ensures typed { (n : Bool) → HasType (kind n) (value item) };
 
-    /// A column of the values. E12 exactly where a list of valid bits has another length, or a text
-    /// is longer than 4,294,967,295 bytes.
+    /// A column of the values. E12 exactly where a list of valid bits has another length, a text is
+    /// longer than 4,294,967,295 bytes, or the texts take too many buffers.
     fn column(alloc: Global, values: Vec<Self::Item>, validity: Validity) -> VortexResult<Column>
         ensures { MakesColumn value kind (validity_of validity) values.items result };
 

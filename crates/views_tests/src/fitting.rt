@@ -2,7 +2,7 @@
 
 use std::alloc::Global;
 use vortex_errors::VortexResult;
-use vortex_views::{BinaryView, check_views};
+use vortex_views::{BinaryView, ViewsBuilder, check_views};
 
 /// Whether a view lies in the one buffer of thirteen bytes, `hello, world!`.
 fn lies(alloc: Global, view: BinaryView) -> VortexResult<bool> {
@@ -39,4 +39,21 @@ fn long_views_lie_in_buffers(rt: HostRuntime) {
     assert!(rt; says(lies(alloc, BinaryView::new_long(13, *b"hell", 1, 0)), false));
     assert!(rt; says(lies(alloc, BinaryView::new_long(13, *b"ello", 0, 1)), false));
     assert!(rt; says(lies(alloc, BinaryView::new_long(13, *b"help", 0, 0)), false));
+}
+
+/// Whether a builder holds these two values, one behind the other.
+fn builds(alloc: Global, first: &[u8], second: &[u8]) -> VortexResult<bool> {
+    let mut builder = ViewsBuilder::new(alloc);
+    builder.push(first)?;
+    builder.push(second)?;
+    let values = builder.finish()?;
+    let rows = values.resolved();
+    Ok(rows.len() == 2 && rows.bytes(0) == first && rows.bytes(1) == second)
+}
+
+#[test]
+fn builders_place_values_one_behind_another(rt: HostRuntime) {
+    let alloc = rt.alloc();
+    assert!(rt; says(builds(alloc, b"hello", b"hello, world!"), true));
+    assert!(rt; says(builds(alloc, b"hello, world!", b"hello, worlds"), true));
 }

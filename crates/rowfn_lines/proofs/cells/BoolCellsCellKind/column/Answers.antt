@@ -8,7 +8,7 @@ use Rattle.vortex_types.specs.Values.{truth}
 use Rattle.vortex_columns.specs.ValidityView.{validity_of, FitsRows}
 use Rattle.vortex_columns.specs.ColumnView.{ColumnView}
 use Rattle.vortex_columns.specs.Stored.{bool_column}
-use Rattle.rowfn_lines.specs.Commands.{fits_column}
+use Rattle.rowfn_lines.specs.Commands.{fit_column}
 use Rattle.rowfn_lines.specs.Cells.{IsMade}
 use Rattle.rowfn_lines.proofs.CellRows.{answers_same, made_is, truths_at, all_fit}
 use Rattle.rowfn_lines.proofs.cells.BoolCellsCellKind.column.Goals as goal
@@ -20,7 +20,7 @@ returns c =
     let v = validity_of c.args.validity in
     let same = c.in_ok-bits.ensures ∙ c.deref.ensures.value in
     answers_same c.try_bool.result (FitsRows v (length bits))
-    (FitsRows v (length xs) × (list_all fits_column (map truth xs) ≡ true))
+    (FitsRows v (length xs) × (fit_column (map truth xs) ≡ true))
     (λ (d : ColumnView). d ≡ bool_column bits v) (IsMade bool_type v (map truth xs)) InvalidColumn
     (λ h. (rw (ap length same) at h, all_fit truth (λ x. refl) xs))
     (λ h. rw (← ap length same) at h.0)

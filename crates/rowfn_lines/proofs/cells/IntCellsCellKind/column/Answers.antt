@@ -8,7 +8,7 @@ use Rattle.vortex_types.specs.Values.{number}
 use Rattle.vortex_columns.specs.ValidityView.{validity_of, FitsRows, form_allows_null}
 use Rattle.vortex_columns.specs.ColumnView.{ColumnView}
 use Rattle.vortex_columns.specs.Stored.{made_of}
-use Rattle.rowfn_lines.specs.Commands.{fits_column}
+use Rattle.rowfn_lines.specs.Commands.{fit_column}
 use Rattle.rowfn_lines.specs.Cells.{IsMade}
 use Rattle.rowfn_lines.proofs.CellRows.{answers_same, made_is, numbers_at, all_fit}
 use Rattle.rowfn_lines.proofs.cells.IntCellsCellKind.column.Goals as goal
@@ -21,7 +21,7 @@ returns g c =
     let f = g.T.NativePType.number in
     let vs = map (λ x. number (f x)) xs in
     answers_same c.try_primitive.result (FitsRows v (length xs))
-    (FitsRows v (length xs) × (list_all fits_column vs ≡ true))
+    (FitsRows v (length xs) × (fit_column vs ≡ true))
     (λ (d : ColumnView). d
     ≡ made_of (integer_type p (form_allows_null v.form)) v (length xs)
     (λ i. number (slice_index_or (map f xs) i (pos 0))))
