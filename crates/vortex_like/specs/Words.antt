@@ -4,8 +4,14 @@ pub use Rattle.vortex_types.specs.LogicalTypes.{is_text_type}
 pub use Rattle.vortex_columns.specs.ValidityView.{validity_of}
 pub use Rattle.vortex_types.specs.Values.{text, is_null}
 pub use Rattle.vortex_columns.specs.ColumnView.{row}
+pub use Rattle.vortex_like.specs.AsciiFolds.{AreAsciiFolds, folded}
 pub use Rattle.vortex_like.specs.Backs.{IsLast, IsFurther}
 pub use Rattle.vortex_like.specs.Cuts.{is_special, IsPassed, StartsSpecial, IsCutOf}
+pub use Rattle.vortex_like.specs.Forms.{form_of, plain_form, folded_form}
+pub use Rattle.vortex_like.specs.FormTests.{test_form, test_tokens, test_folds, is_ascii_form}
+pub use Rattle.vortex_like.specs.FormTests.{IsTestOf}
+pub use Rattle.vortex_like.specs.Shapes.{IsFrontOf, IsPercentOf, IsShapeOf}
+pub use Rattle.vortex_like.specs.Shapes.{whole_tokens, front_tokens, end_tokens, inside_tokens}
 pub use Rattle.vortex_like.specs.Patterns.{pattern_of, like}
 pub use Rattle.vortex_like.specs.Places.{begins_with_any, first_accepts, asked}
 pub use Rattle.vortex_like.specs.Rows.{AreTold, IsAnswer, IsLikeBit, AreLikeBits}

@@ -2,17 +2,25 @@
 #![tactic(auto)]
 
 mod characters;
+mod cuts;
 pub mod execute;
+mod folded_tests;
+pub mod form;
+mod form_test;
 pub mod laws;
 mod matching;
 pub mod option_bytes;
 pub mod options;
 pub mod pattern;
 mod row_bits;
+mod text_tests;
 mod token;
+mod token_reading;
+mod token_test;
 pub mod variant;
 
 pub use execute::execute_like;
+pub use form::LikeForm;
 pub use options::LikeOptions;
 pub use pattern::LikePattern;
 pub use token::{LikeToken, Looks};

@@ -3,7 +3,7 @@ use denote.Text.{Utf8}
 use denote.Shadow.{shadow}
 use Rattle.std.specs.Str.{chars}
 use Rattle.vortex_like.specs.Tokens.{tokens_of}
-use Rattle.vortex_like.proofs.pattern.tokens_of.Given as goal
+use Rattle.vortex_like.proofs.token_reading.tokens_of.Given as goal
 
 -- the tokens so far, and those of the rest
 abbrev pub invariant-loop-token : goal.invariant-loop-token

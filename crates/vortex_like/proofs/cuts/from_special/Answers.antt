@@ -1,7 +1,7 @@
 use Rattle.std.proofs.Common.{rules, sym}
 use Rattle.std.specs.Char.{IsScalar}
 use Rattle.vortex_like.proofs.Reading.{pass_none, pass_more}
-use Rattle.vortex_like.proofs.variant.from_special.Goals as goal
+use Rattle.vortex_like.proofs.cuts.from_special.Goals as goal
 
 pub loop-c-init : goal.loop-c-init
 loop-c-init c = (c.utf8.pattern, pass_none c.args.pattern.now)

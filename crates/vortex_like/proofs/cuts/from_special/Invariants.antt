@@ -3,7 +3,7 @@ use denote.Text.{Utf8}
 use denote.Shadow.{shadow}
 use Rattle.std.specs.Str.{chars}
 use Rattle.vortex_like.specs.Cuts.{IsPassed}
-use Rattle.vortex_like.proofs.variant.from_special.Given as goal
+use Rattle.vortex_like.proofs.cuts.from_special.Given as goal
 
 abbrev pub invariant-loop-c : goal.invariant-loop-c
 invariant-loop-c l = shadow (Utf8 l.rest) × IsPassed l.pattern l.rest

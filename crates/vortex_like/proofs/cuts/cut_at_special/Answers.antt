@@ -5,7 +5,7 @@ use Rattle.std.specs.List.{list_any}
 use Rattle.std.proofs.lemmas.Str.{chars-append}
 use Rattle.vortex_like.specs.Cuts.{is_special}
 use Rattle.vortex_like.proofs.Reading.{cut_seam}
-use Rattle.vortex_like.proofs.variant.cut_at_special.Goals as goal
+use Rattle.vortex_like.proofs.cuts.cut_at_special.Goals as goal
 
 pub range-front-requires-clause-end_boundary : goal.range-front-requires-clause-end_boundary
 range-front-requires-clause-end_boundary c =
