@@ -10,3 +10,4 @@ pub mod Literals
 pub mod LiteralAnswers
 pub mod Foldings
 pub mod AsciiPatterns
+pub mod EachRow

@@ -13,5 +13,8 @@ pub mod Forms
 pub mod Shapes
 pub mod AsciiFolds
 pub mod FormTests
+pub mod TextRows
+pub mod EachPattern
+pub mod ValidRows
 pub mod Words
 pub mod OptionBytes

@@ -25,12 +25,6 @@ pattern_of bytes case_insensitive ascii_haystack =
       form = form_of (chars bytes) case_insensitive ascii_haystack;
     }
 
--- what a pattern answers to a text, by the text's bytes, turned over where negated
-abbrev pub answer : PatternView → Bool → List ℕ → Bool
-answer pattern negated bytes =
-    let found = is_match pattern.case_insensitive pattern.tokens (chars bytes) in
-    if negated then not found else found
-
 -- what LIKE says of a text and a pattern, by their bytes
 abbrev pub like : LikeOptions → List ℕ → List ℕ → Bool
 like options bytes pattern =

@@ -2,7 +2,9 @@
 #![tactic(auto)]
 
 mod characters;
+mod column_test;
 mod cuts;
+mod each_pattern;
 pub mod execute;
 mod folded_tests;
 pub mod form;
@@ -14,9 +16,11 @@ pub mod options;
 pub mod pattern;
 mod row_bits;
 mod text_tests;
+mod texts;
 mod token;
 mod token_reading;
 mod token_test;
+mod validity;
 pub mod variant;
 
 pub use execute::execute_like;

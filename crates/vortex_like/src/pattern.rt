@@ -2,13 +2,16 @@
 ghost use Rattle.std.specs.Prelude.{◌≡◌, ◌≢◌, ◌+◌, ◌*◌, ◌≤◌, ◌↔◌, true, length, IsTrue, IsUtf8};
 ghost use Rattle.std.specs.Str.{chars, IsAscii};
 ghost use Rattle.vortex_like.specs.Words.{AnswersUnlessMemory, Match, is_match, pattern_of, asked};
+ghost use Rattle.vortex_like.specs.Words.{row, AreTold, IsSaid, texts_of, AreTexts, AreAscii};
 
+use crate::column_test::tested_by_form;
 use crate::form::LikeForm;
 use crate::form_test::{FormTest, form_test};
+use crate::texts::Texts;
 use crate::token::Looks;
 use std::alloc::Global;
 use std::marker::Model;
-use vortex_types::VortexResult;
+use vortex_columns::{BitBuffer, Column, VortexResult};
 
 /// A pattern, compiled for many texts.
 #[derive(Drop)]
@@ -96,5 +99,22 @@ impl LikePattern {
             → asked self.now.tokens ≤ result.1 }
     {
         self.test.passes_counted(haystack)
+    }
+
+    /// Whether it matches each text of a column, turned over where negated. Of a null row it says nothing.
+    pub(crate) fn matched_rows(
+        &self,
+        alloc: Global,
+        column: &Column,
+        texts: Texts<'_>,
+        negated: bool,
+    ) -> VortexResult<BitBuffer>
+        requires texts { AreTexts column.now (texts_of texts) }
+        requires ascii { IsTrue self.now.ascii_haystack → AreAscii column.now (texts_of texts) }
+        ensures { AnswersUnlessMemory result (AreTold (length column.now.rows) (λ i b. IsSaid
+            (λ bytes. is_match self.now.case_insensitive self.now.tokens (chars bytes))
+            negated (row column.now.rows i) b)) }
+    {
+        tested_by_form(alloc, column, texts, &self.test, negated)
     }
 }

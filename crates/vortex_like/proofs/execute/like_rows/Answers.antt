@@ -1,7 +1,7 @@
 use Rattle.std.proofs.Common.{arith, length, ◌<◌}
 use Rattle.vortex_columns.specs.ValidityView.{validity_of}
 use Rattle.vortex_like.proofs.RowLemmas.{like_answers, row_is_text}
-use Rattle.vortex_like.proofs.execute.execute_like.Goals as goal
+use Rattle.vortex_like.proofs.execute.like_rows.Goals as goal
 
 pub returns : goal.returns
 returns c =

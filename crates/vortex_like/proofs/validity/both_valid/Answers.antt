@@ -1,7 +1,7 @@
 use Rattle.std.proofs.Common.{◌≡◌, false, rules}
 use Rattle.vortex_like.specs.Rows.{either_nullable}
 use Rattle.vortex_like.proofs.RowLemmas.{valid_everywhere}
-use Rattle.vortex_like.proofs.execute.both_valid.Goals as goal
+use Rattle.vortex_like.proofs.validity.both_valid.Goals as goal
 
 pub returns-in-NonNullable : goal.returns-in-NonNullable
 returns-in-NonNullable c =
