@@ -48,7 +48,8 @@ is_ascii_form form.IEndsWithAscii = true
 is_ascii_form f = false
 
 -- the test of a pattern, past case or not, of that form
-pub record IsTestOf (pattern : List ℕ) (past_case : Bool) (f : LikeForm) (t : FormTest) : Type 0 where
+pub record IsTestOf (pattern : List ℕ) (past_case : Bool) (f : LikeForm) (t : FormTest)
+    : Type 0 where
   pub tokens : test_tokens t ≡ tokens_of pattern
   pub folds : test_folds t ≡ past_case
   pub form : test_form t ≡ f
