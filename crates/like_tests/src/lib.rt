@@ -6,6 +6,8 @@ mod columns;
 #[cfg(test)]
 mod folding;
 #[cfg(test)]
+mod forms;
+#[cfg(test)]
 mod patterns;
 #[cfg(test)]
 mod questions;

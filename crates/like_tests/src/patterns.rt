@@ -134,6 +134,7 @@ fn counts_its_looks(rt: HostRuntime) {
     let alloc = rt.alloc();
     assert!(rt; yes(looks_between(alloc, "%a_b", "aaxaab", true, (3, 35))));
     assert!(rt; yes(looks_between(alloc, "%", "aaxaab", true, (0, 0))));
+    assert!(rt; yes(looks_between(alloc, "foo%", "foobar", true, (0, 0))));
 }
 
 /// A text, so many times.

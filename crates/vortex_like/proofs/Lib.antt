@@ -5,3 +5,9 @@ pub mod Testing
 pub mod RowLemmas
 pub mod Reading
 pub mod Shapes
+pub mod Forming
+pub mod Literals
+pub mod LiteralAnswers
+pub mod Foldings
+pub mod AsciiPatterns
+pub mod EachRow

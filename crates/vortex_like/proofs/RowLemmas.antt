@@ -17,12 +17,17 @@ use Rattle.vortex_types.specs.Typing.{HasType, OrNull, IsText}
 use Rattle.vortex_columns.specs.ValidityView.{ValidityView, is_valid_row, FitsRows}
 use Rattle.vortex_columns.specs.ValidityView.{non_nullable}
 use Rattle.vortex_types.specs.Values.{Value, null, truth, number, text, bytes, list, is_null}
-use Rattle.vortex_errors.proofs.Answering.{answers_where}
+use Rattle.vortex_errors.proofs.Answering.{answers_where, AnswersUnlessMemory-weaker}
 use Rattle.vortex_types.proofs.NullValues.{not_null}
 use Rattle.vortex_columns.specs.ColumnView.{ColumnView, row, AreTyped, constant_column}
 use Rattle.vortex_columns.specs.Stored.{bool_column}
+use Rattle.vortex_columns.specs.Cells.{cell_value}
+use Rattle.vortex_columns.specs.declared.cell.Cell.{Cell}
+use Rattle.vortex_columns.specs.declared.cell.Cell.TheVariants.{Null, Bool as BoolCell, Int, Text}
+use Rattle.vortex_columns.specs.declared.cell.Cell.TheVariants.{Bytes, Sequence}
+use denote.Bor.{Bor}
 use Rattle.vortex_like.specs.declared.options.LikeOptions.{LikeOptions}
-use Rattle.vortex_like.specs.Patterns.{like_value}
+use Rattle.vortex_like.specs.Patterns.{like, like_value}
 use Rattle.vortex_like.specs.Rows.{AreTold, IsLikeBit, AreLikeBits, IsJointValidity, HasLikeRows}
 use Rattle.vortex_like.specs.Rows.{IsConstantOf, either_nullable}
 
@@ -167,3 +172,44 @@ valid_everywhere l r lengths left right e = record {
 
     neither : (is_nullable l.dtype ≡ false) × (is_nullable r.dtype ≡ false)
     neither = by (is_nullable l.dtype) (is_nullable r.dtype) e
+
+-- a cell that is no text, of a value that is null or a text
+pub null_cell : (c : Cell) (v : Value) → cell_value c ≡ v → IsNullOrText v
+    → ((lent : Bor (List ℕ)) → c ≡ Text lent → ⊥) → is_null v ≡ true
+null_cell c null e h none = refl
+null_cell Null (text bs) e h none = cc
+null_cell (BoolCell b) (text bs) e h none = cc
+null_cell (Int z) (text bs) e h none = cc
+null_cell (Text lent) (text bs) e h none = absurd (none lent refl)
+null_cell (Bytes lent) (text bs) e h none = cc
+null_cell (Sequence s) (text bs) e h none = cc
+null_cell c (truth b) e h none = absurd h
+null_cell c (number z) e h none = absurd h
+null_cell c (bytes bs) e h none = absurd h
+null_cell c (list vs) e h none = absurd h
+
+-- the same text and the same pattern in each row
+pub constant_like : (options : LikeOptions) (l r : ColumnView) (bs ps : List ℕ) (b n : Bool)
+    (s : ScalarView) (m : ℕ) (result : Result ColumnView VortexError)
+    → length l.rows ≡ length r.rows → IsConstantOf (text bs) l → IsConstantOf (text ps) r
+    → b ≡ like options bs ps → n ≡ either_nullable l r
+    → s ≡ record { dtype = bool_type n; value = truth b } → m ≡ length l.rows
+    → AnswersUnlessMemory result (λ c. c ≡ constant_column s m)
+    → AnswersUnlessMemory result (HasLikeRows options l r)
+constant_like options l r bs ps b n s m result lengths left right found nullable scalar count h =
+    AnswersUnlessMemory-weaker result (λ c. c ≡ constant_column s m) (HasLikeRows options l r)
+    (λ c e. record {
+      dtype =
+          ap (λ (d : ColumnView). d.dtype) e ∙ ap (λ (t : ScalarView). t.dtype) scalar
+          ∙ ap bool_type nullable;
+      count =
+          ap (λ (d : ColumnView). length d.rows) e
+          ∙ length-map-range_with_len (λ k. s.value) 0 m ∙ count;
+      each = λ i lt.
+          let other : i < length r.rows = omega arith in
+          ap (λ (d : ColumnView). row d.rows i) e
+          ∙ get_or-map-range_with_len (λ k. s.value) 0 m i i null (omega arith) (omega arith)
+          ∙ ap (λ (t : ScalarView). t.value) scalar ∙ ap truth found
+          ∙ sym (ap (λ (w : Value). like_value options (row l.rows i) w) (right i other)
+          ∙ ap (λ (v : Value). like_value options v (text ps)) (left i lt));
+    }) h

@@ -97,5 +97,13 @@ module _ (fold : Bool) where
       by false true f g = g refl
       by false false f g = refl
 
+  -- and the other way round
+  pub test_answers : (b : Bool) (ts : List Token) (text : List ℕ) → b ≡ is_match fold ts text
+      → IsTrue b ↔ Match fold ts text
+  test_answers b ts text e = (
+    λ is. match_tested ts text (sym e ∙ is),
+    λ m. e ∙ test_matched ts text m,
+  )
+
 pub test_decides_match : TestDecidesMatch
 test_decides_match fold ts text = (match_tested fold ts text, test_matched fold ts text)

@@ -4,7 +4,7 @@ use Rattle.std.specs.Prelude.{IsUtf8}
 use Rattle.std.specs.List.{list_any}
 use Rattle.std.specs.Str.{chars}
 use Rattle.vortex_like.specs.Tokens.{percent, underscore, backslash}
-use Rattle.vortex_like.specs.declared.variant.Cut.{Cut}
+use Rattle.vortex_like.specs.declared.cuts.Cut.{Cut}
 
 abbrev pub is_special : ℕ → Bool
 is_special c = c == backslash || (c == percent || c == underscore)

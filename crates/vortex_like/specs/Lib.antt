@@ -9,5 +9,12 @@ pub mod Rows
 pub mod Variants
 pub mod UnescapedTexts
 pub mod Cuts
+pub mod Forms
+pub mod Shapes
+pub mod AsciiFolds
+pub mod FormTests
+pub mod TextRows
+pub mod EachPattern
+pub mod ValidRows
 pub mod Words
 pub mod OptionBytes

@@ -4,12 +4,16 @@ use Rattle.std.specs.Str.{chars}
 use Rattle.vortex_types.specs.Values.{Value, null, truth, text}
 use Rattle.vortex_like.specs.declared.options.LikeOptions.{LikeOptions}
 use Rattle.vortex_like.specs.Tokens.{Token, tokens_of, is_match}
+use Rattle.vortex_like.specs.Forms.{form_of}
+use Rattle.vortex_like.specs.declared.form.LikeForm.{LikeForm}
 
--- the tokens, whether letters match past case, and whether every text to match is ASCII
+-- the tokens, whether letters match past case, whether every text to match is ASCII, and how the
+-- pattern is matched
 pub record PatternView : Type 0 where
   pub tokens : List Token
   pub case_insensitive : Bool
   pub ascii_haystack : Bool
+  pub form : LikeForm
 
 -- the pattern of these bytes
 abbrev pub pattern_of : List ℕ → Bool → Bool → PatternView
@@ -18,13 +22,8 @@ pattern_of bytes case_insensitive ascii_haystack =
       tokens = tokens_of (chars bytes);
       case_insensitive = case_insensitive;
       ascii_haystack = ascii_haystack;
+      form = form_of (chars bytes) case_insensitive ascii_haystack;
     }
-
--- what a pattern answers to a text, by the text's bytes, turned over where negated
-abbrev pub answer : PatternView → Bool → List ℕ → Bool
-answer pattern negated bytes =
-    let found = is_match pattern.case_insensitive pattern.tokens (chars bytes) in
-    if negated then not found else found
 
 -- what LIKE says of a text and a pattern, by their bytes
 abbrev pub like : LikeOptions → List ℕ → List ℕ → Bool

@@ -1,21 +1,26 @@
 -- LIKE over whole columns.
 use Rattle.std.specs.Prelude.{◌≡◌, ◌||◌, ℕ, ◌<◌, List, length, slice_index_or, Bool, false, not}
+use Rattle.std.specs.Prelude.{if◌then◌else◌}
 use Rattle.vortex_types.specs.LogicalTypes.{bool_type, is_nullable}
 use Rattle.vortex_types.specs.Values.{Value, text, is_null}
 use Rattle.vortex_columns.specs.ValidityView.{ValidityView, form_allows_null, is_valid_row, FitsRows}
 use Rattle.vortex_columns.specs.ColumnView.{ColumnView, row}
 use Rattle.vortex_like.specs.declared.options.LikeOptions.{LikeOptions}
-use Rattle.vortex_like.specs.Patterns.{PatternView, like, like_value, answer}
+use Rattle.vortex_like.specs.Patterns.{like, like_value}
 
 -- a bit for each of n rows, of which so much is told
 pub record AreTold (n : ℕ) (tells : ℕ → Bool → Type 0) (bits : List Bool) : Type 0 where
   pub count : length bits ≡ n
   pub each : (i : ℕ) → i < n → tells i (slice_index_or bits i false)
 
--- what a pattern answers to a text; of what is no text nothing is said
-abbrev pub IsAnswer : PatternView → Bool → Value → Bool → Type 0
-IsAnswer pattern negated (text bytes) b = b ≡ answer pattern negated bytes
-IsAnswer pattern negated v b = Unit {0}
+-- an answer, turned over where negated
+abbrev pub turned : Bool → Bool → Bool
+turned negated found = if negated then not found else found
+
+-- what a test answers to a text, turned over where negated; of what is no text nothing is said
+abbrev pub IsSaid : (List ℕ → Bool) → Bool → Value → Bool → Type 0
+IsSaid answer negated (text bytes) b = b ≡ turned negated (answer bytes)
+IsSaid answer negated v b = Unit {0}
 
 -- what LIKE says of two texts; of what is no text nothing is said
 abbrev pub IsLikeBit : LikeOptions → Value → Value → Bool → Type 0
@@ -30,12 +35,16 @@ AreLikeBits options l r =
 abbrev pub either_nullable : ColumnView → ColumnView → Bool
 either_nullable l r = is_nullable l.dtype || is_nullable r.dtype
 
--- the rows that are null on neither side, of a type that has null if either type does
-pub record IsJointValidity (l r : ColumnView) (v : ValidityView) : Type 0 where
-  pub nullability : form_allows_null v.form ≡ either_nullable l r
+-- the rows that are null on neither side, of a type that has null or not
+pub record IsJointValidityIn (nullable : Bool) (l r : ColumnView) (v : ValidityView) : Type 0 where
+  pub nullability : form_allows_null v.form ≡ nullable
   pub fits : FitsRows v (length l.rows)
   pub each : (i : ℕ) → i < length l.rows
       → is_valid_row v i ≡ not (is_null (row l.rows i) || is_null (row r.rows i))
+
+-- and of a type that has null if either type does
+abbrev pub IsJointValidity : ColumnView → ColumnView → ValidityView → Type 0
+IsJointValidity l r = IsJointValidityIn (either_nullable l r) l r
 
 -- the same value in each row
 abbrev pub IsConstantOf : Value → ColumnView → Type 0

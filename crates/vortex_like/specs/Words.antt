@@ -4,13 +4,23 @@ pub use Rattle.vortex_types.specs.LogicalTypes.{is_text_type}
 pub use Rattle.vortex_columns.specs.ValidityView.{validity_of}
 pub use Rattle.vortex_types.specs.Values.{text, is_null}
 pub use Rattle.vortex_columns.specs.ColumnView.{row}
+pub use Rattle.vortex_like.specs.AsciiFolds.{AreAsciiFolds, folded}
 pub use Rattle.vortex_like.specs.Backs.{IsLast, IsFurther}
 pub use Rattle.vortex_like.specs.Cuts.{is_special, IsPassed, StartsSpecial, IsCutOf}
+pub use Rattle.vortex_like.specs.EachPattern.{IsCompiled, AreBothValid}
+pub use Rattle.vortex_like.specs.Forms.{form_of, plain_form, folded_form}
+pub use Rattle.vortex_like.specs.FormTests.{test_form, test_tokens, test_folds, is_ascii_form}
+pub use Rattle.vortex_like.specs.FormTests.{IsTestOf}
+pub use Rattle.vortex_like.specs.Shapes.{IsFrontOf, IsPercentOf, IsShapeOf}
+pub use Rattle.vortex_like.specs.Shapes.{whole_tokens, front_tokens, end_tokens, inside_tokens}
 pub use Rattle.vortex_like.specs.Patterns.{pattern_of, like}
 pub use Rattle.vortex_like.specs.Places.{begins_with_any, first_accepts, asked}
-pub use Rattle.vortex_like.specs.Rows.{AreTold, IsAnswer, IsLikeBit, AreLikeBits}
-pub use Rattle.vortex_like.specs.Rows.{IsJointValidity, IsConstantOf, HasLikeRows}
+pub use Rattle.vortex_like.specs.Rows.{AreTold, IsSaid, turned, IsLikeBit, AreLikeBits}
+pub use Rattle.vortex_like.specs.Rows.{IsJointValidity, IsJointValidityIn, IsConstantOf, HasLikeRows}
+pub use Rattle.vortex_like.specs.ValidRows.{valid_view, AreValid}
 pub use Rattle.vortex_like.specs.Symbols.{symbol_token}
+pub use Rattle.vortex_like.specs.TextRows.{texts_of, text_at, IsTextOf, AreTexts, AreAscii}
+pub use Rattle.vortex_like.specs.TextRows.{IsTextColumn}
 pub use Rattle.vortex_like.specs.Tokens.{any, one, character, is_any, accepts, plain_token}
 pub use Rattle.vortex_like.specs.Tokens.{tokens_of, Match, is_match, TestDecidesMatch}
 pub use Rattle.vortex_like.specs.UnescapedTexts.{IsUnescaped}

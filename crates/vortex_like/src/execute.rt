@@ -1,36 +1,18 @@
 //! LIKE over whole columns.
-ghost use Rattle.std.specs.Prelude.{◌≡◌, ◌<◌, ◌||◌, ℕ, true, false, length, IfSome};
-ghost use Rattle.vortex_like.specs.Words.{AnswersUnlessMemory, is_text_type, validity_of, text};
-ghost use Rattle.vortex_like.specs.Words.{is_null, row, like, IsAnswer, IsLikeBit, AreLikeBits};
-ghost use Rattle.vortex_like.specs.Words.{IsJointValidity, IsConstantOf, HasLikeRows};
+ghost use Rattle.std.specs.Prelude.{◌≡◌, true, length};
+ghost use Rattle.vortex_like.specs.Words.{AnswersUnlessMemory, is_text_type, AreLikeBits, like};
+ghost use Rattle.vortex_like.specs.Words.{IsConstantOf, text, texts_of, AreTexts, HasLikeRows};
+ghost use Rattle.vortex_like.specs.Words.{AreTold, IsSaid, is_match, tokens_of, row, IsTextColumn};
+ghost use Rattle.std.specs.Str.{chars};
 
+use crate::each_pattern::{SideBySide, each_bits};
 use crate::options::LikeOptions;
 use crate::pattern::LikePattern;
-use crate::row_bits::{JointlyValid, RowBits, collect_bits};
+use crate::row_bits::{SameBit, collect_bits};
+use crate::texts::{OneText, TextColumn, Texts, text_column};
+use crate::validity::both_valid;
 use std::alloc::Global;
-use vortex_columns::{BitBuffer, Cell, Column, ExecutionCtx, Nullability, Validity, VortexResult};
-
-/// The texts of a column beside one pattern.
-#[derive(Clone, Copy)]
-struct TextsAndPattern<'a> {
-    texts: &'a Column,
-    pattern: &'a LikePattern,
-    negated: bool,
-}
-
-impl RowBits for TextsAndPattern<'_> {
-    ghost has_row = { λ r i. (i < length r.texts.now.rows)
-        × (r.pattern.now.ascii_haystack ≡ false) };
-
-    ghost tells = { λ r i b. IsAnswer r.pattern.now r.negated (row r.texts.now.rows i) b };
-
-    fn bit(&self, _alloc: Global, i: usize) -> VortexResult<bool> {
-        match self.texts.cell(i) {
-            Cell::Text(text) => Ok(self.pattern.matches(text.as_bytes()) != self.negated),
-            _ => Ok(false),
-        }
-    }
-}
+use vortex_columns::{BitBuffer, Column, ExecutionCtx, Scalar, VortexResult};
 
 /// What LIKE says of a text and a pattern that is compiled for it alone.
 fn like_once(alloc: Global, text: &str, pattern: &str, options: LikeOptions) -> VortexResult<bool>
@@ -40,106 +22,139 @@ fn like_once(alloc: Global, text: &str, pattern: &str, options: LikeOptions) -> 
     Ok(pattern.matches(text.as_bytes()) != options.negated)
 }
 
-/// The texts of a column, each beside a pattern of its own.
-#[derive(Clone, Copy)]
-struct TextsAndPatterns<'a> {
-    texts: &'a Column,
-    patterns: &'a Column,
-    options: LikeOptions,
-}
-
-impl RowBits for TextsAndPatterns<'_> {
-    ghost has_row = { λ r i. (i < length r.texts.now.rows) × (i < length r.patterns.now.rows) };
-
-    ghost tells = { λ r i b. IsLikeBit r.options
-        (row r.texts.now.rows i) (row r.patterns.now.rows i) b };
-
-    /// Neither a null row's text nor its pattern is read.
-    fn bit(&self, alloc: Global, i: usize) -> VortexResult<bool> {
-        match (self.texts.cell(i), self.patterns.cell(i)) {
-            (Cell::Text(text), Cell::Text(pattern)) => {
-                like_once(alloc, text, pattern, self.options)
-            }
-            _ => Ok(false),
-        }
-    }
-}
-
-/// The text in each row of a constant column.
-fn constant_text(column: &Column) -> Option<&str>
-    ensures { IfSome result (λ chars. IsConstantOf (text chars.now) column.now) }
-{
-    let scalar = column.as_constant()?;
-    match scalar.cell() {
-        Cell::Text(text) => Some(text),
-        _ => None,
-    }
-}
-
-/// What LIKE says of each row; of a null row it says nothing. A constant pattern is compiled once.
-fn like_bits(
+/// LIKE of the same text and the same pattern in each row.
+fn like_of_constants(
     alloc: Global,
-    texts: &Column,
-    patterns: &Column,
+    input: &Column,
+    pattern: &Column,
+    chars: (&str, &str),
+    options: LikeOptions,
+) -> VortexResult<Column>
+    requires lengths { length input.now.rows ≡ length pattern.now.rows }
+    requires input { IsConstantOf (text chars.0.now) input.now }
+    requires pattern { IsConstantOf (text chars.1.now) pattern.now }
+    ensures { AnswersUnlessMemory result (HasLikeRows options input.now pattern.now) }
+{
+    let nullability = input.dtype().nullability() | pattern.dtype().nullability();
+    let found = like_once(alloc, chars.0, chars.1, options)?;
+    Column::constant(alloc, Scalar::bool(found, nullability), input.len())
+}
+
+/// What LIKE says of the texts of a column and one pattern, compiled once.
+fn one_pattern_bits(
+    alloc: Global,
+    column: &Column,
+    texts: Texts<'_>,
+    pattern: &str,
     options: LikeOptions,
 ) -> VortexResult<BitBuffer>
-    requires { length texts.now.rows ≡ length patterns.now.rows }
-    ensures { AnswersUnlessMemory result (AreLikeBits options texts.now patterns.now) }
+    requires { AreTexts column.now (texts_of texts) }
+    ensures { AnswersUnlessMemory result (AreTold (length column.now.rows)
+        (λ i b. IsSaid (λ bytes. is_match options.case_insensitive
+        (tokens_of (chars pattern.now)) (chars bytes)) options.negated (row column.now.rows i) b)) }
 {
-    let len = texts.len();
-    let negated = options.negated;
-    match constant_text(patterns) {
-        Some(text) => {
-            let pattern = LikePattern::compile(alloc, text, options.case_insensitive, false)?;
-            let rows = TextsAndPattern {
-                texts,
-                pattern: &pattern,
-                negated,
-            };
-            collect_bits(alloc, &rows, len)
+    let ascii = options.case_insensitive && texts.are_ascii(column);
+    let pattern = LikePattern::compile(alloc, pattern, options.case_insensitive, ascii)?;
+    pattern.matched_rows(alloc, column, texts, options.negated)
+}
+
+/// What LIKE says of the texts of a column, each beside a pattern of its own.
+fn each_pattern_bits(
+    alloc: Global,
+    input: &Column,
+    texts: Texts<'_>,
+    pattern: &Column,
+    patterns: Texts<'_>,
+    options: LikeOptions,
+) -> VortexResult<BitBuffer>
+    requires lengths { length input.now.rows ≡ length pattern.now.rows }
+    requires texts { AreTexts input.now (texts_of texts) }
+    requires patterns { AreTexts pattern.now (texts_of patterns) }
+    ensures { AnswersUnlessMemory result (AreLikeBits options input.now pattern.now) }
+{
+    let ascii = options.case_insensitive && texts.are_ascii(input);
+    let columns = SideBySide {
+        texts: input,
+        patterns: pattern,
+        options,
+        ascii,
+    };
+    each_bits(alloc, columns, &texts, patterns)
+}
+
+/// What LIKE says of the same text in each row beside a pattern of its own.
+fn one_text_bits(
+    alloc: Global,
+    input: &Column,
+    own: &str,
+    pattern: &Column,
+    patterns: Texts<'_>,
+    options: LikeOptions,
+) -> VortexResult<BitBuffer>
+    requires lengths { length input.now.rows ≡ length pattern.now.rows }
+    requires text { IsConstantOf (text own.now) input.now }
+    requires patterns { AreTexts pattern.now (texts_of patterns) }
+    ensures { AnswersUnlessMemory result (AreLikeBits options input.now pattern.now) }
+{
+    let ascii = options.case_insensitive && own.is_ascii();
+    let columns = SideBySide {
+        texts: input,
+        patterns: pattern,
+        options,
+        ascii,
+    };
+    each_bits(alloc, columns, &OneText { text: own }, patterns)
+}
+
+/// What LIKE says of each row, by how the two sides are read. Of a null row it says nothing.
+fn like_bits(
+    alloc: Global,
+    input: &Column,
+    pattern: &Column,
+    options: LikeOptions,
+) -> VortexResult<BitBuffer>
+    requires texts { is_text_type input.now.dtype ≡ true }
+    requires patterns { is_text_type pattern.now.dtype ≡ true }
+    requires lengths { length input.now.rows ≡ length pattern.now.rows }
+    ensures { AnswersUnlessMemory result (AreLikeBits options input.now pattern.now) }
+{
+    match (text_column(input), text_column(pattern)) {
+        (TextColumn::Rows(texts), TextColumn::One(chars)) => {
+            one_pattern_bits(alloc, input, texts, chars, options)
         }
-        None => {
-            let rows = TextsAndPatterns {
-                texts,
-                patterns,
-                options,
-            };
-            collect_bits(alloc, &rows, len)
+        (TextColumn::Rows(texts), TextColumn::Rows(patterns)) => {
+            each_pattern_bits(alloc, input, texts, pattern, patterns, options)
         }
+        (TextColumn::One(text), TextColumn::Rows(patterns)) => {
+            one_text_bits(alloc, input, text, pattern, patterns, options)
+        }
+        (TextColumn::One(text), TextColumn::One(chars)) => {
+            let bit = like_once(alloc, text, chars, options)?;
+            collect_bits(alloc, &SameBit { bit }, input.len())
+        }
+        (TextColumn::Null, _) => collect_bits(alloc, &SameBit { bit: false }, input.len()),
+        (_, TextColumn::Null) => collect_bits(alloc, &SameBit { bit: false }, input.len()),
     }
 }
 
-/// Whether a row can be null. Takes no memory: where there is a list of bits it is not copied.
-fn can_hold_null(alloc: Global, column: &Column) -> VortexResult<bool>
-    ensures { AnswersUnlessMemory result (λ b. b ≡ false → (i : ℕ) → i < length column.now.rows
-        → is_null (row column.now.rows i) ≡ false) }
+/// LIKE row by row.
+fn like_rows(
+    alloc: Global,
+    input: &Column,
+    pattern: &Column,
+    options: LikeOptions,
+) -> VortexResult<Column>
+    requires input { is_text_type input.now.dtype ≡ true }
+    requires pattern { is_text_type pattern.now.dtype ≡ true }
+    requires lengths { length input.now.rows ≡ length pattern.now.rows }
+    ensures { AnswersUnlessMemory result (HasLikeRows options input.now pattern.now) }
 {
-    if column.valid_bits().is_some() {
-        return Ok(true);
-    }
-    match column.validity(alloc)? {
-        Validity::NonNullable => Ok(false),
-        Validity::AllValid => Ok(false),
-        _ => Ok(true),
-    }
-}
-
-/// The rows that are valid on both sides: no list of bits where neither side can hold a null.
-fn both_valid(alloc: Global, left: &Column, right: &Column) -> VortexResult<Validity>
-    requires { length left.now.rows ≡ length right.now.rows }
-    ensures { AnswersUnlessMemory result
-        (λ v. IsJointValidity left.now right.now (validity_of v)) }
-{
-    match left.dtype().nullability() | right.dtype().nullability() {
-        Nullability::NonNullable => Ok(Validity::NonNullable),
-        Nullability::Nullable => {
-            if !can_hold_null(alloc, left)? && !can_hold_null(alloc, right)? {
-                return Ok(Validity::AllValid);
-            }
-            let valid = collect_bits(alloc, &JointlyValid { left, right }, left.len())?;
-            Ok(Validity::Array(valid))
-        }
-    }
+    // each row has its column's type
+    let _ = input.dtype();
+    let _ = pattern.dtype();
+    let bits = like_bits(alloc, input, pattern, options)?;
+    let validity = both_valid(alloc, input, pattern)?;
+    Column::try_bool(alloc, bits, validity)
 }
 
 /// Whether the text in each row matches the pattern in that row, turned over where negated: SQL's LIKE with backslash
@@ -158,10 +173,10 @@ pub fn execute_like(
     requires lengths { length input.now.rows ≡ length pattern.now.rows }
     ensures { AnswersUnlessMemory result (HasLikeRows options input.now pattern.now) }
 {
-    // each row has its column's type
-    let _ = input.dtype();
-    let _ = pattern.dtype();
-    let bits = like_bits(ctx.alloc(), input, pattern, options)?;
-    let validity = both_valid(ctx.alloc(), input, pattern)?;
-    Column::try_bool(ctx.alloc(), bits, validity)
+    match (text_column(input), text_column(pattern)) {
+        (TextColumn::One(text), TextColumn::One(chars)) => {
+            like_of_constants(ctx.alloc(), input, pattern, (text, chars), options)
+        }
+        _ => like_rows(ctx.alloc(), input, pattern, options),
+    }
 }

@@ -2,17 +2,29 @@
 #![tactic(auto)]
 
 mod characters;
+mod column_test;
+mod cuts;
+mod each_pattern;
 pub mod execute;
+mod folded_tests;
+pub mod form;
+mod form_test;
 pub mod laws;
 mod matching;
 pub mod option_bytes;
 pub mod options;
 pub mod pattern;
 mod row_bits;
+mod text_tests;
+mod texts;
 mod token;
+mod token_reading;
+mod token_test;
+mod validity;
 pub mod variant;
 
 pub use execute::execute_like;
+pub use form::LikeForm;
 pub use options::LikeOptions;
 pub use pattern::LikePattern;
 pub use token::{LikeToken, Looks};

@@ -1,62 +1,22 @@
 //! A pattern, read once, and the texts that it matches.
-ghost use Rattle.std.specs.Prelude.{◌≡◌, ◌+◌, ◌*◌, ◌<◌, ◌≤◌, ◌↔◌, ◌∷◌, [], length, IsTrue};
-ghost use Rattle.std.specs.Prelude.{IsUtf8, MatchOption};
+ghost use Rattle.std.specs.Prelude.{◌≡◌, ◌≢◌, ◌+◌, ◌*◌, ◌≤◌, ◌↔◌, true, length, IsTrue, IsUtf8};
 ghost use Rattle.std.specs.Str.{chars, IsAscii};
-ghost use Rattle.vortex_like.specs.Words.{AnswersUnlessMemory, plain_token, tokens_of, Match};
-ghost use Rattle.vortex_like.specs.Words.{is_match, pattern_of, asked};
+ghost use Rattle.vortex_like.specs.Words.{AnswersUnlessMemory, Match, is_match, pattern_of, asked};
+ghost use Rattle.vortex_like.specs.Words.{row, AreTold, IsSaid, texts_of, AreTexts, AreAscii};
 
-use crate::characters::{Symbol, first_symbol};
-use crate::matching::match_tokens;
-use crate::token::{LikeToken, Looks};
+use crate::column_test::tested_by_form;
+use crate::form::LikeForm;
+use crate::form_test::{FormTest, form_test};
+use crate::texts::Texts;
+use crate::token::Looks;
 use std::alloc::Global;
 use std::marker::Model;
-use vortex_types::VortexResult;
-
-/// The token of a character that is not escaped and escapes none.
-fn plain_token(c: char) -> LikeToken
-    ensures { result ≡ plain_token c }
-{
-    match c {
-        '%' => LikeToken::any(),
-        '_' => LikeToken::one(),
-        _ => LikeToken::character(c),
-    }
-}
-
-/// The first token of a pattern, and the pattern behind it.
-fn first_token(pattern: &str) -> Option<(LikeToken, &str)>
-    ensures token { MatchOption result (chars pattern.now ≡ [])
-        (λ parts. tokens_of (chars pattern.now) ≡ parts.0 ∷ tokens_of (chars parts.1.now)) }
-    ensures falls { MatchOption result (chars pattern.now ≡ [])
-        (λ parts. length (chars parts.1.now) < length (chars pattern.now)) }
-{
-    let (symbol, behind) = first_symbol(pattern)?;
-    let token = match symbol {
-        Symbol::Plain(c) => plain_token(c),
-        Symbol::Escaped(c) => LikeToken::character(c),
-    };
-    Some((token, behind))
-}
-
-/// The tokens of a pattern.
-fn tokens_of(alloc: Global, pattern: &str) -> VortexResult<Vec<LikeToken>>
-    ensures { AnswersUnlessMemory result
-        (λ tokens. tokens.items ≡ tokens_of (chars pattern.now)) }
-{
-    let mut tokens = Vec::new(alloc);
-    let mut rest = pattern;
-    while let Some((token, behind)) = first_token(rest) {
-        tokens.push(token)?;
-        rest = behind;
-    }
-    Ok(tokens)
-}
+use vortex_columns::{BitBuffer, Column, VortexResult};
 
 /// A pattern, compiled for many texts.
 #[derive(Drop)]
 pub struct LikePattern {
-    tokens: Vec<LikeToken>,
-    case_insensitive: bool,
+    test: FormTest,
     ascii_haystack: bool,
 }
 
@@ -65,11 +25,18 @@ impl Model for LikePattern {
 
     ghost Value = { PatternView };
 
+    ghost use Rattle.vortex_like.specs.FormTests.{test_form, test_tokens, test_folds};
+    ghost use Rattle.vortex_like.specs.FormTests.{is_ascii_form};
+    ghost use Rattle.std.specs.Prelude.{◌≡◌, true};
+
     ghost view = { λ a. record {
-      tokens = a.tokens.items;
-      case_insensitive = a.case_insensitive;
+      tokens = test_tokens a.test;
+      case_insensitive = test_folds a.test;
       ascii_haystack = a.ascii_haystack;
+      form = test_form a.test;
     } };
+
+    ghost invariant = { λ a. is_ascii_form (test_form a.test) ≡ true → a.ascii_haystack ≡ true };
 }
 
 impl LikePattern {
@@ -77,7 +44,9 @@ impl LikePattern {
     /// character that character, a backslash at the end itself, and every other character itself.
     ///
     /// With `case_insensitive` a character stands for each with the same simple case folding. `ascii_haystack` promises
-    /// that every text to match is ASCII. Refuses for memory alone (E9).
+    /// that every text to match is ASCII. The pattern has the first form that fits: without folding Eq, StartsWith,
+    /// EndsWith, Contains or Tokens; with folding, where it and every text to match are ASCII, IEqAscii,
+    /// IStartsWithAscii, IEndsWithAscii or Tokens, and else Tokens. Refuses for memory alone (E9).
     pub fn compile(
         alloc: Global,
         pattern: &str,
@@ -87,12 +56,18 @@ impl LikePattern {
         ensures { AnswersUnlessMemory result
             (λ p. p ≡ pattern_of pattern.now case_insensitive ascii_haystack) }
     {
-        let tokens = tokens_of(alloc, pattern)?;
+        let test = form_test(alloc, pattern, case_insensitive, ascii_haystack)?;
         Ok(LikePattern {
-            tokens,
-            case_insensitive,
+            test,
             ascii_haystack,
         })
+    }
+
+    /// How the pattern is matched.
+    pub fn form(&self) -> LikeForm
+        ensures { result ≡ self.now.form }
+    {
+        self.test.form()
     }
 
     /// Whether the pattern matches a text, whole, by the text's UTF-8 bytes. Takes no memory.
@@ -104,12 +79,12 @@ impl LikePattern {
         ensures test { result
             ≡ is_match self.now.case_insensitive self.now.tokens (chars haystack.now) }
     {
-        let (found, _) = self.matches_counted(haystack);
-        found
+        self.test.passes(haystack)
     }
 
     /// The same, and how often a token was compared with a character: at most as often as the text has characters, and
-    /// once more, for each token and once more; and where it matches at least once for each token but `%`.
+    /// once more, for each token and once more. A form other than Tokens compares none; where Tokens matches it is at
+    /// least once for each token but `%`.
     pub fn matches_counted(&self, haystack: &[u8]) -> (bool, Looks)
         requires utf8 { IsUtf8 haystack.now }
         requires ascii { IsTrue self.now.ascii_haystack → IsAscii haystack.now }
@@ -119,9 +94,27 @@ impl LikePattern {
             ≡ is_match self.now.case_insensitive self.now.tokens (chars haystack.now) }
         ensures looks { result.1
             ≤ (length (chars haystack.now) + 1) * (length self.now.tokens + 1) }
-        ensures least { IsTrue result.0 → asked self.now.tokens ≤ result.1 }
+        ensures none { self.now.form ≢ LikeForm.Tokens → result.1 ≡ 0 }
+        ensures least { self.now.form ≡ LikeForm.Tokens → IsTrue result.0
+            → asked self.now.tokens ≤ result.1 }
     {
-        let text = unsafe { str::from_utf8_unchecked(haystack) };
-        match_tokens(self.tokens.as_slice(), text, self.case_insensitive)
+        self.test.passes_counted(haystack)
+    }
+
+    /// Whether it matches each text of a column, turned over where negated. Of a null row it says nothing.
+    pub(crate) fn matched_rows(
+        &self,
+        alloc: Global,
+        column: &Column,
+        texts: Texts<'_>,
+        negated: bool,
+    ) -> VortexResult<BitBuffer>
+        requires texts { AreTexts column.now (texts_of texts) }
+        requires ascii { IsTrue self.now.ascii_haystack → AreAscii column.now (texts_of texts) }
+        ensures { AnswersUnlessMemory result (AreTold (length column.now.rows) (λ i b. IsSaid
+            (λ bytes. is_match self.now.case_insensitive self.now.tokens (chars bytes))
+            negated (row column.now.rows i) b)) }
+    {
+        tested_by_form(alloc, column, texts, &self.test, negated)
     }
 }

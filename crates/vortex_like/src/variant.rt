@@ -3,10 +3,10 @@ ghost use Rattle.std.specs.Prelude.{◌≡◌, true, Some, MatchOption};
 ghost use Rattle.std.specs.Str.{chars};
 ghost use Rattle.vortex_like.specs.Words.{AnswersUnlessMemory, tokens_of, character, symbol_token};
 ghost use Rattle.vortex_like.specs.Words.{is_wildcard, meets_escape, IsVariantOf, TellsMatches};
-ghost use Rattle.vortex_like.specs.Words.{IsUnescaped, is_special, IsPassed, StartsSpecial};
-ghost use Rattle.vortex_like.specs.Words.{IsCutOf};
+ghost use Rattle.vortex_like.specs.Words.{IsUnescaped};
 
 use crate::characters::{Symbol, first_symbol, split_first};
+use crate::cuts::cut_at_special;
 use std::alloc::Global;
 use std::borrow::CowStr;
 use vortex_types::VortexResult;
@@ -61,44 +61,6 @@ fn without_escapes(alloc: Global, pattern: &str) -> VortexResult<Unescaped>
         text,
         at_wildcard: false,
     })
-}
-
-/// Whether a character is a wildcard or escapes one.
-fn is_special(c: char) -> bool
-    ensures { result ≡ is_special c }
-{
-    c == '\\' || (c == '%' || c == '_')
-}
-
-/// A pattern, cut before the first character that is special.
-#[derive(Clone, Copy)]
-struct Cut<'a> {
-    front: &'a str,
-    rest: &'a str,
-}
-
-/// What is left of a pattern from its first special character on.
-fn from_special(pattern: &str) -> &str
-    ensures passed { IsPassed pattern.now result.now }
-    ensures special { StartsSpecial (chars result.now) }
-{
-    let mut rest = pattern;
-    while let Some((c, behind)) = split_first(rest) {
-        if is_special(c) {
-            return rest;
-        }
-        rest = behind;
-    }
-    rest
-}
-
-/// The part of a pattern without special characters, and what is behind it.
-fn cut_at_special(pattern: &str) -> Cut<'_>
-    ensures { IsCutOf (chars pattern.now) result }
-{
-    let rest = from_special(pattern);
-    let front = &pattern[..pattern.len() - rest.len()];
-    Cut { front, rest }
 }
 
 /// The shape of a pattern that has an escape before its first wildcard.

@@ -7,5 +7,5 @@ loop-i-preserved g c = (
   c.push_reserved.ensures.capacity ∙ c.loop-i.invariant.0,
   rw c.push_reserved.ensures.items
       (told_more c.loop-i.i (g.R.RowBits.tells c.args.rows.now) c.loop-i.bits.items
-      c.in_ok-bit.field-0 c.loop-i.invariant.1 c.in_ok-bit.ensures),
+      c.bit.result c.loop-i.invariant.1 c.bit.ensures),
 )

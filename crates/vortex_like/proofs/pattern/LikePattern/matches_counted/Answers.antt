@@ -1,14 +1,13 @@
-use Rattle.std.proofs.Common.{rules}
-use Rattle.std.specs.Prelude.{◌↔◌, IsTrue}
+use Rattle.std.proofs.Common.{◌≡◌, rules}
 use Rattle.std.specs.Str.{chars}
-use Rattle.vortex_like.specs.Tokens.{Match}
-use Rattle.vortex_like.proofs.Testing.{answer_is}
+use Rattle.vortex_like.specs.Tokens.{is_match}
+use Rattle.vortex_like.proofs.Testing.{test_answers}
 use Rattle.vortex_like.proofs.pattern.LikePattern.matches_counted.Goals as goal
 
-pub returns-clause-test : goal.returns-clause-test
-returns-clause-test c =
+pub returns-clause-answer : goal.returns-clause-answer
+returns-clause-answer c =
     let fold = c.args.self.now.case_insensitive in
     let tokens = c.args.self.now.tokens in
     let text = chars c.args.haystack.now in
-    let told : IsTrue c.match_tokens.result.0 ↔ Match fold tokens text = search rules in
-    answer_is fold c.match_tokens.result.0 tokens text told
+    let told : c.passes_counted.result.0 ≡ is_match fold tokens text = search rules in
+    test_answers fold c.passes_counted.result.0 tokens text told

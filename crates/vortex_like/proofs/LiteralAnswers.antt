@@ -1,0 +1,111 @@
+-- What a test by bytes answers is what the tokens of its form ask.
+use Rattle.std.proofs.Common.{◌≡◌, ℕ, ◌+◌, ◌-◌, ◌<◌, ◌≤◌, Bool, true, false, List, ◌++◌, length, take}
+use Rattle.std.proofs.Common.{drop, get_or, refl, sym, ap, ◌∙◌, arith, length-append, nat_eq}
+use Rattle.std.proofs.Common.{Option, Some, None}
+use Rattle.std.specs.Prelude.{IsUtf8, is_some}
+use Rattle.std.specs.Str.{chars}
+use Rattle.std.specs.List.{starts_with, ends_with}
+use Rattle.std.specs.Cmp.Lexicographic.{pointwise}
+use Rattle.std.proofs.lemmas.Bool.Decides.{Decides-eqb}
+use Rattle.std.proofs.lemmas.Slice.Eq.{slice_eq-Decides, starts_is, ends_is}
+use Rattle.std.proofs.lemmas.List.{take-append-drop, get_or-append-add, get_or_append_left, get_or-take}
+use Rattle.std.proofs.lemmas.List.{get_or-drop, length-take-le, length-drop, ext_get_or}
+use Rattle.memchr.specs.Find.{OccursAt, FindsNeedle}
+use Rattle.vortex_like.specs.Tokens.{is_match}
+use Rattle.vortex_like.specs.Shapes.{whole_tokens, front_tokens, end_tokens, inside_tokens}
+use Rattle.vortex_like.proofs.Testing.{answer_is}
+use Rattle.vortex_like.proofs.Literals.{whole_match, front_match, end_match, inside_match}
+
+-- where a literal part stands in a text
+occurs_parted : (bytes literal : List ℕ) (k : ℕ) → OccursAt bytes literal k
+    → (front : List ℕ) × (rest : List ℕ) × (bytes ≡ front ++ (literal ++ rest))
+occurs_parted bytes literal k h = (
+  take k bytes,
+  drop (length literal) (drop k bytes),
+  sym (take-append-drop k bytes)
+      ∙ ap (λ (bs : List ℕ). take k bytes ++ bs)
+      (sym (take-append-drop (length literal) (drop k bytes))
+      ∙ ap (λ (bs : List ℕ). bs ++ drop (length literal) (drop k bytes)) here),
+)
+  where
+    size : length (take (length literal) (drop k bytes)) ≡ length literal
+    size =
+        length-take-le (length literal) (drop k bytes)
+        (omega (arith, length-drop k bytes, h.fits))
+
+    here : take (length literal) (drop k bytes) ≡ literal
+    here =
+        ext_get_or 0 (take (length literal) (drop k bytes)) literal size
+        (λ i lt.
+        let within : i < length literal = omega (arith, size) in
+        get_or-take (length literal) (drop k bytes) i 0 within ∙ get_or-drop k bytes i 0
+        ∙ h.reads i within)
+
+parted_occurs : (bytes literal front rest : List ℕ) → bytes ≡ front ++ (literal ++ rest)
+    → OccursAt bytes literal (length front)
+parted_occurs bytes literal front rest e = record {
+  fits = fits;
+  reads = λ j lt.
+      ap (λ (bs : List ℕ). get_or bs (length front + j) 0) e
+      ∙ get_or-append-add front (literal ++ rest) j 0 ∙ get_or_append_left literal rest 0 j lt;
+}
+  where
+    fits : length front + length literal ≤ length bytes
+    fits =
+        omega (
+          arith,
+          ap (λ (bs : List ℕ). length bs) e,
+          length-append front (literal ++ rest),
+          length-append literal rest,
+        )
+
+module _ (literal bytes : List ℕ) (l : IsUtf8 literal) (u : IsUtf8 bytes) where
+  pub whole_answer : (b : Bool) → b ≡ pointwise nat_eq literal bytes
+      → b ≡ is_match false (whole_tokens (chars literal)) (chars bytes)
+  whole_answer b e =
+      let decides = slice_eq-Decides Decides-eqb literal bytes b e in
+      let match = whole_match literal bytes l u in
+      answer_is false b (whole_tokens (chars literal)) (chars bytes)
+      (λ is. match.0 (decides.0 is), λ m. decides.1 (match.1 m))
+
+  pub front_answer : (b : Bool) → b ≡ starts_with nat_eq bytes literal
+      → b ≡ is_match false (front_tokens (chars literal)) (chars bytes)
+  front_answer b e =
+      let decides = starts_is Decides-eqb bytes literal b e in
+      let match = front_match literal bytes l u in
+      answer_is false b (front_tokens (chars literal)) (chars bytes) (
+        λ is. match.0 (drop (length literal) bytes, decides.0 is),
+        λ m. let parts = match.1 m in decides.1 parts.0 parts.1,
+      )
+
+  pub end_answer : (b : Bool) → b ≡ ends_with nat_eq bytes literal
+      → b ≡ is_match false (end_tokens (chars literal)) (chars bytes)
+  end_answer b e =
+      let decides = ends_is Decides-eqb bytes literal b e in
+      let match = end_match literal bytes l u in
+      answer_is false b (end_tokens (chars literal)) (chars bytes) (
+        λ is. match.0 (take (length bytes - length literal) bytes, decides.0 is),
+        λ m. let parts = match.1 m in decides.1 parts.0 parts.1,
+      )
+
+  pub inside_answer : (r : Option ℕ) → FindsNeedle bytes literal 0 r
+      → is_some r ≡ is_match false (inside_tokens (chars literal)) (chars bytes)
+  inside_answer r h =
+      let match = inside_match literal bytes l u in
+      answer_is false (is_some r) (inside_tokens (chars literal)) (chars bytes)
+      (λ is. match.0 (found r h is), λ m. finds r h (match.1 m))
+    where
+      found : (r : Option ℕ) → FindsNeedle bytes literal 0 r → is_some r ≡ true
+          → (front : List ℕ) × (rest : List ℕ) × (bytes ≡ front ++ (literal ++ rest))
+      found None h is = cc
+      found (Some k) h is = occurs_parted bytes literal k h.1
+
+      finds : (r : Option ℕ) → FindsNeedle bytes literal 0 r
+          → ((front : List ℕ) × (rest : List ℕ) × (bytes ≡ front ++ (literal ++ rest)))
+          → is_some r ≡ true
+      finds (Some k) h parts = refl
+      finds None h parts =
+          let occurs = parted_occurs bytes literal parts.0 parts.1 parts.2 in
+          let low : 0 ≤ length parts.0 = omega arith in
+          let high : length parts.0 < length bytes + 1 = omega (arith, occurs.fits) in
+          absurd (h (length parts.0) low high occurs)

@@ -1,0 +1,16 @@
+use Rattle.std.proofs.Common.{◌≡◌}
+use Rattle.std.specs.Vec.{vec_capacity}
+use Rattle.vortex_columns.specs.ColumnView.{row}
+use Rattle.vortex_like.specs.EachPattern.{IsCompiled}
+use Rattle.vortex_like.specs.Rows.{AreTold, IsLikeBit}
+use Rattle.vortex_like.proofs.each_pattern.each_bits.Given as goal
+
+-- the rows so far, the room for the rest, and the last pattern
+abbrev pub invariant-loop-i : goal.invariant-loop-i
+invariant-loop-i g l =
+    (vec_capacity l.bits ≡ l.len)
+    × AreTold l.i
+    (λ i b.
+    IsLikeBit l.columns.options (row l.columns.texts.now.rows i)
+    (row l.columns.patterns.now.rows i) b) l.bits.items
+    × IsCompiled l.columns.options.case_insensitive l.columns.ascii l.last

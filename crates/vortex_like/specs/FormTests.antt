@@ -1,0 +1,55 @@
+-- What is seen of the test that a pattern is compiled to.
+use Rattle.std.specs.Prelude.{◌≡◌, ℕ, Bool, true, false, List, string_bytes}
+use Rattle.std.specs.Str.{chars}
+use Rattle.vortex_like.specs.Tokens.{Token, tokens_of}
+use Rattle.vortex_like.specs.Shapes.{whole_tokens, front_tokens, end_tokens, inside_tokens}
+use Rattle.vortex_like.specs.declared.form.LikeForm.{LikeForm}
+use Rattle.vortex_like.specs.declared.form.LikeForm.TheVariants as form
+use Rattle.vortex_like.specs.declared.form_test.FormTest.{FormTest}
+use Rattle.vortex_like.specs.declared.form_test.FormTest.TheVariants.{Eq, StartsWith, EndsWith}
+use Rattle.vortex_like.specs.declared.form_test.FormTest.TheVariants.{Contains, IEqAscii}
+use Rattle.vortex_like.specs.declared.form_test.FormTest.TheVariants.{IStartsWithAscii}
+use Rattle.vortex_like.specs.declared.form_test.FormTest.TheVariants.{IEndsWithAscii, Tokens}
+
+abbrev pub test_form : FormTest → LikeForm
+test_form (Eq t) = form.Eq
+test_form (StartsWith t) = form.StartsWith
+test_form (EndsWith t) = form.EndsWith
+test_form (Contains t) = form.Contains
+test_form (IEqAscii t) = form.IEqAscii
+test_form (IStartsWithAscii t) = form.IStartsWithAscii
+test_form (IEndsWithAscii t) = form.IEndsWithAscii
+test_form (Tokens t) = form.Tokens
+
+-- the tokens that it answers as
+abbrev pub test_tokens : FormTest → List Token
+test_tokens (Eq t) = whole_tokens (chars (string_bytes t.literal))
+test_tokens (StartsWith t) = front_tokens (chars (string_bytes t.literal))
+test_tokens (EndsWith t) = end_tokens (chars (string_bytes t.literal))
+test_tokens (Contains t) = inside_tokens (chars t)
+test_tokens (IEqAscii t) = whole_tokens t.text
+test_tokens (IStartsWithAscii t) = front_tokens t.text
+test_tokens (IEndsWithAscii t) = end_tokens t.text
+test_tokens (Tokens t) = t.tokens.items
+
+-- and whether past case
+abbrev pub test_folds : FormTest → Bool
+test_folds (IEqAscii t) = true
+test_folds (IStartsWithAscii t) = true
+test_folds (IEndsWithAscii t) = true
+test_folds (Tokens t) = t.case_insensitive
+test_folds t = false
+
+-- the forms that are for ASCII texts alone
+abbrev pub is_ascii_form : LikeForm → Bool
+is_ascii_form form.IEqAscii = true
+is_ascii_form form.IStartsWithAscii = true
+is_ascii_form form.IEndsWithAscii = true
+is_ascii_form f = false
+
+-- the test of a pattern, past case or not, of that form
+pub record IsTestOf (pattern : List ℕ) (past_case : Bool) (f : LikeForm) (t : FormTest)
+    : Type 0 where
+  pub tokens : test_tokens t ≡ tokens_of pattern
+  pub folds : test_folds t ≡ past_case
+  pub form : test_form t ≡ f

@@ -1,0 +1,161 @@
+//! Tests of ASCII texts past case, by their bytes, one for each form with folding.
+ghost use Rattle.std.specs.Prelude.{◌≡◌, ◌↔◌, ℕ, List, true, IsTrue, length, string_bytes};
+ghost use Rattle.std.specs.Str.{chars, IsAscii};
+ghost use Rattle.vortex_like.specs.Words.{AnswersUnlessMemory, AreAsciiFolds, folded, is_match};
+ghost use Rattle.vortex_like.specs.Words.{whole_tokens, front_tokens, end_tokens};
+
+use crate::characters::split_first;
+use crate::text_tests::TextTest;
+use std::alloc::Global;
+use std::marker::Model;
+use unicode::case::simple_fold;
+use vortex_types::VortexResult;
+
+/// What each of the 128 characters of ASCII folds to.
+fn ascii_folds(alloc: Global) -> VortexResult<Vec<char>>
+    ensures { AnswersUnlessMemory result (λ folds. AreAsciiFolds folds.items) }
+{
+    let mut folds = Vec::with_capacity(alloc, 128)?;
+    for c in 0..128u8 {
+        folds.push_reserved(simple_fold(char::from(c)));
+    }
+    Ok(folds)
+}
+
+/// What each character of a text folds to.
+fn folded_characters(alloc: Global, text: &str) -> VortexResult<Vec<char>>
+    ensures { AnswersUnlessMemory result (λ own. own.items ≡ folded (chars text.now)) }
+{
+    let mut own = Vec::new(alloc);
+    let mut rest = text;
+    while let Some((c, behind)) = split_first(rest) {
+        own.push(simple_fold(c))?;
+        rest = behind;
+    }
+    Ok(own)
+}
+
+/// Whether ASCII characters fold to these, one by one. Bytes that are no ASCII are read as others, so that none is
+/// refused.
+fn fold_to(folds: &[char], bytes: &[u8], own: &[char]) -> bool
+    requires { AreAsciiFolds folds.now }
+    ensures { IsAscii bytes.now → IsTrue result ↔ (folded bytes.now ≡ own.now) }
+{
+    if bytes.len() != own.len() {
+        return false;
+    }
+    for i in 0..bytes.len() {
+        if folds[usize::from(bytes[i] % 128)] != own[i] {
+            return false;
+        }
+    }
+    true
+}
+
+/// A text to be compared past case with ASCII texts.
+#[derive(Drop)]
+pub(crate) struct FoldedText {
+    text: String,
+    own: Vec<char>,
+    folds: Vec<char>,
+}
+
+impl Model for FoldedText {
+    ghost use Rattle.std.specs.Prelude.{◌≡◌, ℕ, List, string_bytes};
+    ghost use Rattle.std.specs.Str.{chars};
+    ghost use Rattle.vortex_like.specs.AsciiFolds.{AreAsciiFolds, folded};
+
+    ghost Value = { List ℕ };
+
+    ghost view = { λ t. chars (string_bytes t.text) };
+
+    ghost invariant = { λ t. (t.own.items ≡ folded (chars (string_bytes t.text)))
+        × AreAsciiFolds t.folds.items };
+}
+
+impl FoldedText {
+    pub(crate) fn new(alloc: Global, text: &str) -> VortexResult<FoldedText>
+        ensures { AnswersUnlessMemory result (λ t. t ≡ chars text.now) }
+    {
+        let own = folded_characters(alloc, text)?;
+        let folds = ascii_folds(alloc)?;
+        let text = String::from_str(alloc, text)?;
+        Ok(FoldedText { text, own, folds })
+    }
+
+    /// How many characters there are.
+    fn len(&self) -> usize
+        ensures { result ≡ length self.now }
+    {
+        self.own.len()
+    }
+
+    /// Whether an ASCII text has the same foldings.
+    fn equals(&self, bytes: &[u8]) -> bool
+        ensures { IsAscii bytes.now → IsTrue result ↔ (folded bytes.now ≡ folded self.now) }
+    {
+        fold_to(self.folds.as_slice(), bytes, self.own.as_slice())
+    }
+}
+
+/// Whether an ASCII text is this one past case.
+#[derive(Drop)]
+pub(crate) struct FoldedWholeTest {
+    pub(crate) text: FoldedText,
+}
+
+impl TextTest for FoldedWholeTest {
+    ghost can_read = { λ t bytes. Unit {0} };
+
+    ghost tells_of = { λ t bytes. IsAscii bytes };
+
+    ghost answer = { λ t bytes. is_match true (whole_tokens t.text) (chars bytes) };
+
+    fn passes(&self, haystack: &[u8]) -> bool {
+        self.text.equals(haystack)
+    }
+}
+
+/// Whether an ASCII text begins with this one past case.
+#[derive(Drop)]
+pub(crate) struct FoldedFrontTest {
+    pub(crate) text: FoldedText,
+}
+
+impl TextTest for FoldedFrontTest {
+    ghost can_read = { λ t bytes. Unit {0} };
+
+    ghost tells_of = { λ t bytes. IsAscii bytes };
+
+    ghost answer = { λ t bytes. is_match true (front_tokens t.text) (chars bytes) };
+
+    fn passes(&self, haystack: &[u8]) -> bool {
+        let len = self.text.len();
+        if haystack.len() < len {
+            return false;
+        }
+        self.text.equals(&haystack[..len])
+    }
+}
+
+/// Whether an ASCII text ends with this one past case.
+#[derive(Drop)]
+pub(crate) struct FoldedEndTest {
+    pub(crate) text: FoldedText,
+}
+
+impl TextTest for FoldedEndTest {
+    ghost can_read = { λ t bytes. Unit {0} };
+
+    ghost tells_of = { λ t bytes. IsAscii bytes };
+
+    ghost answer = { λ t bytes. is_match true (end_tokens t.text) (chars bytes) };
+
+    fn passes(&self, haystack: &[u8]) -> bool {
+        let len = self.text.len();
+        if haystack.len() < len {
+            return false;
+        }
+        self.text.equals(&haystack[haystack.len() - len..])
+    }
+}

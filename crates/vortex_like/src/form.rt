@@ -1,0 +1,78 @@
+//! The forms of patterns: how each is matched.
+ghost use Rattle.std.specs.Str.{chars};
+ghost use Rattle.vortex_like.specs.Words.{IsFrontOf, IsPercentOf, IsShapeOf};
+
+use crate::characters::split_first;
+use crate::cuts::cut_at_special;
+
+/// How a pattern is matched. A literal part holds no `%`, `_` or backslash; a pattern has the first form that fits.
+#[derive(Clone, Copy, Debug, PartialEq, Eq)]
+pub enum LikeForm {
+    /// A literal part: that text alone.
+    Eq,
+    /// A literal part and `%`: what begins with it.
+    StartsWith,
+    /// `%` and a literal part: what ends with it.
+    EndsWith,
+    /// A literal part between two `%`: what holds it.
+    Contains,
+    /// As `Eq`, past case: the pattern and each text to match are ASCII.
+    IEqAscii,
+    /// As `StartsWith`, past case: the pattern and each text to match are ASCII.
+    IStartsWithAscii,
+    /// As `EndsWith`, past case: the pattern and each text to match are ASCII.
+    IEndsWithAscii,
+    /// All else: token by token.
+    Tokens,
+}
+
+/// A pattern, by its literal part where it has one.
+#[derive(Clone, Copy)]
+pub(crate) enum Shape<'a> {
+    Whole(&'a str),
+    Front(&'a str),
+    End(&'a str),
+    Inside(&'a str),
+    Other,
+}
+
+/// The shape of a pattern that is a literal part, or one and `%`.
+fn front_shape(pattern: &str) -> Shape<'_>
+    ensures { IsFrontOf (chars pattern.now) result }
+{
+    let cut = cut_at_special(pattern);
+    match split_first(cut.rest) {
+        None => Shape::Whole(cut.front),
+        Some((c, behind)) => {
+            if c == '%' && behind.is_empty() {
+                Shape::Front(cut.front)
+            } else {
+                Shape::Other
+            }
+        }
+    }
+}
+
+/// The shape of a pattern that is `%` and a literal part, or that and `%`.
+fn percent_shape(pattern: &str) -> Shape<'_>
+    ensures { IsPercentOf (chars pattern.now) result }
+{
+    let Some(('%', behind)) = split_first(pattern) else {
+        return Shape::Other;
+    };
+    match front_shape(behind) {
+        Shape::Whole(literal) => Shape::End(literal),
+        Shape::Front(literal) => Shape::Inside(literal),
+        _ => Shape::Other,
+    }
+}
+
+/// The shape of a pattern: the first that fits.
+pub(crate) fn shape_of(pattern: &str) -> Shape<'_>
+    ensures { IsShapeOf (chars pattern.now) result }
+{
+    match front_shape(pattern) {
+        Shape::Other => percent_shape(pattern),
+        shape => shape,
+    }
+}

@@ -1,0 +1,162 @@
+//! The test that a pattern is compiled to, by its form.
+ghost use Rattle.std.specs.Prelude.{◌≡◌, ◌≢◌, ◌+◌, ◌*◌, ◌≤◌, length, true, false, IsTrue, IsUtf8};
+ghost use Rattle.std.specs.Str.{chars, IsAscii};
+ghost use Rattle.vortex_like.specs.Words.{AnswersUnlessMemory, is_match, asked, form_of};
+ghost use Rattle.vortex_like.specs.Words.{plain_form, folded_form, test_form, test_tokens};
+ghost use Rattle.vortex_like.specs.Words.{test_folds, is_ascii_form, IsTestOf};
+
+use crate::folded_tests::{FoldedEndTest, FoldedFrontTest, FoldedText, FoldedWholeTest};
+use crate::form::{LikeForm, Shape, shape_of};
+use crate::text_tests::{EndTest, FrontTest, InsideTest, TextTest, WholeTest};
+use crate::token::Looks;
+use crate::token_reading::tokens_of;
+use crate::token_test::TokenTest;
+use std::alloc::Global;
+use vortex_types::VortexResult;
+
+/// What a text is tested by, one variant for each form.
+#[derive(Drop)]
+pub(crate) enum FormTest {
+    Eq(WholeTest),
+    StartsWith(FrontTest),
+    EndsWith(EndTest),
+    Contains(InsideTest),
+    IEqAscii(FoldedWholeTest),
+    IStartsWithAscii(FoldedFrontTest),
+    IEndsWithAscii(FoldedEndTest),
+    Tokens(TokenTest),
+}
+
+/// The test of a pattern token by token.
+fn token_test(alloc: Global, pattern: &str, case_insensitive: bool) -> VortexResult<FormTest>
+    ensures { AnswersUnlessMemory result
+        (IsTestOf (chars pattern.now) case_insensitive LikeForm.Tokens) }
+{
+    let tokens = tokens_of(alloc, pattern)?;
+    Ok(FormTest::Tokens(TokenTest {
+        tokens,
+        case_insensitive,
+    }))
+}
+
+/// The test of a pattern without folding.
+fn plain_test(alloc: Global, pattern: &str) -> VortexResult<FormTest>
+    ensures { AnswersUnlessMemory result
+        (IsTestOf (chars pattern.now) false (plain_form (chars pattern.now))) }
+{
+    match shape_of(pattern) {
+        Shape::Whole(text) => {
+            let literal = String::from_str(alloc, text)?;
+            Ok(FormTest::Eq(WholeTest { literal }))
+        }
+        Shape::Front(text) => {
+            let literal = String::from_str(alloc, text)?;
+            Ok(FormTest::StartsWith(FrontTest { literal }))
+        }
+        Shape::End(text) => {
+            let literal = String::from_str(alloc, text)?;
+            Ok(FormTest::EndsWith(EndTest { literal }))
+        }
+        Shape::Inside(text) => {
+            let literal = String::from_str(alloc, text)?;
+            Ok(FormTest::Contains(InsideTest::new(literal)))
+        }
+        Shape::Other => token_test(alloc, pattern, false),
+    }
+}
+
+/// The test of a pattern with folding, for ASCII texts.
+fn folded_test(alloc: Global, pattern: &str) -> VortexResult<FormTest>
+    ensures { AnswersUnlessMemory result
+        (IsTestOf (chars pattern.now) true (folded_form (plain_form (chars pattern.now)))) }
+{
+    match shape_of(pattern) {
+        Shape::Whole(literal) => {
+            let text = FoldedText::new(alloc, literal)?;
+            Ok(FormTest::IEqAscii(FoldedWholeTest { text }))
+        }
+        Shape::Front(literal) => {
+            let text = FoldedText::new(alloc, literal)?;
+            Ok(FormTest::IStartsWithAscii(FoldedFrontTest { text }))
+        }
+        Shape::End(literal) => {
+            let text = FoldedText::new(alloc, literal)?;
+            Ok(FormTest::IEndsWithAscii(FoldedEndTest { text }))
+        }
+        _ => token_test(alloc, pattern, true),
+    }
+}
+
+/// The test of a pattern, by its form.
+pub(crate) fn form_test(
+    alloc: Global,
+    pattern: &str,
+    case_insensitive: bool,
+    ascii_haystack: bool,
+) -> VortexResult<FormTest>
+    ensures { AnswersUnlessMemory result (IsTestOf (chars pattern.now) case_insensitive
+        (form_of (chars pattern.now) case_insensitive ascii_haystack)) }
+{
+    if !case_insensitive {
+        return plain_test(alloc, pattern);
+    }
+    if ascii_haystack && pattern.is_ascii() {
+        return folded_test(alloc, pattern);
+    }
+    token_test(alloc, pattern, true)
+}
+
+impl FormTest {
+    /// The form of the pattern.
+    pub(crate) fn form(&self) -> LikeForm
+        ensures { result ≡ test_form self.now }
+    {
+        match self {
+            FormTest::Eq(_) => LikeForm::Eq,
+            FormTest::StartsWith(_) => LikeForm::StartsWith,
+            FormTest::EndsWith(_) => LikeForm::EndsWith,
+            FormTest::Contains(_) => LikeForm::Contains,
+            FormTest::IEqAscii(_) => LikeForm::IEqAscii,
+            FormTest::IStartsWithAscii(_) => LikeForm::IStartsWithAscii,
+            FormTest::IEndsWithAscii(_) => LikeForm::IEndsWithAscii,
+            FormTest::Tokens(_) => LikeForm::Tokens,
+        }
+    }
+
+    /// Whether a text passes.
+    pub(crate) fn passes(&self, haystack: &[u8]) -> bool
+        requires utf8 { IsUtf8 haystack.now }
+        requires ascii { is_ascii_form (test_form self.now) ≡ true → IsAscii haystack.now }
+        ensures { result
+            ≡ is_match (test_folds self.now) (test_tokens self.now) (chars haystack.now) }
+    {
+        match self {
+            FormTest::Eq(test) => test.passes(haystack),
+            FormTest::StartsWith(test) => test.passes(haystack),
+            FormTest::EndsWith(test) => test.passes(haystack),
+            FormTest::Contains(test) => test.passes(haystack),
+            FormTest::IEqAscii(test) => test.passes(haystack),
+            FormTest::IStartsWithAscii(test) => test.passes(haystack),
+            FormTest::IEndsWithAscii(test) => test.passes(haystack),
+            FormTest::Tokens(test) => test.passes(haystack),
+        }
+    }
+
+    /// The same, and how often a token was compared with a character.
+    pub(crate) fn passes_counted(&self, haystack: &[u8]) -> (bool, Looks)
+        requires utf8 { IsUtf8 haystack.now }
+        requires ascii { is_ascii_form (test_form self.now) ≡ true → IsAscii haystack.now }
+        ensures test { result.0
+            ≡ is_match (test_folds self.now) (test_tokens self.now) (chars haystack.now) }
+        ensures none { test_form self.now ≢ LikeForm.Tokens → result.1 ≡ 0 }
+        ensures most { result.1
+            ≤ (length (chars haystack.now) + 1) * (length (test_tokens self.now) + 1) }
+        ensures least { test_form self.now ≡ LikeForm.Tokens → IsTrue result.0
+            → asked (test_tokens self.now) ≤ result.1 }
+    {
+        match self {
+            FormTest::Tokens(test) => test.passes_counted(haystack),
+            _ => (self.passes(haystack), Looks::new()),
+        }
+    }
+}

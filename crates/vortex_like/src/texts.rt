@@ -1,0 +1,93 @@
+//! The texts of columns, row by row.
+ghost use Rattle.std.specs.Prelude.{◌≡◌, ◌<◌, ℕ, List, true, length};
+ghost use Rattle.vortex_like.specs.Words.{is_text_type, texts_of, text_at, AreTexts, AreAscii};
+ghost use Rattle.vortex_like.specs.Words.{IsTextColumn};
+
+use vortex_columns::{Cell, Column, ResolvedViews};
+
+/// The texts of a column that is no constant, each where it lies. Under a null lie any bytes.
+#[derive(Clone, Copy)]
+pub(crate) struct Texts<'a> {
+    rows: ResolvedViews<'a>,
+}
+
+/// A column of texts, by how its rows are read.
+#[derive(Clone, Copy)]
+pub(crate) enum TextColumn<'a> {
+    /// This text in each row.
+    One(&'a str),
+    Rows(Texts<'a>),
+    /// Null in each row.
+    Null,
+}
+
+/// How the rows of a column of texts are read. Takes no memory.
+pub(crate) fn text_column(column: &Column) -> TextColumn<'_>
+    requires { is_text_type column.now.dtype ≡ true }
+    ensures { IsTextColumn column.now result }
+{
+    // each row has the column's type
+    let _ = column.dtype();
+    let Some(scalar) = column.as_constant() else {
+        return match column.views() {
+            Some(rows) => TextColumn::Rows(Texts { rows }),
+            None => TextColumn::Null,
+        };
+    };
+    match scalar.cell() {
+        Cell::Text(text) => TextColumn::One(text),
+        _ => TextColumn::Null,
+    }
+}
+
+/// A text for each row that is not null.
+pub(crate) trait RowTexts {
+    ghost has_row: { Self → ℕ → Type 0 };
+
+    ghost bytes_at: { Self → ℕ → List ℕ };
+
+    fn bytes(&self, i: usize) -> &[u8]
+        requires { has_row self.now i }
+        ensures { result.now ≡ bytes_at self.now i };
+}
+
+impl RowTexts for Texts<'_> {
+    ghost has_row = { λ t i. i < length (texts_of t) };
+
+    ghost bytes_at = { λ t. text_at (texts_of t) };
+
+    fn bytes(&self, i: usize) -> &[u8] {
+        self.rows.bytes(i)
+    }
+}
+
+/// The same text in each row.
+#[derive(Clone, Copy)]
+pub(crate) struct OneText<'a> {
+    pub(crate) text: &'a str,
+}
+
+impl RowTexts for OneText<'_> {
+    ghost has_row = { λ t i. Unit {0} };
+
+    ghost bytes_at = { λ t i. t.text.now };
+
+    fn bytes(&self, _i: usize) -> &[u8] {
+        self.text.as_bytes()
+    }
+}
+
+impl Texts<'_> {
+    /// Whether each text that is not null is ASCII.
+    pub(crate) fn are_ascii(&self, column: &Column) -> bool
+        requires { AreTexts column.now (texts_of self.now) }
+        ensures { result ≡ true → AreAscii column.now (texts_of self.now) }
+    {
+        for i in 0..column.len() {
+            if column.is_valid(i) && !self.rows.bytes(i).is_ascii() {
+                return false;
+            }
+        }
+        true
+    }
+}

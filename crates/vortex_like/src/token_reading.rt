@@ -1,0 +1,49 @@
+//! The tokens of patterns.
+ghost use Rattle.std.specs.Prelude.{◌≡◌, ◌<◌, ◌∷◌, [], length, MatchOption};
+ghost use Rattle.std.specs.Str.{chars};
+ghost use Rattle.vortex_like.specs.Words.{AnswersUnlessMemory, plain_token, tokens_of};
+
+use crate::characters::{Symbol, first_symbol};
+use crate::token::LikeToken;
+use std::alloc::Global;
+use vortex_types::VortexResult;
+
+/// The token of a character that is not escaped and escapes none.
+fn plain_token(c: char) -> LikeToken
+    ensures { result ≡ plain_token c }
+{
+    match c {
+        '%' => LikeToken::any(),
+        '_' => LikeToken::one(),
+        _ => LikeToken::character(c),
+    }
+}
+
+/// The first token of a pattern, and the pattern behind it.
+fn first_token(pattern: &str) -> Option<(LikeToken, &str)>
+    ensures token { MatchOption result (chars pattern.now ≡ [])
+        (λ parts. tokens_of (chars pattern.now) ≡ parts.0 ∷ tokens_of (chars parts.1.now)) }
+    ensures falls { MatchOption result (chars pattern.now ≡ [])
+        (λ parts. length (chars parts.1.now) < length (chars pattern.now)) }
+{
+    let (symbol, behind) = first_symbol(pattern)?;
+    let token = match symbol {
+        Symbol::Plain(c) => plain_token(c),
+        Symbol::Escaped(c) => LikeToken::character(c),
+    };
+    Some((token, behind))
+}
+
+/// The tokens of a pattern.
+pub(crate) fn tokens_of(alloc: Global, pattern: &str) -> VortexResult<Vec<LikeToken>>
+    ensures { AnswersUnlessMemory result
+        (λ tokens. tokens.items ≡ tokens_of (chars pattern.now)) }
+{
+    let mut tokens = Vec::new(alloc);
+    let mut rest = pattern;
+    while let Some((token, behind)) = first_token(rest) {
+        tokens.push(token)?;
+        rest = behind;
+    }
+    Ok(tokens)
+}

@@ -1,0 +1,43 @@
+//! The test of texts token by token.
+ghost use Rattle.std.specs.Prelude.{◌≡◌, ◌+◌, ◌*◌, ◌≤◌, ℕ, List, length, IsTrue, IsUtf8};
+ghost use Rattle.std.specs.Str.{chars};
+ghost use Rattle.vortex_like.specs.Words.{is_match, asked};
+
+use crate::matching::match_tokens;
+use crate::text_tests::TextTest;
+use crate::token::{LikeToken, Looks};
+
+/// Whether tokens match a text. It reads characters, and so no bytes that are no text.
+#[derive(Drop)]
+pub(crate) struct TokenTest {
+    pub(crate) tokens: Vec<LikeToken>,
+    pub(crate) case_insensitive: bool,
+}
+
+impl TokenTest {
+    /// Whether a text passes, and how often a token was compared with a character.
+    pub(crate) fn passes_counted(&self, haystack: &[u8]) -> (bool, Looks)
+        requires { IsUtf8 haystack.now }
+        ensures test { result.0
+            ≡ is_match self.now.case_insensitive self.now.tokens.items (chars haystack.now) }
+        ensures most { result.1
+            ≤ (length (chars haystack.now) + 1) * (length self.now.tokens.items + 1) }
+        ensures least { IsTrue result.0 → asked self.now.tokens.items ≤ result.1 }
+    {
+        let text = unsafe { str::from_utf8_unchecked(haystack) };
+        match_tokens(self.tokens.as_slice(), text, self.case_insensitive)
+    }
+}
+
+impl TextTest for TokenTest {
+    ghost can_read = { λ t bytes. IsUtf8 bytes };
+
+    ghost tells_of = { λ t bytes. IsUtf8 bytes };
+
+    ghost answer = { λ t bytes. is_match t.case_insensitive t.tokens.items (chars bytes) };
+
+    fn passes(&self, haystack: &[u8]) -> bool {
+        let (found, _) = self.passes_counted(haystack);
+        found
+    }
+}
