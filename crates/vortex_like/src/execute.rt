@@ -53,7 +53,7 @@ fn one_pattern_bits(
         (λ i b. IsSaid (λ bytes. is_match options.case_insensitive
         (tokens_of (chars pattern.now)) (chars bytes)) options.negated (row column.now.rows i) b)) }
 {
-    let ascii = options.case_insensitive && texts.are_ascii(column);
+    let ascii = texts.fold_as_ascii(column, options.case_insensitive);
     let pattern = LikePattern::compile(alloc, pattern, options.case_insensitive, ascii)?;
     pattern.matched_rows(alloc, column, texts, options.negated)
 }
@@ -72,7 +72,7 @@ fn each_pattern_bits(
     requires patterns { AreTexts pattern.now (texts_of patterns) }
     ensures { AnswersUnlessMemory result (AreLikeBits options input.now pattern.now) }
 {
-    let ascii = options.case_insensitive && texts.are_ascii(input);
+    let ascii = texts.fold_as_ascii(input, options.case_insensitive);
     let columns = SideBySide {
         texts: input,
         patterns: pattern,

@@ -1,7 +1,8 @@
 //! The texts of columns, row by row.
-ghost use Rattle.std.specs.Prelude.{◌≡◌, ◌<◌, ℕ, List, true, length};
+ghost use Rattle.std.specs.Prelude.{◌≡◌, ◌<◌, ℕ, List, true, false, length};
+ghost use Rattle.std.specs.Str.{IsAscii};
 ghost use Rattle.vortex_like.specs.Words.{is_text_type, texts_of, text_at, AreTexts, AreAscii};
-ghost use Rattle.vortex_like.specs.Words.{IsTextColumn};
+ghost use Rattle.vortex_like.specs.Words.{IsTextColumn, is_null, row};
 
 use vortex_columns::{Cell, Column, ResolvedViews};
 
@@ -78,16 +79,41 @@ impl RowTexts for OneText<'_> {
 }
 
 impl Texts<'_> {
+    /// Whether the text of a row is ASCII, if the row is not null.
+    fn is_ascii_at(&self, column: &Column, i: usize) -> bool
+        requires texts { AreTexts column.now (texts_of self.now) }
+        requires row { i < length column.now.rows }
+        ensures { result ≡ true → is_null (row column.now.rows i) ≡ false
+            → IsAscii (text_at (texts_of self.now) i) }
+    {
+        if column.is_valid(i) {
+            return self.rows.bytes(i).is_ascii();
+        }
+        true
+    }
+
     /// Whether each text that is not null is ASCII.
-    pub(crate) fn are_ascii(&self, column: &Column) -> bool
+    fn are_ascii(&self, column: &Column) -> bool
         requires { AreTexts column.now (texts_of self.now) }
         ensures { result ≡ true → AreAscii column.now (texts_of self.now) }
     {
         for i in 0..column.len() {
-            if column.is_valid(i) && !self.rows.bytes(i).is_ascii() {
+            if !self.is_ascii_at(column, i) {
                 return false;
             }
         }
         true
+    }
+
+    /// Whether letters are to match past case, and each text that is not null is ASCII: then the ASCII forms serve. The
+    /// texts are not read where letters match as they stand.
+    pub(crate) fn fold_as_ascii(&self, column: &Column, case_insensitive: bool) -> bool
+        requires { AreTexts column.now (texts_of self.now) }
+        ensures { result ≡ true → AreAscii column.now (texts_of self.now) }
+    {
+        if case_insensitive {
+            return self.are_ascii(column);
+        }
+        false
     }
 }

@@ -1,4 +1,4 @@
-use Rattle.std.proofs.Common.{subst, length, List, ℕ}
+use Rattle.std.proofs.Common.{sym, ap, ◌∙◌, subst, length, List, ℕ}
 use Rattle.std.specs.Str.{chars}
 use Rattle.vortex_errors.specs.Answers.{AnswersUnlessMemory}
 use Rattle.vortex_columns.specs.ColumnView.{row}
@@ -17,3 +17,8 @@ returns c =
     IsSaid (λ (bytes : List ℕ). is_match p.case_insensitive p.tokens (chars bytes))
     c.args.options.negated (row c.args.column.now.rows i) b)))
     c.in_ok-pattern.ensures c.matched_rows.ensures
+
+pub matched_rows-requires-clause-ascii : goal.matched_rows-requires-clause-ascii
+matched_rows-requires-clause-ascii c = λ e.
+    c.fold_as_ascii-ascii.ensures
+    (sym (ap (λ (p : PatternView). p.ascii_haystack) c.in_ok-pattern.ensures) ∙ e)
