@@ -53,7 +53,7 @@ fn one_pattern_bits(
         (λ i b. IsSaid (λ bytes. is_match options.case_insensitive
         (tokens_of (chars pattern.now)) (chars bytes)) options.negated (row column.now.rows i) b)) }
 {
-    let ascii = options.case_insensitive && texts.are_ascii(column);
+    let ascii = options.case_insensitive && pattern.is_ascii() && texts.are_ascii(column);
     let pattern = LikePattern::compile(alloc, pattern, options.case_insensitive, ascii)?;
     pattern.matched_rows(alloc, column, texts, options.negated)
 }
