@@ -53,7 +53,8 @@ fn one_pattern_bits(
         (λ i b. IsSaid (λ bytes. is_match options.case_insensitive
         (tokens_of (chars pattern.now)) (chars bytes)) options.negated (row column.now.rows i) b)) }
 {
-    let ascii = texts.fold_as_ascii(column, options.case_insensitive);
+    let past_case = options.case_insensitive && pattern.is_ascii();
+    let ascii = texts.fold_as_ascii(column, past_case);
     let pattern = LikePattern::compile(alloc, pattern, options.case_insensitive, ascii)?;
     pattern.matched_rows(alloc, column, texts, options.negated)
 }
