@@ -1,4 +1,4 @@
-use Rattle.std.proofs.Common.{◌≡◌, ℕ, ◌<◌, false, arith, refl}
+use Rattle.std.proofs.Common.{◌≡◌, ℕ, false, arith}
 use Rattle.std.specs.Str.{IsAscii}
 use borrow.Author.Count.{below_more}
 use Rattle.vortex_types.specs.Values.{is_null}
