@@ -192,6 +192,34 @@ fn compares_texts(rt: HostRuntime) {
     );
 }
 
+/// Whether a text is less than a constant one.
+fn is_below(alloc: Global, text: &str, constant: &str) -> bool {
+    let right = constant_of(alloc, Scalar::try_from_str(alloc, constant), 1);
+    let less = compared(
+        alloc,
+        plain_texts(alloc, &[text]),
+        CompareOperator::Lt,
+        right,
+    );
+    yes(says(alloc, less, &[true]))
+}
+
+#[test]
+fn compares_texts_with_a_constant(rt: HostRuntime) {
+    let alloc = rt.alloc();
+    assert!(rt; is_below(alloc, "", "\0"));
+    assert!(rt;
+        is_below(
+            alloc,
+            "\0\0\0\0\0\0\0\0\0\0\0\0",
+            "\0\0\0\0\0\0\0\0\0\0\0\0\0"
+        )
+    );
+    assert!(rt; is_below(alloc, "abcdefghijkl", "abcdefghijklm"));
+    assert!(rt; is_below(alloc, "hello", "hello, world!"));
+    assert!(rt; is_below(alloc, "hello, world!", "hello, worlds"));
+}
+
 /// The comparison of 1 and 2, of 2 and 1, of 2 and 2, and of pairs with nulls.
 fn rows_by(operator: CompareOperator) -> [Option<bool>; 6] {
     match operator {

@@ -5,7 +5,7 @@ use crate::questions::{
 };
 use fixtures::{Made, kept, yes};
 use std::alloc::Global;
-use vortex_columns::{Column, DType, Nullability, Scalar};
+use vortex_columns::{BinaryView, BitBuffer, Column, DType, Nullability, Scalar, Validity};
 use vortex_like::LikeOptions;
 
 const NULLABLE: Nullability = Nullability::Nullable;
@@ -31,6 +31,59 @@ fn a_null_pattern_gives_null(rt: HostRuntime) {
     assert!(rt; yes(says_or_null(alloc, beside_null(alloc, ""), NULLABLE, &wanted)));
     assert!(rt; yes(says_or_null(alloc, beside_null(alloc, "he%"), NULLABLE, &wanted)));
     assert!(rt; yes(says_or_null(alloc, beside_null(alloc, "\\"), NULLABLE, &wanted)));
+}
+
+/// A null with the byte 0xFF under it, which is no UTF-8, and `he%`.
+fn no_text_under_a_null(alloc: Global) -> Made {
+    let views = [
+        BinaryView::new_inlined(&[0xFF]),
+        BinaryView::new_inlined(b"he%"),
+    ];
+    let valid = Validity::Array(BitBuffer::from_bools(alloc, &[false, true])?);
+    let views = Vec::from_array(alloc, views)?;
+    kept(
+        alloc,
+        Column::try_utf8_views(alloc, views, Vec::new(alloc), valid),
+    )
+}
+
+#[test]
+fn what_lies_under_a_null_need_be_no_text(rt: HostRuntime) {
+    let alloc = rt.alloc();
+    let words = plain(alloc, &["hello", "hello"]);
+    let answer = like(alloc, words, LIKE, no_text_under_a_null(alloc));
+    assert!(rt; yes(says_or_null(alloc, answer, NULLABLE, &[NULL, YES])));
+    let answer = like(
+        alloc,
+        no_text_under_a_null(alloc),
+        LIKE,
+        one(alloc, "h_%", 2),
+    );
+    assert!(rt; yes(says_or_null(alloc, answer, NULLABLE, &[NULL, YES])));
+}
+
+/// Two texts that overlap in one buffer: `hello, world!` and `o, world! hel`.
+fn overlapping(alloc: Global) -> Made {
+    let mut buffers = Vec::new(alloc);
+    buffers.push(b"hello, world! hello".to_vec(alloc)?)?;
+    let views = [
+        BinaryView::new_long(13, *b"hell", 0, 0),
+        BinaryView::new_long(13, *b"o, w", 0, 4),
+    ];
+    let views = Vec::from_array(alloc, views)?;
+    kept(
+        alloc,
+        Column::try_utf8_views(alloc, views, buffers, Validity::NonNullable),
+    )
+}
+
+#[test]
+fn texts_that_overlap_are_tested(rt: HostRuntime) {
+    let alloc = rt.alloc();
+    let answer = like(alloc, overlapping(alloc), LIKE, one(alloc, "%world!", 2));
+    assert!(rt; yes(says(alloc, answer, &[true, false])));
+    let answer = like(alloc, overlapping(alloc), LIKE, one(alloc, "o, w%", 2));
+    assert!(rt; yes(says(alloc, answer, &[false, true])));
 }
 
 #[test]
