@@ -2,7 +2,7 @@
 
 use fixtures::{Made, copied, has_rows, is_refused, kept, names, nullable_bools, numbers, yes};
 use std::alloc::Global;
-use vortex_columns::{BitBuffer, Column, Validity, VortexResult};
+use vortex_columns::{BitBuffer, Cell, Column, Validity, VortexResult};
 
 /// Two integers, as an element of others.
 fn integers(alloc: Global, values: &[i32]) -> VortexResult<Column> {
@@ -158,4 +158,35 @@ fn a_nullable_column_is_read(rt: HostRuntime) {
     assert!(rt; yes(tells_validity(nullable_bools(alloc, &rows), (true, false, true))));
     assert!(rt; yes(lends_bits(nullable_bools(alloc, &rows))));
     assert!(rt; yes(lists_validity(alloc, nullable_bools(alloc, &rows))));
+}
+
+/// Whether a column of nullable i32 of three rows has these.
+fn are_ints(column: &Column, wanted: [Option<i32>; 3]) -> bool {
+    if column.len() != 3 || !column.dtype().is_nullable() {
+        return false;
+    }
+    let [first, second, third] = wanted;
+    is_int(column.cell(0), first) && is_int(column.cell(1), second) && is_int(column.cell(2), third)
+}
+
+fn is_int(cell: Cell<'_>, wanted: Option<i32>) -> bool {
+    match (cell, wanted) {
+        (Cell::Int(number), Some(wanted)) => number == wanted as i128,
+        (Cell::Null, None) => true,
+        _ => false,
+    }
+}
+
+fn makes_ints(alloc: Global, rows: [Option<i32>; 3]) -> VortexResult<bool> {
+    Ok(are_ints(&*kept(alloc, Column::of_ints(alloc, &rows))?, rows))
+}
+
+#[test]
+fn columns_are_made_of_options(rt: HostRuntime) {
+    let alloc = rt.alloc();
+    assert!(rt; yes(makes_ints(alloc, [Some(1), None, Some(-3)])));
+    assert!(rt; yes(makes_ints(alloc, [Some(1), Some(2), Some(3)])));
+    let rows = [Some(true), None, Some(false)];
+    let bools = kept(alloc, Column::of_bools(alloc, &rows));
+    assert!(rt; yes(has_rows(alloc, bools, &rows)));
 }

@@ -4,3 +4,4 @@ pub mod HaveTypes
 pub mod ListParts
 pub mod NamedColumns
 pub mod Parts
+pub mod OptionRows

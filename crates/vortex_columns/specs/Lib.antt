@@ -6,6 +6,7 @@ pub mod Stored
 pub mod KeptParts
 pub mod Falls
 pub mod Made
+pub mod Options
 pub mod ScalarOf
 pub mod CellTypes
 pub mod Words

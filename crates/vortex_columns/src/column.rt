@@ -3,6 +3,7 @@
 
 mod constructors;
 mod copies;
+mod options;
 mod reads;
 mod stored;
 

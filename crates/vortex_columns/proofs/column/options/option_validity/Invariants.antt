@@ -1,0 +1,6 @@
+use Rattle.std.proofs.Common.{◌≡◌, map, take}
+use Rattle.std.specs.Prelude.{is_some}
+use Rattle.vortex_columns.proofs.column.options.option_validity.Given as goal
+
+abbrev pub invariant-loop-row : goal.invariant-loop-row
+invariant-loop-row g l = l.valid.items ≡ map is_some (take l.row-index l.rows)
