@@ -3,7 +3,6 @@ use Rattle.std.proofs.Common.{◌≡◌, ◌==◌, ℕ, zero, suc, ◌+◌, ◌<
 use Rattle.std.proofs.Common.{None, List, [], ◌∷◌, ◌++◌, ℤ, length, drop, get_or, refl, sym, ap}
 use Rattle.std.proofs.Common.{subst, ◌∙◌, arith, tests, append_assoc, if◌then◌else◌}
 use Rattle.std.specs.Prelude.{⊤, IsUtf8, codes}
-use Rattle.std.specs.List.{list_all}
 use Rattle.std.specs.Option.{option_and_then, option_map}
 use Rattle.std.specs.Str.{is_utf8, bytes_eq}
 use Rattle.std.proofs.lemmas.List.{get_or_at, length-append, take_at, drop_at}
@@ -21,7 +20,7 @@ use Rattle.rowfn_lines.specs.Ranges.{in_range}
 use Rattle.rowfn_lines.specs.Lines.{Word, plain, quoted, with_word, words_of, in_word, in_quotes}
 use Rattle.rowfn_lines.specs.Lines.{after_quotes, after_spaces}
 use Rattle.rowfn_lines.specs.Commands.{Command, nothing, malformed, rows, column, get, literal}
-use Rattle.rowfn_lines.specs.Commands.{call, show, optimize, run, run_after, begins_comment}
+use Rattle.rowfn_lines.specs.Commands.{show, optimize, run_after, begins_comment}
 use Rattle.rowfn_lines.specs.Commands.{is_name, number_where, integer_of, value_said, says_null}
 use Rattle.rowfn_lines.specs.Commands.{cell_of, with_cell, cells_of, fit_column, column_of}
 use Rattle.rowfn_lines.specs.Commands.{column_where, column_said, literal_said, only_word}

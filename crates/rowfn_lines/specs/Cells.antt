@@ -7,7 +7,6 @@ use Rattle.vortex_types.specs.Values.{Value, null}
 use Rattle.vortex_columns.specs.ValidityView.{ValidityView, is_valid_row, form_allows_null}
 use Rattle.vortex_columns.specs.ValidityView.{non_nullable, array}
 use Rattle.vortex_columns.specs.ColumnView.{ColumnView, row}
-use Rattle.std.specs.List.{list_all}
 use Rattle.rowfn_lines.specs.Commands.{text_bytes}
 
 -- the value of an item, and null where there is none

@@ -1,4 +1,4 @@
-use Rattle.std.proofs.Common.{sym, ap, not, ◌∙◌}
+use Rattle.std.proofs.Common.{sym, ◌∙◌}
 use Rattle.rowfn_lines.proofs.Numbers.{are_digits, limit_read, no_limit}
 use Rattle.rowfn_lines.proofs.parse.limit.Goals as goal
 

@@ -1,6 +1,5 @@
-use Rattle.std.proofs.Common.{◌≡◌, ◌≤◌, true, [], length, map, sym, ◌∙◌}
+use Rattle.std.proofs.Common.{◌≡◌, true, [], length, map, sym, ◌∙◌}
 use Rattle.std.specs.Prelude.{slice_index_or, string_bytes}
-use Rattle.std.specs.List.{list_all}
 use Rattle.std.proofs.lemmas.List.{length-map}
 use Rattle.vortex_errors.specs.declared.error.VortexError.TheVariants.{InvalidColumn}
 use Rattle.vortex_types.specs.LogicalTypes.{text_type}
