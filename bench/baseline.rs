@@ -64,6 +64,18 @@ fn print_row(name: &str, cells: [Option<String>; 6]) {
     println!("| {name} | {} |", cells.map(|cell| cell.unwrap_or("-".into())).join(" | "));
 }
 
+/// How many bytes a row the columns of texts hold, both where there are two.
+fn print_held(table: &[Line]) {
+    print_header("bytes a row held by the project's columns");
+    for line in table.iter().filter(|line| line.seen.iter().flatten().any(|seen| seen.held.is_some())) {
+        let rows = SIZES.map(|(rows, _)| [rows, rows]).concat();
+        print_row(&line.name, std::array::from_fn(|at| {
+            let held = line.seen[at].as_ref().and_then(|seen| seen.held)?;
+            Some(format!("{:.1}", held as f64 / rows[at] as f64))
+        }));
+    }
+}
+
 /// The time of each form over that of the best one.
 fn print_forms(table: &[Line]) {
     print_header("a form's time over that of the best form");
@@ -102,6 +114,8 @@ fn main() {
     for line in &table {
         print_row(&line.name, line.seen.each_ref().map(|seen| seen.as_ref().map(|seen| seen.best.into())));
     }
+    println!();
+    print_held(&table);
     println!();
     print_forms(&table);
 }

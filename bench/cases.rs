@@ -1,7 +1,7 @@
 //! The cases: what the project's call is timed beside.
 
 use crate::bits;
-use crate::chance::{Chance, Shape};
+use crate::chance::{Chance, Shape, Width};
 use crate::columns::{Bits, Bools, Ints, Rows, TextViews, Texts, views_of};
 use crate::integers::*;
 use crate::like;
@@ -103,25 +103,27 @@ fn arithmetic_cases(shape: &Shape, chance: &mut Chance) -> Vec<Case> {
     ]
 }
 
+const WIDTHS: [Width; 3] = [Width::Fixed(8), Width::Fixed(20), Width::Mixed];
+
 /// Columns of texts in Rust's two forms.
 struct TextPair {
-    width: usize,
+    width: Width,
     constant: String,
     strings: Rc<(Texts, Texts)>,
     views: Rc<(TextViews, TextViews)>,
 }
 
 impl TextPair {
-    fn of(shape: &Shape, chance: &mut Chance, width: usize) -> TextPair {
+    fn of(shape: &Shape, chance: &mut Chance, width: Width) -> TextPair {
         let strings = (chance.texts(shape, width), chance.texts(shape, width));
         let views = (views_of(&strings.0), views_of(&strings.1));
         TextPair { width, constant: strings.0.values[0].clone(), strings: Rc::new(strings), views: Rc::new(views) }
     }
 
     fn case(&self, name: &str, is_constant: bool, call: u32, forms: Vec<Form>) -> Case {
-        let (width, constant) = (self.width, is_constant.then(|| self.constant.clone()));
-        let name = format!("text of {width} bytes {name}");
-        case(&name, &self.strings, move |pair| project::texts(width, pair, constant.as_deref(), call), forms)
+        let constant = is_constant.then(|| self.constant.clone());
+        let name = format!("{} {name}", self.width.name());
+        case(&name, &self.strings, move |pair| project::texts(pair, constant.as_deref(), call), forms)
     }
 
     fn equal_to_constant(&self) -> Case {
@@ -204,18 +206,18 @@ fn between_cases(shape: &Shape, chance: &mut Chance) -> Vec<Case> {
             form("vectors, by span", &constants, between_constants_by_vector_spans),
         ]),
     ];
-    cases.extend([8, 20].map(|width| text_between_case(shape, chance, width)));
+    cases.extend(WIDTHS.map(|width| text_between_case(shape, chance, width)));
     cases
 }
 
-fn text_between_case(shape: &Shape, chance: &mut Chance, width: usize) -> Case {
+fn text_between_case(shape: &Shape, chance: &mut Chance, width: Width) -> Case {
     let texts = Rc::new(chance.texts(shape, width));
     let views = Rc::new(views_of(&texts));
     let (one, other) = (texts.values[0].clone(), texts.values[1].clone());
     let bounds = Rc::new((one.clone().min(other.clone()), one.max(other)));
     let [ours, by_calls, by_words, by_views, by_keys, by_vectors] = std::array::from_fn(|_| bounds.clone());
-    let name = format!("text of {width} bytes between constants");
-    case(&name, &texts, move |texts| project::texts_between(width, texts, &ours.0, &ours.1), vec![
+    let name = format!("{} between constants", width.name());
+    case(&name, &texts, move |texts| project::texts_between(texts, &ours.0, &ours.1), vec![
         form("strings", &texts, move |texts| {
             of_string_column(texts, |x| (by_calls.0 <= *x) & (*x <= by_calls.1))
         }),
@@ -253,12 +255,14 @@ fn null_cases(shape: &Shape, chance: &mut Chance) -> Vec<Case> {
     ]
 }
 
-fn like_cases(shape: &Shape, chance: &mut Chance) -> Vec<Case> {
-    let texts = Rc::new(chance.words(shape));
+/// Words or lines beside one pattern; the last is a whole text.
+fn like_cases(shape: &Shape, chance: &mut Chance, name: &str, are_long: bool) -> Vec<Case> {
+    let texts = Rc::new(chance.words(shape, are_long));
     let views = Rc::new(views_of(&texts));
-    let mut cases: Vec<Case> = ["x%", "%oxide", "%nitr%", "i%o_i", "ion foci"]
+    let whole = if are_long { "xylene, mixed isomers" } else { "ion foci" };
+    let mut cases: Vec<Case> = ["x%", "%oxide", "%nitr%", "i%o_i", whole]
         .map(|pattern| {
-            case(&format!("text like {pattern}"), &texts, move |texts| project::like(texts, pattern, false), vec![
+            case(&format!("{name} like {pattern}"), &texts, move |texts| project::like(texts, pattern, false), vec![
                 form("strings, walk over tokens", &texts, move |texts| like::by_walk(texts, pattern)),
                 form("strings, calls", &texts, move |texts| like::by_calls(texts, pattern)),
                 form("strings by words", &texts, move |texts| like::by_words(texts, pattern)),
@@ -268,12 +272,20 @@ fn like_cases(shape: &Shape, chance: &mut Chance) -> Vec<Case> {
         })
         .into();
     cases.extend(["X%", "%NITR%"].map(|pattern| {
-        case(&format!("text ilike {pattern}"), &texts, move |texts| project::like(texts, pattern, true), vec![
+        case(&format!("{name} ilike {pattern}"), &texts, move |texts| project::like(texts, pattern, true), vec![
             form("strings, walk over tokens", &texts, move |texts| like::folded_by_walk(texts, pattern)),
             form("strings, ASCII calls", &texts, move |texts| like::folded_by_calls(texts, pattern)),
             form("strings, ASCII by words", &texts, move |texts| like::folded_by_words(texts, pattern)),
             form("views, ASCII calls", &views, move |texts| like::folded_by_calls(texts, pattern)),
             form("views, ASCII by words", &views, move |texts| like::folded_by_words(texts, pattern)),
+        ])
+    }));
+    cases.extend(["x%", "%oxide", "%nitr%", whole].map(|pattern| {
+        let patterns = Texts { values: vec![pattern.into(); shape.rows], valid: None };
+        let views = Rc::new((views.as_ref().clone(), views_of(&patterns)));
+        let name = format!("{name} like {pattern}, in each row");
+        case(&name, &texts, move |texts| project::like_repeated(texts, &patterns), vec![
+            form("views, calls, the last pattern kept", &views, like::by_repeated),
         ])
     }));
     cases
@@ -284,12 +296,13 @@ pub fn cases(shape: &Shape) -> Vec<Case> {
     let mut cases = bool_cases(shape, &mut chance);
     cases.extend(less_cases(shape, &mut chance));
     cases.extend(arithmetic_cases(shape, &mut chance));
-    for width in [8, 20] {
+    for width in WIDTHS {
         cases.extend(TextPair::of(shape, &mut chance, width).cases());
     }
     cases.push(tree_case(shape, &mut chance));
     cases.extend(between_cases(shape, &mut chance));
     cases.extend(null_cases(shape, &mut chance));
-    cases.extend(like_cases(shape, &mut chance));
+    cases.extend(like_cases(shape, &mut chance, "text", false));
+    cases.extend(like_cases(shape, &mut chance, "line", true));
     cases
 }

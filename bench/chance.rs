@@ -14,6 +14,31 @@ const WORDS: [&str; 12] = [
     "potassium nitrite", "water", "carbon",
 ];
 
+/// Texts of 20 to 60 bytes: two begin with x, two end in oxide, three have nitr, and one is i%o_i.
+const LINES: [&str; 12] = [
+    "iron oxide beside copper sulfate and zinc oxide", "nitrogen over water at room temperature",
+    "ion foci of a lens in a row of two foci", "xenon lamp, 300 watt, with a quartz window",
+    "ammonium nitrate, technical grade", "zinc dioxide pellets in a jar of oxide", "xylene, mixed isomers",
+    "iodine crystals, resublimed, in a bottle of brown glass", "potassium nitrite solution",
+    "water, deionised and filtered", "carbon black, conductive, half compressed", "indium foil, 0.25 millimetres thick",
+];
+
+/// How long texts are: each of so many bytes, or of none to forty.
+#[derive(Clone, Copy)]
+pub enum Width {
+    Fixed(usize),
+    Mixed,
+}
+
+impl Width {
+    pub fn name(self) -> String {
+        match self {
+            Width::Fixed(width) => format!("text of {width} bytes"),
+            Width::Mixed => "text of 0 to 40 bytes".into(),
+        }
+    }
+}
+
 pub struct Chance(pub u64);
 
 impl Chance {
@@ -50,17 +75,22 @@ impl Chance {
         Rows { values: self.bits(offset, shape.rows, 50), valid: self.valid(shape, offset) }
     }
 
-    /// A word of a short list in each row.
-    pub fn words(&mut self, shape: &Shape) -> Texts {
-        self.rows(shape, |chance| WORDS[chance as usize % WORDS.len()].into())
+    /// A word of a short list in each row, or a line of one.
+    pub fn words(&mut self, shape: &Shape, are_long: bool) -> Texts {
+        let list = if are_long { LINES } else { WORDS };
+        self.rows(shape, |chance| list[chance as usize % list.len()].into())
     }
 
     /// One of a hundred texts in each row; long ones begin alike.
-    pub fn texts(&mut self, shape: &Shape, width: usize) -> Texts {
+    pub fn texts(&mut self, shape: &Shape, width: Width) -> Texts {
         let pool: Vec<String> = (0..100)
             .map(|_| {
                 let own: String = (0..8).map(|_| char::from(b'a' + self.below(26) as u8)).collect();
-                format!("{own:m>width$}")
+                let width = match width {
+                    Width::Fixed(width) => width,
+                    Width::Mixed => self.below(41) as usize,
+                };
+                format!("{:m>width$}", &own[..width.min(8)])
             })
             .collect();
         self.rows(shape, |chance| pool[chance as usize % 100].clone())

@@ -1,6 +1,6 @@
 //! Forms of LIKE and ILIKE: a walk over tokens, the library's calls for what a pattern comes to, and words of bytes.
 
-use crate::columns::{Bools, Rows, TextViews, Texts, View, Views};
+use crate::columns::{Bits, Bools, Rows, TextViews, Texts, View, Views};
 use crate::texts::{ByteRows, eight, of_string_column, of_view_column};
 use std::arch::x86_64::*;
 use std::slice::Iter;
@@ -315,6 +315,60 @@ pub fn folded_by_words<T: ByteRows>(texts: &Rows<T>, pattern: &str) -> Bools {
         }
         _ => return folded_by_calls(texts, pattern),
     };
+    Rows { values, valid: texts.valid.clone() }
+}
+
+// ---- a pattern for each row
+
+/// What a pattern asks of a text's bytes.
+enum Test {
+    Equal(String),
+    Prefix(String),
+    Suffix(String),
+    Contains(String),
+    Parts(Parts),
+}
+
+impl Test {
+    fn of(pattern: &str) -> Test {
+        match Plan::of(pattern) {
+            Plan::Equal(own) => Test::Equal(own),
+            Plan::Prefix(own) => Test::Prefix(own),
+            Plan::Suffix(own) => Test::Suffix(own),
+            Plan::Contains(own) => Test::Contains(own),
+            Plan::Parts(parts) => Test::Parts(Parts::of(&parts)),
+        }
+    }
+
+    #[inline(always)]
+    fn says(&self, text: &[u8]) -> bool {
+        match self {
+            Test::Equal(own) => text == own.as_bytes(),
+            Test::Prefix(own) => text.starts_with(own.as_bytes()),
+            Test::Suffix(own) => text.ends_with(own.as_bytes()),
+            Test::Contains(own) => as_text(text).contains(own),
+            Test::Parts(parts) => parts.matches(text),
+        }
+    }
+}
+
+/// A pattern that is the one before it is not taken apart again.
+pub fn by_repeated((texts, patterns): &(TextViews, TextViews)) -> Bools {
+    let (rows, others) = (&texts.values, &patterns.values);
+    let len = rows.rows().len();
+    let mut values = Bits { words: vec![0; len.div_ceil(64) + 1], offset: 0, len };
+    let mut last: (&[u8], Test) = (b"", Test::of(""));
+    for (k, pairs) in rows.rows().chunks(64).zip(others.rows().chunks(64)).enumerate() {
+        let mut word = 0;
+        for (i, (text, pattern)) in pairs.0.iter().zip(pairs.1).enumerate() {
+            let bytes = others.bytes(pattern);
+            if bytes != last.0 {
+                last = (bytes, Test::of(as_text(bytes)));
+            }
+            word |= u64::from(last.1.says(rows.bytes(text))) << i;
+        }
+        values.words[k] = word;
+    }
     Rows { values, valid: texts.valid.clone() }
 }
 

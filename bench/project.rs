@@ -1,6 +1,7 @@
 //! The project's exported calls, over lent columns. Each asks `bench_next` how often to call, and answers a checksum.
 
 use crate::columns::{Bits, Bools, Ints, Rows, Texts};
+use crate::timing::columns_begin;
 
 /// The calls by the numbers that they have in kernels/measured.rt.txt.
 pub const AND: u32 = 0;
@@ -32,9 +33,10 @@ unsafe extern "C" {
     integers!(bench_i32, i32);
     integers!(bench_i64, i64);
     fn bench_texts(
-        width: usize,
-        left: *const u8, left_len: usize, left_valid: *const u8, left_valid_len: usize,
-        right: *const u8, right_len: usize, right_valid: *const u8, right_valid_len: usize,
+        left: *const u8, left_len: usize, left_lengths: *const usize, left_lengths_len: usize,
+        left_valid: *const u8, left_valid_len: usize,
+        right: *const u8, right_len: usize, right_lengths: *const usize, right_lengths_len: usize,
+        right_valid: *const u8, right_valid_len: usize,
         is_constant: bool, call: u32,
     ) -> u64;
     fn bench_tree(
@@ -48,8 +50,8 @@ unsafe extern "C" {
         upper: *const i32, upper_len: usize, upper_valid: *const u8, upper_valid_len: usize,
     ) -> u64;
     fn bench_texts_between(
-        width: usize,
-        array: *const u8, array_len: usize, array_valid: *const u8, array_valid_len: usize,
+        array: *const u8, array_len: usize, array_lengths: *const usize, array_lengths_len: usize,
+        array_valid: *const u8, array_valid_len: usize,
         lower: *const u8, lower_len: usize, upper: *const u8, upper_len: usize,
     ) -> u64;
     fn bench_i32_null_tests(
@@ -58,7 +60,8 @@ unsafe extern "C" {
     fn bench_like(
         texts: *const u8, texts_len: usize, lengths: *const usize, lengths_len: usize,
         texts_valid: *const u8, texts_valid_len: usize,
-        pattern: *const u8, pattern_len: usize, case_insensitive: bool,
+        patterns: *const u8, patterns_len: usize, pattern_lengths: *const usize, pattern_lengths_len: usize,
+        case_insensitive: bool,
     ) -> u64;
 }
 
@@ -101,15 +104,20 @@ integer_calls!(u8s, u8, bench_u8);
 integer_calls!(i32s, i32, bench_i32);
 integer_calls!(i64s, i64, bench_i64);
 
-pub fn texts(width: usize, (l, r): &(Texts, Texts), constant: Option<&str>, call: u32) -> u64 {
+fn lengths_of(texts: &Texts) -> Vec<usize> {
+    texts.values.iter().map(String::len).collect()
+}
+
+pub fn texts((l, r): &(Texts, Texts), constant: Option<&str>, call: u32) -> u64 {
     let (lv, rv) = (bytes_of(&l.valid), bytes_of(&r.valid));
     let (left, right) = (l.values.concat(), r.values.concat());
+    let (ll, rl) = (lengths_of(l), lengths_of(r));
     let side = constant.unwrap_or(&right);
+    columns_begin();
     unsafe {
         bench_texts(
-            width,
-            left.as_ptr(), left.len(), lv.as_ptr(), lv.len(),
-            side.as_ptr(), side.len(), rv.as_ptr(), rv.len(),
+            left.as_ptr(), left.len(), ll.as_ptr(), ll.len(), lv.as_ptr(), lv.len(),
+            side.as_ptr(), side.len(), rl.as_ptr(), rl.len(), rv.as_ptr(), rv.len(),
             constant.is_some(), call,
         )
     }
@@ -138,11 +146,11 @@ pub fn between((array, lower, upper): &(Ints, Ints, Ints)) -> u64 {
     }
 }
 
-pub fn texts_between(width: usize, texts: &Texts, lower: &str, upper: &str) -> u64 {
-    let (bytes, valid) = (texts.values.concat(), bytes_of(&texts.valid));
+pub fn texts_between(texts: &Texts, lower: &str, upper: &str) -> u64 {
+    let (bytes, lengths, valid) = (texts.values.concat(), lengths_of(texts), bytes_of(&texts.valid));
     unsafe {
         bench_texts_between(
-            width, bytes.as_ptr(), bytes.len(), valid.as_ptr(), valid.len(),
+            bytes.as_ptr(), bytes.len(), lengths.as_ptr(), lengths.len(), valid.as_ptr(), valid.len(),
             lower.as_ptr(), lower.len(), upper.as_ptr(), upper.len(),
         )
     }
@@ -155,13 +163,22 @@ pub fn null_tests(input: &Ints, is_negated: bool) -> u64 {
     }
 }
 
+/// Texts beside one pattern.
 pub fn like(texts: &Texts, pattern: &str, case_insensitive: bool) -> u64 {
-    let lengths: Vec<usize> = texts.values.iter().map(String::len).collect();
-    let (bytes, valid) = (texts.values.concat(), bytes_of(&texts.valid));
+    like_patterns(texts, pattern, &[], case_insensitive)
+}
+
+/// Texts beside a column of patterns, that stand one after another.
+pub fn like_repeated(texts: &Texts, patterns: &Texts) -> u64 {
+    like_patterns(texts, &patterns.values.concat(), &lengths_of(patterns), false)
+}
+
+fn like_patterns(texts: &Texts, patterns: &str, pattern_lengths: &[usize], case_insensitive: bool) -> u64 {
+    let (bytes, lengths, valid) = (texts.values.concat(), lengths_of(texts), bytes_of(&texts.valid));
     unsafe {
         bench_like(
             bytes.as_ptr(), bytes.len(), lengths.as_ptr(), lengths.len(), valid.as_ptr(), valid.len(),
-            pattern.as_ptr(), pattern.len(), case_insensitive,
+            patterns.as_ptr(), patterns.len(), pattern_lengths.as_ptr(), pattern_lengths.len(), case_insensitive,
         )
     }
 }

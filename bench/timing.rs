@@ -1,13 +1,41 @@
 //! The time of a case on both sides.
 
 use crate::columns::Answer;
-use std::cell::RefCell;
+use std::cell::{Cell, RefCell};
 use std::hint::black_box;
 use std::rc::Rc;
 use std::time::{Duration, Instant};
 
 unsafe extern "C" {
     fn malloc_trim(pad: usize) -> i32;
+    fn mallinfo2() -> Allocated;
+}
+
+/// What the C library tells of its memory, in its order.
+#[repr(C)]
+struct Allocated {
+    _arena: [usize; 4],
+    mapped: usize,
+    _free: [usize; 2],
+    in_use: usize,
+    _kept: [usize; 2],
+}
+
+/// How many bytes were asked for and not given back.
+fn bytes_in_use() -> usize {
+    // SAFETY: it takes nothing, and answers by value
+    let told = unsafe { mallinfo2() };
+    told.in_use + told.mapped
+}
+
+thread_local! {
+    static BEFORE: Cell<Option<usize>> = const { Cell::new(None) };
+    static HELD: Cell<Option<usize>> = const { Cell::new(None) };
+}
+
+/// What is taken from now on, until the first call is timed, are the project's columns.
+pub fn columns_begin() {
+    BEFORE.set(Some(bytes_in_use()));
 }
 
 /// One way to do it in Rust, over columns that are there.
@@ -118,6 +146,9 @@ impl Turns {
 #[unsafe(no_mangle)]
 extern "C" fn bench_next() -> usize {
     let now = Instant::now();
+    if let Some(before) = BEFORE.take() {
+        HELD.set(Some(bytes_in_use().saturating_sub(before)));
+    }
     TURNS.with_borrow_mut(|turns| {
         let turns = turns.as_mut().expect("a case is measured");
         let repeat = turns.next(now);
@@ -126,8 +157,10 @@ extern "C" fn bench_next() -> usize {
     })
 }
 
-/// The project's time over that of the best form, which that is, and the time of each form over that of the best.
+/// The project's time over that of the best form, which that is, and the time of each form over that of the best; how many
+/// bytes its columns hold, where that was asked for.
 pub struct Seen {
+    pub held: Option<usize>,
     pub ratio: f64,
     pub best: &'static str,
     pub forms: Vec<(&'static str, f64)>,
@@ -151,7 +184,7 @@ fn seen(ours: f64, mut forms: Vec<(&'static str, f64)>) -> Seen {
     for (_, time) in &mut forms {
         *time /= least;
     }
-    Seen { ratio: ours / least, best, forms }
+    Seen { held: HELD.take(), ratio: ours / least, best, forms }
 }
 
 /// The forms alone: the time of each over that of the best.
