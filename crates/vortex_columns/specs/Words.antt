@@ -30,3 +30,4 @@ pub use Rattle.vortex_columns.specs.Made.{struct_column, list_column, fixed_size
 pub use Rattle.vortex_columns.specs.Made.{map_column, MakeTexts, MakeByteStrings, MakeMaps}
 pub use Rattle.vortex_columns.specs.Made.{MakeFixedSizeLists}
 pub use Rattle.vortex_columns.specs.ScalarOf.{bool_scalar, int_scalar, text_scalar}
+pub use Rattle.vortex_columns.specs.Taken.{AreRowsOf, IsTaken}
