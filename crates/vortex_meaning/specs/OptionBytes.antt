@@ -10,7 +10,7 @@ use Rattle.vortex_like.specs.OptionBytes.{like_bytes, like_read}
 use Rattle.vortex_meaning.specs.Shipped.{Shipped, Binary, Not, IsNull, IsNotNull, Cast, Between, Like}
 use Rattle.vortex_meaning.specs.Functions.{Function, ours, custom}
 
--- one byte of Binary, Between and Like; none of the others
+-- one byte of Binary and Between, one or five of Like; none of the others
 abbrev pub shipped_bytes : Shipped → List ℕ
 shipped_bytes (Binary operator) = operator_bytes operator
 shipped_bytes Not = []
