@@ -108,7 +108,11 @@ fn is_exact(
 
 /// Whether a text is this, lent or owned.
 fn is_so(text: &CowStr<'_>, wanted: &str, lent: bool) -> bool {
-    if lent { is_lent(text, wanted) } else { is_owned(text, wanted) }
+    if lent {
+        is_lent(text, wanted)
+    } else {
+        is_owned(text, wanted)
+    }
 }
 
 #[test]

@@ -1,5 +1,5 @@
 //! Reads a line.
-ghost use Rattle.std.specs.Prelude.{◌≡◌, map, option_map, string_bytes};
+ghost use Rattle.std.specs.Prelude.{◌≡◌, [], ◌∷◌, map, option_map, string_bytes, MatchOption};
 ghost use Rattle.std.specs.Str.{chars};
 ghost use Rattle.vortex_errors.specs.Answers.{AnswersUnlessMemory};
 ghost use Rattle.rowfn_lines.specs.Lines.{word_in};
@@ -128,27 +128,31 @@ fn spaced(alloc: Global, word: &str, lower: &str, upper: &str) -> VortexResult<S
     Ok(format!(in alloc; "{word} {lower} {upper}")?)
 }
 
+/// The first character of a text, and the text behind it.
+fn split_first(text: &str) -> Option<(char, &str)>
+    ensures { MatchOption result (chars text.now ≡ [])
+        (λ parts. chars text.now ≡ parts.0 ∷ chars parts.1.now) }
+{
+    let mut rest = text.chars();
+    let first = rest.next()?;
+    Some((first, rest.as_str()))
+}
+
 /// The escape that a text says: its one character, or none where it is empty.
 fn escape_of(text: &str) -> Option<Option<char>>
     ensures { result ≡ escape_of (chars text.now) }
 {
-    let mut rest = text.chars();
-    let Some(c) = rest.next() else {
-        return Some(None);
-    };
-    match rest.next() {
-        None => Some(Some(c)),
-        Some(_) => None,
+    match split_first(text) {
+        None => Some(None),
+        Some((c, behind)) => match split_first(behind) {
+            None => Some(Some(c)),
+            Some(_) => None,
+        },
     }
 }
 
 /// A call by a word, of which a text says the escape behind `escape`.
-fn escaped_call<'a>(
-    alloc: Global,
-    word: &str,
-    option: &str,
-    text: &str,
-) -> VortexResult<Line<'a>>
+fn escaped_call<'a>(alloc: Global, word: &str, option: &str, text: &str) -> VortexResult<Line<'a>>
     ensures { AnswersCommand (escaped_call word.now option.now text.now) result }
 {
     if option != "escape" {
