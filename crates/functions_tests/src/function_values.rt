@@ -152,7 +152,14 @@ fn escapes_come_back(rt: HostRuntime) {
     let alloc = rt.alloc();
     assert!(rt; yes(keeps(alloc, Like, escaped(false, None), &[8])));
     assert!(rt; yes(keeps(alloc, Like, escaped(false, Some('!')), &[4, 0, 0, 0, 33])));
-    assert!(rt; yes(keeps(alloc, Like, escaped(true, Some('\u{1f600}')), &[5, 0, 1, 246, 0])));
+    assert!(rt;
+        yes(keeps(
+            alloc,
+            Like,
+            escaped(true, Some('\u{1f600}')),
+            &[5, 0, 1, 246, 0]
+        ))
+    );
 }
 
 #[test]
