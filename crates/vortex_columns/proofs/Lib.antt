@@ -5,3 +5,5 @@ pub mod ListParts
 pub mod NamedColumns
 pub mod Parts
 pub mod OptionRows
+pub mod ElementPlaces
+pub mod TakenRows

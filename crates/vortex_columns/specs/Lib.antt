@@ -3,6 +3,7 @@ pub mod ColumnView
 pub mod Cells
 pub mod Scalars
 pub mod Stored
+pub mod Taken
 pub mod KeptParts
 pub mod Falls
 pub mod Made

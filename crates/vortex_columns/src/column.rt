@@ -1,11 +1,12 @@
-//! What a column is: its type, and its rows as they are stored. Its constructors, its reads and parts, and its copies
-//! stand in rooms of their own.
+//! What a column is: its type, and its rows as they are stored. Its constructors, its reads and parts, its copies
+//! and the taking of its rows stand in rooms of their own.
 
 mod constructors;
 mod copies;
 mod options;
 mod reads;
 mod stored;
+mod taken;
 
 use crate::scalar::Scalar;
 use crate::validity::Validity;

@@ -6,3 +6,4 @@ pub mod Resolving
 pub mod Placed
 pub mod Pushing
 pub mod Collecting
+pub mod Gathering

@@ -7,3 +7,4 @@ pub mod Placing
 pub mod Building
 pub mod Built
 pub mod Collected
+pub mod Places

@@ -1,13 +1,15 @@
 //! Values kept as views, with the buffers that longer ones lie in.
-ghost use Rattle.std.specs.Prelude.{◌≡◌, IfOk, length, map};
+ghost use Rattle.std.specs.Prelude.{◌≡◌, ◌<◌, All, IfOk, [], length, map, slice_index_or};
 ghost use Rattle.vortex_errors.specs.Answers.{MadeWhere};
 ghost use Rattle.vortex_errors.specs.declared.error.VortexError.TheVariants.{InvalidColumn};
+ghost use Rattle.vortex_views.specs.Places.{places_of};
 ghost use Rattle.vortex_views.specs.Resolved.{AreViewsIn, values_in};
 ghost use Rattle.vortex_views.specs.LentValues.{lent_values};
 
+use crate::places::{Places, gather};
 use crate::resolved::{ResolvedViews, check_views};
 use crate::view::BinaryView;
-use std::alloc::AllocError;
+use std::alloc::{AllocError, Global};
 use std::marker::Model;
 use vortex_errors::{VortexError, VortexResult};
 
@@ -68,6 +70,17 @@ impl BinaryViews {
         ensures { lent_values result ≡ self.now }
     {
         ResolvedViews::new(self.views.as_slice(), self.buffers.as_slice())
+    }
+
+    /// The values at these places, in their order: their views, over a copy of all buffers.
+    pub fn gather(&self, alloc: Global, places: &Places<'_>) -> Result<BinaryViews, AllocError>
+        requires { All (λ i. i < length self.now) (places_of places.now) }
+        ensures { IfOk result
+            (λ taken. taken ≡ map (λ i. slice_index_or self.now i []) (places_of places.now)) }
+    {
+        let views = gather(alloc, self.views.as_slice(), places)?;
+        let buffers = copy_buffers(&self.buffers)?;
+        Ok(BinaryViews { views, buffers })
     }
 }
 

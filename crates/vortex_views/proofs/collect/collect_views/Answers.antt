@@ -2,7 +2,7 @@ use Rattle.std.proofs.lemmas.Result.{err_from_is_err_and}
 use Rattle.vortex_views.proofs.Collecting.{next_has_room, next_kept}
 use Rattle.vortex_views.specs.Built.{HasRoomFor}
 use Rattle.vortex_views.specs.Collected.{HaveRoom}
-use Rattle.std.proofs.Common.{map, ap, ◌∙◌, take}
+use Rattle.std.proofs.Common.{map, ap, ◌∙◌}
 use Rattle.vortex_views.proofs.Pushing.{refused_sooner}
 use Rattle.vortex_views.proofs.collect.collect_views.Goals as goal
 

@@ -1,0 +1,242 @@
+//! Rows of a column that are taken by their numbers: by words of bits and by gathering, as the column keeps them.
+ghost use Rattle.std.specs.Prelude.{◌≡◌, ◌+◌, ◌*◌, ◌^◌, ◌<◌, ◌≤◌, ◌++◌, ℕ, All, IfOk, map, length, pos, false};
+ghost use Rattle.std.specs.Prelude.{[], slice_index, slice_index_or};
+ghost use Rattle.vortex_columns.specs.Words.{AnswersUnlessMemory, validity_of};
+ghost use Rattle.vortex_columns.specs.ValidityView.{Reaches};
+ghost use Rattle.vortex_columns.specs.Stored.{kept_of, stored_of, HasRow};
+ghost use Rattle.vortex_columns.specs.Taken.{AreRowsOf, taken, taken_kept, taken_validity};
+ghost use Rattle.vortex_columns.specs.Taken.{taken_stored, element_places, ArePlaces};
+ghost use Rattle.vortex_views.specs.Places.{places_of};
+ghost use Rattle.vortex_types.specs.Numbers.{numbers, ptype_of};
+ghost use Rattle.std.specs.List.{range_with_len};
+ghost use Rattle.std.specs.Vec.{vec_len, vec_capacity};
+
+use super::{Column, Elements, Storage};
+use crate::validity::Validity;
+use std::alloc::{AllocError, Global};
+use vortex_bits::{BitBuffer, RowBits, collect_rows};
+use vortex_types::{ExecutionCtx, Ints, VortexError, VortexResult};
+use vortex_views::{Place, Places, gather};
+
+/// The bit at each place.
+#[derive(Clone, Copy)]
+struct BitsAt<'a, P: Place> {
+    bits: &'a BitBuffer,
+    places: &'a [P],
+}
+
+impl<P: Place> RowBits for BitsAt<'_, P> {
+    ghost use Rattle.std.specs.Prelude.{◌<◌, map, length, false, slice_index, slice_index_or};
+
+    ghost has_row = { λ b i. (i < length b.places.now)
+        × (slice_index (map P.number b.places.now) i < length b.bits.now) };
+
+    ghost row_bit = { λ b i. slice_index_or b.bits.now (slice_index (map P.number b.places.now) i)
+        false };
+
+    fn bit(&self, i: usize) -> bool {
+        self.bits.value(self.places[i].index())
+    }
+}
+
+/// The bits at these places.
+fn bits_at<P: Place>(alloc: Global, bits: &BitBuffer, places: &[P]) -> VortexResult<BitBuffer>
+    requires { All (λ i. i < length bits.now) (map P.number places.now) }
+    ensures { AnswersUnlessMemory result
+        (λ b. b ≡ map (λ i. slice_index_or bits.now i false) (map P.number places.now)) }
+{
+    collect_rows(alloc, &BitsAt { bits, places }, places.len())
+}
+
+/// The bits at these places, 64 to a word.
+fn take_bits(alloc: Global, bits: &BitBuffer, places: &Places<'_>) -> VortexResult<BitBuffer>
+    requires { All (λ i. i < length bits.now) (places_of places.now) }
+    ensures { AnswersUnlessMemory result
+        (λ b. b ≡ map (λ i. slice_index_or bits.now i false) (places_of places.now)) }
+{
+    match places {
+        Places::Codes(codes) => bits_at(alloc, bits, *codes),
+        Places::Indices(indices) => bits_at(alloc, bits, *indices),
+    }
+}
+
+/// The integers at these places: one loop, of the one type that they have.
+fn take_ints(alloc: Global, ints: &Ints, places: &Places<'_>) -> Result<Ints, AllocError>
+    requires { All (λ i. i < length (numbers ints.now)) (places_of places.now) }
+    ensures { IfOk result (λ xs. (ptype_of xs ≡ ptype_of ints.now)
+        × (numbers xs ≡ map (λ i. slice_index_or (numbers ints.now) i (pos 0)) (places_of places.now))) }
+{
+    match ints {
+        Ints::I8(xs) => Ok(Ints::I8(gather(alloc, xs, places)?)),
+        Ints::I16(xs) => Ok(Ints::I16(gather(alloc, xs, places)?)),
+        Ints::I32(xs) => Ok(Ints::I32(gather(alloc, xs, places)?)),
+        Ints::I64(xs) => Ok(Ints::I64(gather(alloc, xs, places)?)),
+        Ints::U8(xs) => Ok(Ints::U8(gather(alloc, xs, places)?)),
+        Ints::U16(xs) => Ok(Ints::U16(gather(alloc, xs, places)?)),
+        Ints::U32(xs) => Ok(Ints::U32(gather(alloc, xs, places)?)),
+        Ints::U64(xs) => Ok(Ints::U64(gather(alloc, xs, places)?)),
+    }
+}
+
+/// Adds the places of one list's elements, for which there is room.
+fn push_range(places: &mut Vec<usize>, from: usize, count: usize)
+    requires room { vec_len places.old + count ≤ vec_capacity places.old }
+    requires fits { from + count < 2 ^ 64 }
+    ensures items { places.new.items ≡ places.old.items ++ range_with_len from count }
+    ensures len { vec_len places.new ≡ vec_len places.old + count }
+    ensures room { vec_capacity places.new ≡ vec_capacity places.old }
+{
+    for i in 0..count {
+        places.push_reserved(from + i);
+    }
+}
+
+/// The places of the elements of lists of one size. E9 also where they are more than a usize counts.
+fn elements_at<P: Place>(alloc: Global, size: usize, places: &[P]) -> VortexResult<Vec<usize>>
+    requires { All (λ i. size * i + size < 2 ^ 64) (map P.number places.now) }
+    ensures { AnswersUnlessMemory result
+        (λ es. es.items ≡ element_places size (map P.number places.now)) }
+{
+    let count = match size.checked_mul(places.len()) {
+        Some(count) => count,
+        None => return Err(VortexError::OutOfMemory),
+    };
+    let mut elements = Vec::with_capacity(alloc, count)?;
+    for place in places {
+        push_range(&mut elements, size * place.index(), size);
+    }
+    Ok(elements)
+}
+
+/// The places of the elements of the lists of one size at these places. E9 as above.
+fn element_places(alloc: Global, size: usize, places: &Places<'_>) -> VortexResult<Vec<usize>>
+    requires { All (λ i. size * i + size < 2 ^ 64) (places_of places.now) }
+    ensures { AnswersUnlessMemory result
+        (λ es. es.items ≡ element_places size (places_of places.now)) }
+{
+    match places {
+        Places::Codes(codes) => elements_at(alloc, size, *codes),
+        Places::Indices(indices) => elements_at(alloc, size, *indices),
+    }
+}
+
+/// Which rows are null among those at these places.
+fn take_validity(alloc: Global, validity: &Validity, places: &Places<'_>) -> VortexResult<Validity>
+    requires { All (λ i. Reaches (validity_of validity.now) i) (places_of places.now) }
+    ensures { AnswersUnlessMemory result
+        (λ v. validity_of v ≡ taken_validity (places_of places.now) (validity_of validity.now)) }
+{
+    match validity {
+        Validity::NonNullable => Ok(Validity::NonNullable),
+        Validity::AllValid => Ok(Validity::AllValid),
+        Validity::AllInvalid => Ok(Validity::AllInvalid),
+        Validity::Array(bits) => Ok(Validity::Array(take_bits(alloc, bits, places)?)),
+    }
+}
+
+/// The same rows of each column.
+#[cycle(take_column)]
+fn take_columns(
+    alloc: Global,
+    columns: &Vec<Column>,
+    places: &Places<'_>,
+) -> VortexResult<Vec<Column>>
+    requires { All (λ c. AreRowsOf c (places_of places.now)) columns.now.items }
+    ensures { AnswersUnlessMemory result
+        (λ cs. cs.items ≡ map (taken (places_of places.now)) columns.now.items) }
+{
+    let mut taken = Vec::new(alloc);
+    for column in columns {
+        taken.push(column.take_places(alloc, places)?)?;
+    }
+    Ok(taken)
+}
+
+impl Elements {
+    /// The values at these places. Of lists and maps only the ranges are taken: their elements stay as they are.
+    #[cycle(take_column)]
+    fn take(&self, alloc: Global, places: &Places<'_>) -> VortexResult<Elements>
+        requires { ArePlaces (places_of places.now) (kept_of self.now) }
+        ensures { AnswersUnlessMemory result
+            (λ e. kept_of e ≡ taken_kept (places_of places.now) (kept_of self.now)) }
+    {
+        match self {
+            Elements::Bool(bits) => Ok(Elements::Bool(take_bits(alloc, bits, places)?)),
+            Elements::Primitive(ints) => Ok(Elements::Primitive(take_ints(alloc, ints, places)?)),
+            Elements::Utf8(values) => Ok(Elements::Utf8(values.gather(alloc, places)?)),
+            Elements::Binary(values) => Ok(Elements::Binary(values.gather(alloc, places)?)),
+            Elements::Struct(fields) => Ok(Elements::Struct(take_columns(alloc, fields, places)?)),
+            Elements::List(elements, offsets, sizes) => {
+                let elements = Box::new(alloc, elements.try_clone(alloc)?)?;
+                let offsets = gather(alloc, offsets, places)?;
+                let sizes = gather(alloc, sizes, places)?;
+                Ok(Elements::List(elements, offsets, sizes))
+            }
+            Elements::FixedSizeList(elements, size) => {
+                // so that the places are known to fit
+                let _ = elements.len();
+                let places = element_places(alloc, *size as usize, places)?;
+                let elements = elements.take_places(alloc, &Places::Indices(&places))?;
+                Ok(Elements::FixedSizeList(Box::new(alloc, elements)?, *size))
+            }
+            Elements::Map(keys, values, offsets, sizes) => {
+                let keys = Box::new(alloc, keys.try_clone(alloc)?)?;
+                let values = Box::new(alloc, values.try_clone(alloc)?)?;
+                let offsets = gather(alloc, offsets, places)?;
+                let sizes = gather(alloc, sizes, places)?;
+                Ok(Elements::Map(keys, values, offsets, sizes))
+            }
+        }
+    }
+}
+
+impl Storage {
+    #[cycle(take_column)]
+    fn take(&self, alloc: Global, places: &Places<'_>) -> VortexResult<Storage>
+        requires { All (λ i. HasRow i (stored_of self.now)) (places_of places.now) }
+        ensures { AnswersUnlessMemory result
+            (λ s. stored_of s ≡ taken_stored (places_of places.now) (stored_of self.now)) }
+    {
+        match self {
+            Storage::Null => Ok(Storage::Null),
+            Storage::Constant(scalar) => Ok(Storage::Constant(scalar.try_clone(alloc)?)),
+            Storage::Rows(elements, validity) => {
+                let elements = elements.take(alloc, places)?;
+                let validity = take_validity(alloc, validity, places)?;
+                Ok(Storage::Rows(elements, validity))
+            }
+        }
+    }
+}
+
+impl Column {
+    ghost use Rattle.vortex_columns.specs.Words.{AnswersUnlessMemory, AreRowsOf, IsTaken};
+    ghost use Rattle.vortex_columns.specs.Taken.{taken};
+    ghost use Rattle.vortex_views.specs.Places.{places_of};
+
+    /// The rows with these numbers, in the order of the codes, each as often as it is named: a column of the same type
+    /// with a row for each code. A constant stays a constant, and a column whose validity is no list of bits keeps its
+    /// form. The elements of lists and maps are copied as they are, whichever rows name them.
+    ///
+    /// Refuses for want of memory alone (E9), also where lists of one size would have more elements than a usize counts.
+    pub fn take(&self, codes: &[u32], ctx: &mut ExecutionCtx) -> VortexResult<Column>
+        requires { AreRowsOf self.now codes.now }
+        ensures { AnswersUnlessMemory result (IsTaken self.now codes.now) }
+    {
+        self.take_places(ctx.alloc(), &Places::Codes(codes))
+    }
+
+    #[cycle(take_column)]
+    fn take_places(&self, alloc: Global, places: &Places<'_>) -> VortexResult<Column>
+        requires { AreRowsOf self.now (places_of places.now) }
+        ensures { AnswersUnlessMemory result (λ c. c ≡ taken (places_of places.now) self.now) }
+    {
+        let dtype = self.dtype.try_clone(alloc)?;
+        let storage = self.storage.take(alloc, places)?;
+        Ok(Column {
+            dtype,
+            len: places.len(),
+            storage,
+        })
+    }
+}

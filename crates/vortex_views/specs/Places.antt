@@ -1,0 +1,8 @@
+-- The places that are named, whatever form names them.
+use Rattle.std.specs.Prelude.{ℕ, List}
+use Rattle.vortex_views.specs.declared.places.Places.{Places}
+use Rattle.vortex_views.specs.declared.places.Places.TheVariants.{Codes, Indices}
+
+abbrev pub places_of : Places → List ℕ
+places_of (Codes codes) = codes.now
+places_of (Indices indices) = indices.now
