@@ -4,6 +4,7 @@ mod bits;
 mod cases;
 mod chance;
 mod columns;
+mod dictionary;
 mod integers;
 mod like;
 mod project;

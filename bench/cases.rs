@@ -3,11 +3,13 @@
 use crate::bits;
 use crate::chance::{Chance, Shape, Width};
 use crate::columns::{Bits, Bools, Ints, Rows, TextViews, Texts, views_of};
+use crate::dictionary::{self, Dictionary};
 use crate::integers::*;
 use crate::like;
 use crate::project;
 use crate::texts::*;
 use crate::timing::{Case, Form, form};
+use crate::vectors::tested;
 use std::rc::Rc;
 
 fn case<I: 'static>(name: &str, input: &Rc<I>, ours: impl Fn(&I) -> u64 + 'static, forms: Vec<Form>) -> Case {
@@ -291,6 +293,63 @@ fn like_cases(shape: &Shape, chance: &mut Chance, name: &str, are_long: bool) ->
     cases
 }
 
+/// A dictionary of so many values: its rows made, and a function over its values or its rows.
+fn int_dictionary_cases(shape: &Shape, chance: &mut Chance, count: usize) -> Vec<Case> {
+    let values = chance.rows(&Shape { rows: count, ..*shape }, |x| x as i64);
+    let dictionary = Rc::new(Dictionary { values, codes: Rc::new(chance.codes(shape, count)) });
+    let rows = Rc::new((dictionary::gather(&dictionary), Rows { values: vec![], valid: None }));
+    const BELOW: i64 = 1 << 46;
+    let name = format!("i64 of {count} values");
+    let over_rows = || {
+        vec![
+            form("product", &rows, |pair| less_one(pair, BELOW)),
+            form("vectors, narrowed", &rows, |pair| less_one_i64_narrowed(pair, BELOW)),
+        ]
+    };
+    vec![
+        case(&format!("{name}: decode"), &dictionary, |d| project::int_dictionary(d, BELOW, project::DECODE), vec![
+            form("gathering", &dictionary, dictionary::gather),
+            form("gathering, unchecked", &dictionary, dictionary::gather_unchecked),
+        ]),
+        case(&format!("{name}: < constant over the rows"), &dictionary, |d| {
+            project::int_dictionary(d, BELOW, project::OVER_ROWS)
+        }, over_rows()),
+        case(&format!("{name}: < constant pushed down"), &dictionary, |d| {
+            project::int_dictionary(d, BELOW, project::PUSH_DOWN)
+        }, [vec![form("product, over the values", &dictionary, |d| {
+            dictionary::pushed(d, |values| Rows { values: tested(&values.values, |x| *x < BELOW), valid: values.valid.clone() })
+        })], over_rows()].into_iter().flatten().collect()),
+    ]
+}
+
+fn text_dictionary_cases(shape: &Shape, chance: &mut Chance, count: usize) -> Vec<Case> {
+    let values = chance.texts(&Shape { rows: count, ..*shape }, Width::Fixed(20));
+    let dictionary = Rc::new(Dictionary { values, codes: Rc::new(chance.codes(shape, count)) });
+    let views = Rc::new(dictionary::views_of(&dictionary));
+    let rows = Rc::new(dictionary::gather_views(&views));
+    let name = format!("text of 20 bytes, {count} values");
+    const PATTERN: &str = "%ab%";
+    vec![
+        case(&format!("{name}: decode"), &dictionary, |d| project::text_dictionary(d, PATTERN, project::DECODE), vec![
+            form("views gathered", &views, dictionary::gather_views),
+        ]),
+        case(&format!("{name}: like over the rows"), &dictionary, |d| {
+            project::text_dictionary(d, PATTERN, project::OVER_ROWS)
+        }, vec![
+            form("views, calls", &rows, |rows| like::by_calls(rows, PATTERN)),
+            form("views by words", &rows, |rows| like::by_view_words(rows, PATTERN)),
+        ]),
+        case(&format!("{name}: like pushed down"), &dictionary, |d| {
+            project::text_dictionary(d, PATTERN, project::PUSH_DOWN)
+        }, vec![
+            form("views by words, over the values", &views, |d| {
+                dictionary::pushed(d, |values| like::by_view_words(values, PATTERN))
+            }),
+            form("views by words", &rows, |rows| like::by_view_words(rows, PATTERN)),
+        ]),
+    ]
+}
+
 pub fn cases(shape: &Shape) -> Vec<Case> {
     let mut chance = Chance(88172645463325252);
     let mut cases = bool_cases(shape, &mut chance);
@@ -304,5 +363,9 @@ pub fn cases(shape: &Shape) -> Vec<Case> {
     cases.extend(null_cases(shape, &mut chance));
     cases.extend(like_cases(shape, &mut chance, "text", false));
     cases.extend(like_cases(shape, &mut chance, "line", true));
+    for count in [100, 65_536] {
+        cases.extend(int_dictionary_cases(shape, &mut chance, count));
+        cases.extend(text_dictionary_cases(shape, &mut chance, count));
+    }
     cases
 }

@@ -75,6 +75,11 @@ impl Chance {
         Rows { values: self.bits(offset, shape.rows, 50), valid: self.valid(shape, offset) }
     }
 
+    /// A code below the count in each row.
+    pub fn codes(&mut self, shape: &Shape, count: usize) -> Vec<u32> {
+        (0..shape.rows).map(|_| self.below(count as u64) as u32).collect()
+    }
+
     /// A word of a short list in each row, or a line of one.
     pub fn words(&mut self, shape: &Shape, are_long: bool) -> Texts {
         let list = if are_long { LINES } else { WORDS };

@@ -110,6 +110,14 @@ impl Views {
         Views { views, buffer }
     }
 
+    /// The texts at these places, over a copy of the buffer.
+    pub fn at(&self, places: &[u32]) -> Views {
+        let mut views = Vec::with_capacity(places.len() + BEHIND);
+        views.extend(places.iter().map(|place| self.views[*place as usize]));
+        views.extend([View { head: 0, tail: 0 }; BEHIND]);
+        Views { views, buffer: self.buffer.clone() }
+    }
+
     pub fn rows(&self) -> &[View] {
         &self.views[..self.views.len() - BEHIND]
     }
@@ -162,6 +170,15 @@ impl<T: Copy + Into<i64>> Answer for Rows<Vec<T>> {
             let valid = self.valid.as_ref().map_or(1, |valid| u64::from(valid.bit(i)));
             let value: i64 = (*value).into();
             joined(sum, (value as u64).wrapping_mul(valid).wrapping_add(valid))
+        })
+    }
+}
+
+impl Answer for TextViews {
+    fn sum(&self) -> u64 {
+        self.values.rows().iter().enumerate().fold(0, |sum, (i, view)| {
+            let valid = self.valid.as_ref().map_or(1, |valid| u64::from(valid.bit(i)));
+            joined(sum, view.head.wrapping_mul(valid).wrapping_add(valid))
         })
     }
 }

@@ -1,6 +1,7 @@
 //! The project's exported calls, over lent columns. Each asks `bench_next` how often to call, and answers a checksum.
 
 use crate::columns::{Bits, Bools, Ints, Rows, Texts};
+use crate::dictionary::Dictionary;
 use crate::timing::columns_begin;
 
 /// The calls by the numbers that they have in kernels/measured.rt.txt.
@@ -56,6 +57,15 @@ unsafe extern "C" {
     ) -> u64;
     fn bench_i32_null_tests(
         input: *const i32, input_len: usize, input_valid: *const u8, input_valid_len: usize, is_negated: bool,
+    ) -> u64;
+    fn bench_dictionary_ints(
+        values: *const i64, values_len: usize, valid: *const u8, valid_len: usize,
+        codes: *const u32, codes_len: usize, constant: i64, call: u32,
+    ) -> u64;
+    fn bench_dictionary_texts(
+        texts: *const u8, texts_len: usize, lengths: *const usize, lengths_len: usize,
+        valid: *const u8, valid_len: usize, codes: *const u32, codes_len: usize,
+        pattern: *const u8, pattern_len: usize, call: u32,
     ) -> u64;
     fn bench_like(
         texts: *const u8, texts_len: usize, lengths: *const usize, lengths_len: usize,
@@ -179,6 +189,33 @@ fn like_patterns(texts: &Texts, patterns: &str, pattern_lengths: &[usize], case_
         bench_like(
             bytes.as_ptr(), bytes.len(), lengths.as_ptr(), lengths.len(), valid.as_ptr(), valid.len(),
             patterns.as_ptr(), patterns.len(), pattern_lengths.as_ptr(), pattern_lengths.len(), case_insensitive,
+        )
+    }
+}
+
+/// What is done with a dictionary, as in kernels/dictionary.rt.txt: its rows are made, a function is run over its values, or
+/// over rows that were made before.
+pub const DECODE: u32 = 0;
+pub const PUSH_DOWN: u32 = 1;
+pub const OVER_ROWS: u32 = 2;
+
+pub fn int_dictionary(dictionary: &Dictionary<Vec<i64>>, constant: i64, call: u32) -> u64 {
+    let (values, valid, codes) = (&dictionary.values.values, bytes_of(&dictionary.values.valid), &dictionary.codes);
+    unsafe {
+        bench_dictionary_ints(
+            values.as_ptr(), values.len(), valid.as_ptr(), valid.len(), codes.as_ptr(), codes.len(), constant, call,
+        )
+    }
+}
+
+pub fn text_dictionary(dictionary: &Dictionary<Vec<String>>, pattern: &str, call: u32) -> u64 {
+    let texts = &dictionary.values;
+    let (bytes, lengths, valid) = (texts.values.concat(), lengths_of(texts), bytes_of(&texts.valid));
+    let codes = &dictionary.codes;
+    unsafe {
+        bench_dictionary_texts(
+            bytes.as_ptr(), bytes.len(), lengths.as_ptr(), lengths.len(), valid.as_ptr(), valid.len(),
+            codes.as_ptr(), codes.len(), pattern.as_ptr(), pattern.len(), call,
         )
     }
 }
