@@ -181,6 +181,44 @@ fn makes_ints(alloc: Global, rows: [Option<i32>; 3]) -> VortexResult<bool> {
     Ok(are_ints(&*kept(alloc, Column::of_ints(alloc, &rows))?, rows))
 }
 
+fn is_text(cell: Cell<'_>, wanted: Option<&str>) -> bool {
+    match (cell, wanted) {
+        (Cell::Text(text), Some(wanted)) => text == wanted,
+        (Cell::Null, None) => true,
+        _ => false,
+    }
+}
+
+/// Whether a column of texts of two rows has these.
+fn are_texts(column: &Column, is_nullable: bool, wanted: [Option<&str>; 2]) -> bool {
+    if column.len() != 2 || column.dtype().is_nullable() != is_nullable {
+        return false;
+    }
+    let [first, second] = wanted;
+    is_text(column.cell(0), first) && is_text(column.cell(1), second)
+}
+
+fn makes_texts(alloc: Global, rows: [Option<&str>; 2]) -> VortexResult<bool> {
+    Ok(are_texts(&*kept(alloc, Column::of_texts(alloc, &rows))?, true, rows))
+}
+
+fn makes_lent_texts(alloc: Global, rows: [&str; 2]) -> VortexResult<bool> {
+    let column = kept(
+        alloc,
+        Column::try_texts(alloc, &rows, Validity::NonNullable),
+    )?;
+    let [first, second] = rows;
+    Ok(are_texts(&*column, false, [Some(first), Some(second)]))
+}
+
+#[test]
+fn columns_are_made_of_lent_texts(rt: HostRuntime) {
+    let alloc = rt.alloc();
+    assert!(rt; yes(makes_texts(alloc, [Some("hello"), None])));
+    assert!(rt; yes(makes_texts(alloc, [Some("a text that is longer than a view"), Some("")])));
+    assert!(rt; yes(makes_lent_texts(alloc, ["hello, world!", "\u{a3}"])));
+}
+
 #[test]
 fn columns_are_made_of_options(rt: HostRuntime) {
     let alloc = rt.alloc();

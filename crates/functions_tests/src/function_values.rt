@@ -93,6 +93,16 @@ fn like(negated: bool, case_insensitive: bool) -> LikeOptions {
     LikeOptions {
         negated,
         case_insensitive,
+        escape: Some('\\'),
+    }
+}
+
+/// LIKE with that escape.
+fn escaped(negated: bool, escape: Option<char>) -> LikeOptions {
+    LikeOptions {
+        negated,
+        case_insensitive: false,
+        escape,
     }
 }
 
@@ -122,9 +132,34 @@ fn other_bytes_are_refused(rt: HostRuntime) {
     assert!(rt; refuses(alloc, Binary, &[12]));
     assert!(rt; refuses(alloc, Binary, &[]));
     assert!(rt; refuses(alloc, Binary, &[0, 0]));
-    assert!(rt; refuses(alloc, Like, &[4]));
     assert!(rt; refuses(alloc, Between, &[4]));
     assert!(rt; refuses(alloc, NoCustom, &[]));
+}
+
+#[test]
+fn other_bytes_are_no_escape(rt: HostRuntime) {
+    let alloc = rt.alloc();
+    assert!(rt; refuses(alloc, Like, &[4]));
+    assert!(rt; refuses(alloc, Like, &[16]));
+    assert!(rt; refuses(alloc, Like, &[12]));
+    assert!(rt; refuses(alloc, Like, &[4, 0, 0, 0, 92]));
+    assert!(rt; refuses(alloc, Like, &[4, 0, 0, 216, 0]));
+    assert!(rt; refuses(alloc, Like, &[4, 0, 0, 33]));
+}
+
+#[test]
+fn escapes_come_back(rt: HostRuntime) {
+    let alloc = rt.alloc();
+    assert!(rt; yes(keeps(alloc, Like, escaped(false, None), &[8])));
+    assert!(rt; yes(keeps(alloc, Like, escaped(false, Some('!')), &[4, 0, 0, 0, 33])));
+    assert!(rt;
+        yes(keeps(
+            alloc,
+            Like,
+            escaped(true, Some('\u{1f600}')),
+            &[5, 0, 1, 246, 0]
+        ))
+    );
 }
 
 #[test]

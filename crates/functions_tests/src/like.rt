@@ -10,21 +10,25 @@ use vortex_operators::*;
 const LIKE: LikeOptions = LikeOptions {
     negated: false,
     case_insensitive: false,
+    escape: Some('\\'),
 };
 
 const NOT_LIKE: LikeOptions = LikeOptions {
     negated: true,
     case_insensitive: false,
+    escape: Some('\\'),
 };
 
 const ILIKE: LikeOptions = LikeOptions {
     negated: false,
     case_insensitive: true,
+    escape: Some('\\'),
 };
 
 const NOT_ILIKE: LikeOptions = LikeOptions {
     negated: true,
     case_insensitive: true,
+    escape: Some('\\'),
 };
 
 /// Whether a function has the name of LIKE, those of its arguments, and its marks.
@@ -142,6 +146,35 @@ fn calls_of_like_print(rt: HostRuntime) {
     assert!(rt; yes(like_prints(alloc, NOT_LIKE, "$.a not like $.b")));
     assert!(rt; yes(like_prints(alloc, ILIKE, "$.a ilike $.b")));
     assert!(rt; yes(like_prints(alloc, NOT_ILIKE, "$.a not ilike $.b")));
+}
+
+/// LIKE with that escape.
+fn escaped(escape: Option<char>) -> LikeOptions {
+    LikeOptions { escape, ..LIKE }
+}
+
+#[test]
+fn escapes_print(rt: HostRuntime) {
+    let alloc = rt.alloc();
+    assert!(rt; yes(like_prints(alloc, escaped(Some('!')), "$.a like $.b escape '!'")));
+    assert!(rt; yes(like_prints(alloc, escaped(Some('\'')), "$.a like $.b escape '''")));
+    assert!(rt; yes(like_prints(alloc, escaped(None), "$.a like $.b escape ''")));
+}
+
+/// Whether a script that says so of the escape calls LIKE with these options.
+fn calls_like(word: &str, said: Option<Option<char>>, wanted: LikeOptions) -> bool {
+    match ScalarFnRef::<NoCustom>::called(word, said) {
+        Some(function) => function.as_like() == Some(wanted),
+        None => false,
+    }
+}
+
+#[test]
+fn scripts_choose_escapes(rt: HostRuntime) {
+    assert!(rt; calls_like("like", None, LIKE));
+    assert!(rt; calls_like("like", Some(None), escaped(None)));
+    assert!(rt; calls_like("like", Some(Some('!')), escaped(Some('!'))));
+    assert!(rt; ScalarFnRef::<NoCustom>::called("=", Some(Some('!'))).is_none());
 }
 
 #[test]

@@ -4,6 +4,8 @@
 #[cfg(test)]
 mod columns;
 #[cfg(test)]
+mod escapes;
+#[cfg(test)]
 mod folding;
 #[cfg(test)]
 mod forms;

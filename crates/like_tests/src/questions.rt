@@ -10,21 +10,25 @@ use vortex_like::{LikeOptions, execute_like};
 pub(crate) const LIKE: LikeOptions = LikeOptions {
     negated: false,
     case_insensitive: false,
+    escape: Some('\\'),
 };
 
 pub(crate) const NOT_LIKE: LikeOptions = LikeOptions {
     negated: true,
     case_insensitive: false,
+    escape: Some('\\'),
 };
 
 pub(crate) const ILIKE: LikeOptions = LikeOptions {
     negated: false,
     case_insensitive: true,
+    escape: Some('\\'),
 };
 
 pub(crate) const NOT_ILIKE: LikeOptions = LikeOptions {
     negated: true,
     case_insensitive: true,
+    escape: Some('\\'),
 };
 
 pub(crate) const YES: Option<bool> = Some(true);

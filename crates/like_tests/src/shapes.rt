@@ -8,7 +8,7 @@ use vortex_columns::VortexResult;
 use vortex_like::{LikeOptions, LikeVariant};
 
 /// Whether a text is this, and lent.
-fn is_lent(text: &CowStr<'_>, wanted: &str) -> bool {
+pub(crate) fn is_lent(text: &CowStr<'_>, wanted: &str) -> bool {
     match text {
         CowStr::Borrowed(text) => *text == wanted,
         CowStr::Owned(_) => false,
@@ -16,7 +16,7 @@ fn is_lent(text: &CowStr<'_>, wanted: &str) -> bool {
 }
 
 /// Whether a text is this, and owned.
-fn is_owned(text: &CowStr<'_>, wanted: &str) -> bool {
+pub(crate) fn is_owned(text: &CowStr<'_>, wanted: &str) -> bool {
     match text {
         CowStr::Borrowed(_) => false,
         CowStr::Owned(text) => text.as_str() == wanted,
@@ -86,7 +86,7 @@ fn equal_by_form_and_text(rt: HostRuntime) {
 }
 
 /// Whether options are written so.
-fn is_written(alloc: Global, options: LikeOptions, text: &str) -> VortexResult<bool> {
+pub(crate) fn is_written(alloc: Global, options: LikeOptions, text: &str) -> VortexResult<bool> {
     Ok(format!(in alloc; "{options}")?.as_str() == text)
 }
 

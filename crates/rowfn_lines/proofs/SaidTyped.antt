@@ -4,7 +4,7 @@ use Rattle.std.proofs.Common.{None, List, [], ◌∷◌, ◌++◌, ℤ, length, 
 use Rattle.std.proofs.Common.{subst, ◌∙◌, arith, tests, append_assoc, if◌then◌else◌}
 use Rattle.std.specs.Prelude.{⊤, IsUtf8, codes}
 use Rattle.std.specs.Option.{option_and_then, option_map}
-use Rattle.std.specs.Str.{is_utf8, bytes_eq}
+use Rattle.std.specs.Str.{chars, is_utf8, bytes_eq}
 use Rattle.std.proofs.lemmas.List.{get_or_at, length-append, take_at, drop_at}
 use Rattle.std.proofs.lemmas.Str.{IsUtf8-from_is_utf8, IsUtf8-take, IsUtf8-drop}
 use Rattle.std.proofs.lemmas.Str.{IsCharBoundary-before_ascii, IsCharBoundary-after_ascii}
@@ -20,7 +20,7 @@ use Rattle.rowfn_lines.specs.Ranges.{in_range}
 use Rattle.rowfn_lines.specs.Lines.{Word, plain, quoted, with_word, words_of, in_word, in_quotes}
 use Rattle.rowfn_lines.specs.Lines.{after_quotes, after_spaces}
 use Rattle.rowfn_lines.specs.Commands.{Command, nothing, malformed, rows, column, get, literal}
-use Rattle.rowfn_lines.specs.Commands.{show, optimize, run_after, begins_comment}
+use Rattle.rowfn_lines.specs.Commands.{call, show, optimize, run_after, begins_comment, escape_of}
 use Rattle.rowfn_lines.specs.Commands.{is_name, number_where, integer_of, value_said, says_null}
 use Rattle.rowfn_lines.specs.Commands.{cell_of, with_cell, cells_of, fit_column, column_of}
 use Rattle.rowfn_lines.specs.Commands.{column_where, column_said, literal_said, only_word}
@@ -291,7 +291,12 @@ call_typed w [] = tt
 call_typed w (plain lower ∷ []) = tt
 call_typed w (plain lower ∷ plain upper ∷ []) = tt
 call_typed w (plain lower ∷ plain upper ∷ v ∷ vs) = tt
-call_typed w (plain lower ∷ quoted upper ∷ vs) = tt
+call_typed w (plain option ∷ quoted t ∷ []) =
+    if_typed (bytes_eq option (codes "escape"))
+    (or_malformed (λ escape. call w (Some escape)) (escape_of (chars t))) malformed
+    (or_typed (λ escape. call w (Some escape)) (escape_of (chars t)) (λ escape e. tt))
+    tt
+call_typed w (plain option ∷ quoted t ∷ v ∷ vs) = tt
 call_typed w (quoted lower ∷ vs) = tt
 
 calls_typed : (ws : List Word) → IsTyped (call_command ws)

@@ -27,15 +27,12 @@ AnswersCommand k result = AnswersUnlessMemory result (λ l. command_in l ≡ k)
 
 module _ {X : Type 0} (value : X → Value) where
   -- the item that has the value that the word says, of nullable types and of others
-  abbrev pub ReadsItem : (Bool → LogicalType) → Word → Result (Option X) VortexError → Type 0
-  ReadsItem kind w result =
-      AnswersUnlessMemory result
-      (λ item. (n : Bool) → option_map value item ≡ value_said (kind n) w)
+  abbrev pub ReadsItem : (Bool → LogicalType) → Word → Option X → Type 0
+  ReadsItem kind w item = (n : Bool) → option_map value item ≡ value_said (kind n) w
 
   -- the same of a cell, which may say null
-  abbrev pub ReadsCell : LogicalType → Word → Result (Option (Option X)) VortexError → Type 0
-  ReadsCell t w result =
-      AnswersUnlessMemory result (λ cell. option_map (item_or_null value) cell ≡ cell_of t w)
+  abbrev pub ReadsCell : LogicalType → Word → Option (Option X) → Type 0
+  ReadsCell t w cell = option_map (item_or_null value) cell ≡ cell_of t w
 
   -- the column of the items' values, where the validity fits them and each text fits a column
   abbrev pub MakesColumn : (Bool → LogicalType) → ValidityView → List X

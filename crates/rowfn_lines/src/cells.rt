@@ -72,33 +72,36 @@ fn read_integer(word: &str) -> Option<i128>
     }
 }
 
-/// Values of one kind, as scripts write them.
-trait CellKind {
-    type Item: Drop;
+/// The types of one kind, nullable or not.
+trait CellTypes {
+    ghost kind: { Bool → LogicalType };
+
+    ghost nullable: { (n : Bool) → is_nullable (kind n) ≡ n };
+}
+
+/// Values of one kind, as scripts write them; texts lie in the line.
+trait CellKind<'a>: CellTypes {
+    type Item: Copy + Drop;
 
     ghost value: { Self.Item → Value };
 
-    ghost kind: { Bool → LogicalType };
-
     /// The value that a word says, null aside; nothing where it says none of this kind.
-    fn read(alloc: Global, word: &Word<'_>) -> VortexResult<Option<Self::Item>>
-        ensures { ReadsItem value kind (word_in word.now) result };
+    fn read(word: &Word<'a>) -> Option<Self::Item>
+        ensures { ReadsItem value Self.kind (word_in word.now) result };
 
-    /// What stands under a null. Takes no memory.
-    fn blank(alloc: Global) -> Self::Item
+    /// What stands under a null.
+    fn blank() -> Self::Item
         ensures { text_bytes (value result) ≡ [] };
 
-    /// The value for a scalar, of the kind's types.
-    fn scalar_value(item: Self::Item) -> ScalarValue
-        ensures value { value_of result ≡ value item }
-        ensures typed { (n : Bool) → HasType (kind n) (value item) };
+    /// The value for a scalar, of the kind's types. E9 alone.
+    fn scalar_value(alloc: Global, item: Self::Item) -> VortexResult<ScalarValue>
+        ensures value { AnswersUnlessMemory result (λ v. value_of v ≡ value item) }
+        ensures typed { (n : Bool) → HasType (Self.kind n) (value item) };
 
     /// A column of the values. E12 exactly where a list of valid bits has another length, a text is
     /// longer than 4,294,967,295 bytes, or the texts take too many buffers.
     fn column(alloc: Global, values: Vec<Self::Item>, validity: Validity) -> VortexResult<Column>
-        ensures { MakesColumn value kind (validity_of validity) values.items result };
-
-    ghost nullable: { (n : Bool) → is_nullable (kind n) ≡ n };
+        ensures { MakesColumn value Self.kind (validity_of validity) values.items result };
 }
 
 struct BoolCells {}
@@ -107,34 +110,50 @@ struct IntCells<T: NativePType>(PhantomData<T>);
 
 struct TextCells {}
 
-impl CellKind for BoolCells {
+impl CellTypes for BoolCells {
+    ghost kind = { bool_type };
+
+    ghost nullable = { λ n. refl };
+}
+
+impl<T: NativePType> CellTypes for IntCells<T> {
+    ghost kind = { integer_type T.ptype };
+
+    ghost nullable = { λ n. refl };
+}
+
+impl CellTypes for TextCells {
+    ghost kind = { text_type };
+
+    ghost nullable = { λ n. refl };
+}
+
+impl<'a> CellKind<'a> for BoolCells {
     type Item = bool;
 
     ghost value = { truth };
 
-    ghost kind = { bool_type };
-
-    fn read(_alloc: Global, word: &Word<'_>) -> VortexResult<Option<bool>> {
+    fn read(word: &Word<'a>) -> Option<bool> {
         match word {
             Word::Plain(text) => {
                 if *text == "true" {
-                    Ok(Some(true))
+                    Some(true)
                 } else if *text == "false" {
-                    Ok(Some(false))
+                    Some(false)
                 } else {
-                    Ok(None)
+                    None
                 }
             }
-            Word::Quoted(_) => Ok(None),
+            Word::Quoted(_) => None,
         }
     }
 
-    fn blank(_alloc: Global) -> bool {
+    fn blank() -> bool {
         false
     }
 
-    fn scalar_value(item: bool) -> ScalarValue {
-        ScalarValue::Bool(item)
+    fn scalar_value(_alloc: Global, item: bool) -> VortexResult<ScalarValue> {
+        Ok(ScalarValue::Bool(item))
     }
 
     fn column(alloc: Global, values: Vec<bool>, validity: Validity) -> VortexResult<Column>
@@ -143,33 +162,29 @@ impl CellKind for BoolCells {
         let bits = BitBuffer::from_bools(alloc, &values)?;
         Column::try_bool(alloc, bits, validity)
     }
-
-    ghost nullable = { λ n. refl };
 }
 
-impl<T: NativePType> CellKind for IntCells<T> {
+impl<'a, T: NativePType> CellKind<'a> for IntCells<T> {
     type Item = T;
 
     ghost value = { λ x. number (T.number x) };
 
-    ghost kind = { integer_type T.ptype };
-
-    fn read(_alloc: Global, word: &Word<'_>) -> VortexResult<Option<T>> {
+    fn read(word: &Word<'a>) -> Option<T> {
         match word {
             Word::Plain(text) => match read_integer(text) {
-                Some(number) => Ok(T::from_i128(number)),
-                None => Ok(None),
+                Some(number) => T::from_i128(number),
+                None => None,
             },
-            Word::Quoted(_) => Ok(None),
+            Word::Quoted(_) => None,
         }
     }
 
-    fn blank(_alloc: Global) -> T {
+    fn blank() -> T {
         T::zero()
     }
 
-    fn scalar_value(item: T) -> ScalarValue {
-        ScalarValue::Int(item.to_i128())
+    fn scalar_value(_alloc: Global, item: T) -> VortexResult<ScalarValue> {
+        Ok(ScalarValue::Int(item.to_i128()))
     }
 
     fn column(alloc: Global, values: Vec<T>, validity: Validity) -> VortexResult<Column>
@@ -178,40 +193,34 @@ impl<T: NativePType> CellKind for IntCells<T> {
     {
         Column::try_primitive(alloc, values, validity)
     }
-
-    ghost nullable = { λ n. refl };
 }
 
-impl CellKind for TextCells {
-    type Item = String;
+impl<'a> CellKind<'a> for TextCells {
+    type Item = &'a str;
 
-    ghost value = { λ s. text (string_bytes s) };
+    ghost value = { λ s. text s.now };
 
-    ghost kind = { text_type };
-
-    fn read(alloc: Global, word: &Word<'_>) -> VortexResult<Option<String>> {
+    fn read(word: &Word<'a>) -> Option<&'a str> {
         match word {
-            Word::Plain(_) => Ok(None),
-            Word::Quoted(text) => Ok(Some(String::from_str(alloc, text)?)),
+            Word::Plain(_) => None,
+            Word::Quoted(text) => Some(*text),
         }
     }
 
-    fn blank(alloc: Global) -> String {
-        String::new(alloc)
+    fn blank() -> &'a str {
+        ""
     }
 
-    fn scalar_value(item: String) -> ScalarValue {
-        ScalarValue::Utf8(item)
+    fn scalar_value(alloc: Global, item: &'a str) -> VortexResult<ScalarValue> {
+        Ok(ScalarValue::Utf8(String::from_str(alloc, item)?))
     }
 
-    fn column(alloc: Global, values: Vec<String>, validity: Validity) -> VortexResult<Column>
-        ensures { MakesColumn (λ s. text (string_bytes s)) text_type (validity_of validity)
-            values.items result }
+    fn column(alloc: Global, values: Vec<&'a str>, validity: Validity) -> VortexResult<Column>
+        ensures { MakesColumn (λ s. text s.now) text_type (validity_of validity)
+            values.entry.items result }
     {
-        Column::try_utf8(alloc, values, validity)
+        Column::try_texts(alloc, &values, validity)
     }
-
-    ghost nullable = { λ n. refl };
 }
 
 fn says_null(word: &Word<'_>) -> bool
@@ -223,39 +232,36 @@ fn says_null(word: &Word<'_>) -> bool
     }
 }
 
-/// What a cell says, a null among it; nothing where it says no value of the type. E9 alone.
-fn read_cell<K: CellKind>(
-    alloc: Global,
+/// What a cell says, a null among it; nothing where it says no value of the type.
+fn read_cell<'a, K: CellKind<'a>>(
     nullability: Nullability,
-    word: &Word<'_>,
-) -> VortexResult<Option<Option<K::Item>>>
+    word: &Word<'a>,
+) -> Option<Option<K::Item>>
     ensures { ReadsCell K.value (K.kind (allows_null nullability)) (word_in word.now) result }
 {
     if says_null(word) {
-        if nullability.is_nullable() {
-            return Ok(Some(None));
-        }
-        return Ok(None);
+        return if nullability.is_nullable() {
+            Some(None)
+        } else {
+            None
+        };
     }
-    match K::read(alloc, word)? {
-        Some(item) => Ok(Some(Some(item))),
-        None => Ok(None),
-    }
+    Some(Some(K::read(word)?))
 }
 
 /// What cells say: an item for each, with a blank under each null, and which are not null.
 #[derive(Drop)]
-struct Cells<K: CellKind> {
-    items: Vec<K::Item>,
+struct Cells<T> {
+    items: Vec<T>,
     valid: Vec<bool>,
 }
 
 /// What each cell says; nothing where one says no value of the type. E9 alone.
-fn read_cells<K: CellKind>(
+fn read_cells<'a, K: CellKind<'a>>(
     alloc: Global,
     nullability: Nullability,
-    words: &[Word<'_>],
-) -> VortexResult<Option<Cells<K>>>
+    words: &[Word<'a>],
+) -> VortexResult<Option<Cells<K::Item>>>
     ensures { AnswersUnlessMemory result (λ cells. MatchOption cells
         (cells_of (K.kind (allows_null nullability)) (map word_in words.now) ≡ None)
         (λ c. AreCells (allows_null nullability) (map K.value c.items.items) c.valid.items
@@ -264,11 +270,11 @@ fn read_cells<K: CellKind>(
     let mut items = Vec::new(alloc);
     let mut valid = Vec::new(alloc);
     for word in words {
-        let Some(cell) = read_cell::<K>(alloc, nullability, word)? else {
+        let Some(cell) = read_cell::<K>(nullability, word) else {
             return Ok(None);
         };
         valid.push(cell.is_some())?;
-        items.push(cell.unwrap_or(K::blank(alloc)))?;
+        items.push(cell.unwrap_or(K::blank()))?;
     }
     Ok(Some(Cells { items, valid }))
 }
@@ -286,10 +292,10 @@ fn cells_validity(alloc: Global, nullability: Nullability, valid: &[bool]) -> Vo
 
 /// The column of the cells; nothing where one says no value of the type, or a text is too long for
 /// a column. E9 alone.
-fn read_column<K: CellKind>(
+fn read_column<'a, K: CellKind<'a>>(
     alloc: Global,
     nullability: Nullability,
-    words: &[Word<'_>],
+    words: &[Word<'a>],
 ) -> VortexResult<Option<Column>>
     ensures { AnswersUnlessMemory result
         (λ c. c ≡ column_said (K.kind (allows_null nullability)) (map word_in words.now)) }
@@ -306,17 +312,20 @@ fn read_column<K: CellKind>(
 }
 
 /// The value of the cell, with its type; nothing where it says no value of the type. E9 alone.
-fn read_value<K: CellKind>(
+fn read_value<'a, K: CellKind<'a>>(
     alloc: Global,
     dtype: DType,
-    word: &Word<'_>,
+    word: &Word<'a>,
 ) -> VortexResult<Option<Scalar>>
     requires { type_of dtype ≡ K.kind (is_nullable (type_of dtype)) }
     ensures { AnswersUnlessMemory result
         (λ s. s ≡ literal_said (type_of dtype) (word_in word.now)) }
 {
-    match read_cell::<K>(alloc, dtype.nullability(), word)? {
-        Some(Some(item)) => Ok(Some(Scalar::try_new(dtype, Some(K::scalar_value(item)))?)),
+    match read_cell::<K>(dtype.nullability(), word) {
+        Some(Some(item)) => {
+            let value = K::scalar_value(alloc, item)?;
+            Ok(Some(Scalar::try_new(dtype, Some(value))?))
+        }
         Some(None) => Ok(Some(Scalar::try_new(dtype, None)?)),
         None => Ok(None),
     }

@@ -1,11 +1,13 @@
 //! Reads a line.
-ghost use Rattle.std.specs.Prelude.{◌≡◌, map, option_map, string_bytes};
+ghost use Rattle.std.specs.Prelude.{◌≡◌, [], ◌∷◌, map, option_map, string_bytes, MatchOption};
+ghost use Rattle.std.specs.Str.{chars};
 ghost use Rattle.vortex_errors.specs.Answers.{AnswersUnlessMemory};
 ghost use Rattle.rowfn_lines.specs.Lines.{word_in};
 ghost use Rattle.rowfn_lines.specs.Commands.{begins_comment, is_name, count_of, limit_of};
 ghost use Rattle.rowfn_lines.specs.Commands.{only_word, alone, run_command};
 ghost use Rattle.rowfn_lines.specs.Commands.{rows_command, column_command, get_command};
-ghost use Rattle.rowfn_lines.specs.Commands.{literal_command, spaced, call_of, call_command};
+ghost use Rattle.rowfn_lines.specs.Commands.{literal_command, spaced, escape_of, escaped_call, call_of};
+ghost use Rattle.rowfn_lines.specs.Commands.{call_command};
 ghost use Rattle.rowfn_lines.specs.Commands.{command_by};
 ghost use Rattle.rowfn_lines.specs.Commands.{command_of_words, command_of_text, command_of};
 ghost use Rattle.rowfn_lines.specs.Commands.{command_in};
@@ -126,15 +128,52 @@ fn spaced(alloc: Global, word: &str, lower: &str, upper: &str) -> VortexResult<S
     Ok(format!(in alloc; "{word} {lower} {upper}")?)
 }
 
-/// A call by a word and what follows it: nothing, or the words of two bounds.
-fn call_of<'a>(alloc: Global, word: &str, bounds: &[Word<'a>]) -> VortexResult<Line<'a>>
-    ensures { AnswersCommand (call_of word.now (map word_in bounds.now)) result }
+/// The first character of a text, and the text behind it.
+fn split_first(text: &str) -> Option<(char, &str)>
+    ensures { MatchOption result (chars text.now ≡ [])
+        (λ parts. chars text.now ≡ parts.0 ∷ chars parts.1.now) }
 {
-    match bounds {
-        [] => Ok(Line::Call(String::from_str(alloc, word)?)),
+    let mut rest = text.chars();
+    let first = rest.next()?;
+    Some((first, rest.as_str()))
+}
+
+/// The escape that a text says: its one character, or none where it is empty.
+fn escape_of(text: &str) -> Option<Option<char>>
+    ensures { result ≡ escape_of (chars text.now) }
+{
+    match split_first(text) {
+        None => Some(None),
+        Some((c, behind)) => match split_first(behind) {
+            None => Some(Some(c)),
+            Some(_) => None,
+        },
+    }
+}
+
+/// A call by a word, of which a text says the escape behind `escape`.
+fn escaped_call<'a>(alloc: Global, word: &str, option: &str, text: &str) -> VortexResult<Line<'a>>
+    ensures { AnswersCommand (escaped_call word.now option.now text.now) result }
+{
+    if option != "escape" {
+        return Ok(Line::Malformed);
+    }
+    match escape_of(text) {
+        Some(escape) => Ok(Line::Call(String::from_str(alloc, word)?, Some(escape))),
+        None => Ok(Line::Malformed),
+    }
+}
+
+/// A call by a word and what follows it: nothing, the words of two bounds, or an escape.
+fn call_of<'a>(alloc: Global, word: &str, options: &[Word<'a>]) -> VortexResult<Line<'a>>
+    ensures { AnswersCommand (call_of word.now (map word_in options.now)) result }
+{
+    match options {
+        [] => Ok(Line::Call(String::from_str(alloc, word)?, None)),
         [Word::Plain(lower), Word::Plain(upper)] => {
-            Ok(Line::Call(spaced(alloc, word, lower, upper)?))
+            Ok(Line::Call(spaced(alloc, word, lower, upper)?, None))
         }
+        [Word::Plain(option), Word::Quoted(text)] => escaped_call(alloc, word, option, text),
         _ => Ok(Line::Malformed),
     }
 }
@@ -143,7 +182,7 @@ fn call_line<'a>(alloc: Global, words: &[Word<'a>]) -> VortexResult<Line<'a>>
     ensures { AnswersCommand (call_command (map word_in words.now)) result }
 {
     match words {
-        [Word::Plain(word), bounds @ ..] => call_of(alloc, word, bounds),
+        [Word::Plain(word), options @ ..] => call_of(alloc, word, options),
         _ => Ok(Line::Malformed),
     }
 }

@@ -24,7 +24,7 @@ use Rattle.vortex_meaning.specs.Weights.{weight_told}
 use Rattle.vortex_meaning.specs.Driver.{step, Runs}
 use Rattle.vortex_meaning.specs.Running.{ExecutesAfter, RefusesAfter}
 use Rattle.vortex_rewriting.specs.Runs.{expression_step}
-use Rattle.vortex_meaning.specs.Shipped.{Shipped, row_function, shipped_arity, shipped_named}
+use Rattle.vortex_meaning.specs.Shipped.{Shipped, row_function, shipped_arity, shipped_called}
 use Rattle.vortex_meaning.specs.Shipped.{shipped_place}
 use Rattle.vortex_meaning.specs.Functions.{Function, ours, function_arity, function_type, call_type}
 use Rattle.vortex_meaning.specs.Functions.{IsMismatchAt}
@@ -269,17 +269,18 @@ module _ {V O : Type 0} where
         ap (λ (o : Option (List LogicalType)). is_some (option_and_then (call_type m f) o)) e
         ∙ none_either (fits (function_arity m f) (length ks)) (function_type m f ks) none
 
-    module _ (word : List ℕ) (s : SessionView V O) (known : is_none s.row_count ≡ false) where
+    module _ (word : List ℕ) (chosen : Option (Option ℕ)) (s : SessionView V O)
+        (known : is_none s.row_count ≡ false) where
       abbrev Call : Step V O
-      Call = after_rows s.row_count (λ n. with_call m s (shipped_named word))
+      Call = after_rows s.row_count (λ n. with_call m s (shipped_called word chosen))
 
-      called : (o : Option Shipped) → shipped_named word ≡ o → with_call m s o ≡ Call
+      called : (o : Option Shipped) → shipped_called word chosen ≡ o → with_call m s o ≡ Call
       called o e = ap (with_call m s) (sym e) ∙ after_some s.row_count _ known
 
-      pub no_function : shipped_named word ≡ None → is_malformed ≡ Call
+      pub no_function : shipped_called word chosen ≡ None → is_malformed ≡ Call
       no_function e = called None e
 
-      module _ (f : Shipped) (named : shipped_named word ≡ Some f) where
+      module _ (f : Shipped) (named : shipped_called word chosen ≡ Some f) where
         pub no_arguments : taken (least_count (shipped_arity f)) s.stack ≡ None
             → is_malformed ≡ Call
         no_arguments e = ap (with_taken m f s) (sym e) ∙ called (Some f) named

@@ -13,7 +13,7 @@ use Rattle.vortex_types.specs.ScalarView.{ScalarView}
 use Rattle.vortex_types.specs.Values.{truth}
 use Rattle.vortex_columns.specs.ColumnView.{ColumnView}
 use Rattle.vortex_meaning.specs.Meaning.{Meaning}
-use Rattle.vortex_meaning.specs.Shipped.{Shipped, shipped_arity, shipped_named, shipped_place}
+use Rattle.vortex_meaning.specs.Shipped.{Shipped, shipped_arity, shipped_called, shipped_place}
 use Rattle.vortex_meaning.specs.Functions.{ours}
 use Rattle.vortex_meaning.specs.Trees.{Tree, leaf, place, constant, call as call_tree, trees_of}
 use Rattle.vortex_meaning.specs.Eval.{tree_type, tree_types, types_or_none}
@@ -183,7 +183,8 @@ module _ {V O : Type 0} where
       StepsTo (get name) s r =
           r ≡ after_rows s.row_count (λ n. with_leaf name s (find_field name s.fields))
       StepsTo (literal l) s r = r ≡ after_rows s.row_count (λ n. with_literal l s)
-      StepsTo (call name) s r = r ≡ after_rows s.row_count (λ n. with_call s (shipped_named name))
+      StepsTo (call name said) s r =
+          r ≡ after_rows s.row_count (λ n. with_call s (shipped_called name said))
       StepsTo show s r = ShowsTop s.row_count s.stack s r
       StepsTo optimize s r = OptimizesTop s.row_count s.stack s r
       StepsTo run s r = RunsTop s.row_count s.stack s r

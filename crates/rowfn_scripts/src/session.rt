@@ -137,13 +137,19 @@ impl<C: ScalarFnRules> Session<C> {
         Ok(())
     }
 
-    fn push_call(&mut self, alloc: Global, name: &str) -> Result<(), Stop>
-        ensures { MakesStep (StepsTo C.meaning C.rules (call name.now)) self.old result self.new }
+    fn push_call(
+        &mut self,
+        alloc: Global,
+        name: &str,
+        escape: Option<Option<char>>,
+    ) -> Result<(), Stop>
+        ensures { MakesStep (StepsTo C.meaning C.rules (call name.now escape))
+            self.old result self.new }
     {
         if self.row_count.is_none() {
             return Err(Stop::Malformed);
         }
-        let Some(function) = ScalarFnRef::<C>::named(name) else {
+        let Some(function) = ScalarFnRef::<C>::called(name, escape) else {
             return Err(Stop::Malformed);
         };
         let count = least_count(function.signature().arity);
@@ -269,7 +275,7 @@ impl<C: ScalarFnRules> Session<C> {
             Line::Column(name, column) => self.add_column(alloc, name, column),
             Line::Get(name) => self.push_leaf(alloc, name),
             Line::Literal(scalar) => self.push_literal(alloc, scalar),
-            Line::Call(name) => self.push_call(alloc, name.as_str()),
+            Line::Call(name, escape) => self.push_call(alloc, name.as_str(), escape),
             Line::Show => self.show(alloc),
             Line::Optimize => self.optimize(alloc),
             Line::Run => self.run(alloc),

@@ -160,12 +160,8 @@ fn cast_of_b<C: ScalarFnVTable>(alloc: Global) -> Tree<C> {
 
 /// LIKE of two columns of nullable texts.
 fn like_of_texts<C: ScalarFnVTable>(alloc: Global) -> Tree<C> {
-    let options = LikeOptions {
-        negated: false,
-        case_insensitive: false,
-    };
     let types = (DType::Utf8(YES), DType::Utf8(YES));
-    call_of_columns(alloc, Like.bind(options), types)
+    call_of_columns(alloc, Like.bind(LikeOptions::default()), types)
 }
 
 /// Between of three columns of nullable Bool.

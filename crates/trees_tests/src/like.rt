@@ -9,21 +9,25 @@ use vortex_functions::*;
 const LIKE: LikeOptions = LikeOptions {
     negated: false,
     case_insensitive: false,
+    escape: Some('\\'),
 };
 
 const NOT_LIKE: LikeOptions = LikeOptions {
     negated: true,
     case_insensitive: false,
+    escape: Some('\\'),
 };
 
 const ILIKE: LikeOptions = LikeOptions {
     negated: false,
     case_insensitive: true,
+    escape: Some('\\'),
 };
 
 const NOT_ILIKE: LikeOptions = LikeOptions {
     negated: true,
     case_insensitive: true,
+    escape: Some('\\'),
 };
 
 /// LIKE of column `a` and a pattern.

@@ -1,23 +1,25 @@
 -- Values with a validity of bits are the rows of options.
-use Rattle.std.proofs.Common.{◌≡◌, ℕ, ◌<◌, ℤ, pos, Bool, true, false, List, map, length, refl, sym, ap}
+use Rattle.std.proofs.Common.{◌≡◌, ℕ, ◌<◌, ℤ, pos, Bool, true, false, List, [], ◌∷◌, Bor, map, length, refl}
+use Rattle.std.proofs.Common.{sym, ap}
 use Rattle.std.proofs.Common.{◌∙◌, arith, cond, subst}
 use Rattle.std.specs.Prelude.{slice_index_or, Result, Option, Some, None, is_some, unwrap_or}
 use Rattle.std.specs.List.{range_with_len}
 use Rattle.std.proofs.lemmas.List.{same_lists, get_or-map, length-map}
 use Rattle.std.proofs.lemmas.List.FromFn.{get_or-map-range_with_len, length-map-range_with_len}
 use Rattle.vortex_types.specs.declared.dtype.PType.{PType}
-use Rattle.vortex_types.specs.LogicalTypes.{LogicalType, bool_type, integer_type}
-use Rattle.vortex_types.specs.Values.{Value, null, truth, number}
+use Rattle.vortex_types.specs.LogicalTypes.{LogicalType, bool_type, integer_type, text_type}
+use Rattle.vortex_types.specs.Values.{Value, null, truth, number, text}
 use Rattle.vortex_errors.specs.declared.error.VortexError.{VortexError}
 use Rattle.vortex_errors.specs.declared.error.VortexError.TheVariants.{InvalidColumn}
 use Rattle.vortex_errors.specs.Answers.{AnswersUnlessMemory, AnswersWhere}
-use Rattle.vortex_errors.proofs.Answering.{answers_where}
+use Rattle.vortex_errors.proofs.Answering.{Answers-weaker, answers_where}
 use Rattle.vortex_columns.specs.ColumnView.{ColumnView}
 use Rattle.vortex_columns.specs.ValidityView.{array, ValidityView, is_valid_row, FitsRows}
 use Rattle.vortex_columns.specs.Stored.{made_of, bool_column}
-use Rattle.vortex_columns.specs.Made.{int_column}
+use Rattle.vortex_columns.specs.Made.{int_column, text_rows, lent_texts, MakeLentTexts}
+use Rattle.vortex_views.specs.Collected.{HaveRoom}
 use Rattle.vortex_columns.specs.Options.{option_row, option_validity, option_column}
-use Rattle.vortex_columns.specs.Options.{optional_bools, optional_ints}
+use Rattle.vortex_columns.specs.Options.{optional_bools, optional_ints, option_text, optional_texts}
 
 row_of_option : {A : Type 0} (f : A → Value) (under : A) (o : Option A)
     → cond (is_some o) (f (unwrap_or o under)) null ≡ option_row f o
@@ -95,3 +97,49 @@ module _ (r : Result ColumnView VortexError) (v : ValidityView) where
       (λ c. c ≡ optional_ints p f xs) InvalidColumn
       (fits_options xs ns v (ap length ns_are ∙ length-map xs (λ o. unwrap_or o under)) v_is)
       (λ c e. e ∙ ints_are p f under xs ns v ns_are v_is) h
+
+-- texts that stand for options, blank where there is none
+texts_of_options : (under : Bor (List ℕ)) (xs : List (Option (Bor (List ℕ)))) → under.now ≡ []
+    → lent_texts (map (λ o. unwrap_or o under) xs) ≡ map option_text xs
+texts_of_options under [] blank = refl
+texts_of_options under (Some t ∷ xs) blank = ap (λ ts. t.now ∷ ts) (texts_of_options under xs blank)
+texts_of_options under (None ∷ xs) blank = λ i. blank i ∷ texts_of_options under xs blank i
+
+module _ (under : Bor (List ℕ)) (xs : List (Option (Bor (List ℕ)))) (vs : List (Bor (List ℕ)))
+    (v : ValidityView) (blank : under.now ≡ []) (vs_are : vs ≡ map (λ o. unwrap_or o under) xs)
+    (v_is : v ≡ option_validity xs) where
+  same_texts : lent_texts vs ≡ map option_text xs
+  same_texts = ap lent_texts vs_are ∙ texts_of_options under xs blank
+
+  value_at : (i : ℕ) → i < length xs
+      → text (slice_index_or (map option_text xs) i [])
+      ≡ text (unwrap_or (slice_index_or xs i None) under).now
+  value_at i h =
+      ap text (ap (λ ts. slice_index_or ts i []) (sym (texts_of_options under xs blank))
+      ∙ get_or-map (λ (t : Bor (List ℕ)). t.now) (map (λ o. unwrap_or o under) xs) i under []
+      (omega (arith, length-map xs (λ o. unwrap_or o under), h))
+      ∙ ap (λ (t : Bor (List ℕ)). t.now) (get_or-map (λ o. unwrap_or o under) xs i None under h))
+
+  texts_are : text_rows (lent_texts vs) v ≡ optional_texts xs
+  texts_are =
+      (λ i. text_rows (same_texts i) (v_is i))
+      ∙ made_of_options (λ (t : Bor (List ℕ)). text t.now) under xs _ _ (length-map xs option_text)
+      value_at (text_type true)
+
+  pub answers_texts : (r : Result ColumnView VortexError)
+      → AnswersWhere r (MakeLentTexts vs v) (λ c. c ≡ text_rows (lent_texts vs) v) InvalidColumn
+      → AnswersWhere r (HaveRoom (map option_text xs)) (λ c. c ≡ optional_texts xs) InvalidColumn
+  answers_texts r h =
+      Answers-weaker r (λ c. MakeLentTexts vs v × (c ≡ text_rows (lent_texts vs) v))
+      (λ c. HaveRoom (map option_text xs) × (c ≡ optional_texts xs))
+      (λ e. (¬ (MakeLentTexts vs v)) × (e ≡ InvalidColumn))
+      (λ e. (¬ (HaveRoom (map option_text xs))) × (e ≡ InvalidColumn))
+      (λ c p. (subst HaveRoom same_texts p.0.1, p.1 ∙ texts_are))
+      (λ e p. (
+        λ room. p.0 (
+          fits_options xs vs v (ap length vs_are ∙ length-map xs (λ o. unwrap_or o under))
+              v_is,
+          subst HaveRoom (sym same_texts) room,
+        ),
+        p.1,
+      )) h

@@ -1,4 +1,5 @@
 -- What the constructors of columns take, and the columns that they make.
+use Rattle.std.specs.Borrow.{Bor}
 use Rattle.std.specs.Prelude.{◌≡◌, ℕ, ◌*◌, ℤ, pos, List, [], map, length}
 use Rattle.std.specs.Prelude.{◌<◌, true, IsUtf8, String, string_bytes, Vec, slice_index, slice_index_or}
 use Rattle.std.specs.declared.alloc.Global.{Global}
@@ -39,6 +40,13 @@ texts_of ts = map string_bytes ts
 
 abbrev pub MakeTexts : List (String Global) → ValidityView → Type 0
 MakeTexts ts v = FitsRows v (length ts) × HaveRoom (texts_of ts)
+
+-- texts that lie elsewhere
+abbrev pub lent_texts : List (Bor (List ℕ)) → List (List ℕ)
+lent_texts ts = map (λ t. t.now) ts
+
+abbrev pub MakeLentTexts : List (Bor (List ℕ)) → ValidityView → Type 0
+MakeLentTexts ts v = FitsRows v (length ts) × HaveRoom (lent_texts ts)
 
 abbrev pub text_column : List (String Global) → ValidityView → ColumnView
 text_column ts v = text_rows (texts_of ts) v

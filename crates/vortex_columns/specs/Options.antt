@@ -1,8 +1,9 @@
 -- Columns of optional values: null where there is none.
-use Rattle.std.specs.Prelude.{ℤ, Bool, true, List, map, Option, Some, None, is_some}
+use Rattle.std.specs.Borrow.{Bor}
+use Rattle.std.specs.Prelude.{ℕ, ℤ, Bool, true, List, [], map, Option, Some, None, is_some}
 use Rattle.vortex_types.specs.declared.dtype.PType.{PType}
-use Rattle.vortex_types.specs.LogicalTypes.{LogicalType, bool_type, integer_type}
-use Rattle.vortex_types.specs.Values.{Value, null, truth, number}
+use Rattle.vortex_types.specs.LogicalTypes.{LogicalType, bool_type, integer_type, text_type}
+use Rattle.vortex_types.specs.Values.{Value, null, truth, number, text}
 use Rattle.vortex_columns.specs.ColumnView.{ColumnView}
 use Rattle.vortex_columns.specs.ValidityView.{array, ValidityView}
 
@@ -23,3 +24,11 @@ optional_bools = option_column (bool_type true) truth
 
 abbrev pub optional_ints : {A : Type 0} → PType → (A → ℤ) → List (Option A) → ColumnView
 optional_ints p f = option_column (integer_type p true) (λ x. number (f x))
+
+-- the bytes of a text, and none where there is none
+abbrev pub option_text : Option (Bor (List ℕ)) → List ℕ
+option_text (Some t) = t.now
+option_text None = []
+
+abbrev pub optional_texts : List (Option (Bor (List ℕ))) → ColumnView
+optional_texts = option_column (text_type true) (λ t. text t.now)

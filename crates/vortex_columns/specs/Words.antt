@@ -25,7 +25,7 @@ pub use Rattle.vortex_views.specs.Resolved.{values_in as values_among}
 pub use Rattle.vortex_columns.specs.Stored.{bool_column, MakeStructs, MakeLists}
 pub use Rattle.vortex_columns.specs.Made.{int_column, text_column, byte_string_column, text_rows}
 pub use Rattle.vortex_columns.specs.Made.{byte_string_rows, byte_strings_of, MakeTextRows}
-pub use Rattle.vortex_columns.specs.Made.{MakeTextViews, MakeByteStringViews}
+pub use Rattle.vortex_columns.specs.Made.{MakeTextViews, MakeByteStringViews, MakeLentTexts, lent_texts}
 pub use Rattle.vortex_columns.specs.Made.{struct_column, list_column, fixed_size_list_column}
 pub use Rattle.vortex_columns.specs.Made.{map_column, MakeTexts, MakeByteStrings, MakeMaps}
 pub use Rattle.vortex_columns.specs.Made.{MakeFixedSizeLists}

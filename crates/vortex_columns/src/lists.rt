@@ -23,6 +23,20 @@ pub(crate) fn are_texts(values: &BinaryViews, validity: &Validity) -> bool
     true
 }
 
+/// Tells that a text is UTF-8.
+fn learn_text(text: &str)
+    ensures { IsUtf8 text.now }
+{}
+
+/// Looks at each text, which is UTF-8.
+pub(crate) fn learn_texts(texts: &[&str])
+    ensures { All (λ t. IsUtf8 t.now) texts.now }
+{
+    for text in texts {
+        learn_text(text);
+    }
+}
+
 /// Looks at each value, whose bytes are below 256.
 pub(crate) fn learn_bytes(values: &BinaryViews)
     ensures { All (All (λ b. b < 256)) values.now }

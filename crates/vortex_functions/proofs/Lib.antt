@@ -14,3 +14,4 @@ pub mod CallWeights
 pub mod BoundTrees
 pub mod SameValues
 pub mod Identities
+pub mod Called

@@ -1,5 +1,8 @@
 -- Options are equal where they are the same, and a function that is the same as a shipped one is that one.
-use Rattle.std.proofs.Common.{◌≡◌, ℕ, List, Bool, true, false, ◌&&◌, refl, ap}
+use Rattle.std.proofs.Common.{◌≡◌, ℕ, List, Bool, true, false, ◌&&◌, Option, Some, None, refl, ap}
+use Rattle.std.proofs.Common.{nat_eq, eq-eqb}
+use Rattle.std.proofs.lemmas.Bool.{eqb-true}
+use Rattle.std.specs.Option.{option_eq}
 use Rattle.std.proofs.lemmas.Slice.Eq.{bytes_eq-Decides}
 use Rattle.std.specs.Str.{bytes_eq}
 use mathlib.Core.Bool.{beq}
@@ -62,16 +65,34 @@ flags_tell false false = (λ e. refl, λ e. refl)
 flags_tell true false = (λ e. cc, λ e. cc)
 flags_tell false true = (λ e. cc, λ e. cc)
 
+escapes_tell : (a b : Option ℕ) → Tells (option_eq nat_eq a b) (a ≡ b)
+escapes_tell None None = (λ e. refl, λ e. refl)
+escapes_tell (Some x) (Some y) = (λ e. ap Some (eqb-true x y e), λ e. eq-eqb x y (cc))
+escapes_tell None (Some y) = (λ e. cc, λ e. cc)
+escapes_tell (Some x) None = (λ e. cc, λ e. cc)
+
 pub likes_tell : (a b : LikeOptions) → Tells
-    (beq a.negated b.negated && beq a.case_insensitive b.case_insensitive) (a ≡ b)
+    (beq a.negated b.negated
+    && (beq a.case_insensitive b.case_insensitive && option_eq nat_eq a.escape b.escape))
+    (a ≡ b)
 likes_tell a b =
-    let both = tells_both (beq a.negated b.negated) (beq a.case_insensitive b.case_insensitive)
-    (a.negated ≡ b.negated) (a.case_insensitive ≡ b.case_insensitive)
-    (flags_tell a.negated b.negated) (flags_tell a.case_insensitive b.case_insensitive) in (
-      λ e. let h = both.0 e in λ i. record { negated = h.0 i; case_insensitive = h.1 i },
-      λ e. both.1 (
+    let last = tells_both (beq a.case_insensitive b.case_insensitive)
+    (option_eq nat_eq a.escape b.escape) (a.case_insensitive ≡ b.case_insensitive)
+    (a.escape ≡ b.escape) (flags_tell a.case_insensitive b.case_insensitive)
+    (escapes_tell a.escape b.escape) in
+    let all = tells_both (beq a.negated b.negated)
+    (beq a.case_insensitive b.case_insensitive && option_eq nat_eq a.escape b.escape)
+    (a.negated ≡ b.negated) ((a.case_insensitive ≡ b.case_insensitive) × (a.escape ≡ b.escape))
+    (flags_tell a.negated b.negated) last in (
+      λ e.
+          let h = all.0 e in
+          λ i. record { negated = h.0 i; case_insensitive = h.1.0 i; escape = h.1.1 i },
+      λ e. all.1 (
         ap (λ (o : LikeOptions). o.negated) e,
-        ap (λ (o : LikeOptions). o.case_insensitive) e,
+        (
+          ap (λ (o : LikeOptions). o.case_insensitive) e,
+          ap (λ (o : LikeOptions). o.escape) e,
+        ),
       ),
     )
 

@@ -1,12 +1,13 @@
 -- The function that a `ScalarFnRef` stands for.
-use Rattle.std.specs.Prelude.{Option, Some, None, Bool, true, false}
+use Rattle.std.specs.Prelude.{ℕ, Option, Some, None, Bool, true, false}
+use Rattle.std.specs.Option.{option_map}
 use Rattle.vortex_functions.specs.declared.erased.ScalarFnRef.{ScalarFnRef}
 use Rattle.vortex_functions.specs.declared.erased.ScalarFnRef.TheVariants as ref
 use Rattle.vortex_functions.specs.declared.typed.TypedScalarFnInstance.{TypedScalarFnInstance}
 use Rattle.vortex_operators.specs.declared.operators.Operator.{Operator}
 use Rattle.vortex_operators.specs.declared.between.BetweenOptions.{BetweenOptions}
 use Rattle.vortex_like.specs.declared.options.LikeOptions.{LikeOptions}
-use Rattle.vortex_meaning.specs.Shipped.{Binary, Not, IsNull, IsNotNull, Cast, Between, Like}
+use Rattle.vortex_meaning.specs.Shipped.{escaped, Binary, Not, IsNull, IsNotNull, Cast, Between, Like}
 use Rattle.vortex_meaning.specs.Functions.{Function, ours, custom}
 
 module _ {V O : Type 0} where
@@ -47,6 +48,11 @@ module _ {V O : Type 0} where
   abbrev pub like_in : ScalarFnRef V O → Option LikeOptions
   like_in (ref.Like options) = Some options
   like_in f = None
+
+  -- the same function with that escape; Like alone has one
+  abbrev pub escaped_function : Option ℕ → Function V O → Option (Function V O)
+  escaped_function escape (ours s) = option_map ours (escaped (Some escape) s)
+  escaped_function escape (custom f o) = None
 
   abbrev pub instance_in : ScalarFnRef V O → Option (TypedScalarFnInstance V O)
   instance_in (ref.Custom f) = Some f

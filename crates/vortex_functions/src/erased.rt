@@ -99,7 +99,8 @@ pub struct ScalarFnSignature {
 impl<C: ScalarFnVTable> ScalarFnRef<C> {
     ghost use Rattle.std.specs.Option.{option_copied, option_map};
     ghost use Rattle.vortex_meaning.specs.Functions.{ours};
-    ghost use Rattle.vortex_meaning.specs.Shipped.{shipped_named};
+    ghost use Rattle.vortex_meaning.specs.Shipped.{shipped_named, shipped_called};
+    ghost use Rattle.vortex_functions.specs.FunctionOf.{escaped_function};
     ghost use Rattle.vortex_functions.specs.FunctionOf.{operator_in, between_in, like_in, instance_in};
     ghost use Rattle.vortex_functions.specs.FunctionOf.{is_not, is_is_null, is_is_not_null, is_cast};
 
@@ -323,6 +324,31 @@ impl<C: ScalarFnVTable> ScalarFnRef<C> {
             return Some(Like.bind(options));
         }
         None
+    }
+
+    /// The same function with that escape, which Like alone has.
+    fn with_escape(self, escape: Option<char>) -> Option<ScalarFnRef<C>>
+        ensures { option_map function_of result ≡ escaped_function escape (function_of self) }
+    {
+        match self {
+            ScalarFnRef::Like(options) => Some(ScalarFnRef::Like(LikeOptions {
+                escape,
+                ..options
+            })),
+            _ => None,
+        }
+    }
+
+    /// The shipped function that a script calls: the one of that name, with the escape that is said of it where one is.
+    pub fn called(word: &str, escape: Option<Option<char>>) -> Option<ScalarFnRef<C>>
+        ensures { option_map function_of result
+            ≡ option_map ours (shipped_called word.now escape) }
+    {
+        let function = ScalarFnRef::<C>::named(word)?;
+        match escape {
+            Some(escape) => function.with_escape(escape),
+            None => Some(function),
+        }
     }
 
     /// A copy that equals its source.

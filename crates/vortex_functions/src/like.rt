@@ -8,7 +8,7 @@ use vortex_interface::ScalarFnVTable;
 use vortex_like::LikeOptions;
 use vortex_shipped::Like;
 
-/// The options that a word of a script names: `like`, `not_like`, `ilike`, `not_ilike`.
+/// The options that a word of a script names: `like`, `not_like`, `ilike`, `not_ilike`, each with backslash escape.
 fn like_named(word: &str) -> Option<LikeOptions>
     ensures { result ≡ like_named word.now }
 {
@@ -26,6 +26,7 @@ fn like_named(word: &str) -> Option<LikeOptions>
     Some(LikeOptions {
         negated,
         case_insensitive,
+        escape: Some('\\'),
     })
 }
 

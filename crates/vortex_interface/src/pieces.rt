@@ -1,6 +1,6 @@
 //! The text of a call as a list of pieces, so that a tree is written from left to right, each byte once.
 ghost use Rattle.std.specs.Prelude.{◌≡◌, ◌<◌, List, Some, length, map, slice_get, string_bytes};
-ghost use Rattle.vortex_interface.specs.Words.{AnswersUnlessMemory, Appends, Piece, told, piece_of, piece_text, unary_pieces};
+ghost use Rattle.vortex_interface.specs.Words.{AnswersUnlessMemory, Appends, Piece, told, piece_of, piece_text, text_at, unary_pieces};
 
 use vortex_columns::VortexResult;
 
@@ -9,6 +9,8 @@ use vortex_columns::VortexResult;
 pub enum TextPiece {
     /// What the function itself says.
     Said(&'static str),
+    /// A character of the function's options, as it stands.
+    Character(char),
     /// The text of the argument of that place.
     Argument(usize),
 }
@@ -42,16 +44,25 @@ pub fn unary_piece(name: &'static str, end: &'static str, index: usize) -> TextP
     }
 }
 
-/// What a piece says, by the texts of the arguments.
-fn text_said(piece: TextPiece, children: &[String]) -> &str
-    ensures { result.now ≡ piece_text (piece_of piece) (map string_bytes children.now) }
+/// The text of the argument of that place, where there is one.
+fn argument_text(place: usize, children: &[String]) -> &str
+    ensures { result.now ≡ text_at place (map string_bytes children.now) }
+{
+    match children.get(place) {
+        Some(text) => text.as_str(),
+        None => "",
+    }
+}
+
+/// Writes what a piece says, by the texts of the arguments.
+fn write_piece(out: &mut String, piece: TextPiece, children: &[String]) -> VortexResult<()>
+    ensures { AnswersUnlessMemory result (λ _. Appends out.old
+        (piece_text (piece_of piece) (map string_bytes children.now)) out.new) }
 {
     match piece {
-        TextPiece::Said(text) => text,
-        TextPiece::Argument(place) => match children.get(place) {
-            Some(text) => text.as_str(),
-            None => "",
-        },
+        TextPiece::Said(text) => Ok(out.push_str(text)?),
+        TextPiece::Character(c) => Ok(out.push(c)?),
+        TextPiece::Argument(place) => Ok(out.push_str(argument_text(place, children))?),
     }
 }
 
@@ -66,7 +77,7 @@ pub fn write_pieces<O, F: TextPieces<O>>(
         (λ _. Appends out.old (told (F.pieces options.now) (map string_bytes children.now)) out.new) }
 {
     for index in 0..function.piece_count(options) {
-        out.push_str(text_said(function.text_piece(options, index), children))?;
+        write_piece(out, function.text_piece(options, index), children)?;
     }
     Ok(())
 }

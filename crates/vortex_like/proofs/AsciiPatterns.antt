@@ -1,6 +1,6 @@
 -- Which patterns are ASCII, and their forms past case.
 use Rattle.std.proofs.Common.{◌≡◌, ℕ, zero, suc, ◌<◌, Bool, true, false, List, [], ◌∷◌, get_or, refl, sym}
-use Rattle.std.proofs.Common.{ap, subst, ◌∙◌, arith}
+use Rattle.std.proofs.Common.{Option, ap, subst, ◌∙◌, arith}
 use Rattle.std.specs.Prelude.{IsUtf8, Result, nat_lt}
 use Rattle.std.specs.Str.{chars, IsAscii, IsNotAscii}
 use Rattle.std.proofs.lemmas.Bool.{and_from, and_parts, lt-ltb, ltb-true, false_from_ne_true}
@@ -36,29 +36,29 @@ no_ascii_pattern bytes u h =
     let here : get_or bytes h.0 0 < 128 = subst (λ (bs : List ℕ). get_or bs h.0 0 < 128) same (low h.0) in
     omega (arith, h.1))
 
-pub ascii_form : (pattern : List ℕ) (folds ascii : Bool) → folds ≡ true → ascii ≡ true
-    → is_ascii pattern ≡ true → form_of pattern folds ascii ≡ folded_form (plain_form pattern)
-ascii_form pattern true true e f g = rw g refl
-ascii_form pattern false ascii e f g = cc
-ascii_form pattern true false e f g = cc
+pub ascii_form : (escape : Option ℕ) (pattern : List ℕ) (folds ascii : Bool) → folds ≡ true → ascii ≡ true
+    → is_ascii pattern ≡ true → form_of escape pattern folds ascii ≡ folded_form (plain_form escape pattern)
+ascii_form escape pattern true true e f g = rw g refl
+ascii_form escape pattern false ascii e f g = cc
+ascii_form escape pattern true false e f g = cc
 
-pub form_no_ascii : (pattern : List ℕ) (folds ascii : Bool) → folds ≡ true
-    → is_ascii pattern ≡ false → form_of pattern folds ascii ≡ Tokens
-form_no_ascii pattern true true e g = rw g refl
-form_no_ascii pattern true false e g = refl
-form_no_ascii pattern false ascii e g = cc
+pub form_no_ascii : (escape : Option ℕ) (pattern : List ℕ) (folds ascii : Bool) → folds ≡ true
+    → is_ascii pattern ≡ false → form_of escape pattern folds ascii ≡ Tokens
+form_no_ascii escape pattern true true e g = rw g refl
+form_no_ascii escape pattern true false e g = refl
+form_no_ascii escape pattern false ascii e g = cc
 
-pub form_no_promise : (pattern : List ℕ) (folds ascii : Bool) → folds ≡ true → ascii ≡ false
-    → form_of pattern folds ascii ≡ Tokens
-form_no_promise pattern true false e f = refl
-form_no_promise pattern true true e f = cc
-form_no_promise pattern false ascii e f = cc
+pub form_no_promise : (escape : Option ℕ) (pattern : List ℕ) (folds ascii : Bool) → folds ≡ true → ascii ≡ false
+    → form_of escape pattern folds ascii ≡ Tokens
+form_no_promise escape pattern true false e f = refl
+form_no_promise escape pattern true true e f = cc
+form_no_promise escape pattern false ascii e f = cc
 
 -- a test of that form
-pub test_as : (result : Result FormTest VortexError) (pattern : List ℕ) (folds : Bool)
+pub test_as : (result : Result FormTest VortexError) (escape : Option ℕ) (pattern : List ℕ) (folds : Bool)
     (form form' : LikeForm) → folds ≡ true → form' ≡ form
-    → AnswersUnlessMemory result (IsTestOf pattern true form)
-    → AnswersUnlessMemory result (IsTestOf pattern folds form')
-test_as result pattern folds form form' e f h =
-    subst (λ (b : Bool). AnswersUnlessMemory result (IsTestOf pattern b form')) (sym e)
-    (subst (λ (g : LikeForm). AnswersUnlessMemory result (IsTestOf pattern true g)) (sym f) h)
+    → AnswersUnlessMemory result (IsTestOf escape pattern true form)
+    → AnswersUnlessMemory result (IsTestOf escape pattern folds form')
+test_as result escape pattern folds form form' e f h =
+    subst (λ (b : Bool). AnswersUnlessMemory result (IsTestOf escape pattern b form')) (sym e)
+    (subst (λ (g : LikeForm). AnswersUnlessMemory result (IsTestOf escape pattern true g)) (sym f) h)

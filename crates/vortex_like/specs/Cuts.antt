@@ -1,28 +1,29 @@
 -- A pattern that is cut before its first special character.
 use Rattle.std.specs.Prelude.{◌≡◌, ◌||◌, ◌==◌, ℕ, Bool, true, false, List, [], ◌∷◌, ◌++◌}
-use Rattle.std.specs.Prelude.{IsUtf8}
+use Rattle.std.specs.Prelude.{IsUtf8, Option}
 use Rattle.std.specs.List.{list_any}
 use Rattle.std.specs.Str.{chars}
-use Rattle.vortex_like.specs.Tokens.{percent, underscore, backslash}
+use Rattle.vortex_like.specs.Tokens.{percent, underscore, is_escape}
 use Rattle.vortex_like.specs.declared.cuts.Cut.{Cut}
 
-abbrev pub is_special : ℕ → Bool
-is_special c = c == backslash || (c == percent || c == underscore)
+-- a wildcard, or what escapes one
+abbrev pub is_special : Option ℕ → ℕ → Bool
+is_special escape c = is_escape escape c || (c == percent || c == underscore)
 
 -- nothing, or a text that begins with a special character
-abbrev pub StartsSpecial : List ℕ → Type 0
-StartsSpecial [] = Unit {0}
-StartsSpecial (c ∷ rest) = is_special c ≡ true
+abbrev pub StartsSpecial : Option ℕ → List ℕ → Type 0
+StartsSpecial escape [] = Unit {0}
+StartsSpecial escape (c ∷ rest) = is_special escape c ≡ true
 
 -- the bytes that are left of a pattern, behind a text with no special character
-pub record IsPassed (pattern rest : List ℕ) : Type 0 where
+pub record IsPassed (escape : Option ℕ) (pattern rest : List ℕ) : Type 0 where
   pub front : List ℕ
   pub utf8 : IsUtf8 front
   pub split : pattern ≡ front ++ rest
-  pub plain : list_any is_special (chars front) ≡ false
+  pub plain : list_any (is_special escape) (chars front) ≡ false
 
 -- cut in a part with no special character and what begins with one, by their characters
-pub record IsCutOf (pattern : List ℕ) (cut : Cut) : Type 0 where
+pub record IsCutOf (escape : Option ℕ) (pattern : List ℕ) (cut : Cut) : Type 0 where
   pub split : pattern ≡ chars cut.front.now ++ chars cut.rest.now
-  pub plain : list_any is_special (chars cut.front.now) ≡ false
-  pub special : StartsSpecial (chars cut.rest.now)
+  pub plain : list_any (is_special escape) (chars cut.front.now) ≡ false
+  pub special : StartsSpecial escape (chars cut.rest.now)

@@ -1,5 +1,5 @@
 -- What is seen of the test that a pattern is compiled to.
-use Rattle.std.specs.Prelude.{◌≡◌, ℕ, Bool, true, false, List, string_bytes}
+use Rattle.std.specs.Prelude.{◌≡◌, ℕ, Bool, true, false, List, string_bytes, Option}
 use Rattle.std.specs.Str.{chars}
 use Rattle.vortex_like.specs.Tokens.{Token, tokens_of}
 use Rattle.vortex_like.specs.Shapes.{whole_tokens, front_tokens, end_tokens, inside_tokens}
@@ -47,9 +47,9 @@ is_ascii_form form.IStartsWithAscii = true
 is_ascii_form form.IEndsWithAscii = true
 is_ascii_form f = false
 
--- the test of a pattern, past case or not, of that form
-pub record IsTestOf (pattern : List ℕ) (past_case : Bool) (f : LikeForm) (t : FormTest)
-    : Type 0 where
-  pub tokens : test_tokens t ≡ tokens_of pattern
+-- the test of a pattern with that escape, past case or not, of that form
+pub record IsTestOf (escape : Option ℕ) (pattern : List ℕ) (past_case : Bool) (f : LikeForm)
+    (t : FormTest) : Type 0 where
+  pub tokens : test_tokens t ≡ tokens_of escape pattern
   pub folds : test_folds t ≡ past_case
   pub form : test_form t ≡ f

@@ -1,6 +1,13 @@
 -- The printed texts of options.
-use Rattle.std.specs.Prelude.{ℕ, List, Bool, true, false, codes}
+use Rattle.std.specs.Prelude.{ℕ, List, [], Bool, true, false, codes, ◌++◌, ◌==◌, encode_utf8}
+use Rattle.std.specs.Prelude.{Option, Some, None, if◌then◌else◌}
+use Rattle.vortex_like.specs.Tokens.{backslash}
 use Rattle.vortex_like.specs.declared.options.LikeOptions.{LikeOptions}
+
+-- not turned over, not past case, and with backslash escape
+abbrev pub default_options : LikeOptions
+default_options =
+    record { negated = false; case_insensitive = false; escape = Some backslash }
 
 abbrev pub like_text : Bool → Bool → List ℕ
 like_text false false = codes "LIKE"
@@ -8,5 +15,12 @@ like_text true false = codes "NOT LIKE"
 like_text false true = codes "ILIKE"
 like_text true true = codes "NOT ILIKE"
 
+-- the escape is told unless it is the backslash: between quotes as it stands, or none there
+abbrev pub escape_text : Option ℕ → List ℕ
+escape_text None = codes " ESCAPE ''"
+escape_text (Some e) =
+    if e == backslash then [] else codes " ESCAPE '" ++ encode_utf8 e ++ codes "'"
+
 abbrev pub options_text : LikeOptions → List ℕ
-options_text options = like_text options.negated options.case_insensitive
+options_text options =
+    like_text options.negated options.case_insensitive ++ escape_text options.escape

@@ -1,5 +1,5 @@
 -- What is seen of a pattern, and what LIKE says of two values.
-use Rattle.std.specs.Prelude.{ℕ, List, Bool, not, if◌then◌else◌}
+use Rattle.std.specs.Prelude.{ℕ, List, Bool, not, if◌then◌else◌, Option}
 use Rattle.std.specs.Str.{chars}
 use Rattle.vortex_types.specs.Values.{Value, null, truth, text}
 use Rattle.vortex_like.specs.declared.options.LikeOptions.{LikeOptions}
@@ -15,20 +15,21 @@ pub record PatternView : Type 0 where
   pub ascii_haystack : Bool
   pub form : LikeForm
 
--- the pattern of these bytes
-abbrev pub pattern_of : List ℕ → Bool → Bool → PatternView
-pattern_of bytes case_insensitive ascii_haystack =
+-- the pattern of these bytes with that escape
+abbrev pub pattern_of : Option ℕ → List ℕ → Bool → Bool → PatternView
+pattern_of escape bytes case_insensitive ascii_haystack =
     record {
-      tokens = tokens_of (chars bytes);
+      tokens = tokens_of escape (chars bytes);
       case_insensitive = case_insensitive;
       ascii_haystack = ascii_haystack;
-      form = form_of (chars bytes) case_insensitive ascii_haystack;
+      form = form_of escape (chars bytes) case_insensitive ascii_haystack;
     }
 
 -- what LIKE says of a text and a pattern, by their bytes
 abbrev pub like : LikeOptions → List ℕ → List ℕ → Bool
 like options bytes pattern =
-    let found = is_match options.case_insensitive (tokens_of (chars pattern)) (chars bytes) in
+    let tokens = tokens_of options.escape (chars pattern) in
+    let found = is_match options.case_insensitive tokens (chars bytes) in
     if options.negated then not found else found
 
 -- null if either value is null

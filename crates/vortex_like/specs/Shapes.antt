@@ -1,5 +1,5 @@
 -- The shapes of patterns that have a literal part.
-use Rattle.std.specs.Prelude.{◌≡◌, ℕ, true, false, List, [], ◌∷◌, ◌++◌, map}
+use Rattle.std.specs.Prelude.{◌≡◌, ℕ, true, false, List, [], ◌∷◌, ◌++◌, map, Option}
 use Rattle.std.specs.Str.{chars}
 use Rattle.vortex_like.specs.Tokens.{Token, any, character, tokens_of}
 use Rattle.vortex_like.specs.Forms.{is_literal, is_literal_then_percent, is_percent_then, plain_form}
@@ -29,38 +29,38 @@ abbrev pub inside_tokens : List ℕ → List Token
 inside_tokens literal = any ∷ (map character literal ++ any ∷ [])
 
 -- what the shape says of the tokens of a pattern
-abbrev pub HasShapeTokens : List ℕ → Shape → Type 0
-HasShapeTokens pattern (Whole literal) = tokens_of pattern ≡ whole_tokens (chars literal.now)
-HasShapeTokens pattern (Front literal) = tokens_of pattern ≡ front_tokens (chars literal.now)
-HasShapeTokens pattern (End literal) = tokens_of pattern ≡ end_tokens (chars literal.now)
-HasShapeTokens pattern (Inside literal) = tokens_of pattern ≡ inside_tokens (chars literal.now)
-HasShapeTokens pattern Other = Unit {0}
+abbrev pub HasShapeTokens : Option ℕ → List ℕ → Shape → Type 0
+HasShapeTokens escape pattern (Whole literal) = tokens_of escape pattern ≡ whole_tokens (chars literal.now)
+HasShapeTokens escape pattern (Front literal) = tokens_of escape pattern ≡ front_tokens (chars literal.now)
+HasShapeTokens escape pattern (End literal) = tokens_of escape pattern ≡ end_tokens (chars literal.now)
+HasShapeTokens escape pattern (Inside literal) = tokens_of escape pattern ≡ inside_tokens (chars literal.now)
+HasShapeTokens escape pattern Other = Unit {0}
 
 -- the shape is that of a literal part or of one and `%`, and Other of what is neither
-abbrev pub IsFrontOf : List ℕ → Shape → Type 0
-IsFrontOf pattern (Whole literal) =
-    (is_literal pattern ≡ true) × HasShapeTokens pattern (Whole literal)
-IsFrontOf pattern (Front literal) =
-    (is_literal pattern ≡ false) × (is_literal_then_percent pattern ≡ true)
-    × HasShapeTokens pattern (Front literal)
-IsFrontOf pattern Other =
-    (is_literal pattern ≡ false) × (is_literal_then_percent pattern ≡ false)
-IsFrontOf pattern shape = ⊥
+abbrev pub IsFrontOf : Option ℕ → List ℕ → Shape → Type 0
+IsFrontOf escape pattern (Whole literal) =
+    (is_literal escape pattern ≡ true) × HasShapeTokens escape pattern (Whole literal)
+IsFrontOf escape pattern (Front literal) =
+    (is_literal escape pattern ≡ false) × (is_literal_then_percent escape pattern ≡ true)
+    × HasShapeTokens escape pattern (Front literal)
+IsFrontOf escape pattern Other =
+    (is_literal escape pattern ≡ false) × (is_literal_then_percent escape pattern ≡ false)
+IsFrontOf escape pattern shape = ⊥
 
 -- the same of `%` and such a pattern
-abbrev pub IsPercentOf : List ℕ → Shape → Type 0
-IsPercentOf pattern (End literal) =
-    (is_percent_then is_literal pattern ≡ true) × HasShapeTokens pattern (End literal)
-IsPercentOf pattern (Inside literal) =
-    (is_percent_then is_literal pattern ≡ false)
-    × (is_percent_then is_literal_then_percent pattern ≡ true)
-    × HasShapeTokens pattern (Inside literal)
-IsPercentOf pattern Other =
-    (is_percent_then is_literal pattern ≡ false)
-    × (is_percent_then is_literal_then_percent pattern ≡ false)
-IsPercentOf pattern shape = ⊥
+abbrev pub IsPercentOf : Option ℕ → List ℕ → Shape → Type 0
+IsPercentOf escape pattern (End literal) =
+    (is_percent_then is_literal escape pattern ≡ true) × HasShapeTokens escape pattern (End literal)
+IsPercentOf escape pattern (Inside literal) =
+    (is_percent_then is_literal escape pattern ≡ false)
+    × (is_percent_then is_literal_then_percent escape pattern ≡ true)
+    × HasShapeTokens escape pattern (Inside literal)
+IsPercentOf escape pattern Other =
+    (is_percent_then is_literal escape pattern ≡ false)
+    × (is_percent_then is_literal_then_percent escape pattern ≡ false)
+IsPercentOf escape pattern shape = ⊥
 
 -- the first shape that fits
-pub record IsShapeOf (pattern : List ℕ) (shape : Shape) : Type 0 where
-  pub form : plain_form pattern ≡ shape_form shape
-  pub tokens : HasShapeTokens pattern shape
+pub record IsShapeOf (escape : Option ℕ) (pattern : List ℕ) (shape : Shape) : Type 0 where
+  pub form : plain_form escape pattern ≡ shape_form shape
+  pub tokens : HasShapeTokens escape pattern shape

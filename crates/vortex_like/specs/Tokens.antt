@@ -1,7 +1,7 @@
--- The tokens of a LIKE pattern, and which texts they match: SQL LIKE with backslash escape, and
--- under ILIKE Unicode's simple case folding, one character at a time.
+-- The tokens of a LIKE pattern, and which texts they match: SQL's LIKE with a chosen escape or none,
+-- and under ILIKE Unicode's simple case folding, one character at a time.
 use Rattle.std.specs.Prelude.{ℕ, Bool, true, false, ◌==◌, ◌≡◌, ◌&&◌, List, [], ◌∷◌, ◌++◌}
-use Rattle.std.specs.Prelude.{◌↔◌, IsTrue, if◌then◌else◌}
+use Rattle.std.specs.Prelude.{◌↔◌, IsTrue, if◌then◌else◌, Option, Some, None}
 use Rattle.std.specs.List.{list_any}
 use Rattle.unicode.specs.CaseFolding.{simple_fold}
 
@@ -11,7 +11,7 @@ pub data Token : Type 0 where
   one : Token
   character : ℕ → Token
 
--- `%`, `_` and the backslash, which escapes the character behind it
+-- `%`, `_` and the backslash, which is the escape where no other is chosen
 abbrev pub percent : ℕ
 percent = 37
 
@@ -21,17 +21,27 @@ underscore = 95
 abbrev pub backslash : ℕ
 backslash = 92
 
+-- whether a character escapes the one behind it
+abbrev pub is_escape : Option ℕ → ℕ → Bool
+is_escape None c = false
+is_escape (Some e) c = c == e
+
 -- the token of a character that is not escaped and escapes none
 abbrev pub plain_token : ℕ → Token
 plain_token c =
     if c == percent then any else if c == underscore then one else character c
 
--- the tokens of a pattern, by its characters: a backslash at the end stands for itself
-abbrev pub tokens_of : List ℕ → List Token
-tokens_of [] = []
-tokens_of (c ∷ []) = plain_token c ∷ []
-tokens_of (c ∷ d ∷ rest) =
-    if c == backslash then character d ∷ tokens_of rest else plain_token c ∷ tokens_of (d ∷ rest)
+-- the token of the last character of a pattern: an escape there stands for itself
+abbrev pub last_token : Option ℕ → ℕ → Token
+last_token escape c = if is_escape escape c then character c else plain_token c
+
+-- the tokens of a pattern, by its characters. A wildcard may be the escape, and is then none.
+abbrev pub tokens_of : Option ℕ → List ℕ → List Token
+tokens_of escape [] = []
+tokens_of escape (c ∷ []) = last_token escape c ∷ []
+tokens_of escape (c ∷ d ∷ rest) =
+    if is_escape escape c then character d ∷ tokens_of escape rest
+    else plain_token c ∷ tokens_of escape (d ∷ rest)
 
 abbrev pub is_any : Token → Bool
 is_any any = true

@@ -8,7 +8,7 @@ pub use Rattle.vortex_like.specs.AsciiFolds.{AreAsciiFolds, folded}
 pub use Rattle.vortex_like.specs.Backs.{IsLast, IsFurther}
 pub use Rattle.vortex_like.specs.Cuts.{is_special, IsPassed, StartsSpecial, IsCutOf}
 pub use Rattle.vortex_like.specs.EachPattern.{IsCompiled, AreBothValid}
-pub use Rattle.vortex_like.specs.Forms.{form_of, plain_form, folded_form}
+pub use Rattle.vortex_like.specs.Forms.{form_of, plain_form, folded_form, is_percent}
 pub use Rattle.vortex_like.specs.FormTests.{test_form, test_tokens, test_folds, is_ascii_form}
 pub use Rattle.vortex_like.specs.FormTests.{IsTestOf}
 pub use Rattle.vortex_like.specs.Shapes.{IsFrontOf, IsPercentOf, IsShapeOf}
@@ -22,6 +22,6 @@ pub use Rattle.vortex_like.specs.Symbols.{symbol_token}
 pub use Rattle.vortex_like.specs.TextRows.{texts_of, text_at, IsTextOf, AreTexts, AreAscii}
 pub use Rattle.vortex_like.specs.TextRows.{IsTextColumn}
 pub use Rattle.vortex_like.specs.Tokens.{any, one, character, is_any, accepts, plain_token}
-pub use Rattle.vortex_like.specs.Tokens.{tokens_of, Match, is_match, TestDecidesMatch}
+pub use Rattle.vortex_like.specs.Tokens.{is_escape, backslash, tokens_of, Match, is_match, TestDecidesMatch}
 pub use Rattle.vortex_like.specs.UnescapedTexts.{IsUnescaped}
 pub use Rattle.vortex_like.specs.Variants.{is_wildcard, meets_escape, IsVariantOf, TellsMatches}

@@ -1,7 +1,7 @@
 //! Texts, one character at a time.
 ghost use Rattle.std.specs.Prelude.{◌≡◌, ◌<◌, [], ◌∷◌, ◌++◌, length, MatchOption, encode_utf8};
 ghost use Rattle.std.specs.Str.{chars};
-ghost use Rattle.vortex_like.specs.Words.{tokens_of, symbol_token};
+ghost use Rattle.vortex_like.specs.Words.{is_escape, tokens_of, symbol_token};
 
 /// The first character of a text, and the text behind it.
 pub(crate) fn split_first(text: &str) -> Option<(char, &str)>
@@ -18,21 +18,31 @@ pub(crate) fn split_first(text: &str) -> Option<(char, &str)>
 /// A character of a pattern, as it is read.
 #[derive(Clone, Copy)]
 pub(crate) enum Symbol {
-    /// It stands behind a backslash.
+    /// It stands behind an escape, or is one at the end.
     Escaped(char),
     Plain(char),
 }
 
+/// Whether a character escapes the one behind it.
+pub(crate) fn is_escape(escape: Option<char>, c: char) -> bool
+    ensures { result ≡ is_escape escape c }
+{
+    match escape {
+        Some(own) => c == own,
+        None => false,
+    }
+}
+
 /// The first character of a pattern, by what it stands for, and the pattern behind it.
-pub(crate) fn first_symbol(pattern: &str) -> Option<(Symbol, &str)>
+pub(crate) fn first_symbol(pattern: &str, escape: Option<char>) -> Option<(Symbol, &str)>
     ensures token { MatchOption result (chars pattern.now ≡ [])
-        (λ parts. tokens_of (chars pattern.now)
-        ≡ symbol_token parts.0 ∷ tokens_of (chars parts.1.now)) }
+        (λ parts. tokens_of escape (chars pattern.now)
+        ≡ symbol_token parts.0 ∷ tokens_of escape (chars parts.1.now)) }
     ensures falls { MatchOption result (chars pattern.now ≡ [])
         (λ parts. length (chars parts.1.now) < length (chars pattern.now)) }
 {
     let (c, after) = split_first(pattern)?;
-    if c != '\\' {
+    if !is_escape(escape, c) {
         return Some((Symbol::Plain(c), after));
     }
     match split_first(after) {

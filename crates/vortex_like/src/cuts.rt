@@ -3,13 +3,13 @@ ghost use Rattle.std.specs.Prelude.{◌≡◌};
 ghost use Rattle.std.specs.Str.{chars};
 ghost use Rattle.vortex_like.specs.Words.{is_special, IsPassed, StartsSpecial, IsCutOf};
 
-use crate::characters::split_first;
+use crate::characters::{is_escape, split_first};
 
 /// Whether a character is a wildcard or escapes one.
-fn is_special(c: char) -> bool
-    ensures { result ≡ is_special c }
+fn is_special(escape: Option<char>, c: char) -> bool
+    ensures { result ≡ is_special escape c }
 {
-    c == '\\' || (c == '%' || c == '_')
+    is_escape(escape, c) || (c == '%' || c == '_')
 }
 
 /// A pattern, cut before the first character that is special.
@@ -20,13 +20,13 @@ pub(crate) struct Cut<'a> {
 }
 
 /// What is left of a pattern from its first special character on.
-fn from_special(pattern: &str) -> &str
-    ensures passed { IsPassed pattern.now result.now }
-    ensures special { StartsSpecial (chars result.now) }
+fn from_special(pattern: &str, escape: Option<char>) -> &str
+    ensures passed { IsPassed escape pattern.now result.now }
+    ensures special { StartsSpecial escape (chars result.now) }
 {
     let mut rest = pattern;
     while let Some((c, behind)) = split_first(rest) {
-        if is_special(c) {
+        if is_special(escape, c) {
             return rest;
         }
         rest = behind;
@@ -35,10 +35,10 @@ fn from_special(pattern: &str) -> &str
 }
 
 /// The part of a pattern without special characters, and what is behind it.
-pub(crate) fn cut_at_special(pattern: &str) -> Cut<'_>
-    ensures { IsCutOf (chars pattern.now) result }
+pub(crate) fn cut_at_special(pattern: &str, escape: Option<char>) -> Cut<'_>
+    ensures { IsCutOf escape (chars pattern.now) result }
 {
-    let rest = from_special(pattern);
+    let rest = from_special(pattern, escape);
     let front = &pattern[..pattern.len() - rest.len()];
     Cut { front, rest }
 }

@@ -45,13 +45,13 @@ struct LastPattern {
 fn compiled(
     alloc: Global,
     text: &str,
-    case_insensitive: bool,
+    options: LikeOptions,
     ascii: bool,
 ) -> VortexResult<LastPattern>
-    ensures pattern { AnswersUnlessMemory result (IsCompiled case_insensitive ascii) }
+    ensures pattern { AnswersUnlessMemory result (IsCompiled options ascii) }
     ensures text { AnswersUnlessMemory result (λ last. string_bytes last.text ≡ text.now) }
 {
-    let pattern = LikePattern::compile(alloc, text, case_insensitive, ascii)?;
+    let pattern = LikePattern::compile_with(alloc, text, options, ascii)?;
     let text = String::from_str(alloc, text)?;
     Ok(LastPattern { text, pattern })
 }
@@ -61,19 +61,19 @@ fn turn_to(
     alloc: Global,
     last: &mut LastPattern,
     bytes: &[u8],
-    case_insensitive: bool,
+    options: LikeOptions,
     ascii: bool,
 ) -> VortexResult<()>
     requires utf8 { IsUtf8 bytes.now }
-    requires pattern { IsCompiled case_insensitive ascii last.old }
-    ensures pattern { AnswersUnlessMemory result (λ _. IsCompiled case_insensitive ascii last.new) }
+    requires pattern { IsCompiled options ascii last.old }
+    ensures pattern { AnswersUnlessMemory result (λ _. IsCompiled options ascii last.new) }
     ensures text { AnswersUnlessMemory result (λ _. string_bytes last.new.text ≡ bytes.now) }
 {
     if bytes == last.text.as_bytes() {
         return Ok(());
     }
     let text = unsafe { str::from_utf8_unchecked(bytes) };
-    *last = compiled(alloc, text, case_insensitive, ascii)?;
+    *last = compiled(alloc, text, options, ascii)?;
     Ok(())
 }
 
@@ -107,7 +107,7 @@ pub(crate) fn each_bits<R: RowTexts>(
 {
     let options = columns.options;
     let len = columns.texts.len();
-    let mut last = compiled(alloc, "", options.case_insensitive, columns.ascii)?;
+    let mut last = compiled(alloc, "", options, columns.ascii)?;
     let mut bits = Vec::with_capacity(alloc, len)?;
     for i in 0..len {
         if !columns.are_both_valid(i) {
@@ -115,13 +115,7 @@ pub(crate) fn each_bits<R: RowTexts>(
             continue;
         }
         let bytes = patterns.bytes(i);
-        turn_to(
-            alloc,
-            &mut last,
-            bytes,
-            options.case_insensitive,
-            columns.ascii,
-        )?;
+        turn_to(alloc, &mut last, bytes, options, columns.ascii)?;
         bits.push_reserved(said(&last, texts.bytes(i), options.negated));
     }
     BitBuffer::from_bools(alloc, bits.as_slice())

@@ -18,7 +18,7 @@ use vortex_columns::{BitBuffer, Column, ExecutionCtx, Scalar, VortexResult};
 fn like_once(alloc: Global, text: &str, pattern: &str, options: LikeOptions) -> VortexResult<bool>
     ensures { AnswersUnlessMemory result (λ b. b ≡ like options text.now pattern.now) }
 {
-    let pattern = LikePattern::compile(alloc, pattern, options.case_insensitive, false)?;
+    let pattern = LikePattern::compile_with(alloc, pattern, options, false)?;
     Ok(pattern.matches(text.as_bytes()) != options.negated)
 }
 
@@ -51,11 +51,12 @@ fn one_pattern_bits(
     requires { AreTexts column.now (texts_of texts) }
     ensures { AnswersUnlessMemory result (AreTold (length column.now.rows)
         (λ i b. IsSaid (λ bytes. is_match options.case_insensitive
-        (tokens_of (chars pattern.now)) (chars bytes)) options.negated (row column.now.rows i) b)) }
+        (tokens_of options.escape (chars pattern.now)) (chars bytes))
+        options.negated (row column.now.rows i) b)) }
 {
     let past_case = options.case_insensitive && pattern.is_ascii();
     let ascii = texts.fold_as_ascii(column, past_case);
-    let pattern = LikePattern::compile(alloc, pattern, options.case_insensitive, ascii)?;
+    let pattern = LikePattern::compile_with(alloc, pattern, options, ascii)?;
     pattern.matched_rows(alloc, column, texts, options.negated)
 }
 
@@ -158,8 +159,8 @@ fn like_rows(
     Column::try_bool(alloc, bits, validity)
 }
 
-/// Whether the text in each row matches the pattern in that row, turned over where negated: SQL's LIKE with backslash
-/// escape, and ILIKE by Unicode's simple case folding, one character at a time. Null if either is null. A column of Bool
+/// Whether the text in each row matches the pattern in that row, turned over where negated: SQL's LIKE with the
+/// options' escape, or none, and ILIKE by Unicode's simple case folding, one character at a time. Null if either is null. A column of Bool
 /// of as many rows, nullable if either column is.
 ///
 /// Refuses for memory alone (E9).

@@ -1,11 +1,13 @@
 //! The forms of patterns: how each is matched.
+ghost use Rattle.std.specs.Prelude.{◌≡◌};
 ghost use Rattle.std.specs.Str.{chars};
-ghost use Rattle.vortex_like.specs.Words.{IsFrontOf, IsPercentOf, IsShapeOf};
+ghost use Rattle.vortex_like.specs.Words.{is_percent, IsFrontOf, IsPercentOf, IsShapeOf};
 
-use crate::characters::split_first;
+use crate::characters::{is_escape, split_first};
 use crate::cuts::cut_at_special;
 
-/// How a pattern is matched. A literal part holds no `%`, `_` or backslash; a pattern has the first form that fits.
+/// How a pattern is matched. A literal part holds no `%`, no `_` and no escape; a pattern has the first form that fits. A `%`
+/// that is the escape is no `%` of a form.
 #[derive(Clone, Copy, Debug, PartialEq, Eq)]
 pub enum LikeForm {
     /// A literal part: that text alone.
@@ -36,15 +38,22 @@ pub(crate) enum Shape<'a> {
     Other,
 }
 
-/// The shape of a pattern that is a literal part, or one and `%`.
-fn front_shape(pattern: &str) -> Shape<'_>
-    ensures { IsFrontOf (chars pattern.now) result }
+/// Whether a character is a `%` that is not the escape.
+fn is_percent(escape: Option<char>, c: char) -> bool
+    ensures { result ≡ is_percent escape c }
 {
-    let cut = cut_at_special(pattern);
+    c == '%' && !is_escape(escape, c)
+}
+
+/// The shape of a pattern that is a literal part, or one and `%`.
+fn front_shape(pattern: &str, escape: Option<char>) -> Shape<'_>
+    ensures { IsFrontOf escape (chars pattern.now) result }
+{
+    let cut = cut_at_special(pattern, escape);
     match split_first(cut.rest) {
         None => Shape::Whole(cut.front),
         Some((c, behind)) => {
-            if c == '%' && behind.is_empty() {
+            if is_percent(escape, c) && behind.is_empty() {
                 Shape::Front(cut.front)
             } else {
                 Shape::Other
@@ -54,13 +63,16 @@ fn front_shape(pattern: &str) -> Shape<'_>
 }
 
 /// The shape of a pattern that is `%` and a literal part, or that and `%`.
-fn percent_shape(pattern: &str) -> Shape<'_>
-    ensures { IsPercentOf (chars pattern.now) result }
+fn percent_shape(pattern: &str, escape: Option<char>) -> Shape<'_>
+    ensures { IsPercentOf escape (chars pattern.now) result }
 {
-    let Some(('%', behind)) = split_first(pattern) else {
+    let Some((c, behind)) = split_first(pattern) else {
         return Shape::Other;
     };
-    match front_shape(behind) {
+    if !is_percent(escape, c) {
+        return Shape::Other;
+    }
+    match front_shape(behind, escape) {
         Shape::Whole(literal) => Shape::End(literal),
         Shape::Front(literal) => Shape::Inside(literal),
         _ => Shape::Other,
@@ -68,11 +80,11 @@ fn percent_shape(pattern: &str) -> Shape<'_>
 }
 
 /// The shape of a pattern: the first that fits.
-pub(crate) fn shape_of(pattern: &str) -> Shape<'_>
-    ensures { IsShapeOf (chars pattern.now) result }
+pub(crate) fn shape_of(pattern: &str, escape: Option<char>) -> Shape<'_>
+    ensures { IsShapeOf escape (chars pattern.now) result }
 {
-    match front_shape(pattern) {
-        Shape::Other => percent_shape(pattern),
+    match front_shape(pattern, escape) {
+        Shape::Other => percent_shape(pattern, escape),
         shape => shape,
     }
 }

@@ -28,11 +28,16 @@ pub(crate) enum FormTest {
 }
 
 /// The test of a pattern token by token.
-fn token_test(alloc: Global, pattern: &str, case_insensitive: bool) -> VortexResult<FormTest>
+fn token_test(
+    alloc: Global,
+    pattern: &str,
+    escape: Option<char>,
+    case_insensitive: bool,
+) -> VortexResult<FormTest>
     ensures { AnswersUnlessMemory result
-        (IsTestOf (chars pattern.now) case_insensitive LikeForm.Tokens) }
+        (IsTestOf escape (chars pattern.now) case_insensitive LikeForm.Tokens) }
 {
-    let tokens = tokens_of(alloc, pattern)?;
+    let tokens = tokens_of(alloc, pattern, escape)?;
     Ok(FormTest::Tokens(TokenTest {
         tokens,
         case_insensitive,
@@ -40,11 +45,11 @@ fn token_test(alloc: Global, pattern: &str, case_insensitive: bool) -> VortexRes
 }
 
 /// The test of a pattern without folding.
-fn plain_test(alloc: Global, pattern: &str) -> VortexResult<FormTest>
+fn plain_test(alloc: Global, pattern: &str, escape: Option<char>) -> VortexResult<FormTest>
     ensures { AnswersUnlessMemory result
-        (IsTestOf (chars pattern.now) false (plain_form (chars pattern.now))) }
+        (IsTestOf escape (chars pattern.now) false (plain_form escape (chars pattern.now))) }
 {
-    match shape_of(pattern) {
+    match shape_of(pattern, escape) {
         Shape::Whole(text) => {
             let literal = String::from_str(alloc, text)?;
             Ok(FormTest::Eq(WholeTest { literal }))
@@ -61,16 +66,17 @@ fn plain_test(alloc: Global, pattern: &str) -> VortexResult<FormTest>
             let literal = String::from_str(alloc, text)?;
             Ok(FormTest::Contains(InsideTest::new(literal)))
         }
-        Shape::Other => token_test(alloc, pattern, false),
+        Shape::Other => token_test(alloc, pattern, escape, false),
     }
 }
 
 /// The test of a pattern with folding, for ASCII texts.
-fn folded_test(alloc: Global, pattern: &str) -> VortexResult<FormTest>
+fn folded_test(alloc: Global, pattern: &str, escape: Option<char>) -> VortexResult<FormTest>
     ensures { AnswersUnlessMemory result
-        (IsTestOf (chars pattern.now) true (folded_form (plain_form (chars pattern.now)))) }
+        (IsTestOf escape (chars pattern.now) true
+        (folded_form (plain_form escape (chars pattern.now)))) }
 {
-    match shape_of(pattern) {
+    match shape_of(pattern, escape) {
         Shape::Whole(literal) => {
             let text = FoldedText::new(alloc, literal)?;
             Ok(FormTest::IEqAscii(FoldedWholeTest { text }))
@@ -83,7 +89,7 @@ fn folded_test(alloc: Global, pattern: &str) -> VortexResult<FormTest>
             let text = FoldedText::new(alloc, literal)?;
             Ok(FormTest::IEndsWithAscii(FoldedEndTest { text }))
         }
-        _ => token_test(alloc, pattern, true),
+        _ => token_test(alloc, pattern, escape, true),
     }
 }
 
@@ -91,19 +97,20 @@ fn folded_test(alloc: Global, pattern: &str) -> VortexResult<FormTest>
 pub(crate) fn form_test(
     alloc: Global,
     pattern: &str,
+    escape: Option<char>,
     case_insensitive: bool,
     ascii_haystack: bool,
 ) -> VortexResult<FormTest>
-    ensures { AnswersUnlessMemory result (IsTestOf (chars pattern.now) case_insensitive
-        (form_of (chars pattern.now) case_insensitive ascii_haystack)) }
+    ensures { AnswersUnlessMemory result (IsTestOf escape (chars pattern.now) case_insensitive
+        (form_of escape (chars pattern.now) case_insensitive ascii_haystack)) }
 {
     if !case_insensitive {
-        return plain_test(alloc, pattern);
+        return plain_test(alloc, pattern, escape);
     }
     if ascii_haystack && pattern.is_ascii() {
-        return folded_test(alloc, pattern);
+        return folded_test(alloc, pattern, escape);
     }
-    token_test(alloc, pattern, true)
+    token_test(alloc, pattern, escape, true)
 }
 
 impl FormTest {

@@ -2,14 +2,32 @@
 
 use std::fmt;
 
-/// Whether a LIKE is turned over, and whether it looks past case. By default neither.
-#[derive(Clone, Copy, Debug, Default, PartialEq, Eq, Hash)]
+/// Whether a LIKE is turned over, whether it looks past case, and which character escapes the one behind it in a pattern, if
+/// any does. By default neither, and the backslash.
+#[derive(Clone, Copy, Debug, PartialEq, Eq, Hash)]
 pub struct LikeOptions {
     pub negated: bool,
     pub case_insensitive: bool,
+    pub escape: Option<char>,
 }
 
-/// `LIKE`, `NOT LIKE`, `ILIKE`, `NOT ILIKE`.
+impl Default for LikeOptions {
+    ghost use Rattle.vortex_like.specs.Options.{default_options};
+    ghost use Rattle.std.specs.Prelude.{◌≡◌};
+
+    ghost is_default = { λ options. options ≡ default_options };
+
+    fn default() -> LikeOptions {
+        LikeOptions {
+            negated: false,
+            case_insensitive: false,
+            escape: Some('\\'),
+        }
+    }
+}
+
+/// `LIKE`, `NOT LIKE`, `ILIKE` or `NOT ILIKE`; where another escape than the backslash is chosen ` ESCAPE '!'` behind it, with
+/// that character as it stands, and where there is none ` ESCAPE ''`.
 impl fmt::Display for LikeOptions {
     ghost use Rattle.std.specs.Prelude.{Some};
     ghost use Rattle.vortex_like.specs.Options.{options_text};
@@ -23,6 +41,10 @@ impl fmt::Display for LikeOptions {
             (false, true) => "ILIKE",
             (true, true) => "NOT ILIKE",
         };
-        write!(f, "{text}")
+        match self.escape {
+            Some('\\') => write!(f, "{text}"),
+            Some(c) => write!(f, "{text} ESCAPE '{c}'"),
+            None => write!(f, "{text} ESCAPE ''"),
+        }
     }
 }

@@ -1,12 +1,14 @@
 //! A pattern, read once, and the texts that it matches.
-ghost use Rattle.std.specs.Prelude.{◌≡◌, ◌≢◌, ◌+◌, ◌*◌, ◌≤◌, ◌↔◌, true, length, IsTrue, IsUtf8};
+ghost use Rattle.std.specs.Prelude.{◌≡◌, ◌≢◌, ◌+◌, ◌*◌, ◌≤◌, ◌↔◌, Some, length, IsTrue, IsUtf8};
 ghost use Rattle.std.specs.Str.{chars, IsAscii};
 ghost use Rattle.vortex_like.specs.Words.{AnswersUnlessMemory, Match, is_match, pattern_of, asked};
+ghost use Rattle.vortex_like.specs.Words.{backslash};
 ghost use Rattle.vortex_like.specs.Words.{row, AreTold, IsSaid, texts_of, AreTexts, AreAscii};
 
 use crate::column_test::tested_by_form;
 use crate::form::LikeForm;
 use crate::form_test::{FormTest, form_test};
+use crate::options::LikeOptions;
 use crate::texts::Texts;
 use crate::token::Looks;
 use std::alloc::Global;
@@ -54,9 +56,31 @@ impl LikePattern {
         ascii_haystack: bool,
     ) -> VortexResult<LikePattern>
         ensures { AnswersUnlessMemory result
-            (λ p. p ≡ pattern_of pattern.now case_insensitive ascii_haystack) }
+            (λ p. p ≡ pattern_of (Some backslash) pattern.now case_insensitive ascii_haystack) }
     {
-        let test = form_test(alloc, pattern, case_insensitive, ascii_haystack)?;
+        let options = LikeOptions {
+            negated: false,
+            case_insensitive,
+            escape: Some('\\'),
+        };
+        LikePattern::compile_with(alloc, pattern, options, ascii_haystack)
+    }
+
+    /// The same with the escape of the options in the backslash's place, or with none, and with folding where they look
+    /// past case. The escape may be `%` or `_`, and is then no wildcard; it is compared as it stands, past case too. A
+    /// form's literal part holds no escape, and of an escape `%` only Eq, IEqAscii and Tokens are made. Whether the
+    /// options turn the LIKE over does not matter to a pattern. Refuses for memory alone (E9).
+    pub fn compile_with(
+        alloc: Global,
+        pattern: &str,
+        options: LikeOptions,
+        ascii_haystack: bool,
+    ) -> VortexResult<LikePattern>
+        ensures { AnswersUnlessMemory result (λ p. p
+            ≡ pattern_of options.escape pattern.now options.case_insensitive ascii_haystack) }
+    {
+        let past_case = options.case_insensitive;
+        let test = form_test(alloc, pattern, options.escape, past_case, ascii_haystack)?;
         Ok(LikePattern {
             test,
             ascii_haystack,

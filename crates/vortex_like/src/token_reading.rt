@@ -20,13 +20,14 @@ fn plain_token(c: char) -> LikeToken
 }
 
 /// The first token of a pattern, and the pattern behind it.
-fn first_token(pattern: &str) -> Option<(LikeToken, &str)>
+fn first_token(pattern: &str, escape: Option<char>) -> Option<(LikeToken, &str)>
     ensures token { MatchOption result (chars pattern.now ≡ [])
-        (λ parts. tokens_of (chars pattern.now) ≡ parts.0 ∷ tokens_of (chars parts.1.now)) }
+        (λ parts. tokens_of escape (chars pattern.now)
+        ≡ parts.0 ∷ tokens_of escape (chars parts.1.now)) }
     ensures falls { MatchOption result (chars pattern.now ≡ [])
         (λ parts. length (chars parts.1.now) < length (chars pattern.now)) }
 {
-    let (symbol, behind) = first_symbol(pattern)?;
+    let (symbol, behind) = first_symbol(pattern, escape)?;
     let token = match symbol {
         Symbol::Plain(c) => plain_token(c),
         Symbol::Escaped(c) => LikeToken::character(c),
@@ -35,13 +36,17 @@ fn first_token(pattern: &str) -> Option<(LikeToken, &str)>
 }
 
 /// The tokens of a pattern.
-pub(crate) fn tokens_of(alloc: Global, pattern: &str) -> VortexResult<Vec<LikeToken>>
+pub(crate) fn tokens_of(
+    alloc: Global,
+    pattern: &str,
+    escape: Option<char>,
+) -> VortexResult<Vec<LikeToken>>
     ensures { AnswersUnlessMemory result
-        (λ tokens. tokens.items ≡ tokens_of (chars pattern.now)) }
+        (λ tokens. tokens.items ≡ tokens_of escape (chars pattern.now)) }
 {
     let mut tokens = Vec::new(alloc);
     let mut rest = pattern;
-    while let Some((token, behind)) = first_token(rest) {
+    while let Some((token, behind)) = first_token(rest, escape) {
         tokens.push(token)?;
         rest = behind;
     }

@@ -3,9 +3,9 @@ ghost use Rattle.std.specs.Prelude.{◌≡◌, true, Some, MatchOption};
 ghost use Rattle.std.specs.Str.{chars};
 ghost use Rattle.vortex_like.specs.Words.{AnswersUnlessMemory, tokens_of, character, symbol_token};
 ghost use Rattle.vortex_like.specs.Words.{is_wildcard, meets_escape, IsVariantOf, TellsMatches};
-ghost use Rattle.vortex_like.specs.Words.{IsUnescaped};
+ghost use Rattle.vortex_like.specs.Words.{is_escape, backslash, IsUnescaped};
 
-use crate::characters::{Symbol, first_symbol, split_first};
+use crate::characters::{Symbol, first_symbol, is_escape, split_first};
 use crate::cuts::cut_at_special;
 use std::alloc::Global;
 use std::borrow::CowStr;
@@ -42,12 +42,12 @@ fn literal(symbol: Symbol) -> Option<char>
 }
 
 /// The text before the first wildcard, without its escapes, or of the whole pattern.
-fn without_escapes(alloc: Global, pattern: &str) -> VortexResult<Unescaped>
-    ensures { AnswersUnlessMemory result (IsUnescaped (chars pattern.now)) }
+fn without_escapes(alloc: Global, pattern: &str, escape: Option<char>) -> VortexResult<Unescaped>
+    ensures { AnswersUnlessMemory result (IsUnescaped escape (chars pattern.now)) }
 {
     let mut text = String::new(alloc);
     let mut rest = pattern;
-    while let Some((symbol, behind)) = first_symbol(rest) {
+    while let Some((symbol, behind)) = first_symbol(rest, escape) {
         let Some(c) = literal(symbol) else {
             return Ok(Unescaped {
                 text,
@@ -64,11 +64,15 @@ fn without_escapes(alloc: Global, pattern: &str) -> VortexResult<Unescaped>
 }
 
 /// The shape of a pattern that has an escape before its first wildcard.
-fn owned_variant<'a>(alloc: Global, pattern: &str) -> VortexResult<LikeVariant<'a>>
-    requires { meets_escape (chars pattern.now) ≡ true }
-    ensures { AnswersUnlessMemory result (λ v. IsVariantOf (chars pattern.now) (Some v)) }
+fn owned_variant<'a>(
+    alloc: Global,
+    pattern: &str,
+    escape: Option<char>,
+) -> VortexResult<LikeVariant<'a>>
+    requires { meets_escape escape (chars pattern.now) ≡ true }
+    ensures { AnswersUnlessMemory result (λ v. IsVariantOf escape (chars pattern.now) (Some v)) }
 {
-    let Unescaped { text, at_wildcard } = without_escapes(alloc, pattern)?;
+    let Unescaped { text, at_wildcard } = without_escapes(alloc, pattern, escape)?;
     if at_wildcard {
         Ok(LikeVariant::Prefix(CowStr::Owned(text)))
     } else {
@@ -77,15 +81,19 @@ fn owned_variant<'a>(alloc: Global, pattern: &str) -> VortexResult<LikeVariant<'
 }
 
 /// The shape of a pattern, unless it begins with a wildcard.
-fn variant_of(alloc: Global, pattern: &str) -> VortexResult<Option<LikeVariant<'_>>>
-    ensures { AnswersUnlessMemory result (IsVariantOf (chars pattern.now)) }
+fn variant_of(
+    alloc: Global,
+    pattern: &str,
+    escape: Option<char>,
+) -> VortexResult<Option<LikeVariant<'_>>>
+    ensures { AnswersUnlessMemory result (IsVariantOf escape (chars pattern.now)) }
 {
-    let cut = cut_at_special(pattern);
+    let cut = cut_at_special(pattern, escape);
     match split_first(cut.rest) {
         None => Ok(Some(LikeVariant::Exact(CowStr::Borrowed(cut.front)))),
         Some((c, _)) => {
-            if c == '\\' {
-                return Ok(Some(owned_variant(alloc, pattern)?));
+            if is_escape(escape, c) {
+                return Ok(Some(owned_variant(alloc, pattern, escape)?));
             }
             if cut.front.is_empty() {
                 return Ok(None);
@@ -102,9 +110,24 @@ impl<'a> LikeVariant<'a> {
     /// The text is lent where no escape was met before that point, a backslash at the end among them. Refuses for memory
     /// alone (E9).
     pub fn from_str(alloc: Global, pattern: &'a str) -> VortexResult<Option<LikeVariant<'a>>>
-        ensures variant { AnswersUnlessMemory result (IsVariantOf (chars pattern.now)) }
-        ensures matches { AnswersUnlessMemory result (TellsMatches (chars pattern.now)) }
+        ensures variant { AnswersUnlessMemory result
+            (IsVariantOf (Some backslash) (chars pattern.now)) }
+        ensures matches { AnswersUnlessMemory result
+            (TellsMatches (Some backslash) (chars pattern.now)) }
     {
-        variant_of(alloc, pattern)
+        LikeVariant::from_str_with(alloc, pattern, Some('\\'))
+    }
+
+    /// The same with that escape in the backslash's place, or with none. A wildcard that is the escape is no wildcard.
+    /// Refuses for memory alone (E9).
+    pub fn from_str_with(
+        alloc: Global,
+        pattern: &'a str,
+        escape: Option<char>,
+    ) -> VortexResult<Option<LikeVariant<'a>>>
+        ensures variant { AnswersUnlessMemory result (IsVariantOf escape (chars pattern.now)) }
+        ensures matches { AnswersUnlessMemory result (TellsMatches escape (chars pattern.now)) }
+    {
+        variant_of(alloc, pattern, escape)
     }
 }

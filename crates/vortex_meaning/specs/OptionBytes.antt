@@ -6,11 +6,11 @@ use Rattle.vortex_errors.specs.declared.error.VortexError.{VortexError}
 use Rattle.vortex_errors.specs.declared.error.VortexError.TheVariants.{BadOptions}
 use Rattle.vortex_errors.specs.Answers.{Answers}
 use Rattle.vortex_operators.specs.OptionBytes.{operator_bytes, operator_read, between_bytes, between_read}
-use Rattle.vortex_like.specs.OptionBytes.{like_bytes, like_read}
+use Rattle.vortex_like.specs.OptionBytes.{like_bytes, like_read, HasCharacter}
 use Rattle.vortex_meaning.specs.Shipped.{Shipped, Binary, Not, IsNull, IsNotNull, Cast, Between, Like}
 use Rattle.vortex_meaning.specs.Functions.{Function, ours, custom}
 
--- one byte of Binary, Between and Like; none of the others
+-- one byte of Binary and Between, one or five of Like; none of the others
 abbrev pub shipped_bytes : Shipped → List ℕ
 shipped_bytes (Binary operator) = operator_bytes operator
 shipped_bytes Not = []
@@ -26,6 +26,11 @@ with_options (Binary operator) bytes = option_map Binary (operator_read bytes)
 with_options (Between options) bytes = option_map Between (between_read bytes)
 with_options (Like options) bytes = option_map Like (like_read bytes)
 with_options f bytes = Some f
+
+-- an escape among the options is a character
+abbrev pub HasCharacters : Shipped → Type 0
+HasCharacters (Like options) = HasCharacter options
+HasCharacters f = ⊤
 
 abbrev pub Written : Type 0
 Written = Option (Vec ℕ Global)

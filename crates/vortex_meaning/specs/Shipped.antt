@@ -6,7 +6,7 @@ pub mod CastFunction
 pub mod BetweenFunction
 pub mod LikeFunction
 use Rattle.std.specs.Prelude.{◌≡◌, ℕ, zero, suc, List, Option, Some, None, Bool, if◌then◌else◌, refl}
-use Rattle.std.specs.Option.{option_map, option_or}
+use Rattle.std.specs.Option.{option_map, option_or, option_and_then}
 use Rattle.std.proofs.Common.{ap}
 use Rattle.vortex_errors.specs.declared.arity.Arity.{Arity}
 use Rattle.vortex_errors.specs.declared.arity.Arity.TheVariants.{Exact}
@@ -25,7 +25,7 @@ use Rattle.vortex_meaning.specs.Shipped.NotFunction.{not_function, not_lawful, i
 use Rattle.vortex_meaning.specs.Shipped.NullTestFunctions.{is_null_function, is_null_lawful, is_null_word, is_not_null_function, is_not_null_lawful, is_not_null_word}
 use Rattle.vortex_meaning.specs.Shipped.CastFunction.{cast_function, cast_lawful, is_cast_word}
 use Rattle.vortex_meaning.specs.Shipped.BetweenFunction.{between_function, between_lawful, between_named, between_number, between_numbered, between_back}
-use Rattle.vortex_meaning.specs.Shipped.LikeFunction.{like_function, like_lawful, like_named, like_number, like_numbered, like_back}
+use Rattle.vortex_meaning.specs.Shipped.LikeFunction.{like_function, like_lawful, like_named, with_escape, like_number, like_numbered, like_back}
 
 -- THE LIST: each function with its options
 pub data Shipped : Type 0 where
@@ -66,6 +66,16 @@ shipped_named w =
     (option_or (option_map Between (between_named w))
     (option_or (option_map Like (like_named w))
     None))))))
+
+-- the same function with the escape that is said, where one is; Like alone has one
+abbrev pub escaped : Option (Option ℕ) → Shipped → Option Shipped
+escaped None s = Some s
+escaped (Some escape) (Like options) = Some (Like (with_escape options escape))
+escaped (Some escape) s = None
+
+-- the function that a script calls by a name and what it says of the escape
+abbrev pub shipped_called : List ℕ → Option (Option ℕ) → Option Shipped
+shipped_called w said = option_and_then (escaped said) (shipped_named w)
 
 -- the number of a function and that of its options, in the code of trees
 abbrev pub shipped_number : Shipped → ℕ × ℕ

@@ -1,11 +1,11 @@
 //! LIKE and ILIKE of a text and a pattern.
-ghost use Rattle.std.specs.Prelude.{◌≡◌, length};
+ghost use Rattle.std.specs.Prelude.{◌≡◌, ◌<◌, Some, length, slice_get};
 ghost use Rattle.vortex_meaning.specs.Shipped as shipped;
 ghost use Rattle.vortex_shipped.specs.Words.{no_rules, shipped_pieces, AnswersUnlessMemory, AppendsCall, like_id, like_words};
+ghost use Rattle.vortex_shipped.specs.Words.{escape_pieces, piece_of};
 ghost use Rattle.vortex_shipped.specs.Words.{shipped_meaning, shipped_lawful, AnswersShippedType};
 ghost use Rattle.vortex_shipped.specs.Words.{WritesOptions, ReadsOptions, like_read};
 
-use crate::option_bytes::write_byte;
 use std::alloc::Global;
 use vortex_columns::{
     Arity, Column, DType, ExecutionCtx, MismatchPlace, VortexError, VortexResult,
@@ -15,8 +15,8 @@ use vortex_interface::{
 };
 use vortex_like::{LikeOptions, execute_like};
 
-/// Whether a text matches a pattern of SQL's LIKE with backslash escape; with `case_insensitive` ILIKE, by Unicode's simple
-/// case folding, one character at a time; turned over where `negated`. Bool of two Utf8, nullable if either is, and null
+/// Whether a text matches a pattern of SQL's LIKE, whose `escape` is the backslash by default, another character or none; with
+/// `case_insensitive` ILIKE, by Unicode's simple case folding, one character at a time; turned over where `negated`. Bool of two Utf8, nullable if either is, and null
 /// where either is; a null row's pattern is not read.
 #[derive(Clone, Drop)]
 pub struct Like;
@@ -33,6 +33,19 @@ fn words(options: &LikeOptions) -> &'static str
     }
 }
 
+/// What stands behind the two arguments: nothing where the escape is the backslash, and else the escape between quotes.
+fn escape_piece(escape: Option<char>, index: usize) -> TextPiece
+    requires { index < length (escape_pieces escape) }
+    ensures { slice_get (escape_pieces escape) index ≡ Some (piece_of result) }
+{
+    match (escape, index) {
+        (None, _) => TextPiece::Said(" escape ''"),
+        (Some(_), 0) => TextPiece::Said(" escape '"),
+        (Some(c), 1) => TextPiece::Character(c),
+        (Some(_), _) => TextPiece::Said("'"),
+    }
+}
+
 impl ScalarFnVTable for Like {
     type Options = LikeOptions;
 
@@ -44,11 +57,12 @@ impl ScalarFnVTable for Like {
         "vortex.like"
     }
 
-    /// One byte: bit 0 where negated, bit 1 where case insensitive.
+    /// One byte: bit 0 where negated, bit 1 where case insensitive. For another escape than the backslash bit 2 too, and behind
+    /// it the character as four bytes, the greatest first; for none bit 3 too.
     fn serialize(&self, alloc: Global, options: &LikeOptions) -> VortexResult<Option<Vec<u8>>>
         ensures { AnswersUnlessMemory result (WritesOptions (shipped.Like options.now)) }
     {
-        write_byte(alloc, options.to_byte())
+        Ok(Some(options.to_bytes(alloc)?))
     }
 
     /// E8 exactly for bytes that are written of no options; takes no memory.
@@ -92,7 +106,8 @@ impl ScalarFnVTable for Like {
         execute_like(input, pattern, *options, ctx)
     }
 
-    /// `a like p`, `a not like p`, `a ilike p` or `a not ilike p`.
+    /// `a like p`, `a not like p`, `a ilike p` or `a not ilike p`, with ` escape '!'` or ` escape ''` behind it where the escape
+    /// is not the backslash.
     fn fmt_sql(
         &self,
         options: &LikeOptions,
@@ -124,19 +139,25 @@ impl ScalarFnVTable for Like {
     ghost lawful = { shipped_lawful like_id shipped.Like };
 }
 
-/// `a like p`, `a not like p`, `a ilike p` or `a not ilike p`.
+/// `a like p`, `a not like p`, `a ilike p` or `a not ilike p`, and where another escape than the backslash is chosen
+/// ` escape '!'` behind it, with that character as it stands, or ` escape ''` where there is none.
 impl TextPieces<LikeOptions> for Like {
     ghost pieces = { λ options. shipped_pieces (shipped.Like options) };
 
-    fn piece_count(&self, _options: &LikeOptions) -> usize {
-        3
+    fn piece_count(&self, options: &LikeOptions) -> usize {
+        match options.escape {
+            Some('\\') => 3,
+            Some(_) => 6,
+            None => 4,
+        }
     }
 
     fn text_piece(&self, options: &LikeOptions, index: usize) -> TextPiece {
         match index {
             0 => TextPiece::Argument(0),
             1 => TextPiece::Said(words(options)),
-            _ => TextPiece::Argument(1),
+            2 => TextPiece::Argument(1),
+            _ => escape_piece(options.escape, index - 3),
         }
     }
 }

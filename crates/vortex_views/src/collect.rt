@@ -26,6 +26,14 @@ impl ByteString for String {
     }
 }
 
+impl ByteString for &str {
+    ghost bytes = { λ s. s.now };
+
+    fn lend_bytes(&self) -> &[u8] {
+        self.as_bytes()
+    }
+}
+
 impl ByteString for Vec<u8> {
     ghost bytes = { λ b. b.items };
 

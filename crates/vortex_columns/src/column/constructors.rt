@@ -4,7 +4,7 @@ ghost use Rattle.vortex_columns.specs.Words.{AnswersUnlessMemory, AnswersWhere, 
 ghost use Rattle.vortex_columns.specs.Words.{AreTyped, FitsRows, type_of, validity_of};
 
 use super::{Column, Elements, Storage};
-use crate::lists::{are_texts, is_product, learn_bytes, lie_within};
+use crate::lists::{are_texts, is_product, learn_bytes, learn_texts, lie_within};
 use crate::scalar::Scalar;
 use crate::validity::Validity;
 use std::alloc::Global;
@@ -54,7 +54,8 @@ impl Column {
     ghost use Rattle.vortex_columns.specs.Words.{struct_column, list_column, map_column};
     ghost use Rattle.vortex_columns.specs.Words.{fixed_size_list_column, MakeTexts, text_rows};
     ghost use Rattle.vortex_columns.specs.Words.{byte_string_rows, byte_strings_of, MakeTextRows};
-    ghost use Rattle.vortex_columns.specs.Words.{MakeTextViews, MakeByteStringViews};
+    ghost use Rattle.vortex_columns.specs.Words.{MakeTextViews, MakeByteStringViews, MakeLentTexts};
+    ghost use Rattle.vortex_columns.specs.Words.{lent_texts};
     ghost use Rattle.vortex_columns.specs.Words.{values_among};
     ghost use Rattle.vortex_columns.specs.Words.{MakeByteStrings, MakeStructs, MakeLists};
     ghost use Rattle.vortex_columns.specs.Words.{MakeFixedSizeLists, MakeMaps};
@@ -138,7 +139,22 @@ impl Column {
             return Err(VortexError::InvalidColumn);
         }
         let views = collect_views(alloc, values.as_slice())?;
-        Ok(Column::of_texts(views, validity))
+        Ok(Column::of_text_values(views, validity))
+    }
+
+    /// A column of texts that are lent, which are copied once. E12 as for `try_utf8`.
+    pub fn try_texts(alloc: Global, values: &[&str], validity: Validity) -> VortexResult<Column>
+        ensures { AnswersWhere result
+            (MakeLentTexts values.now (validity_of validity))
+            (λ c. c ≡ text_rows (lent_texts values.now) (validity_of validity))
+            InvalidColumn }
+    {
+        if !validity.fits(values.len()) {
+            return Err(VortexError::InvalidColumn);
+        }
+        learn_texts(values);
+        let views = collect_views(alloc, values)?;
+        Ok(Column::of_text_values(views, validity))
     }
 
     /// A column of bytes. E12 as for texts.
@@ -209,7 +225,7 @@ impl Column {
         if !validity.fits(values.len()) || !are_texts(&values, &validity) {
             return Err(VortexError::InvalidColumn);
         }
-        Ok(Column::of_texts(values, validity))
+        Ok(Column::of_text_values(values, validity))
     }
 
     /// A column of bytes that a builder has made. E12 exactly where a list of valid bits has another length.
@@ -230,7 +246,7 @@ impl Column {
     }
 
     /// A column of these texts.
-    fn of_texts(values: BinaryViews, validity: Validity) -> Column
+    fn of_text_values(values: BinaryViews, validity: Validity) -> Column
         requires { MakeTextRows values (validity_of validity) }
         ensures { result ≡ text_rows values (validity_of validity) }
     {

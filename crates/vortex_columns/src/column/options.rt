@@ -38,7 +38,10 @@ fn values_or<T: Copy + Drop>(
 
 /// Columns of a nullable type, whose validity is an array of bits, also where each value is there.
 impl Column {
-    ghost use Rattle.vortex_columns.specs.Options.{optional_bools, optional_ints};
+    ghost use Rattle.vortex_columns.specs.Options.{optional_bools, optional_ints, optional_texts};
+    ghost use Rattle.vortex_columns.specs.Options.{option_text};
+    ghost use Rattle.vortex_columns.specs.Words.{AnswersWhere, InvalidColumn};
+    ghost use Rattle.vortex_views.specs.Collected.{HaveRoom};
 
     /// A column of nullable truth values: null where there is none.
     pub fn of_bools(alloc: Global, rows: &[Option<bool>]) -> VortexResult<Column>
@@ -55,5 +58,17 @@ impl Column {
     {
         let values = values_or(alloc, rows, T::zero())?;
         Column::try_primitive(alloc, values, option_validity(alloc, rows)?)
+    }
+
+    /// A column of nullable texts: null where there is none. E12 exactly where a text is longer than 4,294,967,295 bytes, or
+    /// more than 4,294,967,296 buffers of so many bytes would be needed.
+    pub fn of_texts(alloc: Global, rows: &[Option<&str>]) -> VortexResult<Column>
+        ensures { AnswersWhere result
+            (HaveRoom (map option_text rows.now))
+            (λ c. c ≡ optional_texts rows.now)
+            InvalidColumn }
+    {
+        let values = values_or(alloc, rows, "")?;
+        Column::try_texts(alloc, &values, option_validity(alloc, rows)?)
     }
 }

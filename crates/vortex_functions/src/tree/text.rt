@@ -118,6 +118,10 @@ impl<C: ScalarFnVTable> BoundExpression<C> {
                 out.push_str(text)?;
                 Ok(None)
             }
+            TextPiece::Character(c) => {
+                out.push(c)?;
+                Ok(None)
+            }
             TextPiece::Argument(place) => match self.children().get(place) {
                 Some(child) => {
                     child.begin(alloc, out)?;

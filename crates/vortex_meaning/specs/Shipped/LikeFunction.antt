@@ -1,5 +1,5 @@
 -- SQL's LIKE of a text and a pattern, and ILIKE past case; either turned over where negated.
-use Rattle.std.specs.Prelude.{◌≡◌, ◌⊎◌, ℕ, zero, suc, List, [], ◌∷◌, Option, Some, None, Bool, true, false, ◌||◌, codes, Any, if◌then◌else◌, refl}
+use Rattle.std.specs.Prelude.{◌≡◌, ◌⊎◌, ℕ, zero, suc, List, [], ◌∷◌, Option, Some, None, Bool, true, false, ◌||◌, ◌==◌, codes, Any, if◌then◌else◌, refl, encode_utf8}
 use Rattle.std.specs.Str.{bytes_eq}
 use Rattle.std.proofs.Common.{sym, ap, ◌∙◌, subst, inl, inr}
 use Rattle.vortex_errors.specs.declared.error.MismatchPlace.{MismatchPlace}
@@ -8,6 +8,7 @@ use Rattle.vortex_types.specs.LogicalTypes.{LogicalType, bool_type, text_type, i
 use Rattle.vortex_types.specs.Values.{Value, null, truth, number, text, bytes, list}
 use Rattle.vortex_types.specs.Typing.{HasType}
 use Rattle.vortex_like.specs.declared.options.LikeOptions.{LikeOptions}
+use Rattle.vortex_like.specs.Tokens.{backslash}
 use Rattle.vortex_like.specs.Patterns.{like_value}
 use Rattle.vortex_meaning.specs.Outcomes.{gives}
 use Rattle.vortex_meaning.specs.Meaning.{HaveTypes}
@@ -42,9 +43,17 @@ words_by true true = codes " not ilike "
 abbrev pub like_words : LikeOptions → List ℕ
 like_words options = words_by options.negated options.case_insensitive
 
--- the words between the two arguments
+-- the escape behind them, between quotes as it stands, or none there; the backslash is not told
+abbrev pub escape_pieces : Option ℕ → List Piece
+escape_pieces None = said (codes " escape ''") ∷ []
+escape_pieces (Some e) =
+    if e == backslash then []
+    else said (codes " escape '") ∷ said (encode_utf8 e) ∷ said (codes "'") ∷ []
+
+-- the words between the two arguments, and what is told of the escape
 abbrev pub like_pieces : LikeOptions → List Piece
-like_pieces options = argument 0 ∷ said (like_words options) ∷ argument 1 ∷ []
+like_pieces options =
+    argument 0 ∷ said (like_words options) ∷ argument 1 ∷ escape_pieces options.escape
 
 abbrev pub like_function : LikeOptions → RowFunction
 like_function options = record {
@@ -60,18 +69,22 @@ like_function options = record {
   added = λ nullable. 5;
 }
 
-abbrev pub like_options : Bool → Bool → LikeOptions
-like_options negated case_insensitive =
-    record { negated = negated; case_insensitive = case_insensitive }
+abbrev pub like_options : Bool → Bool → Option ℕ → LikeOptions
+like_options negated case_insensitive escape =
+    record { negated = negated; case_insensitive = case_insensitive; escape = escape }
 
--- the words of scripts
+-- the words of scripts, which name the backslash as the escape
 abbrev pub like_named : List ℕ → Option LikeOptions
 like_named w =
-    if bytes_eq w (codes "like") then Some (like_options false false)
-    else (if bytes_eq w (codes "not_like") then Some (like_options true false)
-    else (if bytes_eq w (codes "ilike") then Some (like_options false true)
-    else (if bytes_eq w (codes "not_ilike") then Some (like_options true true)
+    if bytes_eq w (codes "like") then Some (like_options false false (Some backslash))
+    else (if bytes_eq w (codes "not_like") then Some (like_options true false (Some backslash))
+    else (if bytes_eq w (codes "ilike") then Some (like_options false true (Some backslash))
+    else (if bytes_eq w (codes "not_ilike") then Some (like_options true true (Some backslash))
     else None)))
+
+-- the same options with that escape
+abbrev pub with_escape : LikeOptions → Option ℕ → LikeOptions
+with_escape options escape = like_options options.negated options.case_insensitive escape
 
 module _ (options : LikeOptions) where
   pair_typed : (n m : Bool) (v w : Value) → HasType (text_type n) v → HasType (text_type m) w
@@ -137,27 +150,55 @@ like_lawful options = record {
   one_fault = λ ts us vs ws x y e g. cc;
 }
 
--- the number of the options, in the code of trees
+-- the number of the options, in the code of trees: that of the two tests, and four for each step to the
+-- escape, which is no escape, then the character 0, then 1 and so on
 abbrev pub number_by : Bool → Bool → ℕ
 number_by false false = 0
 number_by true false = 1
 number_by false true = 2
 number_by true true = 3
 
+abbrev pub steps_to : Option ℕ → ℕ
+steps_to None = 0
+steps_to (Some e) = suc e
+
+abbrev pub fours : ℕ → ℕ → ℕ
+fours zero n = n
+fours (suc k) n = suc (suc (suc (suc (fours k n))))
+
 abbrev pub like_number : LikeOptions → ℕ
-like_number options = number_by options.negated options.case_insensitive
+like_number options =
+    fours (steps_to options.escape) (number_by options.negated options.case_insensitive)
+
+abbrev pub next_escape : Option ℕ → Option ℕ
+next_escape None = Some 0
+next_escape (Some e) = Some (suc e)
+
+abbrev pub with_next_escape : LikeOptions → LikeOptions
+with_next_escape options = with_escape options (next_escape options.escape)
 
 abbrev pub like_numbered : ℕ → LikeOptions
-like_numbered zero = like_options false false
-like_numbered (suc zero) = like_options true false
-like_numbered (suc (suc zero)) = like_options false true
-like_numbered n = like_options true true
+like_numbered zero = like_options false false None
+like_numbered (suc zero) = like_options true false None
+like_numbered (suc (suc zero)) = like_options false true None
+like_numbered (suc (suc (suc zero))) = like_options true true None
+like_numbered (suc (suc (suc (suc n)))) = with_next_escape (like_numbered n)
 
-back_by : (n c : Bool) → like_numbered (number_by n c) ≡ like_options n c
-back_by false false = refl
-back_by true false = refl
-back_by false true = refl
-back_by true true = refl
+none_back : (n c : Bool) → like_numbered (number_by n c) ≡ like_options n c None
+none_back false false = refl
+none_back true false = refl
+none_back false true = refl
+none_back true true = refl
+
+some_back : (e : ℕ) (n c : Bool)
+    → like_numbered (fours (suc e) (number_by n c)) ≡ like_options n c (Some e)
+some_back zero n c = ap with_next_escape (none_back n c)
+some_back (suc e) n c = ap with_next_escape (some_back e n c)
+
+back_by : (e : Option ℕ) (n c : Bool)
+    → like_numbered (fours (steps_to e) (number_by n c)) ≡ like_options n c e
+back_by None n c = none_back n c
+back_by (Some e) n c = some_back e n c
 
 pub like_back : (options : LikeOptions) → like_numbered (like_number options) ≡ options
-like_back options = back_by options.negated options.case_insensitive
+like_back options = back_by options.escape options.negated options.case_insensitive

@@ -8,7 +8,7 @@ use Rattle.rowfn_lines.proofs.cells.read_cells.Given as goal
 -- what is left to read goes after what was read
 abbrev pub invariant-loop-word : goal.invariant-loop-word
 invariant-loop-word g l =
-    let kind = g.K.CellKind.kind (allows_null l.nullability) in
+    let kind = g.K.CellTypes.kind (allows_null l.nullability) in
     AreItems (allows_null l.nullability) (map g.K.CellKind.value l.items.items) l.valid.items
     × (option_map (λ ys. cells_from (map g.K.CellKind.value l.items.items) l.valid.items ++ ys)
     (cells_of kind (map word_in (drop l.word-index l.words)))

@@ -10,10 +10,10 @@ use Rattle.rowfn_lines.proofs.cells.read_column.Goals as goal
 pub returns-in-Ok : goal.returns-in-Ok
 returns-in-Ok g c =
     let n = allows_null c.args.nullability in
-    let kind = g.K.CellKind.kind in
+    let kind = g.K.CellTypes.kind in
     let vs = map g.K.CellKind.value c.in-Some.field-0.items.items in
     let valid = c.in-Some.field-0.valid.items in
     let validity = c.in_ok-validity.ensures ∙ ap (cells_validity n) c.deref.ensures.value in
     column_made kind n vs valid (cells_of (kind n) (map word_in c.args.words.now))
-    (validity_of c.in_ok-validity.validity) c.in-Ok.column (g.met.K.CellKind.nullable n)
+    (validity_of c.in_ok-validity.validity) c.in-Ok.column (g.K.CellTypes.nullable n)
     (rw c.in-Some.is at c.in_ok-items.ensures) validity c.in-Ok.ensures.0.1 c.in-Ok.ensures.1

@@ -1,4 +1,4 @@
-use Rattle.std.proofs.Common.{map, string_bytes, ◌++◌, ap, ◌∙◌, add-one}
+use Rattle.std.proofs.Common.{map, string_bytes, ◌++◌, add-one}
 use Rattle.vortex_meaning.specs.CallTexts.{told}
 use Rattle.vortex_interface.specs.Pieces.{piece_of}
 use Rattle.vortex_interface.proofs.PieceTexts.{piece_written}
@@ -10,7 +10,6 @@ loop-index-preserved g c =
     let texts = map string_bytes c.args.children.now in
     rw add-one
     (piece_written pieces texts c.loop-index.index (piece_of c.text_piece.result)
-    (string_bytes c.loop-index.out) (string_bytes c.push_str.new.self)
+    (string_bytes c.loop-index.out) (string_bytes c.write_piece.new.out)
     (string_bytes c.args.out.now ++ told pieces texts) c.text_piece.ensures c.loop-index.invariant
-    (c.in_ok-push_str.ensures.bytes
-    ∙ ap (λ t. string_bytes c.loop-index.out ++ t) c.text_said.ensures))
+    c.in_ok-write_piece.ensures)

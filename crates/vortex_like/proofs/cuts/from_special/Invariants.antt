@@ -6,7 +6,7 @@ use Rattle.vortex_like.specs.Cuts.{IsPassed}
 use Rattle.vortex_like.proofs.cuts.from_special.Given as goal
 
 abbrev pub invariant-loop-c : goal.invariant-loop-c
-invariant-loop-c l = shadow (Utf8 l.rest) × IsPassed l.pattern l.rest
+invariant-loop-c l = shadow (Utf8 l.rest) × IsPassed l.escape l.pattern l.rest
 
 abbrev pub decreases-loop-c : goal.decreases-loop-c
 decreases-loop-c l = length (chars l.rest)

@@ -13,4 +13,4 @@ invariant-loop-i g l =
     (λ i b.
     IsLikeBit l.columns.options (row l.columns.texts.now.rows i)
     (row l.columns.patterns.now.rows i) b) l.bits.items
-    × IsCompiled l.columns.options.case_insensitive l.columns.ascii l.last
+    × IsCompiled l.columns.options l.columns.ascii l.last

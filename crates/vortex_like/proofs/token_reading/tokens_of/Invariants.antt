@@ -9,7 +9,7 @@ use Rattle.vortex_like.proofs.token_reading.tokens_of.Given as goal
 abbrev pub invariant-loop-token : goal.invariant-loop-token
 invariant-loop-token l =
     shadow (Utf8 l.rest)
-    × (l.tokens.items ++ tokens_of (chars l.rest) ≡ tokens_of (chars l.pattern))
+    × (l.tokens.items ++ tokens_of l.escape (chars l.rest) ≡ tokens_of l.escape (chars l.pattern))
 
 abbrev pub decreases-loop-token : goal.decreases-loop-token
 decreases-loop-token l = length (chars l.rest)

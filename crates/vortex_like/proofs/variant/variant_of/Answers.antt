@@ -1,4 +1,4 @@
-use Rattle.std.proofs.Common.{◌≡◌, ◌≢◌, subst, arith, rules, List, ℕ, length}
+use Rattle.std.proofs.Common.{◌≡◌, ◌≢◌, sym, subst, arith, rules, List, ℕ, length}
 use Rattle.std.specs.Prelude.{IsUtf8}
 use Rattle.std.specs.Str.{chars}
 use Rattle.vortex_like.specs.Tokens.{tokens_of}
@@ -10,26 +10,26 @@ use Rattle.vortex_like.proofs.variant.variant_of.Goals as goal
 pub owned_variant-requires : goal.owned_variant-requires
 owned_variant-requires c =
     let cut = c.cut_at_special-cut in
-    escape_met (chars c.args.pattern.now) (chars cut.result.front.now) (chars cut.result.rest.now)
+    escape_met c.args.escape (chars c.args.pattern.now) (chars cut.result.front.now) (chars cut.result.rest.now)
     (chars c.in-Some.field-0-1.now) c.in-Some.c cut.ensures.split c.in-Some.ensures.characters
-    cut.ensures.plain c.if-c-eq92.true
+    cut.ensures.plain (sym c.if-is_escape.ensures)
 
 pub returns-then-is_empty : goal.returns-then-is_empty
 returns-then-is_empty c =
     let cut = c.cut_at_special-cut in
     let none : length cut.result.front.now ≡ 0 = grind (arith, c.if-is_empty.ensures) in
     let shape =
-    literal_then_wildcard (chars c.args.pattern.now) (chars cut.result.front.now)
+    literal_then_wildcard c.args.escape (chars c.args.pattern.now) (chars cut.result.front.now)
     (chars cut.result.rest.now) (chars c.in-Some.field-0-1.now) c.in-Some.c cut.ensures.split
-    c.in-Some.ensures.characters cut.ensures.plain cut.ensures.special c.if-c-eq92.false in
+    c.in-Some.ensures.characters cut.ensures.plain cut.ensures.special (sym c.if-is_escape.ensures) in
     subst
-    (λ (cs : List ℕ). AreLiteralThenWildcard (tokens_of (chars c.args.pattern.now)) cs)
+    (λ (cs : List ℕ). AreLiteralThenWildcard (tokens_of c.args.escape (chars c.args.pattern.now)) cs)
     (empty_text cut.result.front.now none) shape.0
 
 pub returns-in-None : goal.returns-in-None
 returns-in-None c =
     let cut = c.cut_at_special-cut in
-    whole_literal (chars c.args.pattern.now) (chars cut.result.front.now)
+    whole_literal c.args.escape (chars c.args.pattern.now) (chars cut.result.front.now)
     (chars cut.result.rest.now) cut.ensures.split c.in-None.ensures.characters cut.ensures.plain
 
 pub returns-else-is_empty : goal.returns-else-is_empty
@@ -38,7 +38,7 @@ returns-else-is_empty c =
     let some : length cut.result.front.now ≢ 0 = grind (arith, c.if-is_empty.ensures) in
     let text : IsUtf8 cut.result.front.now = search rules in
     let shape =
-    literal_then_wildcard (chars c.args.pattern.now) (chars cut.result.front.now)
+    literal_then_wildcard c.args.escape (chars c.args.pattern.now) (chars cut.result.front.now)
     (chars cut.result.rest.now) (chars c.in-Some.field-0-1.now) c.in-Some.c cut.ensures.split
-    c.in-Some.ensures.characters cut.ensures.plain cut.ensures.special c.if-c-eq92.false in
+    c.in-Some.ensures.characters cut.ensures.plain cut.ensures.special (sym c.if-is_escape.ensures) in
     (shape.0, λ e. some (no_empty_text cut.result.front.now text e), shape.1)

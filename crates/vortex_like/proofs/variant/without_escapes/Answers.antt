@@ -16,9 +16,9 @@ loop-symbol-preserved c =
     let front = string_bytes c.loop-symbol.text in
     let pushed = string_bytes c.push.new.self in (
       search rules,
-      read_more (tokens_of (chars c.args.pattern.now)) (chars front) (chars pushed)
-          c.in-Some-literal.c (tokens_of (chars c.loop-symbol.rest.now))
-          (tokens_of (chars c.in-Some.behind.now)) c.loop-symbol.invariant.1
+      read_more (tokens_of c.args.escape (chars c.args.pattern.now)) (chars front) (chars pushed)
+          c.in-Some-literal.c (tokens_of c.args.escape (chars c.loop-symbol.rest.now))
+          (tokens_of c.args.escape (chars c.in-Some.behind.now)) c.loop-symbol.invariant.1
           (rw c.in-Some-literal.ensures at c.in-Some.ensures.token)
           (chars_pushed front pushed c.in-Some-literal.c (IsUtf8-string_bytes c.loop-symbol.text) s
           c.in_ok-push.ensures.bytes),

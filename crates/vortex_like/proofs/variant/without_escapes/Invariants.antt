@@ -10,8 +10,8 @@ use Rattle.vortex_like.proofs.variant.without_escapes.Given as goal
 abbrev pub invariant-loop-symbol : goal.invariant-loop-symbol
 invariant-loop-symbol l =
     shadow (Utf8 l.rest)
-    × (tokens_of (chars l.pattern)
-    ≡ map character (chars (string_bytes l.text)) ++ tokens_of (chars l.rest))
+    × (tokens_of l.escape (chars l.pattern)
+    ≡ map character (chars (string_bytes l.text)) ++ tokens_of l.escape (chars l.rest))
 
 abbrev pub decreases-loop-symbol : goal.decreases-loop-symbol
 decreases-loop-symbol l = length (chars l.rest)

@@ -1,5 +1,6 @@
-use Rattle.std.proofs.Common.{◌≡◌, true, [], length, map, sym, ◌∙◌}
-use Rattle.std.specs.Prelude.{slice_index_or, string_bytes}
+use Rattle.std.proofs.Common.{◌≡◌, true, [], length, map, sym, subst, ◌∙◌, List, ℕ}
+use Rattle.std.specs.Prelude.{slice_index_or}
+use Rattle.std.specs.Borrow.{Bor}
 use Rattle.std.proofs.lemmas.List.{length-map}
 use Rattle.vortex_errors.specs.declared.error.VortexError.TheVariants.{InvalidColumn}
 use Rattle.vortex_types.specs.LogicalTypes.{text_type}
@@ -8,25 +9,31 @@ use Rattle.vortex_columns.specs.ValidityView.{validity_of, FitsRows, form_allows
 use Rattle.vortex_columns.specs.ColumnView.{ColumnView}
 use Rattle.vortex_columns.specs.Stored.{made_of}
 use Rattle.vortex_views.specs.Collected.{HaveRoom}
+use Rattle.rowfn_lines.specs.Answering.{MakesColumn}
 use Rattle.rowfn_lines.specs.Commands.{fit_column}
 use Rattle.rowfn_lines.specs.Cells.{IsMade}
 use Rattle.rowfn_lines.proofs.CellRows.{answers_same, made_is, texts_at, room_fits, fitting_room}
 use Rattle.rowfn_lines.proofs.cells.TextCellsCellKind.column.Goals as goal
 
+abbrev lent : Bor (List ℕ) → List ℕ
+lent = λ t. t.now
+
 pub returns : goal.returns
 returns c =
-    let xs = c.args.values.items in
+    let xs = c.deref.result.now in
     let v = validity_of c.args.validity in
-    let vs = map (λ s. text (string_bytes s)) xs in
-    answers_same c.try_utf8.result
-    (FitsRows v (length xs) × HaveRoom (map string_bytes xs))
+    let vs = map (λ s. text (lent s)) xs in
+    subst (λ (ys : List (Bor (List ℕ))). MakesColumn (λ s. text s.now) text_type v ys c.try_texts.result)
+    c.deref.ensures.value
+    (answers_same c.try_texts.result
+    (FitsRows v (length xs) × HaveRoom (map lent xs))
     (FitsRows v (length xs) × (fit_column vs ≡ true))
     (λ (d : ColumnView). d
-    ≡ made_of (text_type (form_allows_null v.form)) v (length (map string_bytes xs))
-    (λ i. text (slice_index_or (map string_bytes xs) i [])))
+    ≡ made_of (text_type (form_allows_null v.form)) v (length (map lent xs))
+    (λ i. text (slice_index_or (map lent xs) i [])))
     (IsMade text_type v vs) InvalidColumn
-    (λ h. (h.0, room_fits string_bytes xs h.1)) (λ h. (h.0, fitting_room string_bytes xs h.1))
+    (λ h. (h.0, room_fits lent xs h.1)) (λ h. (h.0, fitting_room lent xs h.1))
     (λ d e.
-    made_is text_type v (length (map string_bytes xs)) (λ i. text (slice_index_or (map string_bytes xs) i [])) vs d
-    (length-map xs string_bytes ∙ sym (length-map xs (λ s. text (string_bytes s)))) (texts_at string_bytes xs) e)
-    c.try_utf8.ensures
+    made_is text_type v (length (map lent xs)) (λ i. text (slice_index_or (map lent xs) i [])) vs d
+    (length-map xs lent ∙ sym (length-map xs (λ s. text (lent s)))) (texts_at lent xs) e)
+    c.try_texts.ensures)

@@ -4,7 +4,7 @@ use Rattle.std.specs.Option.{is_none}
 use Rattle.std.proofs.lemmas.List.{length-drop}
 use Rattle.vortex_errors.specs.declared.error.VortexError.{VortexError}
 use Rattle.vortex_errors.proofs.Answering.{UnlessMemory-weaker}
-use Rattle.vortex_meaning.specs.Shipped.{shipped_arity, shipped_named}
+use Rattle.vortex_meaning.specs.Shipped.{shipped_arity, shipped_called}
 use Rattle.vortex_meaning.specs.Functions.{Function, function_arity}
 use Rattle.vortex_functions.specs.FunctionOf.{function_of}
 use Rattle.vortex_functions.specs.Binding.{IsCall, RefusesCall}
@@ -26,7 +26,7 @@ returns-then-len-count g c =
     ap is_none (sym (row_count_of c.self.view_is))
     ∙ ap not c.is_none.ensures
     ∙ ap (λ b. not (not b)) c.if-is_none.false in
-    let named = named_is (function_of c.in-Some.function) (shipped_named word) c.in-Some.ensures in
+    let named = named_is (function_of c.in-Some.function) (shipped_called word c.args.escape) c.in-Some.ensures in
     let f = named.0 in
     let n = least_count (shipped_arity f) in
     let count : c.least_count-count.result ≡ n =
@@ -36,7 +36,7 @@ returns-then-len-count g c =
     let few : taken n s.stack ≡ None =
     ap (taken n) (sym (stack_of c.self.view_is))
     ∙ too_few n items (omega (arith, all, count, c.if-len-count.true)) in
-    (no_arguments m word s known f named.1 few, refl)
+    (no_arguments m word c.args.escape s known f named.1 few, refl)
 
 pub returns-in_err-tree : goal.returns-in_err-tree
 returns-in_err-tree g c =
@@ -51,7 +51,7 @@ returns-in_err-tree g c =
     ap is_none (sym (row_count_of c.self.view_is))
     ∙ ap not c.is_none.ensures
     ∙ ap (λ b. not (not b)) c.if-is_none.false in
-    let named = named_is (function_of c.in-Some.function) (shipped_named word) c.in-Some.ensures in
+    let named = named_is (function_of c.in-Some.function) (shipped_called word c.args.escape) c.in-Some.ensures in
     let f = named.0 in
     let n = least_count (shipped_arity f) in
     let count : c.least_count-count.result ≡ n =
@@ -64,11 +64,11 @@ returns-in_err-tree g c =
     ap length c.in_ok-children.ensures.tail ∙ omega (arith, length-drop k items, counted) in
     let found = call_taken n items s.stack ts kept k (sym (stack_of c.self.view_is)) counted
     c.in_ok-children.ensures.tail c.in_ok-children.ensures.items in
-    let P = StepsTo m g.C.ScalarFnVTable.rules (call word) in
+    let P = StepsTo m g.C.ScalarFnVTable.rules (call word c.args.escape) in
     let e = c.in_err-tree.field-0.0 in
     let refusal : (d : VortexError) → RefusesCall m (function_of c.in-Some.function) ts d
     → P s (refuses d) =
-    λ d h. call_refused m word s known f named.1 ts _ found many d
+    λ d h. call_refused m word c.args.escape s known f named.1 ts _ found many d
     (subst (λ (x : Function _ _). RefusesCall m x ts d) named.2 h) in
     let memory = UnlessMemory-weaker (RefusesCall m (function_of c.in-Some.function) ts)
     (λ e. P s (refuses e)) refusal e c.in_err-tree.ensures in
@@ -88,7 +88,7 @@ returns g c =
     ap is_none (sym (row_count_of c.self.view_is))
     ∙ ap not c.is_none.ensures
     ∙ ap (λ b. not (not b)) c.if-is_none.false in
-    let named = named_is (function_of c.in-Some.function) (shipped_named word) c.in-Some.ensures in
+    let named = named_is (function_of c.in-Some.function) (shipped_called word c.args.escape) c.in-Some.ensures in
     let f = named.0 in
     let n = least_count (shipped_arity f) in
     let count : c.least_count-count.result ≡ n =
@@ -102,4 +102,4 @@ returns g c =
     let tree = c.in_ok-tree.tree in
     let made = subst (λ (x : Function _ _). IsCall m x ts tree) named.2 c.in_ok-tree.ensures in
     same_stacked _ s tree kept c.push.new.self.items c.self.view_is c.in_ok-push.ensures.items
-    ∙ call_made m word s known f named.1 ts _ found tree made
+    ∙ call_made m word c.args.escape s known f named.1 ts _ found tree made

@@ -1,12 +1,10 @@
-use Rattle.std.proofs.Common.{ap, ◌∙◌, sym, subst, arith}
-use Rattle.vortex_types.specs.LogicalTypes.{text_type}
-use Rattle.vortex_types.proofs.TypeViews.{type_of-Utf8}
-use Rattle.vortex_columns.specs.ValidityView.{FitsRows, validity_of}
+use Rattle.std.proofs.Common.{◌∙◌, refl}
+use Rattle.vortex_columns.specs.ValidityView.{validity_of}
+use Rattle.vortex_columns.proofs.OptionRows.{answers_texts}
 use Rattle.vortex_columns.proofs.column.Column.of_texts.Goals as goal
 
-pub invariant_of-result : goal.invariant_of-result
-invariant_of-result c = (
-  (type_of-Utf8 _ ∙ ap text_type c.nullability.ensures, sym c.len-len.ensures),
-  subst (FitsRows (validity_of c.args.validity)) (sym c.len-len.ensures) c.requires.0,
-  λ i h valid. c.requires.1 i (omega (arith, h, c.len-len.ensures)) valid,
-)
+pub returns : goal.returns
+returns c =
+    answers_texts _ c.args.rows.now c.deref.result.now (validity_of c.in_ok-option_validity.field-0)
+    refl (c.deref.ensures.value ∙ c.in_ok-values.ensures) c.in_ok-option_validity.ensures
+    c.try_texts.result c.try_texts.ensures

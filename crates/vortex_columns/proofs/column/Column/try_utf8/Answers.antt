@@ -6,8 +6,8 @@ use Rattle.std.proofs.lemmas.Str.{IsUtf8-string_bytes}
 use Rattle.vortex_columns.specs.ValidityView.{FitsRows, validity_of}
 use Rattle.vortex_columns.proofs.column.Column.try_utf8.Goals as goal
 
-pub of_texts-requires : goal.of_texts-requires
-of_texts-requires c =
+pub of_text_values-requires : goal.of_text_values-requires
+of_text_values-requires c =
     let same : c.in_ok-views.views ≡ map string_bytes c.args.values.items =
     c.in_ok-views.ensures.1 ∙ ap (map string_bytes) c.as_slice.ensures.value in
     let texts : All IsUtf8 c.in_ok-views.views =
