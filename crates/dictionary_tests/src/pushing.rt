@@ -128,10 +128,7 @@ fn a_fallible_function_over_values_that_are_all_used(rt: HostRuntime) {
 
 /// LIKE of a dictionary of three texts and a pattern.
 fn like(alloc: Global, pattern: &str) -> Pushed {
-    let options = LikeOptions {
-        negated: false,
-        case_insensitive: false,
-    };
+    let options = LikeOptions::default();
     let words = texts(alloc, &["plum", "pear", "fig"], Validity::NonNullable);
     let dictionary = dictionary(alloc, words, &[2, 1, 0, 1]);
     let pattern = one(alloc, Scalar::try_from_str(alloc, pattern));
