@@ -14,6 +14,8 @@ mod parts;
 #[cfg(test)]
 mod scalars;
 #[cfg(test)]
+mod taken;
+#[cfg(test)]
 mod types;
 #[cfg(test)]
 mod values;

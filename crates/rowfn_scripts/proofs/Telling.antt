@@ -186,7 +186,7 @@ module _ {V O : Type 0} (m : Meaning V O) where
     same_step h t u (column name c) a b = cc
     same_step h t u (get name) a b = cc
     same_step h t u (literal l) a b = cc
-    same_step h t u (call f) a b = cc
+    same_step h t u (call word chosen) a b = cc
     same_step h t u show a b = same_show t u s.row_count s.stack h a b
     same_step h t u optimize a b = same_optimized t u s.row_count s.stack a b
     same_step h t u run a b = same_run t u s.row_count s.stack a b
@@ -233,7 +233,7 @@ module _ {V O : Type 0} (m : Meaning V O) where
     no_refusal h t e (column name c) a b = cc
     no_refusal h t e (get name) a b = cc
     no_refusal h t e (literal l) a b = cc
-    no_refusal h t e (call f) a b = cc
+    no_refusal h t e (call word chosen) a b = cc
     no_refusal h t e show a b = show_never_refuses e s.row_count s.stack h b
     no_refusal h t e optimize a b = optimize_never_refuses e s.row_count s.stack b
     no_refusal h t e run a b = run_once t e s.row_count s.stack a b
@@ -274,7 +274,7 @@ module _ {V O : Type 0} (m : Meaning V O) where
     no_malformed h t (column name c) a b = cc
     no_malformed h t (get name) a b = cc
     no_malformed h t (literal l) a b = cc
-    no_malformed h t (call f) a b = cc
+    no_malformed h t (call word chosen) a b = cc
     no_malformed h t show a b = show_well t s.row_count s.stack h a b
     no_malformed h t optimize a b = optimize_well t s.row_count s.stack a b
     no_malformed h t run a b = run_well t s.row_count s.stack a b

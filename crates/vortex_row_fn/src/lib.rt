@@ -43,6 +43,7 @@ pub use vortex_columns::ViewsBuilder;
 pub use vortex_columns::VortexError;
 pub use vortex_columns::VortexResult;
 pub use vortex_columns::cell_of;
+pub use vortex_dictionary::DictColumn;
 pub use vortex_encoded::BooleanExecuteAdaptor;
 pub use vortex_encoded::BooleanKernel;
 pub use vortex_encoded::CompareExecuteAdaptor;

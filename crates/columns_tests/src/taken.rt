@@ -1,0 +1,235 @@
+//! Rows that are taken of columns of each kind.
+ghost use Rattle.std.specs.Prelude.{◌<◌, ◌↔◌, IsTrue, All};
+
+use crate::columns::{byte_lists, lists};
+use fixtures::{Made, constant, kept, names, nullable_bools, nullable_ints, numbers, texts, yes};
+use std::alloc::Global;
+use std::cmp::Ordering;
+use vortex_columns::{Column, ExecutionCtx, PType, Validity, VortexResult};
+
+/// Whether each code is below this count.
+fn are_below(codes: &[u32], count: usize) -> bool
+    ensures { IsTrue result ↔ All (λ code. code < count) codes.now }
+{
+    for code in codes {
+        if *code as usize >= count {
+            return false;
+        }
+    }
+    true
+}
+
+/// Whether two columns have the same type and the same rows.
+fn alike(left: &Column, right: &Column) -> bool {
+    if left.len() != right.len() || !(*left.dtype() == *right.dtype()) {
+        return false;
+    }
+    for i in 0..left.len() {
+        if i >= right.len() || left.compare_rows(i, right, i) != Ordering::Equal {
+            return false;
+        }
+    }
+    true
+}
+
+/// Whether the rows of these numbers are those of another column, which is a constant or none as the first is.
+fn takes(alloc: Global, column: &Column, codes: &[u32], wanted: &Column) -> VortexResult<bool> {
+    if !are_below(codes, column.len()) {
+        return Ok(false);
+    }
+    let taken = kept(alloc, column.take(codes, &mut ExecutionCtx::new(alloc)))?;
+    let constant = taken.as_constant().is_some() == column.as_constant().is_some();
+    Ok(constant && alike(&*taken, wanted))
+}
+
+/// The same of columns on the heap.
+fn gives(alloc: Global, column: Made, codes: &[u32], wanted: Made) -> VortexResult<bool> {
+    takes(alloc, &*column?, codes, &*wanted?)
+}
+
+#[test]
+fn integers_are_taken(rt: HostRuntime) {
+    let alloc = rt.alloc();
+    let wanted = numbers(alloc, &[30i32, 10, 30, 20]);
+    assert!(rt;
+        yes(gives(
+            alloc,
+            numbers(alloc, &[10i32, 20, 30]),
+            &[2, 0, 2, 1],
+            wanted
+        ))
+    );
+    let wanted = numbers(alloc, &[0u64, u64::MAX]);
+    assert!(rt; yes(gives(alloc, numbers(alloc, &[u64::MAX, 0]), &[1, 0], wanted)));
+    let wanted = numbers(alloc, &[-128i8]);
+    assert!(rt; yes(gives(alloc, numbers(alloc, &[127i8, -128]), &[1], wanted)));
+    let rows = [Some(1), None, Some(3)];
+    let wanted = nullable_ints(alloc, &[None, Some(3), None]);
+    assert!(rt; yes(gives(alloc, nullable_ints(alloc, &rows), &[1, 2, 1], wanted)));
+}
+
+/// The codes 0, 1 and 2 in turn, so many of them, and the truth values that they name.
+fn in_turn(alloc: Global, count: u32) -> VortexResult<(Vec<u32>, Vec<Option<bool>>)> {
+    let mut codes = Vec::new(alloc);
+    let mut rows = Vec::new(alloc);
+    for i in 0..count {
+        codes.push(i % 3)?;
+        rows.push(match i % 3 {
+            0 => Some(true),
+            1 => None,
+            _ => Some(false),
+        })?;
+    }
+    Ok((codes, rows))
+}
+
+/// Whether so many truth values are taken, in words of 64 and a rest.
+fn takes_in_turn(alloc: Global, count: u32) -> VortexResult<bool> {
+    let (codes, rows) = in_turn(alloc, count)?;
+    let column = nullable_bools(alloc, &[Some(true), None, Some(false)]);
+    gives(alloc, column, &codes, nullable_bools(alloc, &rows))
+}
+
+#[test]
+fn truth_values_are_taken(rt: HostRuntime) {
+    let alloc = rt.alloc();
+    assert!(rt; yes(takes_in_turn(alloc, 0)));
+    assert!(rt; yes(takes_in_turn(alloc, 64)));
+    assert!(rt; yes(takes_in_turn(alloc, 131)));
+}
+
+fn short_and_long(alloc: Global) -> Made {
+    texts(alloc, &["a", "hello, world, again", ""], Validity::AllValid)
+}
+
+/// Byte strings, short and long.
+fn bytes(alloc: Global, values: &[&[u8]]) -> Made {
+    let mut rows = Vec::new(alloc);
+    for value in values {
+        rows.push(value.to_vec(alloc)?)?;
+    }
+    kept(
+        alloc,
+        Column::try_binary(alloc, rows, Validity::NonNullable),
+    )
+}
+
+#[test]
+fn texts_and_bytes_are_taken(rt: HostRuntime) {
+    let alloc = rt.alloc();
+    let words = ["hello, world, again", "", "a", "hello, world, again"];
+    let wanted = texts(alloc, &words, Validity::AllValid);
+    assert!(rt; yes(gives(alloc, short_and_long(alloc), &[1, 2, 0, 1], wanted)));
+    let column = bytes(alloc, &[&[255], b"more than twelve bytes"]);
+    let wanted = bytes(alloc, &[b"more than twelve bytes", &[255]]);
+    assert!(rt; yes(gives(alloc, column, &[1, 0], wanted)));
+    assert!(rt; yes(gives(alloc, byte_lists(alloc), &[0], byte_lists(alloc))));
+}
+
+/// Records of a number and a name.
+fn people(alloc: Global, ages: &[i32], words: &[&str]) -> Made {
+    let mut fields = Vec::new(alloc);
+    let values = ages.to_vec(alloc)?;
+    fields.push(Column::try_primitive(alloc, values, Validity::NonNullable)?)?;
+    fields.push(Column::try_utf8(alloc, names(alloc, words)?, Validity::NonNullable)?)?;
+    let names = names(alloc, &["age", "name"])?;
+    kept(
+        alloc,
+        Column::try_struct(alloc, names, fields, ages.len(), Validity::AllValid),
+    )
+}
+
+/// One map for each offset and size, of integers to themselves.
+fn identities(alloc: Global, offsets: &[usize], sizes: &[usize]) -> Made {
+    let values = [5, 6, 7].to_vec(alloc)?;
+    let keys = Column::try_primitive(alloc, values, Validity::NonNullable)?;
+    let values = keys.try_clone(alloc)?;
+    let (offsets, sizes) = (offsets.to_vec(alloc)?, sizes.to_vec(alloc)?);
+    kept(
+        alloc,
+        Column::try_map(alloc, keys, values, offsets, sizes, Validity::NonNullable),
+    )
+}
+
+#[test]
+fn records_lists_and_maps_are_taken(rt: HostRuntime) {
+    let alloc = rt.alloc();
+    let wanted = people(alloc, &[8, 9, 8], &["bo", "al", "bo"]);
+    assert!(rt;
+        yes(gives(
+            alloc,
+            people(alloc, &[9, 8], &["al", "bo"]),
+            &[1, 0, 1],
+            wanted
+        ))
+    );
+    let wanted = lists(alloc, [1, 0], [1, 2]);
+    assert!(rt; yes(gives(alloc, lists(alloc, [0, 1], [2, 1]), &[1, 0], wanted)));
+    let wanted = identities(alloc, &[0, 1, 0], &[1, 2, 1]);
+    assert!(rt;
+        yes(gives(
+            alloc,
+            identities(alloc, &[1, 0], &[2, 1]),
+            &[1, 0, 1],
+            wanted
+        ))
+    );
+}
+
+/// Lists of one size of these integers.
+fn fixed_of(alloc: Global, values: &[i32], size: u32, len: usize) -> VortexResult<Column> {
+    let elements = Column::try_primitive(alloc, values.to_vec(alloc)?, Validity::NonNullable)?;
+    Column::try_fixed_size_list(alloc, elements, size, len, Validity::NonNullable)
+}
+
+/// The same, on the heap.
+fn fixed_sizes(alloc: Global, values: &[i32], size: u32, len: usize) -> Made {
+    kept(alloc, fixed_of(alloc, values, size, len))
+}
+
+/// So many pairs of pairs of integers.
+fn pairs_of_pairs(alloc: Global, values: &[i32], len: usize) -> Made {
+    let pairs = fixed_of(alloc, values, 2, values.len() / 2)?;
+    kept(
+        alloc,
+        Column::try_fixed_size_list(alloc, pairs, 2, len, Validity::AllValid),
+    )
+}
+
+#[test]
+fn lists_of_one_size_are_taken(rt: HostRuntime) {
+    let alloc = rt.alloc();
+    let column = fixed_sizes(alloc, &[1, 2, 3, 4, 5, 6], 2, 3);
+    let wanted = fixed_sizes(alloc, &[5, 6, 1, 2], 2, 2);
+    assert!(rt; yes(gives(alloc, column, &[2, 0], wanted)));
+    let column = pairs_of_pairs(alloc, &[1, 2, 3, 4, 5, 6, 7, 8], 2);
+    let wanted = pairs_of_pairs(alloc, &[5, 6, 7, 8, 5, 6, 7, 8], 2);
+    assert!(rt; yes(gives(alloc, column, &[1, 1], wanted)));
+    let wanted = fixed_sizes(alloc, &[], 0, 4);
+    assert!(rt; yes(gives(alloc, fixed_sizes(alloc, &[], 0, 3), &[2, 2, 0, 1], wanted)));
+}
+
+fn nulls(alloc: Global, len: usize) -> Made {
+    kept(alloc, Ok(Column::null(len)))
+}
+
+#[test]
+fn nulls_and_constants_are_taken(rt: HostRuntime) {
+    let alloc = rt.alloc();
+    assert!(rt; yes(gives(alloc, nulls(alloc, 2), &[1, 1, 0], nulls(alloc, 3))));
+    let column = constant(alloc, PType::I32, 1, 2);
+    assert!(rt; yes(gives(alloc, column, &[0, 1, 1], constant(alloc, PType::I32, 1, 3))));
+}
+
+#[test]
+fn no_codes_take_no_rows(rt: HostRuntime) {
+    let alloc = rt.alloc();
+    let none = texts(alloc, &[], Validity::AllValid);
+    assert!(rt; yes(gives(alloc, short_and_long(alloc), &[], none)));
+    let none = people(alloc, &[], &[]);
+    assert!(rt; yes(gives(alloc, people(alloc, &[9], &["al"]), &[], none)));
+    let none = fixed_sizes(alloc, &[], 2, 0);
+    assert!(rt; yes(gives(alloc, fixed_sizes(alloc, &[1, 2], 2, 1), &[], none)));
+    let none = constant(alloc, PType::I32, 1, 0);
+    assert!(rt; yes(gives(alloc, constant(alloc, PType::I32, 1, 2), &[], none)));
+}

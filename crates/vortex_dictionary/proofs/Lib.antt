@@ -1,0 +1,5 @@
+pub mod Marks
+pub mod CallInputs
+pub mod CodedRows
+pub mod PushedRows
+pub mod PushedDown

@@ -1,0 +1,5 @@
+pub mod Dictionary
+pub mod Kept
+pub mod Laws
+pub mod PushDown
+pub mod Words
