@@ -1,9 +1,9 @@
 -- Where some row of a tree faults there is a first call that faults.
-use Rattle.std.proofs.Common.{◌≡◌, ℕ, zero, suc, ◌<◌, ◌⊎◌, refl, inl, inr, arith, nat_eq, Bool, true, false}
+use Rattle.std.proofs.Common.{◌≡◌, ℕ, zero, suc, ◌<◌, ◌⊎◌, List, refl}
+use Rattle.std.proofs.Common.{sym, subst, inl, inr, arith, nat_eq, Bool, true, false}
 use Rattle.vortex_errors.specs.declared.error.VortexError.{VortexError}
-use Rattle.vortex_types.specs.Values.{Value}
 use Rattle.vortex_columns.specs.ColumnView.{ColumnView}
-use Rattle.vortex_meaning.specs.Outcomes.{Outcome, gives, faults, Fault, GivesValue, error_of}
+use Rattle.vortex_meaning.specs.Outcomes.{Outcome, gives, faults, GivesValue, error_of}
 use Rattle.vortex_meaning.specs.Outcomes.{IsRowFault}
 use Rattle.vortex_meaning.specs.Meaning.{Meaning}
 use Rattle.vortex_meaning.specs.Trees.{Tree, leaf, constant, call, Trees, no_trees, tree}
@@ -38,13 +38,22 @@ search_one outcome n x here (inr (e, fault)) =
 search_one outcome n (gives v) here (inl before) =
     inl (more_values outcome n before (subst GivesValue (sym here) tt))
 search_one outcome n (faults x) here (inl before) =
-    inr (error_of x, record { at = n; below = arith; fault = x; here = here; told = refl })
+    inr (error_of x, record { at = n; below = omega arith; fault = x; here = here; told = refl })
 
 search_rows : (outcome : ℕ → Outcome) (n : ℕ) → Searched outcome n
 search_rows outcome zero = inl (λ i lt. absurd (grind (arith, lt)))
 search_rows outcome (suc n) = search_one outcome n (outcome n) refl (search_rows outcome n)
 
 module _ {V O : Type 0} (m : Meaning V O) (cs : List ColumnView) (n : ℕ) where
+  joined : (t : Tree V O) (ts : Trees V O)
+      → Settled m cs n t ⊎ ((e : VortexError) × IsFirstFault m cs n t e)
+      → AllSettled m cs n ts ⊎ ((e : VortexError) × IsFirstFaultIn m cs n ts e)
+      → AllSettled m cs n (tree t ts)
+      ⊎ ((e : VortexError) × IsFirstFaultIn m cs n (tree t ts) e)
+  joined t ts (inr (e, first)) later = inr (e, inl first)
+  joined t ts (inl h) (inr (e, first)) = inr (e, inr (h, first))
+  joined t ts (inl h) (inl hs) = inl (h, hs)
+
   mutual
     settled_or_faulty : (t : Tree V O)
         → Settled m cs n t ⊎ ((e : VortexError) × IsFirstFault m cs n t e)
@@ -69,15 +78,6 @@ module _ {V O : Type 0} (m : Meaning V O) (cs : List ColumnView) (n : ℕ) where
     all_settled_or_faulty no_trees = inl tt
     all_settled_or_faulty (tree t ts) =
         joined t ts (settled_or_faulty t) (all_settled_or_faulty ts)
-
-    joined : (t : Tree V O) (ts : Trees V O)
-        → Settled m cs n t ⊎ ((e : VortexError) × IsFirstFault m cs n t e)
-        → AllSettled m cs n ts ⊎ ((e : VortexError) × IsFirstFaultIn m cs n ts e)
-        → AllSettled m cs n (tree t ts)
-        ⊎ ((e : VortexError) × IsFirstFaultIn m cs n (tree t ts) e)
-    joined t ts (inr (e, first)) later = inr (e, inl first)
-    joined t ts (inl h) (inr (e, first)) = inr (e, inr (h, first))
-    joined t ts (inl h) (inl hs) = inl (h, hs)
 
   pub first_fault_of : (t : Tree V O) → FaultsSomewhere m cs n t
       → (e : VortexError) × IsFirstFault m cs n t e
