@@ -3,7 +3,7 @@ use Rattle.std.proofs.Common.{◌≡◌, ◌⊎◌, inl, inr, ℕ, ◌+◌, ◌<
 use Rattle.std.proofs.Common.{None, List, [], ◌∷◌, ◌++◌, length, map, refl, sym, ap, subst, ◌∙◌}
 use Rattle.std.proofs.Common.{arith, length-append, cond}
 use Rattle.std.specs.Prelude.{ℤ, pos, not, ◌||◌, ◌≤ℤ◌, int_lt, Result, slice_index_or}
-use Rattle.std.specs.Prelude.{MatchOption, IsSome, IfNone, is_some}
+use Rattle.std.specs.Prelude.{MatchOption, IsSome, IfNone, IfSome, is_some}
 use Rattle.std.specs.Bool.{FalseIff}
 use Rattle.std.proofs.lemmas.Int.{ints}
 use Rattle.std.proofs.lemmas.List.{length-map}
@@ -229,6 +229,12 @@ pub none_found : {A : Type 0} (F : Type 0) (Q : A → Type 0) (o : Option A) →
     → MatchOption o F Q → F
 none_found F Q None none h = h
 none_found F Q (Some x) none h = cc
+
+pub some_is : {A : Type 0} (P : A → Type 0) (o : Option A) (x : A) → o ≡ Some x → IfSome o P → P x
+some_is P None x e h = cc
+some_is P (Some y) x e h =
+    let same : y ≡ x = cc in
+    subst P same h
 
 -- evidence that equals the default
 pub no_fault : (unlike same fault : Bool) → unlike ≡ not same → same ≡ not fault → unlike ≡ false

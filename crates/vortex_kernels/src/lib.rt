@@ -14,6 +14,7 @@ pub mod null_tests;
 mod numbers;
 pub mod numeric;
 mod pairs;
+mod row_operation;
 mod truths;
 mod validity;
 

@@ -1,10 +1,10 @@
 use Rattle.std.proofs.Common.{length, sym, ◌∙◌, arith}
 use Rattle.vortex_columns.specs.ValidityView.{validity_of}
 use Rattle.vortex_kernels.specs.Numeric.{row_results, FitWhereValid, FaultsAt}
-use Rattle.vortex_kernels.proofs.Calculating.{numeric_answers, found_refuses, none_found, no_fault}
+use Rattle.vortex_kernels.proofs.Calculating.{numeric_answers, found_refuses, none_found}
 use Rattle.vortex_kernels.proofs.numeric.numeric_rows.Goals as goal
-use Rattle.vortex_kernels.proofs.numeric.numeric_rows.Goals.{else-ne-via-then-ne+else-is_some}
-use Rattle.vortex_kernels.proofs.numeric.numeric_rows.Goals.{else-ne-via-else-ne}
+use Rattle.vortex_kernels.proofs.numeric.numeric_rows.Goals.{else-fault-via-then-fault+else-is_some}
+use Rattle.vortex_kernels.proofs.numeric.numeric_rows.Goals.{else-fault-via-else-fault}
 
 pub returns-then-is_some : goal.returns-then-is_some
 returns-then-is_some g c =
@@ -29,20 +29,14 @@ returns g c =
     let l = c.args.lhs.now in
     let r = c.args.rhs.now in
     let results = row_results exact left right in
-    let laws = g.met.O.Fail.Failure.evidence in
-    let fault = c.in_ok-values.fault in
     let fits : FitWhereValid p results l r (length l.rows) =
-    elim c.else-ne.branch [
-      | else-ne-via-then-ne+else-is_some w ↦
+    elim c.else-fault.branch [
+      | else-fault-via-then-fault+else-is_some w ↦
           none_found (FitWhereValid p results l r (length l.rows)) (FaultsAt p results l r)
           w.faulty_row.result (sym w.is_some.ensures ∙ w.if-is_some.false) w.faulty_row.ensures
-      | else-ne-via-else-ne w ↦
+      | else-fault-via-else-fault w ↦
           λ i lt valid.
-          c.in_ok-values.ensures.fault
-          (no_fault c.ne.result (g.O.Fail.PartialEq.eq fault c.default.result)
-          (g.O.Fail.Failure.is_fault fault) c.ne.ensures
-          (laws.told fault c.default.result c.default.ensures) w.if-ne.false)
-          i (omega (arith, c.len.ensures, lt))
+          c.in_ok-values.ensures.fault w.if-fault.false i (omega (arith, c.len.ensures, lt))
     ] in
     numeric_answers c.args.operator p exact left right l r c.requires.exact c.requires.left.each
     (λ i lt. c.requires.right.each i (omega (arith, c.requires.lengths, lt))) c.requires.types
