@@ -77,7 +77,7 @@ tells_more p exact n told e joined o h same fault is none i lt =
     by false false k fits neither (inr q) = rw q (subst (FitsResult p) same fits)
 
 -- the integer type holds the result, or the row faults
-within_not : (least greatest z : ℤ) → (least ≤ℤ z) × (z ≤ℤ greatest)
+pub within_not : (least greatest z : ℤ) → (least ≤ℤ z) × (z ≤ℤ greatest)
     → is_outside least greatest z ≡ false
 within_not least greatest z h = by (int_lt z least) (int_lt greatest z) refl refl
   where
@@ -87,7 +87,7 @@ within_not least greatest z h = by (int_lt z least) (int_lt greatest z) refl ref
     by false true e f = absurd (omega (arith, ints, h.1, f))
     by false false e f = λ i. e i || f i
 
-inside_is : (least greatest z : ℤ) → is_outside least greatest z ≡ false
+pub inside_is : (least greatest z : ℤ) → is_outside least greatest z ≡ false
     → (least ≤ℤ z) × (z ≤ℤ greatest)
 inside_is least greatest z h = by (int_lt z least) (int_lt greatest z) refl refl h
   where

@@ -8,6 +8,7 @@ mod bounds;
 pub mod cast;
 pub mod compare;
 mod comparisons;
+mod faults;
 mod integer_types;
 pub mod kleene;
 pub mod null_tests;

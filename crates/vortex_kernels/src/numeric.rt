@@ -1,15 +1,16 @@
 //! Arithmetic of columns of one integer type, exact in each row.
-ghost use Rattle.std.specs.Prelude.{◌≡◌, ◌<◌, ℕ, true, length, map, MatchOption, Some};
+ghost use Rattle.std.specs.Prelude.{◌≡◌, ◌<◌, ℕ, true, length, map, Some};
 ghost use Rattle.std.specs.Prelude.{IfOk, IfSome, IsSome};
 ghost use Rattle.vortex_kernels.specs.Words.{Answers, AnswersUnlessMemory, integer_of_both};
 ghost use Rattle.vortex_kernels.specs.Words.{AnswersNumeric, RefusesNumeric};
 ghost use Rattle.vortex_kernels.specs.Words.{IsExactOf, row_results, AreNumbers};
-ghost use Rattle.vortex_kernels.specs.Words.{AreResults, TellsFaults, FitWhereValid, FaultsAt};
+ghost use Rattle.vortex_kernels.specs.Words.{AreResults, TellsFaults};
 ghost use Rattle.vortex_kernels.specs.Words.{HasScalarRows, IsConstantOf, null_of, number, type_of};
 ghost use Rattle.vortex_kernels.specs.Words.{KeepsTwoConstants, AreInts};
 ghost use Rattle.vortex_kernels.specs.Faults.{AreHeldResults};
 
 use crate::arithmetic_integer::{ArithmeticInteger, apply_checked};
+use crate::faults::faulty_row;
 use crate::integer_types::with_integer;
 use crate::numbers::{ListedNumbers, Numbers, OneNumber};
 use crate::pairs::constant_int;
@@ -97,37 +98,8 @@ fn checked_rows<T: ArithmeticInteger, O: RowOperation<T>, L: Numbers<T>, R: Numb
     Ok((values, fault != O::Fail::default()))
 }
 
-/// The first row that faults and is null on neither side.
-fn faulty_row<T: ArithmeticInteger, O: RowOperation<T>, L: Numbers<T>, R: Numbers<T>>(
-    left: &L,
-    right: &R,
-    lhs: &Column,
-    rhs: &Column,
-) -> Option<usize>
-    requires lengths { length lhs.now.rows ≡ length rhs.now.rows }
-    requires left { (i : ℕ) → i < length lhs.now.rows → L.has_row left.now i }
-    requires right { (i : ℕ) → i < length lhs.now.rows → R.has_row right.now i }
-    ensures { MatchOption result
-        (FitWhereValid T.ptype
-        (row_results O.exact (L.number_at left.now) (R.number_at right.now))
-        lhs.now rhs.now (length lhs.now.rows))
-        (FaultsAt T.ptype
-        (row_results O.exact (L.number_at left.now) (R.number_at right.now))
-        lhs.now rhs.now) }
-{
-    for i in 0..lhs.len() {
-        if lhs.is_valid(i) && rhs.is_valid(i) {
-            let (_, evidence) = apply_checked::<T, O>(left.at(i), right.at(i));
-            if evidence != O::Fail::default() {
-                return Some(i);
-            }
-        }
-    }
-    None
-}
-
-/// The operation in each row, of columns of equal length, whose integers are read in the form of each side. Rows are
-/// looked at one by one only where any of them faults, be it under a null.
+/// The operation in each row, of columns of equal length, whose integers are read in the form of each side. It is asked
+/// which rows fault only where any does, be it under a null.
 fn numeric_rows<T: ArithmeticInteger, O: RowOperation<T>, L: Numbers<T>, R: Numbers<T>>(
     left: &L,
     right: &R,
@@ -144,11 +116,13 @@ fn numeric_rows<T: ArithmeticInteger, O: RowOperation<T>, L: Numbers<T>, R: Numb
     ensures { Answers result (AnswersNumeric operator lhs.now rhs.now)
         (RefusesNumeric operator lhs.now rhs.now) }
 {
-    let (values, fault) = checked_rows::<T, O, L, R>(ctx.alloc(), left, right, lhs.len())?;
-    if fault && faulty_row::<T, O, L, R>(left, right, lhs, rhs).is_some() {
+    let (values, may_fault) = checked_rows::<T, O, L, R>(ctx.alloc(), left, right, lhs.len())?;
+    let validity = both_valid(ctx.alloc(), lhs, rhs)?;
+    if may_fault
+        && faulty_row::<T, O, L, R>(ctx.alloc(), left, right, lhs, rhs, &validity)?.is_some()
+    {
         return Err(VortexError::Arithmetic(operator));
     }
-    let validity = both_valid(ctx.alloc(), lhs, rhs)?;
     Column::try_primitive(ctx.alloc(), values, validity)
 }
 
