@@ -70,7 +70,10 @@ impl Sides {
 
     /// Whether both are as they were, and a call that was lent them answers this column.
     pub fn answer(&self, answer: Made, wanted: &Column) -> VortexResult<bool> {
-        Ok(self.stay() && are_same(&*answer?, wanted))
+        if !self.stay() {
+            return Ok(false);
+        }
+        Ok(are_same(&*answer?, wanted))
     }
 }
 
@@ -100,7 +103,21 @@ impl Table {
         answer: VortexResult<Cow<'_, Column>>,
         wanted: &Column,
     ) -> VortexResult<bool> {
+        if !are_all_same(&self.columns, &self.copies) {
+            return Ok(false);
+        }
         let answer = Box::new(alloc, answer?)?;
-        Ok(are_all_same(&self.columns, &self.copies) && are_same(&**answer, wanted))
+        Ok(are_same(&**answer, wanted))
+    }
+}
+
+/// How a call answers, if what it was lent is as it was.
+pub fn unless_changed(
+    is_as_it_was: VortexResult<bool>,
+    answer: VortexResult<bool>,
+) -> VortexResult<bool> {
+    match is_as_it_was {
+        Ok(true) => answer,
+        _ => is_as_it_was,
     }
 }

@@ -98,21 +98,19 @@ fn calculates(alloc: Global, operator: NumericOperator, wanted: Made) -> VortexR
     sides.answer(kept(alloc, answer), &*wanted)
 }
 
-/// True and false beside the rows that are not null: true, null.
-fn first_alone(alloc: Global) -> VortexResult<(BitBuffer, Validity)> {
-    let bits = BitBuffer::from_bools(alloc, &[true, false])?;
+/// A truth value and a null, as bits beside the rows that are not null.
+fn first_alone(alloc: Global, first: bool) -> VortexResult<(BitBuffer, Validity)> {
+    let bits = BitBuffer::from_bools(alloc, &[first, true])?;
     let valid = BitBuffer::from_bools(alloc, &[true, false])?;
     Ok((bits, Validity::Array(valid)))
 }
 
-/// An operator over true, null and over true, false.
+/// An operator over true, null and over false, null.
 fn over_bits(alloc: Global, operator: Operator) -> Made {
-    let (left, left_valid) = first_alone(alloc)?;
-    let (right, right_valid) = (
-        BitBuffer::from_bools(alloc, &[true, false])?,
-        Validity::NonNullable,
-    );
-    if left.len() != right.len() || !left_valid.fits(left.len()) {
+    let (left, left_valid) = first_alone(alloc, true)?;
+    let (right, right_valid) = first_alone(alloc, false)?;
+    let len = left.len();
+    if right.len() != len || !left_valid.fits(len) || !right_valid.fits(len) {
         return Err(VortexError::InvalidColumn);
     }
     let mut ctx = ExecutionCtx::new(alloc);
@@ -150,7 +148,7 @@ pub fn ask(alloc: Global, tally: &mut Tally) {
         "execute_numeric",
         calculates(alloc, NumericOperator::Add, sums),
     );
-    let both = nullable_bools(alloc, &[Some(true), Some(false)]);
+    let both = nullable_bools(alloc, &[Some(false), None]);
     tally.note(
         "kleene_boolean_buffers, And",
         is_over_bits(over_bits(alloc, Operator::And), both),

@@ -1,6 +1,6 @@
 //! Rules over trees and arrays, which are lent: nodes, lists of steps, and runs.
 
-use crate::comparing::are_same;
+use crate::comparing::{are_same, unless_changed};
 use crate::seen::Tally;
 use crate::trees::{UNKNOWN, missing, two_rows, unknown};
 use fixtures::{Made, kept, nullable_bools};
@@ -21,7 +21,8 @@ fn runs<C: ScalarFnRules>(alloc: Global, tree: Tree<C>, wanted: Made) -> VortexR
     let (tree, wanted, table) = (tree?, wanted?, two_rows(alloc)?);
     let mut ctx = ExecutionCtx::new(alloc);
     let answer = run(&*tree, table.columns(), 2, 10, &mut ctx);
-    Ok(table.answer(alloc, answer, &*wanted)? && has_text(alloc, &*tree, UNKNOWN)?)
+    let answer = table.answer(alloc, answer, &*wanted);
+    unless_changed(has_text(alloc, &*tree, UNKNOWN), answer)
 }
 
 /// And of a constant true of nullable Bool and of true, false, true.
@@ -32,21 +33,32 @@ fn true_and_rows<C: ScalarFnVTable>(alloc: Global) -> Held<C> {
     over_columns(alloc, truths, Operator::And, rows)
 }
 
-/// Whether a run over an array answers this column, and the array still answers its rows.
-fn runs_array<C: ScalarFnRules>(alloc: Global, array: Held<C>, wanted: Made) -> VortexResult<bool> {
-    let (array, wanted) = (array?, wanted?);
-    let mut ctx = ExecutionCtx::new(alloc);
-    let answer = kept(alloc, run_array(&*array, 10, &mut ctx))?;
-    Ok(are_same(&*answer, &*wanted) && array_answers(alloc, Ok(array), &ROWS)?)
+/// Whether a column is this one.
+fn is_column(column: Made, wanted: Made) -> VortexResult<bool> {
+    Ok(are_same(&*column?, &*wanted?))
 }
 
-/// Whether two steps make the tree that no rule applies to, and the tree itself is not changed.
+/// Whether a run over an array answers this column, and the array still answers its rows.
+fn runs_array<C: ScalarFnRules>(alloc: Global, array: Held<C>, wanted: Made) -> VortexResult<bool> {
+    let array = array?;
+    let mut ctx = ExecutionCtx::new(alloc);
+    let answer = kept(alloc, run_array(&*array, 10, &mut ctx));
+    let answer = is_column(answer, wanted);
+    unless_changed(array_answers(alloc, Ok(array), &ROWS), answer)
+}
+
+/// Whether two steps, one of which is at a place below, make the tree that no rule applies to.
+fn is_split<C: ScalarFnRules>(alloc: Global, tree: &BoundExpression<C>) -> VortexResult<bool> {
+    let steps: [(&[usize], Rule); 2] = [(&[], Rule::Reduce), (&[0, 0], Rule::Reduce)];
+    let made = Box::new(alloc, rewrite_list(alloc, tree, &steps)?)?;
+    Ok(made.applied == 2 && has_text(alloc, &made.tree, SPLIT)?)
+}
+
+/// The same, and the tree itself is not changed.
 fn lists<C: ScalarFnRules>(alloc: Global, tree: Tree<C>) -> VortexResult<bool> {
     let tree = tree?;
-    let steps: [(&[usize], Rule); 2] = [(&[], Rule::Reduce), (&[0, 0], Rule::Reduce)];
-    let made = Box::new(alloc, rewrite_list(alloc, &*tree, &steps)?)?;
-    let is_made = made.applied == 2 && has_text(alloc, &made.tree, SPLIT)?;
-    Ok(is_made && has_text(alloc, &*tree, UNKNOWN)?)
+    let answer = is_split(alloc, &*tree);
+    unless_changed(has_text(alloc, &*tree, UNKNOWN), answer)
 }
 
 /// Not of column `a`.
@@ -66,32 +78,51 @@ fn stands_for<C: ScalarFnRules>(
     has_text(alloc, node.expression(), wanted)
 }
 
-/// Whether the child of a node with a tree of its own is a copy, and the node stays.
-fn has_child<C: ScalarFnRules>(alloc: Global, tree: Tree<C>) -> VortexResult<bool> {
-    let node = ExpressionReduceNode::new(Cow::Owned(Box::into_inner(tree?)));
+/// Whether the child of a node is the leaf of column `a`.
+fn is_child<C: ScalarFnRules>(
+    alloc: Global,
+    node: &ExpressionReduceNode<'_, C>,
+) -> VortexResult<bool> {
     if node.child_count() != 1 {
         return Ok(false);
     }
     let child = node.child(alloc, 0)?;
-    Ok(stands_for(alloc, &child, "$.a")? && stands_for(alloc, &node, TURNED)?)
+    stands_for(alloc, &child, "$.a")
 }
 
-/// Whether a node makes the call of Not on itself, and stays.
+/// The same of a node with a tree of its own, which stays.
+fn has_child<C: ScalarFnRules>(alloc: Global, tree: Tree<C>) -> VortexResult<bool> {
+    let node = ExpressionReduceNode::new(Cow::Owned(Box::into_inner(tree?)));
+    let answer = is_child(alloc, &node);
+    unless_changed(stands_for(alloc, &node, TURNED), answer)
+}
+
+/// Whether a node makes the call of Not on itself.
+fn is_turned<C: ScalarFnRules>(alloc: Global, tree: &BoundExpression<C>) -> VortexResult<bool> {
+    let children = [ExpressionReduceNode::new(Cow::Borrowed(tree))];
+    let made = children[0].new_node(alloc, ScalarFnRef::Not, &children)?;
+    stands_for(alloc, &made, "vortex.not(vortex.not($.a))")
+}
+
+/// The same, and its tree stays.
 fn makes_node<C: ScalarFnRules>(alloc: Global, tree: Tree<C>) -> VortexResult<bool> {
     let tree = tree?;
-    let children = [ExpressionReduceNode::new(Cow::Borrowed(&*tree))];
-    let function = ScalarFnRef::Not;
-    let made = children[0].new_node(alloc, function, &children)?;
-    let is_made = stands_for(alloc, &made, "vortex.not(vortex.not($.a))")?;
-    Ok(is_made && has_text(alloc, &*tree, TURNED)?)
+    let answer = is_turned(alloc, &*tree);
+    unless_changed(has_text(alloc, &*tree, TURNED), answer)
 }
 
-/// Whether a node makes a literal, and stays.
+/// Whether a node makes the literal true.
+fn is_literal<C: ScalarFnRules>(alloc: Global, tree: &BoundExpression<C>) -> VortexResult<bool> {
+    let node = ExpressionReduceNode::new(Cow::Borrowed(tree));
+    let made = node.new_constant(alloc, Scalar::from(true))?;
+    stands_for(alloc, &made, "true")
+}
+
+/// The same, and its tree stays.
 fn makes_literal<C: ScalarFnRules>(alloc: Global, tree: Tree<C>) -> VortexResult<bool> {
     let tree = tree?;
-    let node = ExpressionReduceNode::new(Cow::Borrowed(&*tree));
-    let made = node.new_constant(alloc, Scalar::from(true))?;
-    Ok(stands_for(alloc, &made, "true")? && has_text(alloc, &*tree, TURNED)?)
+    let answer = is_literal(alloc, &*tree);
+    unless_changed(has_text(alloc, &*tree, TURNED), answer)
 }
 
 /// Whether a node over an array makes a constant of its rows.
@@ -104,7 +135,8 @@ fn is_constant<C: ScalarFnRules>(alloc: Global, array: &ArrayRef<C>) -> VortexRe
 /// The same, and whether the array still answers its own rows.
 fn makes_constant<C: ScalarFnRules>(alloc: Global, array: Held<C>) -> VortexResult<bool> {
     let array = array?;
-    Ok(is_constant(alloc, &*array)? && array_answers(alloc, Ok(array), &ROWS)?)
+    let answer = is_constant(alloc, &*array);
+    unless_changed(array_answers(alloc, Ok(array), &ROWS), answer)
 }
 
 /// The calls of rules.

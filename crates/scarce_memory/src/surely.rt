@@ -2,6 +2,7 @@
 //! call itself may not be out of memory. Calls without either say so by their type, and are not tried.
 
 use crate::seen::Tally;
+use crate::trees::CLOSED;
 use fixtures::{Made, bools, yes};
 use std::alloc::Global;
 use std::borrow::Cow;
@@ -41,7 +42,7 @@ fn is_leaf<C: ScalarFnRules>(alloc: Global, tree: &BoundExpression<C>) -> Vortex
     Ok(child.expression().as_column() == Some(0))
 }
 
-/// The types of two truth values, of two texts, or of three numbers.
+/// A list of two types.
 fn types(alloc: Global, dtypes: [DType; 2]) -> VortexResult<Vec<DType>> {
     Ok(Vec::from_array(alloc, dtypes)?)
 }
@@ -81,13 +82,25 @@ fn returns(
     Ok(yes(dtype.map(|dtype| dtype == DType::Bool(nullability))))
 }
 
-/// Whether an input is found, and none beyond the last.
-fn finds(column: Made, alloc: Global) -> VortexResult<bool> {
-    let column = column?;
+/// One lent input.
+fn one_input(alloc: Global, column: &Column) -> VortexResult<VecExecutionArgs<'_>> {
     let mut inputs = Vec::new(alloc);
-    inputs.push(Cow::Borrowed(&*column))?;
-    let args = VecExecutionArgs::new(inputs, column.len());
-    Ok(yes(args.get(0).map(|input| input.len() == 2)))
+    inputs.push(Cow::Borrowed(column))?;
+    Ok(VecExecutionArgs::new(inputs, column.len()))
+}
+
+/// Whether the first input is found, of so many rows.
+fn has_rows<A: ExecutionArgs>(args: &A, row_count: usize) -> bool {
+    match args.get(0) {
+        Ok(column) => column.len() == row_count,
+        Err(_) => false,
+    }
+}
+
+fn finds(alloc: Global, column: Made) -> VortexResult<bool> {
+    let column = column?;
+    let args = one_input(alloc, &*column)?;
+    Ok(has_rows(&args, 2))
 }
 
 /// Whether bits are those of the bytes, from the third on.
@@ -142,7 +155,7 @@ fn ask_types(alloc: Global, tally: &mut Tally) {
         returns(alloc, ScalarFnRef::Cast, one_bool(alloc), YES),
     );
     let call = "return_dtype of Between";
-    let function = ScalarFnRef::Between(crate::trees::CLOSED);
+    let function = ScalarFnRef::Between(CLOSED);
     tally.note(call, returns(alloc, function, three_bools(alloc), YES));
     let call = "return_dtype of Like";
     let function = Like.bind(LikeOptions::default());
@@ -159,7 +172,7 @@ pub fn ask(alloc: Global, tally: &mut Tally) {
     ask_types(alloc, tally);
     tally.note(
         "VecExecutionArgs::get",
-        finds(bools(alloc, &[true, false]), alloc),
+        finds(alloc, bools(alloc, &[true, false])),
     );
     tally.note("scalar_cmp", compares(alloc));
     tally.note("BinaryViews::try_new", takes_views(alloc));

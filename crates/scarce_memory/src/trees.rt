@@ -1,6 +1,6 @@
 //! Trees: how calls are bound, their texts, and what they answer over columns, which are lent.
 
-use crate::comparing::{Table, are_same};
+use crate::comparing::{Table, unless_changed};
 use crate::seen::Tally;
 use fixtures::{Made, bools, nullable_bools, nullable_ints, numbers, texts};
 use rule_fixtures::array_makers::{Held, array_answers, held, made};
@@ -48,7 +48,8 @@ fn executes<C: ScalarFnVTable>(alloc: Global, tree: Tree<C>, wanted: Made) -> Vo
     let (tree, wanted, table) = (tree?, wanted?, two_rows(alloc)?);
     let mut ctx = ExecutionCtx::new(alloc);
     let answer = tree.execute(table.columns(), 2, &mut ctx);
-    Ok(table.answer(alloc, answer, &*wanted)? && has_text(alloc, &*tree, UNKNOWN)?)
+    let answer = table.answer(alloc, answer, &*wanted);
+    unless_changed(has_text(alloc, &*tree, UNKNOWN), answer)
 }
 
 /// Whether a tree has that text.
