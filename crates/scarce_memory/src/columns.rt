@@ -3,7 +3,7 @@
 use crate::seen::Tally;
 use fixtures::{Made, integer, kept, names};
 use std::alloc::Global;
-use vortex_row_fn::*;
+use vortex_columns::*;
 
 /// Longer than a view holds.
 const LONG: &str = "a text of more than twelve bytes";

@@ -4,7 +4,7 @@ use fixtures::{Made, kept};
 use std::alloc::Global;
 use std::borrow::Cow;
 use std::cmp::Ordering;
-use vortex_row_fn::{Column, VortexResult};
+use vortex_columns::{Column, VortexResult};
 
 /// Whether two columns have one type, and the same value in each row.
 pub fn are_same(left: &Column, right: &Column) -> bool {

@@ -4,7 +4,8 @@ use crate::comparing::{Sides, are_same};
 use crate::seen::Tally;
 use fixtures::{Made, kept, nullable_bools, nullable_ints};
 use std::alloc::Global;
-use vortex_row_fn::*;
+use vortex_columns::*;
+use vortex_kernels::*;
 
 /// Each pair of true, false and null.
 const LEFT: [Option<bool>; 9] = [

@@ -5,7 +5,8 @@ use crate::seen::Tally;
 use fixtures::{Made, bools, kept, texts};
 use std::alloc::Global;
 use std::borrow::CowStr;
-use vortex_row_fn::*;
+use vortex_columns::*;
+use vortex_like::*;
 
 /// Whether a pattern, which looks past case or not, matches the first text and not the second.
 fn matches(

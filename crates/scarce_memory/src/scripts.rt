@@ -3,7 +3,7 @@
 use crate::seen::Tally;
 use rowfn_scripts::{End, interpret};
 use std::alloc::Global;
-use vortex_row_fn::VortexResult;
+use vortex_columns::VortexResult;
 
 const SCRIPT: &str = "rows 2
 col a i32? 1 null

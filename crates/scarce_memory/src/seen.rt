@@ -1,6 +1,6 @@
 //! What was seen of the calls.
 
-use vortex_row_fn::{VortexError, VortexResult};
+use vortex_columns::{VortexError, VortexResult};
 
 /// The first call that ran out of memory, and the first whose answer is wrong.
 #[derive(Drop)]

@@ -7,7 +7,10 @@ use fixtures::{Made, bools, yes};
 use std::alloc::Global;
 use std::borrow::Cow;
 use tree_fixtures::makers::*;
-use vortex_row_fn::*;
+use vortex_columns::*;
+use vortex_functions::*;
+use vortex_kernels::*;
+use vortex_rules::*;
 
 /// Whether a lone leaf lends the column, which is its own.
 fn lends<C: ScalarFnVTable>(alloc: Global, tree: Tree<C>, column: Made) -> VortexResult<bool> {

@@ -7,7 +7,10 @@ use rule_fixtures::array_makers::{Held, array_answers, held, made};
 use rule_fixtures::rewritten::{call_of_names, scope_of};
 use std::alloc::Global;
 use tree_fixtures::makers::*;
-use vortex_row_fn::*;
+use vortex_arrays::*;
+use vortex_columns::*;
+use vortex_functions::*;
+use vortex_operators::*;
 
 /// Both bounds are met.
 pub const CLOSED: BetweenOptions = BetweenOptions {
