@@ -1,0 +1,162 @@
+//! The kernels over columns, which are lent, and over bits.
+
+use crate::comparing::{Sides, are_same};
+use crate::seen::Tally;
+use fixtures::{Made, kept, nullable_bools, nullable_ints};
+use std::alloc::Global;
+use vortex_columns::*;
+use vortex_kernels::*;
+
+/// Each pair of true, false and null.
+const LEFT: [Option<bool>; 9] = [
+    Some(true),
+    Some(true),
+    Some(true),
+    Some(false),
+    Some(false),
+    Some(false),
+    None,
+    None,
+    None,
+];
+
+const RIGHT: [Option<bool>; 9] = [
+    Some(true),
+    Some(false),
+    None,
+    Some(true),
+    Some(false),
+    None,
+    Some(true),
+    Some(false),
+    None,
+];
+
+const BOTH: [Option<bool>; 9] = [
+    Some(true),
+    Some(false),
+    None,
+    Some(false),
+    Some(false),
+    Some(false),
+    None,
+    Some(false),
+    None,
+];
+
+const EITHER: [Option<bool>; 9] = [
+    Some(true),
+    Some(true),
+    Some(true),
+    Some(true),
+    Some(false),
+    None,
+    Some(true),
+    None,
+    None,
+];
+
+/// The call of a kernel of truth values, on columns of one length.
+fn boolean(alloc: Global, sides: &Sides, operator: Operator) -> Made {
+    if sides.left.len() != sides.right.len() {
+        return Err(VortexError::InvalidColumn);
+    }
+    let mut ctx = ExecutionCtx::new(alloc);
+    kept(
+        alloc,
+        execute_boolean(&*sides.left, &*sides.right, operator, &mut ctx),
+    )
+}
+
+fn combines(alloc: Global, operator: Operator, wanted: Made) -> VortexResult<bool> {
+    let wanted = wanted?;
+    let (left, right) = (nullable_bools(alloc, &LEFT), nullable_bools(alloc, &RIGHT));
+    let sides = Sides::new(alloc, left, right)?;
+    let answer = boolean(alloc, &sides, operator);
+    sides.answer(answer, &*wanted)
+}
+
+/// 1, null, 3 beside 3, 3, 3.
+fn numbers(alloc: Global) -> VortexResult<Sides> {
+    let left = nullable_ints(alloc, &[Some(1), None, Some(3)]);
+    let right = nullable_ints(alloc, &[Some(3), Some(3), Some(3)]);
+    Sides::new(alloc, left, right)
+}
+
+fn compares(alloc: Global, operator: CompareOperator, wanted: Made) -> VortexResult<bool> {
+    let wanted = wanted?;
+    let sides = numbers(alloc)?;
+    let mut ctx = ExecutionCtx::new(alloc);
+    let answer = execute_compare(&*sides.left, &*sides.right, operator, &mut ctx);
+    sides.answer(kept(alloc, answer), &*wanted)
+}
+
+fn calculates(alloc: Global, operator: NumericOperator, wanted: Made) -> VortexResult<bool> {
+    let wanted = wanted?;
+    let sides = numbers(alloc)?;
+    let mut ctx = ExecutionCtx::new(alloc);
+    let answer = execute_numeric(&*sides.left, &*sides.right, operator, &mut ctx);
+    sides.answer(kept(alloc, answer), &*wanted)
+}
+
+/// A truth value and a null, as bits beside the rows that are not null.
+fn first_alone(alloc: Global, first: bool) -> VortexResult<(BitBuffer, Validity)> {
+    let bits = BitBuffer::from_bools(alloc, &[first, true])?;
+    let valid = BitBuffer::from_bools(alloc, &[true, false])?;
+    Ok((bits, Validity::Array(valid)))
+}
+
+/// An operator over true, null and over false, null.
+fn over_bits(alloc: Global, operator: Operator) -> Made {
+    let (left, left_valid) = first_alone(alloc, true)?;
+    let (right, right_valid) = first_alone(alloc, false)?;
+    let len = left.len();
+    if right.len() != len || !left_valid.fits(len) || !right_valid.fits(len) {
+        return Err(VortexError::InvalidColumn);
+    }
+    let mut ctx = ExecutionCtx::new(alloc);
+    let nullability = Nullability::Nullable;
+    kept(
+        alloc,
+        kleene_boolean_buffers(
+            left,
+            left_valid,
+            right,
+            right_valid,
+            operator,
+            nullability,
+            &mut ctx,
+        ),
+    )
+}
+
+fn is_over_bits(answer: Made, wanted: Made) -> VortexResult<bool> {
+    Ok(are_same(&*answer?, &*wanted?))
+}
+
+pub fn ask(alloc: Global, tally: &mut Tally) {
+    let both = nullable_bools(alloc, &BOTH);
+    tally.note("execute_boolean, And", combines(alloc, Operator::And, both));
+    let either = nullable_bools(alloc, &EITHER);
+    tally.note("execute_boolean, Or", combines(alloc, Operator::Or, either));
+    let below = nullable_bools(alloc, &[Some(true), None, Some(false)]);
+    tally.note(
+        "execute_compare",
+        compares(alloc, CompareOperator::Lt, below),
+    );
+    let sums = nullable_ints(alloc, &[Some(4), None, Some(6)]);
+    tally.note(
+        "execute_numeric",
+        calculates(alloc, NumericOperator::Add, sums),
+    );
+    let both = nullable_bools(alloc, &[Some(false), None]);
+    tally.note(
+        "kleene_boolean_buffers, And",
+        is_over_bits(over_bits(alloc, Operator::And), both),
+    );
+    let either = nullable_bools(alloc, &[Some(true), None]);
+    tally.note(
+        "kleene_boolean_buffers, Or",
+        is_over_bits(over_bits(alloc, Operator::Or), either),
+    );
+}
