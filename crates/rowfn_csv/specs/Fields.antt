@@ -1,0 +1,28 @@
+-- Fields as they are written: what asks for quotes, and how a field stands in them.
+use Rattle.std.specs.Prelude.{Bool, ◌==◌, ◌||◌, ◌<◌, ◌≡◌, ℕ, List, [], ◌∷◌, ◌++◌, length, take, drop}
+use Rattle.std.specs.Prelude.{if◌then◌else◌}
+use Rattle.std.specs.List.{list_any, list_all}
+use Rattle.std.specs.Str.{bytes_eq}
+
+-- a byte that asks for quotes around the field: a quote, the delimiter, or one that ends a line
+abbrev pub is_special : ℕ → ℕ → Bool
+is_special delimiter byte =
+    (byte == 34) || ((byte == delimiter) || ((byte == 10) || (byte == 13)))
+
+-- a text stands in quotes where it is empty, holds such a byte, or would read as null without
+abbrev pub needs_quotes : ℕ → List ℕ → List ℕ → Bool
+needs_quotes delimiter null field =
+    (length field == 0) || (list_any (is_special delimiter) field || bytes_eq field null)
+
+-- the bytes between the quotes: each quote stands twice
+unfoldable pub doubled : List ℕ → List ℕ
+doubled [] = []
+doubled (b ∷ bs) = if b == 34 then 34 ∷ 34 ∷ doubled bs else b ∷ doubled bs
+
+abbrev pub quoted : List ℕ → List ℕ
+quoted field = 34 ∷ (doubled field ++ (34 ∷ []))
+
+-- a text as a field
+abbrev pub text_field : ℕ → List ℕ → List ℕ → List ℕ
+text_field delimiter null field =
+    if needs_quotes delimiter null field then quoted field else field

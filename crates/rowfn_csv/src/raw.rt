@@ -1,0 +1,83 @@
+//! What the bytes of a record tell beyond its fields: which fields stand in quotes, and whether the
+//! last quote is closed.
+
+use std::alloc::AllocError;
+
+/// Where a byte of a record stands.
+#[derive(Clone, Copy, Debug, PartialEq, Eq)]
+enum Place {
+    /// At the first byte of a field.
+    Start,
+    /// In a field, outside quotes.
+    Plain,
+    /// In quotes.
+    Quoted,
+    /// Behind a quote that closes, or the first of two that stand for one.
+    Closed,
+}
+
+/// Whether a byte ends a line.
+fn ends_line(byte: u8) -> bool {
+    byte == b'\n' || byte == b'\r'
+}
+
+/// Where the byte behind this one stands, in the same record.
+fn behind(place: Place, byte: u8, delimiter: u8) -> Place {
+    match place {
+        Place::Quoted if byte == b'"' => Place::Closed,
+        Place::Quoted => Place::Quoted,
+        _ if byte == delimiter => Place::Start,
+        Place::Start | Place::Closed if byte == b'"' => Place::Quoted,
+        _ => Place::Plain,
+    }
+}
+
+/// The record without the ends of lines before it.
+pub fn without_blank_lines(raw: &[u8]) -> &[u8] {
+    let mut rest = raw;
+    while let [first, behind @ ..] = rest {
+        if !ends_line(*first) {
+            break;
+        }
+        rest = behind;
+    }
+    rest
+}
+
+/// The record without the ends of lines behind it.
+pub fn without_line_end(raw: &[u8]) -> &[u8] {
+    let mut rest = raw;
+    while let [before @ .., last] = rest {
+        if !ends_line(*last) {
+            break;
+        }
+        rest = before;
+    }
+    rest
+}
+
+/// Whether each quote of a record is closed, which begins with its first field.
+pub fn is_closed(raw: &[u8], delimiter: u8) -> bool {
+    let mut place = Place::Start;
+    for byte in raw {
+        place = behind(place, *byte, delimiter);
+    }
+    place != Place::Quoted
+}
+
+/// Tells of each field of a record whether it stands in quotes; the record begins with its first
+/// field. Refused only for want of memory.
+pub fn mark_quoted(raw: &[u8], delimiter: u8, marks: &mut Vec<bool>) -> Result<(), AllocError> {
+    marks.clear();
+    let mut place = Place::Start;
+    for byte in raw {
+        if place == Place::Start {
+            marks.push(*byte == b'"')?;
+        }
+        place = behind(place, *byte, delimiter);
+    }
+    if place == Place::Start {
+        marks.push(false)?;
+    }
+    Ok(())
+}
