@@ -1,7 +1,7 @@
 //! Lines of scripts: what they say, and how columns are printed.
 #![tactic(auto)]
 
-mod cells;
+pub mod cells;
 pub mod command;
 pub mod laws;
 pub mod parse;

@@ -28,7 +28,7 @@ fn begins_comment(word: &str) -> bool
 }
 
 /// Whether there are only ASCII letters, digits and `_`.
-fn is_name(word: &str) -> bool
+pub fn is_name(word: &str) -> bool
     ensures { result ≡ is_name word.now }
 {
     word.as_bytes()

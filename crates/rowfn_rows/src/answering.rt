@@ -39,7 +39,7 @@ fn first_rows<'f, 'b>(
 }
 
 impl Task<'_> {
-    /// The columns of the first rows, none of which has a misfit.
+    /// The columns of the first rows, which are whole and none of which has a misfit.
     fn columns(
         &self,
         fields: &[Option<&[u8]>],
@@ -76,6 +76,14 @@ impl Task<'_> {
             nullability: declared.nullability,
             field,
         })
+    }
+
+    /// What tells of a column whose texts are too long.
+    fn too_long(&self, column: usize) -> Result<Answered, StreamError> {
+        match self.expression.columns.as_slice().get(column) {
+            Some(declared) => Err(StreamError::TextsTooLong(declared.name.clone()?)),
+            None => Err(StreamError::OutOfMemory),
+        }
     }
 
     /// What the first rows answer, which have neither a misfit nor a fault.
@@ -143,7 +151,8 @@ impl Task<'_> {
                 let columns = self.columns(fields, row)?;
                 self.answer_fitting(fields, &columns, row, Some(misfit))
             }
-            Err(BatchError::OutOfMemory) => Err(StreamError::OutOfMemory),
+            Err(BatchError::TextsTooLong { column }) => self.too_long(column),
+            Err(BatchError::Uneven | BatchError::OutOfMemory) => Err(StreamError::OutOfMemory),
         }
     }
 }

@@ -26,6 +26,8 @@ pub enum StreamError {
         nullability: Nullability,
         field: Option<Vec<u8>>,
     },
+    /// The texts of a column, by its name, take more room in a batch than a column has.
+    TextsTooLong(String),
     /// A declared column that the header does not name.
     ColumnMissing(String),
     /// A declared column that the header names twice.
@@ -90,6 +92,7 @@ impl StreamError {
         match self {
             StreamError::Fault { .. } | StreamError::Refused(_) => 1,
             StreamError::Misfit { .. }
+            | StreamError::TextsTooLong(_)
             | StreamError::ColumnMissing(_)
             | StreamError::ColumnTwice(_)
             | StreamError::Width { .. }
@@ -149,7 +152,6 @@ fn write_expression<W: fmt::Write>(
             write!(f, "line {line}: E{number} {name}")
         }
         ExpressionError::Malformed { line, expected } => {
-            let expected = expected.text();
             write!(f, "line {line}: expected {expected}")
         }
         ExpressionError::OutOfMemory => f.write_str("out of memory"),
@@ -172,6 +174,10 @@ fn write_input<W: fmt::Write>(f: &mut fmt::Formatter<W>, error: &StreamError) ->
             let kind = kind_text(*kind);
             let mark = if nullability.is_nullable() { "?" } else { "" };
             write!(f, " is no {kind}{mark}")
+        }
+        StreamError::TextsTooLong(name) => {
+            let name = name.as_str();
+            write!(f, "column {name}: texts too long for a batch")
         }
         StreamError::ColumnMissing(name) => {
             let name = name.as_str();

@@ -4,8 +4,10 @@
 pub mod ending;
 pub mod laws;
 pub mod script;
-mod session;
-mod stop;
+pub mod session;
+pub mod stop;
 
 pub use ending::{End, fault_line, status};
 pub use script::{Outcome, interpret};
+pub use session::Session;
+pub use stop::Stop;

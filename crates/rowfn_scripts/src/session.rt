@@ -1,5 +1,6 @@
 //! What a script has made so far.
-ghost use Rattle.std.specs.Prelude.{◌≡◌, Some, string_bytes};
+ghost use Rattle.std.specs.Prelude.{◌≡◌, Some, length, reverse, string_bytes};
+ghost use Rattle.vortex_types.specs.TypeOf.{struct_fields};
 ghost use Rattle.rowfn_scripts.specs.Words.{Answers, AnswersUnlessMemory, rows, column, get};
 ghost use Rattle.rowfn_scripts.specs.Words.{literal, call, show, optimize, run, run_after};
 ghost use Rattle.rowfn_scripts.specs.Words.{command_in, command_of};
@@ -76,6 +77,22 @@ impl<C: ScalarFnRules> Session<C> {
             stack: Vec::new(alloc),
             out: Vec::new(alloc),
         }
+    }
+
+    /// How many trees lines have pushed that no call has taken.
+    pub fn tree_count(&self) -> usize
+        ensures { result ≡ length self.now.stack }
+    {
+        self.stack.len()
+    }
+
+    /// The fields that name the columns, and the trees, the last one at the end.
+    pub fn into_parts(self) -> (StructFields, Vec<BoundExpression<C>>)
+        ensures fields { struct_fields result.0 ≡ self.fields }
+        ensures trees { reverse result.1.items ≡ self.stack }
+    {
+        let Session { fields, stack, .. } = self;
+        (fields, stack)
     }
 
     /// What was printed.
@@ -264,7 +281,8 @@ impl<C: ScalarFnRules> Session<C> {
         Ok(())
     }
 
-    fn step(&mut self, alloc: Global, line: Line<'_>) -> Result<(), Stop>
+    /// Does what the line says, or stops, as `read_line` does.
+    pub fn step(&mut self, alloc: Global, line: Line<'_>) -> Result<(), Stop>
         ensures { MakesStep (StepsTo C.meaning C.rules (command_in line.entry))
             self.old result self.new }
     {

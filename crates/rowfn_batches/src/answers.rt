@@ -1,0 +1,99 @@
+//! What the trees of an expression answer over the columns of a batch.
+
+use crate::expression::{Answer, Expression};
+use std::alloc::Global;
+use vortex_columns::{Column, ExecutionCtx, VortexError, VortexResult};
+use vortex_functions::ScalarFnVTable;
+
+/// The columns of the answers, in their order.
+///
+/// Refused with the refusal of the first answer that is refused: E11 where a leaf's column is
+/// missing or of another type, E2 where a column has not `row_count` rows, else the fault of the
+/// first call that faults in some row.
+pub fn execute_answers<C: ScalarFnVTable>(
+    alloc: Global,
+    expression: &Expression<C>,
+    columns: &[Column],
+    row_count: usize,
+) -> VortexResult<Vec<Column>> {
+    let mut ctx = ExecutionCtx::new(alloc);
+    execute_all(alloc, &expression.answers, columns, row_count, &mut ctx)
+}
+
+fn execute_all<C: ScalarFnVTable>(
+    alloc: Global,
+    answers: &[Answer<C>],
+    columns: &[Column],
+    row_count: usize,
+    ctx: &mut ExecutionCtx,
+) -> VortexResult<Vec<Column>> {
+    let mut executed = Vec::new(alloc);
+    for answer in answers {
+        let column = answer.tree.execute(columns, row_count, ctx)?;
+        executed.push(column.into_owned()?)?;
+    }
+    Ok(executed)
+}
+
+/// Whether the columns serve each tree and have the row count.
+fn check_columns<C: ScalarFnVTable>(
+    answers: &[Answer<C>],
+    columns: &[Column],
+    row_count: usize,
+    ctx: &mut ExecutionCtx,
+) -> VortexResult<()> {
+    for answer in answers {
+        answer.tree.check_columns(columns, row_count, ctx)?;
+    }
+    Ok(())
+}
+
+/// The columns of that row alone.
+fn row_of(alloc: Global, columns: &[Column], row: usize) -> VortexResult<Vec<Column>> {
+    let mut of_row = Vec::new(alloc);
+    for column in columns {
+        let scalar = column.scalar_at(alloc, row)?;
+        of_row.push(Column::constant(alloc, scalar, 1)?)?;
+    }
+    Ok(of_row)
+}
+
+/// The fault of the first answer that faults in that row; nothing where none does. E9 alone.
+fn fault_in<C: ScalarFnVTable>(
+    alloc: Global,
+    answers: &[Answer<C>],
+    columns: &[Column],
+    row: usize,
+    ctx: &mut ExecutionCtx,
+) -> VortexResult<Option<VortexError>> {
+    let of_row = row_of(alloc, columns, row)?;
+    match execute_all(alloc, answers, &of_row, 1, ctx) {
+        Ok(_) => Ok(None),
+        Err(VortexError::OutOfMemory) => Err(VortexError::OutOfMemory),
+        Err(error) => Ok(Some(error)),
+    }
+}
+
+/// The first row in which an answer faults, and the fault of the first answer that does; nothing
+/// where no row faults. Goes over the batch row by row.
+///
+/// Refused where the columns do not serve an answer, as `execute_answers` is.
+pub fn first_fault<C: ScalarFnVTable>(
+    alloc: Global,
+    expression: &Expression<C>,
+    columns: &[Column],
+    row_count: usize,
+) -> VortexResult<Option<(usize, VortexError)>> {
+    let mut ctx = ExecutionCtx::new(alloc);
+    let answers = &expression.answers;
+    if answers.is_empty() {
+        return Ok(None);
+    }
+    check_columns(answers, columns, row_count, &mut ctx)?;
+    for row in 0..row_count {
+        if let Some(error) = fault_in(alloc, answers, columns, row, &mut ctx)? {
+            return Ok(Some((row, error)));
+        }
+    }
+    Ok(None)
+}

@@ -1,0 +1,24 @@
+//! A cell of an answer as the bytes of a field.
+
+use itoa::Buffer;
+use vortex_columns::{Cell, Column, VortexResult};
+
+/// Appends what a cell says as the bytes of a field, a text without quotes; false, and nothing,
+/// where it is null, as it is behind the last row. E9 alone.
+pub fn push_field(out: &mut Vec<u8>, column: &Column, row: usize) -> VortexResult<bool> {
+    if row >= column.len() {
+        return Ok(false);
+    }
+    match column.cell(row) {
+        Cell::Null => return Ok(false),
+        Cell::Bool(true) => out.extend_from_slice(b"true")?,
+        Cell::Bool(false) => out.extend_from_slice(b"false")?,
+        Cell::Int(number) => {
+            let mut buffer = Buffer::new();
+            out.extend_from_slice(buffer.format(number).as_bytes())?;
+        }
+        Cell::Text(text) => out.extend_from_slice(text.as_bytes())?,
+        _ => {}
+    }
+    Ok(true)
+}

@@ -1,0 +1,139 @@
+//! What the lines of an expression have made so far.
+
+use crate::columns::Declared;
+use rowfn_lines::Line;
+use rowfn_lines::parse::{is_name, parse};
+use rowfn_lines::text::{Word, words};
+use rowfn_lines::types::Kind;
+use rowfn_scripts::{Session, Stop};
+use std::alloc::Global;
+use std::str;
+use vortex_columns::{Column, DType, Nullability, VortexResult};
+use vortex_functions::{BoundExpression, ScalarFnVTable};
+use vortex_rules::ScalarFnRules;
+
+/// The session of the lines over no rows, the columns that they declare, and for each tree, the
+/// last one at the end, the name that a line gave it.
+#[derive(Drop)]
+pub struct Reading<C: ScalarFnVTable> {
+    session: Session<C>,
+    columns: Vec<Declared>,
+    names: Vec<Option<String>>,
+}
+
+/// The kind of the cells of a column of that type, and whether null is among them; nothing of a type
+/// that no cells have.
+fn kind_of(dtype: &DType) -> Option<(Kind, Nullability)> {
+    match dtype {
+        DType::Bool(nullability) => Some((Kind::Bool, *nullability)),
+        DType::Primitive(ptype, nullability) => Some((Kind::Integer(*ptype), *nullability)),
+        DType::Utf8(nullability) => Some((Kind::Utf8, *nullability)),
+        _ => None,
+    }
+}
+
+/// The name that the words of an `as` line say.
+fn name_in<'a>(words: &[Word<'a>]) -> Option<&'a str> {
+    match words {
+        [Word::Plain(first), Word::Plain(name)] if *first == "as" && is_name(name) => Some(*name),
+        _ => None,
+    }
+}
+
+/// The name that an `as` line says; nothing of any other line. E9 alone.
+fn name_said(alloc: Global, line: &[u8]) -> VortexResult<Option<&str>> {
+    let Ok(text) = str::from_utf8(line) else {
+        return Ok(None);
+    };
+    match words(alloc, text)? {
+        Some(words) => Ok(name_in(&words)),
+        None => Ok(None),
+    }
+}
+
+impl<C: ScalarFnRules> Reading<C> {
+    /// Nothing yet: a session of no rows.
+    pub fn new(alloc: Global) -> Result<Reading<C>, Stop> {
+        let mut session = Session::new(alloc);
+        session.step(alloc, Line::Rows(0))?;
+        Ok(Reading {
+            session,
+            columns: Vec::new(alloc),
+            names: Vec::new(alloc),
+        })
+    }
+
+    /// The columns, the trees, and their names.
+    pub fn into_parts(self) -> (Vec<Declared>, Vec<BoundExpression<C>>, Vec<Option<String>>) {
+        let Reading {
+            session,
+            columns,
+            names,
+        } = self;
+        let (_fields, trees) = session.into_parts();
+        (columns, trees, names)
+    }
+
+    /// Names the last tree.
+    fn name_last(&mut self, alloc: Global, name: &str) -> Result<(), Stop> {
+        let name = String::from_str(alloc, name)?;
+        if self.names.pop().is_none() {
+            return Err(Stop::Malformed);
+        }
+        self.names.push(Some(name))?;
+        Ok(())
+    }
+
+    /// A column of no rows, and so one without cells.
+    fn declare(&mut self, alloc: Global, name: &str, column: Column) -> Result<(), Stop> {
+        let Some((kind, nullability)) = kind_of(column.dtype()) else {
+            return Err(Stop::Malformed);
+        };
+        self.session.step(alloc, Line::Column(name, column))?;
+        let name = String::from_str(alloc, name)?;
+        self.columns.push(Declared {
+            name,
+            kind,
+            nullability,
+        })?;
+        Ok(())
+    }
+
+    /// A line that pushes a tree, which has no name yet; those that it takes lose theirs.
+    fn push(&mut self, alloc: Global, line: Line<'_>) -> Result<(), Stop> {
+        self.session.step(alloc, line)?;
+        self.names
+            .truncate(self.session.tree_count().saturating_sub(1));
+        self.names.push(None)?;
+        Ok(())
+    }
+
+    /// Does what a line of scripts says, where it may stand in an expression.
+    fn step(&mut self, alloc: Global, line: Line<'_>) -> Result<(), Stop> {
+        match line {
+            Line::Nothing => Ok(()),
+            Line::Column(name, column) => self.declare(alloc, name, column),
+            Line::Get(name) => self.push(alloc, Line::Get(name)),
+            Line::Literal(scalar) => self.push(alloc, Line::Literal(scalar)),
+            Line::Call(name, escape) => self.push(alloc, Line::Call(name, escape)),
+            Line::Optimize => self.session.step(alloc, Line::Optimize),
+            Line::Malformed => Err(Stop::Malformed),
+            Line::Rows(_) => Err(Stop::Malformed),
+            Line::Show => Err(Stop::Malformed),
+            Line::Run => Err(Stop::Malformed),
+            Line::RunAfter(_) => Err(Stop::Malformed),
+        }
+    }
+
+    /// Does what the line says, or stops: where it is none of an expression, where its call is
+    /// refused, or where memory runs out.
+    pub fn read_line(&mut self, alloc: Global, line: &[u8]) -> Result<(), Stop> {
+        match name_said(alloc, line)? {
+            Some(name) => self.name_last(alloc, name),
+            None => {
+                let line = parse(alloc, line)?;
+                self.step(alloc, line)
+            }
+        }
+    }
+}
