@@ -1,7 +1,7 @@
 -- Fields as they are written: what asks for quotes, and how a field stands in them.
-use Rattle.std.specs.Prelude.{Bool, ◌==◌, ◌||◌, ◌<◌, ◌≡◌, ℕ, List, [], ◌∷◌, ◌++◌, length, take, drop}
+use Rattle.std.specs.Prelude.{Bool, ◌==◌, ◌||◌, ℕ, List, [], ◌∷◌, ◌++◌, length}
 use Rattle.std.specs.Prelude.{if◌then◌else◌}
-use Rattle.std.specs.List.{list_any, list_all}
+use Rattle.std.specs.List.{list_any, flat_map}
 use Rattle.std.specs.Str.{bytes_eq}
 
 -- a byte that asks for quotes around the field: a quote, the delimiter, or one that ends a line
@@ -14,13 +14,12 @@ abbrev pub needs_quotes : ℕ → List ℕ → List ℕ → Bool
 needs_quotes delimiter null field =
     (length field == 0) || (list_any (is_special delimiter) field || bytes_eq field null)
 
--- the bytes between the quotes: each quote stands twice
-unfoldable pub doubled : List ℕ → List ℕ
-doubled [] = []
-doubled (b ∷ bs) = if b == 34 then 34 ∷ 34 ∷ doubled bs else b ∷ doubled bs
+-- a byte between the quotes: a quote stands twice
+abbrev pub doubled : ℕ → List ℕ
+doubled byte = if byte == 34 then 34 ∷ 34 ∷ [] else byte ∷ []
 
 abbrev pub quoted : List ℕ → List ℕ
-quoted field = 34 ∷ (doubled field ++ (34 ∷ []))
+quoted field = 34 ∷ (flat_map doubled field ++ (34 ∷ []))
 
 -- a text as a field
 abbrev pub text_field : ℕ → List ℕ → List ℕ → List ℕ

@@ -4,7 +4,7 @@ use crate::rows::Span;
 use std::alloc::{AllocError, Global};
 
 /// Where a field lies in the bytes of a batch.
-#[derive(Clone, Copy, Debug)]
+#[derive(Clone, Copy)]
 struct FieldPlace {
     start: usize,
     end: usize,

@@ -1,6 +1,7 @@
 //! Fields in quotes.
 ghost use Rattle.std.specs.Prelude.{◌≡◌, ◌++◌, ◌≤◌, length, take, drop, OnOk};
 ghost use Rattle.rowfn_csv.specs.Fields.{is_special, needs_quotes, doubled, quoted, text_field};
+ghost use Rattle.std.specs.List.{list_any, flat_map};
 
 use crate::format::Format;
 use std::alloc::AllocError;
@@ -12,26 +13,38 @@ fn is_special(byte: u8, delimiter: u8) -> bool
     byte == b'"' || byte == delimiter || byte == b'\n' || byte == b'\r'
 }
 
+/// Whether a field holds a byte that asks for quotes.
+fn holds_special(field: &[u8], delimiter: u8) -> bool
+    ensures { result ≡ list_any (is_special delimiter) field.now }
+{
+    field.iter().any(|byte| is_special(*byte, delimiter))
+}
+
 /// Whether a text that is not null is written in quotes: an empty one, one that holds a quote, a
 /// delimiter or the end of a line, and one that says null where it stands in no quotes.
 fn needs_quotes(field: &[u8], format: &Format<'_>) -> bool
     ensures { result ≡ needs_quotes format.now.delimiter format.now.null.now field.now }
 {
-    let delimiter = format.delimiter;
-    field.is_empty()
-        || field.iter().any(|byte| is_special(*byte, delimiter))
-        || field == format.null
+    field.is_empty() || holds_special(field, format.delimiter) || field == format.null
 }
 
-/// Adds the bytes that stand between the quotes.
-fn push_doubled(bytes: &mut Vec<u8>, field: &[u8]) -> Result<(), AllocError>
-    ensures { OnOk result (bytes.new.items ≡ bytes.old.items ++ doubled field.now) }
+/// Adds a byte that stands between quotes.
+fn push_doubled(bytes: &mut Vec<u8>, byte: u8) -> Result<(), AllocError>
+    ensures { OnOk result (bytes.new.items ≡ bytes.old.items ++ doubled byte) }
+{
+    if byte == b'"' {
+        bytes.push(b'"')?;
+    }
+    bytes.push(byte)?;
+    Ok(())
+}
+
+/// Adds the bytes that stand between quotes.
+fn push_inner(bytes: &mut Vec<u8>, field: &[u8]) -> Result<(), AllocError>
+    ensures { OnOk result (bytes.new.items ≡ bytes.old.items ++ flat_map doubled field.now) }
 {
     for byte in field {
-        if *byte == b'"' {
-            bytes.push(b'"')?;
-        }
-        bytes.push(*byte)?;
+        push_doubled(bytes, *byte)?;
     }
     Ok(())
 }
@@ -41,7 +54,7 @@ pub fn push_quoted(bytes: &mut Vec<u8>, field: &[u8]) -> Result<(), AllocError>
     ensures { OnOk result (bytes.new.items ≡ bytes.old.items ++ quoted field.now) }
 {
     bytes.push(b'"')?;
-    push_doubled(bytes, field)?;
+    push_inner(bytes, field)?;
     bytes.push(b'"')?;
     Ok(())
 }

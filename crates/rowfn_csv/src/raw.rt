@@ -4,7 +4,7 @@
 use std::alloc::AllocError;
 
 /// Where a byte of a record stands.
-#[derive(Clone, Copy, Debug, PartialEq, Eq)]
+#[derive(Clone, Copy, PartialEq, Eq)]
 enum Place {
     /// At the first byte of a field.
     Start,

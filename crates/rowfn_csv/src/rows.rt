@@ -9,14 +9,14 @@ use std::io::{self, Read};
 
 /// Where a record lies in the input, counted in bytes: from its first field on, up to the end of its
 /// line.
-#[derive(Clone, Copy, Debug)]
+#[derive(Clone, Copy)]
 pub struct Span {
     pub start: u64,
     pub end: u64,
 }
 
 /// Why no record could be read.
-#[derive(Debug, Drop)]
+#[derive(Drop)]
 pub enum ReadError {
     /// The reader failed.
     Io(io::Error),
@@ -46,6 +46,11 @@ fn read_error(error: Error) -> ReadError {
 /// The bytes without a byte order mark before them.
 fn without_mark(bytes: &[u8]) -> &[u8] {
     bytes.strip_prefix(b"\xEF\xBB\xBF").unwrap_or(bytes)
+}
+
+/// Whether a field is that text.
+fn is_text(field: &[u8], text: &[u8]) -> bool {
+    field.len() == text.len() && field == text
 }
 
 impl<'a, R: Read> Rows<'a, R> {
@@ -138,30 +143,37 @@ impl<'a, R: Read> Rows<'a, R> {
         bytes.len() == plain
     }
 
+    /// Marks which fields of the last record stand in quotes; no mark is none.
+    fn mark(&mut self) -> Result<(), AllocError> {
+        self.quoted.clear();
+        self.is_marked = true;
+        if self.has_no_quotes() {
+            return Ok(());
+        }
+        let delimiter = self.format.delimiter;
+        let Span { start, end } = self.span;
+        let bytes = self.reader.get_ref().between(start, end);
+        mark_quoted(bytes, delimiter, &mut self.quoted)
+    }
+
     /// Whether a field of the last record stands in quotes.
     fn is_quoted(&mut self, index: usize) -> Result<bool, AllocError> {
         if !self.is_marked {
-            let bytes = self
-                .reader
-                .get_ref()
-                .between(self.span.start, self.span.end);
-            if self.has_no_quotes() {
-                self.quoted.clear();
-            } else {
-                mark_quoted(bytes, self.format.delimiter, &mut self.quoted)?;
-            }
-            self.is_marked = true;
+            self.mark()?;
         }
         Ok(self.quoted.get(index).copied().unwrap_or(false))
     }
 
+    /// Whether a field of the last record is the text that stands for null.
+    fn reads_null(&self, index: usize) -> bool {
+        match self.record.get(index) {
+            Some(field) => is_text(field, self.format.null),
+            None => false,
+        }
+    }
+
     /// Whether a field of the last record says null: the text that stands for null, in no quotes.
     pub fn is_null(&mut self, index: usize) -> Result<bool, AllocError> {
-        let null = self.format.null;
-        let says_null = match self.record.get(index) {
-            Some(field) => field.len() == null.len() && field == null,
-            None => false,
-        };
-        Ok(says_null && !self.is_quoted(index)?)
+        Ok(self.reads_null(index) && !self.is_quoted(index)?)
     }
 }

@@ -1,4 +1,5 @@
 //! A reader that keeps what was read.
+ghost use Rattle.std.specs.Io.{ReadsAtMost};
 
 use std::alloc::Global;
 use std::cell::Cell;
@@ -82,7 +83,9 @@ impl<R: Read> Tee<R> {
     }
 
     /// Reads behind the first bytes of a buffer, and tells how many bytes it then holds.
-    fn read_behind(&mut self, buf: &mut [u8], count: usize) -> io::Result<usize> {
+    fn read_behind(&mut self, buf: &mut [u8], count: usize) -> io::Result<usize>
+        ensures { ReadsAtMost result buf.new }
+    {
         if count >= buf.len() {
             return Ok(buf.len());
         }
@@ -94,7 +97,9 @@ impl<R: Read> Tee<R> {
     }
 
     /// Reads what is given next, and holds nothing back.
-    fn read_whole(&mut self, buf: &mut [u8]) -> io::Result<usize> {
+    fn read_whole(&mut self, buf: &mut [u8]) -> io::Result<usize>
+        ensures { ReadsAtMost result buf.new }
+    {
         let held = self.give_held(buf);
         let count = self.read_behind(buf, held)?;
         if count == 1 && buf.first() == Some(&b'\r') {

@@ -3,7 +3,7 @@
 use rowfn_csv::Format;
 
 /// How rows are read, answered and written.
-#[derive(Clone, Copy, Debug)]
+#[derive(Clone, Copy)]
 pub struct Settings<'a> {
     /// How fields are parted, and how null is written, in the input and in the output.
     pub format: Format<'a>,

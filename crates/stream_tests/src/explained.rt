@@ -16,9 +16,9 @@ fn explains(alloc: Global, expression: &str, wanted: &str) -> bool {
 
 const WANTED: &str = "known
   tree: vortex.is_null(($.a + $.b))
-    type bool, weight 6
+    type bool, weight 9
   optimized: vortex.not((is_not_null($.a) and is_not_null($.b)))
-    type bool, weight 6
+    type bool, weight 8
 $.a
   tree: $.a
     type i32?, weight 1
