@@ -34,26 +34,16 @@ fn behind(place: Place, byte: u8, delimiter: u8) -> Place {
 
 /// The record without the ends of lines before it.
 pub fn without_blank_lines(raw: &[u8]) -> &[u8] {
-    let mut rest = raw;
-    while let [first, behind @ ..] = rest {
-        if !ends_line(*first) {
-            break;
-        }
-        rest = behind;
+    match raw.iter().position(|byte| !ends_line(*byte)) {
+        Some(start) => &raw[start..],
+        None => &[],
     }
-    rest
 }
 
-/// The record without the ends of lines behind it.
+/// The record without the end of its line.
 pub fn without_line_end(raw: &[u8]) -> &[u8] {
-    let mut rest = raw;
-    while let [before @ .., last] = rest {
-        if !ends_line(*last) {
-            break;
-        }
-        rest = before;
-    }
-    rest
+    let raw = raw.strip_suffix(b"\n").unwrap_or(raw);
+    raw.strip_suffix(b"\r").unwrap_or(raw)
 }
 
 /// Whether each quote of a record is closed, which begins with its first field.
