@@ -1,4 +1,5 @@
 //! What a batch answers, up to the first row that ends the stream.
+ghost use Rattle.std.specs.Prelude.{◌≡◌, ◌<◌, ◌≤◌, ◌+◌, ◌-◌, ◌*◌, ◌^◌, length, take};
 
 use crate::errors::StreamError;
 use rowfn_batches::{BatchError, Expression, execute_answers, first_fault, read_columns};
@@ -24,7 +25,9 @@ pub struct Task<'a> {
 }
 
 /// The number of a row of a batch, counted from 1 over the whole input.
-pub fn row_number(rows_before: u64, row: usize) -> u64 {
+pub fn row_number(rows_before: u64, row: usize) -> u64
+    ensures { rows_before + row < 2 ^ 64 - 1 → result ≡ rows_before + row + 1 }
+{
     rows_before.saturating_add(row as u64).saturating_add(1)
 }
 
@@ -33,7 +36,10 @@ fn first_rows<'f, 'b>(
     fields: &'f [Option<&'b [u8]>],
     width: usize,
     row_count: usize,
-) -> &'f [Option<&'b [u8]>] {
+) -> &'f [Option<&'b [u8]>]
+    ensures { width * row_count ≤ length fields.now
+        → result.now ≡ take (width * row_count) fields.now }
+{
     let count = width.saturating_mul(row_count);
     fields.get(..count).unwrap_or(fields)
 }

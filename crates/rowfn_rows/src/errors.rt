@@ -86,9 +86,14 @@ impl<T: Drop> From<AllocFailed<T>> for StreamError {
 }
 
 impl StreamError {
+    ghost use Rattle.rowfn_rows.specs.Endings.{status_of};
+    ghost use Rattle.std.specs.Prelude.{◌≡◌};
+
     /// 1 for a fault of the expression, 2 for input that does not fit, 3 for reading, writing and
     /// memory, 4 for an expression that is wrong.
-    pub fn status(&self) -> u8 {
+    pub fn status(&self) -> u8
+        ensures { result ≡ status_of self.now }
+    {
         match self {
             StreamError::Fault { .. } | StreamError::Refused(_) => 1,
             StreamError::Misfit { .. }

@@ -1,4 +1,7 @@
 //! Where the declared columns stand in the input.
+ghost use Rattle.std.specs.Prelude.{◌≡◌, ◌↔◌, Some, IsTrue, IfOk, MatchOption, length};
+ghost use Rattle.csv.specs.Records.{fields_of, field_at};
+ghost use Rattle.rowfn_rows.specs.Layouts.{LacksFrom, IsFirstFrom, StandsOnce, StandAt};
 
 use crate::errors::StreamError;
 use rowfn_batches::Declared;
@@ -12,22 +15,55 @@ pub struct Layout {
     pub width: usize,
 }
 
+/// Whether that field is the name.
+fn is_named(record: &ByteRecord, index: usize, name: &str) -> bool
+    ensures { IsTrue result ↔ field_at (fields_of record.now) index ≡ Some name.now }
+{
+    match record.get(index) {
+        Some(field) => field == name.as_bytes(),
+        None => false,
+    }
+}
+
+/// The first field from that place on that is the name.
+fn find_from(record: &ByteRecord, name: &str, start: usize) -> Option<usize>
+    ensures { MatchOption result (LacksFrom (fields_of record.now) name.now start)
+        (λ place. IsFirstFrom (fields_of record.now) name.now start place) }
+{
+    for i in start..record.len() {
+        if is_named(record, i, name) {
+            return Some(i);
+        }
+    }
+    None
+}
+
 /// Where a name stands in a header. Refused where it is missing or stands twice.
-fn place_of(alloc: Global, record: &ByteRecord, name: &str) -> Result<usize, StreamError> {
-    let mut place = None;
-    for i in 0..record.len() {
-        if record.get(i) != Some(name.as_bytes()) {
-            continue;
-        }
-        if place.is_some() {
-            return Err(StreamError::ColumnTwice(String::from_str(alloc, name)?));
-        }
-        place = Some(i);
+fn place_of(alloc: Global, record: &ByteRecord, name: &str) -> Result<usize, StreamError>
+    ensures { IfOk result (λ place. StandsOnce (fields_of record.now) name.now place) }
+{
+    let Some(place) = find_from(record, name, 0) else {
+        return Err(StreamError::ColumnMissing(String::from_str(alloc, name)?));
+    };
+    match find_from(record, name, place + 1) {
+        Some(_) => Err(StreamError::ColumnTwice(String::from_str(alloc, name)?)),
+        None => Ok(place),
     }
-    match place {
-        Some(place) => Ok(place),
-        None => Err(StreamError::ColumnMissing(String::from_str(alloc, name)?)),
+}
+
+/// Where each declared column stands in a header. Refused where one is missing or stands twice.
+fn places_of(
+    alloc: Global,
+    declared: &[Declared],
+    record: &ByteRecord,
+) -> Result<Vec<usize>, StreamError>
+    ensures { IfOk result (λ places. StandAt (fields_of record.now) declared.now places.items) }
+{
+    let mut places = Vec::new(alloc);
+    for column in declared {
+        places.push(place_of(alloc, record, column.name.as_str())?)?;
     }
+    Ok(places)
 }
 
 /// The layout that a header tells. Refused where a declared column is missing or stands twice.
@@ -35,11 +71,12 @@ pub fn named_layout(
     alloc: Global,
     declared: &[Declared],
     record: &ByteRecord,
-) -> Result<Layout, StreamError> {
-    let mut places = Vec::new(alloc);
-    for column in declared {
-        places.push(place_of(alloc, record, column.name.as_str())?)?;
-    }
+) -> Result<Layout, StreamError>
+    ensures places { IfOk result
+        (λ layout. StandAt (fields_of record.now) declared.now layout.places.items) }
+    ensures width { IfOk result (λ layout. layout.width ≡ length (fields_of record.now)) }
+{
+    let places = places_of(alloc, declared, record)?;
     Ok(Layout {
         places,
         width: record.len(),

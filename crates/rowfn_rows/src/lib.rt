@@ -3,14 +3,14 @@
 
 mod answering;
 pub mod errors;
-pub mod explain;
+pub mod explained;
 mod header;
 mod output;
 pub mod settings;
 pub mod stream;
 
 pub use errors::StreamError;
-pub use explain::explain;
+pub use explained::explain;
 pub use rowfn_csv::Format;
 pub use settings::Settings;
 pub use stream::{Summary, flow, top_alone};

@@ -1,5 +1,9 @@
 //! What is written: answers as fields of CSV, or rows of the input as they stand.
 
+ghost use Rattle.std.specs.Prelude.{◌≡◌, ◌↔◌, ◌<◌, IsTrue, true, length};
+ghost use Rattle.vortex_types.specs.Values.{truth};
+ghost use Rattle.vortex_columns.specs.ColumnView.{row};
+
 use rowfn_batches::push_field;
 use rowfn_csv::{Format, quote_from};
 use std::alloc::{AllocError, Global};
@@ -82,9 +86,12 @@ impl<'a> Output<'a> {
     }
 }
 
-/// Whether a column of Bool is true in a row; false where it is null there.
-pub fn is_true(column: &Column, row: usize) -> bool {
-    match column.cell(row) {
+/// Whether a column is true in a row; it is not where it is null there.
+pub fn is_true(column: &Column, i: usize) -> bool
+    requires { i < length column.now.rows }
+    ensures { IsTrue result ↔ row column.now.rows i ≡ truth true }
+{
+    match column.cell(i) {
         Cell::Bool(true) => true,
         _ => false,
     }

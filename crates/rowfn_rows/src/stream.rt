@@ -66,6 +66,20 @@ pub fn top_alone(
     })
 }
 
+/// Adds a field of the last record to the batch; an empty one where the record has none there.
+fn push_field_of<R: Read>(
+    rows: &mut Rows<'_, R>,
+    place: usize,
+    batch: &mut Batch,
+) -> Result<(), StreamError> {
+    let is_null = rows.is_null(place)?;
+    match rows.record().get(place) {
+        Some(field) => batch.push_field(field, is_null)?,
+        None => batch.push_field(&[], is_null)?,
+    }
+    Ok(())
+}
+
 impl<'a, R: Read + Drop> Stream<'a, R> {
     /// Reads the header, where there is one, and puts the header of the output down.
     fn begin(
@@ -110,9 +124,7 @@ impl<'a, R: Read + Drop> Stream<'a, R> {
             return Err(StreamError::Width { row, wanted, found });
         }
         for place in self.layout.places.iter() {
-            let is_null = self.rows.is_null(*place)?;
-            let field = self.rows.record().get(*place).unwrap_or(&[]);
-            self.batch.push_field(field, is_null)?;
+            push_field_of(&mut self.rows, *place, &mut self.batch)?;
         }
         self.batch.end_row(self.rows.span())?;
         Ok(true)
