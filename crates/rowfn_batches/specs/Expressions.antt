@@ -1,5 +1,5 @@
 -- What a text means as an expression: the lines that go on, and what they leave.
-use Rattle.std.specs.Prelude.{◌≡◌, ◌≢◌, ◌+◌, ◌<◌, ◌⊎◌, ℕ, suc, List, [], ◌∷◌, length, map, reverse}
+use Rattle.std.specs.Prelude.{◌≡◌, ◌≢◌, ◌+◌, ◌-◌, ◌<◌, ◌⊎◌, ℕ, suc, List, [], ◌∷◌, length, map, reverse}
 use Rattle.std.specs.Prelude.{Option, Some, None, IfSome, slice_get, slice_index_or, string_bytes}
 use Rattle.std.specs.Prelude.{String, option_map, ⊤}
 use Rattle.std.specs.declared.alloc.Global.{Global}
@@ -25,12 +25,15 @@ use Rattle.rowfn_batches.specs.Lines.{ReadsLine, given_in}
 abbrev pub line_at : List (List ℕ) → ℕ → List ℕ
 line_at lines n = slice_index_or lines n []
 
--- the number of the line behind the last; where a newline ends the last, the empty one there
+-- behind n lines, the last of which is this; an empty one stands behind a newline at the end
+abbrev pub behind : ℕ → Option (List ℕ) → ℕ
+behind n None = n
+behind n (Some []) = n
+behind n (Some (b ∷ bs)) = n + 1
+
+-- the number of the line behind the last
 abbrev pub line_behind : List (List ℕ) → ℕ
-line_behind [] = 0
-line_behind ([] ∷ []) = 1
-line_behind ((b ∷ bs) ∷ []) = 2
-line_behind (l ∷ m ∷ ls) = suc (line_behind (m ∷ ls))
+line_behind lines = behind (length lines) (slice_get lines (length lines - 1))
 
 -- the name that was lent, of a tree that has a place among the names
 abbrev pub given_at : Option (Bor (Option (String Global))) → Option (Option (List ℕ))
