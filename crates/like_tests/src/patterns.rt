@@ -165,6 +165,25 @@ fn counts_many_looks(rt: HostRuntime) {
     assert!(rt; yes(many_looks(alloc, 499, false, (0, 500_500))));
 }
 
+/// Whether LIKE says of 500 letters that they have 500 in them, and of 499 that they have not.
+fn many_letters(alloc: Global) -> VortexResult<bool> {
+    let pattern = repeated(alloc, "a%", 500)?;
+    let letters = repeated(alloc, "a", 500)?;
+    let words = [letters.as_str(), &letters.as_str()[1..]];
+    matches(alloc, LIKE, &pattern, &words, &[true, false])
+}
+
+#[test]
+fn tells_many_letters(rt: HostRuntime) {
+    assert!(rt; yes(many_letters(rt.alloc())));
+}
+
+#[test]
+fn a_single_character_is_any(rt: HostRuntime) {
+    let words = ["", "£", "\n"];
+    assert!(rt; yes(matches(rt.alloc(), LIKE, "_", &words, &[false, true, true])));
+}
+
 #[test]
 fn turned_over(rt: HostRuntime) {
     let alloc = rt.alloc();

@@ -12,6 +12,8 @@ mod docs;
 #[cfg(test)]
 mod endings;
 #[cfg(test)]
+mod hostile;
+#[cfg(test)]
 mod like;
 #[cfg(test)]
 mod lines;

@@ -1,6 +1,7 @@
 //! What follows from the meaning of trees. These functions do nothing: their contracts are proved.
 ghost use Rattle.vortex_meaning.specs.ComparisonTrees.{InverseNegates, SwapTurns};
 ghost use Rattle.vortex_meaning.specs.ArithmeticFaults.{ErrsWhereArithmeticDoes};
+ghost use Rattle.vortex_meaning.specs.Batches.{BatchesAnswerAsOne};
 
 use crate::vtable::ScalarFnVTable;
 
@@ -21,4 +22,11 @@ pub fn swap_turns<C: ScalarFnVTable>()
 /// fault of the first call that faults, children before their parent and from left to right. Over no rows there is none.
 pub fn errs_where_arithmetic_does<C: ScalarFnVTable>()
     ensures { ErrsWhereArithmeticDoes C.meaning }
+{}
+
+/// A table in batches: of an expression whose leaves fit columns of one length, what `BoundExpression::execute` answers over
+/// batches of their rows, batch after batch, are the rows that it answers over the whole; and it is refused over some batch,
+/// want of memory aside, exactly where it is over the whole. The rows may be cut anywhere, and a batch may have none.
+pub fn batches_answer_as_one<C: ScalarFnVTable>()
+    ensures { BatchesAnswerAsOne C.meaning }
 {}

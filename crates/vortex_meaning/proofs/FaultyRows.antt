@@ -18,7 +18,7 @@ first_fault : (x : Outcome) (inputs : Inputs) (y : Fault) → inputs ≡ one_fau
 first_fault (faults x) inputs y e = (x, refl)
 first_fault (gives v) inputs y e = (y, ap (with_first (gives v)) e)
 
-value_in : (x : Outcome) → GivesValue x → (v : Value) × (x ≡ gives v)
+pub value_in : (x : Outcome) → GivesValue x → (v : Value) × (x ≡ gives v)
 value_in (gives v) h = (v, refl)
 value_in (faults f) h = absurd h
 

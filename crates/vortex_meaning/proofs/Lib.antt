@@ -26,3 +26,5 @@ pub mod DriverExamples
 pub mod FaultyRows
 pub mod ArithmeticErrs
 pub mod AfterRun
+pub mod FirstFaults
+pub mod CutTables

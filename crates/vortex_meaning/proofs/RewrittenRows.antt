@@ -16,7 +16,7 @@ use Rattle.vortex_meaning.specs.Driver.{Runs}
 use Rattle.vortex_meaning.proofs.Driving.{rewritten_list_sound, runs_sound}
 
 -- columns of one length have it each
-same_length : (n : ℕ) (cs : List ColumnView) (p : ℕ) (c : ColumnView) → other_length n cs ≡ None
+pub same_length : (n : ℕ) (cs : List ColumnView) (p : ℕ) (c : ColumnView) → other_length n cs ≡ None
     → slice_get cs p ≡ Some c → length c.rows ≡ n
 same_length n [] p c h e = cc
 same_length n (d ∷ ds) p c h e = by (nat_eq (length d.rows) n) refl h p e (same_length n ds)

@@ -22,6 +22,7 @@ pub mod Weights
 pub mod Places
 pub mod Driver
 pub mod Running
+pub mod Batches
 pub mod ComparisonTrees
 pub mod ArithmeticFaults
 pub mod Printing

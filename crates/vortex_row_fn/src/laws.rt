@@ -7,7 +7,9 @@ pub use vortex_functions::value_laws::{
     equal_functions_are_the_same, equal_functions_hash_equally,
     equal_shipped_functions_mean_the_same, identities_and_options_tell_functions,
 };
-pub use vortex_interface::laws::{errs_where_arithmetic_does, inverse_negates, swap_turns};
+pub use vortex_interface::laws::{
+    batches_answer_as_one, errs_where_arithmetic_does, inverse_negates, swap_turns,
+};
 pub use vortex_like::laws::test_decides_match;
 pub use vortex_operators::laws::{
     comparisons_stand_in_the_order_of_the_table, operators_stand_in_the_order_of_the_table,

@@ -1,0 +1,99 @@
+//! Scripts that are cut off, and lines that nobody would write.
+
+use crate::endings::{ends, is_malformed_at_1, is_malformed_at_4};
+use rowfn_scripts::{End, interpret};
+use std::alloc::Global;
+
+const SCRIPT: &str = "rows 2
+col a i32? 1 null
+col b i32? 2 3
+col c i32? 3 3
+get a
+get b
+call +
+get c
+call =
+call is_null
+show
+optimize
+show
+run
+";
+
+const OUT: &str = "vortex.is_null((($.a + $.b) = $.c))
+steps 2 done true
+vortex.not(((is_not_null($.a) and is_not_null($.b)) and is_not_null($.c)))
+bool: false true
+";
+
+/// In which line a script's last byte stands, or would.
+fn last_line(script: &[u8]) -> usize {
+    let mut line = 1usize;
+    for byte in script {
+        if *byte == b'\n' {
+            line = line.wrapping_add(1);
+        }
+    }
+    line
+}
+
+/// Whether a script prints a beginning of `out`, and is done or malformed at its last line.
+fn prints_beginning(alloc: Global, script: &[u8], out: &str) -> bool {
+    let outcome = interpret(alloc, script);
+    let ended = match outcome.ending {
+        End::Done => true,
+        End::Malformed(line) => line == last_line(script),
+        End::Refused(_) => false,
+    };
+    ended && out.as_bytes().starts_with(outcome.out.as_slice())
+}
+
+/// Whether so does every beginning of a script, byte by byte.
+fn all_print_beginnings(alloc: Global, script: &str, out: &str) -> bool {
+    let bytes = script.as_bytes();
+    for count in 0..bytes.len() {
+        if !prints_beginning(alloc, &bytes[..count], out) {
+            return false;
+        }
+    }
+    prints_beginning(alloc, bytes, out)
+}
+
+#[test]
+fn every_beginning_of_a_script_ends_by_its_lines(rt: HostRuntime) {
+    assert!(rt; all_print_beginnings(rt.alloc(), SCRIPT, OUT));
+}
+
+#[test]
+fn the_whole_script_prints_all(rt: HostRuntime) {
+    assert!(rt; ends(rt.alloc(), SCRIPT.as_bytes(), OUT, 0, ""));
+}
+
+/// Whether a line behind four others is malformed.
+fn is_malformed_behind_literals(alloc: Global, line: &str) -> bool {
+    let mut script = String::new(alloc);
+    let _ = script.push_str("rows 1\nlit i8 1\nlit i8 1\nlit i8 1\n");
+    let _ = script.push_str(line);
+    ends(alloc, script.as_bytes(), "", 2, "line 5: malformed\n")
+}
+
+#[test]
+fn odd_lines_are_malformed(rt: HostRuntime) {
+    let alloc = rt.alloc();
+    assert!(rt; is_malformed_at_4(alloc, "\n\nrows 1\nfoo\n"));
+    assert!(rt; is_malformed_at_1(alloc, "rows 1000000\n"));
+    assert!(rt; is_malformed_at_1(alloc, "get a\n"));
+    assert!(rt; is_malformed_behind_literals(alloc, "lit i8 -129"));
+    assert!(rt; is_malformed_behind_literals(alloc, "lit utf8 \"a"));
+    assert!(rt; is_malformed_behind_literals(alloc, "lit utf8 \"a\"b"));
+    assert!(rt; is_malformed_behind_literals(alloc, "call between < !"));
+}
+
+#[test]
+fn lines_before_a_byte_that_is_no_text_act(rt: HostRuntime) {
+    let alloc = rt.alloc();
+    let line = "line 3: malformed\n";
+    assert!(rt; ends(alloc, b"rows 1\nlit i8 1\n\xFF\nshow\n", "", 2, line));
+    let line = "line 4: malformed\n";
+    assert!(rt; ends(alloc, b"rows 1\nlit i8 1\nshow\n# \xFF\n", "1i8\n", 2, line));
+}

@@ -1,0 +1,40 @@
+# What the scripts share: where the program is, the rows, and what it answers over the whole file. Read by `.`, not run.
+set -eu
+here=$(cd "$(dirname "$0")" && pwd)
+count=${ROWS:-100000}
+scratch=$(mktemp -d /tmp/rowfn_engines.XXXXXX)
+chmod 755 "$scratch"
+
+# `rt run` in crates/rowfn_stream proves and builds the program, and leaves it there.
+program=${ROWFN_STREAM:-$here/../../crates/rowfn_stream/out/rowfn_stream}
+if [ ! -x "$program" ]; then
+    echo "no program at $program: say \`rt run\` in crates/rowfn_stream, or set ROWFN_STREAM" >&2
+    exit 1
+fi
+cp "$program" "$scratch/rowfn_stream"
+cp "$here/expression.rowfn" "$scratch/expression.rowfn"
+chmod 755 "$scratch/rowfn_stream"
+chmod 644 "$scratch/expression.rowfn"
+
+"$here/rows" "$count" > "$scratch/rows.csv"
+"$scratch/rowfn_stream" "$scratch/expression.rowfn" < "$scratch/rows.csv" > "$scratch/whole.csv"
+
+needs() {
+    for word in "$@"; do
+        if ! command -v "$word" > /dev/null; then
+            echo "$word is not there: install $packages" >&2
+            exit 1
+        fi
+    done
+}
+
+# whether an engine's answer is that over the whole file
+compare() {
+    if cmp -s "$1" "$scratch/whole.csv"; then
+        echo "$2: the same as over the whole file, $(wc -l < "$1") lines"
+    else
+        echo "$2: another answer than over the whole file: $1 beside $scratch/whole.csv" >&2
+        trap - EXIT
+        exit 1
+    fi
+}
