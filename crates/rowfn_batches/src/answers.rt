@@ -1,4 +1,8 @@
 //! What the trees of an expression answer over the columns of a batch.
+ghost use Rattle.std.specs.Prelude.{◌≡◌, ◌<◌, ℕ, All, IfOk, length, map, MatchOption};
+ghost use Rattle.vortex_errors.specs.Answers.{Answers, AnswersUnlessMemory};
+ghost use Rattle.rowfn_batches.specs.Executing.{AnswersAll, AnswersFirstFault, AllFit};
+ghost use Rattle.rowfn_batches.specs.Executing.{RefusesColumnsFirst, FaultsFirst, AllGive, row_column};
 
 use crate::expression::{Answer, Expression};
 use std::alloc::Global;
@@ -15,7 +19,10 @@ pub fn execute_answers<C: ScalarFnVTable>(
     expression: &Expression<C>,
     columns: &[Column],
     row_count: usize,
-) -> VortexResult<Vec<Column>> {
+) -> VortexResult<Vec<Column>>
+    ensures { AnswersAll C.meaning columns.now row_count
+        (map (λ a. a.tree) expression.now.answers.items) result }
+{
     let mut ctx = ExecutionCtx::new(alloc);
     execute_all(alloc, &expression.answers, columns, row_count, &mut ctx)
 }
@@ -26,7 +33,9 @@ fn execute_all<C: ScalarFnVTable>(
     columns: &[Column],
     row_count: usize,
     ctx: &mut ExecutionCtx,
-) -> VortexResult<Vec<Column>> {
+) -> VortexResult<Vec<Column>>
+    ensures { AnswersAll C.meaning columns.now row_count (map (λ a. a.tree) answers.now) result }
+{
     let mut executed = Vec::new(alloc);
     for answer in answers {
         let column = answer.tree.execute(columns, row_count, ctx)?;
@@ -41,7 +50,11 @@ fn check_columns<C: ScalarFnVTable>(
     columns: &[Column],
     row_count: usize,
     ctx: &mut ExecutionCtx,
-) -> VortexResult<()> {
+) -> VortexResult<()>
+    ensures { Answers result
+        (λ _. AllFit columns.now row_count (map (λ a. a.tree) answers.now))
+        (RefusesColumnsFirst columns.now row_count (map (λ a. a.tree) answers.now)) }
+{
     for answer in answers {
         answer.tree.check_columns(columns, row_count, ctx)?;
     }
@@ -49,7 +62,11 @@ fn check_columns<C: ScalarFnVTable>(
 }
 
 /// The columns of that row alone.
-fn row_of(alloc: Global, columns: &[Column], row: usize) -> VortexResult<Vec<Column>> {
+fn row_of(alloc: Global, columns: &[Column], row: usize) -> VortexResult<Vec<Column>>
+    requires { All (λ c. row < length c.rows) columns.now }
+    ensures { AnswersUnlessMemory result
+        (λ of_row. of_row.items ≡ map (row_column row) columns.now) }
+{
     let mut of_row = Vec::new(alloc);
     for column in columns {
         let scalar = column.scalar_at(alloc, row)?;
@@ -63,9 +80,17 @@ fn fault_in<C: ScalarFnVTable>(
     alloc: Global,
     answers: &[Answer<C>],
     columns: &[Column],
+    row_count: usize,
     row: usize,
     ctx: &mut ExecutionCtx,
-) -> VortexResult<Option<VortexError>> {
+) -> VortexResult<Option<VortexError>>
+    requires below { row < row_count }
+    requires some { 0 < length answers.now }
+    requires fit { AllFit columns.now row_count (map (λ a. a.tree) answers.now) }
+    ensures { AnswersUnlessMemory result (λ fault. MatchOption fault
+        (AllGive C.meaning columns.now row (map (λ a. a.tree) answers.now))
+        (FaultsFirst C.meaning columns.now row (map (λ a. a.tree) answers.now))) }
+{
     let of_row = row_of(alloc, columns, row)?;
     match execute_all(alloc, answers, &of_row, 1, ctx) {
         Ok(_) => Ok(None),
@@ -83,7 +108,10 @@ pub fn first_fault<C: ScalarFnVTable>(
     expression: &Expression<C>,
     columns: &[Column],
     row_count: usize,
-) -> VortexResult<Option<(usize, VortexError)>> {
+) -> VortexResult<Option<(usize, VortexError)>>
+    ensures { AnswersFirstFault C.meaning columns.now row_count
+        (map (λ a. a.tree) expression.now.answers.items) result }
+{
     let mut ctx = ExecutionCtx::new(alloc);
     let answers = &expression.answers;
     if answers.is_empty() {
@@ -91,7 +119,7 @@ pub fn first_fault<C: ScalarFnVTable>(
     }
     check_columns(answers, columns, row_count, &mut ctx)?;
     for row in 0..row_count {
-        if let Some(error) = fault_in(alloc, answers, columns, row, &mut ctx)? {
+        if let Some(error) = fault_in(alloc, answers, columns, row_count, row, &mut ctx)? {
             return Ok(Some((row, error)));
         }
     }

@@ -1,4 +1,12 @@
 //! The columns that an expression declares, and what the fields of a batch make of them.
+ghost use Rattle.std.specs.Prelude.{◌≡◌, ◌<◌, ◌*◌, ◌↔◌, IsTrue, IfOk, None, map, length, MatchOption};
+ghost use Rattle.std.specs.Prelude.{List};
+ghost use Rattle.vortex_columns.specs.ColumnView.{ColumnView};
+ghost use Rattle.vortex_errors.specs.Answers.{AnswersUnlessMemory};
+ghost use Rattle.rowfn_lines.specs.Lines.{word_in};
+ghost use Rattle.rowfn_batches.specs.Fields.{field_in};
+ghost use Rattle.rowfn_batches.specs.Batches.{words_at, column_at, AllFit, IsFirstMisfit, AreColumns};
+ghost use Rattle.rowfn_batches.specs.Batches.{AreEven, RefusesBatch, ReadsColumns};
 
 use crate::fields::{field_fits, field_word};
 use rowfn_lines::cells::column_said;
@@ -58,18 +66,24 @@ impl<T: Drop> From<AllocFailed<T>> for BatchError {
     }
 }
 
-/// The words of a column's fields.
+/// The words of a column's fields, of rows of so many.
 fn column_words<'a>(
     alloc: Global,
-    declared: &[Declared],
+    kind: Kind,
     fields: &[Option<&'a [u8]>],
+    width: usize,
     row_count: usize,
     column: usize,
-) -> Result<Vec<Word<'a>>, AllocError> {
-    let kind = declared[column].kind;
+) -> Result<Vec<Word<'a>>, AllocError>
+    requires column { column < width }
+    requires even { length fields.now ≡ width * row_count }
+    ensures { IfOk result (λ words. map word_in words.items
+        ≡ words_at kind (map field_in fields.now) width row_count column) }
+{
     let mut words = Vec::new(alloc);
     for row in 0..row_count {
-        words.push(field_word(kind, fields[row * declared.len() + column]))?;
+        let place = row * width + column;
+        words.push(field_word(kind, fields[place]))?;
     }
     Ok(words)
 }
@@ -82,9 +96,14 @@ fn read_column(
     fields: &[Option<&[u8]>],
     row_count: usize,
     column: usize,
-) -> VortexResult<Option<Column>> {
-    let words = column_words(alloc, declared, fields, row_count, column)?;
+) -> VortexResult<Option<Column>>
+    requires column { column < length declared.now }
+    requires even { AreEven declared.now (map field_in fields.now) row_count }
+    ensures { AnswersUnlessMemory result
+        (λ c. c ≡ column_at declared.now (map field_in fields.now) row_count column) }
+{
     let of = &declared[column];
+    let words = column_words(alloc, of.kind, fields, declared.len(), row_count, column)?;
     column_said(alloc, of.kind, of.nullability, &words)
 }
 
@@ -94,7 +113,12 @@ fn first_misfit(
     alloc: Global,
     declared: &[Declared],
     fields: &[Option<&[u8]>],
-) -> VortexResult<Option<usize>> {
+) -> VortexResult<Option<usize>>
+    requires { 0 < length declared.now }
+    ensures { AnswersUnlessMemory result (λ place. MatchOption place
+        (AllFit declared.now (map field_in fields.now))
+        (IsFirstMisfit declared.now (map field_in fields.now))) }
+{
     for (place, field) in fields.iter().enumerate() {
         let column = &declared[place % declared.len()];
         if !field_fits(alloc, column, *field)? {
@@ -109,8 +133,17 @@ fn refusal(
     alloc: Global,
     declared: &[Declared],
     fields: &[Option<&[u8]>],
+    row_count: usize,
     column: usize,
-) -> VortexResult<BatchError> {
+) -> VortexResult<BatchError>
+    requires column { column < length declared.now }
+    requires even { AreEven declared.now (map field_in fields.now) row_count }
+    requires said { column_at declared.now (map field_in fields.now) row_count column ≡ None }
+    requires before { (cs : List ColumnView)
+        × AreColumns declared.now (map field_in fields.now) row_count column cs }
+    ensures { AnswersUnlessMemory result
+        (RefusesBatch declared.now (map field_in fields.now) row_count) }
+{
     match first_misfit(alloc, declared, fields)? {
         Some(place) => Ok(BatchError::Misfit {
             row: place / declared.len(),
@@ -121,7 +154,9 @@ fn refusal(
 }
 
 /// Whether so many fields are those of whole rows.
-fn is_even(width: usize, row_count: usize, count: usize) -> bool {
+fn is_even(width: usize, row_count: usize, count: usize) -> bool
+    ensures { IsTrue result ↔ (count ≡ width * row_count) }
+{
     match width.checked_mul(row_count) {
         Some(wanted) => wanted == count,
         None => false,
@@ -139,7 +174,9 @@ pub fn read_columns(
     declared: &[Declared],
     fields: &[Option<&[u8]>],
     row_count: usize,
-) -> Result<Vec<Column>, BatchError> {
+) -> Result<Vec<Column>, BatchError>
+    ensures { ReadsColumns declared.now (map field_in fields.now) row_count result }
+{
     if !is_even(declared.len(), row_count, fields.len()) {
         return Err(BatchError::Uneven);
     }
@@ -147,7 +184,7 @@ pub fn read_columns(
     for place in 0..declared.len() {
         match read_column(alloc, declared, fields, row_count, place)? {
             Some(column) => columns.push(column)?,
-            None => return Err(refusal(alloc, declared, fields, place)?),
+            None => return Err(refusal(alloc, declared, fields, row_count, place)?),
         }
     }
     Ok(columns)

@@ -1,4 +1,6 @@
 //! What was expected where a line is none of an expression.
+ghost use Rattle.std.specs.Prelude.{◌≡◌};
+ghost use Rattle.rowfn_batches.specs.Expecting.{first_word, expected_by, expected_in};
 
 use rowfn_lines::text::without_spaces;
 use std::str;
@@ -27,7 +29,9 @@ pub enum Expected {
 }
 
 /// The bytes before the first space.
-fn first_word(text: &str) -> &str {
+fn first_word(text: &str) -> &str
+    ensures { result.now ≡ first_word text.now }
+{
     match text.split_once(' ') {
         Some((word, _)) => word,
         None => text,
@@ -35,7 +39,9 @@ fn first_word(text: &str) -> &str {
 }
 
 /// By a first word.
-fn expected_by(word: &str) -> Expected {
+fn expected_by(word: &str) -> Expected
+    ensures { result ≡ expected_by word.now }
+{
     if word == "col" {
         Expected::Column
     } else if word == "get" {
@@ -54,7 +60,9 @@ fn expected_by(word: &str) -> Expected {
 }
 
 /// What was expected in the place of that line.
-pub fn expected_in(line: &[u8]) -> Expected {
+pub fn expected_in(line: &[u8]) -> Expected
+    ensures { result ≡ expected_in line.now }
+{
     match str::from_utf8(line) {
         Ok(text) => expected_by(first_word(without_spaces(text))),
         Err(_) => Expected::Line,

@@ -1,4 +1,14 @@
 //! Expressions: what their lines declare and leave.
+ghost use Rattle.std.specs.Prelude.{◌≡◌, ◌≢◌, ◌+◌, ◌<◌, ◌⊎◌, [], map, reverse, length, slice_get, string_bytes, MatchResult};
+ghost use Rattle.vortex_errors.specs.Answers.{AnswersUnlessMemory};
+ghost use Rattle.vortex_meaning.specs.ValidityRules.{default_rules};
+ghost use Rattle.vortex_functions.specs.Fixed.{fixed_meaning};
+ghost use Rattle.vortex_functions.specs.declared.custom.NoCustom.{NoCustom};
+ghost use Rattle.vortex_interface.specs.declared.options.EmptyOptions.{EmptyOptions};
+ghost use Rattle.rowfn_lines.specs.Lines.{lines_of};
+ghost use Rattle.rowfn_batches.specs.Lines.{reading_of, declared_in, given_in};
+ghost use Rattle.rowfn_batches.specs.Expressions.{line_behind, given_at, IsHeader, AreAnswers, ReadsAll, Stops};
+ghost use Rattle.rowfn_batches.specs.Expressions.{Leaves, LeavesNone, ending_of};
 
 use crate::columns::Declared;
 use crate::expected::{Expected, expected_in};
@@ -64,7 +74,9 @@ impl From<AllocError> for ExpressionError {
 }
 
 /// Why a text is no expression whose line of that number, counted from 1, stops.
-fn stopped(stop: Stop, number: usize, line: &[u8]) -> ExpressionError {
+fn stopped(stop: Stop, number: usize, line: &[u8]) -> ExpressionError
+    ensures { result ≡ ending_of stop number line.now }
+{
     match stop {
         Stop::Refused(VortexError::OutOfMemory) => ExpressionError::OutOfMemory,
         Stop::Refused(error) => ExpressionError::Refused {
@@ -80,7 +92,9 @@ fn stopped(stop: Stop, number: usize, line: &[u8]) -> ExpressionError {
 
 /// The number of the line behind the last; where a newline ends the last, the text has an empty one
 /// there.
-fn line_behind(lines: &[&[u8]]) -> usize {
+fn line_behind(lines: &[&[u8]]) -> usize
+    ensures { result ≡ line_behind (map (λ l. l.now) lines.now) }
+{
     match lines.last() {
         Some(last) if !last.is_empty() => lines.len() + 1,
         _ => lines.len(),
@@ -92,7 +106,10 @@ fn header<C: ScalarFnVTable>(
     alloc: Global,
     tree: &BoundExpression<C>,
     name: Option<&Option<String>>,
-) -> VortexResult<String> {
+) -> VortexResult<String>
+    ensures { AnswersUnlessMemory result
+        (λ header. IsHeader tree.now (given_at name.entry) (string_bytes header)) }
+{
     match name {
         Some(Some(name)) => Ok(String::from_str(alloc, name.as_str())?),
         _ => tree.sql_text(alloc),
@@ -104,7 +121,11 @@ fn answers_of<C: ScalarFnVTable>(
     alloc: Global,
     trees: Vec<BoundExpression<C>>,
     names: &[Option<String>],
-) -> VortexResult<Vec<Answer<C>>> {
+) -> VortexResult<Vec<Answer<C>>>
+    ensures { AnswersUnlessMemory result (λ answers. (map (λ a. a.tree) answers.items ≡ trees.items)
+        × AreAnswers trees.items (map given_in names.now)
+        (map (λ a. string_bytes a.name) answers.items)) }
+{
     let mut answers = Vec::new(alloc);
     for (place, tree) in trees.into_iter().enumerate() {
         let name = header(alloc, &tree, names.get(place))?;
@@ -117,7 +138,12 @@ fn answers_of<C: ScalarFnVTable>(
 fn read_lines<C: ScalarFnRules>(
     alloc: Global,
     lines: &[&[u8]],
-) -> Result<Reading<C>, ExpressionError> {
+) -> Result<Reading<C>, ExpressionError>
+    ensures { MatchResult result
+        (λ r. ReadsAll C.meaning C.rules (map (λ l. l.now) lines.now)
+        (reading_of r.session r.columns.items r.names.items))
+        (Stops C.meaning C.rules (map (λ l. l.now) lines.now)) }
+{
     let Ok(mut reading) = Reading::new(alloc) else {
         return Err(ExpressionError::OutOfMemory);
     };
@@ -129,7 +155,13 @@ fn read_lines<C: ScalarFnRules>(
     Ok(reading)
 }
 
-fn read<C: ScalarFnRules>(alloc: Global, text: &[u8]) -> Result<Expression<C>, ExpressionError> {
+fn read<C: ScalarFnRules>(alloc: Global, text: &[u8]) -> Result<Expression<C>, ExpressionError>
+    ensures { MatchResult result
+        (λ x. Leaves C.meaning C.rules (lines_of text.now) (map declared_in x.columns.items)
+        (map (λ a. a.tree) x.answers.items) (map (λ a. string_bytes a.name) x.answers.items))
+        (λ e. Stops C.meaning C.rules (lines_of text.now) e
+        ⊎ LeavesNone C.meaning C.rules (lines_of text.now) e) }
+{
     let lines = lines(alloc, text)?;
     let (columns, trees, names) = read_lines::<C>(alloc, &lines)?.into_parts();
     if trees.is_empty() {
@@ -148,9 +180,13 @@ fn read<C: ScalarFnRules>(alloc: Global, text: &[u8]) -> Result<Expression<C>, E
 /// `lit`, `call` and `optimize` make trees. `as name` names the last tree for a header, until a call
 /// takes it; a tree without a name has its text there. At the end at least one tree is left.
 /// docs/STREAM.md has each line with an example.
-pub fn read_expression(
-    alloc: Global,
-    text: &[u8],
-) -> Result<Expression<NoCustom>, ExpressionError> {
+pub fn read_expression(alloc: Global, text: &[u8]) -> Result<Expression<NoCustom>, ExpressionError>
+    ensures { let m = fixed_meaning {V = NoCustom} {O = EmptyOptions} in
+        MatchResult result
+        (λ x. Leaves m (default_rules m) (lines_of text.now) (map declared_in x.columns.items)
+        (map (λ a. a.tree) x.answers.items) (map (λ a. string_bytes a.name) x.answers.items))
+        (λ e. Stops m (default_rules m) (lines_of text.now) e
+        ⊎ LeavesNone m (default_rules m) (lines_of text.now) e) }
+{
     read::<NoCustom>(alloc, text)
 }

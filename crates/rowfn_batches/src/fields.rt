@@ -1,4 +1,8 @@
 //! A field as a word of scripts, and whether it fits its column.
+ghost use Rattle.std.specs.Prelude.{◌≡◌};
+ghost use Rattle.vortex_errors.specs.Answers.{AnswersUnlessMemory};
+ghost use Rattle.rowfn_lines.specs.Lines.{word_in};
+ghost use Rattle.rowfn_batches.specs.Fields.{field_in, bare_word, text_word, field_word, field_fits};
 
 use crate::columns::Declared;
 use rowfn_lines::cells::literal_said;
@@ -8,24 +12,33 @@ use std::alloc::Global;
 use std::str;
 use vortex_columns::VortexResult;
 
-/// A text as a word: in quotes under a kind of texts, and so `null` under any other, which no value
-/// of it is.
-fn text_word(kind: Kind, text: &str) -> Word<'_> {
+/// A text as a word without quotes, but for `null`, which would say a null: in quotes it is a text.
+fn bare_word(text: &str) -> Word<'_>
+    ensures { word_in result ≡ bare_word text.now }
+{
+    if text == "null" {
+        Word::Quoted(text)
+    } else {
+        Word::Plain(text)
+    }
+}
+
+/// A text as a word: in quotes where the kind has texts.
+fn text_word(kind: Kind, text: &str) -> Word<'_>
+    ensures { word_in result ≡ text_word kind text.now }
+{
     match kind {
         Kind::Utf8 => Word::Quoted(text),
-        Kind::Bool | Kind::Integer(_) => {
-            if text == "null" {
-                Word::Quoted(text)
-            } else {
-                Word::Plain(text)
-            }
-        }
+        Kind::Bool => bare_word(text),
+        Kind::Integer(_) => bare_word(text),
     }
 }
 
 /// The word that a field is: `null` for a null field, and an empty one, which says nothing of any
 /// kind, for bytes that are not UTF-8.
-pub fn field_word<'a>(kind: Kind, field: Option<&'a [u8]>) -> Word<'a> {
+pub fn field_word<'a>(kind: Kind, field: Option<&'a [u8]>) -> Word<'a>
+    ensures { word_in result ≡ field_word kind (field_in field.entry) }
+{
     let Some(bytes) = field else {
         return Word::Plain("null");
     };
@@ -36,7 +49,9 @@ pub fn field_word<'a>(kind: Kind, field: Option<&'a [u8]>) -> Word<'a> {
 }
 
 /// Whether the field says a value of the column's type. E9 alone.
-pub fn field_fits(alloc: Global, column: &Declared, field: Option<&[u8]>) -> VortexResult<bool> {
+pub fn field_fits(alloc: Global, column: &Declared, field: Option<&[u8]>) -> VortexResult<bool>
+    ensures { AnswersUnlessMemory result (λ b. b ≡ field_fits column.now (field_in field.entry)) }
+{
     let word = field_word(column.kind, field);
     Ok(literal_said(alloc, column.kind, column.nullability, &word)?.is_some())
 }

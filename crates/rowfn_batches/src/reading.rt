@@ -1,4 +1,14 @@
 //! What the lines of an expression have made so far.
+ghost use Rattle.std.specs.Prelude.{◌≡◌, map, option_map, reverse, false, IfOk, MatchOption};
+ghost use Rattle.vortex_errors.specs.Answers.{AnswersUnlessMemory};
+ghost use Rattle.vortex_errors.specs.declared.error.VortexError.TheVariants.{OutOfMemory};
+ghost use Rattle.vortex_types.specs.TypeOf.{type_of, allows_null};
+ghost use Rattle.rowfn_lines.specs.Lines.{word_in};
+ghost use Rattle.rowfn_lines.specs.Commands.{kind_type, command_in, column};
+ghost use Rattle.rowfn_scripts.specs.declared.stop.Stop.TheVariants.{Refused};
+ghost use Rattle.rowfn_batches.specs.Lines.{has_cells, name_in, name_said, declared_in, given_in};
+ghost use Rattle.rowfn_batches.specs.Lines.{reading_of, opened, named, Makes, ReadsLine, MakesRead};
+ghost use Rattle.rowfn_batches.specs.Lines.{Lifts, with_pushed};
 
 use crate::columns::Declared;
 use rowfn_lines::Line;
@@ -23,7 +33,11 @@ pub struct Reading<C: ScalarFnVTable> {
 
 /// The kind of the cells of a column of that type, and whether null is among them; nothing of a type
 /// that no cells have.
-fn kind_of(dtype: &DType) -> Option<(Kind, Nullability)> {
+fn kind_of(dtype: &DType) -> Option<(Kind, Nullability)>
+    ensures { MatchOption result (has_cells (type_of dtype.now) ≡ false)
+        (λ p. (has_cells (type_of dtype.now) ≡ true)
+        × (kind_type p.0 (allows_null p.1) ≡ type_of dtype.now)) }
+{
     match dtype {
         DType::Bool(nullability) => Some((Kind::Bool, *nullability)),
         DType::Primitive(ptype, nullability) => Some((Kind::Integer(*ptype), *nullability)),
@@ -33,7 +47,9 @@ fn kind_of(dtype: &DType) -> Option<(Kind, Nullability)> {
 }
 
 /// The name that the words of an `as` line say.
-fn name_in<'a>(words: &[Word<'a>]) -> Option<&'a str> {
+fn name_in<'a>(words: &[Word<'a>]) -> Option<&'a str>
+    ensures { option_map (λ w. w.now) result ≡ name_in (map word_in words.now) }
+{
     match words {
         [Word::Plain(first), Word::Plain(name)] if *first == "as" && is_name(name) => Some(*name),
         _ => None,
@@ -41,7 +57,10 @@ fn name_in<'a>(words: &[Word<'a>]) -> Option<&'a str> {
 }
 
 /// The name that an `as` line says; nothing of any other line. E9 alone.
-fn name_said(alloc: Global, line: &[u8]) -> VortexResult<Option<&str>> {
+fn name_said(alloc: Global, line: &[u8]) -> VortexResult<Option<&str>>
+    ensures { AnswersUnlessMemory result
+        (λ name. option_map (λ w. w.now) name ≡ name_said line.now) }
+{
     let Ok(text) = str::from_utf8(line) else {
         return Ok(None);
     };
@@ -53,7 +72,11 @@ fn name_said(alloc: Global, line: &[u8]) -> VortexResult<Option<&str>> {
 
 impl<C: ScalarFnRules> Reading<C> {
     /// Nothing yet: a session of no rows.
-    pub fn new(alloc: Global) -> Result<Reading<C>, Stop> {
+    pub fn new(alloc: Global) -> Result<Reading<C>, Stop>
+        ensures { MatchResult result
+            (λ r. reading_of r.session r.columns.items r.names.items ≡ opened)
+            (λ stop. stop ≡ Refused OutOfMemory) }
+    {
         let mut session = Session::new(alloc);
         session.step(alloc, Line::Rows(0))?;
         Ok(Reading {
@@ -64,7 +87,11 @@ impl<C: ScalarFnRules> Reading<C> {
     }
 
     /// The columns, the trees, and their names.
-    pub fn into_parts(self) -> (Vec<Declared>, Vec<BoundExpression<C>>, Vec<Option<String>>) {
+    pub fn into_parts(self) -> (Vec<Declared>, Vec<BoundExpression<C>>, Vec<Option<String>>)
+        ensures columns { result.0 ≡ self.columns }
+        ensures trees { reverse result.1.items ≡ self.session.stack }
+        ensures names { result.2 ≡ self.names }
+    {
         let Reading {
             session,
             columns,
@@ -75,7 +102,11 @@ impl<C: ScalarFnRules> Reading<C> {
     }
 
     /// Names the last tree.
-    fn name_last(&mut self, alloc: Global, name: &str) -> Result<(), Stop> {
+    fn name_last(&mut self, alloc: Global, name: &str) -> Result<(), Stop>
+        ensures { MakesRead (λ s r. r ≡ named name.now s)
+            (reading_of self.old.session self.old.columns.items self.old.names.items) result
+            (reading_of self.new.session self.new.columns.items self.new.names.items) }
+    {
         let name = String::from_str(alloc, name)?;
         if self.names.pop().is_none() {
             return Err(Stop::Malformed);
@@ -85,11 +116,15 @@ impl<C: ScalarFnRules> Reading<C> {
     }
 
     /// A column of no rows, and so one without cells.
-    fn declare(&mut self, alloc: Global, name: &str, column: Column) -> Result<(), Stop> {
-        let Some((kind, nullability)) = kind_of(column.dtype()) else {
+    fn declare(&mut self, alloc: Global, name: &str, added: Column) -> Result<(), Stop>
+        ensures { MakesRead (Makes C.meaning C.rules (column name.now added))
+            (reading_of self.old.session self.old.columns.items self.old.names.items) result
+            (reading_of self.new.session self.new.columns.items self.new.names.items) }
+    {
+        let Some((kind, nullability)) = kind_of(added.dtype()) else {
             return Err(Stop::Malformed);
         };
-        self.session.step(alloc, Line::Column(name, column))?;
+        self.session.step(alloc, Line::Column(name, added))?;
         let name = String::from_str(alloc, name)?;
         self.columns.push(Declared {
             name,
@@ -100,7 +135,11 @@ impl<C: ScalarFnRules> Reading<C> {
     }
 
     /// A line that pushes a tree, which has no name yet; those that it takes lose theirs.
-    fn push(&mut self, alloc: Global, line: Line<'_>) -> Result<(), Stop> {
+    fn push(&mut self, alloc: Global, line: Line<'_>) -> Result<(), Stop>
+        ensures { let s = reading_of self.old.session self.old.columns.items self.old.names.items
+            in MakesRead (Lifts C.meaning C.rules (command_in line.entry) (with_pushed s)) s result
+            (reading_of self.new.session self.new.columns.items self.new.names.items) }
+    {
         self.session.step(alloc, line)?;
         self.names
             .truncate(self.session.tree_count().saturating_sub(1));
@@ -109,7 +148,11 @@ impl<C: ScalarFnRules> Reading<C> {
     }
 
     /// Does what a line of scripts says, where it may stand in an expression.
-    fn step(&mut self, alloc: Global, line: Line<'_>) -> Result<(), Stop> {
+    fn step(&mut self, alloc: Global, line: Line<'_>) -> Result<(), Stop>
+        ensures { MakesRead (Makes C.meaning C.rules (command_in line.entry))
+            (reading_of self.old.session self.old.columns.items self.old.names.items) result
+            (reading_of self.new.session self.new.columns.items self.new.names.items) }
+    {
         match line {
             Line::Nothing => Ok(()),
             Line::Column(name, column) => self.declare(alloc, name, column),
@@ -127,7 +170,11 @@ impl<C: ScalarFnRules> Reading<C> {
 
     /// Does what the line says, or stops: where it is none of an expression, where its call is
     /// refused, or where memory runs out.
-    pub fn read_line(&mut self, alloc: Global, line: &[u8]) -> Result<(), Stop> {
+    pub fn read_line(&mut self, alloc: Global, line: &[u8]) -> Result<(), Stop>
+        ensures { MakesRead (ReadsLine C.meaning C.rules line.now)
+            (reading_of self.old.session self.old.columns.items self.old.names.items) result
+            (reading_of self.new.session self.new.columns.items self.new.names.items) }
+    {
         match name_said(alloc, line)? {
             Some(name) => self.name_last(alloc, name),
             None => {
