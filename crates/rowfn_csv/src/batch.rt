@@ -1,5 +1,6 @@
 //! The fields of a batch of rows.
 ghost use Rattle.std.specs.Prelude.{◌≡◌, ◌++◌, ◌∷◌, [], length, map, option_map, OnOk, IfOk, ◌<◌, get_or, None};
+ghost use Rattle.csv.specs.Records.{fields_of, partial_of};
 ghost use Rattle.rowfn_csv.specs.Batches.{field_said};
 
 use crate::rows::Span;
@@ -26,8 +27,20 @@ impl Model for Batch {
     ghost invariant = { IsBatch };
 }
 
+/// Takes all fields, marks and places away.
+fn clear_all(fields: &mut ByteRecord, nulls: &mut Vec<bool>, spans: &mut Vec<Span>)
+    ensures fields { (fields_of fields.new ≡ []) × (partial_of fields.new ≡ []) }
+    ensures nulls { nulls.new.items ≡ [] }
+    ensures spans { spans.new.items ≡ [] }
+{
+    fields.clear();
+    nulls.clear();
+    spans.clear();
+}
+
 impl Batch {
     /// A batch of no rows; takes no memory.
+    #[tactic(auto, using(crate::proofs::Marking::marked_none))]
     pub fn new(alloc: Global) -> Batch
         ensures { (result.fields ≡ []) × (result.spans ≡ []) }
     {
@@ -39,12 +52,11 @@ impl Batch {
     }
 
     /// Takes the rows away, and keeps the buffers.
+    #[tactic(auto, using(crate::proofs::Marking::marked_none))]
     pub fn clear(&mut self)
         ensures { (self.new.fields ≡ []) × (self.new.spans ≡ []) }
     {
-        self.fields.clear();
-        self.nulls.clear();
-        self.spans.clear();
+        clear_all(&mut self.fields, &mut self.nulls, &mut self.spans);
     }
 
     /// How many rows there are.
@@ -69,8 +81,12 @@ impl Batch {
             ++ (field_said field.now is_null ∷ [])) }
         ensures spans { OnOk result (self.new.spans ≡ self.old.spans) }
     {
-        if self.fields.push_field(field).is_err() || self.nulls.push(is_null).is_err() {
-            self.clear();
+        if self.fields.push_field(field).is_err() {
+            clear_all(&mut self.fields, &mut self.nulls, &mut self.spans);
+            return Err(AllocError);
+        }
+        if self.nulls.push(is_null).is_err() {
+            clear_all(&mut self.fields, &mut self.nulls, &mut self.spans);
             return Err(AllocError);
         }
         Ok(())
@@ -84,6 +100,14 @@ impl Batch {
     {
         self.spans.push(span)?;
         Ok(())
+    }
+
+    /// How many fields there are.
+    #[tactic(auto, using(crate::proofs::Marking::marked_length))]
+    fn count(&self) -> usize
+        ensures { result ≡ length self.now.fields }
+    {
+        self.nulls.len()
     }
 
     /// A field; nothing where it is null.
@@ -100,13 +124,12 @@ impl Batch {
     }
 
     /// The fields, row by row, nothing for each null. Refused only for want of memory.
-    #[tactic(auto, using(crate::proofs::Marking::marked_length))]
     pub fn fields(&self, alloc: Global) -> Result<Vec<Option<&[u8]>>, AllocError>
         ensures { IfOk result
             (λ fields. map (option_map (λ f. f.now)) fields.items ≡ self.now.fields) }
     {
-        let mut fields = Vec::with_capacity(alloc, self.nulls.len())?;
-        for i in 0..self.nulls.len() {
+        let mut fields = Vec::with_capacity(alloc, self.count())?;
+        for i in 0..self.count() {
             fields.push(self.field(i))?;
         }
         Ok(fields)
