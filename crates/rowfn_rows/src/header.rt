@@ -16,22 +16,22 @@ pub struct Layout {
 }
 
 /// Whether that field is the name.
-fn is_named(record: &ByteRecord, index: usize, name: &str) -> bool
-    ensures { IsTrue result ↔ field_at (fields_of record.now) index ≡ Some name.now }
+fn is_named(header: &ByteRecord, index: usize, name: &str) -> bool
+    ensures { IsTrue result ↔ field_at (fields_of header.now) index ≡ Some name.now }
 {
-    match record.get(index) {
+    match header.get(index) {
         Some(field) => field == name.as_bytes(),
         None => false,
     }
 }
 
 /// The first field from that place on that is the name.
-fn find_from(record: &ByteRecord, name: &str, start: usize) -> Option<usize>
-    ensures { MatchOption result (LacksFrom (fields_of record.now) name.now start)
-        (λ place. IsFirstFrom (fields_of record.now) name.now start place) }
+fn find_from(header: &ByteRecord, name: &str, start: usize) -> Option<usize>
+    ensures { MatchOption result (LacksFrom (fields_of header.now) name.now start)
+        (λ place. IsFirstFrom (fields_of header.now) name.now start place) }
 {
-    for i in start..record.len() {
-        if is_named(record, i, name) {
+    for i in start..header.len() {
+        if is_named(header, i, name) {
             return Some(i);
         }
     }
@@ -39,13 +39,13 @@ fn find_from(record: &ByteRecord, name: &str, start: usize) -> Option<usize>
 }
 
 /// Where a name stands in a header. Refused where it is missing or stands twice.
-fn place_of(alloc: Global, record: &ByteRecord, name: &str) -> Result<usize, StreamError>
-    ensures { IfOk result (λ place. StandsOnce (fields_of record.now) name.now place) }
+fn place_of(alloc: Global, header: &ByteRecord, name: &str) -> Result<usize, StreamError>
+    ensures { IfOk result (λ place. StandsOnce (fields_of header.now) name.now place) }
 {
-    let Some(place) = find_from(record, name, 0) else {
+    let Some(place) = find_from(header, name, 0) else {
         return Err(StreamError::ColumnMissing(String::from_str(alloc, name)?));
     };
-    match find_from(record, name, place + 1) {
+    match find_from(header, name, place + 1) {
         Some(_) => Err(StreamError::ColumnTwice(String::from_str(alloc, name)?)),
         None => Ok(place),
     }
@@ -55,13 +55,13 @@ fn place_of(alloc: Global, record: &ByteRecord, name: &str) -> Result<usize, Str
 fn places_of(
     alloc: Global,
     declared: &[Declared],
-    record: &ByteRecord,
+    header: &ByteRecord,
 ) -> Result<Vec<usize>, StreamError>
-    ensures { IfOk result (λ places. StandAt (fields_of record.now) declared.now places.items) }
+    ensures { IfOk result (λ places. StandAt (fields_of header.now) declared.now places.items) }
 {
     let mut places = Vec::new(alloc);
     for column in declared {
-        places.push(place_of(alloc, record, column.name.as_str())?)?;
+        places.push(place_of(alloc, header, column.name.as_str())?)?;
     }
     Ok(places)
 }
@@ -70,16 +70,16 @@ fn places_of(
 pub fn named_layout(
     alloc: Global,
     declared: &[Declared],
-    record: &ByteRecord,
+    header: &ByteRecord,
 ) -> Result<Layout, StreamError>
     ensures places { IfOk result
-        (λ layout. StandAt (fields_of record.now) declared.now layout.places.items) }
-    ensures width { IfOk result (λ layout. layout.width ≡ length (fields_of record.now)) }
+        (λ layout. StandAt (fields_of header.now) declared.now layout.places.items) }
+    ensures width { IfOk result (λ layout. layout.width ≡ length (fields_of header.now)) }
 {
-    let places = places_of(alloc, declared, record)?;
+    let places = places_of(alloc, declared, header)?;
     Ok(Layout {
         places,
-        width: record.len(),
+        width: header.len(),
     })
 }
 

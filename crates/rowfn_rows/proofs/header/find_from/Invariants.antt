@@ -5,4 +5,4 @@ use Rattle.rowfn_rows.proofs.header.find_from.Given as goal
 -- no field so far is the name
 abbrev pub invariant-loop-i : goal.invariant-loop-i
 invariant-loop-i l =
-    (q : ℕ) → l.start ≤ q → q < l.i → field_at (fields_of l.record) q ≢ Some l.name
+    (q : ℕ) → l.start ≤ q → q < l.i → field_at (fields_of l.header) q ≢ Some l.name

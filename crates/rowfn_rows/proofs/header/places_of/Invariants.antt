@@ -6,4 +6,4 @@ use Rattle.rowfn_rows.proofs.header.places_of.Given as goal
 -- the columns so far stand where the places say
 abbrev pub invariant-loop-column : goal.invariant-loop-column
 invariant-loop-column l =
-    StandAt (fields_of l.record) (take l.column-index l.declared) l.places.items
+    StandAt (fields_of l.header) (take l.column-index l.declared) l.places.items
