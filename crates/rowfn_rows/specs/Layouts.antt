@@ -1,5 +1,5 @@
 -- Where declared columns stand in a header.
-use Rattle.std.specs.Prelude.{◌≡◌, ◌≢◌, ◌<◌, ◌≤◌, ℕ, List, [], ◌∷◌, Some, ⊤, ⊥, length, string_bytes}
+use Rattle.std.specs.Prelude.{◌≡◌, ◌≢◌, ◌<◌, ◌≤◌, ℕ, List, [], ◌∷◌, Some, ⊤, length, string_bytes}
 use Rattle.csv.specs.Records.{field_at}
 use Rattle.rowfn_batches.specs.declared.columns.Declared.{Declared}
 

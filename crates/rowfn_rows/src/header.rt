@@ -42,6 +42,8 @@ fn find_from(header: &ByteRecord, name: &str, start: usize) -> Option<usize>
 fn place_of(alloc: Global, header: &ByteRecord, name: &str) -> Result<usize, StreamError>
     ensures { IfOk result (λ place. StandsOnce (fields_of header.now) name.now place) }
 {
+    // A header has no more fields than a number counts, so there is a place behind each.
+    let _count = header.len();
     let Some(place) = find_from(header, name, 0) else {
         return Err(StreamError::ColumnMissing(String::from_str(alloc, name)?));
     };

@@ -23,7 +23,7 @@ pub struct Output<'a> {
 impl<'a> Output<'a> {
     /// Nothing to write; takes no memory.
     pub fn new(alloc: Global, format: Format<'a>) -> Output<'a>
-        ensures { (result.bytes.items ≡ []) × (result.format ≡ format) }
+        ensures { (result.bytes.items ≡ []) × (result.format ≡ format.entry) }
     {
         Output {
             format,
