@@ -198,3 +198,50 @@ fn looks_at_all_rows(rt: HostRuntime) {
     assert!(rt; is_refused(one_more(alloc, 129), "Arithmetic.Add"));
     assert!(rt; is_refused(one_more(alloc, 0), "Arithmetic.Add"));
 }
+
+/// The greatest i64 and -3, times 2.
+fn doubled(alloc: Global, is_greatest_valid: bool) -> Made {
+    let rows = [9223372036854775807i64, -3];
+    let left = nullable_numbers(alloc, &rows, &[is_greatest_valid, true]);
+    calculated(
+        alloc,
+        left,
+        NumericOperator::Mul,
+        numbers(alloc, &[2i64, 2]),
+    )
+}
+
+/// 3 and the greatest u64, times 2.
+fn doubled_unsigned(alloc: Global, is_greatest_valid: bool) -> Made {
+    let rows = [3, 18446744073709551615u64];
+    let left = nullable_numbers(alloc, &rows, &[true, is_greatest_valid]);
+    calculated(
+        alloc,
+        left,
+        NumericOperator::Mul,
+        numbers(alloc, &[2u64, 2]),
+    )
+}
+
+/// The least i64 and its half, times 1 and 2.
+fn least_products(alloc: Global) -> Made {
+    let left = numbers(alloc, &[-9223372036854775808i64, -4611686018427387904]);
+    calculated(
+        alloc,
+        left,
+        NumericOperator::Mul,
+        numbers(alloc, &[1i64, 2]),
+    )
+}
+
+#[test]
+fn products_of_64_bits_fault_where_valid(rt: HostRuntime) {
+    let alloc = rt.alloc();
+    let least = Some(-9223372036854775808);
+    assert!(rt; yes(has_numbers(alloc, least_products(alloc), PLAIN, &[least, least])));
+    assert!(rt; yes(has_numbers(alloc, doubled(alloc, false), NULLABLE, &[None, Some(-6)])));
+    assert!(rt; is_refused(doubled(alloc, true), "Arithmetic.Mul"));
+    let unsigned = doubled_unsigned(alloc, false);
+    assert!(rt; yes(has_numbers(alloc, unsigned, NULLABLE, &[Some(6), None])));
+    assert!(rt; is_refused(doubled_unsigned(alloc, true), "Arithmetic.Mul"));
+}

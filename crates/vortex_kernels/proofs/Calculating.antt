@@ -3,7 +3,7 @@ use Rattle.std.proofs.Common.{◌≡◌, ◌⊎◌, inl, inr, ℕ, ◌+◌, ◌<
 use Rattle.std.proofs.Common.{None, List, [], ◌∷◌, ◌++◌, length, map, refl, sym, ap, subst, ◌∙◌}
 use Rattle.std.proofs.Common.{arith, length-append, cond}
 use Rattle.std.specs.Prelude.{ℤ, pos, not, ◌||◌, ◌≤ℤ◌, int_lt, Result, slice_index_or}
-use Rattle.std.specs.Prelude.{MatchOption, IsSome, IfNone, is_some}
+use Rattle.std.specs.Prelude.{MatchOption, IsSome, IfNone, IfSome, is_some}
 use Rattle.std.specs.Bool.{FalseIff}
 use Rattle.std.proofs.lemmas.Int.{ints}
 use Rattle.std.proofs.lemmas.List.{length-map}
@@ -77,7 +77,7 @@ tells_more p exact n told e joined o h same fault is none i lt =
     by false false k fits neither (inr q) = rw q (subst (FitsResult p) same fits)
 
 -- the integer type holds the result, or the row faults
-within_not : (least greatest z : ℤ) → (least ≤ℤ z) × (z ≤ℤ greatest)
+pub within_not : (least greatest z : ℤ) → (least ≤ℤ z) × (z ≤ℤ greatest)
     → is_outside least greatest z ≡ false
 within_not least greatest z h = by (int_lt z least) (int_lt greatest z) refl refl
   where
@@ -87,7 +87,7 @@ within_not least greatest z h = by (int_lt z least) (int_lt greatest z) refl ref
     by false true e f = absurd (omega (arith, ints, h.1, f))
     by false false e f = λ i. e i || f i
 
-inside_is : (least greatest z : ℤ) → is_outside least greatest z ≡ false
+pub inside_is : (least greatest z : ℤ) → is_outside least greatest z ≡ false
     → (least ≤ℤ z) × (z ≤ℤ greatest)
 inside_is least greatest z h = by (int_lt z least) (int_lt greatest z) refl refl h
   where
@@ -229,6 +229,12 @@ pub none_found : {A : Type 0} (F : Type 0) (Q : A → Type 0) (o : Option A) →
     → MatchOption o F Q → F
 none_found F Q None none h = h
 none_found F Q (Some x) none h = cc
+
+pub some_is : {A : Type 0} (P : A → Type 0) (o : Option A) (x : A) → o ≡ Some x → IfSome o P → P x
+some_is P None x e h = cc
+some_is P (Some y) x e h =
+    let same : y ≡ x = cc in
+    subst P same h
 
 -- evidence that equals the default
 pub no_fault : (unlike same fault : Bool) → unlike ≡ not same → same ≡ not fault → unlike ≡ false

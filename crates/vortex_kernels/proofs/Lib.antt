@@ -4,6 +4,7 @@ pub mod CastRows
 pub mod KleeneBits
 pub mod SameIntegers
 pub mod Calculating
+pub mod FaultRows
 pub mod WordComparisons
 pub mod KleeneAnswers
 pub mod ConstantResults

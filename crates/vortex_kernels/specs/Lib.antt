@@ -10,5 +10,6 @@ pub mod PairOrders
 pub mod Comparison
 pub mod ArithmeticIntegers
 pub mod Numeric
+pub mod Faults
 pub mod Between
 pub mod Words

@@ -8,12 +8,14 @@ mod bounds;
 pub mod cast;
 pub mod compare;
 mod comparisons;
+mod faults;
 mod integer_types;
 pub mod kleene;
 pub mod null_tests;
 mod numbers;
 pub mod numeric;
 mod pairs;
+mod row_operation;
 mod truths;
 mod validity;
 

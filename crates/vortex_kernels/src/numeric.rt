@@ -1,27 +1,30 @@
 //! Arithmetic of columns of one integer type, exact in each row.
-ghost use Rattle.std.specs.Prelude.{◌≡◌, ◌<◌, ℕ, true, length, map, MatchOption, Some};
-ghost use Rattle.std.specs.Prelude.{IfOk, IsSome};
+ghost use Rattle.std.specs.Prelude.{◌≡◌, ◌<◌, ℕ, true, length, map, Some};
+ghost use Rattle.std.specs.Prelude.{IfOk, IfSome, IsSome};
 ghost use Rattle.vortex_kernels.specs.Words.{Answers, AnswersUnlessMemory, integer_of_both};
 ghost use Rattle.vortex_kernels.specs.Words.{AnswersNumeric, RefusesNumeric};
 ghost use Rattle.vortex_kernels.specs.Words.{IsExactOf, row_results, AreNumbers};
-ghost use Rattle.vortex_kernels.specs.Words.{AreResults, TellsFaults, FitWhereValid, FaultsAt};
+ghost use Rattle.vortex_kernels.specs.Words.{AreResults, TellsFaults};
 ghost use Rattle.vortex_kernels.specs.Words.{HasScalarRows, IsConstantOf, null_of, number, type_of};
 ghost use Rattle.vortex_kernels.specs.Words.{KeepsTwoConstants, AreInts};
+ghost use Rattle.vortex_kernels.specs.Faults.{AreHeldResults};
 
 use crate::arithmetic_integer::{ArithmeticInteger, apply_checked};
+use crate::faults::faulty_row;
 use crate::integer_types::with_integer;
 use crate::numbers::{ListedNumbers, Numbers, OneNumber};
 use crate::pairs::constant_int;
+use crate::row_operation::{RowOperation, WideMul};
 use crate::validity::both_valid;
 use std::alloc::Global;
-use vortex_checked::{CheckedAdd, CheckedDiv, CheckedMul, CheckedPrimitiveOp, CheckedSub};
+use vortex_checked::{CheckedAdd, CheckedDiv, CheckedMul, CheckedSub};
 use vortex_columns::{
     Column, DType, ExecutionCtx, MismatchPlace, Nullability, NumericOperator, PType, Scalar,
     ScalarValue, VortexError, VortexResult,
 };
 
 /// The value of each row, also where it lies under a null, and evidence that is joined over all rows.
-fn apply_rows<T: ArithmeticInteger, O: CheckedPrimitiveOp<T>, L: Numbers<T>, R: Numbers<T>>(
+fn apply_rows<T: ArithmeticInteger, O: RowOperation<T>, L: Numbers<T>, R: Numbers<T>>(
     alloc: Global,
     left: &L,
     right: &R,
@@ -46,38 +49,58 @@ fn apply_rows<T: ArithmeticInteger, O: CheckedPrimitiveOp<T>, L: Numbers<T>, R: 
     Ok((values, fault))
 }
 
-/// The first row that faults and is null on neither side.
-fn faulty_row<T: ArithmeticInteger, O: CheckedPrimitiveOp<T>, L: Numbers<T>, R: Numbers<T>>(
+/// The value of each row, unless a row faults, be it under a null: the loop ends there.
+fn unfaulted_rows<T: ArithmeticInteger, O: RowOperation<T>, L: Numbers<T>, R: Numbers<T>>(
+    alloc: Global,
     left: &L,
     right: &R,
-    lhs: &Column,
-    rhs: &Column,
-) -> Option<usize>
-    requires lengths { length lhs.now.rows ≡ length rhs.now.rows }
-    requires left { (i : ℕ) → i < length lhs.now.rows → L.has_row left.now i }
-    requires right { (i : ℕ) → i < length lhs.now.rows → R.has_row right.now i }
-    ensures { MatchOption result
-        (FitWhereValid T.ptype
-        (row_results O.exact (L.number_at left.now) (R.number_at right.now))
-        lhs.now rhs.now (length lhs.now.rows))
-        (FaultsAt T.ptype
-        (row_results O.exact (L.number_at left.now) (R.number_at right.now))
-        lhs.now rhs.now) }
+    len: usize,
+) -> VortexResult<Option<Vec<T>>>
+    requires left { (i : ℕ) → i < len → L.has_row left.now i }
+    requires right { (i : ℕ) → i < len → R.has_row right.now i }
+    ensures { AnswersUnlessMemory result (λ answer. IfSome answer (λ values. AreHeldResults T.ptype
+        (row_results O.exact (L.number_at left.now) (R.number_at right.now)) len
+        (map T.NativePType.number values.items))) }
 {
-    for i in 0..lhs.len() {
-        if lhs.is_valid(i) && rhs.is_valid(i) {
-            let (_, evidence) = apply_checked::<T, O>(left.at(i), right.at(i));
-            if evidence != O::Fail::default() {
-                return Some(i);
-            }
+    let mut values = Vec::with_capacity(alloc, len)?;
+    for i in 0..len {
+        let (value, evidence) = apply_checked::<T, O>(left.at(i), right.at(i));
+        if evidence != O::Fail::default() {
+            return Ok(None);
         }
+        values.push_reserved(value);
     }
-    None
+    Ok(Some(values))
 }
 
-/// The operation in each row, of columns of equal length, whose integers are read in the form of each side. Rows are
-/// looked at one by one only where any of them faults, be it under a null.
-fn numeric_rows<T: ArithmeticInteger, O: CheckedPrimitiveOp<T>, L: Numbers<T>, R: Numbers<T>>(
+/// The value of each row, also where it lies under a null, and whether any row faults, in the form that serves the
+/// operation.
+fn checked_rows<T: ArithmeticInteger, O: RowOperation<T>, L: Numbers<T>, R: Numbers<T>>(
+    alloc: Global,
+    left: &L,
+    right: &R,
+    len: usize,
+) -> VortexResult<(Vec<T>, bool)>
+    requires left { (i : ℕ) → i < len → L.has_row left.now i }
+    requires right { (i : ℕ) → i < len → R.has_row right.now i }
+    ensures values { AnswersUnlessMemory result (λ answer. AreResults T.ptype
+        (row_results O.exact (L.number_at left.now) (R.number_at right.now)) len
+        (map T.NativePType.number answer.0.items)) }
+    ensures fault { AnswersUnlessMemory result (λ answer. TellsFaults T.ptype
+        (row_results O.exact (L.number_at left.now) (R.number_at right.now)) len answer.1) }
+{
+    if O::ENDS_AT_FAULT
+        && let Some(values) = unfaulted_rows::<T, O, L, R>(alloc, left, right, len)?
+    {
+        return Ok((values, false));
+    }
+    let (values, fault) = apply_rows::<T, O, L, R>(alloc, left, right, len)?;
+    Ok((values, fault != O::Fail::default()))
+}
+
+/// The operation in each row, of columns of equal length, whose integers are read in the form of each side. It is asked
+/// which rows fault only where any does, be it under a null.
+fn numeric_rows<T: ArithmeticInteger, O: RowOperation<T>, L: Numbers<T>, R: Numbers<T>>(
     left: &L,
     right: &R,
     lhs: &Column,
@@ -93,11 +116,13 @@ fn numeric_rows<T: ArithmeticInteger, O: CheckedPrimitiveOp<T>, L: Numbers<T>, R
     ensures { Answers result (AnswersNumeric operator lhs.now rhs.now)
         (RefusesNumeric operator lhs.now rhs.now) }
 {
-    let (values, fault) = apply_rows::<T, O, L, R>(ctx.alloc(), left, right, lhs.len())?;
-    if fault != O::Fail::default() && faulty_row::<T, O, L, R>(left, right, lhs, rhs).is_some() {
+    let (values, may_fault) = checked_rows::<T, O, L, R>(ctx.alloc(), left, right, lhs.len())?;
+    let validity = both_valid(ctx.alloc(), lhs, rhs)?;
+    if may_fault
+        && faulty_row::<T, O, L, R>(ctx.alloc(), left, right, lhs, rhs, &validity)?.is_some()
+    {
         return Err(VortexError::Arithmetic(operator));
     }
-    let validity = both_valid(ctx.alloc(), lhs, rhs)?;
     Column::try_primitive(ctx.alloc(), values, validity)
 }
 
@@ -113,7 +138,7 @@ fn null_rows(lhs: &Column, ctx: &mut ExecutionCtx) -> VortexResult<Column>
 }
 
 /// The same as `numeric_columns`, the integers of the left side being listed.
-fn numeric_listed<T: ArithmeticInteger, O: CheckedPrimitiveOp<T>>(
+fn numeric_listed<T: ArithmeticInteger, O: RowOperation<T>>(
     values: &[T],
     lhs: &Column,
     rhs: &Column,
@@ -147,7 +172,7 @@ fn numeric_listed<T: ArithmeticInteger, O: CheckedPrimitiveOp<T>>(
 
 /// The operation on two constant columns of equal length: it is made once, and answered as a constant. Nothing faults
 /// where there are no rows.
-fn numeric_constants<T: ArithmeticInteger, O: CheckedPrimitiveOp<T>>(
+fn numeric_constants<T: ArithmeticInteger, O: RowOperation<T>>(
     left: T,
     right: T,
     lhs: &Column,
@@ -176,7 +201,7 @@ fn numeric_constants<T: ArithmeticInteger, O: CheckedPrimitiveOp<T>>(
 }
 
 /// The same as `numeric_columns`, the left side being a constant.
-fn numeric_constant<T: ArithmeticInteger, O: CheckedPrimitiveOp<T>>(
+fn numeric_constant<T: ArithmeticInteger, O: RowOperation<T>>(
     value: T,
     lhs: &Column,
     rhs: &Column,
@@ -205,7 +230,7 @@ fn numeric_constant<T: ArithmeticInteger, O: CheckedPrimitiveOp<T>>(
 }
 
 /// The operation in each row, of columns of equal length. The form of each side is chosen before the rows.
-fn numeric_columns<T: ArithmeticInteger, O: CheckedPrimitiveOp<T>>(
+fn numeric_columns<T: ArithmeticInteger, O: RowOperation<T>>(
     lhs: &Column,
     rhs: &Column,
     operator: NumericOperator,
@@ -225,7 +250,7 @@ fn numeric_columns<T: ArithmeticInteger, O: CheckedPrimitiveOp<T>>(
     }
 }
 
-/// The same, the operator being chosen before the rows.
+/// The same, the operator being chosen before the rows, in the form that serves any type.
 fn numeric_in<T: ArithmeticInteger>(
     lhs: &Column,
     rhs: &Column,
@@ -243,6 +268,31 @@ fn numeric_in<T: ArithmeticInteger>(
         NumericOperator::Sub => numeric_columns::<T, CheckedSub>(lhs, rhs, operator, ctx),
         NumericOperator::Mul => numeric_columns::<T, CheckedMul>(lhs, rhs, operator, ctx),
         NumericOperator::Div => numeric_columns::<T, CheckedDiv>(lhs, rhs, operator, ctx),
+    }
+}
+
+/// The same, the type being chosen too, and products of 64 bits in a form of their own.
+fn numeric_typed(
+    ptype: PType,
+    lhs: &Column,
+    rhs: &Column,
+    operator: NumericOperator,
+    ctx: &mut ExecutionCtx,
+) -> VortexResult<Column>
+    requires types { integer_of_both lhs.now.dtype rhs.now.dtype ≡ Some ptype }
+    requires lengths { length lhs.now.rows ≡ length rhs.now.rows }
+    ensures rows { Answers result (AnswersNumeric operator lhs.now rhs.now)
+        (RefusesNumeric operator lhs.now rhs.now) }
+    ensures constant { IfOk result (KeepsTwoConstants lhs.now rhs.now) }
+{
+    match (operator, ptype) {
+        (NumericOperator::Mul, PType::I64) => {
+            numeric_columns::<i64, WideMul>(lhs, rhs, operator, ctx)
+        }
+        (NumericOperator::Mul, PType::U64) => {
+            numeric_columns::<u64, WideMul>(lhs, rhs, operator, ctx)
+        }
+        _ => with_integer!(ptype, numeric_in::<_>(lhs, rhs, operator, ctx)),
     }
 }
 
@@ -280,5 +330,5 @@ pub fn execute_numeric(
     if left != right {
         return Err(VortexError::LengthMismatch { left, right });
     }
-    with_integer!(ptype, numeric_in::<_>(lhs, rhs, operator, ctx))
+    numeric_typed(ptype, lhs, rhs, operator, ctx)
 }

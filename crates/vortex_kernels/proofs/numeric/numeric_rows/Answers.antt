@@ -1,10 +1,10 @@
 use Rattle.std.proofs.Common.{length, sym, ◌∙◌, arith}
 use Rattle.vortex_columns.specs.ValidityView.{validity_of}
 use Rattle.vortex_kernels.specs.Numeric.{row_results, FitWhereValid, FaultsAt}
-use Rattle.vortex_kernels.proofs.Calculating.{numeric_answers, found_refuses, none_found, no_fault}
+use Rattle.vortex_kernels.proofs.Calculating.{numeric_answers, found_refuses, none_found}
 use Rattle.vortex_kernels.proofs.numeric.numeric_rows.Goals as goal
-use Rattle.vortex_kernels.proofs.numeric.numeric_rows.Goals.{else-ne-via-then-ne+else-is_some}
-use Rattle.vortex_kernels.proofs.numeric.numeric_rows.Goals.{else-ne-via-else-ne}
+use Rattle.vortex_kernels.proofs.numeric.numeric_rows.Goals.{else-may_fault-via-then-may_fault+in_ok-faulty_row+else-is_some}
+use Rattle.vortex_kernels.proofs.numeric.numeric_rows.Goals.{else-may_fault-via-else-may_fault}
 
 pub returns-then-is_some : goal.returns-then-is_some
 returns-then-is_some g c =
@@ -17,8 +17,8 @@ returns-then-is_some g c =
     found_refuses c.args.operator p exact left right l r c.requires.exact c.requires.left.each
     (λ i lt. c.requires.right.each i (omega (arith, c.requires.lengths, lt))) c.requires.types
     c.requires.lengths
-    (FitWhereValid p (row_results exact left right) l r (length l.rows)) c.faulty_row.result
-    (sym c.is_some.ensures ∙ c.if-is_some.true) c.faulty_row.ensures
+    (FitWhereValid p (row_results exact left right) l r (length l.rows)) c.in_ok-faulty_row.field-0
+    (sym c.is_some.ensures ∙ c.if-is_some.true) c.in_ok-faulty_row.ensures
 
 pub returns : goal.returns
 returns g c =
@@ -29,20 +29,15 @@ returns g c =
     let l = c.args.lhs.now in
     let r = c.args.rhs.now in
     let results = row_results exact left right in
-    let laws = g.met.O.Fail.Failure.evidence in
-    let fault = c.in_ok-values.fault in
     let fits : FitWhereValid p results l r (length l.rows) =
-    elim c.else-ne.branch [
-      | else-ne-via-then-ne+else-is_some w ↦
+    elim c.else-may_fault.branch [
+      | else-may_fault-via-then-may_fault+in_ok-faulty_row+else-is_some w ↦
           none_found (FitWhereValid p results l r (length l.rows)) (FaultsAt p results l r)
-          w.faulty_row.result (sym w.is_some.ensures ∙ w.if-is_some.false) w.faulty_row.ensures
-      | else-ne-via-else-ne w ↦
+          w.in_ok-faulty_row.field-0 (sym w.is_some.ensures ∙ w.if-is_some.false)
+          w.in_ok-faulty_row.ensures
+      | else-may_fault-via-else-may_fault w ↦
           λ i lt valid.
-          c.in_ok-values.ensures.fault
-          (no_fault c.ne.result (g.O.Fail.PartialEq.eq fault c.default.result)
-          (g.O.Fail.Failure.is_fault fault) c.ne.ensures
-          (laws.told fault c.default.result c.default.ensures) w.if-ne.false)
-          i (omega (arith, c.len.ensures, lt))
+          c.in_ok-values.ensures.fault w.if-may_fault.false i (omega (arith, c.len.ensures, lt))
     ] in
     numeric_answers c.args.operator p exact left right l r c.requires.exact c.requires.left.each
     (λ i lt. c.requires.right.each i (omega (arith, c.requires.lengths, lt))) c.requires.types

@@ -1,0 +1,32 @@
+-- Rows that fault, told by bits, and rows of which none does.
+use Rattle.std.specs.Prelude.{◌≡◌, ℕ, ◌<◌, ℤ, Bool, true, false, Option, Some, None, List, length}
+use Rattle.std.specs.Prelude.{MatchOption}
+use Rattle.vortex_checked.specs.Exact.{is_outside}
+use Rattle.vortex_types.specs.declared.dtype.PType.{PType}
+use Rattle.vortex_types.specs.Typing.{least_of, greatest_of}
+use Rattle.vortex_columns.specs.ColumnView.{ColumnView}
+use Rattle.vortex_kernels.specs.Numeric.{AreResults, TellsFaults, FitWhereValid, FaultsAt}
+
+-- a number for each of n rows: the exact result, which the integer type holds
+abbrev pub AreHeldResults : PType → (ℕ → Option ℤ) → ℕ → List ℤ → Type 0
+AreHeldResults p exact n ns = AreResults p exact n ns × TellsFaults p exact n false
+
+-- the integer type does not hold the result, as a test
+abbrev pub is_faulty : PType → Option ℤ → Bool
+is_faulty p None = true
+is_faulty p (Some z) = is_outside (least_of p) (greatest_of p) z
+
+-- a place among the first n where both tests say yes
+pub record IsOfBoth (n : ℕ) (f h : ℕ → Bool) (i : ℕ) : Type 0 where
+  pub inside : i < n
+  pub left : f i ≡ true
+  pub right : h i ≡ true
+
+-- such a place, and nothing if there is none
+abbrev pub FindsBoth : ℕ → (ℕ → Bool) → (ℕ → Bool) → Option ℕ → Type 0
+FindsBoth n f h found = MatchOption found ((i : ℕ) → ¬ IsOfBoth n f h i) (IsOfBoth n f h)
+
+-- a row that faults and is null on neither side, and nothing if there is none
+abbrev pub FindsFault : PType → (ℕ → Option ℤ) → ColumnView → ColumnView → Option ℕ → Type 0
+FindsFault p exact l r found =
+    MatchOption found (FitWhereValid p exact l r (length l.rows)) (FaultsAt p exact l r)
