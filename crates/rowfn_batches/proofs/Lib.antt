@@ -1,2 +1,5 @@
 pub mod FieldPlaces
 pub mod OneRow
+pub mod Answered
+pub mod Lifting
+pub mod Headers

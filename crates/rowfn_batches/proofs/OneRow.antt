@@ -1,7 +1,9 @@
 -- The columns of one row alone mean what that row means.
 use Rattle.std.proofs.Common.{◌≡◌, ℕ, zero, suc, ◌<◌, refl, sym, ap, subst, ◌∙◌, List, [], ◌∷◌, map}
 use Rattle.std.proofs.Common.{Option, Some, None, option_map, inl, inr, arith, length}
-use Rattle.std.specs.Prelude.{slice_get, ◌⊎◌}
+use Rattle.std.proofs.Common.{Bool, true, false, nat_eq}
+use Rattle.std.specs.Prelude.{slice_get, ◌⊎◌, All, if◌then◌else◌}
+use borrow.Author.Tests.{eqb-true}
 use Rattle.std.proofs.lemmas.Option.{slice_get-map}
 use Rattle.vortex_errors.specs.declared.error.VortexError.{VortexError}
 use Rattle.vortex_types.specs.Values.{null}
@@ -17,8 +19,10 @@ use Rattle.vortex_meaning.specs.Eval.{AllSettled, IsFirstFault, IsFirstFaultIn}
 use Rattle.vortex_meaning.specs.Execution.{LeafFits, LeavesFit, AllLeavesFit, other_length, Executes}
 use Rattle.vortex_meaning.specs.Execution.{RefusesColumns, RefusesExecution, misfit, faulty, unfit}
 use Rattle.vortex_meaning.specs.Execution.{uneven}
-use Rattle.vortex_meaning.specs.Made.{IsPlace, IsBound, AllBound}
-use Rattle.rowfn_batches.specs.Executing.{row_column, FaultsAt}
+use Rattle.vortex_meaning.specs.Bound.{IsPlace, IsBound, AllBound}
+use Rattle.vortex_functions.specs.Walks.{AllMean}
+use Rattle.rowfn_batches.specs.Executing.{row_column, FaultsAt, FaultsFirst, AllGive, AllFit}
+use Rattle.rowfn_batches.specs.Executing.{RefusesFirst}
 
 module _ (cs : List ColumnView) (i : ℕ) where
   -- the columns of row i
@@ -122,3 +126,53 @@ module _ {V O : Type 0} (m : Meaning V O) (cs : List ColumnView) (i : ℕ) (t : 
   faults_there e fit (faulty fits even k) =
       let h = one_row_fault m (of_row cs i) t e k in
       record { fault = h.0; here = sym (row_is cs i m t bound) ∙ h.1; told = h.2 }
+
+all_head : {X : Type 0} (P : X → Type 0) (x : X) (xs : List X) → All P (x ∷ xs) → P x
+all_head P x xs h = h 0 x (omega arith)
+
+all_tail : {X : Type 0} (P : X → Type 0) (x : X) (xs : List X) → All P (x ∷ xs) → All P xs
+all_tail P x xs h = λ k d below. h (suc k) d (omega (arith, below))
+
+all_cons : {X : Type 0} (P : X → Type 0) (x : X) (xs : List X) → P x → All P xs → All P (x ∷ xs)
+all_cons P x xs p h zero d below = p
+all_cons P x xs p h (suc k) d below = h k d (omega (arith, below))
+
+-- a row of the row count stands in each column
+pub rows_within : (cs : List ColumnView) (n i : ℕ) → i < n → other_length n cs ≡ None
+    → All (λ c. i < length c.rows) cs
+rows_within [] n i below h = λ k d no. absurd (omega (arith, no))
+rows_within (c ∷ cs) n i below h = go (nat_eq (length c.rows) n) refl h
+  where
+    go : (b : Bool) → nat_eq (length c.rows) n ≡ b
+        → (if b then other_length n cs else Some (length c.rows)) ≡ None
+        → All (λ c. i < length c.rows) (c ∷ cs)
+    go true e h =
+        let same : length c.rows ≡ n = eqb-true (length c.rows) n e in
+        all_cons (λ d. i < length d.rows) c cs (omega (arith, same, below))
+        (rows_within cs n i below h)
+    go false e h = let no : Some (length c.rows) ≡ None = h in cc
+
+module _ {V O : Type 0} (m : Meaning V O) (cs : List ColumnView) (n i : ℕ) where
+  -- each tree has a column over the row: no tree faults there
+  pub all_give_there : (ts : List (Tree V O)) (ds : List ColumnView) → All IsBound ts
+      → AllMean (Executes m (of_row cs i) 1) ts ds → AllGive m cs i ts
+  all_give_there [] [] bound h = tt
+  all_give_there [] (d ∷ ds) bound h = absurd h
+  all_give_there (t ∷ ts) [] bound h = absurd h
+  all_give_there (t ∷ ts) (d ∷ ds) bound h =
+      (gives_there m cs i t (all_head IsBound t ts bound) d h.0, all_give_there ts ds (all_tail IsBound t ts bound) h.1)
+
+  -- the first that is refused over the row faults there
+  pub faults_first_there : (ts : List (Tree V O)) (e : VortexError) → All IsBound ts
+      → AllFit cs n ts → RefusesFirst m (of_row cs i) 1 ts e → FaultsFirst m cs i ts e
+  faults_first_there [] e bound fit r = absurd r
+  faults_first_there (t ∷ ts) e bound fit (inl r) =
+      inl (faults_there m cs i t (all_head IsBound t ts bound) e fit.0.0 r)
+  faults_first_there (t ∷ ts) e bound fit (inr r) =
+      inr (gives_there m cs i t (all_head IsBound t ts bound) r.0 r.1, faults_first_there ts e (all_tail IsBound t ts bound) fit.1 r.2)
+
+-- columns that serve some tree have the row count
+pub all_counted : {V O : Type 0} (cs : List ColumnView) (n : ℕ) (ts : List (Tree V O))
+    → 0 < length ts → AllFit cs n ts → other_length n cs ≡ None
+all_counted cs n [] some h = absurd (omega (arith, some))
+all_counted cs n (t ∷ ts) some h = h.0.1

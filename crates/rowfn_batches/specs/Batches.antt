@@ -43,6 +43,11 @@ module _ (ds : List Declared) (fs : List Field) where
     pub misfit : fits_at k ≡ false
     pub before : (i : ℕ) → i < k → fits_at i ≡ true
 
+  -- the field of that row and column is
+  pub record IsMisfit (row column : ℕ) : Type 0 where
+    pub below : column < length ds
+    pub first : IsFirstMisfit (row * length ds + column)
+
   module _ (n : ℕ) where
     -- the column that the fields of column j say
     abbrev pub column_at : ℕ → Option ColumnView
@@ -63,10 +68,6 @@ module _ (ds : List Declared) (fs : List Field) where
       pub said : column_at j ≡ None
       pub columns : List ColumnView
       pub before : AreColumns j columns
-
-    pub record IsMisfit (row column : ℕ) : Type 0 where
-      pub below : column < length ds
-      pub first : IsFirstMisfit (row * length ds + column)
 
     abbrev pub RefusesBatch : BatchError → Type 0
     RefusesBatch (Misfit row column) = AreEven × IsMisfit row column

@@ -35,9 +35,14 @@ behind n (Some (b ∷ bs)) = n + 1
 abbrev pub line_behind : List (List ℕ) → ℕ
 line_behind lines = behind (length lines) (slice_get lines (length lines - 1))
 
--- the name that was lent, of a tree that has a place among the names
-abbrev pub given_at : Option (Bor (Option (String Global))) → Option (Option (List ℕ))
-given_at = option_map (λ name. given_in name.now)
+-- the name that a line gave the tree of a place, where it has one
+abbrev pub joined : Option (Option (List ℕ)) → Option (List ℕ)
+joined None = None
+joined (Some name) = name
+
+abbrev pub given_at : Option (Bor (Option (String Global))) → Option (List ℕ)
+given_at None = None
+given_at (Some name) = given_in name.now
 
 -- how a text ends that stops at this line
 abbrev pub ending_of : Stop → ℕ → List ℕ → ExpressionError
@@ -45,19 +50,19 @@ ending_of (Refused OutOfMemory) n line = error.OutOfMemory
 ending_of (Refused e) n line = error.Refused n e
 ending_of Malformed n line = error.Malformed n (expected_in line)
 
--- the name that a line gave, else the text of the tree
-abbrev pub IsHeader : {V O : Type 0} → Tree V O → Option (Option (List ℕ)) → List ℕ → Type 0
-IsHeader t (Some (Some name)) header = header ≡ name
-IsHeader t (Some None) header = IfSome (tree_text t) (λ text. header ≡ text)
-IsHeader t None header = IfSome (tree_text t) (λ text. header ≡ text)
-
 module _ {V O : Type 0} where
-  -- trees with their names in a header, and the names that lines gave them
-  pub record AreAnswers (ts : List (Tree V O)) (given : List (Option (List ℕ)))
-      (headers : List (List ℕ)) : Type 0 where
-    pub count : length headers ≡ length ts
-    pub each : (i : ℕ) (t : Tree V O) → slice_get ts i ≡ Some t
-        → IsHeader t (slice_get given i) (slice_index_or headers i [])
+  -- the name that a line gave, else the text of the tree
+  abbrev pub IsHeader : Tree V O → Option (List ℕ) → List ℕ → Type 0
+  IsHeader t (Some name) header = header ≡ name
+  IsHeader t None header = IfSome (tree_text t) (λ text. header ≡ text)
+
+  -- a name in a header for each tree, by the names that lines gave
+  abbrev pub AreHeaders : List (Option (List ℕ)) → List (Tree V O) → List (List ℕ) → Type 0
+  AreHeaders given [] [] = ⊤
+  AreHeaders given [] (h ∷ hs) = ⊥
+  AreHeaders given (t ∷ ts) [] = ⊥
+  AreHeaders [] (t ∷ ts) (h ∷ hs) = IsHeader t None h × AreHeaders [] ts hs
+  AreHeaders (name ∷ given) (t ∷ ts) (h ∷ hs) = IsHeader t name h × AreHeaders given ts hs
 
 module _ {V O : Type 0} (m : Meaning V O) (rs : Rules V O) (lines : List (List ℕ)) where
   -- what the first lines make, each of which goes on
@@ -99,4 +104,4 @@ module _ {V O : Type 0} (m : Meaning V O) (rs : Rules V O) (lines : List (List �
     pub declared : columns ≡ last.columns
     pub trees : reverse ts ≡ last.session.stack
     pub some : ts ≢ []
-    pub answers : AreAnswers ts last.names headers
+    pub answers : AreHeaders last.names ts headers

@@ -1,6 +1,7 @@
 //! What the trees of an expression answer over the columns of a batch.
 ghost use Rattle.std.specs.Prelude.{◌≡◌, ◌<◌, ℕ, All, IfOk, length, map, MatchOption};
 ghost use Rattle.vortex_errors.specs.Answers.{Answers, AnswersUnlessMemory};
+ghost use Rattle.vortex_meaning.specs.Bound.{IsBound};
 ghost use Rattle.rowfn_batches.specs.Executing.{AnswersAll, AnswersFirstFault, AllFit};
 ghost use Rattle.rowfn_batches.specs.Executing.{RefusesColumnsFirst, FaultsFirst, AllGive, row_column};
 
@@ -44,18 +45,21 @@ fn execute_all<C: ScalarFnVTable>(
     Ok(executed)
 }
 
-/// Whether the columns serve each tree and have the row count.
+/// Whether the columns serve each tree and have the row count. It says too that each tree's leaves are
+/// places in a scope.
 fn check_columns<C: ScalarFnVTable>(
     answers: &[Answer<C>],
     columns: &[Column],
     row_count: usize,
     ctx: &mut ExecutionCtx,
 ) -> VortexResult<()>
-    ensures { Answers result
+    ensures bound { IfOk result (λ _. All IsBound (map (λ a. a.tree) answers.now)) }
+    ensures answer { Answers result
         (λ _. AllFit columns.now row_count (map (λ a. a.tree) answers.now))
         (RefusesColumnsFirst columns.now row_count (map (λ a. a.tree) answers.now)) }
 {
     for answer in answers {
+        answer.tree.tells_types();
         answer.tree.check_columns(columns, row_count, ctx)?;
     }
     Ok(())
@@ -86,6 +90,7 @@ fn fault_in<C: ScalarFnVTable>(
 ) -> VortexResult<Option<VortexError>>
     requires below { row < row_count }
     requires some { 0 < length answers.now }
+    requires bound { All IsBound (map (λ a. a.tree) answers.now) }
     requires fit { AllFit columns.now row_count (map (λ a. a.tree) answers.now) }
     ensures { AnswersUnlessMemory result (λ fault. MatchOption fault
         (AllGive C.meaning columns.now row (map (λ a. a.tree) answers.now))

@@ -7,7 +7,7 @@ ghost use Rattle.vortex_functions.specs.declared.custom.NoCustom.{NoCustom};
 ghost use Rattle.vortex_interface.specs.declared.options.EmptyOptions.{EmptyOptions};
 ghost use Rattle.rowfn_lines.specs.Lines.{lines_of};
 ghost use Rattle.rowfn_batches.specs.Lines.{reading_of, declared_in, given_in};
-ghost use Rattle.rowfn_batches.specs.Expressions.{line_behind, given_at, IsHeader, AreAnswers, ReadsAll, Stops};
+ghost use Rattle.rowfn_batches.specs.Expressions.{line_behind, given_at, IsHeader, AreHeaders, ReadsAll, Stops};
 ghost use Rattle.rowfn_batches.specs.Expressions.{Leaves, LeavesNone, ending_of};
 
 use crate::columns::Declared;
@@ -112,23 +112,25 @@ fn header<C: ScalarFnVTable>(
 {
     match name {
         Some(Some(name)) => Ok(String::from_str(alloc, name.as_str())?),
-        _ => tree.sql_text(alloc),
+        Some(None) => tree.sql_text(alloc),
+        None => tree.sql_text(alloc),
     }
 }
 
-/// Each tree with its name in a header. E9 alone.
+/// Each tree with its name in a header: a copy, which shares its calls. E9 alone.
 fn answers_of<C: ScalarFnVTable>(
     alloc: Global,
-    trees: Vec<BoundExpression<C>>,
+    trees: &[BoundExpression<C>],
     names: &[Option<String>],
 ) -> VortexResult<Vec<Answer<C>>>
-    ensures { AnswersUnlessMemory result (λ answers. (map (λ a. a.tree) answers.items ≡ trees.items)
-        × AreAnswers trees.items (map given_in names.now)
+    ensures { AnswersUnlessMemory result (λ answers. (map (λ a. a.tree) answers.items ≡ trees.now)
+        × AreHeaders (map given_in names.now) trees.now
         (map (λ a. string_bytes a.name) answers.items)) }
 {
     let mut answers = Vec::new(alloc);
-    for (place, tree) in trees.into_iter().enumerate() {
-        let name = header(alloc, &tree, names.get(place))?;
+    for (place, tree) in trees.iter().enumerate() {
+        let name = header(alloc, tree, names.get(place))?;
+        let tree = tree.try_clone(alloc)?;
         answers.push(Answer { name, tree })?;
     }
     Ok(answers)
@@ -170,7 +172,7 @@ fn read<C: ScalarFnRules>(alloc: Global, text: &[u8]) -> Result<Expression<C>, E
             expected: Expected::Tree,
         });
     }
-    let answers = answers_of(alloc, trees, &names)?;
+    let answers = answers_of(alloc, &trees, &names)?;
     Ok(Expression { columns, answers })
 }
 

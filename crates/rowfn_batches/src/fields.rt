@@ -53,5 +53,6 @@ pub fn field_fits(alloc: Global, column: &Declared, field: Option<&[u8]>) -> Vor
     ensures { AnswersUnlessMemory result (λ b. b ≡ field_fits column.now (field_in field.entry)) }
 {
     let word = field_word(column.kind, field);
-    Ok(literal_said(alloc, column.kind, column.nullability, &word)?.is_some())
+    let said = literal_said(alloc, column.kind, column.nullability, &word)?;
+    Ok(said.is_some())
 }

@@ -1,11 +1,10 @@
 //! What the lines of an expression have made so far.
 ghost use Rattle.std.specs.Prelude.{◌≡◌, map, option_map, reverse, false, IfOk, MatchOption};
 ghost use Rattle.vortex_errors.specs.Answers.{AnswersUnlessMemory};
-ghost use Rattle.vortex_errors.specs.declared.error.VortexError.TheVariants.{OutOfMemory};
 ghost use Rattle.vortex_types.specs.TypeOf.{type_of, allows_null};
-ghost use Rattle.rowfn_lines.specs.Lines.{word_in};
+ghost use Rattle.std.specs.Option.{option_and_then};
+ghost use Rattle.rowfn_lines.specs.Lines.{word_in, words_of};
 ghost use Rattle.rowfn_lines.specs.Commands.{kind_type, command_in, column};
-ghost use Rattle.rowfn_scripts.specs.declared.stop.Stop.TheVariants.{Refused};
 ghost use Rattle.rowfn_batches.specs.Lines.{has_cells, name_in, name_said, declared_in, given_in};
 ghost use Rattle.rowfn_batches.specs.Lines.{reading_of, opened, named, Makes, ReadsLine, MakesRead};
 ghost use Rattle.rowfn_batches.specs.Lines.{Lifts, with_pushed};
@@ -50,9 +49,24 @@ fn kind_of(dtype: &DType) -> Option<(Kind, Nullability)>
 fn name_in<'a>(words: &[Word<'a>]) -> Option<&'a str>
     ensures { option_map (λ w. w.now) result ≡ name_in (map word_in words.now) }
 {
-    match words {
-        [Word::Plain(first), Word::Plain(name)] if *first == "as" && is_name(name) => Some(*name),
-        _ => None,
+    let [Word::Plain(first), Word::Plain(name)] = words else {
+        return None;
+    };
+    if *first == "as" && is_name(name) {
+        Some(*name)
+    } else {
+        None
+    }
+}
+
+/// The name that a text says which is an `as` line. E9 alone.
+fn name_of_text(alloc: Global, text: &str) -> VortexResult<Option<&str>>
+    ensures { AnswersUnlessMemory result
+        (λ name. option_map (λ w. w.now) name ≡ option_and_then name_in (words_of text.now)) }
+{
+    match words(alloc, text)? {
+        Some(words) => Ok(name_in(&words)),
+        None => Ok(None),
     }
 }
 
@@ -64,18 +78,13 @@ fn name_said(alloc: Global, line: &[u8]) -> VortexResult<Option<&str>>
     let Ok(text) = str::from_utf8(line) else {
         return Ok(None);
     };
-    match words(alloc, text)? {
-        Some(words) => Ok(name_in(&words)),
-        None => Ok(None),
-    }
+    name_of_text(alloc, text)
 }
 
 impl<C: ScalarFnRules> Reading<C> {
     /// Nothing yet: a session of no rows.
     pub fn new(alloc: Global) -> Result<Reading<C>, Stop>
-        ensures { MatchResult result
-            (λ r. reading_of r.session r.columns.items r.names.items ≡ opened)
-            (λ stop. stop ≡ Refused OutOfMemory) }
+        ensures { IfOk result (λ r. reading_of r.session r.columns.items r.names.items ≡ opened) }
     {
         let mut session = Session::new(alloc);
         session.step(alloc, Line::Rows(0))?;
