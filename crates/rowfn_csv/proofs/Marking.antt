@@ -40,6 +40,9 @@ marked_field (f ∷ fs) [] i e h = absurd (omega arith)
 marked_field (f ∷ fs) (m ∷ ms) zero e h = refl
 marked_field (f ∷ fs) (m ∷ ms) (suc i) e h = marked_field fs ms i (omega arith) (omega arith)
 
+-- what a place of fields with marks is found by
+pub ruleset one_field = (marked_length, marked_field)
+
 -- one more of a list of which a map has the first ones
 pub next_one : {A B : Type 0} (f : A → B) (xs : List A) (y : A) (ys : List B) (i : ℕ) (d : B)
     → i < length ys → map f xs ≡ take i ys → f y ≡ get_or ys i d

@@ -1,5 +1,6 @@
 -- The fields of a batch, row by row, with its nulls.
-use Rattle.std.specs.Prelude.{◌≡◌, Bool, Option, Some, None, ℕ, List, [], ◌∷◌, length, if◌then◌else◌}
+use Rattle.std.specs.Prelude.{◌≡◌, Bool, Option, Some, None, ℕ, List, [], ◌∷◌, length}
+use Rattle.std.specs.Prelude.{if◌then◌else◌}
 use Rattle.csv.specs.Records.{fields_of, partial_of}
 use Rattle.rowfn_csv.specs.declared.rows.Span.{Span}
 use Rattle.rowfn_csv.specs.declared.batch.Batch.TheInside.{Inside}

@@ -1,5 +1,6 @@
 //! The fields of a batch of rows.
-ghost use Rattle.std.specs.Prelude.{◌≡◌, ◌++◌, ◌∷◌, [], length, map, option_map, OnOk, IfOk, ◌<◌, get_or, None};
+ghost use Rattle.std.specs.Prelude.{◌≡◌, ◌<◌, ◌++◌, ◌∷◌, [], length, map, get_or};
+ghost use Rattle.std.specs.Prelude.{option_map, None, OnOk, IfOk};
 ghost use Rattle.csv.specs.Records.{fields_of, partial_of};
 ghost use Rattle.rowfn_csv.specs.Batches.{field_said};
 
@@ -111,7 +112,7 @@ impl Batch {
     }
 
     /// A field; nothing where it is null.
-    #[tactic(auto, using(crate::proofs::Marking::marked_length, crate::proofs::Marking::marked_field))]
+    #[tactic(auto, using(crate::proofs::Marking::one_field))]
     fn field(&self, i: usize) -> Option<&[u8]>
         requires { i < length self.now.fields }
         ensures { option_map (λ f. f.now) result ≡ get_or self.now.fields i None }

@@ -7,7 +7,7 @@ use csv::{ByteRecord, Error, ErrorKind, Reader, ReaderBuilder};
 use std::alloc::{AllocError, Global};
 use std::io::{self, Read};
 
-/// Where a record lies in the input, counted in bytes: from its first field on, up to the end of its
+/// Where a record lies in the input, counted in bytes: from its first field up to the end of its
 /// line.
 #[derive(Clone, Copy)]
 pub struct Span {

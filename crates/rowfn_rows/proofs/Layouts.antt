@@ -1,6 +1,6 @@
 -- One more column that stands in a header.
 use Rattle.std.proofs.Common.{◌≡◌, ◌≢◌, ℕ, ◌<◌, ◌≤◌, ◌+◌, suc, List, [], ◌∷◌, ◌++◌, length}
-use Rattle.std.proofs.Common.{refl, ap, sym, ◌∙◌, get_or, add-one, zero, Some, ⊤, tt, string_bytes, arith, take}
+use Rattle.std.proofs.Common.{ap, sym, ◌∙◌, get_or, add-one, zero, Some, string_bytes, arith, take}
 use Rattle.std.proofs.Math.Seq.{take-suc}
 use Rattle.csv.specs.Records.{field_at}
 use Rattle.rowfn_batches.specs.declared.columns.Declared.{Declared}

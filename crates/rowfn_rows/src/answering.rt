@@ -140,8 +140,8 @@ impl Task<'_> {
         }
     }
 
-    /// What the rows of a batch answer: up to the first that has a misfit or a fault, or all of them
-    /// and the error behind the batch, if there is one. Refused where memory runs out.
+    /// What the rows of a batch answer: up to the first that has a misfit or a fault, or all of
+    /// them and the error behind the batch, if there is one. Refused where memory runs out.
     pub fn answer_batch(
         &self,
         fields: &[Option<&[u8]>],

@@ -1,4 +1,4 @@
-//! Tests of rows that flow: what is written, how a stream ends, and the words that it is called with.
+//! Tests of rows that flow: what is written, how a stream ends, and the words that call it.
 #![tactic(auto)]
 
 #[cfg(test)]
