@@ -1,7 +1,8 @@
 -- What was answered so far, and one answer more.
 use Rattle.std.proofs.Common.{◌≡◌, ℕ, zero, suc, ◌+◌, ◌<◌, List, [], ◌∷◌, ◌++◌, map, length, take, get_or}
 use Rattle.std.proofs.Common.{refl, sym, ap, subst, ◌∙◌, inl, inr, arith}
-use Rattle.std.specs.Prelude.{◌⊎◌}
+use Rattle.std.specs.Prelude.{◌⊎◌, All, Result, Err}
+use Rattle.vortex_errors.specs.Answers.{Answers, UnlessMemory}
 use Rattle.vortex_errors.specs.declared.error.VortexError.{VortexError}
 use Rattle.vortex_columns.specs.ColumnView.{ColumnView}
 use Rattle.vortex_meaning.specs.Meaning.{Meaning}
@@ -10,6 +11,38 @@ use Rattle.vortex_meaning.specs.Execution.{Executes, RefusesColumns, RefusesExec
 use Rattle.vortex_functions.specs.Executing.{Fits}
 use Rattle.vortex_functions.specs.Walks.{AllMean}
 use Rattle.rowfn_batches.specs.Executing.{RefusesFirst, RefusesColumnsFirst, AllFit}
+
+pub all_head : {X : Type 0} (P : X → Type 0) (x : X) (xs : List X) → All P (x ∷ xs) → P x
+all_head P x xs h = h 0 x (omega arith)
+
+pub all_tail : {X : Type 0} (P : X → Type 0) (x : X) (xs : List X) → All P (x ∷ xs) → All P xs
+all_tail P x xs h = λ k d below. h (suc k) d (omega (arith, below))
+
+pub all_cons : {X : Type 0} (P : X → Type 0) (x : X) (xs : List X) → P x → All P xs → All P (x ∷ xs)
+all_cons P x xs p h zero d below = p
+all_cons P x xs p h (suc k) d below = h k d (omega (arith, below))
+
+-- what holds of each element, and of one element more
+pub placed_more : {X A : Type 0} (P : A → Type 0) (f : X → A) (xs : List X) (k j : ℕ) (x : X)
+    → j ≡ suc k → k < length xs → x ≡ get_or xs k x
+    → All P (map f (take k xs)) → P (f x) → All P (map f (take j xs))
+placed_more P f xs k j x next lt at h r =
+    subst (λ (n : ℕ). All P (map f (take n xs))) (sym next) (go xs k lt at h)
+  where
+    go : (ys : List X) (l : ℕ) → l < length ys → x ≡ get_or ys l x
+        → All P (map f (take l ys)) → All P (map f (take (suc l) ys))
+    go [] l below at h = absurd (omega (arith, below))
+    go (y ∷ ys) zero below at h =
+        all_cons P (f y) [] (subst (λ z. P (f z)) at r) (λ k d no. absurd (omega (arith, no)))
+    go (y ∷ ys) (suc l) below at h =
+        all_cons P (f y) (map f (take (suc l) ys)) (all_head P (f y) (map f (take l ys)) h)
+        (go ys l (omega (arith, below)) at (all_tail P (f y) (map f (take l ys)) h))
+
+-- a refusal that is passed on
+pub answers_refusal : {A : Type 0} (P : A → Type 0) (Q : VortexError → Type 0)
+    (r : Result A VortexError) (e : VortexError) → r ≡ Err e → UnlessMemory Q e → Answers r P Q
+answers_refusal {A} P Q r e is h =
+    subst (λ (x : Result A VortexError). Answers x P Q) (sym is) h
 
 -- what is made of each element, and of one element more
 pub all_more : {X A P : Type 0} (means : A → P → Type 0) (f : X → A) (xs : List X) (os : List P)

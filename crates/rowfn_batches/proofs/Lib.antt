@@ -1,5 +1,5 @@
 pub mod FieldPlaces
-pub mod OneRow
 pub mod Answered
+pub mod OneRow
 pub mod Lifting
 pub mod Headers

@@ -23,6 +23,7 @@ use Rattle.vortex_meaning.specs.Bound.{IsPlace, IsBound, AllBound}
 use Rattle.vortex_functions.specs.Walks.{AllMean}
 use Rattle.rowfn_batches.specs.Executing.{row_column, FaultsAt, FaultsFirst, AllGive, AllFit}
 use Rattle.rowfn_batches.specs.Executing.{RefusesFirst}
+use Rattle.rowfn_batches.proofs.Answered.{all_head, all_tail, all_cons}
 
 module _ (cs : List ColumnView) (i : ℕ) where
   -- the columns of row i
@@ -126,16 +127,6 @@ module _ {V O : Type 0} (m : Meaning V O) (cs : List ColumnView) (i : ℕ) (t : 
   faults_there e fit (faulty fits even k) =
       let h = one_row_fault m (of_row cs i) t e k in
       record { fault = h.0; here = sym (row_is cs i m t bound) ∙ h.1; told = h.2 }
-
-all_head : {X : Type 0} (P : X → Type 0) (x : X) (xs : List X) → All P (x ∷ xs) → P x
-all_head P x xs h = h 0 x (omega arith)
-
-all_tail : {X : Type 0} (P : X → Type 0) (x : X) (xs : List X) → All P (x ∷ xs) → All P xs
-all_tail P x xs h = λ k d below. h (suc k) d (omega (arith, below))
-
-all_cons : {X : Type 0} (P : X → Type 0) (x : X) (xs : List X) → P x → All P xs → All P (x ∷ xs)
-all_cons P x xs p h zero d below = p
-all_cons P x xs p h (suc k) d below = h k d (omega (arith, below))
 
 -- a row of the row count stands in each column
 pub rows_within : (cs : List ColumnView) (n i : ℕ) → i < n → other_length n cs ≡ None

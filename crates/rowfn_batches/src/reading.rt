@@ -1,5 +1,5 @@
 //! What the lines of an expression have made so far.
-ghost use Rattle.std.specs.Prelude.{◌≡◌, map, option_map, reverse, false, IfOk, MatchOption};
+ghost use Rattle.std.specs.Prelude.{◌≡◌, map, option_map, reverse, true, false, IfOk, MatchOption};
 ghost use Rattle.vortex_errors.specs.Answers.{AnswersUnlessMemory};
 ghost use Rattle.vortex_types.specs.TypeOf.{type_of, allows_null};
 ghost use Rattle.std.specs.Option.{option_and_then};
