@@ -1,0 +1,9 @@
+use Rattle.std.proofs.Common.{map}
+use Rattle.rowfn_batches.specs.Fields.{field_in}
+use Rattle.rowfn_batches.specs.Batches.{AreColumns}
+use Rattle.rowfn_batches.proofs.columns.read_columns.Given as goal
+
+-- the columns so far
+abbrev pub invariant-loop-place : goal.invariant-loop-place
+invariant-loop-place l =
+    AreColumns l.declared (map field_in l.fields) l.row_count l.place l.columns.items

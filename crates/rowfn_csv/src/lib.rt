@@ -1,0 +1,15 @@
+//! Records of CSV: read one at a time with their bytes, gathered by the batch, and written.
+#![tactic(auto)]
+
+pub mod batch;
+pub mod format;
+pub mod quoting;
+mod raw;
+pub mod rows;
+mod tee;
+
+pub use batch::Batch;
+pub use csv::ByteRecord;
+pub use format::Format;
+pub use quoting::{push_quoted, quote_from};
+pub use rows::{ReadError, Rows, Span};

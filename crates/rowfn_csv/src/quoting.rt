@@ -1,0 +1,82 @@
+//! Fields in quotes.
+ghost use Rattle.std.specs.Prelude.{◌≡◌, ◌++◌, ◌≤◌, length, take, drop, OnOk};
+ghost use Rattle.rowfn_csv.specs.Fields.{is_special, needs_quotes, doubled, quoted, text_field};
+ghost use Rattle.std.specs.List.{list_any, flat_map};
+
+use crate::format::Format;
+use std::alloc::AllocError;
+
+/// Whether a byte of a field asks for quotes around the field.
+fn is_special(byte: u8, delimiter: u8) -> bool
+    ensures { result ≡ is_special delimiter byte }
+{
+    byte == b'"' || byte == delimiter || byte == b'\n' || byte == b'\r'
+}
+
+/// Whether a field holds a byte that asks for quotes.
+fn holds_special(field: &[u8], delimiter: u8) -> bool
+    ensures { result ≡ list_any (is_special delimiter) field.now }
+{
+    field.iter().any(|byte| is_special(*byte, delimiter))
+}
+
+/// Whether a text that is not null is written in quotes: an empty one, one that holds a quote, a
+/// delimiter or the end of a line, and one that says null where it stands in no quotes.
+fn needs_quotes(field: &[u8], format: &Format<'_>) -> bool
+    ensures { result ≡ needs_quotes format.now.delimiter format.now.null.now field.now }
+{
+    field.is_empty() || holds_special(field, format.delimiter) || field == format.null
+}
+
+/// Adds a byte that stands between quotes.
+fn push_doubled(bytes: &mut Vec<u8>, byte: u8) -> Result<(), AllocError>
+    ensures { OnOk result (bytes.new.items ≡ bytes.old.items ++ doubled byte) }
+{
+    if byte == b'"' {
+        bytes.push(b'"')?;
+    }
+    bytes.push(byte)?;
+    Ok(())
+}
+
+/// Adds the bytes that stand between quotes.
+fn push_inner(bytes: &mut Vec<u8>, field: &[u8]) -> Result<(), AllocError>
+    ensures { OnOk result (bytes.new.items ≡ bytes.old.items ++ flat_map doubled field.now) }
+{
+    for byte in field {
+        push_doubled(bytes, *byte)?;
+    }
+    Ok(())
+}
+
+/// Adds a field in quotes, in which each quote stands twice. Refused only for want of memory.
+pub fn push_quoted(bytes: &mut Vec<u8>, field: &[u8]) -> Result<(), AllocError>
+    ensures { OnOk result (bytes.new.items ≡ bytes.old.items ++ quoted field.now) }
+{
+    bytes.push(b'"')?;
+    push_inner(bytes, field)?;
+    bytes.push(b'"')?;
+    Ok(())
+}
+
+/// Puts a text that was added behind a place into quotes, where it needs them; `spare` serves as
+/// room. Refused only for want of memory.
+pub fn quote_from(
+    bytes: &mut Vec<u8>,
+    start: usize,
+    format: &Format<'_>,
+    spare: &mut Vec<u8>,
+) -> Result<(), AllocError>
+    requires { start ≤ length bytes.old.items }
+    ensures { OnOk result (bytes.new.items ≡ take start bytes.old.items
+        ++ text_field format.now.delimiter format.now.null.now (drop start bytes.old.items)) }
+{
+    let field = &bytes.as_slice()[start..];
+    if !needs_quotes(field, format) {
+        return Ok(());
+    }
+    spare.clear();
+    spare.extend_from_slice(field)?;
+    bytes.truncate(start);
+    push_quoted(bytes, spare)
+}

@@ -1,0 +1,123 @@
+//! A reader that keeps what was read.
+ghost use Rattle.std.specs.Io.{ReadsAtMost};
+
+use std::alloc::Global;
+use std::cell::Cell;
+use std::io::{self, Read};
+
+/// A reader over another, which keeps the bytes that it gave from a place of the input on. Where it
+/// gives more than one byte, it gives a carriage return together with what stands behind it.
+#[derive(Drop)]
+pub struct Tee<R> {
+    inner: R,
+    kept: Vec<u8>,
+    first: u64,
+    wanted: Cell<u64>,
+    ended: bool,
+    held: bool,
+}
+
+impl<R: Read> Tee<R> {
+    /// Nothing is read yet; takes no memory.
+    pub fn new(alloc: Global, inner: R) -> Tee<R> {
+        Tee {
+            inner,
+            kept: Vec::new(alloc),
+            first: 0,
+            wanted: Cell::new(0),
+            ended: false,
+            held: false,
+        }
+    }
+
+    /// From here on nothing is asked for that lies before this place, counted in bytes of the
+    /// input.
+    pub fn keep_from(&self, place: u64) {
+        self.wanted.set(place);
+    }
+
+    /// Whether the reader below has told its end.
+    pub fn is_ended(&self) -> bool {
+        self.ended
+    }
+
+    /// The bytes between two places of the input, without those that are no longer kept.
+    pub fn between(&self, start: u64, end: u64) -> &[u8] {
+        let start = start.saturating_sub(self.first) as usize;
+        let end = end.saturating_sub(self.first) as usize;
+        self.kept.as_slice().get(start..end).unwrap_or(&[])
+    }
+
+    /// The byte at a place of the input, where it was read and is still kept.
+    pub fn byte_at(&self, place: u64) -> Option<u8> {
+        let index = place.checked_sub(self.first)?;
+        self.kept.as_slice().get(index as usize).copied()
+    }
+
+    /// Lets go of what nobody asks for again.
+    fn forget(&mut self) {
+        let passed = self.wanted.get().saturating_sub(self.first);
+        let count = self.kept.len().min(passed as usize);
+        if count == 0 {
+            return;
+        }
+        let left = self.kept.len() - count;
+        self.kept.as_mut_slice().copy_within(count.., 0);
+        self.kept.truncate(left);
+        self.first = self.first.saturating_add(count as u64);
+    }
+}
+
+impl<R: Read> Tee<R> {
+    /// Puts a carriage return that was held back before what is read next, and tells how many bytes
+    /// that are.
+    fn give_held(&mut self, buf: &mut [u8]) -> usize {
+        match buf.first_mut() {
+            Some(first) if self.held => {
+                *first = b'\r';
+                self.held = false;
+                1
+            }
+            _ => 0,
+        }
+    }
+
+    /// Reads behind the first bytes of a buffer, and tells how many bytes it then holds.
+    fn read_behind(&mut self, buf: &mut [u8], count: usize) -> io::Result<usize>
+        ensures { ReadsAtMost result buf.new }
+    {
+        if count >= buf.len() {
+            return Ok(buf.len());
+        }
+        let more = self.inner.read(&mut buf[count..])?;
+        if more == 0 {
+            self.ended = true;
+        }
+        Ok(count + more)
+    }
+
+    /// Reads what is given next, and holds nothing back.
+    fn read_whole(&mut self, buf: &mut [u8]) -> io::Result<usize>
+        ensures { ReadsAtMost result buf.new }
+    {
+        let held = self.give_held(buf);
+        let count = self.read_behind(buf, held)?;
+        if count == 1 && buf.first() == Some(&b'\r') {
+            return self.read_behind(buf, count);
+        }
+        Ok(count)
+    }
+}
+
+impl<R: Read> Read for Tee<R> {
+    fn read(&mut self, buf: &mut [u8]) -> io::Result<usize> {
+        self.forget();
+        let mut count = self.read_whole(buf)?;
+        if count > 1 && !self.ended && buf[count - 1] == b'\r' {
+            self.held = true;
+            count -= 1;
+        }
+        self.kept.extend_from_slice(&buf[..count])?;
+        Ok(count)
+    }
+}

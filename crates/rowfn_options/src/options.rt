@@ -1,0 +1,100 @@
+//! What the words ask for.
+
+use crate::command::command;
+use clap::error::ErrorKind;
+use clap::{ArgMatches, Command, Error};
+use std::alloc::Global;
+
+/// What is done with rows.
+#[derive(Clone, Copy, Debug, PartialEq, Eq)]
+pub enum Action {
+    /// The answers are written.
+    Answer,
+    /// The rows are written in which the last answer is true.
+    Pick,
+    /// The expression is told, and no rows are read.
+    Explain,
+}
+
+/// Where the expression stands.
+#[derive(Drop)]
+pub enum Source<'a> {
+    /// In the file of that name.
+    File(&'a str),
+    /// In these lines.
+    Lines(Vec<&'a str>),
+}
+
+/// What the words ask for.
+#[derive(Drop)]
+pub struct Options<'a> {
+    pub delimiter: u8,
+    /// Whether the first record names the columns.
+    pub header: bool,
+    /// What stands for null, in no quotes.
+    pub null: &'a str,
+    /// How many rows are read, answered and written together; at least 1.
+    pub batch: u32,
+    pub action: Action,
+    /// Whether the rows are counted at the end.
+    pub summary: bool,
+    pub source: Source<'a>,
+}
+
+/// The byte that a word says: a byte of ASCII that is neither a quote nor the end of a line, or a
+/// tab as `\t`.
+fn read_delimiter(word: &str) -> Option<u8> {
+    if word == "\\t" {
+        return Some(b'\t');
+    }
+    match word.as_bytes() {
+        [byte] if byte.is_ascii() && !b"\"\r\n".contains(byte) => Some(*byte),
+        _ => None,
+    }
+}
+
+fn asked_action(matches: &ArgMatches<'_>) -> Action {
+    if matches.get_flag("explain") {
+        Action::Explain
+    } else if matches.get_flag("where") {
+        Action::Pick
+    } else {
+        Action::Answer
+    }
+}
+
+fn asked_source<'a>(alloc: Global, matches: &ArgMatches<'a>) -> Result<Source<'a>, Error> {
+    if let Some(name) = matches.get_str("file") {
+        return Ok(Source::File(name));
+    }
+    let mut lines = Vec::new(alloc);
+    if let Some(words) = matches.get_strs("lines") {
+        lines.extend_from_slice(words)?;
+    }
+    Ok(Source::Lines(lines))
+}
+
+/// What is told of a delimiter that is none.
+fn delimiter_error(command: &mut Command<'_>) -> Result<Error, Error> {
+    let message = "the delimiter is one byte of ASCII, no quote and no end of a line";
+    Ok(command.error(ErrorKind::InvalidValue, message)?)
+}
+
+/// What the words after the program's name ask for; the first word is that name. Refused for wrong
+/// words, with the text that tells of them; help and version are told so as well.
+pub fn read_options<'a>(alloc: Global, words: &'a [String]) -> Result<Options<'a>, Error> {
+    let mut command = command(alloc)?;
+    let matches = command.try_get_matches_from_mut(words)?;
+    let Some(delimiter) = read_delimiter(matches.get_str("delimiter").unwrap_or(",")) else {
+        return Err(delimiter_error(&mut command)?);
+    };
+    Ok(Options {
+        delimiter,
+        header: !matches.get_flag("no-header"),
+        null: matches.get_str("null").unwrap_or(""),
+        batch: matches.get_one::<u32>("batch").unwrap_or(8192),
+        action: asked_action(&matches),
+        summary: matches.get_flag("summary"),
+        source: asked_source(alloc, &matches)?,
+    })
+}

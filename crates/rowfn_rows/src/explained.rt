@@ -1,0 +1,55 @@
+//! What an expression answers, in words.
+
+use rowfn_batches::{Answer, Expression};
+use std::alloc::Global;
+use std::fmt::Write;
+use vortex_columns::{DType, VortexResult};
+use vortex_functions::{BoundExpression, NoCustom};
+use vortex_rewriting::optimize_recursive;
+
+/// The name of a type, as expressions write it.
+fn push_type(out: &mut String, dtype: &DType) -> VortexResult<()> {
+    out.push_str(match dtype {
+        DType::Bool(_) => "bool",
+        DType::Primitive(ptype, _) => ptype.text(),
+        _ => "utf8",
+    })?;
+    if dtype.is_nullable() {
+        out.push_str("?")?;
+    }
+    Ok(())
+}
+
+/// A tree's text, its type and its weight, a line each.
+fn push_tree(
+    out: &mut String,
+    alloc: Global,
+    title: &str,
+    tree: &BoundExpression<NoCustom>,
+) -> VortexResult<()> {
+    let text = tree.sql_text(alloc)?;
+    write!(out, "  {title}: {text}\n    type ")?;
+    push_type(out, tree.dtype())?;
+    let weight = tree.weight();
+    write!(out, ", weight {weight}\n")?;
+    Ok(())
+}
+
+/// An answer as it stands, and after a run of rules.
+fn push_answer(out: &mut String, alloc: Global, answer: &Answer<NoCustom>) -> VortexResult<()> {
+    out.push_str(answer.name.as_str())?;
+    out.push_str("\n")?;
+    push_tree(out, alloc, "tree", &answer.tree)?;
+    let optimized = optimize_recursive(alloc, &answer.tree, answer.tree.weight())?;
+    push_tree(out, alloc, "optimized", &optimized.tree)
+}
+
+/// Of each answer its name, its text, type and weight, and those of the tree that `optimize` makes
+/// of it. E9 alone.
+pub fn explain(alloc: Global, expression: &Expression<NoCustom>) -> VortexResult<String> {
+    let mut out = String::new(alloc);
+    for answer in expression.answers.iter() {
+        push_answer(&mut out, alloc, answer)?;
+    }
+    Ok(out)
+}

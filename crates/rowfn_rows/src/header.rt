@@ -1,0 +1,98 @@
+//! Where the declared columns stand in the input.
+ghost use Rattle.std.specs.Prelude.{◌≡◌, ◌↔◌, Some, IsTrue, IfOk, MatchOption, length};
+ghost use Rattle.csv.specs.Records.{fields_of, field_at};
+ghost use Rattle.rowfn_rows.specs.Layouts.{LacksFrom, IsFirstFrom, StandsOnce, StandAt};
+
+use crate::errors::StreamError;
+use rowfn_batches::Declared;
+use rowfn_csv::ByteRecord;
+use std::alloc::{AllocError, Global};
+
+/// Where the declared columns stand in each record of the input, and how many fields it has.
+#[derive(Drop)]
+pub struct Layout {
+    pub places: Vec<usize>,
+    pub width: usize,
+}
+
+/// Whether that field is the name.
+fn is_named(header: &ByteRecord, index: usize, name: &str) -> bool
+    ensures { IsTrue result ↔ field_at (fields_of header.now) index ≡ Some name.now }
+{
+    match header.get(index) {
+        Some(field) => field == name.as_bytes(),
+        None => false,
+    }
+}
+
+/// The first field from that place on that is the name.
+fn find_from(header: &ByteRecord, name: &str, start: usize) -> Option<usize>
+    ensures { MatchOption result (LacksFrom (fields_of header.now) name.now start)
+        (λ place. IsFirstFrom (fields_of header.now) name.now start place) }
+{
+    for i in start..header.len() {
+        if is_named(header, i, name) {
+            return Some(i);
+        }
+    }
+    None
+}
+
+/// Where a name stands in a header. Refused where it is missing or stands twice.
+fn place_of(alloc: Global, header: &ByteRecord, name: &str) -> Result<usize, StreamError>
+    ensures { IfOk result (λ place. StandsOnce (fields_of header.now) name.now place) }
+{
+    // A header has no more fields than a number counts, so there is a place behind each.
+    let _count = header.len();
+    let Some(place) = find_from(header, name, 0) else {
+        return Err(StreamError::ColumnMissing(String::from_str(alloc, name)?));
+    };
+    match find_from(header, name, place + 1) {
+        Some(_) => Err(StreamError::ColumnTwice(String::from_str(alloc, name)?)),
+        None => Ok(place),
+    }
+}
+
+/// Where each declared column stands in a header. Refused where one is missing or stands twice.
+fn places_of(
+    alloc: Global,
+    declared: &[Declared],
+    header: &ByteRecord,
+) -> Result<Vec<usize>, StreamError>
+    ensures { IfOk result (λ places. StandAt (fields_of header.now) declared.now places.items) }
+{
+    let mut places = Vec::new(alloc);
+    for column in declared {
+        places.push(place_of(alloc, header, column.name.as_str())?)?;
+    }
+    Ok(places)
+}
+
+/// The layout that a header tells. Refused where a declared column is missing or stands twice.
+pub fn named_layout(
+    alloc: Global,
+    declared: &[Declared],
+    header: &ByteRecord,
+) -> Result<Layout, StreamError>
+    ensures places { IfOk result
+        (λ layout. StandAt (fields_of header.now) declared.now layout.places.items) }
+    ensures width { IfOk result (λ layout. layout.width ≡ length (fields_of header.now)) }
+{
+    let places = places_of(alloc, declared, header)?;
+    Ok(Layout {
+        places,
+        width: header.len(),
+    })
+}
+
+/// The layout of an input without a header: the declared columns in their order.
+pub fn declared_layout(alloc: Global, declared: &[Declared]) -> Result<Layout, AllocError> {
+    let mut places = Vec::new(alloc);
+    for i in 0..declared.len() {
+        places.push(i)?;
+    }
+    Ok(Layout {
+        places,
+        width: declared.len(),
+    })
+}

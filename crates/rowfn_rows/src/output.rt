@@ -1,0 +1,139 @@
+//! What is written: answers as fields of CSV, or rows of the input as they stand.
+ghost use Rattle.std.specs.Prelude.{◌≡◌, ◌↔◌, ◌<◌, ◌∷◌, [], IsTrue, OnOk, true, length};
+ghost use Rattle.vortex_errors.specs.Answers.{AnswersUnlessMemory};
+ghost use Rattle.vortex_types.specs.Values.{truth};
+ghost use Rattle.vortex_columns.specs.ColumnView.{row};
+ghost use Rattle.vortex_meaning.specs.CallTexts.{joined, separator_before};
+ghost use Rattle.rowfn_csv.specs.Fields.{text_field};
+ghost use Rattle.rowfn_rows.specs.Outputs.{Adds, value_field, row_fields, row_line};
+
+use rowfn_batches::push_field;
+use rowfn_csv::{Format, quote_from};
+use std::alloc::{AllocError, Global};
+use vortex_columns::{Cell, Column, VortexResult};
+
+/// What is to be written next. Its buffers serve from batch to batch.
+#[derive(Drop)]
+pub struct Output<'a> {
+    format: Format<'a>,
+    bytes: Vec<u8>,
+    spare: Vec<u8>,
+}
+
+impl<'a> Output<'a> {
+    /// Nothing to write; takes no memory.
+    pub fn new(alloc: Global, format: Format<'a>) -> Output<'a>
+        ensures { (result.bytes.items ≡ []) × (result.format ≡ format.entry) }
+    {
+        Output {
+            format,
+            bytes: Vec::new(alloc),
+            spare: Vec::new(alloc),
+        }
+    }
+
+    /// Takes what was written away, and keeps the buffers.
+    pub fn clear(&mut self)
+        ensures { (self.new.bytes.items ≡ []) × (self.new.format ≡ self.old.format) }
+    {
+        self.bytes.clear();
+    }
+
+    /// What is to be written.
+    pub fn bytes(&self) -> &[u8]
+        ensures { result.now ≡ self.now.bytes.items }
+    {
+        self.bytes.as_slice()
+    }
+
+    /// Adds bytes as they stand. Refused only for want of memory.
+    pub fn push_bytes(&mut self, bytes: &[u8]) -> Result<(), AllocError>
+        ensures { OnOk result (Adds self.old self.new bytes.now) }
+    {
+        self.bytes.extend_from_slice(bytes)
+    }
+
+    /// Adds a delimiter before each field but the first.
+    fn begin_field(&mut self, index: usize) -> Result<(), AllocError>
+        ensures { OnOk result (Adds self.old self.new
+            (separator_before (self.old.format.delimiter ∷ []) index)) }
+    {
+        if index != 0 {
+            self.bytes.push(self.format.delimiter)?;
+        }
+        Ok(())
+    }
+
+    /// Adds a text as a field, in quotes where it needs them. Refused only for want of memory.
+    fn push_text(&mut self, text: &str) -> Result<(), AllocError>
+        ensures { OnOk result (Adds self.old self.new
+            (text_field self.old.format.delimiter self.old.format.null.now text.now)) }
+    {
+        let start = self.bytes.len();
+        self.bytes.extend_from_slice(text.as_bytes())?;
+        quote_from(&mut self.bytes, start, &self.format, &mut self.spare)
+    }
+
+    /// Adds a name of the header. Refused only for want of memory.
+    pub fn push_name(&mut self, index: usize, name: &str) -> Result<(), AllocError> {
+        self.begin_field(index)?;
+        self.push_text(name)
+    }
+
+    /// Adds the value of a row as a field. E9 alone.
+    fn push_value(&mut self, column: &Column, place: usize) -> VortexResult<()>
+        ensures { AnswersUnlessMemory result (λ _. Adds self.old self.new
+            (value_field self.old.format.delimiter self.old.format.null.now
+            (row column.now.rows place))) }
+    {
+        let start = self.bytes.len();
+        if push_field(&mut self.bytes, column, place)? {
+            quote_from(&mut self.bytes, start, &self.format, &mut self.spare)?;
+        } else {
+            self.bytes.extend_from_slice(self.format.null)?;
+        }
+        Ok(())
+    }
+
+    /// Ends a line. Refused only for want of memory.
+    pub fn end_line(&mut self) -> Result<(), AllocError>
+        ensures { OnOk result (Adds self.old self.new (10 ∷ [])) }
+    {
+        self.bytes.push(b'\n')?;
+        Ok(())
+    }
+
+    /// Adds the values of a row as fields. E9 alone.
+    fn push_values(&mut self, answers: &[Column], place: usize) -> VortexResult<()>
+        ensures { AnswersUnlessMemory result (λ _. Adds self.old self.new
+            (joined (self.old.format.delimiter ∷ []) (row_fields self.old.format.delimiter
+            self.old.format.null.now answers.now place))) }
+    {
+        for k in 0..answers.len() {
+            self.begin_field(k)?;
+            self.push_value(&answers[k], place)?;
+        }
+        Ok(())
+    }
+
+    /// Adds a row of the answers as a line. E9 alone.
+    pub fn push_row(&mut self, answers: &[Column], place: usize) -> VortexResult<()>
+        ensures { AnswersUnlessMemory result (λ _. Adds self.old self.new
+            (row_line self.old.format.delimiter self.old.format.null.now answers.now place)) }
+    {
+        self.push_values(answers, place)?;
+        self.end_line()?;
+        Ok(())
+    }
+}
+
+/// Whether a column is true in a row; it is not where it is null there.
+pub fn is_true(column: &Column, i: usize) -> bool
+    requires { i < length column.now.rows }
+    ensures { IsTrue result ↔ row column.now.rows i ≡ truth true }
+{
+    match column.cell(i) {
+        Cell::Bool(true) => true,
+        _ => false,
+    }
+}

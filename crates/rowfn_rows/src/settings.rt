@@ -1,0 +1,17 @@
+//! How rows are read, answered and written.
+
+use rowfn_csv::Format;
+
+/// How rows are read, answered and written.
+#[derive(Clone, Copy)]
+pub struct Settings<'a> {
+    /// How fields are parted, and how null is written, in the input and in the output.
+    pub format: Format<'a>,
+    /// Whether the first record of the input names its columns, and that of the output the answers.
+    pub header: bool,
+    /// How many rows are read, answered and written together, at most; 0 is taken for 1.
+    pub batch: usize,
+    /// Whether the rows of the input are written in which the only answer is true, in place of
+    /// answers.
+    pub picks_rows: bool,
+}

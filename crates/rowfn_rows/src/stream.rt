@@ -1,0 +1,275 @@
+//! The stream: batches of rows, answered and written one behind the other.
+
+use crate::answering::{Answered, Task, row_number};
+use crate::errors::StreamError;
+use crate::header::{Layout, declared_layout, named_layout};
+use crate::output::{Output, is_true};
+use crate::settings::Settings;
+use rowfn_batches::Expression;
+use rowfn_csv::{Batch, Rows};
+use std::alloc::Global;
+use std::io::{Read, Write};
+use vortex_columns::{Column, DType};
+use vortex_functions::NoCustom;
+
+/// How many rows a stream read and wrote, headers aside.
+#[derive(Clone, Copy, Debug, PartialEq, Eq)]
+pub struct Summary {
+    pub rows_read: u64,
+    pub rows_written: u64,
+}
+
+/// How the reading of a batch ended.
+#[derive(Drop)]
+enum Filled {
+    /// The batch is full.
+    Full,
+    /// The input is at its end.
+    Ended,
+    /// No row can be read behind those of the batch.
+    Broken(StreamError),
+}
+
+/// A stream between two batches.
+#[derive(Drop)]
+struct Stream<'a, R> {
+    alloc: Global,
+    settings: Settings<'a>,
+    expression: &'a Expression<NoCustom>,
+    rows: Rows<'a, R>,
+    layout: Layout,
+    batch: Batch,
+    output: Output<'a>,
+    summary: Summary,
+}
+
+/// The expression whose only answer is the last one. Refused where that is no truth value.
+pub fn top_alone(
+    alloc: Global,
+    expression: Expression<NoCustom>,
+) -> Result<Expression<NoCustom>, StreamError> {
+    let Expression {
+        columns,
+        mut answers,
+    } = expression;
+    let mut top = Vec::new(alloc);
+    if let Some(answer) = answers.pop() {
+        match answer.tree.dtype() {
+            DType::Bool(_) => {}
+            _ => return Err(StreamError::NoTruth(answer.name)),
+        }
+        top.push(answer)?;
+    }
+    Ok(Expression {
+        columns,
+        answers: top,
+    })
+}
+
+/// Adds a field of the last record to the batch; an empty one where the record has none there.
+fn push_field_of<R: Read>(
+    rows: &mut Rows<'_, R>,
+    place: usize,
+    batch: &mut Batch,
+) -> Result<(), StreamError> {
+    let is_null = rows.is_null(place)?;
+    match rows.record().get(place) {
+        Some(field) => batch.push_field(field, is_null)?,
+        None => batch.push_field(&[], is_null)?,
+    }
+    Ok(())
+}
+
+impl<'a, R: Read + Drop> Stream<'a, R> {
+    /// Reads the header, where there is one, and puts the header of the output down.
+    fn begin(
+        alloc: Global,
+        settings: &Settings<'a>,
+        expression: &'a Expression<NoCustom>,
+        reader: R,
+    ) -> Result<Stream<'a, R>, StreamError> {
+        let mut rows = Rows::new(alloc, settings.format, reader);
+        let mut output = Output::new(alloc, settings.format);
+        let layout = if settings.header {
+            read_header(alloc, settings, expression, &mut rows, &mut output)?
+        } else {
+            declared_layout(alloc, &expression.columns)?
+        };
+        Ok(Stream {
+            alloc,
+            settings: *settings,
+            expression,
+            rows,
+            layout,
+            batch: Batch::new(alloc),
+            output,
+            summary: Summary {
+                rows_read: 0,
+                rows_written: 0,
+            },
+        })
+    }
+
+    /// Reads a row behind those of the batch, and tells whether there was one.
+    fn add_row(&mut self) -> Result<bool, StreamError> {
+        if !self.rows.read()? {
+            return Ok(false);
+        }
+        let row = row_number(self.summary.rows_read, self.batch.len());
+        if self.rows.is_open() {
+            return Err(StreamError::OpenQuote { row });
+        }
+        let (wanted, found) = (self.layout.width, self.rows.record().len());
+        if wanted != found {
+            return Err(StreamError::Width { row, wanted, found });
+        }
+        for place in self.layout.places.iter() {
+            push_field_of(&mut self.rows, *place, &mut self.batch)?;
+        }
+        self.batch.end_row(self.rows.span())?;
+        Ok(true)
+    }
+
+    /// Reads the rows of the next batch.
+    fn fill(&mut self) -> Filled {
+        self.batch.clear();
+        self.rows.keep_from_here();
+        for _ in 0..self.settings.batch.max(1) {
+            match self.add_row() {
+                Ok(true) => {}
+                Ok(false) => return Filled::Ended,
+                Err(error) => return Filled::Broken(error),
+            }
+        }
+        Filled::Full
+    }
+
+    /// What the rows of the batch answer, behind which an error ends the stream, if there is one.
+    fn answer(&self, error: Option<StreamError>) -> Result<Answered, StreamError> {
+        let fields = self.batch.fields(self.alloc)?;
+        let task = Task {
+            alloc: self.alloc,
+            expression: self.expression,
+            rows_before: self.summary.rows_read,
+        };
+        task.answer_batch(&fields, self.batch.len(), error)
+    }
+
+    /// Puts the answers of the first rows down.
+    fn put_answers(&mut self, answers: &[Column], row_count: usize) -> Result<(), StreamError> {
+        for row in 0..row_count {
+            if self.output.push_row(answers, row).is_err() {
+                return Err(StreamError::OutOfMemory);
+            }
+        }
+        let written = self.summary.rows_written;
+        self.summary.rows_written = written.saturating_add(row_count as u64);
+        Ok(())
+    }
+
+    /// Puts those of the first rows down in which the only answer is true.
+    fn pick_rows(&mut self, answers: &[Column], row_count: usize) -> Result<(), StreamError> {
+        let Some(top) = answers.last() else {
+            return Ok(());
+        };
+        let spans = self.batch.spans();
+        for row in 0..row_count.min(spans.len()).min(top.len()) {
+            if is_true(top, row) {
+                self.output.push_bytes(self.rows.bytes(spans[row]))?;
+                self.summary.rows_written = self.summary.rows_written.saturating_add(1);
+            }
+        }
+        Ok(())
+    }
+
+    /// Writes what was put down.
+    fn write<W: Write>(&mut self, writer: &mut W) -> Result<(), StreamError> {
+        if let Err(error) = writer.write_all(self.output.bytes()) {
+            return Err(StreamError::Writing(error));
+        }
+        if let Err(error) = writer.flush() {
+            return Err(StreamError::Writing(error));
+        }
+        self.output.clear();
+        Ok(())
+    }
+
+    /// Answers and writes the batch.
+    fn pass<W: Write>(
+        &mut self,
+        error: Option<StreamError>,
+        writer: &mut W,
+    ) -> Result<(), StreamError> {
+        let Answered {
+            answers,
+            row_count,
+            error,
+        } = self.answer(error)?;
+        if self.settings.picks_rows {
+            self.pick_rows(&answers, row_count)?;
+        } else {
+            self.put_answers(&answers, row_count)?;
+        }
+        self.write(writer)?;
+        let read = self.summary.rows_read;
+        self.summary.rows_read = read.saturating_add(self.batch.len() as u64);
+        match error {
+            Some(error) => Err(error),
+            None => Ok(()),
+        }
+    }
+}
+
+/// Reads the header and tells where the columns stand; puts down the header of the output: that of
+/// the input as it stands where rows are picked, else the names of the answers.
+fn read_header<'a, R: Read>(
+    alloc: Global,
+    settings: &Settings<'a>,
+    expression: &Expression<NoCustom>,
+    rows: &mut Rows<'a, R>,
+    output: &mut Output<'a>,
+) -> Result<Layout, StreamError> {
+    let found = rows.read()?;
+    if found && rows.is_open() {
+        return Err(StreamError::OpenHeader);
+    }
+    let layout = named_layout(alloc, &expression.columns, rows.record())?;
+    if settings.picks_rows {
+        if found {
+            output.push_bytes(rows.bytes(rows.span()))?;
+        }
+        return Ok(layout);
+    }
+    for (index, answer) in expression.answers.iter().enumerate() {
+        output.push_name(index, answer.name.as_str())?;
+    }
+    output.end_line()?;
+    Ok(layout)
+}
+
+/// Reads rows as CSV, a batch at a time, and writes what the expression answers in them; or, as the
+/// settings say, the rows in which its only answer is true. Tells how many rows those were.
+///
+/// The rows before the first that is refused are answered and written before the error is told,
+/// whatever the batches. Memory holds a batch at most, and the longest row.
+pub fn flow<R: Read + Drop, W: Write>(
+    alloc: Global,
+    settings: &Settings<'_>,
+    expression: &Expression<NoCustom>,
+    reader: R,
+    writer: &mut W,
+) -> Result<Summary, StreamError> {
+    let mut stream = Stream::begin(alloc, settings, expression, reader)?;
+    stream.write(writer)?;
+    for _ in 0..u64::MAX {
+        match stream.fill() {
+            Filled::Full => stream.pass(None, writer)?,
+            Filled::Ended => {
+                stream.pass(None, writer)?;
+                break;
+            }
+            Filled::Broken(error) => stream.pass(Some(error), writer)?,
+        }
+    }
+    Ok(stream.summary)
+}

@@ -1,0 +1,119 @@
+//! Rows of CSV that flow from standard input through an expression to standard output.
+#![tactic(auto)]
+
+use rowfn_batches::{Expression, read_expression};
+use rowfn_options::{Action, Options, Source, read_options};
+use rowfn_rows::{Format, Settings, StreamError, Summary, explain, flow, top_alone};
+use std::alloc::Global;
+use std::process::ExitCode;
+use std::rt::{Env, Files};
+use std::{env, fs, io};
+use vortex_functions::NoCustom;
+
+/// The lines of an expression, one behind the other.
+fn joined(alloc: Global, lines: &[&str]) -> Result<Vec<u8>, StreamError> {
+    let mut text = Vec::new(alloc);
+    for line in lines {
+        text.extend_from_slice(line.as_bytes())?;
+        text.push(b'\n')?;
+    }
+    Ok(text)
+}
+
+/// The text of the expression.
+fn expression_text(
+    rt: &(impl Files + AllocGlobal),
+    source: &Source<'_>,
+) -> Result<Vec<u8>, StreamError> {
+    match source {
+        Source::Lines(lines) => joined(rt.alloc(), lines),
+        Source::File(name) => match fs::read(rt, *name) {
+            Ok(text) => Ok(text),
+            Err(error) => {
+                let name = String::from_str(rt.alloc(), name)?;
+                Err(StreamError::ReadingExpression(name, error))
+            }
+        },
+    }
+}
+
+/// Tells the expression on standard output.
+fn tell(
+    rt: &(impl Print + AllocGlobal),
+    expression: &Expression<NoCustom>,
+) -> Result<(), StreamError> {
+    match explain(rt.alloc(), expression) {
+        Ok(text) => match print!(rt; "{text}") {
+            Ok(()) => Ok(()),
+            Err(error) => Err(StreamError::Writing(error)),
+        },
+        Err(_) => Err(StreamError::OutOfMemory),
+    }
+}
+
+/// Lets the rows flow, and tells how many they were where that is asked for.
+fn pass_rows(
+    rt: &(impl Input + Print + Eprint + AllocGlobal),
+    options: &Options<'_>,
+    expression: &Expression<NoCustom>,
+) -> Result<(), StreamError> {
+    let settings = Settings {
+        format: Format {
+            delimiter: options.delimiter,
+            null: options.null.as_bytes(),
+        },
+        header: options.header,
+        batch: options.batch as usize,
+        picks_rows: options.action == Action::Pick,
+    };
+    let mut out = io::writer(rt);
+    let Summary {
+        rows_read,
+        rows_written,
+    } = flow(rt.alloc(), &settings, expression, rt.reader(), &mut out)?;
+    if options.summary {
+        let _ = eprintln!(rt; "rows read {rows_read}, rows written {rows_written}");
+    }
+    Ok(())
+}
+
+/// Does what the options ask for.
+fn perform(
+    rt: &(impl Input + Print + Eprint + Files + AllocGlobal),
+    options: &Options<'_>,
+) -> Result<(), StreamError> {
+    let text = expression_text(rt, &options.source)?;
+    let expression = read_expression(rt.alloc(), &text)?;
+    match options.action {
+        Action::Explain => tell(rt, &expression),
+        Action::Answer => pass_rows(rt, options, &expression),
+        Action::Pick => pass_rows(rt, options, &top_alone(rt.alloc(), expression)?),
+    }
+}
+
+/// Reads the options and does what they ask for; tells on standard error what went wrong. The
+/// status is 0 where nothing did.
+fn run(rt: &(impl Input + Print + Eprint + Env + Files + AllocGlobal)) -> io::Result<u8> {
+    let words: Vec<String> = env::args(rt)?.collect(rt.alloc())?;
+    let options = match read_options(rt.alloc(), &words) {
+        Ok(options) => options,
+        Err(error) => {
+            error.print(rt)?;
+            return Ok(error.exit_code() as u8);
+        }
+    };
+    match perform(rt, &options) {
+        Ok(()) => Ok(0),
+        Err(error) => {
+            let _ = eprintln!(rt; "rowfn_stream: {error}");
+            Ok(error.status())
+        }
+    }
+}
+
+fn main(rt: HostRuntime) -> ExitCode {
+    match run(&rt) {
+        Ok(status) => ExitCode::from(status),
+        Err(_) => ExitCode::from(3),
+    }
+}

@@ -1,0 +1,145 @@
+//! Questions to streams.
+
+use crate::pipes::{Drips, Sink};
+use rowfn_batches::read_expression;
+use rowfn_rows::{Format, Settings, StreamError, Summary, flow, top_alone};
+use std::alloc::Global;
+
+/// An expression, an input, and how it is read.
+#[derive(Clone, Copy)]
+pub struct Case<'a> {
+    pub expression: &'a str,
+    pub input: &'a [u8],
+    pub header: bool,
+    pub delimiter: u8,
+    pub null: &'a str,
+    pub picks_rows: bool,
+    /// Whether reading fails behind the input.
+    pub fails: bool,
+    /// How many bytes the output takes.
+    pub limit: usize,
+}
+
+/// A case with a header, commas, and empty fields for null.
+pub fn plain<'a>(expression: &'a str, input: &'a str) -> Case<'a> {
+    Case {
+        expression,
+        input: input.as_bytes(),
+        header: true,
+        delimiter: b',',
+        null: "",
+        picks_rows: false,
+        fails: false,
+        limit: usize::MAX,
+    }
+}
+
+/// The same, and rows are picked.
+pub fn pick<'a>(expression: &'a str, input: &'a str) -> Case<'a> {
+    Case {
+        picks_rows: true,
+        ..plain(expression, input)
+    }
+}
+
+/// The same as `plain` without a header.
+pub fn headless<'a>(expression: &'a str, input: &'a str) -> Case<'a> {
+    Case {
+        header: false,
+        ..plain(expression, input)
+    }
+}
+
+fn run_case(
+    alloc: Global,
+    case: &Case<'_>,
+    batch: usize,
+    step: usize,
+    sink: &mut Sink,
+) -> Result<Summary, StreamError> {
+    let settings = Settings {
+        format: Format {
+            delimiter: case.delimiter,
+            null: case.null.as_bytes(),
+        },
+        header: case.header,
+        batch,
+        picks_rows: case.picks_rows,
+    };
+    let expression = read_expression(alloc, case.expression.as_bytes())?;
+    let expression = if case.picks_rows {
+        top_alone(alloc, expression)?
+    } else {
+        expression
+    };
+    let reader = Drips {
+        text: case.input,
+        step,
+        fails: case.fails,
+    };
+    flow(alloc, &settings, &expression, reader, sink)
+}
+
+/// Whether a stream writes that output, and tells that text with that status, if it fails.
+fn ends_once(
+    alloc: Global,
+    case: &Case<'_>,
+    batch: usize,
+    step: usize,
+    wanted: (&str, u8, &str),
+) -> bool {
+    let (output, status, told) = wanted;
+    let mut sink = Sink {
+        taken: Vec::new(alloc),
+        limit: case.limit,
+    };
+    let outcome = run_case(alloc, case, batch, step, &mut sink);
+    if sink.taken.as_slice() != output.as_bytes() {
+        return false;
+    }
+    match outcome {
+        Ok(_) => status == 0,
+        Err(error) => {
+            error.status() == status
+                && match format!(in alloc; "{error}") {
+                    Ok(text) => text.as_str() == told,
+                    Err(_) => false,
+                }
+        }
+    }
+}
+
+/// Whether a stream ends so, whatever the batches and the reads.
+pub fn ends(alloc: Global, case: Case<'_>, output: &str, status: u8, told: &str) -> bool {
+    for batch in [1, 2, 7, 8192] {
+        for step in [1, 2, 5, 8192] {
+            if !ends_once(alloc, &case, batch, step, (output, status, told)) {
+                return false;
+            }
+        }
+    }
+    true
+}
+
+/// Whether a stream is read to its end, and that is written.
+pub fn gives(alloc: Global, case: Case<'_>, output: &str) -> bool {
+    ends(alloc, case, output, 0, "")
+}
+
+/// How many rows a stream reads and writes.
+pub fn counts(alloc: Global, case: Case<'_>, rows_read: u64, rows_written: u64) -> bool {
+    let mut sink = Sink {
+        taken: Vec::new(alloc),
+        limit: case.limit,
+    };
+    match run_case(alloc, &case, 2, 3, &mut sink) {
+        Ok(summary) => {
+            summary
+                == Summary {
+                    rows_read,
+                    rows_written,
+                }
+        }
+        Err(_) => false,
+    }
+}

@@ -1,0 +1,34 @@
+//! What is told of an expression.
+
+use rowfn_batches::read_expression;
+use rowfn_rows::explain;
+use std::alloc::Global;
+
+fn explains(alloc: Global, expression: &str, wanted: &str) -> bool {
+    match read_expression(alloc, expression.as_bytes()) {
+        Ok(expression) => match explain(alloc, &expression) {
+            Ok(text) => text.as_str() == wanted,
+            Err(_) => false,
+        },
+        Err(_) => false,
+    }
+}
+
+const WANTED: &str = "known
+  tree: vortex.is_null(($.a + $.b))
+    type bool, weight 9
+  optimized: vortex.not((is_not_null($.a) and is_not_null($.b)))
+    type bool, weight 8
+$.a
+  tree: $.a
+    type i32?, weight 1
+  optimized: $.a
+    type i32?, weight 1
+";
+
+#[test]
+fn each_answer_is_told(rt: HostRuntime) {
+    let expression =
+        "col a i32?\ncol b i32?\nget a\nget b\ncall +\ncall is_null\nas known\nget a\n";
+    assert!(rt; explains(rt.alloc(), expression, WANTED));
+}
