@@ -80,7 +80,7 @@ module _ {V O : Type 0} where
       → reading_of q ds (kept ++ None ∷ []) ≡ with_pushed (reading_of s ds names) q
   tree_pushed s q ds names kept e =
       let made : map given_in (kept ++ None ∷ [])
-          ≡ with_tree (length q.stack) (map given_in names) =
+      ≡ with_tree (length q.stack) (map given_in names) =
       map-append given_in kept (None ∷ [])
       ∙ ap (λ (xs : List (Option (List ℕ))). xs ++ None ∷ [])
       (ap (map given_in) e ∙ sym (take-map given_in (length q.stack - 1) names)) in
@@ -95,7 +95,7 @@ module _ {V O : Type 0} where
       let l : length (map given_in names) ≡ length names = length-map given_in names in
       let less : nat_lt 0 (length (map given_in names)) ≡ true = lt-ltb 0 _ (omega (arith, l, some)) in
       let made : map given_in (kept ++ Some given ∷ [])
-          ≡ take (length (map given_in names) - 1) (map given_in names) ++ Some name ∷ [] =
+      ≡ take (length (map given_in names) - 1) (map given_in names) ++ Some name ∷ [] =
       map-append given_in kept (Some given ∷ [])
       ∙ (λ i. map given_in (e i) ++ Some (f i) ∷ [])
       ∙ ap (λ (xs : List (Option (List ℕ))). xs ++ Some name ∷ [])
@@ -108,7 +108,7 @@ module _ {V O : Type 0} where
       (λ b.
       if b
       then reads
-          (record r { names = take (length r.names - 1) r.names ++ Some name ∷ [] })
+      (record r { names = take (length r.names - 1) r.names ++ Some name ∷ [] })
       else is_wrong)
       less)
 
@@ -117,4 +117,3 @@ module _ {V O : Type 0} where
       (names : List (Option (String Global))) (name : List ℕ)
       → names ≡ [] → is_wrong ≡ named name (reading_of s ds names)
   none_named s ds names name e = sym (ap (λ xs. named name (reading_of s ds xs)) e)
-

@@ -42,10 +42,11 @@ module _ (cs : List ColumnView) (i : ℕ) where
   leaf_is (held c) h = absurd h
 
   leaf_fits : (l : Leaf) → LeafFits cs l → LeafFits of_row l
-  leaf_fits (place p name t) h =
-      (row_column i h.0,
-        slice_get-map (row_column i) cs p ∙ ap (option_map (row_column i)) h.1,
-        h.2)
+  leaf_fits (place p name t) h = (
+    row_column i h.0,
+    slice_get-map (row_column i) cs p ∙ ap (option_map (row_column i)) h.1,
+    h.2,
+  )
   leaf_fits (held c) h = h
 
   module _ {V O : Type 0} where
