@@ -1,7 +1,7 @@
 -- What was answered so far, and one answer more.
 use Rattle.std.proofs.Common.{◌≡◌, ℕ, zero, suc, ◌+◌, ◌<◌, List, [], ◌∷◌, ◌++◌, map, length, take, get_or}
 use Rattle.std.proofs.Common.{refl, sym, ap, subst, ◌∙◌, inl, inr, arith}
-use Rattle.std.specs.Prelude.{◌⊎◌, All, Result, Err}
+use Rattle.std.specs.Prelude.{◌⊎◌, All, Result, Ok, Err, IsErrAnd}
 use Rattle.vortex_errors.specs.Answers.{Answers, UnlessMemory}
 use Rattle.vortex_errors.specs.declared.error.VortexError.{VortexError}
 use Rattle.vortex_errors.specs.declared.error.VortexError.TheVariants.{OutOfMemory}
@@ -41,9 +41,10 @@ placed_more {X = X} P f xs k j x next lt at h r =
 
 -- a refusal that is passed on
 pub answers_refusal : {A : Type 0} (P : A → Type 0) (Q : VortexError → Type 0)
-    (r : Result A VortexError) (e : VortexError) → r ≡ Err e → UnlessMemory Q e → Answers r P Q
-answers_refusal {A = A} P Q r e is h =
-    subst (λ (x : Result A VortexError). Answers x P Q) (sym is) h
+    (r : Result A VortexError) (e : VortexError)
+    → IsErrAnd r (λ y. y ≡ e) → UnlessMemory Q e → Answers r P Q
+answers_refusal P Q (Ok x) e is h = absurd is
+answers_refusal P Q (Err y) e is h = subst (UnlessMemory Q) (sym is) h
 
 -- what is made of each element, and of one element more
 pub all_more : {X A P : Type 0} (means : A → P → Type 0) (f : X → A) (xs : List X) (os : List P)

@@ -35,8 +35,8 @@ returns g c =
     let m = g.C.ScalarFnVTable.meaning in
     let cs = c.args.columns.now in
     let trees = map (λ a. a.tree) c.args.answers.now in
-    let e = c.in_ok-but_for_memory.field-0 in
-    let same = c.in_ok-but_for_memory.ensures in
+    let e = c.in_ok-but_for_memory-in-Err.field-0 in
+    let same = c.in_ok-but_for_memory-in-Err.ensures in
     let refused =
     subst
     (λ (d : VortexError). UnlessMemory (RefusesFirst m c.deref.result.now 1 trees) d)
