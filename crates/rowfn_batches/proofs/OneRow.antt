@@ -1,23 +1,22 @@
 -- The columns of one row alone mean what that row means.
-use Rattle.std.proofs.Common.{◌≡◌, ℕ, zero, suc, ◌<◌, refl, sym, ap, subst, ◌∙◌, List, [], ◌∷◌, map}
+use Rattle.std.proofs.Common.{◌≡◌, ℕ, ◌<◌, refl, sym, ap, subst, ◌∙◌, List, [], ◌∷◌, map}
 use Rattle.std.proofs.Common.{Option, Some, None, option_map, inl, inr, arith, length}
 use Rattle.std.proofs.Common.{Bool, true, false, nat_eq}
-use Rattle.std.specs.Prelude.{slice_get, ◌⊎◌, All, if◌then◌else◌}
+use Rattle.std.specs.Prelude.{slice_get, All, if◌then◌else◌}
 use borrow.Author.Tests.{eqb-true}
 use Rattle.std.proofs.lemmas.Option.{slice_get-map}
 use Rattle.vortex_errors.specs.declared.error.VortexError.{VortexError}
-use Rattle.vortex_types.specs.Values.{null}
 use Rattle.vortex_columns.specs.ColumnView.{ColumnView, row}
 use Rattle.vortex_meaning.specs.Outcomes.{Outcome, gives, faults, Fault, error_of, GivesValue}
 use Rattle.vortex_meaning.specs.Meaning.{Meaning}
-use Rattle.vortex_meaning.specs.Functions.{Function, function_means}
+use Rattle.vortex_meaning.specs.Functions.{function_means}
 use Rattle.vortex_meaning.specs.Trees.{Leaf, place, held, Tree, leaf, constant, call, Trees, no_trees}
 use Rattle.vortex_meaning.specs.Trees.{tree}
-use Rattle.vortex_meaning.specs.Eval.{Inputs, all_give, one_faults, with_first, then_means, tree_types}
-use Rattle.vortex_meaning.specs.Eval.{types_or_none, rows_or_none, leaf_value, eval, eval_all, Settled}
-use Rattle.vortex_meaning.specs.Eval.{AllSettled, IsFirstFault, IsFirstFaultIn}
+use Rattle.vortex_meaning.specs.Eval.{Inputs, one_faults, with_first, then_means, tree_types}
+use Rattle.vortex_meaning.specs.Eval.{types_or_none, rows_or_none, leaf_value, eval, eval_all}
+use Rattle.vortex_meaning.specs.Eval.{IsFirstFault, IsFirstFaultIn}
 use Rattle.vortex_meaning.specs.Execution.{LeafFits, LeavesFit, AllLeavesFit, other_length, Executes}
-use Rattle.vortex_meaning.specs.Execution.{RefusesColumns, RefusesExecution, misfit, faulty, unfit}
+use Rattle.vortex_meaning.specs.Execution.{RefusesExecution, misfit, faulty, unfit}
 use Rattle.vortex_meaning.specs.Execution.{uneven}
 use Rattle.vortex_meaning.specs.Bound.{IsPlace, IsBound, AllBound}
 use Rattle.vortex_functions.specs.Walks.{AllMean}

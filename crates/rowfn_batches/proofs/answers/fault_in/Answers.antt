@@ -1,4 +1,4 @@
-use Rattle.std.proofs.Common.{◌<◌, List, map, length, arith, sym, subst, ◌∙◌, ap}
+use Rattle.std.proofs.Common.{◌<◌, List, map, length, arith, sym, subst, ◌∙◌}
 use Rattle.std.proofs.lemmas.List.{length-map}
 use Rattle.vortex_errors.specs.declared.error.VortexError.{VortexError}
 use Rattle.vortex_errors.specs.Answers.{UnlessMemory}
