@@ -2,9 +2,11 @@
 use Rattle.std.proofs.Common.{◌≡◌, ℕ, zero, suc, ◌+◌, ◌<◌, List, [], ◌∷◌, ◌++◌, map, length, take, get_or}
 use Rattle.std.proofs.Common.{sym, ap, subst, ◌∙◌, refl, arith, Option, Some, None, option_map, Bor, String}
 use Rattle.std.specs.Prelude.{slice_get}
-use Rattle.std.specs.Option.{option_copied}
+use Rattle.std.specs.Slice.{IsItemAt}
 use Rattle.std.specs.declared.alloc.Global.{Global}
-use Rattle.std.proofs.lemmas.Option.{slice_get-map}
+use Rattle.std.proofs.Math.Seq.{take-suc}
+use Rattle.std.proofs.lemmas.List.{map-append}
+use Rattle.std.proofs.lemmas.Option.{slice_get-map, slice_get_past, slice_get_read}
 use Rattle.vortex_errors.specs.declared.error.VortexError.{VortexError}
 use Rattle.vortex_errors.specs.declared.error.VortexError.TheVariants.{OutOfMemory}
 use Rattle.vortex_meaning.specs.Meaning.{Meaning}
@@ -19,17 +21,15 @@ use Rattle.rowfn_batches.specs.Expressions.{Stops, line_at}
 
 -- the name that is lent
 pub names_at : (names : List (Option (String Global))) (k : ℕ)
-    (name : Option (Bor (Option (String Global))))
-    → option_copied name ≡ slice_get names k
+    (name : Option (Bor (Option (String Global)))) → IsItemAt names k name
     → given_at name ≡ joined (slice_get (map given_in names) k)
-names_at names k name e =
-    lent name ∙ ap (λ o. joined (option_map given_in o)) e
+names_at names k None h =
+    ap (λ o. joined (option_map given_in o)) (sym (slice_get_past names k h.3))
     ∙ ap joined (sym (slice_get-map given_in names k))
-  where
-    lent : (o : Option (Bor (Option (String Global))))
-        → given_at o ≡ joined (option_map given_in (option_copied o))
-    lent None = refl
-    lent (Some n) = refl
+names_at names k (Some x) h =
+    ap (λ o. joined (option_map given_in o))
+    (sym (slice_get_read names (length names) k x.now refl h.3.0 h.1))
+    ∙ ap joined (sym (slice_get-map given_in names k))
 
 -- one header more
 pub headers_more : {V O : Type 0} (given : List (Option (List ℕ))) (ts : List (Tree V O))
@@ -37,7 +37,7 @@ pub headers_more : {V O : Type 0} (given : List (Option (List ℕ))) (ts : List 
     → j ≡ suc k → k < length ts → t ≡ get_or ts k t
     → AreHeaders given (take k ts) hs → IsHeader t (joined (slice_get given k)) h
     → AreHeaders given (take j ts) (hs ++ h ∷ [])
-headers_more {V} {O} given ts hs k j t h next lt at r is =
+headers_more {V = V} {O = O} given ts hs k j t h next lt at r is =
     subst (λ (n : ℕ). AreHeaders given (take n ts) (hs ++ h ∷ [])) (sym next)
     (go given ts hs k lt at r is)
   where
@@ -55,6 +55,25 @@ headers_more {V} {O} given ts hs k j t h next lt at r is =
     go (g ∷ gs) (x ∷ xs) (p ∷ ps) (suc l) lt at r is =
         (r.0, go gs xs ps l (omega (arith, lt)) at r.1 is)
 
+-- one answer more, with its tree and its name
+pub answer_more : {V O X : Type 0} (tree : X → Tree V O) (name : X → List ℕ)
+    (given : List (Option (List ℕ))) (ts : List (Tree V O)) (xs : List X) (k j : ℕ)
+    (t : Tree V O) (x : X)
+    → j ≡ suc k → k < length ts → t ≡ get_or ts k t
+    → (map tree xs ≡ take k ts) × AreHeaders given (take k ts) (map name xs)
+    → tree x ≡ t → IsHeader t (joined (slice_get given k)) (name x)
+    → (map tree (xs ++ x ∷ []) ≡ take j ts)
+    × AreHeaders given (take j ts) (map name (xs ++ x ∷ []))
+answer_more tree name given ts xs k j t x next lt at h same is = (
+  map-append tree xs (x ∷ [])
+      ∙ (λ i. h.0 i ++ same i ∷ [])
+      ∙ ap (λ y. take k ts ++ y ∷ []) at
+      ∙ sym (ap (λ n. take n ts) next ∙ take-suc ts k t lt),
+  subst (λ (hs : List (List ℕ)). AreHeaders given (take j ts) hs)
+      (sym (map-append name xs (x ∷ [])))
+      (headers_more given ts (map name xs) k j t (name x) next lt at h.1 is),
+)
+
 -- a line at which the reading stops ends the text
 module _ {V O : Type 0} (m : Meaning V O) (rs : Rules V O) (lines : List (List ℕ)) (n : ℕ)
     (s : ReadingView V O) where
@@ -70,5 +89,5 @@ module _ {V O : Type 0} (m : Meaning V O) (rs : Rules V O) (lines : List (List �
 -- a refusal but for memory
 pub ending_is : (e : VortexError) (n : ℕ) (line : List ℕ) → (e ≡ OutOfMemory → ⊥)
     → error.Refused n e ≡ ending_of (Refused e) n line
-ending_is OutOfMemory n line no = absurd (no refl)
-ending_is e n line no = refl
+ending_is OutOfMemory n line other = absurd (other refl)
+ending_is e n line other = refl

@@ -1,13 +1,11 @@
 -- From what a line makes of the session to what it makes of the reading, and names of trees.
-use Rattle.std.proofs.Common.{◌≡◌, ℕ, ◌+◌, ◌-◌, ◌<◌, List, [], ◌∷◌, ◌++◌, map, length, take, sym, ap, subst}
-use Rattle.std.proofs.Common.{◌∙◌, refl, Option, Some, None, option_map, arith, Bool, true, false}
+use Rattle.std.proofs.Common.{◌≡◌, ℕ, ◌-◌, ◌<◌, List, [], ◌∷◌, ◌++◌, map, length, take, sym, ap, subst}
+use Rattle.std.proofs.Common.{◌∙◌, refl, Option, Some, None, arith, Bool, true, false}
 use Rattle.std.proofs.Common.{nat_lt, String, string_bytes}
 use Rattle.std.specs.Prelude.{if◌then◌else◌}
 use Rattle.std.specs.declared.alloc.Global.{Global}
 use Rattle.std.proofs.lemmas.List.{map-append, length-map, take-map}
 use Rattle.std.proofs.lemmas.Bool.{lt-ltb}
-use Rattle.vortex_errors.specs.declared.error.VortexError.{VortexError}
-use Rattle.vortex_errors.specs.declared.error.VortexError.TheVariants.{OutOfMemory}
 use Rattle.vortex_errors.proofs.Answering.{UnlessMemory-weaker}
 use Rattle.vortex_types.specs.LogicalTypes.{LogicalType}
 use Rattle.vortex_columns.specs.ColumnView.{ColumnView}
@@ -16,11 +14,11 @@ use Rattle.vortex_meaning.specs.Rules.{Rules}
 use Rattle.rowfn_lines.specs.Commands.{Command, column}
 use Rattle.rowfn_scripts.specs.declared.stop.Stop.{Stop}
 use Rattle.rowfn_scripts.specs.declared.stop.Stop.TheVariants.{Refused, Malformed}
-use Rattle.rowfn_scripts.specs.Sessions.{SessionView, Step, goes_on, refuses, is_malformed, StepsTo}
+use Rattle.rowfn_scripts.specs.Sessions.{SessionView, goes_on, refuses, is_malformed, StepsTo}
 use Rattle.rowfn_scripts.specs.Stepping as stepping
 use Rattle.rowfn_batches.specs.declared.columns.Declared.{Declared}
 use Rattle.rowfn_batches.specs.Fields.{declared_type}
-use Rattle.rowfn_batches.specs.Lines.{ReadingView, Read, reads, is_refused, is_wrong, Lifts, StopsBy}
+use Rattle.rowfn_batches.specs.Lines.{ReadingView, reads, is_refused, is_wrong, Lifts, StopsBy}
 use Rattle.rowfn_batches.specs.Lines.{MakesColumn, with_column, with_pushed, with_tree, named, given_in}
 use Rattle.rowfn_batches.specs.Lines.{declared_in, reading_of, has_cells}
 
@@ -92,7 +90,7 @@ module _ {V O : Type 0} where
       → 0 < length names → kept ≡ take (length names - 1) names → string_bytes given ≡ name
       → reads (reading_of s ds (kept ++ Some given ∷ [])) ≡ named name (reading_of s ds names)
   named_last s ds names kept given name some e f =
-      let l : length (map given_in names) ≡ length names = length-map given_in names in
+      let l : length (map given_in names) ≡ length names = length-map names given_in in
       let less : nat_lt 0 (length (map given_in names)) ≡ true = lt-ltb 0 _ (omega (arith, l, some)) in
       let made : map given_in (kept ++ Some given ∷ [])
       ≡ take (length (map given_in names) - 1) (map given_in names) ++ Some name ∷ [] =

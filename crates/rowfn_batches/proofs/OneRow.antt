@@ -1,23 +1,22 @@
 -- The columns of one row alone mean what that row means.
-use Rattle.std.proofs.Common.{◌≡◌, ℕ, zero, suc, ◌<◌, refl, sym, ap, subst, ◌∙◌, List, [], ◌∷◌, map}
+use Rattle.std.proofs.Common.{◌≡◌, ℕ, ◌<◌, refl, sym, ap, subst, ◌∙◌, List, [], ◌∷◌, map}
 use Rattle.std.proofs.Common.{Option, Some, None, option_map, inl, inr, arith, length}
 use Rattle.std.proofs.Common.{Bool, true, false, nat_eq}
-use Rattle.std.specs.Prelude.{slice_get, ◌⊎◌, All, if◌then◌else◌}
+use Rattle.std.specs.Prelude.{slice_get, All, if◌then◌else◌}
 use borrow.Author.Tests.{eqb-true}
 use Rattle.std.proofs.lemmas.Option.{slice_get-map}
 use Rattle.vortex_errors.specs.declared.error.VortexError.{VortexError}
-use Rattle.vortex_types.specs.Values.{null}
 use Rattle.vortex_columns.specs.ColumnView.{ColumnView, row}
 use Rattle.vortex_meaning.specs.Outcomes.{Outcome, gives, faults, Fault, error_of, GivesValue}
 use Rattle.vortex_meaning.specs.Meaning.{Meaning}
-use Rattle.vortex_meaning.specs.Functions.{Function, function_means}
+use Rattle.vortex_meaning.specs.Functions.{function_means}
 use Rattle.vortex_meaning.specs.Trees.{Leaf, place, held, Tree, leaf, constant, call, Trees, no_trees}
 use Rattle.vortex_meaning.specs.Trees.{tree}
-use Rattle.vortex_meaning.specs.Eval.{Inputs, all_give, one_faults, with_first, then_means, tree_types}
-use Rattle.vortex_meaning.specs.Eval.{types_or_none, rows_or_none, leaf_value, eval, eval_all, Settled}
-use Rattle.vortex_meaning.specs.Eval.{AllSettled, IsFirstFault, IsFirstFaultIn}
+use Rattle.vortex_meaning.specs.Eval.{Inputs, one_faults, with_first, then_means, tree_types}
+use Rattle.vortex_meaning.specs.Eval.{types_or_none, rows_or_none, leaf_value, eval, eval_all}
+use Rattle.vortex_meaning.specs.Eval.{IsFirstFault, IsFirstFaultIn}
 use Rattle.vortex_meaning.specs.Execution.{LeafFits, LeavesFit, AllLeavesFit, other_length, Executes}
-use Rattle.vortex_meaning.specs.Execution.{RefusesColumns, RefusesExecution, misfit, faulty, unfit}
+use Rattle.vortex_meaning.specs.Execution.{RefusesExecution, misfit, faulty, unfit}
 use Rattle.vortex_meaning.specs.Execution.{uneven}
 use Rattle.vortex_meaning.specs.Bound.{IsPlace, IsBound, AllBound}
 use Rattle.vortex_functions.specs.Walks.{AllMean}
@@ -122,9 +121,9 @@ module _ {V O : Type 0} (m : Meaning V O) (cs : List ColumnView) (i : ℕ) (t : 
   -- a refusal says that it does, where the columns serve
   pub faults_there : (e : VortexError) → LeavesFit cs t → RefusesExecution m (of_row cs i) 1 t e
       → FaultsAt m cs i t e
-  faults_there e fit (misfit (unfit no told)) = absurd (no (leaves_fit cs i t fit))
+  faults_there e fit (misfit (unfit unfits told)) = absurd (unfits (leaves_fit cs i t fit))
   faults_there e fit (misfit (uneven l fits other told)) =
-      let no : None ≡ Some l = sym (one_each cs i) ∙ other in cc
+      let different : None ≡ Some l = sym (one_each cs i) ∙ other in cc
   faults_there e fit (faulty fits even k) =
       let h = one_row_fault m (of_row cs i) t e k in
       record { fault = h.0; here = sym (row_is cs i m t bound) ∙ h.1; told = h.2 }
@@ -132,17 +131,18 @@ module _ {V O : Type 0} (m : Meaning V O) (cs : List ColumnView) (i : ℕ) (t : 
 -- a row of the row count stands in each column
 pub rows_within : (cs : List ColumnView) (n i : ℕ) → i < n → other_length n cs ≡ None
     → All (λ c. i < length c.rows) cs
-rows_within [] n i below h = λ k d no. absurd (omega (arith, no))
-rows_within (c ∷ cs) n i below h = go (nat_eq (length c.rows) n) refl h
+rows_within [] n i below h = λ k d within. absurd (omega (arith, within))
+rows_within (c ∷ cs) n i below h =
+    go (nat_eq (length c.rows) n) refl h (λ e. rows_within cs n i below e)
   where
     go : (b : Bool) → nat_eq (length c.rows) n ≡ b
         → (if b then other_length n cs else Some (length c.rows)) ≡ None
-        → All (λ c. i < length c.rows) (c ∷ cs)
-    go true e h =
+        → (other_length n cs ≡ None → All (λ d. i < length d.rows) cs)
+        → All (λ d. i < length d.rows) (c ∷ cs)
+    go true e h rest =
         let same : length c.rows ≡ n = eqb-true (length c.rows) n e in
-        all_cons (λ d. i < length d.rows) c cs (omega (arith, same, below))
-        (rows_within cs n i below h)
-    go false e h = let no : Some (length c.rows) ≡ None = h in cc
+        all_cons (λ d. i < length d.rows) c cs (omega (arith, same, below)) (rest h)
+    go false e h rest = let different : Some (length c.rows) ≡ None = h in cc
 
 module _ {V O : Type 0} (m : Meaning V O) (cs : List ColumnView) (n i : ℕ) where
   -- each tree has a column over the row: no tree faults there

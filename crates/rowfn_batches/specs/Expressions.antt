@@ -1,17 +1,15 @@
 -- What a text means as an expression: the lines that go on, and what they leave.
-use Rattle.std.specs.Prelude.{◌≡◌, ◌≢◌, ◌+◌, ◌-◌, ◌<◌, ◌⊎◌, ℕ, suc, List, [], ◌∷◌, length, map, reverse}
-use Rattle.std.specs.Prelude.{Option, Some, None, IfSome, slice_get, slice_index_or, string_bytes}
-use Rattle.std.specs.Prelude.{String, option_map, ⊤}
+use Rattle.std.specs.Prelude.{◌≡◌, ◌≢◌, ◌+◌, ◌-◌, ◌<◌, ℕ, suc, List, [], ◌∷◌, length, reverse}
+use Rattle.std.specs.Prelude.{Option, Some, None, IfSome, slice_get, slice_index_or}
+use Rattle.std.specs.Prelude.{String, ⊤}
 use Rattle.std.specs.declared.alloc.Global.{Global}
 use Rattle.std.specs.Borrow.{Bor}
-use Rattle.vortex_errors.specs.declared.error.VortexError.{VortexError}
 use Rattle.vortex_errors.specs.declared.error.VortexError.TheVariants.{OutOfMemory}
 use Rattle.vortex_types.specs.LogicalTypes.{LogicalType}
 use Rattle.vortex_meaning.specs.Meaning.{Meaning}
 use Rattle.vortex_meaning.specs.Rules.{Rules}
 use Rattle.vortex_meaning.specs.Trees.{Tree}
 use Rattle.vortex_meaning.specs.Printing.{tree_text}
-use Rattle.rowfn_lines.specs.Lines.{lines_of}
 use Rattle.rowfn_scripts.specs.declared.stop.Stop.{Stop}
 use Rattle.rowfn_scripts.specs.declared.stop.Stop.TheVariants.{Refused, Malformed}
 use Rattle.rowfn_batches.specs.declared.expected.Expected.TheVariants as expected

@@ -11,7 +11,7 @@ use Rattle.vortex_types.specs.LogicalTypes.{LogicalType, bool_type, integer_type
 use Rattle.vortex_columns.specs.ColumnView.{ColumnView}
 use Rattle.vortex_meaning.specs.Meaning.{Meaning}
 use Rattle.vortex_meaning.specs.Rules.{Rules}
-use Rattle.rowfn_lines.specs.Lines.{Word, plain, quoted, words_of}
+use Rattle.rowfn_lines.specs.Lines.{Word, plain, words_of}
 use Rattle.rowfn_lines.specs.Commands.{Command, nothing, malformed, rows, column, get, literal, call}
 use Rattle.rowfn_lines.specs.Commands.{show, optimize, run, run_after, command_of, is_name}
 use Rattle.rowfn_batches.specs.declared.columns.Declared.{Declared}
