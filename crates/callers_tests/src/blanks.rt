@@ -53,7 +53,10 @@ fn blank_array(alloc: Global, count: usize) -> Held<Blank> {
         children.push(Box::into_inner(held(alloc, x(alloc))?))?;
     }
     let function = ScalarFnRef::custom(Blank, EmptyOptions);
-    made(alloc, ScalarFnArray::try_new_with_len(alloc, function, children, 3))
+    made(
+        alloc,
+        ScalarFnArray::try_new_with_len(alloc, function, children, 3),
+    )
 }
 
 /// The function over no arrays, whose row count is not said.

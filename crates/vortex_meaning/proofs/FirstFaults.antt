@@ -28,13 +28,16 @@ more_values outcome n before last i lt = by (nat_eq i n) refl
 search_one : (outcome : ℕ → Outcome) (n : ℕ) (x : Outcome) → outcome n ≡ x
     → Searched outcome n → Searched outcome (suc n)
 search_one outcome n x here (inr (e, fault)) =
-    inr (e, record {
-      at = fault.at;
-      below = grind (arith, fault.below);
-      fault = fault.fault;
-      here = fault.here;
-      told = fault.told;
-    })
+    inr (
+      e,
+      record {
+        at = fault.at;
+        below = grind (arith, fault.below);
+        fault = fault.fault;
+        here = fault.here;
+        told = fault.told;
+      },
+    )
 search_one outcome n (gives v) here (inl before) =
     inl (more_values outcome n before (subst GivesValue (sym here) tt))
 search_one outcome n (faults x) here (inl before) =
