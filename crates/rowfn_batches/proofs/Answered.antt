@@ -4,6 +4,7 @@ use Rattle.std.proofs.Common.{refl, sym, ap, subst, ◌∙◌, inl, inr, arith}
 use Rattle.std.specs.Prelude.{◌⊎◌, All, Result, Err}
 use Rattle.vortex_errors.specs.Answers.{Answers, UnlessMemory}
 use Rattle.vortex_errors.specs.declared.error.VortexError.{VortexError}
+use Rattle.vortex_errors.specs.declared.error.VortexError.TheVariants.{OutOfMemory}
 use Rattle.vortex_columns.specs.ColumnView.{ColumnView}
 use Rattle.vortex_meaning.specs.Meaning.{Meaning}
 use Rattle.vortex_meaning.specs.Trees.{Tree}
@@ -26,7 +27,7 @@ all_cons P x xs p h (suc k) d below = h k d (omega (arith, below))
 pub placed_more : {X A : Type 0} (P : A → Type 0) (f : X → A) (xs : List X) (k j : ℕ) (x : X)
     → j ≡ suc k → k < length xs → x ≡ get_or xs k x
     → All P (map f (take k xs)) → P (f x) → All P (map f (take j xs))
-placed_more P f xs k j x next lt at h r =
+placed_more {X = X} P f xs k j x next lt at h r =
     subst (λ (n : ℕ). All P (map f (take n xs))) (sym next) (go xs k lt at h)
   where
     go : (ys : List X) (l : ℕ) → l < length ys → x ≡ get_or ys l x
@@ -41,7 +42,7 @@ placed_more P f xs k j x next lt at h r =
 -- a refusal that is passed on
 pub answers_refusal : {A : Type 0} (P : A → Type 0) (Q : VortexError → Type 0)
     (r : Result A VortexError) (e : VortexError) → r ≡ Err e → UnlessMemory Q e → Answers r P Q
-answers_refusal {A} P Q r e is h =
+answers_refusal {A = A} P Q r e is h =
     subst (λ (x : Result A VortexError). Answers x P Q) (sym is) h
 
 -- what is made of each element, and of one element more
@@ -49,7 +50,7 @@ pub all_more : {X A P : Type 0} (means : A → P → Type 0) (f : X → A) (xs :
     (k j : ℕ) (x : X) (o : P) → j ≡ suc k → k < length xs → x ≡ get_or xs k x
     → AllMean means (map f (take k xs)) os → means (f x) o
     → AllMean means (map f (take j xs)) (os ++ o ∷ [])
-all_more means f xs os k j x o next lt at h r =
+all_more {X = X} {P = P} means f xs os k j x o next lt at h r =
     subst (λ (n : ℕ). AllMean means (map f (take n xs)) (os ++ o ∷ [])) (sym next)
     (go xs os k lt at h)
   where
@@ -97,3 +98,14 @@ module _ {V O X : Type 0} (m : Meaning V O) (cs : List ColumnView) (n : ℕ) (f 
       inl (subst (λ z. RefusesColumns cs n (f z) e) at r)
   refuses_columns_at (y ∷ xs) (suc k) x e below at h r =
       inr (h.0, refuses_columns_at xs k x e (omega (arith, below)) at h.1 r)
+
+-- a column that was lent, or its copy
+pub owned_is : (x c : ColumnView) → (x ≡ c) ⊎ (x ≡ c) → x ≡ c
+owned_is x c (inl e) = e
+owned_is x c (inr e) = e
+
+-- a refusal that is not for want of memory
+pub unless_not : (Q : VortexError → Type 0) (e : VortexError) → (e ≡ OutOfMemory → ⊥)
+    → UnlessMemory Q e → Q e
+unless_not Q OutOfMemory other h = absurd (other refl)
+unless_not Q e other h = h

@@ -37,7 +37,7 @@ pub headers_more : {V O : Type 0} (given : List (Option (List ℕ))) (ts : List 
     → j ≡ suc k → k < length ts → t ≡ get_or ts k t
     → AreHeaders given (take k ts) hs → IsHeader t (joined (slice_get given k)) h
     → AreHeaders given (take j ts) (hs ++ h ∷ [])
-headers_more {V} {O} given ts hs k j t h next lt at r is =
+headers_more {V = V} {O = O} given ts hs k j t h next lt at r is =
     subst (λ (n : ℕ). AreHeaders given (take n ts) (hs ++ h ∷ [])) (sym next)
     (go given ts hs k lt at r is)
   where
@@ -70,5 +70,5 @@ module _ {V O : Type 0} (m : Meaning V O) (rs : Rules V O) (lines : List (List �
 -- a refusal but for memory
 pub ending_is : (e : VortexError) (n : ℕ) (line : List ℕ) → (e ≡ OutOfMemory → ⊥)
     → error.Refused n e ≡ ending_of (Refused e) n line
-ending_is OutOfMemory n line no = absurd (no refl)
-ending_is e n line no = refl
+ending_is OutOfMemory n line other = absurd (other refl)
+ending_is e n line other = refl

@@ -92,7 +92,7 @@ module _ {V O : Type 0} where
       → 0 < length names → kept ≡ take (length names - 1) names → string_bytes given ≡ name
       → reads (reading_of s ds (kept ++ Some given ∷ [])) ≡ named name (reading_of s ds names)
   named_last s ds names kept given name some e f =
-      let l : length (map given_in names) ≡ length names = length-map given_in names in
+      let l : length (map given_in names) ≡ length names = length-map names given_in in
       let less : nat_lt 0 (length (map given_in names)) ≡ true = lt-ltb 0 _ (omega (arith, l, some)) in
       let made : map given_in (kept ++ Some given ∷ [])
           ≡ take (length (map given_in names) - 1) (map given_in names) ++ Some name ∷ [] =

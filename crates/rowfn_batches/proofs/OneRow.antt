@@ -121,9 +121,9 @@ module _ {V O : Type 0} (m : Meaning V O) (cs : List ColumnView) (i : ℕ) (t : 
   -- a refusal says that it does, where the columns serve
   pub faults_there : (e : VortexError) → LeavesFit cs t → RefusesExecution m (of_row cs i) 1 t e
       → FaultsAt m cs i t e
-  faults_there e fit (misfit (unfit no told)) = absurd (no (leaves_fit cs i t fit))
+  faults_there e fit (misfit (unfit unfits told)) = absurd (unfits (leaves_fit cs i t fit))
   faults_there e fit (misfit (uneven l fits other told)) =
-      let no : None ≡ Some l = sym (one_each cs i) ∙ other in cc
+      let different : None ≡ Some l = sym (one_each cs i) ∙ other in cc
   faults_there e fit (faulty fits even k) =
       let h = one_row_fault m (of_row cs i) t e k in
       record { fault = h.0; here = sym (row_is cs i m t bound) ∙ h.1; told = h.2 }
@@ -131,17 +131,18 @@ module _ {V O : Type 0} (m : Meaning V O) (cs : List ColumnView) (i : ℕ) (t : 
 -- a row of the row count stands in each column
 pub rows_within : (cs : List ColumnView) (n i : ℕ) → i < n → other_length n cs ≡ None
     → All (λ c. i < length c.rows) cs
-rows_within [] n i below h = λ k d no. absurd (omega (arith, no))
-rows_within (c ∷ cs) n i below h = go (nat_eq (length c.rows) n) refl h
+rows_within [] n i below h = λ k d within. absurd (omega (arith, within))
+rows_within (c ∷ cs) n i below h =
+    go (nat_eq (length c.rows) n) refl h (λ e. rows_within cs n i below e)
   where
     go : (b : Bool) → nat_eq (length c.rows) n ≡ b
         → (if b then other_length n cs else Some (length c.rows)) ≡ None
-        → All (λ c. i < length c.rows) (c ∷ cs)
-    go true e h =
+        → (other_length n cs ≡ None → All (λ d. i < length d.rows) cs)
+        → All (λ d. i < length d.rows) (c ∷ cs)
+    go true e h rest =
         let same : length c.rows ≡ n = eqb-true (length c.rows) n e in
-        all_cons (λ d. i < length d.rows) c cs (omega (arith, same, below))
-        (rows_within cs n i below h)
-    go false e h = let no : Some (length c.rows) ≡ None = h in cc
+        all_cons (λ d. i < length d.rows) c cs (omega (arith, same, below)) (rest h)
+    go false e h rest = let different : Some (length c.rows) ≡ None = h in cc
 
 module _ {V O : Type 0} (m : Meaning V O) (cs : List ColumnView) (n i : ℕ) where
   -- each tree has a column over the row: no tree faults there

@@ -1,5 +1,6 @@
 //! What the trees of an expression answer over the columns of a batch.
-ghost use Rattle.std.specs.Prelude.{◌≡◌, ◌<◌, ℕ, All, IfOk, length, map, MatchOption};
+ghost use Rattle.std.specs.Prelude.{◌≡◌, ◌≢◌, ◌<◌, ℕ, All, IfOk, length, map, MatchOption};
+ghost use Rattle.vortex_errors.specs.declared.error.VortexError.TheVariants.{OutOfMemory};
 ghost use Rattle.vortex_errors.specs.Answers.{Answers, AnswersUnlessMemory};
 ghost use Rattle.vortex_meaning.specs.Bound.{IsBound};
 ghost use Rattle.rowfn_batches.specs.Executing.{AnswersAll, AnswersFirstFault, AllFit};
@@ -79,6 +80,16 @@ fn row_of(alloc: Global, columns: &[Column], row: usize) -> VortexResult<Vec<Col
     Ok(of_row)
 }
 
+/// The refusal, where it is not want of memory.
+fn but_for_memory(error: VortexError) -> VortexResult<VortexError>
+    ensures { AnswersUnlessMemory result (λ e. (e ≡ error) × (e ≢ OutOfMemory)) }
+{
+    match error {
+        VortexError::OutOfMemory => Err(VortexError::OutOfMemory),
+        error => Ok(error),
+    }
+}
+
 /// The fault of the first answer that faults in that row; nothing where none does. E9 alone.
 fn fault_in<C: ScalarFnVTable>(
     alloc: Global,
@@ -99,8 +110,7 @@ fn fault_in<C: ScalarFnVTable>(
     let of_row = row_of(alloc, columns, row)?;
     match execute_all(alloc, answers, &of_row, 1, ctx) {
         Ok(_) => Ok(None),
-        Err(VortexError::OutOfMemory) => Err(VortexError::OutOfMemory),
-        Err(error) => Ok(Some(error)),
+        Err(error) => Ok(Some(but_for_memory(error)?)),
     }
 }
 
