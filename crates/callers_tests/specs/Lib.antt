@@ -1,4 +1,3 @@
-pub mod Blank
 pub mod First
 pub mod FirstRules
 pub mod Grow

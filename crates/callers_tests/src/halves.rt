@@ -46,8 +46,6 @@ fn an_odd_number_faults(rt: HostRuntime) {
     let alloc = rt.alloc();
     let rows = nullable_ints(alloc, &[Some(4), Some(3)]);
     assert!(rt; is_fault(halved(alloc, rows, 2), 1));
-    let rows = nullable_ints(alloc, &[Some(3), None, Some(5)]);
-    assert!(rt; is_fault(halved(alloc, rows, 3), 1));
 }
 
 #[test]

@@ -1,9 +1,6 @@
 //! Callers' functions, and tests of them: in trees, beside rules, and with faults and options of their own.
 #![tactic(auto)]
 
-pub mod blank;
-#[cfg(test)]
-mod blanks;
 #[cfg(test)]
 mod callers_rules;
 #[cfg(test)]
