@@ -15,9 +15,10 @@ use vortex_interface::{
 };
 use vortex_like::{LikeOptions, execute_like};
 
-/// Whether a text matches a pattern of SQL's LIKE, whose `escape` is the backslash by default, another character or none; with
-/// `case_insensitive` ILIKE, by Unicode's simple case folding, one character at a time; turned over where `negated`. Bool of two Utf8, nullable if either is, and null
-/// where either is; a null row's pattern is not read.
+/// Whether a text matches a pattern of SQL's LIKE, whose `escape` is the backslash by default,
+/// another character or none; with `case_insensitive` ILIKE, by Unicode's simple case folding, one
+/// character at a time; turned over where `negated`. Bool of two Utf8, nullable if either is, and
+/// null where either is; a null row's pattern is not read.
 #[derive(Clone, Drop)]
 pub struct Like;
 
