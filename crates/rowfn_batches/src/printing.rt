@@ -1,17 +1,17 @@
 //! A cell of an answer as the bytes of a field.
-ghost use Rattle.std.specs.Prelude.{◌≡◌, ◌++◌, not};
-ghost use Rattle.vortex_errors.specs.Answers.{AnswersUnlessMemory};
+ghost use Rattle.std.specs.Prelude.{◌≡◌, ◌++◌, not, IfOk};
 ghost use Rattle.vortex_types.specs.Values.{is_null};
 ghost use Rattle.vortex_columns.specs.ColumnView.{row};
 ghost use Rattle.rowfn_batches.specs.Printing.{field_text};
 
 use itoa::Buffer;
-use vortex_columns::{Cell, Column, VortexResult};
+use std::alloc::AllocError;
+use vortex_columns::{Cell, Column};
 
 /// Appends what a cell says as the bytes of a field, a text without quotes; false, and nothing,
-/// where it is null, as it is behind the last row. E9 alone.
-pub fn push_field(out: &mut Vec<u8>, column: &Column, place: usize) -> VortexResult<bool>
-    ensures { AnswersUnlessMemory result
+/// where it is null, as it is behind the last row. Refused only for want of memory.
+pub fn push_field(out: &mut Vec<u8>, column: &Column, place: usize) -> Result<bool, AllocError>
+    ensures { IfOk result
         (λ some. (some ≡ not (is_null (row column.now.rows place)))
         × (out.new.items ≡ out.old.items ++ field_text (row column.now.rows place))) }
 {

@@ -1,5 +1,6 @@
 //! The records of the input, one at a time, each with its bytes.
 
+use crate::batch::Batch;
 use crate::format::Format;
 use crate::raw::{is_closed, mark_quoted, without_blank_lines, without_line_end};
 use crate::tee::Tee;
@@ -35,7 +36,10 @@ pub struct Rows<'a, R> {
     is_marked: bool,
 }
 
-/// What is told of a read that failed.
+/// What is told of a read that failed. A call of its own, so that a row that is read has no room for
+/// errors to clear.
+#[cold]
+#[inline(never)]
 fn read_error(error: Error) -> ReadError {
     match error.into_kind() {
         ErrorKind::Io(error) => ReadError::Io(error),
@@ -173,7 +177,18 @@ impl<'a, R: Read> Rows<'a, R> {
     }
 
     /// Whether a field of the last record says null: the text that stands for null, in no quotes.
-    pub fn is_null(&mut self, index: usize) -> Result<bool, AllocError> {
+    fn is_null(&mut self, index: usize) -> Result<bool, AllocError> {
         Ok(self.reads_null(index) && !self.is_quoted(index)?)
+    }
+
+    /// Adds the fields of the last record at those places to the batch, as a row; an empty one where
+    /// the record has none. Refused only for want of memory.
+    pub fn add_to(&mut self, batch: &mut Batch, places: &[usize]) -> Result<(), AllocError> {
+        for place in places {
+            let is_null = self.is_null(*place)?;
+            let field = self.record.get(*place).unwrap_or(&[]);
+            batch.push_field(field, is_null)?;
+        }
+        batch.end_row(self.span)
     }
 }

@@ -1,5 +1,6 @@
 pub mod CellRows
 pub mod Numbers
+pub mod ShortNumbers
 pub mod Marks
 pub mod Words
 pub mod WordsSaid

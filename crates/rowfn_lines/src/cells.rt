@@ -1,6 +1,6 @@
 //! Columns and values that are read from words.
 ghost use Rattle.std.specs.Prelude.{◌≡◌, refl, pos, [], ◌∷◌, Bool, true, false, Some, None, is_some};
-ghost use Rattle.std.specs.Prelude.{map, option_map, length, string_bytes, MatchOption};
+ghost use Rattle.std.specs.Prelude.{map, option_map, length, string_bytes, MatchOption, ⊤};
 ghost use Rattle.std.specs.List.{list_all};
 ghost use Rattle.std.specs.Char.{is_ascii_digit};
 ghost use Rattle.vortex_errors.specs.Answers.{AnswersUnlessMemory};
@@ -39,11 +39,31 @@ pub fn are_digits(word: &str) -> bool
     !word.is_empty() && all_digits(word)
 }
 
+/// The number that digits say; nothing where others stand there, and where 64 bits do not hold it.
+fn short_number(digits: &[u8]) -> Option<u64>
+    ensures { MatchOption result ⊤ (λ n. digits_of digits.now ≡ Some n) }
+{
+    if digits.is_empty() {
+        return None;
+    }
+    let mut number = 0u64;
+    for byte in digits {
+        if !byte.is_ascii_digit() {
+            return None;
+        }
+        number = number.checked_mul(10)?.checked_add((*byte - b'0') as u64)?;
+    }
+    Some(number)
+}
+
 /// The number that digits say; nothing where others stand there, and for a number past every
-/// integer type.
+/// integer type. Numbers of 64 bits, which nearly all are, go by words of the machine.
 fn read_plain(word: &str) -> Option<i128>
     ensures { ReadsNumber (option_map pos (digits_of word.now)) result }
 {
+    if let Some(number) = short_number(word.as_bytes()) {
+        return Some(i128::from(number));
+    }
     if !are_digits(word) {
         return None;
     }
@@ -55,6 +75,9 @@ fn read_negative(word: &str, digits: &str) -> Option<i128>
     requires { word.now ≡ 45 ∷ digits.now }
     ensures { ReadsNumber (option_map negative (digits_of digits.now)) result }
 {
+    if let Some(number) = short_number(digits.as_bytes()) {
+        return Some(-i128::from(number));
+    }
     if !are_digits(digits) {
         return None;
     }

@@ -1,16 +1,15 @@
 //! What is written: answers as fields of CSV, or rows of the input as they stand.
 ghost use Rattle.std.specs.Prelude.{◌≡◌, ◌↔◌, ◌<◌, ◌∷◌, [], IsTrue, OnOk, true, length};
-ghost use Rattle.vortex_errors.specs.Answers.{AnswersUnlessMemory};
 ghost use Rattle.vortex_types.specs.Values.{truth};
 ghost use Rattle.vortex_columns.specs.ColumnView.{row};
 ghost use Rattle.vortex_meaning.specs.CallTexts.{joined, separator_before};
 ghost use Rattle.rowfn_csv.specs.Fields.{text_field};
-ghost use Rattle.rowfn_rows.specs.Outputs.{Adds, value_field, row_fields, row_line};
+ghost use Rattle.rowfn_rows.specs.Outputs.{Adds, name_field, value_field, row_fields, row_line};
 
 use rowfn_batches::push_field;
 use rowfn_csv::{Format, quote_from};
 use std::alloc::{AllocError, Global};
-use vortex_columns::{Cell, Column, VortexResult};
+use vortex_columns::{Cell, Column};
 
 /// What is to be written next. Its buffers serve from batch to batch.
 #[derive(Drop)]
@@ -75,14 +74,17 @@ impl<'a> Output<'a> {
     }
 
     /// Adds a name of the header. Refused only for want of memory.
-    pub fn push_name(&mut self, index: usize, name: &str) -> Result<(), AllocError> {
+    pub fn push_name(&mut self, index: usize, name: &str) -> Result<(), AllocError>
+        ensures { OnOk result (Adds self.old self.new (name_field self.old.format.delimiter
+            self.old.format.null.now index name.now)) }
+    {
         self.begin_field(index)?;
         self.push_text(name)
     }
 
-    /// Adds the value of a row as a field. E9 alone.
-    fn push_value(&mut self, column: &Column, place: usize) -> VortexResult<()>
-        ensures { AnswersUnlessMemory result (λ _. Adds self.old self.new
+    /// Adds the value of a row as a field. Refused only for want of memory.
+    fn push_value(&mut self, column: &Column, place: usize) -> Result<(), AllocError>
+        ensures { OnOk result (Adds self.old self.new
             (value_field self.old.format.delimiter self.old.format.null.now
             (row column.now.rows place))) }
     {
@@ -103,9 +105,9 @@ impl<'a> Output<'a> {
         Ok(())
     }
 
-    /// Adds the values of a row as fields. E9 alone.
-    fn push_values(&mut self, answers: &[Column], place: usize) -> VortexResult<()>
-        ensures { AnswersUnlessMemory result (λ _. Adds self.old self.new
+    /// Adds the values of a row as fields. Refused only for want of memory.
+    fn push_values(&mut self, answers: &[Column], place: usize) -> Result<(), AllocError>
+        ensures { OnOk result (Adds self.old self.new
             (joined (self.old.format.delimiter ∷ []) (row_fields self.old.format.delimiter
             self.old.format.null.now answers.now place))) }
     {
@@ -116,14 +118,13 @@ impl<'a> Output<'a> {
         Ok(())
     }
 
-    /// Adds a row of the answers as a line. E9 alone.
-    pub fn push_row(&mut self, answers: &[Column], place: usize) -> VortexResult<()>
-        ensures { AnswersUnlessMemory result (λ _. Adds self.old self.new
+    /// Adds a row of the answers as a line. Refused only for want of memory.
+    pub fn push_row(&mut self, answers: &[Column], place: usize) -> Result<(), AllocError>
+        ensures { OnOk result (Adds self.old self.new
             (row_line self.old.format.delimiter self.old.format.null.now answers.now place)) }
     {
         self.push_values(answers, place)?;
-        self.end_line()?;
-        Ok(())
+        self.end_line()
     }
 }
 

@@ -6,7 +6,7 @@ use crate::header::{Layout, declared_layout, named_layout};
 use crate::output::{Output, is_true};
 use crate::settings::Settings;
 use rowfn_batches::Expression;
-use rowfn_csv::{Batch, Rows};
+use rowfn_csv::{Batch, ReadError, Rows};
 use std::alloc::Global;
 use std::io::{Read, Write};
 use vortex_columns::{Column, DType};
@@ -66,18 +66,11 @@ pub fn top_alone(
     })
 }
 
-/// Adds a field of the last record to the batch; an empty one where the record has none there.
-fn push_field_of<R: Read>(
-    rows: &mut Rows<'_, R>,
-    place: usize,
-    batch: &mut Batch,
-) -> Result<(), StreamError> {
-    let is_null = rows.is_null(place)?;
-    match rows.record().get(place) {
-        Some(field) => batch.push_field(field, is_null)?,
-        None => batch.push_field(&[], is_null)?,
-    }
-    Ok(())
+/// What a read that failed ends.
+#[cold]
+#[inline(never)]
+fn broken_by(error: ReadError) -> Filled {
+    Filled::Broken(StreamError::from(error))
 }
 
 impl<'a, R: Read + Drop> Stream<'a, R> {
@@ -110,24 +103,24 @@ impl<'a, R: Read + Drop> Stream<'a, R> {
         })
     }
 
-    /// Reads a row behind those of the batch, and tells whether there was one.
-    fn add_row(&mut self) -> Result<bool, StreamError> {
-        if !self.rows.read()? {
-            return Ok(false);
-        }
+    /// Whether the last record is a row: closed, and of as many fields as are wanted.
+    fn is_whole(&self) -> bool {
+        self.rows.record().len() == self.layout.width && !self.rows.is_open()
+    }
+
+    /// Why the last record is no row.
+    #[cold]
+    #[inline(never)]
+    fn misshapen(&self) -> StreamError {
         let row = row_number(self.summary.rows_read, self.batch.len());
         if self.rows.is_open() {
-            return Err(StreamError::OpenQuote { row });
+            return StreamError::OpenQuote { row };
         }
-        let (wanted, found) = (self.layout.width, self.rows.record().len());
-        if wanted != found {
-            return Err(StreamError::Width { row, wanted, found });
+        StreamError::Width {
+            row,
+            wanted: self.layout.width,
+            found: self.rows.record().len(),
         }
-        for place in self.layout.places.iter() {
-            push_field_of(&mut self.rows, *place, &mut self.batch)?;
-        }
-        self.batch.end_row(self.rows.span())?;
-        Ok(true)
     }
 
     /// Reads the rows of the next batch.
@@ -135,10 +128,20 @@ impl<'a, R: Read + Drop> Stream<'a, R> {
         self.batch.clear();
         self.rows.keep_from_here();
         for _ in 0..self.settings.batch.max(1) {
-            match self.add_row() {
+            match self.rows.read() {
                 Ok(true) => {}
                 Ok(false) => return Filled::Ended,
-                Err(error) => return Filled::Broken(error),
+                Err(error) => return broken_by(error),
+            }
+            if !self.is_whole() {
+                return Filled::Broken(self.misshapen());
+            }
+            if self
+                .rows
+                .add_to(&mut self.batch, &self.layout.places)
+                .is_err()
+            {
+                return broken_by(ReadError::OutOfMemory);
             }
         }
         Filled::Full

@@ -1,0 +1,73 @@
+-- Numbers of 64 bits, which are read digit by digit.
+use Rattle.std.proofs.Common.{◌≡◌, ℕ, ◌+◌, ◌-◌, ◌*◌, ◌<◌, ◌≤◌, Bool, true, false, List, [], ◌∷◌}
+use Rattle.std.proofs.Common.{ap, sym, ◌∙◌, ◌&&◌, refl, arith, length, get_or, drop, Some, ℤ, pos}
+use Rattle.std.proofs.Common.{zero, suc, ◌-ℤ◌, ◌^◌, subst}
+use Rattle.std.specs.Int.{w128}
+use mir.Val.{to_z, of_z, hbits, SFits}
+use Rattle.std.proofs.lemmas.Int.{ints, to_z-of_z}
+use Rattle.std.specs.Prelude.{option_map}
+use Rattle.std.specs.List.{list_all}
+use Rattle.std.specs.Char.{is_ascii_digit}
+use Rattle.std.proofs.lemmas.List.{drop_more, drop_all}
+use Rattle.rowfn_lines.specs.Commands.{decimal_from, digits_of, negative}
+use Rattle.rowfn_lines.proofs.Numbers.{are_digits, digits_known}
+
+-- what is left behind the first k bytes says the rest of the number, and is of digits where all are
+pub record SaysFrom (bs : List ℕ) (k n : ℕ) : Type 0 where
+  pub number : decimal_from n (drop k bs) ≡ decimal_from 0 bs
+  pub digits : list_all is_ascii_digit (drop k bs) ≡ list_all is_ascii_digit bs
+
+-- a turn over the bytes
+pub next_digit : (bs : List ℕ) (k n d next : ℕ) → k < length bs → d ≡ get_or bs k 0
+    → is_ascii_digit d ≡ true → next ≡ n * 10 + (d - 48) → SaysFrom bs k n
+    → SaysFrom bs (k + 1) next
+next_digit bs k n d next h is digit sum before = record {
+  number =
+      ap (λ (m : ℕ). decimal_from m (drop (k + 1) bs)) (grind (arith, sum))
+      ∙ ap (λ (x : ℕ). decimal_from (10 * n + (x - 48)) (drop (k + 1) bs)) is
+      ∙ sym (ap (decimal_from n) (drop_more bs k 0 h)) ∙ before.number;
+  digits =
+      sym (ap (λ b. b && list_all is_ascii_digit (drop (k + 1) bs)) (ap is_ascii_digit (sym is) ∙ digit))
+      ∙ sym (ap (list_all is_ascii_digit) (drop_more bs k 0 h)) ∙ before.digits;
+}
+
+-- the number behind the last byte
+pub last_digit : (bs : List ℕ) (k n : ℕ) → 0 < length bs → length bs ≤ k → SaysFrom bs k n
+    → digits_of bs ≡ Some n
+last_digit bs k n some past at =
+    (are_digits bs (sym (digits_known bs some true all))).say ∙ ap Some (sym number)
+  where
+    all : list_all is_ascii_digit bs ≡ true
+    all = sym at.digits ∙ ap (list_all is_ascii_digit) (drop_all k bs past)
+
+    number : n ≡ decimal_from 0 bs
+    number = sym (ap (decimal_from n) (drop_all k bs past)) ∙ at.number
+
+pub short_plain : (w bytes : List ℕ) (n : ℕ) (z : ℤ) → bytes ≡ w → digits_of bytes ≡ Some n
+    → z ≡ pos n → option_map pos (digits_of w) ≡ Some z
+short_plain w bytes n z same said is =
+    ap (λ (bs : List ℕ). option_map pos (digits_of bs)) (sym same) ∙ ap (option_map pos) said
+    ∙ ap Some (sym is)
+
+minus : (n : ℕ) → pos 0 -ℤ pos n ≡ negative n
+minus zero = refl
+minus (suc n) = grind (arith, ints)
+
+fits : (n : ℕ) → n < 2 ^ hbits w128 → SFits w128 (negative n)
+fits zero h = record { sfits = h }
+fits (suc n) h = record { sfits = omega (arith, h) }
+
+-- a number of 64 bits is held by 128 bits behind a minus sign too
+pub turned : (n : ℕ) (z : ℤ) → n < 2 ^ hbits w128 → z ≡ pos n
+    → to_z w128 (of_z w128 (pos 0 -ℤ z)) ≡ negative n
+turned n z h is =
+    to_z-of_z w128 _ (subst (SFits w128) (sym same) (fits n h)) ∙ same
+  where
+    same : pos 0 -ℤ z ≡ negative n
+    same = ap (λ (y : ℤ). pos 0 -ℤ y) is ∙ minus n
+
+pub short_negative : (w bytes : List ℕ) (n : ℕ) (z : ℤ) → bytes ≡ w → digits_of bytes ≡ Some n
+    → z ≡ negative n → option_map negative (digits_of w) ≡ Some z
+short_negative w bytes n z same said is =
+    ap (λ (bs : List ℕ). option_map negative (digits_of bs)) (sym same)
+    ∙ ap (option_map negative) said ∙ ap Some (sym is)
