@@ -186,8 +186,10 @@ impl<'a, R: Read> Rows<'a, R> {
     pub fn add_to(&mut self, batch: &mut Batch, places: &[usize]) -> Result<(), AllocError> {
         for place in places {
             let is_null = self.is_null(*place)?;
-            let field = self.record.get(*place).unwrap_or(&[]);
-            batch.push_field(field, is_null)?;
+            match self.record.get(*place) {
+                Some(field) => batch.push_field(field, is_null)?,
+                None => batch.push_field(&[], is_null)?,
+            }
         }
         batch.end_row(self.span)
     }
