@@ -76,6 +76,7 @@ impl Batch {
 
     /// Adds a field to the row that comes next. Refused only for want of memory, and then no row is
     /// left.
+    #[inline(always)]
     #[tactic(auto, using(crate::proofs::Marking::marked_more))]
     pub fn push_field(&mut self, field: &[u8], is_null: bool) -> Result<(), AllocError>
         ensures fields { OnOk result (self.new.fields ≡ self.old.fields

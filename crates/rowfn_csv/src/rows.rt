@@ -53,6 +53,7 @@ fn without_mark(bytes: &[u8]) -> &[u8] {
 }
 
 /// Whether a field is that text.
+#[inline(always)]
 fn is_text(field: &[u8], text: &[u8]) -> bool {
     field.len() == text.len() && field == text
 }
@@ -161,6 +162,7 @@ impl<'a, R: Read> Rows<'a, R> {
     }
 
     /// Whether a field of the last record stands in quotes.
+    #[inline(never)]
     fn is_quoted(&mut self, index: usize) -> Result<bool, AllocError> {
         if !self.is_marked {
             self.mark()?;
@@ -169,6 +171,7 @@ impl<'a, R: Read> Rows<'a, R> {
     }
 
     /// Whether a field of the last record is the text that stands for null.
+    #[inline(always)]
     fn reads_null(&self, index: usize) -> bool {
         match self.record.get(index) {
             Some(field) => is_text(field, self.format.null),
@@ -177,6 +180,7 @@ impl<'a, R: Read> Rows<'a, R> {
     }
 
     /// Whether a field of the last record says null: the text that stands for null, in no quotes.
+    #[inline(always)]
     fn is_null(&mut self, index: usize) -> Result<bool, AllocError> {
         Ok(self.reads_null(index) && !self.is_quoted(index)?)
     }
