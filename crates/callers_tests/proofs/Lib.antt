@@ -2,3 +2,4 @@ pub mod Faults
 pub mod Firsts
 pub mod Grown
 pub mod Halving
+pub mod NullRows

@@ -1,6 +1,7 @@
 //! A run that only its limit ends.
 
 use crate::grow::Grow;
+use crate::questions::{rewrites_to, runs_to};
 use fixtures::yes;
 use std::alloc::Global;
 use tree_fixtures::makers::*;
@@ -31,4 +32,17 @@ fn grows_by_ten(alloc: Global, rows: &[Option<bool>]) -> VortexResult<bool> {
 #[test]
 fn a_run_without_end_stops_at_its_limit(rt: HostRuntime) {
     assert!(rt; yes(grows_by_ten(rt.alloc(), &[Some(true), Some(false), None])));
+}
+
+/// True, false, null.
+const ROWS: [Option<bool>; 3] = [Some(true), Some(false), None];
+
+#[test]
+fn a_run_answers_wherever_its_limit_stops_it(rt: HostRuntime) {
+    let alloc = rt.alloc();
+    let once = "test.grow(vortex.not(vortex.not($.a)))";
+    assert!(rt; yes(rewrites_to(alloc, growing(alloc), 0, (0, false), "test.grow($.a)")));
+    assert!(rt; yes(rewrites_to(alloc, growing(alloc), 1, (1, false), once)));
+    assert!(rt; yes(runs_to(alloc, growing(alloc), twice(alloc, &ROWS), 0, &ROWS)));
+    assert!(rt; yes(runs_to(alloc, growing(alloc), twice(alloc, &ROWS), 100, &ROWS)));
 }

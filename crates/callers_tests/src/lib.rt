@@ -1,6 +1,9 @@
 //! Callers' functions, and tests of them: in trees, beside rules, and with faults and options of their own.
 #![tactic(auto)]
 
+pub mod blank;
+#[cfg(test)]
+mod blanks;
 #[cfg(test)]
 mod callers_rules;
 #[cfg(test)]
@@ -14,3 +17,5 @@ pub mod half;
 mod halves;
 pub mod levelled;
 pub mod must_be_true;
+#[cfg(test)]
+mod questions;

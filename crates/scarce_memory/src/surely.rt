@@ -1,5 +1,6 @@
-//! Calls that take no memory though they are handed an allocator, or can refuse: what is handed in is made first, and then the
-//! call itself may not be out of memory. Calls without either say so by their type, and are not tried.
+//! Calls that take no memory though they are handed an allocator, or can refuse: what is handed in
+//! is made first, and then the call itself may not be out of memory. Calls without either say so by
+//! their type, and are not tried.
 
 use crate::seen::Tally;
 use crate::trees::CLOSED;
@@ -165,7 +166,8 @@ fn ask_types(alloc: Global, tally: &mut Tally) {
     tally.note(call, returns(alloc, function, two_utf8s(alloc), YES));
 }
 
-/// `BitBuffer::new` is the last call of all: `tools/scarce_memory --wrong` refuses the last allocation.
+/// `BitBuffer::new` is the last call of all: `tools/scarce_memory --wrong` refuses the last
+/// allocation.
 pub fn ask(alloc: Global, tally: &mut Tally) {
     let column = bools(alloc, &[true, false]);
     let leaf_alone = leaf_of::<NoCustom>(alloc, DType::Bool(NO));

@@ -27,7 +27,8 @@ vortex.not(((is_not_null($.a) and is_not_null($.b)) and is_not_null($.c)))
 bool: false true
 ";
 
-/// Whether the script is read to its end and prints its lines. Where memory runs out, what is printed is a beginning of them.
+/// Whether the script is read to its end and prints its lines. Where memory runs out, what is
+/// printed is a beginning of them.
 fn prints(alloc: Global) -> VortexResult<bool> {
     let outcome = interpret(alloc, SCRIPT.as_bytes());
     if !PRINTED.as_bytes().starts_with(&outcome.out) {

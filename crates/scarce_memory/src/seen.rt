@@ -18,7 +18,8 @@ impl Tally {
         }
     }
 
-    /// Notes a call by whether it answers as it should: that it does, or that it is out of memory. All else is wrong.
+    /// Notes a call by whether it answers as it should: that it does, or that it is out of memory.
+    /// All else is wrong.
     pub fn note(&mut self, call: &'static str, answer: VortexResult<bool>) {
         match answer {
             Ok(true) => {}

@@ -20,7 +20,8 @@ fn matches(
     Ok(pattern.matches(matching.as_bytes()) && !pattern.matches(other.as_bytes()))
 }
 
-/// Whether the simple shape of a pattern is that it begins with that text, which has a form of its own.
+/// Whether the simple shape of a pattern is that it begins with that text, which has a form of its
+/// own.
 fn begins_with(alloc: Global, pattern: &str, wanted: &str) -> VortexResult<bool> {
     match LikeVariant::from_str(alloc, pattern)? {
         Some(LikeVariant::Prefix(CowStr::Owned(text))) => Ok(text.as_str() == wanted),

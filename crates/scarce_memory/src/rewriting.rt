@@ -21,7 +21,8 @@ const SPLIT: &str = "vortex.not(((is_not_null($.a) and is_not_null($.b)) and is_
 /// True, false, true.
 const ROWS: [Option<bool>; 3] = [Some(true), Some(false), Some(true)];
 
-/// Whether a run answers this column over those of a table, and neither tree nor columns are changed.
+/// Whether a run answers this column over those of a table, and neither tree nor columns are
+/// changed.
 fn runs<C: ScalarFnRules>(alloc: Global, tree: Tree<C>, wanted: Made) -> VortexResult<bool> {
     let (tree, wanted, table) = (tree?, wanted?, two_rows(alloc)?);
     let mut ctx = ExecutionCtx::new(alloc);
@@ -95,9 +96,11 @@ fn is_child<C: ScalarFnRules>(
     stands_for(alloc, &child, "$.a")
 }
 
-/// The same of a node with a tree of its own, which stays.
-fn has_child<C: ScalarFnRules>(alloc: Global, tree: Tree<C>) -> VortexResult<bool> {
-    let node = ExpressionReduceNode::new(Cow::Owned(Box::into_inner(tree?)));
+/// The same of a node with a tree of its own, which stays. What a caller's function lends outlives
+/// the node.
+fn has_child<'a, C: ScalarFnRules + 'a>(alloc: Global, tree: Tree<C>) -> VortexResult<bool> {
+    let tree = Box::into_inner(tree?);
+    let node: ExpressionReduceNode<'a, C> = ExpressionReduceNode::new(Cow::Owned(tree));
     let answer = is_child(alloc, &node);
     unless_changed(stands_for(alloc, &node, TURNED), answer)
 }
