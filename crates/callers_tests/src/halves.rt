@@ -53,36 +53,11 @@ fn two_faults(alloc: Global) -> Made {
     nullable_ints(alloc, &[Some(4), Some(3), None, Some(5)])
 }
 
-/// One row of a column, alone.
-fn alone(alloc: Global, rows: &Column, row: u32) -> Made {
-    kept(alloc, rows.take(&[row], &mut ExecutionCtx::new(alloc)))
-}
-
-/// The first of a column's rows that faults where it stands alone, among so many.
-fn first_fault(alloc: Global, rows: Made, row_count: u32) -> VortexResult<Option<u32>> {
-    let rows = rows?;
-    for row in 0..row_count {
-        if rows.len() <= row as usize {
-            return Ok(None);
-        }
-        if is_fault(halved(alloc, alone(alloc, &*rows, row), 1), 1) {
-            return Ok(Some(row));
-        }
-    }
-    Ok(None)
-}
-
-/// Whether the first row that faults is this one.
-fn faults_first(alloc: Global, rows: Made, wanted: u32) -> VortexResult<bool> {
-    Ok(first_fault(alloc, rows, 4)? == Some(wanted))
-}
-
 #[test]
-fn the_first_of_several_faults_is_found(rt: HostRuntime) {
+fn several_rows_fault(rt: HostRuntime) {
     let alloc = rt.alloc();
     assert!(rt; is_fault(halved(alloc, two_faults(alloc), 4), 1));
     assert!(rt; is_refused(halved(alloc, two_faults(alloc), 4), "Custom"));
-    assert!(rt; yes(faults_first(alloc, two_faults(alloc), 1)));
 }
 
 #[test]
