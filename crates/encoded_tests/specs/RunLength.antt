@@ -9,7 +9,7 @@ use Rattle.vortex_types.specs.Values.{Value, truth, is_null}
 use Rattle.vortex_columns.specs.ColumnView.{ColumnView, row, constant_column}
 use Rattle.vortex_columns.specs.ValidityView.{ValidityView, array}
 use Rattle.vortex_kernels.specs.Rows.{HasRows}
-use Rattle.vortex_kernels.specs.Validity.{IsValidity}
+use Rattle.vortex_columns.specs.ValidRows.{IsValidity}
 
 -- how many runs begin at the row or before it, the first, which begins at row 0, not counted
 abbrev pub run_at : List ℕ → ℕ → ℕ

@@ -1,6 +1,7 @@
 -- Bits that begin within a byte: a word that is shifted down, and the next bytes above.
 use Rattle.std.proofs.Common.{◌≡◌, ◌⊎◌, inl, inr, ℕ, ◌+◌, ◌-◌, ◌*◌, ◌/◌, ◌%◌, ◌^◌, ◌<◌, ◌≤◌, List}
-use Rattle.std.proofs.Common.{Bool, true, false, nat_eq, refl, sym, ap, ◌∙◌, arith, bit_or}
+use Rattle.std.proofs.Common.{[], ◌∷◌, zero, suc, length, slice_index, Bool, true, false, nat_eq, refl}
+use Rattle.std.proofs.Common.{sym, ap, ◌∙◌, arith, bit_or}
 use Rattle.std.specs.Prelude.{◌||◌}
 use Rattle.std.proofs.lemmas.Nat.{shr-shr}
 use Rattle.std.proofs.lemmas.Nat.Bits.{bit_at_cat_low, bit_at_cat_high, bit_at_above, bit_at-zero}
@@ -95,3 +96,33 @@ module _ (bytes : List ℕ) (at shift low high : ℕ) (small : shift < 8)
           (bit (high * 2 ^ (8 - shift) % 18446744073709551616) j)
           (bit_of bytes (8 * at + (shift + j)))
           (below j (cases (shift + j) 64)) (above j lt part)
+
+-- bytes behind the last are zero
+pub bit_of_past : (bytes : List ℕ) (p : ℕ) → length bytes ≤ p / 8 → bit_of bytes p ≡ false
+bit_of_past bytes p past =
+    ap (λ n. bit n (p % 8)) (none bytes (p / 8) past) ∙ ap (λ n. nat_eq n 1) (bit_at-zero (p % 8))
+  where
+    none : (xs : List ℕ) (k : ℕ) → length xs ≤ k → slice_index xs k ≡ 0
+    none [] k h = refl
+    none (x ∷ xs) zero h = absurd (omega arith)
+    none (x ∷ xs) (suc k) h = none xs k (omega arith)
+
+-- the last eight bytes, shifted down to byte `at`
+pub last_bytes : (bytes : List ℕ) (at len word : ℕ) → length bytes ≡ len → at < len → len - at < 8
+    → 8 ≤ len → word < 18446744073709551616
+    → ((j : ℕ) → j < 64 → bit word j ≡ bit_of bytes (8 * (len - 8) + j)) → (j : ℕ) → j < 64
+    → bit (word / 2 ^ (8 * (8 - (len - at)))) j ≡ bit_of bytes (8 * at + j)
+last_bytes bytes at len word count inside few some fits bits j lt =
+    down_bit word (8 * (8 - (len - at))) j ∙ by (cases (8 * (8 - (len - at)) + j) 64)
+  where
+    cases : (m n : ℕ) → (m < n) ⊎ (n ≤ m)
+    cases m n = grind arith
+
+    by : (8 * (8 - (len - at)) + j < 64) ⊎ (64 ≤ 8 * (8 - (len - at)) + j)
+        → bit word (8 * (8 - (len - at)) + j) ≡ bit_of bytes (8 * at + j)
+    by (inl low) =
+        let place : 8 * (len - 8) + (8 * (8 - (len - at)) + j) ≡ 8 * at + j = omega arith in
+        bits (8 * (8 - (len - at)) + j) low ∙ ap (bit_of bytes) place
+    by (inr past) =
+        ap (λ n. nat_eq n 1) (bit_at_above word 64 (8 * (8 - (len - at)) + j) fits past)
+        ∙ sym (bit_of_past bytes (8 * at + j) (omega (arith, count)))

@@ -4,6 +4,8 @@ ghost use Rattle.std.specs.Int.{to_le_bytes, w64};
 ghost use Rattle.std.specs.Vec.{vec_len, vec_capacity};
 ghost use Rattle.vortex_bits.specs.Bits.{bit, bit_of, is_set};
 
+use std::simd::prelude::*;
+
 /// The bytes from byte `at` on.
 pub(crate) fn bytes_from(bytes: &[u8], at: usize) -> &[u8]
     requires { at ≤ length bytes.now }
@@ -29,20 +31,35 @@ pub(crate) fn word_at(bytes: &[u8], at: usize) -> u64
     ])
 }
 
+/// The same of fewer than eight bytes, from a place on; what is not there counts as zero.
+fn short_word(bytes: &[u8], at: usize) -> u64
+    requires place { at < length bytes.now }
+    requires few { length bytes.now < 8 }
+    ensures { (j : ℕ) → j < 64 → bit result j ≡ bit_of bytes.now (8 * at + j) }
+{
+    let mut part = [0u8; 8];
+    for i in 0..bytes.len() - at {
+        part[i] = bytes[at + i];
+    }
+    word_at(&part, 0)
+}
+
 /// Up to eight bytes from byte `at` on, as many as there are; the others count as zero.
 pub(crate) fn last_word(bytes: &[u8], at: usize) -> u64
     ensures { (j : ℕ) → j < 64 → bit result j ≡ bit_of bytes.now (8 * at + j) }
 {
-    if at < bytes.len() && bytes.len() - at >= 8 {
+    let len = bytes.len();
+    if at >= len {
+        return 0;
+    }
+    if len - at >= 8 {
         return word_at(bytes, at);
     }
-    let mut part = [0u8; 8];
-    for i in 0..8 {
-        if at < bytes.len() && i < bytes.len() - at {
-            part[i] = bytes[at + i];
-        }
+    if len < 8 {
+        return short_word(bytes, at);
     }
-    word_at(&part, 0)
+    // the last eight bytes at once, of which those before `at` are shifted out
+    word_at(bytes, len - 8) >> (8 * (8 - (len - at)))
 }
 
 /// The same bit at each place.
@@ -82,29 +99,12 @@ pub(crate) fn push_word(bytes: &mut Vec<u8>, word: u64)
     bytes.push_reserved(b7);
 }
 
-/// Eight bytes from byte `at` on, each 0 or 1, as the bits of one: a product gathers them in its highest byte.
-fn pack_byte(told: &[u8], at: usize) -> u8
-    requires room { at + 8 ≤ length told.now }
-    requires told { (i : ℕ) → slice_index told.now i < 2 }
-    ensures { (j : ℕ) → j < 8 → bit result j ≡ is_set (slice_index told.now (at + j)) }
-{
-    (word_at(told, at).wrapping_mul(0x0102_0408_1020_4080) >> 56) as u8
-}
-
-/// 64 bytes, each 0 or 1, as the bits of a word.
+/// Which of 64 bytes are 1, as the bits of a word: a vector's compare and its mask, as the processor has them.
 pub(crate) fn pack_word(told: &[u8]) -> u64
-    requires room { length told.now ≡ 64 }
-    requires told { (i : ℕ) → slice_index told.now i < 2 }
+    requires { length told.now ≡ 64 }
     ensures { (j : ℕ) → j < 64 → bit result j ≡ is_set (slice_index told.now j) }
 {
-    u64::from_le_bytes([
-        pack_byte(told, 0),
-        pack_byte(told, 8),
-        pack_byte(told, 16),
-        pack_byte(told, 24),
-        pack_byte(told, 32),
-        pack_byte(told, 40),
-        pack_byte(told, 48),
-        pack_byte(told, 56),
-    ])
+    u8x64::from_slice(told)
+        .simd_eq(u8x64::splat(1))
+        .to_bitmask()
 }

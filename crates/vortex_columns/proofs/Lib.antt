@@ -7,3 +7,4 @@ pub mod Parts
 pub mod OptionRows
 pub mod ElementPlaces
 pub mod TakenRows
+pub mod JointRows

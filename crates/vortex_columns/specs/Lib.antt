@@ -1,4 +1,5 @@
 pub mod ValidityView
+pub mod ValidRows
 pub mod ColumnView
 pub mod Cells
 pub mod Scalars

@@ -6,11 +6,13 @@ pub mod column;
 mod lists;
 pub mod scalar;
 pub mod typing;
+pub mod valid_rows;
 pub mod validity;
 
 pub use cell::{Cell, Sequence, cell_of};
 pub use column::Column;
 pub use scalar::Scalar;
+pub use valid_rows::{ValidRows, both_valid};
 pub use validity::Validity;
 pub use vortex_bits::{BitBuffer, BitView, bits};
 pub use vortex_types::{

@@ -22,7 +22,7 @@ use Rattle.vortex_kernels.specs.Comparison.{AreComparisons}
 use Rattle.vortex_kernels.specs.Between.{AreCompared, HasBetweenRows}
 use Rattle.vortex_kernels.specs.Kleene.{AnswersKleene, RefusesOperator}
 use Rattle.vortex_kernels.specs.Truths.{present, truth_at}
-use Rattle.vortex_kernels.specs.Validity.{IsJointValidity}
+use Rattle.vortex_columns.specs.ValidRows.{IsJointValidity}
 
 -- the comparison of two values, as a bit beside whether both are there
 compared_at : (op : CompareOperator) (v w : Value) (b : Bool)

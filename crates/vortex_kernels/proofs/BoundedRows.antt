@@ -26,7 +26,7 @@ use Rattle.vortex_operators.specs.OperatorValues.{holds, comparison_value, boole
 use Rattle.vortex_kernels.specs.Between.{HasBetweenRows, AreBeside, AreBounded, HasNoNull, any_nullable, between_scalar}
 use Rattle.vortex_kernels.specs.Comparison.{IsOrderAt}
 use Rattle.vortex_kernels.specs.Rows.{HasRows}
-use Rattle.vortex_kernels.specs.Validity.{IsValidityIn}
+use Rattle.vortex_columns.specs.ValidRows.{IsValidityIn}
 use Rattle.vortex_kernels.proofs.BetweenRows.{turned}
 use Rattle.vortex_kernels.proofs.Comparing.{constant_row, constant_has_rows}
 use Rattle.vortex_kernels.proofs.KleeneBits.{both_some}

@@ -32,8 +32,8 @@ use Rattle.vortex_checked.specs.Exact.{is_outside}
 use Rattle.vortex_operators.specs.Arithmetic.{held, arithmetic_value}
 use Rattle.vortex_operators.specs.Arithmetic.{integer_of_both}
 use Rattle.vortex_kernels.specs.ArithmeticIntegers.{FitsResult, AnswersExact}
-use Rattle.vortex_kernels.specs.Rows.{either_nullable}
-use Rattle.vortex_kernels.specs.Validity.{IsJointValidity}
+use Rattle.vortex_columns.specs.ValidRows.{either_nullable}
+use Rattle.vortex_columns.specs.ValidRows.{IsJointValidity}
 use Rattle.vortex_kernels.specs.Numeric.{HasNumericRows, AnswersNumeric}
 use Rattle.vortex_kernels.specs.Numeric.{RefusesNumeric, faulty, IsExactOf}
 use Rattle.vortex_kernels.specs.Numeric.{row_results, AreResults, TellsFaults}

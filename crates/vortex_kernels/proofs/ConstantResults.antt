@@ -19,7 +19,7 @@ use Rattle.vortex_columns.specs.ColumnView.{ColumnView, row, constant_column}
 use Rattle.vortex_operators.specs.Arithmetic.{held, arithmetic_value, integer_of_both}
 use Rattle.vortex_kernels.specs.ArithmeticIntegers.{FitsResult, AnswersExact}
 use Rattle.vortex_kernels.specs.Comparison.{IsConstantOf}
-use Rattle.vortex_kernels.specs.Rows.{either_nullable}
+use Rattle.vortex_columns.specs.ValidRows.{either_nullable}
 use Rattle.vortex_kernels.specs.Numeric.{AnswersNumeric, RefusesNumeric, faulty, IsExactOf}
 use Rattle.vortex_kernels.proofs.Calculating.{held_result, held_none}
 use Rattle.vortex_kernels.proofs.Comparing.{constant_has_rows}

@@ -17,7 +17,7 @@ use Rattle.vortex_types.specs.Values.{is_null}
 use Rattle.vortex_columns.specs.ColumnView.{ColumnView, row}
 use Rattle.vortex_columns.specs.ValidityView.{ValidityView, is_valid_row}
 use Rattle.vortex_kernels.specs.ArithmeticIntegers.{FitsResult}
-use Rattle.vortex_kernels.specs.Validity.{IsJointValidity}
+use Rattle.vortex_columns.specs.ValidRows.{IsJointValidity}
 use Rattle.vortex_kernels.specs.Numeric.{IsValidPair}
 use Rattle.vortex_kernels.specs.Faults.{is_faulty, IsOfBoth, FindsBoth, FindsFault}
 use Rattle.vortex_kernels.proofs.Calculating.{within_not, inside_is}

@@ -22,7 +22,7 @@ use Rattle.vortex_columns.specs.Stored.{bool_column}
 use Rattle.vortex_kernels.specs.Rows.{HasRows}
 use Rattle.vortex_bits.specs.Rows.{AreRows}
 use Rattle.vortex_operators.specs.OperatorValues.{not_value}
-use Rattle.vortex_kernels.specs.Validity.{IsValidity}
+use Rattle.vortex_columns.specs.ValidRows.{IsValidity}
 use Rattle.vortex_kernels.specs.Truths.{IsValueOf}
 
 module _ {A : Type 0} (other : A) where

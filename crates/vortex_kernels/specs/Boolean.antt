@@ -11,8 +11,9 @@ use Rattle.vortex_operators.specs.OperatorValues.{boolean_value, not_value}
 use Rattle.vortex_operators.specs.Kleene.{kleene}
 use Rattle.vortex_types.specs.Values.{truth_of}
 use Rattle.vortex_columns.specs.ValidityView.{ValidityView}
-use Rattle.vortex_kernels.specs.Rows.{HasRows, either_nullable}
-use Rattle.vortex_kernels.specs.Validity.{IsValidity}
+use Rattle.vortex_kernels.specs.Rows.{HasRows}
+use Rattle.vortex_columns.specs.ValidRows.{either_nullable}
+use Rattle.vortex_columns.specs.ValidRows.{IsValidity}
 
 abbrev pub are_bools : ColumnView → ColumnView → Bool
 are_bools l r = is_bool_type l.dtype && is_bool_type r.dtype

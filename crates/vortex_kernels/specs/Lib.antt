@@ -1,5 +1,4 @@
 pub mod Rows
-pub mod Validity
 pub mod Truths
 pub mod Kleene
 pub mod Boolean

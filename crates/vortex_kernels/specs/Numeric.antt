@@ -15,7 +15,7 @@ use Rattle.vortex_columns.specs.ColumnView.{ColumnView, row, IsUnlessNull}
 use Rattle.vortex_operators.specs.Arithmetic.{arithmetic_value, integer_of_both, exact_result}
 use Rattle.vortex_kernels.specs.ArithmeticIntegers.{FitsResult, AnswersExact}
 use Rattle.vortex_kernels.specs.Comparison.{IsConstantOf}
-use Rattle.vortex_kernels.specs.Rows.{either_nullable}
+use Rattle.vortex_columns.specs.ValidRows.{either_nullable}
 
 -- the value in row i, and none where it faults
 abbrev pub numeric_row : NumericOperator → PType → ColumnView → ColumnView → ℕ → Option Value

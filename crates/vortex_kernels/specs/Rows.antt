@@ -1,6 +1,6 @@
 -- A column that is known by its type and its rows.
-use Rattle.std.specs.Prelude.{◌≡◌, ◌||◌, ℕ, ◌<◌, length, Bool}
-use Rattle.vortex_types.specs.LogicalTypes.{LogicalType, is_nullable}
+use Rattle.std.specs.Prelude.{◌≡◌, ℕ, ◌<◌, length}
+use Rattle.vortex_types.specs.LogicalTypes.{LogicalType}
 use Rattle.vortex_types.specs.ScalarView.{ScalarView}
 use Rattle.vortex_types.specs.Values.{Value}
 use Rattle.vortex_columns.specs.ColumnView.{ColumnView, row}
@@ -14,7 +14,3 @@ pub record HasRows (t : LogicalType) (n : ℕ) (f : ℕ → Value) (c : ColumnVi
 -- one scalar in each of n rows
 abbrev pub HasScalarRows : ScalarView → ℕ → ColumnView → Type 0
 HasScalarRows s n = HasRows s.dtype n (λ i. s.value)
-
--- whether either side is nullable
-abbrev pub either_nullable : ColumnView → ColumnView → Bool
-either_nullable l r = is_nullable l.dtype || is_nullable r.dtype

@@ -25,13 +25,14 @@ pub use Rattle.vortex_kernels.specs.Numeric.{IsNullColumn, null_of}
 pub use Rattle.vortex_kernels.specs.PairOrders.{byte_order, row_orders, int_orders, int_orders_with}
 pub use Rattle.vortex_kernels.specs.PairOrders.{bit_orders, bit_orders_with, byte_orders}
 pub use Rattle.vortex_kernels.specs.PairOrders.{byte_orders_with}
-pub use Rattle.vortex_kernels.specs.Rows.{HasScalarRows, either_nullable}
+pub use Rattle.vortex_kernels.specs.Rows.{HasScalarRows}
 pub use Rattle.vortex_kernels.specs.Kleene.{HasKleeneRows, value_word, HaveTruths, AnswersKleene}
 pub use Rattle.vortex_kernels.specs.Kleene.{RefusesOperator}
 pub use Rattle.vortex_kernels.specs.Truths.{present, IsValueOf, truth_at, operand_there}
 pub use Rattle.vortex_kernels.specs.Truths.{operand_truth, IsOperandOf, HasTruth, AreTruths}
-pub use Rattle.vortex_kernels.specs.Validity.{valid_view, AreValid, IsValidity, IsValidityOf}
-pub use Rattle.vortex_kernels.specs.Validity.{IsJointValidity, IsAsValid, IsListed, IsValidityIn}
+pub use Rattle.vortex_columns.specs.ValidRows.{valid_view, AreValid, IsValidity, IsValidityOf}
+pub use Rattle.vortex_columns.specs.ValidRows.{IsJointValidity, IsAsValid, IsListed, IsValidityIn}
+pub use Rattle.vortex_columns.specs.ValidRows.{either_nullable}
 pub use Rattle.vortex_operators.specs.Arithmetic.{integer_of_both}
 pub use Rattle.vortex_operators.specs.Between.{bound_operator}
 pub use Rattle.vortex_operators.specs.Kleene.{kleene}

@@ -11,9 +11,12 @@ use crate::bounds::hold_between;
 use crate::comparisons::{IsGreater, IsGreaterOrEqual, IsLess, IsLessOrEqual};
 use crate::operators::Operator;
 use crate::pairs::hold_in_rows;
-use crate::validity::{ValidRows, both_valid, valid_in, valid_rows};
+use crate::validity::valid_in;
 use std::alloc::Global;
-use vortex_columns::{BitBuffer, Column, DType, ExecutionCtx, Nullability, Scalar, VortexResult};
+use vortex_columns::{
+    BitBuffer, Column, DType, ExecutionCtx, Nullability, Scalar, ValidRows, VortexResult,
+    both_valid,
+};
 use vortex_operators::{BetweenOptions, StrictComparison};
 
 /// Whether the left side is below the right one, in each row in which both have a value.
@@ -130,12 +133,12 @@ fn between_full(
 }
 
 /// Whether no row of a column is null, by its validity alone: where there is a list of bits, none of them is read.
-fn is_full(alloc: Global, column: &Column) -> VortexResult<bool>
-    ensures { AnswersUnlessMemory result (λ full. full ≡ true → HasNoNull column.now.rows) }
+fn is_full(column: &Column) -> bool
+    ensures { result ≡ true → HasNoNull column.now.rows }
 {
-    match valid_rows(alloc, column)? {
-        ValidRows::Every => Ok(true),
-        _ => Ok(false),
+    match column.valid_rows() {
+        ValidRows::Every => true,
+        _ => false,
     }
 }
 
@@ -205,7 +208,7 @@ pub fn execute_between(
         let answer = between_scalars(value, low, high, options);
         return Column::constant(ctx.alloc(), answer, array.len());
     }
-    if is_full(ctx.alloc(), lower)? && is_full(ctx.alloc(), upper)? {
+    if is_full(lower) && is_full(upper) {
         return between_full(array, lower, upper, options, ctx);
     }
     between_columns(array, lower, upper, options, ctx)

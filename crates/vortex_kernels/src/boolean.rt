@@ -11,11 +11,11 @@ ghost use Rattle.vortex_kernels.specs.Words.{HasTruth, KeepsConstant};
 use crate::kleene::{KleeneTable, kleene_table};
 use crate::operators::Operator;
 use crate::truths::{Operand, operand_of};
-use crate::validity::{ValidRows, same_valid};
+use crate::validity::same_valid;
 use vortex_bits::{Both, Either, LeftTurned, zip_bits_with};
 use vortex_columns::{
-    BitBuffer, Column, DType, ExecutionCtx, MismatchPlace, Nullability, Scalar, Validity,
-    VortexError, VortexResult,
+    BitBuffer, Column, DType, ExecutionCtx, MismatchPlace, Nullability, Scalar, ValidRows,
+    Validity, VortexError, VortexResult,
 };
 
 /// The table of one operator over two columns.
@@ -29,8 +29,8 @@ fn execute_kleene<K: KleeneTable + Copy>(
     requires lengths { length lhs.now.rows ≡ length rhs.now.rows }
     ensures { AnswersUnlessMemory result (HasBooleanRows K.operator lhs.now rhs.now) }
 {
-    let left = operand_of(ctx.alloc(), lhs)?;
-    let right = operand_of(ctx.alloc(), rhs)?;
+    let left = operand_of(lhs);
+    let right = operand_of(rhs);
     let nullability = lhs.dtype().nullability() | rhs.dtype().nullability();
     kleene_table::<K>(left, right, lhs.len(), nullability, ctx)
 }

@@ -10,9 +10,8 @@ use crate::comparisons::{
 };
 use crate::operators::CompareOperator;
 use crate::pairs::hold_in_rows;
-use crate::validity::both_valid;
 use vortex_columns::{
-    Column, DType, ExecutionCtx, MismatchPlace, Scalar, VortexError, VortexResult,
+    Column, DType, ExecutionCtx, MismatchPlace, Scalar, VortexError, VortexResult, both_valid,
 };
 
 /// The comparison of each row, of columns of equal length.

@@ -8,11 +8,10 @@ ghost use Rattle.vortex_kernels.specs.Faults.{FindsBoth, FindsFault};
 use crate::arithmetic_integer::{ArithmeticInteger, apply_checked};
 use crate::numbers::Numbers;
 use crate::row_operation::RowOperation;
-use crate::validity::ValidRows;
 use std::alloc::Global;
 use std::marker::PhantomData;
 use vortex_bits::{BitView, RowBits, collect_rows};
-use vortex_columns::{BitBuffer, Column, Validity, VortexResult};
+use vortex_columns::{BitBuffer, Column, ValidRows, Validity, VortexResult};
 
 /// Whether each row faults, be it under a null.
 #[derive(Drop)]

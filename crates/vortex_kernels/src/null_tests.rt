@@ -3,11 +3,10 @@ ghost use Rattle.std.specs.Prelude.{length, slice_index_or, false, IsSome};
 ghost use Rattle.vortex_kernels.specs.Words.{AnswersUnlessMemory, HasTruths, HasNullTests};
 ghost use Rattle.vortex_kernels.specs.Words.{HasNotNullTests, IsConstantUnlessListed};
 
-use crate::validity::{ValidRows, valid_rows};
 use std::alloc::Global;
 use vortex_bits::{LeftTurned, zip_bits_with};
 use vortex_columns::{
-    BitBuffer, Column, ExecutionCtx, Nullability, Scalar, Validity, VortexResult,
+    BitBuffer, Column, ExecutionCtx, Nullability, Scalar, ValidRows, Validity, VortexResult,
 };
 
 /// One truth value in each of so many rows: a constant.
@@ -33,7 +32,7 @@ pub fn execute_is_null(input: &Column, ctx: &mut ExecutionCtx) -> VortexResult<C
     ensures constant { AnswersUnlessMemory result (IsConstantUnlessListed input.now) }
 {
     let alloc = ctx.alloc();
-    match valid_rows(alloc, input)? {
+    match input.valid_rows() {
         ValidRows::Every => one_truth(alloc, false, input.len()),
         ValidRows::No => one_truth(alloc, true, input.len()),
         ValidRows::Listed(valid) => {
@@ -49,7 +48,7 @@ pub fn execute_is_not_null(input: &Column, ctx: &mut ExecutionCtx) -> VortexResu
     ensures constant { AnswersUnlessMemory result (IsConstantUnlessListed input.now) }
 {
     let alloc = ctx.alloc();
-    match valid_rows(alloc, input)? {
+    match input.valid_rows() {
         ValidRows::Every => one_truth(alloc, true, input.len()),
         ValidRows::No => one_truth(alloc, false, input.len()),
         ValidRows::Listed(valid) => listed_truths(alloc, valid.try_clone(alloc)?),

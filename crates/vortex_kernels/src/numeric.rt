@@ -15,12 +15,11 @@ use crate::integer_types::with_integer;
 use crate::numbers::{ListedNumbers, Numbers, OneNumber};
 use crate::pairs::constant_int;
 use crate::row_operation::{RowOperation, WideMul};
-use crate::validity::both_valid;
 use std::alloc::Global;
 use vortex_checked::{CheckedAdd, CheckedDiv, CheckedMul, CheckedSub};
 use vortex_columns::{
     Column, DType, ExecutionCtx, MismatchPlace, Nullability, NumericOperator, PType, Scalar,
-    ScalarValue, VortexError, VortexResult,
+    ScalarValue, VortexError, VortexResult, both_valid,
 };
 
 /// The value of each row, also where it lies under a null, and evidence that is joined over all rows.

@@ -1,14 +1,12 @@
 //! The truth values of one side of And or Or, in the forms in which they are read by words.
 ghost use Rattle.std.specs.Prelude.{◌≡◌, ◌<◌, ℕ, Bool, true, false, length, is_some};
-ghost use Rattle.vortex_kernels.specs.Words.{AnswersUnlessMemory, is_bool_type, FitsRows, valid_view};
+ghost use Rattle.vortex_kernels.specs.Words.{is_bool_type, FitsRows, valid_view};
 ghost use Rattle.vortex_kernels.specs.Words.{row, truth_of, present, truth_at, operand_truth};
 ghost use Rattle.vortex_kernels.specs.Words.{IsOperandOf, AreTruths};
 
 use crate::pairs::constant_bool;
-use crate::validity::{ValidRows, valid_rows};
-use std::alloc::Global;
 use vortex_bits::{AlignedBits, ShiftedBits};
-use vortex_columns::{BitBuffer, Column, VortexResult};
+use vortex_columns::{BitBuffer, Column, ValidRows};
 
 /// The truth values of one side. Bits that lie under a null say nothing.
 #[derive(Clone, Copy)]
@@ -69,13 +67,12 @@ impl<'a> Operand<'a> {
 }
 
 /// The form in which a column of Bool lends its truth values. Takes no memory.
-pub(crate) fn operand_of(alloc: Global, column: &Column) -> VortexResult<Operand<'_>>
+pub(crate) fn operand_of(column: &Column) -> Operand<'_>
     requires { is_bool_type column.now.dtype ≡ true }
-    ensures { AnswersUnlessMemory result
-        (IsOperandOf (length column.now.rows) (λ i. truth_of (row column.now.rows i))) }
+    ensures { IsOperandOf (length column.now.rows) (λ i. truth_of (row column.now.rows i)) result }
 {
     match column.bits() {
-        Some(bits) => Ok(Operand::of_bits(bits, valid_rows(alloc, column)?)),
-        None => Ok(Operand::one(constant_bool(column))),
+        Some(bits) => Operand::of_bits(bits, column.valid_rows()),
+        None => Operand::one(constant_bool(column)),
     }
 }

@@ -18,9 +18,9 @@ use Rattle.vortex_columns.specs.ValidityView.{ValidityView, is_valid_row, FitsRo
 use Rattle.vortex_columns.specs.ValidityView.{non_nullable}
 use Rattle.vortex_types.specs.Values.{Value, null, truth, number, text, bytes, list, is_null}
 use Rattle.vortex_errors.proofs.Answering.{answers_where, AnswersUnlessMemory-weaker}
-use Rattle.vortex_types.proofs.NullValues.{not_null}
 use Rattle.vortex_columns.specs.ColumnView.{ColumnView, row, AreTyped, constant_column}
 use Rattle.vortex_columns.specs.Stored.{bool_column}
+use Rattle.vortex_columns.specs.ValidRows.{IsJointValidity, either_nullable}
 use Rattle.vortex_columns.specs.Cells.{cell_value}
 use Rattle.vortex_columns.specs.declared.cell.Cell.{Cell}
 use Rattle.vortex_columns.specs.declared.cell.Cell.TheVariants.{Null, Bool as BoolCell, Int, Text}
@@ -28,8 +28,8 @@ use Rattle.vortex_columns.specs.declared.cell.Cell.TheVariants.{Bytes, Sequence}
 use denote.Bor.{Bor}
 use Rattle.vortex_like.specs.declared.options.LikeOptions.{LikeOptions}
 use Rattle.vortex_like.specs.Patterns.{like, like_value}
-use Rattle.vortex_like.specs.Rows.{AreTold, IsLikeBit, AreLikeBits, IsJointValidity, HasLikeRows}
-use Rattle.vortex_like.specs.Rows.{IsConstantOf, either_nullable}
+use Rattle.vortex_like.specs.Rows.{AreTold, IsLikeBit, AreLikeBits, HasLikeRows}
+use Rattle.vortex_like.specs.Rows.{IsConstantOf}
 
 module _ {A : Type 0} (other : A) where
   get_or-last : (xs : List A) (x : A) → get_or (xs ++ x ∷ []) (length xs) other ≡ x
@@ -108,8 +108,8 @@ bit_value options (list x) w b hv hw h = absurd hv
 like_column : (options : LikeOptions) (l r : ColumnView) (bits : List Bool) (v : ValidityView)
     (c : ColumnView) → ((i : ℕ) → i < length l.rows → IsNullOrText (row l.rows i))
     → ((i : ℕ) → i < length l.rows → IsNullOrText (row r.rows i))
-    → AreLikeBits options l r bits → IsJointValidity l r v → c ≡ bool_column bits v
-    → HasLikeRows options l r c
+    → AreLikeBits options l r bits → IsJointValidity (either_nullable l r) l r v
+    → c ≡ bool_column bits v → HasLikeRows options l r c
 like_column options l r bits v c left right told valid e = record {
   dtype = ap (λ (d : ColumnView). d.dtype) e ∙ ap bool_type valid.nullability;
   count =
@@ -131,7 +131,7 @@ pub like_answers : (options : LikeOptions) (l r : ColumnView) (bits : List Bool)
     (result : Result ColumnView VortexError)
     → ((i : ℕ) → i < length l.rows → IsNullOrText (row l.rows i))
     → ((i : ℕ) → i < length l.rows → IsNullOrText (row r.rows i))
-    → AreLikeBits options l r bits → IsJointValidity l r v
+    → AreLikeBits options l r bits → IsJointValidity (either_nullable l r) l r v
     → AnswersWhere result (FitsRows v (length bits)) (λ c. c ≡ bool_column bits v) InvalidColumn
     → AnswersUnlessMemory result (HasLikeRows options l r)
 like_answers options l r bits v result left right told valid answered =
@@ -147,31 +147,6 @@ pub constant_row : (s : ScalarView) (c : ColumnView) → c ≡ constant_column s
 constant_row s c e i h =
     ap (λ (d : ColumnView). row d.rows i) e
     ∙ get_or-map-range_with_len (λ k. s.value) 0 (length c.rows) i i null h (omega arith)
-
--- where neither type has null each row is valid
-pub valid_everywhere : (l r : ColumnView) → length l.rows ≡ length r.rows
-    → AreTyped l.dtype l.rows → AreTyped r.dtype r.rows → either_nullable l r ≡ false
-    → IsJointValidity l r (record { form = non_nullable; bits = [] })
-valid_everywhere l r lengths left right e = record {
-  nullability = sym e;
-  fits = tt;
-  each = λ i lt.
-      let other : i < length r.rows = omega arith in
-      sym
-      (ap (λ (b : Bool). not (b || is_null (row r.rows i)))
-      (not_null l.dtype (row l.rows i) (All-get_or (HasType l.dtype) l.rows i null lt left)
-      (neither.0))
-      ∙ ap not
-      (not_null r.dtype (row r.rows i) (All-get_or (HasType r.dtype) r.rows i null other right)
-      (neither.1)));
-}
-  where
-    by : (a b : Bool) → a || b ≡ false → (a ≡ false) × (b ≡ false)
-    by true b h = cc
-    by false b h = (refl, h)
-
-    neither : (is_nullable l.dtype ≡ false) × (is_nullable r.dtype ≡ false)
-    neither = by (is_nullable l.dtype) (is_nullable r.dtype) e
 
 -- a cell that is no text, of a value that is null or a text
 pub null_cell : (c : Cell) (v : Value) → cell_value c ≡ v → IsNullOrText v

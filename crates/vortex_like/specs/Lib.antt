@@ -15,6 +15,5 @@ pub mod AsciiFolds
 pub mod FormTests
 pub mod TextRows
 pub mod EachPattern
-pub mod ValidRows
 pub mod Words
 pub mod OptionBytes

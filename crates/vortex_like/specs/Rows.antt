@@ -1,10 +1,10 @@
 -- LIKE over whole columns.
-use Rattle.std.specs.Prelude.{◌≡◌, ◌||◌, ℕ, ◌<◌, List, length, slice_index_or, Bool, false, not}
+use Rattle.std.specs.Prelude.{◌≡◌, ℕ, ◌<◌, List, length, slice_index_or, Bool, false, not}
 use Rattle.std.specs.Prelude.{if◌then◌else◌}
-use Rattle.vortex_types.specs.LogicalTypes.{bool_type, is_nullable}
-use Rattle.vortex_types.specs.Values.{Value, text, is_null}
-use Rattle.vortex_columns.specs.ValidityView.{ValidityView, form_allows_null, is_valid_row, FitsRows}
+use Rattle.vortex_types.specs.LogicalTypes.{bool_type}
+use Rattle.vortex_types.specs.Values.{Value, text}
 use Rattle.vortex_columns.specs.ColumnView.{ColumnView, row}
+use Rattle.vortex_columns.specs.ValidRows.{either_nullable}
 use Rattle.vortex_like.specs.declared.options.LikeOptions.{LikeOptions}
 use Rattle.vortex_like.specs.Patterns.{like, like_value}
 
@@ -30,21 +30,6 @@ IsLikeBit options v w b = Unit {0}
 abbrev pub AreLikeBits : LikeOptions → ColumnView → ColumnView → List Bool → Type 0
 AreLikeBits options l r =
     AreTold (length l.rows) (λ i b. IsLikeBit options (row l.rows i) (row r.rows i) b)
-
--- whether either side is nullable
-abbrev pub either_nullable : ColumnView → ColumnView → Bool
-either_nullable l r = is_nullable l.dtype || is_nullable r.dtype
-
--- the rows that are null on neither side, of a type that has null or not
-pub record IsJointValidityIn (nullable : Bool) (l r : ColumnView) (v : ValidityView) : Type 0 where
-  pub nullability : form_allows_null v.form ≡ nullable
-  pub fits : FitsRows v (length l.rows)
-  pub each : (i : ℕ) → i < length l.rows
-      → is_valid_row v i ≡ not (is_null (row l.rows i) || is_null (row r.rows i))
-
--- and of a type that has null if either type does
-abbrev pub IsJointValidity : ColumnView → ColumnView → ValidityView → Type 0
-IsJointValidity l r = IsJointValidityIn (either_nullable l r) l r
 
 -- the same value in each row
 abbrev pub IsConstantOf : Value → ColumnView → Type 0

@@ -16,8 +16,7 @@ pub use Rattle.vortex_like.specs.Shapes.{whole_tokens, front_tokens, end_tokens,
 pub use Rattle.vortex_like.specs.Patterns.{pattern_of, like}
 pub use Rattle.vortex_like.specs.Places.{begins_with_any, first_accepts, asked}
 pub use Rattle.vortex_like.specs.Rows.{AreTold, IsSaid, turned, IsLikeBit, AreLikeBits}
-pub use Rattle.vortex_like.specs.Rows.{IsJointValidity, IsJointValidityIn, IsConstantOf, HasLikeRows}
-pub use Rattle.vortex_like.specs.ValidRows.{valid_view, AreValid}
+pub use Rattle.vortex_like.specs.Rows.{IsConstantOf, HasLikeRows}
 pub use Rattle.vortex_like.specs.Symbols.{symbol_token}
 pub use Rattle.vortex_like.specs.TextRows.{texts_of, text_at, IsTextOf, AreTexts, AreAscii}
 pub use Rattle.vortex_like.specs.TextRows.{IsTextColumn}

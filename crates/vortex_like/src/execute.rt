@@ -10,9 +10,8 @@ use crate::options::LikeOptions;
 use crate::pattern::LikePattern;
 use crate::row_bits::{SameBit, collect_bits};
 use crate::texts::{OneText, TextColumn, Texts, text_column};
-use crate::validity::both_valid;
 use std::alloc::Global;
-use vortex_columns::{BitBuffer, Column, ExecutionCtx, Scalar, VortexResult};
+use vortex_columns::{BitBuffer, Column, ExecutionCtx, Scalar, VortexResult, both_valid};
 
 /// What LIKE says of a text and a pattern that is compiled for it alone.
 fn like_once(alloc: Global, text: &str, pattern: &str, options: LikeOptions) -> VortexResult<bool>

@@ -20,7 +20,6 @@ mod texts;
 mod token;
 mod token_reading;
 mod token_test;
-mod validity;
 pub mod variant;
 
 pub use execute::execute_like;

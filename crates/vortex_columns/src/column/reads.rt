@@ -5,6 +5,7 @@ ghost use Rattle.vortex_columns.specs.Words.{row, is_null, type_of, AnswersUnles
 use super::{Column, Storage};
 use crate::cell::Cell;
 use crate::scalar::Scalar;
+use crate::valid_rows::ValidRows;
 use crate::validity::Validity;
 use std::alloc::Global;
 use std::cmp::Ordering;
@@ -15,7 +16,8 @@ use vortex_views::ResolvedViews;
 impl Column {
     ghost use Rattle.vortex_columns.specs.Words.{AreTyped, TellsNulls, TellsTruly, FitsRows, validity_of};
     ghost use Rattle.vortex_columns.specs.Words.{cell_value, IsCell, scalar_in, compare_values};
-    ghost use Rattle.vortex_columns.specs.Words.{constant_column};
+    ghost use Rattle.vortex_columns.specs.Words.{constant_column, array};
+    ghost use Rattle.vortex_columns.specs.ValidRows.{valid_view, AreValid, IsListed};
 
     /// The type, lent. Each row has it, null included: a row is null only where the type is nullable.
     pub fn dtype(&self) -> &DType
@@ -40,6 +42,14 @@ impl Column {
         ensures rows { AnswersUnlessMemory result (λ v. TellsNulls self.now.rows (validity_of v)) }
     {
         self.storage.validity(alloc)
+    }
+
+    /// Which rows are not null, lent: a list only where the validity's form is an array of bits. Takes no memory.
+    pub fn valid_rows(&self) -> ValidRows<'_>
+        ensures rows { AreValid (valid_view result) self.now.rows }
+        ensures listed { IsListed result → self.now.form ≡ array }
+    {
+        self.storage.valid_rows()
     }
 
     /// Does nothing: its contract is what is known of every column. The form of its validity is true of each row,

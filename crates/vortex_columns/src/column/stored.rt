@@ -5,6 +5,7 @@ ghost use Rattle.vortex_columns.specs.Words.{cell_value, IsCell, lent_values, pa
 
 use super::{Column, Elements, Storage};
 use crate::cell::{Cell, Sequence};
+use crate::valid_rows::ValidRows;
 use crate::validity::Validity;
 use std::alloc::Global;
 use vortex_bits::BitBuffer;
@@ -142,6 +143,7 @@ impl Elements {
 impl Storage {
     ghost use Rattle.vortex_columns.specs.Words.{AnswersUnlessMemory, array, is_valid_row};
     ghost use Rattle.vortex_columns.specs.Words.{validity_of};
+    ghost use Rattle.vortex_columns.specs.ValidRows.{valid_view, IsAsValid, IsListed};
     ghost use Rattle.vortex_columns.specs.Stored.{stored_of, stored_validity, value_at, HasRow};
 
     pub(super) fn is_valid(&self, i: usize) -> bool
@@ -178,6 +180,19 @@ impl Storage {
             Storage::Null => Ok(Validity::AllInvalid),
             Storage::Constant(scalar) => Ok(scalar.validity()),
             Storage::Rows(_, validity) => validity.try_clone(alloc),
+        }
+    }
+
+    /// The rows that are not null, lent.
+    pub(super) fn valid_rows(&self) -> ValidRows<'_>
+        ensures rows { IsAsValid (stored_validity (stored_of self.now)) (valid_view result) }
+        ensures listed { IsListed result → (stored_validity (stored_of self.now)).form ≡ array }
+    {
+        match self {
+            Storage::Null => ValidRows::No,
+            Storage::Constant(scalar) if scalar.is_null() => ValidRows::No,
+            Storage::Constant(_) => ValidRows::Every,
+            Storage::Rows(_, validity) => ValidRows::of(validity),
         }
     }
 

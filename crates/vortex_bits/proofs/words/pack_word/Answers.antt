@@ -1,15 +1,25 @@
-use Rattle.std.proofs.Common.{◌∙◌, ap, slice_index}
-use Rattle.vortex_bits.specs.Bits.{bit, is_set}
-use Rattle.vortex_bits.proofs.BitsOfBytes.{from_le_bytes_bits}
-use Rattle.vortex_bits.proofs.Packing.{of_eight}
+use Rattle.std.proofs.Common.{◌≡◌, ℕ, ◌<◌, Bool, true, false, cond, eqb, nat_eq, refl, map, ap, ◌∙◌, arith, w8}
+use Rattle.std.proofs.Common.{◌+◌, get_or}
+use lib.Lanes.{chunk, mask_l}
+use Rattle.std.proofs.lemmas.List.{get_or-map}
+use Rattle.std.proofs.lemmas.Simd.{length-chunk, get_or-chunk, bitmask_splat, bit_mask_l}
+use Rattle.vortex_bits.specs.Bits.{bit}
 use Rattle.vortex_bits.proofs.words.pack_word.Goals as goal
+
+one_is : (b : Bool) → nat_eq (cond b 1 0) 1 ≡ b
+one_is true = refl
+one_is false = refl
 
 pub returns : goal.returns
 returns c = λ j lt.
-    ap (λ n. bit n j) c.from_le_bytes.ensures
-    ∙ from_le_bytes_bits _ _ _ _ _ _ _ _ c.pack_byte.type_inv c.pack_byte-2.type_inv
-    c.pack_byte-3.type_inv c.pack_byte-4.type_inv c.pack_byte-5.type_inv c.pack_byte-6.type_inv
-    c.pack_byte-7.type_inv c.pack_byte-8.type_inv j
-    ∙ of_eight _ _ _ _ _ _ _ _ (λ i. is_set (slice_index c.args.told.now i)) c.pack_byte.ensures
-    c.pack_byte-2.ensures c.pack_byte-3.ensures c.pack_byte-4.ensures c.pack_byte-5.ensures
-    c.pack_byte-6.ensures c.pack_byte-7.ensures c.pack_byte-8.ensures j lt
+    let told = c.args.told.now in
+    let v = chunk 0 64 told in
+    let place : 0 + j ≡ j = omega arith in
+    let long = length-chunk 0 64 told (omega (arith, c.requires)) in
+    let mask = bitmask_splat w8 eqb v 64 1 long (omega arith) in
+    ap (λ n. bit n j) mask
+    ∙ ap (λ n. nat_eq n 1) (bit_mask_l (map (λ x. eqb x 1) v) j)
+    ∙ one_is _
+    ∙ get_or-map (λ x. eqb x 1) v j 0 false (omega (arith, long))
+    ∙ ap (λ n. eqb n 1) (get_or-chunk 0 64 told j 0 lt)
+    ∙ ap (λ (k : ℕ). eqb (get_or told k 0) 1) place

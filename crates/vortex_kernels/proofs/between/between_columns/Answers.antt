@@ -3,7 +3,7 @@ use Rattle.vortex_types.specs.TypeOf.{allows_null}
 use Rattle.vortex_columns.specs.ValidityView.{validity_of}
 use Rattle.vortex_operators.specs.Between.{bound_operator}
 use Rattle.vortex_kernels.specs.Between.{any_nullable}
-use Rattle.vortex_kernels.specs.Rows.{either_nullable}
+use Rattle.vortex_columns.specs.ValidRows.{either_nullable}
 use Rattle.vortex_kernels.proofs.BetweenRows.{are_compared, between_answers}
 use Rattle.vortex_kernels.proofs.between.between_columns.Goals as goal
 

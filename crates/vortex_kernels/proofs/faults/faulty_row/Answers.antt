@@ -1,6 +1,6 @@
 use Rattle.vortex_columns.specs.ValidityView.{validity_of}
 use Rattle.vortex_kernels.specs.Numeric.{row_results}
-use Rattle.vortex_kernels.specs.Rows.{either_nullable}
+use Rattle.vortex_columns.specs.ValidRows.{either_nullable}
 use Rattle.vortex_kernels.proofs.FaultRows.{finds_fault}
 use Rattle.vortex_kernels.proofs.faults.faulty_row.Goals as goal
 

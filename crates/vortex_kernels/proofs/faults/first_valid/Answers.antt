@@ -1,7 +1,7 @@
 use Rattle.std.proofs.Common.{◌≡◌, ◌∙◌, ℕ, false, length, slice_index_or, subst, sym}
 use Rattle.vortex_columns.specs.ValidityView.{is_valid_row, validity_of, FitsRows}
-use Rattle.vortex_kernels.specs.Validity.{valid_view}
-use Rattle.vortex_kernels.specs.declared.validity.ValidRows.{ValidRows}
+use Rattle.vortex_columns.specs.ValidRows.{valid_view}
+use Rattle.vortex_columns.specs.declared.valid_rows.ValidRows.{ValidRows}
 use Rattle.vortex_kernels.proofs.FaultRows.{finds_listed}
 use Rattle.vortex_kernels.proofs.faults.first_valid.Goals as goal
 

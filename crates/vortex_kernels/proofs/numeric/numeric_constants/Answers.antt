@@ -7,7 +7,7 @@ use Rattle.vortex_types.specs.LogicalTypes.{integer_type, is_nullable}
 use Rattle.vortex_types.specs.TypeOf.{allows_null, type_of}
 use Rattle.vortex_types.specs.Values.{number}
 use Rattle.vortex_kernels.specs.ArithmeticIntegers.{FitsResult}
-use Rattle.vortex_kernels.specs.Rows.{either_nullable}
+use Rattle.vortex_columns.specs.ValidRows.{either_nullable}
 use Rattle.vortex_kernels.proofs.Calculating.{no_fault}
 use Rattle.vortex_kernels.proofs.ConstantResults.{either_form, int_value, is_told, told_not}
 use Rattle.vortex_kernels.proofs.ConstantResults.{not_told}

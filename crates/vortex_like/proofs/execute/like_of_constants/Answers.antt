@@ -1,6 +1,6 @@
 use Rattle.std.proofs.Common.{◌≡◌, rules}
 use Rattle.vortex_types.specs.TypeOf.{allows_null}
-use Rattle.vortex_like.specs.Rows.{either_nullable}
+use Rattle.vortex_columns.specs.ValidRows.{either_nullable}
 use Rattle.vortex_like.proofs.RowLemmas.{constant_like}
 use Rattle.vortex_like.proofs.execute.like_of_constants.Goals as goal
 

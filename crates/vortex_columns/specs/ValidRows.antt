@@ -1,12 +1,13 @@
--- Which rows are not null.
+-- Which rows of one column are not null, and of two.
 use Rattle.std.specs.Prelude.{◌≡◌, ◌||◌, ℕ, ◌<◌, List, [], length, Bool, not}
+pub use Rattle.vortex_errors.specs.Answers.{AnswersUnlessMemory}
 use Rattle.vortex_types.specs.LogicalTypes.{is_nullable}
 use Rattle.vortex_types.specs.Values.{Value, is_null}
 use Rattle.vortex_columns.specs.ValidityView.{ValidityView, all_valid, all_invalid, array}
 use Rattle.vortex_columns.specs.ValidityView.{form_allows_null, is_valid_row, FitsRows}
 use Rattle.vortex_columns.specs.ColumnView.{ColumnView, row}
-use Rattle.vortex_kernels.specs.declared.validity.ValidRows.{ValidRows}
-use Rattle.vortex_kernels.specs.declared.validity.ValidRows.TheVariants.{Every, No, Listed}
+use Rattle.vortex_columns.specs.declared.valid_rows.ValidRows.{ValidRows}
+use Rattle.vortex_columns.specs.declared.valid_rows.ValidRows.TheVariants.{Every, No, Listed}
 
 abbrev pub valid_view : ValidRows → ValidityView
 valid_view Every = record { form = all_valid; bits = [] }
@@ -46,3 +47,7 @@ IsJointValidity nullable l r =
 pub record IsAsValid (v w : ValidityView) : Type 0 where
   pub fits : (n : ℕ) → FitsRows v n → FitsRows w n
   pub each : (i : ℕ) → is_valid_row w i ≡ is_valid_row v i
+
+-- whether either side is nullable
+abbrev pub either_nullable : ColumnView → ColumnView → Bool
+either_nullable l r = is_nullable l.dtype || is_nullable r.dtype
