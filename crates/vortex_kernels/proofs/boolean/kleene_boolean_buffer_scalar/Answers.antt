@@ -14,7 +14,7 @@ kleene_sides-requires-clause-truths c = λ plain i lt.
     let as_bit : Bool → Option Bool = λ b. present b (slice_index_or c.args.lhs i false) in
     let here : i < length c.args.lhs = omega (arith, c.len.ensures) in
     let truths = c.requires.nulls plain in (
-      ap is_some (c.of_bits-left.ensures.each i here ∙ ap as_bit (c.of.ensures.each i))
+      ap is_some (c.of_bits-left.ensures.each i here ∙ ap as_bit (c.of.ensures.rows.each i))
           ∙ truths.0 i here,
       ap is_some ((c.one-right.ensures c.len.result).each i lt) ∙ truths.1,
     )
@@ -27,6 +27,6 @@ returns c =
     c.kleene_sides.result
     (λ i lt.
     c.of_bits-left.ensures.each i lt
-    ∙ ap (λ b. present b (slice_index_or c.args.lhs i false)) (c.of.ensures.each i))
+    ∙ ap (λ b. present b (slice_index_or c.args.lhs i false)) (c.of.ensures.rows.each i))
     (c.one-right.ensures (length c.args.lhs)).each
     (rw c.len.ensures at c.kleene_sides.ensures)

@@ -11,10 +11,10 @@ returns-in-Listed c =
     let valid = c.in-Listed.valid.now in
     let w = validity_of c.args.validity.now in
     let same : (i : ℕ) → slice_index_or valid i false ≡ is_valid_row w i =
-    λ i. (λ j. is_valid_row (valid_view (sym c.in-Listed.is j)) i) ∙ c.of.ensures.each i in
+    λ i. (λ j. is_valid_row (valid_view (sym c.in-Listed.is j)) i) ∙ c.of.ensures.rows.each i in
     let fits : length valid ≡ length bits =
     subst (λ (v : ValidRows). FitsRows (valid_view v) (length bits)) c.in-Listed.is
-    (c.of.ensures.fits (length bits) c.requires) in
+    (c.of.ensures.rows.fits (length bits) c.requires) in
     finds_listed bits valid c.slice-set.result c.slice.result w c.len.result c.len-in-Listed.result
     c.first_of_both-in-Listed.result c.slice-set.ensures c.len.ensures c.slice.ensures
     c.len-in-Listed.ensures fits same c.first_of_both-in-Listed.ensures
