@@ -7,3 +7,5 @@ pub mod Parts
 pub mod OptionRows
 pub mod ElementPlaces
 pub mod TakenRows
+pub mod ValueTexts
+pub mod PrintedColumns
