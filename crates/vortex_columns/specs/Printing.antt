@@ -59,6 +59,10 @@ abbrev mutual
   field_texts typed (field name t fs) (value v vs) =
       (name ++ codes ": " ++ value_text typed t v) ∷ field_texts typed fs vs
 
+-- the text of a literal: each whole number in it with its type
+abbrev pub literal_text : LogicalType → Value → List ℕ
+literal_text = value_text true
+
 -- the cells of a column, each after a space
 abbrev pub cells_text : LogicalType → List Value → List ℕ
 cells_text t = flat_map (λ v. codes " " ++ value_text false t v)

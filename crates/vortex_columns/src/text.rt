@@ -2,7 +2,7 @@
 ghost use Rattle.std.specs.Prelude.{◌≡◌, string_bytes};
 ghost use Rattle.vortex_types.specs.Texts.{Appends};
 ghost use Rattle.vortex_columns.specs.Words.{AnswersUnlessMemory};
-ghost use Rattle.vortex_columns.specs.Printing.{column_text, value_text};
+ghost use Rattle.vortex_columns.specs.Printing.{column_text, literal_text};
 
 use crate::column::Column;
 use crate::scalar::Scalar;
@@ -36,7 +36,7 @@ impl Scalar {
     /// Writes the value as `Column::text` does, but each whole number with its type, as `1i32`. Refuses for memory alone.
     pub fn write_literal(&self, out: &mut String) -> VortexResult<()>
         ensures { AnswersUnlessMemory result
-            (λ _. Appends out.old (value_text true self.now.dtype self.now.value) out.new) }
+            (λ _. Appends out.old (literal_text self.now.dtype self.now.value) out.new) }
     {
         write_value(out, true, Shape::Of(self.dtype()), &self.cell())
     }
