@@ -17,8 +17,9 @@ fn reads(alloc: Global, column: Made, wanted: &str) -> VortexResult<bool> {
 }
 
 #[test]
-fn columns_of_numbers_and_truth_values_have_texts(rt: HostRuntime) {
+fn columns_of_numbers_have_texts(rt: HostRuntime) {
     let alloc = rt.alloc();
+    let greatest = constant(alloc, PType::U64, 18446744073709551615, 1);
     assert!(rt; yes(reads(alloc, numbers::<i32>(alloc, &[]), "i32:")));
     assert!(rt;
         yes(reads(
@@ -28,63 +29,37 @@ fn columns_of_numbers_and_truth_values_have_texts(rt: HostRuntime) {
         ))
     );
     assert!(rt; yes(reads(alloc, numbers(alloc, &[-128i8, 1]), "i8: -128 1")));
-    assert!(rt;
-        yes(reads(
-            alloc,
-            constant(alloc, PType::U64, 18446744073709551615, 1),
-            "u64: 18446744073709551615"
-        ))
-    );
+    assert!(rt; yes(reads(alloc, greatest, "u64: 18446744073709551615")));
+}
+
+#[test]
+fn columns_of_truth_values_have_texts(rt: HostRuntime) {
+    let alloc = rt.alloc();
+    let unknown = nullable_bools(alloc, &[None, Some(true)]);
     assert!(rt; yes(reads(alloc, bools(alloc, &[false, true]), "bool: false true")));
-    assert!(rt;
-        yes(reads(
-            alloc,
-            nullable_bools(alloc, &[None, Some(true)]),
-            "bool?: null true"
-        ))
-    );
+    assert!(rt; yes(reads(alloc, unknown, "bool?: null true")));
     assert!(rt; yes(reads(alloc, kept(alloc, Ok(Column::null(2))), "null: null null")));
 }
 
 #[test]
 fn columns_of_texts_and_bytes_have_texts(rt: HostRuntime) {
     let alloc = rt.alloc();
-    assert!(rt;
-        yes(reads(
-            alloc,
-            texts(alloc, &["aab", "100%", ""], Validity::NonNullable),
-            "utf8: \"aab\" \"100%\" \"\""
-        ))
-    );
-    assert!(rt;
-        yes(reads(
-            alloc,
-            texts(alloc, &["\"a"], Validity::AllValid),
-            "utf8?: \"\"a\""
-        ))
-    );
+    let three = texts(alloc, &["aab", "100%", ""], Validity::NonNullable);
+    let quoted = texts(alloc, &["\"a"], Validity::AllValid);
+    assert!(rt; yes(reads(alloc, three, "utf8: \"aab\" \"100%\" \"\"")));
+    assert!(rt; yes(reads(alloc, quoted, "utf8?: \"\"a\"")));
     assert!(rt; yes(reads(alloc, byte_lists(alloc), "binary?: null")));
 }
 
 #[test]
 fn columns_of_lists_and_records_have_texts(rt: HostRuntime) {
     let alloc = rt.alloc();
+    let entries = "map[i32, i32]: [{key: 6, value: 6}] []";
+    let pairs = "struct{a: i32, b: i32}: {a: 5, b: 5} {a: 6, b: 6}";
     assert!(rt; yes(reads(alloc, lists(alloc, [0, 0], [2, 1]), "list[i32]: [5, 6] [5]")));
     assert!(rt; yes(reads(alloc, fixed(alloc), "list[i32; 1]?: [5] [6]")));
-    assert!(rt;
-        yes(reads(
-            alloc,
-            maps(alloc, &[5, 6]),
-            "map[i32, i32]: [{key: 6, value: 6}] []"
-        ))
-    );
-    assert!(rt;
-        yes(reads(
-            alloc,
-            records(alloc, "a", "b", 2),
-            "struct{a: i32, b: i32}: {a: 5, b: 5} {a: 6, b: 6}"
-        ))
-    );
+    assert!(rt; yes(reads(alloc, maps(alloc, &[5, 6]), entries)));
+    assert!(rt; yes(reads(alloc, records(alloc, "a", "b", 2), pairs)));
 }
 
 /// A number and a list of one number and null, in a record.
@@ -125,11 +100,6 @@ fn numbers_of_literals_have_types(rt: HostRuntime) {
 fn bytes_are_hexadecimal(rt: HostRuntime) {
     let alloc = rt.alloc();
     let dtype = DType::Binary(Nullability::NonNullable);
-    assert!(rt;
-        yes(reads(
-            alloc,
-            one(alloc, typed(dtype, bytes(alloc, &[0, 255]))),
-            "binary: 0x00ff"
-        ))
-    );
+    let two = one(alloc, typed(dtype, bytes(alloc, &[0, 255])));
+    assert!(rt; yes(reads(alloc, two, "binary: 0x00ff")));
 }
