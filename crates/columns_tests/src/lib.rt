@@ -16,6 +16,8 @@ mod scalars;
 #[cfg(test)]
 mod taken;
 #[cfg(test)]
+mod texts;
+#[cfg(test)]
 mod types;
 #[cfg(test)]
 mod values;

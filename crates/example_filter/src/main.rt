@@ -6,7 +6,6 @@
 mod table;
 
 use std::alloc::Global;
-use std::borrow::Cow;
 use std::io;
 use std::process::ExitCode;
 use table::{columns, scope};
@@ -51,27 +50,11 @@ fn filter(alloc: Global) -> VortexResult<Expression> {
     binary(alloc, known, Operator::And, cheap)
 }
 
-/// The rows of a column of Bool, as a line.
-fn line(alloc: Global, column: &Column) -> VortexResult<String> {
-    let mut line = String::from_str(alloc, "rows:")?;
-    for i in 0..column.len() {
-        line.push_str(match column.scalar_at(alloc, i)?.as_bool_opt() {
-            Some(true) => " true",
-            Some(false) => " false",
-            None => " null",
-        })?;
-    }
-    Ok(line)
-}
-
 /// The answer of the tree over the table, as a line.
 fn answer(alloc: Global, tree: &Expression) -> VortexResult<String> {
     let columns = columns(alloc)?;
     let mut ctx = ExecutionCtx::new(alloc);
-    match tree.execute(&columns, 3, &mut ctx)? {
-        Cow::Borrowed(column) => line(alloc, column),
-        Cow::Owned(column) => line(alloc, &column),
-    }
+    tree.execute(&columns, 3, &mut ctx)?.text(alloc)
 }
 
 /// What the program prints: the filter, the filter after its rewrites, and its rows.

@@ -4,5 +4,4 @@ pub mod ShortNumbers
 pub mod Marks
 pub mod Words
 pub mod WordsSaid
-pub mod Printed
 pub mod SaidTyped

@@ -3,4 +3,3 @@ pub mod Ranges
 pub mod Cells
 pub mod Commands
 pub mod Answering
-pub mod Printing

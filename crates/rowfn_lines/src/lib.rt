@@ -1,14 +1,12 @@
-//! Lines of scripts: what they say, and how columns are printed.
+//! Lines of scripts, and what they say.
 #![tactic(auto)]
 
 pub mod cells;
 pub mod command;
 pub mod laws;
 pub mod parse;
-pub mod printing;
 pub mod text;
 pub mod types;
 
 pub use command::Line;
-pub use printing::column_text;
 pub use text::lines;

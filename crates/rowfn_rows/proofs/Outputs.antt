@@ -4,7 +4,7 @@ use Rattle.std.proofs.Common.{ap, sym, ◌∙◌, arith}
 use Rattle.std.proofs.lemmas.List.{get_or-map, length-map}
 use Rattle.vortex_columns.specs.ColumnView.{ColumnView, row}
 use Rattle.vortex_meaning.specs.CallTexts.{joined, separator_before}
-use Rattle.vortex_interface.proofs.JoinedTexts.{joined_more}
+use Rattle.vortex_types.proofs.JoinedTexts.{joined_more}
 use Rattle.rowfn_csv.specs.declared.format.Format.{Format}
 use Rattle.rowfn_rows.specs.declared.output.Output.{Output}
 use Rattle.rowfn_rows.specs.Outputs.{Adds, value_field, row_fields}

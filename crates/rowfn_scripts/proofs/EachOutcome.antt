@@ -34,7 +34,7 @@ use Rattle.vortex_meaning.specs.Execution.{Executes, LeavesFit, other_length, fa
 use Rattle.rowfn_lines.specs.Commands.{Command, nothing, malformed, rows, column, get, literal}
 use Rattle.rowfn_lines.specs.Commands.{call, show, optimize, run, run_after}
 use Rattle.rowfn_lines.specs.Lines.{lines_of}
-use Rattle.rowfn_lines.specs.Printing.{column_text}
+use Rattle.rowfn_scripts.specs.Sessions.{column_line}
 use Rattle.rowfn_scripts.specs.declared.ending.End.{End}
 use Rattle.rowfn_scripts.specs.declared.ending.End.TheVariants.{Done, Refused, Malformed}
 use Rattle.rowfn_scripts.specs.Sessions.{SessionView, Step, goes_on, refuses, is_malformed, fresh}
@@ -247,7 +247,7 @@ module _ {V O : Type 0} (m : Meaning V O) where
         → Makes (RunsTop m (Some n) (t ∷ stack) s)
     runs_by n t stack fit lengths typed (inl settled) =
         let c = executed s.columns n t fit lengths typed settled in
-        let next : SessionView V O = record s { printed = s.printed ++ column_text c.0 } in
+        let next : SessionView V O = record s { printed = s.printed ++ column_line c.0 } in
         (goes_on next, prints c.0 c.1 refl, λ e. cc)
     runs_by n t stack fit lengths typed (inr p) =
         (refuses p.0, refused p.0 (faulty fit lengths p.1) refl, λ e. p.2 (told _ p.0 refl e))
@@ -274,7 +274,7 @@ module _ {V O : Type 0} (m : Meaning V O) where
           let after =
           rows_after m (expression_step m rs) laws.sound s.columns n limit t u k.0 k.1 run rows c.0
           c.1.rows in
-          let next : SessionView V O = record s { printed = s.printed ++ column_text c.0 } in (
+          let next : SessionView V O = record s { printed = s.printed ++ column_line c.0 } in (
             goes_on next,
             prints_after c.0 (record { fit = fit; lengths = lengths; rows = after }) refl,
             λ e. cc,

@@ -33,7 +33,7 @@ use Rattle.vortex_meaning.specs.Eval.{tree_type, tree_types, with_type, types_or
 use Rattle.vortex_meaning.specs.Execution.{Executes, RefusesExecution}
 use Rattle.vortex_meaning.specs.Printing.{tree_text}
 use Rattle.vortex_functions.specs.Binding.{IsCall, RefusesCall, count, types}
-use Rattle.rowfn_lines.specs.Printing.{column_text}
+use Rattle.rowfn_scripts.specs.Sessions.{column_line}
 use Rattle.rowfn_scripts.specs.declared.stop.Stop.{Stop}
 use Rattle.rowfn_scripts.specs.declared.stop.Stop.TheVariants.{Refused}
 use Rattle.rowfn_scripts.specs.Sessions.{SessionView, Step, goes_on, refuses, is_malformed}
@@ -325,7 +325,7 @@ module _ {V O : Type 0} where
     module _ (n : ℕ) (s : SessionView V O) (t : Tree V O) (rest : List (Tree V O))
         (top : s.stack ≡ t ∷ rest) where
       pub top_printed : (c : ColumnView) (text : List ℕ) → Executes m s.columns n t c
-          → text ≡ column_text c
+          → text ≡ column_line c
           → RunsTop m (Some n) s.stack s (goes_on (record s { printed = s.printed ++ text }))
       top_printed c text h e =
           subst
@@ -342,7 +342,7 @@ module _ {V O : Type 0} where
 
       module _ (rs : Rules V O) (limit : ℕ) where
         pub top_printed_after : (c : ColumnView) (text : List ℕ)
-            → ExecutesAfter m s.columns n (expression_step m rs) limit t c → text ≡ column_text c
+            → ExecutesAfter m s.columns n (expression_step m rs) limit t c → text ≡ column_line c
             → RunsAfterTop m rs limit (Some n) s.stack s
             (goes_on (record s { printed = s.printed ++ text }))
         top_printed_after c text h e =

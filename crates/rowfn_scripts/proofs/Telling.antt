@@ -32,7 +32,9 @@ use Rattle.vortex_meaning.proofs.ArithmeticErrs.{refuses_first}
 use Rattle.rowfn_scripts.specs.declared.ending.End.{End}
 use Rattle.rowfn_scripts.specs.declared.ending.End.TheVariants.{Done, Refused, Malformed}
 use Rattle.rowfn_lines.specs.Lines.{lines_of}
-use Rattle.rowfn_lines.specs.Printing.{type_text, values_text, column_text}
+use Rattle.vortex_types.specs.DTypeTexts.{type_text}
+use Rattle.vortex_columns.specs.Printing.{cells_text}
+use Rattle.rowfn_scripts.specs.Sessions.{column_line}
 use Rattle.rowfn_lines.specs.Commands.{Command, nothing, malformed, rows, column, get, literal}
 use Rattle.rowfn_lines.specs.Commands.{call, show, optimize, run, run_after}
 use Rattle.rowfn_scripts.specs.Sessions.{SessionView, Step, goes_on, refuses, is_malformed, fresh}
@@ -100,9 +102,9 @@ module _ {V O : Type 0} (m : Meaning V O) where
       no_fault m cs n e t (settled cs n t c h.rows) (refuses_first m cs n t e h.fit h.lengths r)
 
   one_text : (cs : List ColumnView) (n : ℕ) (t : Tree V O) (c d : ColumnView)
-      → HasTreeRows m cs n t c → HasTreeRows m cs n t d → column_text c ≡ column_text d
+      → HasTreeRows m cs n t c → HasTreeRows m cs n t d → column_line c ≡ column_line d
   one_text cs n t c d g h =
-      λ i. ((type_text (types i) ++ codes ":") ++ values_text (values i)) ++ (10 ∷ [])
+      λ i. ((type_text (types i) ++ codes ":") ++ cells_text (types i) (values i)) ++ (10 ∷ [])
     where
       types : c.dtype ≡ d.dtype
       types = let a = g.dtype in let b = h.dtype in cc
@@ -118,7 +120,7 @@ module _ {V O : Type 0} (m : Meaning V O) where
 
   module _ (rs : Rules V O) (limit : ℕ) (cs : List ColumnView) (n : ℕ) (t : Tree V O) where
     one_text_after : (c d : ColumnView) → HasRowsAfter m cs n (expression_step m rs) limit t c
-        → HasRowsAfter m cs n (expression_step m rs) limit t d → column_text c ≡ column_text d
+        → HasRowsAfter m cs n (expression_step m rs) limit t d → column_line c ≡ column_line d
     one_text_after c d g h =
         let one = one_run (expression_step m rs) t limit g.last h.last g.run h.run in
         one_text cs n h.last c d
@@ -143,8 +145,8 @@ module _ {V O : Type 0} (m : Meaning V O) where
     same_run t u (Some n) (x ∷ stack) (prints c h k) (refused e g q) = cc
     same_run t u (Some n) (x ∷ stack) (prints c h k) (prints d g q) =
         let text = one_text s.columns n x c d h.rows g.rows in
-        let first : t ≡ record s { printed = s.printed ++ column_text c } = cc in
-        let second : u ≡ record s { printed = s.printed ++ column_text d } = cc in
+        let first : t ≡ record s { printed = s.printed ++ column_line c } = cc in
+        let second : u ≡ record s { printed = s.printed ++ column_line d } = cc in
         first ∙ ap (λ (b : List ℕ). record s { printed = s.printed ++ b }) text ∙ sym second
 
     same_run_after : (limit : ℕ) (t u : SessionView V O) (r : Option ℕ) (stack : List (Tree V O))
@@ -156,8 +158,8 @@ module _ {V O : Type 0} (m : Meaning V O) where
     same_run_after limit t u (Some n) (x ∷ stack) (prints_after c h k) (refused_after e g q) = cc
     same_run_after limit t u (Some n) (x ∷ stack) (prints_after c h k) (prints_after d g q) =
         let text = one_text_after rs limit s.columns n x c d h.rows g.rows in
-        let first : t ≡ record s { printed = s.printed ++ column_text c } = cc in
-        let second : u ≡ record s { printed = s.printed ++ column_text d } = cc in
+        let first : t ≡ record s { printed = s.printed ++ column_line c } = cc in
+        let second : u ≡ record s { printed = s.printed ++ column_line d } = cc in
         first ∙ ap (λ (b : List ℕ). record s { printed = s.printed ++ b }) text ∙ sym second
 
     same_optimized : (t u : SessionView V O) (r : Option ℕ) (stack : List (Tree V O))
@@ -358,8 +360,8 @@ module _ {V O : Type 0} (m : Meaning V O) (rs : Rules V O) (s t : SessionView V 
   grows_run (Some n) [] e = cc
   grows_run (Some n) (x ∷ stack) (refused e h k) = cc
   grows_run (Some n) (x ∷ stack) (prints c h k) =
-      let same : t ≡ record s { printed = s.printed ++ column_text c } = cc in
-      (column_text c, ap (λ (v : SessionView V O). v.printed) same)
+      let same : t ≡ record s { printed = s.printed ++ column_line c } = cc in
+      (column_line c, ap (λ (v : SessionView V O). v.printed) same)
 
   grows_run_after : (limit : ℕ) (r : Option ℕ) (stack : List (Tree V O))
       → RunsAfterTop m rs limit r stack s (goes_on t) → Grows s.printed t.printed
@@ -367,8 +369,8 @@ module _ {V O : Type 0} (m : Meaning V O) (rs : Rules V O) (s t : SessionView V 
   grows_run_after limit (Some n) [] e = cc
   grows_run_after limit (Some n) (x ∷ stack) (refused_after e h k) = cc
   grows_run_after limit (Some n) (x ∷ stack) (prints_after c h k) =
-      let same : t ≡ record s { printed = s.printed ++ column_text c } = cc in
-      (column_text c, ap (λ (v : SessionView V O). v.printed) same)
+      let same : t ≡ record s { printed = s.printed ++ column_line c } = cc in
+      (column_line c, ap (λ (v : SessionView V O). v.printed) same)
 
   -- a session that goes on as another one is that one
   the_session : (u : SessionView V O) → goes_on t ≡ goes_on u → t ≡ u

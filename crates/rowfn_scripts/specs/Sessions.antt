@@ -10,8 +10,8 @@ use Rattle.vortex_errors.specs.declared.error.VortexError.{VortexError}
 use Rattle.vortex_errors.specs.declared.error.VortexError.TheVariants.{ScopeMismatch, TypeMismatch}
 use Rattle.vortex_types.specs.LogicalTypes.{LogicalType, Fields, no_fields, with_field, find_field}
 use Rattle.vortex_types.specs.ScalarView.{ScalarView}
-use Rattle.vortex_types.specs.Values.{truth}
 use Rattle.vortex_columns.specs.ColumnView.{ColumnView}
+use Rattle.vortex_columns.specs.Printing.{truth_text, column_text}
 use Rattle.vortex_meaning.specs.Meaning.{Meaning}
 use Rattle.vortex_meaning.specs.Shipped.{Shipped, shipped_arity, shipped_called, shipped_place}
 use Rattle.vortex_meaning.specs.Functions.{ours}
@@ -26,7 +26,6 @@ use Rattle.vortex_meaning.specs.Running.{ExecutesAfter, RefusesAfter}
 use Rattle.vortex_rewriting.specs.Runs.{expression_step}
 use Rattle.rowfn_lines.specs.Commands.{Command, nothing, malformed, rows, column, get, literal}
 use Rattle.rowfn_lines.specs.Commands.{call, show, optimize, run, run_after}
-use Rattle.rowfn_lines.specs.Printing.{value_text, column_text}
 
 -- the row count once it is said, the columns and the fields that name them in the order of their
 -- lines, the trees with the last one first, and what was printed
@@ -55,10 +54,14 @@ abbrev pub taken : {V O : Type 0} → ℕ → List (Tree V O) → Option (List (
 taken n stack =
     if nat_le n (length stack) then Some (reverse (take n stack), drop n stack) else None
 
+-- a column's text, and a newline
+abbrev pub column_line : ColumnView → List ℕ
+column_line c = column_text c ++ (10 ∷ [])
+
 -- how many steps a run took, and whether no rule is left
 abbrev pub steps_text : ℕ → Bool → List ℕ
 steps_text n done =
-    (codes "steps " ++ decimal n) ++ (codes " done " ++ (value_text (truth done) ++ (10 ∷ [])))
+    (codes "steps " ++ decimal n) ++ (codes " done " ++ (truth_text done ++ (10 ∷ [])))
 
 module _ {V O : Type 0} where
   -- a line that says the row count stands once, before every other that says something
@@ -127,7 +130,7 @@ module _ {V O : Type 0} where
     -- `Fitting` shows
     pub data Runs (n : ℕ) (t : Tree V O) (s : SessionView V O) (r : Step V O) : Type 0 where
       prints : (c : ColumnView) → Executes m s.columns n t c
-          → r ≡ goes_on (record s { printed = s.printed ++ column_text c }) → Runs n t s r
+          → r ≡ goes_on (record s { printed = s.printed ++ column_line c }) → Runs n t s r
       refused : (e : VortexError) → RefusesExecution m s.columns n t e
           → r ≡ refuses e → Runs n t s r
 
@@ -162,7 +165,7 @@ module _ {V O : Type 0} where
           : Type 0 where
         prints_after : (c : ColumnView)
             → ExecutesAfter m s.columns n (expression_step m rs) limit t c
-            → r ≡ goes_on (record s { printed = s.printed ++ column_text c })
+            → r ≡ goes_on (record s { printed = s.printed ++ column_line c })
             → RunsAfter limit n t s r
         refused_after : (e : VortexError)
             → RefusesAfter m s.columns n (expression_step m rs) limit t e

@@ -6,10 +6,11 @@ ghost use Rattle.rowfn_scripts.specs.Words.{literal, call, show, optimize, run, 
 ghost use Rattle.rowfn_scripts.specs.Words.{command_in, command_of};
 ghost use Rattle.rowfn_scripts.specs.Words.{refuses, fresh, least_count, steps_text, ShowsTop};
 ghost use Rattle.rowfn_scripts.specs.Words.{RunsTop, RunsAfterTop, StepsTo, MakesStep, after_text};
+ghost use Rattle.rowfn_scripts.specs.Words.{column_line};
 
 use crate::stop::Stop;
+use rowfn_lines::Line;
 use rowfn_lines::parse::parse;
-use rowfn_lines::{Line, column_text};
 use std::alloc::Global;
 use std::marker::Model;
 use vortex_columns::{Arity, Column, ExecutionCtx, Scalar, StructFields, VortexResult};
@@ -53,6 +54,15 @@ fn steps_text(alloc: Global, steps: u64, done: bool) -> VortexResult<String>
     ensures { AnswersUnlessMemory result (λ text. string_bytes text ≡ steps_text steps done) }
 {
     Ok(format!(in alloc; "steps {steps} done {done}\n")?)
+}
+
+/// The text of a column, as a line. E9 alone.
+fn column_line(alloc: Global, column: &Column) -> VortexResult<String>
+    ensures { AnswersUnlessMemory result (λ text. string_bytes text ≡ column_line column.now) }
+{
+    let mut line = column.text(alloc)?;
+    line.push_str("\n")?;
+    Ok(line)
 }
 
 /// How many trees a function takes: the least count that fits its arity.
@@ -191,7 +201,7 @@ impl<C: ScalarFnRules> Session<C> {
         };
         let mut ctx = ExecutionCtx::new(alloc);
         let column = tree.execute(&self.columns, count, &mut ctx)?;
-        Ok(Some(column_text(alloc, &column)?))
+        Ok(Some(column_line(alloc, &column)?))
     }
 
     fn run(&mut self, alloc: Global) -> Result<(), Stop>
@@ -221,7 +231,7 @@ impl<C: ScalarFnRules> Session<C> {
         };
         let mut ctx = ExecutionCtx::new(alloc);
         let column = run(old, &self.columns, count, limit, &mut ctx)?;
-        Ok(Some(column_text(alloc, &column)?))
+        Ok(Some(column_line(alloc, &column)?))
     }
 
     fn run_after(&mut self, alloc: Global, limit: u64) -> Result<(), Stop>

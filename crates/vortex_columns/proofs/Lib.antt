@@ -8,3 +8,5 @@ pub mod OptionRows
 pub mod ElementPlaces
 pub mod TakenRows
 pub mod JointRows
+pub mod ValueTexts
+pub mod PrintedColumns

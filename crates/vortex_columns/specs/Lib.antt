@@ -12,3 +12,5 @@ pub mod Options
 pub mod ScalarOf
 pub mod CellTypes
 pub mod Words
+pub mod Printing
+pub mod Shapes

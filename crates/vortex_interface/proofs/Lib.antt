@@ -1,4 +1,2 @@
 pub mod PieceTexts
 pub mod InputLemmas
-pub mod JoinedTexts
-pub mod LiteralTexts

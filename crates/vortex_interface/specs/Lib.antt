@@ -1,5 +1,4 @@
 pub mod Args
 pub mod Pieces
-pub mod Shapes
 pub mod Texts
 pub mod Words

@@ -3,16 +3,14 @@
 
 pub mod args;
 pub mod laws;
-pub mod literal_text;
 pub mod options;
 pub mod pieces;
 pub mod printing;
 pub mod vtable;
 
 pub use args::VecExecutionArgs;
-pub use literal_text::{Shape, write_literal};
 pub use options::EmptyOptions;
 pub use pieces::{TextPiece, TextPieces, unary_piece, write_pieces};
-pub use printing::{write_call, write_separator};
+pub use printing::write_call;
 pub use vortex_columns::Arity;
 pub use vtable::{ChildName, ExecutionArgs, ScalarFnId, ScalarFnVTable};

@@ -1,19 +1,8 @@
 //! The texts of calls, in the bytes of UTF-8, written behind what a text holds already. Each refuses for memory alone (E9).
 ghost use Rattle.std.specs.Prelude.{map, string_bytes};
-ghost use Rattle.vortex_interface.specs.Words.{AnswersUnlessMemory, Appends, joined, separator_before, options_text, AppendsCall};
+ghost use Rattle.vortex_interface.specs.Words.{AnswersUnlessMemory, Appends, joined, options_text, AppendsCall};
 
-use vortex_columns::VortexResult;
-
-/// The separator, but before the first text.
-pub fn write_separator(out: &mut String, separator: &str, k: usize) -> VortexResult<()>
-    ensures { AnswersUnlessMemory result
-        (λ _. Appends out.old (separator_before separator.now k) out.new) }
-{
-    if k != 0 {
-        out.push_str(separator)?;
-    }
-    Ok(())
-}
+use vortex_columns::{VortexResult, write_separator};
 
 /// Texts with a separator between each two.
 fn write_joined(out: &mut String, separator: &str, texts: &[String]) -> VortexResult<()>

@@ -1,19 +1,6 @@
 -- How a call is printed by the texts of its arguments, in the bytes of UTF-8.
-use Rattle.std.specs.Prelude.{◌≡◌, ℕ, zero, suc, List, [], ◌∷◌, ◌++◌, codes, string_bytes, String}
-use Rattle.std.specs.declared.alloc.Global.{Global}
-use Rattle.std.specs.List.{join_by}
-
--- texts with another between each two
-abbrev pub joined : List ℕ → List (List ℕ) → List ℕ
-joined = join_by (λ piece. piece)
-
--- what stands before the k-th of them
-abbrev pub separator_before : List ℕ → ℕ → List ℕ
-separator_before separator zero = []
-separator_before separator (suc k) = separator
-
-abbrev pub comma : List ℕ
-comma = codes ", "
+use Rattle.std.specs.Prelude.{◌≡◌, ℕ, zero, suc, List, [], ◌∷◌, ◌++◌, codes}
+pub use Rattle.vortex_types.specs.Texts.{joined, separator_before, comma, Appends}
 
 -- a function's options after its arguments, where they have a text
 abbrev pub options_text : List ℕ → List ℕ
@@ -55,7 +42,3 @@ call_end options = options_text options ++ codes ")"
 -- what was there stays at the beginning
 abbrev pub Continues : List ℕ → List ℕ → Type 0
 Continues old new = (rest : List ℕ) × (new ≡ old ++ rest)
-
--- the text is written behind what was there
-abbrev pub Appends : String Global → List ℕ → String Global → Type 0
-Appends old text new = string_bytes new ≡ string_bytes old ++ text

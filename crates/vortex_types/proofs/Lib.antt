@@ -4,3 +4,5 @@ pub mod Agreeing
 pub mod ScalarViews
 pub mod FieldSearch
 pub mod NullValues
+pub mod JoinedTexts
+pub mod PrintedTypes

@@ -13,3 +13,5 @@ pub mod TypeOf
 pub mod TypeTexts
 pub mod ValueOf
 pub mod Numbers
+pub mod Texts
+pub mod DTypeTexts

@@ -7,6 +7,7 @@ ghost use Rattle.vortex_types.specs.LogicalTypes.{is_text_type, is_integer_type}
 mod equality;
 mod fields;
 mod integer_types;
+pub mod text;
 
 use std::alloc::{AllocError, Global};
 use std::ops::BitOr;

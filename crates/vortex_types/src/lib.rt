@@ -6,6 +6,7 @@ pub mod ints;
 pub mod laws;
 pub mod scalar_value;
 
+pub use dtype::text::write_separator;
 pub use dtype::{DType, Nullability, PType, StructFields};
 pub use ints::{Ints, NativePType};
 pub use scalar_value::ScalarValue;

@@ -9,7 +9,7 @@ use crate::walk;
 use std::alloc::Global;
 use std::fmt;
 use vortex_columns::VortexResult;
-use vortex_interface::{ScalarFnVTable, Shape, TextPiece, write_literal};
+use vortex_interface::{ScalarFnVTable, TextPiece};
 
 /// A node that is being written, and the piece of its text that comes next.
 #[derive(Drop)]
@@ -29,9 +29,7 @@ impl<C: ScalarFnVTable> BoundExpression<C> {
                 out.push_str(name.as_str())?;
                 Ok(())
             }
-            Node::Literal(scalar, _) => {
-                write_literal(out, Shape::Of(scalar.dtype()), &scalar.cell())
-            }
+            Node::Literal(scalar, _) => scalar.write_literal(out),
             Node::Call(_) => Ok(()),
         }
     }

@@ -1,6 +1,6 @@
 use Rattle.std.proofs.Common.{◌++◌, map, string_bytes, sym, ap, ◌∙◌, arith}
 use Rattle.std.proofs.lemmas.List.{get_or-map, length-map}
-use Rattle.vortex_interface.proofs.JoinedTexts.{joined_more}
+use Rattle.vortex_types.proofs.JoinedTexts.{joined_more}
 use Rattle.vortex_interface.proofs.printing.write_joined.Goals as goal
 
 pub loop-k-preserved : goal.loop-k-preserved

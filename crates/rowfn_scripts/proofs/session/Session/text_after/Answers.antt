@@ -5,7 +5,7 @@ use Rattle.vortex_meaning.specs.Running.{ExecutesAfter, RefusesAfter}
 use Rattle.std.specs.Cow.{cow_value}
 use Rattle.vortex_rewriting.specs.Runs.{expression_step}
 use Rattle.rowfn_scripts.specs.Sessions.{refuses, RunsAfterTop}
-use Rattle.rowfn_lines.specs.Printing.{column_text}
+use Rattle.rowfn_scripts.specs.Sessions.{column_line}
 use Rattle.rowfn_scripts.specs.Stepping.{after_text}
 use Rattle.rowfn_scripts.proofs.SessionSteps.{columns_of, stack_of, last_is_top, answers_refusal}
 use Rattle.rowfn_scripts.proofs.SessionSteps.{top_printed_after, top_refused_after}
@@ -50,10 +50,10 @@ returns g c =
     (subst
     (λ (cs : List ColumnView). ExecutesAfter m cs n (expression_step m rs) limit tree column)
     columns c.in_ok-column.ensures.executes)
-    (c.in_ok-column_text.ensures ∙ ap column_text c.deref-3.ensures)
+    (c.in_ok-column_line.ensures ∙ ap column_line c.deref-3.ensures)
 
-pub returns-in_err-column_text : goal.returns-in_err-column_text
-returns-in_err-column_text g c =
+pub returns-in_err-column_line : goal.returns-in_err-column_line
+returns-in_err-column_line g c =
     let m = g.C.ScalarFnVTable.meaning in
     let rs = g.C.ScalarFnVTable.rules in
     let s = c.args.self.now in
@@ -61,7 +61,7 @@ returns-in_err-column_text g c =
     let limit = c.args.limit in
     answers_refusal (λ text. RunsAfterTop m rs limit (Some n) s.stack s (after_text s text))
     (λ e. RunsAfterTop m rs limit (Some n) s.stack s (refuses e))
-    c.from_residual-in_err-column_text.result c.in_err-column_text.field-0.0
-    c.from_residual-in_err-column_text.ensures.1
+    c.from_residual-in_err-column_line.result c.in_err-column_line.field-0.0
+    c.from_residual-in_err-column_line.ensures.1
     (UnlessMemory-weaker (λ e. ⊥) (λ e. RunsAfterTop m rs limit (Some n) s.stack s (refuses e))
-    (λ e h. absurd h) c.in_err-column_text.field-0.0 c.in_err-column_text.ensures)
+    (λ e h. absurd h) c.in_err-column_line.field-0.0 c.in_err-column_line.ensures)

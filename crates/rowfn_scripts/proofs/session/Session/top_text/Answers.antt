@@ -4,7 +4,7 @@ use Rattle.vortex_errors.proofs.Answering.{UnlessMemory-weaker}
 use Rattle.vortex_meaning.specs.Execution.{Executes, RefusesExecution}
 use Rattle.std.specs.Cow.{cow_value}
 use Rattle.rowfn_scripts.specs.Sessions.{refuses, RunsTop}
-use Rattle.rowfn_lines.specs.Printing.{column_text}
+use Rattle.rowfn_scripts.specs.Sessions.{column_line}
 use Rattle.rowfn_scripts.specs.Stepping.{after_text}
 use Rattle.rowfn_scripts.proofs.SessionSteps.{columns_of, stack_of, last_is_top, top_printed}
 use Rattle.rowfn_scripts.proofs.SessionSteps.{top_refused, answers_refusal}
@@ -45,15 +45,15 @@ returns g c =
     (λ (cs : List ColumnView).
     Executes m cs c.args.count c.in-Some.tree.now (cow_value c.in_ok-column.column))
     columns c.in_ok-column.ensures.answer)
-    (c.in_ok-column_text.ensures ∙ ap column_text c.deref-3.ensures)
+    (c.in_ok-column_line.ensures ∙ ap column_line c.deref-3.ensures)
 
-pub returns-in_err-column_text : goal.returns-in_err-column_text
-returns-in_err-column_text g c =
+pub returns-in_err-column_line : goal.returns-in_err-column_line
+returns-in_err-column_line g c =
     let m = g.C.ScalarFnVTable.meaning in
     let s = c.args.self.now in
     answers_refusal (λ text. RunsTop m (Some c.args.count) s.stack s (after_text s text))
     (λ e. RunsTop m (Some c.args.count) s.stack s (refuses e))
-    c.from_residual-in_err-column_text.result c.in_err-column_text.field-0.0
-    c.from_residual-in_err-column_text.ensures.1
+    c.from_residual-in_err-column_line.result c.in_err-column_line.field-0.0
+    c.from_residual-in_err-column_line.ensures.1
     (UnlessMemory-weaker (λ e. ⊥) (λ e. RunsTop m (Some c.args.count) s.stack s (refuses e))
-    (λ e h. absurd h) c.in_err-column_text.field-0.0 c.in_err-column_text.ensures)
+    (λ e h. absurd h) c.in_err-column_line.field-0.0 c.in_err-column_line.ensures)

@@ -4,7 +4,7 @@ use Rattle.std.specs.List.{flat_map}
 use Rattle.std.proofs.Math.Seq.{take-suc}
 use Rattle.std.proofs.lemmas.Grind.{flat_map-append}
 use Rattle.std.proofs.lemmas.List.{append-nil}
-use Rattle.vortex_meaning.specs.CallTexts.{joined, separator_before}
+use Rattle.vortex_types.specs.Texts.{joined, separator_before}
 
 joined_step : (sep : List ℕ) (texts : List (List ℕ)) (k : ℕ) (t : List ℕ) → k < length texts
     → t ≡ get_or texts k t

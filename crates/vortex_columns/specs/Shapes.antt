@@ -1,10 +1,10 @@
 -- The type that a `Shape` stands for, and the fields of a struct.
 use Rattle.std.specs.Prelude.{Bool, true, false}
-use Rattle.vortex_types.specs.LogicalTypes.{LogicalType, struct_type, Fields, no_fields}
+use Rattle.vortex_types.specs.LogicalTypes.{LogicalType, struct_type}
 use Rattle.vortex_types.specs.TypeOf.{type_of}
-use Rattle.vortex_meaning.specs.Printing.{entry_type}
-use Rattle.vortex_interface.specs.declared.literal_text.Shape.{Shape}
-use Rattle.vortex_interface.specs.declared.literal_text.Shape.TheVariants.{Of, Entry}
+use Rattle.vortex_columns.specs.Printing.{entry_type}
+use Rattle.vortex_columns.specs.declared.value_text.Shape.{Shape}
+use Rattle.vortex_columns.specs.declared.value_text.Shape.TheVariants.{Of, Entry}
 
 abbrev pub shape_type : Shape → LogicalType
 shape_type (Of t) = type_of t.now
@@ -13,7 +13,3 @@ shape_type (Entry k v) = entry_type (type_of k.now) (type_of v.now)
 abbrev pub is_struct : LogicalType → Bool
 is_struct (struct_type fs n) = true
 is_struct t = false
-
-abbrev pub fields_in : LogicalType → Fields
-fields_in (struct_type fs n) = fs
-fields_in t = no_fields

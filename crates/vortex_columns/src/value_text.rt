@@ -1,14 +1,19 @@
-//! The texts of literals.
+//! The texts of values, written behind what a text holds already.
 ghost use Rattle.std.specs.List.{flat_map};
-ghost use Rattle.vortex_interface.specs.Words.{AnswersUnlessMemory, Appends, cell_value, sequence_value, sequence_values, IsCell, IsSequence, hex_text, shape_type, WritesLiteral, WritesElements, WritesFields};
+ghost use Rattle.vortex_types.specs.Texts.{Appends, joined, comma};
+ghost use Rattle.vortex_columns.specs.Words.{AnswersUnlessMemory, cell_value, IsCell, IsSequence};
+ghost use Rattle.vortex_columns.specs.Words.{sequence_value, values_in};
+ghost use Rattle.vortex_columns.specs.ColumnView.{fields_in};
+ghost use Rattle.vortex_columns.specs.Printing.{hex_text, value_text, value_texts, field_texts};
+ghost use Rattle.vortex_columns.specs.Shapes.{shape_type};
 
-use crate::printing::write_separator;
+use crate::cell::{Cell, Sequence};
 use std::fmt::Write;
-use vortex_columns::{Cell, DType, Sequence, VortexResult};
+use vortex_types::{DType, VortexResult, write_separator};
 
 /// A type where it lies: one of its own, or that of a map's entries, by key and value.
 #[derive(Clone, Copy)]
-pub enum Shape<'a> {
+pub(crate) enum Shape<'a> {
     Of(&'a DType),
     Entry(&'a DType, &'a DType),
 }
@@ -17,15 +22,15 @@ impl<'a> Shape<'a> {
     ghost use Rattle.std.specs.Prelude.{◌≡◌, ◌<◌};
     ghost use Rattle.vortex_types.specs.LogicalTypes.{field_count, field_type};
     ghost use Rattle.vortex_types.specs.FieldNames.{field_name};
-    ghost use Rattle.vortex_meaning.specs.Printing.{suffix, element_type};
-    ghost use Rattle.vortex_interface.specs.Shapes.{shape_type, is_struct, fields_in};
+    ghost use Rattle.vortex_columns.specs.Printing.{number_suffix, element_type};
+    ghost use Rattle.vortex_columns.specs.Shapes.{is_struct};
 
-    /// What follows a whole number.
-    fn suffix(self) -> &'static str
-        ensures { result.now ≡ suffix (shape_type self.entry) }
+    /// What follows a whole number: its type, where numbers are typed.
+    fn number_suffix(self, typed: bool) -> &'static str
+        ensures { result.now ≡ number_suffix typed (shape_type self.entry) }
     {
-        match self {
-            Shape::Of(DType::Primitive(ptype, _)) => ptype.text(),
+        match (typed, self) {
+            (true, Shape::Of(DType::Primitive(ptype, _))) => ptype.text(),
             _ => "",
         }
     }
@@ -103,12 +108,17 @@ fn write_bytes(out: &mut String, bytes: &[u8]) -> VortexResult<()>
     Ok(())
 }
 
-/// A value of that type.
-#[cycle(literal)]
-pub fn write_literal(out: &mut String, shape: Shape<'_>, cell: &Cell<'_>) -> VortexResult<()>
+/// A value of that type, with the type behind each whole number where numbers are `typed`.
+#[cycle(value_text)]
+pub(crate) fn write_value(
+    out: &mut String,
+    typed: bool,
+    shape: Shape<'_>,
+    cell: &Cell<'_>,
+) -> VortexResult<()>
     requires { IsCell cell.now }
     ensures { AnswersUnlessMemory result
-        (λ _. WritesLiteral (shape_type shape.entry) (cell_value cell.now) out.old out.new) }
+        (λ _. Appends out.old (value_text typed (shape_type shape.entry) (cell_value cell.now)) out.new) }
 {
     match cell {
         Cell::Null => out.push_str("null")?,
@@ -116,7 +126,7 @@ pub fn write_literal(out: &mut String, shape: Shape<'_>, cell: &Cell<'_>) -> Vor
         Cell::Bool(false) => out.push_str("false")?,
         Cell::Int(n) => {
             write!(out, "{n}")?;
-            out.push_str(shape.suffix())?;
+            out.push_str(shape.number_suffix(typed))?;
         }
         Cell::Text(text) => {
             out.push_str("\"")?;
@@ -127,55 +137,70 @@ pub fn write_literal(out: &mut String, shape: Shape<'_>, cell: &Cell<'_>) -> Vor
             out.push_str("0x")?;
             write_bytes(out, bytes)?;
         }
-        Cell::Sequence(values) => write_sequence(out, shape, values)?,
+        Cell::Sequence(values) => write_sequence(out, typed, shape, values)?,
     }
     Ok(())
 }
 
-#[cycle(literal)]
-fn write_sequence(out: &mut String, shape: Shape<'_>, values: &Sequence<'_>) -> VortexResult<()>
+#[cycle(value_text)]
+fn write_sequence(
+    out: &mut String,
+    typed: bool,
+    shape: Shape<'_>,
+    values: &Sequence<'_>,
+) -> VortexResult<()>
     requires { IsSequence values.now }
-    ensures { AnswersUnlessMemory result
-        (λ _. WritesLiteral (shape_type shape.entry) (sequence_value values.now) out.old out.new) }
+    ensures { AnswersUnlessMemory result (λ _. Appends out.old
+        (value_text typed (shape_type shape.entry) (sequence_value values.now)) out.new) }
 {
     if shape.is_struct() {
         out.push_str("{")?;
-        write_fields(out, shape, values)?;
+        write_fields(out, typed, shape, values)?;
         out.push_str("}")?;
     } else {
         out.push_str("[")?;
-        write_elements(out, shape.element(), values)?;
+        write_elements(out, typed, shape.element(), values)?;
         out.push_str("]")?;
     }
     Ok(())
 }
 
 /// Values of one type.
-#[cycle(literal)]
-fn write_elements(out: &mut String, shape: Shape<'_>, values: &Sequence<'_>) -> VortexResult<()>
+#[cycle(value_text)]
+fn write_elements(
+    out: &mut String,
+    typed: bool,
+    shape: Shape<'_>,
+    values: &Sequence<'_>,
+) -> VortexResult<()>
     requires { IsSequence values.now }
-    ensures { AnswersUnlessMemory result (λ _. WritesElements
-        (shape_type shape.entry) (sequence_values values.now) out.old out.new) }
+    ensures { AnswersUnlessMemory result (λ _. Appends out.old
+        (joined comma (value_texts typed (shape_type shape.entry) (values_in values.now))) out.new) }
 {
     for k in 0..values.len() {
         write_separator(out, ", ", k)?;
-        write_literal(out, shape, &values.get(k))?;
+        write_value(out, typed, shape, &values.get(k))?;
     }
     Ok(())
 }
 
 /// The values of a struct, each after its field's name.
-#[cycle(literal)]
-fn write_fields(out: &mut String, shape: Shape<'_>, values: &Sequence<'_>) -> VortexResult<()>
+#[cycle(value_text)]
+fn write_fields(
+    out: &mut String,
+    typed: bool,
+    shape: Shape<'_>,
+    values: &Sequence<'_>,
+) -> VortexResult<()>
     requires { IsSequence values.now }
-    ensures { AnswersUnlessMemory result (λ _. WritesFields
-        (shape_type shape.entry) (sequence_values values.now) out.old out.new) }
+    ensures { AnswersUnlessMemory result (λ _. Appends out.old
+        (joined comma (field_texts typed (fields_in (shape_type shape.entry)) (values_in values.now))) out.new) }
 {
     for k in 0..values.len().min(shape.field_count()) {
         write_separator(out, ", ", k)?;
         out.push_str(shape.field_name(k))?;
         out.push_str(": ")?;
-        write_literal(out, shape.field(k), &values.get(k))?;
+        write_value(out, typed, shape.field(k), &values.get(k))?;
     }
     Ok(())
 }

@@ -1,9 +1,9 @@
 use Rattle.std.proofs.Common.{◌++◌, string_bytes, take, get_or, sym, ap, ◌∙◌, arith}
 use Rattle.std.proofs.lemmas.List.{take_more, flat_map_more}
 use Rattle.std.specs.List.{flat_map}
-use Rattle.vortex_meaning.specs.Printing.{hex_text}
-use Rattle.vortex_interface.proofs.LiteralTexts.{hex_written}
-use Rattle.vortex_interface.proofs.literal_text.write_bytes.Goals as goal
+use Rattle.vortex_columns.specs.Printing.{hex_text}
+use Rattle.vortex_columns.proofs.ValueTexts.{hex_written}
+use Rattle.vortex_columns.proofs.value_text.write_bytes.Goals as goal
 
 pub loop-byte-preserved : goal.loop-byte-preserved
 loop-byte-preserved c =

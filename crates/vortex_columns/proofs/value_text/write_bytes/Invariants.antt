@@ -1,7 +1,7 @@
 use Rattle.std.proofs.Common.{◌≡◌, ◌++◌, string_bytes, take}
 use Rattle.std.specs.List.{flat_map}
-use Rattle.vortex_meaning.specs.Printing.{hex_text}
-use Rattle.vortex_interface.proofs.literal_text.write_bytes.Given as goal
+use Rattle.vortex_columns.specs.Printing.{hex_text}
+use Rattle.vortex_columns.proofs.value_text.write_bytes.Given as goal
 
 -- the bytes so far
 abbrev pub invariant-loop-byte : goal.invariant-loop-byte
