@@ -8,7 +8,8 @@ use std::fmt::Write;
 use vortex_columns::{Column, VortexError, VortexResult};
 use vortex_functions::NoCustom;
 
-/// The fields of a text, which stand between commas; `~` is a null field, and an empty text has none.
+/// The fields of a text, which stand between commas; `~` is a null field, and an empty text has
+/// none.
 fn fields_of(alloc: Global, text: &[u8]) -> Result<Vec<Option<&[u8]>>, AllocError> {
     let mut fields: Vec<Option<&[u8]>> = Vec::new(alloc);
     if text.is_empty() {

@@ -1,5 +1,6 @@
 -- A column without a false row answers the function that faults at false.
-use Rattle.std.proofs.Common.{◌≡◌, ◌≢◌, ℕ, zero, suc, ◌<◌, Bool, true, false, List, [], ◌∷◌, length, map, Some, refl, sym, ap, ◌∙◌, subst, arith}
+use Rattle.std.proofs.Common.{◌≡◌, ◌≢◌, ℕ, zero, suc, ◌<◌, Bool, true, false, List, [], ◌∷◌, length}
+use Rattle.std.proofs.Common.{map, Some, refl, sym, ap, ◌∙◌, subst, arith}
 use Rattle.std.specs.Prelude.{All, IsSome, slice_get, Result}
 use Rattle.vortex_errors.specs.declared.error.VortexError.{VortexError}
 use Rattle.vortex_types.specs.LogicalTypes.{LogicalType, bool_type, is_bool_type, is_nullable}
@@ -29,8 +30,11 @@ pub one_bool : (cs : List ColumnView) (c : ColumnView) → IsSome (same_bool (ty
 one_bool [] c h p = cc
 one_bool (x ∷ []) c h p =
     let a : x ≡ c = cc in
-    record
-    { only = cc; bool = subst (λ (d : ColumnView). is_bool_type d.dtype ≡ true) a (one_of x.dtype h) }
+    record {
+      only = cc;
+      bool = subst (λ (d : ColumnView). is_bool_type d.dtype ≡ true) a
+          (one_of x.dtype h);
+    }
 one_bool (x ∷ y ∷ cs) c h p = absurd (not_two x.dtype y.dtype (types_in cs) h)
 
 same_is : (t : LogicalType) → is_bool_type t ≡ true → same_bool (t ∷ []) ≡ Some t

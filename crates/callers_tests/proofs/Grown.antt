@@ -1,5 +1,6 @@
 -- The function that grows: its argument, and what its rule makes of a call.
-use Rattle.std.proofs.Common.{◌≡◌, ℕ, zero, suc, ◌<◌, List, [], ◌∷◌, length, Bool, Option, Some, None, true, sym, refl, ap, ◌∙◌, arith}
+use Rattle.std.proofs.Common.{◌≡◌, ℕ, zero, suc, ◌<◌, List, [], ◌∷◌, length, Bool, Option, Some}
+use Rattle.std.proofs.Common.{None, true, sym, refl, ap, ◌∙◌, arith}
 use Rattle.std.specs.Prelude.{slice_get, IsSome, Result}
 use Rattle.vortex_errors.specs.declared.error.VortexError.{VortexError}
 use Rattle.vortex_errors.specs.Answers.{Answers, AnswersUnlessMemory}
@@ -13,7 +14,8 @@ use Rattle.vortex_meaning.specs.Meaning.{fits}
 use Rattle.vortex_meaning.specs.Shipped.{Not}
 use Rattle.vortex_meaning.specs.Shipped.NotFunction.{not_type}
 use Rattle.vortex_meaning.specs.Functions.{ours, custom}
-use Rattle.vortex_meaning.specs.Trees.{Tree, leaf, constant, call, no_trees, tree, children_of, called}
+use Rattle.vortex_meaning.specs.Trees.{Tree, leaf, constant, call, no_trees, tree, children_of}
+use Rattle.vortex_meaning.specs.Trees.{called}
 use Rattle.vortex_meaning.specs.Eval.{tree_type, tree_types}
 use Rattle.vortex_meaning.specs.ReduceRules.{reduce}
 use Rattle.vortex_meaning.proofs.TypedCalls.{typed_call, types_parts, one_type, type_of_one}

@@ -1,5 +1,6 @@
 -- A column of I32 without an odd number, divided by 2, answers the function that halves.
-use Rattle.std.proofs.Common.{◌≡◌, ℕ, ◌<◌, Bool, true, false, List, [], ◌∷◌, length, Some, None, refl, sym, ap, ◌∙◌, subst, cond, arith}
+use Rattle.std.proofs.Common.{◌≡◌, ℕ, ◌<◌, Bool, true, false, List, [], ◌∷◌, length, Some, None}
+use Rattle.std.proofs.Common.{refl, sym, ap, ◌∙◌, subst, cond, arith}
 use Rattle.std.specs.Prelude.{◌||◌, ◌≤ℤ◌, ℤ, pos, int_div, int_lt, IsSome, slice_get, Result}
 use Rattle.std.proofs.lemmas.Int.{ints}
 use Rattle.vortex_checked.specs.Exact.{is_outside}
@@ -17,7 +18,8 @@ use Rattle.vortex_columns.specs.ScalarOf.{int_scalar}
 use Rattle.vortex_operators.specs.Arithmetic.{arithmetic_value, integer_of_both}
 use Rattle.vortex_kernels.specs.Numeric.{AnswersNumeric, RefusesNumeric, unlike, uneven, faulty}
 use Rattle.vortex_kernels.proofs.Comparing.{constant_has_rows}
-use Rattle.vortex_meaning.specs.Outcomes.{gives, faults, custom, HasCallRows, IsCallFault, types_in, values_at}
+use Rattle.vortex_meaning.specs.Outcomes.{gives, faults, custom, HasCallRows, IsCallFault, types_in}
+use Rattle.vortex_meaning.specs.Outcomes.{values_at}
 use Rattle.callers_tests.specs.Half.{is_odd, half_of, half, same_i32, half_fits}
 
 pub record OneI32 (cs : List ColumnView) (c : ColumnView) : Type 0 where
@@ -135,12 +137,14 @@ module _ (cs : List ColumnView) (c two : ColumnView) (n : ℕ) (one : OneI32 cs 
       → HasCallRows same_i32 (λ ts. half) cs n d
   halved_rows d h =
       let i32 : I32 ≡ h.ptype =
-      type_is c.dtype h.ptype one.dtype (sym (ap (integer_of_both c.dtype) two_type) ∙ h.accepted) in
+      type_is c.dtype h.ptype one.dtype (sym (ap (integer_of_both c.dtype) two_type)
+      ∙ h.accepted) in
       record {
         dtype =
             ap (λ ds. same_i32 (types_in ds)) one.only
             ∙ same_is c.dtype one.dtype
-            ∙ (λ i. Some (integer_type (i32 i) (is_nullable c.dtype || is_nullable (sym two_type i))))
+            ∙ (λ i. Some (integer_type (i32 i)
+            (is_nullable c.dtype || is_nullable (sym two_type i))))
             ∙ ap Some (sym h.rows.dtype);
         count = h.rows.count ∙ count;
         each = λ i lt.

@@ -1,4 +1,5 @@
--- A caller's function of any arguments that is null in each row, with the default validity and no rules.
+-- A caller's function of any arguments that is null in each row, with the default validity and no
+-- rules.
 use Rattle.std.specs.Prelude.{◌≡◌, codes, get_or, Some, None, true, refl}
 use Rattle.std.proofs.Common.{ap, ◌∙◌, arith, sym}
 use Rattle.vortex_errors.specs.declared.arity.Arity.TheVariants.{Variadic}

@@ -8,7 +8,8 @@ use Rattle.vortex_meaning.specs.Eval.{tree_type, tree_types, eval, eval_all}
 use Rattle.vortex_meaning.specs.Rewrites.{Rewrites, LawfulRules}
 use Rattle.vortex_meaning.proofs.TypedCalls.{typed_call, types_parts, means_parts, values_parts}
 use Rattle.vortex_rules.specs.Identities.{IsOwnIdentity, first_letter}
-use Rattle.callers_tests.specs.First.{first_value, first_type, first_tree, first_meaning, first_rules}
+use Rattle.callers_tests.specs.First.{first_value, first_type, first_tree, first_meaning}
+use Rattle.callers_tests.specs.First.{first_rules}
 
 module _ {V O : Type 0} where
   -- the first argument in the place of the call
@@ -18,7 +19,8 @@ module _ {V O : Type 0} where
   first_rewrites f o no_trees t u h e = cc
   first_rewrites f o (tree x ts) t u h e =
       let c = typed_call first_meaning (custom f o) (tree x ts) t h in
-      let p = types_parts (tree_type first_meaning x) (tree_types first_meaning ts) c.types c.children in
+      let p = types_parts (tree_type first_meaning x) (tree_types first_meaning ts) c.types
+      c.children in
       let same : Some p.0 ≡ Some t = ap first_type p.4 ∙ c.returns in
       let is : x ≡ u = cc in
       subst (Rewrites first_meaning (call (custom f o) (tree x ts))) is
@@ -27,7 +29,8 @@ module _ {V O : Type 0} where
         asks = record { leaves = λ cs k. k.0; rows = λ cs i k. k.0; places = λ k. k.0 };
         value = λ cs i w k e.
             let q = means_parts first_value _ w e in
-            let r = values_parts (eval first_meaning cs x i) (eval_all first_meaning cs ts i) q.0 q.1 in
+            let r = values_parts (eval first_meaning cs x i) (eval_all first_meaning cs ts i) q.0
+            q.1 in
             r.2 ∙ ap first_value r.4 ∙ q.2;
       })
 

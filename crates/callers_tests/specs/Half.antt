@@ -1,5 +1,7 @@
--- A caller's function over I32: half of an even number; at an odd one it faults with the number 1, and a null stays null.
-use Rattle.std.specs.Prelude.{◌≡◌, codes, List, [], ◌∷◌, Option, Some, None, Bool, true, false, not, Any, refl, ℤ, pos, int_div, int_rem, if◌then◌else◌, FitsSigned}
+-- A caller's function over I32: half of an even number; at an odd one it faults with the number 1,
+-- and a null stays null.
+use Rattle.std.specs.Prelude.{◌≡◌, codes, List, [], ◌∷◌, Option, Some, None, Bool, true, false, not}
+use Rattle.std.specs.Prelude.{Any, refl, ℤ, pos, int_div, int_rem, if◌then◌else◌, FitsSigned}
 use Rattle.std.specs.Int.{w32}
 use Rattle.std.specs.Ordering.{int_eq}
 use Rattle.std.proofs.Common.{sym, ap, ◌∙◌, subst, cond, arith}

@@ -1,5 +1,7 @@
--- A caller's function over Bool that faults with the number 1 where its argument is false; a null stays null.
-use Rattle.std.specs.Prelude.{◌≡◌, codes, List, [], ◌∷◌, Option, Some, None, true, false, Any, refl, ℕ, zero, suc, ◌<◌, slice_index_or}
+-- A caller's function over Bool that faults with the number 1 where its argument is false; a null
+-- stays null.
+use Rattle.std.specs.Prelude.{◌≡◌, codes, List, [], ◌∷◌, Option, Some, None, true, false, Any, refl}
+use Rattle.std.specs.Prelude.{ℕ, zero, suc, ◌<◌, slice_index_or}
 use Rattle.std.proofs.Common.{sym, ap, ◌∙◌, subst, arith}
 use Rattle.vortex_errors.specs.declared.arity.Arity.TheVariants.{Exact}
 use Rattle.vortex_types.specs.LogicalTypes.{LogicalType, bool_type, is_nullable}

@@ -10,7 +10,8 @@ use vortex_columns::{
 use vortex_functions::{ChildName, EmptyOptions, ExecutionArgs, ScalarFnId, ScalarFnVTable};
 use vortex_kernels::execute_numeric;
 
-/// Over I32: half of an even number; E10 with the number 1 where its argument is odd. A null stays null.
+/// Over I32: half of an even number; E10 with the number 1 where its argument is odd. A null stays
+/// null.
 #[derive(Clone, Drop)]
 pub struct Half;
 

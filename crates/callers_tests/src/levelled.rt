@@ -3,7 +3,8 @@ ghost use Rattle.std.specs.Prelude.{codes};
 ghost use Rattle.vortex_meaning.specs.Shipped.{shipped_lawful};
 ghost use Rattle.vortex_meaning.specs.Shipped as shipped;
 ghost use Rattle.vortex_meaning.specs.ValidityRules.{default_rules};
-ghost use Rattle.callers_tests.specs.LevelledRules.{levelled_meaning, levelled_rules_lawful, levelled_identity};
+ghost use Rattle.callers_tests.specs.LevelledRules.{levelled_meaning, levelled_rules_lawful};
+ghost use Rattle.callers_tests.specs.LevelledRules.{levelled_identity};
 
 use std::alloc::Global;
 use std::fmt;

@@ -1,4 +1,5 @@
-//! Callers' functions, and tests of them: in trees, beside rules, and with faults and options of their own.
+//! Callers' functions, and tests of them: in trees, beside rules, and with faults and options of
+//! their own.
 #![tactic(auto)]
 
 pub mod blank;

@@ -12,7 +12,8 @@ use vortex_columns::{
 };
 use vortex_functions::{ChildName, EmptyOptions, ExecutionArgs, ScalarFnId, ScalarFnVTable};
 
-/// Over Bool: E10 with the number 1 where its argument is false; true stays true, and a null stays null.
+/// Over Bool: E10 with the number 1 where its argument is false; true stays true, and a null stays
+/// null.
 #[derive(Clone, Drop)]
 pub struct MustBeTrue;
 

@@ -75,7 +75,8 @@ fn words_begin_anywhere_and_end_with_the_range(rt: HostRuntime) {
     assert!(rt; is_word(words(alloc, 20, 0), 0));
 }
 
-/// Whether a validity of those bits, and its copy, fit two rows alone, lend the bits and are nullable.
+/// Whether a validity of those bits, and its copy, fit two rows alone, lend the bits and are
+/// nullable.
 fn is_listed(alloc: Global, bits: VortexResult<BitBuffer>) -> VortexResult<bool> {
     let validity = Validity::Array(bits?);
     let copy = validity.try_clone(alloc)?;

@@ -7,7 +7,8 @@ use std::alloc::Global;
 use std::cmp::Ordering;
 use vortex_columns::{Column, PType, ScalarValue, Validity, VortexResult, cell_of};
 
-/// Which parts are lent: bits, integers, bytes, a field, and those of lists, fixed-size lists and maps.
+/// Which parts are lent: bits, integers, bytes, a field, and those of lists, fixed-size lists and
+/// maps.
 fn parts(column: &Column) -> [bool; 7] {
     if column.len() == 0 {
         return [false; 7];

@@ -32,7 +32,8 @@ fn alike(left: &Column, right: &Column) -> bool {
     true
 }
 
-/// Whether the rows of these numbers are those of another column, which is a constant or none as the first is.
+/// Whether the rows of these numbers are those of another column, which is a constant or none as
+/// the first is.
 fn takes(alloc: Global, column: &Column, codes: &[u32], wanted: &Column) -> VortexResult<bool> {
     if !are_below(codes, column.len()) {
         return Ok(false);

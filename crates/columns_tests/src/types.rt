@@ -103,7 +103,8 @@ fn types_change_their_nullability(rt: HostRuntime) {
     assert!(rt; yes(loses_null(alloc, DType::Utf8(NO).with_nullability(YES))));
 }
 
-/// Whether a struct of nullable Bool is a copy of itself, and differs from one of plain Bool by nullability alone.
+/// Whether a struct of nullable Bool is a copy of itself, and differs from one of plain Bool by
+/// nullability alone.
 fn differ_by_null(alloc: Global) -> VortexResult<bool> {
     let types = (DType::Bool(YES), DType::Bool(YES));
     let nullable = DType::Struct(fields(alloc, ("a", "b"), types)?, NO);

@@ -1,4 +1,5 @@
--- A caller's function of any type that faults with the number 2 where its argument is null; any other value stays.
+-- A caller's function of any type that faults with the number 2 where its argument is null; any
+-- other value stays.
 use Rattle.std.specs.Prelude.{◌≡◌, codes, List, [], ◌∷◌, Option, Some, None, false, refl}
 use Rattle.std.proofs.Common.{subst}
 use Rattle.vortex_errors.specs.declared.arity.Arity.TheVariants.{Exact}

@@ -1,5 +1,5 @@
-//! Tests of dictionaries: what they stand for, their kernels, and functions that are pushed down to their values, a caller's
-//! among them.
+//! Tests of dictionaries: what they stand for, their kernels, and functions that are pushed down to
+//! their values, a caller's among them.
 #![tactic(auto)]
 
 #[cfg(test)]

@@ -24,7 +24,8 @@ use Rattle.vortex_columns.specs.Stored.{bool_column}
 use Rattle.vortex_columns.specs.ValidityView.{ValidityView, is_valid_row, FitsRows}
 use Rattle.std.proofs.lemmas.List.Elements.{All-get_or}
 use Rattle.vortex_kernels.specs.Rows.{HasRows}
-use Rattle.vortex_kernels.specs.Comparison.{AnswersCompare, RefusesCompare, HasComparisonRows, uneven, unlike}
+use Rattle.vortex_kernels.specs.Comparison.{AnswersCompare, RefusesCompare, HasComparisonRows}
+use Rattle.vortex_kernels.specs.Comparison.{uneven, unlike}
 use Rattle.vortex_operators.specs.declared.operators.CompareOperator.{CompareOperator}
 use Rattle.vortex_types.specs.TypeEquality.{alike_types}
 use Rattle.vortex_kernels.proofs.Comparing.{constant_row}
@@ -85,7 +86,8 @@ bool_run_rows c starts n bits v r bool within typed valid are answered =
     (typed_row c (run_at starts i) typed (run_within starts i (length c.rows) within)))
     answered)
 
-integer_dtype : (p : PType) (t : LogicalType) → IsIntegerType p t → integer_type p (is_nullable t) ≡ t
+integer_dtype : (p : PType) (t : LogicalType) → IsIntegerType p t
+    → integer_type p (is_nullable t) ≡ t
 integer_dtype p (integer_type q n) h = ap (λ x. integer_type x n) (sym h)
 integer_dtype p t h = absurd h
 
@@ -111,7 +113,8 @@ module _ {A : Type 0} (p : PType) (number_of : A → ℤ) (c : ColumnView) (star
     int_run_row i lt =
         let below = run_within starts i (length c.rows) within in
         (λ j. cond (valid.each i lt j) (number (are.each i lt j)) null)
-        ∙ number_row (row c.rows (run_at starts i)) (slice_index_or values (run_at starts i) (pos 0))
+        ∙ number_row (row c.rows (run_at starts i))
+        (slice_index_or values (run_at starts i) (pos 0))
         (λ h. ints.1.each (run_at starts i) (omega (arith, ints.1.count, below)) h)
 
     int_run_made : (d : ColumnView) → d ≡ int_column p number_of xs v → HasRunRows c starts n d
@@ -133,11 +136,13 @@ module _ {A : Type 0} (p : PType) (number_of : A → ℤ) (c : ColumnView) (star
         cell k = cond (is_valid_row v k) (number (slice_index_or (map number_of xs) k (pos 0))) null
 
     pub int_run_rows : (r : Result ColumnView VortexError)
-        → AnswersWhere r (FitsRows v (length xs)) (λ d. d ≡ int_column p number_of xs v) InvalidColumn
+        → AnswersWhere r (FitsRows v (length xs)) (λ d. d ≡ int_column p number_of xs v)
+        InvalidColumn
         → AnswersUnlessMemory r (HasRunRows c starts n)
     int_run_rows r answered =
         answers_where r (FitsRows v (length xs)) (λ d. d ≡ int_column p number_of xs v)
-        (HasRunRows c starts n) InvalidColumn (subst (λ (m : ℕ). FitsRows v m) (sym count) valid.fits)
+        (HasRunRows c starts n) InvalidColumn
+        (subst (λ (m : ℕ). FitsRows v m) (sym count) valid.fits)
         int_run_made answered
 
 -- the rows of the column that runs stand for
@@ -219,7 +224,8 @@ bool_kept c kept none = by (is_bool_type c.dtype) (is_i32 c.dtype) c.constant ke
     by : (a b : Bool) (o : Option ScalarView) → (a || (b && not (is_some o))) ≡ true
         → is_i32 c.dtype ≡ b → c.constant ≡ o → a ≡ true
     by true b o h e f = refl
-    by false true None h e f = absurd (none record { integers = is_i32_type c.dtype e; computed = f })
+    by false true None h e f = absurd (none record
+        { integers = is_i32_type c.dtype e; computed = f })
     by false true (Some s) h e f = cc
     by false false o h e f = cc
 
@@ -235,7 +241,8 @@ not_refused c d e alike lengths (unlike same settled h p) = cc
 
 pub boolean_of_runs : (op : Operator) (c v other runs r d : ColumnView) (s : ScalarView)
     (starts : List ℕ) (n : ℕ)
-    → v ≡ c → r ≡ runs → length starts < length c.rows → other ≡ constant_column s (length other.rows)
+    → v ≡ c → r ≡ runs → length starts < length c.rows
+    → other ≡ constant_column s (length other.rows)
     → length (run_column c starts n).rows ≡ length other.rows → is_boolean op ≡ true
     → are_bools (run_column c starts n) other ≡ true
     → HasBooleanRows op v (constant_column s (length v.rows)) runs → HasRunRows r starts n d
@@ -243,7 +250,9 @@ pub boolean_of_runs : (op : Operator) (c v other runs r d : ColumnView) (s : Sca
 boolean_of_runs op c v other runs r d s starts n at from within is lengths boolean bools told h =
     let rows =
     rows_of_runs (boolean_value op) (bool_type (is_nullable c.dtype || is_nullable s.dtype)) c
-    other runs d s starts n within is (sym (run_count c starts n) ∙ lengths) (subst (λ (x : ColumnView). HasBooleanRows op x (constant_column s (length x.rows)) runs) at told)
+    other runs d s starts n within is (sym (run_count c starts n) ∙ lengths)
+    (subst (λ (x : ColumnView). HasBooleanRows op x (constant_column s (length x.rows)) runs) at
+    told)
     (subst (λ (x : ColumnView). HasRunRows x starts n d) from h) in
     record {
       operator = boolean;
@@ -251,7 +260,8 @@ boolean_of_runs op c v other runs r d s starts n at from within is lengths boole
       rows = record {
         dtype =
             rows.dtype
-            ∙ ap (λ (x : ColumnView). bool_type (is_nullable c.dtype || is_nullable x.dtype)) (sym is);
+            ∙ ap (λ (x : ColumnView). bool_type (is_nullable c.dtype || is_nullable x.dtype))
+            (sym is);
         count = rows.count;
         each = rows.each;
       };
@@ -259,7 +269,8 @@ boolean_of_runs op c v other runs r d s starts n at from within is lengths boole
 
 pub comparison_of_runs : (op : CompareOperator) (c v other runs r d : ColumnView) (s : ScalarView)
     (starts : List ℕ) (n : ℕ)
-    → v ≡ c → r ≡ runs → length starts < length c.rows → other ≡ constant_column s (length other.rows)
+    → v ≡ c → r ≡ runs → length starts < length c.rows
+    → other ≡ constant_column s (length other.rows)
     → length (run_column c starts n).rows ≡ length other.rows
     → alike_types c.dtype other.dtype ≡ true
     → HasComparisonRows op v (constant_column s (length v.rows)) runs → HasRunRows r starts n d
@@ -267,11 +278,14 @@ pub comparison_of_runs : (op : CompareOperator) (c v other runs r d : ColumnView
 comparison_of_runs op c v other runs r d s starts n at from within is lengths alike told h =
     let rows =
     rows_of_runs (comparison_value op) (comparison_type c.dtype s.dtype) c other runs d s starts
-    n within is (sym (run_count c starts n) ∙ lengths) (subst (λ (x : ColumnView). HasComparisonRows op x (constant_column s (length x.rows)) runs) at told)
+    n within is (sym (run_count c starts n) ∙ lengths)
+    (subst (λ (x : ColumnView). HasComparisonRows op x (constant_column s (length x.rows)) runs)
+    at told)
     (subst (λ (x : ColumnView). HasRunRows x starts n d) from h) in
     record {
       lengths = lengths;
-      accepted = either_true (is_settled (run_column c starts n) other) (alike_types c.dtype other.dtype) alike;
+      accepted = either_true (is_settled (run_column c starts n) other)
+          (alike_types c.dtype other.dtype) alike;
       rows = record {
         dtype = rows.dtype ∙ ap (λ (x : ColumnView). comparison_type c.dtype x.dtype) (sym is);
         count = rows.count;
@@ -295,7 +309,8 @@ more_ints values starts n rows z are is = record {
     is_or_less i lt = grind arith
 
     by : (i : ℕ) → (i < n) ⊎ (i ≡ n)
-        → slice_index_or (rows ++ z ∷ []) i (pos 0) ≡ slice_index_or values (run_at starts i) (pos 0)
+        → slice_index_or (rows ++ z ∷ []) i (pos 0)
+        ≡ slice_index_or values (run_at starts i) (pos 0)
     by i (inl lt) =
         get_or-before (pos 0) rows z i (omega (arith, are.count, lt)) ∙ are.each i lt
     by i (inr e) =

@@ -11,8 +11,9 @@ use vortex_columns::{Column, DType, ExecutionCtx, Scalar, VortexError, VortexRes
 use vortex_encoded::{BooleanKernel, CompareKernel, EncodedColumn};
 use vortex_kernels::{CompareOperator, Operator, execute_boolean, execute_compare};
 
-/// A column of Bool or i32 by its runs: the value of each, the row in which each but the first begins, and how many rows
-/// there are. Its kernels answer beside constants: And and Or beside null, comparisons beside any other value.
+/// A column of Bool or i32 by its runs: the value of each, the row in which each but the first
+/// begins, and how many rows there are. Its kernels answer beside constants: And and Or beside
+/// null, comparisons beside any other value.
 #[derive(Drop)]
 pub struct RunLength {
     values: Box<Column>,
@@ -50,7 +51,8 @@ fn rows_of(
 }
 
 impl RunLength {
-    /// E12 for fewer values than runs, and for values that are neither Bool nor i32, or a constant column of the latter.
+    /// E12 for fewer values than runs, and for values that are neither Bool nor i32, or a constant
+    /// column of the latter.
     pub fn try_new(values: Box<Column>, starts: Vec<usize>, len: usize) -> VortexResult<RunLength> {
         if starts.len() >= values.len() {
             return Err(VortexError::InvalidColumn);

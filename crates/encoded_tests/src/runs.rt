@@ -1,5 +1,6 @@
 //! The rows that runs stand for.
-ghost use Rattle.std.specs.Prelude.{◌≡◌, ◌<◌, ◌≤◌, ℕ, false, length, map, not, slice_index_or, true};
+ghost use Rattle.std.specs.Prelude.{◌≡◌, ◌<◌, ◌≤◌, ℕ, false, length, map, not, slice_index_or};
+ghost use Rattle.std.specs.Prelude.{true};
 ghost use Rattle.encoded_tests.specs.Words.{AnswersUnlessMemory, AreInts, AreRunInts, HasInts};
 ghost use Rattle.encoded_tests.specs.Words.{HasRunRows, IsIntegerType, IsRunValidity, cell_value};
 ghost use Rattle.encoded_tests.specs.Words.{is_bool_type, is_null, is_true, row, run_at};
@@ -9,7 +10,8 @@ use std::alloc::Global;
 use vortex_bits::{RowBits, collect_rows};
 use vortex_columns::{Cell, Column, NativePType, Validity, VortexResult};
 
-/// The run that a row lies in: how many begin at it or before it, the first, which begins at row 0, not counted.
+/// The run that a row lies in: how many begin at it or before it, the first, which begins at row 0,
+/// not counted.
 fn run_of(starts: &[usize], i: usize) -> usize
     ensures says { result ≡ run_at starts.now i }
     ensures within { result ≤ length starts.now }

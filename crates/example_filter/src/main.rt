@@ -1,6 +1,7 @@
 //! An example to copy: a filter over two columns, made, optimised, executed and printed.
 //!
-//! Which goods are cheap and in stock: `(is_not_null((stock + ordered)) and (price < 10))` over columns of three rows.
+//! Which goods are cheap and in stock: `(is_not_null((stock + ordered)) and (price < 10))` over
+//! columns of three rows.
 #![tactic(auto)]
 
 mod table;

@@ -1,4 +1,5 @@
-//! Options as bytes, and functions as values: their texts, and which are found where others are kept.
+//! Options as bytes, and functions as values: their texts, and which are found where others are
+//! kept.
 
 use fixtures::{is_refused, yes};
 use std::alloc::Global;

@@ -1,4 +1,5 @@
-//! Tests of functions and of their calls in trees: names and marks, what is refused when a tree is bound, literals and texts.
+//! Tests of functions and of their calls in trees: names and marks, what is refused when a tree is
+//! bound, literals and texts.
 #![tactic(auto)]
 
 #[cfg(test)]

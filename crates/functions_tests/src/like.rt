@@ -101,7 +101,8 @@ fn texts_and_patterns(alloc: Global) -> VortexResult<Vec<Column>> {
     )
 }
 
-/// Whether LIKE with these options answers these rows of two texts, each beside a pattern of its own.
+/// Whether LIKE with these options answers these rows of two texts, each beside a pattern of its
+/// own.
 fn says(alloc: Global, options: LikeOptions, wanted: &[Option<bool>]) -> VortexResult<bool> {
     let types = (DType::Utf8(NO), DType::Utf8(NO));
     let tree = like_of::<NoCustom>(alloc, options, types);

@@ -41,7 +41,8 @@ fn is_constant(
     has_in_each_row(alloc, column, wanted, row_count)
 }
 
-/// Whether a tree over no columns answers a constant column of its own type, with that scalar in so many rows.
+/// Whether a tree over no columns answers a constant column of its own type, with that scalar in so
+/// many rows.
 fn is_constant_by<C: ScalarFnVTable>(
     alloc: Global,
     tree: &BoundExpression<C>,

@@ -1,5 +1,5 @@
-//! Truth values that begin anywhere in their bytes: And, Or, Not and the comparisons answer what a loop over the rows says,
-//! whatever bits stand under nulls and around the rows.
+//! Truth values that begin anywhere in their bytes: And, Or, Not and the comparisons answer what a
+//! loop over the rows says, whatever bits stand under nulls and around the rows.
 
 use fixtures::{Made, kept, rows_of, yes};
 use std::alloc::Global;
@@ -30,7 +30,8 @@ const ASKED: [Asked; 9] = [
     Asked::Compared(CompareOperator::Lte),
 ];
 
-/// A side: in which bit it begins, by which of two patterns its rows go, and what every bit is that is no row's.
+/// A side: in which bit it begins, by which of two patterns its rows go, and what every bit is that
+/// is no row's.
 #[derive(Clone, Copy)]
 struct Side {
     offset: usize,

@@ -1,4 +1,5 @@
-//! Comparisons of the least and the greatest value of each integer type, in columns and in constants.
+//! Comparisons of the least and the greatest value of each integer type, in columns and in
+//! constants.
 
 use crate::questions::{COMPARISONS, compared, says};
 use fixtures::{Made, constant, kept, numbers, yes};
@@ -108,7 +109,8 @@ fn least_compares<T: NativePType>(
     says(alloc, answer, &of_the_least(operator))
 }
 
-/// Whether the least and the greatest value of a type compare as they should, in columns and in constants.
+/// Whether the least and the greatest value of a type compare as they should, in columns and in
+/// constants.
 fn compares<T: NativePType>(alloc: Global, ptype: PType, least: T, greatest: T) -> bool {
     for operator in COMPARISONS {
         if !yes(columns_compare(alloc, operator, least, greatest))

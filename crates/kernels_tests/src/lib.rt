@@ -1,4 +1,5 @@
-//! Tests of the kernels, of the operators that choose them, and of checked arithmetic, with values from outside.
+//! Tests of the kernels, of the operators that choose them, and of checked arithmetic, with values
+//! from outside.
 #![tactic(auto)]
 
 #[cfg(test)]

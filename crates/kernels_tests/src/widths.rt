@@ -1,4 +1,5 @@
-//! The least and the greatest value of each integer type with 1, -1 and 0, in each form of the sides, by exact arithmetic.
+//! The least and the greatest value of each integer type with 1, -1 and 0, in each form of the
+//! sides, by exact arithmetic.
 
 use crate::questions::{PLAIN, calculated, has_numbers};
 use fixtures::{Made, constant, is_refused, kept, yes};

@@ -1,4 +1,5 @@
-//! And, Or, Not and comparisons of bits at any offset, whatever lies under nulls and outside the range.
+//! And, Or, Not and comparisons of bits at any offset, whatever lies under nulls and outside the
+//! range.
 ghost use Rattle.std.specs.Prelude.{◌≡◌, true};
 ghost use Rattle.vortex_operators.specs.Operators.{is_boolean};
 

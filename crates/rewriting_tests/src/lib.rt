@@ -1,4 +1,5 @@
-//! Tests of rules at places of a tree, of the driver and of runs, and of the caller that the README shows.
+//! Tests of rules at places of a tree, of the driver and of runs, and of the caller that the README
+//! shows.
 #![tactic(auto)]
 
 #[cfg(test)]

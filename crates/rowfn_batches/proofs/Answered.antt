@@ -1,5 +1,6 @@
 -- What was answered so far, and one answer more.
-use Rattle.std.proofs.Common.{◌≡◌, ℕ, zero, suc, ◌<◌, List, [], ◌∷◌, ◌++◌, map, length, take, get_or}
+use Rattle.std.proofs.Common.{◌≡◌, ℕ, zero, suc, ◌<◌, List, [], ◌∷◌, ◌++◌, map, length, take}
+use Rattle.std.proofs.Common.{get_or}
 use Rattle.std.proofs.Common.{refl, sym, subst, inl, inr, arith}
 use Rattle.std.specs.Prelude.{◌⊎◌, All, Result, Ok, Err, IsErrAnd}
 use Rattle.vortex_errors.specs.Answers.{Answers, UnlessMemory}

@@ -1,6 +1,8 @@
 -- The names of trees in a header, and how a text ends.
-use Rattle.std.proofs.Common.{◌≡◌, ℕ, zero, suc, ◌+◌, ◌<◌, List, [], ◌∷◌, ◌++◌, map, length, take, get_or}
-use Rattle.std.proofs.Common.{sym, ap, subst, ◌∙◌, refl, arith, Option, Some, None, option_map, Bor, String}
+use Rattle.std.proofs.Common.{◌≡◌, ℕ, zero, suc, ◌+◌, ◌<◌, List, [], ◌∷◌, ◌++◌, map, length, take}
+use Rattle.std.proofs.Common.{get_or}
+use Rattle.std.proofs.Common.{sym, ap, subst, ◌∙◌, refl, arith, Option, Some, None, option_map, Bor}
+use Rattle.std.proofs.Common.{String}
 use Rattle.std.specs.Prelude.{slice_get}
 use Rattle.std.specs.Slice.{IsItemAt}
 use Rattle.std.specs.declared.alloc.Global.{Global}
@@ -16,7 +18,8 @@ use Rattle.rowfn_scripts.specs.declared.stop.Stop.{Stop}
 use Rattle.rowfn_scripts.specs.declared.stop.Stop.TheVariants.{Refused, Malformed}
 use Rattle.rowfn_batches.specs.declared.expression.ExpressionError.TheVariants as error
 use Rattle.rowfn_batches.specs.Lines.{ReadingView, given_in, ReadsLine, StopsBy}
-use Rattle.rowfn_batches.specs.Expressions.{joined, given_at, IsHeader, AreHeaders, ending_of, Reaches}
+use Rattle.rowfn_batches.specs.Expressions.{joined, given_at, IsHeader, AreHeaders, ending_of}
+use Rattle.rowfn_batches.specs.Expressions.{Reaches}
 use Rattle.rowfn_batches.specs.Expressions.{Stops, line_at}
 
 -- the name that is lent

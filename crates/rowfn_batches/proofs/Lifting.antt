@@ -1,5 +1,6 @@
 -- From what a line makes of the session to what it makes of the reading, and names of trees.
-use Rattle.std.proofs.Common.{◌≡◌, ℕ, ◌-◌, ◌<◌, List, [], ◌∷◌, ◌++◌, map, length, take, sym, ap, subst}
+use Rattle.std.proofs.Common.{◌≡◌, ℕ, ◌-◌, ◌<◌, List, [], ◌∷◌, ◌++◌, map, length, take, sym, ap}
+use Rattle.std.proofs.Common.{subst}
 use Rattle.std.proofs.Common.{◌∙◌, refl, Option, Some, None, arith, Bool, true, false}
 use Rattle.std.proofs.Common.{nat_lt, String, string_bytes}
 use Rattle.std.specs.Prelude.{if◌then◌else◌}
@@ -19,7 +20,8 @@ use Rattle.rowfn_scripts.specs.Stepping as stepping
 use Rattle.rowfn_batches.specs.declared.columns.Declared.{Declared}
 use Rattle.rowfn_batches.specs.Fields.{declared_type}
 use Rattle.rowfn_batches.specs.Lines.{ReadingView, reads, is_refused, is_wrong, Lifts, StopsBy}
-use Rattle.rowfn_batches.specs.Lines.{MakesColumn, with_column, with_pushed, with_tree, named, given_in}
+use Rattle.rowfn_batches.specs.Lines.{MakesColumn, with_column, with_pushed, with_tree, named}
+use Rattle.rowfn_batches.specs.Lines.{given_in}
 use Rattle.rowfn_batches.specs.Lines.{declared_in, reading_of, has_cells}
 
 module _ {V O : Type 0} where
@@ -91,7 +93,8 @@ module _ {V O : Type 0} where
       → reads (reading_of s ds (kept ++ Some given ∷ [])) ≡ named name (reading_of s ds names)
   named_last s ds names kept given name some e f =
       let l : length (map given_in names) ≡ length names = length-map names given_in in
-      let less : nat_lt 0 (length (map given_in names)) ≡ true = lt-ltb 0 _ (omega (arith, l, some)) in
+      let less : nat_lt 0 (length (map given_in names))
+      ≡ true = lt-ltb 0 _ (omega (arith, l, some)) in
       let made : map given_in (kept ++ Some given ∷ [])
       ≡ take (length (map given_in names) - 1) (map given_in names) ++ Some name ∷ [] =
       map-append given_in kept (Some given ∷ [])

@@ -10,12 +10,14 @@ use Rattle.vortex_columns.specs.ColumnView.{ColumnView, row}
 use Rattle.vortex_meaning.specs.Outcomes.{Outcome, gives, faults, Fault, error_of, GivesValue}
 use Rattle.vortex_meaning.specs.Meaning.{Meaning}
 use Rattle.vortex_meaning.specs.Functions.{function_means}
-use Rattle.vortex_meaning.specs.Trees.{Leaf, place, held, Tree, leaf, constant, call, Trees, no_trees}
+use Rattle.vortex_meaning.specs.Trees.{Leaf, place, held, Tree, leaf, constant, call, Trees}
+use Rattle.vortex_meaning.specs.Trees.{no_trees}
 use Rattle.vortex_meaning.specs.Trees.{tree}
 use Rattle.vortex_meaning.specs.Eval.{Inputs, one_faults, with_first, then_means, tree_types}
 use Rattle.vortex_meaning.specs.Eval.{types_or_none, rows_or_none, leaf_value, eval, eval_all}
 use Rattle.vortex_meaning.specs.Eval.{IsFirstFault, IsFirstFaultIn}
-use Rattle.vortex_meaning.specs.Execution.{LeafFits, LeavesFit, AllLeavesFit, other_length, Executes}
+use Rattle.vortex_meaning.specs.Execution.{LeafFits, LeavesFit, AllLeavesFit, other_length}
+use Rattle.vortex_meaning.specs.Execution.{Executes}
 use Rattle.vortex_meaning.specs.Execution.{RefusesExecution, misfit, faulty, unfit}
 use Rattle.vortex_meaning.specs.Execution.{uneven}
 use Rattle.vortex_meaning.specs.Bound.{IsPlace, IsBound, AllBound}
@@ -151,8 +153,11 @@ module _ {V O : Type 0} (m : Meaning V O) (cs : List ColumnView) (n i : ℕ) whe
   all_give_there [] [] bound h = tt
   all_give_there [] (d ∷ ds) bound h = absurd h
   all_give_there (t ∷ ts) [] bound h = absurd h
-  all_give_there (t ∷ ts) (d ∷ ds) bound h =
-      (gives_there m cs i t (all_head IsBound t ts bound) d h.0, all_give_there ts ds (all_tail IsBound t ts bound) h.1)
+  all_give_there (t ∷ ts) (d ∷ ds) bound h = (
+    gives_there m cs i t (all_head IsBound t ts bound) d h.0,
+    all_give_there ts ds
+        (all_tail IsBound t ts bound) h.1,
+  )
 
   -- the first that is refused over the row faults there
   pub faults_first_there : (ts : List (Tree V O)) (e : VortexError) → All IsBound ts
@@ -161,7 +166,11 @@ module _ {V O : Type 0} (m : Meaning V O) (cs : List ColumnView) (n i : ℕ) whe
   faults_first_there (t ∷ ts) e bound fit (inl r) =
       inl (faults_there m cs i t (all_head IsBound t ts bound) e fit.0.0 r)
   faults_first_there (t ∷ ts) e bound fit (inr r) =
-      inr (gives_there m cs i t (all_head IsBound t ts bound) r.0 r.1, faults_first_there ts e (all_tail IsBound t ts bound) fit.1 r.2)
+      inr (
+        gives_there m cs i t (all_head IsBound t ts bound) r.0 r.1,
+        faults_first_there ts e
+            (all_tail IsBound t ts bound) fit.1 r.2,
+      )
 
 -- columns that serve some tree have the row count
 pub all_counted : {V O : Type 0} (cs : List ColumnView) (n : ℕ) (ts : List (Tree V O))

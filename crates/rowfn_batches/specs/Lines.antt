@@ -12,7 +12,8 @@ use Rattle.vortex_columns.specs.ColumnView.{ColumnView}
 use Rattle.vortex_meaning.specs.Meaning.{Meaning}
 use Rattle.vortex_meaning.specs.Rules.{Rules}
 use Rattle.rowfn_lines.specs.Lines.{Word, plain, words_of}
-use Rattle.rowfn_lines.specs.Commands.{Command, nothing, malformed, rows, column, get, literal, call}
+use Rattle.rowfn_lines.specs.Commands.{Command, nothing, malformed, rows, column, get, literal}
+use Rattle.rowfn_lines.specs.Commands.{call}
 use Rattle.rowfn_lines.specs.Commands.{show, optimize, run, run_after, command_of, is_name}
 use Rattle.rowfn_batches.specs.declared.columns.Declared.{Declared}
 use Rattle.rowfn_batches.specs.Fields.{declared_type}
@@ -88,7 +89,8 @@ module _ {V O : Type 0} where
   abbrev pub with_session : ReadingView V O → SessionView V O → ReadingView V O
   with_session s t = record s { session = t }
 
-  abbrev pub with_column : List ℕ → LogicalType → ReadingView V O → SessionView V O → ReadingView V O
+  abbrev pub with_column : List ℕ → LogicalType → ReadingView V O → SessionView V O
+      → ReadingView V O
   with_column name t s q =
       record s { session = q; columns = s.columns ++ (name, t) ∷ [] }
 

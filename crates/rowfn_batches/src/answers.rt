@@ -4,7 +4,8 @@ ghost use Rattle.vortex_errors.specs.declared.error.VortexError.TheVariants.{Out
 ghost use Rattle.vortex_errors.specs.Answers.{Answers, AnswersUnlessMemory};
 ghost use Rattle.vortex_meaning.specs.Bound.{IsBound};
 ghost use Rattle.rowfn_batches.specs.Executing.{AnswersAll, AnswersFirstFault, AllFit};
-ghost use Rattle.rowfn_batches.specs.Executing.{RefusesColumnsFirst, FaultsFirst, AllGive, row_column};
+ghost use Rattle.rowfn_batches.specs.Executing.{RefusesColumnsFirst, FaultsFirst, AllGive};
+ghost use Rattle.rowfn_batches.specs.Executing.{row_column};
 
 use crate::expression::{Answer, Expression};
 use std::alloc::Global;
@@ -46,8 +47,8 @@ fn execute_all<C: ScalarFnVTable>(
     Ok(executed)
 }
 
-/// Whether the columns serve each tree and have the row count. It says too that each tree's leaves are
-/// places in a scope.
+/// Whether the columns serve each tree and have the row count. It says too that each tree's leaves
+/// are places in a scope.
 fn check_columns<C: ScalarFnVTable>(
     answers: &[Answer<C>],
     columns: &[Column],

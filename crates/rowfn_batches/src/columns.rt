@@ -1,11 +1,13 @@
 //! The columns that an expression declares, and what the fields of a batch make of them.
-ghost use Rattle.std.specs.Prelude.{◌≡◌, ◌<◌, ◌*◌, ◌↔◌, IsTrue, IfOk, None, map, length, MatchOption};
+ghost use Rattle.std.specs.Prelude.{◌≡◌, ◌<◌, ◌*◌, ◌↔◌, IsTrue, IfOk, None, map, length};
+ghost use Rattle.std.specs.Prelude.{MatchOption};
 ghost use Rattle.std.specs.Prelude.{List};
 ghost use Rattle.vortex_columns.specs.ColumnView.{ColumnView};
 ghost use Rattle.vortex_errors.specs.Answers.{AnswersUnlessMemory};
 ghost use Rattle.rowfn_lines.specs.Lines.{word_in};
 ghost use Rattle.rowfn_batches.specs.Fields.{field_in};
-ghost use Rattle.rowfn_batches.specs.Batches.{words_at, column_at, AllFit, IsFirstMisfit, AreColumns};
+ghost use Rattle.rowfn_batches.specs.Batches.{words_at, column_at, AllFit, IsFirstMisfit};
+ghost use Rattle.rowfn_batches.specs.Batches.{AreColumns};
 ghost use Rattle.rowfn_batches.specs.Batches.{AreEven, RefusesBatch, ReadsColumns};
 
 use crate::fields::{field_fits, field_word};
@@ -163,12 +165,13 @@ fn is_even(width: usize, row_count: usize, count: usize) -> bool
     }
 }
 
-/// The columns of a batch, in the order in which they are declared. The fields stand row by row, one
-/// for each column; `None` is a null field.
+/// The columns of a batch, in the order in which they are declared. The fields stand row by row,
+/// one for each column; `None` is a null field.
 ///
-/// A field is the cell of a script as it stands, but that a text's has no quotes, and `null` spelled
-/// out is no null: a text of four letters in a text's column, and in any other a misfit. Bytes that
-/// are not UTF-8 fit no column. Which field is told, and when none is, `BatchError` says.
+/// A field is the cell of a script as it stands, but that a text's has no quotes, and `null`
+/// spelled out is no null: a text of four letters in a text's column, and in any other a misfit.
+/// Bytes that are not UTF-8 fit no column. Which field is told, and when none is, `BatchError`
+/// says.
 pub fn read_columns(
     alloc: Global,
     declared: &[Declared],

@@ -1,5 +1,6 @@
 //! Expressions: what their lines declare and leave.
-ghost use Rattle.std.specs.Prelude.{◌≡◌, ◌≢◌, ◌+◌, ◌<◌, ◌⊎◌, [], map, reverse, length, slice_get, string_bytes, MatchResult};
+ghost use Rattle.std.specs.Prelude.{◌≡◌, ◌≢◌, ◌+◌, ◌<◌, ◌⊎◌, [], map, reverse, length, slice_get};
+ghost use Rattle.std.specs.Prelude.{string_bytes, MatchResult};
 ghost use Rattle.vortex_errors.specs.Answers.{AnswersUnlessMemory};
 ghost use Rattle.vortex_meaning.specs.ValidityRules.{default_rules};
 ghost use Rattle.vortex_functions.specs.Fixed.{fixed_meaning};
@@ -7,7 +8,8 @@ ghost use Rattle.vortex_functions.specs.declared.custom.NoCustom.{NoCustom};
 ghost use Rattle.vortex_interface.specs.declared.options.EmptyOptions.{EmptyOptions};
 ghost use Rattle.rowfn_lines.specs.Lines.{lines_of};
 ghost use Rattle.rowfn_batches.specs.Lines.{reading_of, declared_in, given_in};
-ghost use Rattle.rowfn_batches.specs.Expressions.{line_behind, given_at, IsHeader, AreHeaders, ReadsAll, Stops};
+ghost use Rattle.rowfn_batches.specs.Expressions.{line_behind, given_at, IsHeader, AreHeaders};
+ghost use Rattle.rowfn_batches.specs.Expressions.{ReadsAll, Stops};
 ghost use Rattle.rowfn_batches.specs.Expressions.{Leaves, LeavesNone, ending_of};
 
 use crate::columns::Declared;
@@ -179,8 +181,8 @@ fn read<C: ScalarFnRules>(alloc: Global, text: &[u8]) -> Result<Expression<C>, E
 /// Reads an expression.
 ///
 /// Its lines are lines of scripts: `col name type` without cells declares a column, and `get`,
-/// `lit`, `call` and `optimize` make trees. `as name` names the last tree for a header, until a call
-/// takes it; a tree without a name has its text there. At the end at least one tree is left.
+/// `lit`, `call` and `optimize` make trees. `as name` names the last tree for a header, until a
+/// call takes it; a tree without a name has its text there. At the end at least one tree is left.
 /// docs/STREAM.md has each line with an example.
 pub fn read_expression(alloc: Global, text: &[u8]) -> Result<Expression<NoCustom>, ExpressionError>
     ensures { let m = fixed_meaning {V = NoCustom} {O = EmptyOptions} in

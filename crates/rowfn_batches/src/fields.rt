@@ -2,7 +2,8 @@
 ghost use Rattle.std.specs.Prelude.{◌≡◌};
 ghost use Rattle.vortex_errors.specs.Answers.{AnswersUnlessMemory};
 ghost use Rattle.rowfn_lines.specs.Lines.{word_in};
-ghost use Rattle.rowfn_batches.specs.Fields.{field_in, bare_word, text_word, field_word, field_fits};
+ghost use Rattle.rowfn_batches.specs.Fields.{field_in, bare_word, text_word, field_word};
+ghost use Rattle.rowfn_batches.specs.Fields.{field_fits};
 
 use crate::columns::Declared;
 use rowfn_lines::cells::literal_said;

@@ -30,8 +30,8 @@ pub struct Reading<C: ScalarFnVTable> {
     names: Vec<Option<String>>,
 }
 
-/// The kind of the cells of a column of that type, and whether null is among them; nothing of a type
-/// that no cells have.
+/// The kind of the cells of a column of that type, and whether null is among them; nothing of a
+/// type that no cells have.
 fn kind_of(dtype: &DType) -> Option<(Kind, Nullability)>
     ensures { MatchOption result (has_cells (type_of dtype.now) ≡ false)
         (λ p. (has_cells (type_of dtype.now) ≡ true)

@@ -36,8 +36,8 @@ pub struct Rows<'a, R> {
     is_marked: bool,
 }
 
-/// What is told of a read that failed. A call of its own, so that a row that is read has no room for
-/// errors to clear.
+/// What is told of a read that failed. A call of its own, so that a row that is read has no room
+/// for errors to clear.
 #[cold]
 #[inline(never)]
 fn read_error(error: Error) -> ReadError {
@@ -185,8 +185,8 @@ impl<'a, R: Read> Rows<'a, R> {
         Ok(self.reads_null(index) && !self.is_quoted(index)?)
     }
 
-    /// Adds the fields of the last record at those places to the batch, as a row; an empty one where
-    /// the record has none. Refused only for want of memory.
+    /// Adds the fields of the last record at those places to the batch, as a row; an empty one
+    /// where the record has none. Refused only for want of memory.
     pub fn add_to(&mut self, batch: &mut Batch, places: &[usize]) -> Result<(), AllocError> {
         for place in places {
             let is_null = self.is_null(*place)?;

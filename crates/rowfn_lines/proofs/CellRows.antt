@@ -19,14 +19,16 @@ use Rattle.vortex_errors.proofs.Answering.{Answers-weaker}
 use Rattle.vortex_types.specs.LogicalTypes.{LogicalType, bool_type, integer_type, text_type}
 use Rattle.vortex_types.specs.LogicalTypes.{is_nullable}
 use Rattle.vortex_types.specs.Values.{Value, null, truth, number, text}
-use Rattle.vortex_columns.specs.ValidityView.{ValidityView, FitsRows, is_valid_row, form_allows_null}
+use Rattle.vortex_columns.specs.ValidityView.{ValidityView, FitsRows, is_valid_row}
+use Rattle.vortex_columns.specs.ValidityView.{form_allows_null}
 use Rattle.vortex_columns.specs.ValidityView.{array, non_nullable}
 use Rattle.vortex_columns.specs.ColumnView.{ColumnView, row}
 use Rattle.vortex_columns.specs.Stored.{made_of}
 use Rattle.rowfn_lines.specs.Lines.{Word, plain, quoted}
 use Rattle.rowfn_lines.specs.Ranges.{in_range}
 use Rattle.rowfn_lines.specs.Commands.{integer_of, number_where, cell_of, cells_of, with_cell}
-use Rattle.rowfn_lines.specs.Commands.{value_said, says_null, text_bytes, texts_fit, fit_column, column_of, column_where}
+use Rattle.rowfn_lines.specs.Commands.{value_said, says_null, text_bytes, texts_fit, fit_column}
+use Rattle.rowfn_lines.specs.Commands.{column_of, column_where}
 use Rattle.rowfn_lines.specs.Cells.{cells_from, item_or_null, IsMade, AreItems, AreCells}
 use Rattle.rowfn_lines.specs.Cells.{cells_validity}
 
@@ -124,7 +126,8 @@ pub room_fits : {X : Type 0} (f : X → List ℕ) (xs : List X) → HaveRoom (ma
     → fit_column (map (λ x. text (f x)) xs) ≡ true
 room_fits f xs h =
     ap texts_fit (texts_of_texts f xs)
-    ∙ and_from _ _ (short_all (map f xs) h.lens) (le-leb (buffers_needed (map f xs)) most_buffers h.buffers)
+    ∙ and_from _ _ (short_all (map f xs) h.lens)
+    (le-leb (buffers_needed (map f xs)) most_buffers h.buffers)
 
 pub fitting_room : {X : Type 0} (f : X → List ℕ) (xs : List X)
     → fit_column (map (λ x. text (f x)) xs) ≡ true → HaveRoom (map f xs)

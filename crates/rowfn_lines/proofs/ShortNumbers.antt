@@ -27,7 +27,8 @@ next_digit bs k n d next h is digit sum before = record {
       ∙ ap (λ (x : ℕ). decimal_from (10 * n + (x - 48)) (drop (k + 1) bs)) is
       ∙ sym (ap (decimal_from n) (drop_more bs k 0 h)) ∙ before.number;
   digits =
-      sym (ap (λ b. b && list_all is_ascii_digit (drop (k + 1) bs)) (ap is_ascii_digit (sym is) ∙ digit))
+      sym (ap (λ b. b && list_all is_ascii_digit (drop (k + 1) bs))
+      (ap is_ascii_digit (sym is) ∙ digit))
       ∙ sym (ap (list_all is_ascii_digit) (drop_more bs k 0 h)) ∙ before.digits;
 }
 

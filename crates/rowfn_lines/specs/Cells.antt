@@ -29,8 +29,8 @@ pub record IsMade (kind : Bool → LogicalType) (v : ValidityView) (vs : List Va
   pub computed : c.constant ≡ None
   pub form : c.form ≡ v.form
 
--- values with marks beside them: each is valid where null is not allowed, and no bytes of a text stand
--- under a null
+-- values with marks beside them: each is valid where null is not allowed, and no bytes of a text
+-- stand under a null
 pub record AreItems (n : Bool) (vs : List Value) (valid : List Bool) : Type 0 where
   pub count : length valid ≡ length vs
   pub plain : n ≡ false → (i : ℕ) → i < length valid → slice_index_or valid i true ≡ true

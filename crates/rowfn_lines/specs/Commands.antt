@@ -1,6 +1,7 @@
 -- What a line of a script says.
 use Rattle.std.specs.Prelude.{◌==◌, ℕ, zero, suc, ℤ, pos, negsuc, ◌+◌, ◌-◌, ◌*◌, ◌&&◌, ◌||◌, nat_le}
-use Rattle.std.specs.Prelude.{nat_lt, map, List, [], ◌∷◌, length, Bool, true, false, Option, Some, None}
+use Rattle.std.specs.Prelude.{nat_lt, map, List, [], ◌∷◌, length, Bool, true, false, Option, Some}
+use Rattle.std.specs.Prelude.{None}
 use Rattle.std.specs.Prelude.{◌++◌, codes, if◌then◌else◌, string_bytes}
 use Rattle.std.specs.List.{list_all}
 use Rattle.std.specs.Option.{option_and_then, option_map}
@@ -157,7 +158,8 @@ abbrev pub text_bytes : Value → List ℕ
 text_bytes (text bs) = bs
 text_bytes v = []
 
--- a text of a column has at most 4,294,967,295 bytes, and its texts take no more buffers than a column has
+-- a text of a column has at most 4,294,967,295 bytes, and its texts take no more buffers than a
+-- column has
 abbrev pub texts_fit : List (List ℕ) → Bool
 texts_fit ts =
     list_all (λ t. nat_le (length t) most_bytes) ts && nat_le (buffers_needed ts) most_buffers

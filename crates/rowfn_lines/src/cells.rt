@@ -1,5 +1,6 @@
 //! Columns and values that are read from words.
-ghost use Rattle.std.specs.Prelude.{◌≡◌, refl, pos, [], ◌∷◌, Bool, true, false, Some, None, is_some};
+ghost use Rattle.std.specs.Prelude.{◌≡◌, refl, pos, [], ◌∷◌, Bool, true, false, Some, None};
+ghost use Rattle.std.specs.Prelude.{is_some};
 ghost use Rattle.std.specs.Prelude.{map, option_map, length, string_bytes, MatchOption, ⊤};
 ghost use Rattle.std.specs.List.{list_all};
 ghost use Rattle.std.specs.Char.{is_ascii_digit};

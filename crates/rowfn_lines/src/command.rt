@@ -20,7 +20,8 @@ pub enum Line<'a> {
     /// A value in each row.
     Literal(Scalar),
     /// The function of that name, of the last trees: one word, or three with a space between each
-    /// two. What is said of its escape stands beside it: nothing, that there is none, or a character.
+    /// two. What is said of its escape stands beside it: nothing, that there is none, or a
+    /// character.
     Call(String, Option<Option<char>>),
     /// The text of the last tree, printed.
     Show,

@@ -1,5 +1,5 @@
-//! Trees and their columns by their parts, and questions to trees. Each function over trees stays generic in the caller's
-//! functions; the tests pick the one they run.
+//! Trees and their columns by their parts, and questions to trees. Each function over trees stays
+//! generic in the caller's functions; the tests pick the one they run.
 
 use fixtures::{fields, names, nullable_bools, rows_of};
 use std::alloc::Global;

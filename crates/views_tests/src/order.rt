@@ -28,7 +28,8 @@ fn a_beginning_is_below_what_continues_it(rt: HostRuntime) {
     assert!(rt; is_below(b"hello, world!", b"hello, worlds"));
 }
 
-/// Whether the one value, `hello, world!` in a buffer, is above this short value and equal to its own bytes.
+/// Whether the one value, `hello, world!` in a buffer, is above this short value and equal to its
+/// own bytes.
 fn lent_above(alloc: Global, below: &[u8]) -> VortexResult<bool> {
     let mut buffers = Vec::new(alloc);
     buffers.push(b"hello, world!".to_vec(alloc)?)?;

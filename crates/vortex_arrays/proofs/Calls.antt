@@ -1,5 +1,6 @@
 -- A call over arrays that is made.
-use Rattle.std.proofs.Common.{◌≡◌, ℕ, zero, suc, ◌+◌, ◌<◌, Bool, true, false, List, [], ◌∷◌, ◌++◌, length, map, take, get_or, Some, None, refl, sym, ap, subst, ◌∙◌}
+use Rattle.std.proofs.Common.{◌≡◌, ℕ, zero, suc, ◌+◌, ◌<◌, Bool, true, false, List, [], ◌∷◌, ◌++◌}
+use Rattle.std.proofs.Common.{length, map, take, get_or, Some, None, refl, sym, ap, subst, ◌∙◌}
 use Rattle.std.specs.Prelude.{slice_get, Result, Ok, Err}
 use Rattle.std.proofs.lemmas.List.{length-map}
 use Rattle.vortex_types.specs.declared.dtype.DType.{DType}
@@ -20,7 +21,8 @@ use Rattle.vortex_functions.proofs.Bound.{count_fits, call_is_typed, types_refus
 use Rattle.vortex_functions.proofs.CallWeights.{told, sum_more}
 use Rattle.vortex_functions.proofs.Execution.{types_more}
 use Rattle.vortex_arrays.specs.Arrays.{Array, tree_in, rows_in, trees_in, other_rows}
-use Rattle.vortex_arrays.specs.Calls.{IsArrayCall, RefusesOperands, types, RefusesArrayCall, count, operands, AnswersCallOfRows, AnswersCall, AnswersOperands}
+use Rattle.vortex_arrays.specs.Calls.{IsArrayCall, RefusesOperands, types, RefusesArrayCall, count}
+use Rattle.vortex_arrays.specs.Calls.{operands, AnswersCallOfRows, AnswersCall, AnswersOperands}
 
 fits_not : {A : Type 0} (b : Bool) → b ≡ true → b ≡ false → A
 fits_not b p q = cc

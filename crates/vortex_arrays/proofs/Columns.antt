@@ -1,9 +1,11 @@
 -- What an array of a column is.
-use Rattle.std.proofs.Common.{◌≡◌, ℕ, ◌<◌, zero, suc, refl, sym, ap, subst, ◌∙◌, Option, Some, None, List, [], ◌∷◌, length, take, get_or, nat_eq, arith, true}
+use Rattle.std.proofs.Common.{◌≡◌, ℕ, ◌<◌, zero, suc, refl, sym, ap, subst, ◌∙◌, Option, Some, None}
+use Rattle.std.proofs.Common.{List, [], ◌∷◌, length, take, get_or, nat_eq, arith, true}
 use Rattle.std.specs.Prelude.{All, IfSome, MatchOption}
 use Rattle.std.specs.Borrow.{Bor}
 use Rattle.vortex_types.specs.ScalarView.{ScalarView}
-use Rattle.vortex_columns.specs.ColumnView.{ColumnView, row, constant_column, null_column, AreTyped, TellsTruly}
+use Rattle.vortex_columns.specs.ColumnView.{ColumnView, row, constant_column, null_column, AreTyped}
+use Rattle.vortex_columns.specs.ColumnView.{TellsTruly}
 use Rattle.vortex_types.specs.Values.{Value, null, is_null}
 use Rattle.vortex_types.specs.LogicalTypes.{null_type}
 use Rattle.vortex_types.specs.Typing.{HasType}
@@ -21,7 +23,8 @@ use Rattle.vortex_meaning.specs.Rules.{Rules}
 use Rattle.vortex_meaning.specs.ReduceRules.{reduce}
 use Rattle.vortex_meaning.specs.Driver.{step}
 use Rattle.vortex_functions.proofs.Execution.{constant_rows, where_none}
-use Rattle.vortex_arrays.specs.Arrays.{Array, held_or_constant, column_tree, tree_in, rows_in, trees_in, other_rows, AreRowsTyped, IsTyped}
+use Rattle.vortex_arrays.specs.Arrays.{Array, held_or_constant, column_tree, tree_in, rows_in}
+use Rattle.vortex_arrays.specs.Arrays.{trees_in, other_rows, AreRowsTyped, IsTyped}
 use Rattle.vortex_arrays.specs.Nodes.{IsNode, TellsConstant, node_tree}
 
 -- what reading a column as a constant tells of it

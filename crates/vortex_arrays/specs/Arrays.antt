@@ -1,5 +1,6 @@
 -- An array tree as a value: a tree over columns, and how many rows each of its nodes has.
-use Rattle.std.specs.Prelude.{ℕ, ◌<◌, List, [], ◌∷◌, Option, Some, None, map, length, nat_eq, if◌then◌else◌}
+use Rattle.std.specs.Prelude.{ℕ, ◌<◌, List, [], ◌∷◌, Option, Some, None, map, length, nat_eq}
+use Rattle.std.specs.Prelude.{if◌then◌else◌}
 use Rattle.vortex_columns.specs.ColumnView.{ColumnView, constant_column}
 use Rattle.vortex_types.specs.ScalarView.{ScalarView}
 use Rattle.vortex_meaning.specs.Trees.{held, Tree, leaf, constant, children_of}

@@ -1,7 +1,8 @@
 -- What making a call over arrays answers.
 use Rattle.std.specs.Prelude.{◌≡◌, ℕ, List, [], ◌∷◌, Some, None, true, false, length, Result}
 use Rattle.vortex_errors.specs.declared.error.VortexError.{VortexError}
-use Rattle.vortex_errors.specs.declared.error.VortexError.TheVariants.{ArityMismatch, LengthMismatch}
+use Rattle.vortex_errors.specs.declared.error.VortexError.TheVariants.{ArityMismatch}
+use Rattle.vortex_errors.specs.declared.error.VortexError.TheVariants.{LengthMismatch}
 use Rattle.vortex_errors.specs.Answers.{Answers}
 use Rattle.vortex_types.specs.LogicalTypes.{LogicalType}
 use Rattle.vortex_meaning.specs.Meaning.{Meaning, fits}

@@ -16,7 +16,8 @@ use Rattle.vortex_meaning.specs.Rules.{Rules}
 use Rattle.vortex_meaning.specs.ReduceRules.{reduce}
 use Rattle.vortex_meaning.specs.Driver.{step}
 use Rattle.vortex_functions.specs.FunctionOf.{function_of}
-use Rattle.vortex_arrays.specs.Arrays.{Array, column_tree, tree_in, trees_in, other_rows, AreRowsTyped}
+use Rattle.vortex_arrays.specs.Arrays.{Array, column_tree, tree_in, trees_in, other_rows}
+use Rattle.vortex_arrays.specs.Arrays.{AreRowsTyped}
 
 -- the call that is made of these parts
 abbrev pub call_of : {V O : Type 0} → Parts V O → Tree V O

@@ -1,8 +1,11 @@
 //! Trees of calls over columns that they hold.
-ghost use Rattle.std.specs.Prelude.{◌≡◌, ◌↔◌, ◌<◌, ◌≤◌, ◌*◌, IfSome, IsTrue, None, Some, MatchOption, length, slice_get};
+ghost use Rattle.std.specs.Prelude.{◌≡◌, ◌↔◌, ◌<◌, ◌≤◌, ◌*◌, IfSome, IsTrue, None, Some};
+ghost use Rattle.std.specs.Prelude.{MatchOption, length, slice_get};
 ghost use Rattle.std.specs.Option.{option_copied};
-ghost use Rattle.vortex_arrays.specs.Words.{AnswersUnlessMemory, type_of, called, literal, tree_type, function_of};
-ghost use Rattle.vortex_arrays.specs.Words.{tree_in, rows_in, column_array, column_in, children_in, node_count, IsTyped, weight_told, reduce, step};
+ghost use Rattle.vortex_arrays.specs.Words.{AnswersUnlessMemory, type_of, called, literal};
+ghost use Rattle.vortex_arrays.specs.Words.{tree_type, function_of};
+ghost use Rattle.vortex_arrays.specs.Words.{tree_in, rows_in, column_array, column_in, children_in};
+ghost use Rattle.vortex_arrays.specs.Words.{node_count, IsTyped, weight_told, reduce, step};
 
 use std::alloc::Global;
 use std::marker::Model;
@@ -73,8 +76,8 @@ impl<C: ScalarFnVTable> Model for ArrayRef<C> {
 }
 
 /// The last handle of a call takes it down, by a work list, which is the children's own vector: the
-/// depth takes no stack, and a chain no memory. Where the list cannot grow, one child goes by a call
-/// of its own.
+/// depth takes no stack, and a chain no memory. Where the list cannot grow, one child goes by a
+/// call of its own.
 impl<C: ScalarFnVTable> Drop for ArrayRef<C> {
     #[tactic(auto, using(crate::proofs::Children::nodes_count_push))]
     fn drop(self) {
@@ -110,8 +113,8 @@ impl<C: ScalarFnVTable> Drop for ArrayRef<C> {
 }
 
 impl<C: ScalarFnVTable> ArrayRef<C> {
-    /// The array of a column, of the column's rows, which are not copied, neither here nor where the
-    /// array is copied. E9 alone.
+    /// The array of a column, of the column's rows, which are not copied, neither here nor where
+    /// the array is copied. E9 alone.
     pub fn column(alloc: Global, column: Column) -> VortexResult<ArrayRef<C>>
         ensures { AnswersUnlessMemory result (λ a. a ≡ column_array column) }
     {

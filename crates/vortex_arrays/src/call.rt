@@ -1,7 +1,8 @@
 //! Calls over arrays.
 ghost use Rattle.std.specs.Prelude.{◌≡◌, ◌+◌, All, IfOk, Some, map, min};
 ghost use Rattle.vortex_arrays.specs.Words.{AnswersUnlessMemory, AnswersCall, AnswersCallOfRows};
-ghost use Rattle.vortex_arrays.specs.Words.{function_of, other_rows, tree_types, trees_in, trees_of, type_of, IsTyped};
+ghost use Rattle.vortex_arrays.specs.Words.{function_of, other_rows, tree_types, trees_in};
+ghost use Rattle.vortex_arrays.specs.Words.{trees_of, type_of, IsTyped};
 ghost use Rattle.vortex_arrays.specs.Words.{added, weights};
 
 use crate::array::{ArrayRef, Node, Parts};

@@ -4,7 +4,8 @@ ghost use Rattle.vortex_operators.specs.declared.operators.Operator.{Operator};
 ghost use Rattle.vortex_operators.specs.declared.between.BetweenOptions.{BetweenOptions};
 ghost use Rattle.vortex_like.specs.declared.options.LikeOptions.{LikeOptions};
 ghost use Rattle.vortex_meaning.specs.Shipped.{Shipped};
-ghost use Rattle.vortex_arrays.specs.Words.{AnswersUnlessMemory, AnswersCallOfRows, AnswersOperands};
+ghost use Rattle.vortex_arrays.specs.Words.{AnswersUnlessMemory, AnswersCallOfRows};
+ghost use Rattle.vortex_arrays.specs.Words.{AnswersOperands};
 ghost use Rattle.vortex_arrays.specs.Words.{IsArrayCall, function_of, ours, rows_in};
 
 use crate::array::ArrayRef;

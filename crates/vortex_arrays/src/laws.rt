@@ -1,4 +1,5 @@
-//! What follows from the meaning of array trees. This function does nothing: its contract is proved.
+//! What follows from the meaning of array trees. This function does nothing: its contract is
+//! proved.
 ghost use Rattle.vortex_arrays.specs.Words.{ArraysErrWhereArithmeticDoes};
 
 use vortex_interface::ScalarFnVTable;

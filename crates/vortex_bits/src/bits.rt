@@ -30,8 +30,8 @@ impl RowBits for ListedBools<'_> {
     }
 }
 
-/// A list of bits. Bit `i` is bit `(offset + i) mod 8` of byte `(offset + i) / 8`, from the least significant, as in
-/// Arrow's layout. What else stands in the bytes is never seen.
+/// A list of bits. Bit `i` is bit `(offset + i) mod 8` of byte `(offset + i) / 8`, from the least
+/// significant, as in Arrow's layout. What else stands in the bytes is never seen.
 #[derive(Drop)]
 pub struct BitBuffer {
     bytes: Vec<u8>,

@@ -16,8 +16,8 @@ pub trait BitWords {
 
     ghost row_bit: { Self → ℕ → Bool };
 
-    /// Rows `64 * k` to `64 * k + 63`, the first as the least significant bit. One more row is there, so that a form may
-    /// read on.
+    /// Rows `64 * k` to `64 * k + 63`, the first as the least significant bit. One more row is
+    /// there, so that a form may read on.
     fn word(&self, k: usize) -> u64
         requires place { 64 * k + 64 < 2 ^ 64 }
         requires rows { (j : ℕ) → j ≤ 64 → has_row self.now (64 * k + j) }

@@ -43,8 +43,8 @@ impl<'a> BitView<'a> {
         self.len
     }
 
-    /// Bits `64 * k` to `64 * k + 63`, the first as the least significant bit, zero past the end. Takes no memory, and
-    /// reads no further than the bytes.
+    /// Bits `64 * k` to `64 * k + 63`, the first as the least significant bit, zero past the end.
+    /// Takes no memory, and reads no further than the bytes.
     pub fn word(&self, k: usize) -> u64
         requires { k ≤ length self.now / 64 }
         ensures { (j : ℕ) → j < 64

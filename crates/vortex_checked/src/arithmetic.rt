@@ -2,8 +2,8 @@
 
 use crate::failure::Failure;
 
-/// One of the eight integer types: values as they are left in the type's bits, and apart from them where the exact
-/// result is none that the type holds.
+/// One of the eight integer types: values as they are left in the type's bits, and apart from them
+/// where the exact result is none that the type holds.
 pub trait CheckedArithmetic: Copy + Default + Drop {
     ghost use Rattle.std.specs.Prelude.{◌≡◌, ◌+ℤ◌, ◌-ℤ◌, ◌*ℤ◌, ℤ, pos, Some};
     ghost use Rattle.std.specs.Bool.{FalseIff};

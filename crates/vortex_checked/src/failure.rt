@@ -2,7 +2,8 @@
 
 use std::ops::BitOrAssign;
 
-/// Evidence of a fault: the default where there is none. `|=` joins it over rows, so that a loop asks once.
+/// Evidence of a fault: the default where there is none. `|=` joins it over rows, so that a loop
+/// asks once.
 pub trait Failure: Copy + Default + PartialEq + BitOrAssign {
     ghost use Rattle.std.specs.Prelude.{Bool};
     ghost use Rattle.vortex_checked.specs.Evidence.{IsEvidence};

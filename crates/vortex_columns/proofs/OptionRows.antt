@@ -1,5 +1,6 @@
 -- Values with a validity of bits are the rows of options.
-use Rattle.std.proofs.Common.{◌≡◌, ℕ, ◌<◌, ℤ, pos, Bool, true, false, List, [], ◌∷◌, Bor, map, length, refl}
+use Rattle.std.proofs.Common.{◌≡◌, ℕ, ◌<◌, ℤ, pos, Bool, true, false, List, [], ◌∷◌, Bor, map}
+use Rattle.std.proofs.Common.{length, refl}
 use Rattle.std.proofs.Common.{sym, ap}
 use Rattle.std.proofs.Common.{◌∙◌, arith, cond, subst}
 use Rattle.std.specs.Prelude.{slice_index_or, Result, Option, Some, None, is_some, unwrap_or}
@@ -39,7 +40,8 @@ module _ {A : Type 0} (f : A → Value) (under : A) (xs : List (Option A)) (n : 
 
   rows_are : map shown (range_with_len 0 n) ≡ map (option_row f) xs
   rows_are =
-      let many : length (map shown (range_with_len 0 n)) ≡ n = length-map-range_with_len shown 0 n in
+      let many : length (map shown (range_with_len 0 n))
+      ≡ n = length-map-range_with_len shown 0 n in
       same_lists (map shown (range_with_len 0 n)) (map (option_row f) xs)
       (many ∙ len ∙ sym (length-map xs (option_row f)))
       (λ k d h.
@@ -49,7 +51,8 @@ module _ {A : Type 0} (f : A → Value) (under : A) (xs : List (Option A)) (n : 
 
   pub made_of_options : (t : LogicalType)
       → made_of t (option_validity xs) n g ≡ option_column t f xs
-  made_of_options t = ap (λ rows. record { dtype = t; rows = rows; constant = None; form = array }) rows_are
+  made_of_options t = ap (λ rows. record { dtype = t; rows = rows; constant = None; form = array })
+      rows_are
 
 pub bools_are : (xs : List (Option Bool)) (bits : List Bool) (v : ValidityView)
     → bits ≡ map (λ o. unwrap_or o false) xs → v ≡ option_validity xs
@@ -74,7 +77,8 @@ ints_are p f under xs ns v ns_are v_is =
 fits_options : {A B : Type 0} (xs : List (Option A)) (ys : List B) (v : ValidityView)
     → length ys ≡ length xs → v ≡ option_validity xs → FitsRows v (length ys)
 fits_options xs ys v len v_is =
-    subst (λ (w : ValidityView). FitsRows w (length ys)) (sym v_is) (length-map xs is_some ∙ sym len)
+    subst (λ (w : ValidityView). FitsRows w (length ys)) (sym v_is)
+    (length-map xs is_some ∙ sym len)
 
 module _ (r : Result ColumnView VortexError) (v : ValidityView) where
   pub answers_bools : (xs : List (Option Bool)) (bits : List Bool)

@@ -221,9 +221,12 @@ typed_null n t m (integers p ns) a e = subst (λ (u : LogicalType). HasType u nu
 typed_null n t m (texts ts) a e = subst (λ (u : LogicalType). HasType u null) (sym a.0) e
 typed_null n t m (byte_strings bs) a e = subst (λ (u : LogicalType). HasType u null) (sym a.0) e
 typed_null n t m (structs cs) a e = subst (λ (u : LogicalType). HasType u null) (sym a.1) e
-typed_null n t m (lists f offsets sizes) a e = subst (λ (u : LogicalType). HasType u null) (sym a.0) e
-typed_null n t m (fixed_size_lists f size) a e = subst (λ (u : LogicalType). HasType u null) (sym a.0) e
-typed_null n t m (maps k v offsets sizes) a e = subst (λ (u : LogicalType). HasType u null) (sym a.0) e
+typed_null n t m (lists f offsets sizes) a e = subst (λ (u : LogicalType). HasType u null) (sym a.0)
+    e
+typed_null n t m (fixed_size_lists f size) a e = subst (λ (u : LogicalType). HasType u null)
+    (sym a.0) e
+typed_null n t m (maps k v offsets sizes) a e = subst (λ (u : LogicalType). HasType u null)
+    (sym a.0) e
 
 pub row_constant : (s : ScalarView) (i : ℕ) → row_at (constant_of s) i ≡ s.value
 row_constant s i = by (is_null s.value) refl

@@ -230,7 +230,8 @@ module _ (a : Inside) (c : ColumnView) (is : column_view a ≡ c) (ok : IsColumn
               ∙ rows_taken a.len (type_of a.dtype) (stored_of a.storage) ps within_here ok) j;
           constant = (ap constant_in so ∙ constant_taken (stored_of a.storage) ps) j;
           form =
-              (ap (λ (r : Stored). (stored_validity r).form) so ∙ form_taken (stored_of a.storage) ps)
+              (ap (λ (r : Stored). (stored_validity r).form) so
+              ∙ form_taken (stored_of a.storage) ps)
               j;
         })
         ∙ ap (taken ps) is

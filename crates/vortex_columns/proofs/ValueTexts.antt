@@ -1,10 +1,13 @@
 -- The texts of nested values, one by one.
-use Rattle.std.proofs.Common.{◌≡◌, ℕ, zero, suc, ◌<◌, List, [], ◌∷◌, ◌++◌, length, get_or, refl, ap, ◌∙◌, arith, append_assoc, min, subst, Some, Bool, false, ◌-◌, ◌^◌}
+use Rattle.std.proofs.Common.{◌≡◌, ℕ, zero, suc, ◌<◌, List, [], ◌∷◌, ◌++◌, length, get_or, refl, ap}
+use Rattle.std.proofs.Common.{◌∙◌, arith, append_assoc, min, subst, Some, Bool, false, ◌-◌, ◌^◌}
 use Rattle.std.specs.Prelude.{codes}
 use Rattle.std.specs.Option.{option_map}
-use Rattle.std.specs.Fmt.{AppendsText, styled_digits_output, digits_output, digits, format_spec, padded_integral, shown_prefix, radix_prefix}
+use Rattle.std.specs.Fmt.{AppendsText, styled_digits_output, digits_output, digits, format_spec}
+use Rattle.std.specs.Fmt.{padded_integral, shown_prefix, radix_prefix}
 use Rattle.std.proofs.lemmas.Fmt.{hex_byte}
-use Rattle.vortex_types.specs.LogicalTypes.{LogicalType, Fields, no_fields, field, field_count, field_type}
+use Rattle.vortex_types.specs.LogicalTypes.{LogicalType, Fields, no_fields, field, field_count}
+use Rattle.vortex_types.specs.LogicalTypes.{field_type}
 use Rattle.vortex_types.specs.FieldNames.{field_name}
 use Rattle.vortex_types.specs.Values.{Value, values_of}
 use Rattle.vortex_columns.specs.ColumnView.{row}
@@ -15,7 +18,8 @@ pub value_texts-length : (typed : Bool) (t : LogicalType) (vs : List Value)
 value_texts-length typed t [] = refl
 value_texts-length typed t (v ∷ vs) = ap suc (value_texts-length typed t vs)
 
-pub value_text_at : (typed : Bool) (t : LogicalType) (vs : List Value) (k : ℕ) (d : List ℕ) → k < length vs
+pub value_text_at : (typed : Bool) (t : LogicalType) (vs : List Value) (k : ℕ) (d : List ℕ)
+    → k < length vs
     → value_text typed t (row vs k) ≡ get_or (value_texts typed t (values_of vs)) k d
 value_text_at typed t [] k d h = absurd (omega arith)
 value_text_at typed t (v ∷ vs) zero d h = refl
@@ -27,7 +31,8 @@ field_texts-length typed fs [] = omega arith
 field_texts-length typed no_fields (v ∷ vs) = omega arith
 field_texts-length typed (field name t fs) (v ∷ vs) = omega (arith, field_texts-length typed fs vs)
 
-pub field_text_at : (typed : Bool) (fs : Fields) (vs : List Value) (k : ℕ) (d : List ℕ) → k < length vs
+pub field_text_at : (typed : Bool) (fs : Fields) (vs : List Value) (k : ℕ) (d : List ℕ)
+    → k < length vs
     → k < field_count fs
     → field_name k fs ++ codes ": " ++ value_text typed (field_type k fs) (row vs k) ≡ get_or
     (field_texts typed fs (values_of vs)) k d

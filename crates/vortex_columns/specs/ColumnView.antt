@@ -1,7 +1,8 @@
 -- What is seen of a column: its type, its rows, the scalar that it is a constant of, if any, and
 -- the form of its validity. What lies under a null is not seen.
 use Rattle.std.specs.Prelude.{◌≡◌, ℕ, zero, suc, ◌+◌, ◌*◌, ◌<◌, ◌≤◌, ℤ, pos, Bool, true, false}
-use Rattle.std.specs.Prelude.{not, if◌then◌else◌, Option, Some, None, IfSome, refl, String, string_bytes}
+use Rattle.std.specs.Prelude.{not, if◌then◌else◌, Option, Some, None, IfSome, refl, String}
+use Rattle.std.specs.Prelude.{string_bytes}
 use Rattle.std.specs.Prelude.{List, [], ◌∷◌, map, length, take, drop, All}
 use Rattle.std.specs.Prelude.{slice_index, slice_index_or}
 use Rattle.std.specs.List.{range_with_len}

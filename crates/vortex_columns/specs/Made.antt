@@ -1,13 +1,15 @@
 -- What the constructors of columns take, and the columns that they make.
 use Rattle.std.specs.Borrow.{Bor}
 use Rattle.std.specs.Prelude.{◌≡◌, ℕ, ◌*◌, ℤ, pos, List, [], map, length}
-use Rattle.std.specs.Prelude.{◌<◌, true, IsUtf8, String, string_bytes, Vec, slice_index, slice_index_or}
+use Rattle.std.specs.Prelude.{◌<◌, true, IsUtf8, String, string_bytes, Vec, slice_index}
+use Rattle.std.specs.Prelude.{slice_index_or}
 use Rattle.std.specs.declared.alloc.Global.{Global}
 use Rattle.vortex_types.specs.declared.dtype.PType.{PType}
 use Rattle.vortex_types.specs.LogicalTypes.{integer_type, text_type, bytes_type, struct_type}
 use Rattle.vortex_types.specs.LogicalTypes.{list_type, fixed_size_list_type, map_type}
 use Rattle.vortex_types.specs.Values.{number, text, bytes}
-use Rattle.vortex_columns.specs.ValidityView.{ValidityView, form_allows_null, FitsRows, is_valid_row}
+use Rattle.vortex_columns.specs.ValidityView.{ValidityView, form_allows_null, FitsRows}
+use Rattle.vortex_columns.specs.ValidityView.{is_valid_row}
 use Rattle.vortex_views.specs.declared.view.BinaryView.{BinaryView}
 use Rattle.vortex_views.specs.Resolved.{AreViewsIn, values_in}
 use Rattle.vortex_views.specs.Collected.{HaveRoom}
@@ -33,7 +35,8 @@ MakeTextRows ts v =
 
 abbrev pub byte_string_rows : List (List ℕ) → ValidityView → ColumnView
 byte_string_rows bs v =
-    made_of (bytes_type (form_allows_null v.form)) v (length bs) (λ i. bytes (slice_index_or bs i []))
+    made_of (bytes_type (form_allows_null v.form)) v (length bs)
+    (λ i. bytes (slice_index_or bs i []))
 
 abbrev pub texts_of : List (String Global) → List (List ℕ)
 texts_of ts = map string_bytes ts
@@ -63,7 +66,8 @@ byte_string_column bs v = byte_string_rows (byte_strings_of bs) v
 -- views that lie among buffers, of texts in the rows that are not null
 abbrev pub MakeTextViews : List BinaryView → List (Vec ℕ Global) → ValidityView → Type 0
 MakeTextViews views buffers v =
-    AreViewsIn (byte_strings_of buffers) views × MakeTextRows (values_in (byte_strings_of buffers) views) v
+    AreViewsIn (byte_strings_of buffers) views
+    × MakeTextRows (values_in (byte_strings_of buffers) views) v
 
 abbrev pub MakeByteStringViews : List BinaryView → List (Vec ℕ Global) → ValidityView → Type 0
 MakeByteStringViews views buffers v =

@@ -5,7 +5,8 @@ use Rattle.std.specs.List.{flat_map}
 use Rattle.vortex_types.specs.TypeTexts.{ptype_text}
 use Rattle.vortex_types.specs.DTypeTexts.{type_text}
 use Rattle.vortex_types.specs.LogicalTypes.{LogicalType, integer_type, struct_type, list_type}
-use Rattle.vortex_types.specs.LogicalTypes.{fixed_size_list_type, map_type, Fields, no_fields, field}
+use Rattle.vortex_types.specs.LogicalTypes.{fixed_size_list_type, map_type, Fields, no_fields}
+use Rattle.vortex_types.specs.LogicalTypes.{field}
 use Rattle.vortex_types.specs.Texts.{joined, comma, quote}
 use Rattle.vortex_types.specs.Values.{Value, null, truth, number, text, bytes, list}
 use Rattle.vortex_types.specs.Values.{Values, no_values, value}

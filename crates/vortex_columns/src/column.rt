@@ -1,5 +1,5 @@
-//! What a column is: its type, and its rows as they are stored. Its constructors, its reads and parts, its copies
-//! and the taking of its rows stand in rooms of their own.
+//! What a column is: its type, and its rows as they are stored. Its constructors, its reads and
+//! parts, its copies and the taking of its rows stand in rooms of their own.
 
 mod constructors;
 mod copies;

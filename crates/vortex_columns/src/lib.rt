@@ -1,4 +1,5 @@
-//! Columns of typed rows, scalars, and cells that are lent from both; with the types that stand below.
+//! Columns of typed rows, scalars, and cells that are lent from both; with the types that stand
+//! below.
 #![tactic(auto)]
 
 pub mod cell;

@@ -12,7 +12,8 @@ use vortex_views::BinaryViews;
 pub(crate) fn are_texts(values: &BinaryViews, validity: &Validity) -> bool
     requires { FitsRows (validity_of validity.now) (length values.now) }
     ensures { IsTrue result ↔ ((i : ℕ) → i < length values.now
-        → is_valid_row (validity_of validity.now) i ≡ true → IsUtf8 (slice_index_or values.now i [])) }
+        → is_valid_row (validity_of validity.now) i ≡ true
+        → IsUtf8 (slice_index_or values.now i [])) }
 {
     let rows = values.resolved();
     for i in 0..rows.len() {

@@ -36,7 +36,8 @@ impl Scalar {
     ghost use Rattle.vortex_columns.specs.Words.{type_of, allows_null, value_of, value_or_null};
     ghost use Rattle.vortex_columns.specs.Words.{constant_form, validity_of};
 
-    /// A value of a type, or null. E12 exactly where the value does not have the type, or the type has no null. Takes no memory.
+    /// A value of a type, or null. E12 exactly where the value does not have the type, or the type
+    /// has no null. Takes no memory.
     pub fn try_new(dtype: DType, value: Option<ScalarValue>) -> VortexResult<Scalar>
         ensures { MadeWhere result
             (HasType (type_of dtype) (value_or_null value))

@@ -11,12 +11,13 @@ use std::alloc::Global;
 use vortex_types::VortexResult;
 
 impl Column {
-    /// The type, a colon, and the value of each row after a space, as `i32?: 1 null -3`; of no rows the type and the colon.
-    /// Refuses for memory alone.
+    /// The type, a colon, and the value of each row after a space, as `i32?: 1 null -3`; of no rows
+    /// the type and the colon. Refuses for memory alone.
     ///
-    /// The type is written as `DType::write_text` tells. A null is `null`, a truth value `true` or `false`, a number stands
-    /// without its type, a text in quotes without escapes, and bytes are `0x` and two hexadecimal digits each. A list is
-    /// `[1, null]`, a record `{a: 1, b: "x"}`, and a map the list of its entries, as `[{key: "x", value: 1}]`.
+    /// The type is written as `DType::write_text` tells. A null is `null`, a truth value `true` or
+    /// `false`, a number stands without its type, a text in quotes without escapes, and bytes are
+    /// `0x` and two hexadecimal digits each. A list is `[1, null]`, a record `{a: 1, b: "x"}`, and
+    /// a map the list of its entries, as `[{key: "x", value: 1}]`.
     #[tactic(auto, using(crate::proofs::PrintedColumns::one_more_cell))]
     pub fn text(&self, alloc: Global) -> VortexResult<String>
         ensures { AnswersUnlessMemory result (λ text. string_bytes text ≡ column_text self.now) }
@@ -33,7 +34,8 @@ impl Column {
 }
 
 impl Scalar {
-    /// Writes the value as `Column::text` does, but each whole number with its type, as `1i32`. Refuses for memory alone.
+    /// Writes the value as `Column::text` does, but each whole number with its type, as `1i32`.
+    /// Refuses for memory alone.
     pub fn write_literal(&self, out: &mut String) -> VortexResult<()>
         ensures { AnswersUnlessMemory result
             (λ _. Appends out.old (literal_text self.now.dtype self.now.value) out.new) }

@@ -7,7 +7,8 @@ use std::alloc::{AllocError, Global};
 use vortex_bits::BitBuffer;
 use vortex_types::{Nullability, VortexResult};
 
-/// Which rows are not null. `NonNullable` goes with a non-nullable type, the others with a nullable one.
+/// Which rows are not null. `NonNullable` goes with a non-nullable type, the others with a nullable
+/// one.
 #[derive(Drop)]
 pub enum Validity {
     /// No row can be null.
@@ -22,7 +23,8 @@ pub enum Validity {
 
 impl Validity {
     ghost use Rattle.vortex_types.specs.TypeOf.{allows_null};
-    ghost use Rattle.vortex_columns.specs.ValidityView.{validity_of, is_valid_row, form_allows_null};
+    ghost use Rattle.vortex_columns.specs.ValidityView.{validity_of, is_valid_row};
+    ghost use Rattle.vortex_columns.specs.ValidityView.{form_allows_null};
     ghost use Rattle.vortex_columns.specs.ValidityView.{FitsRows, Reaches};
 
     /// The nullability of the types that it goes with.

@@ -118,7 +118,8 @@ pub(crate) fn write_value(
 ) -> VortexResult<()>
     requires { IsCell cell.now }
     ensures { AnswersUnlessMemory result
-        (λ _. Appends out.old (value_text typed (shape_type shape.entry) (cell_value cell.now)) out.new) }
+        (λ _. Appends out.old (value_text typed (shape_type shape.entry) (cell_value cell.now))
+        out.new) }
 {
     match cell {
         Cell::Null => out.push_str("null")?,
@@ -175,7 +176,8 @@ fn write_elements(
 ) -> VortexResult<()>
     requires { IsSequence values.now }
     ensures { AnswersUnlessMemory result (λ _. Appends out.old
-        (joined comma (value_texts typed (shape_type shape.entry) (values_in values.now))) out.new) }
+        (joined comma (value_texts typed (shape_type shape.entry) (values_in values.now)))
+        out.new) }
 {
     for k in 0..values.len() {
         write_separator(out, ", ", k)?;
@@ -194,7 +196,8 @@ fn write_fields(
 ) -> VortexResult<()>
     requires { IsSequence values.now }
     ensures { AnswersUnlessMemory result (λ _. Appends out.old
-        (joined comma (field_texts typed (fields_in (shape_type shape.entry)) (values_in values.now))) out.new) }
+        (joined comma (field_texts typed (fields_in (shape_type shape.entry))
+        (values_in values.now))) out.new) }
 {
     for k in 0..values.len().min(shape.field_count()) {
         write_separator(out, ", ", k)?;

@@ -153,7 +153,8 @@ module _ {V O : Type 0} (m : Meaning V O) where
   types_refused f inputs ts e same arity h =
       UnlessMemory-weaker (Mismatch f (types_in inputs)) (RefusesInputs m f inputs)
       (λ d p. types arity p.0 p.1) e
-      (mismatch f (types_in inputs) e (subst (λ (us : List LogicalType). RefusesTypes m f us e) same h))
+      (mismatch f (types_in inputs) e (subst (λ (us : List LogicalType). RefusesTypes m f us e) same
+      h))
 
 pub args_length : (k : ℕ) (c : ColumnView) (others : List ScalarView) (n : ℕ)
     (inputs : List ColumnView)

@@ -127,7 +127,8 @@ comparison_of_values op d v other told e s codes at under below is same alike h 
     let t = comparison_type d.values.dtype s.dtype in
     let rows =
     rows_of_values (comparison_value op) t d other told e s below is same
-    (subst (λ (x : ColumnView). HasComparisonRows op x (constant_column s (length x.rows)) told) at h)
+    (subst (λ (x : ColumnView). HasComparisonRows op x (constant_column s (length x.rows)) told) at
+    h)
     (subst (λ (xs : List ℕ). IsTaken told xs e) under taken) in
     record {
       lengths = same;

@@ -47,7 +47,8 @@ more_marked marks codes i count code before long below is k lt = by (same_or_oth
           λ named. kept ∙ (before k lt).1 (earlier named (before_or_at named.0 i named.1)),
         )
       where
-        earlier : (named : IsNamed codes (i + 1) k) → (named.0 < i) ⊎ (named.0 ≡ i) → IsNamed codes i k
+        earlier : (named : IsNamed codes (i + 1) k) → (named.0 < i) ⊎ (named.0 ≡ i)
+            → IsNamed codes i k
         earlier named (inl less) = (named.0, less, named.2)
         earlier named (inr at) =
             absurd (other (sym named.2 ∙ ap (slice_index codes) at ∙ sym is))

@@ -1,5 +1,6 @@
 -- What is pushed down to the values is told of the rows.
-use Rattle.std.proofs.Common.{◌≡◌, ℕ, ◌<◌, ◌++◌, ◌∷◌, Bool, true, false, List, length, refl, sym, ap}
+use Rattle.std.proofs.Common.{◌≡◌, ℕ, ◌<◌, ◌++◌, ◌∷◌, Bool, true, false, List, length, refl, sym}
+use Rattle.std.proofs.Common.{ap}
 use Rattle.std.proofs.Common.{◌∙◌, map, subst, arith, take, drop}
 use Rattle.std.specs.Prelude.{Option, Some, None, Ok, Err, slice_index}
 use Rattle.std.proofs.lemmas.List.{length-map, get_or_default}

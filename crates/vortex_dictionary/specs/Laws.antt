@@ -1,4 +1,5 @@
--- What follows from the clause of a push-down: its rows are the function of the rows, and so are its faults.
+-- What follows from the clause of a push-down: its rows are the function of the rows, and so are
+-- its faults.
 use Rattle.std.specs.Prelude.{ℕ, List, length, All, Option, Some, None, Result, Ok, Err}
 use Rattle.std.specs.Prelude.{MatchResult, ⊤}
 use Rattle.vortex_errors.specs.declared.error.VortexError.{VortexError}
@@ -44,7 +45,8 @@ module _ {V O : Type 0} (m : Meaning V O) where
       → AreKept d others → AnswersPushDown m f d k others (Ok (Some e))
       → AreRowsOfCall f d k others e
 
-  -- None, E3, E6 and E9 aside, it errs exactly where the function of a row faults, and by such a fault
+  -- None, E3, E6 and E9 aside, it errs exactly where the function of a row faults, and by such a
+  -- fault
   abbrev pub ErrsWhereRowsFault : Type 0
   ErrsWhereRowsFault =
       (f : Function V O) (d : DictView) (k : ℕ) (others : List ScalarView)

@@ -12,7 +12,8 @@ pub use Rattle.vortex_kernels.specs.Comparison.{HasComparisonRows}
 pub use Rattle.vortex_meaning.specs.Outcomes.{types_in}
 pub use Rattle.vortex_functions.specs.FunctionOf.{function_of}
 pub use Rattle.vortex_columns.specs.Taken.{AreRowsOf, IsTaken}
-pub use Rattle.vortex_dictionary.specs.Dictionary.{DictView, coded_dict, decoded, AreCoded, AllCoded}
+pub use Rattle.vortex_dictionary.specs.Dictionary.{DictView, coded_dict, decoded, AreCoded}
+pub use Rattle.vortex_dictionary.specs.Dictionary.{AllCoded}
 pub use Rattle.vortex_dictionary.specs.Dictionary.{compares_beside, combines_beside}
 pub use Rattle.vortex_dictionary.specs.PushDown.{constants, inputs_of, TakesInputs, RefusesInputs}
 pub use Rattle.vortex_dictionary.specs.PushDown.{MayRunOver, AnswersPushDown}

@@ -1,5 +1,6 @@
 //! Which values codes name.
-ghost use Rattle.std.specs.Prelude.{◌≡◌, ◌<◌, ◌↔◌, ℕ, All, IsTrue, false, length, slice_index_or, true};
+ghost use Rattle.std.specs.Prelude.{◌≡◌, ◌<◌, ◌↔◌, ℕ, All, IsTrue, false, length, slice_index_or};
+ghost use Rattle.std.specs.Prelude.{true};
 ghost use Rattle.vortex_dictionary.specs.Words.{AnswersUnlessMemory, AreCoded, Contains};
 
 use std::alloc::Global;

@@ -9,10 +9,11 @@ use std::rc::Rc;
 use vortex_columns::{Column, DType, ExecutionCtx, VortexError, VortexResult};
 use vortex_encoded::EncodedColumn;
 
-/// A column by its values and a code for each row, the number of the row's value. A null row has the code of a null value.
+/// A column by its values and a code for each row, the number of the row's value. A null row has
+/// the code of a null value.
 ///
-/// Values that no code names may stand among them, and equal values more than once. What a call makes of a dictionary
-/// shares its codes.
+/// Values that no code names may stand among them, and equal values more than once. What a call
+/// makes of a dictionary shares its codes.
 #[derive(Drop)]
 pub struct DictColumn {
     values: Column,
@@ -35,7 +36,8 @@ impl Model for DictColumn {
 }
 
 impl DictColumn {
-    /// The values, and for each row a code. E12 exactly where a code is not below the number of values.
+    /// The values, and for each row a code. E12 exactly where a code is not below the number of
+    /// values.
     pub fn try_new(values: Column, codes: Vec<u32>) -> VortexResult<DictColumn>
         ensures { AnswersWhere result
             (AreRowsOf values codes.items)

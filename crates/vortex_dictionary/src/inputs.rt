@@ -58,8 +58,8 @@ fn dtypes_of(alloc: Global, inputs: &[Cow<'_, Column>]) -> VortexResult<Vec<DTyp
     Ok(dtypes)
 }
 
-/// Refuses what a call's binding refuses. E6 exactly where the count of arguments does not fit the arity, and then E3 exactly
-/// where their types are not accepted.
+/// Refuses what a call's binding refuses. E6 exactly where the count of arguments does not fit the
+/// arity, and then E3 exactly where their types are not accepted.
 pub(crate) fn check_inputs<C: ScalarFnVTable>(
     alloc: Global,
     function: &ScalarFnRef<C>,

@@ -8,20 +8,22 @@ use vortex_columns::{ExecutionCtx, Scalar, VortexResult};
 use vortex_functions::{ScalarFnRef, ScalarFnVTable, VecExecutionArgs};
 
 impl DictColumn {
-    /// Whether what the values do is what the rows do: the function is marked infallible, or each value has a code.
+    /// Whether what the values do is what the rows do: the function is marked infallible, or each
+    /// value has a code.
     fn may_run_over<C: ScalarFnVTable>(&self, function: &ScalarFnRef<C>) -> bool
         ensures { IsTrue result ↔ MayRunOver C.meaning (function_of function.now) self.now }
     {
         self.all_coded() || function.signature().is_infallible
     }
 
-    /// The call of the function with this column in place `child_idx` and the others, as constants, in the other places: a
-    /// dictionary of the call's type with the same codes, whose values are the function of the values, unused ones too. It
-    /// costs what the values cost, however many rows there are.
+    /// The call of the function with this column in place `child_idx` and the others, as constants,
+    /// in the other places: a dictionary of the call's type with the same codes, whose values are
+    /// the function of the values, unused ones too. It costs what the values cost, however many
+    /// rows there are.
     ///
-    /// In order: E6 and E3 as where the call is bound; None exactly where the function is not marked infallible and some
-    /// value has no code; the fault of a value, of a shipped function the only one that it has. Each value that can fault
-    /// has a code, so the fault is a row's.
+    /// In order: E6 and E3 as where the call is bound; None exactly where the function is not
+    /// marked infallible and some value has no code; the fault of a value, of a shipped function
+    /// the only one that it has. Each value that can fault has a code, so the fault is a row's.
     pub fn push_down<C: ScalarFnVTable>(
         &self,
         function: &ScalarFnRef<C>,

@@ -4,7 +4,8 @@ use Rattle.std.proofs.Common.{length, refl, sym, ap, subst, ◌∙◌, arith}
 use Rattle.std.specs.Prelude.{◌||◌, ◌&&◌, nat_eq, Result, MatchOption, if◌then◌else◌}
 use Rattle.vortex_errors.specs.declared.error.VortexError.{VortexError}
 use Rattle.vortex_errors.specs.Answers.{AnswersUnlessMemory}
-use Rattle.vortex_types.specs.LogicalTypes.{LogicalType, bool_type, is_nullable, without_nullability}
+use Rattle.vortex_types.specs.LogicalTypes.{LogicalType, bool_type, is_nullable}
+use Rattle.vortex_types.specs.LogicalTypes.{without_nullability}
 use Rattle.vortex_types.specs.TypeEquality.{alike_types, type_eq-decides}
 use Rattle.vortex_types.specs.Values.{Value, null, truth, is_null}
 use Rattle.vortex_types.specs.Order.{compare_values}
@@ -140,7 +141,8 @@ pub asked_answers : (kernel : ColumnView → CompareOperator → Bool) (op : Ope
     (r : Result (Option ColumnView) VortexError)
     → compare_operator_of op ≡ Some o → k ≤ 1 → is_settled_beside other ≡ false
     → length c.rows ≡ length other.rows → are_accepted c other ≡ true
-    → AnswersUnlessMemory r (GivesWhere (kernel other (asked k o)) (AnswersCompare (asked k o) c other))
+    → AnswersUnlessMemory r (GivesWhere (kernel other (asked k o))
+    (AnswersCompare (asked k o) c other))
     → AnswersUnlessMemory r
     (GivesWhere (compare_answers kernel op other k) (AnswersComparison op k c other))
 asked_answers kernel op o k c other r e at settled lengths h =

@@ -12,11 +12,12 @@ use vortex_kernels::{Operator, execute_cast};
 
 /// An encoded column that may know And and Or beside another column without being decoded.
 pub trait BooleanKernel: EncodedColumn {
-    /// Whether it answers beside that column for that operator. No contract but the kernel's own tells it.
+    /// Whether it answers beside that column for that operator. No contract but the kernel's own
+    /// tells it.
     ghost answers_boolean: { Self → ColumnView → Operator → Bool };
 
-    /// The operator over its rows, on the left, and those of `rhs`, as `execute_boolean` answers it over the decoded column;
-    /// exactly where `answers_boolean` says so, and else None. E9 alone.
+    /// The operator over its rows, on the left, and those of `rhs`, as `execute_boolean` answers it
+    /// over the decoded column; exactly where `answers_boolean` says so, and else None. E9 alone.
     ///
     /// Any operator may be asked; for And and Or both columns are of Bool.
     fn boolean(
@@ -45,7 +46,8 @@ fn constant_truth(column: &Column) -> Option<bool>
     scalar.as_bool_opt()
 }
 
-/// Whether the truth value is And's or Or's answer whatever stands beside it; if not, the other side is.
+/// Whether the truth value is And's or Or's answer whatever stands beside it; if not, the other
+/// side is.
 fn decides(operator: Operator, value: bool) -> bool
     ensures { result ≡ decides operator value }
 {
@@ -72,7 +74,8 @@ fn with_nullability(
     }
 }
 
-/// And or Or of an encoded column and one truth value in each row. Where that decides nothing is decoded.
+/// And or Or of an encoded column and one truth value in each row. Where that decides nothing is
+/// decoded.
 fn beside_truth<V: EncodedColumn>(
     array: &V,
     operator: Operator,
@@ -102,12 +105,12 @@ fn beside_truth<V: EncodedColumn>(
 pub struct BooleanExecuteAdaptor<V>(pub V);
 
 impl<V: BooleanKernel> BooleanExecuteAdaptor<V> {
-    /// The call of And or Or whose child of that index is the encoded column and whose other child is `other`, as
-    /// `execute_boolean` answers it over the decoded column.
+    /// The call of And or Or whose child of that index is the encoded column and whose other child
+    /// is `other`, as `execute_boolean` answers it over the decoded column.
     ///
-    /// None for any other operator and for an index above 1. Beside a constant that is not null the answer comes without
-    /// the kernel, and where that decides nothing is decoded; beside any other column, and a null constant, it is the
-    /// kernel's. E9 alone.
+    /// None for any other operator and for an index above 1. Beside a constant that is not null the
+    /// answer comes without the kernel, and where that decides nothing is decoded; beside any other
+    /// column, and a null constant, it is the kernel's. E9 alone.
     pub fn execute_parent(
         &self,
         array: &V,

@@ -3,7 +3,8 @@ ghost use Rattle.std.specs.Prelude.{◌≡◌, Bool, IsTrue, is_some, length, tr
 ghost use Rattle.vortex_encoded.specs.Words.{AnswersCompare, AnswersComparison, ColumnView};
 ghost use Rattle.vortex_encoded.specs.Words.{AnswersUnlessMemory, CompareOperator, GivesWhere};
 ghost use Rattle.vortex_encoded.specs.Words.{HasComparisonRows, IsConstantOf, alike_types};
-ghost use Rattle.vortex_encoded.specs.Words.{are_accepted, asked, compare_answers, compare_operator_of};
+ghost use Rattle.vortex_encoded.specs.Words.{are_accepted, asked, compare_answers};
+ghost use Rattle.vortex_encoded.specs.Words.{compare_operator_of};
 ghost use Rattle.vortex_encoded.specs.Words.{is_null_constant, is_settled_beside, null};
 
 use crate::encoded::EncodedColumn;
@@ -12,11 +13,13 @@ use vortex_kernels::{CompareOperator, Operator};
 
 /// An encoded column that may know comparisons with another column without being decoded.
 pub trait CompareKernel: EncodedColumn {
-    /// Whether it answers beside that column for that comparison. No contract but the kernel's own tells it.
+    /// Whether it answers beside that column for that comparison. No contract but the kernel's own
+    /// tells it.
     ghost answers_compare: { Self → ColumnView → CompareOperator → Bool };
 
-    /// The comparison of its rows, on the left, with those of `rhs`, as `execute_compare` answers it over the decoded
-    /// column; exactly where `answers_compare` says so, and else None. E9 alone.
+    /// The comparison of its rows, on the left, with those of `rhs`, as `execute_compare` answers
+    /// it over the decoded column; exactly where `answers_compare` says so, and else None. E9
+    /// alone.
     fn compare(
         &self,
         rhs: &Column,
@@ -41,8 +44,8 @@ fn is_null_constant(column: &Column) -> bool
     }
 }
 
-/// What any comparison answers where that is settled without the encoded column's rows: there are none, or the other side
-/// is a null constant.
+/// What any comparison answers where that is settled without the encoded column's rows: there are
+/// none, or the other side is a null constant.
 fn settled<V: EncodedColumn>(
     array: &V,
     other: &Column,
@@ -81,12 +84,12 @@ fn asked(operator: CompareOperator, child_idx: usize) -> CompareOperator
 pub struct CompareExecuteAdaptor<V>(pub V);
 
 impl<V: CompareKernel> CompareExecuteAdaptor<V> {
-    /// The comparison whose child of that index is the encoded column and whose other child is `other`, as
-    /// `execute_compare` answers it over the decoded column.
+    /// The comparison whose child of that index is the encoded column and whose other child is
+    /// `other`, as `execute_compare` answers it over the decoded column.
     ///
-    /// None for any other operator and for an index above 1. Over no rows, and beside a null constant, the answer comes
-    /// without the kernel, whatever the types; else it is the kernel's, asked with the swapped comparison where the
-    /// encoded column is on the right. E9 alone.
+    /// None for any other operator and for an index above 1. Over no rows, and beside a null
+    /// constant, the answer comes without the kernel, whatever the types; else it is the kernel's,
+    /// asked with the swapped comparison where the encoded column is on the right. E9 alone.
     pub fn execute_parent(
         &self,
         array: &V,

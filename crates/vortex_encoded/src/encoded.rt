@@ -4,8 +4,9 @@ ghost use Rattle.vortex_encoded.specs.Words.{AnswersUnlessMemory, ColumnView, Is
 
 use vortex_columns::{Column, DType, ExecutionCtx, VortexResult};
 
-/// A column that is kept in a form of its own. It stands for one column, which contracts alone see: whatever is said of the
-/// type, the length, the decoded column and the kernels' answers is said of that one.
+/// A column that is kept in a form of its own. It stands for one column, which contracts alone see:
+/// whatever is said of the type, the length, the decoded column and the kernels' answers is said of
+/// that one.
 pub trait EncodedColumn {
     ghost column: { Self → ColumnView };
 
@@ -17,8 +18,8 @@ pub trait EncodedColumn {
     fn len(&self) -> usize
         ensures { result ≡ length (column self.now).rows };
 
-    /// Its rows as a column of its type. E9 alone. Whether that is a constant one, and which form its validity has, is not
-    /// promised.
+    /// Its rows as a column of its type. E9 alone. Whether that is a constant one, and which form
+    /// its validity has, is not promised.
     fn decode(&self, ctx: &mut ExecutionCtx) -> VortexResult<Column>
         ensures { AnswersUnlessMemory result (IsDecoded (column self.now)) };
 }

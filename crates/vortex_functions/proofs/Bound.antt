@@ -1,5 +1,6 @@
 -- A call that is bound.
-use Rattle.std.proofs.Common.{◌≡◌, suc, Bool, true, List, [], ◌∷◌, length, map, Option, Some, None, refl, sym, ap, subst, ◌∙◌}
+use Rattle.std.proofs.Common.{◌≡◌, suc, Bool, true, List, [], ◌∷◌, length, map, Option, Some, None}
+use Rattle.std.proofs.Common.{refl, sym, ap, subst, ◌∙◌}
 use Rattle.std.specs.Prelude.{if◌then◌else◌}
 use Rattle.std.specs.Option.{option_and_then}
 use Rattle.std.proofs.lemmas.List.{length-map}
@@ -11,7 +12,8 @@ use Rattle.vortex_types.specs.LogicalTypes.{LogicalType}
 use Rattle.vortex_types.specs.TypeOf.{type_of}
 use Rattle.vortex_errors.proofs.Answering.{UnlessMemory-weaker}
 use Rattle.vortex_meaning.specs.Meaning.{Meaning, fits}
-use Rattle.vortex_meaning.specs.Functions.{Function, function_arity, ours, custom, function_type, call_type, IsMismatchOf, IsMismatchAt, RefusesTypes}
+use Rattle.vortex_meaning.specs.Functions.{Function, function_arity, ours, custom, function_type}
+use Rattle.vortex_meaning.specs.Functions.{call_type, IsMismatchOf, IsMismatchAt, RefusesTypes}
 use Rattle.vortex_meaning.specs.Shipped.{shipped_place}
 use Rattle.vortex_meaning.specs.Trees.{Tree, trees_of, call}
 use Rattle.vortex_meaning.specs.Eval.{tree_type, tree_types, with_type}

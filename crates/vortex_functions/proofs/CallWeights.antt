@@ -1,5 +1,6 @@
 -- Sums of weights that are cut off at the greatest number of 64 bits, and the weight of a call.
-use Rattle.std.proofs.Common.{◌≡◌, ℕ, zero, suc, ◌+◌, ◌<◌, sym, ap, ◌∙◌, List, [], ◌∷◌, length, take, get_or, Bool, Some, arith}
+use Rattle.std.proofs.Common.{◌≡◌, ℕ, zero, suc, ◌+◌, ◌<◌, sym, ap, ◌∙◌, List, [], ◌∷◌, length}
+use Rattle.std.proofs.Common.{take, get_or, Bool, Some, arith}
 use Rattle.std.specs.Prelude.{min}
 use Rattle.vortex_types.specs.LogicalTypes.{LogicalType, is_nullable}
 use Rattle.vortex_meaning.specs.Meaning.{Meaning}
@@ -39,7 +40,8 @@ module _ {V O : Type 0} (m : Meaning V O) where
       ∙ ap told (omega (arith, weights_more ts i t lt e))
 
   -- what the function adds and its children's weights are the call's
-  pub call_is_weighed : (f : Function V O) (ts : List (Tree V O)) (k : LogicalType) (nullable : Bool)
+  pub call_is_weighed : (f : Function V O) (ts : List (Tree V O)) (k : LogicalType)
+      (nullable : Bool)
       (sum : ℕ)
       → tree_type m (call f (trees_of ts)) ≡ Some k → nullable ≡ is_nullable k
       → sum ≡ told (added f nullable + weights m (trees_of ts))

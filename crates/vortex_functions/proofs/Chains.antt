@@ -1,5 +1,6 @@
 -- The frames above a node, and how much of a walk is left, for nodes of any type with children.
-use Rattle.std.proofs.Common.{◌≡◌, ℕ, zero, suc, ◌+◌, ◌*◌, List, [], ◌∷◌, ◌++◌, length, take, drop, Some, refl, sym, ap, subst, ◌∙◌, arith, add-one, length-append, ◌<◌}
+use Rattle.std.proofs.Common.{◌≡◌, ℕ, zero, suc, ◌+◌, ◌*◌, List, [], ◌∷◌, ◌++◌, length, take, drop}
+use Rattle.std.proofs.Common.{Some, refl, sym, ap, subst, ◌∙◌, arith, add-one, length-append, ◌<◌}
 use Rattle.std.specs.Prelude.{slice_get}
 use Rattle.vortex_functions.specs.declared.walk.Frame.{Frame}
 use Rattle.vortex_functions.specs.Walks.{AllMean}

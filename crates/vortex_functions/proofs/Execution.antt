@@ -1,5 +1,7 @@
 -- From the children's columns to a call's column or its refusal.
-use Rattle.std.proofs.Common.{◌≡◌, ℕ, zero, suc, ◌<◌, refl, sym, ap, subst, ◌∙◌, List, [], ◌∷◌, ◌++◌, length, get_or, take, inr, Bool, true, false, Option, Some, None, arith, nat_eq}
+use Rattle.std.proofs.Common.{◌≡◌, ℕ, zero, suc, ◌<◌, refl, sym, ap, subst, ◌∙◌, List, [], ◌∷◌}
+use Rattle.std.proofs.Common.{◌++◌, length, get_or, take, inr, Bool, true, false, Option, Some}
+use Rattle.std.proofs.Common.{None, arith, nat_eq}
 use Rattle.std.specs.Prelude.{slice_get, if◌then◌else◌, ⊤}
 use Rattle.std.specs.Option.{option_and_then}
 use borrow.Author.Tests.{eqb-true}
@@ -13,11 +15,15 @@ use Rattle.vortex_columns.specs.ColumnView.{ColumnView, row, constant_column}
 use Rattle.vortex_types.specs.ScalarView.{ScalarView}
 use Rattle.vortex_errors.specs.Answers.{UnlessMemory}
 use Rattle.vortex_errors.proofs.Answering.{UnlessMemory-weaker}
-use Rattle.vortex_meaning.specs.Outcomes.{gives, GivesValue, HasCallRows, IsCallFault, call_row, types_in, values_at}
+use Rattle.vortex_meaning.specs.Outcomes.{gives, GivesValue, HasCallRows, IsCallFault, call_row}
+use Rattle.vortex_meaning.specs.Outcomes.{types_in, values_at}
 use Rattle.vortex_meaning.specs.Meaning.{Meaning, fits}
-use Rattle.vortex_meaning.specs.Functions.{Function, function_arity, function_type, function_means, call_type}
+use Rattle.vortex_meaning.specs.Functions.{Function, function_arity, function_type, function_means}
+use Rattle.vortex_meaning.specs.Functions.{call_type}
 use Rattle.vortex_meaning.specs.Trees.{place, Tree, leaf, constant, call, trees_of}
-use Rattle.vortex_meaning.specs.Eval.{tree_type, tree_types, with_type, types_or_none, eval, eval_all, then_means, all_give, Settled, AllSettled, IsFirstFault, HasTreeRows}
+use Rattle.vortex_meaning.specs.Eval.{tree_type, tree_types, with_type, types_or_none, eval}
+use Rattle.vortex_meaning.specs.Eval.{eval_all, then_means, all_give, Settled, AllSettled}
+use Rattle.vortex_meaning.specs.Eval.{IsFirstFault, HasTreeRows}
 use Rattle.vortex_meaning.specs.Execution.{LeavesFit, other_length}
 
 -- each tree's rows stand in the column beside it
@@ -119,7 +125,8 @@ module _ {V O : Type 0} where
           let p =
           where_true (fits (function_arity m f) (length (types_in ds)))
           (function_type m f (types_in ds)) k typed in (
-            ap (λ c. fits (function_arity m f) c) (sym (length-map ds (λ (d : ColumnView). d.dtype)))
+            ap (λ c. fits (function_arity m f) c)
+                (sym (length-map ds (λ (d : ColumnView). d.dtype)))
                 ∙ p.0,
             p.1,
           )
@@ -164,7 +171,8 @@ module _ {V O : Type 0} where
 
         pub self_rows : (ds : List ColumnView) (c : ColumnView) (k : LogicalType)
             → AllHaveRows m cs n ts ds → tree_type m self ≡ Some k
-            → HasCallRows (function_type m f) (function_means m f) ds n c → HasTreeRows m cs n self c
+            → HasCallRows (function_type m f) (function_means m f) ds n c
+            → HasTreeRows m cs n self c
         self_rows ds c k h e r =
             subst (λ (s : Tree V O). HasTreeRows m cs n s c) (sym is)
             (call_rows f ts ds c k h (ap (tree_type m) (sym is) ∙ e) r)
@@ -189,7 +197,8 @@ same_length n (x ∷ xs) (suc p) c h e =
 -- a column leaf's column
 pub leaf_rows : {V O : Type 0} (m : Meaning V O) (cs : List ColumnView) (n : ℕ) (self : Tree V O)
     (p : ℕ) (name : List ℕ) (k : LogicalType) (c : ColumnView)
-    → self ≡ leaf (place p name k) → LeavesFit cs self → other_length n cs ≡ None → c ≡ get_or cs p c
+    → self ≡ leaf (place p name k) → LeavesFit cs self → other_length n cs ≡ None
+    → c ≡ get_or cs p c
     → HasTreeRows m cs n self c
 leaf_rows {V} {O} m cs n self p name k c is fit lengths e =
     let h : LeavesFit {V = V} {O = O} cs (leaf (place p name k)) =

@@ -7,7 +7,8 @@ use Rattle.vortex_meaning.specs.Shipped.{Shipped, shipped_id}
 use Rattle.vortex_meaning.specs.Shipped.NotFunction.{not_id}
 use Rattle.vortex_meaning.specs.Shipped.NullTestFunctions.{is_null_id, is_not_null_id}
 use Rattle.vortex_meaning.specs.Functions.{Function, ours, custom, function_id}
-use Rattle.vortex_functions.specs.SameFunctions.{AreSame, held_by, HoldAlike, IsNeverShipped, SameByIdentityAndOptions}
+use Rattle.vortex_functions.specs.SameFunctions.{AreSame, held_by, HoldAlike, IsNeverShipped}
+use Rattle.vortex_functions.specs.SameFunctions.{SameByIdentityAndOptions}
 
 not_is_null : not_id ≡ is_null_id → ⊥
 not_is_null e = let f = (bytes_eq-Decides not_id is_null_id).1 e in cc

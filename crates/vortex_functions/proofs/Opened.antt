@@ -1,5 +1,6 @@
 -- What an opened tree is.
-use Rattle.std.proofs.Common.{◌≡◌, ℕ, zero, suc, ◌≤◌, [], ◌∷◌, length, refl, arith, sym, ap, ◌∙◌, Bool, false, IsTrue, ◌↔◌, true≢false, Some, None}
+use Rattle.std.proofs.Common.{◌≡◌, ℕ, zero, suc, ◌≤◌, [], ◌∷◌, length, refl, arith, sym, ap, ◌∙◌}
+use Rattle.std.proofs.Common.{Bool, false, IsTrue, ◌↔◌, true≢false, Some, None}
 use Rattle.std.specs.Prelude.{List, slice_get}
 use Rattle.vortex_types.specs.LogicalTypes.{LogicalType}
 use Rattle.vortex_types.specs.TypeEquality.{type_eq, type_eq-decides}

@@ -1,4 +1,5 @@
--- Options are equal where they are the same, and a function that is the same as a shipped one is that one.
+-- Options are equal where they are the same, and a function that is the same as a shipped one is
+-- that one.
 use Rattle.std.proofs.Common.{◌≡◌, ℕ, List, Bool, true, false, ◌&&◌, Option, Some, None, refl, ap}
 use Rattle.std.proofs.Common.{nat_eq, eq-eqb}
 use Rattle.std.proofs.lemmas.Bool.{eqb-true}

@@ -1,5 +1,6 @@
 -- From the children's texts to a call's.
-use Rattle.std.proofs.Common.{◌≡◌, ℕ, suc, List, [], ◌∷◌, ◌++◌, length, map, Option, Some, None, Bool, true, false, refl, sym, ap, ◌∙◌, subst}
+use Rattle.std.proofs.Common.{◌≡◌, ℕ, suc, List, [], ◌∷◌, ◌++◌, length, map, Option, Some, None}
+use Rattle.std.proofs.Common.{Bool, true, false, refl, sym, ap, ◌∙◌, subst}
 use Rattle.std.specs.Prelude.{IfSome, if◌then◌else◌, string_bytes, String}
 use Rattle.std.specs.declared.alloc.Global.{Global}
 use Rattle.std.specs.Option.{option_and_then}
@@ -10,7 +11,8 @@ use Rattle.vortex_meaning.specs.Meaning.{Meaning, fits}
 use Rattle.vortex_meaning.specs.Functions.{Function, function_arity, function_type, call_type}
 use Rattle.vortex_meaning.specs.Trees.{Tree, constant, call, trees_of}
 use Rattle.vortex_meaning.specs.Eval.{tree_type, tree_types}
-use Rattle.vortex_meaning.specs.Printing.{literal_text, tree_text, tree_texts, with_text, function_text}
+use Rattle.vortex_meaning.specs.Printing.{literal_text, tree_text, tree_texts, with_text}
+use Rattle.vortex_meaning.specs.Printing.{function_text}
 use Rattle.vortex_functions.specs.Walks.{AllMean}
 use Rattle.vortex_functions.specs.Texts.{IsTextOf}
 use Rattle.vortex_functions.proofs.Bound.{type_count}
@@ -54,7 +56,8 @@ module _ {V O : Type 0} where
   pub call_has_text : (self : Tree V O) (f : Function V O) (ts : List (Tree V O))
       (texts : List (List ℕ)) (old out : List ℕ)
       → self ≡ call f (trees_of ts) → AreTexts ts texts → old ≡ []
-      → IfSome (function_text f texts) (λ b. out ≡ old ++ b) → IfSome (tree_text self) (λ b. out ≡ b)
+      → IfSome (function_text f texts) (λ b. out ≡ old ++ b)
+      → IfSome (tree_text self) (λ b. out ≡ b)
   call_has_text self f ts texts old out is h none g =
       subst (λ (t : Tree V O). IfSome (tree_text t) (λ b. out ≡ b)) (sym is)
       (go (tree_texts (trees_of ts)) h.1)

@@ -1,5 +1,7 @@
--- A tree that is written by pieces: what is written and what is left are its text, and less is left with each piece.
-use Rattle.std.proofs.Common.{◌≡◌, ℕ, zero, suc, ◌+◌, ◌<◌, ◌≤◌, length, List, [], ◌∷◌, ◌++◌, drop, map, Option, Some, None, refl, sym, ap, ◌∙◌, subst, arith}
+-- A tree that is written by pieces: what is written and what is left are its text, and less is left
+-- with each piece.
+use Rattle.std.proofs.Common.{◌≡◌, ℕ, zero, suc, ◌+◌, ◌<◌, ◌≤◌, length, List, [], ◌∷◌, ◌++◌, drop}
+use Rattle.std.proofs.Common.{map, Option, Some, None, refl, sym, ap, ◌∙◌, subst, arith}
 use Rattle.std.specs.Prelude.{⊤, codes, get_or, slice_get, IfSome}
 use Rattle.std.specs.Option.{option_and_then, option_map, unwrap_or}
 use Rattle.std.proofs.lemmas.Option.{slice_get-map, slice_get_past, slice_get-get_or}
@@ -8,9 +10,12 @@ use Rattle.vortex_meaning.specs.CallTexts.{Piece, said, argument, told, piece_te
 use Rattle.vortex_meaning.specs.Shipped.{shipped_pieces}
 use Rattle.vortex_meaning.specs.Functions.{Function, ours, custom}
 use Rattle.vortex_meaning.specs.Printing.{literal_text, tree_text, tree_texts}
-use Rattle.vortex_meaning.specs.Trees.{Tree, leaf, place, held, constant, call, Trees, no_trees, tree, children_of, list_of, called}
-use Rattle.vortex_interface.proofs.PieceTexts.{drop_at, left_past, piece_written, text_got, text_past}
-use Rattle.vortex_functions.specs.TreePieces.{pieces_of, tree_pieces, HasText, text_in, child_texts, leaf_text}
+use Rattle.vortex_meaning.specs.Trees.{Tree, leaf, place, held, constant, call, Trees, no_trees}
+use Rattle.vortex_meaning.specs.Trees.{tree, children_of, list_of, called}
+use Rattle.vortex_interface.proofs.PieceTexts.{drop_at, left_past, piece_written, text_got}
+use Rattle.vortex_interface.proofs.PieceTexts.{text_past}
+use Rattle.vortex_functions.specs.TreePieces.{pieces_of, tree_pieces, HasText, text_in, child_texts}
+use Rattle.vortex_functions.specs.TreePieces.{leaf_text}
 use Rattle.vortex_functions.proofs.TreeTexts.{parts}
 use Rattle.vortex_functions.specs.declared.tree.text.Writing.{Writing}
 
@@ -207,7 +212,8 @@ module _ {V O : Type 0} where
       let none : slice_get (child_texts t) i ≡ None =
       slice_get-map text_in (children_of t) i
       ∙ ap (option_map text_in) (slice_get_past (children_of t) i past) in
-      let nothing : piece_text (argument i) (child_texts t) ≡ [] = text_past (child_texts t) i none in
+      let nothing : piece_text (argument i) (child_texts t)
+      ≡ [] = text_past (child_texts t) i none in
       sym (append-nil out) ∙ ap (λ bs. out ++ bs) (sym nothing)
       ∙ ap (λ p. out ++ piece_text p (child_texts t)) same
     where
@@ -265,7 +271,8 @@ module _ {V O : Type 0} where
       let one : text_in c ≡ piece_text (argument i) (child_texts t) =
       sym (text_got (child_texts t) i (text_in c) got) in
       let next =
-      written_said root t out (out ++ text_in c) ps k (argument i) w e (ap (λ bs. out ++ bs) one) h in
+      written_said root t out (out ++ text_in c) ps k (argument i) w e (ap (λ bs. out ++ bs) one)
+      h in
       let above = ps ++ (t, suc k) ∷ [] in
       let pieces = told (tree_pieces c) (child_texts c) in (
         texts_push above (c, 0) next.0 has,

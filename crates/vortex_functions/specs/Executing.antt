@@ -8,7 +8,8 @@ use Rattle.vortex_columns.specs.ColumnView.{ColumnView}
 use Rattle.vortex_meaning.specs.Meaning.{Meaning}
 use Rattle.vortex_meaning.specs.Trees.{Tree, leaf}
 use Rattle.vortex_meaning.specs.Eval.{HasTreeRows, IsFirstFault}
-use Rattle.vortex_meaning.specs.Execution.{LeafFits, LeavesFit, other_length, Executes, RefusesColumns, RefusesExecution}
+use Rattle.vortex_meaning.specs.Execution.{LeafFits, LeavesFit, other_length, Executes}
+use Rattle.vortex_meaning.specs.Execution.{RefusesColumns, RefusesExecution}
 use Rattle.vortex_functions.specs.Binding.{IsLeaf, IsLentLeaf}
 
 abbrev Answer : Type 0

@@ -8,7 +8,8 @@ use Rattle.vortex_functions.specs.declared.tree.Node.TheVariants.{Column, Litera
 use Rattle.vortex_functions.specs.declared.tree.BoundExpression.TheInside.{Inside}
 use Rattle.vortex_types.specs.TypeOf.{type_of}
 use Rattle.vortex_meaning.specs.Meaning.{Meaning}
-use Rattle.vortex_meaning.specs.Trees.{place, Tree, leaf, constant, call, trees_of, node_count, nodes_count}
+use Rattle.vortex_meaning.specs.Trees.{place, Tree, leaf, constant, call, trees_of, node_count}
+use Rattle.vortex_meaning.specs.Trees.{nodes_count}
 use Rattle.vortex_meaning.specs.Eval.{tree_type}
 use Rattle.vortex_meaning.specs.Rules.{Rules}
 use Rattle.vortex_meaning.specs.Driver.{simplify_or_reduce, step}

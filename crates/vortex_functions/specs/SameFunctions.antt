@@ -4,11 +4,12 @@ use Rattle.vortex_operators.specs.declared.operators.Operator.{Operator}
 use Rattle.vortex_operators.specs.declared.between.BetweenOptions.{BetweenOptions}
 use Rattle.vortex_like.specs.declared.options.LikeOptions.{LikeOptions}
 use Rattle.vortex_meaning.specs.Meaning.{Meaning}
-use Rattle.vortex_meaning.specs.Shipped.{Shipped, Binary, Not, IsNull, IsNotNull, Cast, Between, Like, shipped_id}
+use Rattle.vortex_meaning.specs.Shipped.{Shipped, Binary, Not, IsNull, IsNotNull, Cast, Between}
+use Rattle.vortex_meaning.specs.Shipped.{Like, shipped_id}
 use Rattle.vortex_meaning.specs.Functions.{Function, ours, custom, function_id}
 
--- one shipped function with the same options; or two of a caller's of one identity, whose options are
--- equal by the equality E of their own. No shipped function is the same as a caller's
+-- one shipped function with the same options; or two of a caller's of one identity, whose options
+-- are equal by the equality E of their own. No shipped function is the same as a caller's
 abbrev pub AreSame : {V O : Type 0} → (V → List ℕ) → (O → O → Bool)
     → Function V O → Function V O → Type 0
 AreSame id E (ours s) (ours t) = s ≡ t

@@ -1,5 +1,7 @@
--- The text of a tree by the pieces of its calls: what a node says before its pieces, and what is left of a call.
-use Rattle.std.specs.Prelude.{◌≡◌, ℕ, ◌++◌, List, [], map, Option, Some, MatchOption, codes, slice_get, string_bytes, String}
+-- The text of a tree by the pieces of its calls: what a node says before its pieces, and what is
+-- left of a call.
+use Rattle.std.specs.Prelude.{◌≡◌, ℕ, ◌++◌, List, [], map, Option, Some, MatchOption, codes}
+use Rattle.std.specs.Prelude.{slice_get, string_bytes, String}
 use Rattle.std.specs.declared.alloc.Global.{Global}
 use Rattle.std.specs.Option.{unwrap_or}
 use Rattle.vortex_meaning.specs.CallTexts.{Piece, argument, told, piece_text}

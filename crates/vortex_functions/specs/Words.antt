@@ -11,11 +11,14 @@ pub use Rattle.vortex_meaning.specs.Shipped.NullTestFunctions.{is_null_word, is_
 pub use Rattle.vortex_meaning.specs.Shipped.CastFunction.{is_cast_word}
 pub use Rattle.vortex_meaning.specs.Shipped.BetweenFunction.{between_named}
 pub use Rattle.vortex_meaning.specs.Shipped.LikeFunction.{like_named}
-pub use Rattle.vortex_meaning.specs.Functions.{ours, function_id, function_arity, function_child_name, function_type, function_means, function_strict, function_infallible}
+pub use Rattle.vortex_meaning.specs.Functions.{ours, function_id, function_arity}
+pub use Rattle.vortex_meaning.specs.Functions.{function_child_name, function_type, function_means}
+pub use Rattle.vortex_meaning.specs.Functions.{function_strict, function_infallible}
 pub use Rattle.vortex_meaning.specs.Answering.{AnswersFunctionType, AnswersFunction}
 pub use Rattle.vortex_meaning.specs.CallTexts.{Appends}
 pub use Rattle.vortex_interface.specs.Pieces.{piece_of}
-pub use Rattle.vortex_meaning.specs.Trees.{constant, trees_of, children_of, called, literal, node_count}
+pub use Rattle.vortex_meaning.specs.Trees.{constant, trees_of, children_of, called, literal}
+pub use Rattle.vortex_meaning.specs.Trees.{node_count}
 pub use Rattle.vortex_meaning.specs.Eval.{tree_type, tree_types}
 pub use Rattle.vortex_meaning.specs.Execution.{LeavesFit, other_length}
 pub use Rattle.vortex_meaning.specs.Driver.{simplify_or_reduce, step}
@@ -24,9 +27,11 @@ pub use Rattle.vortex_meaning.specs.Weights.{added, weights, weight_told}
 pub use Rattle.vortex_meaning.specs.Printing.{tree_text}
 pub use Rattle.vortex_functions.specs.FunctionOf.{function_of, operator_in, is_not, instance_in}
 pub use Rattle.vortex_functions.specs.Texts.{AppendsText, IsTextOf}
-pub use Rattle.vortex_functions.specs.TreePieces.{pieces_of, tree_pieces, leaf_text, BeginsText, WritesPiece}
+pub use Rattle.vortex_functions.specs.TreePieces.{pieces_of, tree_pieces, leaf_text, BeginsText}
+pub use Rattle.vortex_functions.specs.TreePieces.{WritesPiece}
 pub use Rattle.vortex_functions.specs.Binding.{AnswersLeaf, AnswersBinding, IsLeaf, IsLeafAt}
-pub use Rattle.vortex_functions.specs.Executing.{HasRows, NodeFits, AnswersTree, AnswersExecution, AnswersColumns, LendsLeaf, Fits}
+pub use Rattle.vortex_functions.specs.Executing.{HasRows, NodeFits, AnswersTree, AnswersExecution}
+pub use Rattle.vortex_functions.specs.Executing.{AnswersColumns, LendsLeaf, Fits}
 pub use Rattle.vortex_functions.specs.Walks.{AllMean, IsCopy}
 pub use Rattle.vortex_meaning.specs.OptionBytes.{WritesOptionsOf}
 pub use Rattle.vortex_meaning.specs.FunctionTexts.{held_text, value_text}

@@ -8,7 +8,8 @@ use vortex_interface::ScalarFnVTable;
 use vortex_kernels::{BetweenOptions, StrictComparison};
 use vortex_shipped::Between;
 
-/// The options that a script names: `between`, and the operators of the lower and of the upper bound.
+/// The options that a script names: `between`, and the operators of the lower and of the upper
+/// bound.
 fn between_named(word: &str) -> Option<BetweenOptions>
     ensures { result ≡ between_named word.now }
 {

@@ -1,6 +1,12 @@
 //! A function with its options: a shipped one or a caller's.
-ghost use Rattle.std.specs.Prelude.{◌≡◌, ◌<◌, slice_get, Some, None, IsTrue, IsSome, MatchResult, length};
-ghost use Rattle.vortex_functions.specs.Words.{types_in, fits, function_of, function_id, function_arity, function_child_name, function_type, function_strict, function_infallible, AnswersUnlessMemory, AnswersFunctionType, AnswersFunction, AppendsText, added, pieces_of, piece_of};
+ghost use Rattle.std.specs.Prelude.{◌≡◌, ◌<◌, slice_get, Some, None, IsTrue, IsSome, MatchResult};
+ghost use Rattle.std.specs.Prelude.{length};
+ghost use Rattle.vortex_functions.specs.Words.{types_in, fits, function_of, function_id};
+ghost use Rattle.vortex_functions.specs.Words.{function_arity, function_child_name, function_type};
+ghost use Rattle.vortex_functions.specs.Words.{function_strict, function_infallible};
+ghost use Rattle.vortex_functions.specs.Words.{AnswersUnlessMemory, AnswersFunctionType};
+ghost use Rattle.vortex_functions.specs.Words.{AnswersFunction, AppendsText, added, pieces_of};
+ghost use Rattle.vortex_functions.specs.Words.{piece_of};
 
 use crate::ext::ScalarFnVTableExt;
 use crate::typed::TypedScalarFnInstance;
@@ -13,7 +19,8 @@ use vortex_kernels::{BetweenOptions, Operator};
 use vortex_like::LikeOptions;
 use vortex_shipped::{Between, Binary, Cast, CastOptions, IsNotNull, IsNull, Like, Not};
 
-/// The list of the functions, each with its interface and its options; of a caller's function the last expression.
+/// The list of the functions, each with its interface and its options; of a caller's function the
+/// last expression.
 macro_rules! with_shipped {
     ($function:expr, $f:ident, $options:ident => $body:expr, $custom:ident => $else:expr) => {
         match $function {
@@ -73,8 +80,8 @@ pub(crate) use with_shipped;
 
 /// A function with its options: a shipped one, or a caller's of type `C`.
 ///
-/// Two are equal where they are the same shipped function with the same options, or two of a caller's of one identity and
-/// equal options; equal ones hash equally.
+/// Two are equal where they are the same shipped function with the same options, or two of a
+/// caller's of one identity and equal options; equal ones hash equally.
 #[derive(Drop)]
 #[derive_where(PartialEq, Eq, Hash)]
 pub enum ScalarFnRef<C: ScalarFnVTable> {
@@ -101,8 +108,10 @@ impl<C: ScalarFnVTable> ScalarFnRef<C> {
     ghost use Rattle.vortex_meaning.specs.Functions.{ours};
     ghost use Rattle.vortex_meaning.specs.Shipped.{shipped_named, shipped_called};
     ghost use Rattle.vortex_functions.specs.FunctionOf.{escaped_function};
-    ghost use Rattle.vortex_functions.specs.FunctionOf.{operator_in, between_in, like_in, instance_in};
-    ghost use Rattle.vortex_functions.specs.FunctionOf.{is_not, is_is_null, is_is_not_null, is_cast};
+    ghost use Rattle.vortex_functions.specs.FunctionOf.{operator_in, between_in, like_in};
+    ghost use Rattle.vortex_functions.specs.FunctionOf.{instance_in};
+    ghost use Rattle.vortex_functions.specs.FunctionOf.{is_not, is_is_null, is_is_not_null};
+    ghost use Rattle.vortex_functions.specs.FunctionOf.{is_cast};
 
     /// A caller's function with its options.
     pub fn custom(vtable: C, options: C::Options) -> ScalarFnRef<C>
@@ -216,7 +225,8 @@ impl<C: ScalarFnVTable> ScalarFnRef<C> {
     pub fn signature(&self) -> ScalarFnSignature
         ensures arity { result.arity ≡ function_arity C.meaning (function_of self.now) }
         ensures strict { result.is_strict ≡ function_strict C.meaning (function_of self.now) }
-        ensures infallible { result.is_infallible ≡ function_infallible C.meaning (function_of self.now) }
+        ensures infallible { result.is_infallible
+            ≡ function_infallible C.meaning (function_of self.now) }
     {
         with_function!(self, f, options => ScalarFnSignature {
             arity: f.arity(options),
@@ -248,16 +258,18 @@ impl<C: ScalarFnVTable> ScalarFnRef<C> {
         with_function!(self, f, options => f.child_name(options, index))
     }
 
-    /// The type of the answer for argument types of a fitting count; E3 exactly where they are not accepted. A shipped
-    /// function takes no memory.
+    /// The type of the answer for argument types of a fitting count; E3 exactly where they are not
+    /// accepted. A shipped function takes no memory.
     pub fn return_dtype(&self, alloc: Global, types: &[DType]) -> VortexResult<DType>
-        requires { IsTrue (fits (function_arity C.meaning (function_of self.now)) (length types.now)) }
+        requires { IsTrue (fits (function_arity C.meaning (function_of self.now))
+            (length types.now)) }
         ensures { AnswersFunctionType C.meaning (function_of self.now) types.now result }
     {
         with_function!(self, f, options => f.return_dtype(alloc, options, types))
     }
 
-    /// The answer over inputs of accepted types: a column of the type returned, with each row's value, or the fault of a row.
+    /// The answer over inputs of accepted types: a column of the type returned, with each row's
+    /// value, or the fault of a row.
     pub fn execute<A: ExecutionArgs>(
         &self,
         args: &A,
@@ -273,9 +285,11 @@ impl<C: ScalarFnVTable> ScalarFnRef<C> {
         with_function!(self, f, options => f.execute(options, args, ctx))
     }
 
-    /// Appends the text of a call, by the texts of its arguments; what a caller's function writes stays open.
+    /// Appends the text of a call, by the texts of its arguments; what a caller's function writes
+    /// stays open.
     pub(crate) fn fmt_sql(&self, children: &[String], out: &mut String) -> VortexResult<()>
-        requires { IsTrue (fits (function_arity C.meaning (function_of self.now)) (length children.now)) }
+        requires { IsTrue (fits (function_arity C.meaning (function_of self.now))
+            (length children.now)) }
         ensures { AnswersUnlessMemory result
             (λ _. AppendsText (function_of self.now) children.now out.old out.new) }
     {
@@ -297,8 +311,8 @@ impl<C: ScalarFnVTable> ScalarFnRef<C> {
         with_shipped!(self, f, options => f.text_piece(options, index), _custom => unreachable!())
     }
 
-    /// The shipped function that a script names, by one word, as `and`, or by words with a space between each two, as
-    /// `between < <=`.
+    /// The shipped function that a script names, by one word, as `and`, or by words with a space
+    /// between each two, as `between < <=`.
     pub fn named(word: &str) -> Option<ScalarFnRef<C>>
         ensures { option_map function_of result ≡ option_map ours (shipped_named word.now) }
     {
@@ -339,7 +353,8 @@ impl<C: ScalarFnVTable> ScalarFnRef<C> {
         }
     }
 
-    /// The shipped function that a script calls: the one of that name, with the escape that is said of it where one is.
+    /// The shipped function that a script calls: the one of that name, with the escape that is said
+    /// of it where one is.
     pub fn called(word: &str, escape: Option<Option<char>>) -> Option<ScalarFnRef<C>>
         ensures { option_map function_of result
             ≡ option_map ours (shipped_called word.now escape) }

@@ -20,7 +20,8 @@ pub trait ScalarFnVTableExt: ScalarFnVTable {
     fn bind<C: ScalarFnVTable>(&self, options: Self::Options) -> ScalarFnRef<C>
         ensures { function_of result ≡ ours (ships options) };
 
-    /// The options of this function that a script names, by one word, as `and`, or by words with a space between each two.
+    /// The options of this function that a script names, by one word, as `and`, or by words with a
+    /// space between each two.
     fn named(&self, word: &str) -> Option<Self::Options>
         ensures { option_map ships result ≡ names word.now };
 

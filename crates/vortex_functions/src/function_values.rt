@@ -1,4 +1,5 @@
-//! Functions with their options as values: their options as bytes and texts, and when two are equal.
+//! Functions with their options as values: their options as bytes and texts, and when two are
+//! equal.
 ghost use Rattle.std.specs.Prelude.{◌≡◌};
 ghost use Rattle.vortex_functions.specs.Words.{function_of, AnswersUnlessMemory, WritesOptionsOf};
 
@@ -69,7 +70,8 @@ impl<C: ScalarFnVTable> ScalarFnRef<C> {
 }
 
 impl<'a, C: ScalarFnVTable> ScalarFnOptions<'a, C> {
-    /// The bytes that the function writes of its options, where it writes any: a shipped one always.
+    /// The bytes that the function writes of its options, where it writes any: a shipped one
+    /// always.
     pub fn serialize(&self, alloc: Global) -> VortexResult<Option<Vec<u8>>>
         ensures { AnswersUnlessMemory result (WritesOptionsOf (function_of self.now.function.now)) }
     {

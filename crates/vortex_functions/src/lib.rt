@@ -1,5 +1,5 @@
-//! Row functions as values, and expression trees over them. The names of the interface and of the shipped functions stand
-//! here too.
+//! Row functions as values, and expression trees over them. The names of the interface and of the
+//! shipped functions stand here too.
 #![tactic(auto)]
 
 mod between;

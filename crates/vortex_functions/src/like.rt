@@ -8,7 +8,8 @@ use vortex_interface::ScalarFnVTable;
 use vortex_like::LikeOptions;
 use vortex_shipped::Like;
 
-/// The options that a word of a script names: `like`, `not_like`, `ilike`, `not_ilike`, each with backslash escape.
+/// The options that a word of a script names: `like`, `not_like`, `ilike`, `not_ilike`, each with
+/// backslash escape.
 fn like_named(word: &str) -> Option<LikeOptions>
     ensures { result ≡ like_named word.now }
 {

@@ -1,8 +1,13 @@
 //! Expression trees over the columns of a scope.
-ghost use Rattle.std.specs.Prelude.{◌≡◌, ◌<◌, ◌≤◌, ◌+◌, ◌*◌, All, IfOk, None, Some, IsTrue, MatchOption, length, map, min, slice_get};
+ghost use Rattle.std.specs.Prelude.{◌≡◌, ◌<◌, ◌≤◌, ◌+◌, ◌*◌, All, IfOk, None, Some, IsTrue};
+ghost use Rattle.std.specs.Prelude.{MatchOption, length, map, min, slice_get};
 ghost use Rattle.std.specs.Option.{option_copied};
-ghost use Rattle.vortex_functions.specs.Words.{type_of, struct_fields, constant, trees_of, children_of, called, literal, tree_type, tree_types, function_of, AnswersUnlessMemory, AnswersLeaf, AnswersBinding, IsLeaf, IsLeafAt};
-ghost use Rattle.vortex_functions.specs.Words.{added, node_count, weights, weight_told, IsBound, simplify_or_reduce, step};
+ghost use Rattle.vortex_functions.specs.Words.{type_of, struct_fields, constant, trees_of};
+ghost use Rattle.vortex_functions.specs.Words.{children_of, called, literal, tree_type, tree_types};
+ghost use Rattle.vortex_functions.specs.Words.{function_of, AnswersUnlessMemory, AnswersLeaf};
+ghost use Rattle.vortex_functions.specs.Words.{AnswersBinding, IsLeaf, IsLeafAt};
+ghost use Rattle.vortex_functions.specs.Words.{added, node_count, weights, weight_told, IsBound};
+ghost use Rattle.vortex_functions.specs.Words.{simplify_or_reduce, step};
 
 use crate::erased::ScalarFnRef;
 use std::alloc::Global;
@@ -65,18 +70,21 @@ impl<C: ScalarFnVTable> Model for BoundExpression<C> {
 
     ghost use Rattle.vortex_functions.specs.NodeFalls.{deep_le-node_count};
 
-    ghost size_decreases = { λ a h. deep_le-node_count C C.Options C.ScalarFnVTable C.Clone C.Options.Clone C.Options.Debug
+    ghost size_decreases = { λ a h. deep_le-node_count C C.Options C.ScalarFnVTable C.Clone
+        C.Options.Clone C.Options.Debug
         C.Options.Display C.Options.PartialEq C.Options.Hash a.node };
 }
 
-/// The last handle of a call takes it down, by a work list, and the list is the children's own vector: the depth of a tree
-/// takes no stack, and a chain no memory. Where the list cannot grow, one child goes by a call of its own.
+/// The last handle of a call takes it down, by a work list, and the list is the children's own
+/// vector: the depth of a tree takes no stack, and a chain no memory. Where the list cannot grow,
+/// one child goes by a call of its own.
 impl<C: ScalarFnVTable> Drop for BoundExpression<C> {
     #[tactic(auto, using(crate::proofs::Counts::nodes_count_push))]
     fn drop(self) {
         let BoundExpression { node } = self;
         let mut list = match node {
-            // the leaf's parts are named, and so let go of one by one, and not by letting go of a node
+            // the leaf's parts are named, and so let go of one by one, and not by letting go of a
+            // node
             Node::Column(_place, _name, _dtype) => return,
             Node::Literal(_scalar, _alloc) => return,
             Node::Call(parts) => match Rc::into_inner(parts) {
@@ -123,8 +131,8 @@ fn dtypes_of<C: ScalarFnVTable>(
     Ok(dtypes)
 }
 
-/// The weight of a call that is nullable or not: its children's, and what the function adds. Where that is past the greatest
-/// number, it is that number.
+/// The weight of a call that is nullable or not: its children's, and what the function adds. Where
+/// that is past the greatest number, it is that number.
 fn call_weight<C: ScalarFnVTable>(
     function: &ScalarFnRef<C>,
     children: &[BoundExpression<C>],
@@ -161,7 +169,8 @@ impl<C: ScalarFnVTable> BoundExpression<C> {
         }
     }
 
-    /// The leaf that has that value in every row, of the scalar's type. Takes no memory: the allocator is kept for the text.
+    /// The leaf that has that value in every row, of the scalar's type. Takes no memory: the
+    /// allocator is kept for the text.
     pub fn lit(alloc: Global, scalar: Scalar) -> BoundExpression<C>
         ensures { result ≡ constant scalar }
     {
@@ -172,8 +181,8 @@ impl<C: ScalarFnVTable> BoundExpression<C> {
         }
     }
 
-    /// The call of a function. E6 exactly where the count of children does not fit its arity, and then E3 exactly where their
-    /// types are not accepted.
+    /// The call of a function. E6 exactly where the count of children does not fit its arity, and
+    /// then E3 exactly where their types are not accepted.
     pub fn try_new(
         alloc: Global,
         function: ScalarFnRef<C>,
@@ -212,16 +221,16 @@ impl<C: ScalarFnVTable> BoundExpression<C> {
         }
     }
 
-    /// Does nothing: its contract is what is known of every expression. Each leaf is a place in a scope, and each literal has
-    /// its type.
+    /// Does nothing: its contract is what is known of every expression. Each leaf is a place in a
+    /// scope, and each literal has its type.
     pub fn tells_types(&self)
         ensures { IsBound self.now }
     {
         let _opened = &self.node;
     }
 
-    /// The weight, which rules over shipped functions lessen: at most five for each node. Where it is past the greatest
-    /// number, it is that number.
+    /// The weight, which rules over shipped functions lessen: at most five for each node. Where it
+    /// is past the greatest number, it is that number.
     pub fn weight(&self) -> u64
         ensures told { result ≡ weight_told C.meaning self.now }
         ensures bounded { result ≤ 5 * node_count self.now }
@@ -233,8 +242,8 @@ impl<C: ScalarFnVTable> BoundExpression<C> {
         }
     }
 
-    /// Whether the tree is known to be settled: neither Simplify nor Reduce applies at any place of it. Of a leaf that is
-    /// known; of a call where it, or what it is a copy of, was marked.
+    /// Whether the tree is known to be settled: neither Simplify nor Reduce applies at any place of
+    /// it. Of a leaf that is known; of a call where it, or what it is a copy of, was marked.
     pub fn is_settled(&self) -> bool
         ensures { IsTrue result → step (simplify_or_reduce C.meaning C.rules) self.now ≡ None }
     {

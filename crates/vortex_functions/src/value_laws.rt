@@ -1,23 +1,25 @@
-//! When functions with their options are equal, and what follows. These functions do nothing: their contracts are proved.
+//! When functions with their options are equal, and what follows. These functions do nothing: their
+//! contracts are proved.
 ghost use Rattle.std.specs.Prelude.{◌≡◌, ◌↔◌, ℕ, List, IsTrue, fold};
 ghost use Rattle.vortex_types.specs.LogicalTypes.{LogicalType};
 ghost use Rattle.vortex_types.specs.Values.{Value};
-ghost use Rattle.vortex_functions.specs.Words.{AreSame, SameByIdentityAndOptions, Shipped, ours, function_of, function_means};
+ghost use Rattle.vortex_functions.specs.Words.{AreSame, SameByIdentityAndOptions, Shipped, ours};
+ghost use Rattle.vortex_functions.specs.Words.{function_of, function_means};
 ghost use Rattle.vortex_functions.specs.declared.erased.ScalarFnRef.{ScalarFnRef};
 
 use crate::erased::ScalarFnRef;
 use std::hash::{Hash, Hasher};
 use vortex_interface::ScalarFnVTable;
 
-/// Two functions are equal exactly where they are the same: one shipped function with the same options, or two of a caller's
-/// of one identity and equal options.
+/// Two functions are equal exactly where they are the same: one shipped function with the same
+/// options, or two of a caller's of one identity and equal options.
 pub fn equal_functions_are_the_same<C: ScalarFnVTable>()
     ensures { (f g : ScalarFnRef C C.Options) → IsTrue (⟦<ScalarFnRef<C> as PartialEq>⟧.eq f g)
         ↔ AreSame C.meaning.id C.Options.eq (function_of f) (function_of g) }
 {}
 
-/// Where no function of a caller's has the identity of a shipped one, two functions are the same exactly where their
-/// identities and their options are equal.
+/// Where no function of a caller's has the identity of a shipped one, two functions are the same
+/// exactly where their identities and their options are equal.
 pub fn identities_and_options_tell_functions<C: ScalarFnVTable>()
     ensures { SameByIdentityAndOptions C.meaning C.Options.eq }
 {}
@@ -25,8 +27,10 @@ pub fn identities_and_options_tell_functions<C: ScalarFnVTable>()
 /// A function that equals a shipped one has its meaning, whatever a caller's functions mean.
 pub fn equal_shipped_functions_mean_the_same<C: ScalarFnVTable>()
     ensures { (f g : ScalarFnRef C C.Options) (s : Shipped) → function_of f ≡ ours s
-        → IsTrue (⟦<ScalarFnRef<C> as PartialEq>⟧.eq f g) → (ts : List LogicalType) (vs : List Value)
-        → function_means C.meaning (function_of f) ts vs ≡ function_means C.meaning (function_of g) ts vs }
+        → IsTrue (⟦<ScalarFnRef<C> as PartialEq>⟧.eq f g)
+        → (ts : List LogicalType) (vs : List Value)
+        → function_means C.meaning (function_of f) ts vs
+        ≡ function_means C.meaning (function_of g) ts vs }
 {
     equal_functions_are_the_same::<C>();
 }

@@ -1,4 +1,5 @@
-//! Walks over a tree, children before their parent and from left to right, whose depth takes memory and no stack.
+//! Walks over a tree, children before their parent and from left to right, whose depth takes memory
+//! and no stack.
 
 /// A node above, and what was made of its children so far.
 #[derive(Drop)]
@@ -7,11 +8,12 @@ pub struct Frame<'t, T, O: Drop> {
     pub outputs: Vec<O>,
 }
 
-/// What is made of the tree `$root`, where `$visit` makes of `$node` its output, or a refusal, from `$outputs`, those of
-/// its children.
+/// What is made of the tree `$root`, where `$visit` makes of `$node` its output, or a refusal, from
+/// `$outputs`, those of its children.
 ///
-/// The work stands in a list of frames, one for each node from the root to the node's parent. A lone leaf has none, so
-/// that the walk itself takes no memory for it. A node lends its `children()`, and each as `child(index)`.
+/// The work stands in a list of frames, one for each node from the root to the node's parent. A
+/// lone leaf has none, so that the walk itself takes no memory for it. A node lends its
+/// `children()`, and each as `child(index)`.
 #[macro_export]
 macro_rules! walk {
     ($root:expr, $alloc:expr, $node:ident, $outputs:ident => $visit:expr) => {{

@@ -1,5 +1,6 @@
 -- What stands at an index of a call's inputs.
-use Rattle.std.proofs.Common.{◌≡◌, ℕ, ◌<◌, List, length, map, All, get_or, subst, sym, ◌∙◌, ap, arith}
+use Rattle.std.proofs.Common.{◌≡◌, ℕ, ◌<◌, List, length, map, All, get_or, subst, sym, ◌∙◌, ap}
+use Rattle.std.proofs.Common.{arith}
 use Rattle.std.proofs.lemmas.List.{get_or-map, length-map}
 use Rattle.std.specs.Cow.{cow_value}
 use Rattle.std.specs.declared.borrow.Cow.{Cow}

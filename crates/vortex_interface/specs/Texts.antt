@@ -6,4 +6,5 @@ use Rattle.vortex_meaning.specs.CallTexts.{Appends, call_text}
 -- by the identity, the text of the options and those of the arguments
 abbrev pub AppendsCall : List ℕ → List ℕ → List (String Global)
     → String Global → String Global → Type 0
-AppendsCall id options texts old new = Appends old (call_text id options (map string_bytes texts)) new
+AppendsCall id options texts old new = Appends old (call_text id options (map string_bytes texts))
+    new

@@ -1,7 +1,8 @@
 -- What the contracts of this crate name.
 pub use Rattle.vortex_errors.specs.Answers.{AnswersUnlessMemory}
 pub use Rattle.vortex_columns.specs.ColumnView.{ColumnView}
-pub use Rattle.vortex_columns.specs.Cells.{cell_value, sequence_value, sequence_values, IsCell, IsSequence}
+pub use Rattle.vortex_columns.specs.Cells.{cell_value, sequence_value, sequence_values, IsCell}
+pub use Rattle.vortex_columns.specs.Cells.{IsSequence}
 pub use Rattle.vortex_meaning.specs.Outcomes.{types_in}
 pub use Rattle.vortex_meaning.specs.Meaning.{Meaning, Lawful, fits}
 pub use Rattle.vortex_meaning.specs.Rules.{Rules, no_rules}

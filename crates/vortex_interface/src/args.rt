@@ -24,7 +24,11 @@ impl<'a> Model for VecExecutionArgs<'a> {
 
     ghost coded = { coded_args };
 
-    ghost view = { λ a. record { columns = map cow_value a.inputs.items; row_count = a.row_count } };
+    ghost view = { λ a. record {
+      columns = map cow_value a.inputs.items;
+      row_count =
+          a.row_count;
+    } };
 
     ghost invariant = { λ a. AreOfLength a.row_count (map cow_value a.inputs.items) };
 }

@@ -1,4 +1,5 @@
-//! The interface of row functions, the inputs of their calls, and what follows from what functions mean.
+//! The interface of row functions, the inputs of their calls, and what follows from what functions
+//! mean.
 #![tactic(auto)]
 
 pub mod args;

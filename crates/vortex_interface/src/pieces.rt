@@ -1,6 +1,8 @@
-//! The text of a call as a list of pieces, so that a tree is written from left to right, each byte once.
+//! The text of a call as a list of pieces, so that a tree is written from left to right, each byte
+//! once.
 ghost use Rattle.std.specs.Prelude.{◌≡◌, ◌<◌, List, Some, length, map, slice_get, string_bytes};
-ghost use Rattle.vortex_interface.specs.Words.{AnswersUnlessMemory, Appends, Piece, told, piece_of, piece_text, text_at, unary_pieces};
+ghost use Rattle.vortex_interface.specs.Words.{AnswersUnlessMemory, Appends, Piece, told, piece_of};
+ghost use Rattle.vortex_interface.specs.Words.{piece_text, text_at, unary_pieces};
 
 use vortex_columns::VortexResult;
 
@@ -74,7 +76,8 @@ pub fn write_pieces<O, F: TextPieces<O>>(
     children: &[String],
 ) -> VortexResult<()>
     ensures { AnswersUnlessMemory result
-        (λ _. Appends out.old (told (F.pieces options.now) (map string_bytes children.now)) out.new) }
+        (λ _. Appends out.old (told (F.pieces options.now) (map string_bytes children.now))
+        out.new) }
 {
     for index in 0..function.piece_count(options) {
         write_piece(out, function.text_piece(options, index), children)?;

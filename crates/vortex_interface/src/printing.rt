@@ -1,6 +1,8 @@
-//! The texts of calls, in the bytes of UTF-8, written behind what a text holds already. Each refuses for memory alone (E9).
+//! The texts of calls, in the bytes of UTF-8, written behind what a text holds already. Each
+//! refuses for memory alone (E9).
 ghost use Rattle.std.specs.Prelude.{map, string_bytes};
-ghost use Rattle.vortex_interface.specs.Words.{AnswersUnlessMemory, Appends, joined, options_text, AppendsCall};
+ghost use Rattle.vortex_interface.specs.Words.{AnswersUnlessMemory, Appends, joined, options_text};
+ghost use Rattle.vortex_interface.specs.Words.{AppendsCall};
 
 use vortex_columns::{VortexResult, write_separator};
 
@@ -27,7 +29,8 @@ fn write_options(out: &mut String, options: &str) -> VortexResult<()>
     Ok(())
 }
 
-/// A call by its function's identity: `id(a, b)`, and the text of the options where it is not empty.
+/// A call by its function's identity: `id(a, b)`, and the text of the options where it is not
+/// empty.
 pub fn write_call(
     out: &mut String,
     id: &str,

@@ -1,6 +1,9 @@
 //! The interface of a row function.
-ghost use Rattle.std.specs.Prelude.{◌≡◌, ℕ, List, length, map, IsTrue, IsSome, IfOk, MatchResult, slice_get, string_bytes, Some, ⊤};
-ghost use Rattle.vortex_interface.specs.Words.{ColumnView, Meaning, Lawful, Rules, fits, types_in, AnswersUnlessMemory, AnswersType, AnswersCall, Continues, PastInputs, ReadsOrRefuses};
+ghost use Rattle.std.specs.Prelude.{◌≡◌, ℕ, List, length, map, IsTrue, IsSome, IfOk, MatchResult};
+ghost use Rattle.std.specs.Prelude.{slice_get, string_bytes, Some, ⊤};
+ghost use Rattle.vortex_interface.specs.Words.{ColumnView, Meaning, Lawful, Rules, fits, types_in};
+ghost use Rattle.vortex_interface.specs.Words.{AnswersUnlessMemory, AnswersType, AnswersCall};
+ghost use Rattle.vortex_interface.specs.Words.{Continues, PastInputs, ReadsOrRefuses};
 
 use crate::printing::write_call;
 use std::alloc::Global;
@@ -38,22 +41,24 @@ pub trait ExecutionArgs {
 
 /// A function of rows, with options of its own type.
 ///
-/// What it means is a ghost member: the row meaning of argument types and values, the type of its answer, its arity,
-/// names and marks. The calls answer what the member says, and the member is lawful.
+/// What it means is a ghost member: the row meaning of argument types and values, the type of its
+/// answer, its arity, names and marks. The calls answer what the member says, and the member is
+/// lawful.
 pub trait ScalarFnVTable: Sized + Clone + Drop {
     type Options: Clone + Debug + Display + Eq + Hash + Drop;
 
     ghost meaning: { Meaning Self Self.Options };
 
-    /// What calls of the function are rewritten to. `ScalarFnRules` above has the calls that answer it; it stands here since a
-    /// tree's mark, that no rule applies in it, speaks of it.
+    /// What calls of the function are rewritten to. `ScalarFnRules` above has the calls that answer
+    /// it; it stands here since a tree's mark, that no rule applies in it, speaks of it.
     ghost rules: { Rules Self Self.Options };
 
     /// The function's identity, as `vortex.binary`.
     fn id(&self) -> ScalarFnId
         ensures { result.now ≡ meaning.id self.now };
 
-    /// The options as bytes, where the function writes them. Refuses for memory alone; the default writes none.
+    /// The options as bytes, where the function writes them. Refuses for memory alone; the default
+    /// writes none.
     fn serialize(&self, alloc: Global, options: &Self::Options) -> VortexResult<Option<Vec<u8>>>
         ensures { AnswersUnlessMemory result (λ _. ⊤) }
     {
@@ -71,11 +76,13 @@ pub trait ScalarFnVTable: Sized + Clone + Drop {
     fn arity(&self, options: &Self::Options) -> Arity
         ensures { result ≡ meaning.arity self.now options.now };
 
-    /// The name of an argument, for every index; past the arguments that a call has, any name serves.
+    /// The name of an argument, for every index; past the arguments that a call has, any name
+    /// serves.
     fn child_name(&self, options: &Self::Options, index: usize) -> ChildName
         ensures { result.now ≡ meaning.child_name self.now options.now index };
 
-    /// The type of the answer for argument types of a fitting count; E3 exactly where they are not accepted.
+    /// The type of the answer for argument types of a fitting count; E3 exactly where they are not
+    /// accepted.
     fn return_dtype(
         &self,
         alloc: Global,
@@ -85,21 +92,26 @@ pub trait ScalarFnVTable: Sized + Clone + Drop {
         requires { IsTrue (fits (meaning.arity self.now options.now) (length types.now)) }
         ensures { AnswersType meaning self.now options.now types.now result };
 
-    /// The answer over inputs of accepted types: a column of the type returned, with each row's value, or the fault of a row.
+    /// The answer over inputs of accepted types: a column of the type returned, with each row's
+    /// value, or the fault of a row.
     fn execute<A: ExecutionArgs>(
         &self,
         options: &Self::Options,
         args: &A,
         ctx: &mut ExecutionCtx,
     ) -> VortexResult<Column>
-        requires arity { IsTrue (fits (meaning.arity self.now options.now) (length (A.inputs args.now))) }
-        requires accepted { IsSome (meaning.return_type self.now options.now (types_in (A.inputs args.now))) }
+        requires arity { IsTrue (fits (meaning.arity self.now options.now)
+            (length (A.inputs args.now))) }
+        requires accepted { IsSome (meaning.return_type self.now options.now
+            (types_in (A.inputs args.now))) }
         ensures { AnswersCall meaning self.now options.now
             (A.inputs args.now) (A.rows args.now) result };
 
-    /// Appends the text of a call, by the texts of its arguments, whose count fits. Refuses for memory alone.
+    /// Appends the text of a call, by the texts of its arguments, whose count fits. Refuses for
+    /// memory alone.
     ///
-    /// The default is `id(a, b)`; where the text of the options is not empty, `, opts=` and that text stand before the `)`.
+    /// The default is `id(a, b)`; where the text of the options is not empty, `, opts=` and that
+    /// text stand before the `)`.
     fn fmt_sql(
         &self,
         options: &Self::Options,

@@ -1,5 +1,6 @@
 -- Rows between two bounds, as Kleene's And of two comparisons.
-use Rattle.std.proofs.Common.{◌≡◌, ◌∙◌, ◌<◌, Bool, true, false, List, length, refl, sym, ap, subst, cond, arith, Result}
+use Rattle.std.proofs.Common.{◌≡◌, ◌∙◌, ◌<◌, Bool, true, false, List, length, refl, sym, ap, subst}
+use Rattle.std.proofs.Common.{cond, arith, Result}
 use Rattle.std.specs.Prelude.{◌||◌, not, slice_index_or}
 use Rattle.vortex_types.specs.LogicalTypes.{bool_type, is_nullable}
 use Rattle.vortex_types.specs.Values.{Value, null, truth, truth_of, truth_or_null, is_null}
@@ -85,7 +86,8 @@ pub between_answers : (options : BetweenOptions) (x lower upper : ColumnView) (n
     (RefusesOperator And)
     → AnswersUnlessMemory r (HasBetweenRows options x lower upper)
 between_answers options x lower upper nullable above below v w r same is left right =
-    Answers-weaker r (AnswersKleene And nullable (length above) (truth_at above v) (truth_at below w))
+    Answers-weaker r (AnswersKleene And nullable (length above) (truth_at above v)
+    (truth_at below w))
     (HasBetweenRows options x lower upper) (RefusesOperator And) (λ e. ⊥)
     (λ c a. record {
       dtype = a.rows.dtype ∙ ap bool_type is;

@@ -1,5 +1,6 @@
 -- Rows beside both of their bounds, tested at once, and three scalars.
-use Rattle.std.proofs.Common.{◌≡◌, ◌∙◌, ℕ, ◌<◌, Bool, true, false, List, length, Option, Some, None, refl, sym, ap, subst, cond, arith, Result}
+use Rattle.std.proofs.Common.{◌≡◌, ◌∙◌, ℕ, ◌<◌, Bool, true, false, List, length, Option, Some, None}
+use Rattle.std.proofs.Common.{refl, sym, ap, subst, cond, arith, Result}
 use Rattle.std.specs.Prelude.{◌&&◌, ◌||◌, not, is_some, IfSome, slice_index_or}
 use Rattle.std.specs.declared.cmp.Ordering.{Ordering}
 use Rattle.vortex_types.specs.LogicalTypes.{bool_type, is_nullable}
@@ -23,7 +24,8 @@ use Rattle.vortex_operators.specs.Between.{bound_operator, between_value, betwee
 use Rattle.vortex_operators.specs.Kleene.{kleene}
 use Rattle.vortex_operators.specs.Operators.{compare_swap}
 use Rattle.vortex_operators.specs.OperatorValues.{holds, comparison_value, boolean_value}
-use Rattle.vortex_kernels.specs.Between.{HasBetweenRows, AreBeside, AreBounded, HasNoNull, any_nullable, between_scalar}
+use Rattle.vortex_kernels.specs.Between.{HasBetweenRows, AreBeside, AreBounded, HasNoNull}
+use Rattle.vortex_kernels.specs.Between.{any_nullable, between_scalar}
 use Rattle.vortex_kernels.specs.Comparison.{IsOrderAt}
 use Rattle.vortex_kernels.specs.Rows.{HasRows}
 use Rattle.vortex_columns.specs.ValidRows.{IsValidityIn}
@@ -147,8 +149,10 @@ scalars_nullable op other x lower upper h k l none =
     by false false true p q r = refl
     by false false false p q r =
         let here = not_null x.dtype x.value h p in
-        let above = compared_some op lower.value x.value (not_null lower.dtype lower.value k q) here in
-        let below = compared_some other x.value upper.value here (not_null upper.dtype upper.value l r) in
+        let above = compared_some op lower.value x.value (not_null lower.dtype lower.value k q)
+        here in
+        let below = compared_some other x.value upper.value here
+        (not_null upper.dtype upper.value l r) in
         let some =
         both_some And (truth_of (comparison_value op lower.value x.value))
         (truth_of (comparison_value other x.value upper.value)) refl above below in
@@ -164,7 +168,8 @@ pub constants_between : (options : BetweenOptions) (x lower upper : ColumnView)
     → AnswersUnlessMemory r (λ c. c ≡ constant_column s n)
     → AnswersUnlessMemory r (HasBetweenRows options x lower upper)
 constants_between options x lower upper a b d s n r e g same is_x is_lower is_upper is =
-    AnswersUnlessMemory-weaker r (λ c. c ≡ constant_column s n) (HasBetweenRows options x lower upper)
+    AnswersUnlessMemory-weaker r (λ c. c ≡ constant_column s n)
+    (HasBetweenRows options x lower upper)
     (λ c made.
     let rows = constant_has_rows s n c made in
     record {

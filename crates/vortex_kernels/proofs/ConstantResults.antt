@@ -1,5 +1,6 @@
 -- The result of two constants, in each row.
-use Rattle.std.proofs.Common.{◌≡◌, ◌≢◌, ℕ, ◌<◌, Bool, true, false, Option, Some, None, length, refl, sym, ap, ◌∙◌, cond, arith, rules}
+use Rattle.std.proofs.Common.{◌≡◌, ◌≢◌, ℕ, ◌<◌, Bool, true, false, Option, Some, None, length, refl}
+use Rattle.std.proofs.Common.{sym, ap, ◌∙◌, cond, arith, rules}
 use Rattle.std.specs.Prelude.{◌||◌, ℤ, not, Result}
 use Rattle.std.specs.Bool.{FalseIff}
 use Rattle.vortex_types.specs.declared.dtype.PType.{PType}
@@ -8,7 +9,8 @@ use Rattle.vortex_errors.specs.declared.error.VortexError.{VortexError}
 use Rattle.vortex_errors.specs.declared.error.VortexError.TheVariants.{Arithmetic}
 use Rattle.vortex_errors.specs.Answers.{Answers, AnswersUnlessMemory}
 use Rattle.vortex_errors.proofs.Answering.{Answers-weaker}
-use Rattle.vortex_types.specs.LogicalTypes.{LogicalType, integer_type, is_nullable, with_nullability}
+use Rattle.vortex_types.specs.LogicalTypes.{LogicalType, integer_type, is_nullable}
+use Rattle.vortex_types.specs.LogicalTypes.{with_nullability}
 use Rattle.vortex_types.specs.TypeEquality.{ptype_eq}
 use Rattle.vortex_types.specs.declared.scalar_value.ScalarValue.{the_lemmas}
 use Rattle.vortex_types.specs.declared.scalar_value.ScalarValue.TheVariants.{Int}

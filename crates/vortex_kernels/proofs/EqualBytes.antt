@@ -10,14 +10,16 @@ use Rattle.vortex_views.proofs.Digits.{cmp_equal}
 
 alike : (xs : List ℕ) → slice_cmp nat_cmp xs xs ≡ Equal
 alike [] = refl
-alike (x ∷ xs) = ap (λ (o : Ordering). ordering_then o (slice_cmp nat_cmp xs xs)) (cmp_equal x x refl) ∙ alike xs
+alike (x ∷ xs) = ap (λ (o : Ordering). ordering_then o (slice_cmp nat_cmp xs xs))
+    (cmp_equal x x refl) ∙ alike xs
 
 is_equal : (o : Ordering) → is_eq o ≡ true → o ≡ Equal
 is_equal Less h = cc
 is_equal Equal h = refl
 is_equal Greater h = cc
 
-by_order : (b e : Bool) (xs ys : List ℕ) → (IsTrue b ↔ (xs ≡ ys)) → is_eq (slice_cmp nat_cmp xs ys) ≡ e
+by_order : (b e : Bool) (xs ys : List ℕ) → (IsTrue b ↔ (xs ≡ ys))
+    → is_eq (slice_cmp nat_cmp xs ys) ≡ e
     → b ≡ e
 by_order true true xs ys h k = refl
 by_order false false xs ys h k = refl

@@ -22,7 +22,8 @@ answers_alike op nullable n f g h k r left right =
       rows = record {
         dtype = a.rows.dtype;
         count = a.rows.count;
-        each = λ i lt. a.rows.each i lt ∙ (λ j. truth_or_null (kleene op (left i lt j) (right i lt j)));
+        each = λ i lt. a.rows.each i lt ∙ (λ j. truth_or_null
+            (kleene op (left i lt j) (right i lt j)));
       };
     })
     (λ e refused. refused)

@@ -1,5 +1,6 @@
 -- Kleene's tables in words: what the formulas say of two truth values, or of null.
-use Rattle.std.proofs.Common.{◌≡◌, ℕ, ◌^◌, ◌<◌, Bool, true, false, Option, Some, None, refl, ap, ◌∙◌}
+use Rattle.std.proofs.Common.{◌≡◌, ℕ, ◌^◌, ◌<◌, Bool, true, false, Option, Some, None, refl, ap}
+use Rattle.std.proofs.Common.{◌∙◌}
 use Rattle.std.proofs.Common.{bit_and, bit_or, w64}
 use Rattle.std.specs.Prelude.{◌&&◌, ◌||◌, not, is_some}
 use Rattle.std.specs.Int.{bit_not}
@@ -81,7 +82,8 @@ module _ (l p r q : ℕ) (small : l < 2 ^ 64) (fits : r < 2 ^ 64) (j : ℕ) (lt 
       ∙ or_valid (bit l j) (bit p j) (bit r j) (bit q j)
 
 module _ (l p r q v : ℕ) (j : ℕ) where
-  pub and_word : bit v j ≡ is_some (kleene And (present (bit p j) (bit l j)) (present (bit q j) (bit r j)))
+  pub and_word : bit v j ≡ is_some (kleene And (present (bit p j) (bit l j))
+      (present (bit q j) (bit r j)))
       → present (bit v j) (bit (bit_and l r) j)
       ≡ kleene And (present (bit p j) (bit l j)) (present (bit q j) (bit r j))
   and_word e =
@@ -89,7 +91,8 @@ module _ (l p r q v : ℕ) (j : ℕ) where
       ∙ present_is (kleene And (present (bit p j) (bit l j)) (present (bit q j) (bit r j)))
       (bit v j) (bit l j && bit r j) e (and_says (bit p j) (bit q j) (bit l j) (bit r j))
 
-  pub or_word : bit v j ≡ is_some (kleene Or (present (bit p j) (bit l j)) (present (bit q j) (bit r j)))
+  pub or_word : bit v j ≡ is_some (kleene Or (present (bit p j) (bit l j))
+      (present (bit q j) (bit r j)))
       → present (bit v j) (bit (bit_or l r) j)
       ≡ kleene Or (present (bit p j) (bit l j)) (present (bit q j) (bit r j))
   or_word e =

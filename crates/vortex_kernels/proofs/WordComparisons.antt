@@ -1,5 +1,6 @@
 -- Comparisons of truth values, 64 at a time: false comes before true.
-use Rattle.std.proofs.Common.{◌≡◌, ℕ, ◌^◌, ◌<◌, Bool, true, false, cond, refl, ap, ◌∙◌, bit_and, bit_or}
+use Rattle.std.proofs.Common.{◌≡◌, ℕ, ◌^◌, ◌<◌, Bool, true, false, cond, refl, ap, ◌∙◌, bit_and}
+use Rattle.std.proofs.Common.{bit_or}
 use Rattle.std.proofs.Common.{bit_xor, w64}
 use Rattle.std.specs.Prelude.{◌&&◌, ◌||◌, not}
 use Rattle.std.specs.Int.{bit_not}

@@ -14,7 +14,8 @@ use Rattle.vortex_kernels.specs.Rows.{HasRows}
 use Rattle.vortex_kernels.specs.Truths.{truth_at}
 
 -- in each row whether the value lies between its bounds, nullable if any of the three columns is
-abbrev pub HasBetweenRows : BetweenOptions → ColumnView → ColumnView → ColumnView → ColumnView → Type 0
+abbrev pub HasBetweenRows : BetweenOptions → ColumnView → ColumnView → ColumnView → ColumnView
+    → Type 0
 HasBetweenRows options x lower upper =
     HasRows (between_type x.dtype lower.dtype upper.dtype) (length x.rows)
     (λ i. between_value options (row lower.rows i) (row x.rows i) (row upper.rows i))
@@ -50,10 +51,11 @@ pub record AreBeside (test : ℕ → Bool) (op : CompareOperator) (xs bounds : L
   pub count : length bits ≡ length xs
   pub each : (i : ℕ) → i < length xs → is_null (row xs i) ≡ false
       → is_null (row bounds i) ≡ false
-      → slice_index_or bits i false ≡ (test i && holds op (compare_values (row xs i) (row bounds i)))
+      → slice_index_or bits i false ≡ (test i && holds op
+      (compare_values (row xs i) (row bounds i)))
 
--- for each row whether both comparisons say yes, with the lower and with the upper bound, where none
--- of the three is null
+-- for each row whether both comparisons say yes, with the lower and with the upper bound, where
+-- none of the three is null
 pub record AreBounded (op other : CompareOperator) (xs lower upper : List Value)
     (bits : List Bool) : Type 0 where
   pub count : length bits ≡ length xs

@@ -1,5 +1,6 @@
 -- Kleene's And and Or in bits.
-use Rattle.std.specs.Prelude.{◌≡◌, ◌&&◌, ◌||◌, ℕ, ◌<◌, List, length, is_some, Bool, true, false, Option, refl}
+use Rattle.std.specs.Prelude.{◌≡◌, ◌&&◌, ◌||◌, ℕ, ◌<◌, List, length, is_some, Bool, true, false}
+use Rattle.std.specs.Prelude.{Option, refl}
 use Rattle.std.specs.Int.RustNames.{bit_and, bit_or}
 use Rattle.vortex_operators.specs.declared.operators.Operator.{Operator}
 use Rattle.vortex_operators.specs.declared.operators.Operator.TheVariants.{And, Or}

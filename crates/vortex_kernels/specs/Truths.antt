@@ -1,5 +1,5 @@
--- Truth values that are read as two bits, a value and whether there is one, and the forms in which a
--- side of And or Or lends them.
+-- Truth values that are read as two bits, a value and whether there is one, and the forms in which
+-- a side of And or Or lends them.
 use Rattle.std.specs.Prelude.{◌≡◌, ℕ, ◌<◌, List, Bool, true, false, Option, Some, None, IfSome}
 use Rattle.std.specs.Prelude.{slice_index_or, is_some, if◌then◌else◌, ⊤}
 use Rattle.vortex_bits.specs.Forms.{aligned_there, aligned_bit, shifted_there, shifted_bit}

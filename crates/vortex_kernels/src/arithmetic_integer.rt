@@ -6,8 +6,8 @@ ghost use Rattle.vortex_kernels.specs.Words.{FitsResult, AnswersExact};
 use vortex_checked::{CheckedArithmetic, CheckedPrimitiveOp};
 use vortex_columns::NativePType;
 
-/// One of the eight integer types. What columns and checked arithmetic see of it is the same: the number of each value,
-/// and the range of the type.
+/// One of the eight integer types. What columns and checked arithmetic see of it is the same: the
+/// number of each value, and the range of the type.
 pub trait ArithmeticInteger: NativePType + CheckedArithmetic {
     ghost use Rattle.std.specs.Prelude.{◌≡◌};
     ghost use Rattle.vortex_types.specs.Typing.{least_of, greatest_of};
@@ -99,8 +99,8 @@ impl ArithmeticInteger for u64 {
     ghost same_greatest = { refl };
 }
 
-/// The operation on two integers of columns: the value, which is the exact result where the integer type holds it, and
-/// evidence, which tells of a fault exactly where it does not.
+/// The operation on two integers of columns: the value, which is the exact result where the integer
+/// type holds it, and evidence, which tells of a fault exactly where it does not.
 pub fn apply_checked<T: ArithmeticInteger, O: CheckedPrimitiveOp<T>>(
     left: T,
     right: T,

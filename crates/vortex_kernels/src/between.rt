@@ -77,8 +77,8 @@ fn between_columns(
     )
 }
 
-/// Whether each value lies between its bounds, in one pass; nothing where the columns are not read so. The operators are
-/// chosen before the rows, and the array stands on the left of both.
+/// Whether each value lies between its bounds, in one pass; nothing where the columns are not read
+/// so. The operators are chosen before the rows, and the array stands on the left of both.
 fn hold_in_bounds(
     alloc: Global,
     array: &Column,
@@ -108,7 +108,8 @@ fn hold_in_bounds(
     }
 }
 
-/// The same as `between_columns` where no row of a bound is null: a row is null exactly where the array's is.
+/// The same as `between_columns` where no row of a bound is null: a row is null exactly where the
+/// array's is.
 fn between_full(
     array: &Column,
     lower: &Column,
@@ -132,7 +133,8 @@ fn between_full(
     Column::try_bool(alloc, bits, validity)
 }
 
-/// Whether no row of a column is null, by its validity alone: where there is a list of bits, none of them is read.
+/// Whether no row of a column is null, by its validity alone: where there is a list of bits, none
+/// of them is read.
 fn is_full(column: &Column) -> bool
     ensures { result ≡ true → HasNoNull column.now.rows }
 {
@@ -184,9 +186,10 @@ fn between_scalars(
     }
 }
 
-/// Whether each row of a column lies between the row's bounds: Kleene's And of `lower < array` and `array < upper`, each
-/// with `<=` where its bound is not strict. A column of Bool, nullable if any of the three is; where one bound is null the
-/// row can still be false. Three constants answer a constant.
+/// Whether each row of a column lies between the row's bounds: Kleene's And of `lower < array` and
+/// `array < upper`, each with `<=` where its bound is not strict. A column of Bool, nullable if any
+/// of the three is; where one bound is null the row can still be false. Three constants answer a
+/// constant.
 pub fn execute_between(
     array: &Column,
     lower: &Column,

@@ -35,7 +35,8 @@ fn execute_kleene<K: KleeneTable + Copy>(
     kleene_table::<K>(left, right, lhs.len(), nullability, ctx)
 }
 
-/// And or Or of two Bool columns of equal length, row by row by Kleene's table, nullable if either is.
+/// And or Or of two Bool columns of equal length, row by row by Kleene's table, nullable if either
+/// is.
 ///
 /// E4 for another operator, before E3 Boolean for two columns that are not both of Bool.
 pub fn execute_boolean(
@@ -73,7 +74,8 @@ fn not_scalar(scalar: &Scalar) -> Scalar
     }
 }
 
-/// Not of a Bool column, row by row; a null stays null, a constant a constant, and the type is the input's.
+/// Not of a Bool column, row by row; a null stays null, a constant a constant, and the type is the
+/// input's.
 pub fn execute_not(input: &Column, ctx: &mut ExecutionCtx) -> VortexResult<Column>
     requires { is_bool_type input.now.dtype ≡ true }
     ensures rows { AnswersUnlessMemory result (HasNotRows input.now) }
@@ -114,8 +116,9 @@ fn kleene_sides(
     }
 }
 
-/// And or Or of two lists of truth values row by row: bits, beside the rows that are not null. A column of Bool of the
-/// nullability handed in, which is `Nullable` unless no row on either side is null.
+/// And or Or of two lists of truth values row by row: bits, beside the rows that are not null. A
+/// column of Bool of the nullability handed in, which is `Nullable` unless no row on either side is
+/// null.
 ///
 /// E4 for another operator.
 pub fn kleene_boolean_buffers(
@@ -142,8 +145,8 @@ pub fn kleene_boolean_buffers(
     kleene_sides(left, right, lhs.len(), operator, nullability, ctx)
 }
 
-/// And or Or of a list of truth values and one truth value or null, row by row. A column of Bool of the nullability
-/// handed in, which is `Nullable` unless nothing on either side is null.
+/// And or Or of a list of truth values and one truth value or null, row by row. A column of Bool of
+/// the nullability handed in, which is `Nullable` unless nothing on either side is null.
 ///
 /// E4 for another operator.
 pub fn kleene_boolean_buffer_scalar(

@@ -57,7 +57,8 @@ fn hold_in_both<P: Comparison, Q: Comparison, L: Pairs, U: Pairs>(
     collect_rows(alloc, &rows, len)
 }
 
-/// The integers of a column beside lower bounds whose form is chosen, and the upper ones; nothing where those lend none.
+/// The integers of a column beside lower bounds whose form is chosen, and the upper ones; nothing
+/// where those lend none.
 fn ints_beside<P: Comparison, Q: Comparison, L: Pairs, T: NativePType>(
     alloc: Global,
     array: &Column,
@@ -120,7 +121,8 @@ fn ints_between<P: Comparison, Q: Comparison, T: NativePType>(
     Ok(None)
 }
 
-/// The texts of a column beside lower bounds whose form is chosen, and the upper ones; nothing where those lend none.
+/// The texts of a column beside lower bounds whose form is chosen, and the upper ones; nothing
+/// where those lend none.
 fn texts_beside<P: Comparison, Q: Comparison, L: Pairs>(
     alloc: Global,
     array: &Column,
@@ -179,9 +181,9 @@ fn texts_between<P: Comparison, Q: Comparison>(
     Ok(None)
 }
 
-/// Whether the first comparison says yes of each value and its lower bound, and the second one of it and its upper bound,
-/// in each row in which all three have a value. Nothing for types and forms that are not read in one pass: it takes
-/// integers and texts, beside columns of them or constants.
+/// Whether the first comparison says yes of each value and its lower bound, and the second one of
+/// it and its upper bound, in each row in which all three have a value. Nothing for types and forms
+/// that are not read in one pass: it takes integers and texts, beside columns of them or constants.
 pub(crate) fn hold_between<P: Comparison, Q: Comparison>(
     alloc: Global,
     array: &Column,

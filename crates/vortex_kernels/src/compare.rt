@@ -67,11 +67,11 @@ fn constant_rows(lhs: &Column, scalar: Scalar, ctx: &mut ExecutionCtx) -> Vortex
     Column::constant(ctx.alloc(), scalar, lhs.len())
 }
 
-/// The comparison of two scalars by the order of their values: a truth value of Bool, nullable if either type is. Takes
-/// no memory.
+/// The comparison of two scalars by the order of their values: a truth value of Bool, nullable if
+/// either type is. Takes no memory.
 ///
-/// A null of nullable Bool if either is null, whatever the types; else E3 Scalars exactly for types that differ apart
-/// from nullability.
+/// A null of nullable Bool if either is null, whatever the types; else E3 Scalars exactly for types
+/// that differ apart from nullability.
 pub fn scalar_cmp(lhs: &Scalar, rhs: &Scalar, operator: CompareOperator) -> VortexResult<Scalar>
     ensures { MatchResult result (AnswersScalars operator lhs.now rhs.now)
         (RefusesScalars lhs.now rhs.now) }
@@ -86,12 +86,13 @@ pub fn scalar_cmp(lhs: &Scalar, rhs: &Scalar, operator: CompareOperator) -> Vort
     }
 }
 
-/// The comparison of two columns row by row, by the order of values: a column of Bool, nullable if either type is, null
-/// exactly where a row is null on either side. Nulls within a value are values, equal to each other and least.
+/// The comparison of two columns row by row, by the order of values: a column of Bool, nullable if
+/// either type is, null exactly where a row is null on either side. Nulls within a value are
+/// values, equal to each other and least.
 ///
-/// In order: E2 for columns of two lengths, with `left` the first; no rows answer an empty column, and a constant null
-/// on either side answers nulls, whatever the types; two constants go by `scalar_cmp` (E3 Scalars); E3 Compare for types
-/// that differ apart from nullability.
+/// In order: E2 for columns of two lengths, with `left` the first; no rows answer an empty column,
+/// and a constant null on either side answers nulls, whatever the types; two constants go by
+/// `scalar_cmp` (E3 Scalars); E3 Compare for types that differ apart from nullability.
 pub fn execute_compare(
     lhs: &Column,
     rhs: &Column,

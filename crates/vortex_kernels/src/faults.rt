@@ -1,7 +1,8 @@
 //! Rows that fault and are null on neither side, found 64 rows at a time.
 ghost use Rattle.std.specs.Prelude.{◌≡◌, ◌<◌, ℕ, false, length, slice_index_or};
 ghost use Rattle.vortex_columns.specs.ValidityView.{is_valid_row};
-ghost use Rattle.vortex_kernels.specs.Words.{AnswersUnlessMemory, row_results, validity_of, FitsRows};
+ghost use Rattle.vortex_kernels.specs.Words.{AnswersUnlessMemory, row_results, validity_of};
+ghost use Rattle.vortex_kernels.specs.Words.{FitsRows};
 ghost use Rattle.vortex_kernels.specs.Words.{IsJointValidity, either_nullable};
 ghost use Rattle.vortex_kernels.specs.Faults.{FindsBoth, FindsFault};
 
@@ -66,7 +67,8 @@ fn first_valid(bits: &BitBuffer, validity: &Validity) -> Option<usize>
     }
 }
 
-/// A row that faults and is null on neither side, if there is one: the first. The validity is that of both sides.
+/// A row that faults and is null on neither side, if there is one: the first. The validity is that
+/// of both sides.
 pub(crate) fn faulty_row<T: ArithmeticInteger, O: RowOperation<T>, L: Numbers<T>, R: Numbers<T>>(
     alloc: Global,
     left: &L,

@@ -1,7 +1,7 @@
 //! The integer types, chosen before the rows.
 
-/// A call of a generic function at the integer type of a `PType`: the type stands for the `_`, the last of the type
-/// arguments.
+/// A call of a generic function at the integer type of a `PType`: the type stands for the `_`, the
+/// last of the type arguments.
 macro_rules! with_integer {
     ($ptype:expr, $function:ident::<$($choice:ident,)* _>($($argument:expr),*)) => {
         match $ptype {

@@ -55,8 +55,8 @@ impl KleeneTable for Either {
     }
 }
 
-/// And or Or of 64 rows: the values, and which of them there are. Under a null the value is what the formula makes of
-/// the bits that lie there.
+/// And or Or of 64 rows: the values, and which of them there are. Under a null the value is what
+/// the formula makes of the bits that lie there.
 pub fn kleene_words(
     operator: Operator,
     left: u64,
@@ -131,7 +131,8 @@ impl<
     }
 }
 
-/// What is to be answered: how many rows, of which nullability, and whether it is listed which of them are null.
+/// What is to be answered: how many rows, of which nullability, and whether it is listed which of
+/// them are null.
 #[derive(Clone, Copy)]
 struct Shape {
     len: usize,

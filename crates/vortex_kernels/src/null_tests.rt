@@ -26,7 +26,8 @@ fn listed_truths(alloc: Global, bits: BitBuffer) -> VortexResult<Column>
     Column::try_bool(alloc, bits, Validity::NonNullable)
 }
 
-/// Whether each row is null, as non-nullable Bool. A constant unless a list of bits tells the nulls.
+/// Whether each row is null, as non-nullable Bool. A constant unless a list of bits tells the
+/// nulls.
 pub fn execute_is_null(input: &Column, ctx: &mut ExecutionCtx) -> VortexResult<Column>
     ensures rows { AnswersUnlessMemory result (HasNullTests input.now) }
     ensures constant { AnswersUnlessMemory result (IsConstantUnlessListed input.now) }
@@ -42,7 +43,8 @@ pub fn execute_is_null(input: &Column, ctx: &mut ExecutionCtx) -> VortexResult<C
     }
 }
 
-/// Whether each row is not null, as non-nullable Bool. A constant unless a list of bits tells the nulls.
+/// Whether each row is not null, as non-nullable Bool. A constant unless a list of bits tells the
+/// nulls.
 pub fn execute_is_not_null(input: &Column, ctx: &mut ExecutionCtx) -> VortexResult<Column>
     ensures rows { AnswersUnlessMemory result (HasNotNullTests input.now) }
     ensures constant { AnswersUnlessMemory result (IsConstantUnlessListed input.now) }

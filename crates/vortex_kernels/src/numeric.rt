@@ -22,7 +22,8 @@ use vortex_columns::{
     ScalarValue, VortexError, VortexResult, both_valid,
 };
 
-/// The value of each row, also where it lies under a null, and evidence that is joined over all rows.
+/// The value of each row, also where it lies under a null, and evidence that is joined over all
+/// rows.
 fn apply_rows<T: ArithmeticInteger, O: RowOperation<T>, L: Numbers<T>, R: Numbers<T>>(
     alloc: Global,
     left: &L,
@@ -72,8 +73,8 @@ fn unfaulted_rows<T: ArithmeticInteger, O: RowOperation<T>, L: Numbers<T>, R: Nu
     Ok(Some(values))
 }
 
-/// The value of each row, also where it lies under a null, and whether any row faults, in the form that serves the
-/// operation.
+/// The value of each row, also where it lies under a null, and whether any row faults, in the form
+/// that serves the operation.
 fn checked_rows<T: ArithmeticInteger, O: RowOperation<T>, L: Numbers<T>, R: Numbers<T>>(
     alloc: Global,
     left: &L,
@@ -97,8 +98,8 @@ fn checked_rows<T: ArithmeticInteger, O: RowOperation<T>, L: Numbers<T>, R: Numb
     Ok((values, fault != O::Fail::default()))
 }
 
-/// The operation in each row, of columns of equal length, whose integers are read in the form of each side. It is asked
-/// which rows fault only where any does, be it under a null.
+/// The operation in each row, of columns of equal length, whose integers are read in the form of
+/// each side. It is asked which rows fault only where any does, be it under a null.
 fn numeric_rows<T: ArithmeticInteger, O: RowOperation<T>, L: Numbers<T>, R: Numbers<T>>(
     left: &L,
     right: &R,
@@ -169,8 +170,8 @@ fn numeric_listed<T: ArithmeticInteger, O: RowOperation<T>>(
     }
 }
 
-/// The operation on two constant columns of equal length: it is made once, and answered as a constant. Nothing faults
-/// where there are no rows.
+/// The operation on two constant columns of equal length: it is made once, and answered as a
+/// constant. Nothing faults where there are no rows.
 fn numeric_constants<T: ArithmeticInteger, O: RowOperation<T>>(
     left: T,
     right: T,
@@ -228,7 +229,8 @@ fn numeric_constant<T: ArithmeticInteger, O: RowOperation<T>>(
     }
 }
 
-/// The operation in each row, of columns of equal length. The form of each side is chosen before the rows.
+/// The operation in each row, of columns of equal length. The form of each side is chosen before
+/// the rows.
 fn numeric_columns<T: ArithmeticInteger, O: RowOperation<T>>(
     lhs: &Column,
     rhs: &Column,
@@ -305,12 +307,13 @@ fn integer_of_both(lhs: &DType, rhs: &DType) -> Option<PType>
     }
 }
 
-/// Exact arithmetic of two columns row by row: a column of their integer type, nullable if either is, null exactly
-/// where a row is null on either side. A quotient is truncated toward zero. Two constants answer a constant.
+/// Exact arithmetic of two columns row by row: a column of their integer type, nullable if either
+/// is, null exactly where a row is null on either side. A quotient is truncated toward zero. Two
+/// constants answer a constant.
 ///
-/// In order: E3 Arithmetic for types that are not one integer type apart from nullability; E2 for columns of two
-/// lengths, with `left` the first; E7 exactly where in some row two operands that are not null have no exact result
-/// that the type holds, whatever lies under nulls.
+/// In order: E3 Arithmetic for types that are not one integer type apart from nullability; E2 for
+/// columns of two lengths, with `left` the first; E7 exactly where in some row two operands that
+/// are not null have no exact result that the type holds, whatever lies under nulls.
 pub fn execute_numeric(
     lhs: &Column,
     rhs: &Column,

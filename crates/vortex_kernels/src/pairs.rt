@@ -5,7 +5,8 @@ ghost use Rattle.std.specs.declared.cmp.Ordering.{Ordering};
 ghost use Rattle.vortex_kernels.specs.Words.{AnswersUnlessMemory, number, truth, truth_of};
 ghost use Rattle.vortex_kernels.specs.Words.{is_text_type, row, lent_values, holds, row_orders};
 ghost use Rattle.vortex_kernels.specs.Words.{int_orders, int_orders_with, bit_orders};
-ghost use Rattle.vortex_kernels.specs.Words.{bit_orders_with, byte_orders, byte_orders_with, constant_value};
+ghost use Rattle.vortex_kernels.specs.Words.{bit_orders_with, byte_orders, byte_orders_with};
+ghost use Rattle.vortex_kernels.specs.Words.{constant_value};
 ghost use Rattle.vortex_kernels.specs.Words.{AreHeld, IsConstantOf, IsConstantBytes};
 ghost use Rattle.vortex_kernels.specs.Words.{AreComparisons, IsIntegerType, IsNullColumn};
 
@@ -124,7 +125,8 @@ pub(crate) struct BytesPairs<'a> {
 }
 
 impl Pairs for BytesPairs<'_> {
-    ghost has_pair = { λ p i. (i < length (lent_values p.left)) × (i < length (lent_values p.right)) };
+    ghost has_pair = { λ p i. (i < length (lent_values p.left))
+        × (i < length (lent_values p.right)) };
 
     ghost order = { λ p. byte_orders (lent_values p.left) (lent_values p.right) };
 
@@ -287,8 +289,8 @@ fn hold_in_bytes<P: Comparison>(
     }
 }
 
-/// Whether the comparison says yes in each row in which both sides have a value. The kind is chosen before the rows, and
-/// so is the form of the right side; a constant on the left goes by the cells.
+/// Whether the comparison says yes in each row in which both sides have a value. The kind is chosen
+/// before the rows, and so is the form of the right side; a constant on the left goes by the cells.
 pub(crate) fn hold_in_rows<P: Comparison>(
     alloc: Global,
     lhs: &Column,

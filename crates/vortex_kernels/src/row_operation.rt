@@ -5,8 +5,8 @@ use vortex_checked::{CheckedAdd, CheckedDiv, CheckedMul, CheckedPrimitiveOp, Che
 
 /// A checked operation, and the form of the loop that serves it best.
 pub(crate) trait RowOperation<T: ArithmeticInteger>: CheckedPrimitiveOp<T> {
-    /// Whether the rows end at the first fault, be it under a null. Else evidence is joined over all rows, which leaves
-    /// the loop free to become vector code.
+    /// Whether the rows end at the first fault, be it under a null. Else evidence is joined over
+    /// all rows, which leaves the loop free to become vector code.
     const ENDS_AT_FAULT: bool;
 }
 
@@ -26,8 +26,8 @@ impl<T: ArithmeticInteger> RowOperation<T> for CheckedDiv {
     const ENDS_AT_FAULT: bool = false;
 }
 
-/// Multiplication of 64 bits: the product, wrapped. No vector holds such products, and the processor tells of a fault
-/// with each.
+/// Multiplication of 64 bits: the product, wrapped. No vector holds such products, and the
+/// processor tells of a fault with each.
 pub(crate) struct WideMul {}
 
 impl CheckedPrimitiveOp<i64> for WideMul {

@@ -24,7 +24,8 @@ pub(crate) fn nullable_valid(alloc: Global, column: &Column) -> VortexResult<Val
     column.valid_rows().to_validity(alloc)
 }
 
-/// The validity of the rows of a column, for a type of that nullability, which is nullable if the column's is.
+/// The validity of the rows of a column, for a type of that nullability, which is nullable if the
+/// column's is.
 pub(crate) fn valid_in(
     alloc: Global,
     column: &Column,

@@ -1,5 +1,6 @@
 -- Which patterns are ASCII, and their forms past case.
-use Rattle.std.proofs.Common.{◌≡◌, ℕ, zero, suc, ◌<◌, Bool, true, false, List, [], ◌∷◌, get_or, refl, sym}
+use Rattle.std.proofs.Common.{◌≡◌, ℕ, zero, suc, ◌<◌, Bool, true, false, List, [], ◌∷◌, get_or}
+use Rattle.std.proofs.Common.{refl, sym}
 use Rattle.std.proofs.Common.{Option, ap, subst, ◌∙◌, arith}
 use Rattle.std.specs.Prelude.{IsUtf8, Result, nat_lt}
 use Rattle.std.specs.Str.{chars, IsAscii, IsNotAscii}
@@ -32,12 +33,16 @@ no_ascii_pattern bytes u h =
     false_from_ne_true (is_ascii (chars bytes))
     (λ e.
     let low = all_low (chars bytes) e in
-    let same : chars bytes ≡ bytes = sym (encodes-IsAscii (chars bytes) low) ∙ encodes-chars bytes u in
-    let here : get_or bytes h.0 0 < 128 = subst (λ (bs : List ℕ). get_or bs h.0 0 < 128) same (low h.0) in
+    let same : chars bytes ≡ bytes = sym (encodes-IsAscii (chars bytes) low)
+    ∙ encodes-chars bytes u in
+    let here : get_or bytes h.0 0 < 128 = subst (λ (bs : List ℕ). get_or bs h.0 0 < 128) same
+    (low h.0) in
     omega (arith, h.1))
 
-pub ascii_form : (escape : Option ℕ) (pattern : List ℕ) (folds ascii : Bool) → folds ≡ true → ascii ≡ true
-    → is_ascii pattern ≡ true → form_of escape pattern folds ascii ≡ folded_form (plain_form escape pattern)
+pub ascii_form : (escape : Option ℕ) (pattern : List ℕ) (folds ascii : Bool) → folds ≡ true
+    → ascii ≡ true
+    → is_ascii pattern ≡ true
+    → form_of escape pattern folds ascii ≡ folded_form (plain_form escape pattern)
 ascii_form escape pattern true true e f g = rw g refl
 ascii_form escape pattern false ascii e f g = cc
 ascii_form escape pattern true false e f g = cc
@@ -48,17 +53,20 @@ form_no_ascii escape pattern true true e g = rw g refl
 form_no_ascii escape pattern true false e g = refl
 form_no_ascii escape pattern false ascii e g = cc
 
-pub form_no_promise : (escape : Option ℕ) (pattern : List ℕ) (folds ascii : Bool) → folds ≡ true → ascii ≡ false
+pub form_no_promise : (escape : Option ℕ) (pattern : List ℕ) (folds ascii : Bool) → folds ≡ true
+    → ascii ≡ false
     → form_of escape pattern folds ascii ≡ Tokens
 form_no_promise escape pattern true false e f = refl
 form_no_promise escape pattern true true e f = cc
 form_no_promise escape pattern false ascii e f = cc
 
 -- a test of that form
-pub test_as : (result : Result FormTest VortexError) (escape : Option ℕ) (pattern : List ℕ) (folds : Bool)
+pub test_as : (result : Result FormTest VortexError) (escape : Option ℕ) (pattern : List ℕ)
+    (folds : Bool)
     (form form' : LikeForm) → folds ≡ true → form' ≡ form
     → AnswersUnlessMemory result (IsTestOf escape pattern true form)
     → AnswersUnlessMemory result (IsTestOf escape pattern folds form')
 test_as result escape pattern folds form form' e f h =
     subst (λ (b : Bool). AnswersUnlessMemory result (IsTestOf escape pattern b form')) (sym e)
-    (subst (λ (g : LikeForm). AnswersUnlessMemory result (IsTestOf escape pattern true g)) (sym f) h)
+    (subst (λ (g : LikeForm). AnswersUnlessMemory result (IsTestOf escape pattern true g)) (sym f)
+    h)

@@ -13,7 +13,8 @@ pub row_like : (options : LikeOptions) (v w : Value) (p : PatternView)
     (own ps ps' bs bs' : List ℕ) (ascii b : Bool) → IsTextOf v bs → IsTextOf w ps
     → is_null v ≡ false → is_null w ≡ false
     → b ≡ turned options.negated (is_match p.case_insensitive p.tokens (chars bs'))
-    → p ≡ pattern_of options.escape own options.case_insensitive ascii → own ≡ ps' → ps' ≡ ps → bs' ≡ bs
+    → p ≡ pattern_of options.escape own options.case_insensitive ascii → own ≡ ps' → ps' ≡ ps
+    → bs' ≡ bs
     → IsLikeBit options v w b
 row_like options v w p own ps ps' bs bs' ascii b hv hw nv nw told of_own same lent read =
     subst (λ (x : Value). IsLikeBit options x w b) (sym (hv.value nv))

@@ -1,5 +1,6 @@
 -- A text beside a literal part past case: equal foldings are what the tokens ask.
-use Rattle.std.proofs.Common.{◌≡◌, ℕ, ◌+◌, ◌-◌, ◌<◌, ◌≤◌, Bool, true, false, List, [], ◌∷◌, ◌++◌, map, length, take}
+use Rattle.std.proofs.Common.{◌≡◌, ℕ, ◌+◌, ◌-◌, ◌<◌, ◌≤◌, Bool, true, false, List, [], ◌∷◌, ◌++◌}
+use Rattle.std.proofs.Common.{map, length, take}
 use Rattle.std.proofs.Common.{drop, refl, sym, ap, subst, ◌∙◌, arith, length-append, eq-eqb}
 use Rattle.std.specs.Prelude.{◌↔◌, IsTrue}
 use Rattle.std.specs.Str.{chars, IsAscii}
@@ -57,7 +58,8 @@ module _ (literal text : List ℕ) where
     λ m.
         let r =
         fold_start literal [] text
-        (subst (λ (ts : List Token). Match true ts text) (sym (append-nil (map character literal))) m)
+        (subst (λ (ts : List Token). Match true ts text) (sym (append-nil (map character literal)))
+        m)
         in
         ap folded
         (r.2 ∙ ap (λ (cs : List ℕ). r.0 ++ cs) r.4 ∙ append-nil r.0)

@@ -1,5 +1,6 @@
 -- The shapes of patterns that have a literal part, and what their tokens are.
-use Rattle.std.proofs.Common.{◌≡◌, ℕ, Bool, true, false, List, [], ◌∷◌, ◌++◌, map, Option, refl, sym, ap}
+use Rattle.std.proofs.Common.{◌≡◌, ℕ, Bool, true, false, List, [], ◌∷◌, ◌++◌, map, Option, refl}
+use Rattle.std.proofs.Common.{sym, ap}
 use Rattle.std.proofs.Common.{◌∙◌, cond}
 use Rattle.std.proofs.lemmas.Bool.{or_parts, and_parts, and_left, or_left, false_from_ne_true}
 use Rattle.std.proofs.lemmas.List.{append-nil}
@@ -22,7 +23,8 @@ module _ (escape : Option ℕ) where
       ∙ any_front front rest parts.1
 
   percent_front : (front rest : List ℕ) (c : ℕ) → list_any (is_special escape) front ≡ false
-      → is_literal_then_percent escape (front ++ c ∷ rest) ≡ is_literal_then_percent escape (c ∷ rest)
+      → is_literal_then_percent escape (front ++ c ∷ rest)
+      ≡ is_literal_then_percent escape (c ∷ rest)
   percent_front [] rest c e = refl
   percent_front (x ∷ []) rest c e =
       let parts = or_parts (is_special escape x) false e in
@@ -38,7 +40,8 @@ module _ (escape : Option ℕ) where
   whole_front pattern front rest e f plain =
       let same : pattern ≡ front ++ [] = e ∙ ap (λ (cs : List ℕ). front ++ cs) f in (
         ap (is_literal escape) same ∙ ap not (any_front front [] plain),
-        ap (tokens_of escape) same ∙ plain_tokens escape front [] plain ∙ append-nil (map character front),
+        ap (tokens_of escape) same ∙ plain_tokens escape front [] plain
+            ∙ append-nil (map character front),
       )
 
   -- behind the part stands a special character
@@ -82,17 +85,21 @@ module _ (escape : Option ℕ) where
 
   pub no_percent_behind : (pattern front rest behind : List ℕ) (c : ℕ) → pattern ≡ front ++ rest
       → rest ≡ c ∷ behind → list_any (is_special escape) front ≡ false → StartsSpecial escape rest
-      → (is_percent escape c ≡ true → behind ≡ [] → ⊥) → is_literal_then_percent escape pattern ≡ false
+      → (is_percent escape c ≡ true → behind ≡ [] → ⊥)
+      → is_literal_then_percent escape pattern ≡ false
   no_percent_behind pattern front rest behind c e f plain special other =
       let same : pattern ≡ front ++ c ∷ behind = cc in
       ap (is_literal_then_percent escape) same ∙ percent_front front behind c plain
       ∙ by behind (subst_head rest f special) other
     where
-      subst_head : (rest : List ℕ) → rest ≡ c ∷ behind → StartsSpecial escape rest → is_special escape c ≡ true
+      subst_head : (rest : List ℕ) → rest ≡ c ∷ behind → StartsSpecial escape rest
+          → is_special escape c ≡ true
       subst_head [] f h = cc
       subst_head (x ∷ rest) f h = let same : x ≡ c = cc in ap (is_special escape) (sym same) ∙ h
 
-      by : (behind : List ℕ) → is_special escape c ≡ true → (is_percent escape c ≡ true → behind ≡ [] → ⊥)
+      by : (behind : List ℕ) → is_special escape c ≡ true
+          → (is_percent escape c ≡ true → behind ≡ [] → ⊥)
           → is_literal_then_percent escape (c ∷ behind) ≡ false
       by [] h other = false_from_ne_true (is_percent escape c) (λ p. other p refl)
-      by (d ∷ behind) h other = and_left (not (is_special escape c)) (is_literal_then_percent escape (d ∷ behind)) (ap not h)
+      by (d ∷ behind) h other = and_left (not (is_special escape c))
+          (is_literal_then_percent escape (d ∷ behind)) (ap not h)

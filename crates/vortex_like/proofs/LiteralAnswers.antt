@@ -1,5 +1,6 @@
 -- What a test by bytes answers is what the tokens of its form ask.
-use Rattle.std.proofs.Common.{◌≡◌, ℕ, ◌+◌, ◌-◌, ◌<◌, ◌≤◌, Bool, true, false, List, ◌++◌, length, take}
+use Rattle.std.proofs.Common.{◌≡◌, ℕ, ◌+◌, ◌-◌, ◌<◌, ◌≤◌, Bool, true, false, List, ◌++◌, length}
+use Rattle.std.proofs.Common.{take}
 use Rattle.std.proofs.Common.{drop, get_or, refl, sym, ap, ◌∙◌, arith, length-append, nat_eq}
 use Rattle.std.proofs.Common.{Option, Some, None}
 use Rattle.std.specs.Prelude.{IsUtf8, is_some}
@@ -8,7 +9,8 @@ use Rattle.std.specs.List.{starts_with, ends_with}
 use Rattle.std.specs.Cmp.Lexicographic.{pointwise}
 use Rattle.std.proofs.lemmas.Bool.Decides.{Decides-eqb}
 use Rattle.std.proofs.lemmas.Slice.Eq.{slice_eq-Decides, starts_is, ends_is}
-use Rattle.std.proofs.lemmas.List.{take-append-drop, get_or-append-add, get_or_append_left, get_or-take}
+use Rattle.std.proofs.lemmas.List.{take-append-drop, get_or-append-add, get_or_append_left}
+use Rattle.std.proofs.lemmas.List.{get_or-take}
 use Rattle.std.proofs.lemmas.List.{get_or-drop, length-take-le, length-drop, ext_get_or}
 use Rattle.memchr.specs.Find.{OccursAt, FindsNeedle}
 use Rattle.vortex_like.specs.Tokens.{is_match}

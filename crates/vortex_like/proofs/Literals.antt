@@ -1,11 +1,13 @@
--- A text beside a literal part: what holds of their bytes is what the tokens ask of their characters.
+-- A text beside a literal part: what holds of their bytes is what the tokens ask of their
+-- characters.
 use Rattle.std.proofs.Common.{◌≡◌, ℕ, ◌<◌, ◌≤◌, false, List, []}
 use Rattle.std.proofs.Common.{◌∷◌, ◌++◌, length, take, drop, get_or, refl, sym, ap, subst, ◌∙◌}
 use Rattle.std.proofs.Common.{arith, length-append, ◌⊎◌, inl, inr, eq-eqb}
 use Rattle.std.specs.Prelude.{◌↔◌, IsUtf8, encode_utf8_all}
 use Rattle.std.specs.Str.{chars}
 use Rattle.std.proofs.lemmas.List.{append-nil, take_at, drop_at, get_or_at}
-use Rattle.std.proofs.lemmas.Str.{chars-append, encodes-chars, encodes-append, IsUtf8-take, IsUtf8-drop}
+use Rattle.std.proofs.lemmas.Str.{chars-append, encodes-chars, encodes-append, IsUtf8-take}
+use Rattle.std.proofs.lemmas.Str.{IsUtf8-drop}
 use Rattle.std.proofs.lemmas.Str.{IsCharBoundary-from_take, IsCharBoundary-at_seam}
 use Rattle.std.proofs.lemmas.Str.{IsCharBoundary-start, chars-nil}
 use Rattle.vortex_like.specs.Tokens.{any, Match}
@@ -16,7 +18,8 @@ use Rattle.vortex_like.proofs.Shapes.{literal_start, literal_alone, literal_self
 pub utf8_behind : (bytes front rest : List ℕ) → IsUtf8 bytes → IsUtf8 front
     → bytes ≡ front ++ rest → IsUtf8 rest
 utf8_behind bytes front rest u f e =
-    subst IsUtf8 (ap (λ (bs : List ℕ). drop (length front) bs) e ∙ drop_at front rest (length front) refl)
+    subst IsUtf8 (ap (λ (bs : List ℕ). drop (length front) bs) e
+    ∙ drop_at front rest (length front) refl)
     (IsUtf8-drop bytes (length front) u
     (IsCharBoundary-from_take bytes (length front) u
     (omega (arith, ap (λ (bs : List ℕ). length bs) e, length-append front rest))
@@ -27,7 +30,8 @@ utf8_behind bytes front rest u f e =
 pub utf8_before : (bytes front rest : List ℕ) → IsUtf8 bytes → IsUtf8 rest
     → bytes ≡ front ++ rest → IsUtf8 front
 utf8_before bytes front rest u r e =
-    subst IsUtf8 (ap (λ (bs : List ℕ). take (length front) bs) e ∙ take_at front rest (length front) refl)
+    subst IsUtf8 (ap (λ (bs : List ℕ). take (length front) bs) e
+    ∙ take_at front rest (length front) refl)
     (IsUtf8-take bytes (length front) u (IsCharBoundary-at_seam bytes front rest e r))
 
 -- texts of the same characters
@@ -48,8 +52,10 @@ utf8_before_lead bytes front literal rest c after u l some e =
     subst IsUtf8
     (ap (λ (bs : List ℕ). take (length front) bs) e
     ∙ take_at front (literal ++ rest) (length front) refl)
-    (IsUtf8-take bytes (length front) u
-    (omega (arith, ap (λ (bs : List ℕ). length bs) e, length-append front (literal ++ rest)), boundary))
+    (IsUtf8-take bytes (length front) u (
+      omega (arith, ap (λ (bs : List ℕ). length bs) e, length-append front (literal ++ rest)),
+      boundary,
+    ))
   where
     lead : get_or bytes (length front) 0 ≡ c
     lead =
@@ -146,10 +152,12 @@ module _ (literal bytes : List ℕ) (l : IsUtf8 literal) (u : IsUtf8 bytes) wher
         chars bytes,
         refl,
         subst (λ (cs : List ℕ). Match false (front_tokens cs) (chars bytes))
-            (sym (ap chars none ∙ chars-nil)) (chars bytes, [], sym (append-nil (chars bytes)), refl),
+            (sym (ap chars none ∙ chars-nil))
+            (chars bytes, [], sym (append-nil (chars bytes)), refl),
       )
       found front rest e (inr some) =
-          let front_text : IsUtf8 front = utf8_before_lead bytes front literal rest some.0 some.1 u l some.2 e in
+          let front_text : IsUtf8 front = utf8_before_lead bytes front literal rest some.0 some.1 u
+          l some.2 e in
           let behind : IsUtf8 (literal ++ rest) =
           utf8_behind bytes front (literal ++ rest) u front_text e in (
             chars front,

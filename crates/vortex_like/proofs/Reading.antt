@@ -6,7 +6,8 @@ use Rattle.std.specs.Char.{IsScalar}
 use Rattle.std.specs.List.{list_any}
 use Rattle.std.specs.Str.{chars, IsCharBoundary}
 use Rattle.std.proofs.Math.Seq.{take-append_seam}
-use Rattle.std.proofs.lemmas.Str.{chars-append, chars_past_char, chars-nil, IsUtf8-encode, IsUtf8-nil}
+use Rattle.std.proofs.lemmas.Str.{chars-append, chars_past_char, chars-nil, IsUtf8-encode}
+use Rattle.std.proofs.lemmas.Str.{IsUtf8-nil}
 use Rattle.std.proofs.lemmas.Str.{IsUtf8-append, IsCharBoundary-at_seam}
 use Rattle.std.proofs.lemmas.List.{map-append, append-nil}
 use Rattle.vortex_like.specs.Cuts.{is_special, IsPassed}
@@ -39,7 +40,8 @@ pass_none escape pattern = record {
   plain = ap (list_any (is_special escape)) chars-nil;
 }
 
-any_last : (escape : Option ℕ) (cs : List ℕ) (c : ℕ) → list_any (is_special escape) cs ≡ false → is_special escape c ≡ false
+any_last : (escape : Option ℕ) (cs : List ℕ) (c : ℕ) → list_any (is_special escape) cs ≡ false
+    → is_special escape c ≡ false
     → list_any (is_special escape) (cs ++ c ∷ []) ≡ false
 any_last escape [] c e f = by (is_special escape c) f
   where
@@ -54,7 +56,8 @@ any_last escape (x ∷ cs) c e f =
     by true rest g h = cc
     by false rest g h = g h
 
-pub pass_more : (escape : Option ℕ) (pattern rest behind : List ℕ) (c : ℕ) → IsScalar c → is_special escape c ≡ false
+pub pass_more : (escape : Option ℕ) (pattern rest behind : List ℕ) (c : ℕ) → IsScalar c
+    → is_special escape c ≡ false
     → rest ≡ encode_utf8 c ++ behind → IsPassed escape pattern rest → IsPassed escape pattern behind
 pass_more escape pattern rest behind c s e split passed = record {
   front = passed.front ++ encode_utf8 c;

@@ -1,5 +1,6 @@
 -- The tokens of patterns of simple shapes, and what such patterns match.
-use Rattle.std.proofs.Common.{◌≡◌, ◌≢◌, ℕ, Bool, true, false, List, [], ◌∷◌, ◌++◌, map, refl, sym, ap}
+use Rattle.std.proofs.Common.{◌≡◌, ◌≢◌, ℕ, Bool, true, false, List, [], ◌∷◌, ◌++◌, map, refl, sym}
+use Rattle.std.proofs.Common.{ap}
 use Rattle.std.proofs.Common.{◌∙◌, arith, cond, eq-eqb, Option, Some, None}
 use Rattle.std.proofs.lemmas.List.{append-nil, nil_from_length}
 use Rattle.std.proofs.lemmas.Str.{chars-nil, encodes-chars}
@@ -54,7 +55,8 @@ module _ (escape : Option ℕ) where
   -- a wildcard: special, and no backslash
   pub wildcard_is : (c : ℕ) → is_special escape c ≡ true → (is_escape escape c) ≡ false
       → is_wildcard (plain_token c) ≡ true
-  wildcard_is c e f = by (c == percent) (c == underscore) (ap (λ (b : Bool). b || (c == percent || c == underscore)) (sym f) ∙ e)
+  wildcard_is c e f = by (c == percent) (c == underscore)
+      (ap (λ (b : Bool). b || (c == percent || c == underscore)) (sym f) ∙ e)
     where
       by : (p u : Bool) → p || u ≡ true
           → is_wildcard (cond p any (cond u one (character c))) ≡ true
@@ -105,7 +107,8 @@ module _ (escape : Option ℕ) where
   -- a pattern with no special character
   pub whole_literal : (pattern front rest : List ℕ) → pattern ≡ front ++ rest → rest ≡ []
       → list_any (is_special escape) front ≡ false
-      → (tokens_of escape pattern ≡ map character front) × (true ≡ not (meets_escape escape pattern))
+      → (tokens_of escape pattern ≡ map character front)
+      × (true ≡ not (meets_escape escape pattern))
   whole_literal pattern front rest e f plain =
       let same : pattern ≡ front ++ [] = e ∙ ap (λ (cs : List ℕ). front ++ cs) f in (
         ap (tokens_of escape) same ∙ plain_tokens front [] plain ∙ append-nil (map character front),
@@ -130,7 +133,8 @@ module _ (escape : Option ℕ) where
   pub literal_then_wildcard : (pattern front rest after : List ℕ) (c : ℕ)
       → pattern ≡ front ++ rest → rest ≡ c ∷ after → list_any (is_special escape) front ≡ false
       → StartsSpecial escape rest → is_escape escape c ≡ false
-      → AreLiteralThenWildcard (tokens_of escape pattern) front × (true ≡ not (meets_escape escape pattern))
+      → AreLiteralThenWildcard (tokens_of escape pattern) front
+      × (true ≡ not (meets_escape escape pattern))
   literal_then_wildcard pattern front rest after c e f plain special n =
       let no_escape = n in
       let wild = wildcard_is c (special_head rest after c f special) no_escape in (
@@ -149,7 +153,8 @@ module _ (escape : Option ℕ) where
             (λ (b : Bool).
             cond b true (cond (c == percent || c == underscore) false (meets_escape escape after)))
             no_escape
-            ∙ ends (c == percent || c == underscore) (meets_escape escape after) (wild_test no_escape))),
+            ∙ ends (c == percent || c == underscore) (meets_escape escape after)
+            (wild_test no_escape))),
       )
     where
       wild_test : (is_escape escape c) ≡ false → (c == percent || c == underscore) ≡ true

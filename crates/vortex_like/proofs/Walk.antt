@@ -1,6 +1,7 @@
 -- The state of the matcher's loop.
 use Rattle.std.proofs.Common.{◌≡◌, inl, inr, ℕ, ◌+◌, ◌-◌, ◌*◌, ◌^◌, ◌≤◌, ◌<◌, Bool, true, false}
-use Rattle.std.proofs.Common.{Option, Some, None, List, [], ◌∷◌, length, take, drop, get_or, refl, ap}
+use Rattle.std.proofs.Common.{Option, Some, None, List, [], ◌∷◌, length, take, drop, get_or, refl}
+use Rattle.std.proofs.Common.{ap}
 use Rattle.std.proofs.Common.{subst, sym, ◌∙◌, arith, eq-eqb}
 use Rattle.std.specs.Prelude.{◌↔◌, IsTrue, nat_eq, not}
 use Rattle.std.specs.Str.{chars}
@@ -59,7 +60,8 @@ any_there tokens at e =
     elim (cases_lt at (length tokens)) [
       | inl lt ↦ there lt
       | inr le ↦
-          absurd (past (subst (λ (ts : List Token). begins_with_any ts ≡ true) (drop_all at tokens le) e))
+          absurd (past (subst (λ (ts : List Token). begins_with_any ts ≡ true)
+          (drop_all at tokens le) e))
     ]
   where
     past : false ≡ true → ⊥
@@ -159,7 +161,8 @@ module _ (fold : Bool) (tokens : List Token) (whole : List ℕ) where
         counted =
             omega (
               arith,
-              steps_any (length tokens) at (room whole (back_of tokens back)) (length (chars text.now))
+              steps_any (length tokens) at (room whole (back_of tokens back))
+                  (length (chars text.now))
                   h w.stands.shorter,
               w.counted,
             );
@@ -179,7 +182,8 @@ module _ (fold : Bool) (tokens : List Token) (whole : List ℕ) where
         stands =
             walk_accept fold tokens whole there.0 (drop (at + 1) tokens) c rest
             (back_of tokens back) next.single there.2
-            (subst (λ (ts : List Token). Stands fold tokens whole ts (c ∷ rest) (back_of tokens back))
+            (subst (λ (ts : List Token). Stands fold tokens whole ts (c ∷ rest)
+            (back_of tokens back))
             next.split w.stands);
         looked = omega (arith, next.asks, w.looked);
         back_looked = still_looked back (omega arith) w.back_looked;

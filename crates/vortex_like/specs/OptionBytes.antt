@@ -1,6 +1,7 @@
 -- The bytes that the options of a LIKE are written as, and what byte strings are read as.
 use Rattle.std.specs.Prelude.{◌≡◌, ℕ, zero, suc, ◌+◌, ◌-◌, ◌==◌, ◌&&◌, nat_lt, not, List, []}
-use Rattle.std.specs.Prelude.{◌∷◌, Bool, true, false, Option, Some, None, MatchOption, if◌then◌else◌, ⊤}
+use Rattle.std.specs.Prelude.{◌∷◌, Bool, true, false, Option, Some, None, MatchOption}
+use Rattle.std.specs.Prelude.{if◌then◌else◌, ⊤}
 use Rattle.std.specs.Option.{option_and_then}
 use Rattle.std.specs.Char.{IsScalar}
 use Rattle.std.proofs.Math.Utf8.{scalar}
@@ -11,8 +12,8 @@ use Rattle.vortex_like.specs.Tokens.{backslash}
 use Rattle.vortex_like.specs.declared.options.LikeOptions.{LikeOptions}
 
 -- the first byte has bit 0 where the LIKE is turned over and bit 1 where it looks past case; it is
--- the only one where the escape is the backslash. Another escape sets bit 2, and stands behind it as
--- four bytes, the greatest first; none sets bit 3.
+-- the only one where the escape is the backslash. Another escape sets bit 2, and stands behind it
+-- as four bytes, the greatest first; none sets bit 3.
 abbrev pub escape_bytes : ℕ → Option ℕ → List ℕ
 escape_bytes bits None = (bits + 8) ∷ []
 escape_bytes bits (Some e) =

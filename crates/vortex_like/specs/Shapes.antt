@@ -2,7 +2,8 @@
 use Rattle.std.specs.Prelude.{◌≡◌, ℕ, true, false, List, [], ◌∷◌, ◌++◌, map, Option}
 use Rattle.std.specs.Str.{chars}
 use Rattle.vortex_like.specs.Tokens.{Token, any, character, tokens_of}
-use Rattle.vortex_like.specs.Forms.{is_literal, is_literal_then_percent, is_percent_then, plain_form}
+use Rattle.vortex_like.specs.Forms.{is_literal, is_literal_then_percent, is_percent_then}
+use Rattle.vortex_like.specs.Forms.{plain_form}
 use Rattle.vortex_like.specs.declared.form.LikeForm.{LikeForm}
 use Rattle.vortex_like.specs.declared.form.LikeForm.TheVariants as form
 use Rattle.vortex_like.specs.declared.form.Shape.{Shape}
@@ -30,10 +31,14 @@ inside_tokens literal = any ∷ (map character literal ++ any ∷ [])
 
 -- what the shape says of the tokens of a pattern
 abbrev pub HasShapeTokens : Option ℕ → List ℕ → Shape → Type 0
-HasShapeTokens escape pattern (Whole literal) = tokens_of escape pattern ≡ whole_tokens (chars literal.now)
-HasShapeTokens escape pattern (Front literal) = tokens_of escape pattern ≡ front_tokens (chars literal.now)
-HasShapeTokens escape pattern (End literal) = tokens_of escape pattern ≡ end_tokens (chars literal.now)
-HasShapeTokens escape pattern (Inside literal) = tokens_of escape pattern ≡ inside_tokens (chars literal.now)
+HasShapeTokens escape pattern (Whole literal) = tokens_of escape pattern
+    ≡ whole_tokens (chars literal.now)
+HasShapeTokens escape pattern (Front literal) = tokens_of escape pattern
+    ≡ front_tokens (chars literal.now)
+HasShapeTokens escape pattern (End literal) = tokens_of escape pattern
+    ≡ end_tokens (chars literal.now)
+HasShapeTokens escape pattern (Inside literal) = tokens_of escape pattern
+    ≡ inside_tokens (chars literal.now)
 HasShapeTokens escape pattern Other = Unit {0}
 
 -- the shape is that of a literal part or of one and `%`, and Other of what is neither

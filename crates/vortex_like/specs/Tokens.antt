@@ -1,5 +1,5 @@
--- The tokens of a LIKE pattern, and which texts they match: SQL's LIKE with a chosen escape or none,
--- and under ILIKE Unicode's simple case folding, one character at a time.
+-- The tokens of a LIKE pattern, and which texts they match: SQL's LIKE with a chosen escape or
+-- none, and under ILIKE Unicode's simple case folding, one character at a time.
 use Rattle.std.specs.Prelude.{ℕ, Bool, true, false, ◌==◌, ◌≡◌, ◌&&◌, List, [], ◌∷◌, ◌++◌}
 use Rattle.std.specs.Prelude.{◌↔◌, IsTrue, if◌then◌else◌, Option, Some, None}
 use Rattle.std.specs.List.{list_any}
@@ -79,7 +79,8 @@ endings (c ∷ text) = (c ∷ text) ∷ endings text
 abbrev pub is_match : Bool → List Token → List ℕ → Bool
 is_match case_insensitive [] [] = true
 is_match case_insensitive [] (c ∷ text) = false
-is_match case_insensitive (any ∷ rest) text = list_any (is_match case_insensitive rest) (endings text)
+is_match case_insensitive (any ∷ rest) text = list_any (is_match case_insensitive rest)
+    (endings text)
 is_match case_insensitive (t ∷ rest) [] = false
 is_match case_insensitive (t ∷ rest) (c ∷ text) =
     accepts case_insensitive t c && is_match case_insensitive rest text

@@ -21,6 +21,7 @@ pub use Rattle.vortex_like.specs.Symbols.{symbol_token}
 pub use Rattle.vortex_like.specs.TextRows.{texts_of, text_at, IsTextOf, AreTexts, AreAscii}
 pub use Rattle.vortex_like.specs.TextRows.{IsTextColumn}
 pub use Rattle.vortex_like.specs.Tokens.{any, one, character, is_any, accepts, plain_token}
-pub use Rattle.vortex_like.specs.Tokens.{is_escape, backslash, tokens_of, Match, is_match, TestDecidesMatch}
+pub use Rattle.vortex_like.specs.Tokens.{is_escape, backslash, tokens_of, Match, is_match}
+pub use Rattle.vortex_like.specs.Tokens.{TestDecidesMatch}
 pub use Rattle.vortex_like.specs.UnescapedTexts.{IsUnescaped}
 pub use Rattle.vortex_like.specs.Variants.{is_wildcard, meets_escape, IsVariantOf, TellsMatches}

@@ -87,8 +87,8 @@ fn said(last: &LastPattern, bytes: &[u8], negated: bool) -> bool
     last.pattern.matches(bytes) != negated
 }
 
-/// What LIKE says of each text and the pattern beside it. A null row's pattern is not read, and of the row nothing is
-/// said. The last pattern that was compiled serves again while its bytes repeat.
+/// What LIKE says of each text and the pattern beside it. A null row's pattern is not read, and of
+/// the row nothing is said. The last pattern that was compiled serves again while its bytes repeat.
 pub(crate) fn each_bits<R: RowTexts>(
     alloc: Global,
     columns: SideBySide<'_>,

@@ -158,9 +158,10 @@ fn like_rows(
     Column::try_bool(alloc, bits, validity)
 }
 
-/// Whether the text in each row matches the pattern in that row, turned over where negated: SQL's LIKE with the
-/// options' escape, or none, and ILIKE by Unicode's simple case folding, one character at a time. Null if either is null. A column of Bool
-/// of as many rows, nullable if either column is.
+/// Whether the text in each row matches the pattern in that row, turned over where negated: SQL's
+/// LIKE with the options' escape, or none, and ILIKE by Unicode's simple case folding, one
+/// character at a time. Null if either is null. A column of Bool of as many rows, nullable if
+/// either column is.
 ///
 /// Refuses for memory alone (E9).
 pub fn execute_like(

@@ -35,8 +35,8 @@ fn folded_characters(alloc: Global, text: &str) -> VortexResult<Vec<char>>
     Ok(own)
 }
 
-/// Whether ASCII characters fold to these, one by one. Bytes that are no ASCII are read as others, so that none is
-/// refused.
+/// Whether ASCII characters fold to these, one by one. Bytes that are no ASCII are read as others,
+/// so that none is refused.
 fn fold_to(folds: &[char], bytes: &[u8], own: &[char]) -> bool
     requires { AreAsciiFolds folds.now }
     ensures { IsAscii bytes.now → IsTrue result ↔ (folded bytes.now ≡ own.now) }

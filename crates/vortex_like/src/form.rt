@@ -6,8 +6,8 @@ ghost use Rattle.vortex_like.specs.Words.{is_percent, IsFrontOf, IsPercentOf, Is
 use crate::characters::{is_escape, split_first};
 use crate::cuts::cut_at_special;
 
-/// How a pattern is matched. A literal part holds no `%`, no `_` and no escape; a pattern has the first form that fits. A `%`
-/// that is the escape is no `%` of a form.
+/// How a pattern is matched. A literal part holds no `%`, no `_` and no escape; a pattern has the
+/// first form that fits. A `%` that is the escape is no `%` of a form.
 #[derive(Clone, Copy, Debug, PartialEq, Eq)]
 pub enum LikeForm {
     /// A literal part: that text alone.

@@ -54,8 +54,9 @@ fn one_further(back: Option<Place<'_>>) -> Option<Place<'_>>
     Some(Place { at: place.at, text })
 }
 
-/// Whether the tokens match the text, and how often a token was compared with a character. It goes over the text once, and
-/// goes back to the last `%` alone, to try one character further on. A `%` at the end matches what is left at once.
+/// Whether the tokens match the text, and how often a token was compared with a character. It goes
+/// over the text once, and goes back to the last `%` alone, to try one character further on. A `%`
+/// at the end matches what is left at once.
 pub(crate) fn match_tokens(
     tokens: &[LikeToken],
     text: &str,

@@ -1,4 +1,5 @@
-//! The bytes that options are written as and from which they are read; no other byte string is read.
+//! The bytes that options are written as and from which they are read; no other byte string is
+//! read.
 ghost use Rattle.std.specs.Prelude.{◌≡◌, ◌+◌, ◌∷◌, ◌++◌, []};
 ghost use Rattle.vortex_like.specs.Words.{AnswersUnlessMemory};
 ghost use Rattle.vortex_like.specs.OptionBytes.{like_bytes, like_read, with_bits, escape_read};
@@ -9,7 +10,8 @@ use crate::options::LikeOptions;
 use std::alloc::Global;
 use vortex_types::VortexResult;
 
-/// The options of two bits: bit 0 where negated, bit 1 where case insensitive. Of a greater number there are none.
+/// The options of two bits: bit 0 where negated, bit 1 where case insensitive. Of a greater number
+/// there are none.
 fn with_bits(bits: u8, escape: Option<char>) -> Option<LikeOptions>
     ensures { result ≡ with_bits bits escape }
 {
@@ -69,9 +71,9 @@ impl LikeOptions {
         }
     }
 
-    /// The bytes that they are written as: one byte, bit 0 where negated, bit 1 where case insensitive. For another escape
-    /// than the backslash bit 2 too, and behind it the character as four bytes, the greatest first; for none bit 3 too.
-    /// Refuses for memory alone (E9).
+    /// The bytes that they are written as: one byte, bit 0 where negated, bit 1 where case
+    /// insensitive. For another escape than the backslash bit 2 too, and behind it the character as
+    /// four bytes, the greatest first; for none bit 3 too. Refuses for memory alone (E9).
     pub fn to_bytes(&self, alloc: Global) -> VortexResult<Vec<u8>>
         ensures { AnswersUnlessMemory result (λ bytes. bytes.items ≡ like_bytes self.now) }
     {

@@ -42,13 +42,15 @@ impl Model for LikePattern {
 }
 
 impl LikePattern {
-    /// The pattern of a text: `%` is any sequence of characters, newlines too, `_` one character, a backslash and a
-    /// character that character, a backslash at the end itself, and every other character itself.
+    /// The pattern of a text: `%` is any sequence of characters, newlines too, `_` one character, a
+    /// backslash and a character that character, a backslash at the end itself, and every other
+    /// character itself.
     ///
-    /// With `case_insensitive` a character stands for each with the same simple case folding. `ascii_haystack` promises
-    /// that every text to match is ASCII. The pattern has the first form that fits: without folding Eq, StartsWith,
-    /// EndsWith, Contains or Tokens; with folding, where it and every text to match are ASCII, IEqAscii,
-    /// IStartsWithAscii, IEndsWithAscii or Tokens, and else Tokens. Refuses for memory alone (E9).
+    /// With `case_insensitive` a character stands for each with the same simple case folding.
+    /// `ascii_haystack` promises that every text to match is ASCII. The pattern has the first form
+    /// that fits: without folding Eq, StartsWith, EndsWith, Contains or Tokens; with folding, where
+    /// it and every text to match are ASCII, IEqAscii, IStartsWithAscii, IEndsWithAscii or Tokens,
+    /// and else Tokens. Refuses for memory alone (E9).
     pub fn compile(
         alloc: Global,
         pattern: &str,
@@ -66,10 +68,11 @@ impl LikePattern {
         LikePattern::compile_with(alloc, pattern, options, ascii_haystack)
     }
 
-    /// The same with the escape of the options in the backslash's place, or with none, and with folding where they look
-    /// past case. The escape may be `%` or `_`, and is then no wildcard; it is compared as it stands, past case too. A
-    /// form's literal part holds no escape, and of an escape `%` only Eq, IEqAscii and Tokens are made. Whether the
-    /// options turn the LIKE over does not matter to a pattern. Refuses for memory alone (E9).
+    /// The same with the escape of the options in the backslash's place, or with none, and with
+    /// folding where they look past case. The escape may be `%` or `_`, and is then no wildcard; it
+    /// is compared as it stands, past case too. A form's literal part holds no escape, and of an
+    /// escape `%` only Eq, IEqAscii and Tokens are made. Whether the options turn the LIKE over
+    /// does not matter to a pattern. Refuses for memory alone (E9).
     pub fn compile_with(
         alloc: Global,
         pattern: &str,
@@ -106,9 +109,9 @@ impl LikePattern {
         self.test.passes(haystack)
     }
 
-    /// The same, and how often a token was compared with a character: at most as often as the text has characters, and
-    /// once more, for each token and once more. A form other than Tokens compares none; where Tokens matches it is at
-    /// least once for each token but `%`.
+    /// The same, and how often a token was compared with a character: at most as often as the text
+    /// has characters, and once more, for each token and once more. A form other than Tokens
+    /// compares none; where Tokens matches it is at least once for each token but `%`.
     pub fn matches_counted(&self, haystack: &[u8]) -> (bool, Looks)
         requires utf8 { IsUtf8 haystack.now }
         requires ascii { IsTrue self.now.ascii_haystack → IsAscii haystack.now }
@@ -125,7 +128,8 @@ impl LikePattern {
         self.test.passes_counted(haystack)
     }
 
-    /// Whether it matches each text of a column, turned over where negated. Of a null row it says nothing.
+    /// Whether it matches each text of a column, turned over where negated. Of a null row it says
+    /// nothing.
     pub(crate) fn matched_rows(
         &self,
         alloc: Global,

@@ -12,7 +12,8 @@ pub(crate) trait TextTest {
     /// The bytes that may be read.
     ghost can_read: { Self → List ℕ → Type 0 };
 
-    /// The bytes of which the answer tells. Of others, as what lies under a null may be, it says nothing.
+    /// The bytes of which the answer tells. Of others, as what lies under a null may be, it says
+    /// nothing.
     ghost tells_of: { Self → List ℕ → Type 0 };
 
     /// What the test answers to the bytes of which it tells.

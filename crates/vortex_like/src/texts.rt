@@ -105,8 +105,8 @@ impl Texts<'_> {
         true
     }
 
-    /// Whether letters are to match past case, and each text that is not null is ASCII: then the ASCII forms serve. The
-    /// texts are not read where letters match as they stand.
+    /// Whether letters are to match past case, and each text that is not null is ASCII: then the
+    /// ASCII forms serve. The texts are not read where letters match as they stand.
     pub(crate) fn fold_as_ascii(&self, column: &Column, case_insensitive: bool) -> bool
         requires { AreTexts column.now (texts_of self.now) }
         ensures { result ≡ true → AreAscii column.now (texts_of self.now) }

@@ -5,7 +5,8 @@ ghost use Rattle.vortex_like.specs.Words.{any, one, character, is_any, accepts};
 use std::marker::Model;
 use unicode::case::simple_fold;
 
-/// What a pattern asks of a text at one place: any sequence of characters, one character, or that character.
+/// What a pattern asks of a text at one place: any sequence of characters, one character, or that
+/// character.
 #[derive(Drop)]
 pub struct LikeToken {
     kind: Kind,
@@ -92,8 +93,8 @@ impl LikeToken {
         }
     }
 
-    /// Whether a text of this one character has what the token asks. It is the one place where a token is compared with a
-    /// character, and counts as one look.
+    /// Whether a text of this one character has what the token asks. It is the one place where a
+    /// token is compared with a character, and counts as one look.
     pub fn accepts(&self, c: char, case_insensitive: bool, looks: &mut Looks) -> bool
         requires { looks.old < 2 ^ 128 - 1 }
         ensures answer { result ≡ accepts case_insensitive self.now c }

@@ -11,8 +11,8 @@ use std::alloc::Global;
 use std::borrow::CowStr;
 use vortex_types::VortexResult;
 
-/// A pattern that one text alone matches, or what every text that matches it begins with. Two are equal by form and
-/// text, lent or owned.
+/// A pattern that one text alone matches, or what every text that matches it begins with. Two are
+/// equal by form and text, lent or owned.
 #[derive(Debug, Drop, PartialEq)]
 pub enum LikeVariant<'a> {
     /// The pattern has no wildcard.
@@ -104,11 +104,12 @@ fn variant_of(
 }
 
 impl<'a> LikeVariant<'a> {
-    /// The simple shape of a pattern of LIKE: the text that it is where it has no wildcard, or what stands before its
-    /// first one, each without its escapes. None exactly where it begins with a wildcard that is not escaped.
+    /// The simple shape of a pattern of LIKE: the text that it is where it has no wildcard, or what
+    /// stands before its first one, each without its escapes. None exactly where it begins with a
+    /// wildcard that is not escaped.
     ///
-    /// The text is lent where no escape was met before that point, a backslash at the end among them. Refuses for memory
-    /// alone (E9).
+    /// The text is lent where no escape was met before that point, a backslash at the end among
+    /// them. Refuses for memory alone (E9).
     pub fn from_str(alloc: Global, pattern: &'a str) -> VortexResult<Option<LikeVariant<'a>>>
         ensures variant { AnswersUnlessMemory result
             (IsVariantOf (Some backslash) (chars pattern.now)) }
@@ -118,8 +119,8 @@ impl<'a> LikeVariant<'a> {
         LikeVariant::from_str_with(alloc, pattern, Some('\\'))
     }
 
-    /// The same with that escape in the backslash's place, or with none. A wildcard that is the escape is no wildcard.
-    /// Refuses for memory alone (E9).
+    /// The same with that escape in the backslash's place, or with none. A wildcard that is the
+    /// escape is no wildcard. Refuses for memory alone (E9).
     pub fn from_str_with(
         alloc: Global,
         pattern: &'a str,

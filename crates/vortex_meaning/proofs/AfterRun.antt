@@ -6,7 +6,8 @@ use Rattle.vortex_types.specs.LogicalTypes.{LogicalType}
 use Rattle.vortex_columns.specs.ColumnView.{ColumnView, row, AreTyped}
 use Rattle.vortex_meaning.specs.Outcomes.{Outcome, gives, faults, Fault}
 use Rattle.vortex_meaning.specs.Meaning.{Meaning}
-use Rattle.vortex_meaning.specs.Trees.{Leaf, place, held, Tree, leaf, constant, call, Trees, no_trees, tree}
+use Rattle.vortex_meaning.specs.Trees.{Leaf, place, held, Tree, leaf, constant, call, Trees}
+use Rattle.vortex_meaning.specs.Trees.{no_trees, tree}
 use Rattle.vortex_meaning.specs.Eval.{tree_type, eval, HasTreeRows, IsFirstFault}
 use Rattle.vortex_meaning.specs.Execution.{LeavesFit, other_length, Executes, RefusesExecution}
 use Rattle.vortex_meaning.specs.Rewrites.{Rewrites, IsSound}

@@ -1,5 +1,7 @@
--- A tree of shipped functions is refused exactly where arithmetic in it overflows or divides by zero.
-use Rattle.std.proofs.Common.{◌≡◌, ℕ, ◌<◌, ℤ, List, [], ◌∷◌, Option, Some, None, refl, sym, ap, ◌∙◌, subst, inl, inr}
+-- A tree of shipped functions is refused exactly where arithmetic in it overflows or divides by
+-- zero.
+use Rattle.std.proofs.Common.{◌≡◌, ℕ, ◌<◌, ℤ, List, [], ◌∷◌, Option, Some, None, refl, sym, ap, ◌∙◌}
+use Rattle.std.proofs.Common.{subst, inl, inr}
 use Rattle.vortex_types.specs.declared.dtype.PType.{PType}
 use Rattle.vortex_errors.specs.declared.error.NumericOperator.{NumericOperator}
 use Rattle.vortex_errors.specs.declared.error.VortexError.{VortexError}
@@ -8,20 +10,27 @@ use Rattle.vortex_types.specs.LogicalTypes.{LogicalType}
 use Rattle.vortex_types.specs.Values.{Value, null, truth, number, text, bytes, list}
 use Rattle.vortex_columns.specs.ColumnView.{ColumnView}
 use Rattle.vortex_operators.specs.declared.operators.Operator.{Operator}
-use Rattle.vortex_operators.specs.Arithmetic.{exact_result, held, arithmetic_value, numeric_operator_of}
-use Rattle.vortex_meaning.specs.Outcomes.{Fault, faults, arithmetic, error_of, GivesValue, IsRowFault}
+use Rattle.vortex_operators.specs.Arithmetic.{exact_result, held, arithmetic_value}
+use Rattle.vortex_operators.specs.Arithmetic.{numeric_operator_of}
+use Rattle.vortex_meaning.specs.Outcomes.{Fault, faults, arithmetic, error_of, GivesValue}
+use Rattle.vortex_meaning.specs.Outcomes.{IsRowFault}
 use Rattle.vortex_meaning.specs.Meaning.{Meaning}
-use Rattle.vortex_meaning.specs.Arithmetic.{integer_of, arithmetic_of, arithmetic_means, value_or_fault, arithmetic_fault}
+use Rattle.vortex_meaning.specs.Arithmetic.{integer_of, arithmetic_of, arithmetic_means}
+use Rattle.vortex_meaning.specs.Arithmetic.{value_or_fault, arithmetic_fault}
 use Rattle.vortex_meaning.specs.Shipped.{Shipped, Binary, shipped_means}
 use Rattle.vortex_meaning.specs.Shipped.BinaryFunction.{means_by}
 use Rattle.vortex_meaning.specs.Functions.{Function, ours, custom, function_means}
 use Rattle.vortex_meaning.specs.Trees.{Tree, leaf, constant, call, Trees, no_trees, tree}
-use Rattle.vortex_meaning.specs.Eval.{all_give, then_means, tree_types, types_or_none, eval, eval_all, AllSettled, IsFirstFault, IsFirstFaultIn}
-use Rattle.vortex_meaning.specs.Execution.{LeavesFit, other_length, RefusesColumns, unfit, uneven, RefusesExecution, misfit, faulty}
+use Rattle.vortex_meaning.specs.Eval.{all_give, then_means, tree_types, types_or_none, eval}
+use Rattle.vortex_meaning.specs.Eval.{eval_all, AllSettled, IsFirstFault, IsFirstFaultIn}
+use Rattle.vortex_meaning.specs.Execution.{LeavesFit, other_length, RefusesColumns, unfit, uneven}
+use Rattle.vortex_meaning.specs.Execution.{RefusesExecution, misfit, faulty}
 use Rattle.vortex_meaning.specs.Weights.{OnlyShipped, AllShipped}
 use Rattle.vortex_meaning.specs.Running.{FaultsSomewhere}
-use Rattle.vortex_meaning.specs.ArithmeticFaults.{Overflows, HasOverflow, AnyHasOverflow, FaultsExactly, ErrsWhereArithmeticDoes}
-use Rattle.vortex_meaning.proofs.FaultyRows.{no_value_faults, values_in, InputsFault, call_faults, first_faults, later_faults}
+use Rattle.vortex_meaning.specs.ArithmeticFaults.{Overflows, HasOverflow, AnyHasOverflow}
+use Rattle.vortex_meaning.specs.ArithmeticFaults.{FaultsExactly, ErrsWhereArithmeticDoes}
+use Rattle.vortex_meaning.proofs.FaultyRows.{no_value_faults, values_in, InputsFault, call_faults}
+use Rattle.vortex_meaning.proofs.FaultyRows.{first_faults, later_faults}
 
 module _ {V O : Type 0} (m : Meaning V O) (cs : List ColumnView) (n : ℕ) (o : NumericOperator) where
   overflow_faults : (f : Function V O) (ts : Trees V O) (i : ℕ) → Overflows m cs o f ts i
@@ -47,7 +56,8 @@ module _ {V O : Type 0} (m : Meaning V O) (cs : List ColumnView) (n : ℕ) (o : 
     input_faults (tree t ts) (inl h) = first_faults m cs n t ts (row_faults t h)
     input_faults (tree t ts) (inr h) = later_faults m cs n t ts (input_faults ts h)
 
--- Where arithmetic of a row faults, both operands are numbers, of which the type does not hold the result.
+-- Where arithmetic of a row faults, both operands are numbers, of which the type does not hold the
+-- result.
 pub record IsUnheld (o : NumericOperator) (ts : List LogicalType) (vs : List Value) : Type 0 where
   pub ptype : PType
   pub integers : integer_of ts ≡ Some ptype
@@ -79,7 +89,8 @@ module _ (o : NumericOperator) (x : Fault) where
   unheld_by : (ts : List LogicalType) (k : Option PType) → integer_of ts ≡ k → (v w : Value)
       → arithmetic_of o k v w ≡ faults x → IsUnheld o ts (v ∷ w ∷ [])
   unheld_by ts None known v w e = cc
-  unheld_by ts (Some p) known v w e = unheld_pair ts p known v w (none_of (arithmetic_value o p v w) e)
+  unheld_by ts (Some p) known v w e = unheld_pair ts p known v w
+      (none_of (arithmetic_value o p v w) e)
 
   unheld_of : (ts : List LogicalType) (vs : List Value) → arithmetic_means o ts vs ≡ faults x
       → IsUnheld o ts vs
@@ -141,7 +152,8 @@ module _ {V O : Type 0} (m : Meaning V O) (cs : List ColumnView) (n : ℕ) where
       let p = values_in m cs n ts h r.at r.below in
       let means = shipped_means (Binary op) (types_or_none (tree_types m ts)) in
       let here = sym (ap (then_means means) p.1) ∙ r.here in
-      fault_of_operator op (numeric_operator_of op) refl ts p.0 r.at r.fault e r.below p.1 here r.told
+      fault_of_operator op (numeric_operator_of op) refl ts p.0 r.at r.fault e r.below p.1 here
+      r.told
   fault_of_call s ts h e r = absurd (no_fault s (λ us vs. tt) ts h e r)
 
   mutual

@@ -1,7 +1,10 @@
 -- Calls of And and Or: their types and values, and what they are beside a constant.
-use Rattle.std.proofs.Common.{◌≡◌, ℕ, Bool, true, false, List, [], ◌∷◌, Some, refl, sym, ap, ◌∙◌, inl, inr}
+use Rattle.std.proofs.Common.{◌≡◌, ℕ, Bool, true, false, List, [], ◌∷◌, Some, refl, sym, ap, ◌∙◌}
+use Rattle.std.proofs.Common.{inl, inr}
 use Rattle.std.specs.Prelude.{◌||◌, if◌then◌else◌}
-use Rattle.vortex_types.specs.LogicalTypes.{LogicalType, null_type, bool_type, integer_type, text_type, bytes_type, struct_type, list_type, fixed_size_list_type, map_type}
+use Rattle.vortex_types.specs.LogicalTypes.{LogicalType, null_type, bool_type, integer_type}
+use Rattle.vortex_types.specs.LogicalTypes.{text_type, bytes_type, struct_type, list_type}
+use Rattle.vortex_types.specs.LogicalTypes.{fixed_size_list_type, map_type}
 use Rattle.vortex_types.specs.Values.{Value, truth, truth_of, truth_or_null}
 use Rattle.vortex_columns.specs.ColumnView.{ColumnView}
 use Rattle.vortex_operators.specs.declared.operators.Operator.{Operator}
@@ -17,12 +20,15 @@ use Rattle.vortex_meaning.specs.Functions.{ours}
 use Rattle.vortex_meaning.specs.Trees.{Tree, leaf, constant, call, no_trees, tree}
 use Rattle.vortex_meaning.specs.Eval.{types_or_none, tree_type, tree_types, eval}
 use Rattle.vortex_meaning.specs.ComparisonTrees.{operated}
-use Rattle.vortex_meaning.specs.Rules.{truth_constant, cast_of, constant_truth, decides, may_be_null, is_nullable_tree, widened}
+use Rattle.vortex_meaning.specs.Rules.{truth_constant, cast_of, constant_truth, decides}
+use Rattle.vortex_meaning.specs.Rules.{may_be_null, is_nullable_tree, widened}
 use Rattle.vortex_meaning.specs.Rewrites.{AsksNoMore, Rewrites}
-use Rattle.vortex_meaning.proofs.TypedCalls.{two_types, typed_call, type_of_one, two_values, eval_one, eval_two}
+use Rattle.vortex_meaning.proofs.TypedCalls.{two_types, typed_call, type_of_one, two_values}
+use Rattle.vortex_meaning.proofs.TypedCalls.{eval_one, eval_two}
 use Rattle.vortex_meaning.proofs.TypedValues.{value_typed}
 use Rattle.vortex_meaning.proofs.Rewriting.{asks_nothing}
-use Rattle.vortex_meaning.proofs.KleeneConstants.{left_decides, right_decides, left_leaves, right_leaves, truth_back, truth_is}
+use Rattle.vortex_meaning.proofs.KleeneConstants.{left_decides, right_decides, left_leaves}
+use Rattle.vortex_meaning.proofs.KleeneConstants.{right_leaves, truth_back, truth_is}
 use Rattle.vortex_meaning.proofs.RuleAnswers.{gives_is}
 
 -- the operands' types, where And or Or accepts them

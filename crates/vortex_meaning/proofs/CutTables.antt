@@ -1,6 +1,7 @@
 -- A tree over batches of a table answers as over the whole.
 use Rattle.std.proofs.Common.{◌≡◌, ℕ, zero, suc, ◌<◌, ◌≤◌, ◌+◌, ◌-◌, ◌++◌, List, [], ◌∷◌}
-use Rattle.std.proofs.Common.{Some, None, refl, sym, ap, ◌∙◌, subst, inl, inr, length, take, drop, arith}
+use Rattle.std.proofs.Common.{Some, None, refl, sym, ap, ◌∙◌, subst, inl, inr, length, take, drop}
+use Rattle.std.proofs.Common.{arith}
 use Rattle.std.proofs.Common.{Bool, true, false}
 use Rattle.std.specs.Prelude.{slice_get, nat_lt, nat_eq, if◌then◌else◌}
 use Rattle.std.proofs.lemmas.List.{get_or-take, get_or-drop, length-take-le, take-append-drop}
@@ -10,14 +11,18 @@ use Rattle.vortex_columns.specs.ColumnView.{ColumnView, row}
 use Rattle.vortex_meaning.specs.Outcomes.{gives}
 use Rattle.vortex_meaning.specs.Meaning.{Meaning}
 use Rattle.vortex_meaning.specs.Functions.{function_means}
-use Rattle.vortex_meaning.specs.Trees.{Leaf, place, held, Tree, leaf, constant, call, Trees, no_trees, tree}
+use Rattle.vortex_meaning.specs.Trees.{Leaf, place, held, Tree, leaf, constant, call, Trees}
+use Rattle.vortex_meaning.specs.Trees.{no_trees, tree}
 use Rattle.vortex_meaning.specs.Bound.{IsPlace, IsBound, AllBound}
-use Rattle.vortex_meaning.specs.Eval.{rows_or_none, then_means, with_first, tree_types, types_or_none}
+use Rattle.vortex_meaning.specs.Eval.{rows_or_none, then_means, with_first, tree_types}
+use Rattle.vortex_meaning.specs.Eval.{types_or_none}
 use Rattle.vortex_meaning.specs.Eval.{eval, eval_all, leaf_value}
-use Rattle.vortex_meaning.specs.Execution.{LeafFits, LeavesFit, AllLeavesFit, other_length, Executes}
+use Rattle.vortex_meaning.specs.Execution.{LeafFits, LeavesFit, AllLeavesFit, other_length}
+use Rattle.vortex_meaning.specs.Execution.{Executes}
 use Rattle.vortex_meaning.specs.Execution.{faulty}
 use Rattle.vortex_meaning.specs.Running.{FaultsSomewhere}
-use Rattle.vortex_meaning.specs.Batches.{Batch, IsPart, AreParts, AreBatches, joined_rows, AllExecute}
+use Rattle.vortex_meaning.specs.Batches.{Batch, IsPart, AreParts, AreBatches, joined_rows}
+use Rattle.vortex_meaning.specs.Batches.{AllExecute}
 use Rattle.vortex_meaning.specs.Batches.{IsRefused, SomeRefused, BatchesAnswerAsOne}
 use Rattle.vortex_meaning.proofs.RewrittenRows.{same_length}
 use Rattle.vortex_meaning.proofs.RuleAnswers.{gives_is}
@@ -30,7 +35,8 @@ part_row : (rows : List Value) (from count i : ℕ) → i < count
 part_row rows from count i lt =
     get_or-take count (drop from rows) i null lt ∙ get_or-drop from rows i null
 
-dropped_twice : (from count : ℕ) (vs : List Value) → drop count (drop from vs) ≡ drop (from + count) vs
+dropped_twice : (from count : ℕ) (vs : List Value)
+    → drop count (drop from vs) ≡ drop (from + count) vs
 dropped_twice zero count vs =
     let same : count ≡ 0 + count = omega arith in ap (λ k. drop k vs) same
 dropped_twice (suc from) count [] =
@@ -103,7 +109,8 @@ parts_even : (n from count : ℕ) → from + count ≤ n → (cs ds : List Colum
 parts_even n from count le [] [] h same = refl
 parts_even n from count le (c ∷ cs) (d ∷ ds) h same =
     let long : length c.rows ≡ n = same zero c refl in
-    let left : count ≤ length (drop from c.rows) = omega (arith, length-drop from c.rows, long, le) in
+    let left : count ≤ length (drop from c.rows) = omega
+    (arith, length-drop from c.rows, long, le) in
     let size : length d.rows ≡ count =
     ap length h.0.rows ∙ length-take-le count (drop from c.rows) left in
     let eq : nat_eq (length d.rows) count ≡ true = grind (arith, size) in

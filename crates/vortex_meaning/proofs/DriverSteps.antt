@@ -1,11 +1,13 @@
 -- By which code takes a step: child after child, and then the node itself.
-use Rattle.std.proofs.Common.{◌≡◌, ℕ, zero, suc, ◌+◌, ◌<◌, ◌≤◌, List, [], ◌∷◌, ◌++◌, length, take, Option, Some, None, refl, sym, ap, ◌∙◌, subst, arith, add-one}
+use Rattle.std.proofs.Common.{◌≡◌, ℕ, zero, suc, ◌+◌, ◌<◌, ◌≤◌, List, [], ◌∷◌, ◌++◌, length, take}
+use Rattle.std.proofs.Common.{Option, Some, None, refl, sym, ap, ◌∙◌, subst, arith, add-one}
 use Rattle.std.specs.Prelude.{slice_get, slice_set}
 use Rattle.std.specs.Option.{option_map, option_or, option_and_then}
 use Rattle.std.proofs.lemmas.List.{take_all}
 use Rattle.vortex_meaning.specs.Meaning.{Meaning}
 use Rattle.vortex_meaning.specs.Functions.{Function, call_type}
-use Rattle.vortex_meaning.specs.Trees.{Tree, leaf, constant, call, no_trees, tree, trees_of, list_of, children_of, called, node_count, nodes_count}
+use Rattle.vortex_meaning.specs.Trees.{Tree, leaf, constant, call, no_trees, tree, trees_of}
+use Rattle.vortex_meaning.specs.Trees.{list_of, children_of, called, node_count, nodes_count}
 use Rattle.vortex_meaning.specs.Eval.{tree_type}
 use Rattle.vortex_meaning.specs.Places.{with_child, rewritten}
 use Rattle.vortex_meaning.specs.Driver.{step, step_in}

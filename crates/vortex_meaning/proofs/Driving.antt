@@ -18,7 +18,8 @@ use Rattle.vortex_meaning.proofs.Rewriting.{rewrites_same, rewrites_trans, child
 use Rattle.vortex_meaning.proofs.Simplifying.{simplify_sound}
 use Rattle.vortex_meaning.proofs.Reducing.{reduce_sound}
 use Rattle.vortex_meaning.proofs.RuleAnswers.{first_there}
-use Rattle.vortex_meaning.proofs.Stepwise.{GoesOver, Keeps, rewritten_keeps, rewritten_list_keeps, step_keeps, runs_keep}
+use Rattle.vortex_meaning.proofs.Stepwise.{GoesOver, Keeps, rewritten_keeps, rewritten_list_keeps}
+use Rattle.vortex_meaning.proofs.Stepwise.{step_keeps, runs_keep}
 
 module _ {V O : Type 0} (m : Meaning V O) where
   -- the tree has a type

@@ -7,7 +7,9 @@ use Rattle.vortex_meaning.specs.Outcomes.{Outcome, gives, faults, Fault, GivesVa
 use Rattle.vortex_meaning.specs.Meaning.{Meaning}
 use Rattle.vortex_meaning.specs.Functions.{Function, function_means}
 use Rattle.vortex_meaning.specs.Trees.{Tree, leaf, constant, call, Trees, no_trees, tree}
-use Rattle.vortex_meaning.specs.Eval.{Inputs, all_give, one_faults, with_first, then_means, tree_types, types_or_none, eval, eval_all, AllSettled, IsFirstFault, IsFirstFaultIn}
+use Rattle.vortex_meaning.specs.Eval.{Inputs, all_give, one_faults, with_first, then_means}
+use Rattle.vortex_meaning.specs.Eval.{tree_types, types_or_none, eval, eval_all, AllSettled}
+use Rattle.vortex_meaning.specs.Eval.{IsFirstFault, IsFirstFaultIn}
 use Rattle.vortex_meaning.specs.Running.{FaultsSomewhere}
 
 pub no_value_faults : (x : Outcome) (f : Fault) → x ≡ faults f → (v : Value) → x ≡ gives v → ⊥

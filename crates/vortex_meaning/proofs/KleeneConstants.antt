@@ -1,7 +1,8 @@
 -- And and Or of a truth value that decides, and of one that does not.
 use Rattle.std.proofs.Common.{◌≡◌, Bool, true, false, Option, Some, None, refl, ap}
 use Rattle.vortex_types.specs.LogicalTypes.{bool_type}
-use Rattle.vortex_types.specs.Values.{Value, null, truth, number, text, bytes, list, truth_of, truth_or_null}
+use Rattle.vortex_types.specs.Values.{Value, null, truth, number, text, bytes, list, truth_of}
+use Rattle.vortex_types.specs.Values.{truth_or_null}
 use Rattle.vortex_types.specs.Typing.{HasType}
 use Rattle.vortex_operators.specs.declared.operators.Operator.{Operator}
 use Rattle.vortex_operators.specs.declared.operators.Operator.TheVariants.{And, Or}

@@ -1,6 +1,7 @@
 -- Rewrites at places, steps and runs of a rule that makes trees lighter make them lighter, so there
 -- are fewer of them than the weight of the tree.
-use Rattle.std.proofs.Common.{◌≡◌, ℕ, zero, suc, ◌+◌, ◌<◌, ◌≤◌, List, [], ◌∷◌, Option, Some, None, refl, ap, ◌∙◌, subst, inl, inr, arith}
+use Rattle.std.proofs.Common.{◌≡◌, ℕ, zero, suc, ◌+◌, ◌<◌, ◌≤◌, List, [], ◌∷◌, Option, Some, None}
+use Rattle.std.proofs.Common.{refl, ap, ◌∙◌, subst, inl, inr, arith}
 use Rattle.std.specs.Prelude.{◌⊎◌, slice_get, slice_set}
 use Rattle.std.specs.Option.{option_and_then, option_or}
 use Rattle.vortex_types.specs.LogicalTypes.{LogicalType}
@@ -9,13 +10,15 @@ use Rattle.vortex_meaning.specs.Functions.{Function, call_type}
 use Rattle.vortex_meaning.specs.Trees.{Tree, call, trees_of}
 use Rattle.vortex_meaning.specs.Eval.{tree_type}
 use Rattle.vortex_meaning.specs.Rules.{may_be_null}
-use Rattle.vortex_meaning.specs.Weights.{added, weight, weights, OnlyShipped, AllShipped, IsLighter, Lightens}
+use Rattle.vortex_meaning.specs.Weights.{added, weight, weights, OnlyShipped, AllShipped, IsLighter}
+use Rattle.vortex_meaning.specs.Weights.{Lightens}
 use Rattle.vortex_meaning.specs.Places.{rewritten, rewritten_list}
 use Rattle.vortex_meaning.specs.Driver.{step, Runs}
 use Rattle.vortex_meaning.proofs.RuleAnswers.{first_there}
 use Rattle.vortex_meaning.proofs.TypedCalls.{types_with}
 use Rattle.vortex_meaning.proofs.Weighed.{weight_positive}
-use Rattle.vortex_meaning.proofs.Stepwise.{GoesOver, Keeps, rewritten_keeps, rewritten_list_keeps, step_keeps, runs_keep}
+use Rattle.vortex_meaning.proofs.Stepwise.{GoesOver, Keeps, rewritten_keeps, rewritten_list_keeps}
+use Rattle.vortex_meaning.proofs.Stepwise.{step_keeps, runs_keep}
 use Rattle.vortex_meaning.proofs.Driving.{IsWellTyped, child_typed}
 
 module _ {V O : Type 0} (m : Meaning V O) where

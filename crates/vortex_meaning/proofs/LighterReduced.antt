@@ -1,6 +1,7 @@
 -- Reduce makes trees of shipped functions lighter, whatever the rules of other functions, and so
 -- does the rule for expressions.
-use Rattle.std.proofs.Common.{◌≡◌, ◌+◌, ◌≤◌, Bool, true, false, Option, Some, None, refl, sym, ap, ◌∙◌, subst, inl, inr, arith}
+use Rattle.std.proofs.Common.{◌≡◌, ◌+◌, ◌≤◌, Bool, true, false, Option, Some, None, refl, sym, ap}
+use Rattle.std.proofs.Common.{◌∙◌, subst, inl, inr, arith}
 use Rattle.std.specs.Prelude.{◌||◌, ◌⊎◌, if◌then◌else◌}
 use Rattle.std.specs.Option.{option_map, option_or}
 use Rattle.vortex_types.specs.LogicalTypes.{LogicalType, bool_type}
@@ -9,17 +10,24 @@ use Rattle.vortex_operators.specs.declared.operators.Operator.TheVariants.{And, 
 use Rattle.vortex_operators.specs.Operators.{is_boolean}
 use Rattle.vortex_meaning.specs.Meaning.{Meaning, Lawful}
 use Rattle.vortex_meaning.specs.Arguments.{or_either}
-use Rattle.vortex_meaning.specs.Shipped.{Shipped, Binary, Not, IsNull, IsNotNull, Cast, Between, Like}
+use Rattle.vortex_meaning.specs.Shipped.{Shipped, Binary, Not, IsNull, IsNotNull, Cast, Between}
+use Rattle.vortex_meaning.specs.Shipped.{Like}
 use Rattle.vortex_meaning.specs.Functions.{ours, custom}
 use Rattle.vortex_meaning.specs.Trees.{Tree, leaf, constant, call, Trees, no_trees, tree}
 use Rattle.vortex_meaning.specs.Eval.{tree_type}
 use Rattle.vortex_meaning.specs.ComparisonTrees.{negated, operated}
-use Rattle.vortex_meaning.specs.Rules.{Rules, no_rules, truth_constant, is_null_of, is_not_null_of, constant_truth, decides, may_be_null, is_nullable_tree, widened}
+use Rattle.vortex_meaning.specs.Rules.{Rules, no_rules, truth_constant, is_null_of, is_not_null_of}
+use Rattle.vortex_meaning.specs.Rules.{constant_truth, decides, may_be_null, is_nullable_tree}
+use Rattle.vortex_meaning.specs.Rules.{widened}
 use Rattle.vortex_meaning.specs.ValidityRules.{validity}
-use Rattle.vortex_meaning.specs.ReduceRules.{nullable_first, by_nullability, is_null_within, is_not_null_within, reduce_is_null, reduce_is_not_null, of_constants, reduce_boolean, reduce_operator, reduce_shipped, reduce}
+use Rattle.vortex_meaning.specs.ReduceRules.{nullable_first, by_nullability, is_null_within}
+use Rattle.vortex_meaning.specs.ReduceRules.{is_not_null_within, reduce_is_null, reduce_is_not_null}
+use Rattle.vortex_meaning.specs.ReduceRules.{of_constants, reduce_boolean, reduce_operator}
+use Rattle.vortex_meaning.specs.ReduceRules.{reduce_shipped, reduce}
 use Rattle.vortex_meaning.specs.SimplifyRules.{simplify}
 use Rattle.vortex_meaning.specs.Driver.{simplify_or_reduce}
-use Rattle.vortex_meaning.specs.Weights.{operator_added, shipped_added, weight, OnlyShipped, AllShipped, Lightens}
+use Rattle.vortex_meaning.specs.Weights.{operator_added, shipped_added, weight, OnlyShipped}
+use Rattle.vortex_meaning.specs.Weights.{AllShipped, Lightens}
 use Rattle.vortex_meaning.proofs.RuleAnswers.{some_is, first_there, mapped}
 use Rattle.vortex_meaning.proofs.TypedCalls.{only_child_type, type_of_one}
 use Rattle.vortex_meaning.proofs.BooleanCalls.{bool_call}

@@ -2,14 +2,19 @@
 use Rattle.std.proofs.Common.{◌≡◌, Bool, Option, Some, None, refl, ◌∙◌, subst, arith}
 use Rattle.std.specs.Prelude.{◌&&◌, ◌||◌}
 use Rattle.vortex_operators.specs.declared.operators.Operator.{Operator}
-use Rattle.vortex_operators.specs.declared.operators.Operator.TheVariants.{Eq, NotEq, Gt, Gte, Lt, Lte, And, Or, Add, Sub, Mul, Div}
+use Rattle.vortex_operators.specs.declared.operators.Operator.TheVariants.{Eq, NotEq, Gt, Gte, Lt}
+use Rattle.vortex_operators.specs.declared.operators.Operator.TheVariants.{Lte, And, Or, Add, Sub}
+use Rattle.vortex_operators.specs.declared.operators.Operator.TheVariants.{Mul, Div}
 use Rattle.vortex_meaning.specs.Meaning.{Meaning, Lawful}
-use Rattle.vortex_meaning.specs.Shipped.{Shipped, Binary, Not, IsNull, IsNotNull, Cast, Between, Like}
+use Rattle.vortex_meaning.specs.Shipped.{Shipped, Binary, Not, IsNull, IsNotNull, Cast, Between}
+use Rattle.vortex_meaning.specs.Shipped.{Like}
 use Rattle.vortex_meaning.specs.Functions.{ours, custom}
 use Rattle.vortex_meaning.specs.Trees.{Tree, leaf, constant, call, Trees, no_trees, tree}
 use Rattle.vortex_meaning.specs.ComparisonTrees.{operated}
 use Rattle.vortex_meaning.specs.Rules.{Rules, no_rules, constant_truth, decides, is_nullable_tree}
-use Rattle.vortex_meaning.specs.SimplifyRules.{is_null_literal, simplify_comparison, decided, left_of_nulls, undecided, simplify_operands, simplify_operator, simplify_shipped, simplify}
+use Rattle.vortex_meaning.specs.SimplifyRules.{is_null_literal, simplify_comparison, decided}
+use Rattle.vortex_meaning.specs.SimplifyRules.{left_of_nulls, undecided, simplify_operands}
+use Rattle.vortex_meaning.specs.SimplifyRules.{simplify_operator, simplify_shipped, simplify}
 use Rattle.vortex_meaning.specs.Weights.{OnlyShipped, AllShipped, Lightens}
 use Rattle.vortex_meaning.proofs.RuleAnswers.{first_there, answer_if, answer_unless}
 use Rattle.vortex_meaning.proofs.Validities.{no_rules_lawful}

@@ -1,6 +1,7 @@
 -- Null tests that need not compute their child: of a child that is never null, one whose validity
 -- is a tree, and And or Or with one nullable operand.
-use Rattle.std.proofs.Common.{◌≡◌, ℕ, Bool, true, false, not, List, [], ◌∷◌, Option, Some, None, refl, sym, ap, ◌∙◌, subst}
+use Rattle.std.proofs.Common.{◌≡◌, ℕ, Bool, true, false, not, List, [], ◌∷◌, Option, Some, None}
+use Rattle.std.proofs.Common.{refl, sym, ap, ◌∙◌, subst}
 use Rattle.vortex_types.specs.LogicalTypes.{LogicalType, bool_type, is_nullable}
 use Rattle.vortex_types.specs.Values.{Value, truth, is_null, truth_of, truth_or_null}
 use Rattle.vortex_columns.specs.ColumnView.{ColumnView}
@@ -16,14 +17,17 @@ use Rattle.vortex_meaning.specs.Functions.{ours, call_type}
 use Rattle.vortex_meaning.specs.Trees.{Tree, call, no_trees, tree}
 use Rattle.vortex_meaning.specs.Eval.{types_or_none, tree_type, tree_types, eval}
 use Rattle.vortex_meaning.specs.ComparisonTrees.{negated, operated}
-use Rattle.vortex_meaning.specs.Rules.{truth_constant, is_null_of, is_not_null_of, may_be_null, is_nullable_tree}
-use Rattle.vortex_meaning.specs.ReduceRules.{nullable_first, by_nullability, is_null_within, is_not_null_within}
+use Rattle.vortex_meaning.specs.Rules.{truth_constant, is_null_of, is_not_null_of, may_be_null}
+use Rattle.vortex_meaning.specs.Rules.{is_nullable_tree}
+use Rattle.vortex_meaning.specs.ReduceRules.{nullable_first, by_nullability, is_null_within}
+use Rattle.vortex_meaning.specs.ReduceRules.{is_not_null_within}
 use Rattle.vortex_meaning.specs.Rewrites.{HasRow, AsksNoMore, Rewrites, IsValidityOf}
 use Rattle.vortex_meaning.proofs.TypedCalls.{type_of_one, type_of_two, one_value, eval_one}
 use Rattle.vortex_meaning.proofs.TypedValues.{value_typed, never_null}
 use Rattle.vortex_meaning.proofs.Rewriting.{asks_same, asks_nothing}
 use Rattle.vortex_meaning.proofs.KleeneConstants.{truth_back, truth_in, kleene_turned}
-use Rattle.vortex_meaning.proofs.BooleanCalls.{bool_call, bool_values, eval_bool, asks_left, asks_right}
+use Rattle.vortex_meaning.proofs.BooleanCalls.{bool_call, bool_values, eval_bool, asks_left}
+use Rattle.vortex_meaning.proofs.BooleanCalls.{asks_right}
 use Rattle.vortex_meaning.proofs.RuleAnswers.{mapped, not_not}
 
 -- a null test by what it says of a value

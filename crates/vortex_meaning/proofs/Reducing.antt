@@ -12,19 +12,29 @@ use Rattle.vortex_operators.specs.OperatorValues.{boolean_value}
 use Rattle.vortex_operators.specs.Kleene.{kleene}
 use Rattle.vortex_meaning.specs.Outcomes.{gives}
 use Rattle.vortex_meaning.specs.Meaning.{Meaning, Lawful}
-use Rattle.vortex_meaning.specs.Shipped.{Shipped, Binary, Not, IsNull, IsNotNull, Cast, Between, Like}
+use Rattle.vortex_meaning.specs.Shipped.{Shipped, Binary, Not, IsNull, IsNotNull, Cast, Between}
+use Rattle.vortex_meaning.specs.Shipped.{Like}
 use Rattle.vortex_meaning.specs.Functions.{ours, custom}
 use Rattle.vortex_meaning.specs.Trees.{Tree, leaf, constant, call, Trees, no_trees, tree}
 use Rattle.vortex_meaning.specs.Eval.{tree_type}
 use Rattle.vortex_meaning.specs.ComparisonTrees.{negated, operated}
-use Rattle.vortex_meaning.specs.Rules.{Rules, truth_constant, is_null_of, is_not_null_of, constant_truth, decides, may_be_null, is_nullable_tree, widened}
+use Rattle.vortex_meaning.specs.Rules.{Rules, truth_constant, is_null_of, is_not_null_of}
+use Rattle.vortex_meaning.specs.Rules.{constant_truth, decides, may_be_null, is_nullable_tree}
+use Rattle.vortex_meaning.specs.Rules.{widened}
 use Rattle.vortex_meaning.specs.ValidityRules.{validity}
-use Rattle.vortex_meaning.specs.ReduceRules.{table_constant, is_null_within, is_not_null_within, reduce_is_null, reduce_is_not_null, of_constants, reduce_boolean, reduce_operator, reduce_shipped, reduce}
+use Rattle.vortex_meaning.specs.ReduceRules.{table_constant, is_null_within, is_not_null_within}
+use Rattle.vortex_meaning.specs.ReduceRules.{reduce_is_null, reduce_is_not_null, of_constants}
+use Rattle.vortex_meaning.specs.ReduceRules.{reduce_boolean, reduce_operator, reduce_shipped}
+use Rattle.vortex_meaning.specs.ReduceRules.{reduce}
 use Rattle.vortex_meaning.specs.Rewrites.{Rewrites, LawfulRules}
 use Rattle.vortex_meaning.proofs.TypedCalls.{only_child_type}
-use Rattle.vortex_meaning.proofs.BooleanCalls.{IsBoolCall, bool_call, bool_values, constant_given, left_decided, right_decided, left_undecided, right_undecided}
+use Rattle.vortex_meaning.proofs.BooleanCalls.{IsBoolCall, bool_call, bool_values, constant_given}
+use Rattle.vortex_meaning.proofs.BooleanCalls.{left_decided, right_decided, left_undecided}
+use Rattle.vortex_meaning.proofs.BooleanCalls.{right_undecided}
 use Rattle.vortex_meaning.proofs.Validities.{validity_sound}
-use Rattle.vortex_meaning.proofs.NullTestRules.{is_null_within_sound, is_not_null_within_sound, never_null_is_null, never_null_is_not_null, is_null_by_validity, is_not_null_by_validity}
+use Rattle.vortex_meaning.proofs.NullTestRules.{is_null_within_sound, is_not_null_within_sound}
+use Rattle.vortex_meaning.proofs.NullTestRules.{never_null_is_null, never_null_is_not_null}
+use Rattle.vortex_meaning.proofs.NullTestRules.{is_null_by_validity, is_not_null_by_validity}
 use Rattle.vortex_meaning.proofs.RuleAnswers.{some_is, gives_is, first_there, mapped}
 
 table_typed : (op : Operator) (n a b : Bool) → is_boolean op ≡ true

@@ -7,7 +7,8 @@ use Rattle.vortex_columns.specs.ColumnView.{ColumnView}
 use Rattle.vortex_meaning.specs.Meaning.{Meaning}
 use Rattle.vortex_meaning.specs.Functions.{Function, function_means, call_type}
 use Rattle.vortex_meaning.specs.Trees.{Tree, call, Trees, tree, trees_of}
-use Rattle.vortex_meaning.specs.Eval.{all_give, with_first, then_means, types_or_none, with_type, tree_types, eval, eval_all}
+use Rattle.vortex_meaning.specs.Eval.{all_give, with_first, then_means, types_or_none, with_type}
+use Rattle.vortex_meaning.specs.Eval.{tree_types, eval, eval_all}
 use Rattle.vortex_meaning.specs.Execution.{AllLeavesFit}
 use Rattle.vortex_meaning.specs.Rules.{truth_constant}
 use Rattle.vortex_meaning.specs.Rewrites.{AllHaveRow, AsksNoMore, Rewrites}

@@ -1,14 +1,17 @@
 -- What executing a rewritten tree answers: the old tree's column, where that has one.
-use Rattle.std.proofs.Common.{◌≡◌, ℕ, zero, suc, ◌<◌, Bool, true, false, List, [], ◌∷◌, length, Option, Some, None, refl, sym, ◌∙◌, subst, arith, nat_eq}
+use Rattle.std.proofs.Common.{◌≡◌, ℕ, zero, suc, ◌<◌, Bool, true, false, List, [], ◌∷◌, length}
+use Rattle.std.proofs.Common.{Option, Some, None, refl, sym, ◌∙◌, subst, arith, nat_eq}
 use Rattle.std.specs.Prelude.{All, slice_get, if◌then◌else◌}
 use Rattle.std.proofs.lemmas.Option.{get_or_from_slice_get, slice_get_within}
 use Rattle.vortex_types.specs.LogicalTypes.{LogicalType}
 use Rattle.vortex_types.specs.Typing.{HasType}
 use Rattle.vortex_columns.specs.ColumnView.{ColumnView, row, AreTyped}
 use Rattle.vortex_meaning.specs.Meaning.{Meaning}
-use Rattle.vortex_meaning.specs.Trees.{Leaf, place, held, Tree, leaf, constant, call, Trees, no_trees, tree}
+use Rattle.vortex_meaning.specs.Trees.{Leaf, place, held, Tree, leaf, constant, call, Trees}
+use Rattle.vortex_meaning.specs.Trees.{no_trees, tree}
 use Rattle.vortex_meaning.specs.Eval.{HasTreeRows, rows_or_none}
-use Rattle.vortex_meaning.specs.Execution.{LeafFits, LeavesFit, AllLeavesFit, other_length, Executes}
+use Rattle.vortex_meaning.specs.Execution.{LeafFits, LeavesFit, AllLeavesFit, other_length}
+use Rattle.vortex_meaning.specs.Execution.{Executes}
 use Rattle.vortex_meaning.specs.Rewrites.{LeafHasRow, HasRow, AllHaveRow, Rewrites, IsSound}
 use Rattle.vortex_meaning.specs.Made.{IsMadeLeaf, IsMade, AllMade}
 use Rattle.vortex_meaning.specs.Places.{rewritten_list}

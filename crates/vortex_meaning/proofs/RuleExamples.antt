@@ -4,7 +4,8 @@ use Rattle.vortex_types.specs.declared.dtype.PType.TheVariants.{I32}
 use Rattle.vortex_types.specs.LogicalTypes.{null_type, bool_type, integer_type, text_type}
 use Rattle.vortex_types.specs.Values.{null, truth}
 use Rattle.vortex_columns.specs.ColumnView.{ColumnView}
-use Rattle.vortex_columns.specs.ValidityView.{ValidityForm, non_nullable, all_valid, all_invalid, array}
+use Rattle.vortex_columns.specs.ValidityView.{ValidityForm, non_nullable, all_valid, all_invalid}
+use Rattle.vortex_columns.specs.ValidityView.{array}
 use Rattle.vortex_operators.specs.declared.operators.Operator.TheVariants.{Eq, And, Or, Add}
 use Rattle.vortex_like.specs.declared.options.LikeOptions.{LikeOptions}
 use Rattle.vortex_operators.specs.declared.between.BetweenOptions.{BetweenOptions}

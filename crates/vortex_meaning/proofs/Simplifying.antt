@@ -1,5 +1,6 @@
 -- What Simplify answers is a rewrite.
-use Rattle.std.proofs.Common.{◌≡◌, ℕ, Bool, true, false, List, [], ◌∷◌, Option, Some, None, refl, sym, ap, ◌∙◌, subst, inl, inr, cond}
+use Rattle.std.proofs.Common.{◌≡◌, ℕ, Bool, true, false, List, [], ◌∷◌, Option, Some, None, refl}
+use Rattle.std.proofs.Common.{sym, ap, ◌∙◌, subst, inl, inr, cond}
 use Rattle.std.specs.Prelude.{◌||◌, ◌&&◌, ◌⊎◌}
 use Rattle.vortex_types.specs.LogicalTypes.{LogicalType, bool_type, is_nullable}
 use Rattle.vortex_types.specs.TypeEquality.{alike_types}
@@ -8,26 +9,37 @@ use Rattle.vortex_types.specs.Order.{compare_values}
 use Rattle.vortex_types.proofs.NullValues.{null_is}
 use Rattle.vortex_columns.specs.ColumnView.{ColumnView}
 use Rattle.vortex_operators.specs.declared.operators.Operator.{Operator}
-use Rattle.vortex_operators.specs.declared.operators.Operator.TheVariants.{Eq, NotEq, Gt, Gte, Lt, Lte, And, Or, Add, Sub, Mul, Div}
+use Rattle.vortex_operators.specs.declared.operators.Operator.TheVariants.{Eq, NotEq, Gt, Gte, Lt}
+use Rattle.vortex_operators.specs.declared.operators.Operator.TheVariants.{Lte, And, Or, Add, Sub}
+use Rattle.vortex_operators.specs.declared.operators.Operator.TheVariants.{Mul, Div}
 use Rattle.vortex_operators.specs.declared.operators.CompareOperator.{CompareOperator}
 use Rattle.vortex_operators.specs.declared.operators.CompareOperator.TheVariants as compare
 use Rattle.vortex_operators.specs.Operators.{is_boolean, operator_of}
-use Rattle.vortex_operators.specs.OperatorValues.{boolean_value, comparison_value, comparison_type, holds}
+use Rattle.vortex_operators.specs.OperatorValues.{boolean_value, comparison_value, comparison_type}
+use Rattle.vortex_operators.specs.OperatorValues.{holds}
 use Rattle.vortex_meaning.specs.Outcomes.{gives}
 use Rattle.vortex_meaning.specs.Meaning.{Meaning, Lawful}
 use Rattle.vortex_meaning.specs.Arguments.{or_either}
-use Rattle.vortex_meaning.specs.Shipped.{Shipped, Binary, Not, IsNull, IsNotNull, Cast, Between, Like}
-use Rattle.vortex_meaning.specs.Shipped.BinaryFunction.{compared_type, operator_type, operator_means}
+use Rattle.vortex_meaning.specs.Shipped.{Shipped, Binary, Not, IsNull, IsNotNull, Cast, Between}
+use Rattle.vortex_meaning.specs.Shipped.{Like}
+use Rattle.vortex_meaning.specs.Shipped.BinaryFunction.{compared_type, operator_type}
+use Rattle.vortex_meaning.specs.Shipped.BinaryFunction.{operator_means}
 use Rattle.vortex_meaning.specs.Functions.{ours, custom}
 use Rattle.vortex_meaning.specs.Trees.{Tree, leaf, constant, call, Trees, no_trees, tree}
 use Rattle.vortex_meaning.specs.Eval.{types_or_none, tree_type, tree_types, eval}
 use Rattle.vortex_meaning.specs.ComparisonTrees.{operated, compared}
 use Rattle.vortex_meaning.specs.Rules.{Rules, constant_truth, decides, is_nullable_tree}
-use Rattle.vortex_meaning.specs.SimplifyRules.{is_null_scalar, is_null_literal, simplify_comparison, decided, left_of_nulls, undecided, simplify_operands, simplify_boolean, simplify_operator, simplify_shipped, simplify}
+use Rattle.vortex_meaning.specs.SimplifyRules.{is_null_scalar, is_null_literal, simplify_comparison}
+use Rattle.vortex_meaning.specs.SimplifyRules.{decided, left_of_nulls, undecided, simplify_operands}
+use Rattle.vortex_meaning.specs.SimplifyRules.{simplify_boolean, simplify_operator}
+use Rattle.vortex_meaning.specs.SimplifyRules.{simplify_shipped, simplify}
 use Rattle.vortex_meaning.specs.Rewrites.{Rewrites, LawfulRules}
 use Rattle.vortex_meaning.proofs.TypedCalls.{two_types, typed_call, two_values}
-use Rattle.vortex_meaning.proofs.BooleanCalls.{IsBoolCall, bool_call, bool_values, asks_left, left_decided, right_decided, left_undecided, right_undecided}
-use Rattle.vortex_meaning.proofs.RuleAnswers.{first_there, answer_if, answer_unless, both_true, either_true}
+use Rattle.vortex_meaning.proofs.BooleanCalls.{IsBoolCall, bool_call, bool_values, asks_left}
+use Rattle.vortex_meaning.proofs.BooleanCalls.{left_decided, right_decided, left_undecided}
+use Rattle.vortex_meaning.proofs.BooleanCalls.{right_undecided}
+use Rattle.vortex_meaning.proofs.RuleAnswers.{first_there, answer_if, answer_unless, both_true}
+use Rattle.vortex_meaning.proofs.RuleAnswers.{either_true}
 use Rattle.vortex_types.specs.ScalarView.{ScalarView}
 use Rattle.vortex_types.specs.Typing.{HasType}
 use Rattle.vortex_types.proofs.NullValues.{not_null}

@@ -1,11 +1,13 @@
 -- What each rewrite by a rule keeps is kept by rewrites at places, by lists of them, by steps and
 -- by runs.
-use Rattle.std.proofs.Common.{◌≡◌, ℕ, zero, suc, ◌+◌, List, [], ◌∷◌, Option, Some, None, refl, sym, ap, ◌∙◌, subst, arith}
+use Rattle.std.proofs.Common.{◌≡◌, ℕ, zero, suc, ◌+◌, List, [], ◌∷◌, Option, Some, None, refl, sym}
+use Rattle.std.proofs.Common.{ap, ◌∙◌, subst, arith}
 use Rattle.std.specs.Prelude.{slice_get, slice_set}
 use Rattle.std.specs.Option.{option_map}
 use Rattle.vortex_meaning.specs.Functions.{Function}
 use Rattle.vortex_meaning.specs.Trees.{Tree, leaf, constant, call, trees_of, list_of, children_of}
-use Rattle.vortex_meaning.specs.Places.{with_child, rewritten, one_more, then_others, rewritten_list}
+use Rattle.vortex_meaning.specs.Places.{with_child, rewritten, one_more, then_others}
+use Rattle.vortex_meaning.specs.Places.{rewritten_list}
 use Rattle.vortex_meaning.specs.Driver.{step, Runs}
 use Rattle.vortex_meaning.proofs.RuleAnswers.{mapped}
 use Rattle.vortex_meaning.proofs.TypedCalls.{and_then_some}

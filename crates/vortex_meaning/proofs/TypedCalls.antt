@@ -1,5 +1,6 @@
 -- The types and the outcomes of calls, taken apart and put together.
-use Rattle.std.proofs.Common.{◌≡◌, ℕ, zero, suc, true, List, [], ◌∷◌, length, Option, Some, None, refl, ap, ◌∙◌, subst}
+use Rattle.std.proofs.Common.{◌≡◌, ℕ, zero, suc, true, List, [], ◌∷◌, length, Option, Some, None}
+use Rattle.std.proofs.Common.{refl, ap, ◌∙◌, subst}
 use Rattle.std.specs.Prelude.{slice_get, slice_set}
 use Rattle.std.specs.Option.{option_and_then}
 use Rattle.vortex_types.specs.LogicalTypes.{LogicalType}
@@ -7,9 +8,12 @@ use Rattle.vortex_types.specs.Values.{Value}
 use Rattle.vortex_columns.specs.ColumnView.{ColumnView}
 use Rattle.vortex_meaning.specs.Outcomes.{Outcome, gives, faults}
 use Rattle.vortex_meaning.specs.Meaning.{Meaning, fits}
-use Rattle.vortex_meaning.specs.Functions.{Function, function_arity, function_type, function_means, call_type}
+use Rattle.vortex_meaning.specs.Functions.{Function, function_arity, function_type, function_means}
+use Rattle.vortex_meaning.specs.Functions.{call_type}
 use Rattle.vortex_meaning.specs.Trees.{Tree, call, Trees, no_trees, tree, trees_of}
-use Rattle.vortex_meaning.specs.Eval.{Inputs, all_give, one_faults, with_first, then_means, types_or_none, with_type, tree_type, tree_types, eval, eval_all}
+use Rattle.vortex_meaning.specs.Eval.{Inputs, all_give, one_faults, with_first, then_means}
+use Rattle.vortex_meaning.specs.Eval.{types_or_none, with_type, tree_type, tree_types, eval}
+use Rattle.vortex_meaning.specs.Eval.{eval_all}
 use Rattle.vortex_meaning.proofs.RuleAnswers.{guarded}
 
 pub and_then_some : {A B : Type 0} (f : A → Option B) (o : Option A) (y : B)

@@ -10,9 +10,12 @@ use Rattle.vortex_columns.specs.ColumnView.{ColumnView}
 use Rattle.vortex_meaning.specs.Outcomes.{Outcome, gives, GivesType, GivesNull}
 use Rattle.vortex_meaning.specs.Meaning.{Meaning, Lawful, HaveTypes, AreAlike}
 use Rattle.vortex_meaning.specs.Shipped.{row_lawful}
-use Rattle.vortex_meaning.specs.Functions.{Function, ours, custom, function_type, function_means, function_strict}
-use Rattle.vortex_meaning.specs.Trees.{Leaf, place, held, Tree, leaf, constant, call, Trees, no_trees, tree}
-use Rattle.vortex_meaning.specs.Eval.{all_give, leaf_type, leaf_value, tree_type, tree_types, eval, eval_all}
+use Rattle.vortex_meaning.specs.Functions.{Function, ours, custom, function_type, function_means}
+use Rattle.vortex_meaning.specs.Functions.{function_strict}
+use Rattle.vortex_meaning.specs.Trees.{Leaf, place, held, Tree, leaf, constant, call, Trees}
+use Rattle.vortex_meaning.specs.Trees.{no_trees, tree}
+use Rattle.vortex_meaning.specs.Eval.{all_give, leaf_type, leaf_value, tree_type, tree_types, eval}
+use Rattle.vortex_meaning.specs.Eval.{eval_all}
 use Rattle.vortex_meaning.specs.Rewrites.{HasRow, AllHaveRow, LeafHasRow}
 use Rattle.vortex_meaning.proofs.TypedCalls.{types_parts, values_parts, typed_call, call_value}
 

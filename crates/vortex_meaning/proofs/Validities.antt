@@ -1,35 +1,52 @@
 -- The validity of a node says in which rows it is null.
-use Rattle.std.proofs.Common.{◌≡◌, ℕ, suc, ◌<◌, Bool, true, false, not, List, [], ◌∷◌, length, Option, Some, None, refl, sym, ap, ◌∙◌, subst, arith}
+use Rattle.std.proofs.Common.{◌≡◌, ℕ, suc, ◌<◌, Bool, true, false, not, List, [], ◌∷◌, length}
+use Rattle.std.proofs.Common.{Option, Some, None, refl, sym, ap, ◌∙◌, subst, arith}
 use Rattle.std.specs.Prelude.{◌&&◌, if◌then◌else◌, Any}
 use Rattle.std.specs.List.{list_any}
 use Rattle.std.proofs.lemmas.List.{get_or-map, length-map}
-use Rattle.vortex_types.specs.LogicalTypes.{LogicalType, null_type, bool_type, integer_type, text_type, bytes_type, struct_type, list_type, fixed_size_list_type, map_type, is_nullable, with_nullability, without_nullability}
-use Rattle.vortex_types.specs.Values.{Value, null, truth, number, text, bytes, list, value_count, is_null}
-use Rattle.vortex_types.specs.Typing.{HasType, OrNull, IsTruth, IsNumber, FitsPType, IsText, IsBytes, IsList, HaveFields, Each, IsPair}
+use Rattle.vortex_types.specs.LogicalTypes.{LogicalType, null_type, bool_type, integer_type}
+use Rattle.vortex_types.specs.LogicalTypes.{text_type, bytes_type, struct_type, list_type}
+use Rattle.vortex_types.specs.LogicalTypes.{fixed_size_list_type, map_type, is_nullable}
+use Rattle.vortex_types.specs.LogicalTypes.{with_nullability, without_nullability}
+use Rattle.vortex_types.specs.Values.{Value, null, truth, number, text, bytes, list, value_count}
+use Rattle.vortex_types.specs.Values.{is_null}
+use Rattle.vortex_types.specs.Typing.{HasType, OrNull, IsTruth, IsNumber, FitsPType, IsText}
+use Rattle.vortex_types.specs.Typing.{IsBytes, IsList, HaveFields, Each, IsPair}
 use Rattle.vortex_types.specs.ScalarView.{ScalarView}
 use Rattle.vortex_operators.specs.OperatorValues.{boolean_value}
 use Rattle.vortex_types.proofs.NullValues.{null_is, not_null}
 use Rattle.vortex_columns.specs.ColumnView.{ColumnView, row, FormTells}
-use Rattle.vortex_columns.specs.ValidityView.{ValidityForm, non_nullable, all_valid, all_invalid, array}
+use Rattle.vortex_columns.specs.ValidityView.{ValidityForm, non_nullable, all_valid, all_invalid}
+use Rattle.vortex_columns.specs.ValidityView.{array}
 use Rattle.vortex_operators.specs.declared.operators.Operator.TheVariants.{And}
 use Rattle.vortex_meaning.specs.Outcomes.{gives, GivesType, GivesNull}
 use Rattle.vortex_meaning.specs.Meaning.{Meaning, Lawful, HaveTypes, AreAlike}
 use Rattle.vortex_meaning.specs.Shipped.{Binary, IsNotNull}
-use Rattle.vortex_meaning.specs.Functions.{Function, ours, custom, function_type, function_means, function_strict}
-use Rattle.vortex_meaning.specs.Trees.{place, held, Tree, leaf, constant, call, Trees, no_trees, tree}
+use Rattle.vortex_meaning.specs.Functions.{Function, ours, custom, function_type, function_means}
+use Rattle.vortex_meaning.specs.Functions.{function_strict}
+use Rattle.vortex_meaning.specs.Trees.{place, held, Tree, leaf, constant, call, Trees, no_trees}
+use Rattle.vortex_meaning.specs.Trees.{tree}
 use Rattle.vortex_meaning.specs.Eval.{all_give, tree_type, tree_types, eval, eval_all}
 use Rattle.vortex_meaning.specs.Execution.{LeavesFit, AllLeavesFit}
 use Rattle.vortex_meaning.specs.ComparisonTrees.{operated}
-use Rattle.vortex_meaning.specs.Rules.{Rules, no_rules, truth_constant, is_not_null_of, may_be_null, is_nullable_tree}
-use Rattle.vortex_meaning.specs.ValidityRules.{validity_column, column_validity, is_null_type, without_null, null_tests, union_child_validities, validity_over, validity_of_typed, default_validity, default_rules, validity}
+use Rattle.vortex_meaning.specs.Rules.{Rules, no_rules, truth_constant, is_not_null_of, may_be_null}
+use Rattle.vortex_meaning.specs.Rules.{is_nullable_tree}
+use Rattle.vortex_meaning.specs.ValidityRules.{validity_column, column_validity, is_null_type}
+use Rattle.vortex_meaning.specs.ValidityRules.{without_null, null_tests, union_child_validities}
+use Rattle.vortex_meaning.specs.ValidityRules.{validity_over, validity_of_typed, default_validity}
+use Rattle.vortex_meaning.specs.ValidityRules.{default_rules, validity}
 use Rattle.vortex_meaning.specs.Bound.{OnlyPlaces, AllOnlyPlaces}
-use Rattle.vortex_meaning.specs.Rewrites.{HasTypedRow, HasRow, AllHaveRow, AsksNoMore, IsValidityOf, LawfulRules}
-use Rattle.vortex_meaning.proofs.TypedCalls.{types_parts, values_parts, typed_call, type_of_one, type_of_two, call_value, eval_one}
-use Rattle.vortex_meaning.proofs.TypedValues.{function_typed, function_alike, function_null, values_typed}
+use Rattle.vortex_meaning.specs.Rewrites.{HasTypedRow, HasRow, AllHaveRow, AsksNoMore, IsValidityOf}
+use Rattle.vortex_meaning.specs.Rewrites.{LawfulRules}
+use Rattle.vortex_meaning.proofs.TypedCalls.{types_parts, values_parts, typed_call, type_of_one}
+use Rattle.vortex_meaning.proofs.TypedCalls.{type_of_two, call_value, eval_one}
+use Rattle.vortex_meaning.proofs.TypedValues.{function_typed, function_alike, function_null}
+use Rattle.vortex_meaning.proofs.TypedValues.{values_typed}
 use Rattle.vortex_meaning.proofs.Rewriting.{asks_nothing}
 use Rattle.vortex_meaning.proofs.BooleanCalls.{eval_bool}
 use Rattle.vortex_meaning.proofs.JoinedByAnd.{AllSay, all_of_says}
-use Rattle.vortex_meaning.proofs.RuleAnswers.{gives_is, guarded, guarded_unless, answer_unless, not_not}
+use Rattle.vortex_meaning.proofs.RuleAnswers.{gives_is, guarded, guarded_unless, answer_unless}
+use Rattle.vortex_meaning.proofs.RuleAnswers.{not_not}
 
 -- no value is null
 abbrev pub none_null : List Value → Bool
@@ -156,10 +173,12 @@ module _ {V O : Type 0} (m : Meaning V O) where
       each_test (HasRow cs i) t (null_tests m ts) (is_nullable_tree m t) (h.0, tt)
       (tests_have_row cs i ts h.1)
 
-  tests_hold_none : (ts : Trees V O) → AllOnlyPlaces ts → AllSay (λ u p. OnlyPlaces u) (null_tests m ts) true
+  tests_hold_none : (ts : Trees V O) → AllOnlyPlaces ts
+      → AllSay (λ u p. OnlyPlaces u) (null_tests m ts) true
   tests_hold_none no_trees h = refl
   tests_hold_none (tree t ts) h =
-      each_test OnlyPlaces t (null_tests m ts) (is_nullable_tree m t) (h.0, tt) (tests_hold_none ts h.1)
+      each_test OnlyPlaces t (null_tests m ts) (is_nullable_tree m t) (h.0, tt)
+      (tests_hold_none ts h.1)
 
   -- in a row the tests say together that no child is null
   abbrev Says : List ColumnView → ℕ → Tree V O → Bool → Type 0

@@ -1,26 +1,35 @@
 -- The validity of a tree of shipped functions alone weighs no more than the tree.
-use Rattle.std.proofs.Common.{◌≡◌, suc, ◌+◌, ◌≤◌, Bool, true, false, not, List, [], ◌∷◌, length, Some, refl, sym, ap, ◌∙◌, subst, arith, nat_eq}
+use Rattle.std.proofs.Common.{◌≡◌, suc, ◌+◌, ◌≤◌, Bool, true, false, not, List, [], ◌∷◌, length}
+use Rattle.std.proofs.Common.{Some, refl, sym, ap, ◌∙◌, subst, arith, nat_eq}
 use Rattle.std.specs.Prelude.{if◌then◌else◌}
 use Rattle.std.specs.List.{list_any}
 use Rattle.vortex_types.specs.LogicalTypes.{LogicalType, bool_type}
 use Rattle.vortex_types.specs.Values.{is_null}
 use Rattle.vortex_columns.specs.ColumnView.{ColumnView}
-use Rattle.vortex_columns.specs.ValidityView.{ValidityForm, non_nullable, all_valid, all_invalid, array}
+use Rattle.vortex_columns.specs.ValidityView.{ValidityForm, non_nullable, all_valid, all_invalid}
+use Rattle.vortex_columns.specs.ValidityView.{array}
 use Rattle.vortex_operators.specs.declared.operators.Operator.{Operator}
 use Rattle.vortex_operators.specs.declared.operators.Operator.TheVariants.{And, Or}
 use Rattle.vortex_operators.specs.Operators.{is_boolean}
 use Rattle.vortex_meaning.specs.Meaning.{Meaning}
-use Rattle.vortex_meaning.specs.Shipped.{Shipped, Binary, Not, IsNull, IsNotNull, Cast, Between, Like, shipped_type, is_strict}
+use Rattle.vortex_meaning.specs.Shipped.{Shipped, Binary, Not, IsNull, IsNotNull, Cast, Between}
+use Rattle.vortex_meaning.specs.Shipped.{Like, shipped_type, is_strict}
 use Rattle.vortex_meaning.specs.Shipped.NotFunction.{not_type}
 use Rattle.vortex_meaning.specs.Shipped.CastFunction.{cast_type}
 use Rattle.vortex_meaning.specs.Functions.{ours, custom}
-use Rattle.vortex_meaning.specs.Trees.{place, held, Tree, leaf, constant, call, Trees, no_trees, tree, list_of}
+use Rattle.vortex_meaning.specs.Trees.{place, held, Tree, leaf, constant, call, Trees, no_trees}
+use Rattle.vortex_meaning.specs.Trees.{tree, list_of}
 use Rattle.vortex_meaning.specs.Eval.{tree_type, tree_types}
-use Rattle.vortex_meaning.specs.Rules.{Rules, truth_constant, is_not_null_of, may_be_null, is_nullable_tree}
-use Rattle.vortex_meaning.specs.ValidityRules.{column_validity, all_of, is_null_type, without_null, union_child_validities, validity_of_typed, default_validity, validity}
-use Rattle.vortex_meaning.specs.Weights.{operator_added, shipped_added, weight, OnlyShipped, AllShipped}
+use Rattle.vortex_meaning.specs.Rules.{Rules, truth_constant, is_not_null_of, may_be_null}
+use Rattle.vortex_meaning.specs.Rules.{is_nullable_tree}
+use Rattle.vortex_meaning.specs.ValidityRules.{column_validity, all_of, is_null_type, without_null}
+use Rattle.vortex_meaning.specs.ValidityRules.{union_child_validities, validity_of_typed}
+use Rattle.vortex_meaning.specs.ValidityRules.{default_validity, validity}
+use Rattle.vortex_meaning.specs.Weights.{operator_added, shipped_added, weight, OnlyShipped}
+use Rattle.vortex_meaning.specs.Weights.{AllShipped}
 use Rattle.vortex_meaning.proofs.RuleAnswers.{guarded, guarded_unless, answer_unless}
-use Rattle.vortex_meaning.proofs.TypedCalls.{types_parts, one_type, two_types, IsTypedCall, typed_call, type_of_one, type_of_two}
+use Rattle.vortex_meaning.proofs.TypedCalls.{types_parts, one_type, two_types, IsTypedCall}
+use Rattle.vortex_meaning.proofs.TypedCalls.{typed_call, type_of_one, type_of_two}
 use Rattle.vortex_meaning.proofs.Weighed.{weight_positive}
 
 -- an operator of no truth values adds five

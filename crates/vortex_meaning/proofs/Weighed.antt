@@ -5,9 +5,11 @@ use Rattle.vortex_operators.specs.declared.operators.Operator.TheVariants.{And, 
 use Rattle.vortex_meaning.specs.Meaning.{Meaning}
 use Rattle.vortex_meaning.specs.Shipped.{Shipped, Binary, Not}
 use Rattle.vortex_meaning.specs.Functions.{Function, ours, custom}
-use Rattle.vortex_meaning.specs.Trees.{Tree, leaf, constant, call, Trees, no_trees, tree, node_count, nodes_count}
+use Rattle.vortex_meaning.specs.Trees.{Tree, leaf, constant, call, Trees, no_trees, tree}
+use Rattle.vortex_meaning.specs.Trees.{node_count, nodes_count}
 use Rattle.vortex_meaning.specs.Rules.{is_nullable_tree}
-use Rattle.vortex_meaning.specs.Weights.{operator_added, shipped_added, added, weight, weights, weight_told}
+use Rattle.vortex_meaning.specs.Weights.{operator_added, shipped_added, added, weight, weights}
+use Rattle.vortex_meaning.specs.Weights.{weight_told}
 
 -- a call adds one to five
 abbrev IsSmall : ℕ → Type 0

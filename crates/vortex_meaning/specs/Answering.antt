@@ -8,10 +8,11 @@ use Rattle.vortex_columns.specs.ColumnView.{ColumnView}
 use Rattle.vortex_meaning.specs.Outcomes.{HasCallRows, IsCallFault}
 use Rattle.vortex_meaning.specs.Meaning.{Meaning}
 use Rattle.vortex_meaning.specs.Shipped.{Shipped, shipped_type, shipped_means}
-use Rattle.vortex_meaning.specs.Functions.{Function, function_type, function_means, RefusesShipped, RefusesCustom, RefusesTypes}
+use Rattle.vortex_meaning.specs.Functions.{Function, function_type, function_means, RefusesShipped}
+use Rattle.vortex_meaning.specs.Functions.{RefusesCustom, RefusesTypes}
 
--- A shipped function: the type of the answer, or E3, for which it takes no memory; and a column of that type with each row's
--- value, over inputs of so many rows, or the fault of a row.
+-- A shipped function: the type of the answer, or E3, for which it takes no memory; and a column of
+-- that type with each row's value, over inputs of so many rows, or the fault of a row.
 module _ (s : Shipped) where
   abbrev pub AnswersShippedType : List DType → Result DType VortexError → Type 0
   AnswersShippedType types result =

@@ -1,17 +1,23 @@
--- Arithmetic of two integers as an outcome of a row: null, the exact result, or the fault of the operator; and its laws.
-use Rattle.std.specs.Prelude.{◌≡◌, ◌⊎◌, ◌||◌, ◌≤ℤ◌, ℤ, int_lt, List, [], ◌∷◌, Option, Some, None, Bool, true, false, map, Any, refl}
+-- Arithmetic of two integers as an outcome of a row: null, the exact result, or the fault of the
+-- operator; and its laws.
+use Rattle.std.specs.Prelude.{◌≡◌, ◌⊎◌, ◌||◌, ◌≤ℤ◌, ℤ, int_lt, List, [], ◌∷◌, Option, Some, None}
+use Rattle.std.specs.Prelude.{Bool, true, false, map, Any, refl}
 use Rattle.std.specs.Option.{option_map}
 use Rattle.std.proofs.Common.{sym, ap, ◌∙◌, subst, cond, arith, inl, inr}
 use Rattle.std.proofs.lemmas.Int.{ints}
 use Rattle.vortex_checked.specs.Exact.{is_outside}
 use Rattle.vortex_types.specs.declared.dtype.PType.{PType}
 use Rattle.vortex_errors.specs.declared.error.NumericOperator.{NumericOperator}
-use Rattle.vortex_types.specs.LogicalTypes.{LogicalType, null_type, bool_type, integer_type, text_type, bytes_type, struct_type, list_type, fixed_size_list_type, map_type, is_nullable, without_nullability}
+use Rattle.vortex_types.specs.LogicalTypes.{LogicalType, null_type, bool_type, integer_type}
+use Rattle.vortex_types.specs.LogicalTypes.{text_type, bytes_type, struct_type, list_type}
+use Rattle.vortex_types.specs.LogicalTypes.{fixed_size_list_type, map_type, is_nullable}
+use Rattle.vortex_types.specs.LogicalTypes.{without_nullability}
 use Rattle.vortex_types.specs.TypeEquality.{ptype_eq, ptype_yes}
 use Rattle.vortex_types.specs.Typing.{HasType, least_of, greatest_of}
 use Rattle.vortex_types.specs.Values.{Value, null, truth, number, text, bytes, list}
 use Rattle.vortex_operators.specs.Arithmetic.{exact_result, held, arithmetic_value, integer_of_both}
-use Rattle.vortex_meaning.specs.Outcomes.{Outcome, gives, faults, Fault, arithmetic, GivesType, GivesNull}
+use Rattle.vortex_meaning.specs.Outcomes.{Outcome, gives, faults, Fault, arithmetic, GivesType}
+use Rattle.vortex_meaning.specs.Outcomes.{GivesNull}
 use Rattle.vortex_meaning.specs.Meaning.{HaveTypes, AreAlike}
 use Rattle.vortex_meaning.specs.Arguments.{either_of, or_either}
 
@@ -34,7 +40,8 @@ abbrev pub arithmetic_of : NumericOperator → Option PType → Value → Value 
 arithmetic_of o None v w = gives null
 arithmetic_of o (Some p) v w = value_or_fault o (arithmetic_value o p v w)
 
--- null where either is null, the exact result where the type holds it, and else the operator's fault
+-- null where either is null, the exact result where the type holds it, and else the operator's
+-- fault
 abbrev pub arithmetic_means : NumericOperator → List LogicalType → List Value → Outcome
 arithmetic_means o ts (v ∷ w ∷ []) = arithmetic_of o (integer_of ts) v w
 arithmetic_means o ts vs = gives null
@@ -179,7 +186,8 @@ gives_null o (Some p) v w (inr h) =
 -- null wherever a value is null
 pub arithmetic_null : (o : NumericOperator) (ts : List LogicalType) (vs : List Value)
     → Any (λ v. v ≡ null) vs → GivesNull (arithmetic_means o ts vs)
-arithmetic_null o ts (v ∷ w ∷ []) n = gives_null o (integer_of ts) v w (either_of (λ x. x ≡ null) v w n)
+arithmetic_null o ts (v ∷ w ∷ []) n = gives_null o (integer_of ts) v w
+    (either_of (λ x. x ≡ null) v w n)
 arithmetic_null o ts [] n = refl
 arithmetic_null o ts (v ∷ []) n = refl
 arithmetic_null o ts (v ∷ w ∷ x ∷ vs) n = refl

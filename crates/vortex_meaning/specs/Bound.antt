@@ -1,7 +1,8 @@
 -- Expressions: their leaves are places in a scope, and each constant has its type.
 use Rattle.std.specs.Prelude.{⊤}
 use Rattle.vortex_types.specs.Typing.{HasType}
-use Rattle.vortex_meaning.specs.Trees.{Leaf, place, held, Tree, leaf, constant, call, Trees, no_trees, tree}
+use Rattle.vortex_meaning.specs.Trees.{Leaf, place, held, Tree, leaf, constant, call, Trees}
+use Rattle.vortex_meaning.specs.Trees.{no_trees, tree}
 
 -- a place in a scope
 abbrev pub IsPlace : Leaf → Type 0

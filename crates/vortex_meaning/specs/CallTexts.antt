@@ -7,7 +7,8 @@ abbrev pub options_text : List ℕ → List ℕ
 options_text [] = []
 options_text options = codes ", opts=" ++ options
 
--- the text of a call, but for the functions that have their own: the identity, the arguments' texts and that of the options
+-- the text of a call, but for the functions that have their own: the identity, the arguments' texts
+-- and that of the options
 abbrev pub call_text : List ℕ → List ℕ → List (List ℕ) → List ℕ
 call_text id options texts =
     id ++ codes "(" ++ joined comma texts ++ options_text options ++ codes ")"

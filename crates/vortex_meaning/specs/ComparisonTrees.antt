@@ -4,12 +4,15 @@ use Rattle.std.proofs.Common.{ap, ◌∙◌, sym, subst, cond}
 use Rattle.vortex_types.specs.declared.dtype.PType.{PType}
 use Rattle.vortex_errors.specs.declared.error.NumericOperator.{NumericOperator}
 use Rattle.vortex_errors.specs.declared.error.NumericOperator.TheVariants as numeric
-use Rattle.vortex_types.specs.LogicalTypes.{LogicalType, null_type, bool_type, integer_type, text_type, bytes_type, struct_type, list_type, fixed_size_list_type, map_type, is_integer_type}
+use Rattle.vortex_types.specs.LogicalTypes.{LogicalType, null_type, bool_type, integer_type}
+use Rattle.vortex_types.specs.LogicalTypes.{text_type, bytes_type, struct_type, list_type}
+use Rattle.vortex_types.specs.LogicalTypes.{fixed_size_list_type, map_type, is_integer_type}
 use Rattle.vortex_types.specs.TypeEquality.{ptype_eq, ptype_yes, ptype_refl}
 use Rattle.vortex_types.specs.Values.{Value}
 use Rattle.vortex_columns.specs.ColumnView.{ColumnView}
 use Rattle.vortex_operators.specs.declared.operators.CompareOperator.{CompareOperator}
-use Rattle.vortex_operators.specs.declared.operators.CompareOperator.TheVariants.{Eq, NotEq, Gt, Gte, Lt, Lte}
+use Rattle.vortex_operators.specs.declared.operators.CompareOperator.TheVariants.{Eq, NotEq, Gt}
+use Rattle.vortex_operators.specs.declared.operators.CompareOperator.TheVariants.{Gte, Lt, Lte}
 use Rattle.vortex_operators.specs.declared.operators.Operator.{Operator}
 use Rattle.vortex_operators.specs.declared.operators.Operator.TheVariants as operator
 use Rattle.vortex_operators.specs.Arithmetic.{arithmetic_value, integer_of_both}
@@ -25,7 +28,8 @@ use Rattle.vortex_meaning.specs.Shipped.{Binary, Not}
 use Rattle.vortex_meaning.specs.Shipped.BinaryFunction.{operator_means}
 use Rattle.vortex_meaning.specs.Functions.{ours}
 use Rattle.vortex_meaning.specs.Trees.{Tree, call, no_trees, tree}
-use Rattle.vortex_meaning.specs.Eval.{eval, all_give, with_first, then_means, tree_type, tree_types, types_or_none, with_type}
+use Rattle.vortex_meaning.specs.Eval.{eval, all_give, with_first, then_means, tree_type, tree_types}
+use Rattle.vortex_meaning.specs.Eval.{types_or_none, with_type}
 
 -- a op b, and not a
 abbrev pub compared : {V O : Type 0} → CompareOperator → Tree V O → Tree V O → Tree V O
@@ -49,7 +53,8 @@ SameOrFault (gives v) (gives w) = v ≡ w
 SameOrFault (faults f) (faults g) = ⊤
 SameOrFault x y = ⊥
 
--- a op b and b swapped a have the same value or both fault, in every row, wherever op can be swapped
+-- a op b and b swapped a have the same value or both fault, in every row, wherever op can be
+-- swapped
 abbrev pub SwapTurns : {V O : Type 0} → Meaning V O → Type 0
 SwapTurns {V} {O} m =
     (op swapped : Operator) (a b : Tree V O) (cs : List ColumnView) (i : ℕ)
@@ -231,11 +236,13 @@ turned_pair op swapped e ts us same v w = by op swapped e (turned op swapped e)
         subst (Goal operator.Or) is same
     by operator.Add y e t =
         let is : operator.Add ≡ y = cc in
-        let sum = same_of numeric.Add (turned operator.Add operator.Add refl).results (integer_of ts) (integer_of us) v w same in
+        let sum = same_of numeric.Add (turned operator.Add operator.Add refl).results
+        (integer_of ts) (integer_of us) v w same in
         subst (Goal operator.Add) is sum
     by operator.Mul y e t =
         let is : operator.Mul ≡ y = cc in
-        let product = same_of numeric.Mul (turned operator.Mul operator.Mul refl).results (integer_of ts) (integer_of us) v w same in
+        let product = same_of numeric.Mul (turned operator.Mul operator.Mul refl).results
+        (integer_of ts) (integer_of us) v w same in
         subst (Goal operator.Mul) is product
     by operator.Sub y e t = cc
     by operator.Div y e t = cc

@@ -1,5 +1,6 @@
 -- What a tree means: its type, its outcome in each row, and the first fault over all rows.
-use Rattle.std.specs.Prelude.{◌≡◌, ℕ, ◌<◌, List, [], ◌∷◌, Option, Some, None, ⊤, ◌⊎◌, length, slice_get}
+use Rattle.std.specs.Prelude.{◌≡◌, ℕ, ◌<◌, List, [], ◌∷◌, Option, Some, None, ⊤, ◌⊎◌, length}
+use Rattle.std.specs.Prelude.{slice_get}
 use Rattle.std.specs.Option.{option_and_then}
 use Rattle.vortex_errors.specs.declared.error.VortexError.{VortexError}
 use Rattle.vortex_types.specs.LogicalTypes.{LogicalType}
@@ -8,7 +9,8 @@ use Rattle.vortex_columns.specs.ColumnView.{ColumnView, row}
 use Rattle.vortex_meaning.specs.Outcomes.{Outcome, gives, faults, Fault, GivesValue, IsRowFault}
 use Rattle.vortex_meaning.specs.Meaning.{Meaning}
 use Rattle.vortex_meaning.specs.Functions.{call_type, function_means}
-use Rattle.vortex_meaning.specs.Trees.{Leaf, place, held, Tree, leaf, constant, call, Trees, no_trees, tree}
+use Rattle.vortex_meaning.specs.Trees.{Leaf, place, held, Tree, leaf, constant, call, Trees}
+use Rattle.vortex_meaning.specs.Trees.{no_trees, tree}
 
 abbrev pub leaf_type : Leaf → LogicalType
 leaf_type (place p name t) = t
@@ -80,8 +82,9 @@ module _ {V O : Type 0} (m : Meaning V O) where
       AllSettled no_trees = ⊤
       AllSettled (tree t ts) = Settled t × AllSettled ts
 
-      -- The refusal tells a row's fault of the first call, children before their parent and from left to right, that faults in
-      -- some row in which its children have values. Where that is a caller's function, which of its rows is told stays open.
+      -- The refusal tells a row's fault of the first call, children before their parent and from
+      -- left to right, that faults in some row in which its children have values. Where that is a
+      -- caller's function, which of its rows is told stays open.
       abbrev mutual
         pub IsFirstFault : Tree V O → VortexError → Type 0
         IsFirstFault (leaf l) e = ⊥

@@ -1,11 +1,14 @@
 -- What executing an expression over columns answers.
-use Rattle.std.specs.Prelude.{◌≡◌, ℕ, List, [], ◌∷◌, Option, Some, None, ⊤, length, slice_get, nat_eq, if◌then◌else◌}
+use Rattle.std.specs.Prelude.{◌≡◌, ℕ, List, [], ◌∷◌, Option, Some, None, ⊤, length, slice_get}
+use Rattle.std.specs.Prelude.{nat_eq, if◌then◌else◌}
 use Rattle.vortex_errors.specs.declared.error.VortexError.{VortexError}
-use Rattle.vortex_errors.specs.declared.error.VortexError.TheVariants.{ScopeMismatch, LengthMismatch}
+use Rattle.vortex_errors.specs.declared.error.VortexError.TheVariants.{ScopeMismatch}
+use Rattle.vortex_errors.specs.declared.error.VortexError.TheVariants.{LengthMismatch}
 use Rattle.vortex_columns.specs.ColumnView.{ColumnView}
 use Rattle.vortex_meaning.specs.Meaning.{Meaning}
 use Rattle.vortex_meaning.specs.Eval.{HasTreeRows, IsFirstFault}
-use Rattle.vortex_meaning.specs.Trees.{Leaf, place, held, Tree, leaf, constant, call, Trees, no_trees, tree}
+use Rattle.vortex_meaning.specs.Trees.{Leaf, place, held, Tree, leaf, constant, call, Trees}
+use Rattle.vortex_meaning.specs.Trees.{no_trees, tree}
 
 -- the leaf's column is there, of the leaf's type
 abbrev pub LeafFits : List ColumnView → Leaf → Type 0

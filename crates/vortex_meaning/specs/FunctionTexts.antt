@@ -4,12 +4,14 @@ use Rattle.std.specs.Option.{option_map}
 use Rattle.vortex_operators.specs.Operators.{text_of}
 use Rattle.vortex_operators.specs.Between.{between_options_text}
 use Rattle.vortex_like.specs.Options as like
-use Rattle.vortex_meaning.specs.Shipped.{Shipped, Binary, Not, IsNull, IsNotNull, Cast, Between, Like}
+use Rattle.vortex_meaning.specs.Shipped.{Shipped, Binary, Not, IsNull, IsNotNull, Cast, Between}
+use Rattle.vortex_meaning.specs.Shipped.{Like}
 use Rattle.vortex_meaning.specs.Shipped.CastFunction.{cast_options_text}
 use Rattle.vortex_meaning.specs.Meaning.{Meaning}
 use Rattle.vortex_meaning.specs.Functions.{Function, ours, custom, function_id}
 
--- the text of the options: an operator's, the bounds, how a LIKE is meant, the type that Cast answers
+-- the text of the options: an operator's, the bounds, how a LIKE is meant, the type that Cast
+-- answers
 abbrev pub shipped_options_text : Shipped → List ℕ
 shipped_options_text (Binary operator) = text_of operator
 shipped_options_text Not = []

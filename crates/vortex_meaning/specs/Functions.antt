@@ -9,7 +9,9 @@ use Rattle.vortex_types.specs.LogicalTypes.{LogicalType}
 use Rattle.vortex_types.specs.Values.{Value}
 use Rattle.vortex_meaning.specs.Outcomes.{Outcome}
 use Rattle.vortex_meaning.specs.Meaning.{Meaning, fits}
-use Rattle.vortex_meaning.specs.Shipped.{Shipped, shipped_id, shipped_arity, shipped_child_name, shipped_type, shipped_means, shipped_place, is_strict, is_infallible}
+use Rattle.vortex_meaning.specs.Shipped.{Shipped, shipped_id, shipped_arity, shipped_child_name}
+use Rattle.vortex_meaning.specs.Shipped.{shipped_type, shipped_means, shipped_place, is_strict}
+use Rattle.vortex_meaning.specs.Shipped.{is_infallible}
 
 pub data Function (V O : Type 0) : Type 0 where
   ours : Shipped → Function V O

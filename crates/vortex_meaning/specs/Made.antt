@@ -1,7 +1,8 @@
 -- Trees as constructors make them: each held column has its rows, and each constant its type.
 use Rattle.std.specs.Prelude.{ℕ, ◌<◌, ⊤}
 use Rattle.vortex_types.specs.Typing.{HasType}
-use Rattle.vortex_meaning.specs.Trees.{Leaf, place, held, Tree, leaf, constant, call, Trees, no_trees, tree}
+use Rattle.vortex_meaning.specs.Trees.{Leaf, place, held, Tree, leaf, constant, call, Trees}
+use Rattle.vortex_meaning.specs.Trees.{no_trees, tree}
 use Rattle.vortex_meaning.specs.Rewrites.{HasTypedRow}
 pub use Rattle.vortex_meaning.specs.Bound.{IsPlace, IsBound, AllBound}
 

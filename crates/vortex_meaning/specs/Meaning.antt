@@ -7,8 +7,9 @@ use Rattle.vortex_types.specs.Values.{Value, null}
 use Rattle.vortex_types.specs.Typing.{HasType}
 use Rattle.vortex_meaning.specs.Outcomes.{Outcome, GivesValue, GivesType, GivesNull}
 
--- of functions V with options O: the identity, how many arguments, their names, the row meaning of argument types and values,
--- the type of the answer where the argument types are accepted, and the two marks
+-- of functions V with options O: the identity, how many arguments, their names, the row meaning of
+-- argument types and values, the type of the answer where the argument types are accepted, and the
+-- two marks
 pub record Meaning (V O : Type 0) : Type 0 where
   pub id : V → List ℕ
   pub arity : V → O → Arity
@@ -30,8 +31,10 @@ abbrev pub AreAlike : List LogicalType → List LogicalType → Type 0
 AreAlike ts us = map without_nullability ts ≡ map without_nullability us
 
 -- typed: an answer is a value of the type returned, or a fault
--- alike: it is the same for argument types that differ in nullability alone, on values that both have
--- strict_type, strict_value: a strict function returns a nullable type wherever an argument's is, and null wherever a value is null
+-- alike: it is the same for argument types that differ in nullability alone, on values that both
+-- have
+-- strict_type, strict_value: a strict function returns a nullable type wherever an argument's is,
+-- and null wherever a value is null
 -- never_faults: an infallible one gives a value for all values of accepted types
 pub record Lawful {V O : Type 0} (m : Meaning V O) : Type 0 where
   pub typed : (f : V) (o : O) (ts : List LogicalType) (t : LogicalType) (vs : List Value)
@@ -43,7 +46,8 @@ pub record Lawful {V O : Type 0} (m : Meaning V O) : Type 0 where
       → m.strict f o ≡ true → m.return_type f o ts ≡ Some t → Any (λ a. is_nullable a ≡ true) ts
       → is_nullable t ≡ true
   pub strict_value : (f : V) (o : O) (ts : List LogicalType) (t : LogicalType) (vs : List Value)
-      → m.strict f o ≡ true → m.return_type f o ts ≡ Some t → HaveTypes ts vs → Any (λ v. v ≡ null) vs
+      → m.strict f o ≡ true → m.return_type f o ts ≡ Some t → HaveTypes ts vs
+      → Any (λ v. v ≡ null) vs
       → GivesNull (m.means f o ts vs)
   pub never_faults : (f : V) (o : O) (ts : List LogicalType) (t : LogicalType) (vs : List Value)
       → m.infallible f o ≡ true → m.return_type f o ts ≡ Some t → HaveTypes ts vs

@@ -1,13 +1,17 @@
--- The bytes that the options of a shipped function are written as, and what byte strings are read as.
-use Rattle.std.specs.Prelude.{◌≡◌, ℕ, List, [], Option, Some, None, IsSomeAnd, Vec, Result, MatchResult, ⊤}
+-- The bytes that the options of a shipped function are written as, and what byte strings are read
+-- as.
+use Rattle.std.specs.Prelude.{◌≡◌, ℕ, List, [], Option, Some, None, IsSomeAnd, Vec, Result}
+use Rattle.std.specs.Prelude.{MatchResult, ⊤}
 use Rattle.std.specs.Option.{option_map}
 use Rattle.std.specs.declared.alloc.Global.{Global}
 use Rattle.vortex_errors.specs.declared.error.VortexError.{VortexError}
 use Rattle.vortex_errors.specs.declared.error.VortexError.TheVariants.{BadOptions}
 use Rattle.vortex_errors.specs.Answers.{Answers}
-use Rattle.vortex_operators.specs.OptionBytes.{operator_bytes, operator_read, between_bytes, between_read}
+use Rattle.vortex_operators.specs.OptionBytes.{operator_bytes, operator_read, between_bytes}
+use Rattle.vortex_operators.specs.OptionBytes.{between_read}
 use Rattle.vortex_like.specs.OptionBytes.{like_bytes, like_read, HasCharacter}
-use Rattle.vortex_meaning.specs.Shipped.{Shipped, Binary, Not, IsNull, IsNotNull, Cast, Between, Like}
+use Rattle.vortex_meaning.specs.Shipped.{Shipped, Binary, Not, IsNull, IsNotNull, Cast, Between}
+use Rattle.vortex_meaning.specs.Shipped.{Like}
 use Rattle.vortex_meaning.specs.Functions.{Function, ours, custom}
 
 -- one byte of Binary and Between, one or five of Like; none of the others
@@ -20,7 +24,8 @@ shipped_bytes Cast = []
 shipped_bytes (Between options) = between_bytes options
 shipped_bytes (Like options) = like_bytes options
 
--- the same function with the options that the bytes are read as; those without options read any bytes
+-- the same function with the options that the bytes are read as; those without options read any
+-- bytes
 abbrev pub with_options : Shipped → List ℕ → Option Shipped
 with_options (Binary operator) bytes = option_map Binary (operator_read bytes)
 with_options (Between options) bytes = option_map Between (between_read bytes)

@@ -1,4 +1,5 @@
--- What a function answers in one row: a value or a fault; and when a column or a refusal answers for all rows.
+-- What a function answers in one row: a value or a fault; and when a column or a refusal answers
+-- for all rows.
 use Rattle.std.specs.Prelude.{◌≡◌, ℕ, ◌<◌, List, Option, Some, ⊤, length, map}
 use Rattle.vortex_errors.specs.declared.error.VortexError.{VortexError}
 use Rattle.vortex_errors.specs.declared.error.VortexError.TheVariants as error
@@ -52,7 +53,8 @@ values_at cs i = map (λ c. row c.rows i) cs
 abbrev pub call_row : (List LogicalType → List Value → Outcome) → List ColumnView → ℕ → Outcome
 call_row means cs i = means (types_in cs) (values_at cs i)
 
--- the column has the type that the call returns, the number of rows, and in each row the value that the call gives
+-- the column has the type that the call returns, the number of rows, and in each row the value that
+-- the call gives
 pub record HasCallRows (return_type : List LogicalType → Option LogicalType)
     (means : List LogicalType → List Value → Outcome) (cs : List ColumnView) (n : ℕ)
     (c : ColumnView) : Type 0 where

@@ -5,7 +5,8 @@ pub use Rattle.vortex_columns.specs.Printing.{literal_text}
 pub use Rattle.vortex_meaning.specs.CallTexts.{joined, comma, Continues, Appends}
 use Rattle.vortex_meaning.specs.Shipped.{shipped_text}
 use Rattle.vortex_meaning.specs.Functions.{Function, ours, custom}
-use Rattle.vortex_meaning.specs.Trees.{place, held, Tree, leaf, constant, call, Trees, no_trees, tree}
+use Rattle.vortex_meaning.specs.Trees.{place, held, Tree, leaf, constant, call, Trees, no_trees}
+use Rattle.vortex_meaning.specs.Trees.{tree}
 
 abbrev pub with_text : Option (List ℕ) → Option (List (List ℕ)) → Option (List (List ℕ))
 with_text None more = None

@@ -8,7 +8,8 @@ use Rattle.vortex_columns.specs.ColumnView.{ColumnView, row, FormTells}
 use Rattle.vortex_meaning.specs.Outcomes.{gives}
 use Rattle.vortex_meaning.specs.Meaning.{Meaning}
 use Rattle.vortex_meaning.specs.Functions.{custom}
-use Rattle.vortex_meaning.specs.Trees.{Leaf, place, held, Tree, leaf, constant, call, Trees, no_trees, tree}
+use Rattle.vortex_meaning.specs.Trees.{Leaf, place, held, Tree, leaf, constant, call, Trees}
+use Rattle.vortex_meaning.specs.Trees.{no_trees, tree}
 use Rattle.vortex_meaning.specs.Eval.{leaf_value, tree_type, eval}
 use Rattle.vortex_meaning.specs.Execution.{LeavesFit}
 use Rattle.vortex_meaning.specs.Rules.{Rules}

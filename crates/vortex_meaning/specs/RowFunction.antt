@@ -1,4 +1,5 @@
--- What a shipped function is: its names, the types that it takes, what it answers in a row, its marks and its text.
+-- What a shipped function is: its names, the types that it takes, what it answers in a row, its
+-- marks and its text.
 use Rattle.std.specs.Prelude.{◌≡◌, ℕ, List, Option, Some, Bool, true, Any}
 use Rattle.vortex_errors.specs.declared.error.MismatchPlace.{MismatchPlace}
 use Rattle.vortex_types.specs.LogicalTypes.{LogicalType, is_nullable}
@@ -30,7 +31,8 @@ pub record RowFunction : Type 0 where
   pub added : Bool → ℕ
 
 -- the laws of a lawful function, as `Meaning` says them of any, and one more
--- one_fault: whatever it is called on, it has one fault at most, so its refusal tells the same of any row
+-- one_fault: whatever it is called on, it has one fault at most, so its refusal tells the same of
+-- any row
 pub record LawfulRow (f : RowFunction) : Type 0 where
   pub typed : (ts : List LogicalType) (t : LogicalType) (vs : List Value)
       → f.return_type ts ≡ Some t → HaveTypes ts vs → GivesType t (f.means ts vs)
@@ -44,6 +46,7 @@ pub record LawfulRow (f : RowFunction) : Type 0 where
       → f.strict ≡ true → f.return_type ts ≡ Some t → HaveTypes ts vs
       → Any (λ v. v ≡ null) vs → GivesNull (f.means ts vs)
   pub never_faults : (ts : List LogicalType) (t : LogicalType) (vs : List Value)
-      → f.infallible ≡ true → f.return_type ts ≡ Some t → HaveTypes ts vs → GivesValue (f.means ts vs)
+      → f.infallible ≡ true → f.return_type ts ≡ Some t → HaveTypes ts vs
+      → GivesValue (f.means ts vs)
   pub one_fault : (ts us : List LogicalType) (vs ws : List Value) (x y : Fault)
       → f.means ts vs ≡ faults x → f.means us ws ≡ faults y → x ≡ y

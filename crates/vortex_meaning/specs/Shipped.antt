@@ -1,11 +1,13 @@
--- The list of the shipped functions: each stands in a file of its own, and nothing else goes by cases over them.
+-- The list of the shipped functions: each stands in a file of its own, and nothing else goes by
+-- cases over them.
 pub mod BinaryFunction
 pub mod NotFunction
 pub mod NullTestFunctions
 pub mod CastFunction
 pub mod BetweenFunction
 pub mod LikeFunction
-use Rattle.std.specs.Prelude.{◌≡◌, ℕ, zero, suc, List, Option, Some, None, Bool, if◌then◌else◌, refl}
+use Rattle.std.specs.Prelude.{◌≡◌, ℕ, zero, suc, List, Option, Some, None, Bool, if◌then◌else◌}
+use Rattle.std.specs.Prelude.{refl}
 use Rattle.std.specs.Option.{option_map, option_or, option_and_then}
 use Rattle.std.proofs.Common.{ap}
 use Rattle.vortex_errors.specs.declared.arity.Arity.{Arity}
@@ -20,12 +22,20 @@ use Rattle.vortex_meaning.specs.Outcomes.{Outcome}
 use Rattle.vortex_meaning.specs.Meaning.{Meaning, Lawful}
 use Rattle.vortex_meaning.specs.CallTexts.{Piece, told}
 use Rattle.vortex_meaning.specs.RowFunction.{RowFunction, LawfulRow}
-use Rattle.vortex_meaning.specs.Shipped.BinaryFunction.{operator_function, operator_lawful, operator_named, operator_number, operator_numbered, operator_back}
+use Rattle.vortex_meaning.specs.Shipped.BinaryFunction.{operator_function, operator_lawful}
+use Rattle.vortex_meaning.specs.Shipped.BinaryFunction.{operator_named, operator_number}
+use Rattle.vortex_meaning.specs.Shipped.BinaryFunction.{operator_numbered, operator_back}
 use Rattle.vortex_meaning.specs.Shipped.NotFunction.{not_function, not_lawful, is_not_word}
-use Rattle.vortex_meaning.specs.Shipped.NullTestFunctions.{is_null_function, is_null_lawful, is_null_word, is_not_null_function, is_not_null_lawful, is_not_null_word}
+use Rattle.vortex_meaning.specs.Shipped.NullTestFunctions.{is_null_function, is_null_lawful}
+use Rattle.vortex_meaning.specs.Shipped.NullTestFunctions.{is_null_word, is_not_null_function}
+use Rattle.vortex_meaning.specs.Shipped.NullTestFunctions.{is_not_null_lawful, is_not_null_word}
 use Rattle.vortex_meaning.specs.Shipped.CastFunction.{cast_function, cast_lawful, is_cast_word}
-use Rattle.vortex_meaning.specs.Shipped.BetweenFunction.{between_function, between_lawful, between_named, between_number, between_numbered, between_back}
-use Rattle.vortex_meaning.specs.Shipped.LikeFunction.{like_function, like_lawful, like_named, with_escape, like_number, like_numbered, like_back}
+use Rattle.vortex_meaning.specs.Shipped.BetweenFunction.{between_function, between_lawful}
+use Rattle.vortex_meaning.specs.Shipped.BetweenFunction.{between_named, between_number}
+use Rattle.vortex_meaning.specs.Shipped.BetweenFunction.{between_numbered, between_back}
+use Rattle.vortex_meaning.specs.Shipped.LikeFunction.{like_function, like_lawful, like_named}
+use Rattle.vortex_meaning.specs.Shipped.LikeFunction.{with_escape, like_number, like_numbered}
+use Rattle.vortex_meaning.specs.Shipped.LikeFunction.{like_back}
 
 -- THE LIST: each function with its options
 pub data Shipped : Type 0 where

@@ -1,5 +1,6 @@
--- The code of a tree, from those of a caller's functions and options: the tree is written as a list of marks in post-order,
--- which a stack machine turns back into it. No contract cites what stands here.
+-- The code of a tree, from those of a caller's functions and options: the tree is written as a list
+-- of marks in post-order, which a stack machine turns back into it. No contract cites what stands
+-- here.
 use Rattle.std.specs.Prelude.{◌≡◌, ◌⊎◌, refl, ℕ, zero, List, [], ◌∷◌}
 use Rattle.std.proofs.Common.{◌∙◌, ap, inl, inr}
 use Rattle.std.specs.Coded.{Coded, code_by, coded×, coded⊎, coded_ℕ, coded_list}
@@ -7,9 +8,11 @@ use Rattle.vortex_types.specs.LogicalTypes.{LogicalType}
 use Rattle.vortex_types.specs.Codes.{coded_type}
 use Rattle.vortex_columns.specs.ColumnView.{ColumnView, coded_column}
 use Rattle.vortex_types.specs.ScalarView.{ScalarView, coded_scalar}
-use Rattle.vortex_meaning.specs.Shipped.{Shipped, Not, shipped_number, shipped_numbered, shipped_back}
+use Rattle.vortex_meaning.specs.Shipped.{Shipped, Not, shipped_number, shipped_numbered}
+use Rattle.vortex_meaning.specs.Shipped.{shipped_back}
 use Rattle.vortex_meaning.specs.Functions.{Function, ours, custom}
-use Rattle.vortex_meaning.specs.Trees.{Leaf, place, held, Tree, leaf, constant, call, Trees, no_trees, tree}
+use Rattle.vortex_meaning.specs.Trees.{Leaf, place, held, Tree, leaf, constant, call, Trees}
+use Rattle.vortex_meaning.specs.Trees.{no_trees, tree}
 
 abbrev pub coded_shipped : Coded Shipped
 coded_shipped =

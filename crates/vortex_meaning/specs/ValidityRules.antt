@@ -1,17 +1,21 @@
 -- The validity of a node: a tree that says in each row whether the node's value is not null.
-use Rattle.std.specs.Prelude.{ℕ, zero, suc, List, [], ◌∷◌, Option, Some, None, Bool, true, false, not, map, length, if◌then◌else◌}
+use Rattle.std.specs.Prelude.{ℕ, zero, suc, List, [], ◌∷◌, Option, Some, None, Bool, true, false}
+use Rattle.std.specs.Prelude.{not, map, length, if◌then◌else◌}
 use Rattle.std.specs.List.{list_any}
 use Rattle.vortex_types.specs.LogicalTypes.{LogicalType, null_type, bool_type, with_nullability}
 use Rattle.vortex_types.specs.Values.{truth, is_null}
 use Rattle.vortex_columns.specs.ColumnView.{ColumnView}
-use Rattle.vortex_columns.specs.ValidityView.{ValidityForm, non_nullable, all_valid, all_invalid, array}
+use Rattle.vortex_columns.specs.ValidityView.{ValidityForm, non_nullable, all_valid, all_invalid}
+use Rattle.vortex_columns.specs.ValidityView.{array}
 use Rattle.vortex_operators.specs.declared.operators.Operator.TheVariants.{And}
 use Rattle.vortex_meaning.specs.Meaning.{Meaning}
 use Rattle.vortex_meaning.specs.Functions.{Function, ours, custom, function_type, function_strict}
-use Rattle.vortex_meaning.specs.Trees.{Leaf, place, held, Tree, leaf, constant, call, Trees, no_trees, tree}
+use Rattle.vortex_meaning.specs.Trees.{Leaf, place, held, Tree, leaf, constant, call, Trees}
+use Rattle.vortex_meaning.specs.Trees.{no_trees, tree}
 use Rattle.vortex_meaning.specs.Eval.{tree_types}
 use Rattle.vortex_meaning.specs.ComparisonTrees.{operated}
-use Rattle.vortex_meaning.specs.Rules.{Rules, truth_constant, is_not_null_of, may_be_null, is_nullable_tree}
+use Rattle.vortex_meaning.specs.Rules.{Rules, truth_constant, is_not_null_of, may_be_null}
+use Rattle.vortex_meaning.specs.Rules.{is_nullable_tree}
 
 -- the column of Bool without null that says of each row whether it is not null
 abbrev pub validity_column : ColumnView → ColumnView

@@ -1,2 +1,3 @@
-//! What trees mean, for contracts alone: this crate holds definitions and theorems of them, and no code.
+//! What trees mean, for contracts alone: this crate holds definitions and theorems of them, and no
+//! code.
 #![tactic(auto)]

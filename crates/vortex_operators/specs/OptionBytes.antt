@@ -1,4 +1,5 @@
--- The bytes that the options of Binary and Between are written as, and what byte strings are read as.
+-- The bytes that the options of Binary and Between are written as, and what byte strings are read
+-- as.
 use Rattle.std.specs.Prelude.{ℕ, List, [], ◌∷◌, Option}
 use Rattle.vortex_errors.specs.OptionBytes.{read_among, two_bits}
 use Rattle.vortex_operators.specs.declared.operators.Operator.{Operator}

@@ -5,14 +5,16 @@ use Rattle.std.proofs.Math.IntN.{+ℤ_comm, *ℤ_comm}
 use Rattle.vortex_types.specs.declared.dtype.PType.{PType}
 use Rattle.vortex_errors.specs.declared.error.NumericOperator.{NumericOperator}
 use Rattle.vortex_errors.specs.declared.error.NumericOperator.TheVariants as numeric
-use Rattle.vortex_types.specs.Values.{Value, null, truth, number, text, bytes, list, truth_of, truth_or_null}
+use Rattle.vortex_types.specs.Values.{Value, null, truth, number, text, bytes, list, truth_of}
+use Rattle.vortex_types.specs.Values.{truth_or_null}
 use Rattle.vortex_operators.specs.declared.operators.Operator.{Operator}
 use Rattle.vortex_operators.specs.declared.operators.Operator.TheVariants.{Eq, NotEq, Gt, Gte, Lt}
 use Rattle.vortex_operators.specs.declared.operators.Operator.TheVariants.{Lte, And, Or, Add, Sub}
 use Rattle.vortex_operators.specs.declared.operators.Operator.TheVariants.{Mul, Div}
 use Rattle.vortex_operators.specs.declared.operators.CompareOperator.TheVariants as compare
 use Rattle.vortex_operators.specs.declared.operators.CompareOperator.{CompareOperator}
-use Rattle.vortex_operators.specs.Arithmetic.{exact_result, held, arithmetic_value, numeric_operator_of}
+use Rattle.vortex_operators.specs.Arithmetic.{exact_result, held, arithmetic_value}
+use Rattle.vortex_operators.specs.Arithmetic.{numeric_operator_of}
 use Rattle.vortex_operators.specs.Operators.{swap_of, operator_of, compare_swap}
 use Rattle.vortex_operators.specs.Kleene.{kleene_and, kleene_or}
 use Rattle.vortex_operators.specs.OperatorValues.{operator_value}
@@ -23,8 +25,8 @@ abbrev pub result_by : Option NumericOperator → PType → Value → Value → 
 result_by None p v w = None
 result_by (Some o) p v w = arithmetic_value o p v w
 
--- a op b is b swapped a, for all values, nulls among them: of And, Or and the comparisons one value, of arithmetic one exact
--- result in every type, or none on both sides
+-- a op b is b swapped a, for all values, nulls among them: of And, Or and the comparisons one
+-- value, of arithmetic one exact result in every type, or none on both sides
 pub record AreTurned (op swapped : Operator) : Type 0 where
   pub values : (v w : Value) → operator_value op v w ≡ operator_value swapped w v
   pub results : (p : PType) (v w : Value)
@@ -71,7 +73,8 @@ no_number o p (text a) w h = refl
 no_number o p (bytes a) w h = refl
 no_number o p (list a) w h = refl
 
-module _ (o : NumericOperator) (commutes : (a b : ℤ) → exact_result o a b ≡ exact_result o b a) (p : PType) where
+module _ (o : NumericOperator) (commutes : (a b : ℤ) → exact_result o a b ≡ exact_result o b a)
+    (p : PType) where
   result_commutes : (v w : Value) → arithmetic_value o p v w ≡ arithmetic_value o p w v
   result_commutes (number a) (number b) = ap (held p) (commutes a b)
   result_commutes (number a) null = refl
@@ -109,9 +112,14 @@ mul_turned = record {
   results = result_commutes numeric.Mul (λ a b. ap Some (*ℤ_comm a b));
 }
 
-compared_turned : (op : CompareOperator) → AreTurned (operator_of op) (operator_of (compare_swap op))
+compared_turned : (op : CompareOperator)
+    → AreTurned (operator_of op) (operator_of (compare_swap op))
 compared_turned compare.Eq = record { values = are_swapped compare.Eq; results = λ p v w. refl }
-compared_turned compare.NotEq = record { values = are_swapped compare.NotEq; results = λ p v w. refl }
+compared_turned compare.NotEq = record {
+  values = are_swapped compare.NotEq;
+  results = λ p v w.
+      refl;
+}
 compared_turned compare.Gt = record { values = are_swapped compare.Gt; results = λ p v w. refl }
 compared_turned compare.Gte = record { values = are_swapped compare.Gte; results = λ p v w. refl }
 compared_turned compare.Lt = record { values = are_swapped compare.Lt; results = λ p v w. refl }
@@ -119,7 +127,8 @@ compared_turned compare.Lte = record { values = are_swapped compare.Lte; results
 
 pub turned : (op swapped : Operator) → swap_of op ≡ Some swapped → AreTurned op swapped
 turned Eq s e = let is : Eq ≡ s = cc in subst (AreTurned Eq) is (compared_turned compare.Eq)
-turned NotEq s e = let is : NotEq ≡ s = cc in subst (AreTurned NotEq) is (compared_turned compare.NotEq)
+turned NotEq s e = let is : NotEq ≡ s = cc in subst (AreTurned NotEq) is
+    (compared_turned compare.NotEq)
 turned Gt s e = let is : Lt ≡ s = cc in subst (AreTurned Gt) is (compared_turned compare.Gt)
 turned Gte s e = let is : Lte ≡ s = cc in subst (AreTurned Gte) is (compared_turned compare.Gte)
 turned Lt s e = let is : Gt ≡ s = cc in subst (AreTurned Lt) is (compared_turned compare.Lt)

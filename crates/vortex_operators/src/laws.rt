@@ -8,7 +8,8 @@ ghost use Rattle.vortex_operators.specs.declared.operators.CompareOperator.{Comp
 
 use crate::operators::{CompareOperator, Operator};
 
-/// Two operators are ordered as their places in the table are: comparisons, then And and Or, then arithmetic.
+/// Two operators are ordered as their places in the table are: comparisons, then And and Or, then
+/// arithmetic.
 pub fn operators_stand_in_the_order_of_the_table()
     ensures { (a b : Operator) → ⟦<Operator as PartialOrd>⟧.partial_cmp a b
         ≡ Some (nat_cmp (place_of a) (place_of b)) }

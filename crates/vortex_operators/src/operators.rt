@@ -99,7 +99,8 @@ impl Operator {
         }
     }
 
-    /// The operator of the operands the other way round, where there is one: `a op b` is `b swap a` for all values.
+    /// The operator of the operands the other way round, where there is one: `a op b` is `b swap a`
+    /// for all values.
     pub fn swap(&self) -> Option<Operator>
         ensures table { result ≡ swap_of self.now }
         ensures turns { IfSome result (AreTurned self.now) }
@@ -196,8 +197,8 @@ impl CompareOperator {
     ghost use Rattle.vortex_operators.specs.OperatorValues.{holds};
     ghost use Rattle.vortex_operators.specs.ComparisonLaws.{AreInverse, AreSwapped};
 
-    /// The comparison that holds where this one does not: `not (a op b)` is `a inverse b` for all values, nulls among
-    /// them. It undoes itself.
+    /// The comparison that holds where this one does not: `not (a op b)` is `a inverse b` for all
+    /// values, nulls among them. It undoes itself.
     pub fn inverse(&self) -> CompareOperator
         ensures table { result ≡ compare_inverse self.now }
         ensures undone { compare_inverse result ≡ self.now }
@@ -213,7 +214,8 @@ impl CompareOperator {
         }
     }
 
-    /// The comparison of the operands the other way round: `a op b` is `b swap a` for all values. It undoes itself.
+    /// The comparison of the operands the other way round: `a op b` is `b swap a` for all values.
+    /// It undoes itself.
     pub fn swap(&self) -> CompareOperator
         ensures table { result ≡ compare_swap self.now }
         ensures undone { compare_swap result ≡ self.now }

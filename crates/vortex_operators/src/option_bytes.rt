@@ -50,7 +50,8 @@ impl Operator {
 }
 
 impl BetweenOptions {
-    /// The byte that they are written as: bit 0 where the lower bound is strict, bit 1 where the upper is.
+    /// The byte that they are written as: bit 0 where the lower bound is strict, bit 1 where the
+    /// upper is.
     pub fn to_byte(&self) -> u8
         ensures { between_bytes self.now ≡ result ∷ [] }
     {

@@ -1,7 +1,9 @@
 -- How a walk below frames goes on, and how much of it is left.
-use Rattle.std.proofs.Common.{◌≡◌, ℕ, zero, suc, ◌+◌, ◌*◌, ◌<◌, ◌≤◌, List, [], ◌∷◌, ◌++◌, length, drop, Option, Some, None, refl, sym, ap, subst, ◌∙◌, arith}
+use Rattle.std.proofs.Common.{◌≡◌, ℕ, zero, suc, ◌+◌, ◌*◌, ◌<◌, ◌≤◌, List, [], ◌∷◌, ◌++◌, length}
+use Rattle.std.proofs.Common.{drop, Option, Some, None, refl, sym, ap, subst, ◌∙◌, arith}
 use Rattle.std.specs.Prelude.{slice_get, IsSome}
-use Rattle.vortex_meaning.specs.Trees.{Tree, leaf, constant, call, trees_of, list_of, children_of, node_count, nodes_count}
+use Rattle.vortex_meaning.specs.Trees.{Tree, leaf, constant, call, trees_of, list_of, children_of}
+use Rattle.vortex_meaning.specs.Trees.{node_count, nodes_count}
 use Rattle.vortex_meaning.specs.Driver.{step}
 use Rattle.vortex_meaning.specs.Meaning.{Meaning}
 use Rattle.vortex_meaning.specs.Eval.{tree_type}

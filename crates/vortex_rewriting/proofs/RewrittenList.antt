@@ -1,5 +1,6 @@
 -- By which code goes through its steps, paths with rules.
-use Rattle.std.proofs.Common.{◌≡◌, ◌<◌, ◌≤◌, ℕ, ◌+◌, List, length, get_or, take, Option, Some, None, ap, ◌∙◌, arith, Bor}
+use Rattle.std.proofs.Common.{◌≡◌, ◌<◌, ◌≤◌, ℕ, ◌+◌, List, length, get_or, take, Option, Some, None}
+use Rattle.std.proofs.Common.{ap, ◌∙◌, arith, Bor}
 use Rattle.std.specs.Prelude.{slice_get}
 use Rattle.std.specs.Option.{option_map}
 use Rattle.std.proofs.lemmas.List.{length-map}
@@ -26,7 +27,8 @@ module _ {V O A : Type 0} (apply : A → Tree V O → Option (Tree V O))
     next = get_or steps k d
 
     there : slice_get (steps_of steps) k ≡ Some (rule_at next)
-    there = slice_get-map rule_at steps k ∙ ap (option_map rule_at) (slice_get-get_or steps k d within)
+    there = slice_get-map rule_at steps k ∙ ap (option_map rule_at)
+        (slice_get-get_or steps k d within)
 
     -- what refuses the next one refuses them all
     pub next_refused : (e : VortexError)

@@ -1,5 +1,6 @@
 -- How runs end, and what executing after them answers.
-use Rattle.std.proofs.Common.{◌≡◌, ◌↔◌, ℕ, ◌≤◌, Bool, true, false, IsTrue, Option, Some, None, refl, inl, inr, subst, Ok, Err}
+use Rattle.std.proofs.Common.{◌≡◌, ◌↔◌, ℕ, ◌≤◌, Bool, true, false, IsTrue, Option, Some, None, refl}
+use Rattle.std.proofs.Common.{inl, inr, subst, Ok, Err}
 use Rattle.std.specs.Cow.{cow_value}
 use Rattle.std.specs.declared.borrow.Cow.{Cow}
 use Rattle.std.specs.Prelude.{All, List, [], Result}

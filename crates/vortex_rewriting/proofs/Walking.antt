@@ -1,5 +1,6 @@
 -- The walk of the driver, over nodes that stand for trees.
-use Rattle.std.proofs.Common.{◌≡◌, ℕ, suc, ◌+◌, ◌<◌, ◌≤◌, List, [], ◌∷◌, ◌++◌, length, map, All, Option, Some, None, refl, sym, ap, subst, ◌∙◌, arith}
+use Rattle.std.proofs.Common.{◌≡◌, ℕ, suc, ◌+◌, ◌<◌, ◌≤◌, List, [], ◌∷◌, ◌++◌, length, map, All}
+use Rattle.std.proofs.Common.{Option, Some, None, refl, sym, ap, subst, ◌∙◌, arith}
 use Rattle.std.specs.Prelude.{slice_get, IsSome, IfSome}
 use Rattle.std.specs.Option.{option_map}
 use Rattle.std.proofs.lemmas.List.{length-map, map-append}
@@ -9,9 +10,13 @@ use Rattle.vortex_meaning.specs.Driver.{step}
 use Rattle.vortex_meaning.specs.Meaning.{Meaning}
 use Rattle.vortex_meaning.specs.Eval.{tree_type}
 use Rattle.vortex_rewriting.specs.declared.frames.Frame.{Frame}
-use Rattle.vortex_rewriting.specs.Frames.{partly, plug, AreSettled, AreFrames, IsNext, frames_in, HaveRows}
+use Rattle.vortex_rewriting.specs.Frames.{partly, plug, AreSettled, AreFrames, IsNext, frames_in}
+use Rattle.vortex_rewriting.specs.Frames.{HaveRows}
 use Rattle.vortex_rewriting.proofs.StepsBelow.{length_next}
-use Rattle.vortex_rewriting.proofs.FrameWalks.{partly_none, partly_next, plug_push, frames_push, frames_pop, settled_next, step_when_done, below_typed, is_within, left_above, left_from, past_fewer, down_fewer, up_fewer}
+use Rattle.vortex_rewriting.proofs.FrameWalks.{partly_none, partly_next, plug_push, frames_push}
+use Rattle.vortex_rewriting.proofs.FrameWalks.{frames_pop, settled_next, step_when_done}
+use Rattle.vortex_rewriting.proofs.FrameWalks.{below_typed, is_within, left_above, left_from}
+use Rattle.vortex_rewriting.proofs.FrameWalks.{past_fewer, down_fewer, up_fewer}
 
 pub map_push : {A B : Type 0} (f : A → B) (more done : List A) (a : A) → more ≡ done ++ a ∷ []
     → map f more ≡ map f done ++ f a ∷ []

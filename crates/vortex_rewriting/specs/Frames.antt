@@ -1,6 +1,7 @@
 -- A walk through a tree that rules rewrite: the frames above a place, from the root, each a node as
 -- it was and its first children as they are now.
-use Rattle.std.specs.Prelude.{◌≡◌, ◌<◌, ◌≤◌, ℕ, List, [], ◌∷◌, ◌++◌, Option, Some, None, ⊤, All, map, length, drop, slice_get}
+use Rattle.std.specs.Prelude.{◌≡◌, ◌<◌, ◌≤◌, ℕ, List, [], ◌∷◌, ◌++◌, Option, Some, None, ⊤, All}
+use Rattle.std.specs.Prelude.{map, length, drop, slice_get}
 use Rattle.vortex_rewriting.specs.declared.frames.Frame.{Frame}
 use Rattle.vortex_meaning.specs.Trees.{Tree, children_of}
 use Rattle.vortex_meaning.specs.Driver.{step}

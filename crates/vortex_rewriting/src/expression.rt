@@ -1,5 +1,6 @@
 //! Expressions are rewritten by Simplify and by Reduce.
-ghost use Rattle.vortex_rewriting.specs.Rules.{expression_rule, expression_sound, expression_lightens};
+ghost use Rattle.vortex_rewriting.specs.Rules.{expression_rule, expression_sound};
+ghost use Rattle.vortex_rewriting.specs.Rules.{expression_lightens};
 
 use crate::rule::Rule;
 use crate::tree::RewriteTree;

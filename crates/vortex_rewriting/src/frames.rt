@@ -3,7 +3,8 @@ ghost use Rattle.std.specs.Prelude.{◌≡◌, ◌<◌, ◌≤◌, All, IfOk, If
 ghost use Rattle.std.specs.Option.{option_map};
 ghost use Rattle.vortex_functions.specs.Words.{children_of, tree_type, AnswersUnlessMemory};
 ghost use Rattle.vortex_rewriting.specs.Driving.{first_rule};
-ghost use Rattle.vortex_rewriting.specs.Frames.{partly, plug, frames_in, AreFrames, HaveRows, IsNext};
+ghost use Rattle.vortex_rewriting.specs.Frames.{partly, plug, frames_in, AreFrames, HaveRows};
+ghost use Rattle.vortex_rewriting.specs.Frames.{IsNext};
 
 use crate::tree::RewriteTree;
 use std::alloc::Global;

@@ -1,4 +1,5 @@
-//! What follows from the meaning of values, operators, patterns, functions and trees. These functions do
+//! What follows from the meaning of values, operators, patterns, functions and trees. These
+//! functions do
 //! nothing: their contracts are proved.
 
 pub use vortex_arrays::laws::arrays_err_where_arithmetic_does;

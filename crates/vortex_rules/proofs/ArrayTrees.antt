@@ -1,5 +1,6 @@
 -- Array trees as trees: calls of one row count, and children.
-use Rattle.std.proofs.Common.{◌≡◌, ℕ, zero, suc, Bool, true, nat_eq, List, [], ◌∷◌, length, map, Some, None, refl, ap, ◌∙◌, sym, arith}
+use Rattle.std.proofs.Common.{◌≡◌, ℕ, zero, suc, Bool, true, nat_eq, List, [], ◌∷◌, length, map}
+use Rattle.std.proofs.Common.{Some, None, refl, ap, ◌∙◌, sym, arith}
 use Rattle.std.specs.Prelude.{All, slice_get, if◌then◌else◌}
 use Rattle.std.proofs.lemmas.Bool.{eq-eqb}
 use Rattle.std.proofs.lemmas.List.{length-map}
@@ -47,7 +48,8 @@ module _ {V O : Type 0} where
   pub rows_alone : (n : ℕ) (ts : List (Tree V O))
       → All (λ (a : Array V O). rows_in a ≡ n) (map (λ t. (t, n)) ts)
   rows_alone n [] = All-nil _
-  rows_alone n (t ∷ ts) = All-cons (λ (a : Array V O). rows_in a ≡ n) (t, n) _ refl (rows_alone n ts)
+  rows_alone n (t ∷ ts) = All-cons (λ (a : Array V O). rows_in a ≡ n) (t, n) _ refl
+      (rows_alone n ts)
 
   -- children have their parent's row count
   among : (n : ℕ) (ts : List (Tree V O)) (i : ℕ) (x : Array V O)

@@ -10,10 +10,12 @@ use Rattle.vortex_operators.specs.Operators.{is_boolean}
 use Rattle.vortex_meaning.specs.Meaning.{Meaning}
 use Rattle.vortex_meaning.specs.Shipped.{Binary, Cast}
 use Rattle.vortex_meaning.specs.Functions.{ours}
-use Rattle.vortex_meaning.specs.Trees.{Tree, leaf, constant, call, no_trees, tree, children_of, called}
+use Rattle.vortex_meaning.specs.Trees.{Tree, leaf, constant, call, no_trees, tree, children_of}
+use Rattle.vortex_meaning.specs.Trees.{called}
 use Rattle.vortex_meaning.specs.Eval.{tree_type}
 use Rattle.vortex_meaning.specs.ComparisonTrees.{operated}
-use Rattle.vortex_meaning.specs.Rules.{Rules, cast_of, constant_truth, may_be_null, is_nullable_tree}
+use Rattle.vortex_meaning.specs.Rules.{Rules, cast_of, constant_truth, may_be_null}
+use Rattle.vortex_meaning.specs.Rules.{is_nullable_tree}
 use Rattle.vortex_meaning.specs.ReduceRules.{of_constants, reduce}
 use Rattle.vortex_meaning.proofs.TypedCalls.{type_of_one}
 use Rattle.vortex_meaning.proofs.BooleanCalls.{bool_call}
@@ -23,7 +25,8 @@ use Rattle.vortex_rules.proofs.Calls.{children_fit}
 module _ {V O : Type 0} (m : Meaning V O) where
   pub two_operands : (t : Tree V O) (op : Operator) (k : LogicalType)
       → called t ≡ Some (ours (Binary op)) → tree_type m t ≡ Some k → length (children_of t) ≡ 2
-  two_operands t op k c h = eqb-true (length (children_of t)) 2 (children_fit m t (ours (Binary op)) k c h)
+  two_operands t op k c h = eqb-true (length (children_of t)) 2
+      (children_fit m t (ours (Binary op)) k c h)
 
   operated_by : (t : Tree V O) (op : Operator) (x y : Tree V O)
       → called t ≡ Some (ours (Binary op)) → length (children_of t) ≡ 2
@@ -70,7 +73,8 @@ module _ {V O : Type 0} (m : Meaning V O) where
   table r op x y b = cc
 
   -- what Reduce makes of the node, by the constants among its operands
-  pub reduced : {N : Type 0} (of_node : N → Tree V O) (t : Tree V O) (op : Operator) (x y : Tree V O)
+  pub reduced : {N : Type 0} (of_node : N → Tree V O) (t : Tree V O) (op : Operator)
+      (x y : Tree V O)
       (k : LogicalType) (n : Bool) (answer : Option N)
       → is_boolean op ≡ true → t ≡ operated op x y → tree_type m t ≡ Some k → n ≡ is_nullable k
       → option_map of_node answer

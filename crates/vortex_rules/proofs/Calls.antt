@@ -3,7 +3,8 @@ use Rattle.std.proofs.Common.{◌≡◌, suc, true, List, [], length, Some, ap, 
 use Rattle.vortex_types.specs.LogicalTypes.{LogicalType}
 use Rattle.vortex_meaning.specs.Meaning.{Meaning, fits}
 use Rattle.vortex_meaning.specs.Functions.{Function, function_arity}
-use Rattle.vortex_meaning.specs.Trees.{Tree, leaf, constant, call, Trees, no_trees, tree, list_of, children_of, called}
+use Rattle.vortex_meaning.specs.Trees.{Tree, leaf, constant, call, Trees, no_trees, tree, list_of}
+use Rattle.vortex_meaning.specs.Trees.{children_of, called}
 use Rattle.vortex_meaning.specs.Eval.{tree_type, tree_types}
 use Rattle.vortex_meaning.proofs.TypedCalls.{types_parts, typed_call}
 

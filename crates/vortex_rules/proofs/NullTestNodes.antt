@@ -1,5 +1,6 @@
 -- A well-typed null test: its operand, and what Reduce makes of the test.
-use Rattle.std.proofs.Common.{◌≡◌, Bool, true, false, length, Option, Some, None, refl, sym, ap, ◌∙◌, arith}
+use Rattle.std.proofs.Common.{◌≡◌, Bool, true, false, length, Option, Some, None, refl, sym, ap}
+use Rattle.std.proofs.Common.{◌∙◌, arith}
 use Rattle.std.specs.Prelude.{slice_get, if◌then◌else◌}
 use borrow.Author.Tests.{eqb-true}
 use Rattle.std.specs.Option.{option_map, option_or}
@@ -10,7 +11,8 @@ use Rattle.vortex_operators.specs.Operators.{is_boolean}
 use Rattle.vortex_meaning.specs.Meaning.{Meaning}
 use Rattle.vortex_meaning.specs.Shipped.{Binary, Not, IsNull, IsNotNull}
 use Rattle.vortex_meaning.specs.Functions.{Function, ours}
-use Rattle.vortex_meaning.specs.Trees.{Tree, leaf, constant, call, no_trees, tree, children_of, called}
+use Rattle.vortex_meaning.specs.Trees.{Tree, leaf, constant, call, no_trees, tree, children_of}
+use Rattle.vortex_meaning.specs.Trees.{called}
 use Rattle.vortex_meaning.specs.Eval.{tree_type}
 use Rattle.vortex_meaning.specs.ComparisonTrees.{negated, operated}
 use Rattle.vortex_meaning.specs.Rules.{Rules, truth_constant, may_be_null, is_nullable_tree}
@@ -19,14 +21,17 @@ use Rattle.vortex_meaning.specs.ReduceRules.{is_not_null_within, reduce}
 use Rattle.vortex_meaning.proofs.TypedCalls.{type_of_one, type_of_two}
 use Rattle.vortex_rules.specs.declared.null_tests.NullTest.{NullTest}
 use Rattle.vortex_rules.specs.declared.null_tests.NullTest.TheVariants as test
-use Rattle.vortex_rules.specs.NullTests.{test_function, of_no_null, joined_by, boolean_in, boolean_called, tested, by_validity, beside_test, within, within_operands}
+use Rattle.vortex_rules.specs.NullTests.{test_function, of_no_null, joined_by, boolean_in}
+use Rattle.vortex_rules.specs.NullTests.{boolean_called, tested, by_validity, beside_test, within}
+use Rattle.vortex_rules.specs.NullTests.{within_operands}
 use Rattle.vortex_rules.proofs.Calls.{children_fit}
 
 module _ {V O : Type 0} (m : Meaning V O) where
   fits_one : (which : NullTest) (t : Tree V O) (k : LogicalType)
       → called t ≡ Some (ours (test_function which)) → tree_type m t ≡ Some k
       → length (children_of t) ≡ 1
-  fits_one test.IsNull t k c h = eqb-true (length (children_of t)) 1 (children_fit m t (ours IsNull) k c h)
+  fits_one test.IsNull t k c h = eqb-true (length (children_of t)) 1
+      (children_fit m t (ours IsNull) k c h)
   fits_one test.IsNotNull t k c h =
       eqb-true (length (children_of t)) 1 (children_fit m t (ours IsNotNull) k c h)
 

@@ -3,7 +3,8 @@ use Rattle.std.proofs.Common.{◌≡◌, Bool, true, Option, Some, refl, sym, ap
 use Rattle.std.specs.Option.{option_map, is_some}
 use Rattle.vortex_types.specs.LogicalTypes.{LogicalType, is_nullable}
 use Rattle.vortex_operators.specs.declared.operators.Operator.{Operator}
-use Rattle.vortex_operators.specs.declared.operators.Operator.TheVariants.{Eq, NotEq, Gt, Gte, Lt, Lte, And, Or}
+use Rattle.vortex_operators.specs.declared.operators.Operator.TheVariants.{Eq, NotEq, Gt, Gte, Lt}
+use Rattle.vortex_operators.specs.declared.operators.Operator.TheVariants.{Lte, And, Or}
 use Rattle.vortex_operators.specs.Operators.{is_boolean, compare_operator_of}
 use Rattle.vortex_meaning.specs.Meaning.{Meaning}
 use Rattle.vortex_meaning.specs.Trees.{Tree}

@@ -136,7 +136,8 @@ module _ {V O : Type 0} (m : Meaning V O) where
 
   pub pair_typed : {N : Type 0} (of_node : N → Tree V O) (rows : N → ℕ) (n : ℕ) (pair : List N)
       → length pair ≡ 2 → AreTruths m of_node rows n pair
-      → tree_type m (call (ours (Binary And)) (trees_of (map of_node pair))) ≡ Some (bool_type false)
+      → tree_type m (call (ours (Binary And)) (trees_of (map of_node pair)))
+      ≡ Some (bool_type false)
   pair_typed of_node rows n [] e h = absurd (omega arith)
   pair_typed of_node rows n (a ∷ []) e h = absurd (omega arith)
   pair_typed {N} of_node rows n (a ∷ b ∷ []) e h =

@@ -1,5 +1,6 @@
 -- The bits of a validity as a column, and the validity of a column as a tree.
-use Rattle.std.proofs.Common.{◌≡◌, ℕ, Bool, true, false, not, List, [], ◌∷◌, map, length, None, refl, sym, ap, ◌∙◌, arith, ◌<◌}
+use Rattle.std.proofs.Common.{◌≡◌, ℕ, Bool, true, false, not, List, [], ◌∷◌, map, length, None}
+use Rattle.std.proofs.Common.{refl, sym, ap, ◌∙◌, arith, ◌<◌}
 use Rattle.std.specs.Prelude.{slice_index_or}
 use Rattle.std.specs.List.{range_with_len}
 use Rattle.std.proofs.lemmas.List.{ext_get_or, get_or-map, length-map}
@@ -7,7 +8,8 @@ use Rattle.std.proofs.lemmas.List.FromFn.{get_or-map-range_with_len, length-map-
 use Rattle.vortex_types.specs.LogicalTypes.{bool_type}
 use Rattle.vortex_types.specs.Values.{Value, null, truth, is_null}
 use Rattle.vortex_columns.specs.ColumnView.{ColumnView, valid_rows}
-use Rattle.vortex_columns.specs.ValidityView.{ValidityForm, ValidityView, non_nullable, all_valid, all_invalid, array}
+use Rattle.vortex_columns.specs.ValidityView.{ValidityForm, ValidityView, non_nullable, all_valid}
+use Rattle.vortex_columns.specs.ValidityView.{all_invalid, array}
 use Rattle.vortex_columns.specs.Stored.{bool_column}
 use Rattle.vortex_meaning.specs.ValidityRules.{validity_column, column_validity}
 use Rattle.vortex_arrays.specs.Arrays.{column_tree}

@@ -1,6 +1,7 @@
 -- Identities of callers' functions.
 use Rattle.std.specs.Prelude.{◌≡◌, ◌≢◌, ℕ, List, get_or, refl}
-use Rattle.vortex_meaning.specs.Shipped.{Shipped, shipped_id, Binary, Not, IsNull, IsNotNull, Cast, Between, Like}
+use Rattle.vortex_meaning.specs.Shipped.{Shipped, shipped_id, Binary, Not, IsNull, IsNotNull, Cast}
+use Rattle.vortex_meaning.specs.Shipped.{Between, Like}
 
 -- the identity of no shipped function
 abbrev pub IsOwnIdentity : List ℕ → Type 0

@@ -64,7 +64,8 @@ impl<C: ScalarFnVTable> BoundTree<C> for ArrayRef<C> {
         children: Vec<Self>,
     ) -> VortexResult<Self>
         requires { All (λ child. rows_in child ≡ rows_in self.now) children.items }
-        ensures answer { AnswersCall C.meaning tree_in (function_of function) children.items result }
+        ensures answer { AnswersCall C.meaning tree_in (function_of function) children.items
+            result }
         ensures same_rows { IfOk result (λ made. rows_in made ≡ rows_in self.now) }
     {
         let call = ScalarFnArray::try_new_with_len(alloc, function, children, self.len())?;

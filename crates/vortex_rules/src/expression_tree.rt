@@ -45,7 +45,8 @@ impl<C: ScalarFnVTable> BoundTree<C> for BoundExpression<C> {
         children: Vec<Self>,
     ) -> VortexResult<Self>
         requires { All (λ child. ◌≡◌ {A = ℕ} 0 0) children.items }
-        ensures answer { AnswersCall C.meaning (λ t. t) (function_of function) children.items result }
+        ensures answer { AnswersCall C.meaning (λ t. t) (function_of function) children.items
+            result }
         ensures same_rows { IfOk result (λ made. ◌≡◌ {A = ℕ} 0 0) }
     {
         BoundExpression::try_new(alloc, function, children)

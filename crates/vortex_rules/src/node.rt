@@ -1,8 +1,10 @@
 //! Nodes that rules run over: each stands for a tree.
-ghost use Rattle.std.specs.Prelude.{◌≡◌, ◌<◌, ℕ, All, IfOk, IsOkAnd, MatchOption, None, Some, length, slice_get};
+ghost use Rattle.std.specs.Prelude.{◌≡◌, ◌<◌, ℕ, All, IfOk, IsOkAnd, MatchOption, None, Some};
+ghost use Rattle.std.specs.Prelude.{length, slice_get};
 ghost use Rattle.std.specs.Option.{option_copied};
 ghost use Rattle.vortex_meaning.specs.Trees.{Tree};
-ghost use Rattle.vortex_functions.specs.Words.{type_of, constant, children_of, called, literal, tree_type, function_of, AnswersUnlessMemory};
+ghost use Rattle.vortex_functions.specs.Words.{type_of, constant, children_of, called, literal};
+ghost use Rattle.vortex_functions.specs.Words.{tree_type, function_of, AnswersUnlessMemory};
 ghost use Rattle.vortex_rules.specs.Making.{AnswersCall};
 
 use std::alloc::Global;

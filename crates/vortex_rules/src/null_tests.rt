@@ -7,7 +7,9 @@ ghost use Rattle.vortex_operators.specs.Operators.{is_boolean};
 ghost use Rattle.vortex_meaning.specs.ComparisonTrees.{operated};
 ghost use Rattle.vortex_meaning.specs.ReduceRules.{by_nullability};
 ghost use Rattle.vortex_functions.specs.Words.{ours, called, tree_type, AnswersUnlessMemory};
-ghost use Rattle.vortex_rules.specs.NullTests.{test_function, of_no_null, joined_by, boolean_called, tested, by_validity, beside_test, within, within_operands};
+ghost use Rattle.vortex_rules.specs.NullTests.{test_function, of_no_null, joined_by};
+ghost use Rattle.vortex_rules.specs.NullTests.{boolean_called, tested, by_validity, beside_test};
+ghost use Rattle.vortex_rules.specs.NullTests.{within, within_operands};
 ghost use Rattle.vortex_rules.specs.Reduced.{IsReducedBy};
 
 use crate::making::{call_on_one, call_on_two};

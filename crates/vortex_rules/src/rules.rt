@@ -15,10 +15,10 @@ use vortex_interface::ScalarFnVTable;
 
 /// The rules of a caller's function.
 ///
-/// What they say is the ghost member `rules` of the interface, of trees as values; the calls answer what it says of the
-/// tree that a node stands for, and refuse for memory alone. The member is lawful: what a call is
-/// rewritten to has its type and its values, and its validity says where it is null. A function
-/// without rules answers `Ok(None)`, and `default_validity`.
+/// What they say is the ghost member `rules` of the interface, of trees as values; the calls answer
+/// what it says of the tree that a node stands for, and refuse for memory alone. The member is
+/// lawful: what a call is rewritten to has its type and its values, and its validity says where it
+/// is null. A function without rules answers `Ok(None)`, and `default_validity`.
 pub trait ScalarFnRules: ScalarFnVTable {
     /// What a call of this function with these options is reduced to, if a rule applies.
     fn reduce<T: ReduceTree<Self>>(

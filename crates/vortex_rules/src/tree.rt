@@ -1,8 +1,10 @@
 //! Trees of either kind, as rules and rewriting ask of them.
-ghost use Rattle.std.specs.Prelude.{◌≡◌, ◌<◌, ℕ, All, IfOk, IfSome, MatchOption, None, Some, length, map, slice_get};
+ghost use Rattle.std.specs.Prelude.{◌≡◌, ◌<◌, ℕ, All, IfOk, IfSome, MatchOption, None, Some};
+ghost use Rattle.std.specs.Prelude.{length, map, slice_get};
 ghost use Rattle.std.specs.Option.{option_copied};
 ghost use Rattle.vortex_meaning.specs.Trees.{Tree};
-ghost use Rattle.vortex_functions.specs.Words.{type_of, constant, children_of, called, literal, tree_type, function_of, AnswersUnlessMemory};
+ghost use Rattle.vortex_functions.specs.Words.{type_of, constant, children_of, called, literal};
+ghost use Rattle.vortex_functions.specs.Words.{tree_type, function_of, AnswersUnlessMemory};
 ghost use Rattle.vortex_rules.specs.Making.{AnswersCall};
 ghost use Rattle.vortex_rules.specs.LeafValidity.{IsLeafValidity};
 

@@ -4,8 +4,10 @@ ghost use Rattle.vortex_types.specs.LogicalTypes.{bool_type};
 ghost use Rattle.vortex_operators.specs.declared.operators.Operator.TheVariants.{And};
 ghost use Rattle.vortex_meaning.specs.ComparisonTrees.{operated};
 ghost use Rattle.vortex_meaning.specs.Rules.{is_not_null_of};
-ghost use Rattle.vortex_meaning.specs.ValidityRules.{null_tests, one_round, all_of, union_child_validities};
-ghost use Rattle.vortex_functions.specs.Words.{trees_of, children_of, tree_type, AnswersUnlessMemory};
+ghost use Rattle.vortex_meaning.specs.ValidityRules.{null_tests, one_round, all_of};
+ghost use Rattle.vortex_meaning.specs.ValidityRules.{union_child_validities};
+ghost use Rattle.vortex_functions.specs.Words.{trees_of, children_of, tree_type};
+ghost use Rattle.vortex_functions.specs.Words.{AnswersUnlessMemory};
 ghost use Rattle.vortex_rules.specs.Union.{AreTruths, pairs_of, joined_last};
 
 use crate::boolean::truth_node;

@@ -4,8 +4,10 @@ ghost use Rattle.std.specs.List.{list_any};
 ghost use Rattle.std.specs.Option.{option_map};
 ghost use Rattle.vortex_meaning.specs.Rules.{may_be_null};
 ghost use Rattle.vortex_meaning.specs.ValidityRules.{is_null_type, without_null, default_validity};
-ghost use Rattle.vortex_functions.specs.Words.{type_of, fits, function_arity, function_type, function_of};
-ghost use Rattle.vortex_functions.specs.Words.{called, trees_of, children_of, tree_types, AnswersUnlessMemory};
+ghost use Rattle.vortex_functions.specs.Words.{type_of, fits, function_arity, function_type};
+ghost use Rattle.vortex_functions.specs.Words.{function_of};
+ghost use Rattle.vortex_functions.specs.Words.{called, trees_of, children_of, tree_types};
+ghost use Rattle.vortex_functions.specs.Words.{AnswersUnlessMemory};
 ghost use Rattle.vortex_rules.specs.Told.{told_node, IsTold};
 
 use crate::node::{ReduceNodeValidity, ReduceTree};

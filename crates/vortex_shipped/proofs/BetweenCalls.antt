@@ -1,5 +1,6 @@
 -- From the answer of Between over its inputs to that of its call.
-use Rattle.std.proofs.Common.{◌≡◌, ℕ, ◌<◌, Bool, true, false, List, [], ◌∷◌, length, get_or, Some, None, refl, sym, ap, ◌∙◌, arith, cond}
+use Rattle.std.proofs.Common.{◌≡◌, ℕ, ◌<◌, Bool, true, false, List, [], ◌∷◌, length, get_or, Some}
+use Rattle.std.proofs.Common.{None, refl, sym, ap, ◌∙◌, arith, cond}
 use Rattle.std.specs.Prelude.{IsSome, slice_get, ◌&&◌, Result}
 use Rattle.vortex_errors.specs.declared.error.VortexError.{VortexError}
 use Rattle.vortex_errors.specs.Answers.{AnswersUnlessMemory}
@@ -76,7 +77,8 @@ module _ (options : BetweenOptions) (cs : List ColumnView) (x lower upper : Colu
     count = h.count ∙ e;
     each = λ i lt.
         let within : i < length x.rows = omega (arith, e) in
-        ap (λ (ds : List ColumnView). shipped_means (Between options) (types_in ds) (values_at ds i))
+        ap (λ (ds : List ColumnView). shipped_means (Between options) (types_in ds)
+        (values_at ds i))
         three.all
         ∙ ap gives (sym (h.each i within));
   }

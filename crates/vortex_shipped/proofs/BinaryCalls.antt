@@ -1,5 +1,6 @@
 -- From the answer of a kernel over two operands to that of the operator's call.
-use Rattle.std.proofs.Common.{◌≡◌, ℕ, ◌<◌, Bool, true, false, List, [], ◌∷◌, length, Some, None, refl, sym, ap, ◌∙◌, subst, arith, cond}
+use Rattle.std.proofs.Common.{◌≡◌, ℕ, ◌<◌, Bool, true, false, List, [], ◌∷◌, length, Some, None}
+use Rattle.std.proofs.Common.{refl, sym, ap, ◌∙◌, subst, arith, cond}
 use Rattle.std.specs.Prelude.{IsSome, slice_get, ◌||◌, ◌&&◌, Result}
 use Rattle.vortex_errors.specs.declared.error.VortexError.{VortexError}
 use Rattle.vortex_types.specs.LogicalTypes.{LogicalType, bool_type, is_nullable, is_bool_type}
@@ -8,15 +9,19 @@ use Rattle.vortex_errors.specs.Answers.{Answers}
 use Rattle.vortex_errors.proofs.Answering.{Answers-weaker}
 use Rattle.vortex_columns.specs.ColumnView.{ColumnView, row}
 use Rattle.vortex_operators.specs.declared.operators.Operator.{Operator}
-use Rattle.vortex_operators.specs.declared.operators.Operator.TheVariants.{Eq, NotEq, Gt, Gte, Lt, Lte, And, Or, Add, Sub, Mul, Div}
+use Rattle.vortex_operators.specs.declared.operators.Operator.TheVariants.{Eq, NotEq, Gt, Gte, Lt}
+use Rattle.vortex_operators.specs.declared.operators.Operator.TheVariants.{Lte, And, Or, Add, Sub}
+use Rattle.vortex_operators.specs.declared.operators.Operator.TheVariants.{Mul, Div}
 use Rattle.vortex_operators.specs.declared.operators.CompareOperator.{CompareOperator}
 use Rattle.vortex_operators.specs.Operators.{is_boolean, compare_operator_of}
 use Rattle.vortex_operators.specs.OperatorValues.{boolean_value, comparison_type}
 use Rattle.vortex_kernels.specs.Comparison.{AnswersCompare, RefusesCompare, uneven, unlike}
-use Rattle.vortex_kernels.specs.Boolean.{are_bools, AnswersBoolean, RefusesBoolean, no_operator, no_bools}
+use Rattle.vortex_kernels.specs.Boolean.{are_bools, AnswersBoolean, RefusesBoolean, no_operator}
+use Rattle.vortex_kernels.specs.Boolean.{no_bools}
 use Rattle.vortex_meaning.specs.Outcomes.{gives, HasCallRows, IsCallFault, types_in, values_at}
 use Rattle.vortex_meaning.specs.Shipped.{Binary, shipped_means}
-use Rattle.vortex_meaning.specs.Shipped.BinaryFunction.{both_bool, compared_type, operator_type, value_by, operator_value, means_by}
+use Rattle.vortex_meaning.specs.Shipped.BinaryFunction.{both_bool, compared_type, operator_type}
+use Rattle.vortex_meaning.specs.Shipped.BinaryFunction.{value_by, operator_value, means_by}
 use Rattle.vortex_operators.specs.Arithmetic.{numeric_operator_of}
 use Rattle.vortex_meaning.specs.Answering.{AnswersShipped}
 
@@ -110,7 +115,8 @@ boolean_rows op cs l r c n two e h = record {
       let within : i < length l.rows = omega (arith, e) in
       ap (λ (ds : List ColumnView). shipped_means (Binary op) (types_in ds) (values_at ds i))
       two.both
-      ∙ ap (λ o. means_by o op (types_in (l ∷ r ∷ [])) (values_at (l ∷ r ∷ []) i)) (no_numeric op two.operator)
+      ∙ ap (λ o. means_by o op (types_in (l ∷ r ∷ [])) (values_at (l ∷ r ∷ []) i))
+      (no_numeric op two.operator)
       ∙ (λ j. gives (operator_value-boolean op two.operator j (row l.rows i) (row r.rows i)))
       ∙ ap gives (sym (h.rows.each i within));
 }

@@ -1,5 +1,6 @@
 -- From the answer of arithmetic over two columns to that of the operator's call.
-use Rattle.std.proofs.Common.{◌≡◌, ℕ, ◌<◌, List, [], ◌∷◌, length, Option, Some, None, refl, sym, ap, ◌∙◌, subst, arith}
+use Rattle.std.proofs.Common.{◌≡◌, ℕ, ◌<◌, List, [], ◌∷◌, length, Option, Some, None, refl, sym, ap}
+use Rattle.std.proofs.Common.{◌∙◌, subst, arith}
 use Rattle.std.specs.Prelude.{IsSome, slice_get, ◌||◌, Result}
 use Rattle.std.specs.Option.{option_map}
 use Rattle.vortex_types.specs.declared.dtype.PType.{PType}
@@ -12,7 +13,8 @@ use Rattle.vortex_columns.specs.ColumnView.{ColumnView, row}
 use Rattle.vortex_operators.specs.declared.operators.Operator.{Operator}
 use Rattle.vortex_operators.specs.declared.operators.Operator.TheVariants.{Add, Sub, Mul, Div}
 use Rattle.vortex_operators.specs.Arithmetic.{numeric_operator_of, integer_of_both}
-use Rattle.vortex_kernels.specs.Numeric.{AnswersNumeric, RefusesNumeric, unlike, uneven, faulty, numeric_row}
+use Rattle.vortex_kernels.specs.Numeric.{AnswersNumeric, RefusesNumeric, unlike, uneven, faulty}
+use Rattle.vortex_kernels.specs.Numeric.{numeric_row}
 use Rattle.vortex_meaning.specs.Outcomes.{arithmetic, HasCallRows, IsCallFault, types_in, values_at}
 use Rattle.vortex_meaning.specs.Arithmetic.{arithmetic_type, arithmetic_of, value_or_fault}
 use Rattle.vortex_meaning.specs.Shipped.{Binary, shipped_means}
@@ -65,9 +67,11 @@ module _ (op : Operator) (o : NumericOperator) (cs : List ColumnView) (l r : Col
     (two : TwoIntegers op o cs l r) where
   -- the outcome of a row of the call
   outcome : (i : ℕ) (p : PType) → integer_of_both l.dtype r.dtype ≡ Some p
-      → shipped_means (Binary op) (types_in cs) (values_at cs i) ≡ value_or_fault o (numeric_row o p l r i)
+      → shipped_means (Binary op) (types_in cs) (values_at cs i)
+      ≡ value_or_fault o (numeric_row o p l r i)
   outcome i p e =
-      ap (λ (ds : List ColumnView). shipped_means (Binary op) (types_in ds) (values_at ds i)) two.both
+      ap (λ (ds : List ColumnView). shipped_means (Binary op) (types_in ds) (values_at ds i))
+      two.both
       ∙ ap (λ k. means_by k op (types_in (l ∷ r ∷ [])) (values_at (l ∷ r ∷ []) i)) two.numeric
       ∙ ap (λ k. arithmetic_of o k (row l.rows i) (row r.rows i)) e
 
@@ -82,7 +86,8 @@ module _ (op : Operator) (o : NumericOperator) (cs : List ColumnView) (l r : Col
     dtype =
         ap (λ ds. operator_type op (types_in ds)) two.both
         ∙ operator_type-numeric op o (l.dtype ∷ r.dtype ∷ []) two.numeric
-        ∙ ap (option_map (λ p. integer_type p (is_nullable l.dtype || is_nullable r.dtype))) h.accepted
+        ∙ ap (option_map (λ p. integer_type p (is_nullable l.dtype || is_nullable r.dtype)))
+        h.accepted
         ∙ ap Some (sym h.rows.dtype);
     count = h.rows.count ∙ e;
     each = λ i lt.

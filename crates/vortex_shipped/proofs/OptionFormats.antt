@@ -1,5 +1,6 @@
 -- Options are read back from the bytes that they are written as, and from no others.
-use Rattle.std.proofs.Common.{◌≡◌, ℕ, zero, suc, ◌+◌, ◌-◌, ◌<◌, ◌^◌, List, [], ◌∷◌, Bool, true, false, cond}
+use Rattle.std.proofs.Common.{◌≡◌, ℕ, zero, suc, ◌+◌, ◌-◌, ◌<◌, ◌^◌, List, [], ◌∷◌, Bool, true}
+use Rattle.std.proofs.Common.{false, cond}
 use Rattle.std.proofs.Common.{Option, Some, None, refl, sym, subst, ap, ◌∙◌, arith}
 use Rattle.std.specs.Prelude.{◌==◌, ◌&&◌, nat_lt, not}
 use Rattle.std.specs.Char.{IsScalar}
@@ -13,11 +14,14 @@ use Rattle.std.proofs.lemmas.Slice.Eq.{bytes_eq-Decides}
 use Rattle.vortex_errors.specs.OptionBytes.{IsFormat, two_bits}
 use Rattle.vortex_errors.proofs.ReadBytes.{read_among-written}
 use Rattle.vortex_operators.specs.declared.operators.Operator.{Operator}
-use Rattle.vortex_operators.specs.declared.operators.Operator.TheVariants.{Eq, NotEq, Gt, Gte, Lt, Lte, And, Or, Add, Sub, Mul, Div}
+use Rattle.vortex_operators.specs.declared.operators.Operator.TheVariants.{Eq, NotEq, Gt, Gte, Lt}
+use Rattle.vortex_operators.specs.declared.operators.Operator.TheVariants.{Lte, And, Or, Add, Sub}
+use Rattle.vortex_operators.specs.declared.operators.Operator.TheVariants.{Mul, Div}
 use Rattle.vortex_operators.specs.declared.between.BetweenOptions.{BetweenOptions}
 use Rattle.vortex_operators.specs.declared.between.StrictComparison.{StrictComparison}
 use Rattle.vortex_operators.specs.declared.between.StrictComparison.TheVariants.{Strict, NonStrict}
-use Rattle.vortex_operators.specs.OptionBytes.{operator_bytes, operator_read, all_operators, between_bytes, between_read, all_bounds}
+use Rattle.vortex_operators.specs.OptionBytes.{operator_bytes, operator_read, all_operators}
+use Rattle.vortex_operators.specs.OptionBytes.{between_bytes, between_read, all_bounds}
 use Rattle.vortex_like.specs.declared.options.LikeOptions.{LikeOptions}
 use Rattle.vortex_like.specs.OptionBytes.{like_bytes, like_read, escape_bytes, escape_read}
 use Rattle.vortex_like.specs.OptionBytes.{with_bits, asked, HasCharacter, IsLikeFormat}
@@ -41,7 +45,8 @@ operator_back Mul = refl
 operator_back Div = refl
 
 bounds_back : (lower upper : StrictComparison)
-    → (let o : BetweenOptions = record { lower_strict = lower; upper_strict = upper } in between_read (between_bytes o) ≡ Some o)
+    → (let o : BetweenOptions = record { lower_strict = lower; upper_strict = upper } in
+    between_read (between_bytes o) ≡ Some o)
 bounds_back NonStrict NonStrict = refl
 bounds_back Strict NonStrict = refl
 bounds_back NonStrict Strict = refl
@@ -76,7 +81,8 @@ escape_back e s other =
   where
     escape_by : ℕ → List ℕ → Option ℕ
     escape_by c number =
-        cond (bytes_eq (to_be_bytes w32 c) number && (scalar c && not (c == backslash))) (Some c) None
+        cond (bytes_eq (to_be_bytes w32 c) number && (scalar c && not (c == backslash))) (Some c)
+        None
 
 written_back : (n c : Bool) (e : ℕ) → IsScalar e → (e == backslash) ≡ false
     → like_read ((two_bits n c + 4) ∷ to_be_bytes w32 e) ≡ Some (asked n c (Some e))
@@ -167,7 +173,8 @@ one_alone b o e = by (nat_lt b 8) refl e
         ∙ ap (escape_bytes (two_bits o.negated o.case_insensitive)) (sym has.kept)
 
 more_alone : (b : ℕ) (number : List ℕ) (o : LikeOptions)
-    → cond (nat_lt b 4) None (option_and_then (λ c. with_bits (b - 4) (Some c)) (escape_read number))
+    → cond (nat_lt b 4) None (option_and_then (λ c. with_bits (b - 4) (Some c))
+    (escape_read number))
     ≡ Some o
     → b ∷ number ≡ like_bytes o
 more_alone b number o e = by (nat_lt b 4) (escape_read number) refl refl e

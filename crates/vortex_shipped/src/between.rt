@@ -1,7 +1,8 @@
 //! Between: whether a value lies between two bounds.
 ghost use Rattle.std.specs.Prelude.{◌≡◌, length, map};
 ghost use Rattle.vortex_meaning.specs.Shipped as shipped;
-ghost use Rattle.vortex_shipped.specs.Words.{no_rules, shipped_pieces, AnswersUnlessMemory, AppendsCall, AnswersShippedType};
+ghost use Rattle.vortex_shipped.specs.Words.{no_rules, shipped_pieces, AnswersUnlessMemory};
+ghost use Rattle.vortex_shipped.specs.Words.{AppendsCall, AnswersShippedType};
 ghost use Rattle.vortex_shipped.specs.Words.{between_id, shipped_meaning, shipped_lawful};
 ghost use Rattle.vortex_shipped.specs.Words.{WritesOptions, ReadsOptions, between_read};
 
@@ -15,9 +16,10 @@ use vortex_interface::{
 };
 use vortex_kernels::{BetweenOptions, execute_between};
 
-/// Whether each row lies between its bounds, of a type that all three share apart from nullability, by the order of
-/// values: Kleene's And of the two comparisons, so that a row beside one null bound can still be false. The answer is
-/// nullable if any of the three is.
+/// Whether each row lies between its bounds, of a type that all three share apart from nullability,
+/// by the order of
+/// values: Kleene's And of the two comparisons, so that a row beside one null bound can still be
+/// false. The answer is nullable if any of the three is.
 #[derive(Clone, Drop)]
 pub struct Between;
 

@@ -1,7 +1,11 @@
 //! The operators of two operands.
 ghost use Rattle.std.specs.Prelude.{◌≡◌, length, map};
 ghost use Rattle.vortex_meaning.specs.Shipped as shipped;
-ghost use Rattle.vortex_shipped.specs.Words.{no_rules, shipped_pieces, AnswersUnlessMemory, type_of, AppendsCall, binary_id, both_bool, compared_type, arithmetic_type, operator_type, operator_place, shipped_meaning, shipped_lawful, AnswersShippedType, IsTypeFound};
+ghost use Rattle.vortex_shipped.specs.Words.{no_rules, shipped_pieces, AnswersUnlessMemory};
+ghost use Rattle.vortex_shipped.specs.Words.{type_of, AppendsCall, binary_id, both_bool};
+ghost use Rattle.vortex_shipped.specs.Words.{compared_type, arithmetic_type, operator_type};
+ghost use Rattle.vortex_shipped.specs.Words.{operator_place, shipped_meaning, shipped_lawful};
+ghost use Rattle.vortex_shipped.specs.Words.{AnswersShippedType, IsTypeFound};
 ghost use Rattle.vortex_shipped.specs.Words.{WritesOptions, ReadsOptions, operator_read};
 
 use crate::option_bytes::write_byte;
@@ -14,9 +18,10 @@ use vortex_interface::{
 };
 use vortex_kernels::{Operator, execute_boolean, execute_compare, execute_numeric};
 
-/// And and Or of two Bool, by Kleene's tables; the comparisons of two types that agree apart from nullability, by the order
-/// of values; and exact arithmetic of two operands of one integer type apart from nullability, which is E7 where in some row
-/// both are there and the type does not hold the result. The answer is nullable if either operand is.
+/// And and Or of two Bool, by Kleene's tables; the comparisons of two types that agree apart from
+/// nullability, by the order of values; and exact arithmetic of two operands of one integer type
+/// apart from nullability, which is E7 where in some row both are there and the type does not hold
+/// the result. The answer is nullable if either operand is.
 #[derive(Clone, Drop)]
 pub struct Binary;
 

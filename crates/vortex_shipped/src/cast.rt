@@ -1,6 +1,7 @@
 //! Cast of Bool to the nullable one.
 ghost use Rattle.vortex_meaning.specs.Shipped as shipped;
-ghost use Rattle.vortex_shipped.specs.Words.{no_rules, shipped_pieces, AnswersUnlessMemory, AppendsCall, cast_id};
+ghost use Rattle.vortex_shipped.specs.Words.{no_rules, shipped_pieces, AnswersUnlessMemory};
+ghost use Rattle.vortex_shipped.specs.Words.{AppendsCall, cast_id};
 ghost use Rattle.vortex_shipped.specs.Words.{shipped_meaning, shipped_lawful, AnswersShippedType};
 ghost use Rattle.std.specs.Prelude.{IsOk};
 ghost use Rattle.vortex_shipped.specs.Words.{WritesOptions};

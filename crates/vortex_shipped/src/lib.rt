@@ -1,4 +1,5 @@
-//! The shipped row functions, one module each: what a call answers, its type, its marks and its text.
+//! The shipped row functions, one module each: what a call answers, its type, its marks and its
+//! text.
 #![tactic(auto)]
 
 pub mod between;

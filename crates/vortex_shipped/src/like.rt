@@ -1,7 +1,8 @@
 //! LIKE and ILIKE of a text and a pattern.
 ghost use Rattle.std.specs.Prelude.{◌≡◌, ◌<◌, Some, length, slice_get};
 ghost use Rattle.vortex_meaning.specs.Shipped as shipped;
-ghost use Rattle.vortex_shipped.specs.Words.{no_rules, shipped_pieces, AnswersUnlessMemory, AppendsCall, like_id, like_words};
+ghost use Rattle.vortex_shipped.specs.Words.{no_rules, shipped_pieces, AnswersUnlessMemory};
+ghost use Rattle.vortex_shipped.specs.Words.{AppendsCall, like_id, like_words};
 ghost use Rattle.vortex_shipped.specs.Words.{escape_pieces, piece_of};
 ghost use Rattle.vortex_shipped.specs.Words.{shipped_meaning, shipped_lawful, AnswersShippedType};
 ghost use Rattle.vortex_shipped.specs.Words.{WritesOptions, ReadsOptions, like_read};
@@ -34,7 +35,8 @@ fn words(options: &LikeOptions) -> &'static str
     }
 }
 
-/// What stands behind the two arguments: nothing where the escape is the backslash, and else the escape between quotes.
+/// What stands behind the two arguments: nothing where the escape is the backslash, and else the
+/// escape between quotes.
 fn escape_piece(escape: Option<char>, index: usize) -> TextPiece
     requires { index < length (escape_pieces escape) }
     ensures { slice_get (escape_pieces escape) index ≡ Some (piece_of result) }
@@ -58,8 +60,9 @@ impl ScalarFnVTable for Like {
         "vortex.like"
     }
 
-    /// One byte: bit 0 where negated, bit 1 where case insensitive. For another escape than the backslash bit 2 too, and behind
-    /// it the character as four bytes, the greatest first; for none bit 3 too.
+    /// One byte: bit 0 where negated, bit 1 where case insensitive. For another escape than the
+    /// backslash bit 2 too, and behind it the character as four bytes, the greatest first; for none
+    /// bit 3 too.
     fn serialize(&self, alloc: Global, options: &LikeOptions) -> VortexResult<Option<Vec<u8>>>
         ensures { AnswersUnlessMemory result (WritesOptions (shipped.Like options.now)) }
     {
@@ -107,8 +110,8 @@ impl ScalarFnVTable for Like {
         execute_like(input, pattern, *options, ctx)
     }
 
-    /// `a like p`, `a not like p`, `a ilike p` or `a not ilike p`, with ` escape '!'` or ` escape ''` behind it where the escape
-    /// is not the backslash.
+    /// `a like p`, `a not like p`, `a ilike p` or `a not ilike p`, with ` escape '!'` or ` escape
+    /// ''` behind it where the escape is not the backslash.
     fn fmt_sql(
         &self,
         options: &LikeOptions,
@@ -140,8 +143,9 @@ impl ScalarFnVTable for Like {
     ghost lawful = { shipped_lawful like_id shipped.Like };
 }
 
-/// `a like p`, `a not like p`, `a ilike p` or `a not ilike p`, and where another escape than the backslash is chosen
-/// ` escape '!'` behind it, with that character as it stands, or ` escape ''` where there is none.
+/// `a like p`, `a not like p`, `a ilike p` or `a not ilike p`, and where another escape than the
+/// backslash is chosen ` escape '!'` behind it, with that character as it stands, or ` escape ''`
+/// where there is none.
 impl TextPieces<LikeOptions> for Like {
     ghost pieces = { λ options. shipped_pieces (shipped.Like options) };
 

@@ -1,6 +1,8 @@
 //! Kleene's Not.
 ghost use Rattle.vortex_meaning.specs.Shipped as shipped;
-ghost use Rattle.vortex_shipped.specs.Words.{no_rules, shipped_pieces, AnswersUnlessMemory, AppendsCall, not_id, shipped_meaning, shipped_lawful, AnswersShippedType};
+ghost use Rattle.vortex_shipped.specs.Words.{no_rules, shipped_pieces, AnswersUnlessMemory};
+ghost use Rattle.vortex_shipped.specs.Words.{AppendsCall, not_id, shipped_meaning, shipped_lawful};
+ghost use Rattle.vortex_shipped.specs.Words.{AnswersShippedType};
 ghost use Rattle.std.specs.Prelude.{IsOk};
 ghost use Rattle.vortex_shipped.specs.Words.{WritesOptions};
 

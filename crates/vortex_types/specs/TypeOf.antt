@@ -10,7 +10,8 @@ use Rattle.vortex_types.specs.declared.dtype.DType.TheOpen.{DType-F, StructField
 use Rattle.vortex_types.specs.declared.dtype.StructFields.{StructFields, fold-StructFields}
 use Rattle.vortex_types.specs.LogicalTypes.{LogicalType, null_type, bool_type, integer_type}
 use Rattle.vortex_types.specs.LogicalTypes.{text_type, bytes_type, struct_type, list_type}
-use Rattle.vortex_types.specs.LogicalTypes.{fixed_size_list_type, map_type, Fields, no_fields, with_field}
+use Rattle.vortex_types.specs.LogicalTypes.{fixed_size_list_type, map_type, Fields, no_fields}
+use Rattle.vortex_types.specs.LogicalTypes.{with_field}
 use Rattle.vortex_types.specs.LogicalTypes.{field}
 
 abbrev pub allows_null : Nullability → Bool

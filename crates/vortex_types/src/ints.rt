@@ -132,7 +132,8 @@ pub trait NativePType: Copy + Drop {
             (λ xs. (ptype_of ints.now ≡ ptype) × (numbers ints.now ≡ map number xs.now)) };
 }
 
-/// Looks at each number, so that a caller knows that it lies in the range of its type. Changes nothing.
+/// Looks at each number, so that a caller knows that it lies in the range of its type. Changes
+/// nothing.
 pub fn learn_ranges<T: NativePType>(values: &[T])
     ensures { All (FitsPType T.ptype) (map T.number values.now) }
 {

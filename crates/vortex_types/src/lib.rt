@@ -1,4 +1,5 @@
-//! Types of columns, integers of each type, and values of scalars; with the refusals that stand below.
+//! Types of columns, integers of each type, and values of scalars; with the refusals that stand
+//! below.
 #![tactic(auto)]
 
 pub mod dtype;

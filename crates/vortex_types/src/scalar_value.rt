@@ -16,7 +16,8 @@ pub enum ScalarValue {
     Utf8(String),
     /// Bytes.
     Binary(Vec<u8>),
-    /// The values of a list; the fields of a struct in order; the entries of a map, each a list of key and value.
+    /// The values of a list; the fields of a struct in order; the entries of a map, each a list of
+    /// key and value.
     List(Vec<Option<ScalarValue>>),
 }
 

@@ -1,5 +1,6 @@
 -- The order of byte strings by words of their bytes.
-use Rattle.std.proofs.Common.{◌≡◌, ℕ, zero, suc, ◌+◌, ◌-◌, min, ◌*◌, ◌^◌, ◌<◌, ◌≤◌, List, [], ◌∷◌, ◌++◌, length, take, drop, refl, sym, ◌∙◌, ap, arith, inl, inr, ◌⊎◌}
+use Rattle.std.proofs.Common.{◌≡◌, ℕ, zero, suc, ◌+◌, ◌-◌, min, ◌*◌, ◌^◌, ◌<◌, ◌≤◌, List, [], ◌∷◌}
+use Rattle.std.proofs.Common.{◌++◌, length, take, drop, refl, sym, ◌∙◌, ap, arith, inl, inr, ◌⊎◌}
 use Rattle.std.proofs.lemmas.Bool.{cases_order, cases_lt}
 use Rattle.std.proofs.lemmas.List.{get_or-drop, length-drop, take-take, take_all}
 use Rattle.std.proofs.Math.Seq.{take-add}
@@ -10,9 +11,11 @@ use Rattle.std.specs.declared.cmp.Ordering.{Ordering}
 use Rattle.std.specs.declared.cmp.Ordering.TheVariants.{Less, Equal, Greater}
 use Rattle.std.specs.Ordering.{nat_cmp, ordering_then}
 use Rattle.vortex_views.specs.ValueWords.{compare_bytes}
-use Rattle.vortex_views.proofs.Digits.{digits, AreBytes, digits-past, digits-none, digits-below, first_decides, same_first, cmp_less, cmp_equal, cmp_greater}
+use Rattle.vortex_views.proofs.Digits.{digits, AreBytes, digits-past, digits-none, digits-below}
+use Rattle.vortex_views.proofs.Digits.{first_decides, same_first, cmp_less, cmp_equal, cmp_greater}
 
-pub then_then : (a b c : Ordering) → ordering_then (ordering_then a b) c ≡ ordering_then a (ordering_then b c)
+pub then_then : (a b c : Ordering)
+    → ordering_then (ordering_then a b) c ≡ ordering_then a (ordering_then b c)
 then_then Less b c = refl
 then_then Equal b c = refl
 then_then Greater b c = refl
@@ -50,7 +53,8 @@ pub by_words_and_lengths : (n : ℕ) (xs ys : List ℕ) → AreBytes xs → AreB
     → (length xs ≤ n) ⊎ (length ys ≤ n)
     → compare_bytes xs ys
     ≡ ordering_then (nat_cmp (digits n 0 xs) (digits n 0 ys)) (nat_cmp (length xs) (length ys))
-by_words_and_lengths n [] [] h k s = sym (ap (λ o. ordering_then o (nat_cmp 0 0)) (cmp_equal (digits n 0 []) (digits n 0 []) refl))
+by_words_and_lengths n [] [] h k s = sym (ap (λ o. ordering_then o (nat_cmp 0 0))
+    (cmp_equal (digits n 0 []) (digits n 0 []) refl))
 by_words_and_lengths n [] (y ∷ ys) h k s =
     rw (digits-none n 0) (nothing_below (digits n 0 (y ∷ ys)) (length ys))
 by_words_and_lengths n (x ∷ xs) [] h k s =
@@ -60,8 +64,10 @@ by_words_and_lengths zero (x ∷ xs) (y ∷ ys) h k (inr s) = absurd (omega arit
 by_words_and_lengths (suc n) (x ∷ xs) (y ∷ ys) h k s =
     ap (λ o. ordering_then (nat_cmp x y) o)
     (by_words_and_lengths n xs ys (λ i. h (suc i)) (λ i. k (suc i)) (shorter s))
-    ∙ sym (then_then (nat_cmp x y) (nat_cmp (digits n 0 xs) (digits n 0 ys)) (nat_cmp (length xs) (length ys)))
-    ∙ ap (λ o. ordering_then o (nat_cmp (length xs) (length ys))) (sym (first_of_both n x y xs ys h k))
+    ∙ sym (then_then (nat_cmp x y) (nat_cmp (digits n 0 xs) (digits n 0 ys))
+    (nat_cmp (length xs) (length ys)))
+    ∙ ap (λ o. ordering_then o (nat_cmp (length xs) (length ys)))
+    (sym (first_of_both n x y xs ys h k))
     ∙ ap (λ o. ordering_then (nat_cmp (digits (suc n) 0 (x ∷ xs)) (digits (suc n) 0 (y ∷ ys))) o)
     (sym (lengths (length xs) (length ys) (cases_order (length xs) (length ys))))
 
@@ -69,15 +75,18 @@ by_words_and_lengths (suc n) (x ∷ xs) (y ∷ ys) h k s =
 pub by_words_and_rests : (n : ℕ) (xs ys : List ℕ) → AreBytes xs → AreBytes ys
     → n ≤ length xs → n ≤ length ys
     → compare_bytes xs ys
-    ≡ ordering_then (nat_cmp (digits n 0 xs) (digits n 0 ys)) (compare_bytes (drop n xs) (drop n ys))
+    ≡ ordering_then (nat_cmp (digits n 0 xs) (digits n 0 ys))
+    (compare_bytes (drop n xs) (drop n ys))
 by_words_and_rests zero xs ys h k p q = refl
 by_words_and_rests (suc n) [] ys h k p q = absurd (omega arith)
 by_words_and_rests (suc n) (x ∷ xs) [] h k p q = absurd (omega arith)
 by_words_and_rests (suc n) (x ∷ xs) (y ∷ ys) h k p q =
     ap (λ o. ordering_then (nat_cmp x y) o)
     (by_words_and_rests n xs ys (λ i. h (suc i)) (λ i. k (suc i)) (omega arith) (omega arith))
-    ∙ sym (then_then (nat_cmp x y) (nat_cmp (digits n 0 xs) (digits n 0 ys)) (compare_bytes (drop n xs) (drop n ys)))
-    ∙ ap (λ o. ordering_then o (compare_bytes (drop n xs) (drop n ys))) (sym (first_of_both n x y xs ys h k))
+    ∙ sym (then_then (nat_cmp x y) (nat_cmp (digits n 0 xs) (digits n 0 ys))
+    (compare_bytes (drop n xs) (drop n ys)))
+    ∙ ap (λ o. ordering_then o (compare_bytes (drop n xs) (drop n ys)))
+    (sym (first_of_both n x y xs ys h k))
 
 -- equal numbers of n bytes are of equal bytes
 pub same_start : (n : ℕ) (xs ys : List ℕ) → AreBytes xs → AreBytes ys
@@ -87,15 +96,18 @@ same_start (suc n) [] ys h k p q e = absurd (omega arith)
 same_start (suc n) (x ∷ xs) [] h k p q e = absurd (omega arith)
 same_start (suc n) (x ∷ xs) (y ∷ ys) h k p q e =
     let e' : x * 256 ^ n + digits n 0 xs ≡ y * 256 ^ n + digits n 0 ys =
-    ap (λ d. x * 256 ^ n + d) (sym (digits-past n 0 x xs)) ∙ e ∙ ap (λ d. y * 256 ^ n + d) (digits-past n 0 y ys) in
+    ap (λ d. x * 256 ^ n + d) (sym (digits-past n 0 x xs)) ∙ e
+    ∙ ap (λ d. y * 256 ^ n + d) (digits-past n 0 y ys) in
     let both : (x ≡ y) × (digits n 0 xs ≡ digits n 0 ys) =
     same_first x y (digits n 0 xs) (digits n 0 ys) (256 ^ n)
     (digits-below n 0 xs (λ i. h (suc i))) (digits-below n 0 ys (λ i. k (suc i))) e' in
     ap (λ z. z ∷ take n xs) both.0
-    ∙ ap (λ zs. y ∷ zs) (same_start n xs ys (λ i. h (suc i)) (λ i. k (suc i)) (omega arith) (omega arith) both.1)
+    ∙ ap (λ zs. y ∷ zs) (same_start n xs ys (λ i. h (suc i)) (λ i. k (suc i)) (omega arith)
+    (omega arith) both.1)
 
 -- after an equal start of n bytes the rest decides
-pub after_same_start : (n : ℕ) (xs ys : List ℕ) → n ≤ length xs → n ≤ length ys → take n xs ≡ take n ys
+pub after_same_start : (n : ℕ) (xs ys : List ℕ) → n ≤ length xs → n ≤ length ys
+    → take n xs ≡ take n ys
     → compare_bytes xs ys ≡ compare_bytes (drop n xs) (drop n ys)
 after_same_start zero xs ys p q e = refl
 after_same_start (suc n) [] ys p q e = absurd (omega arith)
@@ -115,7 +127,8 @@ digits-take : (n : ℕ) (xs : List ℕ) → digits n 0 xs ≡ digits n 0 (take n
 digits-take zero xs = refl
 digits-take (suc n) [] = refl
 digits-take (suc n) (x ∷ xs) =
-    ap (λ d. x * 256 ^ n + d) (digits-past n 0 x xs ∙ digits-take n xs ∙ sym (digits-past n 0 x (take n xs)))
+    ap (λ d. x * 256 ^ n + d) (digits-past n 0 x xs ∙ digits-take n xs
+    ∙ sym (digits-past n 0 x (take n xs)))
 
 -- and back
 pub same_words : (n : ℕ) (xs ys : List ℕ) → take n xs ≡ take n ys → digits n 0 xs ≡ digits n 0 ys
@@ -132,7 +145,8 @@ pub same_bytes_at : (n i j : ℕ) (xs ys : List ℕ) → AreBytes xs → AreByte
     → i + n ≤ length xs → j + n ≤ length ys
     → digits n 0 (drop i xs) ≡ digits n 0 (drop j ys) → take n (drop i xs) ≡ take n (drop j ys)
 same_bytes_at n i j xs ys h k p q e =
-    same_start n (drop i xs) (drop j ys) (later i xs h) (later j ys k) (room i n xs p) (room j n ys q) e
+    same_start n (drop i xs) (drop j ys) (later i xs h) (later j ys k) (room i n xs p)
+    (room j n ys q) e
 
 four_digits : (xs : List ℕ) → from_be_bytes w32 (padded 4 xs) ≡ digits 4 0 xs
 four_digits xs = omega arith
@@ -141,7 +155,8 @@ four_digits xs = omega arith
 pub tells_four : (i j : ℕ) (xs ys : List ℕ) (a b : ℕ) → AreBytes xs → AreBytes ys
     → i + 4 ≤ length xs → j + 4 ≤ length ys
     → a ≡ from_be_bytes w32 (padded 4 (drop i xs)) → b ≡ from_be_bytes w32 (padded 4 (drop j ys))
-    → (a ≡ b → take 4 (drop i xs) ≡ take 4 (drop j ys)) × (take 4 (drop i xs) ≡ take 4 (drop j ys) → a ≡ b)
+    → (a ≡ b → take 4 (drop i xs) ≡ take 4 (drop j ys))
+    × (take 4 (drop i xs) ≡ take 4 (drop j ys) → a ≡ b)
 tells_four i j xs ys a b h k p q d e = (
   (λ s. same_bytes_at 4 i j xs ys h k p q
       (sym (four_digits (drop i xs)) ∙ sym d ∙ s ∙ e ∙ four_digits (drop j ys))),
@@ -165,11 +180,13 @@ eight_more n xs ys h k p q same e =
     ∙ sym (take-add n 8 ys)
 
 -- a beginning of an equal beginning
-pub shorter_start : (m n : ℕ) (xs ys : List ℕ) → m ≤ n → take n xs ≡ take n ys → take m xs ≡ take m ys
+pub shorter_start : (m n : ℕ) (xs ys : List ℕ) → m ≤ n → take n xs ≡ take n ys
+    → take m xs ≡ take m ys
 shorter_start m n xs ys h e = sym (take-take m n xs h) ∙ ap (λ zs. take m zs) e ∙ take-take m n ys h
 
 -- equal to the last eight, and these too
-pub all_same : (n m : ℕ) (xs ys : List ℕ) → AreBytes xs → AreBytes ys → length xs ≡ length ys → length xs ≡ m + 8
+pub all_same : (n m : ℕ) (xs ys : List ℕ) → AreBytes xs → AreBytes ys → length xs ≡ length ys
+    → length xs ≡ m + 8
     → m ≤ n → take n xs ≡ take n ys
     → from_be_bytes w64 (padded 8 (drop m xs)) ≡ from_be_bytes w64 (padded 8 (drop m ys)) → xs ≡ ys
 all_same n m xs ys h k l s p e d =
@@ -179,14 +196,19 @@ all_same n m xs ys h k l s p e d =
 
 word_first : (xs ys : List ℕ) → AreBytes xs → AreBytes ys → 8 ≤ length xs → 8 ≤ length ys
     → (from_be_bytes w64 (padded 8 xs) ≡ from_be_bytes w64 (padded 8 ys) → ⊥)
-    → compare_bytes xs ys ≡ nat_cmp (from_be_bytes w64 (padded 8 xs)) (from_be_bytes w64 (padded 8 ys))
+    → compare_bytes xs ys ≡ nat_cmp (from_be_bytes w64 (padded 8 xs))
+    (from_be_bytes w64 (padded 8 ys))
 word_first xs ys h k p q differ =
-    decided (nat_cmp (from_be_bytes w64 (padded 8 xs)) (from_be_bytes w64 (padded 8 ys))) (compare_bytes xs ys)
+    decided (nat_cmp (from_be_bytes w64 (padded 8 xs)) (from_be_bytes w64 (padded 8 ys)))
+    (compare_bytes xs ys)
     (compare_bytes (drop 8 xs) (drop 8 ys))
-    (λ e. differ (ranked (from_be_bytes w64 (padded 8 xs)) (from_be_bytes w64 (padded 8 ys)) Equal (sym e)))
+    (λ e. differ (ranked (from_be_bytes w64 (padded 8 xs)) (from_be_bytes w64 (padded 8 ys)) Equal
+    (sym e)))
     (by_words_and_rests 8 xs ys h k p q
-    ∙ ap (λ d. ordering_then (nat_cmp d (digits 8 0 ys)) (compare_bytes (drop 8 xs) (drop 8 ys))) (sym (eight_digits xs))
-    ∙ ap (λ d. ordering_then (nat_cmp (from_be_bytes w64 (padded 8 xs)) d) (compare_bytes (drop 8 xs) (drop 8 ys)))
+    ∙ ap (λ d. ordering_then (nat_cmp d (digits 8 0 ys)) (compare_bytes (drop 8 xs) (drop 8 ys)))
+    (sym (eight_digits xs))
+    ∙ ap (λ d. ordering_then (nat_cmp (from_be_bytes w64 (padded 8 xs)) d)
+    (compare_bytes (drop 8 xs) (drop 8 ys)))
     (sym (eight_digits ys)))
 
 -- different words decide
@@ -197,7 +219,8 @@ pub word_decides : (n : ℕ) (xs ys : List ℕ) → AreBytes xs → AreBytes ys
     ≡ nat_cmp (from_be_bytes w64 (padded 8 (drop n xs))) (from_be_bytes w64 (padded 8 (drop n ys)))
 word_decides n xs ys h k p q same differ =
     after_same_start n xs ys (omega arith) (omega arith) same
-    ∙ word_first (drop n xs) (drop n ys) (later n xs h) (later n ys k) (room n 8 xs p) (room n 8 ys q) differ
+    ∙ word_first (drop n xs) (drop n ys) (later n xs h) (later n ys k) (room n 8 xs p)
+    (room n 8 ys q) differ
 
 one_less : {m l n : ℕ} → (suc m ≡ suc n) ⊎ (suc l ≡ suc n) → (m ≡ n) ⊎ (l ≡ n)
 one_less (inl h) = inl (omega arith)
@@ -231,7 +254,8 @@ word_answer n xs ys r l m h k p q same d e differ f =
     ∙ ap (λ z. nat_cmp (from_be_bytes w64 (padded 8 (drop n xs))) z) e
     ∙ sym (word_decides n xs ys h k p q same (λ s. differ (d ∙ s ∙ sym e)))
 
-ends_by : (m n k : ℕ) → k ≡ min m n → 8 ≤ m → 8 ≤ n → (m < n) ⊎ (n ≤ m) → (m ≡ k - 8 + 8) ⊎ (n ≡ k - 8 + 8)
+ends_by : (m n k : ℕ) → k ≡ min m n → 8 ≤ m → 8 ≤ n → (m < n) ⊎ (n ≤ m)
+    → (m ≡ k - 8 + 8) ⊎ (n ≡ k - 8 + 8)
 ends_by m n k e p q (inl h) = inl (omega arith)
 ends_by m n k e p q (inr h) = inr (omega arith)
 

@@ -1,5 +1,6 @@
 -- Numbers whose digits are bytes, the first of them the highest, are ordered by their digits.
-use Rattle.std.proofs.Common.{◌≡◌, ℕ, zero, suc, ◌+◌, ◌*◌, ◌^◌, ◌<◌, ◌≤◌, List, [], ◌∷◌, get_or, refl, sym, ◌∙◌, ap, arith, inl, inr, ◌⊎◌, Fits, w8, rules}
+use Rattle.std.proofs.Common.{◌≡◌, ℕ, zero, suc, ◌+◌, ◌*◌, ◌^◌, ◌<◌, ◌≤◌, List, [], ◌∷◌, get_or}
+use Rattle.std.proofs.Common.{refl, sym, ◌∙◌, ap, arith, inl, inr, ◌⊎◌, Fits, w8, rules}
 use Rattle.std.proofs.Math.Nat.{mul-le-mul_right, pow-suc}
 use Rattle.std.proofs.lemmas.Bool.{cases_order}
 use Rattle.std.specs.Cmp.{nat_cmp_is}
@@ -40,12 +41,15 @@ digits-below (suc n) i xs h =
     rw (pow-suc 256 n) (below _ _ _ (h i) (digits-below n (suc i) xs h))
 
 apart : (x y a b p : ℕ) → x < y → a < p → x * p + a < y * p + b
-apart x y a b p h k = let m : suc x * p ≤ y * p = mul-le-mul_right p (omega arith) in omega (arith, m)
+apart x y a b p h k = let m : suc x * p ≤ y * p = mul-le-mul_right p (omega arith) in omega
+    (arith, m)
 
-shifted : (q r a b : ℕ) → q ≡ r → (a ≡ b) ⊎ ((a < b) ⊎ (b < a)) → nat_cmp (q + a) (r + b) ≡ nat_cmp a b
+shifted : (q r a b : ℕ) → q ≡ r → (a ≡ b) ⊎ ((a < b) ⊎ (b < a))
+    → nat_cmp (q + a) (r + b) ≡ nat_cmp a b
 shifted q r a b e (inl h) = cmp_equal (q + a) (r + b) (omega arith) ∙ sym (cmp_equal a b h)
 shifted q r a b e (inr (inl h)) = cmp_less (q + a) (r + b) (omega arith) ∙ sym (cmp_less a b h)
-shifted q r a b e (inr (inr h)) = cmp_greater (q + a) (r + b) (omega arith) ∙ sym (cmp_greater a b h)
+shifted q r a b e (inr (inr h)) = cmp_greater (q + a) (r + b) (omega arith)
+    ∙ sym (cmp_greater a b h)
 
 decides : (x y a b p : ℕ) → a < p → b < p → (x ≡ y) ⊎ ((x < y) ⊎ (y < x))
     → nat_cmp (x * p + a) (y * p + b) ≡ ordering_then (nat_cmp x y) (nat_cmp a b)
@@ -64,7 +68,8 @@ pub first_decides : (x y a b p : ℕ) → a < p → b < p
     → nat_cmp (x * p + a) (y * p + b) ≡ ordering_then (nat_cmp x y) (nat_cmp a b)
 first_decides x y a b p h k = decides x y a b p h k (cases_order x y)
 
-same : (x y a b p : ℕ) → a < p → b < p → (x ≡ y) ⊎ ((x < y) ⊎ (y < x)) → x * p + a ≡ y * p + b → (x ≡ y) × (a ≡ b)
+same : (x y a b p : ℕ) → a < p → b < p → (x ≡ y) ⊎ ((x < y) ⊎ (y < x)) → x * p + a ≡ y * p + b
+    → (x ≡ y) × (a ≡ b)
 same x y a b p h k (inl e) s = (e, omega (arith, ap (λ z. z * p) e))
 same x y a b p h k (inr (inl l)) s = absurd (omega (arith, apart x y a b p l h))
 same x y a b p h k (inr (inr l)) s = absurd (omega (arith, apart y x b a p l k))

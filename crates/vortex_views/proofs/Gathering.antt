@@ -1,5 +1,6 @@
 -- What is gathered, place by place.
-use Rattle.std.proofs.Common.{◌≡◌, ℕ, ◌+◌, ◌<◌, List, [], ◌∷◌, ◌++◌, length, map, get_or, take, refl, sym, ap, ◌∙◌, subst, arith}
+use Rattle.std.proofs.Common.{◌≡◌, ℕ, ◌+◌, ◌<◌, List, [], ◌∷◌, ◌++◌, length, map, get_or, take}
+use Rattle.std.proofs.Common.{refl, sym, ap, ◌∙◌, subst, arith}
 use Rattle.std.specs.Prelude.{All}
 use Rattle.std.proofs.lemmas.List.Elements.{All-head, All-tail}
 use Rattle.std.proofs.lemmas.List.{get_or-map, length-map, get_or_default, take_more, map-append}
@@ -59,10 +60,12 @@ module _ (bufs bufs' : List (List ℕ)) (views views' : List BinaryView) (places
       subst (IsViewIn bufs')
       (get_or-map view_bytes views (get_or places i 0) any_view [] place
       ∙ ap view_bytes (sym view_is) ∙ sym (get_or-map view_bytes views' i any_view [] h))
-      (subst (λ (bs : List (List ℕ)). IsViewIn bs (get_or (map view_bytes views) (get_or places i 0) []))
+      (subst (λ (bs : List (List ℕ)). IsViewIn bs
+      (get_or (map view_bytes views) (get_or places i 0) []))
       (sym same) (fit (get_or places i 0) place))
 
-  pub gathered_values : values_in bufs' views' ≡ map (λ i. get_or (values_in bufs views) i []) places
+  pub gathered_values : values_in bufs' views'
+      ≡ map (λ i. get_or (values_in bufs views) i []) places
   gathered_values =
       (λ j. values_in (same j) (so any_view j))
       ∙ map_gathered (λ v. value_in bufs (view_bytes v)) views any_view [] places within_views

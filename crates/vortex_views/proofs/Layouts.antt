@@ -1,10 +1,12 @@
 -- What is read from the 16 bytes of a view is what they were made of.
-use Rattle.std.proofs.Common.{◌≡◌, ℕ, zero, suc, ◌+◌, ◌*◌, ◌^◌, ◌<◌, ◌≤◌, List, [], ◌∷◌, ◌++◌, get_or, length, take, drop, refl, sym, ◌∙◌, ap, arith}
+use Rattle.std.proofs.Common.{◌≡◌, ℕ, zero, suc, ◌+◌, ◌*◌, ◌^◌, ◌<◌, ◌≤◌, List, [], ◌∷◌, ◌++◌}
+use Rattle.std.proofs.Common.{get_or, length, take, drop, refl, sym, ◌∙◌, ap, arith}
 use Rattle.std.proofs.lemmas.List.{get_or-drop, ext_get_or}
 use Rattle.std.proofs.lemmas.List.FromFn.{get_or-map-range_with_len, length-map-range_with_len}
 use Rattle.std.proofs.lemmas.Nat.{from_le_bytes-to_le_bytes_4, le_bytes_8}
 use Rattle.std.specs.Int.{w32, w64, w128, to_le_bytes, from_le_bytes, from_be_bytes}
-use Rattle.vortex_views.specs.ViewBytes.{padded, inlined_view, long_view, view_len, view_buffer, view_offset, inlined_value}
+use Rattle.vortex_views.specs.ViewBytes.{padded, inlined_view, long_view, view_len, view_buffer}
+use Rattle.vortex_views.specs.ViewBytes.{view_offset, inlined_value}
 use Rattle.vortex_views.specs.ValueWords.{head_word, order_tail_word}
 use Rattle.vortex_views.proofs.Digits.{AreBytes, same_first}
 
@@ -15,13 +17,16 @@ pub long_len : (value : List ℕ) (b o : ℕ) → length value ≤ 4294967295
     → view_len (long_view (length value) value b o) ≡ length value
 long_len value b o h = from_le_bytes-to_le_bytes_4 (length value) (omega arith)
 
-pub long_buffer : (n : ℕ) (value : List ℕ) (b o : ℕ) → b < 2 ^ 32 → view_buffer (long_view n value b o) ≡ b
+pub long_buffer : (n : ℕ) (value : List ℕ) (b o : ℕ) → b < 2 ^ 32
+    → view_buffer (long_view n value b o) ≡ b
 long_buffer n value b o h = from_le_bytes-to_le_bytes_4 b h
 
-pub long_offset : (n : ℕ) (value : List ℕ) (b o : ℕ) → o < 2 ^ 32 → view_offset (long_view n value b o) ≡ o
+pub long_offset : (n : ℕ) (value : List ℕ) (b o : ℕ) → o < 2 ^ 32
+    → view_offset (long_view n value b o) ≡ o
 long_offset n value b o h = from_le_bytes-to_le_bytes_4 o h
 
-pub short_tail : (value : List ℕ) → from_be_bytes w64 (drop 8 (inlined_view value)) ≡ order_tail_word value
+pub short_tail : (value : List ℕ)
+    → from_be_bytes w64 (drop 8 (inlined_view value)) ≡ order_tail_word value
 short_tail value = simp get_or-drop refl
 
 take_12 : (value : List ℕ) → length value ≤ 12 → take (length value) (padded 12 value) ≡ value
@@ -59,14 +64,18 @@ head_bytes value h p (suc (suc (suc (suc (suc (suc (suc (suc i)))))))) = omega a
 pub head_to_bytes : (value : List ℕ) → AreBytes value → length value ≤ 4294967295
     → to_le_bytes w64 (head_word value) ≡ to_le_bytes w32 (length value) ++ padded 4 value
 head_to_bytes value h p =
-    le_bytes_8 (to_le_bytes w32 (length value) ++ padded 4 value) (head_word value) refl (head_bytes value h p) refl
+    le_bytes_8 (to_le_bytes w32 (length value) ++ padded 4 value) (head_word value) refl
+    (head_bytes value h p) refl
 
-pub same_heads : (a b : List ℕ) → AreBytes a → AreBytes b → length a ≤ 4294967295 → length b ≤ 4294967295
+pub same_heads : (a b : List ℕ) → AreBytes a → AreBytes b → length a ≤ 4294967295
+    → length b ≤ 4294967295
     → head_word a ≡ head_word b → (length a ≡ length b) × (padded 4 a ≡ padded 4 b)
 same_heads a b h k p q e =
-    let same : (to_le_bytes w32 (length a) ++ padded 4 a) ≡ (to_le_bytes w32 (length b) ++ padded 4 b) =
+    let same : (to_le_bytes w32 (length a) ++ padded 4 a)
+    ≡ (to_le_bytes w32 (length b) ++ padded 4 b) =
     sym (head_to_bytes a h p) ∙ ap (λ n. to_le_bytes w64 n) e ∙ head_to_bytes b k q in (
-      sym (from_le_bytes-to_le_bytes_4 (length a) (omega arith)) ∙ ap (λ v. from_le_bytes w32 v) same
+      sym (from_le_bytes-to_le_bytes_4 (length a) (omega arith))
+          ∙ ap (λ v. from_le_bytes w32 v) same
           ∙ from_le_bytes-to_le_bytes_4 (length b) (omega arith),
       ap (λ v. drop 4 v) same,
     )
@@ -74,7 +83,8 @@ same_heads a b h k p q e =
 full : (n : ℕ) (v : List ℕ) → length v ≡ n → v ≡ padded n v
 full n v e =
     ext_get_or 0 v (padded n v) (e ∙ sym (length-map-range_with_len (λ i. get_or v i 0) 0 n))
-    (λ i h. sym (get_or-map-range_with_len (λ k. get_or v k 0) 0 n i i 0 (omega arith) (omega arith)))
+    (λ i h. sym (get_or-map-range_with_len (λ k. get_or v k 0) 0 n i i 0 (omega arith)
+    (omega arith)))
 
 eight : (v : List ℕ) → AreBytes v → AreBytes (padded 8 v)
 eight v h zero = h 0
@@ -107,13 +117,15 @@ pub same_views : (v w : List ℕ) → length v ≡ 16 → length w ≡ 16 → Ar
 same_views v w p q h k d e =
     two_words v p
     ∙ ap (λ bs. bs ++ padded 8 (drop 8 v)) (same_word v w h k d)
-    ∙ ap (λ bs. padded 8 w ++ bs) (same_word (drop 8 v) (drop 8 w) (later_bytes 8 v h) (later_bytes 8 w k) e)
+    ∙ ap (λ bs. padded 8 w ++ bs) (same_word (drop 8 v) (drop 8 w) (later_bytes 8 v h)
+    (later_bytes 8 w k) e)
     ∙ sym (two_words w q)
 
 word_below : (v : List ℕ) → AreBytes v → from_le_bytes w64 v < 256 ^ 8
 word_below v h = omega (arith, h 0, h 1, h 2, h 3, h 4, h 5, h 6, h 7)
 
-whole : (v : List ℕ) → from_le_bytes w128 v ≡ from_le_bytes w64 (drop 8 v) * 256 ^ 8 + from_le_bytes w64 v
+whole : (v : List ℕ)
+    → from_le_bytes w128 v ≡ from_le_bytes w64 (drop 8 v) * 256 ^ 8 + from_le_bytes w64 v
 whole v = simp get_or-drop (omega arith)
 
 pub same_wholes : (v w : List ℕ) → length v ≡ 16 → length w ≡ 16 → AreBytes v → AreBytes w

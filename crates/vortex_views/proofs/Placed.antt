@@ -1,17 +1,21 @@
 -- Buffers that grow hold what they held, and the value that was put last.
-use Rattle.std.proofs.Common.{◌≡◌, ℕ, ◌+◌, ◌<◌, ◌≤◌, ◌⊎◌, inl, inr, cond, nat_le, false, List, [], ◌∷◌, ◌++◌}
-use Rattle.std.proofs.Common.{map, length, get_or, take, drop, refl, sym, ap, ◌∙◌, subst, arith, Vec, Global}
+use Rattle.std.proofs.Common.{◌≡◌, ℕ, ◌+◌, ◌<◌, ◌≤◌, ◌⊎◌, inl, inr, cond, nat_le, false, List, []}
+use Rattle.std.proofs.Common.{◌∷◌, ◌++◌}
+use Rattle.std.proofs.Common.{map, length, get_or, take, drop, refl, sym, ap, ◌∙◌, subst, arith}
+use Rattle.std.proofs.Common.{Vec, Global}
 use Rattle.std.specs.Prelude.{slice_set, Result}
 use Rattle.vortex_errors.specs.Answers.{AnswersUnlessMemory, AnswersWhere}
 use Rattle.vortex_errors.specs.declared.error.VortexError.{VortexError}
 use Rattle.vortex_errors.proofs.Answering.{Answers-weaker}
-use Rattle.std.proofs.lemmas.List.{set_at, map_push, get_or_push, get_or_append_left, append-nil, length-append, drop_at, take_at, length-map, length_push}
+use Rattle.std.proofs.lemmas.List.{set_at, map_push, get_or_push, get_or_append_left, append-nil}
+use Rattle.std.proofs.lemmas.List.{length-append, drop_at, take_at, length-map, length_push}
 use Rattle.std.proofs.lemmas.Bool.{cases_lt, cond-true, cond-false, le-leb, false_from_ne_true}
 use Rattle.vortex_views.specs.declared.builder.Buffers.{Buffers}
 use Rattle.vortex_views.specs.ViewBytes.{padded, long_view, view_len, view_buffer, view_offset}
 use Rattle.vortex_views.specs.Resolved.{IsViewIn, LiesInBuffer, value_in}
 use Rattle.vortex_views.specs.Placing.{Placed, placed_after, most_bytes}
-use Rattle.vortex_views.specs.Building.{Extend, IsPlaced, IsAppended, IsBegun, all_buffers, full_of, filled, AreInRange}
+use Rattle.vortex_views.specs.Building.{Extend, IsPlaced, IsAppended, IsBegun, all_buffers, full_of}
+use Rattle.vortex_views.specs.Building.{filled, AreInRange}
 use Rattle.vortex_views.proofs.Layouts.{long_len, long_buffer, long_offset}
 use Rattle.vortex_views.proofs.Resolving.{long_in, above}
 
@@ -48,10 +52,12 @@ module _ (fs : List (List ℕ)) (l value view : List ℕ) (long : 12 < length va
   len_is = ap view_len is ∙ long_len value (length fs) (length l) most
 
   buffer_is : view_buffer view ≡ length fs
-  buffer_is = ap view_buffer is ∙ long_buffer (length value) value (length fs) (length l) (omega arith)
+  buffer_is = ap view_buffer is ∙ long_buffer (length value) value (length fs) (length l)
+      (omega arith)
 
   offset_is : view_offset view ≡ length l
-  offset_is = ap view_offset is ∙ long_offset (length value) value (length fs) (length l) (omega arith)
+  offset_is = ap view_offset is ∙ long_offset (length value) value (length fs) (length l)
+      (omega arith)
 
   there : get_or bufs (view_buffer view) [] ≡ l ++ value
   there = ap (λ k. get_or bufs k []) buffer_is ∙ get_or_push fs (l ++ value) [] (length fs) refl
@@ -100,7 +106,8 @@ extend_by fs l x k (inl h) q = (
 extend_by fs l x k (inr h) q =
     let last : length fs ≡ k = omega (arith, h, q, length_push fs l) in (
       x,
-      get_or_push fs (l ++ x) [] k last ∙ ap (λ (b : List ℕ). b ++ x) (sym (get_or_push fs l [] k last)),
+      get_or_push fs (l ++ x) [] k last ∙ ap (λ (b : List ℕ). b ++ x)
+          (sym (get_or_push fs l [] k last)),
     )
 
 pub extend_last : (fs : List (List ℕ)) (l x : List ℕ) → Extend (fs ++ l ∷ []) (fs ++ (l ++ x) ∷ [])
@@ -127,17 +134,21 @@ in_next p n = record { count = p.count + 1; fill = n }
 pub filled_behind : (p : Placed) (n : ℕ) → 12 < n → p.fill + n ≤ most_bytes
     → behind_last p n ≡ placed_after p n
 filled_behind p n long room =
-    sym (cond-false (nat_le n 12) p (cond (nat_le (p.fill + n) most_bytes) (behind_last p n) (in_next p n)) (more_than_twelve n long)
-    ∙ cond-true (nat_le (p.fill + n) most_bytes) (behind_last p n) (in_next p n) (le-leb (p.fill + n) most_bytes room))
+    sym (cond-false (nat_le n 12) p (cond (nat_le (p.fill + n) most_bytes) (behind_last p n)
+    (in_next p n)) (more_than_twelve n long)
+    ∙ cond-true (nat_le (p.fill + n) most_bytes) (behind_last p n) (in_next p n)
+    (le-leb (p.fill + n) most_bytes room))
 
 pub filled_next : (p : Placed) (n : ℕ) → 12 < n → most_bytes < p.fill + n
     → in_next p n ≡ placed_after p n
 filled_next p n long past =
-    sym (cond-false (nat_le n 12) p (cond (nat_le (p.fill + n) most_bytes) (behind_last p n) (in_next p n)) (more_than_twelve n long)
+    sym (cond-false (nat_le n 12) p (cond (nat_le (p.fill + n) most_bytes) (behind_last p n)
+    (in_next p n)) (more_than_twelve n long)
     ∙ cond-false (nat_le (p.fill + n) most_bytes) (behind_last p n) (in_next p n)
     (false_from_ne_true (nat_le (p.fill + n) most_bytes) (above most_bytes (p.fill + n) past)))
 
-counted : (old new : Buffers) (bs : List (List ℕ)) → full_of new ≡ bs → length new.full.items ≡ length bs
+counted : (old new : Buffers) (bs : List (List ℕ)) → full_of new ≡ bs
+    → length new.full.items ≡ length bs
 counted old new bs e = sym (length-map new.full.items (λ v. v.items)) ∙ ap length e
 
 full_count : (b : Buffers) → length (full_of b) ≡ length b.full.items
@@ -150,8 +161,10 @@ module _ (value : List ℕ) (old new : Buffers) (view : List ℕ) (long : 12 < l
   placed_appended range room h =
       let all : all_buffers new ≡ full_of old ++ (old.last.items ++ value) ∷ [] =
       (λ i. h.full i ++ h.last i ∷ []) in
-      let is : view ≡ long_view (length value) value (length (full_of old)) (length old.last.items) =
-      h.view_is ∙ ap (λ n. long_view (length value) value n (length old.last.items)) (sym (full_count old)) in
+      let is : view ≡ long_view (length value) value (length (full_of old)) (length old.last.items)
+      =
+      h.view_is ∙ ap (λ n. long_view (length value) value n (length old.last.items))
+      (sym (full_count old)) in
       let few : length (full_of old) ≤ 4294967295 = omega (arith, range.count, full_count old) in
       record {
         extend = subst (λ (bs : List (List ℕ)). Extend (all_buffers old) bs) (sym all)
@@ -170,7 +183,8 @@ module _ (value : List ℕ) (old new : Buffers) (view : List ℕ) (long : 12 < l
       → most_bytes < length old.last.items + length value
       → IsBegun value old new view → IsPlaced value old new view
   placed_begun range room past h =
-      let all : all_buffers new ≡ all_buffers old ++ value ∷ [] = (λ i. h.full i ++ h.last i ∷ []) in
+      let all : all_buffers new ≡ all_buffers old ++ value ∷ [] =
+      (λ i. h.full i ++ h.last i ∷ []) in
       let count : length (all_buffers old) ≡ length old.full.items + 1 =
       length_push (full_of old) old.last.items ∙ ap (λ n. n + 1) (full_count old) in
       let is : view ≡ long_view (length value) value (length (all_buffers old)) 0 =

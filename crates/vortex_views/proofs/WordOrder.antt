@@ -1,5 +1,6 @@
 -- The order of values by their words.
-use Rattle.std.proofs.Common.{take, Ordering, ◌≡◌, ℕ, ◌+◌, ◌*◌, ◌^◌, ◌<◌, ◌≤◌, List, length, drop, sym, ◌∙◌, ap, arith, inl, inr, ◌⊎◌}
+use Rattle.std.proofs.Common.{take, Ordering, ◌≡◌, ℕ, ◌+◌, ◌*◌, ◌^◌, ◌<◌, ◌≤◌, List, length, drop}
+use Rattle.std.proofs.Common.{sym, ◌∙◌, ap, arith, inl, inr, ◌⊎◌}
 use Rattle.std.proofs.lemmas.List.{get_or-drop}
 use Rattle.std.proofs.lemmas.Bool.{cases_lt}
 use Rattle.std.proofs.lemmas.Cmp.{ranked}
@@ -8,7 +9,8 @@ use Rattle.std.specs.declared.cmp.Ordering.TheVariants.{Equal}
 use Rattle.std.specs.Ordering.{nat_cmp, ordering_then}
 use Rattle.vortex_views.specs.ValueWords.{compare_bytes, order_prefix_word, order_tail_word}
 use Rattle.vortex_views.proofs.Digits.{digits, AreBytes, digits-below, first_decides, cmp_equal}
-use Rattle.vortex_views.proofs.ByteOrder.{by_words_and_lengths, by_words_and_rests, then_then, decided, same_start}
+use Rattle.vortex_views.proofs.ByteOrder.{by_words_and_lengths, by_words_and_rests, then_then}
+use Rattle.vortex_views.proofs.ByteOrder.{decided, same_start}
 
 pub prefix_digits : (xs : List ℕ) → order_prefix_word xs ≡ digits 4 0 xs
 prefix_digits xs = omega arith
@@ -16,7 +18,8 @@ prefix_digits xs = omega arith
 pub tail_digits : (xs : List ℕ) → order_tail_word xs ≡ digits 8 0 (drop 4 xs)
 tail_digits xs = omega arith
 
-pub twelve_digits : (xs : List ℕ) → digits 12 0 xs ≡ order_prefix_word xs * 256 ^ 8 + order_tail_word xs
+pub twelve_digits : (xs : List ℕ)
+    → digits 12 0 xs ≡ order_prefix_word xs * 256 ^ 8 + order_tail_word xs
 twelve_digits xs =
     simp get_or-drop (omega arith)
 
@@ -29,7 +32,8 @@ pub twelve : (xs ys : List ℕ) → AreBytes xs → AreBytes ys
     (nat_cmp (order_tail_word xs) (order_tail_word ys))
 twelve xs ys h k =
     rw (twelve_digits xs, twelve_digits ys)
-    (first_decides (order_prefix_word xs) (order_prefix_word ys) (order_tail_word xs) (order_tail_word ys) (256 ^ 8)
+    (first_decides (order_prefix_word xs) (order_prefix_word ys) (order_tail_word xs)
+    (order_tail_word ys) (256 ^ 8)
     (rw (tail_digits xs) (digits-below 8 0 (drop 4 xs) (dropped 4 xs h)))
     (rw (tail_digits ys) (digits-below 8 0 (drop 4 ys) (dropped 4 ys k))))
 
@@ -37,7 +41,8 @@ pub short_order : (xs ys : List ℕ) → AreBytes xs → AreBytes ys
     → (length xs ≤ 12) ⊎ (length ys ≤ 12)
     → compare_bytes xs ys
     ≡ ordering_then (nat_cmp (order_prefix_word xs) (order_prefix_word ys))
-    (ordering_then (nat_cmp (order_tail_word xs) (order_tail_word ys)) (nat_cmp (length xs) (length ys)))
+    (ordering_then (nat_cmp (order_tail_word xs) (order_tail_word ys))
+    (nat_cmp (length xs) (length ys)))
 short_order xs ys h k s =
     by_words_and_lengths 12 xs ys h k s
     ∙ ap (λ o. ordering_then o (nat_cmp (length xs) (length ys))) (twelve xs ys h k)
@@ -75,7 +80,8 @@ pub prefix_order : (xs ys : List ℕ) → AreBytes xs → AreBytes ys
     → (nat_cmp (order_prefix_word xs) (order_prefix_word ys) ≡ Equal → ⊥)
     → compare_bytes xs ys ≡ nat_cmp (order_prefix_word xs) (order_prefix_word ys)
 prefix_order xs ys h k differ =
-    prefix_by_size xs ys h k (sizes (length xs) (length ys) (cases_lt (length xs) 12) (cases_lt (length ys) 12)) differ
+    prefix_by_size xs ys h k (sizes (length xs) (length ys) (cases_lt (length xs) 12)
+    (cases_lt (length ys) 12)) differ
 
 cmp_differ : (m n : ℕ) → (m ≡ n → ⊥) → nat_cmp m n ≡ Equal → ⊥
 cmp_differ m n h e = h (ranked m n Equal (sym e))
@@ -107,7 +113,8 @@ pub different_tails : (xs ys : List ℕ) → AreBytes xs → AreBytes ys
     → (order_tail_word xs ≡ order_tail_word ys → ⊥)
     → compare_bytes xs ys ≡ nat_cmp (order_tail_word xs) (order_tail_word ys)
 different_tails xs ys h k e differ =
-    tail_by_size xs ys h k (sizes (length xs) (length ys) (cases_lt (length xs) 12) (cases_lt (length ys) 12))
+    tail_by_size xs ys h k (sizes (length xs) (length ys) (cases_lt (length xs) 12)
+    (cases_lt (length ys) 12))
     (cmp_equal (order_prefix_word xs) (order_prefix_word ys) e)
     (cmp_differ (order_tail_word xs) (order_tail_word ys) differ)
 
@@ -131,8 +138,10 @@ long_starts xs ys h k e f p q =
     ∙ ap (λ z. order_prefix_word ys * 256 ^ 8 + z) f ∙ sym (twelve_digits ys))
 
 -- equal lengths and words of short values are of equal values
-pub short_equal : (xs ys : List ℕ) → AreBytes xs → AreBytes ys → length xs ≡ length ys → length xs ≤ 12
-    → order_prefix_word xs ≡ order_prefix_word ys → order_tail_word xs ≡ order_tail_word ys → xs ≡ ys
+pub short_equal : (xs ys : List ℕ) → AreBytes xs → AreBytes ys → length xs ≡ length ys
+    → length xs ≤ 12
+    → order_prefix_word xs ≡ order_prefix_word ys → order_tail_word xs ≡ order_tail_word ys
+    → xs ≡ ys
 short_equal xs ys h k l s e f =
     exact_bytes xs ys (short_lengths xs ys h k e f (inl s) ∙ cmp_equal (length xs) (length ys) l)
 

@@ -1,5 +1,6 @@
 -- Views that are built one by one, over buffers that grow.
-use Rattle.std.specs.Prelude.{◌≡◌, ℕ, ◌+◌, ◌<◌, ◌≤◌, List, [], ◌∷◌, ◌++◌, length, map, slice_index_or}
+use Rattle.std.specs.Prelude.{◌≡◌, ℕ, ◌+◌, ◌<◌, ◌≤◌, List, [], ◌∷◌, ◌++◌, length, map}
+use Rattle.std.specs.Prelude.{slice_index_or}
 use Rattle.vortex_views.specs.declared.builder.Buffers.{Buffers}
 use Rattle.vortex_views.specs.ViewBytes.{long_view}
 use Rattle.vortex_views.specs.Placing.{Placed, placed_after, most_bytes, most_buffers}
@@ -23,7 +24,8 @@ SameBuffers old new = (full_of new ≡ full_of old) × (new.last.items ≡ old.l
 pub record IsAppended (value : List ℕ) (old new : Buffers) (view : List ℕ) : Type 0 where
   pub full : full_of new ≡ full_of old
   pub last : new.last.items ≡ old.last.items ++ value
-  pub view_is : view ≡ long_view (length value) value (length old.full.items) (length old.last.items)
+  pub view_is : view ≡ long_view (length value) value (length old.full.items)
+      (length old.last.items)
 
 -- a value in a buffer of its own behind the others, and its view
 pub record IsBegun (value : List ℕ) (old new : Buffers) (view : List ℕ) : Type 0 where

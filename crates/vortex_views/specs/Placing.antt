@@ -1,5 +1,6 @@
--- How values are placed in buffers, one behind another: a short value lies in its view, a longer one behind what the last
--- buffer has, or in a new buffer where it would pass the most bytes that a buffer has.
+-- How values are placed in buffers, one behind another: a short value lies in its view, a longer
+-- one behind what the last buffer has, or in a new buffer where it would pass the most bytes that a
+-- buffer has.
 use Rattle.std.specs.Prelude.{ℕ, ◌+◌, nat_le, List, [], ◌∷◌, length, if◌then◌else◌}
 
 -- the most bytes that a value has, and a buffer that values are placed in

@@ -1,5 +1,6 @@
 -- What views stand for among buffers, and what a view says of its value.
-use Rattle.std.specs.Prelude.{◌≡◌, ℕ, ◌+◌, ◌<◌, ◌≤◌, cond, nat_le, List, [], length, map, take, drop}
+use Rattle.std.specs.Prelude.{◌≡◌, ℕ, ◌+◌, ◌<◌, ◌≤◌, cond, nat_le, List, [], length, map, take}
+use Rattle.std.specs.Prelude.{drop}
 use Rattle.std.specs.Prelude.{slice_index_or}
 use Rattle.vortex_views.specs.declared.view.BinaryView.{BinaryView}
 use Rattle.vortex_views.specs.ViewBytes.{view_bytes, view_len, view_buffer, view_offset}

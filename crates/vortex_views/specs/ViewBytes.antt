@@ -1,4 +1,5 @@
--- The 16 bytes of a view (Arrow's layout): how they are made of a value, and what is read from them.
+-- The 16 bytes of a view (Arrow's layout): how they are made of a value, and what is read from
+-- them.
 use Rattle.std.specs.Prelude.{ℕ, ◌≤◌, List, ◌++◌, length, map, slice_index, take, drop}
 use Rattle.std.specs.List.{range_with_len}
 use Rattle.std.specs.Int.{w32, to_le_bytes, from_le_bytes}

@@ -147,8 +147,9 @@ impl ViewsBuilder {
         }
     }
 
-    /// Adds a value. E12 exactly where it is longer than 4,294,967,295 bytes, or more than 4,294,967,296 buffers of so many
-    /// bytes would be needed; a builder that refuses stays as it was.
+    /// Adds a value. E12 exactly where it is longer than 4,294,967,295 bytes, or more than
+    /// 4,294,967,296 buffers of so many bytes would be needed; a builder that refuses stays as it
+    /// was.
     pub fn push(&mut self, value: &[u8]) -> VortexResult<()>
         ensures answer { AnswersWhere result
             (HasRoomFor self.old value.now)

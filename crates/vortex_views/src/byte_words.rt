@@ -16,8 +16,8 @@ pub(crate) fn order_word(bytes: &[u8], at: usize) -> u64
     u64::from_be_bytes(eight_at(bytes, at))
 }
 
-/// Whether two byte strings of one length, at least eight, that begin alike are equal: by words, the last eight bytes once
-/// more in place of a rest.
+/// Whether two byte strings of one length, at least eight, that begin alike are equal: by words,
+/// the last eight bytes once more in place of a rest.
 pub(crate) fn equal_after(a: &[u8], b: &[u8], start: usize) -> bool
     requires lengths { length a.now ≡ length b.now }
     requires room { 8 ≤ length a.now }

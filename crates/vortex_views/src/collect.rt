@@ -42,8 +42,8 @@ impl ByteString for Vec<u8> {
     }
 }
 
-/// The views of values. E12 exactly where a value is longer than 4,294,967,295 bytes, or the longer ones take more than
-/// 4,294,967,296 buffers of so many bytes.
+/// The views of values. E12 exactly where a value is longer than 4,294,967,295 bytes, or the longer
+/// ones take more than 4,294,967,296 buffers of so many bytes.
 pub fn collect_views<T: ByteString>(alloc: Global, values: &[T]) -> VortexResult<BinaryViews>
     ensures { AnswersWhere result
         (HaveRoom (map T.bytes values.now))

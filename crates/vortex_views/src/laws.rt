@@ -1,4 +1,5 @@
-//! What the words of values and of views say. These functions do nothing: their contracts are proved.
+//! What the words of values and of views say. These functions do nothing: their contracts are
+//! proved.
 ghost use Rattle.std.specs.Prelude.{◌≡◌, ◌≢◌, ◌≤◌, ◌<◌, ◌⊎◌, ◌↔◌, length, take, drop};
 ghost use Rattle.std.specs.Int.{w32, w64, w128, from_le_bytes, from_be_bytes};
 ghost use Rattle.std.specs.Ordering.{nat_cmp, ordering_then};
@@ -10,8 +11,8 @@ ghost use Rattle.vortex_views.specs.declared.view.BinaryView.{BinaryView};
 
 use crate::view::BinaryView;
 
-/// Where one of two values has at most twelve bytes, their first four bytes order them, then their next eight, then
-/// their lengths: a beginning is below what continues it.
+/// Where one of two values has at most twelve bytes, their first four bytes order them, then their
+/// next eight, then their lengths: a beginning is below what continues it.
 pub fn order_words_then_lengths_order_values(a: &[u8], b: &[u8])
     requires { (length a.now ≤ 12) ⊎ (length b.now ≤ 12) }
     ensures { compare_bytes a.now b.now
@@ -20,8 +21,8 @@ pub fn order_words_then_lengths_order_values(a: &[u8], b: &[u8])
         (nat_cmp (length a.now) (length b.now))) }
 {}
 
-/// Two values of at least twelve bytes are ordered by their first four bytes, then by their next eight, then by what
-/// follows these.
+/// Two values of at least twelve bytes are ordered by their first four bytes, then by their next
+/// eight, then by what follows these.
 pub fn order_words_then_rests_order_long_values(a: &[u8], b: &[u8])
     requires a_long { 12 ≤ length a.now }
     requires b_long { 12 ≤ length b.now }
@@ -86,7 +87,8 @@ pub fn long_views_have_the_words_of_their_values(value: &[u8], buffer: u32, offs
         ≡ length value.now }
     ensures head { from_le_bytes w64 (long_view (length value.now) value.now buffer offset)
         ≡ head_word value.now }
-    ensures order_prefix { from_be_bytes w32 (drop 4 (long_view (length value.now) value.now buffer offset))
+    ensures order_prefix { from_be_bytes w32 (drop 4
+        (long_view (length value.now) value.now buffer offset))
         ≡ order_prefix_word value.now }
     ensures buffer { view_buffer (long_view (length value.now) value.now buffer offset) ≡ buffer }
     ensures offset { view_offset (long_view (length value.now) value.now buffer offset) ≡ offset }

@@ -57,7 +57,8 @@ impl<'a> Row<'a> {
     #[inline(always)]
     pub(crate) fn new(view: &'a BinaryView, buffers: &'a [Vec<u8>]) -> Row<'a>
         requires { IsViewIn (map (λ b. b.items) buffers.now) (view_bytes view.now) }
-        ensures { row_value result ≡ value_in (map (λ b. b.items) buffers.now) (view_bytes view.now) }
+        ensures { row_value result ≡ value_in (map (λ b. b.items) buffers.now)
+            (view_bytes view.now) }
     {
         Row { view, buffers }
     }
@@ -144,8 +145,8 @@ impl<'a> WordsOfBytes for Row<'a> {
     }
 }
 
-/// The order of two byte strings: by their first four bytes, by their next eight, then by lengths where one of them has
-/// no more, else by words of eight bytes.
+/// The order of two byte strings: by their first four bytes, by their next eight, then by lengths
+/// where one of them has no more, else by words of eight bytes.
 #[inline]
 pub fn compare<A: WordsOfBytes, B: WordsOfBytes>(a: &A, b: &B) -> Ordering
     ensures { result ≡ compare_bytes (A.value a.now) (B.value b.now) }
@@ -169,8 +170,8 @@ pub fn compare<A: WordsOfBytes, B: WordsOfBytes>(a: &A, b: &B) -> Ordering
     compare_after(a.value_bytes(), b.value_bytes(), 12)
 }
 
-/// Whether two byte strings are equal: by their lengths and first four bytes, then by their next eight where they have no
-/// more than twelve, else by words of eight bytes.
+/// Whether two byte strings are equal: by their lengths and first four bytes, then by their next
+/// eight where they have no more than twelve, else by words of eight bytes.
 #[inline]
 pub fn equal<A: WordsOfBytes, B: WordsOfBytes>(a: &A, b: &B) -> bool
     ensures { IsTrue result ↔ (A.value a.now ≡ B.value b.now) }

@@ -28,7 +28,8 @@ impl Place for usize {
     }
 }
 
-/// Places in a list, in any order, each as often as it is named: as a caller's codes, or as places of any size.
+/// Places in a list, in any order, each as often as it is named: as a caller's codes, or as places
+/// of any size.
 #[derive(Clone, Copy)]
 pub enum Places<'a> {
     Codes(&'a [u32]),

@@ -1,7 +1,9 @@
 //! Views and the buffers that their long values lie in, lent together.
-ghost use Rattle.std.specs.Prelude.{◌≡◌, ◌<◌, ◌≤◌, ◌+◌, ◌↔◌, [], IsTrue, length, map, slice_index_or};
+ghost use Rattle.std.specs.Prelude.{◌≡◌, ◌<◌, ◌≤◌, ◌+◌, ◌↔◌, [], IsTrue, length, map};
+ghost use Rattle.std.specs.Prelude.{slice_index_or};
 ghost use Rattle.std.specs.Prelude.{take, drop};
-ghost use Rattle.vortex_views.specs.ViewBytes.{view_bytes, view_len, inlined_value, inlined_view, IsInlined};
+ghost use Rattle.vortex_views.specs.ViewBytes.{view_bytes, view_len, inlined_value, inlined_view};
+ghost use Rattle.vortex_views.specs.ViewBytes.{IsInlined};
 ghost use Rattle.vortex_views.specs.Resolved.{AreViewsIn, IsViewIn, IsViewOf, values_in};
 ghost use Rattle.vortex_views.specs.Resolved.{LiesIn, LiesInBuffer, long_value, value_in};
 

@@ -13,8 +13,8 @@ use std::alloc::{AllocError, Global};
 use std::marker::Model;
 use vortex_errors::{VortexError, VortexResult};
 
-/// A list of byte strings: a view of 16 bytes for each, and the buffers that the longer ones lie in, where they may share
-/// bytes and overlap.
+/// A list of byte strings: a view of 16 bytes for each, and the buffers that the longer ones lie
+/// in, where they may share bytes and overlap.
 #[derive(Drop)]
 pub struct BinaryViews {
     views: Vec<BinaryView>,
@@ -35,8 +35,8 @@ impl Model for BinaryViews {
 impl BinaryViews {
     /// These views over these buffers, which are taken over as they are. Takes no memory.
     ///
-    /// E12 exactly where a view names bytes that no buffer has, tells another beginning than its value's, or is not padded
-    /// with zeros.
+    /// E12 exactly where a view names bytes that no buffer has, tells another beginning than its
+    /// value's, or is not padded with zeros.
     pub fn try_new(views: Vec<BinaryView>, buffers: Vec<Vec<u8>>) -> VortexResult<BinaryViews>
         ensures { MadeWhere result
             (AreViewsIn (map (λ b. b.items) buffers.items) views.items)

@@ -7,8 +7,9 @@ ghost use Rattle.vortex_views.specs.ValueWords.{head_word, order_prefix_word, or
 
 use crate::words::{eight_at, first_four, four_at, next_eight};
 
-/// The 16 bytes of a view: the length of a value (four bytes, the lowest first), then a value of at most 12 bytes, zero
-/// padded; or a longer value's first four bytes, the number of its buffer and its offset there, four bytes each.
+/// The 16 bytes of a view: the length of a value (four bytes, the lowest first), then a value of at
+/// most 12 bytes, zero padded; or a longer value's first four bytes, the number of its buffer and
+/// its offset there, four bytes each.
 #[derive(Clone, Copy)]
 pub struct BinaryView {
     bytes: [u8; 16],
@@ -32,7 +33,8 @@ impl BinaryView {
         }
     }
 
-    /// The view of a value of `len` bytes, more than 12, that begins with `prefix` and lies at `offset` of a buffer.
+    /// The view of a value of `len` bytes, more than 12, that begins with `prefix` and lies at
+    /// `offset` of a buffer.
     #[inline]
     pub fn new_long(len: u32, prefix: [u8; 4], buffer: u32, offset: u32) -> BinaryView
         requires { 12 < len }
@@ -112,7 +114,8 @@ impl BinaryView {
         u32::from_be_bytes(four_at(&self.bytes, 4))
     }
 
-    /// Bytes 8 to 15, the first of them the highest: those of a value that lies in the view, zero padded.
+    /// Bytes 8 to 15, the first of them the highest: those of a value that lies in the view, zero
+    /// padded.
     #[inline(always)]
     pub fn order_tail(&self) -> u64
         requires { IsInlined (view_bytes self.now) }

@@ -1,5 +1,6 @@
 //! The rows of an array.
-ghost use Rattle.vortex_arrays.specs.Words.{children_in, AllMean, HasArrayRows, AnswersArray, LendsColumn};
+ghost use Rattle.vortex_arrays.specs.Words.{children_in, AllMean, HasArrayRows, AnswersArray};
+ghost use Rattle.vortex_arrays.specs.Words.{LendsColumn};
 
 use super::{ArrayRef, Node};
 use std::borrow::Cow;

@@ -46,8 +46,8 @@ fn types_of(alloc: Global, columns: &Vec<Column>) -> VortexResult<Vec<DType>>
     Ok(types)
 }
 
-/// Each call that makes a column but `null` is handed an allocator and may refuse for memory (E9), also where today's form
-/// takes what it is handed over as it is.
+/// Each call that makes a column but `null` is handed an allocator and may refuse for memory (E9),
+/// also where today's form takes what it is handed over as it is.
 impl Column {
     ghost use Rattle.vortex_columns.specs.Words.{constant_column, null_column, bool_column};
     ghost use Rattle.vortex_columns.specs.Words.{int_column, text_column, byte_string_column};
@@ -127,8 +127,9 @@ impl Column {
         })
     }
 
-    /// A column of texts. E12 exactly where a list of valid bits has another length, a text is longer than 4,294,967,295
-    /// bytes, or more than 4,294,967,296 buffers of so many bytes would be needed.
+    /// A column of texts. E12 exactly where a list of valid bits has another length, a text is
+    /// longer than 4,294,967,295 bytes, or more than 4,294,967,296 buffers of so many bytes would
+    /// be needed.
     pub fn try_utf8(alloc: Global, values: Vec<String>, validity: Validity) -> VortexResult<Column>
         ensures { AnswersWhere result
             (MakeTexts values.items (validity_of validity))
@@ -175,9 +176,9 @@ impl Column {
         Ok(Column::of_byte_strings(views, validity))
     }
 
-    /// A column of texts that are views over buffers, which are taken over as they are. E12 exactly where a list of valid
-    /// bits has another length, a view does not lie among the buffers as it says, under a null too, or a value of a row that
-    /// is not null is not UTF-8.
+    /// A column of texts that are views over buffers, which are taken over as they are. E12 exactly
+    /// where a list of valid bits has another length, a view does not lie among the buffers as it
+    /// says, under a null too, or a value of a row that is not null is not UTF-8.
     pub fn try_utf8_views(
         alloc: Global,
         views: Vec<BinaryView>,
@@ -193,8 +194,9 @@ impl Column {
         Column::try_utf8_values(alloc, BinaryViews::try_new(views, buffers)?, validity)
     }
 
-    /// A column of bytes that are views over buffers, which are taken over as they are. E12 exactly where a list of valid
-    /// bits has another length, or a view does not lie among the buffers as it says, under a null too.
+    /// A column of bytes that are views over buffers, which are taken over as they are. E12 exactly
+    /// where a list of valid bits has another length, or a view does not lie among the buffers as
+    /// it says, under a null too.
     pub fn try_binary_views(
         alloc: Global,
         views: Vec<BinaryView>,
@@ -210,8 +212,8 @@ impl Column {
         Column::try_binary_values(alloc, BinaryViews::try_new(views, buffers)?, validity)
     }
 
-    /// A column of texts that a builder has made. E12 exactly where a list of valid bits has another length, or a value of
-    /// a row that is not null is not UTF-8.
+    /// A column of texts that a builder has made. E12 exactly where a list of valid bits has
+    /// another length, or a value of a row that is not null is not UTF-8.
     pub fn try_utf8_values(
         _alloc: Global,
         values: BinaryViews,
@@ -228,7 +230,8 @@ impl Column {
         Ok(Column::of_text_values(values, validity))
     }
 
-    /// A column of bytes that a builder has made. E12 exactly where a list of valid bits has another length.
+    /// A column of bytes that a builder has made. E12 exactly where a list of valid bits has
+    /// another length.
     pub fn try_binary_values(
         _alloc: Global,
         values: BinaryViews,
@@ -274,8 +277,8 @@ impl Column {
         }
     }
 
-    /// A column of records, named field by field. E12 exactly where there are not as many names as fields, a name
-    /// stands twice, or a field or a list of valid bits has another length.
+    /// A column of records, named field by field. E12 exactly where there are not as many names as
+    /// fields, a name stands twice, or a field or a list of valid bits has another length.
     pub fn try_struct(
         alloc: Global,
         names: Vec<String>,
@@ -301,8 +304,9 @@ impl Column {
         })
     }
 
-    /// A column of lists, each a range of the elements. E12 exactly where offsets and sizes have two lengths, a list
-    /// of valid bits has another, or a range of any row passes the elements' end.
+    /// A column of lists, each a range of the elements. E12 exactly where offsets and sizes have
+    /// two lengths, a list of valid bits has another, or a range of any row passes the elements'
+    /// end.
     pub fn try_list(
         alloc: Global,
         elements: Column,
@@ -332,8 +336,8 @@ impl Column {
         })
     }
 
-    /// A column of lists of one size, one after another. E12 exactly where the elements are not `size * len`, or a
-    /// list of valid bits has another length.
+    /// A column of lists of one size, one after another. E12 exactly where the elements are not
+    /// `size * len`, or a list of valid bits has another length.
     pub fn try_fixed_size_list(
         alloc: Global,
         elements: Column,
@@ -359,8 +363,8 @@ impl Column {
         })
     }
 
-    /// A column of maps, each a range of keys and values. E12 as for lists, and where there are not as many keys as
-    /// values.
+    /// A column of maps, each a range of keys and values. E12 as for lists, and where there are not
+    /// as many keys as values.
     pub fn try_map(
         alloc: Global,
         keys: Column,

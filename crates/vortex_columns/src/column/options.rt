@@ -60,8 +60,9 @@ impl Column {
         Column::try_primitive(alloc, values, option_validity(alloc, rows)?)
     }
 
-    /// A column of nullable texts: null where there is none. E12 exactly where a text is longer than 4,294,967,295 bytes, or
-    /// more than 4,294,967,296 buffers of so many bytes would be needed.
+    /// A column of nullable texts: null where there is none. E12 exactly where a text is longer
+    /// than 4,294,967,295 bytes, or more than 4,294,967,296 buffers of so many bytes would be
+    /// needed.
     pub fn of_texts(alloc: Global, rows: &[Option<&str>]) -> VortexResult<Column>
         ensures { AnswersWhere result
             (HaveRoom (map option_text rows.now))

@@ -14,12 +14,14 @@ use vortex_types::{DType, NativePType, VortexResult};
 use vortex_views::ResolvedViews;
 
 impl Column {
-    ghost use Rattle.vortex_columns.specs.Words.{AreTyped, TellsNulls, TellsTruly, FitsRows, validity_of};
+    ghost use Rattle.vortex_columns.specs.Words.{AreTyped, TellsNulls, TellsTruly, FitsRows};
+    ghost use Rattle.vortex_columns.specs.Words.{validity_of};
     ghost use Rattle.vortex_columns.specs.Words.{cell_value, IsCell, scalar_in, compare_values};
     ghost use Rattle.vortex_columns.specs.Words.{constant_column, array};
     ghost use Rattle.vortex_columns.specs.ValidRows.{valid_view, AreValid, IsListed};
 
-    /// The type, lent. Each row has it, null included: a row is null only where the type is nullable.
+    /// The type, lent. Each row has it, null included: a row is null only where the type is
+    /// nullable.
     pub fn dtype(&self) -> &DType
         ensures dtype { type_of result.now ≡ self.now.dtype }
         ensures typed { AreTyped self.now.dtype self.now.rows }
@@ -44,7 +46,8 @@ impl Column {
         self.storage.validity(alloc)
     }
 
-    /// Which rows are not null, lent: a list only where the validity's form is an array of bits. Takes no memory.
+    /// Which rows are not null, lent: a list only where the validity's form is an array of bits.
+    /// Takes no memory.
     pub fn valid_rows(&self) -> ValidRows<'_>
         ensures rows { AreValid (valid_view result) self.now.rows }
         ensures listed { IsListed result → self.now.form ≡ array }
@@ -52,8 +55,9 @@ impl Column {
         self.storage.valid_rows()
     }
 
-    /// Does nothing: its contract is what is known of every column. The form of its validity is true of each row,
-    /// and the scalar that it is a constant of has its type, also where there are no rows.
+    /// Does nothing: its contract is what is known of every column. The form of its validity is
+    /// true of each row, and the scalar that it is a constant of has its type, also where there are
+    /// no rows.
     pub fn tells_truly(&self)
         ensures { TellsTruly self.now }
     {
@@ -115,12 +119,14 @@ impl Column {
 /// The parts of a column that is no constant, lent. Takes no memory.
 impl Column {
     ghost use Rattle.vortex_columns.specs.Words.{HasBits, AreBits, HasInts, AreInts, HasBytes};
-    ghost use Rattle.vortex_columns.specs.Words.{AreBytes, AreBytesAt, lent_values, array, valid_rows};
+    ghost use Rattle.vortex_columns.specs.Words.{AreBytes, AreBytesAt, lent_values, array};
+    ghost use Rattle.vortex_columns.specs.Words.{valid_rows};
     ghost use Rattle.vortex_columns.specs.Words.{HasField, IsField, HasKind, AreLists, AreMaps};
     ghost use Rattle.vortex_columns.specs.Words.{AreFixedSizeLists, is_list_type, is_map_type};
     ghost use Rattle.vortex_columns.specs.Words.{is_fixed_size_list_type};
 
-    /// The bits, one a row, of a column of truth values that is no constant. What lies under a null says nothing.
+    /// The bits, one a row, of a column of truth values that is no constant. What lies under a null
+    /// says nothing.
     pub fn bits(&self) -> Option<&BitBuffer>
         ensures { MatchOption result (¬ HasBits self.now)
             (λ bits. HasBits self.now × AreBits self.now bits.now) }
@@ -131,8 +137,8 @@ impl Column {
         }
     }
 
-    /// The integers, one a row, of a column of this integer type that is no constant. What lies under a null says
-    /// nothing.
+    /// The integers, one a row, of a column of this integer type that is no constant. What lies
+    /// under a null says nothing.
     pub fn ints<T: NativePType>(&self) -> Option<&[T]>
         ensures { MatchOption result (¬ HasInts T.ptype self.now)
             (λ xs. HasInts T.ptype self.now × AreInts self.now (map T.number xs.now)) }
@@ -143,8 +149,8 @@ impl Column {
         }
     }
 
-    /// The texts or byte strings, one a row, of a column of texts or bytes that is no constant, as views with their
-    /// buffers. What lies under a null says nothing, and need not be UTF-8.
+    /// The texts or byte strings, one a row, of a column of texts or bytes that is no constant, as
+    /// views with their buffers. What lies under a null says nothing, and need not be UTF-8.
     pub fn views(&self) -> Option<ResolvedViews<'_>>
         ensures { MatchOption result (¬ HasBytes self.now)
             (λ views. HasBytes self.now × AreBytes self.now (lent_values views)) }
@@ -155,8 +161,8 @@ impl Column {
         }
     }
 
-    /// The text's or the bytes' own bytes in row `i` of a column of texts or bytes that is no constant. What lies
-    /// under a null says nothing.
+    /// The text's or the bytes' own bytes in row `i` of a column of texts or bytes that is no
+    /// constant. What lies under a null says nothing.
     pub fn bytes_at(&self, i: usize) -> Option<&[u8]>
         requires { i < length self.now.rows }
         ensures { MatchOption result (¬ HasBytes self.now)

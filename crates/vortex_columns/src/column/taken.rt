@@ -1,5 +1,7 @@
-//! Rows of a column that are taken by their numbers: by words of bits and by gathering, as the column keeps them.
-ghost use Rattle.std.specs.Prelude.{◌≡◌, ◌+◌, ◌*◌, ◌^◌, ◌<◌, ◌≤◌, ◌++◌, ℕ, All, IfOk, map, length, pos, false};
+//! Rows of a column that are taken by their numbers: by words of bits and by gathering, as the
+//! column keeps them.
+ghost use Rattle.std.specs.Prelude.{◌≡◌, ◌+◌, ◌*◌, ◌^◌, ◌<◌, ◌≤◌, ◌++◌, ℕ, All, IfOk, map, length};
+ghost use Rattle.std.specs.Prelude.{pos, false};
 ghost use Rattle.std.specs.Prelude.{[], slice_index, slice_index_or};
 ghost use Rattle.vortex_columns.specs.Words.{AnswersUnlessMemory, validity_of};
 ghost use Rattle.vortex_columns.specs.ValidityView.{Reaches};
@@ -64,7 +66,8 @@ fn take_bits(alloc: Global, bits: &BitBuffer, places: &Places<'_>) -> VortexResu
 fn take_ints(alloc: Global, ints: &Ints, places: &Places<'_>) -> Result<Ints, AllocError>
     requires { All (λ i. i < length (numbers ints.now)) (places_of places.now) }
     ensures { IfOk result (λ xs. (ptype_of xs ≡ ptype_of ints.now)
-        × (numbers xs ≡ map (λ i. slice_index_or (numbers ints.now) i (pos 0)) (places_of places.now))) }
+        × (numbers xs ≡ map (λ i. slice_index_or (numbers ints.now) i (pos 0))
+        (places_of places.now))) }
 {
     match ints {
         Ints::I8(xs) => Ok(Ints::I8(gather(alloc, xs, places)?)),
@@ -91,7 +94,8 @@ fn push_range(places: &mut Vec<usize>, from: usize, count: usize)
     }
 }
 
-/// The places of the elements of lists of one size. E9 also where they are more than a usize counts.
+/// The places of the elements of lists of one size. E9 also where they are more than a usize
+/// counts.
 fn elements_at<P: Place>(alloc: Global, size: usize, places: &[P]) -> VortexResult<Vec<usize>>
     requires { All (λ i. size * i + size < 2 ^ 64) (map P.number places.now) }
     ensures { AnswersUnlessMemory result
@@ -153,7 +157,8 @@ fn take_columns(
 }
 
 impl Elements {
-    /// The values at these places. Of lists and maps only the ranges are taken: their elements stay as they are.
+    /// The values at these places. Of lists and maps only the ranges are taken: their elements stay
+    /// as they are.
     #[cycle(take_column)]
     fn take(&self, alloc: Global, places: &Places<'_>) -> VortexResult<Elements>
         requires { ArePlaces (places_of places.now) (kept_of self.now) }
@@ -214,11 +219,13 @@ impl Column {
     ghost use Rattle.vortex_columns.specs.Taken.{taken};
     ghost use Rattle.vortex_views.specs.Places.{places_of};
 
-    /// The rows with these numbers, in the order of the codes, each as often as it is named: a column of the same type
-    /// with a row for each code. A constant stays a constant, and a column whose validity is no list of bits keeps its
-    /// form. The elements of lists and maps are copied as they are, whichever rows name them.
+    /// The rows with these numbers, in the order of the codes, each as often as it is named: a
+    /// column of the same type with a row for each code. A constant stays a constant, and a column
+    /// whose validity is no list of bits keeps its form. The elements of lists and maps are copied
+    /// as they are, whichever rows name them.
     ///
-    /// Refuses for want of memory alone (E9), also where lists of one size would have more elements than a usize counts.
+    /// Refuses for want of memory alone (E9), also where lists of one size would have more elements
+    /// than a usize counts.
     pub fn take(&self, codes: &[u32], ctx: &mut ExecutionCtx) -> VortexResult<Column>
         requires { AreRowsOf self.now codes.now }
         ensures { AnswersUnlessMemory result (IsTaken self.now codes.now) }

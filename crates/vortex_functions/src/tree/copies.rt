@@ -8,8 +8,8 @@ use vortex_columns::VortexResult;
 use vortex_interface::ScalarFnVTable;
 
 impl<C: ScalarFnVTable> BoundExpression<C> {
-    /// A copy that equals its source. That of a call is a handle: it shares the call's parts, takes no memory, and is refused
-    /// only where no more handles can be counted.
+    /// A copy that equals its source. That of a call is a handle: it shares the call's parts, takes
+    /// no memory, and is refused only where no more handles can be counted.
     pub fn try_clone(&self, alloc: Global) -> VortexResult<BoundExpression<C>>
         ensures { AnswersUnlessMemory result (λ t. t ≡ self.now) }
     {

@@ -1,6 +1,8 @@
 //! A tree over columns.
 ghost use Rattle.std.specs.Prelude.{◌≡◌, ◌↔◌, All, None, IfNone, IfOk, IsTrue, IsOk};
-ghost use Rattle.vortex_functions.specs.Words.{children_of, AllMean, AnswersUnlessMemory, HasRows, LeavesFit, NodeFits, other_length, AnswersTree, AnswersExecution, LendsLeaf, IsLeaf, Fits};
+ghost use Rattle.vortex_functions.specs.Words.{children_of, AllMean, AnswersUnlessMemory, HasRows};
+ghost use Rattle.vortex_functions.specs.Words.{LeavesFit, NodeFits, other_length, AnswersTree};
+ghost use Rattle.vortex_functions.specs.Words.{AnswersExecution, LendsLeaf, IsLeaf, Fits};
 ghost use Rattle.vortex_functions.specs.Words.{AnswersColumns, AreTyped};
 
 use super::{BoundExpression, Node};
@@ -9,7 +11,8 @@ use std::borrow::Cow;
 use vortex_columns::{Column, ExecutionCtx, VortexError, VortexResult};
 use vortex_interface::{ScalarFnVTable, VecExecutionArgs};
 
-/// The length of the first column that has not so many rows. Where there is none, the columns' rows have their types.
+/// The length of the first column that has not so many rows. Where there is none, the columns' rows
+/// have their types.
 fn first_other_length(columns: &[Column], row_count: usize) -> Option<usize>
     ensures other { result ≡ other_length row_count columns.now }
     ensures typed { IfNone result (All (λ c. AreTyped c.dtype c.rows) columns.now) }
@@ -61,7 +64,8 @@ impl<C: ScalarFnVTable> BoundExpression<C> {
 
     /// Whether each leaf's column is there, of the leaf's type. A lone leaf takes no memory.
     fn leaves_fit(&self, columns: &[Column], ctx: &mut ExecutionCtx) -> VortexResult<bool>
-        ensures answer { AnswersUnlessMemory result (λ b. IsTrue b ↔ LeavesFit columns.now self.now) }
+        ensures answer { AnswersUnlessMemory result
+            (λ b. IsTrue b ↔ LeavesFit columns.now self.now) }
         ensures lone { IsLeaf self.now → IsOk result }
     {
         match &self.node {
@@ -73,9 +77,9 @@ impl<C: ScalarFnVTable> BoundExpression<C> {
 
     /// Whether the columns serve the tree, and have its row count: what `execute` looks at first.
     ///
-    /// In order: E11 where a leaf's column is missing or of another type; E2 where a column has not `row_count` rows, with
-    /// `left` the row count and `right` the length of the first such column. A lone leaf takes no memory. Columns that serve
-    /// have rows of their types.
+    /// In order: E11 where a leaf's column is missing or of another type; E2 where a column has not
+    /// `row_count` rows, with `left` the row count and `right` the length of the first such column.
+    /// A lone leaf takes no memory. Columns that serve have rows of their types.
     pub fn check_columns(
         &self,
         columns: &[Column],
@@ -157,9 +161,10 @@ impl<C: ScalarFnVTable> BoundExpression<C> {
 
     /// The tree's meaning, row by row, over the columns of its scope: a column of the tree's type.
     ///
-    /// In order: E11 where a leaf's column is missing or of another type; E2 where a column has not `row_count` rows, with
-    /// `left` the row count and `right` the length of the first such column; then the fault of the first call, in post-order,
-    /// that faults in some row. A lone column leaf is lent, and takes no memory.
+    /// In order: E11 where a leaf's column is missing or of another type; E2 where a column has not
+    /// `row_count` rows, with `left` the row count and `right` the length of the first such column;
+    /// then the fault of the first call, in post-order, that faults in some row. A lone column leaf
+    /// is lent, and takes no memory.
     pub fn execute<'a>(
         &self,
         columns: &'a [Column],

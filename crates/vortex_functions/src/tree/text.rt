@@ -1,8 +1,10 @@
 //! The text of a tree.
 ghost use Rattle.std.specs.Prelude.{◌≡◌, ◌<◌, Some, length, slice_get};
 ghost use Rattle.std.specs.Option.{option_copied};
-ghost use Rattle.vortex_functions.specs.Words.{children_of, AllMean, AnswersUnlessMemory, IsTextOf, Appends};
-ghost use Rattle.vortex_functions.specs.Words.{leaf_text, tree_pieces, piece_of, BeginsText, WritesPiece};
+ghost use Rattle.vortex_functions.specs.Words.{children_of, AllMean, AnswersUnlessMemory, IsTextOf};
+ghost use Rattle.vortex_functions.specs.Words.{Appends};
+ghost use Rattle.vortex_functions.specs.Words.{leaf_text, tree_pieces, piece_of, BeginsText};
+ghost use Rattle.vortex_functions.specs.Words.{WritesPiece};
 
 use super::{BoundExpression, Node};
 use crate::walk;
@@ -56,16 +58,16 @@ impl<C: ScalarFnVTable> BoundExpression<C> {
         }
     }
 
-    /// The text of the tree, each call's made of its children's. A caller's function writes a call so, since it is handed
-    /// those texts.
+    /// The text of the tree, each call's made of its children's. A caller's function writes a call
+    /// so, since it is handed those texts.
     fn text_by_calls(&self, alloc: Global) -> VortexResult<String>
         ensures { AnswersUnlessMemory result (IsTextOf self.now) }
     {
         walk!(self, alloc, node, texts => node.text_over(texts, alloc))
     }
 
-    /// Writes what stands before the pieces of the node: a leaf, a literal, or the whole call of a caller's function, which
-    /// have no pieces; of a call of a shipped function nothing.
+    /// Writes what stands before the pieces of the node: a leaf, a literal, or the whole call of a
+    /// caller's function, which have no pieces; of a call of a shipped function nothing.
     fn begin(&self, alloc: Global, out: &mut String) -> VortexResult<()>
         ensures { AnswersUnlessMemory result (λ _. BeginsText self.now out.old out.new) }
     {
@@ -100,7 +102,8 @@ impl<C: ScalarFnVTable> BoundExpression<C> {
         }
     }
 
-    /// Writes a piece of the node's text. Where a child stands there, it is begun and lent, and its pieces come next.
+    /// Writes a piece of the node's text. Where a child stands there, it is begun and lent, and its
+    /// pieces come next.
     fn write_piece(
         &self,
         index: usize,
@@ -132,11 +135,13 @@ impl<C: ScalarFnVTable> BoundExpression<C> {
 
     /// The tree as a text, as `(1i32 > $.a)`. Refuses for memory alone.
     ///
-    /// A column leaf is `$.name`, a literal its value, an operator stands between its operands in parentheses, and every
-    /// other call is `id(a, b)`. What a caller's function writes of a call is its own.
+    /// A column leaf is `$.name`, a literal its value, an operator stands between its operands in
+    /// parentheses, and every other call is `id(a, b)`. What a caller's function writes of a call
+    /// is its own.
     ///
-    /// It is written from left to right by the pieces of the calls, each byte once, with a frame on the heap for each call
-    /// above; a call of a caller's function is made of its arguments' texts, which it is handed.
+    /// It is written from left to right by the pieces of the calls, each byte once, with a frame on
+    /// the heap for each call above; a call of a caller's function is made of its arguments' texts,
+    /// which it is handed.
     pub fn sql_text(&self, alloc: Global) -> VortexResult<String>
         ensures { AnswersUnlessMemory result (IsTextOf self.now) }
     {

@@ -1,5 +1,6 @@
 -- Between: whether a value lies between two bounds, by Kleene's And of two comparisons.
-use Rattle.std.specs.Prelude.{◌≡◌, ◌||◌, ◌&&◌, ℕ, zero, suc, List, [], ◌∷◌, Option, Some, None, Bool, true, false, codes, if◌then◌else◌, refl}
+use Rattle.std.specs.Prelude.{◌≡◌, ◌||◌, ◌&&◌, ℕ, zero, suc, List, [], ◌∷◌, Option, Some, None}
+use Rattle.std.specs.Prelude.{Bool, true, false, codes, if◌then◌else◌, refl}
 use Rattle.std.specs.Str.{bytes_eq}
 use Rattle.std.proofs.Common.{subst, cond}
 use Rattle.vortex_errors.specs.declared.error.MismatchPlace.{MismatchPlace}
@@ -31,7 +32,8 @@ between_name zero = codes "array"
 between_name (suc zero) = codes "lower"
 between_name (suc (suc i)) = codes "upper"
 
--- two bounds that agree with the array's type apart from nullability: Bool, nullable if any of the three is
+-- two bounds that agree with the array's type apart from nullability: Bool, nullable if any of the
+-- three is
 abbrev pub bounded_type : List LogicalType → Option LogicalType
 bounded_type (t ∷ lower ∷ upper ∷ []) =
     if alike_types t lower && alike_types t upper then Some (between_type t lower upper) else None

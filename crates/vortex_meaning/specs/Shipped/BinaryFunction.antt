@@ -1,5 +1,7 @@
--- The operators of two operands: Kleene's And and Or, the comparisons by the order of values, and exact arithmetic.
-use Rattle.std.specs.Prelude.{◌≡◌, ◌⊎◌, ℕ, zero, suc, List, [], ◌∷◌, Option, Some, None, Bool, true, false, ◌||◌, not, codes, Any, if◌then◌else◌, refl}
+-- The operators of two operands: Kleene's And and Or, the comparisons by the order of values, and
+-- exact arithmetic.
+use Rattle.std.specs.Prelude.{◌≡◌, ◌⊎◌, ℕ, zero, suc, List, [], ◌∷◌, Option, Some, None, Bool, true}
+use Rattle.std.specs.Prelude.{false, ◌||◌, not, codes, Any, if◌then◌else◌, refl}
 use Rattle.std.specs.Str.{bytes_eq}
 use Rattle.std.proofs.Common.{sym, ap, ◌∙◌, subst, cond, inl, inr}
 use Rattle.vortex_errors.specs.declared.error.MismatchPlace.{MismatchPlace}
@@ -13,18 +15,24 @@ use Rattle.vortex_types.specs.Values.{Value, null, truth, truth_of, is_null}
 use Rattle.vortex_types.specs.Typing.{HasType}
 use Rattle.vortex_types.proofs.NullValues.{not_null}
 use Rattle.vortex_operators.specs.declared.operators.Operator.{Operator}
-use Rattle.vortex_operators.specs.declared.operators.Operator.TheVariants.{Eq, NotEq, Gt, Gte, Lt, Lte, And, Or, Add, Sub, Mul, Div}
+use Rattle.vortex_operators.specs.declared.operators.Operator.TheVariants.{Eq, NotEq, Gt, Gte, Lt}
+use Rattle.vortex_operators.specs.declared.operators.Operator.TheVariants.{Lte, And, Or, Add, Sub}
+use Rattle.vortex_operators.specs.declared.operators.Operator.TheVariants.{Mul, Div}
 use Rattle.vortex_operators.specs.declared.operators.CompareOperator.{CompareOperator}
 use Rattle.vortex_operators.specs.declared.operators.CompareOperator.TheVariants as compare
 use Rattle.vortex_operators.specs.Operators.{is_arithmetic, is_boolean, text_of}
 use Rattle.vortex_operators.specs.Kleene.{kleene}
-use Rattle.vortex_operators.specs.OperatorValues.{boolean_value, comparison_value, comparison_type, holds}
+use Rattle.vortex_operators.specs.OperatorValues.{boolean_value, comparison_value, comparison_type}
+use Rattle.vortex_operators.specs.OperatorValues.{holds}
 pub use Rattle.vortex_operators.specs.OperatorValues.{value_by, operator_value}
 use Rattle.vortex_operators.proofs.KleeneNulls.{allowed, kleene_allowed}
 use Rattle.vortex_operators.specs.Arithmetic.{numeric_operator_of}
-use Rattle.vortex_meaning.specs.Outcomes.{Outcome, gives, faults, Fault, GivesValue, GivesType, GivesNull}
+use Rattle.vortex_meaning.specs.Outcomes.{Outcome, gives, faults, Fault, GivesValue, GivesType}
+use Rattle.vortex_meaning.specs.Outcomes.{GivesNull}
 use Rattle.vortex_meaning.specs.Meaning.{HaveTypes, AreAlike}
-use Rattle.vortex_meaning.specs.Arithmetic.{arithmetic_type, arithmetic_means, arithmetic_typed, arithmetic_alike, arithmetic_nullable, arithmetic_null, arithmetic_fault}
+use Rattle.vortex_meaning.specs.Arithmetic.{arithmetic_type, arithmetic_means, arithmetic_typed}
+use Rattle.vortex_meaning.specs.Arithmetic.{arithmetic_alike, arithmetic_nullable, arithmetic_null}
+use Rattle.vortex_meaning.specs.Arithmetic.{arithmetic_fault}
 use Rattle.vortex_meaning.specs.Arguments.{of_two, either_of, or_either, has_bool}
 use Rattle.vortex_meaning.specs.CallTexts.{Piece, said, argument}
 use Rattle.vortex_meaning.specs.RowFunction.{RowFunction, LawfulRow}
@@ -260,7 +268,8 @@ alike_by : (o : Option NumericOperator) (op : Operator) (ts us : List LogicalTyp
 alike_by None op ts us vs same = refl
 alike_by (Some o) op ts us vs same = arithmetic_alike o ts us vs same
 
-fault_by : (o : Option NumericOperator) (op : Operator) (ts us : List LogicalType) (vs ws : List Value)
+fault_by : (o : Option NumericOperator) (op : Operator) (ts us : List LogicalType)
+    (vs ws : List Value)
     (x y : Fault) → means_by o op ts vs ≡ faults x → means_by o op us ws ≡ faults y → x ≡ y
 fault_by None op ts us vs ws x y e g = cc
 fault_by (Some o) op ts us vs ws x y e g =

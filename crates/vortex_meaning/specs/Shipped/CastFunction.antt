@@ -1,5 +1,6 @@
 -- Cast of a Bool to the nullable one; each value is kept.
-use Rattle.std.specs.Prelude.{◌≡◌, ℕ, List, [], ◌∷◌, Option, Some, None, Bool, true, codes, Any, refl}
+use Rattle.std.specs.Prelude.{◌≡◌, ℕ, List, [], ◌∷◌, Option, Some, None, Bool, true, codes, Any}
+use Rattle.std.specs.Prelude.{refl}
 use Rattle.std.specs.Str.{bytes_eq}
 use Rattle.std.proofs.Common.{sym, ap, subst}
 use Rattle.vortex_errors.specs.declared.error.MismatchPlace.TheVariants as place

@@ -1,5 +1,6 @@
 -- SQL's LIKE of a text and a pattern, and ILIKE past case; either turned over where negated.
-use Rattle.std.specs.Prelude.{◌≡◌, ◌⊎◌, ℕ, zero, suc, List, [], ◌∷◌, Option, Some, None, Bool, true, false, ◌||◌, ◌==◌, codes, Any, if◌then◌else◌, refl, encode_utf8}
+use Rattle.std.specs.Prelude.{◌≡◌, ◌⊎◌, ℕ, zero, suc, List, [], ◌∷◌, Option, Some, None, Bool, true}
+use Rattle.std.specs.Prelude.{false, ◌||◌, ◌==◌, codes, Any, if◌then◌else◌, refl, encode_utf8}
 use Rattle.std.specs.Str.{bytes_eq}
 use Rattle.std.proofs.Common.{sym, ap, ◌∙◌, subst, inl, inr}
 use Rattle.vortex_errors.specs.declared.error.MismatchPlace.{MismatchPlace}
@@ -150,8 +151,8 @@ like_lawful options = record {
   one_fault = λ ts us vs ws x y e g. cc;
 }
 
--- the number of the options, in the code of trees: that of the two tests, and four for each step to the
--- escape, which is no escape, then the character 0, then 1 and so on
+-- the number of the options, in the code of trees: that of the two tests, and four for each step to
+-- the escape, which is no escape, then the character 0, then 1 and so on
 abbrev pub number_by : Bool → Bool → ℕ
 number_by false false = 0
 number_by true false = 1

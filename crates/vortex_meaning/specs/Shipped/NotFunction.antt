@@ -1,5 +1,6 @@
 -- Kleene's Not of a Bool.
-use Rattle.std.specs.Prelude.{◌≡◌, ℕ, List, [], ◌∷◌, Option, Some, None, Bool, true, codes, Any, if◌then◌else◌, refl}
+use Rattle.std.specs.Prelude.{◌≡◌, ℕ, List, [], ◌∷◌, Option, Some, None, Bool, true, codes, Any}
+use Rattle.std.specs.Prelude.{if◌then◌else◌, refl}
 use Rattle.std.specs.Str.{bytes_eq}
 use Rattle.std.proofs.Common.{sym, ap, ◌∙◌, subst}
 use Rattle.vortex_errors.specs.declared.error.MismatchPlace.TheVariants as place

@@ -36,7 +36,8 @@ impl PartialEq for StructFields {
 
     ghost eq = { λ a b. fields_eq (struct_fields a) (struct_fields b) };
 
-    ghost laws = { on_per struct_fields (partial_equiv_from_equiv (decided fields_eq fields_eq-decides)) };
+    ghost laws = { on_per struct_fields (partial_equiv_from_equiv
+        (decided fields_eq fields_eq-decides)) };
 
     fn eq(&self, other: &StructFields) -> bool {
         self.agrees(other, true)

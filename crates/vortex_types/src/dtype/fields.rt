@@ -41,8 +41,10 @@ fn pairs(
 
 impl StructFields {
     ghost use Rattle.std.specs.Prelude.{◌<◌, MatchOption, OnErr, Some, None};
-    ghost use Rattle.vortex_types.specs.TypeOf.{type_of, struct_fields, named_types, AreNamed, AddsField};
-    ghost use Rattle.vortex_types.specs.LogicalTypes.{no_fields, with_field, field_count, field_type, find_field};
+    ghost use Rattle.vortex_types.specs.TypeOf.{type_of, struct_fields, named_types, AreNamed};
+    ghost use Rattle.vortex_types.specs.TypeOf.{AddsField};
+    ghost use Rattle.vortex_types.specs.LogicalTypes.{no_fields, with_field, field_count};
+    ghost use Rattle.vortex_types.specs.LogicalTypes.{field_type, find_field};
     ghost use Rattle.vortex_types.specs.FieldNames.{field_name};
 
     /// No fields. Takes no memory.
@@ -54,8 +56,8 @@ impl StructFields {
         }
     }
 
-    /// One field more, behind the others; that its name is new is a condition. Refuses for memory alone, and then nothing
-    /// changes.
+    /// One field more, behind the others; that its name is new is a condition. Refuses for memory
+    /// alone, and then nothing changes.
     pub fn push(&mut self, name: String, dtype: DType) -> VortexResult<()>
         requires { find_field (string_bytes name) (struct_fields self.old) ≡ None }
         ensures added { AnswersUnlessMemory result

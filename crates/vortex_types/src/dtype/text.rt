@@ -1,4 +1,5 @@
-//! The texts of types, written behind what a text holds already. Each refuses for memory alone (E9).
+//! The texts of types, written behind what a text holds already. Each refuses for memory alone
+//! (E9).
 ghost use Rattle.vortex_errors.specs.Answers.{AnswersUnlessMemory};
 ghost use Rattle.vortex_types.specs.TypeOf.{type_of, struct_fields};
 ghost use Rattle.vortex_types.specs.Texts.{Appends, joined, comma, separator_before};
@@ -32,8 +33,9 @@ impl DType {
         }
     }
 
-    /// Writes the type, with `?` where it has null: `null`, `bool`, `i32?`, `utf8`, `binary?`, `struct{a: i32, b: utf8?}`,
-    /// `list[i32?]?`, `list[u8; 4]` of four elements each, `map[utf8, i32?]` of keys and values. Refuses for memory alone.
+    /// Writes the type, with `?` where it has null: `null`, `bool`, `i32?`, `utf8`, `binary?`,
+    /// `struct{a: i32, b: utf8?}`, `list[i32?]?`, `list[u8; 4]` of four elements each, `map[utf8,
+    /// i32?]` of keys and values. Refuses for memory alone.
     #[cycle(type_text)]
     pub fn write_text(&self, out: &mut String) -> VortexResult<()>
         ensures { AnswersUnlessMemory result

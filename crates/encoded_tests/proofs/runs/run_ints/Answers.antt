@@ -21,12 +21,14 @@ loop-i-preserved g c =
     let made = ap (map of) c.in_ok-push.ensures.items ∙ map-append of before (x ∷ []) in
     subst (AreRunInts (map of values) starts (c.loop-i.i + 1)) (sym made)
     (more_ints (map of values) starts c.loop-i.i (map of before) (of x) c.loop-i.invariant
-    (read_map of values starts c.loop-i.i c.run_of.result x c.run_of.ensures.says c.requires c.index-values-run_of.is))
+    (read_map of values starts c.loop-i.i c.run_of.result x c.run_of.ensures.says c.requires
+    c.index-values-run_of.is))
 
 pub returns : goal.returns
 returns g c =
     let of = g.T.NativePType.number in
     let last : c.loop-i.i ≡ c.args.len = grind arith in
     subst
-    (λ (n : ℕ). AreRunInts (map of c.args.values.now) c.args.starts.now n (map of c.loop-i.rows.items))
+    (λ (n : ℕ). AreRunInts (map of c.args.values.now) c.args.starts.now n
+    (map of c.loop-i.rows.items))
     last c.loop-i.invariant

@@ -3,7 +3,8 @@ use Rattle.vortex_errors.proofs.Answering.{UnlessMemory-weaker}
 use Rattle.vortex_meaning.specs.Bound.{IsBound}
 use Rattle.vortex_meaning.specs.Execution.{RefusesColumns}
 use Rattle.rowfn_batches.specs.Executing.{AllFit, RefusesColumnsFirst}
-use Rattle.rowfn_batches.proofs.Answered.{placed_more, answers_refusal, fit_more, refuses_columns_at}
+use Rattle.rowfn_batches.proofs.Answered.{placed_more, answers_refusal, fit_more}
+use Rattle.rowfn_batches.proofs.Answered.{refuses_columns_at}
 use Rattle.rowfn_batches.proofs.answers.check_columns.Goals as goal
 
 pub returns-in_err-check_columns-clause-answer : goal.returns-in_err-check_columns-clause-answer
@@ -29,7 +30,8 @@ loop-answer-preserved g c =
     let answer = c.answer-item.result in (
       placed_more IsBound (λ a. a.tree) answers k _ answer (add-one k) c.loop-answer-test.true
           c.answer-item.is c.loop-answer.invariant.0 c.tells_types.ensures,
-      fit_more g.C.ScalarFnVTable.meaning c.args.columns.now c.args.row_count (λ a. a.tree) answers k
+      fit_more g.C.ScalarFnVTable.meaning c.args.columns.now c.args.row_count (λ a. a.tree) answers
+          k
           _ answer (add-one k) c.loop-answer-test.true c.answer-item.is c.loop-answer.invariant.1
           c.in_ok-check_columns.ensures.answer,
     )

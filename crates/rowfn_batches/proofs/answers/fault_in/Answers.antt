@@ -17,7 +17,11 @@ row_of-requires g c =
     let n = c.args.row_count in
     let answers = c.args.answers.now in
     let trees = map (λ a. a.tree) answers in
-    let some : 0 < length trees = omega (arith, length-map answers (λ a. a.tree), c.requires.some) in
+    let some : 0 < length trees = omega (
+      arith,
+      length-map answers (λ a. a.tree),
+      c.requires.some,
+    ) in
     rows_within cs n c.args.row c.requires.below (all_counted cs n trees some c.requires.fit)
 
 pub returns-in-Ok : goal.returns-in-Ok

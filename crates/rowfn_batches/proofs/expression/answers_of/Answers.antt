@@ -14,6 +14,7 @@ loop-place-preserved g c =
     (names_at names k c.get.result c.get.ensures.lookup) c.in_ok-name.ensures in
     rw c.in_ok-push.ensures.items
     (answer_more (λ a. a.tree) (λ a. string_bytes a.name) (map given_in names) c.args.trees.now
-    c.loop-place.answers.items k _ tree (record { name = c.in_ok-name.name; tree = c.in_ok-tree.tree })
+    c.loop-place.answers.items k _ tree (record
+    { name = c.in_ok-name.name; tree = c.in_ok-tree.tree })
     (add-one k) c.loop-place-test.true c.index-trees-place.is c.loop-place.invariant
     c.in_ok-tree.ensures named)

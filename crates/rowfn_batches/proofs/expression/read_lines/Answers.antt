@@ -1,4 +1,5 @@
-use Rattle.std.proofs.Common.{◌≡◌, ◌+◌, ◌<◌, ℕ, List, [], Bor, map, length, get_or, add-one, sym, ap}
+use Rattle.std.proofs.Common.{◌≡◌, ◌+◌, ◌<◌, ℕ, List, [], Bor, map, length, get_or, add-one, sym}
+use Rattle.std.proofs.Common.{ap}
 use Rattle.std.proofs.Common.{subst, ◌∙◌, arith}
 use Rattle.std.proofs.lemmas.List.{get_or-map, length-map}
 use Rattle.rowfn_batches.specs.declared.expression.ExpressionError.{ExpressionError}
@@ -31,7 +32,11 @@ returns-in-Err g c =
     let stop = c.in-Err.stop in
     let d : Bor (List ℕ) = record { ref_ptr = (0, 0); now = [] } in
     let same = line_is items n d c.loop-place-test.true in
-    let below : n < length lines = omega (arith, length-map items (λ l. l.now), c.loop-place-test.true) in
+    let below : n < length lines = omega (
+      arith,
+      length-map items (λ l. l.now),
+      c.loop-place-test.true,
+    ) in
     let stops =
     subst (λ (l : List ℕ). StopsBy (ReadsLine m rs l s) stop) same c.in-Err.ensures in
     subst (λ (x : ExpressionError). Stops m rs lines x)
@@ -50,7 +55,11 @@ loop-place-preserved g c =
     let q = c.read_line.new.self in
     let t = reading_of q.session q.columns.items q.names.items in
     let d : Bor (List ℕ) = record { ref_ptr = (0, 0); now = [] } in
-    let below : n < length lines = omega (arith, length-map items (λ l. l.now), c.loop-place-test.true) in
+    let below : n < length lines = omega (
+      arith,
+      length-map items (λ l. l.now),
+      c.loop-place-test.true,
+    ) in
     let step =
     subst (λ (l : List ℕ). ReadsLine m rs l s (reads t)) (line_is items n d c.loop-place-test.true)
     c.in_default-read_line.ensures in

@@ -12,7 +12,8 @@ use Rattle.vortex_types.proofs.JoinedTexts.{joined_more}
 use Rattle.vortex_columns.specs.Shapes.{shape_type}
 use Rattle.vortex_columns.specs.ColumnView.{fields_in}
 use Rattle.vortex_types.proofs.PrintedTypes.{three_pieces}
-use Rattle.vortex_columns.proofs.ValueTexts.{value_texts-length, value_text_at, field_texts-length, field_text_at}
+use Rattle.vortex_columns.proofs.ValueTexts.{value_texts-length, value_text_at, field_texts-length}
+use Rattle.vortex_columns.proofs.ValueTexts.{field_text_at}
 use Rattle.vortex_columns.proofs.value_text.+value_text.Goals as goal
 
 pub write_elements-write_value-requires : goal.write_elements-write_value-requires
@@ -26,12 +27,15 @@ write_elements-loop-k-preserved t c =
     let vs = sequence_values c.args.values.now in
     let here : c.loop-k.k < length vs = omega (arith, c.len-k-end.ensures, c.loop-k-test.true) in
     joined_more comma (value_texts c.args.typed ty (values_of vs)) c.loop-k.k
-    (value_text c.args.typed ty (row vs c.loop-k.k)) (string_bytes c.args.out.now) (string_bytes c.loop-k.out)
+    (value_text c.args.typed ty (row vs c.loop-k.k)) (string_bytes c.args.out.now)
+    (string_bytes c.loop-k.out)
     (string_bytes c.write_separator.new.out) (string_bytes c.write_value.new.out)
-    (omega (arith, value_texts-length c.args.typed ty vs)) (value_text_at c.args.typed ty vs c.loop-k.k _ here)
+    (omega (arith, value_texts-length c.args.typed ty vs))
+    (value_text_at c.args.typed ty vs c.loop-k.k _ here)
     c.loop-k.invariant c.in_ok-write_separator.ensures
     (c.in_ok-write_value.ensures
-    ∙ ap (λ v. string_bytes c.write_separator.new.out ++ value_text c.args.typed ty v) c.get.ensures.value)
+    ∙ ap (λ v. string_bytes c.write_separator.new.out ++ value_text c.args.typed ty v)
+    c.get.ensures.value)
 
 pub write_elements-returns : goal.write_elements-returns
 write_elements-returns t c =
@@ -40,7 +44,12 @@ write_elements-returns t c =
     c.loop-k.invariant
     ∙ ap (λ ts. string_bytes c.args.out.now ++ joined comma ts)
     (take_all c.loop-k.k (value_texts c.args.typed ty (values_of vs))
-    (omega (arith, value_texts-length c.args.typed ty vs, c.len-k-end.ensures, c.loop-k-test.false)))
+    (omega (
+      arith,
+      value_texts-length c.args.typed ty vs,
+      c.len-k-end.ensures,
+      c.loop-k-test.false,
+    )))
 
 pub write_fields-write_value-requires : goal.write_fields-write_value-requires
 write_fields-write_value-requires t c =
@@ -60,7 +69,8 @@ write_fields-loop-k-preserved t c =
     (field_name k fs ++ codes ": " ++ value_text c.args.typed (field_type k fs) (row vs k))
     (string_bytes c.args.out.now) (string_bytes c.loop-k.out)
     (string_bytes c.write_separator.new.out) (string_bytes c.write_value.new.out)
-    (omega (arith, field_texts-length c.args.typed fs vs)) (field_text_at c.args.typed fs vs k _ here there)
+    (omega (arith, field_texts-length c.args.typed fs vs))
+    (field_text_at c.args.typed fs vs k _ here there)
     c.loop-k.invariant c.in_ok-write_separator.ensures
     (three_pieces (string_bytes c.write_separator.new.out) (string_bytes c.push_str.new.self)
     (string_bytes c.push_str-in-loop-k.new.self) (string_bytes c.write_value.new.out)

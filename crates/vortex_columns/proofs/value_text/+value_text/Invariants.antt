@@ -15,7 +15,8 @@ invariant-write_elements-loop-k l =
 abbrev pub invariant-write_fields-loop-k : goal.invariant-write_fields-loop-k
 invariant-write_fields-loop-k l =
     string_bytes l.out ≡ string_bytes l.initial.out ++ joined comma
-    (take l.k (field_texts l.typed (fields_in (shape_type l.shape)) (values_of (sequence_values l.values))))
+    (take l.k (field_texts l.typed (fields_in (shape_type l.shape))
+    (values_of (sequence_values l.values))))
 
 -- how deep the values nest: a cell is two steps above the values in it
 abbrev pub decreases-write_value : goal.decreases-write_value

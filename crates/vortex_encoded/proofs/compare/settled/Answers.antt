@@ -20,6 +20,8 @@ returns-then-is_null_constant g c =
       settled_by_null other (sym says.says ∙ c.if-is_null_constant.true),
       nulls_compared (allows_null n) column other c.null-scalar.result
           c.len-then-is_null_constant.result c.in_ok-constant-2.field-0
-          (c.null-scalar.ensures ∙ ap (λ (t : LogicalType). record { dtype = t; value = null }) named) either
-          c.len-then-is_null_constant.ensures c.requires (says.nulls (grind arith)) c.in_ok-constant-2.ensures,
+          (c.null-scalar.ensures ∙ ap (λ (t : LogicalType). record { dtype = t; value = null })
+          named) either
+          c.len-then-is_null_constant.ensures c.requires (says.nulls (grind arith))
+          c.in_ok-constant-2.ensures,
     )

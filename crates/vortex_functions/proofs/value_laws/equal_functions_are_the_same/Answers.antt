@@ -1,7 +1,8 @@
 use Rattle.std.proofs.Common.{◌≡◌, ap, refl}
 use Rattle.vortex_meaning.specs.Shipped as shipped
 use Rattle.vortex_functions.specs.declared.erased.ScalarFnRef.TheVariants as ref
-use Rattle.vortex_functions.proofs.SameValues.{operators_tell, bounds_tell, likes_tell, instances_tell}
+use Rattle.vortex_functions.proofs.SameValues.{operators_tell, bounds_tell, likes_tell}
+use Rattle.vortex_functions.proofs.SameValues.{instances_tell}
 use Rattle.vortex_functions.proofs.value_laws.equal_functions_are_the_same.Goals as goal
 
 pub returns : goal.returns

@@ -23,7 +23,8 @@ returns-in-Some-default-clause-rows c =
     c.not_scalar.ensures)
     (rw c.len.ensures at c.constant.ensures)
 
-pub returns-in_ok-validity-in-None-Some-clause-rows : goal.returns-in_ok-validity-in-None-Some-clause-rows
+pub returns-in_ok-validity-in-None-Some-clause-rows :
+    goal.returns-in_ok-validity-in-None-Some-clause-rows
 returns-in_ok-validity-in-None-Some-clause-rows c =
     let input = c.args.input.now in
     let xs = c.in-None-Some.bits.now in

@@ -3,7 +3,8 @@ use Rattle.vortex_kernels.specs.declared.truths.Operand.{Operand}
 use Rattle.vortex_kernels.specs.Truths.{operand_there}
 use Rattle.vortex_kernels.proofs.kleene.kleene_operands.Goals as goal
 
-pub kleene_beside-requires-in-Shifted-clause-left : goal.kleene_beside-requires-in-Shifted-clause-left
+pub kleene_beside-requires-in-Shifted-clause-left :
+    goal.kleene_beside-requires-in-Shifted-clause-left
 kleene_beside-requires-in-Shifted-clause-left g c = λ i lt.
     let there = subst (λ (o : Operand). operand_there o i) c.in-Shifted.is (c.requires.left i lt) in
     (there, tt)

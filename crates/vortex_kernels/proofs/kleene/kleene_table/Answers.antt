@@ -14,7 +14,8 @@ kleene_operands-requires-clause-truths g c = λ none i lt.
     let right = c.args.right in
     let both : HasTruth left i × HasTruth right i =
     by_null (allows_null c.args.nullability) (HasTruth left i × HasTruth right i)
-    (λ nullable. let each = c.lists_nulls-listed.ensures.truths none nullable in (each.0 i, each.1 i))
+    (λ nullable. let each = c.lists_nulls-listed.ensures.truths none nullable in
+    (each.0 i, each.1 i))
     (λ plain. c.requires.truths plain i lt) in
     both_some g.K.KleeneTable.operator (operand_truth left i) (operand_truth right i)
     c.requires.operator both.0 both.1

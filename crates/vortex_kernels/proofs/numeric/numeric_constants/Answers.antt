@@ -74,7 +74,8 @@ returns-clause-rows g c =
     let z = g.T.NativePType.number c.apply_checked-value.result.0 in
     let fits : 0 < length l.rows → FitsResult p (exact a b) =
     elim c.else-ne.branch [
-      | else-ne-via-then-ne+else-len-ne0 w ↦ λ some. absurd (omega (arith, w.len.ensures, w.if-len-ne0.false, some))
+      | else-ne-via-then-ne+else-len-ne0 w ↦ λ some. absurd
+          (omega (arith, w.len.ensures, w.if-len-ne0.false, some))
       | else-ne-via-else-ne w ↦ λ some.
           not_told (g.O.Fail.Failure.is_fault fault) (FitsResult p (exact a b))
           c.apply_checked-value.ensures.fault

@@ -28,4 +28,5 @@ returns-in-Some-None-Some g c =
     c.zip_bits_with.result
     (bits_order_with l r c.requires xs b bits c.in-Some-None-Some.ensures''.value)
     (answers_held g.P.Comparison.operator (bit_orders_with xs b) _ _ _ c.zip_bits_with.result
-    bits.count (λ i. g.met.P.Comparison.of_bits (slice_index_or xs i false) b) c.zip_bits_with.ensures)
+    bits.count (λ i. g.met.P.Comparison.of_bits (slice_index_or xs i false) b)
+    c.zip_bits_with.ensures)

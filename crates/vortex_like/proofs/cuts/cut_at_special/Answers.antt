@@ -10,7 +10,8 @@ use Rattle.vortex_like.proofs.cuts.cut_at_special.Goals as goal
 pub range-front-requires-clause-end_boundary : goal.range-front-requires-clause-end_boundary
 range-front-requires-clause-end_boundary c =
     let seam =
-    cut_seam c.args.escape c.args.pattern.now c.from_special-rest.result.now c.from_special-rest.utf8
+    cut_seam c.args.escape c.args.pattern.now c.from_special-rest.result.now
+    c.from_special-rest.utf8
     c.from_special-rest.ensures.passed in
     rw seam.0 seam.1
 
@@ -27,6 +28,7 @@ returns c =
       split =
           ap chars passed.split ∙ chars-append passed.front rest passed.utf8
           ∙ ap (λ (bs : List ℕ). chars bs ++ chars rest) (sym front);
-      plain = ap (λ (bs : List ℕ). list_any (is_special c.args.escape) (chars bs)) front ∙ passed.plain;
+      plain = ap (λ (bs : List ℕ). list_any (is_special c.args.escape) (chars bs)) front
+          ∙ passed.plain;
       special = c.from_special-rest.ensures.special;
     }

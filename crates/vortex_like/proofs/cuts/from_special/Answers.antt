@@ -10,6 +10,7 @@ pub loop-c-preserved : goal.loop-c-preserved
 loop-c-preserved c =
     let s : IsScalar c.in-Some.c = search rules in (
       search rules,
-      pass_more c.args.escape c.args.pattern.now c.loop-c.rest.now c.in-Some.behind.now c.in-Some.c s
+      pass_more c.args.escape c.args.pattern.now c.loop-c.rest.now c.in-Some.behind.now c.in-Some.c
+          s
           (sym c.if-is_special.ensures) c.in-Some.ensures.bytes c.loop-c.invariant.1,
     )

@@ -14,7 +14,8 @@ differ e = cc
 pub returns-in-None : goal.returns-in-None
 returns-in-None c =
     let cut = c.cut_at_special-cut in
-    whole_front c.args.escape (chars c.args.pattern.now) (chars cut.result.front.now) (chars cut.result.rest.now)
+    whole_front c.args.escape (chars c.args.pattern.now) (chars cut.result.front.now)
+    (chars cut.result.rest.now)
     cut.ensures.split c.in-None.ensures.characters cut.ensures.plain
 
 pub returns-then-is_empty : goal.returns-then-is_empty
@@ -25,7 +26,8 @@ returns-then-is_empty c =
     let parts =
     percent_behind c.args.escape (chars c.args.pattern.now) (chars cut.result.front.now)
     (chars cut.result.rest.now) (chars behind) c.in-Some.c cut.ensures.split
-    c.in-Some.ensures.characters cut.ensures.plain (sym c.if-is_percent.ensures) (empty_text behind none) in (
+    c.in-Some.ensures.characters cut.ensures.plain (sym c.if-is_percent.ensures)
+    (empty_text behind none) in (
       no_literal c.args.escape (chars c.args.pattern.now) (chars cut.result.front.now)
           (chars cut.result.rest.now) (chars behind) c.in-Some.c cut.ensures.split
           c.in-Some.ensures.characters cut.ensures.plain cut.ensures.special,

@@ -24,7 +24,8 @@ pub returns : goal.returns
 returns c =
     let pattern = chars c.args.pattern.now in
     let folds : c.args.case_insensitive ≡ true = search rules in
-    let form : form_of c.args.escape pattern c.args.case_insensitive c.args.ascii_haystack ≡ Tokens =
+    let form : form_of c.args.escape pattern c.args.case_insensitive c.args.ascii_haystack
+    ≡ Tokens =
     elim c.else-ascii_haystack.branch [
       | else-ascii_haystack-via-then-ascii_haystack+else-is_ascii w ↦ (
           let told : IsNotAscii c.args.pattern.now = w.if-is_ascii.ensures.cases in
@@ -32,7 +33,8 @@ returns c =
           (no_ascii_pattern c.args.pattern.now c.utf8.pattern told))
       | else-ascii_haystack-via-else-ascii_haystack w ↦ (
           let none : c.args.ascii_haystack ≡ false = w.if-ascii_haystack.false in
-          form_no_promise c.args.escape pattern c.args.case_insensitive c.args.ascii_haystack folds none)
+          form_no_promise c.args.escape pattern c.args.case_insensitive c.args.ascii_haystack folds
+          none)
     ] in
     test_as c.token_test.result c.args.escape pattern c.args.case_insensitive Tokens
     (form_of c.args.escape pattern c.args.case_insensitive c.args.ascii_haystack) folds form

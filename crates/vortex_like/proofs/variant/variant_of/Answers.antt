@@ -10,7 +10,8 @@ use Rattle.vortex_like.proofs.variant.variant_of.Goals as goal
 pub owned_variant-requires : goal.owned_variant-requires
 owned_variant-requires c =
     let cut = c.cut_at_special-cut in
-    escape_met c.args.escape (chars c.args.pattern.now) (chars cut.result.front.now) (chars cut.result.rest.now)
+    escape_met c.args.escape (chars c.args.pattern.now) (chars cut.result.front.now)
+    (chars cut.result.rest.now)
     (chars c.in-Some.field-0-1.now) c.in-Some.c cut.ensures.split c.in-Some.ensures.characters
     cut.ensures.plain (sym c.if-is_escape.ensures)
 
@@ -21,9 +22,11 @@ returns-then-is_empty c =
     let shape =
     literal_then_wildcard c.args.escape (chars c.args.pattern.now) (chars cut.result.front.now)
     (chars cut.result.rest.now) (chars c.in-Some.field-0-1.now) c.in-Some.c cut.ensures.split
-    c.in-Some.ensures.characters cut.ensures.plain cut.ensures.special (sym c.if-is_escape.ensures) in
+    c.in-Some.ensures.characters cut.ensures.plain cut.ensures.special
+    (sym c.if-is_escape.ensures) in
     subst
-    (λ (cs : List ℕ). AreLiteralThenWildcard (tokens_of c.args.escape (chars c.args.pattern.now)) cs)
+    (λ (cs : List ℕ). AreLiteralThenWildcard (tokens_of c.args.escape (chars c.args.pattern.now))
+    cs)
     (empty_text cut.result.front.now none) shape.0
 
 pub returns-in-None : goal.returns-in-None
@@ -40,5 +43,6 @@ returns-else-is_empty c =
     let shape =
     literal_then_wildcard c.args.escape (chars c.args.pattern.now) (chars cut.result.front.now)
     (chars cut.result.rest.now) (chars c.in-Some.field-0-1.now) c.in-Some.c cut.ensures.split
-    c.in-Some.ensures.characters cut.ensures.plain cut.ensures.special (sym c.if-is_escape.ensures) in
+    c.in-Some.ensures.characters cut.ensures.plain cut.ensures.special
+    (sym c.if-is_escape.ensures) in
     (shape.0, λ e. some (no_empty_text cut.result.front.now text e), shape.1)

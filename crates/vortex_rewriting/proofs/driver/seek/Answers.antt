@@ -2,7 +2,9 @@ use Rattle.std.proofs.Common.{◌≡◌, Some, None, sym, ap, ◌∙◌, length,
 use Rattle.vortex_meaning.specs.Driver.{step}
 use Rattle.vortex_rewriting.specs.Driving.{first_rule}
 use Rattle.vortex_rewriting.specs.Frames.{plug, frames_in}
-use Rattle.vortex_rewriting.proofs.Walking.{of_some, begins, next_is, passes, passes_fewer, descends, descends_fewer, all_done, step_made, ends, rises, rises_fewer, node_typed}
+use Rattle.vortex_rewriting.proofs.Walking.{of_some, begins, next_is, passes, passes_fewer}
+use Rattle.vortex_rewriting.proofs.Walking.{descends, descends_fewer, all_done, step_made, ends}
+use Rattle.vortex_rewriting.proofs.Walking.{rises, rises_fewer, node_typed}
 use Rattle.vortex_rewriting.proofs.driver.seek.Goals as goal
 
 pub loop-done-init : goal.loop-done-init
@@ -41,7 +43,8 @@ loop-done-smaller-else-is_settled g c =
     c.in-Some.child c.deref.ensures.value c.in_ok-child.ensures.answer c.in-Some.is in
     descends_fewer B.tree l.above.items c.push-else-is_settled.new.self.items
     (record { node = l.node; done = l.done }) c.in-Some.child
-    c.new-done-else-is_settled.result.items at c.in_ok-push-in-Some-2.ensures.items c.new-done-else-is_settled.ensures.items
+    c.new-done-else-is_settled.result.items at c.in_ok-push-in-Some-2.ensures.items
+    c.new-done-else-is_settled.ensures.items
 
 pub loop-done-preserved-else-is_settled : goal.loop-done-preserved-else-is_settled
 loop-done-preserved-else-is_settled g c =
@@ -50,7 +53,8 @@ loop-done-preserved-else-is_settled g c =
     let at = next_is B.tree (B.tree l.node) l.done.items c.deref.result.now c.in_ok-child.field-0
     c.in-Some.child c.deref.ensures.value c.in_ok-child.ensures.answer c.in-Some.is in
     descends B.tree (first_rule g.T.RewriteTree.applied) B.rows c.args.above.items c.args.node
-    l.above.items c.push-else-is_settled.new.self.items (record { node = l.node; done = l.done }) c.in-Some.child
+    l.above.items c.push-else-is_settled.new.self.items (record { node = l.node; done = l.done })
+    c.in-Some.child
     c.new-done-else-is_settled.result.items l.invariant at
     (of_some (λ t. B.rows t ≡ B.rows l.node) c.in_ok-child.field-0 c.in-Some.child
     c.in_ok-child.ensures.same_rows c.in-Some.is)

@@ -28,7 +28,8 @@ whole_tree-requires-clause-typed g c =
     c.in_ok-tree.ensures.answer in
     subst (λ t. IsSome (tree_type m t)) found.1
     (run_typed m g.T.RewriteTree.applied l.steps (tree c.args.tree.now) root
-    (type_of c.dtype-typed.result.now) c.dtype-typed.ensures l.invariant.run g.met.T.RewriteTree.sound)
+    (type_of c.dtype-typed.result.now) c.dtype-typed.ensures l.invariant.run
+    g.met.T.RewriteTree.sound)
 
 some_is_none : {A : Type 0} (a : A) (o : Option A) → o ≡ Some a → o ≡ None → IsTrue false
 some_is_none a o e f = cc

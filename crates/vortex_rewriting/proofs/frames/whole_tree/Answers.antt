@@ -3,7 +3,8 @@ use Rattle.std.specs.Prelude.{IsSome}
 use Rattle.vortex_meaning.specs.Eval.{tree_type}
 use Rattle.vortex_rewriting.specs.Driving.{first_rule}
 use Rattle.vortex_rewriting.specs.Frames.{plug, frames_in}
-use Rattle.vortex_rewriting.proofs.Walking.{goes_up, frames_above, over_typed, rows_above, rows_push}
+use Rattle.vortex_rewriting.proofs.Walking.{goes_up, frames_above, over_typed, rows_above}
+use Rattle.vortex_rewriting.proofs.Walking.{rows_push}
 use Rattle.vortex_rewriting.proofs.frames.whole_tree.Goals as goal
 
 pub closed-requires-clause-typed : goal.closed-requires-clause-typed

@@ -4,7 +4,8 @@ use Rattle.vortex_meaning.specs.Trees.{Tree, children_of}
 use Rattle.vortex_meaning.specs.Eval.{tree_type}
 use Rattle.vortex_rewriting.specs.Ways.{with_parents}
 use Rattle.vortex_rewriting.specs.declared.ways.Parent.{Parent}
-use Rattle.vortex_rewriting.proofs.DownAndUp.{is_within, popped, way_above, with_last, with_child_typed}
+use Rattle.vortex_rewriting.proofs.DownAndUp.{is_within, popped, way_above, with_last}
+use Rattle.vortex_rewriting.proofs.DownAndUp.{with_child_typed}
 use Rattle.vortex_rewriting.proofs.ways.way_up.Goals as goal
 
 pub with_child-requires-clause-is_child : goal.with_child-requires-clause-is_child

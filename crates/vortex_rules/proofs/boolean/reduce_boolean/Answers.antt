@@ -6,7 +6,8 @@ use Rattle.vortex_types.specs.TypeOf.{type_of, allows_null}
 use Rattle.vortex_meaning.specs.Rules.{constant_truth}
 use Rattle.vortex_meaning.specs.ReduceRules.{of_constants}
 use Rattle.vortex_rules.specs.Reduced.{IsReduced}
-use Rattle.vortex_rules.proofs.BooleanNodes.{two_operands, is_operated, casts_left, casts_right, reduced}
+use Rattle.vortex_rules.proofs.BooleanNodes.{two_operands, is_operated, casts_left, casts_right}
+use Rattle.vortex_rules.proofs.BooleanNodes.{reduced}
 use Rattle.vortex_rules.proofs.boolean.reduce_boolean.Goals as goal
 
 pub child-requires : goal.child-requires
@@ -62,6 +63,7 @@ returns-clause-answer g c =
     (λ answer. option_map g.T.ReduceTree.tree answer
     ≡ of_constants m c.args.operator n x y (constant_truth x) (constant_truth y))
     (IsReduced m g.T.ReduceTree.tree t) (λ e. ⊥) (λ e. ⊥)
-    (λ answer e. reduced m g.T.ReduceTree.tree t c.args.operator x y k n answer c.requires.boolean is
+    (λ answer e. reduced m g.T.ReduceTree.tree t c.args.operator x y k n answer c.requires.boolean
+    is
     c.node_dtype.ensures c.nullability-nullability.ensures e) (λ e h. h)
     c.of_constants.ensures.answer

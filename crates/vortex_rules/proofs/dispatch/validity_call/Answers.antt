@@ -20,7 +20,8 @@ returns-in_default g c =
       answer =
           AnswersUnlessMemory-weaker c.default_validity.result (IsTold of_node table)
           (IsValidityBy m r of_node t)
-          (λ told e. e ∙ listed_validity m r f t (no_instance m f c.in_default.not-Custom) c.requires)
+          (λ told e. e ∙ listed_validity m r f t (no_instance m f c.in_default.not-Custom)
+          c.requires)
           c.default_validity.ensures.answer;
       same_rows = c.default_validity.ensures.same_rows;
     }

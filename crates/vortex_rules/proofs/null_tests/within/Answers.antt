@@ -15,7 +15,8 @@ child-requires g c =
     let t = g.T.ReduceTree.tree c.args.node.now in
     let op = c.in-Some.operator in
     let which = boolean_node m t op (sym c.boolean_called.ensures ∙ c.in-Some.is) in
-    let two = two_operands m t op (type_of c.node_dtype-typed.result.now) which.0 c.node_dtype-typed.ensures in
+    let two = two_operands m t op (type_of c.node_dtype-typed.result.now) which.0
+    c.node_dtype-typed.ensures in
     omega (arith, two)
 
 pub child-requires-2 : goal.child-requires-2
@@ -24,7 +25,8 @@ child-requires-2 g c =
     let t = g.T.ReduceTree.tree c.args.node.now in
     let op = c.in-Some.operator in
     let which = boolean_node m t op (sym c.boolean_called.ensures ∙ c.in-Some.is) in
-    let two = two_operands m t op (type_of c.node_dtype-typed.result.now) which.0 c.node_dtype-typed.ensures in
+    let two = two_operands m t op (type_of c.node_dtype-typed.result.now) which.0
+    c.node_dtype-typed.ensures in
     omega (arith, two)
 
 pub within_operands-requires-clause-typed : goal.within_operands-requires-clause-typed
@@ -36,7 +38,8 @@ within_operands-requires-clause-typed g c =
     let which = boolean_node m t op (sym c.boolean_called.ensures ∙ c.in-Some.is) in
     let x = g.T.ReduceTree.tree c.in_ok-left.left in
     let y = g.T.ReduceTree.tree c.in_ok-right.right in
-    let is = is_operated m t op x y k which.0 c.node_dtype-typed.ensures c.in_ok-left.ensures.answer c.in_ok-right.ensures.answer in
+    let is = is_operated m t op x y k which.0 c.node_dtype-typed.ensures c.in_ok-left.ensures.answer
+    c.in_ok-right.ensures.answer in
     subst (λ o. IsSome o) (sym (sym (ap (tree_type m) is) ∙ c.node_dtype-typed.ensures)) refl
 
 pub returns-clause-answer : goal.returns-clause-answer
@@ -49,7 +52,8 @@ returns-clause-answer g c =
     let which = boolean_node m t op (sym c.boolean_called.ensures ∙ c.in-Some.is) in
     let x = of_node c.in_ok-left.left in
     let y = of_node c.in_ok-right.right in
-    let is = is_operated m t op x y k which.0 c.node_dtype-typed.ensures c.in_ok-left.ensures.answer c.in_ok-right.ensures.answer in
+    let is = is_operated m t op x y k which.0 c.node_dtype-typed.ensures c.in_ok-left.ensures.answer
+    c.in_ok-right.ensures.answer in
     AnswersUnlessMemory-weaker c.within_operands.result
     (λ answer. option_map of_node answer ≡ within_operands m c.args.test op x y)
     (λ answer. option_map of_node answer ≡ within m c.args.test t)

@@ -35,7 +35,8 @@ simplify_operands-requires-clause-casts_left g c =
     casts_left m t c.args.operator x y k (sym c.is_boolean.ensures ∙ c.if-is_boolean.true) is
     c.node_dtype.ensures
 
-pub simplify_operands-requires-clause-casts_right : goal.simplify_operands-requires-clause-casts_right
+pub simplify_operands-requires-clause-casts_right :
+    goal.simplify_operands-requires-clause-casts_right
 simplify_operands-requires-clause-casts_right g c =
     let m = g.C.ScalarFnVTable.meaning in
     let t = g.T.ReduceTree.tree c.args.node.now in

@@ -3,7 +3,8 @@ use Rattle.vortex_types.specs.TypeOf.{type_of}
 use Rattle.vortex_meaning.specs.Trees.{children_of}
 use Rattle.vortex_rules.proofs.Unions.{one_more_test, no_more_test}
 use Rattle.vortex_rules.proofs.union.null_tests.Goals as goal
-use Rattle.vortex_rules.proofs.union.null_tests.Goals.{then-is_nullable+in_ok-tested+in_ok-push, else-is_nullable}
+use Rattle.vortex_rules.proofs.union.null_tests.Goals.{then-is_nullable+in_ok-tested+in_ok-push}
+use Rattle.vortex_rules.proofs.union.null_tests.Goals.{else-is_nullable}
 
 pub loop-index-preserved : goal.loop-index-preserved
 loop-index-preserved g c =

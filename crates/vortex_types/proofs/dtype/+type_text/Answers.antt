@@ -1,4 +1,5 @@
-use Rattle.std.proofs.Common.{◌++◌, ◌<◌, length, string_bytes, get_or, take_all, sym, ap, ◌∙◌, arith}
+use Rattle.std.proofs.Common.{◌++◌, ◌<◌, length, string_bytes, get_or, take_all, sym, ap, ◌∙◌}
+use Rattle.std.proofs.Common.{arith}
 use Rattle.std.specs.Prelude.{codes}
 use Rattle.vortex_types.specs.TypeOf.{type_of, struct_fields}
 use Rattle.vortex_types.specs.LogicalTypes.{field_count, field_type}

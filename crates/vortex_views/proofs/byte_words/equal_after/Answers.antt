@@ -9,7 +9,8 @@ use Rattle.vortex_views.proofs.byte_words.equal_after.Goals as goal
 pub loop-at-preserved : goal.loop-at-preserved
 loop-at-preserved c = record {
   within = omega arith;
-  alike = eight_more c.loop-at.at c.args.a.now c.args.b.now (are_bytes _ c.type_inv.a) (are_bytes _ c.type_inv.b)
+  alike = eight_more c.loop-at.at c.args.a.now c.args.b.now (are_bytes _ c.type_inv.a)
+      (are_bytes _ c.type_inv.b)
       (omega arith) (omega arith) c.loop-at.invariant.alike
       (sym c.order_word-left.ensures ∙ c.if-left-right.false ∙ c.order_word-right.ensures);
 }
@@ -17,7 +18,8 @@ loop-at-preserved c = record {
 pub returns : goal.returns
 returns c = (
   (λ h. all_same c.loop-at.at (length c.args.a.now - 8) c.args.a.now c.args.b.now
-      (are_bytes _ c.type_inv.a) (are_bytes _ c.type_inv.b) c.requires.lengths (omega arith) (omega arith)
+      (are_bytes _ c.type_inv.a) (are_bytes _ c.type_inv.b) c.requires.lengths (omega arith)
+      (omega arith)
       c.loop-at.invariant.alike
       (sym c.order_word-last_left.ensures
       ∙ eqb-true c.order_word-last_left.result c.order_word-last_right.result h

@@ -25,7 +25,8 @@ loop-place-preserved g c = (
       c.loop-place.place-index c.place-item.result c.index-items-index.result d
       (c.loop-place.invariant.2 d) c.loop-place-test.true c.place-item.is
       (place_within g.P.Place.number c.args.places.now (length c.args.items.now)
-      c.loop-place.place-index c.place-item.result c.requires c.loop-place-test.true c.place-item.is)
+      c.loop-place.place-index c.place-item.result c.requires c.loop-place-test.true
+      c.place-item.is)
       (c.index-items-index.is
       ∙ ap (λ k. slice_index_or c.args.items.now k c.index-items-index.result) c.index.ensures),
 )

@@ -13,7 +13,8 @@ returns c =
     let v = c.deref.result.now in
     let n = a.len in
     let starts = a.starts.items in
-    subst (λ (x : ColumnView). AnswersUnlessMemory c.rows_of.result (IsDecoded (run_column x starts n)))
+    subst (λ (x : ColumnView). AnswersUnlessMemory c.rows_of.result
+    (IsDecoded (run_column x starts n)))
     c.deref.ensures
     (AnswersUnlessMemory-weaker c.rows_of.result (HasRunRows v starts n)
     (IsDecoded (run_column v starts n)) (runs_decoded v starts n)

@@ -23,7 +23,8 @@ returns c =
     let xs = c.deref.result.now in
     let v = validity_of c.args.validity in
     let vs = map (λ s. text (lent s)) xs in
-    subst (λ (ys : List (Bor (List ℕ))). MakesColumn (λ s. text s.now) text_type v ys c.try_texts.result)
+    subst (λ (ys : List (Bor (List ℕ))). MakesColumn (λ s. text s.now) text_type v ys
+    c.try_texts.result)
     c.deref.ensures.value
     (answers_same c.try_texts.result
     (FitsRows v (length xs) × HaveRoom (map lent xs))

@@ -1,4 +1,5 @@
-use Rattle.std.proofs.Common.{◌≡◌, ◌∙◌, ap, sym, subst, not, false, ℕ, ◌≤◌, List, ◌∷◌, ◌++◌, reverse}
+use Rattle.std.proofs.Common.{◌≡◌, ◌∙◌, ap, sym, subst, not, false, ℕ, ◌≤◌, List, ◌∷◌, ◌++◌}
+use Rattle.std.proofs.Common.{reverse}
 use Rattle.std.proofs.Common.{string_bytes}
 use Rattle.std.specs.Option.{is_none}
 use Rattle.vortex_meaning.specs.Weights.{weight_told}

@@ -1,4 +1,5 @@
-use Rattle.std.proofs.Common.{rules, ◌≡◌, ◌∙◌, ◌+◌, ◌-◌, ap, sym, not, subst, length, arith, false, refl}
+use Rattle.std.proofs.Common.{rules, ◌≡◌, ◌∙◌, ◌+◌, ◌-◌, ap, sym, not, subst, length, arith, false}
+use Rattle.std.proofs.Common.{refl}
 use Rattle.std.proofs.Common.{None}
 use Rattle.std.specs.Option.{is_none}
 use Rattle.std.proofs.lemmas.List.{length-drop}
@@ -26,7 +27,8 @@ returns-then-len-count g c =
     ap is_none (sym (row_count_of c.self.view_is))
     ∙ ap not c.is_none.ensures
     ∙ ap (λ b. not (not b)) c.if-is_none.false in
-    let named = named_is (function_of c.in-Some.function) (shipped_called word c.args.escape) c.in-Some.ensures in
+    let named = named_is (function_of c.in-Some.function) (shipped_called word c.args.escape)
+    c.in-Some.ensures in
     let f = named.0 in
     let n = least_count (shipped_arity f) in
     let count : c.least_count-count.result ≡ n =
@@ -51,7 +53,8 @@ returns-in_err-tree g c =
     ap is_none (sym (row_count_of c.self.view_is))
     ∙ ap not c.is_none.ensures
     ∙ ap (λ b. not (not b)) c.if-is_none.false in
-    let named = named_is (function_of c.in-Some.function) (shipped_called word c.args.escape) c.in-Some.ensures in
+    let named = named_is (function_of c.in-Some.function) (shipped_called word c.args.escape)
+    c.in-Some.ensures in
     let f = named.0 in
     let n = least_count (shipped_arity f) in
     let count : c.least_count-count.result ≡ n =
@@ -88,7 +91,8 @@ returns g c =
     ap is_none (sym (row_count_of c.self.view_is))
     ∙ ap not c.is_none.ensures
     ∙ ap (λ b. not (not b)) c.if-is_none.false in
-    let named = named_is (function_of c.in-Some.function) (shipped_called word c.args.escape) c.in-Some.ensures in
+    let named = named_is (function_of c.in-Some.function) (shipped_called word c.args.escape)
+    c.in-Some.ensures in
     let f = named.0 in
     let n = least_count (shipped_arity f) in
     let count : c.least_count-count.result ≡ n =

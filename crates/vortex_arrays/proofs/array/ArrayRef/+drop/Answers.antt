@@ -8,7 +8,8 @@ use Rattle.vortex_arrays.proofs.array.ArrayRef.+drop.Goals as goal
 
 pub invariant_of-array : goal.invariant_of-array
 invariant_of-array g t c = (
-  null_is_node g.C.ScalarFnVTable.meaning g.C.ScalarFnVTable.rules c.array.inside.len c.replace.new.dest
+  null_is_node g.C.ScalarFnVTable.meaning g.C.ScalarFnVTable.rules c.array.inside.len
+      c.replace.new.dest
       c.null-nothing.result c.replace.ensures.after c.null-nothing.ensures,
   null_is_typed c.array.inside.len c.replace.new.dest c.null-nothing.result
       c.replace.ensures.after c.null-nothing.ensures,

@@ -4,7 +4,8 @@ use Rattle.std.proofs.lemmas.Result.{err_from_is_err_and}
 use Rattle.vortex_errors.specs.Answers.{UnlessMemory}
 use Rattle.vortex_meaning.specs.Eval.{IsFirstFault}
 use Rattle.vortex_arrays.specs.Executing.{HasArrayRows}
-use Rattle.vortex_functions.proofs.Chains.{chain_refuses, descended, descended_fewer, risen, risen_fewer}
+use Rattle.vortex_functions.proofs.Chains.{chain_refuses, descended, descended_fewer, risen}
+use Rattle.vortex_functions.proofs.Chains.{risen_fewer}
 use Rattle.vortex_arrays.specs.Arrays.{children_in, rows_in, tree_in}
 use Rattle.vortex_arrays.proofs.Children.{array_nodes, array_and_children, array_fault_upward}
 use Rattle.vortex_arrays.proofs.array.ArrayRef.compute.Goals as goal

@@ -5,7 +5,8 @@ use Rattle.vortex_types.specs.TypeOf.{type_of}
 use Rattle.vortex_meaning.specs.Trees.{call, trees_of}
 use Rattle.vortex_meaning.specs.Eval.{tree_type}
 use Rattle.vortex_functions.specs.FunctionOf.{function_of}
-use Rattle.vortex_functions.proofs.Execution.{AllHaveRows, self_faults, self_rows, counts_are, accepted}
+use Rattle.vortex_functions.proofs.Execution.{AllHaveRows, self_faults, self_rows, counts_are}
+use Rattle.vortex_functions.proofs.Execution.{accepted}
 use Rattle.vortex_arrays.specs.Arrays.{trees_in}
 use Rattle.vortex_arrays.specs.Nodes.{IsNode, call_of}
 use Rattle.vortex_arrays.proofs.Children.{seen, rows_beneath}
@@ -113,7 +114,8 @@ returns-in-Column g c =
     let m = g.C.ScalarFnVTable.meaning in
     let n = c.self.inside.len in
     let is = seen c.args.self.now c.self.inside _ c.self.view_is c.in-Column.is in
-    let node = subst (λ x. IsNode m g.C.ScalarFnVTable.rules n x) c.in-Column.is c.self.invariant.0 in
+    let node = subst (λ x. IsNode m g.C.ScalarFnVTable.rules n x) c.in-Column.is
+    c.self.invariant.0 in
     rw c.deref.ensures (column_rows m c.args.self.now c.in-Column.column.value n is node.0 node.1)
 
 pub returns-in-Nulls : goal.returns-in-Nulls
@@ -121,5 +123,6 @@ returns-in-Nulls g c =
     let m = g.C.ScalarFnVTable.meaning in
     let n = c.self.inside.len in
     let is = seen c.args.self.now c.self.inside _ c.self.view_is c.in-Nulls.is in
-    let node = subst (λ x. IsNode m g.C.ScalarFnVTable.rules n x) c.in-Nulls.is c.self.invariant.0 in
+    let node = subst (λ x. IsNode m g.C.ScalarFnVTable.rules n x) c.in-Nulls.is
+    c.self.invariant.0 in
     column_rows m c.args.self.now _ n is node.0 node.1

@@ -9,7 +9,8 @@ returns-in-Column-clause-answer g c =
     let m = g.C.ScalarFnVTable.meaning in
     let n = c.self.inside.len in
     let is = seen c.args.self.now c.self.inside _ c.self.view_is c.in-Column.is in
-    let node = subst (λ x. IsNode m g.C.ScalarFnVTable.rules n x) c.in-Column.is c.self.invariant.0 in
+    let node = subst (λ x. IsNode m g.C.ScalarFnVTable.rules n x) c.in-Column.is
+    c.self.invariant.0 in
     rw c.deref.ensures (column_rows m c.args.self.now c.in-Column.column.value n is node.0 node.1)
 
 pub returns-in-Nulls-clause-answer : goal.returns-in-Nulls-clause-answer
@@ -17,5 +18,6 @@ returns-in-Nulls-clause-answer g c =
     let m = g.C.ScalarFnVTable.meaning in
     let n = c.self.inside.len in
     let is = seen c.args.self.now c.self.inside _ c.self.view_is c.in-Nulls.is in
-    let node = subst (λ x. IsNode m g.C.ScalarFnVTable.rules n x) c.in-Nulls.is c.self.invariant.0 in
+    let node = subst (λ x. IsNode m g.C.ScalarFnVTable.rules n x) c.in-Nulls.is
+    c.self.invariant.0 in
     column_rows m c.args.self.now _ n is node.0 node.1

@@ -9,7 +9,8 @@ returns c =
     let small : b.shift < 8 = omega (arith, c.new.ensures.shift) in
     let whole : 8 * (a.offset / 8) + b.shift ≡ a.offset = omega (arith, c.new.ensures.shift) in
     let rest : b.bytes.now ≡ drop (a.offset / 8) a.bytes.items =
-    c.new.ensures.bytes ∙ c.bytes_from.ensures ∙ (λ k. drop (a.offset / 8) (c.deref.ensures.value k)) in
+    c.new.ensures.bytes ∙ c.bytes_from.ensures
+    ∙ (λ k. drop (a.offset / 8) (c.deref.ensures.value k)) in
     record {
       there = λ i lt. (
         small,

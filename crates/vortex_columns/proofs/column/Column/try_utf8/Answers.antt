@@ -1,4 +1,5 @@
-use Rattle.std.proofs.Common.{string_bytes, ap, sym, subst, ◌∙◌, length, map, List, ℕ, [], arith, rules, ◌≡◌}
+use Rattle.std.proofs.Common.{string_bytes, ap, sym, subst, ◌∙◌, length, map, List, ℕ, [], arith}
+use Rattle.std.proofs.Common.{rules, ◌≡◌}
 use Rattle.std.specs.Prelude.{All, IsUtf8, slice_index_or}
 use Rattle.std.proofs.lemmas.List.Elements.{All-map}
 use Rattle.std.proofs.lemmas.List.{length-map}

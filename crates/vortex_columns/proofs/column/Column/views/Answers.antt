@@ -9,5 +9,6 @@ returns-in-Rows c =
     let at = ap stored_of c.in-Rows.is in
     match_weaker _ _ _ _ c.views.result
     (bytes_none c.self.inside _ c.self.view_is c.self.invariant _ _ at)
-    (λ x h. bytes_some c.self.inside _ c.self.view_is c.self.invariant _ _ at (lent_values x) h.0 h.1)
+    (λ x h. bytes_some c.self.inside _ c.self.view_is c.self.invariant _ _ at (lent_values x) h.0
+    h.1)
     c.views.ensures

@@ -7,4 +7,5 @@ use Rattle.vortex_columns.proofs.column.taken.elements_at.Given as goal
 abbrev pub invariant-loop-place : goal.invariant-loop-place
 invariant-loop-place g l =
     (vec_capacity l.elements ≡ l.count) × (vec_len l.elements ≡ l.size * l.place-index)
-    × (l.elements.items ≡ element_places l.size (map g.P.Place.number (take l.place-index l.places)))
+    × (l.elements.items ≡ element_places l.size
+    (map g.P.Place.number (take l.place-index l.places)))

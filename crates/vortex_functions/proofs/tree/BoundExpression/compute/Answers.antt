@@ -6,7 +6,8 @@ use Rattle.vortex_functions.specs.Executing.{Fits, HasRows}
 use Rattle.vortex_functions.proofs.Upward.{fit_downward, fault_upward}
 use Rattle.vortex_meaning.specs.Trees.{children_of, node_count}
 use Rattle.vortex_functions.proofs.Counts.{node_and_children}
-use Rattle.vortex_functions.proofs.Chains.{chain_refuses, descended, descended_fewer, risen, risen_fewer}
+use Rattle.vortex_functions.proofs.Chains.{chain_refuses, descended, descended_fewer, risen}
+use Rattle.vortex_functions.proofs.Chains.{risen_fewer}
 use Rattle.vortex_functions.proofs.tree.BoundExpression.compute.Goals as goal
 
 pub loop-inputs-smaller-then-len-children : goal.loop-inputs-smaller-then-len-children
@@ -35,7 +36,8 @@ loop-inputs-preserved-then-len-children g c =
 pub loop-inputs-smaller : goal.loop-inputs-smaller
 loop-inputs-smaller g c =
     risen_fewer children_of node_count c.loop-inputs.node.now (length c.loop-inputs.inputs.items)
-    c.loop-inputs.above.items c.pop.new.self.items c.in-Some.parent c.push-else-len-children.new.self.items
+    c.loop-inputs.above.items c.pop.new.self.items c.in-Some.parent
+    c.push-else-len-children.new.self.items
     c.in_ok-output.output c.in-Some.ensures.items c.in_ok-push-2.ensures.items
 
 pub loop-inputs-preserved : goal.loop-inputs-preserved
@@ -44,7 +46,8 @@ loop-inputs-preserved g c =
     let n = c.args.row_count in
     risen children_of (Fits cs n) (HasRows g.C.ScalarFnVTable.meaning cs n) c.args.self.now
     c.loop-inputs.node.now c.loop-inputs.above.items c.pop.new.self.items c.in-Some.parent
-    c.push-else-len-children.new.self.items c.in_ok-output.output c.loop-inputs.invariant.0 c.in-Some.ensures.items c.in_ok-output.ensures
+    c.push-else-len-children.new.self.items c.in_ok-output.output c.loop-inputs.invariant.0
+    c.in-Some.ensures.items c.in_ok-output.ensures
     c.in_ok-push-2.ensures.items
 
 -- a child's fault is the tree's
@@ -58,5 +61,6 @@ returns-in_err-output g c =
     c.from_residual-in_err-output.ensures.1 in
     rw (p.1, p.2)
     (chain_refuses children_of (Fits cs n) (HasRows m cs n)
-    (λ t. UnlessMemory (IsFirstFault m cs n t)) (fault_upward m cs n) c.args.self.now c.loop-inputs.node.now c.loop-inputs.above.items _
+    (λ t. UnlessMemory (IsFirstFault m cs n t)) (fault_upward m cs n) c.args.self.now
+    c.loop-inputs.node.now c.loop-inputs.above.items _
     c.loop-inputs.invariant.0 c.in_err-output.ensures)

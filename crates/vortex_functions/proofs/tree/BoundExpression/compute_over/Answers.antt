@@ -7,7 +7,8 @@ use Rattle.vortex_meaning.specs.Trees.{call, trees_of}
 use Rattle.vortex_meaning.specs.Eval.{tree_type}
 use Rattle.vortex_functions.specs.FunctionOf.{function_of}
 use Rattle.vortex_functions.specs.Nodes.{IsNode, call_of, node_tree}
-use Rattle.vortex_functions.proofs.Execution.{AllHaveRows, self_faults, self_rows, counts_are, accepted, leaf_rows, constant_rows}
+use Rattle.vortex_functions.proofs.Execution.{AllHaveRows, self_faults, self_rows, counts_are}
+use Rattle.vortex_functions.proofs.Execution.{accepted, leaf_rows, constant_rows}
 use Rattle.vortex_functions.proofs.Inputs.{rows_beside}
 use Rattle.vortex_functions.proofs.tree.BoundExpression.compute_over.Goals as goal
 

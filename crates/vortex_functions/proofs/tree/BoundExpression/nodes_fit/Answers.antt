@@ -2,7 +2,8 @@ use Rattle.std.proofs.Common.{arith, true≢false, sym, refl}
 use Rattle.vortex_meaning.specs.Trees.{children_of}
 use Rattle.vortex_functions.specs.Executing.{NodeFits}
 use Rattle.vortex_functions.proofs.Opened.{refuted}
-use Rattle.vortex_functions.proofs.Listed.{now_of, relisted, nothing_listed, all_listed, none_left, node_of_fitting, listed_fit, listed_fewer, last_fits}
+use Rattle.vortex_functions.proofs.Listed.{now_of, relisted, nothing_listed, all_listed, none_left}
+use Rattle.vortex_functions.proofs.Listed.{node_of_fitting, listed_fit, listed_fewer, last_fits}
 use Rattle.vortex_functions.proofs.tree.BoundExpression.nodes_fit.Goals as goal
 
 pub loop-node-preserved : goal.loop-node-preserved

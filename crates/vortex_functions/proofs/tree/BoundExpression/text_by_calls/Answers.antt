@@ -25,12 +25,14 @@ loop-texts-preserved-then-len-children g c =
 pub loop-texts-smaller : goal.loop-texts-smaller
 loop-texts-smaller g c =
     risen_fewer children_of node_count c.loop-texts.node.now (length c.loop-texts.texts.items)
-    c.loop-texts.above.items c.pop.new.self.items c.in-Some.parent c.push-else-len-children.new.self.items
+    c.loop-texts.above.items c.pop.new.self.items c.in-Some.parent
+    c.push-else-len-children.new.self.items
     c.in_ok-output.output c.in-Some.ensures.items c.in_ok-push-2.ensures.items
 
 pub loop-texts-preserved : goal.loop-texts-preserved
 loop-texts-preserved g c =
     risen children_of (λ t. ⊤) IsTextOf c.args.self.now c.loop-texts.node.now
-    c.loop-texts.above.items c.pop.new.self.items c.in-Some.parent c.push-else-len-children.new.self.items
+    c.loop-texts.above.items c.pop.new.self.items c.in-Some.parent
+    c.push-else-len-children.new.self.items
     c.in_ok-output.output c.loop-texts.invariant.0 c.in-Some.ensures.items c.in_ok-output.ensures
     c.in_ok-push-2.ensures.items

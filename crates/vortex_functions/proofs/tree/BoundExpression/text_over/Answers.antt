@@ -29,7 +29,8 @@ fmt_sql-requires g c =
     all_texts ts c.args.texts.items
     (made_of_items IsTextOf c.args.self.now f ts c.args.texts.items is c.requires) in
     let count : length c.deref-in-Call.result.now ≡ length ts =
-    ap length c.deref-in-Call.ensures.value ∙ sym (length-map c.args.texts.items string_bytes) ∙ all.0 in
+    ap length c.deref-in-Call.ensures.value ∙ sym (length-map c.args.texts.items string_bytes)
+    ∙ all.0 in
     ap (λ (n : ℕ). fits (function_arity m f) n) count
     ∙ children_fit m f ts (type_of parts.dtype) typed
 

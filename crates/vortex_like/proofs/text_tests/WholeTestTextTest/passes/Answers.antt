@@ -9,4 +9,5 @@ returns c = λ text.
     let literal = c.args.self.now.literal in
     whole_answer (string_bytes literal) c.args.haystack.now (IsUtf8-string_bytes literal) text
     c.eq.result
-    (c.eq.ensures ∙ ap (λ (bs : List ℕ). pointwise nat_eq bs c.args.haystack.now) c.as_bytes.ensures.value)
+    (c.eq.ensures ∙ ap (λ (bs : List ℕ). pointwise nat_eq bs c.args.haystack.now)
+    c.as_bytes.ensures.value)

@@ -3,7 +3,8 @@ use Rattle.vortex_arrays.specs.Arrays.{rows_in}
 use Rattle.vortex_rules.proofs.ValidBits.{rows_by_form}
 use Rattle.vortex_rules.proofs.array_tree.ArrayRefBoundTree.leaf_validity.Goals as goal
 
-pub returns-in_ok-column-in-Some-clause-same_rows : goal.returns-in_ok-column-in-Some-clause-same_rows
+pub returns-in_ok-column-in-Some-clause-same_rows :
+    goal.returns-in_ok-column-in-Some-clause-same_rows
 returns-in_ok-column-in-Some-clause-same_rows g c =
     let column = c.in-Some.column.now in
     ap rows_in c.in_ok-column-in-Some.ensures

@@ -15,7 +15,8 @@ returns c =
     let lower = c.lower-item.result in
     let upper = c.upper-item.result in
     let three : length types ≡ 3 = omega arith in
-    let is = three_items types x lower upper three c.array-item.is c.lower-item.is c.upper-item.is in
+    let is = three_items types x lower upper three c.array-item.is c.lower-item.is
+    c.upper-item.is in
     let below =
     sym c.eq_ignore_nullability.ensures
     ∙ c.if-not-eq_ignore_nullability.false in

@@ -11,4 +11,5 @@ returns g c =
     let input = c.in_ok-input.input.now in
     let here = c.in_ok-input.ensures in
     null_test_call is_not_null_id (codes "is_not_null") (λ v. not (is_null v)) cs input n
-    c.execute_is_not_null.result c.requires.accepted here.input here.count c.execute_is_not_null.ensures.rows
+    c.execute_is_not_null.result c.requires.accepted here.input here.count
+    c.execute_is_not_null.ensures.rows

@@ -10,4 +10,5 @@ returns g c =
     let input = c.in_ok-input.input.now in
     let here = c.in_ok-input.ensures in
     null_test_call is_null_id is_null_id is_null cs input n
-    c.execute_is_null.result c.requires.accepted here.input here.count c.execute_is_null.ensures.rows
+    c.execute_is_null.result c.requires.accepted here.input here.count
+    c.execute_is_null.ensures.rows

@@ -3,7 +3,8 @@ use Rattle.vortex_errors.specs.declared.error.VortexError.TheVariants.{InvalidCo
 use Rattle.vortex_views.specs.ViewBytes.{view_bytes}
 use Rattle.vortex_views.specs.Placing.{Placed, most_bytes, most_buffers}
 use Rattle.vortex_views.specs.Building.{filled}
-use Rattle.vortex_views.proofs.Placed.{placed_appended, placed_begun, filled_behind, filled_next, unless_where}
+use Rattle.vortex_views.proofs.Placed.{placed_appended, placed_begun, filled_behind, filled_next}
+use Rattle.vortex_views.proofs.Placed.{unless_where}
 use Rattle.vortex_views.proofs.builder.Buffers.place.Goals as goal
 
 pub returns-then-value-len-clause-answer : goal.returns-then-value-len-clause-answer

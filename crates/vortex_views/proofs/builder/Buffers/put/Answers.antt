@@ -4,7 +4,8 @@ use Rattle.vortex_views.specs.Building.{filled}
 use Rattle.vortex_views.proofs.Pushing.{placed_short, short_count}
 use Rattle.vortex_views.proofs.builder.Buffers.put.Goals as goal
 
-pub returns-then-value-le-MAX_INLINED_SIZE-clause-answer : goal.returns-then-value-le-MAX_INLINED_SIZE-clause-answer
+pub returns-then-value-le-MAX_INLINED_SIZE-clause-answer :
+    goal.returns-then-value-le-MAX_INLINED_SIZE-clause-answer
 returns-then-value-le-MAX_INLINED_SIZE-clause-answer c = (
   short_count (filled c.args.self.now) (length c.args.value.now) c.if-value-le-MAX_INLINED_SIZE.true
       c.requires.range.count,

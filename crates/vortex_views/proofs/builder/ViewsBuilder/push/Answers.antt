@@ -57,7 +57,8 @@ returns-clause-answer c =
     c.self.invariant.filled_is ∙ ap placed c.self.view_is in (
       record {
         len = c.if-value-gt-MOST_BYTES.false;
-        buffers = subst (λ (n : ℕ). n ≤ most_buffers) (needed_after (filled old) c.args.self.now value placed_is)
+        buffers = subst (λ (n : ℕ). n ≤ most_buffers)
+            (needed_after (filled old) c.args.self.now value placed_is)
             c.in_ok-view.ensures.answer.0;
       },
       pushed_values old new vs us w value more fit is ∙ ap (λ xs. xs ++ value ∷ []) c.self.view_is,
