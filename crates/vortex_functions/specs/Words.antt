@@ -1,5 +1,6 @@
 -- What the contracts of this crate name.
 pub use Rattle.vortex_errors.specs.Answers.{AnswersUnlessMemory}
+pub use Rattle.vortex_types.specs.LogicalTypes.{field_count}
 pub use Rattle.vortex_types.specs.TypeOf.{type_of, struct_fields}
 pub use Rattle.vortex_columns.specs.ColumnView.{AreTyped}
 pub use Rattle.vortex_meaning.specs.Outcomes.{types_in}
@@ -25,7 +26,7 @@ pub use Rattle.vortex_meaning.specs.Printing.{tree_text}
 pub use Rattle.vortex_functions.specs.FunctionOf.{function_of, operator_in, is_not, instance_in}
 pub use Rattle.vortex_functions.specs.Texts.{AppendsText, IsTextOf}
 pub use Rattle.vortex_functions.specs.TreePieces.{pieces_of, tree_pieces, leaf_text, BeginsText, WritesPiece}
-pub use Rattle.vortex_functions.specs.Binding.{AnswersLeaf, AnswersBinding, IsLeaf, IsLeafAt}
+pub use Rattle.vortex_functions.specs.Binding.{AnswersLeaf, AnswersBinding, IsLeaf, IsLeafAt, field_leaf}
 pub use Rattle.vortex_functions.specs.Executing.{HasRows, NodeFits, AnswersTree, AnswersExecution, AnswersColumns, LendsLeaf, Fits}
 pub use Rattle.vortex_functions.specs.Walks.{AllMean, IsCopy}
 pub use Rattle.vortex_meaning.specs.OptionBytes.{WritesOptionsOf}

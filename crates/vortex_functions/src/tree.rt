@@ -1,7 +1,7 @@
 //! Expression trees over the columns of a scope.
 ghost use Rattle.std.specs.Prelude.{◌≡◌, ◌<◌, ◌≤◌, ◌+◌, ◌*◌, All, IfOk, None, Some, IsTrue, MatchOption, length, map, min, slice_get};
 ghost use Rattle.std.specs.Option.{option_copied};
-ghost use Rattle.vortex_functions.specs.Words.{type_of, struct_fields, constant, trees_of, children_of, called, literal, tree_type, tree_types, function_of, AnswersUnlessMemory, AnswersLeaf, AnswersBinding, IsLeaf, IsLeafAt};
+ghost use Rattle.vortex_functions.specs.Words.{type_of, struct_fields, constant, trees_of, children_of, called, literal, tree_type, tree_types, function_of, AnswersUnlessMemory, AnswersLeaf, AnswersBinding, IsLeaf, IsLeafAt, field_count, field_leaf};
 ghost use Rattle.vortex_functions.specs.Words.{added, node_count, weights, weight_told, IsBound, simplify_or_reduce, step};
 
 use crate::erased::ScalarFnRef;
@@ -150,15 +150,26 @@ impl<C: ScalarFnVTable> BoundExpression<C> {
         ensures { AnswersLeaf (struct_fields scope.now) name.now result }
     {
         match scope.find(name) {
-            Some((place, dtype)) => {
-                let name = String::from_str(alloc, name)?;
-                let dtype = dtype.try_clone(alloc)?;
-                Ok(BoundExpression {
-                    node: Node::Column(place, name, dtype),
-                })
-            }
+            Some((place, _)) => BoundExpression::column_at(alloc, scope, place),
             None => Err(VortexError::ScopeMismatch),
         }
+    }
+
+    /// The leaf of the field at that place of the scope, with its name and its type. E9 alone.
+    pub fn column_at(
+        alloc: Global,
+        scope: &StructFields,
+        place: usize,
+    ) -> VortexResult<BoundExpression<C>>
+        requires { place < field_count (struct_fields scope.now) }
+        ensures { AnswersUnlessMemory result
+            (λ tree. tree ≡ field_leaf place (struct_fields scope.now)) }
+    {
+        let name = String::from_str(alloc, scope.name(place))?;
+        let dtype = scope.dtype(place).try_clone(alloc)?;
+        Ok(BoundExpression {
+            node: Node::Column(place, name, dtype),
+        })
     }
 
     /// The leaf that has that value in every row, of the scalar's type. Takes no memory: the allocator is kept for the text.
