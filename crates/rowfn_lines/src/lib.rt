@@ -3,6 +3,7 @@
 
 pub mod cells;
 pub mod command;
+mod digits;
 pub mod laws;
 pub mod parse;
 pub mod text;

@@ -14,8 +14,9 @@ ghost use Rattle.rowfn_lines.specs.Commands.{command_of_words, command_of_text, 
 ghost use Rattle.rowfn_lines.specs.Commands.{command_in};
 ghost use Rattle.rowfn_lines.specs.Answering.{AnswersCommand};
 
-use crate::cells::{are_digits, column_said, literal_said};
+use crate::cells::{column_said, literal_said};
 use crate::command::Line;
+use crate::digits::are_digits;
 use crate::text::{Word, without_spaces, words};
 use crate::types::read_type;
 use std::alloc::Global;

@@ -15,3 +15,4 @@ pub mod BoundTrees
 pub mod SameValues
 pub mod Identities
 pub mod Called
+pub mod FoundFields

@@ -5,7 +5,8 @@ use Rattle.std.specs.declared.borrow.Cow.TheVariants as cow
 use Rattle.vortex_errors.specs.declared.error.VortexError.{VortexError}
 use Rattle.vortex_errors.specs.declared.error.VortexError.TheVariants.{ArityMismatch, ScopeMismatch}
 use Rattle.vortex_errors.specs.Answers.{Answers}
-use Rattle.vortex_types.specs.LogicalTypes.{LogicalType, Fields, find_field}
+use Rattle.vortex_types.specs.LogicalTypes.{LogicalType, Fields, field_type, find_field}
+use Rattle.vortex_types.specs.FieldNames.{field_name}
 use Rattle.vortex_columns.specs.ColumnView.{ColumnView}
 use Rattle.vortex_meaning.specs.Meaning.{Meaning, fits}
 use Rattle.vortex_meaning.specs.Functions.{Function, function_arity, function_type, IsMismatchOf}
@@ -18,6 +19,10 @@ pub record IsColumnLeaf {V O : Type 0} (scope : Fields) (name : List ℕ) (t : T
     pub found : ℕ × LogicalType
     pub named : find_field name scope ≡ Some found
     pub is : t ≡ leaf (place found.0 name found.1)
+
+-- the leaf of the field at that place
+abbrev pub field_leaf : {V O : Type 0} → ℕ → Fields → Tree V O
+field_leaf k fs = leaf (place k (field_name k fs) (field_type k fs))
 
 -- the call of the function on the trees, whose count fits and whose types are accepted
 pub record IsCall {V O : Type 0} (m : Meaning V O) (f : Function V O) (ts : List (Tree V O))

@@ -1,5 +1,6 @@
 -- What the contracts of this crate name.
 pub use Rattle.vortex_errors.specs.Answers.{AnswersUnlessMemory}
+pub use Rattle.vortex_types.specs.LogicalTypes.{field_count}
 pub use Rattle.vortex_types.specs.TypeOf.{type_of, struct_fields}
 pub use Rattle.vortex_columns.specs.ColumnView.{AreTyped}
 pub use Rattle.vortex_meaning.specs.Outcomes.{types_in}
@@ -30,6 +31,7 @@ pub use Rattle.vortex_functions.specs.Texts.{AppendsText, IsTextOf}
 pub use Rattle.vortex_functions.specs.TreePieces.{pieces_of, tree_pieces, leaf_text, BeginsText}
 pub use Rattle.vortex_functions.specs.TreePieces.{WritesPiece}
 pub use Rattle.vortex_functions.specs.Binding.{AnswersLeaf, AnswersBinding, IsLeaf, IsLeafAt}
+pub use Rattle.vortex_functions.specs.Binding.{field_leaf}
 pub use Rattle.vortex_functions.specs.Executing.{HasRows, NodeFits, AnswersTree, AnswersExecution}
 pub use Rattle.vortex_functions.specs.Executing.{AnswersColumns, LendsLeaf, Fits}
 pub use Rattle.vortex_functions.specs.Walks.{AllMean, IsCopy}

@@ -5,7 +5,8 @@ ghost use Rattle.std.specs.Option.{option_copied};
 ghost use Rattle.vortex_functions.specs.Words.{type_of, struct_fields, constant, trees_of};
 ghost use Rattle.vortex_functions.specs.Words.{children_of, called, literal, tree_type, tree_types};
 ghost use Rattle.vortex_functions.specs.Words.{function_of, AnswersUnlessMemory, AnswersLeaf};
-ghost use Rattle.vortex_functions.specs.Words.{AnswersBinding, IsLeaf, IsLeafAt};
+ghost use Rattle.vortex_functions.specs.Words.{AnswersBinding, IsLeaf, IsLeafAt, field_count};
+ghost use Rattle.vortex_functions.specs.Words.{field_leaf};
 ghost use Rattle.vortex_functions.specs.Words.{added, node_count, weights, weight_told, IsBound};
 ghost use Rattle.vortex_functions.specs.Words.{simplify_or_reduce, step};
 
@@ -158,15 +159,26 @@ impl<C: ScalarFnVTable> BoundExpression<C> {
         ensures { AnswersLeaf (struct_fields scope.now) name.now result }
     {
         match scope.find(name) {
-            Some((place, dtype)) => {
-                let name = String::from_str(alloc, name)?;
-                let dtype = dtype.try_clone(alloc)?;
-                Ok(BoundExpression {
-                    node: Node::Column(place, name, dtype),
-                })
-            }
+            Some((place, _)) => BoundExpression::column_at(alloc, scope, place),
             None => Err(VortexError::ScopeMismatch),
         }
+    }
+
+    /// The leaf of the field at that place of the scope, with its name and its type. E9 alone.
+    pub fn column_at(
+        alloc: Global,
+        scope: &StructFields,
+        place: usize,
+    ) -> VortexResult<BoundExpression<C>>
+        requires { place < field_count (struct_fields scope.now) }
+        ensures { AnswersUnlessMemory result
+            (λ tree. tree ≡ field_leaf place (struct_fields scope.now)) }
+    {
+        let name = String::from_str(alloc, scope.name(place))?;
+        let dtype = scope.dtype(place).try_clone(alloc)?;
+        Ok(BoundExpression {
+            node: Node::Column(place, name, dtype),
+        })
     }
 
     /// The leaf that has that value in every row, of the scalar's type. Takes no memory: the

@@ -1,6 +1,6 @@
 use Rattle.std.proofs.Common.{tests, ◌<◌, length, sym, arith}
 use Rattle.rowfn_lines.proofs.Numbers.{digits_known}
-use Rattle.rowfn_lines.proofs.cells.are_digits.Goals as goal
+use Rattle.rowfn_lines.proofs.digits.are_digits.Goals as goal
 
 pub returns-then-not-is_empty : goal.returns-then-not-is_empty
 returns-then-not-is_empty c =

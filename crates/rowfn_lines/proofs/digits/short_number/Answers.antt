@@ -1,6 +1,6 @@
 use Rattle.std.proofs.Common.{tests, arith, ◌≡◌, ◌+◌, ◌-◌, ◌*◌, ◌∙◌, ap, sym, refl, ℕ, get_or}
 use Rattle.rowfn_lines.proofs.ShortNumbers.{next_digit, last_digit}
-use Rattle.rowfn_lines.proofs.cells.short_number.Goals as goal
+use Rattle.rowfn_lines.proofs.digits.short_number.Goals as goal
 
 pub loop-byte-preserved : goal.loop-byte-preserved
 loop-byte-preserved c =

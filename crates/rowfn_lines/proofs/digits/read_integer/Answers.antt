@@ -2,7 +2,7 @@ use Rattle.std.proofs.Common.{lit<, None, sym, Option, ℤ, subst}
 use Rattle.std.proofs.lemmas.Str.Pattern.{strip_prefix_char}
 use Rattle.rowfn_lines.specs.Cells.{ReadsNumber}
 use Rattle.rowfn_lines.proofs.Numbers.{integer_plain}
-use Rattle.rowfn_lines.proofs.cells.read_integer.Goals as goal
+use Rattle.rowfn_lines.proofs.digits.read_integer.Goals as goal
 
 pub returns-in-None : goal.returns-in-None
 returns-in-None c =

@@ -3,7 +3,7 @@ use Rattle.std.specs.Int.{w128}
 use mir.Val.{to_z, of_z}
 use Rattle.rowfn_lines.proofs.Numbers.{are_digits, negative_read}
 use Rattle.rowfn_lines.proofs.ShortNumbers.{short_negative, turned}
-use Rattle.rowfn_lines.proofs.cells.read_negative.Goals as goal
+use Rattle.rowfn_lines.proofs.digits.read_negative.Goals as goal
 
 pub returns-in-Some : goal.returns-in-Some
 returns-in-Some c =

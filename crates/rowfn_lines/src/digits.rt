@@ -1,0 +1,75 @@
+//! Numbers that words say by digits.
+ghost use Rattle.std.specs.Prelude.{◌≡◌, pos, ◌∷◌, Some, is_some, option_map, MatchOption, ⊤};
+ghost use Rattle.std.specs.List.{list_all};
+ghost use Rattle.std.specs.Char.{is_ascii_digit};
+ghost use Rattle.rowfn_lines.specs.Commands.{digits_of, negative, integer_of};
+ghost use Rattle.rowfn_lines.specs.Cells.{ReadsNumber};
+
+fn all_digits(word: &str) -> bool
+    ensures { result ≡ list_all is_ascii_digit word.now }
+{
+    word.as_bytes().iter().all(|byte| byte.is_ascii_digit())
+}
+
+/// Whether there are digits and nothing else.
+pub fn are_digits(word: &str) -> bool
+    ensures { result ≡ is_some (digits_of word.now) }
+{
+    !word.is_empty() && all_digits(word)
+}
+
+/// The number that digits say; nothing where others stand there, and where 64 bits do not hold it.
+fn short_number(digits: &[u8]) -> Option<u64>
+    ensures { MatchOption result ⊤ (λ n. digits_of digits.now ≡ Some n) }
+{
+    if digits.is_empty() {
+        return None;
+    }
+    let mut number = 0u64;
+    for byte in digits {
+        if !byte.is_ascii_digit() {
+            return None;
+        }
+        number = number.checked_mul(10)?.checked_add((*byte - b'0') as u64)?;
+    }
+    Some(number)
+}
+
+/// The number that digits say; nothing where others stand there, and for a number past every
+/// integer type. Numbers of 64 bits, which nearly all are, go by words of the machine.
+fn read_plain(word: &str) -> Option<i128>
+    ensures { ReadsNumber (option_map pos (digits_of word.now)) result }
+{
+    if let Some(number) = short_number(word.as_bytes()) {
+        return Some(i128::from(number));
+    }
+    if !are_digits(word) {
+        return None;
+    }
+    word.parse::<i128>().ok()
+}
+
+/// The same after a minus sign, which begins the word.
+fn read_negative(word: &str, digits: &str) -> Option<i128>
+    requires { word.now ≡ 45 ∷ digits.now }
+    ensures { ReadsNumber (option_map negative (digits_of digits.now)) result }
+{
+    if let Some(number) = short_number(digits.as_bytes()) {
+        return Some(-i128::from(number));
+    }
+    if !are_digits(digits) {
+        return None;
+    }
+    word.parse::<i128>().ok()
+}
+
+/// The number that a word says by digits, with a minus sign before them or without; nothing where
+/// it says none, and for a number past every integer type.
+pub fn read_integer(word: &str) -> Option<i128>
+    ensures { ReadsNumber (integer_of word.now) result }
+{
+    match word.strip_prefix('-') {
+        Some(digits) => read_negative(word, digits),
+        None => read_plain(word),
+    }
+}
