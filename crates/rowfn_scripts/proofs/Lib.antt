@@ -1,3 +1,4 @@
+pub mod Places
 pub mod SessionSteps
 pub mod Reading
 pub mod OneRun

@@ -1,4 +1,5 @@
 pub mod Endings
+pub mod Scopes
 pub mod Sessions
 pub mod SessionCodes
 pub mod Scripts

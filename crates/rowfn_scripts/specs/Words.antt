@@ -5,3 +5,4 @@ pub use Rattle.rowfn_lines.specs.Commands.{run_after, command_in, command_of}
 pub use Rattle.rowfn_scripts.specs.Sessions.{refuses, fresh, least_count, steps_text, ShowsTop}
 pub use Rattle.rowfn_scripts.specs.Sessions.{RunsTop, RunsAfterTop, StepsTo, column_line}
 pub use Rattle.rowfn_scripts.specs.Stepping.{MakesStep, after_text}
+pub use Rattle.rowfn_scripts.specs.Scopes.{place_of}

@@ -3,6 +3,7 @@
 
 pub mod ending;
 pub mod laws;
+mod scope;
 pub mod script;
 pub mod session;
 pub mod stop;

@@ -8,12 +8,15 @@ ghost use Rattle.rowfn_scripts.specs.Words.{refuses, fresh, least_count, steps_t
 ghost use Rattle.rowfn_scripts.specs.Words.{RunsTop, RunsAfterTop, StepsTo, MakesStep, after_text};
 ghost use Rattle.rowfn_scripts.specs.Words.{column_line};
 
+use crate::scope::Scope;
 use crate::stop::Stop;
 use rowfn_lines::Line;
 use rowfn_lines::parse::parse;
 use std::alloc::Global;
 use std::marker::Model;
-use vortex_columns::{Arity, Column, ExecutionCtx, Scalar, StructFields, VortexResult};
+use vortex_columns::{
+    Arity, Column, ExecutionCtx, Scalar, StructFields, VortexError, VortexResult,
+};
 use vortex_functions::{BoundExpression, ScalarFnRef, ScalarFnVTable};
 use vortex_rewriting::{Optimized, optimize_recursive, run};
 use vortex_rules::ScalarFnRules;
@@ -23,7 +26,7 @@ use vortex_rules::ScalarFnRules;
 #[derive(Drop)]
 pub struct Session<C: ScalarFnVTable> {
     row_count: Option<usize>,
-    fields: StructFields,
+    fields: Scope,
     columns: Vec<Column>,
     stack: Vec<BoundExpression<C>>,
     out: Vec<u8>,
@@ -38,11 +41,10 @@ impl<C: ScalarFnVTable> Model for Session<C> {
     ghost coded = { coded_session C.code C.Options.code };
 
     ghost use Rattle.std.specs.Prelude.{reverse};
-    ghost use Rattle.vortex_types.specs.TypeOf.{struct_fields};
 
     ghost view = { λ a. record {
       row_count = a.row_count;
-      fields = struct_fields a.fields;
+      fields = a.fields;
       columns = a.columns.items;
       stack = reverse a.stack.items;
       printed = a.out.items;
@@ -82,7 +84,7 @@ impl<C: ScalarFnRules> Session<C> {
     {
         Session {
             row_count: None,
-            fields: StructFields::new(alloc),
+            fields: Scope::new(alloc),
             columns: Vec::new(alloc),
             stack: Vec::new(alloc),
             out: Vec::new(alloc),
@@ -102,7 +104,7 @@ impl<C: ScalarFnRules> Session<C> {
         ensures trees { reverse result.1.items ≡ self.stack }
     {
         let Session { fields, stack, .. } = self;
-        (fields, stack)
+        (fields.into_fields(), stack)
     }
 
     /// What was printed.
@@ -136,10 +138,9 @@ impl<C: ScalarFnRules> Session<C> {
         if self.fields.find(name).is_some() {
             return Err(Stop::Malformed);
         }
-        let name = String::from_str(alloc, name)?;
         let dtype = added.dtype().try_clone(alloc)?;
         self.columns.push(added)?;
-        self.fields.push(name, dtype)?;
+        self.fields.add(alloc, name, dtype)?;
         Ok(())
     }
 
@@ -149,7 +150,10 @@ impl<C: ScalarFnRules> Session<C> {
         if self.row_count.is_none() {
             return Err(Stop::Malformed);
         }
-        let leaf = BoundExpression::column(alloc, &self.fields, name)?;
+        let Some(place) = self.fields.find(name) else {
+            return Err(Stop::Refused(VortexError::ScopeMismatch));
+        };
+        let leaf = BoundExpression::column_at(alloc, self.fields.fields(), place)?;
         self.stack.push(leaf)?;
         Ok(())
     }

@@ -3,20 +3,26 @@ use Rattle.std.specs.Option.{is_none}
 use Rattle.std.specs.Cmp.{unsigned_Decides}
 use Rattle.vortex_errors.specs.declared.error.VortexError.TheVariants.{OutOfMemory}
 use Rattle.vortex_types.specs.LogicalTypes.{find_field, with_field}
-use Rattle.vortex_types.specs.TypeOf.{type_of, struct_fields}
+use Rattle.vortex_types.specs.TypeOf.{type_of}
 use Rattle.vortex_errors.proofs.Answering.{UnlessMemory-weaker}
 use Rattle.rowfn_lines.specs.Commands.{column}
 use Rattle.rowfn_scripts.specs.Sessions.{refuses, StepsTo}
-use Rattle.rowfn_scripts.proofs.SessionSteps.{row_count_of, fields_of, printed_of, found_or_not}
+use Rattle.rowfn_scripts.proofs.SessionSteps.{row_count_of, fields_of, printed_of}
 use Rattle.rowfn_scripts.proofs.SessionSteps.{name_twice, column_added, same_added, stops}
+use Rattle.rowfn_scripts.proofs.Places.{place_or_not, no_place}
 use Rattle.rowfn_scripts.proofs.session.Session.add_column.Goals as goal
+
+pub add-requires : goal.add-requires
+add-requires g c =
+    let here = place_or_not c.find.result _ c.is_some.result c.find.ensures c.is_some.ensures in
+    no_place _ (here ∙ ap not c.if-is_some.false)
 
 pub returns-then-is_some : goal.returns-then-is_some
 returns-then-is_some g c =
     let s = c.args.self.now in
     let name = c.args.name.now in
     let counted = sym (row_count_of c.self.view_is) ∙ c.in-Some.is in
-    let here = found_or_not c.find.result _ _ c.is_some.result c.find.ensures c.is_some.ensures in
+    let here = place_or_not c.find.result _ c.is_some.result c.find.ensures c.is_some.ensures in
     let same = ap (λ fs. is_none (find_field name fs)) (sym (fields_of c.self.view_is)) in
     let old : is_none (find_field name s.fields) ≡ false = same ∙ here ∙ ap not c.if-is_some.true in
     (name_twice name c.args.added s c.in-Some.count counted old, refl)
@@ -30,7 +36,7 @@ returns-in_err-dtype g c =
     let memory =
     UnlessMemory-weaker (λ e. ⊥) (λ e. P s (refuses e)) (λ d h. absurd h) e
     c.in_err-dtype.ensures in
-    stops P s s c.from_residual-in_err-dtype.result e c.from_residual-in_err-dtype.ensures.1 memory
+    stops P s s c.from_residual.result e c.from_residual.ensures.1 memory
     refl
 
 pub returns-in_err-push : goal.returns-in_err-push
@@ -41,16 +47,16 @@ returns-in_err-push g c =
     stops P s _ c.from_residual-in_err-push.result OutOfMemory c.from_residual-in_err-push.ensures.1
     tt (printed_of c.self.view_is)
 
-pub returns-in_err-push-2 : goal.returns-in_err-push-2
-returns-in_err-push-2 g c =
+pub returns-in_err-add : goal.returns-in_err-add
+returns-in_err-add g c =
     let s = c.args.self.now in
     let P = StepsTo g.C.ScalarFnVTable.meaning g.C.ScalarFnVTable.rules
     (column c.args.name.now c.args.added) in
-    let e = c.in_err-push-2.field-0.0 in
+    let e = c.in_err-add.field-0.0 in
     let memory =
     UnlessMemory-weaker (λ e. ⊥) (λ e. P s (refuses e)) (λ d h. absurd h) e
-    c.in_err-push-2.ensures.added in
-    stops P s _ c.from_residual-in_err-push-2.result e c.from_residual-in_err-push-2.ensures.1
+    c.in_err-add.ensures.added in
+    stops P s _ c.from_residual-in_err-add.result e c.from_residual-in_err-add.ensures.1
     memory (printed_of c.self.view_is)
 
 pub returns : goal.returns
@@ -62,13 +68,11 @@ returns g c =
     let counted = sym (row_count_of c.self.view_is) ∙ c.in-Some.is in
     let rows : (length added.rows == count) ≡ true =
     (unsigned_Decides (length added.rows) count).1 (sym c.len.ensures ∙ c.if-len-count.false) in
-    let here = found_or_not c.find.result _ _ c.is_some.result c.find.ensures c.is_some.ensures in
+    let here = place_or_not c.find.result _ c.is_some.result c.find.ensures c.is_some.ensures in
     let same = ap (λ fs. is_none (find_field name fs)) (sym (fields_of c.self.view_is)) in
     let new : is_none (find_field name s.fields) ≡ true = same ∙ here ∙ ap not c.if-is_some.false in
     let dtype : type_of c.in_ok-dtype.dtype ≡ added.dtype =
     c.in_ok-dtype.ensures ∙ c.dtype.ensures.dtype in
-    let fields = c.in_ok-push-2.ensures.added
-    ∙ (λ i.
-    with_field (struct_fields c.self.inside.fields) (c.in_ok-name.ensures.ok i) (dtype i)) in
+    let fields = c.in_ok-add.ensures.added ∙ ap (with_field c.self.inside.fields name) dtype in
     same_added _ s name added _ _ c.self.view_is fields c.in_ok-push.ensures.items
     ∙ column_added name added s count counted rows new

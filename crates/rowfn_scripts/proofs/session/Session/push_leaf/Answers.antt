@@ -1,9 +1,29 @@
-use Rattle.std.proofs.Common.{◌≡◌, ◌∙◌, ap, sym, not, false}
+use Rattle.std.proofs.Common.{◌≡◌, ◌∙◌, refl, ap, sym, not, false}
 use Rattle.std.specs.Option.{is_none}
 use Rattle.vortex_types.specs.LogicalTypes.{find_field}
+use Rattle.vortex_meaning.specs.Trees.{leaf, place}
+use Rattle.vortex_functions.proofs.FoundFields.{field_found}
+use Rattle.rowfn_scripts.proofs.Places.{field_there, no_field}
 use Rattle.rowfn_scripts.proofs.SessionSteps.{row_count_of, fields_of, stack_of, same_stacked}
-use Rattle.rowfn_scripts.proofs.SessionSteps.{same_leaf, leaf_pushed}
+use Rattle.rowfn_scripts.proofs.SessionSteps.{same_leaf, leaf_pushed, leaf_refused}
 use Rattle.rowfn_scripts.proofs.session.Session.push_leaf.Goals as goal
+
+pub column_at-requires : goal.column_at-requires
+column_at-requires g c =
+    let there = field_there _ _ (sym c.in-Some.is ∙ c.find.ensures) in
+    rw c.fields.ensures (field_found c.args.name.now c.self.inside.fields _ there.1).within
+
+pub returns-in_default : goal.returns-in_default
+returns-in_default g c =
+    let s = c.args.self.now in
+    let name = c.args.name.now in
+    let known : is_none s.row_count ≡ false =
+    ap is_none (sym (row_count_of c.self.view_is))
+    ∙ ap not c.is_none.ensures
+    ∙ ap (λ b. not (not b)) c.if-is_none.false in
+    let none = no_field _ (sym c.find.ensures ∙ c.in_default.is) in
+    let unknown = ap (find_field name) (sym (fields_of c.self.view_is)) ∙ none in
+    (leaf_refused name s s.fields known unknown, refl)
 
 pub returns : goal.returns
 returns g c =
@@ -13,9 +33,12 @@ returns g c =
     ap is_none (sym (row_count_of c.self.view_is))
     ∙ ap not c.is_none.ensures
     ∙ ap (λ b. not (not b)) c.if-is_none.false in
-    let leaf = c.in_ok-leaf.ensures in
-    let found = ap (find_field name) (sym (fields_of c.self.view_is)) ∙ leaf.named in
+    let there = field_there _ _ (sym c.in-Some.is ∙ c.find.ensures) in
+    let at = field_found name c.self.inside.fields _ there.1 in
+    let found = ap (find_field name) (sym (fields_of c.self.view_is)) ∙ there.1 in
+    let is = rw c.fields.ensures at c.in_ok-leaf.ensures in
     same_stacked _ s c.in_ok-leaf.leaf c.self.inside.stack.items c.push.new.self.items
     c.self.view_is c.in_ok-push.ensures.items
-    ∙ same_leaf s c.in_ok-leaf.leaf _ _ (stack_of c.self.view_is) leaf.is
-    ∙ leaf_pushed name s s.fields leaf.found known found
+    ∙ same_leaf s c.in_ok-leaf.leaf _ _ (stack_of c.self.view_is)
+    (is ∙ (λ i. leaf (place c.in-Some.place (at.named i) (at.typed i))))
+    ∙ leaf_pushed name s s.fields (c.in-Some.place, there.0) known found
