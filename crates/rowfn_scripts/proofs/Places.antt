@@ -11,7 +11,8 @@ some_not_none : {k : ℕ} → Some k ≡ None → ⊥
 some_not_none e = cc
 
 one_later : (o : Option (ℕ × LogicalType))
-    → option_map (λ (p : ℕ × LogicalType). p.0) (after_one o) ≡ option_map suc (option_map (λ (p : ℕ × LogicalType). p.0) o)
+    → option_map (λ (p : ℕ × LogicalType). p.0) (after_one o)
+    ≡ option_map suc (option_map (λ (p : ℕ × LogicalType). p.0) o)
 one_later None = refl
 one_later (Some p) = refl
 
@@ -65,7 +66,8 @@ module _ (name : List ℕ) (t : LogicalType) where
       let is : name ≡ other = (bytes_decides name other).0 e in
       let here : pointwise nat_eq n name ≡ true = ap (pointwise nat_eq n) is ∙ same in
       let found : Some 0 ≡ place_of name (field n u fs) =
-      ap (λ b. option_map (λ (p : ℕ × LogicalType). p.0) (cond b (Some (0, u)) (after_one (find_field name fs))))
+      ap (λ b. option_map (λ (p : ℕ × LogicalType). p.0)
+      (cond b (Some (0, u)) (after_one (find_field name fs))))
       (sym here) in
       absurd (some_not_none (found ∙ new))
 
@@ -79,18 +81,21 @@ module _ (name : List ℕ) (t : LogicalType) where
       → pointwise nat_eq n name ≡ b → place_of name (field n u fs) ≡ None → place_of name fs ≡ None
   new_behind n u fs true e new =
       let found : Some 0 ≡ place_of name (field n u fs) =
-      ap (λ b. option_map (λ (p : ℕ × LogicalType). p.0) (cond b (Some (0, u)) (after_one (find_field name fs))))
+      ap (λ b. option_map (λ (p : ℕ × LogicalType). p.0)
+      (cond b (Some (0, u)) (after_one (find_field name fs))))
       (sym e) in
       absurd (some_not_none (found ∙ new))
   new_behind n u fs false e new =
       none_later (find_field name fs)
-      (ap (λ b. option_map (λ (p : ℕ × LogicalType). p.0) (cond b (Some (0, u)) (after_one (find_field name fs))))
+      (ap (λ b. option_map (λ (p : ℕ × LogicalType). p.0)
+      (cond b (Some (0, u)) (after_one (find_field name fs))))
       (sym e) ∙ new)
 
   module _ (other : List ℕ) where
     abbrev place_in : LogicalType → Bool → Fields → Option ℕ
     place_in u b fs =
-        option_map (λ (p : ℕ × LogicalType). p.0) (cond b (Some (0, u)) (after_one (find_field other fs)))
+        option_map (λ (p : ℕ × LogicalType). p.0)
+        (cond b (Some (0, u)) (after_one (find_field other fs)))
 
     abbrev behind_first : Option ℕ → Fields → Option ℕ
     behind_first o fs = cond (pointwise nat_eq name other) (Some (suc (field_count fs))) o
