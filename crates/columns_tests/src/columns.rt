@@ -2,7 +2,7 @@
 
 use fixtures::{Made, copied, has_rows, is_refused, kept, names, nullable_bools, numbers, yes};
 use std::alloc::Global;
-use vortex_columns::{BitBuffer, Cell, Column, Validity, VortexResult};
+use vortex_columns::{BitBuffer, Cell, Column, ValidRows, Validity, VortexResult, both_valid};
 
 /// Two integers, as an element of others.
 fn integers(alloc: Global, values: &[i32]) -> VortexResult<Column> {
@@ -158,6 +158,66 @@ fn a_nullable_column_is_read(rt: HostRuntime) {
     assert!(rt; yes(tells_validity(nullable_bools(alloc, &rows), (true, false, true))));
     assert!(rt; yes(lends_bits(nullable_bools(alloc, &rows))));
     assert!(rt; yes(lists_validity(alloc, nullable_bools(alloc, &rows))));
+}
+
+/// How a column lends its valid rows: all of them, none, or by a list of so many bits.
+fn lent_as(column: Made) -> VortexResult<(bool, bool, usize)> {
+    Ok(match column?.valid_rows() {
+        ValidRows::Every => (true, false, 0),
+        ValidRows::No => (false, true, 0),
+        ValidRows::Listed(bits) => (false, false, bits.len()),
+    })
+}
+
+fn lends(column: Made, wanted: (bool, bool, usize)) -> VortexResult<bool> {
+    Ok(lent_as(column)? == wanted)
+}
+
+#[test]
+fn valid_rows_are_lent(rt: HostRuntime) {
+    let alloc = rt.alloc();
+    let listed = nullable_bools(alloc, &[Some(true), None]);
+    assert!(rt; yes(lends(pair(alloc), (true, false, 0))));
+    assert!(rt; yes(lends(byte_lists(alloc), (false, true, 0))));
+    assert!(rt; yes(lends(listed, (false, false, 2))));
+}
+
+/// Whether these of four rows are valid on both sides.
+fn joined_as(
+    alloc: Global,
+    left: &Column,
+    right: &Column,
+    wanted: [bool; 4],
+) -> VortexResult<bool> {
+    if left.len() != 4 || right.len() != 4 {
+        return Ok(false);
+    }
+    let valid = both_valid(alloc, left, right)?;
+    if !valid.fits(4) {
+        return Ok(false);
+    }
+    let told = [
+        valid.is_valid(0),
+        valid.is_valid(1),
+        valid.is_valid(2),
+        valid.is_valid(3),
+    ];
+    Ok(told == wanted)
+}
+
+fn joins(alloc: Global, left: Made, right: Made, wanted: [bool; 4]) -> VortexResult<bool> {
+    joined_as(alloc, &*left?, &*right?, wanted)
+}
+
+#[test]
+fn rows_are_valid_on_both_sides(rt: HostRuntime) {
+    let alloc = rt.alloc();
+    let left = nullable_bools(alloc, &[None, Some(true), None, Some(false)]);
+    let right = nullable_bools(alloc, &[None, None, Some(true), Some(true)]);
+    let full = numbers(alloc, &[1i32, 2, 3, 4]);
+    let other = nullable_bools(alloc, &[None, Some(true), Some(true), Some(false)]);
+    assert!(rt; yes(joins(alloc, left, right, [false, false, false, true])));
+    assert!(rt; yes(joins(alloc, full, other, [false, true, true, true])));
 }
 
 /// Whether a column of nullable i32 of three rows has these.

@@ -226,6 +226,27 @@ fn a_lone_leaf_is_lent(rt: HostRuntime) {
     );
 }
 
+/// The leaf of the second of two columns, by its place.
+fn second_leaf<C: ScalarFnVTable>(alloc: Global) -> Tree<C> {
+    let scope = scope(alloc)?;
+    if scope.len() != 2 {
+        return Err(VortexError::ScopeMismatch);
+    }
+    planted(alloc, BoundExpression::column_at(alloc, &scope, 1))
+}
+
+#[test]
+fn a_leaf_of_a_place_lends_its_column(rt: HostRuntime) {
+    let alloc = rt.alloc();
+    let columns = two(
+        alloc,
+        nullable_bools(alloc, &[None]),
+        nullable_bools(alloc, &[Some(true)]),
+    );
+    assert!(rt; yes(prints::<NoCustom>(alloc, second_leaf(alloc), "$.b")));
+    assert!(rt; yes(is_lent::<NoCustom>(alloc, second_leaf(alloc), columns, &[Some(true)])));
+}
+
 #[test]
 fn a_leaf_without_its_column_is_refused(rt: HostRuntime) {
     let alloc = rt.alloc();
