@@ -26,7 +26,7 @@ fn answers_below_ten<C: ScalarFnVTable>(
     let tree = Box::new(alloc, below_ten::<C>(alloc, scope)?)?;
     let mut ctx = ExecutionCtx::new(alloc);
     let answer = Box::new(alloc, tree.execute(columns, wanted.len(), &mut ctx)?)?;
-    are_rows(alloc, &**answer, wanted)
+    Ok(answer.text(alloc)?.as_str() == "bool: true false" && are_rows(alloc, &**answer, wanted)?)
 }
 
 /// Fields `price` of i32, and `name` of texts.
