@@ -283,6 +283,22 @@ fn read_value<'a, K: CellKind<'a>>(
     }
 }
 
+/// The call over the cells of an integer type: the one place where it is chosen.
+macro_rules! with_int_cells {
+    ($ptype:expr, $read:ident($($argument:expr),*)) => {
+        match $ptype {
+            PType::I8 => $read::<IntCells<i8>>($($argument),*),
+            PType::I16 => $read::<IntCells<i16>>($($argument),*),
+            PType::I32 => $read::<IntCells<i32>>($($argument),*),
+            PType::I64 => $read::<IntCells<i64>>($($argument),*),
+            PType::U8 => $read::<IntCells<u8>>($($argument),*),
+            PType::U16 => $read::<IntCells<u16>>($($argument),*),
+            PType::U32 => $read::<IntCells<u32>>($($argument),*),
+            PType::U64 => $read::<IntCells<u64>>($($argument),*),
+        }
+    };
+}
+
 /// The column that the cells of a `col` line say; nothing where one says no value of the type, or a
 /// text is longer than 4,294,967,295 bytes. E9 alone.
 pub fn column_said(
@@ -297,14 +313,7 @@ pub fn column_said(
     match kind {
         Kind::Bool => read_column::<BoolCells>(alloc, nullability, words),
         Kind::Utf8 => read_column::<TextCells>(alloc, nullability, words),
-        Kind::Integer(PType::I8) => read_column::<IntCells<i8>>(alloc, nullability, words),
-        Kind::Integer(PType::I16) => read_column::<IntCells<i16>>(alloc, nullability, words),
-        Kind::Integer(PType::I32) => read_column::<IntCells<i32>>(alloc, nullability, words),
-        Kind::Integer(PType::I64) => read_column::<IntCells<i64>>(alloc, nullability, words),
-        Kind::Integer(PType::U8) => read_column::<IntCells<u8>>(alloc, nullability, words),
-        Kind::Integer(PType::U16) => read_column::<IntCells<u16>>(alloc, nullability, words),
-        Kind::Integer(PType::U32) => read_column::<IntCells<u32>>(alloc, nullability, words),
-        Kind::Integer(PType::U64) => read_column::<IntCells<u64>>(alloc, nullability, words),
+        Kind::Integer(ptype) => with_int_cells!(ptype, read_column(alloc, nullability, words)),
     }
 }
 
@@ -324,16 +333,7 @@ pub fn literal_said(
         Kind::Utf8 => read_value::<TextCells>(alloc, DType::Utf8(nullability), word),
         Kind::Integer(ptype) => {
             let dtype = DType::Primitive(ptype, nullability);
-            match ptype {
-                PType::I8 => read_value::<IntCells<i8>>(alloc, dtype, word),
-                PType::I16 => read_value::<IntCells<i16>>(alloc, dtype, word),
-                PType::I32 => read_value::<IntCells<i32>>(alloc, dtype, word),
-                PType::I64 => read_value::<IntCells<i64>>(alloc, dtype, word),
-                PType::U8 => read_value::<IntCells<u8>>(alloc, dtype, word),
-                PType::U16 => read_value::<IntCells<u16>>(alloc, dtype, word),
-                PType::U32 => read_value::<IntCells<u32>>(alloc, dtype, word),
-                PType::U64 => read_value::<IntCells<u64>>(alloc, dtype, word),
-            }
+            with_int_cells!(ptype, read_value(alloc, dtype, word))
         }
     }
 }

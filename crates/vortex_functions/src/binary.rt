@@ -1,54 +1,9 @@
 //! The operators of two operands, as functions of trees.
-ghost use Rattle.std.specs.Prelude.{◌≡◌};
-ghost use Rattle.vortex_functions.specs.Words.{operator_named, arithmetic_named};
-
 use crate::erased::ScalarFnRef;
 use crate::ext::ScalarFnVTableExt;
 use vortex_interface::ScalarFnVTable;
 use vortex_kernels::Operator;
 use vortex_shipped::Binary;
-
-/// The same for an operator of arithmetic.
-fn arithmetic_named(word: &str) -> Option<Operator>
-    ensures { result ≡ arithmetic_named word.now }
-{
-    if word == "+" {
-        Some(Operator::Add)
-    } else if word == "-" {
-        Some(Operator::Sub)
-    } else if word == "*" {
-        Some(Operator::Mul)
-    } else if word == "/" {
-        Some(Operator::Div)
-    } else {
-        None
-    }
-}
-
-/// The operator that a word of a script names: its text.
-fn operator_named(word: &str) -> Option<Operator>
-    ensures { result ≡ operator_named word.now }
-{
-    if word == "and" {
-        Some(Operator::And)
-    } else if word == "or" {
-        Some(Operator::Or)
-    } else if word == "=" {
-        Some(Operator::Eq)
-    } else if word == "!=" {
-        Some(Operator::NotEq)
-    } else if word == "<" {
-        Some(Operator::Lt)
-    } else if word == "<=" {
-        Some(Operator::Lte)
-    } else if word == ">" {
-        Some(Operator::Gt)
-    } else if word == ">=" {
-        Some(Operator::Gte)
-    } else {
-        arithmetic_named(word)
-    }
-}
 
 impl ScalarFnVTableExt for Binary {
     ghost use Rattle.std.specs.Option.{option_map};
@@ -64,6 +19,6 @@ impl ScalarFnVTableExt for Binary {
     }
 
     fn named(&self, word: &str) -> Option<Operator> {
-        operator_named(word)
+        Operator::from_text(word)
     }
 }

@@ -21,18 +21,18 @@ abbrev pub truth_at : List Bool → ValidityView → ℕ → Option Bool
 truth_at bits v i = present (is_valid_row v i) (slice_index_or bits i false)
 
 abbrev pub operand_there : Operand → ℕ → Type 0
-operand_there (Aligned values) i = aligned_there values i
-operand_there (AlignedMasked values valid) i = aligned_there values i × aligned_there valid i
-operand_there (Shifted values) i = shifted_there values i
-operand_there (ShiftedMasked values valid) i = shifted_there values i × shifted_there valid i
-operand_there (One valid value) i = ⊤
+operand_there (Aligned t) i = aligned_there t.values i
+operand_there (AlignedMasked t) i = aligned_there t.values i × aligned_there t.valid i
+operand_there (Shifted t) i = shifted_there t.values i
+operand_there (ShiftedMasked t) i = shifted_there t.values i × shifted_there t.valid i
+operand_there (One t) i = ⊤
 
 abbrev pub operand_truth : Operand → ℕ → Option Bool
-operand_truth (Aligned values) i = present true (aligned_bit values i)
-operand_truth (AlignedMasked values valid) i = present (aligned_bit valid i) (aligned_bit values i)
-operand_truth (Shifted values) i = present true (shifted_bit values i)
-operand_truth (ShiftedMasked values valid) i = present (shifted_bit valid i) (shifted_bit values i)
-operand_truth (One valid value) i = present valid value
+operand_truth (Aligned t) i = present t.valid.bit (aligned_bit t.values i)
+operand_truth (AlignedMasked t) i = present (aligned_bit t.valid i) (aligned_bit t.values i)
+operand_truth (Shifted t) i = present t.valid.bit (shifted_bit t.values i)
+operand_truth (ShiftedMasked t) i = present (shifted_bit t.valid i) (shifted_bit t.values i)
+operand_truth (One t) i = present t.valid.bit t.values.bit
 
 -- each of n rows is there, and is this truth value or null
 pub record IsOperandOf (n : ℕ) (truth : ℕ → Option Bool) (o : Operand) : Type 0 where

@@ -1,8 +1,8 @@
 //! And, Or and Not by Kleene's tables.
 ghost use Rattle.std.specs.Prelude.{◌≡◌, ◌<◌, ℕ, true, false, length, is_some};
 ghost use Rattle.vortex_kernels.specs.Words.{Answers, AnswersUnlessMemory, is_bool_type};
-ghost use Rattle.vortex_kernels.specs.Words.{is_boolean, are_bools, not_value, HasBooleanRows};
-ghost use Rattle.vortex_kernels.specs.Words.{HasNotRows, AnswersBoolean, RefusesBoolean};
+ghost use Rattle.vortex_kernels.specs.Words.{is_boolean, not_value, HasNotRows, AnswersBoolean};
+ghost use Rattle.vortex_kernels.specs.Words.{RefusesBoolean};
 ghost use Rattle.vortex_kernels.specs.Words.{allows_null, validity_of, FitsRows, truth_at};
 ghost use Rattle.vortex_kernels.specs.Words.{HaveTruths, HasKleeneRows, AnswersKleene};
 ghost use Rattle.vortex_kernels.specs.Words.{RefusesOperator, operand_there, operand_truth};
@@ -18,17 +18,20 @@ use vortex_columns::{
     Validity, VortexError, VortexResult,
 };
 
-/// The table of one operator over two columns.
+/// The table of one operator over two columns: E3 Boolean where they are not both of Bool.
 fn execute_kleene<K: KleeneTable + Copy>(
     lhs: &Column,
     rhs: &Column,
     ctx: &mut ExecutionCtx,
 ) -> VortexResult<Column>
     requires operator { is_boolean K.operator ≡ true }
-    requires bools { are_bools lhs.now rhs.now ≡ true }
     requires lengths { length lhs.now.rows ≡ length rhs.now.rows }
-    ensures { AnswersUnlessMemory result (HasBooleanRows K.operator lhs.now rhs.now) }
+    ensures { Answers result (AnswersBoolean K.operator lhs.now rhs.now)
+        (RefusesBoolean K.operator lhs.now rhs.now) }
 {
+    if !lhs.dtype().is_boolean() || !rhs.dtype().is_boolean() {
+        return Err(VortexError::TypeMismatch(MismatchPlace::Boolean));
+    }
     let left = operand_of(lhs);
     let right = operand_of(rhs);
     let nullability = lhs.dtype().nullability() | rhs.dtype().nullability();
@@ -49,12 +52,6 @@ pub fn execute_boolean(
     ensures { Answers result (AnswersBoolean operator lhs.now rhs.now)
         (RefusesBoolean operator lhs.now rhs.now) }
 {
-    if !operator.is_boolean() {
-        return Err(VortexError::NotBooleanOperator(operator.as_text()));
-    }
-    if !lhs.dtype().is_boolean() || !rhs.dtype().is_boolean() {
-        return Err(VortexError::TypeMismatch(MismatchPlace::Boolean));
-    }
     match operator {
         Operator::And => execute_kleene::<Both>(lhs, rhs, ctx),
         Operator::Or => execute_kleene::<Either>(lhs, rhs, ctx),

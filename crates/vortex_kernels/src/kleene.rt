@@ -7,13 +7,10 @@ ghost use Rattle.vortex_kernels.specs.Words.{HasKleeneRows, value_word};
 ghost use Rattle.vortex_kernels.specs.Words.{HasTruth, AreTruths};
 
 use crate::operators::Operator;
-use crate::truths::Operand;
+use crate::truths::{Operand, TruthWords};
 use std::alloc::Global;
 use std::marker::PhantomData;
-use vortex_bits::{
-    AlignedBits, BitWords, Both, Either, SameBit, ShiftedBits, WordFormula, collect_words,
-    zip_words,
-};
+use vortex_bits::{BitWords, Both, Either, WordFormula, collect_words, zip_words};
 use vortex_columns::{Column, ExecutionCtx, Nullability, Validity, VortexResult};
 
 /// The table of one operator in words, chosen before the rows.
@@ -84,49 +81,38 @@ pub fn kleene_words(
 
 /// The rows that have a truth value.
 #[derive(Clone, Copy)]
-struct KleeneValid<
-    K: KleeneTable + Copy,
-    L: BitWords + Copy,
-    M: BitWords + Copy,
-    R: BitWords + Copy,
-    S: BitWords + Copy,
-> {
+struct KleeneValid<K: KleeneTable + Copy, L: TruthWords + Copy, R: TruthWords + Copy> {
     left: L,
-    left_valid: M,
     right: R,
-    right_valid: S,
     table: PhantomData<K>,
 }
 
-impl<
-    K: KleeneTable + Copy,
-    L: BitWords + Copy,
-    M: BitWords + Copy,
-    R: BitWords + Copy,
-    S: BitWords + Copy,
-> BitWords for KleeneValid<K, L, M, R, S> {
-    ghost has_row = { λ s i. (L.has_row s.left i × M.has_row s.left_valid i)
-        × (R.has_row s.right i × S.has_row s.right_valid i) };
+impl<K: KleeneTable + Copy, L: TruthWords + Copy, R: TruthWords + Copy> BitWords
+    for KleeneValid<K, L, R>
+{
+    ghost has_row = { λ s i. L.has_row s.left i × R.has_row s.right i };
 
-    ghost row_bit = { λ s i. is_some (kleene K.operator
-        (present (M.row_bit s.left_valid i) (L.row_bit s.left i))
-        (present (S.row_bit s.right_valid i) (R.row_bit s.right i))) };
+    ghost row_bit = { λ s i. is_some (kleene K.operator (L.truth s.left i) (R.truth s.right i)) };
 
     fn word(&self, k: usize) -> u64 {
+        let (left, left_valid) = self.left.words();
+        let (right, right_valid) = self.right.words();
         K::valid_words(
-            self.left.word(k),
-            self.left_valid.word(k),
-            self.right.word(k),
-            self.right_valid.word(k),
+            left.word(k),
+            left_valid.word(k),
+            right.word(k),
+            right_valid.word(k),
         )
     }
 
     fn last(&self, k: usize, count: usize) -> u64 {
+        let (left, left_valid) = self.left.words();
+        let (right, right_valid) = self.right.words();
         K::valid_words(
-            self.left.last(k, count),
-            self.left_valid.last(k, count),
-            self.right.last(k, count),
-            self.right_valid.last(k, count),
+            left.last(k, count),
+            left_valid.last(k, count),
+            right.last(k, count),
+            right_valid.last(k, count),
         )
     }
 }
@@ -141,37 +127,25 @@ struct Shape {
 }
 
 /// Which rows have a truth value, by the table: no list of bits where each has one.
-fn kleene_validity<
-    K: KleeneTable + Copy,
-    L: BitWords + Copy,
-    M: BitWords + Copy,
-    R: BitWords + Copy,
-    S: BitWords + Copy,
->(
+fn kleene_validity<K: KleeneTable + Copy, L: TruthWords + Copy, R: TruthWords + Copy>(
     alloc: Global,
     left: L,
-    left_valid: M,
     right: R,
-    right_valid: S,
     shape: Shape,
 ) -> VortexResult<Validity>
-    requires left { (i : ℕ) → i < shape.len → L.has_row left i × M.has_row left_valid i }
-    requires right { (i : ℕ) → i < shape.len → R.has_row right i × S.has_row right_valid i }
+    requires left { (i : ℕ) → i < shape.len → L.has_row left i }
+    requires right { (i : ℕ) → i < shape.len → R.has_row right i }
     requires nullable { shape.listed ≡ true → allows_null shape.nullability ≡ true }
     requires truths { shape.listed ≡ false → (i : ℕ) → i < shape.len
-        → is_some (kleene K.operator (present (M.row_bit left_valid i) (L.row_bit left i))
-        (present (S.row_bit right_valid i) (R.row_bit right i))) ≡ true }
+        → is_some (kleene K.operator (L.truth left i) (R.truth right i)) ≡ true }
     ensures { AnswersUnlessMemory result
         (λ v. IsValidity (allows_null shape.nullability) shape.len
-        (λ i. is_some (kleene K.operator (present (M.row_bit left_valid i) (L.row_bit left i))
-        (present (S.row_bit right_valid i) (R.row_bit right i)))) (validity_of v)) }
+        (λ i. is_some (kleene K.operator (L.truth left i) (R.truth right i))) (validity_of v)) }
 {
     if shape.listed {
-        let rows = KleeneValid::<K, L, M, R, S> {
+        let rows = KleeneValid::<K, L, R> {
             left,
-            left_valid,
             right,
-            right_valid,
             table: PhantomData,
         };
         return Ok(Validity::Array(collect_words(alloc, &rows, shape.len)?));
@@ -183,84 +157,51 @@ fn kleene_validity<
 }
 
 /// The answer for each row, the form of either side being chosen.
-fn kleene_rows<
-    K: KleeneTable + Copy,
-    L: BitWords + Copy,
-    M: BitWords + Copy,
-    R: BitWords + Copy,
-    S: BitWords + Copy,
->(
+fn kleene_rows<K: KleeneTable + Copy, L: TruthWords + Copy, R: TruthWords + Copy>(
     left: L,
-    left_valid: M,
     right: R,
-    right_valid: S,
     shape: Shape,
     ctx: &mut ExecutionCtx,
 ) -> VortexResult<Column>
-    requires left { (i : ℕ) → i < shape.len → L.has_row left i × M.has_row left_valid i }
-    requires right { (i : ℕ) → i < shape.len → R.has_row right i × S.has_row right_valid i }
+    requires left { (i : ℕ) → i < shape.len → L.has_row left i }
+    requires right { (i : ℕ) → i < shape.len → R.has_row right i }
     requires nullable { shape.listed ≡ true → allows_null shape.nullability ≡ true }
     requires truths { shape.listed ≡ false → (i : ℕ) → i < shape.len
-        → is_some (kleene K.operator (present (M.row_bit left_valid i) (L.row_bit left i))
-        (present (S.row_bit right_valid i) (R.row_bit right i))) ≡ true }
+        → is_some (kleene K.operator (L.truth left i) (R.truth right i)) ≡ true }
     ensures { AnswersUnlessMemory result
-        (HasKleeneRows K.operator (allows_null shape.nullability) shape.len
-        (λ i. present (M.row_bit left_valid i) (L.row_bit left i))
-        (λ i. present (S.row_bit right_valid i) (R.row_bit right i))) }
+        (HasKleeneRows K.operator (allows_null shape.nullability) shape.len (L.truth left)
+        (R.truth right)) }
 {
-    let values = zip_words::<K, L, R>(ctx.alloc(), left, right, shape.len)?;
-    let validity = kleene_validity::<K, L, M, R, S>(
-        ctx.alloc(),
-        left,
-        left_valid,
-        right,
-        right_valid,
-        shape,
-    )?;
+    let (left_values, _) = left.words();
+    let (right_values, _) = right.words();
+    let len = shape.len;
+    let values = zip_words::<K, L::Values, R::Values>(ctx.alloc(), left_values, right_values, len)?;
+    let validity = kleene_validity::<K, L, R>(ctx.alloc(), left, right, shape)?;
     Column::try_bool(ctx.alloc(), values, validity)
 }
 
 /// The same, the form of the left side alone being chosen.
-fn kleene_beside<K: KleeneTable + Copy, L: BitWords + Copy, M: BitWords + Copy>(
+fn kleene_beside<K: KleeneTable + Copy, L: TruthWords + Copy>(
     left: L,
-    left_valid: M,
     right: Operand<'_>,
     shape: Shape,
     ctx: &mut ExecutionCtx,
 ) -> VortexResult<Column>
-    requires left { (i : ℕ) → i < shape.len → L.has_row left i × M.has_row left_valid i }
+    requires left { (i : ℕ) → i < shape.len → L.has_row left i }
     requires right { (i : ℕ) → i < shape.len → operand_there right i }
     requires nullable { shape.listed ≡ true → allows_null shape.nullability ≡ true }
     requires truths { shape.listed ≡ false → (i : ℕ) → i < shape.len
-        → is_some (kleene K.operator (present (M.row_bit left_valid i) (L.row_bit left i))
-        (operand_truth right i)) ≡ true }
+        → is_some (kleene K.operator (L.truth left i) (operand_truth right i)) ≡ true }
     ensures { AnswersUnlessMemory result
-        (HasKleeneRows K.operator (allows_null shape.nullability) shape.len
-        (λ i. present (M.row_bit left_valid i) (L.row_bit left i)) (operand_truth right.entry)) }
+        (HasKleeneRows K.operator (allows_null shape.nullability) shape.len (L.truth left)
+        (operand_truth right.entry)) }
 {
-    let every = SameBit { bit: true };
     match right {
-        Operand::Aligned(right) => {
-            kleene_rows::<K, L, M, AlignedBits, SameBit>(left, left_valid, right, every, shape, ctx)
-        }
-        Operand::AlignedMasked(right, valid) => {
-            kleene_rows::<K, L, M, AlignedBits, AlignedBits>(
-                left, left_valid, right, valid, shape, ctx,
-            )
-        }
-        Operand::Shifted(right) => {
-            kleene_rows::<K, L, M, ShiftedBits, SameBit>(left, left_valid, right, every, shape, ctx)
-        }
-        Operand::ShiftedMasked(right, valid) => {
-            kleene_rows::<K, L, M, ShiftedBits, ShiftedBits>(
-                left, left_valid, right, valid, shape, ctx,
-            )
-        }
-        Operand::One(valid, value) => {
-            let right = SameBit { bit: value };
-            let valid = SameBit { bit: valid };
-            kleene_rows::<K, L, M, SameBit, SameBit>(left, left_valid, right, valid, shape, ctx)
-        }
+        Operand::Aligned(right) => kleene_rows::<K, L, _>(left, right, shape, ctx),
+        Operand::AlignedMasked(right) => kleene_rows::<K, L, _>(left, right, shape, ctx),
+        Operand::Shifted(right) => kleene_rows::<K, L, _>(left, right, shape, ctx),
+        Operand::ShiftedMasked(right) => kleene_rows::<K, L, _>(left, right, shape, ctx),
+        Operand::One(right) => kleene_rows::<K, L, _>(left, right, shape, ctx),
     }
 }
 
@@ -280,25 +221,12 @@ fn kleene_operands<K: KleeneTable + Copy>(
         (HasKleeneRows K.operator (allows_null shape.nullability) shape.len
         (operand_truth left.entry) (operand_truth right.entry)) }
 {
-    let every = SameBit { bit: true };
     match left {
-        Operand::Aligned(left) => {
-            kleene_beside::<K, AlignedBits, SameBit>(left, every, right, shape, ctx)
-        }
-        Operand::AlignedMasked(left, valid) => {
-            kleene_beside::<K, AlignedBits, AlignedBits>(left, valid, right, shape, ctx)
-        }
-        Operand::Shifted(left) => {
-            kleene_beside::<K, ShiftedBits, SameBit>(left, every, right, shape, ctx)
-        }
-        Operand::ShiftedMasked(left, valid) => {
-            kleene_beside::<K, ShiftedBits, ShiftedBits>(left, valid, right, shape, ctx)
-        }
-        Operand::One(valid, value) => {
-            let left = SameBit { bit: value };
-            let valid = SameBit { bit: valid };
-            kleene_beside::<K, SameBit, SameBit>(left, valid, right, shape, ctx)
-        }
+        Operand::Aligned(left) => kleene_beside::<K, _>(left, right, shape, ctx),
+        Operand::AlignedMasked(left) => kleene_beside::<K, _>(left, right, shape, ctx),
+        Operand::Shifted(left) => kleene_beside::<K, _>(left, right, shape, ctx),
+        Operand::ShiftedMasked(left) => kleene_beside::<K, _>(left, right, shape, ctx),
+        Operand::One(left) => kleene_beside::<K, _>(left, right, shape, ctx),
     }
 }
 

@@ -1,7 +1,6 @@
 -- Rewrites at places, steps and runs of a sound rule are rewrites.
 use Rattle.std.proofs.Common.{◌≡◌, ℕ, zero, suc, List, [], ◌∷◌, Option, Some, sym, ap, ◌∙◌}
 use Rattle.std.specs.Prelude.{slice_get}
-use Rattle.std.specs.Option.{option_or}
 use Rattle.vortex_types.specs.LogicalTypes.{LogicalType}
 use Rattle.vortex_meaning.specs.Meaning.{Meaning, Lawful}
 use Rattle.vortex_meaning.specs.Functions.{Function}
@@ -12,7 +11,7 @@ use Rattle.vortex_meaning.specs.ReduceRules.{reduce}
 use Rattle.vortex_meaning.specs.SimplifyRules.{simplify}
 use Rattle.vortex_meaning.specs.Rewrites.{Rewrites, LawfulRules, IsSound}
 use Rattle.vortex_meaning.specs.Places.{rewritten, rewritten_list}
-use Rattle.vortex_meaning.specs.Driver.{simplify_or_reduce, step, Runs}
+use Rattle.vortex_meaning.specs.Driver.{first_of, step, Runs}
 use Rattle.vortex_meaning.proofs.TypedCalls.{types_parts, typed_call}
 use Rattle.vortex_meaning.proofs.Rewriting.{rewrites_same, rewrites_trans, child_rewrites}
 use Rattle.vortex_meaning.proofs.Simplifying.{simplify_sound}
@@ -85,7 +84,7 @@ module _ {V O : Type 0} (m : Meaning V O) where
 
   -- of two sound rules the first that applies
   pub first_sound : (a b : Tree V O → Option (Tree V O)) → IsSound m a → IsSound m b
-      → IsSound m (λ t. option_or (a t) (b t))
+      → IsSound m (first_of a b)
   first_sound a b sound others t u k h e =
       first_there (a t) (b t) u (Rewrites m t u) e (sound t u k h) (others t u k h)
 
@@ -95,7 +94,3 @@ module _ {V O : Type 0} (m : Meaning V O) where
 
     pub reduce_is_sound : IsSound m (reduce m r)
     reduce_is_sound t u k h e = reduce_sound m lawful r rules t u k h e
-
-    pub simplify_or_reduce_is_sound : IsSound m (simplify_or_reduce m r)
-    simplify_or_reduce_is_sound =
-        first_sound (simplify m r) (reduce m r) simplify_is_sound reduce_is_sound

@@ -3,7 +3,7 @@
 use Rattle.std.proofs.Common.{◌≡◌, ℕ, zero, suc, ◌+◌, ◌<◌, ◌≤◌, List, [], ◌∷◌, Option, Some, None}
 use Rattle.std.proofs.Common.{refl, ap, ◌∙◌, subst, inl, inr, arith}
 use Rattle.std.specs.Prelude.{◌⊎◌, slice_get, slice_set}
-use Rattle.std.specs.Option.{option_and_then, option_or}
+use Rattle.std.specs.Option.{option_and_then}
 use Rattle.vortex_types.specs.LogicalTypes.{LogicalType}
 use Rattle.vortex_meaning.specs.Meaning.{Meaning}
 use Rattle.vortex_meaning.specs.Functions.{Function, call_type}
@@ -13,7 +13,7 @@ use Rattle.vortex_meaning.specs.Rules.{may_be_null}
 use Rattle.vortex_meaning.specs.Weights.{added, weight, weights, OnlyShipped, AllShipped, IsLighter}
 use Rattle.vortex_meaning.specs.Weights.{Lightens}
 use Rattle.vortex_meaning.specs.Places.{rewritten, rewritten_list}
-use Rattle.vortex_meaning.specs.Driver.{step, Runs}
+use Rattle.vortex_meaning.specs.Driver.{first_of, step, Runs}
 use Rattle.vortex_meaning.proofs.RuleAnswers.{first_there}
 use Rattle.vortex_meaning.proofs.TypedCalls.{types_with}
 use Rattle.vortex_meaning.proofs.Weighed.{weight_positive}
@@ -178,6 +178,6 @@ module _ {V O : Type 0} (m : Meaning V O) where
 
   -- of two rules that do so the first that applies
   pub first_lightens : (a b : Tree V O → Option (Tree V O)) → Lightens m a → Lightens m b
-      → Lightens m (λ t. option_or (a t) (b t))
+      → Lightens m (first_of a b)
   first_lightens a b lightens others t u k h s e =
       first_there (a t) (b t) u (IsLighter m 1 t u) e (lightens t u k h s) (others t u k h s)

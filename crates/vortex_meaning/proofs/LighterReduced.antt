@@ -24,8 +24,6 @@ use Rattle.vortex_meaning.specs.ReduceRules.{nullable_first, by_nullability, is_
 use Rattle.vortex_meaning.specs.ReduceRules.{is_not_null_within, reduce_is_null, reduce_is_not_null}
 use Rattle.vortex_meaning.specs.ReduceRules.{of_constants, reduce_boolean, reduce_operator}
 use Rattle.vortex_meaning.specs.ReduceRules.{reduce_shipped, reduce}
-use Rattle.vortex_meaning.specs.SimplifyRules.{simplify}
-use Rattle.vortex_meaning.specs.Driver.{simplify_or_reduce}
 use Rattle.vortex_meaning.specs.Weights.{operator_added, shipped_added, weight, OnlyShipped}
 use Rattle.vortex_meaning.specs.Weights.{AllShipped, Lightens}
 use Rattle.vortex_meaning.proofs.RuleAnswers.{some_is, first_there, mapped}
@@ -33,8 +31,6 @@ use Rattle.vortex_meaning.proofs.TypedCalls.{only_child_type, type_of_one}
 use Rattle.vortex_meaning.proofs.BooleanCalls.{bool_call}
 use Rattle.vortex_meaning.proofs.Validities.{no_rules_lawful}
 use Rattle.vortex_meaning.proofs.Reducing.{reduce_sound}
-use Rattle.vortex_meaning.proofs.Lightening.{first_lightens}
-use Rattle.vortex_meaning.proofs.LighterSimplified.{simplify_lightens}
 use Rattle.vortex_meaning.proofs.LighterParts.{IsLess, above_one, left_less, right_less}
 use Rattle.vortex_meaning.proofs.ValidityWeights.{validity_no_heavier}
 
@@ -320,8 +316,3 @@ module _ {V O : Type 0} (m : Meaning V O) where
           shipped = less.0;
           lighter = let weighs = less.1 in omega (arith, weighs);
         }
-
-    pub simplify_or_reduce_lightens : Lawful m → Lightens m (simplify_or_reduce m r)
-    simplify_or_reduce_lightens lawful =
-        first_lightens m (simplify m r) (reduce m r) (simplify_lightens m r lawful)
-        (reduce_lightens lawful)

@@ -7,10 +7,15 @@ use Rattle.vortex_meaning.specs.Rules.{Rules}
 use Rattle.vortex_meaning.specs.ReduceRules.{reduce}
 use Rattle.vortex_meaning.specs.SimplifyRules.{simplify}
 
+-- of two rules the first that applies
+abbrev pub first_of : {V O : Type 0} (a b : Tree V O → Option (Tree V O)) → Tree V O
+    → Option (Tree V O)
+first_of a b t = option_or (a t) (b t)
+
 -- the rule for expressions: what a node is simplified to, or else what it is reduced to
 abbrev pub simplify_or_reduce : {V O : Type 0} → Meaning V O → Rules V O → Tree V O
     → Option (Tree V O)
-simplify_or_reduce m r t = option_or (simplify m r t) (reduce m r t)
+simplify_or_reduce m r = first_of (simplify m r) (reduce m r)
 
 module _ {V O : Type 0} (rule : Tree V O → Option (Tree V O)) where
   -- the tree with the rule at the first place, children from left to right before their parent, at

@@ -1,9 +1,13 @@
 -- The operators' table: texts, inverses, operands swapped.
-use Rattle.std.specs.Prelude.{◌≡◌, ℕ, List, Bool, true, false, Option, Some, None, codes}
+use Rattle.std.specs.Prelude.{◌≡◌, ℕ, List, [], ◌∷◌, Bool, true, false, Option, Some, None}
+use Rattle.std.specs.Prelude.{find}
+use Rattle.std.specs.Str.{bytes_eq}
 use Rattle.vortex_errors.specs.declared.error.VortexError.{VortexError}
 use Rattle.vortex_errors.specs.declared.error.VortexError.TheVariants.{NotBooleanOperator}
 use Rattle.vortex_errors.specs.declared.error.VortexError.TheVariants.{NotCompareOperator}
 use Rattle.vortex_errors.specs.OperatorTexts.{operator_text}
+use Rattle.vortex_errors.specs.declared.operator_text.OperatorText.{OperatorText}
+use Rattle.vortex_errors.specs.declared.operator_text.OperatorText.TheVariants as text
 use Rattle.vortex_operators.specs.declared.operators.Operator.{Operator}
 use Rattle.vortex_operators.specs.declared.operators.Operator.TheVariants.{Eq, NotEq, Gt, Gte, Lt}
 use Rattle.vortex_operators.specs.declared.operators.Operator.TheVariants.{Lte, And, Or, Add, Sub}
@@ -11,19 +15,32 @@ use Rattle.vortex_operators.specs.declared.operators.Operator.TheVariants.{Mul, 
 use Rattle.vortex_operators.specs.declared.operators.CompareOperator.{CompareOperator}
 use Rattle.vortex_operators.specs.declared.operators.CompareOperator.TheVariants as compare
 
+-- the operator by its text, as refusals carry it
+abbrev pub as_text : Operator → OperatorText
+as_text Eq = text.Eq
+as_text NotEq = text.NotEq
+as_text Gt = text.Gt
+as_text Gte = text.Gte
+as_text Lt = text.Lt
+as_text Lte = text.Lte
+as_text And = text.And
+as_text Or = text.Or
+as_text Add = text.Add
+as_text Sub = text.Sub
+as_text Mul = text.Mul
+as_text Div = text.Div
+
+-- the operator as SQL writes it
 abbrev pub text_of : Operator → List ℕ
-text_of Eq = codes "="
-text_of NotEq = codes "!="
-text_of Gt = codes ">"
-text_of Gte = codes ">="
-text_of Lt = codes "<"
-text_of Lte = codes "<="
-text_of And = codes "and"
-text_of Or = codes "or"
-text_of Add = codes "+"
-text_of Sub = codes "-"
-text_of Mul = codes "*"
-text_of Div = codes "/"
+text_of operator = operator_text (as_text operator)
+
+abbrev pub all_operators : List Operator
+all_operators =
+    Eq ∷ NotEq ∷ Gt ∷ Gte ∷ Lt ∷ Lte ∷ And ∷ Or ∷ Add ∷ Sub ∷ Mul ∷ Div ∷ []
+
+-- the operator of a text
+abbrev pub operator_named : List ℕ → Option Operator
+operator_named text = find (λ operator. bytes_eq (text_of operator) text) all_operators
 
 -- a comparison as an operator
 abbrev pub operator_of : CompareOperator → Operator

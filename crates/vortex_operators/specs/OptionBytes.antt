@@ -3,22 +3,16 @@
 use Rattle.std.specs.Prelude.{ℕ, List, [], ◌∷◌, Option}
 use Rattle.vortex_errors.specs.OptionBytes.{read_among, two_bits}
 use Rattle.vortex_operators.specs.declared.operators.Operator.{Operator}
-use Rattle.vortex_operators.specs.declared.operators.Operator.TheVariants.{Eq, NotEq, Gt, Gte, Lt}
-use Rattle.vortex_operators.specs.declared.operators.Operator.TheVariants.{Lte, And, Or, Add, Sub}
-use Rattle.vortex_operators.specs.declared.operators.Operator.TheVariants.{Mul, Div}
 use Rattle.vortex_operators.specs.declared.between.BetweenOptions.{BetweenOptions}
 use Rattle.vortex_operators.specs.declared.between.StrictComparison.{StrictComparison}
 use Rattle.vortex_operators.specs.declared.between.StrictComparison.TheVariants.{Strict, NonStrict}
+use Rattle.vortex_operators.specs.Operators.{all_operators}
 use Rattle.vortex_operators.specs.Places.{place_of}
 use Rattle.vortex_operators.specs.Between.{is_strict}
 
 -- one byte: the operator's place in the table
 abbrev pub operator_bytes : Operator → List ℕ
 operator_bytes operator = place_of operator ∷ []
-
-abbrev pub all_operators : List Operator
-all_operators =
-    Eq ∷ NotEq ∷ Gt ∷ Gte ∷ Lt ∷ Lte ∷ And ∷ Or ∷ Add ∷ Sub ∷ Mul ∷ Div ∷ []
 
 abbrev pub operator_read : List ℕ → Option Operator
 operator_read = read_among operator_bytes all_operators

@@ -1,7 +1,7 @@
 //! The operators of two operands, and their laws.
 ghost use Rattle.std.specs.Prelude.{◌≡◌, IfSome};
-ghost use Rattle.vortex_errors.specs.OperatorTexts.{operator_text};
-ghost use Rattle.vortex_operators.specs.Operators.{text_of, operator_of, compare_operator_of};
+ghost use Rattle.vortex_operators.specs.Operators.{as_text, text_of, operator_named};
+ghost use Rattle.vortex_operators.specs.Operators.{operator_of, compare_operator_of};
 ghost use Rattle.vortex_operators.specs.Operators.{compare_inverse, compare_swap, inverse_of};
 ghost use Rattle.vortex_operators.specs.Operators.{logical_inverse_of, swap_of, is_arithmetic};
 ghost use Rattle.vortex_operators.specs.Operators.{is_boolean};
@@ -40,13 +40,29 @@ pub enum CompareOperator {
     Lte,
 }
 
+/// Each of them once, in their order.
+const ALL: [Operator; 12] = [
+    Operator::Eq,
+    Operator::NotEq,
+    Operator::Gt,
+    Operator::Gte,
+    Operator::Lt,
+    Operator::Lte,
+    Operator::And,
+    Operator::Or,
+    Operator::Add,
+    Operator::Sub,
+    Operator::Mul,
+    Operator::Div,
+];
+
 impl Operator {
     ghost use Rattle.std.specs.Prelude.{is_some};
     ghost use Rattle.vortex_operators.specs.SwapLaws.{AreTurned};
 
     /// The operator by its text, as refusals carry it.
     pub fn as_text(&self) -> OperatorText
-        ensures { operator_text result ≡ text_of self.now }
+        ensures { result ≡ as_text self.now }
     {
         match self {
             Operator::Eq => OperatorText::Eq,
@@ -69,6 +85,13 @@ impl Operator {
         ensures { result.now ≡ text_of self.now }
     {
         self.as_text().as_str()
+    }
+
+    /// The operator of a text.
+    pub fn from_text(text: &str) -> Option<Operator>
+        ensures { result ≡ operator_named text.now }
+    {
+        ALL.iter().copied().find(|operator| operator.text() == text)
     }
 
     /// The comparison that holds where this one does not.
@@ -248,8 +271,7 @@ impl CompareOperator {
 
 impl fmt::Display for CompareOperator {
     ghost use Rattle.std.specs.Prelude.{Some};
-    ghost use Rattle.vortex_errors.specs.OperatorTexts.{operator_text};
-    ghost use Rattle.vortex_operators.specs.Operators.{text_of, operator_of};
+        ghost use Rattle.vortex_operators.specs.Operators.{text_of, operator_of};
 
     ghost output = { λ operator. Some (text_of (operator_of operator)) };
 

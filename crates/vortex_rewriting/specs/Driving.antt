@@ -1,11 +1,11 @@
 -- The rule of the driver.
 use Rattle.std.specs.Prelude.{Option}
-use Rattle.std.specs.Option.{option_or}
 use Rattle.vortex_meaning.specs.Trees.{Tree}
+use Rattle.vortex_meaning.specs.Driver.{first_of}
 use Rattle.vortex_rewriting.specs.declared.rule.Rule.{Rule}
 use Rattle.vortex_rewriting.specs.declared.rule.Rule.TheVariants.{Simplify, Reduce}
 
 -- what Simplify makes of a tree at its root, or else what Reduce makes of it
 abbrev pub first_rule : {V O : Type 0} → (Rule → Tree V O → Option (Tree V O)) → Tree V O
     → Option (Tree V O)
-first_rule applied t = option_or (applied Simplify t) (applied Reduce t)
+first_rule applied = first_of (applied Simplify) (applied Reduce)

@@ -20,7 +20,8 @@ use Rattle.vortex_operators.specs.declared.operators.Operator.TheVariants.{Mul, 
 use Rattle.vortex_operators.specs.declared.between.BetweenOptions.{BetweenOptions}
 use Rattle.vortex_operators.specs.declared.between.StrictComparison.{StrictComparison}
 use Rattle.vortex_operators.specs.declared.between.StrictComparison.TheVariants.{Strict, NonStrict}
-use Rattle.vortex_operators.specs.OptionBytes.{operator_bytes, operator_read, all_operators}
+use Rattle.vortex_operators.specs.Operators.{all_operators}
+use Rattle.vortex_operators.specs.OptionBytes.{operator_bytes, operator_read}
 use Rattle.vortex_operators.specs.OptionBytes.{between_bytes, between_read, all_bounds}
 use Rattle.vortex_like.specs.declared.options.LikeOptions.{LikeOptions}
 use Rattle.vortex_like.specs.OptionBytes.{like_bytes, like_read, escape_bytes, escape_read}

@@ -2,7 +2,6 @@
 -- exact arithmetic.
 use Rattle.std.specs.Prelude.{◌≡◌, ◌⊎◌, ℕ, zero, suc, List, [], ◌∷◌, Option, Some, None, Bool, true}
 use Rattle.std.specs.Prelude.{false, ◌||◌, not, codes, Any, if◌then◌else◌, refl}
-use Rattle.std.specs.Str.{bytes_eq}
 use Rattle.std.proofs.Common.{sym, ap, ◌∙◌, subst, cond, inl, inr}
 use Rattle.vortex_errors.specs.declared.error.MismatchPlace.{MismatchPlace}
 use Rattle.vortex_errors.specs.declared.error.MismatchPlace.TheVariants as place
@@ -106,27 +105,6 @@ operator_function o = record {
   pieces = operator_pieces (text_of o);
   added = operator_added o;
 }
-
--- the words of scripts
-abbrev pub arithmetic_named : List ℕ → Option Operator
-arithmetic_named w =
-    if bytes_eq w (codes "+") then Some Add
-    else (if bytes_eq w (codes "-") then Some Sub
-    else (if bytes_eq w (codes "*") then Some Mul
-    else (if bytes_eq w (codes "/") then Some Div
-    else None)))
-
-abbrev pub operator_named : List ℕ → Option Operator
-operator_named w =
-    if bytes_eq w (codes "and") then Some And
-    else (if bytes_eq w (codes "or") then Some Or
-    else (if bytes_eq w (codes "=") then Some Eq
-    else (if bytes_eq w (codes "!=") then Some NotEq
-    else (if bytes_eq w (codes "<") then Some Lt
-    else (if bytes_eq w (codes "<=") then Some Lte
-    else (if bytes_eq w (codes ">") then Some Gt
-    else (if bytes_eq w (codes ">=") then Some Gte
-    else arithmetic_named w)))))))
 
 both_typed : (op : Operator) → is_boolean op ≡ true
     → (ts : List LogicalType) (t : LogicalType) (vs : List Value)

@@ -11,11 +11,9 @@ use Rattle.vortex_kernels.proofs.kleene.kleene_rows.Goals as goal
 pub returns : goal.returns
 returns g c =
     let op = g.K.KleeneTable.operator in
-    let a = λ (i : ℕ). g.L.BitWords.row_bit c.args.left i in
-    let p = λ (i : ℕ). g.M.BitWords.row_bit c.args.left_valid i in
-    let b = λ (i : ℕ). g.R.BitWords.row_bit c.args.right i in
-    let q = λ (i : ℕ). g.S.BitWords.row_bit c.args.right_valid i in
-    let truth = λ (i : ℕ). kleene op (present (p i) (a i)) (present (q i) (b i)) in
+    let left = g.L.TruthWords.truth c.args.left in
+    let right = g.R.TruthWords.truth c.args.right in
+    let truth = λ (i : ℕ). kleene op (left i) (right i) in
     let bits = c.in_ok-values.values in
     let told = c.in_ok-values.ensures in
     bool_answers (allows_null c.args.shape.nullability) c.args.shape.len (λ i. is_some (truth i))
