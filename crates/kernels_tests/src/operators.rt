@@ -44,10 +44,11 @@ fn are_in_order<T: PartialOrd + Copy>(operators: &[T]) -> bool {
     true
 }
 
-/// Whether an operator is written so.
+/// Whether an operator is written so, and found by what is written.
 fn is_written(alloc: Global, operator: Operator, text: &str) -> VortexResult<bool> {
     let printed = format!(in alloc; "{operator}")?;
-    Ok(operator.text() == text && printed.as_str() == text)
+    let found = Operator::from_text(text) == Some(operator);
+    Ok(found && operator.text() == text && printed.as_str() == text)
 }
 
 /// Whether a comparison is of that operator, and written so.
@@ -134,6 +135,13 @@ fn prints_the_other_operators(rt: HostRuntime) {
     assert!(rt; is_other(alloc, Operator::Sub, "-"));
     assert!(rt; is_other(alloc, Operator::Mul, "*"));
     assert!(rt; is_other(alloc, Operator::Div, "/"));
+}
+
+#[test]
+fn finds_no_operator_of_another_text(rt: HostRuntime) {
+    assert!(rt; Operator::from_text("==").is_none());
+    assert!(rt; Operator::from_text("AND").is_none());
+    assert!(rt; Operator::from_text("").is_none());
 }
 
 #[test]
