@@ -88,8 +88,7 @@ struct KleeneValid<K: KleeneTable + Copy, L: TruthWords + Copy, R: TruthWords + 
 }
 
 impl<K: KleeneTable + Copy, L: TruthWords + Copy, R: TruthWords + Copy> BitWords
-    for KleeneValid<K, L, R>
-{
+    for KleeneValid<K, L, R> {
     ghost has_row = { λ s i. L.has_row s.left i × R.has_row s.right i };
 
     ghost row_bit = { λ s i. is_some (kleene K.operator (L.truth s.left i) (R.truth s.right i)) };

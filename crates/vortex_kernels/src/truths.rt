@@ -11,6 +11,7 @@ use vortex_columns::{BitBuffer, Column, ValidRows};
 /// A truth value or null in each row, told by two bits.
 pub(crate) trait TruthWords {
     type Values: BitWords + Copy;
+
     type Valid: BitWords + Copy;
 
     ghost has_row: { Self → ℕ → Type 0 };
@@ -34,6 +35,7 @@ pub(crate) struct Truths<V: BitWords + Copy, W: BitWords + Copy> {
 
 impl<V: BitWords + Copy, W: BitWords + Copy> TruthWords for Truths<V, W> {
     type Values = V;
+
     type Valid = W;
 
     ghost has_row = { λ t i. V.has_row t.values i × W.has_row t.valid i };

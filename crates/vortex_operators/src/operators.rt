@@ -271,7 +271,7 @@ impl CompareOperator {
 
 impl fmt::Display for CompareOperator {
     ghost use Rattle.std.specs.Prelude.{Some};
-        ghost use Rattle.vortex_operators.specs.Operators.{text_of, operator_of};
+    ghost use Rattle.vortex_operators.specs.Operators.{text_of, operator_of};
 
     ghost output = { λ operator. Some (text_of (operator_of operator)) };
 
