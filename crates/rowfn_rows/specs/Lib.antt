@@ -1,3 +1,5 @@
+pub mod BatchAnswers
 pub mod Endings
 pub mod Layouts
 pub mod Outputs
+pub mod Tops

@@ -1,5 +1,12 @@
 //! What a batch answers, up to the first row that ends the stream.
-ghost use Rattle.std.specs.Prelude.{◌≡◌, ◌<◌, ◌≤◌, ◌+◌, ◌-◌, ◌*◌, ◌^◌, length, take};
+ghost use Rattle.std.specs.Prelude.{◌≡◌, ◌<◌, ◌+◌, ◌*◌, length, map, take, slice_get, IfOk, IfErr};
+ghost use Rattle.std.specs.Prelude.{MatchResult};
+ghost use Rattle.rowfn_batches.specs.Fields.{field_in};
+ghost use Rattle.rowfn_batches.specs.Batches.{field_at};
+ghost use Rattle.rowfn_rows.specs.declared.errors.StreamError.TheVariants.{OutOfMemory};
+ghost use Rattle.rowfn_rows.specs.BatchAnswers.{IsNumber, TellsMisfit, TellsName, AreFirst};
+ghost use Rattle.rowfn_rows.specs.BatchAnswers.{AreAnswers, EndsAnswers, EndsBatch};
+ghost use Rattle.rowfn_rows.specs.BatchAnswers.{RefusesExecution, RefusesBatch};
 
 use crate::errors::StreamError;
 use rowfn_batches::{BatchError, Expression, execute_answers, first_fault, read_columns};
@@ -26,31 +33,37 @@ pub struct Task<'a> {
 
 /// The number of a row of a batch, counted from 1 over the whole input.
 pub fn row_number(rows_before: u64, row: usize) -> u64
-    ensures { rows_before + row < 2 ^ 64 - 1 → result ≡ rows_before + row + 1 }
+    ensures { IsNumber rows_before row result }
 {
     rows_before.saturating_add(row as u64).saturating_add(1)
 }
 
-/// Where fields of the first rows end that have so many each; at the end where there are fewer.
+/// The fields of the first rows that have so many each; all where there are fewer.
 fn first_rows<'f, 'b>(
     fields: &'f [Option<&'b [u8]>],
     width: usize,
     row_count: usize,
 ) -> &'f [Option<&'b [u8]>]
-    ensures { width * row_count ≤ length fields.now
-        → result.now ≡ take (width * row_count) fields.now }
+    ensures { result.now ≡ take (width * row_count) fields.now }
 {
-    let count = width.saturating_mul(row_count);
-    fields.get(..count).unwrap_or(fields)
+    match width.checked_mul(row_count) {
+        Some(count) if count < fields.len() => &fields[..count],
+        _ => fields,
+    }
 }
 
 impl Task<'_> {
-    /// The columns of the first rows, which are whole and none of which has a misfit.
+    /// The columns of the first rows, which are whole and none of which has a misfit. E9 else.
     fn columns(
         &self,
         fields: &[Option<&[u8]>],
         row_count: usize,
-    ) -> Result<Vec<Column>, StreamError> {
+    ) -> Result<Vec<Column>, StreamError>
+        ensures { MatchResult result
+            (λ columns. AreFirst self.now.expression.now (map field_in fields.now) row_count
+            columns.items)
+            (λ e. e ≡ OutOfMemory) }
+    {
         let declared = self.expression.columns.as_slice();
         let fields = first_rows(fields, declared.len(), row_count);
         match read_columns(self.alloc, declared, fields, row_count) {
@@ -59,21 +72,28 @@ impl Task<'_> {
         }
     }
 
-    /// What tells of a field that its column does not hold.
+    /// What tells of a field that its column does not hold. E9 alone.
     fn misfit(
         &self,
         fields: &[Option<&[u8]>],
         row: usize,
         column: usize,
-    ) -> Result<StreamError, StreamError> {
+    ) -> Result<StreamError, StreamError>
+        requires column { column < length self.now.expression.now.columns.items }
+        requires place { row * length self.now.expression.now.columns.items + column
+            < length fields.now }
+        ensures { let width = length self.now.expression.now.columns.items in
+            MatchResult result
+            (TellsMisfit self.now.rows_before row
+            (slice_get self.now.expression.now.columns.items column)
+            (field_at (map field_in fields.now) (row * width + column)))
+            (λ e. e ≡ OutOfMemory) }
+    {
         let columns = self.expression.columns.as_slice();
-        let Some(declared) = columns.get(column) else {
-            return Err(StreamError::OutOfMemory);
-        };
-        let place = row.saturating_mul(columns.len()).saturating_add(column);
-        let field = match fields.get(place) {
-            Some(Some(bytes)) => Some(bytes.to_vec(self.alloc)?),
-            _ => None,
+        let declared = &columns[column];
+        let field = match fields[row * columns.len() + column] {
+            Some(bytes) => Some(bytes.to_vec(self.alloc)?),
+            None => None,
         };
         Ok(StreamError::Misfit {
             row: row_number(self.rows_before, row),
@@ -84,12 +104,15 @@ impl Task<'_> {
         })
     }
 
-    /// What tells of a column whose texts are too long.
-    fn too_long(&self, column: usize) -> Result<Answered, StreamError> {
-        match self.expression.columns.as_slice().get(column) {
-            Some(declared) => Err(StreamError::TextsTooLong(declared.name.clone()?)),
-            None => Err(StreamError::OutOfMemory),
-        }
+    /// What tells of a column whose texts are too long. E9 alone.
+    fn too_long(&self, column: usize) -> Result<StreamError, StreamError>
+        requires { column < length self.now.expression.now.columns.items }
+        ensures { MatchResult result
+            (TellsName (slice_get self.now.expression.now.columns.items column))
+            (λ e. e ≡ OutOfMemory) }
+    {
+        let declared = &self.expression.columns.as_slice()[column];
+        Ok(StreamError::TextsTooLong(declared.name.clone()?))
     }
 
     /// What the first rows answer, which have neither a misfit nor a fault.
@@ -98,7 +121,13 @@ impl Task<'_> {
         fields: &[Option<&[u8]>],
         row_count: usize,
         error: Option<StreamError>,
-    ) -> Result<Answered, StreamError> {
+    ) -> Result<Answered, StreamError>
+        ensures rows { IfOk result (λ a. AreAnswers self.now.expression.now
+            (map field_in fields.now) a.row_count a.answers.items) }
+        ensures ends { IfOk result (λ a. (a.row_count ≡ row_count) × (a.error ≡ error)) }
+        ensures refused { IfErr result
+            (RefusesExecution self.now.expression.now (map field_in fields.now)) }
+    {
         let columns = self.columns(fields, row_count)?;
         match execute_answers(self.alloc, self.expression, &columns, row_count) {
             Ok(answers) => Ok(Answered {
@@ -117,7 +146,16 @@ impl Task<'_> {
         columns: &[Column],
         row_count: usize,
         error: Option<StreamError>,
-    ) -> Result<Answered, StreamError> {
+    ) -> Result<Answered, StreamError>
+        requires { AreFirst self.now.expression.now (map field_in fields.now) row_count
+            columns.now }
+        ensures rows { IfOk result (λ a. AreAnswers self.now.expression.now
+            (map field_in fields.now) a.row_count a.answers.items) }
+        ensures ends { IfOk result (λ a. EndsAnswers self.now.expression.now
+            (map field_in fields.now) self.now.rows_before row_count error a.row_count a.error) }
+        ensures refused { IfErr result
+            (RefusesExecution self.now.expression.now (map field_in fields.now)) }
+    {
         let refusal = match execute_answers(self.alloc, self.expression, columns, row_count) {
             Ok(answers) => {
                 return Ok(Answered {
@@ -141,13 +179,23 @@ impl Task<'_> {
     }
 
     /// What the rows of a batch answer: up to the first that has a misfit or a fault, or all of
-    /// them and the error behind the batch, if there is one. Refused where memory runs out.
+    /// them and the error behind the batch, if there is one.
+    ///
+    /// Refused where the texts of a column are too long for a batch, where a tree is refused
+    /// whatever the row, and where memory runs out.
     pub fn answer_batch(
         &self,
         fields: &[Option<&[u8]>],
         row_count: usize,
         error: Option<StreamError>,
-    ) -> Result<Answered, StreamError> {
+    ) -> Result<Answered, StreamError>
+        ensures rows { IfOk result (λ a. AreAnswers self.now.expression.now
+            (map field_in fields.now) a.row_count a.answers.items) }
+        ensures ends { IfOk result (λ a. EndsBatch self.now.expression.now
+            (map field_in fields.now) self.now.rows_before row_count error a.row_count a.error) }
+        ensures refused { IfErr result (RefusesBatch self.now.expression.now
+            (map field_in fields.now) self.now.rows_before row_count error) }
+    {
         let declared = self.expression.columns.as_slice();
         let whole = first_rows(fields, declared.len(), row_count);
         match read_columns(self.alloc, declared, whole, row_count) {
@@ -157,7 +205,7 @@ impl Task<'_> {
                 let columns = self.columns(fields, row)?;
                 self.answer_fitting(fields, &columns, row, Some(misfit))
             }
-            Err(BatchError::TextsTooLong { column }) => self.too_long(column),
+            Err(BatchError::TextsTooLong { column }) => Err(self.too_long(column)?),
             Err(BatchError::Uneven | BatchError::OutOfMemory) => Err(StreamError::OutOfMemory),
         }
     }

@@ -74,12 +74,22 @@ impl From<ExpressionError> for StreamError {
 }
 
 impl From<AllocError> for StreamError {
+    ghost use Rattle.rowfn_rows.specs.declared.errors.StreamError.TheVariants.{OutOfMemory};
+    ghost use Rattle.std.specs.Prelude.{◌≡◌};
+
+    ghost from_gives = { λ _ e. e ≡ OutOfMemory };
+
     fn from(_error: AllocError) -> StreamError {
         StreamError::OutOfMemory
     }
 }
 
 impl<T: Drop> From<AllocFailed<T>> for StreamError {
+    ghost use Rattle.rowfn_rows.specs.declared.errors.StreamError.TheVariants.{OutOfMemory};
+    ghost use Rattle.std.specs.Prelude.{◌≡◌};
+
+    ghost from_gives = { λ _ e. e ≡ OutOfMemory };
+
     fn from(_error: AllocFailed<T>) -> StreamError {
         StreamError::OutOfMemory
     }

@@ -1,4 +1,6 @@
 //! The stream: batches of rows, answered and written one behind the other.
+ghost use Rattle.std.specs.Prelude.{IfOk, IfErr};
+ghost use Rattle.rowfn_rows.specs.Tops.{IsTop, RefusesTop};
 
 use crate::answering::{Answered, Task, row_number};
 use crate::errors::StreamError;
@@ -43,11 +45,15 @@ struct Stream<'a, R> {
     summary: Summary,
 }
 
-/// The expression whose only answer is the last one. Refused where that is no truth value.
+/// The expression whose only answer is the last one, if it has any. Refused where that is no truth
+/// value, and where memory runs out.
 pub fn top_alone(
     alloc: Global,
     expression: Expression<NoCustom>,
-) -> Result<Expression<NoCustom>, StreamError> {
+) -> Result<Expression<NoCustom>, StreamError>
+    ensures { IfOk result (IsTop expression.entry) }
+    ensures { IfErr result (RefusesTop expression.entry) }
+{
     let Expression {
         columns,
         mut answers,

@@ -1,0 +1,111 @@
+-- What the rows of a batch answer, up to the first row that ends the stream, and what ends it there.
+use Rattle.std.specs.Prelude.{◌≡◌, ◌+◌, ◌*◌, ◌-◌, ◌^◌, ◌<◌, ◌⊎◌, ℕ, List, length, map, take, Option, Some}
+use Rattle.std.specs.Prelude.{None, slice_get, string_bytes, Vec, ⊤, Result, MatchResult}
+use Rattle.std.specs.declared.alloc.Global.{Global}
+use Rattle.vortex_errors.specs.declared.error.VortexError.{VortexError}
+use Rattle.vortex_errors.specs.Answers.{UnlessMemory}
+use Rattle.vortex_columns.specs.ColumnView.{ColumnView}
+use Rattle.vortex_interface.specs.declared.options.EmptyOptions.{EmptyOptions}
+use Rattle.vortex_meaning.specs.Trees.{Tree}
+use Rattle.vortex_meaning.specs.Execution.{Executes}
+use Rattle.vortex_functions.specs.Fixed.{fixed_meaning}
+use Rattle.vortex_functions.specs.Walks.{AllMean}
+use Rattle.vortex_functions.specs.declared.custom.NoCustom.{NoCustom}
+use Rattle.rowfn_batches.specs.declared.columns.Declared.{Declared}
+use Rattle.rowfn_batches.specs.declared.expression.Expression.{Expression}
+use Rattle.rowfn_batches.specs.Fields.{Field}
+use Rattle.rowfn_batches.specs.Batches.{field_at, AreEven, AreColumns, IsMisfit, IsTooLong}
+use Rattle.rowfn_batches.specs.Executing.{RefusesFirst, IsFirstFaultyRow}
+use Rattle.rowfn_rows.specs.declared.errors.StreamError.{StreamError}
+use Rattle.rowfn_rows.specs.declared.errors.StreamError.TheVariants as end
+
+-- the number of a row, counted from 1 behind the rows before the batch; it stays at the greatest
+abbrev pub IsNumber : ℕ → ℕ → ℕ → Type 0
+IsNumber before row number = before + row < 2 ^ 64 - 1 → number ≡ before + row + 1
+
+-- the bytes of a field, and none of a null field
+abbrev pub field_told : Option (Vec ℕ Global) → Field
+field_told None = None
+field_told (Some bytes) = Some bytes.items
+
+module _ (before : ℕ) (row : ℕ) where
+  -- the field of that row that its column does not hold, with the column's name and type
+  abbrev pub TellsMisfit : Option Declared → Field → StreamError → Type 0
+  TellsMisfit (Some d) f (end.Misfit number column kind nullability field) =
+      IsNumber before row number × (string_bytes column ≡ string_bytes d.name) × (kind ≡ d.kind)
+      × (nullability ≡ d.nullability) × (field_told field ≡ f)
+  TellsMisfit d f e = ⊥
+
+  -- the fault of that row
+  abbrev pub TellsFault : VortexError → StreamError → Type 0
+  TellsFault fault (end.Fault number told) = IsNumber before row number × (told ≡ fault)
+  TellsFault fault e = ⊥
+
+-- a column whose texts are too long, by its name
+abbrev pub TellsName : Option Declared → StreamError → Type 0
+TellsName (Some d) (end.TextsTooLong name) = string_bytes name ≡ string_bytes d.name
+TellsName d e = ⊥
+
+abbrev pub trees_of : Expression NoCustom → List (Tree NoCustom EmptyOptions)
+trees_of x = map (λ a. a.tree) x.answers.items
+
+module _ (x : Expression NoCustom) (fs : List Field) where
+  -- the fields of the first n rows
+  abbrev pub first_fields : ℕ → List Field
+  first_fields n = take (length x.columns.items * n) fs
+
+  -- the columns of the first n rows
+  pub record AreFirst (n : ℕ) (cs : List ColumnView) : Type 0 where
+    pub even : AreEven x.columns.items (first_fields n) n
+    pub said : AreColumns x.columns.items (first_fields n) n (length x.columns.items) cs
+
+  -- each answer has the values of its tree in the first n rows
+  pub record AreAnswers (n : ℕ) (answers : List ColumnView) : Type 0 where
+    pub columns : List ColumnView
+    pub first : AreFirst n columns
+    pub mean : AllMean (Executes fixed_meaning columns n) (trees_of x) answers
+
+  -- of so many rows whose fields fit all are answered, and what ends them does; or those before the
+  -- first that faults, which is told
+  pub data EndsAnswers (before fit : ℕ) (other : Option StreamError) (n : ℕ)
+      (e : Option StreamError) : Type 0 where
+    with_them : n ≡ fit → e ≡ other → EndsAnswers before fit other n e
+    at_fault : (columns : List ColumnView) (fault : VortexError) (told : StreamError)
+        → e ≡ Some told → AreFirst fit columns
+        → IsFirstFaultyRow fixed_meaning columns fit (trees_of x) n fault → TellsFault before n fault told
+        → EndsAnswers before fit other n e
+
+  -- a tree is refused over the columns of the first rows
+  abbrev pub RefusesTrees : VortexError → Type 0
+  RefusesTrees = UnlessMemory
+      (λ e. (n : ℕ) × (columns : List ColumnView) × AreFirst n columns
+      × RefusesFirst fixed_meaning columns n (trees_of x) e)
+
+  -- a tree is refused over the columns of first rows, or memory ran out
+  abbrev pub RefusesExecution : StreamError → Type 0
+  RefusesExecution (end.Refused e) = RefusesTrees e
+  RefusesExecution end.OutOfMemory = ⊤
+  RefusesExecution e = ⊥
+
+  module _ (before : ℕ) (count : ℕ) (behind : Option StreamError) where
+    -- so many rows have fields that fit: all of them, and the error behind the batch ends it; or
+    -- those before the first misfit, which is told
+    pub data EndsFitting (n : ℕ) (e : Option StreamError) : Type 0 where
+      with_batch : n ≡ count → e ≡ behind → EndsFitting n e
+      at_misfit : (column : ℕ) (told : StreamError) → e ≡ Some told
+          → IsMisfit x.columns.items (first_fields count) n column
+          → TellsMisfit before n (slice_get x.columns.items column) (field_at fs (n * length x.columns.items + column)) told
+          → EndsFitting n e
+
+    -- the rows of the answers, and what ends them there
+    abbrev pub EndsBatch : ℕ → Option StreamError → Type 0
+    EndsBatch n e =
+        (fit : ℕ) × (other : Option StreamError) × EndsFitting fit other
+        × EndsAnswers before fit other n e
+
+    -- why nothing is answered: the texts of a column are too long, a tree is refused, or memory ran
+    -- out
+    pub data RefusesBatch (e : StreamError) : Type 0 where
+      too_long : (column : ℕ) → IsTooLong x.columns.items (first_fields count) count column
+          → TellsName (slice_get x.columns.items column) e → RefusesBatch e
+      refused : RefusesExecution e → RefusesBatch e
