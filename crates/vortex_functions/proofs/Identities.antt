@@ -1,11 +1,11 @@
 -- Identities and options tell functions.
-use Rattle.std.proofs.Common.{◌≡◌, ℕ, List, Bool, ap, sym}
+use Rattle.std.proofs.Common.{◌≡◌, Bool, ap, sym}
 use Rattle.std.proofs.lemmas.Slice.Eq.{bytes_eq-Decides}
 use Rattle.vortex_meaning.specs.Meaning.{Meaning}
 use Rattle.vortex_meaning.specs.Shipped as shipped
 use Rattle.vortex_meaning.specs.Shipped.{Shipped, shipped_id}
-use Rattle.vortex_meaning.specs.Functions.{Function, ours, custom, function_id}
-use Rattle.vortex_functions.specs.SameFunctions.{AreSame, held_by, HoldAlike, IsNeverShipped}
+use Rattle.vortex_meaning.specs.Functions.{ours, custom}
+use Rattle.vortex_functions.specs.SameFunctions.{held_by}
 use Rattle.vortex_functions.specs.SameFunctions.{SameByIdentityAndOptions}
 
 -- by the bytes of the identities, where two functions differ and hold the same
@@ -13,6 +13,7 @@ told : (s t : Shipped) → shipped_id s ≡ shipped_id t → held_by s ≡ held_
 told (shipped.Binary o) (shipped.Binary p) i h = cc
 told (shipped.Between o) (shipped.Between p) i h = cc
 told (shipped.Like o) (shipped.Like p) i h = cc
+told s (shipped.Binary p) i h = cc
 told s t i h = let same = (bytes_eq-Decides (shipped_id s) (shipped_id t)).1 i in cc
 
 pub told_by : {V O : Type 0} (m : Meaning V O) (E : O → O → Bool) → SameByIdentityAndOptions m E
