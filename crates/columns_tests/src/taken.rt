@@ -140,12 +140,20 @@ fn people(alloc: Global, ages: &[i32], words: &[&str]) -> Made {
     )
 }
 
+fn three(alloc: Global) -> Made {
+    let values = Vec::from_array(alloc, [5, 6, 7])?;
+    kept(
+        alloc,
+        Column::try_primitive(alloc, values, Validity::NonNullable),
+    )
+}
+
 /// One map for each offset and size, of integers to themselves.
 fn identities(alloc: Global, offsets: &[usize], sizes: &[usize]) -> Made {
-    let values = [5, 6, 7].to_vec(alloc)?;
-    let keys = Column::try_primitive(alloc, values, Validity::NonNullable)?;
-    let values = keys.try_clone(alloc)?;
-    let (offsets, sizes) = (offsets.to_vec(alloc)?, sizes.to_vec(alloc)?);
+    let offsets = offsets.to_vec(alloc)?;
+    let sizes = sizes.to_vec(alloc)?;
+    let keys = Box::into_inner(three(alloc)?);
+    let values = Box::into_inner(three(alloc)?);
     kept(
         alloc,
         Column::try_map(alloc, keys, values, offsets, sizes, Validity::NonNullable),

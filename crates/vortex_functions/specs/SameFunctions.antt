@@ -4,8 +4,7 @@ use Rattle.vortex_operators.specs.declared.operators.Operator.{Operator}
 use Rattle.vortex_operators.specs.declared.between.BetweenOptions.{BetweenOptions}
 use Rattle.vortex_like.specs.declared.options.LikeOptions.{LikeOptions}
 use Rattle.vortex_meaning.specs.Meaning.{Meaning}
-use Rattle.vortex_meaning.specs.Shipped.{Shipped, Binary, Not, IsNull, IsNotNull, Cast, Between}
-use Rattle.vortex_meaning.specs.Shipped.{Like, shipped_id}
+use Rattle.vortex_meaning.specs.Shipped.{Shipped, Binary, Cast, Between, Like, shipped_id}
 use Rattle.vortex_meaning.specs.Functions.{Function, ours, custom, function_id}
 
 -- one shipped function with the same options; or two of a caller's of one identity, whose options
@@ -26,12 +25,10 @@ pub data Held : Type 0 where
 
 abbrev pub held_by : Shipped → Held
 held_by (Binary o) = operator o
-held_by Not = nothing
-held_by IsNull = nothing
-held_by IsNotNull = nothing
 held_by Cast = cast
 held_by (Between o) = bounds o
 held_by (Like o) = like o
+held_by f = nothing
 
 -- equal options, a caller's by the equality E of their own; those of a shipped function beside a
 -- caller's count as equal, so that their identities alone tell the two

@@ -13,11 +13,11 @@ use crate::typed::TypedScalarFnInstance;
 use std::alloc::Global;
 use vortex_columns::{Arity, Column, DType, ExecutionCtx, VortexResult};
 use vortex_interface::{
-    ChildName, EmptyOptions, ExecutionArgs, ScalarFnId, ScalarFnVTable, TextPiece, TextPieces,
+    ChildName, ExecutionArgs, ScalarFnId, ScalarFnVTable, TextPiece, TextPieces,
 };
 use vortex_kernels::{BetweenOptions, Operator};
 use vortex_like::LikeOptions;
-use vortex_shipped::{Between, Binary, Cast, CastOptions, IsNotNull, IsNull, Like, Not};
+use vortex_shipped::{Between, Binary, Cast, IsNotNull, IsNull, Like, Not};
 
 /// The list of the functions, each with its interface and its options; of a caller's function the
 /// last expression.
@@ -25,37 +25,37 @@ macro_rules! with_shipped {
     ($function:expr, $f:ident, $options:ident => $body:expr, $custom:ident => $else:expr) => {
         match $function {
             ScalarFnRef::Binary(operator) => {
-                let $f = &Binary;
+                let $f = &vortex_shipped::Binary;
                 let $options = operator;
                 $body
             }
             ScalarFnRef::Not => {
-                let $f = &Not;
-                let $options = &EmptyOptions;
+                let $f = &vortex_shipped::Not;
+                let $options = &vortex_interface::EmptyOptions;
                 $body
             }
             ScalarFnRef::IsNull => {
-                let $f = &IsNull;
-                let $options = &EmptyOptions;
+                let $f = &vortex_shipped::IsNull;
+                let $options = &vortex_interface::EmptyOptions;
                 $body
             }
             ScalarFnRef::IsNotNull => {
-                let $f = &IsNotNull;
-                let $options = &EmptyOptions;
+                let $f = &vortex_shipped::IsNotNull;
+                let $options = &vortex_interface::EmptyOptions;
                 $body
             }
             ScalarFnRef::Cast => {
-                let $f = &Cast;
-                let $options = &CastOptions;
+                let $f = &vortex_shipped::Cast;
+                let $options = &vortex_shipped::CastOptions;
                 $body
             }
             ScalarFnRef::Between(between_options) => {
-                let $f = &Between;
+                let $f = &vortex_shipped::Between;
                 let $options = between_options;
                 $body
             }
             ScalarFnRef::Like(like) => {
-                let $f = &Like;
+                let $f = &vortex_shipped::Like;
                 let $options = like;
                 $body
             }

@@ -9,8 +9,7 @@ use std::alloc::Global;
 use std::fmt;
 use std::hash::{Hash, Hasher};
 use vortex_columns::VortexResult;
-use vortex_interface::{EmptyOptions, ScalarFnVTable};
-use vortex_shipped::{Between, Binary, Cast, CastOptions, IsNotNull, IsNull, Like, Not};
+use vortex_interface::ScalarFnVTable;
 
 /// One identity, and options that are equal by their own equality.
 impl<V: ScalarFnVTable> PartialEq for TypedScalarFnInstance<V> {

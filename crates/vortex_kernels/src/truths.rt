@@ -114,8 +114,8 @@ impl<'a> Operand<'a> {
         ensures { result ≡ false → AreTruths self.now }
     {
         match self {
-            Operand::Aligned(_) => false,
-            Operand::Shifted(_) => false,
+            Operand::Aligned(truths) => !truths.valid.bit,
+            Operand::Shifted(truths) => !truths.valid.bit,
             Operand::One(truths) => !truths.valid.bit,
             _ => true,
         }

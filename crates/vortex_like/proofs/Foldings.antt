@@ -1,14 +1,17 @@
 -- A text beside a literal part past case: equal foldings are what the tokens ask.
-use Rattle.std.proofs.Common.{◌≡◌, ℕ, ◌+◌, ◌-◌, ◌<◌, ◌≤◌, Bool, true, false, List, [], ◌∷◌, ◌++◌}
+use Rattle.std.proofs.Common.{◌≡◌, ℕ, suc, ◌+◌, ◌-◌, ◌<◌, ◌≤◌, true, false, List, [], ◌∷◌, ◌++◌}
 use Rattle.std.proofs.Common.{map, length, take}
 use Rattle.std.proofs.Common.{drop, refl, sym, ap, subst, ◌∙◌, arith, length-append, eq-eqb}
-use Rattle.std.specs.Prelude.{◌↔◌, IsTrue}
+use Rattle.std.specs.Prelude.{◌↔◌, IsTrue, ◌%◌}
 use Rattle.std.specs.Str.{chars, IsAscii}
-use Rattle.std.proofs.lemmas.Bool.{eqb-true}
+use Rattle.std.proofs.lemmas.Bool.{eqb-true, false_from_ne_true}
 use Rattle.std.proofs.lemmas.List.{append-nil, take-append-drop, take_at, drop_at, length-map}
+use Rattle.std.proofs.lemmas.Slice.Eq.{bytes_eq-Decides}
 use Rattle.std.proofs.lemmas.Str.{chars-IsAscii, IsAscii-take, IsAscii-drop}
 use Rattle.unicode.specs.CaseFolding.{simple_fold}
 use Rattle.vortex_like.specs.AsciiFolds.{folded}
+use Rattle.vortex_like.specs.ByteTests.{folded_bytes, folds_alike, front_folds_alike}
+use Rattle.vortex_like.specs.ByteTests.{end_folds_alike}
 use Rattle.vortex_like.specs.Tokens.{Token, any, character, Match, is_match}
 use Rattle.vortex_like.specs.Shapes.{whole_tokens, front_tokens, end_tokens}
 use Rattle.vortex_like.proofs.Testing.{answer_is}
@@ -120,61 +123,68 @@ end_alone literal text front after e f =
           ∙ f,
     )
 
--- what a test by foldings answers to an ASCII text
+-- bytes that are too few
+pub too_short : (literal bytes : List ℕ) → length bytes < length literal
+    → folds_alike literal bytes ≡ false
+too_short literal bytes lt =
+    false_from_ne_true (folds_alike literal bytes)
+    (λ e.
+    let same = (bytes_eq-Decides (folded_bytes bytes) (folded literal)).0 e in
+    omega (
+      arith,
+      ap (λ (cs : List ℕ). length cs) same,
+      length-map bytes (λ b. simple_fold (b % 128)),
+      length-map literal simple_fold,
+    ))
+
+-- ASCII bytes are folded as themselves
+ascii_folded : (bytes : List ℕ) → IsAscii bytes → folded_bytes bytes ≡ folded bytes
+ascii_folded [] ascii = refl
+ascii_folded (b ∷ bytes) ascii =
+    let own : b % 128 ≡ b = omega (arith, ascii 0) in
+    ap (λ (c : ℕ). simple_fold c ∷ folded_bytes bytes) own
+    ∙ ap (λ (cs : List ℕ). simple_fold b ∷ cs) (ascii_folded bytes (λ i. ascii (suc i)))
+
+alike_told : (literal bytes : List ℕ) → IsAscii bytes
+    → IsTrue (folds_alike literal bytes) ↔ (folded bytes ≡ folded literal)
+alike_told literal bytes ascii =
+    let same = ascii_folded bytes ascii in
+    let decides = bytes_eq-Decides (folded_bytes bytes) (folded literal) in
+    (λ is. sym same ∙ decides.0 is, λ e. decides.1 (same ∙ e))
+
+-- what a test by foldings says of an ASCII text
 module _ (literal bytes : List ℕ) (ascii : IsAscii bytes) where
   text_is : chars bytes ≡ bytes
   text_is = chars-IsAscii bytes ascii
 
-  pub folded_whole : (b : Bool) → IsTrue b ↔ (folded bytes ≡ folded literal)
-      → b ≡ is_match true (whole_tokens literal) (chars bytes)
-  folded_whole b h =
+  pub folded_whole : folds_alike literal bytes
+      ≡ is_match true (whole_tokens literal) (chars bytes)
+  folded_whole =
+      let told = alike_told literal bytes ascii in
       let match = whole_folds literal bytes in
-      answer_is true b (whole_tokens literal) bytes
-      (λ is. match.0 (h.0 is), λ m. h.1 (match.1 m))
+      answer_is true (folds_alike literal bytes) (whole_tokens literal) bytes
+      (λ is. match.0 (told.0 is), λ m. told.1 (match.1 m))
       ∙ ap (λ (cs : List ℕ). is_match true (whole_tokens literal) cs) (sym text_is)
 
-  pub folded_front : (b : Bool) (part : List ℕ) → part ≡ take (length literal) bytes
-      → (IsAscii part → IsTrue b ↔ (folded part ≡ folded literal))
-      → b ≡ is_match true (front_tokens literal) (chars bytes)
-  folded_front b part e h =
+  pub folded_front : front_folds_alike literal bytes
+      ≡ is_match true (front_tokens literal) (chars bytes)
+  folded_front =
       let told =
-      h (subst IsAscii (sym e) (IsAscii-take bytes (length literal) ascii)) in
-      answer_is true b (front_tokens literal) bytes (
-        λ is. front_folds literal bytes (ap folded (sym e) ∙ told.0 is),
-        λ m. told.1 (ap folded e ∙ (folds_front literal bytes m).1),
+      alike_told literal (take (length literal) bytes) (IsAscii-take bytes (length literal) ascii)
+      in
+      answer_is true (front_folds_alike literal bytes) (front_tokens literal) bytes (
+        λ is. front_folds literal bytes (told.0 is),
+        λ m. told.1 (folds_front literal bytes m).1,
       )
       ∙ ap (λ (cs : List ℕ). is_match true (front_tokens literal) cs) (sym text_is)
 
-  pub folded_end : (b : Bool) (part : List ℕ)
-      → part ≡ drop (length bytes - length literal) bytes
-      → (IsAscii part → IsTrue b ↔ (folded part ≡ folded literal))
-      → b ≡ is_match true (end_tokens literal) (chars bytes)
-  folded_end b part e h =
-      let told =
-      h (subst IsAscii (sym e) (IsAscii-drop bytes (length bytes - length literal) ascii)) in
-      answer_is true b (end_tokens literal) bytes (
-        λ is. end_folds literal bytes (ap folded (sym e) ∙ told.0 is),
-        λ m. told.1 (ap folded e
-            ∙ (end_alone literal bytes m.0 m.1 m.2 ((whole_folds literal m.1).1 m.3)).1),
-      )
-      ∙ ap (λ (cs : List ℕ). is_match true (end_tokens literal) cs) (sym text_is)
-
-  -- a text that is too short
-  pub short_front : length bytes < length literal
-      → false ≡ is_match true (front_tokens literal) (chars bytes)
-  short_front lt =
-      answer_is true false (front_tokens literal) bytes
-      (λ is. cc, λ m. absurd (omega (arith, (folds_front literal bytes m).0)))
-      ∙ ap (λ (cs : List ℕ). is_match true (front_tokens literal) cs) (sym text_is)
-
-  pub short_end : length bytes < length literal
-      → false ≡ is_match true (end_tokens literal) (chars bytes)
-  short_end lt =
-      answer_is true false (end_tokens literal) bytes (
-        λ is. cc,
-        λ m. absurd (omega (
-          arith,
-          (end_alone literal bytes m.0 m.1 m.2 ((whole_folds literal m.1).1 m.3)).0,
-        )),
+  pub folded_end : end_folds_alike literal bytes
+      ≡ is_match true (end_tokens literal) (chars bytes)
+  folded_end =
+      let from = length bytes - length literal in
+      let told = alike_told literal (drop from bytes) (IsAscii-drop bytes from ascii) in
+      answer_is true (end_folds_alike literal bytes) (end_tokens literal) bytes (
+        λ is. end_folds literal bytes (told.0 is),
+        λ m. told.1 (end_alone literal bytes m.0 m.1 m.2 ((whole_folds literal m.1).1 m.3)).1,
       )
       ∙ ap (λ (cs : List ℕ). is_match true (end_tokens literal) cs) (sym text_is)

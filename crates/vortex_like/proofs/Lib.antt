@@ -9,5 +9,7 @@ pub mod Forming
 pub mod Literals
 pub mod LiteralAnswers
 pub mod Foldings
+pub mod FormAnswers
 pub mod AsciiPatterns
 pub mod EachRow
+pub mod SaidRows

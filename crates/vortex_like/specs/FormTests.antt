@@ -1,7 +1,10 @@
 -- What is seen of the test that a pattern is compiled to.
-use Rattle.std.specs.Prelude.{◌≡◌, ℕ, Bool, true, false, List, string_bytes, Option}
-use Rattle.std.specs.Str.{chars}
-use Rattle.vortex_like.specs.Tokens.{Token, tokens_of}
+use Rattle.std.specs.Prelude.{◌≡◌, ℕ, Bool, true, false, List, string_bytes, Option, nat_eq}
+use Rattle.std.specs.List.{starts_with, ends_with}
+use Rattle.std.specs.Str.{chars, bytes_eq}
+use Rattle.vortex_like.specs.ByteTests.{holds_inside, folds_alike, front_folds_alike}
+use Rattle.vortex_like.specs.ByteTests.{end_folds_alike}
+use Rattle.vortex_like.specs.Tokens.{Token, tokens_of, is_match}
 use Rattle.vortex_like.specs.Shapes.{whole_tokens, front_tokens, end_tokens, inside_tokens}
 use Rattle.vortex_like.specs.declared.form.LikeForm.{LikeForm}
 use Rattle.vortex_like.specs.declared.form.LikeForm.TheVariants as form
@@ -26,7 +29,7 @@ abbrev pub test_tokens : FormTest → List Token
 test_tokens (Eq t) = whole_tokens (chars (string_bytes t.literal))
 test_tokens (StartsWith t) = front_tokens (chars (string_bytes t.literal))
 test_tokens (EndsWith t) = end_tokens (chars (string_bytes t.literal))
-test_tokens (Contains t) = inside_tokens (chars t)
+test_tokens (Contains t) = inside_tokens (chars t.finder)
 test_tokens (IEqAscii t) = whole_tokens t.text
 test_tokens (IStartsWithAscii t) = front_tokens t.text
 test_tokens (IEndsWithAscii t) = end_tokens t.text
@@ -39,6 +42,17 @@ test_folds (IStartsWithAscii t) = true
 test_folds (IEndsWithAscii t) = true
 test_folds (Tokens t) = t.case_insensitive
 test_folds t = false
+
+-- what it says of bytes that it may read, be they a text or not
+abbrev pub form_said : FormTest → List ℕ → Bool
+form_said (Eq t) bytes = bytes_eq (string_bytes t.literal) bytes
+form_said (StartsWith t) bytes = starts_with nat_eq bytes (string_bytes t.literal)
+form_said (EndsWith t) bytes = ends_with nat_eq bytes (string_bytes t.literal)
+form_said (Contains t) bytes = holds_inside t.finder bytes
+form_said (IEqAscii t) bytes = folds_alike t.text bytes
+form_said (IStartsWithAscii t) bytes = front_folds_alike t.text bytes
+form_said (IEndsWithAscii t) bytes = end_folds_alike t.text bytes
+form_said (Tokens t) bytes = is_match t.case_insensitive t.tokens.items (chars bytes)
 
 -- the forms that are for ASCII texts alone
 abbrev pub is_ascii_form : LikeForm → Bool

@@ -12,6 +12,7 @@ pub mod Cuts
 pub mod Forms
 pub mod Shapes
 pub mod AsciiFolds
+pub mod ByteTests
 pub mod FormTests
 pub mod TextRows
 pub mod EachPattern

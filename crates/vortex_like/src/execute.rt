@@ -8,9 +8,9 @@ ghost use Rattle.std.specs.Str.{chars};
 use crate::each_pattern::{SideBySide, each_bits};
 use crate::options::LikeOptions;
 use crate::pattern::LikePattern;
-use crate::row_bits::{SameBit, collect_bits};
 use crate::texts::{OneText, TextColumn, Texts, text_column};
 use std::alloc::Global;
+use vortex_bits::{SameBit, collect_words};
 use vortex_columns::{BitBuffer, Column, ExecutionCtx, Scalar, VortexResult, both_valid};
 
 /// What LIKE says of a text and a pattern that is compiled for it alone.
@@ -131,10 +131,10 @@ fn like_bits(
         }
         (TextColumn::One(text), TextColumn::One(chars)) => {
             let bit = like_once(alloc, text, chars, options)?;
-            collect_bits(alloc, &SameBit { bit }, input.len())
+            collect_words(alloc, &SameBit { bit }, input.len())
         }
-        (TextColumn::Null, _) => collect_bits(alloc, &SameBit { bit: false }, input.len()),
-        (_, TextColumn::Null) => collect_bits(alloc, &SameBit { bit: false }, input.len()),
+        (TextColumn::Null, _) => collect_words(alloc, &SameBit { bit: false }, input.len()),
+        (_, TextColumn::Null) => collect_words(alloc, &SameBit { bit: false }, input.len()),
     }
 }
 

@@ -1,8 +1,9 @@
 //! Tests of ASCII texts past case, by their bytes, one for each form with folding.
-ghost use Rattle.std.specs.Prelude.{◌≡◌, ◌↔◌, ℕ, List, true, IsTrue, length, string_bytes};
-ghost use Rattle.std.specs.Str.{chars, IsAscii};
-ghost use Rattle.vortex_like.specs.Words.{AnswersUnlessMemory, AreAsciiFolds, folded, is_match};
-ghost use Rattle.vortex_like.specs.Words.{whole_tokens, front_tokens, end_tokens};
+ghost use Rattle.std.specs.Prelude.{◌≡◌, ◌↔◌, ℕ, List, IsTrue, length, string_bytes};
+ghost use Rattle.std.specs.Str.{chars};
+ghost use Rattle.vortex_like.specs.Words.{AnswersUnlessMemory, AreAsciiFolds, folded};
+ghost use Rattle.vortex_like.specs.Words.{folded_bytes, folds_alike, front_folds_alike};
+ghost use Rattle.vortex_like.specs.Words.{end_folds_alike};
 
 use crate::characters::split_first;
 use crate::text_tests::TextTest;
@@ -39,7 +40,7 @@ fn folded_characters(alloc: Global, text: &str) -> VortexResult<Vec<char>>
 /// so that none is refused.
 fn fold_to(folds: &[char], bytes: &[u8], own: &[char]) -> bool
     requires { AreAsciiFolds folds.now }
-    ensures { IsAscii bytes.now → IsTrue result ↔ (folded bytes.now ≡ own.now) }
+    ensures { IsTrue result ↔ (folded_bytes bytes.now ≡ own.now) }
 {
     if bytes.len() != own.len() {
         return false;
@@ -90,9 +91,9 @@ impl FoldedText {
         self.own.len()
     }
 
-    /// Whether an ASCII text has the same foldings.
+    /// Whether bytes have the same foldings.
     fn equals(&self, bytes: &[u8]) -> bool
-        ensures { IsAscii bytes.now → IsTrue result ↔ (folded bytes.now ≡ folded self.now) }
+        ensures { result ≡ folds_alike self.now bytes.now }
     {
         fold_to(self.folds.as_slice(), bytes, self.own.as_slice())
     }
@@ -107,9 +108,7 @@ pub(crate) struct FoldedWholeTest {
 impl TextTest for FoldedWholeTest {
     ghost can_read = { λ t bytes. Unit {0} };
 
-    ghost tells_of = { λ t bytes. IsAscii bytes };
-
-    ghost answer = { λ t bytes. is_match true (whole_tokens t.text) (chars bytes) };
+    ghost said = { λ t bytes. folds_alike t.text bytes };
 
     fn passes(&self, haystack: &[u8]) -> bool {
         self.text.equals(haystack)
@@ -125,9 +124,7 @@ pub(crate) struct FoldedFrontTest {
 impl TextTest for FoldedFrontTest {
     ghost can_read = { λ t bytes. Unit {0} };
 
-    ghost tells_of = { λ t bytes. IsAscii bytes };
-
-    ghost answer = { λ t bytes. is_match true (front_tokens t.text) (chars bytes) };
+    ghost said = { λ t bytes. front_folds_alike t.text bytes };
 
     fn passes(&self, haystack: &[u8]) -> bool {
         let len = self.text.len();
@@ -147,9 +144,7 @@ pub(crate) struct FoldedEndTest {
 impl TextTest for FoldedEndTest {
     ghost can_read = { λ t bytes. Unit {0} };
 
-    ghost tells_of = { λ t bytes. IsAscii bytes };
-
-    ghost answer = { λ t bytes. is_match true (end_tokens t.text) (chars bytes) };
+    ghost said = { λ t bytes. end_folds_alike t.text bytes };
 
     fn passes(&self, haystack: &[u8]) -> bool {
         let len = self.text.len();

@@ -3,7 +3,7 @@ ghost use Rattle.std.specs.Prelude.{◌≡◌, ◌≢◌, ◌+◌, ◌*◌, ◌�
 ghost use Rattle.std.specs.Str.{chars, IsAscii};
 ghost use Rattle.vortex_like.specs.Words.{AnswersUnlessMemory, is_match, asked, form_of};
 ghost use Rattle.vortex_like.specs.Words.{plain_form, folded_form, test_form, test_tokens};
-ghost use Rattle.vortex_like.specs.Words.{test_folds, is_ascii_form, IsTestOf};
+ghost use Rattle.vortex_like.specs.Words.{test_folds, is_ascii_form, form_said, IsTestOf};
 
 use crate::folded_tests::{FoldedEndTest, FoldedFrontTest, FoldedText, FoldedWholeTest};
 use crate::form::{LikeForm, Shape, shape_of};
@@ -130,12 +130,10 @@ impl FormTest {
         }
     }
 
-    /// Whether a text passes.
-    pub(crate) fn passes(&self, haystack: &[u8]) -> bool
-        requires utf8 { IsUtf8 haystack.now }
-        requires ascii { is_ascii_form (test_form self.now) ≡ true → IsAscii haystack.now }
-        ensures { result
-            ≡ is_match (test_folds self.now) (test_tokens self.now) (chars haystack.now) }
+    /// What the test says of a text, by its bytes.
+    fn says(&self, haystack: &[u8]) -> bool
+        requires { IsUtf8 haystack.now }
+        ensures { result ≡ form_said self.now haystack.now }
     {
         match self {
             FormTest::Eq(test) => test.passes(haystack),
@@ -147,6 +145,17 @@ impl FormTest {
             FormTest::IEndsWithAscii(test) => test.passes(haystack),
             FormTest::Tokens(test) => test.passes(haystack),
         }
+    }
+
+    /// Whether a text passes.
+    #[tactic(auto, using(crate::proofs::FormAnswers::form_answer))]
+    pub(crate) fn passes(&self, haystack: &[u8]) -> bool
+        requires utf8 { IsUtf8 haystack.now }
+        requires ascii { is_ascii_form (test_form self.now) ≡ true → IsAscii haystack.now }
+        ensures { result
+            ≡ is_match (test_folds self.now) (test_tokens self.now) (chars haystack.now) }
+    {
+        self.says(haystack)
     }
 
     /// The same, and how often a token was compared with a character.

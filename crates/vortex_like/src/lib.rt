@@ -14,7 +14,6 @@ mod matching;
 pub mod option_bytes;
 pub mod options;
 pub mod pattern;
-mod row_bits;
 mod text_tests;
 mod texts;
 mod token;

@@ -32,9 +32,7 @@ impl TokenTest {
 impl TextTest for TokenTest {
     ghost can_read = { λ t bytes. IsUtf8 bytes };
 
-    ghost tells_of = { λ t bytes. IsUtf8 bytes };
-
-    ghost answer = { λ t bytes. is_match t.case_insensitive t.tokens.items (chars bytes) };
+    ghost said = { λ t bytes. is_match t.case_insensitive t.tokens.items (chars bytes) };
 
     fn passes(&self, haystack: &[u8]) -> bool {
         let (found, _) = self.passes_counted(haystack);

@@ -6,8 +6,7 @@ use Rattle.vortex_operators.specs.declared.operators.Operator.TheVariants.{Eq, N
 use Rattle.vortex_operators.specs.declared.operators.Operator.TheVariants.{Lte, And, Or, Add, Sub}
 use Rattle.vortex_operators.specs.declared.operators.Operator.TheVariants.{Mul, Div}
 use Rattle.vortex_meaning.specs.Meaning.{Meaning, Lawful}
-use Rattle.vortex_meaning.specs.Shipped.{Shipped, Binary, Not, IsNull, IsNotNull, Cast, Between}
-use Rattle.vortex_meaning.specs.Shipped.{Like}
+use Rattle.vortex_meaning.specs.Shipped.{Shipped, Binary}
 use Rattle.vortex_meaning.specs.Functions.{ours, custom}
 use Rattle.vortex_meaning.specs.Trees.{Tree, leaf, constant, call, Trees, no_trees, tree}
 use Rattle.vortex_meaning.specs.ComparisonTrees.{operated}
@@ -86,12 +85,7 @@ module _ {V O : Type 0} (m : Meaning V O) where
   shipped_less (Binary op) (tree x no_trees) u s e = cc
   shipped_less (Binary op) (tree x (tree y no_trees)) u s e = operator_less op x y u s.0 s.1.0 e
   shipped_less (Binary op) (tree x (tree y (tree z ts))) u s e = cc
-  shipped_less Not ts u s e = cc
-  shipped_less IsNull ts u s e = cc
-  shipped_less IsNotNull ts u s e = cc
-  shipped_less Cast ts u s e = cc
-  shipped_less (Between options) ts u s e = cc
-  shipped_less (Like options) ts u s e = cc
+  shipped_less f ts u s e = cc
 
   module _ (r : Rules V O) where
     simplified_less : (t u : Tree V O) → OnlyShipped t → simplify m r t ≡ Some u → IsLess m t u

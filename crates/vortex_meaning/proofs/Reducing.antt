@@ -12,8 +12,7 @@ use Rattle.vortex_operators.specs.OperatorValues.{boolean_value}
 use Rattle.vortex_operators.specs.Kleene.{kleene}
 use Rattle.vortex_meaning.specs.Outcomes.{gives}
 use Rattle.vortex_meaning.specs.Meaning.{Meaning, Lawful}
-use Rattle.vortex_meaning.specs.Shipped.{Shipped, Binary, Not, IsNull, IsNotNull, Cast, Between}
-use Rattle.vortex_meaning.specs.Shipped.{Like}
+use Rattle.vortex_meaning.specs.Shipped.{Shipped, Binary, IsNull, IsNotNull}
 use Rattle.vortex_meaning.specs.Functions.{ours, custom}
 use Rattle.vortex_meaning.specs.Trees.{Tree, leaf, constant, call, Trees, no_trees, tree}
 use Rattle.vortex_meaning.specs.Eval.{tree_type}
@@ -167,10 +166,7 @@ module _ {V O : Type 0} (m : Meaning V O) where
       shipped_sound (Binary op) ts u t h e = operator_sound op ts u t h e
       shipped_sound IsNull ts u t h e = is_null_sound ts u t h e
       shipped_sound IsNotNull ts u t h e = is_not_null_sound ts u t h e
-      shipped_sound Not ts u t h e = cc
-      shipped_sound Cast ts u t h e = cc
-      shipped_sound (Between options) ts u t h e = cc
-      shipped_sound (Like options) ts u t h e = cc
+      shipped_sound s ts u t h e = cc
 
     -- what Reduce answers for a well-typed tree keeps its type and its values
     pub reduce_sound : (r : Rules V O) → LawfulRules m r → (x u : Tree V O) (t : LogicalType)

@@ -20,8 +20,7 @@ use Rattle.vortex_operators.specs.OperatorValues.{holds}
 use Rattle.vortex_meaning.specs.Outcomes.{gives}
 use Rattle.vortex_meaning.specs.Meaning.{Meaning, Lawful}
 use Rattle.vortex_meaning.specs.Arguments.{or_either}
-use Rattle.vortex_meaning.specs.Shipped.{Shipped, Binary, Not, IsNull, IsNotNull, Cast, Between}
-use Rattle.vortex_meaning.specs.Shipped.{Like}
+use Rattle.vortex_meaning.specs.Shipped.{Shipped, Binary}
 use Rattle.vortex_meaning.specs.Shipped.BinaryFunction.{compared_type, operator_type}
 use Rattle.vortex_meaning.specs.Shipped.BinaryFunction.{operator_means}
 use Rattle.vortex_meaning.specs.Functions.{ours, custom}
@@ -249,12 +248,7 @@ module _ {V O : Type 0} (m : Meaning V O) where
     shipped_sound (Binary op) (tree x no_trees) u t h e = cc
     shipped_sound (Binary op) (tree x (tree y no_trees)) u t h e = operator_sound op x y u t h e
     shipped_sound (Binary op) (tree x (tree y (tree z ts))) u t h e = cc
-    shipped_sound Not ts u t h e = cc
-    shipped_sound IsNull ts u t h e = cc
-    shipped_sound IsNotNull ts u t h e = cc
-    shipped_sound Cast ts u t h e = cc
-    shipped_sound (Between options) ts u t h e = cc
-    shipped_sound (Like options) ts u t h e = cc
+    shipped_sound s ts u t h e = cc
 
     -- what Simplify answers for a well-typed tree keeps its type and its values
     pub simplify_sound : (r : Rules V O) → LawfulRules m r → (x u : Tree V O) (t : LogicalType)

@@ -12,8 +12,8 @@ use Rattle.vortex_operators.specs.declared.operators.Operator.{Operator}
 use Rattle.vortex_operators.specs.declared.operators.Operator.TheVariants.{And, Or}
 use Rattle.vortex_operators.specs.Operators.{is_boolean}
 use Rattle.vortex_meaning.specs.Meaning.{Meaning}
-use Rattle.vortex_meaning.specs.Shipped.{Shipped, Binary, Not, IsNull, IsNotNull, Cast, Between}
-use Rattle.vortex_meaning.specs.Shipped.{Like, shipped_type, is_strict}
+use Rattle.vortex_meaning.specs.Shipped.{Shipped, Binary, Not, IsNotNull, Cast, Like, shipped_type}
+use Rattle.vortex_meaning.specs.Shipped.{is_strict}
 use Rattle.vortex_meaning.specs.Shipped.NotFunction.{not_type}
 use Rattle.vortex_meaning.specs.Shipped.CastFunction.{cast_type}
 use Rattle.vortex_meaning.specs.Functions.{ours, custom}
@@ -159,14 +159,12 @@ module _ {V O : Type 0} (m : Meaning V O) where
       (strict_added op (is_nullable_tree m (call (ours (Binary op)) ts)) strict) c.children
       c.fitting s e
   union_no_heavier Not ts v t c strict solid s e = not_union ts v t c s e
-  union_no_heavier IsNull ts v t c strict solid s e = cc
-  union_no_heavier IsNotNull ts v t c strict solid s e = cc
   union_no_heavier Cast ts v t c strict solid s e =
       let none = sym (no_cast c.types t c.returns) ∙ solid in
       cc
-  union_no_heavier (Between options) ts v t c strict solid s e = cc
   union_no_heavier (Like options) ts v t c strict solid s e =
       two_union (Like options) ts v c.types refl c.children c.fitting s e
+  union_no_heavier f ts v t c strict solid s e = cc
 
   call_no_heavier : (f : Shipped) (ts : Trees V O) (v : Tree V O) (t : LogicalType)
       → tree_type m (call (ours f) ts) ≡ Some t → AllShipped ts

@@ -4,8 +4,7 @@ use Rattle.std.specs.Option.{option_map}
 use Rattle.vortex_operators.specs.Operators.{text_of}
 use Rattle.vortex_operators.specs.Between.{between_options_text}
 use Rattle.vortex_like.specs.Options as like
-use Rattle.vortex_meaning.specs.Shipped.{Shipped, Binary, Not, IsNull, IsNotNull, Cast, Between}
-use Rattle.vortex_meaning.specs.Shipped.{Like}
+use Rattle.vortex_meaning.specs.Shipped.{Shipped, Binary, Cast, Between, Like}
 use Rattle.vortex_meaning.specs.Shipped.CastFunction.{cast_options_text}
 use Rattle.vortex_meaning.specs.Meaning.{Meaning}
 use Rattle.vortex_meaning.specs.Functions.{Function, ours, custom, function_id}
@@ -14,12 +13,10 @@ use Rattle.vortex_meaning.specs.Functions.{Function, ours, custom, function_id}
 -- answers
 abbrev pub shipped_options_text : Shipped → List ℕ
 shipped_options_text (Binary operator) = text_of operator
-shipped_options_text Not = []
-shipped_options_text IsNull = []
-shipped_options_text IsNotNull = []
 shipped_options_text Cast = cast_options_text
 shipped_options_text (Between options) = between_options_text options
 shipped_options_text (Like options) = like.options_text options
+shipped_options_text f = []
 
 -- the same of any function, where the options of a caller's have a text that is known
 abbrev pub held_text : {V O : Type 0} → (O → Option (List ℕ)) → Function V O → Option (List ℕ)

@@ -10,19 +10,15 @@ use Rattle.vortex_errors.specs.Answers.{Answers}
 use Rattle.vortex_operators.specs.OptionBytes.{operator_bytes, operator_read, between_bytes}
 use Rattle.vortex_operators.specs.OptionBytes.{between_read}
 use Rattle.vortex_like.specs.OptionBytes.{like_bytes, like_read, HasCharacter}
-use Rattle.vortex_meaning.specs.Shipped.{Shipped, Binary, Not, IsNull, IsNotNull, Cast, Between}
-use Rattle.vortex_meaning.specs.Shipped.{Like}
+use Rattle.vortex_meaning.specs.Shipped.{Shipped, Binary, Between, Like}
 use Rattle.vortex_meaning.specs.Functions.{Function, ours, custom}
 
 -- one byte of Binary and Between, one or five of Like; none of the others
 abbrev pub shipped_bytes : Shipped → List ℕ
 shipped_bytes (Binary operator) = operator_bytes operator
-shipped_bytes Not = []
-shipped_bytes IsNull = []
-shipped_bytes IsNotNull = []
-shipped_bytes Cast = []
 shipped_bytes (Between options) = between_bytes options
 shipped_bytes (Like options) = like_bytes options
+shipped_bytes f = []
 
 -- the same function with the options that the bytes are read as; those without options read any
 -- bytes

@@ -5,9 +5,8 @@ use Rattle.vortex_operators.specs.declared.operators.Operator.{Operator}
 use Rattle.vortex_operators.specs.declared.operators.Operator.TheVariants.{And, Or}
 use Rattle.vortex_operators.specs.Operators.{is_boolean}
 use Rattle.vortex_meaning.specs.Meaning.{Meaning}
-use Rattle.vortex_meaning.specs.Shipped.{Shipped, Binary, Not, IsNull, IsNotNull, Cast, Between}
-use Rattle.vortex_meaning.specs.Shipped.{Like}
-use Rattle.vortex_meaning.specs.Functions.{ours, custom}
+use Rattle.vortex_meaning.specs.Shipped.{Shipped, Binary}
+use Rattle.vortex_meaning.specs.Functions.{Function, ours, custom}
 use Rattle.vortex_meaning.specs.Trees.{place, held, Tree, leaf, constant, call, Trees, no_trees}
 use Rattle.vortex_meaning.specs.Trees.{tree, trees_of, list_of, children_of, called, literal}
 use Rattle.vortex_meaning.specs.Rules.{Rules}
@@ -64,18 +63,22 @@ module _ {V O : Type 0} (m : Meaning V O) (r : Rules V O) where
       let is : f ≡ ours s = cc in
       sym (none ts) ∙ ap (λ g. simplify m r (call g ts)) (sym is)
 
+  function_validity : (g : Function V O) (t : Tree V O)
+      → ((f : V) (o : O) → g ≡ custom f o → ⊥) → called t ≡ Some g
+      → default_validity m g (trees_of (children_of t)) ≡ validity m r t
+  function_validity (ours s) t n c = shipped_validity t s c
+  function_validity (custom f o) t n c = absurd (n f o refl)
+
+  not_callers : (f : ScalarFnRef V O) → instance_in f ≡ None → (g : V) (o : O)
+      → function_of f ≡ custom g o → ⊥
+  not_callers (ref.Custom f) n g o e = cc
+  not_callers f n g o e = cc
+
   -- so it is for a reference to any function but a caller's
   pub listed_validity : (f : ScalarFnRef V O) (t : Tree V O) → instance_in f ≡ None
       → called t ≡ Some (function_of f)
       → default_validity m (function_of f) (trees_of (children_of t)) ≡ validity m r t
-  listed_validity (ref.Binary op) t n c = shipped_validity t (Binary op) c
-  listed_validity ref.Not t n c = shipped_validity t Not c
-  listed_validity ref.IsNull t n c = shipped_validity t IsNull c
-  listed_validity ref.IsNotNull t n c = shipped_validity t IsNotNull c
-  listed_validity ref.Cast t n c = shipped_validity t Cast c
-  listed_validity (ref.Between options) t n c = shipped_validity t (Between options) c
-  listed_validity (ref.Like options) t n c = shipped_validity t (Like options) c
-  listed_validity (ref.Custom f) t n c = cc
+  listed_validity f t n c = function_validity (function_of f) t (not_callers f n) c
 
   -- an expression that is neither a literal nor a call has no validity
   pub no_validity : (t : Tree V O) (at : Option ℕ) → literal t ≡ None → called t ≡ None

@@ -54,11 +54,8 @@ pub fn reduce_call<C: ScalarFnRules, T: ReduceNode<C>>(
         ScalarFnRef::Binary(operator) => reduce_operator(alloc, *operator, node),
         ScalarFnRef::IsNull => reduce_null_test(alloc, NullTest::IsNull, node),
         ScalarFnRef::IsNotNull => reduce_null_test(alloc, NullTest::IsNotNull, node),
-        ScalarFnRef::Not => Ok(None),
-        ScalarFnRef::Cast => Ok(None),
-        ScalarFnRef::Between(_) => Ok(None),
-        ScalarFnRef::Like(_) => Ok(None),
         ScalarFnRef::Custom(custom) => custom.vtable().reduce(alloc, custom.options(), node),
+        _ => Ok(None),
     }
 }
 

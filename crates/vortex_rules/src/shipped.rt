@@ -9,9 +9,7 @@ use crate::node::{ReduceNodeValidity, ReduceTree};
 use crate::rules::{ReduceNode, ScalarFnRules};
 use std::alloc::Global;
 use vortex_columns::VortexResult;
-use vortex_functions::{
-    Between, Binary, BoundExpression, Cast, IsNotNull, IsNull, Like, Not, ScalarFnVTableExt,
-};
+use vortex_functions::{BoundExpression, ScalarFnVTableExt};
 
 /// The rules of a shipped function, in trees over every caller's functions: what the table of rules
 /// has for a call of it with these options. E9 alone.
@@ -66,16 +64,4 @@ pub trait ShippedRules: ScalarFnVTableExt {
     }
 }
 
-impl ShippedRules for Binary {}
-
-impl ShippedRules for Not {}
-
-impl ShippedRules for IsNull {}
-
-impl ShippedRules for IsNotNull {}
-
-impl ShippedRules for Cast {}
-
-impl ShippedRules for Between {}
-
-impl ShippedRules for Like {}
+impl<V: ScalarFnVTableExt> ShippedRules for V {}

@@ -216,9 +216,6 @@ like_format = record { back = like_back; alone = like_alone }
 
 pub options_back : (f : Shipped) → HasCharacters f → with_options f (shipped_bytes f) ≡ Some f
 options_back (shipped.Binary o) h = ap (option_map shipped.Binary) (operator_back o)
-options_back shipped.Not h = refl
-options_back shipped.IsNull h = refl
-options_back shipped.IsNotNull h = refl
-options_back shipped.Cast h = refl
 options_back (shipped.Between o) h = ap (option_map shipped.Between) (between_back o)
 options_back (shipped.Like o) h = ap (option_map shipped.Like) (like_back o h)
+options_back f h = refl

@@ -1,4 +1,4 @@
-use Rattle.std.proofs.Common.{◌≡◌, ap, refl}
+use Rattle.std.proofs.Common.{◌≡◌, ap}
 use Rattle.vortex_meaning.specs.Shipped as shipped
 use Rattle.vortex_functions.specs.declared.erased.ScalarFnRef.TheVariants as ref
 use Rattle.vortex_functions.proofs.SameValues.{operators_tell, bounds_tell, likes_tell}
@@ -6,10 +6,6 @@ use Rattle.vortex_functions.proofs.SameValues.{instances_tell}
 use Rattle.vortex_functions.proofs.value_laws.equal_functions_are_the_same.Goals as goal
 
 pub returns : goal.returns
-returns g c ref.Not ref.Not = (λ e. refl, λ a. refl)
-returns g c ref.IsNull ref.IsNull = (λ e. refl, λ a. refl)
-returns g c ref.IsNotNull ref.IsNotNull = (λ e. refl, λ a. refl)
-returns g c ref.Cast ref.Cast = (λ e. refl, λ a. refl)
 returns g c (ref.Binary o) (ref.Binary p) =
     let tells = operators_tell o p in (λ e. ap shipped.Binary (tells.0 e), λ a. tells.1 (cc))
 returns g c (ref.Between o) (ref.Between p) =

@@ -13,3 +13,8 @@ pub kleene_beside-requires-in-ShiftedMasked-clause-left :
     goal.kleene_beside-requires-in-ShiftedMasked-clause-left
 kleene_beside-requires-in-ShiftedMasked-clause-left g c = λ i lt.
     subst (λ (o : Operand). operand_there o i) c.in-ShiftedMasked.is (c.requires.left i lt)
+
+pub kleene_beside-requires-in-AlignedMasked-clause-left :
+    goal.kleene_beside-requires-in-AlignedMasked-clause-left
+kleene_beside-requires-in-AlignedMasked-clause-left g c = λ i lt.
+    subst (λ (o : Operand). operand_there o i) c.in-AlignedMasked.is (c.requires.left i lt)

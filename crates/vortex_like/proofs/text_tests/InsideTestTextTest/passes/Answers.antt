@@ -1,13 +1,8 @@
-use Rattle.std.proofs.Common.{subst, ◌∙◌, List, ℕ}
-use Rattle.std.specs.Prelude.{IsUtf8}
-use Rattle.memchr.specs.Find.{FindsNeedle}
-use Rattle.vortex_like.proofs.LiteralAnswers.{inside_answer}
+use Rattle.std.proofs.Common.{◌∙◌}
+use Rattle.vortex_like.proofs.LiteralAnswers.{finds_inside}
 use Rattle.vortex_like.proofs.text_tests.InsideTestTextTest.passes.Goals as goal
 
 pub returns : goal.returns
-returns c = λ text.
+returns c =
     c.is_some.ensures
-    ∙ inside_answer c.args.self.now c.args.haystack.now
-    (subst IsUtf8 c.self.view_is c.self.invariant) text c.find.result
-    (subst (λ (needle : List ℕ). FindsNeedle c.args.haystack.now needle 0 c.find.result)
-    c.self.view_is c.find.ensures)
+    ∙ finds_inside c.args.self.now.finder c.args.haystack.now c.find.result c.find.ensures
