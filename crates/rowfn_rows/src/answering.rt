@@ -46,9 +46,14 @@ fn first_rows<'f, 'b>(
 ) -> &'f [Option<&'b [u8]>]
     ensures { result.now ≡ take (width * row_count) fields.now }
 {
-    match width.checked_mul(row_count) {
-        Some(count) if count < fields.len() => &fields[..count],
-        _ => fields,
+    let len = fields.len();
+    let Some(count) = width.checked_mul(row_count) else {
+        return fields;
+    };
+    if count < len {
+        &fields[..count]
+    } else {
+        fields
     }
 }
 
