@@ -172,12 +172,12 @@ impl Task<'_> {
             Err(refusal) => refusal,
         };
         match first_fault(self.alloc, self.expression, columns, row_count) {
-            Ok(Some((row, error))) => {
-                let fault = StreamError::Fault {
+            Ok(Some((row, fault))) => {
+                let told = StreamError::Fault {
                     row: row_number(self.rows_before, row),
-                    error,
+                    error: fault,
                 };
-                self.answer_faultless(fields, row, Some(fault))
+                self.answer_faultless(fields, row, Some(told))
             }
             _ => Err(StreamError::Refused(refusal)),
         }
