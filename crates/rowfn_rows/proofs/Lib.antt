@@ -1,2 +1,3 @@
+pub mod LastAlone
 pub mod Layouts
 pub mod Outputs
