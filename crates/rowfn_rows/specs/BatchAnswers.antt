@@ -46,10 +46,10 @@ abbrev pub TellsName : Option Declared → StreamError → Type 0
 TellsName (Some d) (end.TextsTooLong name) = string_bytes name ≡ string_bytes d.name
 TellsName d e = ⊥
 
-abbrev pub trees_of : Expression NoCustom → List (Tree NoCustom EmptyOptions)
+abbrev pub trees_of : Expression NoCustom EmptyOptions → List (Tree NoCustom EmptyOptions)
 trees_of x = map (λ a. a.tree) x.answers.items
 
-module _ (x : Expression NoCustom) (fs : List Field) where
+module _ (x : Expression NoCustom EmptyOptions) (fs : List Field) where
   -- the fields of the first n rows
   abbrev pub first_fields : ℕ → List Field
   first_fields n = take (length x.columns.items * n) fs

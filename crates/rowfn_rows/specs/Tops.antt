@@ -22,15 +22,15 @@ abbrev pub IsTruth : Tree NoCustom EmptyOptions → Type 0
 IsTruth t = IfSome (tree_type fixed_meaning t) (λ k. is_bool_type k ≡ true)
 
 -- the columns as they were, and the last answer alone, which is of Bool
-pub record IsTop (x top : Expression NoCustom) : Type 0 where
+pub record IsTop (x top : Expression NoCustom EmptyOptions) : Type 0 where
   pub columns : top.columns ≡ x.columns
   pub last : top.answers.items ≡ last_alone x.answers.items
   pub truth : All (λ a. IsTruth a.tree) top.answers.items
 
 -- the last answer, which is told by its name, is not of Bool; or memory ran out
-abbrev pub RefusesTop : Expression NoCustom → StreamError → Type 0
+abbrev pub RefusesTop : Expression NoCustom EmptyOptions → StreamError → Type 0
 RefusesTop x (end.NoTruth name) =
-    (a : Answer NoCustom) × (last_alone x.answers.items ≡ a ∷ []) × (a.name ≡ name)
+    (a : Answer NoCustom EmptyOptions) × (last_alone x.answers.items ≡ a ∷ []) × (a.name ≡ name)
     × (¬ IsTruth a.tree)
 RefusesTop x end.OutOfMemory = ⊤
 RefusesTop x e = ⊥

@@ -51,8 +51,8 @@ pub fn top_alone(
     alloc: Global,
     expression: Expression<NoCustom>,
 ) -> Result<Expression<NoCustom>, StreamError>
-    ensures { IfOk result (IsTop expression.entry) }
-    ensures { IfErr result (RefusesTop expression.entry) }
+    ensures top { IfOk result (IsTop expression.entry) }
+    ensures refused { IfErr result (RefusesTop expression.entry) }
 {
     let Expression {
         columns,
