@@ -1,3 +1,4 @@
+pub mod FirstRows
 pub mod LastAlone
 pub mod Layouts
 pub mod Outputs

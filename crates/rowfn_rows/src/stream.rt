@@ -11,7 +11,7 @@ use rowfn_batches::Expression;
 use rowfn_csv::{Batch, ReadError, Rows};
 use std::alloc::Global;
 use std::io::{Read, Write};
-use vortex_columns::{Column, DType};
+use vortex_columns::Column;
 use vortex_functions::NoCustom;
 
 /// How many rows a stream read and wrote, headers aside.
@@ -51,21 +51,24 @@ pub fn top_alone(
     alloc: Global,
     expression: Expression<NoCustom>,
 ) -> Result<Expression<NoCustom>, StreamError>
-    ensures top { IfOk result (IsTop expression.entry) }
-    ensures refused { IfErr result (RefusesTop expression.entry) }
+    ensures top { IfOk result (IsTop expression) }
+    ensures refused { IfErr result (RefusesTop expression) }
 {
     let Expression {
         columns,
         mut answers,
     } = expression;
     let mut top = Vec::new(alloc);
-    if let Some(answer) = answers.pop() {
-        match answer.tree.dtype() {
-            DType::Bool(_) => {}
-            _ => return Err(StreamError::NoTruth(answer.name)),
-        }
-        top.push(answer)?;
+    let Some(answer) = answers.pop() else {
+        return Ok(Expression {
+            columns,
+            answers: top,
+        });
+    };
+    if !answer.tree.dtype().is_boolean() {
+        return Err(StreamError::NoTruth(answer.name));
     }
+    top.push(answer)?;
     Ok(Expression {
         columns,
         answers: top,
