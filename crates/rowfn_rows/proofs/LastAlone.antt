@@ -1,5 +1,5 @@
 -- The last of a list, alone.
-use Rattle.std.proofs.Common.{◌≡◌, ℕ, zero, suc, List, [], ◌∷◌, ◌++◌, All, refl, arith}
+use Rattle.std.proofs.Common.{◌≡◌, zero, suc, List, [], ◌∷◌, ◌++◌, All, refl, arith}
 use Rattle.rowfn_rows.specs.Tops.{last_alone}
 
 pub last_alone-append : {A : Type 0} (xs : List A) (x : A) → last_alone (xs ++ x ∷ []) ≡ x ∷ []

@@ -1,6 +1,6 @@
 -- What the rows of a batch answer, up to the first row that ends the stream, and what ends it there.
-use Rattle.std.specs.Prelude.{◌≡◌, ◌+◌, ◌*◌, ◌-◌, ◌^◌, ◌<◌, ◌⊎◌, ℕ, List, length, map, take, Option, Some}
-use Rattle.std.specs.Prelude.{None, slice_get, string_bytes, Vec, ⊤, Result, MatchResult}
+use Rattle.std.specs.Prelude.{◌≡◌, ◌+◌, ◌*◌, ◌-◌, ◌^◌, ◌<◌, ℕ, List, length, map, take, Option, Some}
+use Rattle.std.specs.Prelude.{None, slice_get, string_bytes, Vec, ⊤}
 use Rattle.std.specs.declared.alloc.Global.{Global}
 use Rattle.vortex_errors.specs.declared.error.VortexError.{VortexError}
 use Rattle.vortex_errors.specs.Answers.{UnlessMemory}

@@ -1,5 +1,5 @@
 -- An expression that is left with its last answer, which tells the rows that are picked.
-use Rattle.std.specs.Prelude.{◌≡◌, List, [], ◌∷◌, Option, IfSome, All, true, ⊤}
+use Rattle.std.specs.Prelude.{◌≡◌, List, [], ◌∷◌, IfSome, All, true, ⊤}
 use Rattle.vortex_types.specs.LogicalTypes.{is_bool_type}
 use Rattle.vortex_interface.specs.declared.options.EmptyOptions.{EmptyOptions}
 use Rattle.vortex_meaning.specs.Trees.{Tree}

@@ -1,4 +1,4 @@
-use Rattle.std.proofs.Common.{◌≡◌, ◌∙◌, ◌++◌, ◌-◌, [], ◌∷◌, ap, sym, refl, take}
+use Rattle.std.proofs.Common.{◌∙◌, ◌++◌, ◌-◌, [], ◌∷◌, ap, sym, refl, take}
 use Rattle.rowfn_rows.specs.Tops.{last_alone, IsTruth}
 use Rattle.rowfn_rows.proofs.LastAlone.{last_alone-append, of_none, of_one}
 use Rattle.rowfn_rows.proofs.stream.top_alone.Goals as goal

@@ -1,6 +1,4 @@
-use Rattle.std.proofs.Common.{◌≡◌, ◌+◌, ◌*◌, refl, length, map}
-use Rattle.std.specs.Prelude.{slice_get}
-use Rattle.rowfn_batches.specs.Fields.{field_in}
+use Rattle.std.proofs.Common.{refl}
 use Rattle.rowfn_batches.specs.Batches.{IsMisfit, IsTooLong}
 use Rattle.rowfn_rows.specs.BatchAnswers.{with_batch, at_misfit, too_long}
 use Rattle.rowfn_rows.proofs.FirstRows.{are_first, of_first, if_ok-weaker}

@@ -1,4 +1,4 @@
-use Rattle.std.proofs.Common.{◌≡◌, ℕ, refl, sym, subst, map}
+use Rattle.std.proofs.Common.{ℕ, refl, sym, subst, map}
 use Rattle.rowfn_batches.specs.Fields.{field_in}
 use Rattle.rowfn_rows.specs.declared.errors.StreamError.TheVariants as end
 use Rattle.rowfn_rows.specs.BatchAnswers.{EndsAnswers, at_fault}
