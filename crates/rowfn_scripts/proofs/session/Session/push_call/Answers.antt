@@ -13,9 +13,20 @@ use Rattle.rowfn_lines.specs.Commands.{call}
 use Rattle.rowfn_scripts.specs.Sessions.{refuses, least_count, StepsTo, taken}
 use Rattle.rowfn_scripts.proofs.SessionSteps.{row_count_of, stack_of, printed_of, named_is}
 use Rattle.rowfn_scripts.proofs.SessionSteps.{call_taken, call_refused, call_made, same_stacked}
-use Rattle.rowfn_scripts.proofs.SessionSteps.{too_few, no_arguments}
+use Rattle.rowfn_scripts.proofs.SessionSteps.{too_few, no_arguments, unnamed, no_function}
 use Rattle.rowfn_scripts.proofs.SessionSteps.{stops}
 use Rattle.rowfn_scripts.proofs.session.Session.push_call.Goals as goal
+
+pub returns-in_default : goal.returns-in_default
+returns-in_default g c =
+    let word = c.args.name.now in
+    let s = c.args.self.now in
+    let known : is_none s.row_count ≡ false =
+    ap is_none (sym (row_count_of c.self.view_is))
+    ∙ ap not c.is_none.ensures
+    ∙ ap (λ b. not (not b)) c.if-is_none.false in
+    let none = unnamed (shipped_called word c.args.escape) c.in_default.ensures in
+    (no_function g.C.ScalarFnVTable.meaning word c.args.escape s known none, refl)
 
 pub returns-then-len-count : goal.returns-then-len-count
 returns-then-len-count g c =
