@@ -1,6 +1,6 @@
--- What the rows of a batch answer, up to the first row that ends the stream, and what ends it there.
-use Rattle.std.specs.Prelude.{◌≡◌, ◌+◌, ◌*◌, ◌-◌, ◌^◌, ◌<◌, ℕ, List, length, map, take, Option, Some}
-use Rattle.std.specs.Prelude.{None, slice_get, string_bytes, Vec, ⊤}
+-- What the rows of a batch answer, up to the first that ends the stream, and what ends it there.
+use Rattle.std.specs.Prelude.{◌≡◌, ◌+◌, ◌*◌, ◌-◌, ◌^◌, ◌<◌, ℕ, List, length, map, take, Option}
+use Rattle.std.specs.Prelude.{Some, None, slice_get, string_bytes, Vec, ⊤}
 use Rattle.std.specs.declared.alloc.Global.{Global}
 use Rattle.vortex_errors.specs.declared.error.VortexError.{VortexError}
 use Rattle.vortex_errors.specs.Answers.{UnlessMemory}
@@ -72,7 +72,8 @@ module _ (x : Expression NoCustom EmptyOptions) (fs : List Field) where
     with_them : n ≡ fit → e ≡ other → EndsAnswers before fit other n e
     at_fault : (columns : List ColumnView) (fault : VortexError) (told : StreamError)
         → e ≡ Some told → AreFirst fit columns
-        → IsFirstFaultyRow fixed_meaning columns fit (trees_of x) n fault → TellsFault before n fault told
+        → IsFirstFaultyRow fixed_meaning columns fit (trees_of x) n fault
+        → TellsFault before n fault told
         → EndsAnswers before fit other n e
 
   -- a tree is refused over the columns of the first rows
@@ -94,7 +95,8 @@ module _ (x : Expression NoCustom EmptyOptions) (fs : List Field) where
       with_batch : n ≡ count → e ≡ behind → EndsFitting n e
       at_misfit : (column : ℕ) (told : StreamError) → e ≡ Some told
           → IsMisfit x.columns.items (first_fields count) n column
-          → TellsMisfit before n (slice_get x.columns.items column) (field_at fs (n * length x.columns.items + column)) told
+          → TellsMisfit before n (slice_get x.columns.items column)
+          (field_at fs (n * length x.columns.items + column)) told
           → EndsFitting n e
 
     -- the rows of the answers, and what ends them there
