@@ -80,21 +80,31 @@ fn delimiter_error(command: &mut Command<'_>) -> Result<Error, Error> {
     Ok(command.error(ErrorKind::InvalidValue, message)?)
 }
 
-/// What the words after the program's name ask for; the first word is that name. Refused for wrong
-/// words, with the text that tells of them; help and version are told so as well.
-pub fn read_options<'a>(alloc: Global, words: &'a [String]) -> Result<Options<'a>, Error> {
-    let mut command = command(alloc)?;
-    let matches = command.try_get_matches_from_mut(words)?;
-    let Some(delimiter) = read_delimiter(matches.get_str("delimiter").unwrap_or(",")) else {
-        return Err(delimiter_error(&mut command)?);
-    };
+/// What the words that matched ask for.
+fn options_of<'a>(
+    alloc: Global,
+    matches: &ArgMatches<'a>,
+    delimiter: u8,
+) -> Result<Options<'a>, Error> {
+    let source = asked_source(alloc, matches)?;
     Ok(Options {
         delimiter,
         header: !matches.get_flag("no-header"),
         null: matches.get_str("null").unwrap_or(""),
         batch: matches.get_one::<u32>("batch").unwrap_or(8192),
-        action: asked_action(&matches),
+        action: asked_action(matches),
         summary: matches.get_flag("summary"),
-        source: asked_source(alloc, &matches)?,
+        source,
     })
+}
+
+/// What the words after the program's name ask for; the first word is that name. Refused for wrong
+/// words, with the text that tells of them; help and version are told so as well.
+pub fn read_options<'a>(alloc: Global, words: &'a [String]) -> Result<Options<'a>, Error> {
+    let mut command = command(alloc)?;
+    let matches = command.try_get_matches_from_mut(words)?;
+    match read_delimiter(matches.get_str("delimiter").unwrap_or(",")) {
+        Some(delimiter) => options_of(alloc, &matches, delimiter),
+        None => Err(delimiter_error(&mut command)?),
+    }
 }

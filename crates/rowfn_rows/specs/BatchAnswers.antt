@@ -15,7 +15,7 @@ use Rattle.rowfn_batches.specs.declared.columns.Declared.{Declared}
 use Rattle.rowfn_batches.specs.declared.expression.Expression.{Expression}
 use Rattle.rowfn_batches.specs.Fields.{Field}
 use Rattle.rowfn_batches.specs.Batches.{field_at, AreEven, AreColumns, IsMisfit, IsTooLong}
-use Rattle.rowfn_batches.specs.Executing.{RefusesFirst, IsFirstFaultyRow}
+use Rattle.rowfn_batches.specs.Executing.{RefusesColumnsFirst, IsFirstFaultyRow}
 use Rattle.rowfn_rows.specs.declared.errors.StreamError.{StreamError}
 use Rattle.rowfn_rows.specs.declared.errors.StreamError.TheVariants as end
 
@@ -76,17 +76,22 @@ module _ (x : Expression NoCustom EmptyOptions) (fs : List Field) where
         → TellsFault before n fault told
         → EndsAnswers before fit other n e
 
-  -- a tree is refused over the columns of the first rows
-  abbrev pub RefusesTrees : VortexError → Type 0
-  RefusesTrees = UnlessMemory
+  -- the columns of first rows do not serve a tree, or memory ran out
+  abbrev pub IsUnserved : StreamError → Type 0
+  IsUnserved (end.Refused e) =
+      UnlessMemory
       (λ e. (n : ℕ) × (columns : List ColumnView) × AreFirst n columns
-      × RefusesFirst fixed_meaning columns n (trees_of x) e)
+      × RefusesColumnsFirst columns n (trees_of x) e)
+      e
+  IsUnserved end.OutOfMemory = ⊤
+  IsUnserved e = ⊥
 
-  -- a tree is refused over the columns of first rows, or memory ran out
-  abbrev pub RefusesExecution : StreamError → Type 0
-  RefusesExecution (end.Refused e) = RefusesTrees e
-  RefusesExecution end.OutOfMemory = ⊤
-  RefusesExecution e = ⊥
+  -- why nothing is answered of a batch of so many rows: the texts of a column are too long, the
+  -- columns do not serve a tree, or memory ran out
+  pub data IsUnanswered (count : ℕ) (e : StreamError) : Type 0 where
+    too_long : (column : ℕ) → IsTooLong x.columns.items (first_fields count) count column
+        → TellsName (slice_get x.columns.items column) e → IsUnanswered count e
+    unserved : IsUnserved e → IsUnanswered count e
 
   module _ (before : ℕ) (count : ℕ) (behind : Option StreamError) where
     -- so many rows have fields that fit: all of them, and the error behind the batch ends it; or
@@ -104,10 +109,3 @@ module _ (x : Expression NoCustom EmptyOptions) (fs : List Field) where
     EndsBatch n e =
         (fit : ℕ) × (other : Option StreamError) × EndsFitting fit other
         × EndsAnswers before fit other n e
-
-    -- why nothing is answered: the texts of a column are too long, a tree is refused, or memory ran
-    -- out
-    pub data RefusesBatch (e : StreamError) : Type 0 where
-      too_long : (column : ℕ) → IsTooLong x.columns.items (first_fields count) count column
-          → TellsName (slice_get x.columns.items column) e → RefusesBatch e
-      refused : RefusesExecution e → RefusesBatch e

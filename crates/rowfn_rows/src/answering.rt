@@ -6,7 +6,7 @@ ghost use Rattle.rowfn_batches.specs.Batches.{field_at};
 ghost use Rattle.rowfn_rows.specs.declared.errors.StreamError.TheVariants.{OutOfMemory};
 ghost use Rattle.rowfn_rows.specs.BatchAnswers.{IsNumber, TellsMisfit, TellsName, AreFirst};
 ghost use Rattle.rowfn_rows.specs.BatchAnswers.{AreAnswers, EndsAnswers, EndsBatch};
-ghost use Rattle.rowfn_rows.specs.BatchAnswers.{RefusesExecution, RefusesBatch};
+ghost use Rattle.rowfn_rows.specs.BatchAnswers.{IsUnserved, IsUnanswered};
 
 use crate::errors::StreamError;
 use rowfn_batches::{BatchError, Expression, execute_answers, first_fault, read_columns};
@@ -120,7 +120,7 @@ impl Task<'_> {
         Ok(StreamError::TextsTooLong(declared.name.clone()?))
     }
 
-    /// What the first rows answer, which have neither a misfit nor a fault.
+    /// What the first rows answer, which have neither a misfit nor a fault. E9 alone.
     fn answer_faultless(
         &self,
         fields: &[Option<&[u8]>],
@@ -130,8 +130,7 @@ impl Task<'_> {
         ensures rows { IfOk result (λ a. AreAnswers self.now.expression.now
             (map field_in fields.now) a.row_count a.answers.items) }
         ensures ends { IfOk result (λ a. (a.row_count ≡ row_count) × (a.error ≡ error)) }
-        ensures refused { IfErr result
-            (RefusesExecution self.now.expression.now (map field_in fields.now)) }
+        ensures refused { IfErr result (λ e. e ≡ OutOfMemory) }
     {
         let columns = self.columns(fields, row_count)?;
         match execute_answers(self.alloc, self.expression, &columns, row_count) {
@@ -140,7 +139,8 @@ impl Task<'_> {
                 row_count,
                 error,
             }),
-            Err(refusal) => Err(StreamError::Refused(refusal)),
+            // the columns serve the trees, and no row faults
+            Err(_) => Err(StreamError::OutOfMemory),
         }
     }
 
@@ -159,18 +159,15 @@ impl Task<'_> {
         ensures ends { IfOk result (λ a. EndsAnswers self.now.expression.now
             (map field_in fields.now) self.now.rows_before row_count error a.row_count a.error) }
         ensures refused { IfErr result
-            (RefusesExecution self.now.expression.now (map field_in fields.now)) }
+            (IsUnserved self.now.expression.now (map field_in fields.now)) }
     {
-        let refusal = match execute_answers(self.alloc, self.expression, columns, row_count) {
-            Ok(answers) => {
-                return Ok(Answered {
-                    answers,
-                    row_count,
-                    error,
-                });
-            }
-            Err(refusal) => refusal,
-        };
+        if let Ok(answers) = execute_answers(self.alloc, self.expression, columns, row_count) {
+            return Ok(Answered {
+                answers,
+                row_count,
+                error,
+            });
+        }
         match first_fault(self.alloc, self.expression, columns, row_count) {
             Ok(Some((row, fault))) => {
                 let told = StreamError::Fault {
@@ -179,15 +176,17 @@ impl Task<'_> {
                 };
                 self.answer_faultless(fields, row, Some(told))
             }
-            _ => Err(StreamError::Refused(refusal)),
+            // the columns serve the trees and no row faults, so memory ran out
+            Ok(None) => Err(StreamError::OutOfMemory),
+            Err(refusal) => Err(StreamError::Refused(refusal)),
         }
     }
 
     /// What the rows of a batch answer: up to the first that has a misfit or a fault, or all of
     /// them and the error behind the batch, if there is one.
     ///
-    /// Refused where the texts of a column are too long for a batch, where a tree is refused
-    /// whatever the row, and where memory runs out.
+    /// Refused where the texts of a column are too long for a batch, where the columns do not serve
+    /// a tree, and where memory runs out; never with a row's fault.
     pub fn answer_batch(
         &self,
         fields: &[Option<&[u8]>],
@@ -198,8 +197,8 @@ impl Task<'_> {
             (map field_in fields.now) a.row_count a.answers.items) }
         ensures ends { IfOk result (λ a. EndsBatch self.now.expression.now
             (map field_in fields.now) self.now.rows_before row_count error a.row_count a.error) }
-        ensures refused { IfErr result (RefusesBatch self.now.expression.now
-            (map field_in fields.now) self.now.rows_before row_count error) }
+        ensures refused { IfErr result (IsUnanswered self.now.expression.now
+            (map field_in fields.now) row_count) }
     {
         let declared = self.expression.columns.as_slice();
         let whole = first_rows(fields, declared.len(), row_count);
