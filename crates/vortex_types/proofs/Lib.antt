@@ -6,3 +6,5 @@ pub mod FieldSearch
 pub mod NullValues
 pub mod JoinedTexts
 pub mod PrintedTypes
+pub mod TypeWeights
+pub mod ValueWeights

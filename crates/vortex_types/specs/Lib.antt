@@ -10,8 +10,10 @@ pub mod Codes
 pub mod ScalarView
 pub mod ScalarLaws
 pub mod TypeOf
+pub mod TypeParts
 pub mod TypeTexts
 pub mod ValueOf
+pub mod ValueParts
 pub mod Numbers
 pub mod Texts
 pub mod DTypeTexts

@@ -7,8 +7,10 @@ ghost use Rattle.vortex_types.specs.LogicalTypes.{is_text_type, is_integer_type}
 mod equality;
 mod fields;
 mod integer_types;
+mod letting_go;
 pub mod text;
 
+use letting_go::Within;
 use std::alloc::{AllocError, Global};
 use std::ops::BitOr;
 use vortex_errors::VortexResult;
@@ -68,7 +70,6 @@ pub enum PType {
 
 /// The type of a column or a scalar.
 #[cycle(dtype)]
-#[derive(Drop)]
 pub enum DType {
     /// Null alone, which counts as nullable.
     Null,
@@ -95,6 +96,47 @@ pub enum DType {
 #[derive(Drop)]
 pub struct StructFields {
     fields: Vec<(String, DType)>,
+}
+
+/// A type is let go by a list of what is still to go, so its depth takes no stack; and lists within
+/// lists take no memory. Where the list cannot grow, what it has no place for goes by a call.
+impl Drop for DType {
+    #[tactic(auto, using(crate::proofs::TypeWeights::weights))]
+    fn drop(self) {
+        let within = match self.within() {
+            Some(within) => within,
+            None => return,
+        };
+        let alloc = within.allocator();
+        let mut list = Vec::new(alloc);
+        let mut next = Some(within);
+        loop {
+            let here = match next {
+                Some(Within::One(element)) => Box::into_inner(element),
+                Some(Within::Two(key, value)) => {
+                    if let Err(failed) = list.push((String::new(alloc), Box::into_inner(value))) {
+                        drop(failed.value);
+                    }
+                    Box::into_inner(key)
+                }
+                Some(Within::Many(fields)) => {
+                    let mut fields = fields;
+                    let last = match fields.pop() {
+                        Some((_name, last)) => last,
+                        None => DType::Null,
+                    };
+                    // what found no place goes with `fields`
+                    let _grown = list.append(&mut fields);
+                    last
+                }
+                None => match list.pop() {
+                    Some((_name, last)) => last,
+                    None => return,
+                },
+            };
+            next = here.within();
+        }
+    }
 }
 
 impl DType {

@@ -1,12 +1,13 @@
 //! Values that are not null.
-ghost use Rattle.std.specs.Prelude.{◌≡◌, IfOk};
+ghost use Rattle.std.specs.Prelude.{◌≡◌, ◌<◌, ◌≤◌, IfOk, IfSome};
 ghost use Rattle.vortex_errors.specs.Answers.{AnswersUnlessMemory};
+ghost use Rattle.vortex_types.specs.ValueParts.{value_weight, value_weights, deepest_value};
+ghost use Rattle.vortex_types.specs.declared.scalar_value.ScalarValue.{size-ScalarValue};
 
 use std::alloc::{AllocError, Global};
 use vortex_errors::VortexResult;
 
 /// A value that is not null.
-#[derive(Drop)]
 pub enum ScalarValue {
     /// A truth value.
     Bool(bool),
@@ -21,8 +22,45 @@ pub enum ScalarValue {
     List(Vec<Option<ScalarValue>>),
 }
 
+/// A value is let go by a list of what is still to go, so its depth takes no stack; and lists of
+/// one value within one another take no memory. Where the list cannot grow, what it has no place
+/// for goes by a call.
+impl Drop for ScalarValue {
+    #[tactic(auto, using(crate::proofs::ValueWeights::weights))]
+    fn drop(self) {
+        let mut list = match self.items() {
+            Some(items) => items,
+            None => return,
+        };
+        while let Some(item) = list.pop() {
+            if let Some(value) = item {
+                if let Some(items) = value.items() {
+                    let mut items = items;
+                    // what found no place goes with `items`
+                    let _grown = list.append(&mut items);
+                }
+            }
+        }
+    }
+}
+
 impl ScalarValue {
     ghost use Rattle.vortex_types.specs.ValueOf.{value_of};
+
+    /// Takes a value apart; none of a value that is made of no other.
+    fn items(self) -> Option<Vec<Option<ScalarValue>>>
+        ensures fewer { IfSome result (λ items. value_weights items.items ≤ value_weight self) }
+        ensures falls { IfSome result
+            (λ items. deepest_value items.items < size-ScalarValue self) }
+    {
+        match self {
+            ScalarValue::Bool(_) => None,
+            ScalarValue::Int(_) => None,
+            ScalarValue::Utf8(_) => None,
+            ScalarValue::Binary(_) => None,
+            ScalarValue::List(items) => Some(items),
+        }
+    }
 
     /// A copy that is seen as its source is.
     pub fn try_clone(&self, _alloc: Global) -> VortexResult<ScalarValue>
