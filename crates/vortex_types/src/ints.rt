@@ -1,5 +1,5 @@
 //! Lists of integers of one type.
-ghost use Rattle.std.specs.Prelude.{◌≡◌, All, map};
+ghost use Rattle.std.specs.Prelude.{◌≡◌, ◌<◌, All, length, map, pos, slice_index_or};
 ghost use Rattle.vortex_types.specs.Typing.{FitsPType};
 
 mod signed;
@@ -24,7 +24,6 @@ pub enum Ints {
 }
 
 impl Ints {
-    ghost use Rattle.std.specs.Prelude.{◌<◌, length, pos, slice_index_or};
     ghost use Rattle.vortex_errors.specs.Answers.{AnswersUnlessMemory};
     ghost use Rattle.vortex_types.specs.Numbers.{numbers, ptype_of};
 
@@ -50,14 +49,14 @@ impl Ints {
         ensures { result ≡ slice_index_or (numbers self.now) i (pos 0) }
     {
         match self {
-            Ints::I8(xs) => i128::from(xs[i]),
-            Ints::I16(xs) => i128::from(xs[i]),
-            Ints::I32(xs) => i128::from(xs[i]),
-            Ints::I64(xs) => i128::from(xs[i]),
-            Ints::U8(xs) => i128::from(xs[i]),
-            Ints::U16(xs) => i128::from(xs[i]),
-            Ints::U32(xs) => i128::from(xs[i]),
-            Ints::U64(xs) => i128::from(xs[i]),
+            Ints::I8(xs) => number_at(xs, i),
+            Ints::I16(xs) => number_at(xs, i),
+            Ints::I32(xs) => number_at(xs, i),
+            Ints::I64(xs) => number_at(xs, i),
+            Ints::U8(xs) => number_at(xs, i),
+            Ints::U16(xs) => number_at(xs, i),
+            Ints::U32(xs) => number_at(xs, i),
+            Ints::U64(xs) => number_at(xs, i),
         }
     }
 
@@ -130,6 +129,15 @@ pub trait NativePType: Copy + Drop {
     fn of(ints: &Ints) -> Option<&[Self]>
         ensures { MatchOption result (¬ (ptype_of ints.now ≡ ptype))
             (λ xs. (ptype_of ints.now ≡ ptype) × (numbers ints.now ≡ map number xs.now)) };
+}
+
+/// The number of the integer in place `i`.
+#[inline]
+fn number_at<T: NativePType>(values: &Vec<T>, i: usize) -> i128
+    requires { i < length values.now.items }
+    ensures { result ≡ slice_index_or (map T.number values.now.items) i (pos 0) }
+{
+    values[i].to_i128()
 }
 
 /// Looks at each number, so that a caller knows that it lies in the range of its type. Changes
