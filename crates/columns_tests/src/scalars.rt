@@ -156,7 +156,8 @@ fn copies_nested(alloc: Global) -> VortexResult<bool> {
     let mut items = Vec::new(alloc);
     items.push(None)?;
     items.push(Some(ScalarValue::Utf8(String::from_str(alloc, "a")?)))?;
-    Ok(match ScalarValue::List(items).try_clone(alloc)? {
+    let copy = ScalarValue::List(items).try_clone(alloc)?;
+    Ok(match &copy {
         ScalarValue::List(items) => items.len() == 2 && items[0].is_none(),
         _ => false,
     })
