@@ -90,7 +90,7 @@ impl ScalarFnVTable for Cast {
         ensures { AnswersShippedType shipped.Cast types.now result }
     {
         match types {
-            [DType::Bool(_)] => Ok(DType::Bool(Nullability::Nullable)),
+            [DType::Bool(..)] => Ok(DType::Bool(Nullability::Nullable)),
             _ => Err(VortexError::TypeMismatch(MismatchPlace::Cast)),
         }
     }

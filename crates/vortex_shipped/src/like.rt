@@ -94,7 +94,7 @@ impl ScalarFnVTable for Like {
     {
         match types {
             [DType::Utf8(input), DType::Utf8(pattern)] => Ok(DType::Bool(*input | *pattern)),
-            [DType::Utf8(_), ..] => Err(VortexError::TypeMismatch(MismatchPlace::LikePattern)),
+            [DType::Utf8(..), ..] => Err(VortexError::TypeMismatch(MismatchPlace::LikePattern)),
             _ => Err(VortexError::TypeMismatch(MismatchPlace::LikeInput)),
         }
     }
