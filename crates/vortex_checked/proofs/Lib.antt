@@ -1,1 +1,2 @@
 pub mod WideProduct
+pub mod Outside

@@ -13,6 +13,26 @@ abbrev pub null_mark : LogicalType → List ℕ
 null_mark null_type = []
 null_mark t = if is_nullable t then codes "?" else []
 
+-- what stands before the types inside; all but the mark where there are none
+abbrev pub opening : LogicalType → List ℕ
+opening null_type = codes "null"
+opening (bool_type n) = codes "bool"
+opening (integer_type p n) = ptype_text p
+opening (text_type n) = codes "utf8"
+opening (bytes_type n) = codes "binary"
+opening (struct_type fs n) = codes "struct{"
+opening (list_type t n) = codes "list["
+opening (fixed_size_list_type t size n) = codes "list["
+opening (map_type k v n) = codes "map["
+
+-- what stands behind them
+abbrev pub closing : LogicalType → List ℕ
+closing (struct_type fs n) = codes "}"
+closing (list_type t n) = codes "]"
+closing (fixed_size_list_type t size n) = codes "]"
+closing (map_type k v n) = codes "]"
+closing t = []
+
 abbrev mutual
   -- a type without its mark
   pub kind_text : LogicalType → List ℕ

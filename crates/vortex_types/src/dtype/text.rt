@@ -4,6 +4,7 @@ ghost use Rattle.vortex_errors.specs.Answers.{AnswersUnlessMemory};
 ghost use Rattle.vortex_types.specs.TypeOf.{type_of, struct_fields};
 ghost use Rattle.vortex_types.specs.Texts.{Appends, joined, comma, separator_before};
 ghost use Rattle.vortex_types.specs.DTypeTexts.{type_text, null_mark, field_type_texts};
+ghost use Rattle.vortex_types.specs.DTypeTexts.{opening, closing};
 
 use super::{DType, StructFields};
 use std::fmt::Write;
@@ -23,6 +24,36 @@ pub fn write_separator(out: &mut String, separator: &str, k: usize) -> VortexRes
 impl DType {
     ghost use Rattle.std.specs.Prelude.{◌≡◌};
 
+    /// What stands before the types inside; all but the mark where there are none.
+    fn opening(&self) -> &'static str
+        ensures { result.now ≡ opening (type_of self.now) }
+    {
+        match self {
+            DType::Null => "null",
+            DType::Bool(_) => "bool",
+            DType::Primitive(ptype, _) => ptype.text(),
+            DType::Utf8(_) => "utf8",
+            DType::Binary(_) => "binary",
+            DType::Struct(_, _) => "struct{",
+            DType::List(_, _) => "list[",
+            DType::FixedSizeList(_, _, _) => "list[",
+            DType::Map(_, _, _) => "map[",
+        }
+    }
+
+    /// What stands behind the types inside.
+    fn closing(&self) -> &'static str
+        ensures { result.now ≡ closing (type_of self.now) }
+    {
+        match self {
+            DType::Struct(_, _) => "}",
+            DType::List(_, _) => "]",
+            DType::FixedSizeList(_, _, _) => "]",
+            DType::Map(_, _, _) => "]",
+            _ => "",
+        }
+    }
+
     /// `?` where the type has null; Null itself needs no mark.
     fn null_mark(&self) -> &'static str
         ensures { result.now ≡ null_mark (type_of self.now) }
@@ -41,35 +72,26 @@ impl DType {
         ensures { AnswersUnlessMemory result
             (λ _. Appends out.old (type_text (type_of self.now)) out.new) }
     {
+        out.push_str(self.opening())?;
         match self {
-            DType::Null => out.push_str("null")?,
-            DType::Bool(_) => out.push_str("bool")?,
-            DType::Primitive(ptype, _) => out.push_str(ptype.text())?,
-            DType::Utf8(_) => out.push_str("utf8")?,
-            DType::Binary(_) => out.push_str("binary")?,
-            DType::Struct(fields, _) => {
-                out.push_str("struct{")?;
-                fields.write_text(out)?;
-                out.push_str("}")?;
-            }
-            DType::List(element, _) => {
-                out.push_str("list[")?;
-                element.write_text(out)?;
-                out.push_str("]")?;
-            }
+            DType::Null => {}
+            DType::Bool(_) => {}
+            DType::Primitive(_, _) => {}
+            DType::Utf8(_) => {}
+            DType::Binary(_) => {}
+            DType::Struct(fields, _) => fields.write_text(out)?,
+            DType::List(element, _) => element.write_text(out)?,
             DType::FixedSizeList(element, size, _) => {
-                out.push_str("list[")?;
                 element.write_text(out)?;
-                write!(out, "; {size}]")?;
+                write!(out, "; {size}")?;
             }
             DType::Map(key, value, _) => {
-                out.push_str("map[")?;
                 key.write_text(out)?;
                 out.push_str(", ")?;
                 value.write_text(out)?;
-                out.push_str("]")?;
             }
         }
+        out.push_str(self.closing())?;
         out.push_str(self.null_mark())?;
         Ok(())
     }
