@@ -10,3 +10,4 @@ pub mod TakenRows
 pub mod JointRows
 pub mod ValueTexts
 pub mod PrintedColumns
+pub mod ColumnWeights

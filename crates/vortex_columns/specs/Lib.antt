@@ -14,3 +14,4 @@ pub mod CellTypes
 pub mod Words
 pub mod Printing
 pub mod Shapes
+pub mod ColumnParts

@@ -3,6 +3,7 @@
 
 mod constructors;
 mod copies;
+mod letting_go;
 mod options;
 mod reads;
 mod stored;
@@ -10,6 +11,7 @@ mod taken;
 
 use crate::scalar::Scalar;
 use crate::validity::Validity;
+use letting_go::Within;
 use std::marker::Model;
 use vortex_bits::BitBuffer;
 use vortex_types::{DType, Ints};
@@ -17,7 +19,6 @@ use vortex_views::BinaryViews;
 
 /// Rows of one type.
 #[cycle(column)]
-#[derive(Drop)]
 pub struct Column {
     dtype: DType,
     len: usize,
@@ -72,4 +73,45 @@ impl Model for Column {
     ghost use Rattle.vortex_columns.specs.Falls.{storage_falls};
 
     ghost size_decreases = { λ a h. storage_falls a.len (type_of a.dtype) a.storage h };
+}
+
+/// A column is let go by a list of what is still to go, so its depth takes no stack; and lists
+/// within lists take no memory. Where the list cannot grow, what it has no place for goes by a call.
+impl Drop for Column {
+    #[tactic(auto, using(crate::proofs::ColumnWeights::weights))]
+    fn drop(self) {
+        let within = match self.within() {
+            Some(within) => within,
+            None => return,
+        };
+        let alloc = within.allocator();
+        let mut list = Vec::new(alloc);
+        let mut next = Some(within);
+        loop {
+            let here = match next {
+                Some(Within::One(column)) => Box::into_inner(column),
+                Some(Within::Two(keys, values)) => {
+                    if let Err(failed) = list.push(Box::into_inner(values)) {
+                        drop(failed.value);
+                    }
+                    Box::into_inner(keys)
+                }
+                Some(Within::Many(fields)) => {
+                    let mut fields = fields;
+                    let last = match fields.pop() {
+                        Some(last) => last,
+                        None => Column::null(0),
+                    };
+                    // what found no place goes with `fields`
+                    let _grown = list.append(&mut fields);
+                    last
+                }
+                None => match list.pop() {
+                    Some(last) => last,
+                    None => return,
+                },
+            };
+            next = here.within();
+        }
+    }
 }
