@@ -11,6 +11,7 @@ pub mod Made
 pub mod Options
 pub mod ScalarOf
 pub mod CellTypes
+pub mod CellOrder
 pub mod Words
 pub mod Printing
 pub mod Shapes

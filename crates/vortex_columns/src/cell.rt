@@ -1,8 +1,9 @@
 //! Values where they lie, in scalars and columns.
-ghost use Rattle.std.specs.Prelude.{◌≡◌, ◌<◌, map, length};
+ghost use Rattle.std.specs.Prelude.{◌≡◌, ◌<◌, ◌≤◌, map, length};
 ghost use Rattle.vortex_columns.specs.Words.{cell_value, sequence_value, sequence_values};
 ghost use Rattle.vortex_columns.specs.Words.{IsCell, IsSequence, value_of, value_or_null, row};
 ghost use Rattle.vortex_columns.specs.Words.{compare_values, kind_rank, AnswersUnlessMemory};
+ghost use Rattle.vortex_columns.specs.CellOrder.{single_order, order_of_firsts};
 
 use crate::column::Column;
 use std::alloc::Global;
@@ -55,7 +56,7 @@ pub fn cell_of(value: &ScalarValue) -> Cell<'_>
     }
 }
 
-impl Sequence<'_> {
+impl<'a> Sequence<'a> {
     /// How many values there are.
     pub fn len(&self) -> usize
         requires { IsSequence self.now }
@@ -71,7 +72,7 @@ impl Sequence<'_> {
     }
 
     /// The value in place `k`.
-    pub fn get(&self, k: usize) -> Cell<'_>
+    pub fn get(&self, k: usize) -> Cell<'a>
         requires whole { IsSequence self.now }
         requires k_in { k < length (sequence_values self.now) }
         ensures whole { IsCell result }
@@ -118,21 +119,45 @@ impl Cell<'_> {
         }
     }
 
-    /// The order of two values. Takes no memory.
-    #[cycle(compare)]
-    pub fn compare(&self, other: &Cell<'_>) -> Ordering
-        requires self_whole { IsCell self.now }
-        requires other_whole { IsCell other.now }
-        ensures { result ≡ compare_values (cell_value self.now) (cell_value other.now) }
+    /// The order of two values, and `Equal` of two sequences, whose values are not looked at.
+    fn compare_single(&self, other: &Cell<'_>) -> Ordering
+        ensures { result ≡ single_order (cell_value self.now) (cell_value other.now) }
     {
         match (self, other) {
             (Cell::Bool(a), Cell::Bool(b)) => a.cmp(b),
             (Cell::Int(a), Cell::Int(b)) => a.cmp(b),
             (Cell::Text(a), Cell::Text(b)) => a.cmp(b),
             (Cell::Bytes(a), Cell::Bytes(b)) => a.cmp(b),
-            (Cell::Sequence(a), Cell::Sequence(b)) => compare_sequences(a, b),
             _ => self.rank().cmp(&other.rank()),
         }
+    }
+
+    /// The order of two values: of two lists that of the first values that differ, and else the
+    /// shorter one is less. Takes no memory, and no stack for what stands last in a list.
+    #[cycle(compare)]
+    pub fn compare(&self, other: &Cell<'_>) -> Ordering
+        requires self_whole { IsCell self.now }
+        requires other_whole { IsCell other.now }
+        ensures { result ≡ compare_values (cell_value self.now) (cell_value other.now) }
+    {
+        let mut left = *self;
+        let mut right = *other;
+        // the order of the lengths around, those of the innermost lists first
+        let mut on_equal = Ordering::Equal;
+        while let (Cell::Sequence(a), Cell::Sequence(b)) = (left, right) {
+            let shared = a.len().min(b.len());
+            on_equal = a.len().cmp(&b.len()).then(on_equal);
+            if shared == 0 {
+                return on_equal;
+            }
+            match compare_firsts(&a, &b, shared - 1) {
+                Ordering::Equal => {}
+                order => return order,
+            }
+            left = a.get(shared - 1);
+            right = b.get(shared - 1);
+        }
+        left.compare_single(&right).then(on_equal)
     }
 }
 
@@ -168,19 +193,20 @@ fn copy_values(alloc: Global, values: &Sequence<'_>) -> VortexResult<Vec<Option<
     Ok(copies)
 }
 
-/// The order of two lists: by the first values that differ, and else the shorter one is less.
+/// The order of the first so many values of two lists.
 #[cycle(compare)]
-fn compare_sequences(a: &Sequence<'_>, b: &Sequence<'_>) -> Ordering
+fn compare_firsts(a: &Sequence<'_>, b: &Sequence<'_>, count: usize) -> Ordering
     requires a_whole { IsSequence a.now }
     requires b_whole { IsSequence b.now }
-    ensures { result ≡ compare_values (sequence_value a.now) (sequence_value b.now) }
+    requires a_has { count ≤ length (sequence_values a.now) }
+    requires b_has { count ≤ length (sequence_values b.now) }
+    ensures { result ≡ order_of_firsts count (sequence_values a.now) (sequence_values b.now) }
 {
-    let shared = a.len().min(b.len());
-    for k in 0..shared {
-        match a.get(k).compare(&b.get(k)) {
-            Ordering::Equal => {}
-            order => return order,
+    for k in 0..count {
+        let order = a.get(k).compare(&b.get(k));
+        if order.is_ne() {
+            return order;
         }
     }
-    a.len().cmp(&b.len())
+    Ordering::Equal
 }
