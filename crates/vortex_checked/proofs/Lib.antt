@@ -1,2 +1,1 @@
 pub mod WideProduct
-pub mod Outside

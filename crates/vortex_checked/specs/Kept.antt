@@ -20,7 +20,7 @@ signed_keeps w (pos n) h = int_wrap_fits w (pos n) (omega (arith, ints, h.1, pow
 signed_keeps w (negsuc n) h =
     int_wrap_fits w (negsuc n) (omega (arith, ints, h.0, pow_pos (hbits w)))
 
-pub outside_not : (least greatest z : ℤ) → IsWithin least greatest z
+outside_not : (least greatest z : ℤ) → IsWithin least greatest z
     → is_outside least greatest z ≡ false
 outside_not least greatest z h = by (int_lt z least) (int_lt greatest z) refl refl
   where
