@@ -1,6 +1,7 @@
 //! Lists of integers of one type.
-ghost use Rattle.std.specs.Prelude.{◌≡◌, ◌<◌, All, length, map, pos, slice_index_or};
+ghost use Rattle.std.specs.Prelude.{◌≡◌, ◌<◌, All, IfOk, length, map, pos, slice_index_or};
 ghost use Rattle.vortex_types.specs.Typing.{FitsPType};
+ghost use Rattle.vortex_types.specs.Numbers.{numbers, ptype_of};
 
 mod signed;
 mod unsigned;
@@ -78,14 +79,14 @@ impl Clone for Ints {
 
     fn clone(&self) -> Result<Ints, AllocError> {
         match self {
-            Ints::I8(xs) => Ok(Ints::I8(xs.as_slice().to_vec(*xs.allocator())?)),
-            Ints::I16(xs) => Ok(Ints::I16(xs.as_slice().to_vec(*xs.allocator())?)),
-            Ints::I32(xs) => Ok(Ints::I32(xs.as_slice().to_vec(*xs.allocator())?)),
-            Ints::I64(xs) => Ok(Ints::I64(xs.as_slice().to_vec(*xs.allocator())?)),
-            Ints::U8(xs) => Ok(Ints::U8(xs.as_slice().to_vec(*xs.allocator())?)),
-            Ints::U16(xs) => Ok(Ints::U16(xs.as_slice().to_vec(*xs.allocator())?)),
-            Ints::U32(xs) => Ok(Ints::U32(xs.as_slice().to_vec(*xs.allocator())?)),
-            Ints::U64(xs) => Ok(Ints::U64(xs.as_slice().to_vec(*xs.allocator())?)),
+            Ints::I8(xs) => copy_of(xs),
+            Ints::I16(xs) => copy_of(xs),
+            Ints::I32(xs) => copy_of(xs),
+            Ints::I64(xs) => copy_of(xs),
+            Ints::U8(xs) => copy_of(xs),
+            Ints::U16(xs) => copy_of(xs),
+            Ints::U32(xs) => copy_of(xs),
+            Ints::U64(xs) => copy_of(xs),
         }
     }
 }
@@ -138,6 +139,16 @@ fn number_at<T: NativePType>(values: &Vec<T>, i: usize) -> i128
     ensures { result ≡ slice_index_or (map T.number values.now.items) i (pos 0) }
 {
     values[i].to_i128()
+}
+
+/// A copy of integers of one type.
+fn copy_of<T: NativePType>(values: &Vec<T>) -> Result<Ints, AllocError>
+    requires { (x y : T) → T.is_clone x y → y ≡ x }
+    ensures { IfOk result (λ copy. (ptype_of copy ≡ T.ptype)
+        × (numbers copy ≡ map T.number values.now.items)) }
+{
+    let copy = values.as_slice().to_vec(*values.allocator())?;
+    Ok(T::wrap(copy))
 }
 
 /// Looks at each number, so that a caller knows that it lies in the range of its type. Changes
