@@ -75,8 +75,9 @@ impl Model for Column {
     ghost size_decreases = { λ a h. storage_falls a.len (type_of a.dtype) a.storage h };
 }
 
-/// A column is let go by a list of what is still to go, so its depth takes no stack; and lists
-/// within lists take no memory. Where the list cannot grow, what it has no place for goes by a call.
+/// A column is let go by a list of what is still to go, so its depth takes no stack. Lists within
+/// lists take no memory, and the fields of a struct are themselves the list where that is empty.
+/// Where the list cannot grow, what it has no place for goes by a call.
 impl Drop for Column {
     #[tactic(auto, using(crate::proofs::ColumnWeights::weights))]
     fn drop(self) {
@@ -102,8 +103,12 @@ impl Drop for Column {
                         Some(last) => last,
                         None => Column::null(0),
                     };
-                    // what found no place goes with `fields`
-                    let _grown = list.append(&mut fields);
+                    if list.is_empty() {
+                        list = fields;
+                    } else {
+                        // what found no place goes with `fields`
+                        let _grown = list.append(&mut fields);
+                    }
                     last
                 }
                 None => match list.pop() {

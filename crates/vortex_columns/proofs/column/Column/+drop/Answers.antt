@@ -15,3 +15,9 @@ drop-fields-requires t c κs =
     let rest : deepest c.append-grown.new.other.items ≤ deepest c.in-Some-Many.fields.items =
     search (rules, c.pop.ensures.items, c.append-grown.ensures.other_items, deepest_append) in
     ((omega (arith, held, rest, c.decreases, sizes c.append-grown.new.other.items), tt), search rules)
+
+pub drop-list-requires : goal.drop-list-requires
+drop-list-requires t c κs = (
+  (omega (arith, c.loop-next.invariant, c.decreases, sizes c.loop-next.list.items), tt),
+  search rules,
+)
