@@ -2,6 +2,8 @@
 ghost use Rattle.std.specs.Prelude.{◌≡◌, ◌↔◌, IsTrue, All, map, length};
 ghost use Rattle.vortex_columns.specs.Words.{AnswersUnlessMemory, AnswersWhere, InvalidColumn};
 ghost use Rattle.vortex_columns.specs.Words.{AreTyped, FitsRows, type_of, validity_of};
+ghost use Rattle.vortex_columns.specs.Words.{allows_null};
+ghost use Rattle.vortex_types.specs.LogicalTypes.{map_type};
 
 use super::{Column, Elements, Storage};
 use crate::lists::{are_texts, is_product, learn_bytes, learn_texts, lie_within};
@@ -10,7 +12,7 @@ use crate::validity::Validity;
 use std::alloc::Global;
 use vortex_bits::BitBuffer;
 use vortex_types::ints::learn_ranges;
-use vortex_types::{DType, NativePType, StructFields, VortexError, VortexResult};
+use vortex_types::{DType, NativePType, Nullability, StructFields, VortexError, VortexResult};
 use vortex_views::{BinaryView, BinaryViews, collect_views};
 
 /// Looks at each column, whose rows have its type.
@@ -44,6 +46,25 @@ fn types_of(alloc: Global, columns: &Vec<Column>) -> VortexResult<Vec<DType>>
         types.push(column.dtype().try_clone(alloc)?)?;
     }
     Ok(types)
+}
+
+/// The type of maps from keys to values, whose rows have their types.
+fn type_of_maps(
+    alloc: Global,
+    keys: &Column,
+    values: &Column,
+    nullability: Nullability,
+) -> VortexResult<DType>
+    ensures dtype { AnswersUnlessMemory result (λ t. type_of t
+        ≡ map_type keys.now.dtype values.now.dtype (allows_null nullability)) }
+    ensures typed { AreTyped keys.now.dtype keys.now.rows
+        × AreTyped values.now.dtype values.now.rows }
+{
+    let key = keys.dtype();
+    let value = values.dtype();
+    let key = Box::new(alloc, key.try_clone(alloc)?)?;
+    let value = Box::new(alloc, value.try_clone(alloc)?)?;
+    Ok(DType::Map(key, value, nullability))
 }
 
 /// Each call that makes a column but `null` is handed an allocator and may refuse for memory (E9),
@@ -385,9 +406,7 @@ impl Column {
         if !validity.fits(len) || !lie_within(keys.len(), &offsets, &sizes) {
             return Err(VortexError::InvalidColumn);
         }
-        let key = Box::new(alloc, keys.dtype().try_clone(alloc)?)?;
-        let value = Box::new(alloc, values.dtype().try_clone(alloc)?)?;
-        let dtype = DType::Map(key, value, validity.nullability());
+        let dtype = type_of_maps(alloc, &keys, &values, validity.nullability())?;
         let keys = Box::new(alloc, keys)?;
         let values = Box::new(alloc, values)?;
         Ok(Column {
