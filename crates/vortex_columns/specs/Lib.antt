@@ -12,6 +12,7 @@ pub mod Options
 pub mod ScalarOf
 pub mod CellTypes
 pub mod CellOrder
+pub mod Questions
 pub mod Words
 pub mod Printing
 pub mod Shapes
