@@ -3,6 +3,7 @@
 
 mod constructors;
 mod copies;
+mod nested;
 mod options;
 mod reads;
 mod stored;

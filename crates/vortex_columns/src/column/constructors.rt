@@ -3,8 +3,9 @@ ghost use Rattle.std.specs.Prelude.{◌≡◌, ◌↔◌, IsTrue, All, map, leng
 ghost use Rattle.vortex_columns.specs.Words.{AnswersUnlessMemory, AnswersWhere, InvalidColumn};
 ghost use Rattle.vortex_columns.specs.Words.{AreTyped, FitsRows, type_of, validity_of};
 
+use super::nested::{fixed_size_list_type_of, list_type_of, map_type_of, of_lists, of_maps};
 use super::{Column, Elements, Storage};
-use crate::lists::{are_texts, is_product, learn_bytes, learn_texts, lie_within};
+use crate::lists::{are_texts, learn_bytes, learn_texts};
 use crate::scalar::Scalar;
 use crate::validity::Validity;
 use std::alloc::Global;
@@ -320,19 +321,12 @@ impl Column {
             InvalidColumn }
     {
         let len = offsets.len();
-        if sizes.len() != len
-            || !validity.fits(len)
-            || !lie_within(elements.len(), &offsets, &sizes)
-        {
-            return Err(VortexError::InvalidColumn);
-        }
-        let element = elements.dtype().try_clone(alloc)?;
-        let dtype = DType::List(Box::new(alloc, element)?, validity.nullability());
-        let elements = Box::new(alloc, elements)?;
+        let dtype = list_type_of(alloc, &elements, &offsets, &sizes, &validity)?;
+        let lists = of_lists(alloc, elements, offsets, sizes)?;
         Ok(Column {
             dtype,
             len,
-            storage: Storage::Rows(Elements::List(elements, offsets, sizes), validity),
+            storage: Storage::Rows(lists, validity),
         })
     }
 
@@ -350,11 +344,7 @@ impl Column {
             (λ c. c ≡ fixed_size_list_column elements size len (validity_of validity))
             InvalidColumn }
     {
-        if !is_product(elements.len(), size, len) || !validity.fits(len) {
-            return Err(VortexError::InvalidColumn);
-        }
-        let element = Box::new(alloc, elements.dtype().try_clone(alloc)?)?;
-        let dtype = DType::FixedSizeList(element, size, validity.nullability());
+        let dtype = fixed_size_list_type_of(alloc, &elements, size, len, &validity)?;
         let elements = Box::new(alloc, elements)?;
         Ok(Column {
             dtype,
@@ -379,21 +369,12 @@ impl Column {
             InvalidColumn }
     {
         let len = offsets.len();
-        if keys.len() != values.len() || sizes.len() != len {
-            return Err(VortexError::InvalidColumn);
-        }
-        if !validity.fits(len) || !lie_within(keys.len(), &offsets, &sizes) {
-            return Err(VortexError::InvalidColumn);
-        }
-        let key = Box::new(alloc, keys.dtype().try_clone(alloc)?)?;
-        let value = Box::new(alloc, values.dtype().try_clone(alloc)?)?;
-        let dtype = DType::Map(key, value, validity.nullability());
-        let keys = Box::new(alloc, keys)?;
-        let values = Box::new(alloc, values)?;
+        let dtype = map_type_of(alloc, &keys, &values, &offsets, &sizes, &validity)?;
+        let maps = of_maps(alloc, keys, values, offsets, sizes)?;
         Ok(Column {
             dtype,
             len,
-            storage: Storage::Rows(Elements::Map(keys, values, offsets, sizes), validity),
+            storage: Storage::Rows(maps, validity),
         })
     }
 }
