@@ -4,6 +4,7 @@
 mod constructors;
 mod copies;
 mod letting_go;
+mod nested;
 mod options;
 mod reads;
 mod stored;

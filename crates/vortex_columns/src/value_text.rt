@@ -1,10 +1,13 @@
 //! The texts of values, written behind what a text holds already.
+ghost use Rattle.std.specs.Prelude.{◌++◌, codes};
+ghost use Rattle.std.specs.Fmt.{signed_decimal};
 ghost use Rattle.std.specs.List.{flat_map};
-ghost use Rattle.vortex_types.specs.Texts.{Appends, joined, comma};
+ghost use Rattle.vortex_types.specs.Texts.{Appends, joined, comma, quote};
 ghost use Rattle.vortex_columns.specs.Words.{AnswersUnlessMemory, cell_value, IsCell, IsSequence};
 ghost use Rattle.vortex_columns.specs.Words.{sequence_value, values_in};
 ghost use Rattle.vortex_columns.specs.ColumnView.{fields_in};
 ghost use Rattle.vortex_columns.specs.Printing.{hex_text, value_text, value_texts, field_texts};
+ghost use Rattle.vortex_columns.specs.Printing.{number_suffix};
 ghost use Rattle.vortex_columns.specs.Shapes.{shape_type};
 
 use crate::cell::{Cell, Sequence};
@@ -22,7 +25,7 @@ impl<'a> Shape<'a> {
     ghost use Rattle.std.specs.Prelude.{◌≡◌, ◌<◌};
     ghost use Rattle.vortex_types.specs.LogicalTypes.{field_count, field_type};
     ghost use Rattle.vortex_types.specs.FieldNames.{field_name};
-    ghost use Rattle.vortex_columns.specs.Printing.{number_suffix, element_type};
+    ghost use Rattle.vortex_columns.specs.Printing.{element_type};
     ghost use Rattle.vortex_columns.specs.Shapes.{is_struct};
 
     /// What follows a whole number: its type, where numbers are typed.
@@ -108,6 +111,44 @@ fn write_bytes(out: &mut String, bytes: &[u8]) -> VortexResult<()>
     Ok(())
 }
 
+/// A word as it stands.
+fn write_word(out: &mut String, word: &str) -> VortexResult<()>
+    ensures { AnswersUnlessMemory result (λ _. Appends out.old word.now out.new) }
+{
+    out.push_str(word)?;
+    Ok(())
+}
+
+/// A whole number, and its type where numbers are typed.
+fn write_number(out: &mut String, typed: bool, shape: Shape<'_>, n: i128) -> VortexResult<()>
+    ensures { AnswersUnlessMemory result (λ _. Appends out.old
+        (signed_decimal n ++ number_suffix typed (shape_type shape.entry)) out.new) }
+{
+    write!(out, "{n}")?;
+    out.push_str(shape.number_suffix(typed))?;
+    Ok(())
+}
+
+/// A text between quotes.
+fn write_quoted(out: &mut String, text: &str) -> VortexResult<()>
+    ensures { AnswersUnlessMemory result
+        (λ _. Appends out.old (quote ++ text.now ++ quote) out.new) }
+{
+    out.push_str("\"")?;
+    out.push_str(text)?;
+    out.push_str("\"")?;
+    Ok(())
+}
+
+/// Bytes, by two digits each.
+fn write_hexadecimal(out: &mut String, bytes: &[u8]) -> VortexResult<()>
+    ensures { AnswersUnlessMemory result
+        (λ _. Appends out.old (codes "0x" ++ flat_map hex_text bytes.now) out.new) }
+{
+    out.push_str("0x")?;
+    write_bytes(out, bytes)
+}
+
 /// A value of that type, with the type behind each whole number where numbers are `typed`.
 #[cycle(value_text)]
 pub(crate) fn write_value(
@@ -122,25 +163,14 @@ pub(crate) fn write_value(
         out.new) }
 {
     match cell {
-        Cell::Null => out.push_str("null")?,
-        Cell::Bool(true) => out.push_str("true")?,
-        Cell::Bool(false) => out.push_str("false")?,
-        Cell::Int(n) => {
-            write!(out, "{n}")?;
-            out.push_str(shape.number_suffix(typed))?;
-        }
-        Cell::Text(text) => {
-            out.push_str("\"")?;
-            out.push_str(text)?;
-            out.push_str("\"")?;
-        }
-        Cell::Bytes(bytes) => {
-            out.push_str("0x")?;
-            write_bytes(out, bytes)?;
-        }
-        Cell::Sequence(values) => write_sequence(out, typed, shape, values)?,
+        Cell::Null => write_word(out, "null"),
+        Cell::Bool(true) => write_word(out, "true"),
+        Cell::Bool(false) => write_word(out, "false"),
+        Cell::Int(n) => write_number(out, typed, shape, *n),
+        Cell::Text(text) => write_quoted(out, text),
+        Cell::Bytes(bytes) => write_hexadecimal(out, bytes),
+        Cell::Sequence(values) => write_sequence(out, typed, shape, values),
     }
-    Ok(())
 }
 
 #[cycle(value_text)]

@@ -2,17 +2,16 @@
 ghost use Rattle.std.specs.Prelude.{◌≡◌, ◌↔◌, IsTrue, All, map, length};
 ghost use Rattle.vortex_columns.specs.Words.{AnswersUnlessMemory, AnswersWhere, InvalidColumn};
 ghost use Rattle.vortex_columns.specs.Words.{AreTyped, FitsRows, type_of, validity_of};
-ghost use Rattle.vortex_columns.specs.Words.{allows_null};
-ghost use Rattle.vortex_types.specs.LogicalTypes.{map_type};
 
+use super::nested::{fixed_size_list_type_of, list_type_of, map_type_of, of_lists, of_maps};
 use super::{Column, Elements, Storage};
-use crate::lists::{are_texts, is_product, learn_bytes, learn_texts, lie_within};
+use crate::lists::{are_texts, learn_bytes, learn_texts};
 use crate::scalar::Scalar;
 use crate::validity::Validity;
 use std::alloc::Global;
 use vortex_bits::BitBuffer;
 use vortex_types::ints::learn_ranges;
-use vortex_types::{DType, NativePType, Nullability, StructFields, VortexError, VortexResult};
+use vortex_types::{DType, NativePType, StructFields, VortexError, VortexResult};
 use vortex_views::{BinaryView, BinaryViews, collect_views};
 
 /// Looks at each column, whose rows have its type.
@@ -46,25 +45,6 @@ fn types_of(alloc: Global, columns: &Vec<Column>) -> VortexResult<Vec<DType>>
         types.push(column.dtype().try_clone(alloc)?)?;
     }
     Ok(types)
-}
-
-/// The type of maps from keys to values, whose rows have their types.
-fn type_of_maps(
-    alloc: Global,
-    keys: &Column,
-    values: &Column,
-    nullability: Nullability,
-) -> VortexResult<DType>
-    ensures dtype { AnswersUnlessMemory result (λ t. type_of t
-        ≡ map_type keys.now.dtype values.now.dtype (allows_null nullability)) }
-    ensures typed { AreTyped keys.now.dtype keys.now.rows
-        × AreTyped values.now.dtype values.now.rows }
-{
-    let key = keys.dtype();
-    let value = values.dtype();
-    let key = Box::new(alloc, key.try_clone(alloc)?)?;
-    let value = Box::new(alloc, value.try_clone(alloc)?)?;
-    Ok(DType::Map(key, value, nullability))
 }
 
 /// Each call that makes a column but `null` is handed an allocator and may refuse for memory (E9),
@@ -341,19 +321,12 @@ impl Column {
             InvalidColumn }
     {
         let len = offsets.len();
-        if sizes.len() != len
-            || !validity.fits(len)
-            || !lie_within(elements.len(), &offsets, &sizes)
-        {
-            return Err(VortexError::InvalidColumn);
-        }
-        let element = elements.dtype().try_clone(alloc)?;
-        let dtype = DType::List(Box::new(alloc, element)?, validity.nullability());
-        let elements = Box::new(alloc, elements)?;
+        let dtype = list_type_of(alloc, &elements, &offsets, &sizes, &validity)?;
+        let lists = of_lists(alloc, elements, offsets, sizes)?;
         Ok(Column {
             dtype,
             len,
-            storage: Storage::Rows(Elements::List(elements, offsets, sizes), validity),
+            storage: Storage::Rows(lists, validity),
         })
     }
 
@@ -371,11 +344,7 @@ impl Column {
             (λ c. c ≡ fixed_size_list_column elements size len (validity_of validity))
             InvalidColumn }
     {
-        if !is_product(elements.len(), size, len) || !validity.fits(len) {
-            return Err(VortexError::InvalidColumn);
-        }
-        let element = Box::new(alloc, elements.dtype().try_clone(alloc)?)?;
-        let dtype = DType::FixedSizeList(element, size, validity.nullability());
+        let dtype = fixed_size_list_type_of(alloc, &elements, size, len, &validity)?;
         let elements = Box::new(alloc, elements)?;
         Ok(Column {
             dtype,
@@ -400,19 +369,12 @@ impl Column {
             InvalidColumn }
     {
         let len = offsets.len();
-        if keys.len() != values.len() || sizes.len() != len {
-            return Err(VortexError::InvalidColumn);
-        }
-        if !validity.fits(len) || !lie_within(keys.len(), &offsets, &sizes) {
-            return Err(VortexError::InvalidColumn);
-        }
-        let dtype = type_of_maps(alloc, &keys, &values, validity.nullability())?;
-        let keys = Box::new(alloc, keys)?;
-        let values = Box::new(alloc, values)?;
+        let dtype = map_type_of(alloc, &keys, &values, &offsets, &sizes, &validity)?;
+        let maps = of_maps(alloc, keys, values, offsets, sizes)?;
         Ok(Column {
             dtype,
             len,
-            storage: Storage::Rows(Elements::Map(keys, values, offsets, sizes), validity),
+            storage: Storage::Rows(maps, validity),
         })
     }
 }

@@ -3,6 +3,7 @@ ghost use Rattle.std.specs.Prelude.{◌≡◌, IfOk};
 ghost use Rattle.vortex_columns.specs.Words.{AnswersUnlessMemory};
 ghost use Rattle.vortex_columns.specs.Stored.{kept_of, stored_of};
 
+use super::nested::{of_lists, of_maps};
 use super::{Column, Elements, Storage};
 use std::alloc::{AllocError, Global};
 use vortex_types::VortexResult;
@@ -26,6 +27,18 @@ fn copy_places(places: &Vec<usize>) -> Result<Vec<usize>, AllocError>
     places.as_slice().to_vec(*places.allocator())
 }
 
+/// Copies of offsets and sizes.
+fn copy_ranges(
+    offsets: &Vec<usize>,
+    sizes: &Vec<usize>,
+) -> Result<(Vec<usize>, Vec<usize>), AllocError>
+    ensures { IfOk result
+        (λ p. (p.0.items ≡ offsets.now.items) × (p.1.items ≡ sizes.now.items)) }
+{
+    let copied = copy_places(offsets)?;
+    Ok((copied, copy_places(sizes)?))
+}
+
 impl Elements {
     #[cycle(clone_column)]
     fn copy(&self) -> Result<Elements, AllocError>
@@ -38,21 +51,18 @@ impl Elements {
             Elements::Binary(values) => Ok(Elements::Binary(values.clone()?)),
             Elements::Struct(fields) => Ok(Elements::Struct(copy_columns(fields)?)),
             Elements::List(elements, offsets, sizes) => {
-                let elements = Box::new(*Box::allocator(elements), elements.copy()?)?;
-                let offsets = copy_places(offsets)?;
-                let sizes = copy_places(sizes)?;
-                Ok(Elements::List(elements, offsets, sizes))
+                let (offsets, sizes) = copy_ranges(offsets, sizes)?;
+                of_lists(*Box::allocator(elements), elements.copy()?, offsets, sizes)
             }
             Elements::FixedSizeList(elements, size) => {
                 let elements = Box::new(*Box::allocator(elements), elements.copy()?)?;
                 Ok(Elements::FixedSizeList(elements, *size))
             }
             Elements::Map(keys, values, offsets, sizes) => {
-                let keys = Box::new(*Box::allocator(keys), keys.copy()?)?;
-                let values = Box::new(*Box::allocator(values), values.copy()?)?;
-                let offsets = copy_places(offsets)?;
-                let sizes = copy_places(sizes)?;
-                Ok(Elements::Map(keys, values, offsets, sizes))
+                let (offsets, sizes) = copy_ranges(offsets, sizes)?;
+                let alloc = *Box::allocator(keys);
+                let keys = keys.copy()?;
+                of_maps(alloc, keys, values.copy()?, offsets, sizes)
             }
         }
     }
@@ -67,8 +77,8 @@ impl Storage {
             Storage::Null => Ok(Storage::Null),
             Storage::Constant(scalar) => Ok(Storage::Constant(scalar.clone()?)),
             Storage::Rows(elements, validity) => {
-                let elements = elements.copy()?;
-                Ok(Storage::Rows(elements, validity.clone()?))
+                let validity = validity.clone()?;
+                Ok(Storage::Rows(elements.copy()?, validity))
             }
         }
     }

@@ -5,7 +5,7 @@ ghost use Rattle.std.specs.Prelude.{pos, false};
 ghost use Rattle.std.specs.Prelude.{[], slice_index, slice_index_or};
 ghost use Rattle.vortex_columns.specs.Words.{AnswersUnlessMemory, validity_of};
 ghost use Rattle.vortex_columns.specs.ValidityView.{Reaches};
-ghost use Rattle.vortex_columns.specs.Stored.{kept_of, stored_of, HasRow};
+ghost use Rattle.vortex_columns.specs.Stored.{kept_of, stored_of, HasRow, lists, maps};
 ghost use Rattle.vortex_columns.specs.Taken.{AreRowsOf, taken, taken_kept, taken_validity};
 ghost use Rattle.vortex_columns.specs.Taken.{taken_stored, element_places, ArePlaces};
 ghost use Rattle.vortex_views.specs.Places.{places_of};
@@ -13,6 +13,7 @@ ghost use Rattle.vortex_types.specs.Numbers.{numbers, ptype_of};
 ghost use Rattle.std.specs.List.{range_with_len};
 ghost use Rattle.std.specs.Vec.{vec_len, vec_capacity};
 
+use super::nested::{of_lists, of_maps};
 use super::{Column, Elements, Storage};
 use crate::validity::Validity;
 use std::alloc::{AllocError, Global};
@@ -138,6 +139,52 @@ fn take_validity(alloc: Global, validity: &Validity, places: &Places<'_>) -> Vor
     }
 }
 
+/// The lists at these places, of a copy of the elements.
+fn take_lists(
+    alloc: Global,
+    elements: &Column,
+    offsets: &Vec<usize>,
+    sizes: &Vec<usize>,
+    places: &Places<'_>,
+) -> VortexResult<Elements>
+    requires offsets { All (λ i. i < length offsets.now.items) (places_of places.now) }
+    requires sizes { All (λ i. i < length sizes.now.items) (places_of places.now) }
+    ensures { AnswersUnlessMemory result (λ e. kept_of e ≡ lists elements.now
+        (map (slice_index offsets.now.items) (places_of places.now))
+        (map (slice_index sizes.now.items) (places_of places.now))) }
+{
+    let taken_offsets = gather(alloc, offsets, places)?;
+    let taken_sizes = gather(alloc, sizes, places)?;
+    Ok(of_lists(
+        alloc,
+        elements.try_clone(alloc)?,
+        taken_offsets,
+        taken_sizes,
+    )?)
+}
+
+/// The maps at these places, of copies of the keys and values.
+fn take_maps(
+    alloc: Global,
+    keys: &Column,
+    values: &Column,
+    offsets: &Vec<usize>,
+    sizes: &Vec<usize>,
+    places: &Places<'_>,
+) -> VortexResult<Elements>
+    requires offsets { All (λ i. i < length offsets.now.items) (places_of places.now) }
+    requires sizes { All (λ i. i < length sizes.now.items) (places_of places.now) }
+    ensures { AnswersUnlessMemory result (λ e. kept_of e ≡ maps keys.now values.now
+        (map (slice_index offsets.now.items) (places_of places.now))
+        (map (slice_index sizes.now.items) (places_of places.now))) }
+{
+    let taken_offsets = gather(alloc, offsets, places)?;
+    let taken_sizes = gather(alloc, sizes, places)?;
+    let keys = keys.try_clone(alloc)?;
+    let values = values.try_clone(alloc)?;
+    Ok(of_maps(alloc, keys, values, taken_offsets, taken_sizes)?)
+}
+
 /// The same rows of each column.
 #[cycle(take_column)]
 fn take_columns(
@@ -172,10 +219,7 @@ impl Elements {
             Elements::Binary(values) => Ok(Elements::Binary(values.gather(alloc, places)?)),
             Elements::Struct(fields) => Ok(Elements::Struct(take_columns(alloc, fields, places)?)),
             Elements::List(elements, offsets, sizes) => {
-                let elements = Box::new(alloc, elements.try_clone(alloc)?)?;
-                let offsets = gather(alloc, offsets, places)?;
-                let sizes = gather(alloc, sizes, places)?;
-                Ok(Elements::List(elements, offsets, sizes))
+                take_lists(alloc, elements, offsets, sizes, places)
             }
             Elements::FixedSizeList(elements, size) => {
                 // so that the places are known to fit
@@ -185,11 +229,7 @@ impl Elements {
                 Ok(Elements::FixedSizeList(Box::new(alloc, elements)?, *size))
             }
             Elements::Map(keys, values, offsets, sizes) => {
-                let keys = Box::new(alloc, keys.try_clone(alloc)?)?;
-                let values = Box::new(alloc, values.try_clone(alloc)?)?;
-                let offsets = gather(alloc, offsets, places)?;
-                let sizes = gather(alloc, sizes, places)?;
-                Ok(Elements::Map(keys, values, offsets, sizes))
+                take_maps(alloc, keys, values, offsets, sizes, places)
             }
         }
     }
@@ -206,9 +246,8 @@ impl Storage {
             Storage::Null => Ok(Storage::Null),
             Storage::Constant(scalar) => Ok(Storage::Constant(scalar.try_clone(alloc)?)),
             Storage::Rows(elements, validity) => {
-                let elements = elements.take(alloc, places)?;
                 let validity = take_validity(alloc, validity, places)?;
-                Ok(Storage::Rows(elements, validity))
+                Ok(Storage::Rows(elements.take(alloc, places)?, validity))
             }
         }
     }

@@ -5,11 +5,11 @@ use Rattle.vortex_views.specs.Places.{places_of}
 use Rattle.vortex_columns.specs.declared.column.Elements.{Elements}
 use Rattle.vortex_columns.specs.declared.column.Storage.{Storage}
 use Rattle.vortex_columns.specs.declared.column.Column.TheDeep.{deep-Storage, deep-Elements}
-use Rattle.vortex_columns.specs.Stored.{kept_of, stored_of, HasRow, lists, maps}
+use Rattle.vortex_columns.specs.Stored.{kept_of, stored_of, HasRow}
 use Rattle.vortex_columns.specs.Falls.{storage_falls}
 use Rattle.vortex_types.specs.LogicalTypes.{type_depth}
 use Rattle.vortex_types.specs.TypeOf.{type_of}
-use Rattle.vortex_columns.specs.Taken.{ArePlaces, taken_kept}
+use Rattle.vortex_columns.specs.Taken.{ArePlaces}
 use Rattle.vortex_columns.proofs.StoredRows.{opened_has_row}
 use Rattle.vortex_columns.proofs.ElementPlaces.{element_places_lie}
 use Rattle.vortex_columns.proofs.TakenRows.{opened_taken_stored, opened_taken_view}
@@ -67,19 +67,12 @@ Elements::take-take_columns-requires t c =
           c.in-Struct.is c.requires k d h j e b,
     )
 
-pub Elements::take-gather-requires-in-List : goal.Elements::take-gather-requires-in-List
-Elements::take-gather-requires-in-List t c k d h =
+pub Elements::take-take_lists-requires : goal.Elements::take-take_lists-requires
+Elements::take-take_lists-requires t c =
     let here =
     subst (λ (e : Elements). ArePlaces (places_of c.args.places.now) (kept_of e)) c.in-List.is
-    c.requires k d h in
-    omega (arith, here.0, ap length c.deref-in-List.ensures.value)
-
-pub Elements::take-gather-requires-in-List-2 : goal.Elements::take-gather-requires-in-List-2
-Elements::take-gather-requires-in-List-2 t c k d h =
-    let here =
-    subst (λ (e : Elements). ArePlaces (places_of c.args.places.now) (kept_of e)) c.in-List.is
-    c.requires k d h in
-    omega (arith, here.1, ap length c.deref-in-List-2.ensures.value)
+    c.requires in
+    record { offsets = λ k d h. (here k d h).0; sizes = λ k d h. (here k d h).1 }
 
 pub Elements::take-element_places-requires : goal.Elements::take-element_places-requires
 Elements::take-element_places-requires t c k d h =
@@ -111,45 +104,12 @@ Elements::take-take_places-requires t c =
           (arith, lie k d h, ap (λ e. length e.rows) c.deref-in-FixedSizeList-2.ensures),
     )
 
-pub Elements::take-gather-requires-in-Map : goal.Elements::take-gather-requires-in-Map
-Elements::take-gather-requires-in-Map t c k d h =
+pub Elements::take-take_maps-requires : goal.Elements::take-take_maps-requires
+Elements::take-take_maps-requires t c =
     let here =
     subst (λ (e : Elements). ArePlaces (places_of c.args.places.now) (kept_of e)) c.in-Map.is
-    c.requires k d h in
-    omega (arith, here.0, ap length c.deref-in-Map-3.ensures.value)
-
-pub Elements::take-gather-requires-in-Map-2 : goal.Elements::take-gather-requires-in-Map-2
-Elements::take-gather-requires-in-Map-2 t c k d h =
-    let here =
-    subst (λ (e : Elements). ArePlaces (places_of c.args.places.now) (kept_of e)) c.in-Map.is
-    c.requires k d h in
-    omega (arith, here.1, ap length c.deref-in-Map-4.ensures.value)
-
-pub Elements::take-returns-in_ok-sizes-in-List : goal.Elements::take-returns-in_ok-sizes-in-List
-Elements::take-returns-in_ok-sizes-in-List t c =
-    (λ i. lists
-    ((c.in_ok-elements-in-List.ensures.ok ∙ c.in_ok-try_clone-in-List.ensures ∙ c.deref.ensures) i)
-    ((c.in_ok-offsets-in-List.ensures 0
-    ∙ ap (λ (xs : List ℕ). map (slice_index xs) (places_of c.args.places.now))
-    c.deref-in-List.ensures.value) i)
-    ((c.in_ok-sizes-in-List.ensures 0
-    ∙ ap (λ (xs : List ℕ). map (slice_index xs) (places_of c.args.places.now))
-    c.deref-in-List-2.ensures.value) i))
-    ∙ ap (λ (e : Elements). taken_kept (places_of c.args.places.now) (kept_of e)) (sym c.in-List.is)
-
-pub Elements::take-returns-in_ok-sizes-in-Map : goal.Elements::take-returns-in_ok-sizes-in-Map
-Elements::take-returns-in_ok-sizes-in-Map t c =
-    (λ i. maps
-    ((c.in_ok-keys-in-Map.ensures.ok ∙ c.in_ok-try_clone-in-Map.ensures ∙ c.deref-in-Map.ensures) i)
-    ((c.in_ok-values-in-Map.ensures.ok ∙ c.in_ok-try_clone-in-Map-2.ensures
-    ∙ c.deref-in-Map-2.ensures) i)
-    ((c.in_ok-offsets-in-Map.ensures 0
-    ∙ ap (λ (xs : List ℕ). map (slice_index xs) (places_of c.args.places.now))
-    c.deref-in-Map-3.ensures.value) i)
-    ((c.in_ok-sizes-in-Map.ensures 0
-    ∙ ap (λ (xs : List ℕ). map (slice_index xs) (places_of c.args.places.now))
-    c.deref-in-Map-4.ensures.value) i))
-    ∙ ap (λ (e : Elements). taken_kept (places_of c.args.places.now) (kept_of e)) (sym c.in-Map.is)
+    c.requires in
+    record { offsets = λ k d h. (here k d h).0; sizes = λ k d h. (here k d h).1 }
 
 pub Storage::take-take-requires : goal.Storage::take-take-requires
 Storage::take-take-requires t c =
