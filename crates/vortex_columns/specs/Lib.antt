@@ -15,3 +15,4 @@ pub mod Words
 pub mod Printing
 pub mod Shapes
 pub mod ColumnParts
+pub mod CopyFrames
