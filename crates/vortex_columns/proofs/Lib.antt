@@ -11,3 +11,4 @@ pub mod JointRows
 pub mod ValueTexts
 pub mod PrintedColumns
 pub mod ColumnWeights
+pub mod CopiedFrames

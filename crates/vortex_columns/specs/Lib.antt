@@ -17,3 +17,4 @@ pub mod Words
 pub mod Printing
 pub mod Shapes
 pub mod ColumnParts
+pub mod CopyFrames

@@ -1,23 +1,103 @@
-//! Copies of columns.
-ghost use Rattle.std.specs.Prelude.{◌≡◌, IfOk};
-ghost use Rattle.vortex_columns.specs.Words.{AnswersUnlessMemory};
-ghost use Rattle.vortex_columns.specs.Stored.{kept_of, stored_of};
+//! Copies of columns: by frames on the heap, so that the depth of a column takes no stack.
+ghost use Rattle.std.specs.Prelude.{◌≡◌, ◌+◌, ◌*◌, ◌<◌, ◌≤◌, ◌++◌, IfOk};
+ghost use Rattle.vortex_columns.specs.Words.{AnswersUnlessMemory, type_of, validity_of};
+ghost use Rattle.vortex_columns.specs.Stored.{kept, kept_of, stored_of, structs};
+ghost use Rattle.vortex_columns.specs.ColumnParts.{type_weight, column_weights};
+ghost use Rattle.vortex_columns.specs.CopyFrames.{IsStoredUnder, stored_view, Fits, filled};
+ghost use Rattle.vortex_columns.specs.CopyFrames.{IsSound, step_view, step_weight, hole_weight};
 
-use super::nested::{of_lists, of_maps};
 use super::{Column, Elements, Storage};
+use crate::validity::Validity;
 use std::alloc::{AllocError, Global};
-use vortex_types::VortexResult;
+use vortex_types::{DType, VortexResult};
 
-/// Copies of columns.
-#[cycle(clone_column)]
-fn copy_columns(columns: &Vec<Column>) -> Result<Vec<Column>, AllocError>
-    ensures { IfOk result (λ cs. cs.items ≡ columns.now.items) }
-{
-    let mut copies = Vec::new(*columns.allocator());
-    for column in columns {
-        copies.push(column.copy()?)?;
+/// What is told of a column besides its storage.
+#[derive(Drop)]
+struct Head {
+    dtype: DType,
+    len: usize,
+}
+
+/// The parts of a column that are copied, and those that still are to be, but for one that is to be
+/// copied next; with the allocator of the column's parts.
+#[derive(Drop)]
+enum Hole<'a> {
+    /// The fields before it, and those behind it.
+    Field(Vec<Column>, &'a [Column]),
+    /// The offsets and sizes of lists.
+    Element(Global, Vec<usize>, Vec<usize>),
+    /// The size of each list.
+    FixedElement(Global, u32),
+    /// The values, offsets and sizes.
+    Key(Global, &'a Column, Vec<usize>, Vec<usize>),
+    /// The keys, offsets and sizes.
+    Value(Global, Column, Vec<usize>, Vec<usize>),
+}
+
+/// A column that is being copied.
+#[derive(Drop)]
+struct Frame<'a> {
+    head: Head,
+    validity: Validity,
+    hole: Hole<'a>,
+}
+
+/// How far a copy is.
+#[derive(Drop)]
+enum Step<'a> {
+    /// It is made.
+    Whole(Column),
+    /// It is made as soon as the frame has a copy of that column.
+    Part(Frame<'a>, &'a Column),
+}
+
+impl Head {
+    /// The column that is stored so.
+    fn with(self, storage: Storage) -> Column
+        requires { IsStoredUnder self (stored_of storage) }
+        ensures { result ≡ stored_view self (stored_of storage) }
+    {
+        let Head { dtype, len } = self;
+        Column {
+            dtype,
+            len,
+            storage,
+        }
     }
-    Ok(copies)
+
+    /// The column that keeps these values.
+    fn with_rows(self, validity: Validity, elements: Elements) -> Column
+        requires { IsStoredUnder self (kept (kept_of elements) (validity_of validity)) }
+        ensures { result ≡ stored_view self (kept (kept_of elements) (validity_of validity)) }
+    {
+        self.with(Storage::Rows(elements, validity))
+    }
+
+    /// A copy of a struct with these fields, of which the rest are still to be copied.
+    fn with_fields<'a>(
+        self,
+        validity: Validity,
+        copies: Vec<Column>,
+        rest: &'a [Column],
+    ) -> Step<'a>
+        requires { IsStoredUnder self
+            (kept (structs (copies.items ++ rest.now)) (validity_of validity)) }
+        ensures sound { IsSound result }
+        ensures view { step_view result
+            ≡ stored_view self (kept (structs (copies.items ++ rest.now)) (validity_of validity)) }
+        ensures falls { step_weight result ≤ 1 + 2 * column_weights rest.now }
+    {
+        if rest.is_empty() {
+            return Step::Whole(self.with_rows(validity, Elements::Struct(copies)));
+        }
+        let hole = Hole::Field(copies, &rest[1..]);
+        let frame = Frame {
+            head: self,
+            validity,
+            hole,
+        };
+        Step::Part(frame, &rest[0])
+    }
 }
 
 /// A copy of places or sizes.
@@ -27,60 +107,137 @@ fn copy_places(places: &Vec<usize>) -> Result<Vec<usize>, AllocError>
     places.as_slice().to_vec(*places.allocator())
 }
 
-/// Copies of offsets and sizes.
-fn copy_ranges(
-    offsets: &Vec<usize>,
-    sizes: &Vec<usize>,
-) -> Result<(Vec<usize>, Vec<usize>), AllocError>
-    ensures { IfOk result
-        (λ p. (p.0.items ≡ offsets.now.items) × (p.1.items ≡ sizes.now.items)) }
-{
-    let copied = copy_places(offsets)?;
-    Ok((copied, copy_places(sizes)?))
-}
-
-impl Elements {
-    #[cycle(clone_column)]
-    fn copy(&self) -> Result<Elements, AllocError>
-        ensures { IfOk result (λ e. kept_of e ≡ kept_of self.now) }
-    {
-        match self {
-            Elements::Bool(bits) => Ok(Elements::Bool(bits.clone()?)),
-            Elements::Primitive(ints) => Ok(Elements::Primitive(ints.clone()?)),
-            Elements::Utf8(values) => Ok(Elements::Utf8(values.clone()?)),
-            Elements::Binary(values) => Ok(Elements::Binary(values.clone()?)),
-            Elements::Struct(fields) => Ok(Elements::Struct(copy_columns(fields)?)),
-            Elements::List(elements, offsets, sizes) => {
-                let (offsets, sizes) = copy_ranges(offsets, sizes)?;
-                of_lists(*Box::allocator(elements), elements.copy()?, offsets, sizes)
-            }
-            Elements::FixedSizeList(elements, size) => {
-                let elements = Box::new(*Box::allocator(elements), elements.copy()?)?;
-                Ok(Elements::FixedSizeList(elements, *size))
-            }
-            Elements::Map(keys, values, offsets, sizes) => {
-                let (offsets, sizes) = copy_ranges(offsets, sizes)?;
-                let alloc = *Box::allocator(keys);
-                let keys = keys.copy()?;
-                of_maps(alloc, keys, values.copy()?, offsets, sizes)
-            }
+impl Frame<'_> {
+    /// The allocator of the column's parts.
+    fn allocator(&self) -> Global {
+        match &self.hole {
+            Hole::Field(copies, _) => *copies.allocator(),
+            Hole::Element(alloc, _, _) => *alloc,
+            Hole::FixedElement(alloc, _) => *alloc,
+            Hole::Key(alloc, _, _, _) => *alloc,
+            Hole::Value(alloc, _, _, _) => *alloc,
         }
     }
 }
 
-impl Storage {
-    #[cycle(clone_column)]
-    fn copy(&self) -> Result<Storage, AllocError>
-        ensures { IfOk result (λ s. stored_of s ≡ stored_of self.now) }
+impl<'a> Frame<'a> {
+    /// Takes the copy that the frame stood for.
+    fn fill(self, copy: Column) -> Result<Step<'a>, AllocError>
+        requires { Fits self copy }
+        ensures sound { IfOk result IsSound }
+        ensures view { IfOk result (λ step. step_view step ≡ filled self.entry copy) }
+        ensures falls { IfOk result (λ step. step_weight step ≤ hole_weight self.entry.hole) }
     {
-        match self {
-            Storage::Null => Ok(Storage::Null),
-            Storage::Constant(scalar) => Ok(Storage::Constant(scalar.clone()?)),
-            Storage::Rows(elements, validity) => {
-                let validity = validity.clone()?;
-                Ok(Storage::Rows(elements.copy()?, validity))
+        let Frame {
+            head,
+            validity,
+            hole,
+        } = self;
+        let elements = match hole {
+            Hole::Field(copies, rest) => {
+                let mut copies = copies;
+                copies.push(copy)?;
+                return Ok(head.with_fields(validity, copies, rest));
             }
-        }
+            Hole::Key(alloc, values, offsets, sizes) => {
+                let hole = Hole::Value(alloc, copy, offsets, sizes);
+                let frame = Frame {
+                    head,
+                    validity,
+                    hole,
+                };
+                return Ok(Step::Part(frame, values));
+            }
+            Hole::Element(alloc, offsets, sizes) => {
+                Elements::List(Box::new(alloc, copy)?, offsets, sizes)
+            }
+            Hole::FixedElement(alloc, size) => {
+                Elements::FixedSizeList(Box::new(alloc, copy)?, size)
+            }
+            Hole::Value(alloc, keys, offsets, sizes) => {
+                let keys = Box::new(alloc, keys)?;
+                Elements::Map(keys, Box::new(alloc, copy)?, offsets, sizes)
+            }
+        };
+        Ok(Step::Whole(head.with_rows(validity, elements)))
+    }
+}
+
+impl Elements {
+    /// Copies what is no column, and stops at the first column inside.
+    fn open(&self, head: Head, validity: Validity) -> Result<Step<'_>, AllocError>
+        requires { IsStoredUnder head (kept (kept_of self.now) (validity_of validity)) }
+        ensures sound { IfOk result IsSound }
+        ensures view { IfOk result (λ step. step_view step
+            ≡ stored_view head (kept (kept_of self.now) (validity_of validity))) }
+        ensures falls { IfOk result
+            (λ step. step_weight step < 2 * type_weight (type_of head.dtype)) }
+    {
+        let (hole, inside) = match self {
+            Elements::Struct(fields) => {
+                let copies = Vec::new(*fields.allocator());
+                return Ok(head.with_fields(validity, copies, fields.as_slice()));
+            }
+            Elements::List(elements, offsets, sizes) => {
+                let alloc = *Box::allocator(elements);
+                let offsets = copy_places(offsets)?;
+                (Hole::Element(alloc, offsets, copy_places(sizes)?), elements)
+            }
+            Elements::FixedSizeList(elements, size) => {
+                (
+                    Hole::FixedElement(*Box::allocator(elements), *size),
+                    elements,
+                )
+            }
+            Elements::Map(keys, values, offsets, sizes) => {
+                let alloc = *Box::allocator(keys);
+                let offsets = copy_places(offsets)?;
+                (Hole::Key(alloc, values, offsets, copy_places(sizes)?), keys)
+            }
+            Elements::Bool(bits) => {
+                let elements = Elements::Bool(bits.clone()?);
+                return Ok(Step::Whole(head.with_rows(validity, elements)));
+            }
+            Elements::Primitive(ints) => {
+                let elements = Elements::Primitive(ints.clone()?);
+                return Ok(Step::Whole(head.with_rows(validity, elements)));
+            }
+            Elements::Utf8(values) => {
+                let elements = Elements::Utf8(values.clone()?);
+                return Ok(Step::Whole(head.with_rows(validity, elements)));
+            }
+            Elements::Binary(values) => {
+                let elements = Elements::Binary(values.clone()?);
+                return Ok(Step::Whole(head.with_rows(validity, elements)));
+            }
+        };
+        let frame = Frame {
+            head,
+            validity,
+            hole,
+        };
+        Ok(Step::Part(frame, inside))
+    }
+}
+
+/// Fills a frame by a copy of that column: what is found inside waits in frames of its own.
+fn copy_into(frame: Frame<'_>, inside: &Column) -> Result<Column, AllocError>
+    requires { Fits frame inside.now }
+    ensures { IfOk result (λ c. c ≡ filled frame.entry inside.now) }
+{
+    let mut frames = Vec::new(frame.allocator());
+    let mut step = Step::Part(frame, inside);
+    loop {
+        step = match step {
+            Step::Part(frame, inside) => {
+                frames.push(frame)?;
+                inside.open()?
+            }
+            Step::Whole(copy) => match frames.pop() {
+                Some(frame) => frame.fill(copy)?,
+                None => return Ok(copy),
+            },
+        };
     }
 }
 
@@ -92,17 +249,34 @@ impl Column {
         Ok(self.copy()?)
     }
 
-    #[cycle(clone_column)]
     fn copy(&self) -> Result<Column, AllocError>
         ensures { IfOk result (λ c. c ≡ self.now) }
     {
+        match self.open()? {
+            Step::Whole(copy) => Ok(copy),
+            Step::Part(frame, inside) => copy_into(frame, inside),
+        }
+    }
+
+    /// Copies what is no column, and stops at the first column inside.
+    fn open(&self) -> Result<Step<'_>, AllocError>
+        ensures sound { IfOk result IsSound }
+        ensures view { IfOk result (λ step. step_view step ≡ self.now) }
+        ensures falls { IfOk result (λ step. step_weight step < 2 * type_weight self.now.dtype) }
+    {
         let dtype = self.dtype.clone()?;
-        let storage = self.storage.copy()?;
-        Ok(Column {
-            dtype,
+        let head = Head {
             len: self.len,
-            storage,
-        })
+            dtype,
+        };
+        match &self.storage {
+            Storage::Null => Ok(Step::Whole(head.with(Storage::Null))),
+            Storage::Constant(scalar) => {
+                let scalar = scalar.clone()?;
+                Ok(Step::Whole(head.with(Storage::Constant(scalar))))
+            }
+            Storage::Rows(elements, validity) => elements.open(head, validity.clone()?),
+        }
     }
 }
 

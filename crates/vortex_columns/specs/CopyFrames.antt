@@ -1,0 +1,73 @@
+-- A column whose copy has begun: a frame for each column of which some parts are copied and one is
+-- still to come.
+use Rattle.std.specs.Prelude.{◌≡◌, ℕ, ◌+◌, ◌*◌, List, [], ◌∷◌, ◌++◌}
+use Rattle.vortex_types.specs.TypeOf.{type_of}
+use Rattle.vortex_columns.specs.ColumnView.{ColumnView}
+use Rattle.vortex_columns.specs.ColumnParts.{type_weight, column_weights}
+use Rattle.vortex_columns.specs.Stored.{Stored, kept, Kept, structs, lists, fixed_size_lists, maps}
+use Rattle.vortex_columns.specs.Stored.{IsStored, constant_in, rows_of, stored_validity}
+use Rattle.vortex_columns.specs.ValidityView.{validity_of}
+use Rattle.vortex_columns.specs.declared.column.copies.Head.{Head}
+use Rattle.vortex_columns.specs.declared.column.copies.Hole.{Hole}
+use Rattle.vortex_columns.specs.declared.column.copies.Hole.TheVariants.{Field, Element}
+use Rattle.vortex_columns.specs.declared.column.copies.Hole.TheVariants.{FixedElement, Key, Value}
+use Rattle.vortex_columns.specs.declared.column.copies.Frame.{Frame}
+use Rattle.vortex_columns.specs.declared.column.copies.Step.{Step}
+use Rattle.vortex_columns.specs.declared.column.copies.Step.TheVariants.{Whole, Part}
+
+abbrev pub IsStoredUnder : Head → Stored → Type 0
+IsStoredUnder h s = IsStored h.len (type_of h.dtype) s
+
+abbrev pub stored_view : Head → Stored → ColumnView
+stored_view h s =
+    record {
+      dtype = type_of h.dtype;
+      rows = rows_of h.len s;
+      constant = constant_in s;
+      form = (stored_validity s).form;
+    }
+
+-- what is kept once the hole is filled
+abbrev pub plugged : Hole → ColumnView → Kept
+plugged (Field copies rest) c = structs (copies.items ++ c ∷ rest.now)
+plugged (Element alloc offsets sizes) c = lists c offsets.items sizes.items
+plugged (FixedElement alloc size) c = fixed_size_lists c size
+plugged (Key alloc values offsets sizes) c = maps c values.now offsets.items sizes.items
+plugged (Value alloc keys offsets sizes) c = maps keys c offsets.items sizes.items
+
+abbrev pub stored_in : Frame → ColumnView → Stored
+stored_in f c = kept (plugged f.hole c) (validity_of f.validity)
+
+abbrev pub Fits : Frame → ColumnView → Type 0
+Fits f c = IsStoredUnder f.head (stored_in f c)
+
+abbrev pub filled : Frame → ColumnView → ColumnView
+filled f c = stored_view f.head (stored_in f c)
+
+abbrev pub IsSound : Step → Type 0
+IsSound (Whole c) = Unit {0}
+IsSound (Part f c) = Fits f c.now
+
+-- the column that is copied
+abbrev pub step_view : Step → ColumnView
+step_view (Whole c) = c
+step_view (Part f c) = filled f c.now
+
+-- frames, the outermost first, make one column of another
+abbrev pub Make : List Frame → ColumnView → ColumnView → Type 0
+Make [] c whole = c ≡ whole
+Make (f ∷ fs) c whole = (d : ColumnView) × Make fs c d × Fits f d × (filled f d ≡ whole)
+
+-- how much is still to be copied
+abbrev pub hole_weight : Hole → ℕ
+hole_weight (Field copies rest) = 1 + 2 * column_weights rest.now
+hole_weight (Key alloc values offsets sizes) = 1 + 2 * type_weight values.now.dtype
+hole_weight hole = 1
+
+abbrev pub frames_weight : List Frame → ℕ
+frames_weight [] = 0
+frames_weight (f ∷ fs) = hole_weight f.hole + frames_weight fs
+
+abbrev pub step_weight : Step → ℕ
+step_weight (Whole c) = 1
+step_weight (Part f c) = hole_weight f.hole + 2 * type_weight c.now.dtype
