@@ -1,10 +1,12 @@
 //! Types and values of many levels, which are let go by a list and not by calls within calls.
 
-use fixtures::{boxed, yes};
+use fixtures::{boxed, fields, yes};
 use std::alloc::Global;
 use vortex_columns::{DType, Nullability, ScalarValue, StructFields, VortexResult};
 
 const NO: Nullability = Nullability::NonNullable;
+
+const YES: Nullability = Nullability::Nullable;
 
 /// More than calls within calls would reach.
 const LEVELS: usize = 200_000;
@@ -77,6 +79,47 @@ fn values(alloc: Global) -> VortexResult<ScalarValue> {
 fn was_made<T: Drop>(made: VortexResult<T>) -> VortexResult<bool> {
     let _value = made?;
     Ok(true)
+}
+
+/// Whether a type has a copy; both are let go here.
+fn has_a_copy(alloc: Global, made: VortexResult<DType>) -> VortexResult<bool> {
+    let dtype = made?;
+    let _copy = dtype.try_clone(alloc)?;
+    Ok(true)
+}
+
+/// A struct of a list, a map and a struct.
+fn mixed(alloc: Global) -> VortexResult<DType> {
+    let list = DType::FixedSizeList(boxed(alloc, DType::Utf8(YES))?, 3, YES);
+    let inner = fields(alloc, ("b", "a"), (DType::Binary(NO), list))?;
+    let key = boxed(alloc, DType::Struct(inner, YES))?;
+    let value = boxed(alloc, DType::List(boxed(alloc, DType::Null)?, NO))?;
+    let map = DType::Map(key, value, NO);
+    let outer = fields(alloc, ("x", "y"), (map, DType::Bool(NO)))?;
+    Ok(DType::Struct(outer, NO))
+}
+
+/// Whether a type's copy equals it.
+fn copy_equals(alloc: Global, made: VortexResult<DType>) -> VortexResult<bool> {
+    let dtype = made?;
+    let copy = dtype.try_clone(alloc)?;
+    Ok(copy == dtype)
+}
+
+#[test]
+fn copies_equal_their_types(rt: HostRuntime) {
+    let alloc = rt.alloc();
+    assert!(rt; yes(copy_equals(alloc, mixed(alloc))));
+}
+
+#[test]
+fn deep_types_are_copied(rt: HostRuntime) {
+    let alloc = rt.alloc();
+    assert!(rt; yes(has_a_copy(alloc, lists(alloc))));
+    assert!(rt; yes(has_a_copy(alloc, pairs(alloc))));
+    assert!(rt; yes(has_a_copy(alloc, maps_by_key(alloc))));
+    assert!(rt; yes(has_a_copy(alloc, maps_by_value(alloc))));
+    assert!(rt; yes(has_a_copy(alloc, structs(alloc))));
 }
 
 #[test]

@@ -8,3 +8,4 @@ pub mod JoinedTexts
 pub mod PrintedTypes
 pub mod TypeWeights
 pub mod ValueWeights
+pub mod CopySteps

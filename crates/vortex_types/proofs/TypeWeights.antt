@@ -1,10 +1,10 @@
 -- The weight and the depth of a list of types that grew.
-use Rattle.std.proofs.Common.{◌≡◌, ◌+◌, List, [], ◌∷◌, ◌++◌, arith, String, Global, max}
+use Rattle.std.proofs.Common.{◌≡◌, ◌+◌, suc, List, [], ◌∷◌, ◌++◌, arith, String, Global, max}
 use Rattle.vortex_types.specs.declared.dtype.DType.{DType, size-DType}
 use Rattle.vortex_types.specs.TypeParts.{type_weight, type_weights, deepest}
 
 pub weights_push : (xs : List (String Global × DType)) (x : String Global × DType)
-    → type_weights (xs ++ x ∷ []) ≡ type_weights xs + type_weight x.1
+    → type_weights (xs ++ x ∷ []) ≡ suc (type_weights xs + type_weight x.1)
 weights_push [] x = omega arith
 weights_push (y ∷ ys) x = omega (arith, weights_push ys x)
 

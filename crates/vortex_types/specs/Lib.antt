@@ -11,6 +11,7 @@ pub mod ScalarView
 pub mod ScalarLaws
 pub mod TypeOf
 pub mod TypeParts
+pub mod TypeCopies
 pub mod TypeTexts
 pub mod ValueOf
 pub mod ValueParts

@@ -7,16 +7,17 @@ use Rattle.vortex_types.specs.declared.dtype.DType.TheOpen.{DType-F, StructField
 use Rattle.vortex_types.specs.declared.dtype.letting_go.Within.{Within}
 use Rattle.vortex_types.specs.declared.dtype.letting_go.Within.TheVariants.{One, Two, Many}
 
+-- a field weighs one more than its type
 abbrev pub weights_of : List (String Global × ℕ) → ℕ
 weights_of [] = 0
-weights_of (f ∷ fs) = f.1 + weights_of fs
+weights_of (f ∷ fs) = suc (f.1 + weights_of fs)
 
 -- one level, with each type inside already weighed; an empty struct weighs more than a leaf
 abbrev pub weight_step : DType-F ℕ ℕ → ℕ
 weight_step (DType-F.Struct fs n) = suc (suc fs)
 weight_step (DType-F.List t n) = suc t.value
 weight_step (DType-F.FixedSizeList t s n) = suc t.value
-weight_step (DType-F.Map k v n) = suc (k.value + v.value)
+weight_step (DType-F.Map k v n) = suc (suc (k.value + v.value))
 weight_step leaf = 1
 
 abbrev pub fields_weight_step : StructFields-F ℕ ℕ → ℕ
@@ -34,7 +35,7 @@ deepest = most (λ f. size-DType f.1)
 abbrev pub weight_within : Option Within → ℕ
 weight_within None = 0
 weight_within (Some (One t)) = type_weight t.value
-weight_within (Some (Two k v)) = type_weight k.value + type_weight v.value
+weight_within (Some (Two k v)) = suc (type_weight k.value + type_weight v.value)
 weight_within (Some (Many fs)) = suc (type_weights fs.items)
 
 abbrev pub deepest_within : Option Within → ℕ

@@ -4,6 +4,7 @@ ghost use Rattle.vortex_errors.specs.Answers.{AnswersUnlessMemory};
 ghost use Rattle.vortex_types.specs.LogicalTypes.{is_nullable, with_nullability, is_bool_type};
 ghost use Rattle.vortex_types.specs.LogicalTypes.{is_text_type, is_integer_type};
 
+mod copying;
 mod equality;
 mod fields;
 mod integer_types;
@@ -229,30 +230,12 @@ impl DType {
         Ok(self.copy()?)
     }
 
-    #[cycle(clone_dtype)]
     fn copy(&self) -> Result<DType, AllocError>
         ensures { IfOk result (λ t. type_of t ≡ type_of self.now) }
     {
-        match self {
-            DType::Null => Ok(DType::Null),
-            DType::Bool(n) => Ok(DType::Bool(*n)),
-            DType::Primitive(p, n) => Ok(DType::Primitive(*p, *n)),
-            DType::Utf8(n) => Ok(DType::Utf8(*n)),
-            DType::Binary(n) => Ok(DType::Binary(*n)),
-            DType::Struct(fields, n) => Ok(DType::Struct(fields.copy()?, *n)),
-            DType::List(element, n) => {
-                let element = Box::new(*Box::allocator(element), element.copy()?)?;
-                Ok(DType::List(element, *n))
-            }
-            DType::FixedSizeList(element, size, n) => {
-                let element = Box::new(*Box::allocator(element), element.copy()?)?;
-                Ok(DType::FixedSizeList(element, *size, *n))
-            }
-            DType::Map(key, value, n) => {
-                let key = Box::new(*Box::allocator(key), key.copy()?)?;
-                let value = Box::new(*Box::allocator(value), value.copy()?)?;
-                Ok(DType::Map(key, value, *n))
-            }
+        match self.leaf() {
+            Ok(leaf) => Ok(leaf),
+            Err(alloc) => self.copy_by_steps(alloc),
         }
     }
 }
@@ -278,7 +261,6 @@ impl StructFields {
         Ok(self.copy()?)
     }
 
-    #[cycle(clone_dtype)]
     fn copy(&self) -> Result<StructFields, AllocError>
         ensures { IfOk result (λ f. struct_fields f ≡ struct_fields self.now) }
     {

@@ -2,11 +2,11 @@ use Rattle.std.proofs.Common.{take, ◌≡◌, ◌++◌, ◌∷◌, [], string_b
 use Rattle.std.proofs.lemmas.List.{take_more, take_all}
 use Rattle.vortex_types.specs.TypeOf.{fields_view}
 use Rattle.vortex_types.proofs.TypeViews.{struct_fields-roll, struct_fields-out, fields_view_push}
-use Rattle.vortex_types.proofs.dtype.+clone_dtype.Goals as goal
+use Rattle.vortex_types.proofs.dtype.StructFields.copy.Goals as goal
 
-pub StructFields::copy-loop-field-preserved :
-    goal.StructFields::copy-loop-field-preserved
-StructFields::copy-loop-field-preserved t c =
+pub loop-field-preserved :
+    goal.loop-field-preserved
+loop-field-preserved c =
     let f = c.field-item.result in
     let more =
     take_more c.deref-field-items.result.now c.loop-field.field-index f
@@ -21,8 +21,8 @@ StructFields::copy-loop-field-preserved t c =
     c.field-item.is
     ∙ sym more)
 
-pub StructFields::copy-returns : goal.StructFields::copy-returns
-StructFields::copy-returns t c =
+pub returns : goal.returns
+returns c =
     struct_fields-roll _ ∙ c.loop-field.invariant
     ∙ ap fields_view (take_all _ _ c.loop-field-test.false ∙ c.deref-field-items.ensures.value)
     ∙ sym (struct_fields-out _)

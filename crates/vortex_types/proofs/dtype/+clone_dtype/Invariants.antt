@@ -1,8 +1,8 @@
 use Rattle.std.proofs.Common.{◌≡◌, take}
 use Rattle.vortex_types.specs.TypeOf.{fields_view}
-use Rattle.vortex_types.proofs.dtype.+clone_dtype.Given as goal
+use Rattle.vortex_types.proofs.dtype.StructFields.copy.Given as goal
 
-abbrev pub invariant-StructFields::copy-loop-field :
-    goal.invariant-StructFields::copy-loop-field
-invariant-StructFields::copy-loop-field l =
+abbrev pub invariant-loop-field :
+    goal.invariant-loop-field
+invariant-loop-field l =
     fields_view l.fields.items ≡ fields_view (take l.field-index l.field-items)
