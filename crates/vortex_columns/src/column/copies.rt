@@ -5,6 +5,7 @@ ghost use Rattle.vortex_columns.specs.Stored.{kept, kept_of, stored_of, structs}
 ghost use Rattle.vortex_columns.specs.ColumnParts.{type_weight, column_weights};
 ghost use Rattle.vortex_columns.specs.CopyFrames.{IsStoredUnder, stored_view, Fits, filled};
 ghost use Rattle.vortex_columns.specs.CopyFrames.{IsSound, step_view, step_weight, hole_weight};
+ghost use Rattle.vortex_columns.specs.CopyFrames.{plugged};
 
 use super::{Column, Elements, Storage};
 use crate::validity::Validity;
@@ -13,9 +14,9 @@ use vortex_types::{DType, VortexResult};
 
 /// What is told of a column besides its storage.
 #[derive(Drop)]
-struct Head {
-    dtype: DType,
-    len: usize,
+pub(super) struct Head {
+    pub(super) dtype: DType,
+    pub(super) len: usize,
 }
 
 /// The parts of a column that are copied, and those that still are to be, but for one that is to be
@@ -53,7 +54,7 @@ enum Step<'a> {
 
 impl Head {
     /// The column that is stored so.
-    fn with(self, storage: Storage) -> Column
+    pub(super) fn with(self, storage: Storage) -> Column
         requires { IsStoredUnder self (stored_of storage) }
         ensures { result ≡ stored_view self (stored_of storage) }
     {
@@ -66,11 +67,28 @@ impl Head {
     }
 
     /// The column that keeps these values.
-    fn with_rows(self, validity: Validity, elements: Elements) -> Column
+    pub(super) fn with_rows(self, validity: Validity, elements: Elements) -> Column
         requires { IsStoredUnder self (kept (kept_of elements) (validity_of validity)) }
         ensures { result ≡ stored_view self (kept (kept_of elements) (validity_of validity)) }
     {
         self.with(Storage::Rows(elements, validity))
+    }
+
+    /// A copy that still needs one of that column.
+    fn with_hole<'a>(self, validity: Validity, hole: Hole<'a>, inside: &'a Column) -> Step<'a>
+        requires { IsStoredUnder self (kept (plugged hole inside.now) (validity_of validity)) }
+        ensures sound { IsSound result }
+        ensures view { step_view result
+            ≡ stored_view self (kept (plugged hole.entry inside.now) (validity_of validity)) }
+        ensures weight { step_weight result
+            ≡ hole_weight hole.entry + 2 * type_weight inside.now.dtype }
+    {
+        let frame = Frame {
+            head: self,
+            validity,
+            hole,
+        };
+        Step::Part(frame, inside)
     }
 
     /// A copy of a struct with these fields, of which the rest are still to be copied.
@@ -90,13 +108,7 @@ impl Head {
         if rest.is_empty() {
             return Step::Whole(self.with_rows(validity, Elements::Struct(copies)));
         }
-        let hole = Hole::Field(copies, &rest[1..]);
-        let frame = Frame {
-            head: self,
-            validity,
-            hole,
-        };
-        Step::Part(frame, &rest[0])
+        self.with_hole(validity, Hole::Field(copies, &rest[1..]), &rest[0])
     }
 }
 
@@ -141,12 +153,7 @@ impl<'a> Frame<'a> {
             }
             Hole::Key(alloc, values, offsets, sizes) => {
                 let hole = Hole::Value(alloc, copy, offsets, sizes);
-                let frame = Frame {
-                    head,
-                    validity,
-                    hole,
-                };
-                return Ok(Step::Part(frame, values));
+                return Ok(head.with_hole(validity, hole, values));
             }
             Hole::Element(alloc, offsets, sizes) => {
                 Elements::List(Box::new(alloc, copy)?, offsets, sizes)
@@ -173,50 +180,33 @@ impl Elements {
         ensures falls { IfOk result
             (λ step. step_weight step < 2 * type_weight (type_of head.dtype)) }
     {
-        let (hole, inside) = match self {
+        let elements = match self {
+            Elements::Bool(bits) => Elements::Bool(bits.clone()?),
+            Elements::Primitive(ints) => Elements::Primitive(ints.clone()?),
+            Elements::Utf8(values) => Elements::Utf8(values.clone()?),
+            Elements::Binary(values) => Elements::Binary(values.clone()?),
             Elements::Struct(fields) => {
                 let copies = Vec::new(*fields.allocator());
                 return Ok(head.with_fields(validity, copies, fields.as_slice()));
             }
             Elements::List(elements, offsets, sizes) => {
-                let alloc = *Box::allocator(elements);
                 let offsets = copy_places(offsets)?;
-                (Hole::Element(alloc, offsets, copy_places(sizes)?), elements)
+                let sizes = copy_places(sizes)?;
+                let hole = Hole::Element(*Box::allocator(elements), offsets, sizes);
+                return Ok(head.with_hole(validity, hole, elements));
             }
             Elements::FixedSizeList(elements, size) => {
-                (
-                    Hole::FixedElement(*Box::allocator(elements), *size),
-                    elements,
-                )
+                let hole = Hole::FixedElement(*Box::allocator(elements), *size);
+                return Ok(head.with_hole(validity, hole, elements));
             }
             Elements::Map(keys, values, offsets, sizes) => {
-                let alloc = *Box::allocator(keys);
                 let offsets = copy_places(offsets)?;
-                (Hole::Key(alloc, values, offsets, copy_places(sizes)?), keys)
-            }
-            Elements::Bool(bits) => {
-                let elements = Elements::Bool(bits.clone()?);
-                return Ok(Step::Whole(head.with_rows(validity, elements)));
-            }
-            Elements::Primitive(ints) => {
-                let elements = Elements::Primitive(ints.clone()?);
-                return Ok(Step::Whole(head.with_rows(validity, elements)));
-            }
-            Elements::Utf8(values) => {
-                let elements = Elements::Utf8(values.clone()?);
-                return Ok(Step::Whole(head.with_rows(validity, elements)));
-            }
-            Elements::Binary(values) => {
-                let elements = Elements::Binary(values.clone()?);
-                return Ok(Step::Whole(head.with_rows(validity, elements)));
+                let sizes = copy_places(sizes)?;
+                let hole = Hole::Key(*Box::allocator(keys), values, offsets, sizes);
+                return Ok(head.with_hole(validity, hole, keys));
             }
         };
-        let frame = Frame {
-            head,
-            validity,
-            hole,
-        };
-        Ok(Step::Part(frame, inside))
+        Ok(Step::Whole(head.with_rows(validity, elements)))
     }
 }
 
