@@ -1,8 +1,9 @@
-//! Types and values of many levels, which are let go by a list and not by calls within calls.
+//! Types and values of many levels, for which no calls stand within calls.
 
 use fixtures::{boxed, fields, yes};
 use std::alloc::Global;
-use vortex_columns::{DType, Nullability, ScalarValue, StructFields, VortexResult};
+use std::cmp::Ordering;
+use vortex_columns::{DType, Nullability, Scalar, ScalarValue, StructFields, VortexResult};
 
 const NO: Nullability = Nullability::NonNullable;
 
@@ -75,6 +76,24 @@ fn values(alloc: Global) -> VortexResult<ScalarValue> {
     Ok(value)
 }
 
+/// Lists of one value within one another, as a literal.
+fn literal(alloc: Global) -> VortexResult<Scalar> {
+    let mut value = ScalarValue::List(Vec::new(alloc));
+    for _ in 1..LEVELS {
+        let mut items = Vec::new(alloc);
+        items.push(Some(value))?;
+        value = ScalarValue::List(items);
+    }
+    Scalar::try_new(lists(alloc)?, Some(value))
+}
+
+/// Whether two literals are equal where they lie.
+fn are_equal(one: VortexResult<Scalar>, other: VortexResult<Scalar>) -> VortexResult<bool> {
+    let one = one?;
+    let other = other?;
+    Ok(one.cell().compare(&other.cell()) == Ordering::Equal)
+}
+
 /// Whether a value was made; it is let go here.
 fn was_made<T: Drop>(made: VortexResult<T>) -> VortexResult<bool> {
     let _value = made?;
@@ -130,6 +149,12 @@ fn deep_types_are_let_go(rt: HostRuntime) {
     assert!(rt; yes(was_made(maps_by_key(alloc))));
     assert!(rt; yes(was_made(maps_by_value(alloc))));
     assert!(rt; yes(was_made(structs(alloc))));
+}
+
+#[test]
+fn deep_literals_are_typed_and_compared(rt: HostRuntime) {
+    let alloc = rt.alloc();
+    assert!(rt; yes(are_equal(literal(alloc), literal(alloc))));
 }
 
 #[test]
