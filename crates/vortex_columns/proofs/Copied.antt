@@ -15,14 +15,16 @@ use Rattle.vortex_columns.specs.declared.cell.Copying.{Copying}
 
 -- copies of the first values, and then the others
 abbrev pub focus : Sequence → List (Option ScalarValue) → Value
-focus s copies = list (values_of (map value_or_null copies ++ drop (length copies) (sequence_values s)))
+focus s copies =
+    list (values_of (map value_or_null copies ++ drop (length copies) (sequence_values s)))
 
 -- the same with another value in the place that is being copied
 abbrev pub around : Copying → Value → Value
 around f v =
     list
     (values_of
-    (map value_or_null f.copies.items ++ (v ∷ drop (length f.copies.items + 1) (sequence_values f.values))))
+    (map value_or_null f.copies.items
+    ++ (v ∷ drop (length f.copies.items + 1) (sequence_values f.values))))
 
 -- the whole, with that value inside
 abbrev pub plug : List Copying → Value → Value
