@@ -1,5 +1,6 @@
 pub mod StoredRows
 pub mod Compare
+pub mod Copied
 pub mod HaveTypes
 pub mod ListParts
 pub mod NamedColumns

@@ -13,6 +13,7 @@ pub mod ScalarOf
 pub mod CellTypes
 pub mod CellOrder
 pub mod Questions
+pub mod SingleValue
 pub mod Words
 pub mod Printing
 pub mod Shapes

@@ -1,9 +1,12 @@
 //! Values where they lie, in scalars and columns.
-ghost use Rattle.std.specs.Prelude.{◌≡◌, ◌<◌, ◌≤◌, map, length};
+ghost use Rattle.std.specs.Prelude.{◌≡◌, ◌<◌, ◌≤◌, length};
+ghost use Rattle.vortex_types.specs.Values.{list};
+ghost use Rattle.vortex_types.specs.ValueOf.{values_or_null};
 ghost use Rattle.vortex_columns.specs.Words.{cell_value, sequence_value, sequence_values};
 ghost use Rattle.vortex_columns.specs.Words.{IsCell, IsSequence, value_of, value_or_null, row};
 ghost use Rattle.vortex_columns.specs.Words.{compare_values, kind_rank, AnswersUnlessMemory};
 ghost use Rattle.vortex_columns.specs.CellOrder.{single_order, order_of_firsts};
+ghost use Rattle.vortex_columns.specs.SingleValue.{single_value};
 
 use crate::column::Column;
 use std::alloc::Global;
@@ -163,10 +166,21 @@ impl Cell<'_> {
 
 impl Cell<'_> {
     /// A copy that a scalar can hold; none of null.
-    #[cycle(copy)]
     pub fn try_to_value(&self, alloc: Global) -> VortexResult<Option<ScalarValue>>
         requires { IsCell self.now }
         ensures { AnswersUnlessMemory result (λ v. value_or_null v ≡ cell_value self.now) }
+    {
+        match self {
+            Cell::Sequence(values) => Ok(Some(ScalarValue::List(copy_values(alloc, values)?))),
+            _ => self.copy_single(alloc),
+        }
+    }
+
+    /// A copy of a value that is no sequence; none of null, nor of a sequence.
+    fn copy_single(&self, alloc: Global) -> VortexResult<Option<ScalarValue>>
+        requires { IsCell self.now }
+        ensures { AnswersUnlessMemory result
+            (λ v. value_or_null v ≡ single_value (cell_value self.now)) }
     {
         match self {
             Cell::Null => Ok(None),
@@ -174,23 +188,48 @@ impl Cell<'_> {
             Cell::Int(n) => Ok(Some(ScalarValue::Int(*n))),
             Cell::Text(text) => Ok(Some(ScalarValue::Utf8(String::from_str(alloc, text)?))),
             Cell::Bytes(bytes) => Ok(Some(ScalarValue::Binary(bytes.to_vec(alloc)?))),
-            Cell::Sequence(values) => Ok(Some(ScalarValue::List(copy_values(alloc, values)?))),
+            Cell::Sequence(_) => Ok(None),
         }
     }
 }
 
-/// Copies of the values.
-#[cycle(copy)]
-fn copy_values(alloc: Global, values: &Sequence<'_>) -> VortexResult<Vec<Option<ScalarValue>>>
-    requires { IsSequence values.now }
+/// A sequence around, and copies of its first values: the next is being copied.
+#[derive(Drop)]
+struct Copying<'a> {
+    values: Sequence<'a>,
+    copies: Vec<Option<ScalarValue>>,
+}
+
+/// Copies of the values. The sequences around one that is being copied stand in a list: how deep
+/// they nest takes no stack.
+fn copy_values(alloc: Global, root: &Sequence<'_>) -> VortexResult<Vec<Option<ScalarValue>>>
+    requires { IsSequence root.now }
     ensures { AnswersUnlessMemory result
-        (λ vs. map value_or_null vs.items ≡ sequence_values values.now) }
+        (λ copies. list (values_or_null copies.items) ≡ sequence_value root.now) }
 {
+    let mut above = Vec::new(alloc);
+    let mut values = *root;
     let mut copies = Vec::new(alloc);
-    for k in 0..values.len() {
-        copies.push(values.get(k).try_to_value(alloc)?)?;
+    loop {
+        if copies.len() < values.len() {
+            match values.get(copies.len()) {
+                Cell::Sequence(inner) => {
+                    above.push(Copying { values, copies })?;
+                    values = inner;
+                    copies = Vec::new(alloc);
+                }
+                single => copies.push(single.copy_single(alloc)?)?,
+            }
+        } else {
+            let Some(parent) = above.pop() else {
+                return Ok(copies);
+            };
+            let whole = ScalarValue::List(copies);
+            values = parent.values;
+            copies = parent.copies;
+            copies.push(Some(whole))?;
+        }
     }
-    Ok(copies)
 }
 
 /// The order of the first so many values of two lists.

@@ -166,7 +166,8 @@ typing::ask_so_many-returns t c =
 
 pub typing::ask_entries-ask_entry-requires : goal.typing::ask_entries-ask_entry-requires
 typing::ask_entries-ask_entry-requires t c =
-    let inside = depth_inside (sequence_values c.args.values.now) (c.len-count.result - 1) (omega arith) in
+    let last = c.len-count.result - 1 in
+    let inside = depth_inside (sequence_values c.args.values.now) last (omega arith) in
     let same = ap value_depth c.get.ensures.value in (search rules, c.get.ensures.whole)
 
 pub typing::firsts_are_entries-is_entry-requires : goal.typing::firsts_are_entries-is_entry-requires
