@@ -1,6 +1,7 @@
 -- The steps of a copy, and what they cost, as lists of them grow.
 use Rattle.std.proofs.Common.{◌≡◌, ◌+◌, ℕ, suc, List, [], ◌∷◌, ◌++◌, map, reverse}
-use Rattle.std.proofs.Common.{length, get_or, refl, sym, ap, ◌∙◌, arith, rules, String, Global, Box, Bool}
+use Rattle.std.proofs.Common.{length, get_or, refl, sym, ap, ◌∙◌, arith, rules, String, Global}
+use Rattle.std.proofs.Common.{Box, Bool}
 use Rattle.std.proofs.Common.{string_bytes}
 use Rattle.std.proofs.lemmas.List.{map-append, reverse-append, append-nil, append_assoc}
 use Rattle.vortex_types.specs.LogicalTypes.{LogicalType, struct_type, list_type, map_type}

@@ -17,7 +17,8 @@ returns-in_ok-push-in-Struct-2-clause-effect c =
     let fs = c.in-Struct.fields in
     let n = c.in-Struct.n in
     let below = tops c.args.made.now.items in
-    let empty = type_of-Struct c.new.result n ∙ ap (λ f. struct_type f (allows_null n)) c.new.ensures in
+    let empty = type_of-Struct c.new.result n
+    ∙ ap (λ f. struct_type f (allows_null n)) c.new.ensures in
     let made = ap tops c.in_ok-push-in-Struct.ensures.items ∙ tops_push c.args.made.now.items _
     ∙ ap (λ t. t ∷ below) empty in
     let is = ap type_of c.in-Struct.is ∙ type_of-Struct fs n in
