@@ -16,8 +16,8 @@ invariant_of-array g t c = (
 )
 
 -- a child of what was listed is smaller than the array
-pub drop-requires-in-Err : goal.drop-requires-in-Err
-drop-requires-in-Err g t c κs =
+pub drop-requires : goal.drop-requires
+drop-requires g t c κs =
     let N : List (Array g.row.C.Denot g.row.C-Options.Denot) → ℕ =
     λ xs. nodes_count (trees_of (trees_in xs)) in
     let listed =
