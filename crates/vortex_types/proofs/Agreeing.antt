@@ -116,15 +116,31 @@ pub struct_agrees : (e : Bool) (s o : StructFields)
     ≡ agree_from e 0 s.fields.items o.fields.items
 struct_agrees e s o = λ i. fields_agree e (struct_fields-out s i) (struct_fields-out o i)
 
-and_false : (a b c : Bool) → b ≡ false → (a && (b && c)) ≡ false
-and_false true b c h = ap (λ d. d && c) h
-and_false false b c h = refl
-
 not_false : (b : Bool) → not b ≡ true → b ≡ false
 not_false true e = cc
 not_false false e = refl
 
--- two fields in one place, of two names or of types that do not agree
+not_true : (b : Bool) → not b ≡ false → b ≡ true
+not_true true e = refl
+not_true false e = cc
+
+-- t says whether a part agrees, n and r whether the others do, a whether what is left does
+pub part_differs : (n t r a : Bool) → false ≡ (t && a) → false ≡ ((n && (t && r)) && a)
+part_differs false t r a h = refl
+part_differs true false r a h = refl
+part_differs true true false a h = refl
+part_differs true true true a h = h
+
+-- what is left says whether the part agrees
+pub part_passed : (n t r a b : Bool) → n ≡ true → b ≡ (t && a)
+    → (r && b) ≡ ((n && (t && r)) && a)
+part_passed true true true a b h l = l
+part_passed true true false a b h l = refl
+part_passed true false true a b h l = l
+part_passed true false false a b h l = refl
+part_passed false t r a b h l = cc
+
+-- two fields in one place
 module _ (e : Bool) (k : ℕ) (fs gs : List (String Global × DType)) (f g : String Global × DType)
     (h : k < length fs) (l : k < length gs) (at : f ≡ get_or fs k f) (there : g ≡ get_or gs k g)
   where
@@ -145,7 +161,22 @@ module _ (e : Bool) (k : ℕ) (fs gs : List (String Global × DType)) (f g : Str
         ((λ i. pointwise nat_eq (sym is i) (sym that i))
         ∙ not_false (pointwise nat_eq m n) differ)
 
-    pub types_refute : types_agree e (type_of f.1) (type_of g.1) ≡ false
-        → agree_from e k fs gs ≡ false
-    types_refute not =
-        turn ∙ and_false (pointwise nat_eq (string_bytes f.0) (string_bytes g.0)) _ _ not
+    pub types_refute : (a : Bool) → false ≡ (types_agree e (type_of f.1) (type_of g.1) && a)
+        → false ≡ (agree_from e k fs gs && a)
+    types_refute a h =
+        part_differs (pointwise nat_eq (string_bytes f.0) (string_bytes g.0))
+        (types_agree e (type_of f.1) (type_of g.1)) (agree_from e (k + 1) fs gs) a h
+        ∙ sym (ap (λ b. b && a) turn)
+
+    -- where the names are the same, what is left says whether the types agree
+    pub passed : (a b : Bool) (m n : List ℕ) → m ≡ string_bytes f.0 → n ≡ string_bytes g.0
+        → not (pointwise nat_eq m n) ≡ false
+        → b ≡ (types_agree e (type_of f.1) (type_of g.1) && a)
+        → (agree_from e (k + 1) fs gs && b) ≡ (agree_from e k fs gs && a)
+    passed a b m n is that same told =
+        part_passed (pointwise nat_eq (string_bytes f.0) (string_bytes g.0))
+        (types_agree e (type_of f.1) (type_of g.1)) (agree_from e (k + 1) fs gs) a b
+        ((λ i. pointwise nat_eq (sym is i) (sym that i))
+        ∙ not_true (pointwise nat_eq m n) same)
+        told
+        ∙ sym (ap (λ b. b && a) turn)

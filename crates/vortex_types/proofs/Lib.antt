@@ -9,3 +9,4 @@ pub mod PrintedTypes
 pub mod TypeWeights
 pub mod ValueWeights
 pub mod CopySteps
+pub mod PairSteps

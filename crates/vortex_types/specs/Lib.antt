@@ -12,6 +12,7 @@ pub mod ScalarLaws
 pub mod TypeOf
 pub mod TypeParts
 pub mod TypeCopies
+pub mod TypePairs
 pub mod TypeTexts
 pub mod ValueOf
 pub mod ValueParts

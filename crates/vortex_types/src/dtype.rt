@@ -9,6 +9,7 @@ mod equality;
 mod fields;
 mod integer_types;
 mod letting_go;
+mod pairs;
 pub mod text;
 
 use letting_go::Within;

@@ -2,8 +2,11 @@
 ghost use Rattle.std.specs.Prelude.{◌≡◌};
 ghost use Rattle.vortex_types.specs.TypeEquality.{alike_types};
 ghost use Rattle.vortex_types.specs.Agreement.{nulls_agree, types_agree, fields_agree};
+ghost use Rattle.vortex_types.specs.Agreement.{leaves_agree};
 
+use super::pairs::{Pair, Pairs};
 use super::{DType, Nullability, StructFields};
+use std::alloc::Global;
 
 /// Equal types, nullability included.
 impl PartialEq for DType {
@@ -56,7 +59,7 @@ impl Nullability {
     ghost use Rattle.vortex_types.specs.TypeOf.{allows_null};
 
     /// Whether they are the same, or need not be.
-    fn agrees(self, other: Nullability, exactly: bool) -> bool
+    pub(super) fn agrees(self, other: Nullability, exactly: bool) -> bool
         ensures { result ≡ nulls_agree exactly (allows_null self) (allows_null other) }
     {
         !exactly || self.is_nullable() == other.is_nullable()
@@ -64,12 +67,26 @@ impl Nullability {
 }
 
 impl DType {
+    ghost use Rattle.std.specs.Prelude.{MatchOption};
+    ghost use Rattle.vortex_types.specs.TypeCopies.{HasParts};
     ghost use Rattle.vortex_types.specs.TypeOf.{type_of};
 
-    /// Whether the types agree: nullability counts where they are to agree exactly.
+    /// Whether the types agree: nullability counts where they are to agree exactly. The types
+    /// inside are compared by a list of pairs, so that depth takes no stack; lists within lists
+    /// need no memory. Where that list cannot grow, a call compares what it has no place for.
     #[cycle(agree)]
-    fn agrees(&self, other: &DType, exactly: bool) -> bool
+    pub(super) fn agrees(&self, other: &DType, exactly: bool) -> bool
         ensures { result ≡ types_agree exactly (type_of self.now) (type_of other.now) }
+    {
+        match self.parts_allocator() {
+            Some(alloc) => Pairs::one(alloc, Pair { own: self, other }).agree(exactly),
+            None => self.agrees_as_leaf(other, exactly),
+        }
+    }
+
+    /// Whether the types agree and are made of no other.
+    pub(super) fn agrees_as_leaf(&self, other: &DType, exactly: bool) -> bool
+        ensures { result ≡ leaves_agree exactly (type_of self.now) (type_of other.now) }
     {
         match (self, other) {
             (DType::Null, DType::Null) => true,
@@ -77,17 +94,21 @@ impl DType {
             (DType::Primitive(p, n), DType::Primitive(q, m)) => *p == *q && n.agrees(*m, exactly),
             (DType::Utf8(n), DType::Utf8(m)) => n.agrees(*m, exactly),
             (DType::Binary(n), DType::Binary(m)) => n.agrees(*m, exactly),
-            (DType::Struct(fs, n), DType::Struct(gs, m)) => {
-                fs.agrees(gs, exactly) && n.agrees(*m, exactly)
-            }
-            (DType::List(t, n), DType::List(u, m)) => t.agrees(u, exactly) && n.agrees(*m, exactly),
-            (DType::FixedSizeList(t, s, n), DType::FixedSizeList(u, r, m)) => {
-                t.agrees(u, exactly) && *s == *r && n.agrees(*m, exactly)
-            }
-            (DType::Map(k, v, n), DType::Map(l, w, m)) => {
-                k.agrees(l, exactly) && v.agrees(w, exactly) && n.agrees(*m, exactly)
-            }
             _ => false,
+        }
+    }
+
+    /// The allocator of what the type is made of; none of a type that is made of no other.
+    pub(super) fn parts_allocator(&self) -> Option<Global>
+        ensures { MatchOption result (¬ HasParts (type_of self.now))
+            (λ _. HasParts (type_of self.now)) }
+    {
+        match self {
+            DType::Struct(fields, _) => Some(*fields.fields.allocator()),
+            DType::List(element, _) => Some(*Box::allocator(element)),
+            DType::FixedSizeList(element, _, _) => Some(*Box::allocator(element)),
+            DType::Map(key, _, _) => Some(*Box::allocator(key)),
+            _ => None,
         }
     }
 
@@ -103,23 +124,10 @@ impl StructFields {
     ghost use Rattle.vortex_types.specs.TypeOf.{struct_fields};
 
     /// Whether the names are the same and the types agree, field by field.
-    #[cycle(agree)]
     fn agrees(&self, other: &StructFields, exactly: bool) -> bool
         ensures { result ≡ fields_agree exactly (struct_fields self.now) (struct_fields other.now) }
     {
-        if self.fields.len() != other.fields.len() {
-            return false;
-        }
-        for k in 0..self.fields.len() {
-            let own = &self.fields[k];
-            let others = &other.fields[k];
-            if own.0.as_str() != others.0.as_str() {
-                return false;
-            }
-            if !own.1.agrees(&others.1, exactly) {
-                return false;
-            }
-        }
-        true
+        let mut pairs = Pairs::new(*self.fields.allocator());
+        pairs.put_fields(self, other, exactly) && pairs.agree(exactly)
     }
 }

@@ -1,55 +1,255 @@
-use Rattle.std.proofs.Common.{◌≡◌, ◌<◌, length, sym, ◌∙◌, arith}
-use Rattle.vortex_types.specs.TypeOf.{struct_fields}
+use Rattle.std.proofs.Common.{◌≡◌, ◌<◌, ◌+◌, ◌∷◌, ◌&&◌, true, false, nat_eq, length, get_or, drop, refl, sym, ap, ◌∙◌, arith, rules}
+use Rattle.std.proofs.lemmas.Bool.{and_left, and_right, and_from, eq-eqb, ne_eqb}
+use Rattle.std.proofs.lemmas.List.{drop_more}
+use Rattle.std.proofs.lemmas.List.Sums.{sum_by_push}
+use Rattle.vortex_types.specs.Agreement.{nulls_agree, types_agree}
+use Rattle.vortex_types.specs.TypeOf.{type_of, struct_fields, allows_null}
+use Rattle.vortex_types.specs.TypeParts.{type_weight}
+use Rattle.vortex_types.specs.TypePairs.{all_agree, waiting, weight_of}
 use Rattle.vortex_types.proofs.TypeViews.{struct_count}
 use Rattle.vortex_types.proofs.Agreeing.{struct_agrees, counts_refute, agree_from_end, names_refute}
-use Rattle.vortex_types.proofs.Agreeing.{types_refute}
+use Rattle.vortex_types.proofs.Agreeing.{types_refute, passed, part_differs, part_passed}
+use Rattle.vortex_types.proofs.CopySteps.{weights_at}
+use Rattle.vortex_types.proofs.PairSteps.{and_true, all_push, all_put, field_weighs_less}
+use Rattle.vortex_types.proofs.PairSteps.{struct_pair, list_pair, fixed_pair, map_pair}
+use Rattle.vortex_types.proofs.PairSteps.{inside_alike, inside_differs}
 use Rattle.vortex_types.proofs.dtype.+agree.Goals as goal
 
-pub StructFields::agrees-returns-then-len : goal.StructFields::agrees-returns-then-len
-StructFields::agrees-returns-then-len t c =
-    let a = struct_count c.args.self.now in
-    let b = struct_count c.args.other.now in
-    counts_refute c.args.exactly (struct_fields c.args.self.now) (struct_fields c.args.other.now)
-    (λ e. omega arith)
+pub DType::agrees-returns-in-Some : goal.DType::agrees-returns-in-Some
+DType::agrees-returns-in-Some t c =
+    c.agree.ensures ∙ ap (all_agree c.args.exactly) c.one.ensures ∙ and_true _
 
-pub StructFields::agrees-returns-then-ne : goal.StructFields::agrees-returns-then-ne
-StructFields::agrees-returns-then-ne t c =
-    let a = struct_count c.args.self.now in
+pub pairs::Pairs::agree-returns-then-not-step : goal.pairs::Pairs::agree-returns-then-not-step
+pairs::Pairs::agree-returns-then-not-step t c =
+    c.if-not-step.ensures.agree
+    ∙ sym (all_push c.args.exactly (waiting c.pop.new.self) c.in-Some.pair)
+    ∙ sym (ap (all_agree c.args.exactly) c.in-Some.ensures)
+    ∙ c.loop-pair.invariant.0
+
+pub pairs::Pairs::agree-loop-pair-preserved : goal.pairs::Pairs::agree-loop-pair-preserved
+pairs::Pairs::agree-loop-pair-preserved t c = (
+  c.if-not-step.ensures.agree
+      ∙ sym (all_push c.args.exactly (waiting c.pop.new.self) c.in-Some.pair)
+      ∙ sym (ap (all_agree c.args.exactly) c.in-Some.ensures)
+      ∙ c.loop-pair.invariant.0,
+  omega (
+    arith,
+    c.step.ensures.fewer,
+    ap weight_of c.in-Some.ensures ∙ sum_by_push _ (waiting c.pop.new.self) c.in-Some.pair,
+    c.loop-pair.invariant.1,
+  ),
+)
+
+pub pairs::Pairs::put-returns-in-Ok-clause-agree : goal.pairs::Pairs::put-returns-in-Ok-clause-agree
+pairs::Pairs::put-returns-in-Ok-clause-agree t c =
+    all_put c.args.exactly c.args.self.now.first _ _ _ c.in-Ok.ensures.items
+
+pub pairs::Pairs::put_fields-returns-then-len-clause-agree :
+    goal.pairs::Pairs::put_fields-returns-then-len-clause-agree
+pairs::Pairs::put_fields-returns-then-len-clause-agree t c =
+    let a = struct_count c.args.own.now in
     let b = struct_count c.args.other.now in
-    let fs = c.args.self.now.fields.items in
+    ap (λ b. b && all_agree c.args.exactly (waiting c.args.self.now))
+    (counts_refute c.args.exactly (struct_fields c.args.own.now)
+    (struct_fields c.args.other.now) (λ e. omega arith))
+
+pub pairs::Pairs::put_fields-returns-then-ne-clause-agree :
+    goal.pairs::Pairs::put_fields-returns-then-ne-clause-agree
+pairs::Pairs::put_fields-returns-then-ne-clause-agree t c =
+    let e = c.args.exactly in
+    let fs = c.args.own.now.fields.items in
     let gs = c.args.other.now.fields.items in
     let k = c.loop-k.k in
     let h : k < length fs = omega arith in
     let l : k < length gs = omega arith in
     let differ =
-    names_refute c.args.exactly k fs gs c.index-own.result.now c.index-others.result.now h l
-    c.index-own.ensures c.index-others.ensures _ _ c.as_str.ensures.value
+    names_refute e k fs gs c.index-field.result.now c.index-others.result.now h l
+    c.index-field.ensures c.index-others.ensures _ _ c.as_str.ensures.value
     c.as_str-in-loop-k.ensures.value (sym c.ne.ensures ∙ c.if-ne.true) in
-    sym
-    (struct_agrees c.args.exactly c.args.self.now c.args.other.now ∙ sym c.loop-k.invariant
-    ∙ differ)
+    sym (ap (λ b. b && all_agree e (waiting c.loop-k.self)) differ) ∙ c.loop-k.invariant.0
+    ∙ sym
+    (ap (λ b. b && all_agree e (waiting c.args.self.now))
+    (struct_agrees e c.args.own.now c.args.other.now))
 
-pub StructFields::agrees-returns-then-not-agrees : goal.StructFields::agrees-returns-then-not-agrees
-StructFields::agrees-returns-then-not-agrees t c =
-    let fs = c.args.self.now.fields.items in
+pub pairs::Pairs::put_fields-put-requires : goal.pairs::Pairs::put_fields-put-requires
+pairs::Pairs::put_fields-put-requires t c =
+    let fs = c.args.own.now.fields.items in
+    let f = c.index-field.result.now in
+    let same : f ≡ get_or fs c.loop-k.k f = c.index-field.ensures in
+    let less = field_weighs_less fs c.loop-k.k f (omega arith) in
+    let weight = ap (λ g. type_weight g.1) same in search rules
+
+pub pairs::Pairs::put_fields-returns-then-not-put-clause-agree :
+    goal.pairs::Pairs::put_fields-returns-then-not-put-clause-agree
+pairs::Pairs::put_fields-returns-then-not-put-clause-agree t c =
+    let e = c.args.exactly in
+    let fs = c.args.own.now.fields.items in
     let gs = c.args.other.now.fields.items in
     let k = c.loop-k.k in
     let h : k < length fs = omega arith in
     let l : k < length gs = omega arith in
-    let differ =
-    types_refute c.args.exactly k fs gs c.index-own.result.now c.index-others.result.now h l
-    c.index-own.ensures c.index-others.ensures
-    (sym c.agrees.ensures ∙ c.if-not-agrees.true) in
-    sym
-    (struct_agrees c.args.exactly c.args.self.now c.args.other.now ∙ sym c.loop-k.invariant
-    ∙ differ)
+    types_refute e k fs gs c.index-field.result.now c.index-others.result.now h l
+    c.index-field.ensures c.index-others.ensures _ c.if-not-put.ensures.agree
+    ∙ c.loop-k.invariant.0
+    ∙ sym
+    (ap (λ b. b && all_agree e (waiting c.args.self.now))
+    (struct_agrees e c.args.own.now c.args.other.now))
 
-pub StructFields::agrees-returns : goal.StructFields::agrees-returns
-StructFields::agrees-returns t c =
-    let fs = c.args.self.now.fields.items in
+pub pairs::Pairs::put_fields-loop-k-preserved : goal.pairs::Pairs::put_fields-loop-k-preserved
+pairs::Pairs::put_fields-loop-k-preserved t c =
+    let e = c.args.exactly in
+    let fs = c.args.own.now.fields.items in
+    let gs = c.args.other.now.fields.items in
+    let k = c.loop-k.k in
+    let h : k < length fs = omega arith in
+    let l : k < length gs = omega arith in
+    let f = c.index-field.result.now in
+    let same : get_or fs k f ≡ f = sym c.index-field.ensures in
+    let at : drop k fs ≡ f ∷ drop (k + 1) fs =
+    drop_more fs k f h ∙ ap (λ g. g ∷ drop (k + 1) fs) same in (
+      passed e k fs gs f c.index-others.result.now h l c.index-field.ensures
+          c.index-others.ensures _ _ _ _ c.as_str.ensures.value
+          c.as_str-in-loop-k.ensures.value (sym c.ne.ensures ∙ c.if-ne.false)
+          c.if-not-put.ensures.agree
+          ∙ c.loop-k.invariant.0,
+      omega (arith, c.put.ensures.fewer, weights_at _ _ f at, c.loop-k.invariant.1),
+    )
+
+pub pairs::Pairs::put_fields-returns-clause-agree :
+    goal.pairs::Pairs::put_fields-returns-clause-agree
+pairs::Pairs::put_fields-returns-clause-agree t c =
+    let e = c.args.exactly in
+    let fs = c.args.own.now.fields.items in
     let gs = c.args.other.now.fields.items in
     let at_end : c.loop-k.k ≡ length fs = omega arith in
     let same : length fs ≡ length gs = omega arith in
     sym
-    (struct_agrees c.args.exactly c.args.self.now c.args.other.now ∙ sym c.loop-k.invariant
-    ∙ agree_from_end c.args.exactly c.loop-k.k fs gs at_end same)
+    (ap (λ b. b && all_agree e (waiting c.loop-k.self))
+    (agree_from_end e c.loop-k.k fs gs at_end same))
+    ∙ c.loop-k.invariant.0
+    ∙ sym
+    (ap (λ b. b && all_agree e (waiting c.args.self.now))
+    (struct_agrees e c.args.own.now c.args.other.now))
+
+pub pairs::Pairs::step-returns-then-agrees-clause-agree :
+    goal.pairs::Pairs::step-returns-then-agrees-clause-agree
+pairs::Pairs::step-returns-then-agrees-clause-agree t c =
+    let s = c.in-Struct-Struct in
+    inside_alike _ _ _ _ c.put_fields.ensures.agree c.if-agrees.ensures
+    ∙ sym
+    (ap (λ b. b && all_agree c.args.exactly (waiting c.args.self.now))
+    (struct_pair c.args.exactly _ _ s.n s.m s.fs s.gs s.is-0 s.is-1))
+
+pub pairs::Pairs::step-returns-else-agrees-clause-agree :
+    goal.pairs::Pairs::step-returns-else-agrees-clause-agree
+pairs::Pairs::step-returns-else-agrees-clause-agree t c =
+    let s = c.in-Struct-Struct in
+    inside_differs _ _ _ _ c.agrees.ensures c.if-agrees.ensures
+    ∙ sym
+    (ap (λ b. b && all_agree c.args.exactly (waiting c.args.self.now))
+    (struct_pair c.args.exactly _ _ s.n s.m s.fs s.gs s.is-0 s.is-1))
+
+pub pairs::Pairs::step-returns-then-agrees-2-clause-agree :
+    goal.pairs::Pairs::step-returns-then-agrees-2-clause-agree
+pairs::Pairs::step-returns-then-agrees-2-clause-agree t c =
+    let s = c.in-List-List in
+    inside_alike _ _ _ _ c.put.ensures.agree c.if-agrees-2.ensures
+    ∙ sym
+    (ap (λ b. b && all_agree c.args.exactly (waiting c.args.self.now))
+    (list_pair c.args.exactly _ _ s.n s.m s.t s.u _ _ s.is-0 s.is-1 c.deref.ensures
+    c.deref-then-agrees-2.ensures))
+
+pub pairs::Pairs::step-returns-else-agrees-2-clause-agree :
+    goal.pairs::Pairs::step-returns-else-agrees-2-clause-agree
+pairs::Pairs::step-returns-else-agrees-2-clause-agree t c =
+    let s = c.in-List-List in
+    inside_differs _ _ _ _ c.agrees-in-List-List.ensures c.if-agrees-2.ensures
+    ∙ sym
+    (ap (λ b. b && all_agree c.args.exactly (waiting c.args.self.now))
+    (list_pair c.args.exactly _ _ s.n s.m s.t s.u _ _ s.is-0 s.is-1 refl refl))
+
+pub pairs::Pairs::step-returns-then-s-r-clause-agree :
+    goal.pairs::Pairs::step-returns-then-s-r-clause-agree
+pairs::Pairs::step-returns-then-s-r-clause-agree t c =
+    let s = c.in-FixedSizeList-FixedSizeList in
+    let differ = sym (and_left (nat_eq s.s s.r) _ (ne_eqb s.s s.r c.if-s-r.true)) in
+    inside_differs _ _ _ false differ differ
+    ∙ sym
+    (ap (λ b. b && all_agree c.args.exactly (waiting c.args.self.now))
+    (fixed_pair c.args.exactly _ _ s.n s.m s.t s.u s.s s.r _ _ s.is-0 s.is-1 refl refl))
+
+pub pairs::Pairs::step-returns-then-agrees-3-clause-agree :
+    goal.pairs::Pairs::step-returns-then-agrees-3-clause-agree
+pairs::Pairs::step-returns-then-agrees-3-clause-agree t c =
+    let s = c.in-FixedSizeList-FixedSizeList in
+    let same : nat_eq s.s s.r ≡ true = eq-eqb s.s s.r c.if-s-r.false in
+    inside_alike _ _ _ _ c.put-then-agrees-3.ensures.agree
+    (sym (and_from (nat_eq s.s s.r) _ same (sym c.if-agrees-3.ensures)))
+    ∙ sym
+    (ap (λ b. b && all_agree c.args.exactly (waiting c.args.self.now))
+    (fixed_pair c.args.exactly _ _ s.n s.m s.t s.u s.s s.r _ _ s.is-0 s.is-1
+    c.deref-then-agrees-3.ensures c.deref-then-agrees-3-2.ensures))
+
+pub pairs::Pairs::step-returns-else-agrees-3-clause-agree :
+    goal.pairs::Pairs::step-returns-else-agrees-3-clause-agree
+pairs::Pairs::step-returns-else-agrees-3-clause-agree t c =
+    let s = c.in-FixedSizeList-FixedSizeList in
+    let differ = sym (and_right (nat_eq s.s s.r) _ (sym c.if-agrees-3.ensures)) in
+    inside_differs _ _ _ _ (c.if-agrees-3.false ∙ differ) differ
+    ∙ sym
+    (ap (λ b. b && all_agree c.args.exactly (waiting c.args.self.now))
+    (fixed_pair c.args.exactly _ _ s.n s.m s.t s.u s.s s.r _ _ s.is-0 s.is-1 refl refl))
+
+pub pairs::Pairs::step-returns-then-not-agrees-clause-agree :
+    goal.pairs::Pairs::step-returns-then-not-agrees-clause-agree
+pairs::Pairs::step-returns-then-not-agrees-clause-agree t c =
+    let s = c.in-Map-Map in
+    let differ =
+    sym
+    (and_right (types_agree c.args.exactly (type_of s.v.value) (type_of s.w.value)) _
+    (sym c.if-not-agrees.ensures)) in
+    inside_differs _ _ _ false differ differ
+    ∙ sym
+    (ap (λ b. b && all_agree c.args.exactly (waiting c.args.self.now))
+    (map_pair c.args.exactly _ _ s.n s.m s.k s.v s.l s.w _ _ _ _ s.is-0 s.is-1 refl refl
+    refl refl))
+
+pub pairs::Pairs::step-returns-then-put-clause-agree :
+    goal.pairs::Pairs::step-returns-then-put-clause-agree
+pairs::Pairs::step-returns-then-put-clause-agree t c =
+    let e = c.args.exactly in
+    let s = c.in-Map-Map in
+    let others = all_agree e (waiting c.args.self.now) in
+    let keys =
+    types_agree e (type_of c.deref-in-Map-Map.result.now)
+    (type_of c.deref-in-Map-Map-2.result.now) in
+    let values =
+    types_agree e (type_of c.deref-then-put.result.now)
+    (type_of c.deref-then-put-2.result.now) in
+    let nulls = nulls_agree e (allows_null s.n) (allows_null s.m) in
+    let after = all_agree e (waiting c.put-in-Map-Map.new.self) in
+    inside_alike values nulls after _ c.put-then-put.ensures.agree c.if-not-agrees.ensures
+    ∙ part_passed true keys (values && nulls) others after refl c.if-put.ensures.agree
+    ∙ sym
+    (ap (λ b. b && others)
+    (map_pair e _ _ s.n s.m s.k s.v s.l s.w _ _ _ _ s.is-0 s.is-1
+    c.deref-in-Map-Map.ensures c.deref-then-put.ensures c.deref-in-Map-Map-2.ensures
+    c.deref-then-put-2.ensures))
+
+pub pairs::Pairs::step-returns-else-put-clause-agree :
+    goal.pairs::Pairs::step-returns-else-put-clause-agree
+pairs::Pairs::step-returns-else-put-clause-agree t c =
+    let e = c.args.exactly in
+    let s = c.in-Map-Map in
+    let others = all_agree e (waiting c.args.self.now) in
+    let keys =
+    types_agree e (type_of c.deref-in-Map-Map.result.now)
+    (type_of c.deref-in-Map-Map-2.result.now) in
+    let values = types_agree e (type_of s.v.value) (type_of s.w.value) in
+    let nulls = nulls_agree e (allows_null s.n) (allows_null s.m) in
+    ap (λ b. b && all_agree e (waiting c.put-in-Map-Map.new.self)) c.if-put.false
+    ∙ part_differs true keys (values && nulls) others c.if-put.ensures.agree
+    ∙ sym
+    (ap (λ b. b && others)
+    (map_pair e _ _ s.n s.m s.k s.v s.l s.w _ _ _ _ s.is-0 s.is-1
+    c.deref-in-Map-Map.ensures refl c.deref-in-Map-Map-2.ensures refl))

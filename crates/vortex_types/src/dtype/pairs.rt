@@ -1,0 +1,159 @@
+//! Types compared by a list of pairs that are still to be compared, so that no depth of a type
+//! takes stack.
+ghost use Rattle.std.specs.Prelude.{◌≡◌, ◌<◌, ◌≤◌, ◌+◌, ◌∷◌, ◌++◌, [], ◌&&◌, Bool};
+ghost use Rattle.std.specs.Prelude.{MatchOption};
+ghost use Rattle.vortex_types.specs.Agreement.{types_agree, fields_agree};
+ghost use Rattle.vortex_types.specs.TypeOf.{type_of, struct_fields};
+ghost use Rattle.vortex_types.specs.TypeParts.{type_weight, type_weights};
+ghost use Rattle.vortex_types.specs.TypePairs.{all_agree, pair_agrees, waiting, weight_of};
+
+use crate::dtype::{DType, StructFields};
+use std::alloc::Global;
+
+/// A type, and another with which it is to agree.
+#[derive(Clone, Copy)]
+pub(super) struct Pair<'a> {
+    pub(super) own: &'a DType,
+    pub(super) other: &'a DType,
+}
+
+/// Pairs that are still to be compared. The first takes no memory.
+#[derive(Drop)]
+pub(super) struct Pairs<'a> {
+    first: Option<Pair<'a>>,
+    others: Vec<Pair<'a>>,
+}
+
+impl<'a> Pairs<'a> {
+    /// No pairs. Takes no memory.
+    pub(super) fn new(alloc: Global) -> Pairs<'a>
+        ensures { waiting result ≡ [] }
+    {
+        Pairs {
+            first: None,
+            others: Vec::new(alloc),
+        }
+    }
+
+    /// That pair alone. Takes no memory.
+    pub(super) fn one(alloc: Global, pair: Pair<'a>) -> Pairs<'a>
+        ensures { waiting result ≡ pair.entry ∷ [] }
+    {
+        Pairs {
+            first: Some(pair),
+            others: Vec::new(alloc),
+        }
+    }
+
+    /// The last of the pairs.
+    fn pop(&mut self) -> Option<Pair<'a>>
+        ensures { MatchOption result (waiting self.old ≡ [])
+            (λ pair. waiting self.old ≡ waiting self.new ++ pair ∷ []) }
+    {
+        match self.others.pop() {
+            Some(pair) => Some(pair),
+            None => self.first.take(),
+        }
+    }
+
+    /// Whether every pair agrees.
+    #[cycle(agree)]
+    pub(super) fn agree(self, exactly: bool) -> bool
+        ensures { result ≡ all_agree exactly (waiting self.entry) }
+    {
+        let mut pairs = self;
+        while let Some(pair) = pairs.pop() {
+            if !pairs.step(pair, exactly) {
+                return false;
+            }
+        }
+        true
+    }
+
+    /// Compares the pair but for the types inside, which are put to the pairs. False only where
+    /// some pair differs.
+    #[cycle(agree)]
+    fn step(&mut self, pair: Pair<'a>, exactly: bool) -> bool
+        ensures agree { (result && all_agree exactly (waiting self.new))
+            ≡ (pair_agrees exactly pair.entry && all_agree exactly (waiting self.old)) }
+        ensures fewer { weight_of (waiting self.new)
+            < weight_of (waiting self.old) + type_weight pair.entry.own.now }
+    {
+        match (pair.own, pair.other) {
+            (DType::Struct(fs, n), DType::Struct(gs, m)) => {
+                n.agrees(*m, exactly) && self.put_fields(fs, gs, exactly)
+            }
+            (DType::List(t, n), DType::List(u, m)) => {
+                n.agrees(*m, exactly) && self.put(t, u, exactly)
+            }
+            (DType::FixedSizeList(t, s, n), DType::FixedSizeList(u, r, m)) => {
+                if *s != *r {
+                    return false;
+                }
+                n.agrees(*m, exactly) && self.put(t, u, exactly)
+            }
+            (DType::Map(k, v, n), DType::Map(l, w, m)) => {
+                if !n.agrees(*m, exactly) {
+                    return false;
+                }
+                self.put(k, l, exactly) && self.put(v, w, exactly)
+            }
+            (own, other) => own.agrees_as_leaf(other, exactly),
+        }
+    }
+
+    /// One pair more. It is compared at once where the type is made of no other, and by a call
+    /// where there is no memory to keep it. False only where it differs.
+    #[cycle(agree)]
+    fn put(&mut self, own: &'a DType, other: &'a DType, exactly: bool) -> bool
+        ensures agree { (result && all_agree exactly (waiting self.new))
+            ≡ (types_agree exactly (type_of own.now) (type_of other.now)
+            && all_agree exactly (waiting self.old)) }
+        ensures fewer { weight_of (waiting self.new)
+            ≤ weight_of (waiting self.old) + type_weight own.now }
+    {
+        if own.parts_allocator().is_none() {
+            return own.agrees_as_leaf(other, exactly);
+        }
+        let pair = Pair { own, other };
+        if self.first.is_none() {
+            self.first = Some(pair);
+            return true;
+        }
+        match self.others.push(pair) {
+            Ok(()) => true,
+            Err(_) => own.agrees(other, exactly),
+        }
+    }
+
+    /// The types of the fields as pairs. False only where a name or a pair differs, or the counts
+    /// of the fields.
+    #[cycle(agree)]
+    pub(super) fn put_fields(
+        &mut self,
+        own: &'a StructFields,
+        other: &'a StructFields,
+        exactly: bool,
+    ) -> bool
+        ensures agree { (result && all_agree exactly (waiting self.new))
+            ≡ (fields_agree exactly (struct_fields own.now) (struct_fields other.now)
+            && all_agree exactly (waiting self.old)) }
+        ensures fewer { weight_of (waiting self.new)
+            ≤ weight_of (waiting self.old) + type_weights own.now.fields.items }
+    {
+        if own.fields.len() != other.fields.len() {
+            return false;
+        }
+        for k in 0..own.fields.len() {
+            let field = &own.fields[k];
+            let others = &other.fields[k];
+            if field.0.as_str() != others.0.as_str() {
+                return false;
+            }
+            if !self.put(&field.1, &others.1, exactly) {
+                return false;
+            }
+        }
+        true
+    }
+}
