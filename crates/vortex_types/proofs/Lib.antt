@@ -8,5 +8,6 @@ pub mod JoinedTexts
 pub mod PrintedTypes
 pub mod TypeWeights
 pub mod ValueWeights
+pub mod ValueCopies
 pub mod CopySteps
 pub mod PairSteps

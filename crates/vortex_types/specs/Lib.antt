@@ -16,6 +16,7 @@ pub mod TypePairs
 pub mod TypeTexts
 pub mod ValueOf
 pub mod ValueParts
+pub mod ValueCopies
 pub mod Numbers
 pub mod Texts
 pub mod DTypeTexts

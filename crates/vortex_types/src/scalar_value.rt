@@ -4,6 +4,9 @@ ghost use Rattle.vortex_errors.specs.Answers.{AnswersUnlessMemory};
 ghost use Rattle.vortex_types.specs.ValueParts.{value_weight, value_weights, deepest_value};
 ghost use Rattle.vortex_types.specs.declared.scalar_value.ScalarValue.{size-ScalarValue};
 
+mod copying;
+
+use copying::{Begun, copy_items};
 use std::alloc::{AllocError, Global};
 use vortex_errors::VortexResult;
 
@@ -72,25 +75,9 @@ impl ScalarValue {
     fn copy(&self) -> Result<ScalarValue, AllocError>
         ensures { IfOk result (λ v. value_of v ≡ value_of self.now) }
     {
-        match self {
-            ScalarValue::Bool(b) => Ok(ScalarValue::Bool(*b)),
-            ScalarValue::Int(n) => Ok(ScalarValue::Int(*n)),
-            ScalarValue::Utf8(text) => Ok(ScalarValue::Utf8(text.clone()?)),
-            ScalarValue::Binary(bytes) => {
-                let bytes = bytes.as_slice().to_vec(*bytes.allocator())?;
-                Ok(ScalarValue::Binary(bytes))
-            }
-            ScalarValue::List(items) => {
-                let mut copies = Vec::new(*items.allocator());
-                for item in items {
-                    let copy = match item {
-                        Some(value) => Some(value.copy()?),
-                        None => None,
-                    };
-                    copies.push(copy)?;
-                }
-                Ok(ScalarValue::List(copies))
-            }
+        match self.begin_copy()? {
+            Begun::Whole(copy) => Ok(copy),
+            Begun::Items(items) => Ok(ScalarValue::List(copy_items(items)?)),
         }
     }
 }
