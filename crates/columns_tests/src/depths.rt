@@ -94,6 +94,12 @@ fn are_equal(one: VortexResult<Scalar>, other: VortexResult<Scalar>) -> VortexRe
     Ok(one.cell().compare(&other.cell()) == Ordering::Equal)
 }
 
+/// A copy of a literal.
+fn copy_of(alloc: Global, made: VortexResult<Scalar>) -> VortexResult<Scalar> {
+    let literal = made?;
+    literal.try_clone(alloc)
+}
+
 /// Whether a value was made; it is let go here.
 fn was_made<T: Drop>(made: VortexResult<T>) -> VortexResult<bool> {
     let _value = made?;
@@ -104,6 +110,13 @@ fn was_made<T: Drop>(made: VortexResult<T>) -> VortexResult<bool> {
 fn has_a_copy(alloc: Global, made: VortexResult<DType>) -> VortexResult<bool> {
     let dtype = made?;
     let _copy = dtype.try_clone(alloc)?;
+    Ok(true)
+}
+
+/// Whether a value has a copy; both are let go here.
+fn value_has_a_copy(alloc: Global, made: VortexResult<ScalarValue>) -> VortexResult<bool> {
+    let value = made?;
+    let _copy = value.try_clone(alloc)?;
     Ok(true)
 }
 
@@ -155,6 +168,18 @@ fn deep_types_are_let_go(rt: HostRuntime) {
 fn deep_literals_are_typed_and_compared(rt: HostRuntime) {
     let alloc = rt.alloc();
     assert!(rt; yes(are_equal(literal(alloc), literal(alloc))));
+}
+
+#[test]
+fn deep_literals_equal_their_copies(rt: HostRuntime) {
+    let alloc = rt.alloc();
+    assert!(rt; yes(are_equal(literal(alloc), copy_of(alloc, literal(alloc)))));
+}
+
+#[test]
+fn deep_values_are_copied(rt: HostRuntime) {
+    let alloc = rt.alloc();
+    assert!(rt; yes(value_has_a_copy(alloc, values(alloc))));
 }
 
 #[test]
