@@ -11,3 +11,4 @@ pub mod ValueWeights
 pub mod ValueCopies
 pub mod CopySteps
 pub mod PairSteps
+pub mod TextPieces

@@ -20,3 +20,4 @@ pub mod ValueCopies
 pub mod Numbers
 pub mod Texts
 pub mod DTypeTexts
+pub mod TypePieces

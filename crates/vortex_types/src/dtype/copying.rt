@@ -63,7 +63,8 @@ impl DType {
     /// of. Takes no memory.
     pub(super) fn leaf(&self) -> Result<DType, Global>
         ensures { MatchResult result
-            (λ t. type_of t ≡ type_of self.now) (λ _. HasParts (type_of self.now)) }
+            (λ t. (type_of t ≡ type_of self.now) × (¬ HasParts (type_of self.now)))
+            (λ _. HasParts (type_of self.now)) }
     {
         match self {
             DType::Null => Ok(DType::Null),

@@ -1,14 +1,32 @@
 //! The texts of types, written behind what a text holds already. Each refuses for memory alone
 //! (E9).
+ghost use Rattle.std.specs.Prelude.{◌≡◌, ◌<◌, ◌+◌, ◌*◌, ◌++◌, IfOk, string_bytes};
 ghost use Rattle.vortex_errors.specs.Answers.{AnswersUnlessMemory};
-ghost use Rattle.vortex_types.specs.TypeOf.{type_of, struct_fields};
-ghost use Rattle.vortex_types.specs.Texts.{Appends, joined, comma, separator_before};
-ghost use Rattle.vortex_types.specs.DTypeTexts.{type_text, null_mark, field_type_texts};
-ghost use Rattle.vortex_types.specs.DTypeTexts.{opening, closing};
+ghost use Rattle.vortex_types.specs.TypeOf.{type_of};
+ghost use Rattle.vortex_types.specs.TypeParts.{type_weight};
+ghost use Rattle.vortex_types.specs.TypeCopies.{HasParts, fields_cost};
+ghost use Rattle.vortex_types.specs.Texts.{Appends, separator_before};
+ghost use Rattle.vortex_types.specs.DTypeTexts.{type_text, null_mark, opening, closing};
+ghost use Rattle.vortex_types.specs.TypePieces.{size_text, ending, fields_text, piece_text};
+ghost use Rattle.vortex_types.specs.TypePieces.{pieces_text, piece_cost, pieces_cost};
 
 use super::{DType, StructFields};
+use std::alloc::{AllocError, Global};
 use std::fmt::Write;
 use vortex_errors::VortexResult;
+
+/// A piece of a type's text, in a list from which the last is written first.
+#[derive(Clone, Copy)]
+enum Piece<'a> {
+    /// That type.
+    Whole(&'a DType),
+    /// What stands between the keys and the values of a map.
+    Comma,
+    /// What stands behind the types inside that type.
+    Ending(&'a DType),
+    /// The fields from that place on, each behind the separator but the first of all.
+    Fields(&'a StructFields, usize),
+}
 
 /// The separator, but before the first text.
 pub fn write_separator(out: &mut String, separator: &str, k: usize) -> VortexResult<()>
@@ -22,8 +40,6 @@ pub fn write_separator(out: &mut String, separator: &str, k: usize) -> VortexRes
 }
 
 impl DType {
-    ghost use Rattle.std.specs.Prelude.{◌≡◌};
-
     /// What stands before the types inside; all but the mark where there are none.
     fn opening(&self) -> &'static str
         ensures { result.now ≡ opening (type_of self.now) }
@@ -64,51 +80,136 @@ impl DType {
         }
     }
 
-    /// Writes the type, with `?` where it has null: `null`, `bool`, `i32?`, `utf8`, `binary?`,
-    /// `struct{a: i32, b: utf8?}`, `list[i32?]?`, `list[u8; 4]` of four elements each, `map[utf8,
-    /// i32?]` of keys and values. Refuses for memory alone.
-    #[cycle(type_text)]
-    pub fn write_text(&self, out: &mut String) -> VortexResult<()>
+    /// Writes the count of elements of lists that have one.
+    fn write_size(&self, out: &mut String) -> VortexResult<()>
         ensures { AnswersUnlessMemory result
-            (λ _. Appends out.old (type_text (type_of self.now)) out.new) }
+            (λ _. Appends out.old (size_text (type_of self.now)) out.new) }
     {
-        out.push_str(self.opening())?;
-        match self {
-            DType::Null => {}
-            DType::Bool(_) => {}
-            DType::Primitive(_, _) => {}
-            DType::Utf8(_) => {}
-            DType::Binary(_) => {}
-            DType::Struct(fields, _) => fields.write_text(out)?,
-            DType::List(element, _) => element.write_text(out)?,
-            DType::FixedSizeList(element, size, _) => {
-                element.write_text(out)?;
-                write!(out, "; {size}")?;
-            }
-            DType::Map(key, value, _) => {
-                key.write_text(out)?;
-                out.push_str(", ")?;
-                value.write_text(out)?;
-            }
+        if let DType::FixedSizeList(_, size, _) = self {
+            write!(out, "; {size}")?;
         }
+        Ok(())
+    }
+
+    /// Writes what stands behind the types inside, with the mark.
+    fn write_ending(&self, out: &mut String) -> VortexResult<()>
+        ensures { AnswersUnlessMemory result
+            (λ _. Appends out.old (ending (type_of self.now)) out.new) }
+    {
+        self.write_size(out)?;
         out.push_str(self.closing())?;
         out.push_str(self.null_mark())?;
         Ok(())
     }
+
+    /// Writes a type that is made of no other.
+    fn write_flat(&self, out: &mut String) -> VortexResult<()>
+        requires { ¬ HasParts (type_of self.now) }
+        ensures { AnswersUnlessMemory result
+            (λ _. Appends out.old (type_text (type_of self.now)) out.new) }
+    {
+        out.push_str(self.opening())?;
+        out.push_str(self.null_mark())?;
+        Ok(())
+    }
+
+    /// Lists what stands behind the opening of a type that is made of others.
+    fn list_pieces<'a>(&'a self, pieces: &mut Vec<Piece<'a>>) -> Result<(), AllocError>
+        requires { HasParts (type_of self.now) }
+        ensures text { IfOk result (λ _.
+            opening (type_of self.now) ++ pieces_text pieces.new.items
+            ≡ type_text (type_of self.now) ++ pieces_text pieces.old.items) }
+        ensures fewer { IfOk result (λ _. pieces_cost pieces.new.items
+            < pieces_cost pieces.old.items + 3 * type_weight self.now) }
+    {
+        pieces.push(Piece::Ending(self))?;
+        match self {
+            DType::Struct(fields, _) => pieces.push(Piece::Fields(fields, 0))?,
+            DType::List(element, _) => pieces.push(Piece::Whole(element))?,
+            DType::FixedSizeList(element, _, _) => pieces.push(Piece::Whole(element))?,
+            DType::Map(key, value, _) => {
+                pieces.push(Piece::Whole(value))?;
+                pieces.push(Piece::Comma)?;
+                pieces.push(Piece::Whole(key))?;
+            }
+            _ => {}
+        }
+        Ok(())
+    }
+
+    /// Writes a type that is made of others, by a list of what is still to be written.
+    fn write_by_pieces(&self, alloc: Global, out: &mut String) -> VortexResult<()>
+        ensures { AnswersUnlessMemory result
+            (λ _. Appends out.old (type_text (type_of self.now)) out.new) }
+    {
+        let mut pieces = Vec::new(alloc);
+        pieces.push(Piece::Whole(self))?;
+        while let Some(piece) = pieces.pop() {
+            piece.write(out, &mut pieces)?;
+        }
+        Ok(())
+    }
+
+    /// Writes the type, with `?` where it has null: `null`, `bool`, `i32?`, `utf8`, `binary?`,
+    /// `struct{a: i32, b: utf8?}`, `list[i32?]?`, `list[u8; 4]` of four elements each, `map[utf8,
+    /// i32?]` of keys and values. Refuses for memory alone.
+    pub fn write_text(&self, out: &mut String) -> VortexResult<()>
+        ensures { AnswersUnlessMemory result
+            (λ _. Appends out.old (type_text (type_of self.now)) out.new) }
+    {
+        match self.leaf() {
+            Ok(_leaf) => self.write_flat(out),
+            Err(alloc) => self.write_by_pieces(alloc, out),
+        }
+    }
 }
 
 impl StructFields {
-    /// Writes each type after its field's name.
-    #[cycle(type_text)]
-    fn write_text(&self, out: &mut String) -> VortexResult<()>
-        ensures { AnswersUnlessMemory result (λ _.
-            Appends out.old (joined comma (field_type_texts (struct_fields self.now))) out.new) }
+    /// Writes the name of the field at that place, and lists its type and the fields behind it.
+    fn write_field<'a>(
+        &'a self,
+        k: usize,
+        out: &mut String,
+        pieces: &mut Vec<Piece<'a>>,
+    ) -> VortexResult<()>
+        ensures text { AnswersUnlessMemory result (λ _.
+            string_bytes out.new ++ pieces_text pieces.new.items
+            ≡ string_bytes out.old ++ (fields_text self.now k ++ pieces_text pieces.old.items)) }
+        ensures fewer { IfOk result (λ _. pieces_cost pieces.new.items
+            < pieces_cost pieces.old.items + fields_cost self.now k) }
     {
-        for k in 0..self.fields.len() {
+        if k < self.fields.len() {
+            let field = &self.fields[k];
             write_separator(out, ", ", k)?;
-            out.push_str(self.name(k))?;
+            out.push_str(field.0.as_str())?;
             out.push_str(": ")?;
-            self.fields[k].1.write_text(out)?;
+            pieces.push(Piece::Fields(self, k + 1))?;
+            pieces.push(Piece::Whole(&field.1))?;
+        }
+        Ok(())
+    }
+}
+
+impl<'a> Piece<'a> {
+    /// Writes the beginning of a piece, and lists what stands behind it.
+    fn write(self, out: &mut String, pieces: &mut Vec<Piece<'a>>) -> VortexResult<()>
+        ensures text { AnswersUnlessMemory result (λ _.
+            string_bytes out.new ++ pieces_text pieces.new.items
+            ≡ string_bytes out.old ++ (piece_text self.entry ++ pieces_text pieces.old.items)) }
+        ensures fewer { IfOk result (λ _. pieces_cost pieces.new.items
+            < pieces_cost pieces.old.items + piece_cost self.entry) }
+    {
+        match self {
+            Piece::Whole(dtype) => match dtype.leaf() {
+                Ok(_leaf) => dtype.write_flat(out)?,
+                Err(_alloc) => {
+                    out.push_str(dtype.opening())?;
+                    dtype.list_pieces(pieces)?;
+                }
+            },
+            Piece::Comma => out.push_str(", ")?,
+            Piece::Ending(dtype) => dtype.write_ending(out)?,
+            Piece::Fields(fields, k) => fields.write_field(k, out, pieces)?,
         }
         Ok(())
     }
