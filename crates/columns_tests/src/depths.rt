@@ -138,6 +138,49 @@ fn copy_equals(alloc: Global, made: VortexResult<DType>) -> VortexResult<bool> {
     Ok(copy == dtype)
 }
 
+/// What is written of a type.
+fn written(alloc: Global, made: VortexResult<DType>) -> VortexResult<String> {
+    let dtype = made?;
+    let mut text = String::new(alloc);
+    dtype.write_text(&mut text)?;
+    Ok(text)
+}
+
+/// Whether a type is written so.
+fn reads(alloc: Global, made: VortexResult<DType>, wanted: &str) -> VortexResult<bool> {
+    let text = written(alloc, made)?;
+    Ok(text.as_str() == wanted)
+}
+
+/// Whether a type's text has that many bytes, and begins so.
+fn begins(
+    alloc: Global,
+    made: VortexResult<DType>,
+    length: usize,
+    start: &str,
+) -> VortexResult<bool> {
+    let text = written(alloc, made)?;
+    Ok(text.len() == length && text.as_bytes().starts_with(start.as_bytes()))
+}
+
+#[test]
+fn types_within_types_have_texts(rt: HostRuntime) {
+    let alloc = rt.alloc();
+    let wanted = "struct{x: map[struct{b: binary, a: list[utf8?; 3]?}?, list[null]], y: bool}";
+    assert!(rt; yes(reads(alloc, mixed(alloc), wanted)));
+}
+
+#[test]
+fn deep_types_have_texts(rt: HostRuntime) {
+    let alloc = rt.alloc();
+    // `null` has four bytes, and each level around it six to eleven
+    assert!(rt; yes(begins(alloc, lists(alloc), 6 * LEVELS + 4, "list[list[")));
+    assert!(rt; yes(begins(alloc, pairs(alloc), 9 * LEVELS + 4, "list[list[")));
+    assert!(rt; yes(begins(alloc, maps_by_key(alloc), 11 * LEVELS + 4, "map[map[")));
+    assert!(rt; yes(begins(alloc, maps_by_value(alloc), 11 * LEVELS + 4, "map[null, ")));
+    assert!(rt; yes(begins(alloc, structs(alloc), 11 * LEVELS + 4, "struct{a: ")));
+}
+
 #[test]
 fn copies_equal_their_types(rt: HostRuntime) {
     let alloc = rt.alloc();
