@@ -12,13 +12,18 @@ const YES: Nullability = Nullability::Nullable;
 /// More than calls within calls would reach.
 const LEVELS: usize = 200_000;
 
-/// Lists within lists.
-fn lists(alloc: Global) -> VortexResult<DType> {
-    let mut dtype = DType::Null;
+/// Lists within lists, around that type.
+fn lists_of(alloc: Global, inner: DType) -> VortexResult<DType> {
+    let mut dtype = inner;
     for _ in 0..LEVELS {
         dtype = DType::List(boxed(alloc, dtype)?, NO);
     }
     Ok(dtype)
+}
+
+/// Lists within lists.
+fn lists(alloc: Global) -> VortexResult<DType> {
+    lists_of(alloc, DType::Null)
 }
 
 /// Lists of two elements within one another.
@@ -63,6 +68,16 @@ fn structs(alloc: Global) -> VortexResult<DType> {
     Ok(dtype)
 }
 
+/// Structs of two fields within one another, each in the place of the first.
+fn structs_by_first(alloc: Global) -> VortexResult<DType> {
+    let mut dtype = DType::Null;
+    for _ in 0..LEVELS {
+        let both = fields(alloc, ("a", "b"), (dtype, DType::Bool(NO)))?;
+        dtype = DType::Struct(both, NO);
+    }
+    Ok(dtype)
+}
+
 /// Lists of a null and a list.
 fn values(alloc: Global) -> VortexResult<ScalarValue> {
     let mut value = ScalarValue::Bool(true);
@@ -98,6 +113,27 @@ fn are_equal(one: VortexResult<Scalar>, other: VortexResult<Scalar>) -> VortexRe
 fn copy_of(alloc: Global, made: VortexResult<Scalar>) -> VortexResult<Scalar> {
     let literal = made?;
     literal.try_clone(alloc)
+}
+
+/// Whether two types are equal; both are let go here.
+fn are_equal_types(one: VortexResult<DType>, other: VortexResult<DType>) -> VortexResult<bool> {
+    let one = one?;
+    let other = other?;
+    Ok(one == other)
+}
+
+/// Whether two types differ; both are let go here.
+fn differ(one: VortexResult<DType>, other: VortexResult<DType>) -> VortexResult<bool> {
+    let one = one?;
+    let other = other?;
+    Ok(one != other)
+}
+
+/// Whether two types differ in nullability alone; both are let go here.
+fn differ_by_null(one: VortexResult<DType>, other: VortexResult<DType>) -> VortexResult<bool> {
+    let one = one?;
+    let other = other?;
+    Ok(one.eq_ignore_nullability(&other) && one != other)
 }
 
 /// Whether a value was made; it is let go here.
@@ -195,6 +231,25 @@ fn deep_types_are_copied(rt: HostRuntime) {
     assert!(rt; yes(has_a_copy(alloc, maps_by_key(alloc))));
     assert!(rt; yes(has_a_copy(alloc, maps_by_value(alloc))));
     assert!(rt; yes(has_a_copy(alloc, structs(alloc))));
+}
+
+#[test]
+fn deep_types_are_equal(rt: HostRuntime) {
+    let alloc = rt.alloc();
+    assert!(rt; yes(are_equal_types(lists(alloc), lists(alloc))));
+    assert!(rt; yes(are_equal_types(maps_by_key(alloc), maps_by_key(alloc))));
+    assert!(rt; yes(are_equal_types(maps_by_value(alloc), maps_by_value(alloc))));
+    assert!(rt; yes(are_equal_types(structs(alloc), structs(alloc))));
+    assert!(rt; yes(are_equal_types(structs_by_first(alloc), structs_by_first(alloc))));
+}
+
+#[test]
+fn deep_types_are_told_apart(rt: HostRuntime) {
+    let alloc = rt.alloc();
+    assert!(rt; yes(differ(lists(alloc), lists_of(alloc, DType::Utf8(NO)))));
+    assert!(rt; yes(differ(maps_by_key(alloc), maps_by_value(alloc))));
+    let one = lists_of(alloc, DType::Utf8(NO));
+    assert!(rt; yes(differ_by_null(one, lists_of(alloc, DType::Utf8(YES)))));
 }
 
 #[test]

@@ -1,10 +1,9 @@
 -- What is left to compare as pairs come and go, and what a step over a pair answers.
-use Rattle.std.proofs.Common.{◌≡◌, ℕ, zero, suc, ◌+◌, ◌<◌, Bool, true, false, ◌&&◌, List, []}
+use Rattle.std.proofs.Common.{◌≡◌, ℕ, zero, suc, ◌<◌, Bool, true, false, ◌&&◌, List, []}
 use Rattle.std.proofs.Common.{◌∷◌, ◌++◌, String, Global, Box, Option, Some, None, length, get_or}
 use Rattle.std.proofs.Common.{refl, sym, ap, ◌∙◌, arith}
 use Rattle.std.specs.Prelude.{nat_eq}
-use Rattle.vortex_types.specs.LogicalTypes.{LogicalType}
-use Rattle.vortex_types.specs.Agreement.{nulls_agree, types_agree, fields_agree, leaves_agree}
+use Rattle.vortex_types.specs.Agreement.{nulls_agree, types_agree, fields_agree}
 use Rattle.vortex_types.specs.TypeOf.{type_of, struct_fields, allows_null}
 use Rattle.vortex_types.specs.TypeParts.{type_weight, type_weights}
 use Rattle.vortex_types.specs.TypePairs.{all_agree, pair_agrees, with_first}

@@ -1,7 +1,6 @@
 //! Types compared by a list of pairs that are still to be compared, so that no depth of a type
 //! takes stack.
-ghost use Rattle.std.specs.Prelude.{◌≡◌, ◌<◌, ◌≤◌, ◌+◌, ◌∷◌, ◌++◌, [], ◌&&◌, Bool};
-ghost use Rattle.std.specs.Prelude.{MatchOption};
+ghost use Rattle.std.specs.Prelude.{◌≡◌, ◌<◌, ◌≤◌, ◌+◌, ◌∷◌, ◌++◌, [], ◌&&◌, MatchOption};
 ghost use Rattle.vortex_types.specs.Agreement.{types_agree, fields_agree};
 ghost use Rattle.vortex_types.specs.TypeOf.{type_of, struct_fields};
 ghost use Rattle.vortex_types.specs.TypeParts.{type_weight, type_weights};
@@ -98,6 +97,7 @@ impl<'a> Pairs<'a> {
                 }
                 self.put(k, l, exactly) && self.put(v, w, exactly)
             }
+            // types made of no other, or of two kinds
             (own, other) => own.agrees_as_leaf(other, exactly),
         }
     }
