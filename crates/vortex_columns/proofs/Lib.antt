@@ -10,6 +10,7 @@ pub mod ElementPlaces
 pub mod TakenRows
 pub mod JointRows
 pub mod ValueTexts
+pub mod WrittenFrames
 pub mod PrintedColumns
 pub mod ColumnWeights
 pub mod CopiedFrames

@@ -1,6 +1,6 @@
 -- The texts of nested values, one by one.
 use Rattle.std.proofs.Common.{◌≡◌, ℕ, zero, suc, ◌<◌, List, [], ◌∷◌, ◌++◌, length, get_or, refl, ap}
-use Rattle.std.proofs.Common.{◌∙◌, arith, append_assoc, min, subst, Some, Bool, false, ◌-◌, ◌^◌}
+use Rattle.std.proofs.Common.{◌∙◌, arith, min, subst, Some, Bool, false, ◌-◌, ◌^◌}
 use Rattle.std.specs.Prelude.{codes}
 use Rattle.std.specs.Option.{option_map}
 use Rattle.std.specs.Fmt.{AppendsText, styled_digits_output, digits_output, digits, format_spec}

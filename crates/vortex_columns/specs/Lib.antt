@@ -17,5 +17,6 @@ pub mod SingleValue
 pub mod Words
 pub mod Printing
 pub mod Shapes
+pub mod WrittenValues
 pub mod ColumnParts
 pub mod CopyFrames

@@ -2,12 +2,12 @@
 ghost use Rattle.std.specs.Prelude.{◌++◌, codes};
 ghost use Rattle.std.specs.Fmt.{signed_decimal};
 ghost use Rattle.std.specs.List.{flat_map};
-ghost use Rattle.vortex_types.specs.Texts.{Appends, joined, comma, quote};
+ghost use Rattle.vortex_types.specs.Texts.{Appends, comma, quote};
 ghost use Rattle.vortex_columns.specs.Words.{AnswersUnlessMemory, cell_value, IsCell, IsSequence};
-ghost use Rattle.vortex_columns.specs.Words.{sequence_value, values_in};
+ghost use Rattle.vortex_columns.specs.Words.{sequence_value};
+ghost use Rattle.vortex_columns.specs.SingleValue.{single_value};
 ghost use Rattle.vortex_columns.specs.ColumnView.{fields_in};
-ghost use Rattle.vortex_columns.specs.Printing.{hex_text, value_text, value_texts, field_texts};
-ghost use Rattle.vortex_columns.specs.Printing.{number_suffix};
+ghost use Rattle.vortex_columns.specs.Printing.{hex_text, value_text, number_suffix};
 ghost use Rattle.vortex_columns.specs.Shapes.{shape_type};
 
 use crate::cell::{Cell, Sequence};
@@ -149,8 +149,143 @@ fn write_hexadecimal(out: &mut String, bytes: &[u8]) -> VortexResult<()>
     write_bytes(out, bytes)
 }
 
+/// A value that is no sequence; `null` in place of one.
+fn write_single(
+    out: &mut String,
+    typed: bool,
+    shape: Shape<'_>,
+    cell: &Cell<'_>,
+) -> VortexResult<()>
+    requires { IsCell cell.now }
+    ensures { AnswersUnlessMemory result (λ _. Appends out.old
+        (value_text typed (shape_type shape.entry) (single_value (cell_value cell.now)))
+        out.new) }
+{
+    match cell {
+        Cell::Null => write_word(out, "null"),
+        Cell::Bool(true) => write_word(out, "true"),
+        Cell::Bool(false) => write_word(out, "false"),
+        Cell::Int(n) => write_number(out, typed, shape, *n),
+        Cell::Text(text) => write_quoted(out, text),
+        Cell::Bytes(bytes) => write_hexadecimal(out, bytes),
+        Cell::Sequence(_) => write_word(out, "null"),
+    }
+}
+
+/// A sequence that is being written, of that type, and the place of what is written of it next.
+#[derive(Clone, Copy)]
+struct Writing<'a, 't> {
+    values: Sequence<'a>,
+    shape: Shape<'t>,
+    next: usize,
+}
+
+impl<'a, 't> Writing<'a, 't> {
+    ghost use Rattle.std.specs.Prelude.{◌≡◌, ◌<◌, ◌++◌};
+    ghost use Rattle.vortex_types.specs.Texts.{separator_before};
+    ghost use Rattle.vortex_columns.specs.Words.{sequence_values};
+    ghost use Rattle.vortex_columns.specs.WrittenValues.{opening, closing, count_written};
+    ghost use Rattle.vortex_columns.specs.WrittenValues.{name_before, inner_type};
+
+    /// Writes the bracket that the values stand behind.
+    fn begin(
+        out: &mut String,
+        shape: Shape<'t>,
+        values: Sequence<'a>,
+    ) -> VortexResult<Writing<'a, 't>>
+        ensures { AnswersUnlessMemory result (λ begun.
+            (begun ≡ record { values = values.entry; shape = shape.entry; next = 0 })
+            × Appends out.old (opening (shape_type shape.entry)) out.new) }
+    {
+        out.push_str(if shape.is_struct() { "{" } else { "[" })?;
+        Ok(Writing {
+            values,
+            shape,
+            next: 0,
+        })
+    }
+
+    /// How many values there are to write: of a struct no more than its fields.
+    fn count(&self) -> usize
+        requires { IsSequence self.now.values }
+        ensures { result
+            ≡ count_written (shape_type self.now.shape) (sequence_values self.now.values) }
+    {
+        if self.shape.is_struct() {
+            self.values.len().min(self.shape.field_count())
+        } else {
+            self.values.len()
+        }
+    }
+
+    /// Writes what stands before the next value: a separator, and the name of a struct's field.
+    /// Tells the value's type.
+    fn write_before(&self, out: &mut String) -> VortexResult<Shape<'t>>
+        requires { self.now.next
+            < count_written (shape_type self.now.shape) (sequence_values self.now.values) }
+        ensures { AnswersUnlessMemory result (λ inner.
+            (shape_type inner ≡ inner_type self.now.next (shape_type self.now.shape))
+            × Appends out.old (separator_before comma self.now.next
+            ++ name_before self.now.next (shape_type self.now.shape)) out.new) }
+    {
+        write_separator(out, ", ", self.next)?;
+        if !self.shape.is_struct() {
+            return Ok(self.shape.element());
+        }
+        out.push_str(self.shape.field_name(self.next))?;
+        out.push_str(": ")?;
+        Ok(self.shape.field(self.next))
+    }
+
+    /// Writes the bracket that stands behind the values.
+    fn end(&self, out: &mut String) -> VortexResult<()>
+        ensures { AnswersUnlessMemory result
+            (λ _. Appends out.old (closing (shape_type self.now.shape)) out.new) }
+    {
+        out.push_str(if self.shape.is_struct() { "}" } else { "]" })?;
+        Ok(())
+    }
+}
+
+/// The values of a sequence, between brackets. The sequences around one that is being written stand
+/// in a list: how deep they nest takes no stack.
+fn write_sequence(
+    out: &mut String,
+    typed: bool,
+    shape: Shape<'_>,
+    values: &Sequence<'_>,
+) -> VortexResult<()>
+    requires { IsSequence values.now }
+    ensures { AnswersUnlessMemory result (λ _. Appends out.old
+        (value_text typed (shape_type shape.entry) (sequence_value values.now)) out.new) }
+{
+    let mut above = Vec::new(*out.allocator());
+    let mut current = Writing::begin(out, shape, *values)?;
+    loop {
+        if current.next < current.count() {
+            let inner = current.write_before(out)?;
+            match current.values.get(current.next) {
+                Cell::Sequence(values) => {
+                    current.next += 1;
+                    above.push(current)?;
+                    current = Writing::begin(out, inner, values)?;
+                }
+                single => {
+                    write_single(out, typed, inner, &single)?;
+                    current.next += 1;
+                }
+            }
+        } else {
+            current.end(out)?;
+            let Some(parent) = above.pop() else {
+                return Ok(());
+            };
+            current = parent;
+        }
+    }
+}
+
 /// A value of that type, with the type behind each whole number where numbers are `typed`.
-#[cycle(value_text)]
 pub(crate) fn write_value(
     out: &mut String,
     typed: bool,
@@ -163,77 +298,7 @@ pub(crate) fn write_value(
         out.new) }
 {
     match cell {
-        Cell::Null => write_word(out, "null"),
-        Cell::Bool(true) => write_word(out, "true"),
-        Cell::Bool(false) => write_word(out, "false"),
-        Cell::Int(n) => write_number(out, typed, shape, *n),
-        Cell::Text(text) => write_quoted(out, text),
-        Cell::Bytes(bytes) => write_hexadecimal(out, bytes),
         Cell::Sequence(values) => write_sequence(out, typed, shape, values),
+        _ => write_single(out, typed, shape, cell),
     }
-}
-
-#[cycle(value_text)]
-fn write_sequence(
-    out: &mut String,
-    typed: bool,
-    shape: Shape<'_>,
-    values: &Sequence<'_>,
-) -> VortexResult<()>
-    requires { IsSequence values.now }
-    ensures { AnswersUnlessMemory result (λ _. Appends out.old
-        (value_text typed (shape_type shape.entry) (sequence_value values.now)) out.new) }
-{
-    if shape.is_struct() {
-        out.push_str("{")?;
-        write_fields(out, typed, shape, values)?;
-        out.push_str("}")?;
-    } else {
-        out.push_str("[")?;
-        write_elements(out, typed, shape.element(), values)?;
-        out.push_str("]")?;
-    }
-    Ok(())
-}
-
-/// Values of one type.
-#[cycle(value_text)]
-fn write_elements(
-    out: &mut String,
-    typed: bool,
-    shape: Shape<'_>,
-    values: &Sequence<'_>,
-) -> VortexResult<()>
-    requires { IsSequence values.now }
-    ensures { AnswersUnlessMemory result (λ _. Appends out.old
-        (joined comma (value_texts typed (shape_type shape.entry) (values_in values.now)))
-        out.new) }
-{
-    for k in 0..values.len() {
-        write_separator(out, ", ", k)?;
-        write_value(out, typed, shape, &values.get(k))?;
-    }
-    Ok(())
-}
-
-/// The values of a struct, each after its field's name.
-#[cycle(value_text)]
-fn write_fields(
-    out: &mut String,
-    typed: bool,
-    shape: Shape<'_>,
-    values: &Sequence<'_>,
-) -> VortexResult<()>
-    requires { IsSequence values.now }
-    ensures { AnswersUnlessMemory result (λ _. Appends out.old
-        (joined comma (field_texts typed (fields_in (shape_type shape.entry))
-        (values_in values.now))) out.new) }
-{
-    for k in 0..values.len().min(shape.field_count()) {
-        write_separator(out, ", ", k)?;
-        out.push_str(shape.field_name(k))?;
-        out.push_str(": ")?;
-        write_value(out, typed, shape.field(k), &values.get(k))?;
-    }
-    Ok(())
 }
