@@ -136,6 +136,13 @@ fn differ_by_null(one: VortexResult<DType>, other: VortexResult<DType>) -> Vorte
     Ok(one.eq_ignore_nullability(&other) && one != other)
 }
 
+/// Whether the text of a literal has so many bytes.
+fn is_written_in(alloc: Global, made: VortexResult<Scalar>, count: usize) -> VortexResult<bool> {
+    let mut out = String::new(alloc);
+    made?.write_literal(&mut out)?;
+    Ok(out.len() == count)
+}
+
 /// Whether a value was made; it is let go here.
 fn was_made<T: Drop>(made: VortexResult<T>) -> VortexResult<bool> {
     let _value = made?;
@@ -278,6 +285,12 @@ fn deep_literals_equal_their_copies(rt: HostRuntime) {
 fn deep_values_are_copied(rt: HostRuntime) {
     let alloc = rt.alloc();
     assert!(rt; yes(value_has_a_copy(alloc, values(alloc))));
+}
+
+#[test]
+fn deep_literals_are_written(rt: HostRuntime) {
+    let alloc = rt.alloc();
+    assert!(rt; yes(is_written_in(alloc, literal(alloc), 2 * LEVELS)));
 }
 
 #[test]
