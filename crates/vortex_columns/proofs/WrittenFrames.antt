@@ -213,15 +213,6 @@ opened typed values shape old last tail e =
     regrouped : (a o j c z : List ℕ) → (a ++ o) ++ ((j ++ c) ++ z) ≡ (a ++ (o ++ j ++ c)) ++ z
     regrouped a o j c z = simp append_assoc refl
 
--- the outermost sequence begins
-pub begun : (typed : Bool) (values : Sequence) (shape : Shape) (old last : List ℕ)
-    → last ≡ old ++ opening (shape_type shape)
-    → last ++ (rest typed (at_start values shape) ++ [])
-    ≡ old ++ value_text typed (shape_type shape) (sequence_value values)
-begun typed values shape old last e =
-    opened typed values shape old last [] e
-    ∙ append-nil (old ++ value_text typed (shape_type shape) (sequence_value values))
-
 -- a sequence begins inside another
 pub entered : (typed : Bool) (fs : List Writing) (f : Writing) (inner : Sequence) (shape : Shape)
     (old more last : List ℕ)

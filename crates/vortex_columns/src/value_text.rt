@@ -181,7 +181,7 @@ struct Writing<'a, 't> {
 }
 
 impl<'a, 't> Writing<'a, 't> {
-    ghost use Rattle.std.specs.Prelude.{◌≡◌, ◌<◌, ◌++◌};
+    ghost use Rattle.std.specs.Prelude.{◌≡◌, ◌<◌};
     ghost use Rattle.vortex_types.specs.Texts.{separator_before};
     ghost use Rattle.vortex_columns.specs.Words.{sequence_values};
     ghost use Rattle.vortex_columns.specs.WrittenValues.{opening, closing, count_written};
