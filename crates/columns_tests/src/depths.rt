@@ -1,5 +1,6 @@
 //! Types and values of many levels, for which no calls stand within calls.
 
+use crate::order::stand;
 use fixtures::{boxed, fields, yes};
 use std::alloc::Global;
 use std::cmp::Ordering;
@@ -86,6 +87,18 @@ fn values(alloc: Global) -> VortexResult<ScalarValue> {
         items.push(None)?;
         items.push(Some(value))?;
         items.push(None)?;
+        value = ScalarValue::List(items);
+    }
+    Ok(value)
+}
+
+/// Pairs within one another, each in the first place, with that number innermost.
+fn first_values(alloc: Global, innermost: i128) -> VortexResult<ScalarValue> {
+    let mut value = ScalarValue::Int(innermost);
+    for _ in 0..LEVELS {
+        let mut items = Vec::new(alloc);
+        items.push(Some(value))?;
+        items.push(Some(ScalarValue::Int(1)))?;
         value = ScalarValue::List(items);
     }
     Ok(value)
@@ -291,6 +304,23 @@ fn deep_values_are_copied(rt: HostRuntime) {
 fn deep_literals_are_written(rt: HostRuntime) {
     let alloc = rt.alloc();
     assert!(rt; yes(is_written_in(alloc, literal(alloc), 2 * LEVELS)));
+}
+
+#[test]
+fn deep_values_are_compared(rt: HostRuntime) {
+    let alloc = rt.alloc();
+    let same = stand(
+        first_values(alloc, 1),
+        Ordering::Equal,
+        first_values(alloc, 1),
+    );
+    assert!(rt; yes(same));
+    let less = stand(
+        first_values(alloc, 1),
+        Ordering::Less,
+        first_values(alloc, 2),
+    );
+    assert!(rt; yes(less));
 }
 
 #[test]

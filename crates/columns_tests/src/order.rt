@@ -7,7 +7,7 @@ use std::cmp::Ordering;
 use vortex_columns::{ScalarValue, VortexResult, cell_of};
 
 /// Whether two values stand in that order.
-fn stand(
+pub fn stand(
     left: VortexResult<ScalarValue>,
     order: Ordering,
     right: VortexResult<ScalarValue>,

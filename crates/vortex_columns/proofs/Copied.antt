@@ -10,6 +10,7 @@ use Rattle.vortex_types.specs.declared.scalar_value.ScalarValue.{List as ListVal
 use Rattle.vortex_types.proofs.ScalarViews.{view-List}
 use Rattle.vortex_columns.specs.ColumnView.{row}
 use Rattle.vortex_columns.specs.Cells.{sequence_value, sequence_values, IsSequence}
+use Rattle.vortex_columns.specs.ValueSizes.{value_size, values_size, size_from}
 use Rattle.vortex_columns.specs.declared.cell.Sequence.{Sequence}
 use Rattle.vortex_columns.specs.declared.cell.Copying.{Copying}
 
@@ -106,24 +107,6 @@ left fs f s copies h =
     (filled f.copies.items (Some (ListValue copies)) (sequence_values f.values))
     ∙ ap (λ v. plug fs (around f v)) (view-List copies ∙ sym (all_copied s copies h))
     ∙ sym (plug_one_more fs f (focus s copies.items))
-
--- how many steps a value takes
-abbrev mutual
-  pub value_size : Value → ℕ
-  value_size null = 1
-  value_size (truth b) = 1
-  value_size (number z) = 1
-  value_size (text bs) = 1
-  value_size (bytes bs) = 1
-  value_size (list vs) = values_size vs + 2
-
-  pub values_size : Values → ℕ
-  values_size no_values = 0
-  values_size (value v vs) = value_size v + values_size vs
-
--- from place k on
-abbrev pub size_from : ℕ → Sequence → ℕ
-size_from k s = values_size (values_of (drop k (sequence_values s)))
 
 abbrev pub size_above : List Copying → ℕ
 size_above [] = 0

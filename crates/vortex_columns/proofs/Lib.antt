@@ -1,5 +1,6 @@
 pub mod StoredRows
 pub mod Compare
+pub mod PairsAround
 pub mod Copied
 pub mod HaveTypes
 pub mod ListParts

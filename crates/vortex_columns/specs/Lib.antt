@@ -12,6 +12,8 @@ pub mod Options
 pub mod ScalarOf
 pub mod CellTypes
 pub mod CellOrder
+pub mod PairOrder
+pub mod ValueSizes
 pub mod Questions
 pub mod SingleValue
 pub mod Words

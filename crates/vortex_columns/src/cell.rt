@@ -5,10 +5,13 @@ ghost use Rattle.vortex_types.specs.ValueOf.{values_or_null};
 ghost use Rattle.vortex_columns.specs.Words.{cell_value, sequence_value, sequence_values};
 ghost use Rattle.vortex_columns.specs.Words.{IsCell, IsSequence, value_of, value_or_null, row};
 ghost use Rattle.vortex_columns.specs.Words.{compare_values, kind_rank, AnswersUnlessMemory};
-ghost use Rattle.vortex_columns.specs.CellOrder.{single_order, order_of_firsts};
+ghost use Rattle.vortex_columns.specs.CellOrder.{single_order};
 ghost use Rattle.vortex_columns.specs.SingleValue.{single_value};
 
+mod order;
+
 use crate::column::Column;
+use order::Comparing;
 use std::alloc::Global;
 use std::cmp::Ordering;
 use vortex_types::{ScalarValue, VortexResult};
@@ -136,31 +139,23 @@ impl Cell<'_> {
     }
 
     /// The order of two values: of two lists that of the first values that differ, and else the
-    /// shorter one is less. Takes no memory, and no stack for what stands last in a list.
-    #[cycle(compare)]
+    /// shorter one is less. Takes no memory for values that are no lists, nor for what stands last
+    /// in a list; else memory and no stack, and stack where memory is refused.
     pub fn compare(&self, other: &Cell<'_>) -> Ordering
         requires self_whole { IsCell self.now }
         requires other_whole { IsCell other.now }
         ensures { result ≡ compare_values (cell_value self.now) (cell_value other.now) }
     {
-        let mut left = *self;
-        let mut right = *other;
-        // the order of the lengths around, those of the innermost lists first
-        let mut on_equal = Ordering::Equal;
-        while let (Cell::Sequence(a), Cell::Sequence(b)) = (left, right) {
-            let shared = a.len().min(b.len());
-            on_equal = a.len().cmp(&b.len()).then(on_equal);
-            if shared == 0 {
-                return on_equal;
-            }
-            match compare_firsts(&a, &b, shared - 1) {
-                Ordering::Equal => {}
-                order => return order,
-            }
-            left = a.get(shared - 1);
-            right = b.get(shared - 1);
+        if let (Cell::Sequence(left), Cell::Sequence(right)) = (*self, *other) {
+            let pair = Comparing {
+                left,
+                right,
+                next: 0,
+                on_equal: Ordering::Equal,
+            };
+            return pair.order();
         }
-        left.compare_single(&right).then(on_equal)
+        self.compare_single(other)
     }
 }
 
@@ -230,22 +225,4 @@ fn copy_values(alloc: Global, root: &Sequence<'_>) -> VortexResult<Vec<Option<Sc
             copies.push(Some(whole))?;
         }
     }
-}
-
-/// The order of the first so many values of two lists.
-#[cycle(compare)]
-fn compare_firsts(a: &Sequence<'_>, b: &Sequence<'_>, count: usize) -> Ordering
-    requires a_whole { IsSequence a.now }
-    requires b_whole { IsSequence b.now }
-    requires a_has { count ≤ length (sequence_values a.now) }
-    requires b_has { count ≤ length (sequence_values b.now) }
-    ensures { result ≡ order_of_firsts count (sequence_values a.now) (sequence_values b.now) }
-{
-    for k in 0..count {
-        let order = a.get(k).compare(&b.get(k));
-        if order.is_ne() {
-            return order;
-        }
-    }
-    Ordering::Equal
 }

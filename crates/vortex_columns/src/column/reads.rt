@@ -95,13 +95,18 @@ impl Column {
         Scalar::try_new(dtype, value)
     }
 
-    /// The order of row `i` and row `j` of another column. Takes no memory.
+    /// The order of row `i` and row `j` of another column. Takes memory as `Cell::compare` does.
     pub fn compare_rows(&self, i: usize, other: &Column, j: usize) -> Ordering
         requires i_in { i < length self.now.rows }
         requires j_in { j < length other.now.rows }
         ensures { result ≡ compare_values (row self.now.rows i) (row other.now.rows j) }
     {
         self.cell(i).compare(&other.cell(j))
+    }
+
+    /// The allocator of what holds the values inside its rows; none where there are none inside.
+    pub(crate) fn allocator(&self) -> Option<Global> {
+        self.storage.allocator()
     }
 
     /// The scalar of a constant column, also of one of no rows.

@@ -9,7 +9,7 @@ use crate::valid_rows::ValidRows;
 use crate::validity::Validity;
 use std::alloc::Global;
 use vortex_bits::BitBuffer;
-use vortex_types::{NativePType, VortexResult};
+use vortex_types::{NativePType, ScalarValue, VortexResult};
 use vortex_views::{BinaryViews, ResolvedViews};
 
 /// List `i` of lists of one size.
@@ -60,6 +60,17 @@ impl Elements {
             Elements::Map(keys, values, offsets, sizes) => {
                 Cell::Sequence(Sequence::Entries(keys, values, offsets[i], sizes[i]))
             }
+        }
+    }
+
+    /// The allocator of what holds the columns inside; none where there are none.
+    fn allocator(&self) -> Option<Global> {
+        match self {
+            Elements::Struct(fields) => Some(*fields.allocator()),
+            Elements::List(elements, _, _) => Some(*Box::allocator(elements)),
+            Elements::FixedSizeList(elements, _) => Some(*Box::allocator(elements)),
+            Elements::Map(keys, _, _, _) => Some(*Box::allocator(keys)),
+            _ => None,
         }
     }
 
@@ -168,6 +179,18 @@ impl Storage {
             Storage::Null => Cell::Null,
             Storage::Constant(scalar) => scalar.cell(),
             Storage::Rows(elements, _) => elements.cell(i),
+        }
+    }
+
+    /// The allocator of what holds the values inside the rows; none where there are none inside.
+    pub(super) fn allocator(&self) -> Option<Global> {
+        match self {
+            Storage::Null => None,
+            Storage::Constant(scalar) => match scalar.value() {
+                Some(ScalarValue::List(items)) => Some(*items.allocator()),
+                _ => None,
+            },
+            Storage::Rows(elements, _) => elements.allocator(),
         }
     }
 

@@ -1,6 +1,7 @@
 use Rattle.std.proofs.Common.{◌≡◌, ◌+◌, length}
 use Rattle.vortex_columns.specs.Cells.{sequence_value, IsSequence}
-use Rattle.vortex_columns.proofs.Copied.{focus, plug, AreThere, size_from, size_above}
+use Rattle.vortex_columns.specs.ValueSizes.{size_from}
+use Rattle.vortex_columns.proofs.Copied.{focus, plug, AreThere, size_above}
 use Rattle.vortex_columns.proofs.cell.copy_values.Given as goal
 
 abbrev pub invariant-loop-values : goal.invariant-loop-values
