@@ -2,8 +2,7 @@
 use Rattle.std.proofs.Common.{◌≡◌, ℕ, zero, suc, ◌+◌, ◌<◌, ◌≤◌, List, [], ◌∷◌, ◌++◌, length, map}
 use Rattle.std.proofs.Common.{drop, Option, Some, Vec, Global, refl, sym, ap, ◌∙◌, arith}
 use Rattle.std.proofs.lemmas.List.{drop_more, append-nil, append_assoc, map-append, length-append}
-use Rattle.vortex_types.specs.Values.{Value, Values, null, truth, number, text, bytes, list}
-use Rattle.vortex_types.specs.Values.{no_values, value, values_of}
+use Rattle.vortex_types.specs.Values.{Value, null, truth, number, text, bytes, list, values_of}
 use Rattle.vortex_types.specs.ValueOf.{value_or_null, values_or_null}
 use Rattle.vortex_types.specs.declared.scalar_value.ScalarValue.{ScalarValue}
 use Rattle.vortex_types.specs.declared.scalar_value.ScalarValue.{List as ListValue}

@@ -139,8 +139,8 @@ impl Cell<'_> {
     }
 
     /// The order of two values: of two lists that of the first values that differ, and else the
-    /// shorter one is less. Takes no memory for values that are no lists, nor for what stands last
-    /// in a list; else memory and no stack, and stack where memory is refused.
+    /// shorter one is less. Takes no memory but for lists that stand in a list before its last
+    /// value: what is around them is kept in memory, or on the stack where memory is refused.
     pub fn compare(&self, other: &Cell<'_>) -> Ordering
         requires self_whole { IsCell self.now }
         requires other_whole { IsCell other.now }

@@ -81,8 +81,8 @@ impl<'a> Around<'a> {
 }
 
 impl<'a> Comparing<'a> {
-    /// The order of what is left. Where a sequence stands in one before its last value, takes
-    /// memory for it.
+    /// The order of what is left. Takes memory for each sequence in which one stands before the
+    /// last value, and stack where that is refused.
     pub(super) fn order(&self) -> Ordering
         requires { ArePaired self.now }
         ensures { result ≡ order_from self.now }

@@ -1,8 +1,8 @@
 use Rattle.std.proofs.Common.{◌≡◌, ◌+◌, sym, ap, ◌∙◌, arith}
 use Rattle.std.specs.Ordering.{ordering_then}
 use Rattle.vortex_columns.specs.Cells.{sequence_values}
-use Rattle.vortex_columns.specs.PairOrder.{compare_from, order_at, on_end, shared}
-use Rattle.vortex_columns.proofs.Compare.{inside, at_end, then_equal}
+use Rattle.vortex_columns.specs.PairOrder.{compare_from, order_at, shared}
+use Rattle.vortex_columns.proofs.Compare.{inside, at_end}
 use Rattle.vortex_columns.proofs.cell.order.Comparing.enter.Goals as goal
 
 pub returns-then-k-shared-clause-order : goal.returns-then-k-shared-clause-order
