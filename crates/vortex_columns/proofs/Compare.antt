@@ -1,9 +1,9 @@
 -- Steps of the comparison of two lists of values.
 use Rattle.std.proofs.Common.{◌≡◌, ℕ, zero, suc, ◌+◌, ◌<◌, ◌≤◌, List, [], ◌∷◌, length}
 use Rattle.std.proofs.Common.{get_or, refl, sym, ap, ◌∙◌, arith, Ordering, Less, Equal, Greater}
-use Rattle.std.proofs.Common.{nat_cmp, min, true, false, true≢false}
+use Rattle.std.proofs.Common.{nat_cmp, min}
 use Rattle.std.proofs.lemmas.List.{drop_more}
-use Rattle.std.specs.Ordering.{ordering_then, is_ne, MatchOrdering}
+use Rattle.std.specs.Ordering.{ordering_then, MatchOrdering}
 use Rattle.std.specs.Cmp.{nat_cmp_is, ranks}
 use Rattle.vortex_types.specs.Values.{Value, null, values_of, value_depth, values_depth}
 use Rattle.vortex_types.specs.Order.{compare_values, compare_lists}
@@ -46,23 +46,8 @@ then_equal Less = refl
 then_equal Equal = refl
 then_equal Greater = refl
 
-pub differs : (o p : Ordering) → is_ne o ≡ true → o ≡ ordering_then o p
-differs Less p h = refl
-differs Greater p h = refl
-differs Equal p h = absurd (true≢false (sym h))
-
-pub not_equal : (o : Ordering) → (o ≡ Equal → ⊥) → is_ne o ≡ true
-not_equal Less h = refl
-not_equal Equal h = absurd (h refl)
-not_equal Greater h = refl
-
-equal_where : (o : Ordering) → is_ne o ≡ false → o ≡ Equal
-equal_where Less f = absurd (true≢false f)
-equal_where Equal f = refl
-equal_where Greater f = absurd (true≢false f)
-
 -- the order of what stands in place k of two sequences
-abbrev pub order_in_place : ℕ → Comparing → Ordering
+abbrev order_in_place : ℕ → Comparing → Ordering
 order_in_place k c =
     compare_values (row (sequence_values c.left) k) (row (sequence_values c.right) k)
 
@@ -82,19 +67,6 @@ pub at_end : (c : Comparing) → order_at (shared c) c ≡ on_end c
 at_end c =
     ap (λ o. ordering_then o c.on_equal)
     (compare_from_ends (sequence_values c.left) (sequence_values c.right))
-
--- the first values that differ decide
-pub decided : (k : ℕ) (c : Comparing) (o : Ordering) → k < shared c → o ≡ order_in_place k c
-    → is_ne o ≡ true → o ≡ order_at k c
-decided k c o h e f =
-    differs o (order_at (k + 1) c) f ∙ ap (λ p. ordering_then p (order_at (k + 1) c)) e
-    ∙ sym (goes_on k c h)
-
-pub level : (k : ℕ) (c : Comparing) (o : Ordering) → k < shared c → o ≡ order_in_place k c
-    → is_ne o ≡ false → order_at (k + 1) c ≡ order_at k c
-level k c o h e f =
-    ap (λ p. ordering_then p (order_at (k + 1) c)) (sym (equal_where o f) ∙ e)
-    ∙ sym (goes_on k c h)
 
 -- two sequences inside, and then what is left
 pub inside : (k : ℕ) (c : Comparing) (left right : Sequence) → k < shared c

@@ -125,7 +125,7 @@ size_positive (text bs) = omega arith
 size_positive (bytes bs) = omega arith
 size_positive (list vs) = omega arith
 
-pub from_next : (k : ℕ) (s : Sequence) → k < length (sequence_values s)
+from_next : (k : ℕ) (s : Sequence) → k < length (sequence_values s)
     → size_from k s ≡ value_size (row (sequence_values s) k) + size_from (k + 1) s
 from_next k s h = ap (λ l. values_size (values_of l)) (drop_more (sequence_values s) k null h)
 
