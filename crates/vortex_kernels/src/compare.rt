@@ -68,7 +68,7 @@ fn constant_rows(lhs: &Column, scalar: Scalar, ctx: &mut ExecutionCtx) -> Vortex
 }
 
 /// The comparison of two scalars by the order of their values: a truth value of Bool, nullable if
-/// either type is. Takes no memory.
+/// either type is. Takes memory as `Cell::compare` does.
 ///
 /// A null of nullable Bool if either is null, whatever the types; else E3 Scalars exactly for types
 /// that differ apart from nullability.
