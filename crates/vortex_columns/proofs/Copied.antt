@@ -117,7 +117,7 @@ above_one_more : (fs : List Copying) (f : Copying)
 above_one_more [] f = omega arith
 above_one_more (x ∷ fs) f = omega (arith, above_one_more fs f)
 
-size_positive : (v : Value) → 0 < value_size v
+pub size_positive : (v : Value) → 0 < value_size v
 size_positive null = omega arith
 size_positive (truth b) = omega arith
 size_positive (number z) = omega arith
@@ -125,7 +125,7 @@ size_positive (text bs) = omega arith
 size_positive (bytes bs) = omega arith
 size_positive (list vs) = omega arith
 
-from_next : (k : ℕ) (s : Sequence) → k < length (sequence_values s)
+pub from_next : (k : ℕ) (s : Sequence) → k < length (sequence_values s)
     → size_from k s ≡ value_size (row (sequence_values s) k) + size_from (k + 1) s
 from_next k s h = ap (λ l. values_size (values_of l)) (drop_more (sequence_values s) k null h)
 

@@ -1,14 +1,17 @@
 -- Types of the values of a list, one by one.
-use Rattle.std.proofs.Common.{◌≡◌, ℕ, zero, suc, ◌<◌, Bool, true, false, IsTrue, ◌↔◌, List, [], ◌∷◌}
-use Rattle.std.proofs.Common.{◌≤◌, length, refl, sym, ap, ◌∙◌, subst, arith, true≢false, below_more}
-use Rattle.vortex_types.specs.Values.{Value, values_of, value_count, value_depth}
-use Rattle.vortex_types.specs.LogicalTypes.{LogicalType, Fields, no_fields, field, field_count}
-use Rattle.vortex_types.specs.LogicalTypes.{field_type}
+use Rattle.std.proofs.Common.{◌≡◌, ℕ, zero, suc, ◌<◌, Bool, false, IsTrue, ◌↔◌, List, [], ◌∷◌}
+use Rattle.std.proofs.Common.{length, refl, sym, ap, ◌∙◌, subst, arith, true≢false}
+use Rattle.vortex_types.specs.Values.{Value, null, truth, number, text, bytes, list, no_values}
+use Rattle.vortex_types.specs.Values.{value, values_of, value_count}
+use Rattle.vortex_types.specs.LogicalTypes.{LogicalType, null_type, bool_type, integer_type}
+use Rattle.vortex_types.specs.LogicalTypes.{text_type, bytes_type, struct_type, list_type}
+use Rattle.vortex_types.specs.LogicalTypes.{fixed_size_list_type, map_type, Fields, no_fields}
+use Rattle.vortex_types.specs.LogicalTypes.{field, field_count, field_type}
+use Rattle.vortex_types.specs.Typing.{Each, HasType, HaveFields}
+use Rattle.vortex_columns.specs.CellTypes.{IsEntryOf}
 use Rattle.vortex_columns.specs.ColumnView.{row}
-use Rattle.vortex_types.specs.Typing.{Each, HasType, HaveFields, IsPair}
-use Rattle.vortex_columns.specs.Questions.{ComesTo}
-use Rattle.vortex_columns.specs.declared.typing.Question.{Question}
-use Rattle.vortex_columns.specs.declared.typing.Question.TheVariants.{Settled, Left}
+use Rattle.vortex_columns.specs.Printing.{entry_type}
+use Rattle.vortex_columns.specs.Questions.{IsMadeOf, part_type}
 
 pub each_all : (P : Value → Type 0) (vs : List Value) → ((j : ℕ) → j < length vs → P (row vs j))
     → Each P (values_of vs)
@@ -49,70 +52,52 @@ pub value_count_of : (vs : List Value) → value_count (values_of vs) ≡ length
 value_count_of [] = refl
 value_count_of (v ∷ vs) = ap suc (value_count_of vs)
 
--- an answer no, by one value that a yes would need
-pub refuted : (b : Bool) (P Q : Type 0) → b ≡ false → (IsTrue b ↔ P) → (Q → P) → IsTrue false ↔ Q
-refuted b P Q e iff needs =
-    (λ h. absurd (true≢false (sym h)), λ q. absurd (true≢false (sym (iff.1 (needs q)) ∙ e)))
-
 pub refuted_by : (Q : Type 0) → (Q → ⊥) → IsTrue false ↔ Q
 refuted_by Q never = (λ h. absurd (true≢false (sym h)), λ q. absurd (never q))
 
-pub confirmed : (Q : Type 0) → Q → IsTrue true ↔ Q
-confirmed Q q = (λ _. q, λ _. refl)
-
-pub pair_parts : (P Q : Value → Type 0) (vs : List Value) → IsPair P Q (values_of vs)
-    → (length vs ≡ 2) × P (row vs 0) × Q (row vs 1)
-pair_parts P Q [] h = absurd h
-pair_parts P Q (v ∷ []) h = absurd h
-pair_parts P Q (v ∷ (w ∷ [])) h = (refl, h.0, h.1)
-pair_parts P Q (v ∷ (w ∷ (x ∷ vs))) h = absurd h
-
-pub pair_whole : (P Q : Value → Type 0) (vs : List Value) → length vs ≡ 2 → P (row vs 0)
-    → Q (row vs 1) → IsPair P Q (values_of vs)
-pair_whole P Q [] e p q = absurd (omega arith)
-pair_whole P Q (v ∷ []) e p q = absurd (omega arith)
-pair_whole P Q (v ∷ (w ∷ [])) e p q = (p, q)
-pair_whole P Q (v ∷ (w ∷ (x ∷ vs))) e p q = absurd (omega arith)
-
--- what stands last, where all before it is known
-below_all : (P : ℕ → Type 0) (n m : ℕ) → suc n ≡ m → ((j : ℕ) → j < n → P j) → P n → (j : ℕ)
-    → j < m → P j
-below_all P n m h firsts last j b = below_more P n firsts last j (omega arith)
-
-pub each_last : (P : Value → Type 0) (vs : List Value) (n : ℕ) → suc n ≡ length vs
-    → ((j : ℕ) → j < n → P (row vs j)) → P (row vs n) ↔ Each P (values_of vs)
-each_last P vs n h firsts = (
-  λ p. each_all P vs (below_all (λ j. P (row vs j)) n (length vs) h firsts p),
-  λ e. each_at P vs n (omega arith) e,
+-- an entry is a struct of its key and value
+entry_typed : (k v : LogicalType) (w : Value) → HasType (entry_type k v) w ↔ IsEntryOf k v w
+entry_typed k v null = (λ h. absurd (true≢false (sym h)), λ h. absurd h)
+entry_typed k v (truth b) = (λ h. h, λ h. h)
+entry_typed k v (number z) = (λ h. h, λ h. h)
+entry_typed k v (text bs) = (λ h. h, λ h. h)
+entry_typed k v (bytes bs) = (λ h. h, λ h. h)
+entry_typed k v (list no_values) = (λ h. h, λ h. h)
+entry_typed k v (list (value x no_values)) = (λ h. h.1, λ h. absurd h)
+entry_typed k v (list (value x (value y no_values))) = (
+  λ h. (h.0, h.1.0),
+  λ h. (h.0, (h.1, tt)),
 )
+entry_typed k v (list (value x (value y (value z zs)))) = (λ h. h.1.1, λ h. absurd h)
 
-pub have_last : (fs : Fields) (vs : List Value) (n : ℕ) → length vs ≡ field_count fs
-    → suc n ≡ length vs → ((j : ℕ) → j < n → HasType (field_type j fs) (row vs j))
-    → HasType (field_type n fs) (row vs n) ↔ HaveFields fs (values_of vs)
-have_last fs vs n e h firsts = (
-  λ p.
-      have_all fs vs e
-      (below_all (λ j. HasType (field_type j fs) (row vs j)) n (length vs) h firsts p),
-  λ q. have_at fs vs n (omega arith) q,
+-- a sequence has the type that its values make up
+pub parts_typed : (t : LogicalType) (vs : List Value)
+    → (IsMadeOf t (length vs) × ((k : ℕ) → k < length vs → HasType (part_type t k) (row vs k)))
+    ↔ HasType t (list (values_of vs))
+parts_typed (struct_type fs n) vs = (
+  λ h. have_all fs vs h.0 h.1,
+  λ h. (have_count fs vs h, λ k b. have_at fs vs k b h),
 )
+parts_typed (list_type t n) vs = (
+  λ h. each_all (HasType t) vs h.1,
+  λ h. (tt, λ k b. each_at (HasType t) vs k b h),
+)
+parts_typed (fixed_size_list_type t s n) vs = (
+  λ h. (value_count_of vs ∙ h.0, each_all (HasType t) vs h.1),
+  λ h. (sym (value_count_of vs) ∙ h.0, λ k b. each_at (HasType t) vs k b h.1),
+)
+parts_typed (map_type k v n) vs = (
+  λ h. each_all (IsEntryOf k v) vs (λ j b. (entry_typed k v (row vs j)).0 (h.1 j b)),
+  λ h. (tt, λ j b. (entry_typed k v (row vs j)).1 (each_at (IsEntryOf k v) vs j b h)),
+)
+parts_typed null_type vs = (λ h. absurd h.0, λ h. absurd h)
+parts_typed (bool_type n) vs = (λ h. absurd h.0, λ h. absurd h)
+parts_typed (integer_type p n) vs = (λ h. absurd h.0, λ h. absurd h)
+parts_typed (text_type n) vs = (λ h. absurd h.0, λ h. absurd h)
+parts_typed (bytes_type n) vs = (λ h. absurd h.0, λ h. absurd h)
 
-pub pair_last : (P Q : Value → Type 0) (vs : List Value) → length vs ≡ 2 → P (row vs 0)
-    → Q (row vs 1) ↔ IsPair P Q (values_of vs)
-pair_last P Q vs e p = (λ q. pair_whole P Q vs e p q, λ h. (pair_parts P Q vs h).2)
-
-pub iff_then : (P Q R : Type 0) → (P ↔ Q) → (Q ↔ R) → P ↔ R
-iff_then P Q R f g = (λ p. g.0 (f.0 p), λ r. f.1 (g.1 r))
-
--- what comes to the one also comes to the other
-pub comes_further : (q : Question) (d e : ℕ) (P Q : Type 0) → d ≤ e → (P ↔ Q) → ComesTo q d P
-    → ComesTo q e Q
-comes_further (Settled b) d e P Q l f h = iff_then _ P Q h f
-comes_further (Left c t) d e P Q l f h =
-    let less = h.1 in (h.0, omega arith, iff_then _ P Q h.2 f)
-
--- a question about another spelling of a type and a value
-pub comes_along : (q : Question) (t u : LogicalType) (v w : Value) → t ≡ u → v ≡ w
-    → ComesTo q (value_depth w) (HasType u w) → ComesTo q (value_depth v) (HasType t v)
-comes_along q t u v w e f h =
-    subst (λ (x : LogicalType). ComesTo q (value_depth v) (HasType x v)) (sym e)
-    (subst (λ (x : Value). ComesTo q (value_depth x) (HasType u x)) (sym f) h)
+pub not_made : (t : LogicalType) (vs : List Value) (n : ℕ) (made : Bool) → n ≡ length vs
+    → (IsTrue made ↔ IsMadeOf t n) → made ≡ false → HasType t (list (values_of vs)) → ⊥
+not_made t vs n made e iff is h =
+    let so_many : IsMadeOf t (length vs) = ((parts_typed t vs).1 h).0 in
+    true≢false (sym (iff.1 (subst (IsMadeOf t) (sym e) so_many)) ∙ is)

@@ -3,6 +3,7 @@ pub mod Compare
 pub mod PairsAround
 pub mod Copied
 pub mod HaveTypes
+pub mod AskedFrames
 pub mod ListParts
 pub mod NamedColumns
 pub mod Parts

@@ -1,35 +1,56 @@
--- What of a question about a value's type is left, once all but its last value are asked.
-use Rattle.std.specs.Prelude.{ℕ, ◌<◌, ◌↔◌, IsTrue, List}
-use Rattle.vortex_types.specs.LogicalTypes.{LogicalType, Fields, field_type}
-use Rattle.vortex_types.specs.Values.{Value, list, value_depth}
+-- How far the question has come whether a value has its type: sequences of which the first values
+-- are asked, each with the type of the whole.
+use Rattle.std.specs.Prelude.{◌≡◌, ℕ, ◌<◌, ◌≤◌, nat_lt, if◌then◌else◌, Bool, List, [], ◌++◌}
+use Rattle.std.specs.Prelude.{length, Option, Some, None, option_to_list, Vec}
+use Rattle.std.specs.declared.alloc.Global.{Global}
+use Rattle.vortex_types.specs.LogicalTypes.{LogicalType, struct_type, list_type}
+use Rattle.vortex_types.specs.LogicalTypes.{fixed_size_list_type, map_type, field_count, field_type}
+use Rattle.vortex_types.specs.Values.{Value, list}
 use Rattle.vortex_types.specs.Typing.{HasType}
-use Rattle.vortex_types.specs.TypeOf.{type_of}
 use Rattle.vortex_columns.specs.ColumnView.{row}
-use Rattle.vortex_columns.specs.Cells.{cell_value, IsCell}
-use Rattle.vortex_columns.specs.CellTypes.{IsEntryOf}
-use Rattle.vortex_columns.specs.declared.typing.Question.{Question}
-use Rattle.vortex_columns.specs.declared.typing.Question.TheVariants.{Settled, Left}
+use Rattle.vortex_columns.specs.Cells.{sequence_values, IsSequence}
+use Rattle.vortex_columns.specs.Printing.{element_type}
+use Rattle.vortex_columns.specs.Shapes.{shape_type}
+use Rattle.vortex_columns.specs.declared.typing.Asking.{Asking}
 
 -- a value that is no list, and has the type
 abbrev pub HasSingleType : LogicalType → Value → Type 0
 HasSingleType t (list vs) = ⊥
 HasSingleType t v = HasType t v
 
--- it is answered as P is, or by a value that nests less deep
-abbrev pub ComesTo : Question → ℕ → Type 0 → Type 0
-ComesTo (Settled answer) depth P = IsTrue answer ↔ P
-ComesTo (Left cell dtype) depth P =
-    IsCell cell × (value_depth (cell_value cell) < depth)
-    × (HasType (type_of dtype.now) (cell_value cell) ↔ P)
+-- a value of the type can be made of so many
+abbrev pub IsMadeOf : LogicalType → ℕ → Type 0
+IsMadeOf (struct_type fs n) count = count ≡ field_count fs
+IsMadeOf (list_type t n) count = Unit {0}
+IsMadeOf (fixed_size_list_type t s n) count = count ≡ s
+IsMadeOf (map_type k v n) count = Unit {0}
+IsMadeOf t count = ⊥
 
--- the first so many values have the type
-abbrev pub FirstsHave : LogicalType → ℕ → List Value → Type 0
-FirstsHave t n vs = (j : ℕ) → j < n → HasType t (row vs j)
+-- and the value in place k has this type
+abbrev pub part_type : LogicalType → ℕ → LogicalType
+part_type (struct_type fs n) k = field_type k fs
+part_type t k = element_type t
 
--- each the type of its field
-abbrev pub FirstsFit : Fields → ℕ → List Value → Type 0
-FirstsFit fs n vs = (j : ℕ) → j < n → HasType (field_type j fs) (row vs j)
+abbrev pub asked_count : Asking → ℕ
+asked_count f = length (sequence_values f.values)
 
--- and are entries
-abbrev pub FirstsAreEntries : LogicalType → LogicalType → ℕ → List Value → Type 0
-FirstsAreEntries key value n vs = (j : ℕ) → j < n → IsEntryOf key value (row vs j)
+abbrev pub IsAsking : Asking → Type 0
+IsAsking f = IsSequence f.values × IsMadeOf (shape_type f.shape) (asked_count f)
+
+abbrev pub PartHasType : Asking → ℕ → Type 0
+PartHasType f k = HasType (part_type (shape_type f.shape) k) (row (sequence_values f.values) k)
+
+-- each value that is still to be asked has its type
+abbrev pub RestHave : Asking → Type 0
+RestHave f = (k : ℕ) → f.next ≤ k → k < asked_count f → PartHasType f k
+
+abbrev pub with_rest : Asking → Option Asking
+with_rest f = if nat_lt f.next (asked_count f) then Some f else None
+
+abbrev pub frames_in : Option (Vec Asking Global) → List Asking
+frames_in None = []
+frames_in (Some frames) = frames.items
+
+-- it stands behind the others, unless nothing is left of it
+abbrev pub LiesBehind : Bool → Asking → List Asking → List Asking → Type 0
+LiesBehind lies f old new = new ≡ (if lies then old ++ option_to_list (with_rest f) else old)

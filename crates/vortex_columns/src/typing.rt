@@ -1,16 +1,15 @@
 //! Whether values have types.
-ghost use Rattle.std.specs.Prelude.{◌≡◌, ◌↔◌, ◌<◌, ◌≤◌, IsTrue, All, length};
-ghost use Rattle.vortex_types.specs.LogicalTypes.{field_count};
-ghost use Rattle.vortex_types.specs.Values.{value_depth};
+ghost use Rattle.std.specs.Prelude.{◌≡◌, ◌↔◌, ◌<◌, ◌++◌, [], ◌∷◌, IsTrue, All, MatchOption};
 ghost use Rattle.vortex_columns.specs.Words.{cell_value, sequence_value, sequence_values};
-ghost use Rattle.vortex_columns.specs.Words.{IsCell, IsSequence, values_in};
-ghost use Rattle.vortex_columns.specs.Words.{HasType, Each, HaveFields, ArePair, IsEntryOf};
-ghost use Rattle.vortex_columns.specs.Words.{AreSoMany, type_of, struct_fields};
-ghost use Rattle.vortex_columns.specs.Questions.{HasSingleType, ComesTo, FirstsHave, FirstsFit};
-ghost use Rattle.vortex_columns.specs.Questions.{FirstsAreEntries};
+ghost use Rattle.vortex_columns.specs.Words.{IsCell, IsSequence, HasType, type_of};
+ghost use Rattle.vortex_columns.specs.Shapes.{shape_type};
+ghost use Rattle.vortex_columns.specs.Questions.{HasSingleType, IsMadeOf, part_type, frames_in};
+ghost use Rattle.vortex_columns.specs.Questions.{LiesBehind, IsAsking, asked_count};
 
 use crate::cell::{Cell, Sequence};
-use vortex_types::{DType, StructFields};
+use crate::value_text::Shape;
+use std::alloc::Global;
+use vortex_types::DType;
 
 /// Whether each is a byte, as it always is.
 pub(crate) fn are_bytes(bytes: &[u8]) -> bool
@@ -22,220 +21,192 @@ pub(crate) fn are_bytes(bytes: &[u8]) -> bool
     true
 }
 
-/// What of a question is left: nothing, or whether a value inside has its type.
-enum Question<'a, 't> {
-    Settled(bool),
-    Left(Cell<'a>, &'t DType),
-}
-
-impl<'a> Cell<'a> {
-    /// Whether the value has the type. Takes no memory, and no stack for what stands last in a
-    /// list.
-    #[cycle(typing)]
+impl Cell<'_> {
+    /// Whether the value has the type. How deep it nests takes no stack where the sequences around
+    /// find memory; what stands last in a sequence takes neither.
     pub fn has_type(&self, dtype: &DType) -> bool
         requires { IsCell self.now }
         ensures { IsTrue result ↔ HasType (type_of dtype.now) (cell_value self.now) }
     {
-        let mut cell = *self;
-        let mut wanted = dtype;
-        loop {
-            match cell.ask(wanted) {
-                Question::Settled(answer) => return answer,
-                Question::Left(inner, inner_type) => {
-                    cell = inner;
-                    wanted = inner_type;
+        match self {
+            Cell::Sequence(values) => has_shape(values, Shape::Of(dtype)),
+            _ => self.has_single_type(Shape::Of(dtype)),
+        }
+    }
+
+    /// Whether the value has the type and is no sequence.
+    fn has_single_type(&self, shape: Shape<'_>) -> bool
+        requires { IsCell self.now }
+        ensures { IsTrue result ↔ HasSingleType (shape_type shape.entry) (cell_value self.now) }
+    {
+        match (self, shape) {
+            (Cell::Null, Shape::Of(dtype)) => dtype.is_nullable(),
+            (Cell::Bool(_), Shape::Of(DType::Bool(_))) => true,
+            (Cell::Int(n), Shape::Of(DType::Primitive(p, _))) => p.holds(*n),
+            (Cell::Text(_), Shape::Of(DType::Utf8(_))) => true,
+            (Cell::Bytes(bytes), Shape::Of(DType::Binary(_))) => are_bytes(bytes),
+            _ => false,
+        }
+    }
+}
+
+impl Shape<'_> {
+    /// Whether a value of the type can be made of so many.
+    fn is_made_of(self, count: usize) -> bool
+        ensures { IsTrue result ↔ IsMadeOf (shape_type self.entry) count }
+    {
+        match self {
+            Shape::Of(DType::Struct(fields, _)) => count == fields.len(),
+            Shape::Of(DType::List(_, _)) => true,
+            Shape::Of(DType::FixedSizeList(_, size, _)) => count == *size as usize,
+            Shape::Of(DType::Map(_, _, _)) => true,
+            Shape::Of(_) => false,
+            Shape::Entry(_, _) => count == 2,
+        }
+    }
+}
+
+/// A sequence whose values from place `next` on are still to be asked, and the type of the whole.
+#[derive(Clone, Copy)]
+struct Asking<'a, 't> {
+    values: Sequence<'a>,
+    shape: Shape<'t>,
+    next: usize,
+}
+
+impl<'a, 't> Asking<'a, 't> {
+    /// The type of the next value.
+    fn next_shape(&self) -> Shape<'t>
+        requires whole { IsAsking self.now }
+        requires more { self.now.next < asked_count self.now }
+        ensures { shape_type result ≡ part_type (shape_type self.now.shape) self.now.next }
+    {
+        match self.shape {
+            Shape::Of(DType::Struct(fields, _)) => Shape::Of(fields.dtype(self.next)),
+            Shape::Of(DType::List(element, _)) => Shape::Of(element),
+            Shape::Of(DType::FixedSizeList(element, _, _)) => Shape::Of(element),
+            Shape::Of(DType::Map(key, value, _)) => Shape::Entry(key, value),
+            Shape::Of(_) => self.shape,
+            Shape::Entry(key, value) => {
+                if self.next == 0 {
+                    Shape::Of(key)
+                } else {
+                    Shape::Of(value)
                 }
             }
         }
     }
 
-    /// Whether the value has the type, down to its last value.
-    #[cycle(typing)]
-    fn ask<'t>(&self, dtype: &'t DType) -> Question<'a, 't>
-        requires { IsCell self.now }
-        ensures { ComesTo result (value_depth (cell_value self.now))
-            (HasType (type_of dtype.now) (cell_value self.now)) }
+    /// The allocator of what holds the values. Of a column that is lent by itself that of its type;
+    /// none where that holds no other in a box, and then the values inside have their own.
+    fn allocator(&self) -> Option<Global> {
+        match self.values {
+            Sequence::Items(items) => Some(*items.allocator()),
+            Sequence::Fields(fields, _) => Some(*fields.allocator()),
+            Sequence::Elements(elements, _, _) => allocator_of(elements.dtype()),
+            Sequence::Entries(keys, values, _, _) => either_allocator(keys.dtype(), values.dtype()),
+            Sequence::Entry(keys, values, _) => either_allocator(keys.dtype(), values.dtype()),
+        }
+    }
+
+    /// Lays it behind those above, unless nothing is left of it. Where the list cannot grow it is
+    /// not laid there, and nothing changes.
+    fn lay_by(self, above: &mut Option<Vec<Asking<'a, 't>>>) -> bool
+        requires { IsSequence self.values }
+        ensures { LiesBehind result self.entry (frames_in above.old) (frames_in above.new) }
     {
-        match (self, dtype) {
-            (Cell::Sequence(s), DType::Struct(fields, _)) => ask_fields(s, fields),
-            (Cell::Sequence(s), DType::List(element, _)) => ask_elements(s, element),
-            (Cell::Sequence(s), DType::FixedSizeList(element, size, _)) => {
-                ask_so_many(s, element, *size)
+        if self.next >= self.values.len() {
+            return true;
+        }
+        if let Some(frames) = above {
+            return frames.push(self).is_ok();
+        }
+        let Some(alloc) = self.allocator() else {
+            return false;
+        };
+        let mut frames = Vec::new(alloc);
+        let grown = frames.push(self).is_ok();
+        *above = Some(frames);
+        grown
+    }
+}
+
+/// The allocator of what a type is made of; none of a type that holds no other in a box.
+fn allocator_of(dtype: &DType) -> Option<Global> {
+    match dtype {
+        DType::List(element, _) => Some(*Box::allocator(element)),
+        DType::FixedSizeList(element, _, _) => Some(*Box::allocator(element)),
+        DType::Map(key, _, _) => Some(*Box::allocator(key)),
+        _ => None,
+    }
+}
+
+/// That of the one type, and else of the other.
+fn either_allocator(one: &DType, other: &DType) -> Option<Global> {
+    match allocator_of(one) {
+        Some(alloc) => Some(alloc),
+        None => allocator_of(other),
+    }
+}
+
+/// Takes the last of those above.
+fn take_last<'a, 't>(above: &mut Option<Vec<Asking<'a, 't>>>) -> Option<Asking<'a, 't>>
+    ensures { MatchOption result (frames_in above.old ≡ [])
+        (λ last. frames_in above.old ≡ frames_in above.new ++ last ∷ []) }
+{
+    match above {
+        Some(frames) => frames.pop(),
+        None => None,
+    }
+}
+
+/// Whether the values are a value of the type. The sequences around one that is being asked stand
+/// in a list: how deep they nest takes no stack. Where the list cannot grow, the value is asked by
+/// a call.
+fn has_shape(root: &Sequence<'_>, shape: Shape<'_>) -> bool
+    requires { IsSequence root.now }
+    ensures { IsTrue result ↔ HasType (shape_type shape.entry) (sequence_value root.now) }
+{
+    if !shape.is_made_of(root.len()) {
+        return false;
+    }
+    let mut above = None;
+    let mut here = Asking {
+        values: *root,
+        shape,
+        next: 0,
+    };
+    loop {
+        if here.next < here.values.len() {
+            let cell = here.values.get(here.next);
+            let wanted = here.next_shape();
+            here.next += 1;
+            match cell {
+                Cell::Sequence(inner) => {
+                    if !wanted.is_made_of(inner.len()) {
+                        return false;
+                    }
+                    if here.lay_by(&mut above) {
+                        here = Asking {
+                            values: inner,
+                            shape: wanted,
+                            next: 0,
+                        };
+                    } else if !has_shape(&inner, wanted) {
+                        return false;
+                    }
+                }
+                single => {
+                    if !single.has_single_type(wanted) {
+                        return false;
+                    }
+                }
             }
-            (Cell::Sequence(s), DType::Map(key, value, _)) => ask_entries(s, key, value),
-            _ => Question::Settled(self.has_single_type(dtype)),
+        } else {
+            match take_last(&mut above) {
+                Some(outer) => here = outer,
+                None => return true,
+            }
         }
     }
-
-    /// Whether the value has the type and is no sequence.
-    fn has_single_type(&self, dtype: &DType) -> bool
-        requires { IsCell self.now }
-        ensures { IsTrue result ↔ HasSingleType (type_of dtype.now) (cell_value self.now) }
-    {
-        match (self, dtype) {
-            (Cell::Null, _) => dtype.is_nullable(),
-            (Cell::Bool(_), DType::Bool(_)) => true,
-            (Cell::Int(n), DType::Primitive(p, _)) => p.holds(*n),
-            (Cell::Text(_), DType::Utf8(_)) => true,
-            (Cell::Bytes(bytes), DType::Binary(_)) => are_bytes(bytes),
-            _ => false,
-        }
-    }
-
-    /// Whether it is an entry of these types.
-    #[cycle(typing)]
-    fn is_entry(&self, key: &DType, value: &DType) -> bool
-        requires { IsCell self.now }
-        ensures { IsTrue result
-            ↔ IsEntryOf (type_of key.now) (type_of value.now) (cell_value self.now) }
-    {
-        match self.ask_entry(key, value) {
-            Question::Settled(answer) => answer,
-            Question::Left(inner, inner_type) => inner.has_type(inner_type),
-        }
-    }
-
-    /// Whether it is an entry of these types, down to its value.
-    #[cycle(typing)]
-    fn ask_entry<'t>(&self, key: &DType, value: &'t DType) -> Question<'a, 't>
-        requires { IsCell self.now }
-        ensures { ComesTo result (value_depth (cell_value self.now))
-            (IsEntryOf (type_of key.now) (type_of value.now) (cell_value self.now)) }
-    {
-        match self {
-            Cell::Sequence(entry) => ask_pair(entry, key, value),
-            _ => Question::Settled(false),
-        }
-    }
-}
-
-/// Whether they are a value of the one type and a value of the other, down to the second.
-#[cycle(typing)]
-fn ask_pair<'a, 't>(entry: &Sequence<'a>, key: &DType, value: &'t DType) -> Question<'a, 't>
-    requires { IsSequence entry.now }
-    ensures { ComesTo result (value_depth (sequence_value entry.now))
-        (ArePair (type_of key.now) (type_of value.now) (values_in entry.now)) }
-{
-    if entry.len() != 2 {
-        return Question::Settled(false);
-    }
-    if !entry.get(0).has_type(key) {
-        return Question::Settled(false);
-    }
-    Question::Left(entry.get(1), value)
-}
-
-/// Whether each value has the type, down to the last.
-#[cycle(typing)]
-fn ask_elements<'a, 't>(values: &Sequence<'a>, dtype: &'t DType) -> Question<'a, 't>
-    requires { IsSequence values.now }
-    ensures { ComesTo result (value_depth (sequence_value values.now))
-        (Each (HasType (type_of dtype.now)) (values_in values.now)) }
-{
-    let count = values.len();
-    if count == 0 {
-        return Question::Settled(true);
-    }
-    if !firsts_have_type(values, dtype, count - 1) {
-        return Question::Settled(false);
-    }
-    Question::Left(values.get(count - 1), dtype)
-}
-
-/// Whether each of the first so many values has the type.
-#[cycle(typing)]
-fn firsts_have_type(values: &Sequence<'_>, dtype: &DType, count: usize) -> bool
-    requires whole { IsSequence values.now }
-    requires has { count ≤ length (sequence_values values.now) }
-    ensures { IsTrue result ↔ FirstsHave (type_of dtype.now) count (sequence_values values.now) }
-{
-    for k in 0..count {
-        if !values.get(k).has_type(dtype) {
-            return false;
-        }
-    }
-    true
-}
-
-/// Whether there are so many values, each of the type, down to the last.
-#[cycle(typing)]
-fn ask_so_many<'a, 't>(values: &Sequence<'a>, dtype: &'t DType, count: u32) -> Question<'a, 't>
-    requires { IsSequence values.now }
-    ensures { ComesTo result (value_depth (sequence_value values.now))
-        (AreSoMany count (type_of dtype.now) (values_in values.now)) }
-{
-    if values.len() != count as usize {
-        return Question::Settled(false);
-    }
-    ask_elements(values, dtype)
-}
-
-/// Whether each value is an entry of these types, down to the last.
-#[cycle(typing)]
-fn ask_entries<'a, 't>(values: &Sequence<'a>, key: &DType, value: &'t DType) -> Question<'a, 't>
-    requires { IsSequence values.now }
-    ensures { ComesTo result (value_depth (sequence_value values.now))
-        (Each (IsEntryOf (type_of key.now) (type_of value.now)) (values_in values.now)) }
-{
-    let count = values.len();
-    if count == 0 {
-        return Question::Settled(true);
-    }
-    if !firsts_are_entries(values, key, value, count - 1) {
-        return Question::Settled(false);
-    }
-    values.get(count - 1).ask_entry(key, value)
-}
-
-/// Whether each of the first so many values is an entry of these types.
-#[cycle(typing)]
-fn firsts_are_entries(values: &Sequence<'_>, key: &DType, value: &DType, count: usize) -> bool
-    requires whole { IsSequence values.now }
-    requires has { count ≤ length (sequence_values values.now) }
-    ensures { IsTrue result ↔ FirstsAreEntries (type_of key.now) (type_of value.now) count
-        (sequence_values values.now) }
-{
-    for k in 0..count {
-        if !values.get(k).is_entry(key, value) {
-            return false;
-        }
-    }
-    true
-}
-
-/// Whether there is a value for each field, of its type, down to the last.
-#[cycle(typing)]
-fn ask_fields<'a, 't>(values: &Sequence<'a>, fields: &'t StructFields) -> Question<'a, 't>
-    requires { IsSequence values.now }
-    ensures { ComesTo result (value_depth (sequence_value values.now))
-        (HaveFields (struct_fields fields.now) (values_in values.now)) }
-{
-    let count = values.len();
-    if count != fields.len() {
-        return Question::Settled(false);
-    }
-    if count == 0 {
-        return Question::Settled(true);
-    }
-    if !firsts_fit(values, fields, count - 1) {
-        return Question::Settled(false);
-    }
-    Question::Left(values.get(count - 1), fields.dtype(count - 1))
-}
-
-/// Whether each of the first so many values has the type of its field.
-#[cycle(typing)]
-fn firsts_fit(values: &Sequence<'_>, fields: &StructFields, count: usize) -> bool
-    requires whole { IsSequence values.now }
-    requires has { count ≤ length (sequence_values values.now) }
-    requires named { count ≤ field_count (struct_fields fields.now) }
-    ensures { IsTrue result
-        ↔ FirstsFit (struct_fields fields.now) count (sequence_values values.now) }
-{
-    for k in 0..count {
-        if !values.get(k).has_type(fields.dtype(k)) {
-            return false;
-        }
-    }
-    true
 }
