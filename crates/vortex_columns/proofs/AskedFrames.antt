@@ -16,8 +16,8 @@ use Rattle.vortex_columns.specs.Cells.{sequence_value, sequence_values}
 use Rattle.vortex_columns.specs.Shapes.{shape_type}
 use Rattle.vortex_columns.specs.declared.cell.Sequence.{Sequence}
 use Rattle.vortex_columns.specs.declared.typing.Asking.{Asking}
-use Rattle.vortex_columns.specs.Questions.{IsMadeOf, part_type, asked_count, IsAsking, PartHasType}
-use Rattle.vortex_columns.specs.Questions.{RestHave, with_rest}
+use Rattle.vortex_columns.specs.Questions.{part_type, asked_count, IsAsking, PartHasType}
+use Rattle.vortex_columns.specs.Questions.{IsOpened, RestHave, with_rest}
 use Rattle.vortex_columns.proofs.Compare.{depth_inside}
 use Rattle.vortex_columns.proofs.Copied.{value_size, size_from, from_next, size_positive}
 use Rattle.vortex_columns.proofs.HaveTypes.{parts_typed}
@@ -47,21 +47,20 @@ further_rest : (f : Asking) → f.next < asked_count f
     → (PartHasType f f.next × RestHave (further f)) ↔ RestHave f
 further_rest f b = rest_next (PartHasType f) f.next (asked_count f) b
 
-pub opened : (f : Asking) → f.next ≡ 0
-    → IsMadeOf (shape_type f.shape) (asked_count f)
-    → RestHave f ↔ HasType (shape_type f.shape) (sequence_value f.values)
-opened f e made =
-    let whole = parts_typed (shape_type f.shape) (sequence_values f.values) in (
-      λ h. whole.0 (made, λ k b. h k (omega arith) b),
+opened : (f : Asking) (s : Sequence) (t : LogicalType) → IsOpened f s t
+    → RestHave f ↔ HasType t (sequence_value s)
+opened f s t o =
+    let whole = parts_typed (shape_type f.shape) (sequence_values f.values) in
+    subst (λ (u : LogicalType). RestHave f ↔ HasType u (sequence_value s)) o.3
+    (subst (λ (r : Sequence). RestHave f ↔ HasType (shape_type f.shape) (sequence_value r)) o.2 (
+      λ h. whole.0 (o.0.1, λ k b. h k (omega (arith, o.1)) b),
       λ h k low b. (whole.1 h).1 k b,
-    )
+    ))
 
-pub begun : (f : Asking) → f.next ≡ 0 → IsMadeOf (shape_type f.shape) (asked_count f)
-    → Mean f [] (HasType (shape_type f.shape) (sequence_value f.values))
-begun f e made = let whole = opened f e made in (
-  λ h. whole.0 h.0,
-  λ w. (whole.1 w, All-nil RestHave),
-)
+pub begun : (f : Asking) (s : Sequence) (t : LogicalType) → IsOpened f s t
+    → Mean f [] (HasType t (sequence_value s))
+begun f s t o =
+    let whole = opened f s t o in (λ h. whole.0 h.0, λ w. (whole.1 w, All-nil RestHave))
 
 -- another spelling of the next value and of its type
 pub part_is : (f : Asking) (t : LogicalType) (v : Value)
@@ -117,15 +116,15 @@ pub needed : (f : Asking) (fs : List Asking) (Whole : Type 0) → f.next < asked
 needed f fs Whole b m w = ((further_rest f b).1 (m.1 w).0).0
 
 -- into the next value
-pub went_in : (f inner : Asking) (fs gs : List Asking) (Whole : Type 0) → f.next < asked_count f
-    → gs ≡ fs ++ option_to_list (with_rest (further f)) → inner.next ≡ 0
-    → IsMadeOf (shape_type inner.shape) (asked_count inner)
-    → shape_type inner.shape ≡ part_type (shape_type f.shape) f.next
-    → sequence_value inner.values ≡ row (sequence_values f.values) f.next → Mean f fs Whole
+pub went_in : (f inner : Asking) (s : Sequence) (t : LogicalType) (fs gs : List Asking)
+    (Whole : Type 0) → f.next < asked_count f
+    → gs ≡ fs ++ option_to_list (with_rest (further f)) → IsOpened inner s t
+    → t ≡ part_type (shape_type f.shape) f.next
+    → sequence_value s ≡ row (sequence_values f.values) f.next → Mean f fs Whole
     → Mean inner gs Whole
-went_in f inner fs gs Whole b e none made t v m =
-    let whole = opened inner none made in
-    let part = part_is f (shape_type inner.shape) (sequence_value inner.values) t v in
+went_in f inner s t fs gs Whole b e o same_type same m =
+    let whole = opened inner s t o in
+    let part = part_is f t (sequence_value s) same_type same in
     let next = further_rest f b in
     let all = all_with RestHave fs (with_rest (further f)) in
     let rest = rest_have (further f) in
@@ -169,6 +168,11 @@ within_less depth g fs gs e all =
     (all_with (IsWithin depth) gs (Some g)).1 (subst (All (IsWithin depth)) e all) in
     (a.1, a.0)
 
+pub within_opened : (depth : ℕ) (f : Asking) (s : Sequence) (t : LogicalType) → IsOpened f s t
+    → value_depth (sequence_value s) ≤ depth → IsWithin depth f
+within_opened depth f s t o h =
+    (o.0, omega (arith, h, ap (λ (r : Sequence). value_depth (sequence_value r)) o.2))
+
 pub deeper : (f : Asking) (v : Value) → f.next < asked_count f
     → v ≡ row (sequence_values f.values) f.next
     → value_depth v < value_depth (sequence_value f.values)
@@ -199,13 +203,21 @@ less_on f b =
     omega
     (arith, from_next f.next f.values b, size_positive (row (sequence_values f.values) f.next))
 
-pub less_in : (f : Asking) (inner : Sequence) (fs gs : List Asking) → f.next < asked_count f
-    → sequence_value inner ≡ row (sequence_values f.values) f.next
-    → gs ≡ fs ++ option_to_list (with_rest (further f))
-    → rest_sizes gs + size_from 0 inner < rest_sizes fs + size_from f.next f.values
-less_in f inner fs gs b e same =
-    omega
-    (arith, from_next f.next f.values b, ap value_size e, sizes_more (further f) fs gs same)
+pub less_in : (f inner : Asking) (s : Sequence) (t : LogicalType) (fs gs : List Asking)
+    → f.next < asked_count f → sequence_value s ≡ row (sequence_values f.values) f.next
+    → gs ≡ fs ++ option_to_list (with_rest (further f)) → IsOpened inner s t
+    → rest_sizes gs + size_from inner.next inner.values
+    < rest_sizes fs + size_from f.next f.values
+less_in f inner s t fs gs b e same o =
+    let begins : size_from inner.next inner.values ≡ size_from 0 s =
+    (λ i. size_from (o.1 i) (o.2 i)) in
+    omega (
+      arith,
+      begins,
+      from_next f.next f.values b,
+      ap value_size e,
+      sizes_more (further f) fs gs same,
+    )
 
 pub less_out : (g : Asking) (fs gs : List Asking) (more : ℕ) → fs ≡ gs ++ g ∷ []
     → rest_sizes gs + size_from g.next g.values < rest_sizes fs + more

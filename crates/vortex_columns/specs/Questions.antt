@@ -11,6 +11,7 @@ use Rattle.vortex_columns.specs.ColumnView.{row}
 use Rattle.vortex_columns.specs.Cells.{sequence_values, IsSequence}
 use Rattle.vortex_columns.specs.Printing.{element_type}
 use Rattle.vortex_columns.specs.Shapes.{shape_type}
+use Rattle.vortex_columns.specs.declared.cell.Sequence.{Sequence}
 use Rattle.vortex_columns.specs.declared.typing.Asking.{Asking}
 
 -- a value that is no list, and has the type
@@ -36,6 +37,11 @@ asked_count f = length (sequence_values f.values)
 
 abbrev pub IsAsking : Asking → Type 0
 IsAsking f = IsSequence f.values × IsMadeOf (shape_type f.shape) (asked_count f)
+
+-- nothing is asked of it yet
+abbrev pub IsOpened : Asking → Sequence → LogicalType → Type 0
+IsOpened f s t =
+    IsAsking f × (f.next ≡ 0) × (f.values ≡ s) × (shape_type f.shape ≡ t)
 
 abbrev pub PartHasType : Asking → ℕ → Type 0
 PartHasType f k = HasType (part_type (shape_type f.shape) k) (row (sequence_values f.values) k)

@@ -4,7 +4,7 @@ ghost use Rattle.vortex_columns.specs.Words.{cell_value, sequence_value, sequenc
 ghost use Rattle.vortex_columns.specs.Words.{IsCell, IsSequence, HasType, type_of};
 ghost use Rattle.vortex_columns.specs.Shapes.{shape_type};
 ghost use Rattle.vortex_columns.specs.Questions.{HasSingleType, IsMadeOf, part_type, frames_in};
-ghost use Rattle.vortex_columns.specs.Questions.{LiesBehind, IsAsking, asked_count};
+ghost use Rattle.vortex_columns.specs.Questions.{LiesBehind, IsAsking, IsOpened, asked_count};
 
 use crate::cell::{Cell, Sequence};
 use crate::value_text::Shape;
@@ -75,6 +75,24 @@ struct Asking<'a, 't> {
 }
 
 impl<'a, 't> Asking<'a, 't> {
+    /// Begins with the first of the values; none where they are too few or too many for the type.
+    fn open(values: &Sequence<'a>, shape: Shape<'t>) -> Option<Asking<'a, 't>>
+        requires { IsSequence values.now }
+        ensures { MatchOption result
+            (¬ HasType (shape_type shape.entry) (sequence_value values.now))
+            (λ f. IsOpened f values.now (shape_type shape.entry)) }
+    {
+        if shape.is_made_of(values.len()) {
+            Some(Asking {
+                values: *values,
+                shape,
+                next: 0,
+            })
+        } else {
+            None
+        }
+    }
+
     /// The type of the next value.
     fn next_shape(&self) -> Shape<'t>
         requires whole { IsAsking self.now }
@@ -167,15 +185,10 @@ fn has_shape(root: &Sequence<'_>, shape: Shape<'_>) -> bool
     requires { IsSequence root.now }
     ensures { IsTrue result ↔ HasType (shape_type shape.entry) (sequence_value root.now) }
 {
-    if !shape.is_made_of(root.len()) {
+    let Some(mut here) = Asking::open(root, shape) else {
         return false;
-    }
-    let mut above = None;
-    let mut here = Asking {
-        values: *root,
-        shape,
-        next: 0,
     };
+    let mut above = None;
     loop {
         if here.next < here.values.len() {
             let cell = here.values.get(here.next);
@@ -183,15 +196,11 @@ fn has_shape(root: &Sequence<'_>, shape: Shape<'_>) -> bool
             here.next += 1;
             match cell {
                 Cell::Sequence(inner) => {
-                    if !wanted.is_made_of(inner.len()) {
+                    let Some(opened) = Asking::open(&inner, wanted) else {
                         return false;
-                    }
+                    };
                     if here.lay_by(&mut above) {
-                        here = Asking {
-                            values: inner,
-                            shape: wanted,
-                            next: 0,
-                        };
+                        here = opened;
                     } else if !has_shape(&inner, wanted) {
                         return false;
                     }
