@@ -8,7 +8,7 @@ use std::cmp::Ordering;
 use vortex_columns::{Column, ExecutionCtx, PType, Validity, VortexResult};
 
 /// Whether each code is below this count.
-fn are_below(codes: &[u32], count: usize) -> bool
+pub fn are_below(codes: &[u32], count: usize) -> bool
     ensures { IsTrue result ↔ All (λ code. code < count) codes.now }
 {
     for code in codes {

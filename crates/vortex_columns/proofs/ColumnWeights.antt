@@ -1,10 +1,11 @@
 -- The weight and the depth of a list of columns that grew, and of the fields of a struct.
-use Rattle.std.proofs.Common.{◌≡◌, ◌+◌, ◌*◌, ℕ, List, [], ◌∷◌, ◌++◌, arith, max, ap}
+use Rattle.std.proofs.Common.{◌≡◌, ◌+◌, ◌*◌, ℕ, List, [], ◌∷◌, ◌++◌, arith, max, ap, map}
 use denote.Param.Weighed.{most}
 use Rattle.vortex_columns.specs.declared.column.Column.TheDeep.{size-Column}
 use Rattle.vortex_types.specs.LogicalTypes.{type_depth, Fields, no_fields, field}
 use Rattle.vortex_columns.specs.ColumnView.{ColumnView}
 use Rattle.vortex_columns.specs.Stored.{AreFields}
+use Rattle.vortex_columns.specs.Taken.{taken}
 use Rattle.vortex_columns.specs.ColumnParts.{type_weight, fields_weight, column_weights, deepest}
 
 pub weights_push : (xs : List ColumnView) (x : ColumnView)
@@ -42,3 +43,9 @@ field_weights n (field name t fs) (c ∷ cs) h =
     omega (arith, ap type_weight h.0, field_weights n fs cs h.3)
 field_weights n no_fields (c ∷ cs) h = absurd h
 field_weights n (field name t fs) [] h = absurd h
+
+-- rows that are taken have the same types
+pub weights_taken : (ps : List ℕ) (cs : List ColumnView)
+    → column_weights (map (taken ps) cs) ≡ column_weights cs
+weights_taken ps [] = omega arith
+weights_taken ps (c ∷ cs) = omega (arith, weights_taken ps cs)

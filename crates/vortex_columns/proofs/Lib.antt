@@ -15,4 +15,4 @@ pub mod ValueTexts
 pub mod WrittenFrames
 pub mod PrintedColumns
 pub mod ColumnWeights
-pub mod CopiedFrames
+pub mod Frames

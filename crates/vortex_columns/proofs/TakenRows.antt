@@ -10,19 +10,19 @@ use Rattle.vortex_types.specs.TypeOf.{type_of}
 use Rattle.vortex_columns.specs.declared.column.Column.TheInside.{Inside}
 use Rattle.vortex_columns.specs.ColumnView.{ColumnView, row, part, entries, LieWithin}
 use Rattle.vortex_columns.specs.ValidityView.{ValidityForm, non_nullable, all_valid, all_invalid}
-use Rattle.vortex_columns.specs.ValidityView.{array, is_valid_by}
-use Rattle.vortex_columns.specs.ValidityView.{form_allows_null, FitsRowsBy}
+use Rattle.vortex_columns.specs.ValidityView.{array, is_valid_by, ValidityView}
+use Rattle.vortex_columns.specs.ValidityView.{form_allows_null, FitsRowsBy, Reaches}
 use Rattle.vortex_columns.specs.Stored.{Kept, bools, integers, texts, byte_strings, structs, lists}
 use Rattle.vortex_columns.specs.Stored.{fixed_size_lists, maps, AreFields, Stored, nulls}
 use Rattle.vortex_columns.specs.Stored.{constant_of, kept, stored_of, stored_validity, kept_at}
 use Rattle.vortex_columns.specs.Stored.{constant_in, row_at, rows_of, AreKept, IsStored, IsTextAt}
-use Rattle.vortex_columns.specs.Stored.{column_view, IsColumn}
-use Rattle.vortex_columns.specs.Taken.{taken, taken_kept, taken_bits, taken_stored}
+use Rattle.vortex_columns.specs.Stored.{column_view, IsColumn, HasRow}
+use Rattle.vortex_columns.specs.Taken.{taken, taken_kept, taken_bits, taken_stored, ArePlaces}
 use Rattle.vortex_columns.specs.Taken.{element_places}
 use Rattle.vortex_columns.proofs.ElementPlaces.{all_gathered, length_element_places}
 use Rattle.vortex_columns.proofs.ElementPlaces.{element_places_within, elements_taken}
 use Rattle.vortex_columns.proofs.StoredRows.{length_rows, row_is, opened_len, one_more_fits}
-use Rattle.vortex_columns.proofs.StoredRows.{row_constant}
+use Rattle.vortex_columns.proofs.StoredRows.{row_constant, opened_has_row}
 
 lie_within_taken : (count : ℕ) (offsets sizes ps : List ℕ) → All (λ p. p < length offsets) ps
     → LieWithin count offsets sizes
@@ -197,6 +197,22 @@ form_taken : (s : Stored) (ps : List ℕ)
 form_taken nulls ps = refl
 form_taken (constant_of s) ps = refl
 form_taken (kept k v) ps = refl
+
+-- what is read of a column that is opened
+module _ (a : Inside) (c : ColumnView) (is : column_view a ≡ c) (ok : IsColumn a) (ps : List ℕ)
+    (within : All (λ p. p < length c.rows) ps) (k : Kept) (v : ValidityView)
+    (at : stored_of a.storage ≡ kept k v)
+  where
+    has_rows : All (λ i. HasRow i (kept k v)) ps
+    has_rows j d h =
+        subst (λ (s : Stored). HasRow (slice_index_or ps j d) s) at
+        (opened_has_row a c is (slice_index_or ps j d) ok (within j d h))
+
+    pub opened_places : ArePlaces ps k
+    opened_places j d h = (has_rows j d h).0
+
+    pub opened_reach : All (Reaches v) ps
+    opened_reach j d h = (has_rows j d h).1
 
 -- the same of a column that is opened: what is made of its type and of what is taken of its storage
 module _ (a : Inside) (c : ColumnView) (is : column_view a ≡ c) (ok : IsColumn a) (ps : List ℕ)

@@ -1,6 +1,6 @@
 -- A column whose copy has begun: a frame for each column of which some parts are copied and one is
 -- still to come.
-use Rattle.std.specs.Prelude.{◌≡◌, ℕ, ◌+◌, ◌*◌, List, [], ◌∷◌, ◌++◌}
+use Rattle.std.specs.Prelude.{ℕ, ◌+◌, ◌*◌, ◌∷◌, ◌++◌}
 use Rattle.vortex_types.specs.TypeOf.{type_of}
 use Rattle.vortex_columns.specs.ColumnView.{ColumnView}
 use Rattle.vortex_columns.specs.ColumnParts.{type_weight, column_weights}
@@ -53,21 +53,15 @@ abbrev pub step_view : Step → ColumnView
 step_view (Whole c) = c
 step_view (Part f c) = filled f c.now
 
--- frames, the outermost first, make one column of another
-abbrev pub Make : List Frame → ColumnView → ColumnView → Type 0
-Make [] c whole = c ≡ whole
-Make (f ∷ fs) c whole = (d : ColumnView) × Make fs c d × Fits f d × (filled f d ≡ whole)
-
 -- how much is still to be copied
 abbrev pub hole_weight : Hole → ℕ
 hole_weight (Field copies rest) = 1 + 2 * column_weights rest.now
 hole_weight (Key alloc values offsets sizes) = 1 + 2 * type_weight values.now.dtype
 hole_weight hole = 1
 
-abbrev pub frames_weight : List Frame → ℕ
-frames_weight [] = 0
-frames_weight (f ∷ fs) = hole_weight f.hole + frames_weight fs
+abbrev pub frame_weight : Frame → ℕ
+frame_weight f = hole_weight f.hole
 
 abbrev pub step_weight : Step → ℕ
 step_weight (Whole c) = 1
-step_weight (Part f c) = hole_weight f.hole + 2 * type_weight c.now.dtype
+step_weight (Part f c) = frame_weight f + 2 * type_weight c.now.dtype

@@ -21,4 +21,6 @@ pub mod Printing
 pub mod Shapes
 pub mod WrittenValues
 pub mod ColumnParts
+pub mod Frames
 pub mod CopyFrames
+pub mod TakenFrames

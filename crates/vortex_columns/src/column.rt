@@ -9,6 +9,7 @@ mod options;
 mod reads;
 mod stored;
 mod taken;
+mod taken_frames;
 
 use crate::scalar::Scalar;
 use crate::validity::Validity;

@@ -3,17 +3,22 @@
 ghost use Rattle.std.specs.Prelude.{◌≡◌, ◌+◌, ◌*◌, ◌^◌, ◌<◌, ◌≤◌, ◌++◌, ℕ, All, IfOk, map, length};
 ghost use Rattle.std.specs.Prelude.{pos, false};
 ghost use Rattle.std.specs.Prelude.{[], slice_index, slice_index_or};
-ghost use Rattle.vortex_columns.specs.Words.{AnswersUnlessMemory, validity_of};
+ghost use Rattle.vortex_columns.specs.Words.{AnswersUnlessMemory, type_of, validity_of};
 ghost use Rattle.vortex_columns.specs.ValidityView.{Reaches};
-ghost use Rattle.vortex_columns.specs.Stored.{kept_of, stored_of, HasRow, lists, maps};
-ghost use Rattle.vortex_columns.specs.Taken.{AreRowsOf, taken, taken_kept, taken_validity};
-ghost use Rattle.vortex_columns.specs.Taken.{taken_stored, element_places, ArePlaces};
+ghost use Rattle.vortex_columns.specs.Stored.{kept, kept_of, lists, maps};
+ghost use Rattle.vortex_columns.specs.Taken.{taken_kept, taken_validity};
+ghost use Rattle.vortex_columns.specs.Taken.{element_places, ArePlaces};
+ghost use Rattle.vortex_columns.specs.ColumnParts.{type_weight};
+ghost use Rattle.vortex_columns.specs.CopyFrames.{IsStoredUnder, stored_view};
+ghost use Rattle.vortex_columns.specs.TakenFrames.{rows_in, IsSound, step_taking, step_weight};
 ghost use Rattle.vortex_views.specs.Places.{places_of};
 ghost use Rattle.vortex_types.specs.Numbers.{numbers, ptype_of};
 ghost use Rattle.std.specs.List.{range_with_len};
 ghost use Rattle.std.specs.Vec.{vec_len, vec_capacity};
 
+use super::copies::Head;
 use super::nested::{of_lists, of_maps};
+use super::taken_frames::{Rows, Step};
 use super::{Column, Elements, Storage};
 use crate::validity::Validity;
 use std::alloc::{AllocError, Global};
@@ -185,78 +190,58 @@ fn take_maps(
     Ok(of_maps(alloc, keys, values, taken_offsets, taken_sizes)?)
 }
 
-/// The same rows of each column.
-#[cycle(take_column)]
-fn take_columns(
-    alloc: Global,
-    columns: &Vec<Column>,
-    places: &Places<'_>,
-) -> VortexResult<Vec<Column>>
-    requires { All (λ c. AreRowsOf c (places_of places.now)) columns.now.items }
-    ensures { AnswersUnlessMemory result
-        (λ cs. cs.items ≡ map (taken (places_of places.now)) columns.now.items) }
-{
-    let mut taken = Vec::new(alloc);
-    for column in columns {
-        taken.push(column.take_places(alloc, places)?)?;
-    }
-    Ok(taken)
-}
-
 impl Elements {
-    /// The values at these places. Of lists and maps only the ranges are taken: their elements stay
-    /// as they are.
-    #[cycle(take_column)]
-    fn take(&self, alloc: Global, places: &Places<'_>) -> VortexResult<Elements>
-        requires { ArePlaces (places_of places.now) (kept_of self.now) }
-        ensures { AnswersUnlessMemory result
-            (λ e. kept_of e ≡ taken_kept (places_of places.now) (kept_of self.now)) }
+    /// Takes the rows of what is no column, and stops at the first column inside. Of lists and maps
+    /// only the ranges are taken: their elements stay as they are.
+    fn open_rows<'a>(
+        &'a self,
+        alloc: Global,
+        head: Head,
+        validity: Validity,
+        rows: Rows<'a>,
+    ) -> VortexResult<Step<'a>>
+        requires stored { IsStoredUnder head
+            (kept (taken_kept (rows_in rows) (kept_of self.now)) (validity_of validity)) }
+        requires places { ArePlaces (rows_in rows) (kept_of self.now) }
+        ensures sound { AnswersUnlessMemory result IsSound }
+        ensures column { AnswersUnlessMemory result (λ step. (step_taking step).column
+            ≡ stored_view head
+            (kept (taken_kept (rows_in rows.entry) (kept_of self.now)) (validity_of validity))) }
+        ensures rows { AnswersUnlessMemory result
+            (λ step. (step_taking step).rows ≡ rows_in rows.entry) }
+        ensures falls { AnswersUnlessMemory result
+            (λ step. step_weight step < 2 * type_weight (type_of head.dtype)) }
     {
-        match self {
-            Elements::Bool(bits) => Ok(Elements::Bool(take_bits(alloc, bits, places)?)),
-            Elements::Primitive(ints) => Ok(Elements::Primitive(take_ints(alloc, ints, places)?)),
-            Elements::Utf8(values) => Ok(Elements::Utf8(values.gather(alloc, places)?)),
-            Elements::Binary(values) => Ok(Elements::Binary(values.gather(alloc, places)?)),
-            Elements::Struct(fields) => Ok(Elements::Struct(take_columns(alloc, fields, places)?)),
+        let places = rows.places();
+        let elements = match self {
+            Elements::Bool(bits) => Elements::Bool(take_bits(alloc, bits, &places)?),
+            Elements::Primitive(ints) => Elements::Primitive(take_ints(alloc, ints, &places)?),
+            Elements::Utf8(values) => Elements::Utf8(values.gather(alloc, &places)?),
+            Elements::Binary(values) => Elements::Binary(values.gather(alloc, &places)?),
+            Elements::Struct(fields) => {
+                let taken = Vec::new(alloc);
+                return Ok(head.with_taken_fields(validity, taken, fields.as_slice(), rows));
+            }
             Elements::List(elements, offsets, sizes) => {
-                take_lists(alloc, elements, offsets, sizes, places)
+                take_lists(alloc, elements, offsets, sizes, &places)?
             }
             Elements::FixedSizeList(elements, size) => {
                 // so that the places are known to fit
                 let _ = elements.len();
-                let places = element_places(alloc, *size as usize, places)?;
-                let elements = elements.take_places(alloc, &Places::Indices(&places))?;
-                Ok(Elements::FixedSizeList(Box::new(alloc, elements)?, *size))
+                let places = element_places(alloc, *size as usize, &places)?;
+                return Ok(head.with_taken_elements(validity, *size, rows, elements, places));
             }
             Elements::Map(keys, values, offsets, sizes) => {
-                take_maps(alloc, keys, values, offsets, sizes, places)
+                take_maps(alloc, keys, values, offsets, sizes, &places)?
             }
-        }
-    }
-}
-
-impl Storage {
-    #[cycle(take_column)]
-    fn take(&self, alloc: Global, places: &Places<'_>) -> VortexResult<Storage>
-        requires { All (λ i. HasRow i (stored_of self.now)) (places_of places.now) }
-        ensures { AnswersUnlessMemory result
-            (λ s. stored_of s ≡ taken_stored (places_of places.now) (stored_of self.now)) }
-    {
-        match self {
-            Storage::Null => Ok(Storage::Null),
-            Storage::Constant(scalar) => Ok(Storage::Constant(scalar.try_clone(alloc)?)),
-            Storage::Rows(elements, validity) => {
-                let validity = take_validity(alloc, validity, places)?;
-                Ok(Storage::Rows(elements.take(alloc, places)?, validity))
-            }
-        }
+        };
+        Ok(Step::Whole(head.with_rows(validity, elements), rows))
     }
 }
 
 impl Column {
     ghost use Rattle.vortex_columns.specs.Words.{AnswersUnlessMemory, AreRowsOf, IsTaken};
     ghost use Rattle.vortex_columns.specs.Taken.{taken};
-    ghost use Rattle.vortex_views.specs.Places.{places_of};
 
     /// The rows with these numbers, in the order of the codes, each as often as it is named: a
     /// column of the same type with a row for each code. A constant stays a constant, and a column
@@ -269,20 +254,55 @@ impl Column {
         requires { AreRowsOf self.now codes.now }
         ensures { AnswersUnlessMemory result (IsTaken self.now codes.now) }
     {
-        self.take_places(ctx.alloc(), &Places::Codes(codes))
+        self.take_rows(ctx.alloc(), Rows::Codes(codes))
     }
 
-    #[cycle(take_column)]
-    fn take_places(&self, alloc: Global, places: &Places<'_>) -> VortexResult<Column>
-        requires { AreRowsOf self.now (places_of places.now) }
-        ensures { AnswersUnlessMemory result (λ c. c ≡ taken (places_of places.now) self.now) }
+    /// What is found inside the column waits in frames of its own.
+    fn take_rows<'a>(&'a self, alloc: Global, rows: Rows<'a>) -> VortexResult<Column>
+        requires { AreRowsOf self.now (rows_in rows) }
+        ensures { AnswersUnlessMemory result (λ c. c ≡ taken (rows_in rows.entry) self.now) }
     {
+        let mut frames = Vec::new(alloc);
+        let mut step = self.open_rows(alloc, rows)?;
+        loop {
+            step = match step {
+                Step::Part(frame, inside, rows) => {
+                    frames.push(frame)?;
+                    inside.open_rows(alloc, rows)?
+                }
+                Step::Whole(column, rows) => match frames.pop() {
+                    Some(frame) => frame.fill(alloc, column, rows)?,
+                    None => return Ok(column),
+                },
+            };
+        }
+    }
+
+    /// Takes the rows of what is no column, and stops at the first column inside.
+    fn open_rows<'a>(&'a self, alloc: Global, rows: Rows<'a>) -> VortexResult<Step<'a>>
+        requires { AreRowsOf self.now (rows_in rows) }
+        ensures sound { AnswersUnlessMemory result IsSound }
+        ensures column { AnswersUnlessMemory result
+            (λ step. (step_taking step).column ≡ taken (rows_in rows.entry) self.now) }
+        ensures rows { AnswersUnlessMemory result
+            (λ step. (step_taking step).rows ≡ rows_in rows.entry) }
+        ensures falls { AnswersUnlessMemory result
+            (λ step. step_weight step < 2 * type_weight self.now.dtype) }
+    {
+        let places = rows.places();
         let dtype = self.dtype.try_clone(alloc)?;
-        let storage = self.storage.take(alloc, places)?;
-        Ok(Column {
+        let head = Head {
             dtype,
             len: places.len(),
-            storage,
-        })
+        };
+        let storage = match &self.storage {
+            Storage::Null => Storage::Null,
+            Storage::Constant(scalar) => Storage::Constant(scalar.try_clone(alloc)?),
+            Storage::Rows(elements, validity) => {
+                let validity = take_validity(alloc, validity, &places)?;
+                return elements.open_rows(alloc, head, validity, rows);
+            }
+        };
+        Ok(Step::Whole(head.with(storage), rows))
     }
 }
