@@ -101,20 +101,6 @@ rest_have f =
     rest_cases f (λ r. IfSome r RestHave ↔ RestHave f) (λ _. (λ h. h, λ h. h))
     (λ b. (λ _ k low c. absurd (omega arith), λ _. tt))
 
--- the next value has its type
-pub went_on : (f : Asking) (fs : List Asking) (Whole : Type 0) → f.next < asked_count f
-    → PartHasType f f.next → Mean f fs Whole → Mean (further f) fs Whole
-went_on f fs Whole b p m =
-    let next = further_rest f b in (
-      λ h. m.0 (next.0 (p, h.0), h.1),
-      λ w. let g = m.1 w in ((next.1 g.0).1, g.1),
-    )
-
--- which the whole needs
-pub needed : (f : Asking) (fs : List Asking) (Whole : Type 0) → f.next < asked_count f
-    → Mean f fs Whole → Whole → PartHasType f f.next
-needed f fs Whole b m w = ((further_rest f b).1 (m.1 w).0).0
-
 -- into the next value
 pub went_in : (f inner : Asking) (s : Sequence) (t : LogicalType) (fs gs : List Asking)
     (Whole : Type 0) → f.next < asked_count f
@@ -146,11 +132,6 @@ went_out f g fs gs Whole b e m =
           (λ k low c. absurd (omega arith), subst (All RestHave) (sym e) (all.0 (h.1, h.0))),
       λ w. let a = all.1 (subst (All RestHave) e (m.1 w).1) in (a.1, a.0),
     )
-
-pub all_asked : (f : Asking) (fs : List Asking) (Whole : Type 0) → asked_count f ≤ f.next
-    → fs ≡ [] → Mean f fs Whole → Whole
-all_asked f fs Whole b e m =
-    m.0 (λ k low c. absurd (omega arith), subst (All RestHave) (sym e) (All-nil RestHave))
 
 pub within_more : (depth : ℕ) (f : Asking) (fs gs : List Asking)
     → gs ≡ fs ++ option_to_list (with_rest f) → IsWithin depth f → All (IsWithin depth) fs
@@ -197,12 +178,6 @@ sizes_more f fs gs e =
     (λ _. omega arith) in
     omega (arith, joined, last)
 
-pub less_on : (f : Asking) → f.next < asked_count f
-    → size_from (f.next + 1) f.values < size_from f.next f.values
-less_on f b =
-    omega
-    (arith, from_next f.next f.values b, size_positive (row (sequence_values f.values) f.next))
-
 pub less_in : (f inner : Asking) (s : Sequence) (t : LogicalType) (fs gs : List Asking)
     → f.next < asked_count f → sequence_value s ≡ row (sequence_values f.values) f.next
     → gs ≡ fs ++ option_to_list (with_rest (further f)) → IsOpened inner s t
@@ -218,10 +193,3 @@ less_in f inner s t fs gs b e same o =
       ap value_size e,
       sizes_more (further f) fs gs same,
     )
-
-pub less_out : (g : Asking) (fs gs : List Asking) (more : ℕ) → fs ≡ gs ++ g ∷ []
-    → rest_sizes gs + size_from g.next g.values < rest_sizes fs + more
-less_out g fs gs more e =
-    let joined : rest_sizes fs ≡ rest_sizes gs + sum_by rest_size (g ∷ []) =
-    ap rest_sizes e ∙ sum_by-append rest_size gs (g ∷ []) in
-    omega (arith, joined)

@@ -18,13 +18,13 @@ pub each_all : (P : Value → Type 0) (vs : List Value) → ((j : ℕ) → j < l
 each_all P [] h = tt
 each_all P (v ∷ vs) h = (h 0 (omega arith), each_all P vs (λ j b. h (suc j) (omega arith)))
 
-pub each_at : (P : Value → Type 0) (vs : List Value) (k : ℕ) → k < length vs → Each P (values_of vs)
+each_at : (P : Value → Type 0) (vs : List Value) (k : ℕ) → k < length vs → Each P (values_of vs)
     → P (row vs k)
 each_at P [] k b h = absurd (omega arith)
 each_at P (v ∷ vs) zero b h = h.0
 each_at P (v ∷ vs) (suc k) b h = each_at P vs k (omega arith) h.1
 
-pub have_all : (fs : Fields) (vs : List Value) → length vs ≡ field_count fs
+have_all : (fs : Fields) (vs : List Value) → length vs ≡ field_count fs
     → ((j : ℕ) → j < length vs → HasType (field_type j fs) (row vs j))
     → HaveFields fs (values_of vs)
 have_all no_fields [] e h = tt
@@ -33,14 +33,14 @@ have_all (field name k fs) (v ∷ vs) e h =
 have_all no_fields (v ∷ vs) e h = absurd (omega arith)
 have_all (field name k fs) [] e h = absurd (omega arith)
 
-pub have_count : (fs : Fields) (vs : List Value) → HaveFields fs (values_of vs)
+have_count : (fs : Fields) (vs : List Value) → HaveFields fs (values_of vs)
     → length vs ≡ field_count fs
 have_count no_fields [] h = refl
 have_count (field name k fs) (v ∷ vs) h = ap suc (have_count fs vs h.1)
 have_count no_fields (v ∷ vs) h = absurd h
 have_count (field name k fs) [] h = absurd h
 
-pub have_at : (fs : Fields) (vs : List Value) (k : ℕ) → k < length vs → HaveFields fs (values_of vs)
+have_at : (fs : Fields) (vs : List Value) (k : ℕ) → k < length vs → HaveFields fs (values_of vs)
     → HasType (field_type k fs) (row vs k)
 have_at (field name l fs) (v ∷ vs) zero b h = h.0
 have_at (field name l fs) (v ∷ vs) (suc k) b h = have_at fs vs k (omega arith) h.1
@@ -51,9 +51,6 @@ have_at (field name l fs) [] k b h = absurd h
 pub value_count_of : (vs : List Value) → value_count (values_of vs) ≡ length vs
 value_count_of [] = refl
 value_count_of (v ∷ vs) = ap suc (value_count_of vs)
-
-pub refuted_by : (Q : Type 0) → (Q → ⊥) → IsTrue false ↔ Q
-refuted_by Q never = (λ h. absurd (true≢false (sym h)), λ q. absurd (never q))
 
 -- an entry is a struct of its key and value
 entry_typed : (k v : LogicalType) (w : Value) → HasType (entry_type k v) w ↔ IsEntryOf k v w
