@@ -18,7 +18,8 @@ use Rattle.vortex_columns.specs.WrittenValues.{inner_type}
 use Rattle.vortex_columns.specs.declared.cell.Sequence.{Sequence}
 use Rattle.vortex_columns.specs.declared.value_text.Shape.{Shape}
 use Rattle.vortex_columns.specs.declared.value_text.Writing.{Writing}
-use Rattle.vortex_columns.proofs.Copied.{value_size, size_from, from_next}
+use Rattle.vortex_columns.specs.ValueSizes.{value_size, size_from}
+use Rattle.vortex_columns.proofs.Copied.{from_next}
 use Rattle.vortex_columns.proofs.ValueTexts.{value_texts-length, value_text_at}
 use Rattle.vortex_columns.proofs.ValueTexts.{field_texts-length, field_text_at}
 

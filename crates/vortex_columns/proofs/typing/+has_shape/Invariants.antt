@@ -4,7 +4,7 @@ use Rattle.vortex_types.specs.Typing.{HasType}
 use Rattle.vortex_columns.specs.Cells.{sequence_value}
 use Rattle.vortex_columns.specs.Shapes.{shape_type}
 use Rattle.vortex_columns.specs.Questions.{frames_in}
-use Rattle.vortex_columns.proofs.Copied.{size_from}
+use Rattle.vortex_columns.specs.ValueSizes.{size_from}
 use Rattle.vortex_columns.proofs.AskedFrames.{Mean, IsWithin, rest_sizes}
 use Rattle.vortex_columns.proofs.typing.+has_shape.Given as goal
 

@@ -7,7 +7,7 @@ use Rattle.vortex_columns.specs.ColumnView.{row}
 use Rattle.vortex_columns.specs.Shapes.{shape_type}
 use Rattle.vortex_columns.specs.WrittenValues.{count_written}
 use Rattle.vortex_columns.specs.declared.value_text.Writing.{Writing}
-use Rattle.vortex_columns.proofs.Copied.{size_from}
+use Rattle.vortex_columns.specs.ValueSizes.{size_from}
 use Rattle.vortex_columns.proofs.WrittenFrames.{rest, rests, AreThere, after_next, there_one_more}
 use Rattle.vortex_columns.proofs.WrittenFrames.{there_one_less, count_within, entered, left}
 use Rattle.vortex_columns.proofs.WrittenFrames.{one_written, finished, less_entered}

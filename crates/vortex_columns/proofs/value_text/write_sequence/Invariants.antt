@@ -2,7 +2,7 @@ use Rattle.std.proofs.Common.{◌≡◌, ◌+◌, ◌++◌, string_bytes}
 use Rattle.vortex_columns.specs.Cells.{sequence_value, IsSequence}
 use Rattle.vortex_columns.specs.Printing.{value_text}
 use Rattle.vortex_columns.specs.Shapes.{shape_type}
-use Rattle.vortex_columns.proofs.Copied.{size_from}
+use Rattle.vortex_columns.specs.ValueSizes.{size_from}
 use Rattle.vortex_columns.proofs.WrittenFrames.{rest, rests, AreThere, size_around}
 use Rattle.vortex_columns.proofs.value_text.write_sequence.Given as goal
 
