@@ -20,7 +20,7 @@ use Rattle.vortex_columns.specs.Questions.{part_type, asked_count, IsAsking, Par
 use Rattle.vortex_columns.specs.Questions.{IsOpened, RestHave, with_rest}
 use Rattle.vortex_columns.proofs.Compare.{depth_inside}
 use Rattle.vortex_columns.specs.ValueSizes.{value_size, size_from}
-use Rattle.vortex_columns.proofs.Copied.{from_next, size_positive}
+use Rattle.vortex_columns.proofs.Copied.{from_next}
 use Rattle.vortex_columns.proofs.HaveTypes.{parts_typed}
 
 -- what is left to ask means the same as the whole

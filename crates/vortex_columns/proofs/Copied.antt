@@ -117,7 +117,7 @@ above_one_more : (fs : List Copying) (f : Copying)
 above_one_more [] f = omega arith
 above_one_more (x ∷ fs) f = omega (arith, above_one_more fs f)
 
-pub size_positive : (v : Value) → 0 < value_size v
+size_positive : (v : Value) → 0 < value_size v
 size_positive null = omega arith
 size_positive (truth b) = omega arith
 size_positive (number z) = omega arith
