@@ -2,7 +2,7 @@
 
 use crate::order::stand;
 use crate::taken::are_below;
-use fixtures::{Made, boxed, fields, kept, names, yes};
+use fixtures::{Made, boxed, fields, is_refused, kept, names, yes};
 use std::alloc::Global;
 use std::cmp::Ordering;
 use vortex_columns::{
@@ -102,14 +102,23 @@ fn values(alloc: Global) -> VortexResult<ScalarValue> {
     Ok(value)
 }
 
+/// A value and another behind it.
+fn pair(
+    alloc: Global,
+    first: Option<ScalarValue>,
+    last: Option<ScalarValue>,
+) -> VortexResult<ScalarValue> {
+    let mut items = Vec::new(alloc);
+    items.push(first)?;
+    items.push(last)?;
+    Ok(ScalarValue::List(items))
+}
+
 /// Pairs within one another, each in the first place, with that number innermost.
 fn first_values(alloc: Global, innermost: i128) -> VortexResult<ScalarValue> {
     let mut value = ScalarValue::Int(innermost);
     for _ in 0..LEVELS {
-        let mut items = Vec::new(alloc);
-        items.push(Some(value))?;
-        items.push(Some(ScalarValue::Int(1)))?;
-        value = ScalarValue::List(items);
+        value = pair(alloc, Some(value), Some(ScalarValue::Int(1)))?;
     }
     Ok(value)
 }
@@ -123,6 +132,30 @@ fn literal(alloc: Global) -> VortexResult<Scalar> {
         value = ScalarValue::List(items);
     }
     Scalar::try_new(lists(alloc)?, Some(value))
+}
+
+/// A struct of two fields that nests in the first, as a literal; with that truth value, or what
+/// stands for one, last of all.
+fn record(alloc: Global, last: ScalarValue) -> VortexResult<Scalar> {
+    let mut value = None;
+    for _ in 1..LEVELS {
+        value = Some(pair(alloc, value, Some(ScalarValue::Bool(true)))?);
+    }
+    Scalar::try_new(
+        structs_by_first(alloc)?,
+        Some(pair(alloc, value, Some(last))?),
+    )
+}
+
+/// Maps of one entry within one another, each in the place of the key, as a literal.
+fn keyed(alloc: Global) -> VortexResult<Scalar> {
+    let mut value = None;
+    for _ in 0..LEVELS {
+        let mut entries = Vec::new(alloc);
+        entries.push(Some(pair(alloc, value, None)?))?;
+        value = Some(ScalarValue::List(entries));
+    }
+    Scalar::try_new(maps_by_key(alloc)?, value)
 }
 
 /// Lists of one element within one another, in one row.
@@ -379,6 +412,14 @@ fn rows_of_deep_columns_are_taken(rt: HostRuntime) {
     let alloc = rt.alloc();
     assert!(rt; yes(is_taken_twice(alloc, singles(alloc))));
     assert!(rt; yes(is_taken_twice(alloc, records(alloc))));
+}
+
+#[test]
+fn literals_that_nest_before_their_last_value_are_typed(rt: HostRuntime) {
+    let alloc = rt.alloc();
+    assert!(rt; yes(was_made(record(alloc, ScalarValue::Bool(true)))));
+    assert!(rt; is_refused(record(alloc, ScalarValue::Int(1)), "InvalidColumn"));
+    assert!(rt; yes(was_made(keyed(alloc))));
 }
 
 #[test]
