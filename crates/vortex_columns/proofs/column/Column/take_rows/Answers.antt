@@ -4,18 +4,29 @@ use Rattle.vortex_columns.specs.TakenFrames.{Taking, taking, Fits, filled, IsSou
 use Rattle.vortex_columns.specs.TakenFrames.{rows_in, frame_weight, step_weight}
 use Rattle.vortex_columns.specs.Frames.{Make, frames_weight}
 use Rattle.vortex_columns.proofs.Frames.{frame_put, frame_taken, frames_pushed}
+use Rattle.vortex_columns.proofs.column.Column.take_rows.Goals.{In-Some}
 use Rattle.vortex_columns.proofs.column.Column.take_rows.Goals as goal
 
 alike : (t u : Taking) → t.column ≡ u.column → t.rows ≡ u.rows → t ≡ u
 alike t u columns rows i = record { column = columns i; rows = rows i }
 
-pub fill-requires : goal.fill-requires
-fill-requires c =
-    (frame_taken Fits filled c.loop-step.frames.items c.pop.new.self.items c.in-Some.frame
-    (record { column = c.in-Whole.column; rows = rows_in c.in-Whole.rows }) _ _
-    (ap step_taking c.in-Whole.is)
+-- rows of a column that is whole
+abbrev here : In-Some → Taking
+here c = record { column = c.in-Whole.column; rows = rows_in c.in-Whole.rows }
+
+-- they fit the last of the frames
+popped : (c : In-Some)
+    → Fits c.in-Some.frame (here c)
+    × Make Fits filled c.pop.new.self.items (filled c.in-Some.frame (here c))
+    (taking (rows_in c.args.rows) c.args.self.now)
+popped c =
+    frame_taken Fits filled c.loop-step.frames.items c.pop.new.self.items c.in-Some.frame (here c)
+    _ _ (ap step_taking c.in-Whole.is)
     (c.pop.ensures.items ∙ ap (λ r. c.pop.new.self.items ++ option_to_list r) c.in-Some.is)
-    c.loop-step.invariant.1).0
+    c.loop-step.invariant.1
+
+pub fill-requires : goal.fill-requires
+fill-requires c = (popped c).0
 
 pub loop-step-smaller-in_ok-step-in-Part : goal.loop-step-smaller-in_ok-step-in-Part
 loop-step-smaller-in_ok-step-in-Part c =
@@ -55,16 +66,13 @@ loop-step-smaller c =
 
 pub loop-step-preserved : goal.loop-step-preserved
 loop-step-preserved c =
-    let here : Taking = record { column = c.in-Whole.column; rows = rows_in c.in-Whole.rows } in (
+    let some = (goal.at.loop-step-preserved c).In-Some in (
       c.in_ok-step-in-Some.ensures.sound,
       subst
           (λ (t : Taking). Make Fits filled c.pop.new.self.items t
           (taking (rows_in c.args.rows) c.args.self.now))
           (sym
-          (alike (step_taking c.in_ok-step-in-Some.step) (filled c.in-Some.frame here)
+          (alike (step_taking c.in_ok-step-in-Some.step) (filled c.in-Some.frame (here some))
           c.in_ok-step-in-Some.ensures.column c.in_ok-step-in-Some.ensures.rows))
-          (frame_taken Fits filled c.loop-step.frames.items c.pop.new.self.items c.in-Some.frame
-          here _ _ (ap step_taking c.in-Whole.is)
-          (c.pop.ensures.items ∙ ap (λ r. c.pop.new.self.items ++ option_to_list r) c.in-Some.is)
-          c.loop-step.invariant.1).1,
+          (popped some).1,
     )

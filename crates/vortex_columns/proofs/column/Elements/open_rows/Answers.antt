@@ -18,6 +18,7 @@ use Rattle.vortex_columns.proofs.column.Elements.open_rows.Goals.{in-Utf8+in_ok-
 use Rattle.vortex_columns.proofs.column.Elements.open_rows.Goals.{in-Binary+in_ok-gather-in-Binary}
 use Rattle.vortex_columns.proofs.column.Elements.open_rows.Goals.{in-List+in_ok-elements-in-List}
 use Rattle.vortex_columns.proofs.column.Elements.open_rows.Goals.{in-Map+in_ok-elements-in-Map}
+use Rattle.vortex_columns.proofs.column.Elements.open_rows.Goals.{Joined-self}
 use Rattle.vortex_columns.proofs.column.Elements.open_rows.Goals as goal
 
 -- what is read there of values of one kind
@@ -109,11 +110,11 @@ made : (e f : Elements) (g h : Elements) (ps qs : List ℕ) → e ≡ f → g �
 made e f g h ps qs is out same so =
     ap kept_of out ∙ so ∙ (λ i. taken_kept (same i) (kept_of (sym is i)))
 
-pub with_rows-requires : goal.with_rows-requires
-with_rows-requires c =
+-- what is made is what is taken
+so : (c : Joined-self)
+    → kept_of c.match-self.elements ≡ taken_kept (rows_in c.args.rows) (kept_of c.args.self.now)
+so c =
     let at = places_of c.places-places.result in
-    let so : kept_of c.match-self.elements
-    ≡ taken_kept (rows_in c.args.rows) (kept_of c.args.self.now) =
     elim c.match-self.branch [
       | in-Bool+in_ok-take_bits-in-Bool w ↦
           made _ _ _ _ _ _ w.in-Bool.is w.elements-is c.places-places.ensures
@@ -139,40 +140,15 @@ with_rows-requires c =
           ∙ (λ i. maps (w.deref-in-Map.ensures i) (w.deref-in-Map-2.ensures i)
           (map (slice_index w.in-Map.offsets.items) at)
           (map (slice_index w.in-Map.sizes.items) at)))
-    ] in
-    subst (λ (k : Kept). IsStoredUnder c.args.head (kept k (validity_of c.args.validity))) (sym so)
-    c.requires.stored
+    ]
+
+pub with_rows-requires : goal.with_rows-requires
+with_rows-requires c =
+    subst (λ (k : Kept). IsStoredUnder c.args.head (kept k (validity_of c.args.validity)))
+    (sym (so c)) c.requires.stored
 
 pub returns-clause-column : goal.returns-clause-column
 returns-clause-column c =
-    let at = places_of c.places-places.result in
-    let so : kept_of c.match-self.elements
-    ≡ taken_kept (rows_in c.args.rows) (kept_of c.args.self.now) =
-    elim c.match-self.branch [
-      | in-Bool+in_ok-take_bits-in-Bool w ↦
-          made _ _ _ _ _ _ w.in-Bool.is w.elements-is c.places-places.ensures
-          (ap bools w.in_ok-take_bits-in-Bool.ensures)
-      | in-Primitive+in_ok-take_ints-in-Primitive w ↦
-          let ints = w.in_ok-take_ints-in-Primitive.ensures in
-          made _ _ _ _ _ _ w.in-Primitive.is w.elements-is c.places-places.ensures
-          (λ i. integers (ints.0 i) (ints.1 i))
-      | in-Utf8+in_ok-gather-in-Utf8 w ↦
-          made _ _ _ _ _ _ w.in-Utf8.is w.elements-is c.places-places.ensures
-          (ap texts w.in_ok-gather-in-Utf8.ensures)
-      | in-Binary+in_ok-gather-in-Binary w ↦
-          made _ _ _ _ _ _ w.in-Binary.is w.elements-is c.places-places.ensures
-          (ap byte_strings w.in_ok-gather-in-Binary.ensures)
-      | in-List+in_ok-elements-in-List w ↦
-          made _ _ _ _ _ _ w.in-List.is w.elements-is c.places-places.ensures
-          (w.in_ok-elements-in-List.ensures
-          ∙ (λ i. lists (w.deref.ensures i) (map (slice_index w.in-List.offsets.items) at)
-          (map (slice_index w.in-List.sizes.items) at)))
-      | in-Map+in_ok-elements-in-Map w ↦
-          made _ _ _ _ _ _ w.in-Map.is w.elements-is c.places-places.ensures
-          (w.in_ok-elements-in-Map.ensures
-          ∙ (λ i. maps (w.deref-in-Map.ensures i) (w.deref-in-Map-2.ensures i)
-          (map (slice_index w.in-Map.offsets.items) at)
-          (map (slice_index w.in-Map.sizes.items) at)))
-    ] in
     c.with_rows.ensures
-    ∙ ap (λ (k : Kept). stored_view c.args.head (kept k (validity_of c.args.validity))) so
+    ∙ ap (λ (k : Kept). stored_view c.args.head (kept k (validity_of c.args.validity)))
+    (so (goal.at.returns-clause-column c).Joined-self)

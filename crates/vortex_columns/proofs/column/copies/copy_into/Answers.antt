@@ -5,14 +5,22 @@ use Rattle.vortex_columns.specs.CopyFrames.{Fits, IsSound, step_view, step_weigh
 use Rattle.vortex_columns.specs.CopyFrames.{frame_weight}
 use Rattle.vortex_columns.specs.Frames.{Make, frames_weight}
 use Rattle.vortex_columns.proofs.Frames.{frame_put, frame_taken, frames_pushed}
+use Rattle.vortex_columns.proofs.column.copies.copy_into.Goals.{In-Some}
 use Rattle.vortex_columns.proofs.column.copies.copy_into.Goals as goal
 
-pub fill-requires : goal.fill-requires
-fill-requires c =
-    (frame_taken Fits filled c.loop-step.frames.items c.pop.new.self.items c.in-Some.frame
+-- a copy fits the last of the frames
+popped : (c : In-Some)
+    → Fits c.in-Some.frame c.in-Whole.copy
+    × Make Fits filled c.pop.new.self.items (filled c.in-Some.frame c.in-Whole.copy)
+    (filled c.args.frame c.args.inside.now)
+popped c =
+    frame_taken Fits filled c.loop-step.frames.items c.pop.new.self.items c.in-Some.frame
     c.in-Whole.copy _ _ (ap step_view c.in-Whole.is)
     (c.pop.ensures.items ∙ ap (λ r. c.pop.new.self.items ++ option_to_list r) c.in-Some.is)
-    c.loop-step.invariant.1).0
+    c.loop-step.invariant.1
+
+pub fill-requires : goal.fill-requires
+fill-requires c = (popped c).0
 
 pub loop-step-smaller-in_ok-step-in-Part : goal.loop-step-smaller-in_ok-step-in-Part
 loop-step-smaller-in_ok-step-in-Part c =
@@ -53,9 +61,5 @@ loop-step-preserved c = (
   subst
       (λ (d : ColumnView). Make Fits filled c.pop.new.self.items d
       (filled c.args.frame c.args.inside.now))
-      (sym c.in_ok-step-in-Some.ensures.view)
-      (frame_taken Fits filled c.loop-step.frames.items c.pop.new.self.items c.in-Some.frame
-      c.in-Whole.copy _ _ (ap step_view c.in-Whole.is)
-      (c.pop.ensures.items ∙ ap (λ r. c.pop.new.self.items ++ option_to_list r) c.in-Some.is)
-      c.loop-step.invariant.1).1,
+      (sym c.in_ok-step-in-Some.ensures.view) (popped (goal.at.loop-step-preserved c).In-Some).1,
 )
