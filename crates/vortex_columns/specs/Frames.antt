@@ -1,7 +1,7 @@
 -- Frames that wait on the heap for what stands inside them, the outermost first.
 use Rattle.std.specs.Prelude.{◌≡◌, ℕ, ◌+◌, List, [], ◌∷◌}
 
--- what a frame makes of that which it is filled with, and what fits it
+-- what fits a frame, and what the frame makes of it
 module _ {F X : Type 0} (Fits : F → X → Type 0) (filled : F → X → X) where
   -- frames make one thing of another
   abbrev pub Make : List F → X → X → Type 0

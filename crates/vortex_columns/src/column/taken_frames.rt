@@ -6,7 +6,7 @@ ghost use Rattle.vortex_columns.specs.Stored.{kept, structs, fixed_size_lists};
 ghost use Rattle.vortex_columns.specs.Taken.{taken};
 ghost use Rattle.vortex_columns.specs.ColumnParts.{type_weight, column_weights};
 ghost use Rattle.vortex_columns.specs.CopyFrames.{IsStoredUnder, stored_view};
-ghost use Rattle.vortex_columns.specs.TakenFrames.{rows_in, Taking, Fits, filled, IsSound};
+ghost use Rattle.vortex_columns.specs.TakenFrames.{rows_in, Fits, filled, IsSound};
 ghost use Rattle.vortex_columns.specs.TakenFrames.{step_taking, step_weight, frame_weight};
 ghost use Rattle.vortex_views.specs.Places.{places_of};
 
@@ -31,7 +31,7 @@ pub(super) enum Rows<'a> {
 enum Hole<'a> {
     /// The fields before it, and those behind it.
     Field(Vec<Column>, &'a [Column]),
-    /// The size of each list, and the lists that are taken.
+    /// The size of each list, and which lists are taken.
     FixedElement(u32, Rows<'a>),
 }
 
