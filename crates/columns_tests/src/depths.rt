@@ -18,10 +18,10 @@ const YES: Nullability = Nullability::Nullable;
 const LEVELS: usize = 200_000;
 
 /// Of columns within columns. Each holds its whole type, so their memory goes by the square of this.
-const COLUMNS: usize = 2_000;
+const COLUMNS: usize = 1_000;
 
 /// Of records, whose types hold names too.
-const RECORDS: usize = 1_000;
+const RECORDS: usize = 500;
 
 /// Lists within lists, around that type.
 fn lists_of(alloc: Global, inner: DType) -> VortexResult<DType> {

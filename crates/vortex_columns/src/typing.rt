@@ -8,7 +8,6 @@ ghost use Rattle.vortex_columns.specs.Questions.{LiesBehind, IsAsking, IsOpened,
 
 use crate::cell::{Cell, Sequence};
 use crate::value_text::Shape;
-use std::alloc::Global;
 use vortex_types::DType;
 
 /// Whether each is a byte, as it always is.
@@ -115,18 +114,6 @@ impl<'a, 't> Asking<'a, 't> {
         }
     }
 
-    /// The allocator of what holds the values. Of a column that is lent by itself that of its type;
-    /// none where that holds no other in a box, and then the values inside have their own.
-    fn allocator(&self) -> Option<Global> {
-        match self.values {
-            Sequence::Items(items) => Some(*items.allocator()),
-            Sequence::Fields(fields, _) => Some(*fields.allocator()),
-            Sequence::Elements(elements, _, _) => allocator_of(elements.dtype()),
-            Sequence::Entries(keys, values, _, _) => either_allocator(keys.dtype(), values.dtype()),
-            Sequence::Entry(keys, values, _) => either_allocator(keys.dtype(), values.dtype()),
-        }
-    }
-
     /// Lays it behind those above, unless nothing is left of it. Where the list cannot grow it is
     /// not laid there, and nothing changes.
     fn lay_by(self, above: &mut Option<Vec<Asking<'a, 't>>>) -> bool
@@ -139,31 +126,13 @@ impl<'a, 't> Asking<'a, 't> {
         if let Some(frames) = above {
             return frames.push(self).is_ok();
         }
-        let Some(alloc) = self.allocator() else {
+        let Some(alloc) = self.values.allocator() else {
             return false;
         };
         let mut frames = Vec::new(alloc);
         let grown = frames.push(self).is_ok();
         *above = Some(frames);
         grown
-    }
-}
-
-/// The allocator of what a type is made of; none of a type that holds no other in a box.
-fn allocator_of(dtype: &DType) -> Option<Global> {
-    match dtype {
-        DType::List(element, _) => Some(*Box::allocator(element)),
-        DType::FixedSizeList(element, _, _) => Some(*Box::allocator(element)),
-        DType::Map(key, _, _) => Some(*Box::allocator(key)),
-        _ => None,
-    }
-}
-
-/// That of the one type, and else of the other.
-fn either_allocator(one: &DType, other: &DType) -> Option<Global> {
-    match allocator_of(one) {
-        Some(alloc) => Some(alloc),
-        None => allocator_of(other),
     }
 }
 

@@ -37,9 +37,9 @@ struct Around<'a> {
 }
 
 impl Sequence<'_> {
-    /// An allocator for the pairs around what stands inside; none where nothing does, but for the
-    /// entries of a map.
-    fn allocator(&self) -> Option<Global> {
+    /// An allocator for a list of what is around the values inside; none where nothing stands
+    /// inside, but for the entries of a map.
+    pub(crate) fn allocator(&self) -> Option<Global> {
         match self {
             Sequence::Items(items) => Some(*items.allocator()),
             Sequence::Fields(fields, _) => Some(*fields.allocator()),
