@@ -107,7 +107,7 @@ fn is_between<C: ScalarFnVTable>(alloc: Global, function: ScalarFnRef<C>) -> Vor
 }
 
 /// Whether a script names these options.
-fn names(words: &str) -> bool {
+fn names(words: &[&str]) -> bool {
     match ScalarFnRef::<NoCustom>::named(words) {
         Some(function) => function.as_between() == Some(half_open()),
         None => false,
@@ -123,7 +123,7 @@ fn options_print(alloc: Global, options: BetweenOptions, text: &str) -> VortexRe
 fn between_tells_what_it_is(rt: HostRuntime) {
     let alloc = rt.alloc();
     assert!(rt; yes(is_between::<NoCustom>(alloc, Between.bind(half_open()))));
-    assert!(rt; names("between <= <"));
+    assert!(rt; names(&["between", "<=", "<"]));
     let text = "lower_strict: <=, upper_strict: <";
     assert!(rt; yes(options_print(alloc, half_open(), text)));
 }

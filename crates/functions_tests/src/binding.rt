@@ -86,7 +86,7 @@ fn an_unknown_column_is_refused(rt: HostRuntime) {
 
 /// Whether a word of scripts names the operator.
 fn names(word: &str, wanted: Operator) -> bool {
-    match ScalarFnRef::<NoCustom>::named(word) {
+    match ScalarFnRef::<NoCustom>::named(&[word]) {
         Some(function) => function.as_binary() == Some(wanted),
         None => false,
     }
@@ -94,7 +94,7 @@ fn names(word: &str, wanted: Operator) -> bool {
 
 /// Whether a word of scripts names Not.
 fn names_not(word: &str) -> bool {
-    match ScalarFnRef::<NoCustom>::named(word) {
+    match ScalarFnRef::<NoCustom>::named(&[word]) {
         Some(function) => function.is_not(),
         None => false,
     }
@@ -102,7 +102,7 @@ fn names_not(word: &str) -> bool {
 
 /// Whether a word of scripts names IsNull.
 fn names_is_null(word: &str) -> bool {
-    match ScalarFnRef::<NoCustom>::named(word) {
+    match ScalarFnRef::<NoCustom>::named(&[word]) {
         Some(function) => function.is_is_null(),
         None => false,
     }
@@ -114,5 +114,5 @@ fn words_name_functions(rt: HostRuntime) {
     assert!(rt; names("<=", Operator::Lte));
     assert!(rt; names_not("not"));
     assert!(rt; names_is_null("is_null"));
-    assert!(rt; ScalarFnRef::<NoCustom>::named("xor").is_none());
+    assert!(rt; ScalarFnRef::<NoCustom>::named(&["xor"]).is_none());
 }

@@ -53,7 +53,7 @@ fn is_copied_like<C: ScalarFnVTable>(
 
 /// Whether a word of scripts names LIKE with these options.
 fn names_like(word: &str, wanted: LikeOptions) -> bool {
-    match ScalarFnRef::<NoCustom>::named(word) {
+    match ScalarFnRef::<NoCustom>::named(&[word]) {
         Some(function) => function.as_like() == Some(wanted),
         None => false,
     }
@@ -164,7 +164,7 @@ fn escapes_print(rt: HostRuntime) {
 
 /// Whether a script that says so of the escape calls LIKE with these options.
 fn calls_like(word: &str, said: Option<Option<char>>, wanted: LikeOptions) -> bool {
-    match ScalarFnRef::<NoCustom>::called(word, said) {
+    match ScalarFnRef::<NoCustom>::called(&[word], said) {
         Some(function) => function.as_like() == Some(wanted),
         None => false,
     }
@@ -175,7 +175,7 @@ fn scripts_choose_escapes(rt: HostRuntime) {
     assert!(rt; calls_like("like", None, LIKE));
     assert!(rt; calls_like("like", Some(None), escaped(None)));
     assert!(rt; calls_like("like", Some(Some('!')), escaped(Some('!'))));
-    assert!(rt; ScalarFnRef::<NoCustom>::called("=", Some(Some('!'))).is_none());
+    assert!(rt; ScalarFnRef::<NoCustom>::called(&["="], Some(Some('!'))).is_none());
 }
 
 #[test]

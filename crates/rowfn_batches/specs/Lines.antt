@@ -119,7 +119,7 @@ module _ {V O : Type 0} where
     Makes (column name c) s r = MakesColumn (has_cells c.dtype) name c s r
     Makes (get name) s r = Lifts (get name) (with_pushed s) s r
     Makes (literal l) s r = Lifts (literal l) (with_pushed s) s r
-    Makes (call name said) s r = Lifts (call name said) (with_pushed s) s r
+    Makes (call words said) s r = Lifts (call words said) (with_pushed s) s r
     Makes show s r = r ≡ is_wrong
     Makes optimize s r = Lifts optimize (with_session s) s r
     Makes run s r = r ≡ is_wrong

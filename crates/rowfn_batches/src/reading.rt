@@ -167,7 +167,7 @@ impl<C: ScalarFnRules> Reading<C> {
             Line::Column(name, column) => self.declare(alloc, name, column),
             Line::Get(name) => self.push(alloc, Line::Get(name)),
             Line::Literal(scalar) => self.push(alloc, Line::Literal(scalar)),
-            Line::Call(name, escape) => self.push(alloc, Line::Call(name, escape)),
+            Line::Call(words, escape) => self.push(alloc, Line::Call(words, escape)),
             Line::Optimize => self.session.step(alloc, Line::Optimize),
             Line::Malformed => Err(Stop::Malformed),
             Line::Rows(_) => Err(Stop::Malformed),

@@ -293,8 +293,8 @@ call_typed w (plain lower ∷ plain upper ∷ []) = tt
 call_typed w (plain lower ∷ plain upper ∷ v ∷ vs) = tt
 call_typed w (plain option ∷ quoted t ∷ []) =
     if_typed (bytes_eq option (codes "escape"))
-    (or_malformed (λ escape. call w (Some escape)) (escape_of (chars t))) malformed
-    (or_typed (λ escape. call w (Some escape)) (escape_of (chars t)) (λ escape e. tt))
+    (or_malformed (λ escape. call (w ∷ []) (Some escape)) (escape_of (chars t))) malformed
+    (or_typed (λ escape. call (w ∷ []) (Some escape)) (escape_of (chars t)) (λ escape e. tt))
     tt
 call_typed w (plain option ∷ quoted t ∷ v ∷ vs) = tt
 call_typed w (quoted lower ∷ vs) = tt

@@ -2,7 +2,7 @@
 use Rattle.std.specs.Prelude.{◌==◌, ℕ, zero, suc, ℤ, pos, negsuc, ◌+◌, ◌-◌, ◌*◌, ◌&&◌, ◌||◌, nat_le}
 use Rattle.std.specs.Prelude.{nat_lt, map, List, [], ◌∷◌, length, Bool, true, false, Option, Some}
 use Rattle.std.specs.Prelude.{None}
-use Rattle.std.specs.Prelude.{◌++◌, codes, if◌then◌else◌, string_bytes}
+use Rattle.std.specs.Prelude.{codes, if◌then◌else◌}
 use Rattle.std.specs.List.{list_all}
 use Rattle.std.specs.Option.{option_and_then, option_map}
 use Rattle.std.specs.Char.{is_ascii_alphanumeric, is_ascii_digit}
@@ -29,7 +29,8 @@ use Rattle.rowfn_lines.specs.Lines.{Word, plain, quoted, words_of, after_spaces}
 -- column: a name, and the column that it names from here on
 -- get: the column of a name
 -- literal: a value in each row
--- call: the function of that name, of the last trees, and the escape that is chosen, where one is
+-- call: the function that these words name, of the last trees, and the escape that is chosen, where
+-- one is
 -- show: the last tree's text
 -- optimize: a run of rules from the last tree, which takes its place
 -- run: the last tree's column
@@ -41,7 +42,7 @@ pub data Command : Type 0 where
   column : List ℕ → ColumnView → Command
   get : List ℕ → Command
   literal : ScalarView → Command
-  call : List ℕ → Option (Option ℕ) → Command
+  call : List (List ℕ) → Option (Option ℕ) → Command
   show : Command
   optimize : Command
   run : Command
@@ -224,28 +225,23 @@ literal_command ws = malformed
 abbrev pub get_command : List Word → Command
 get_command ws = or_malformed get (option_and_then name_of (only_word ws))
 
--- three words with a space between each two
-abbrev pub spaced : List ℕ → List ℕ → List ℕ → List ℕ
-spaced w lower upper = w ++ codes " " ++ lower ++ codes " " ++ upper
-
 -- the escape that a text says, by its characters: the one, or none where there is none
 abbrev pub escape_of : List ℕ → Option (Option ℕ)
 escape_of [] = Some None
 escape_of (c ∷ []) = Some (Some c)
 escape_of cs = None
 
--- the function of a name with the escape that a text says behind `escape`
+-- the function that a word names, with the escape that a text says behind `escape`
 abbrev pub escaped_call : List ℕ → List ℕ → List ℕ → Command
 escaped_call w option t =
     if bytes_eq option (codes "escape")
-    then or_malformed (λ escape. call w (Some escape)) (escape_of (chars t))
+    then or_malformed (λ escape. call (w ∷ []) (Some escape)) (escape_of (chars t))
     else malformed
 
--- the function of a name, which is one word, or that and the words of two bounds, a space between
--- each two
+-- the function that a word names, or that and the words of two bounds
 abbrev pub call_of : List ℕ → List Word → Command
-call_of w [] = call w None
-call_of w (plain lower ∷ plain upper ∷ []) = call (spaced w lower upper) None
+call_of w [] = call (w ∷ []) None
+call_of w (plain lower ∷ plain upper ∷ []) = call (w ∷ lower ∷ upper ∷ []) None
 call_of w (plain option ∷ quoted t ∷ []) = escaped_call w option t
 call_of w ws = malformed
 
@@ -297,7 +293,7 @@ command_in (line.Rows n) = rows n
 command_in (line.Column name c) = column name.now c
 command_in (line.Get name) = get name.now
 command_in (line.Literal s) = literal s
-command_in (line.Call name escape) = call (string_bytes name) escape
+command_in (line.Call words escape) = call (map (λ w. w.now) words.items) escape
 command_in line.Show = show
 command_in line.Optimize = optimize
 command_in line.Run = run

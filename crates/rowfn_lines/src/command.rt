@@ -19,10 +19,9 @@ pub enum Line<'a> {
     Get(&'a str),
     /// A value in each row.
     Literal(Scalar),
-    /// The function of that name, of the last trees: one word, or three with a space between each
-    /// two. What is said of its escape stands beside it: nothing, that there is none, or a
-    /// character.
-    Call(String, Option<Option<char>>),
+    /// The function that these words name, of the last trees. What is said of its escape stands
+    /// beside them: nothing, that there is none, or a character.
+    Call(Vec<&'a str>, Option<Option<char>>),
     /// The text of the last tree, printed.
     Show,
     /// A run of rules from the last tree, which takes that one's place; its steps, printed.

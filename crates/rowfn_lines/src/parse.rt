@@ -1,12 +1,12 @@
 //! Reads a line.
-ghost use Rattle.std.specs.Prelude.{◌≡◌, [], ◌∷◌, map, option_map, string_bytes, MatchOption};
+ghost use Rattle.std.specs.Prelude.{◌≡◌, [], ◌∷◌, map, option_map, MatchOption};
 ghost use Rattle.std.specs.Str.{chars};
 ghost use Rattle.vortex_errors.specs.Answers.{AnswersUnlessMemory};
 ghost use Rattle.rowfn_lines.specs.Lines.{word_in};
 ghost use Rattle.rowfn_lines.specs.Commands.{begins_comment, is_name, count_of, limit_of};
 ghost use Rattle.rowfn_lines.specs.Commands.{only_word, alone, run_command};
 ghost use Rattle.rowfn_lines.specs.Commands.{rows_command, column_command, get_command};
-ghost use Rattle.rowfn_lines.specs.Commands.{literal_command, spaced, escape_of, escaped_call};
+ghost use Rattle.rowfn_lines.specs.Commands.{literal_command, escape_of, escaped_call};
 ghost use Rattle.rowfn_lines.specs.Commands.{call_of};
 ghost use Rattle.rowfn_lines.specs.Commands.{call_command};
 ghost use Rattle.rowfn_lines.specs.Commands.{command_by};
@@ -122,14 +122,6 @@ fn get_line<'a>(words: &[Word<'a>]) -> Line<'a>
     }
 }
 
-/// Three words with a space between each two.
-fn spaced(alloc: Global, word: &str, lower: &str, upper: &str) -> VortexResult<String>
-    ensures { AnswersUnlessMemory result
-        (λ text. string_bytes text ≡ spaced word.now lower.now upper.now) }
-{
-    Ok(format!(in alloc; "{word} {lower} {upper}")?)
-}
-
 /// The first character of a text, and the text behind it.
 fn split_first(text: &str) -> Option<(char, &str)>
     ensures { MatchOption result (chars text.now ≡ [])
@@ -154,26 +146,31 @@ fn escape_of(text: &str) -> Option<Option<char>>
 }
 
 /// A call by a word, of which a text says the escape behind `escape`.
-fn escaped_call<'a>(alloc: Global, word: &str, option: &str, text: &str) -> VortexResult<Line<'a>>
+fn escaped_call<'a>(
+    alloc: Global,
+    word: &'a str,
+    option: &str,
+    text: &str,
+) -> VortexResult<Line<'a>>
     ensures { AnswersCommand (escaped_call word.now option.now text.now) result }
 {
     if option != "escape" {
         return Ok(Line::Malformed);
     }
     match escape_of(text) {
-        Some(escape) => Ok(Line::Call(String::from_str(alloc, word)?, Some(escape))),
+        Some(escape) => Ok(Line::Call([word].to_vec(alloc)?, Some(escape))),
         None => Ok(Line::Malformed),
     }
 }
 
 /// A call by a word and what follows it: nothing, the words of two bounds, or an escape.
-fn call_of<'a>(alloc: Global, word: &str, options: &[Word<'a>]) -> VortexResult<Line<'a>>
+fn call_of<'a>(alloc: Global, word: &'a str, options: &[Word<'a>]) -> VortexResult<Line<'a>>
     ensures { AnswersCommand (call_of word.now (map word_in options.now)) result }
 {
     match options {
-        [] => Ok(Line::Call(String::from_str(alloc, word)?, None)),
+        [] => Ok(Line::Call([word].to_vec(alloc)?, None)),
         [Word::Plain(lower), Word::Plain(upper)] => {
-            Ok(Line::Call(spaced(alloc, word, lower, upper)?, None))
+            Ok(Line::Call([word, *lower, *upper].to_vec(alloc)?, None))
         }
         [Word::Plain(option), Word::Quoted(text)] => escaped_call(alloc, word, option, text),
         _ => Ok(Line::Malformed),

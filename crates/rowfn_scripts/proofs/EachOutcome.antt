@@ -224,10 +224,10 @@ module _ {V O : Type 0} (m : Meaning V O) where
     named_want None e = cc
     named_want (Some f) e = taken_want f (taken (least_count (shipped_arity f)) s.stack) e
 
-    call_want : (word : List ℕ) (chosen : Option (Option ℕ)) (r : Option ℕ)
-        → after_rows r (λ n. with_call m s (shipped_called word chosen)) ≢ refuses OutOfMemory
-    call_want word chosen None e = cc
-    call_want word chosen (Some n) e = named_want (shipped_called word chosen) e
+    call_want : (words : List (List ℕ)) (chosen : Option (Option ℕ)) (r : Option ℕ)
+        → after_rows r (λ n. with_call m s (shipped_called words chosen)) ≢ refuses OutOfMemory
+    call_want words chosen None e = cc
+    call_want words chosen (Some n) e = named_want (shipped_called words chosen) e
 
     shows : (r : Option ℕ) (stack : List (Tree V O)) → AllShown stack → Makes (ShowsTop r stack s)
     shows None stack h = made is_malformed (λ e. cc)
@@ -316,7 +316,7 @@ module _ {V O : Type 0} (m : Meaning V O) where
     steps fits (column name c) = made _ (column_want name c s.row_count)
     steps fits (get name) = made _ (get_want name s.row_count)
     steps fits (literal l) = made _ (literal_want l s.row_count)
-    steps fits (call word chosen) = made _ (call_want word chosen s.row_count)
+    steps fits (call words chosen) = made _ (call_want words chosen s.row_count)
     steps fits show = shows s.row_count s.stack fits.shown
     steps fits optimize = optimizes s.row_count s.stack
     steps fits run = runs s.row_count s.stack fits.counted fits.fit fits.with_types

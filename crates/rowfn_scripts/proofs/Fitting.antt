@@ -376,10 +376,10 @@ module _ {V O : Type 0} (m : Meaning V O) (rs : Rules V O) (laws : AreSound m rs
   after_named n known None e = cc
   after_named n known (Some f) e = after_taken n known f _ refl e
 
-  after_call : (word : List ℕ) (chosen : Option (Option ℕ)) (r : Option ℕ) → s.row_count ≡ r
-      → goes_on t ≡ after_rows r (λ n. with_call m s (shipped_called word chosen)) → Fits m t
-  after_call word chosen None known e = cc
-  after_call word chosen (Some n) known e = after_named n known (shipped_called word chosen) e
+  after_call : (words : List (List ℕ)) (chosen : Option (Option ℕ)) (r : Option ℕ) → s.row_count ≡ r
+      → goes_on t ≡ after_rows r (λ n. with_call m s (shipped_called words chosen)) → Fits m t
+  after_call words chosen None known e = cc
+  after_call words chosen (Some n) known e = after_named n known (shipped_called words chosen) e
 
   fits_still : {printed : List ℕ} → Fits m (record s { printed = printed })
   fits_still = record {
@@ -455,7 +455,7 @@ module _ {V O : Type 0} (m : Meaning V O) (rs : Rules V O) (laws : AreSound m rs
   after_line (column name c) said e = after_column name c s.row_count said refl e
   after_line (get name) said e = after_get name s.row_count refl e
   after_line (literal l) said e = after_push l s.row_count said refl e
-  after_line (call word chosen) said e = after_call word chosen s.row_count refl e
+  after_line (call words chosen) said e = after_call words chosen s.row_count refl e
   after_line show said e = after_show s.row_count s.stack fits.shown e
   after_line optimize said e = after_optimize s.row_count s.stack refl refl e
   after_line run said e = after_run s.row_count s.stack e

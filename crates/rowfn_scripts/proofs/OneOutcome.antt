@@ -142,7 +142,7 @@ module _ {V O : Type 0} (m : Meaning V O) (rs : Rules V O) (laws : AreSound m rs
   same_refusal h e d (column name c) a b = cc
   same_refusal h e d (get name) a b = cc
   same_refusal h e d (literal l) a b = cc
-  same_refusal h e d (call word chosen) a b = cc
+  same_refusal h e d (call words chosen) a b = cc
   same_refusal h e d show a b = absurd (show_never_refuses m rs s e s.row_count s.stack h.shown a)
   same_refusal h e d optimize a b = absurd (optimize_never_refuses m rs s e s.row_count s.stack a)
   same_refusal h e d run a b =
@@ -174,7 +174,7 @@ module _ {V O : Type 0} (m : Meaning V O) (rs : Rules V O) (laws : AreSound m rs
   refused_or_malformed h e (column name c) a b = cc
   refused_or_malformed h e (get name) a b = cc
   refused_or_malformed h e (literal l) a b = cc
-  refused_or_malformed h e (call word chosen) a b = cc
+  refused_or_malformed h e (call words chosen) a b = cc
   refused_or_malformed h e show a b = show_never_refuses m rs s e s.row_count s.stack h.shown a
   refused_or_malformed h e optimize a b =
       optimize_never_refuses m rs s e s.row_count s.stack a

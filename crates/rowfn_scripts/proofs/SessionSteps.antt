@@ -228,7 +228,7 @@ module _ {V O : Type 0} where
   call_taken n items stack ts kept k e h a b =
       ap (taken n) e ∙ last_taken n items k h ∙ (λ i. Some (sym a i, reverse (sym b i)))
 
-  -- the function that a word names, and none
+  -- the function that words name, and none
   pub named_is : (x : Function V O) (o : Option Shipped) → Some x ≡ option_map ours o
       → (f : Shipped) × (o ≡ Some f) × (x ≡ ours f)
   named_is x None e = cc
@@ -269,18 +269,18 @@ module _ {V O : Type 0} where
         ap (λ (o : Option (List LogicalType)). is_some (option_and_then (call_type m f) o)) e
         ∙ none_either (fits (function_arity m f) (length ks)) (function_type m f ks) none
 
-    module _ (word : List ℕ) (chosen : Option (Option ℕ)) (s : SessionView V O)
+    module _ (words : List (List ℕ)) (chosen : Option (Option ℕ)) (s : SessionView V O)
         (known : is_none s.row_count ≡ false) where
       abbrev Call : Step V O
-      Call = after_rows s.row_count (λ n. with_call m s (shipped_called word chosen))
+      Call = after_rows s.row_count (λ n. with_call m s (shipped_called words chosen))
 
-      called : (o : Option Shipped) → shipped_called word chosen ≡ o → with_call m s o ≡ Call
+      called : (o : Option Shipped) → shipped_called words chosen ≡ o → with_call m s o ≡ Call
       called o e = ap (with_call m s) (sym e) ∙ after_some s.row_count _ known
 
-      pub no_function : shipped_called word chosen ≡ None → is_malformed ≡ Call
+      pub no_function : shipped_called words chosen ≡ None → is_malformed ≡ Call
       no_function e = called None e
 
-      module _ (f : Shipped) (named : shipped_called word chosen ≡ Some f) where
+      module _ (f : Shipped) (named : shipped_called words chosen ≡ Some f) where
         pub no_arguments : taken (least_count (shipped_arity f)) s.stack ≡ None
             → is_malformed ≡ Call
         no_arguments e = ap (with_taken m f s) (sym e) ∙ called (Some f) named

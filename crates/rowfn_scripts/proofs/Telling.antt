@@ -188,7 +188,7 @@ module _ {V O : Type 0} (m : Meaning V O) where
     same_step h t u (column name c) a b = cc
     same_step h t u (get name) a b = cc
     same_step h t u (literal l) a b = cc
-    same_step h t u (call word chosen) a b = cc
+    same_step h t u (call words chosen) a b = cc
     same_step h t u show a b = same_show t u s.row_count s.stack h a b
     same_step h t u optimize a b = same_optimized t u s.row_count s.stack a b
     same_step h t u run a b = same_run t u s.row_count s.stack a b
@@ -235,7 +235,7 @@ module _ {V O : Type 0} (m : Meaning V O) where
     no_refusal h t e (column name c) a b = cc
     no_refusal h t e (get name) a b = cc
     no_refusal h t e (literal l) a b = cc
-    no_refusal h t e (call word chosen) a b = cc
+    no_refusal h t e (call words chosen) a b = cc
     no_refusal h t e show a b = show_never_refuses e s.row_count s.stack h b
     no_refusal h t e optimize a b = optimize_never_refuses e s.row_count s.stack b
     no_refusal h t e run a b = run_once t e s.row_count s.stack a b
@@ -276,7 +276,7 @@ module _ {V O : Type 0} (m : Meaning V O) where
     no_malformed h t (column name c) a b = cc
     no_malformed h t (get name) a b = cc
     no_malformed h t (literal l) a b = cc
-    no_malformed h t (call word chosen) a b = cc
+    no_malformed h t (call words chosen) a b = cc
     no_malformed h t show a b = show_well t s.row_count s.stack h a b
     no_malformed h t optimize a b = optimize_well t s.row_count s.stack a b
     no_malformed h t run a b = run_well t s.row_count s.stack a b
@@ -348,11 +348,11 @@ module _ {V O : Type 0} (m : Meaning V O) (rs : Rules V O) (s t : SessionView V 
   grows_named None e = cc
   grows_named (Some f) e = grows_taken f (taken (least_count (shipped_arity f)) s.stack) e
 
-  grows_call : (word : List ℕ) (chosen : Option (Option ℕ)) (r : Option ℕ)
-      → goes_on t ≡ after_rows r (λ n. with_call m s (shipped_called word chosen))
+  grows_call : (words : List (List ℕ)) (chosen : Option (Option ℕ)) (r : Option ℕ)
+      → goes_on t ≡ after_rows r (λ n. with_call m s (shipped_called words chosen))
       → Grows s.printed t.printed
-  grows_call word chosen None e = cc
-  grows_call word chosen (Some n) e = grows_named (shipped_called word chosen) e
+  grows_call words chosen None e = cc
+  grows_call words chosen (Some n) e = grows_named (shipped_called words chosen) e
 
   grows_run : (r : Option ℕ) (stack : List (Tree V O)) → RunsTop m r stack s (goes_on t)
       → Grows s.printed t.printed
@@ -406,7 +406,7 @@ module _ {V O : Type 0} (m : Meaning V O) (rs : Rules V O) (s t : SessionView V 
   grows h (column name c) e = grows_column name c s.row_count e
   grows h (get name) e = grows_get name s.row_count e
   grows h (literal l) e = grows_push l s.row_count e
-  grows h (call word chosen) e = grows_call word chosen s.row_count e
+  grows h (call words chosen) e = grows_call words chosen s.row_count e
   grows h show e = grows_show s.row_count s.stack h e
   grows h optimize e = grows_optimize s.row_count s.stack e
   grows h run e = grows_run s.row_count s.stack e

@@ -186,8 +186,8 @@ module _ {V O : Type 0} where
       StepsTo (get name) s r =
           r ≡ after_rows s.row_count (λ n. with_leaf name s (find_field name s.fields))
       StepsTo (literal l) s r = r ≡ after_rows s.row_count (λ n. with_literal l s)
-      StepsTo (call name said) s r =
-          r ≡ after_rows s.row_count (λ n. with_call s (shipped_called name said))
+      StepsTo (call words said) s r =
+          r ≡ after_rows s.row_count (λ n. with_call s (shipped_called words said))
       StepsTo show s r = ShowsTop s.row_count s.stack s r
       StepsTo optimize s r = OptimizesTop s.row_count s.stack s r
       StepsTo run s r = RunsTop s.row_count s.stack s r

@@ -1,5 +1,5 @@
 //! What a script has made so far.
-ghost use Rattle.std.specs.Prelude.{◌≡◌, Some, length, reverse, string_bytes};
+ghost use Rattle.std.specs.Prelude.{◌≡◌, Some, length, map, reverse, string_bytes};
 ghost use Rattle.vortex_types.specs.TypeOf.{struct_fields};
 ghost use Rattle.rowfn_scripts.specs.Words.{Answers, AnswersUnlessMemory, rows, column, get};
 ghost use Rattle.rowfn_scripts.specs.Words.{literal, call, show, optimize, run, run_after};
@@ -171,16 +171,16 @@ impl<C: ScalarFnRules> Session<C> {
     fn push_call(
         &mut self,
         alloc: Global,
-        name: &str,
+        words: &[&str],
         escape: Option<Option<char>>,
     ) -> Result<(), Stop>
-        ensures { MakesStep (StepsTo C.meaning C.rules (call name.now escape))
+        ensures { MakesStep (StepsTo C.meaning C.rules (call (map (λ w. w.now) words.now) escape))
             self.old result self.new }
     {
         if self.row_count.is_none() {
             return Err(Stop::Malformed);
         }
-        let Some(function) = ScalarFnRef::<C>::called(name, escape) else {
+        let Some(function) = ScalarFnRef::<C>::called(words, escape) else {
             return Err(Stop::Malformed);
         };
         let count = least_count(function.signature().arity);
@@ -307,7 +307,7 @@ impl<C: ScalarFnRules> Session<C> {
             Line::Column(name, column) => self.add_column(alloc, name, column),
             Line::Get(name) => self.push_leaf(alloc, name),
             Line::Literal(scalar) => self.push_literal(alloc, scalar),
-            Line::Call(name, escape) => self.push_call(alloc, name.as_str(), escape),
+            Line::Call(words, escape) => self.push_call(alloc, &words, escape),
             Line::Show => self.show(alloc),
             Line::Optimize => self.optimize(alloc),
             Line::Run => self.run(alloc),

@@ -3,15 +3,15 @@ pub use Rattle.vortex_errors.specs.Answers.{AnswersUnlessMemory}
 pub use Rattle.vortex_types.specs.LogicalTypes.{field_count}
 pub use Rattle.vortex_types.specs.TypeOf.{type_of, struct_fields}
 pub use Rattle.vortex_columns.specs.ColumnView.{AreTyped}
-pub use Rattle.vortex_operators.specs.Operators.{operator_named}
 pub use Rattle.vortex_meaning.specs.Outcomes.{types_in}
 pub use Rattle.vortex_meaning.specs.Meaning.{fits}
 pub use Rattle.vortex_meaning.specs.Shipped.{Shipped, shipped_named}
+pub use Rattle.vortex_meaning.specs.Shipped.BinaryFunction.{operator_called}
 pub use Rattle.vortex_meaning.specs.Shipped.NotFunction.{is_not_word}
 pub use Rattle.vortex_meaning.specs.Shipped.NullTestFunctions.{is_null_word, is_not_null_word}
 pub use Rattle.vortex_meaning.specs.Shipped.CastFunction.{is_cast_word}
-pub use Rattle.vortex_meaning.specs.Shipped.BetweenFunction.{between_named}
-pub use Rattle.vortex_meaning.specs.Shipped.LikeFunction.{like_named}
+pub use Rattle.vortex_meaning.specs.Shipped.BetweenFunction.{between_named, bound_named}
+pub use Rattle.vortex_meaning.specs.Shipped.LikeFunction.{like_named, like_word}
 pub use Rattle.vortex_meaning.specs.Functions.{ours, function_id, function_arity}
 pub use Rattle.vortex_meaning.specs.Functions.{function_child_name, function_type, function_means}
 pub use Rattle.vortex_meaning.specs.Functions.{function_strict, function_infallible}

@@ -1,6 +1,6 @@
 //! Between, as a function of trees.
-ghost use Rattle.std.specs.Prelude.{◌≡◌};
-ghost use Rattle.vortex_functions.specs.Words.{between_named};
+ghost use Rattle.std.specs.Prelude.{◌≡◌, map};
+ghost use Rattle.vortex_functions.specs.Words.{between_named, bound_named};
 
 use crate::erased::ScalarFnRef;
 use crate::ext::ScalarFnVTableExt;
@@ -8,33 +8,30 @@ use vortex_interface::ScalarFnVTable;
 use vortex_kernels::{BetweenOptions, StrictComparison};
 use vortex_shipped::Between;
 
-/// The options that a script names: `between`, and the operators of the lower and of the upper
-/// bound.
-fn between_named(word: &str) -> Option<BetweenOptions>
-    ensures { result ≡ between_named word.now }
+/// How strictly a bound is meant, by its operator.
+fn bound_named(word: &str) -> Option<StrictComparison>
+    ensures { result ≡ bound_named word.now }
 {
-    if word == "between < <" {
-        Some(BetweenOptions {
-            lower_strict: StrictComparison::Strict,
-            upper_strict: StrictComparison::Strict,
-        })
-    } else if word == "between < <=" {
-        Some(BetweenOptions {
-            lower_strict: StrictComparison::Strict,
-            upper_strict: StrictComparison::NonStrict,
-        })
-    } else if word == "between <= <" {
-        Some(BetweenOptions {
-            lower_strict: StrictComparison::NonStrict,
-            upper_strict: StrictComparison::Strict,
-        })
-    } else if word == "between <= <=" {
-        Some(BetweenOptions {
-            lower_strict: StrictComparison::NonStrict,
-            upper_strict: StrictComparison::NonStrict,
-        })
+    if word == "<" {
+        Some(StrictComparison::Strict)
+    } else if word == "<=" {
+        Some(StrictComparison::NonStrict)
     } else {
         None
+    }
+}
+
+/// The options that a script names: `between`, and the operators of the lower and of the upper
+/// bound.
+fn between_named(words: &[&str]) -> Option<BetweenOptions>
+    ensures { result ≡ between_named (map (λ w. w.now) words.now) }
+{
+    match words {
+        [word, lower, upper] if *word == "between" => Some(BetweenOptions {
+            lower_strict: bound_named(lower)?,
+            upper_strict: bound_named(upper)?,
+        }),
+        _ => None,
     }
 }
 
@@ -45,13 +42,13 @@ impl ScalarFnVTableExt for Between {
 
     ghost ships = { shipped.Between };
 
-    ghost names = { λ word. option_map shipped.Between (between_named word) };
+    ghost names = { λ words. option_map shipped.Between (between_named words) };
 
     fn bind<C: ScalarFnVTable>(&self, options: BetweenOptions) -> ScalarFnRef<C> {
         ScalarFnRef::Between(options)
     }
 
-    fn named(&self, word: &str) -> Option<BetweenOptions> {
-        between_named(word)
+    fn named(&self, words: &[&str]) -> Option<BetweenOptions> {
+        between_named(words)
     }
 }

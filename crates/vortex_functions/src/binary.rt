@@ -8,17 +8,20 @@ use vortex_shipped::Binary;
 impl ScalarFnVTableExt for Binary {
     ghost use Rattle.std.specs.Option.{option_map};
     ghost use Rattle.vortex_meaning.specs.Shipped as shipped;
-    ghost use Rattle.vortex_functions.specs.Words.{operator_named};
+    ghost use Rattle.vortex_functions.specs.Words.{operator_called};
 
     ghost ships = { shipped.Binary };
 
-    ghost names = { λ word. option_map shipped.Binary (operator_named word) };
+    ghost names = { λ words. option_map shipped.Binary (operator_called words) };
 
     fn bind<C: ScalarFnVTable>(&self, options: Operator) -> ScalarFnRef<C> {
         ScalarFnRef::Binary(options)
     }
 
-    fn named(&self, word: &str) -> Option<Operator> {
-        Operator::from_text(word)
+    fn named(&self, words: &[&str]) -> Option<Operator> {
+        match words {
+            [word] => Operator::from_text(word),
+            _ => None,
+        }
     }
 }

@@ -13,17 +13,16 @@ impl ScalarFnVTableExt for Cast {
 
     ghost ships = { λ _. shipped.Cast };
 
-    ghost names = { λ word. if is_cast_word word then Some shipped.Cast else None };
+    ghost names = { λ words. if is_cast_word words then Some shipped.Cast else None };
 
     fn bind<C: ScalarFnVTable>(&self, _options: CastOptions) -> ScalarFnRef<C> {
         ScalarFnRef::Cast
     }
 
-    fn named(&self, word: &str) -> Option<CastOptions> {
-        if word == "cast" {
-            Some(CastOptions)
-        } else {
-            None
+    fn named(&self, words: &[&str]) -> Option<CastOptions> {
+        match words {
+            [word] if *word == "cast" => Some(CastOptions),
+            _ => None,
         }
     }
 }

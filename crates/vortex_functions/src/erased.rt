@@ -1,6 +1,6 @@
 //! A function with its options: a shipped one or a caller's.
 ghost use Rattle.std.specs.Prelude.{◌≡◌, ◌<◌, slice_get, Some, None, IsTrue, IsSome, MatchResult};
-ghost use Rattle.std.specs.Prelude.{length};
+ghost use Rattle.std.specs.Prelude.{length, map};
 ghost use Rattle.vortex_functions.specs.Words.{types_in, fits, function_of, function_id};
 ghost use Rattle.vortex_functions.specs.Words.{function_arity, function_child_name, function_type};
 ghost use Rattle.vortex_functions.specs.Words.{function_strict, function_infallible};
@@ -311,30 +311,30 @@ impl<C: ScalarFnVTable> ScalarFnRef<C> {
         with_shipped!(self, f, options => f.text_piece(options, index), _custom => unreachable!())
     }
 
-    /// The shipped function that a script names, by one word, as `and`, or by words with a space
-    /// between each two, as `between < <=`.
-    pub fn named(word: &str) -> Option<ScalarFnRef<C>>
-        ensures { option_map function_of result ≡ option_map ours (shipped_named word.now) }
+    /// The shipped function that words of a script name, as `and`, or `between`, `<` and `<=`.
+    pub fn named(words: &[&str]) -> Option<ScalarFnRef<C>>
+        ensures { option_map function_of result
+            ≡ option_map ours (shipped_named (map (λ w. w.now) words.now)) }
     {
-        if let Some(operator) = Binary.named(word) {
+        if let Some(operator) = Binary.named(words) {
             return Some(Binary.bind(operator));
         }
-        if let Some(options) = Not.named(word) {
+        if let Some(options) = Not.named(words) {
             return Some(Not.bind(options));
         }
-        if let Some(options) = IsNull.named(word) {
+        if let Some(options) = IsNull.named(words) {
             return Some(IsNull.bind(options));
         }
-        if let Some(options) = IsNotNull.named(word) {
+        if let Some(options) = IsNotNull.named(words) {
             return Some(IsNotNull.bind(options));
         }
-        if let Some(options) = Cast.named(word) {
+        if let Some(options) = Cast.named(words) {
             return Some(Cast.bind(options));
         }
-        if let Some(options) = Between.named(word) {
+        if let Some(options) = Between.named(words) {
             return Some(Between.bind(options));
         }
-        if let Some(options) = Like.named(word) {
+        if let Some(options) = Like.named(words) {
             return Some(Like.bind(options));
         }
         None
@@ -353,13 +353,13 @@ impl<C: ScalarFnVTable> ScalarFnRef<C> {
         }
     }
 
-    /// The shipped function that a script calls: the one of that name, with the escape that is said
-    /// of it where one is.
-    pub fn called(word: &str, escape: Option<Option<char>>) -> Option<ScalarFnRef<C>>
+    /// The shipped function that a script calls: the one that the words name, with the escape that
+    /// is said of it where one is.
+    pub fn called(words: &[&str], escape: Option<Option<char>>) -> Option<ScalarFnRef<C>>
         ensures { option_map function_of result
-            ≡ option_map ours (shipped_called word.now escape) }
+            ≡ option_map ours (shipped_called (map (λ w. w.now) words.now) escape) }
     {
-        let function = ScalarFnRef::<C>::named(word)?;
+        let function = ScalarFnRef::<C>::named(words)?;
         match escape {
             Some(escape) => function.with_escape(escape),
             None => Some(function),

@@ -1,5 +1,5 @@
 //! The shipped functions as functions of any tree.
-ghost use Rattle.std.specs.Prelude.{◌≡◌, ℕ, List, Option};
+ghost use Rattle.std.specs.Prelude.{◌≡◌, ℕ, List, Option, map};
 ghost use Rattle.std.specs.Option.{option_map};
 ghost use Rattle.vortex_functions.specs.Words.{Shipped, ours, function_of, AnswersBinding};
 
@@ -14,16 +14,16 @@ use vortex_interface::ScalarFnVTable;
 pub trait ScalarFnVTableExt: ScalarFnVTable {
     ghost ships: { Self.Options → Shipped };
 
-    ghost names: { List ℕ → Option Shipped };
+    ghost names: { List (List ℕ) → Option Shipped };
 
     /// The function with these options.
     fn bind<C: ScalarFnVTable>(&self, options: Self::Options) -> ScalarFnRef<C>
         ensures { function_of result ≡ ours (ships options) };
 
-    /// The options of this function that a script names, by one word, as `and`, or by words with a
-    /// space between each two.
-    fn named(&self, word: &str) -> Option<Self::Options>
-        ensures { option_map ships result ≡ names word.now };
+    /// The options of this function that words of a script name, as `and`, or `between`, `<` and
+    /// `<=`.
+    fn named(&self, words: &[&str]) -> Option<Self::Options>
+        ensures { option_map ships result ≡ names (map (λ w. w.now) words.now) };
 
     /// The call of the function with these options: E6, then E3, as `BoundExpression::try_new`.
     final fn try_new_bound_expr<C: ScalarFnVTable>(

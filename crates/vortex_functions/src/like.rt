@@ -1,6 +1,6 @@
 //! LIKE and ILIKE, as functions of trees.
 ghost use Rattle.std.specs.Prelude.{◌≡◌};
-ghost use Rattle.vortex_functions.specs.Words.{like_named};
+ghost use Rattle.vortex_functions.specs.Words.{like_word};
 
 use crate::erased::ScalarFnRef;
 use crate::ext::ScalarFnVTableExt;
@@ -10,8 +10,8 @@ use vortex_shipped::Like;
 
 /// The options that a word of a script names: `like`, `not_like`, `ilike`, `not_ilike`, each with
 /// backslash escape.
-fn like_named(word: &str) -> Option<LikeOptions>
-    ensures { result ≡ like_named word.now }
+fn like_word(word: &str) -> Option<LikeOptions>
+    ensures { result ≡ like_word word.now }
 {
     let (negated, case_insensitive) = if word == "like" {
         (false, false)
@@ -38,13 +38,16 @@ impl ScalarFnVTableExt for Like {
 
     ghost ships = { shipped.Like };
 
-    ghost names = { λ word. option_map shipped.Like (like_named word) };
+    ghost names = { λ words. option_map shipped.Like (like_named words) };
 
     fn bind<C: ScalarFnVTable>(&self, options: LikeOptions) -> ScalarFnRef<C> {
         ScalarFnRef::Like(options)
     }
 
-    fn named(&self, word: &str) -> Option<LikeOptions> {
-        like_named(word)
+    fn named(&self, words: &[&str]) -> Option<LikeOptions> {
+        match words {
+            [word] => like_word(word),
+            _ => None,
+        }
     }
 }

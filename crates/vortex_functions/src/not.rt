@@ -13,17 +13,16 @@ impl ScalarFnVTableExt for Not {
 
     ghost ships = { λ _. shipped.Not };
 
-    ghost names = { λ word. if is_not_word word then Some shipped.Not else None };
+    ghost names = { λ words. if is_not_word words then Some shipped.Not else None };
 
     fn bind<C: ScalarFnVTable>(&self, _options: EmptyOptions) -> ScalarFnRef<C> {
         ScalarFnRef::Not
     }
 
-    fn named(&self, word: &str) -> Option<EmptyOptions> {
-        if word == "not" {
-            Some(EmptyOptions)
-        } else {
-            None
+    fn named(&self, words: &[&str]) -> Option<EmptyOptions> {
+        match words {
+            [word] if *word == "not" => Some(EmptyOptions),
+            _ => None,
         }
     }
 }

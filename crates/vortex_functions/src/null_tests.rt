@@ -13,17 +13,16 @@ impl ScalarFnVTableExt for IsNull {
 
     ghost ships = { λ _. shipped.IsNull };
 
-    ghost names = { λ word. if is_null_word word then Some shipped.IsNull else None };
+    ghost names = { λ words. if is_null_word words then Some shipped.IsNull else None };
 
     fn bind<C: ScalarFnVTable>(&self, _options: EmptyOptions) -> ScalarFnRef<C> {
         ScalarFnRef::IsNull
     }
 
-    fn named(&self, word: &str) -> Option<EmptyOptions> {
-        if word == "is_null" {
-            Some(EmptyOptions)
-        } else {
-            None
+    fn named(&self, words: &[&str]) -> Option<EmptyOptions> {
+        match words {
+            [word] if *word == "is_null" => Some(EmptyOptions),
+            _ => None,
         }
     }
 }
@@ -35,17 +34,16 @@ impl ScalarFnVTableExt for IsNotNull {
 
     ghost ships = { λ _. shipped.IsNotNull };
 
-    ghost names = { λ word. if is_not_null_word word then Some shipped.IsNotNull else None };
+    ghost names = { λ words. if is_not_null_word words then Some shipped.IsNotNull else None };
 
     fn bind<C: ScalarFnVTable>(&self, _options: EmptyOptions) -> ScalarFnRef<C> {
         ScalarFnRef::IsNotNull
     }
 
-    fn named(&self, word: &str) -> Option<EmptyOptions> {
-        if word == "is_not_null" {
-            Some(EmptyOptions)
-        } else {
-            None
+    fn named(&self, words: &[&str]) -> Option<EmptyOptions> {
+        match words {
+            [word] if *word == "is_not_null" => Some(EmptyOptions),
+            _ => None,
         }
     }
 }

@@ -17,14 +17,13 @@ use Rattle.vortex_types.specs.LogicalTypes.{LogicalType}
 use Rattle.vortex_types.specs.Values.{Value}
 use Rattle.vortex_operators.specs.declared.operators.Operator.{Operator}
 use Rattle.vortex_operators.specs.declared.between.BetweenOptions.{BetweenOptions}
-use Rattle.vortex_operators.specs.Operators.{operator_named}
 use Rattle.vortex_like.specs.declared.options.LikeOptions.{LikeOptions}
 use Rattle.vortex_meaning.specs.Outcomes.{Outcome}
 use Rattle.vortex_meaning.specs.Meaning.{Meaning, Lawful}
 use Rattle.vortex_meaning.specs.CallTexts.{Piece, told}
 use Rattle.vortex_meaning.specs.RowFunction.{RowFunction, LawfulRow}
 use Rattle.vortex_meaning.specs.Shipped.BinaryFunction.{operator_function, operator_lawful}
-use Rattle.vortex_meaning.specs.Shipped.BinaryFunction.{operator_number}
+use Rattle.vortex_meaning.specs.Shipped.BinaryFunction.{operator_number, operator_called}
 use Rattle.vortex_meaning.specs.Shipped.BinaryFunction.{operator_numbered, operator_back}
 use Rattle.vortex_meaning.specs.Shipped.NotFunction.{not_function, not_lawful, is_not_word}
 use Rattle.vortex_meaning.specs.Shipped.NullTestFunctions.{is_null_function, is_null_lawful}
@@ -66,16 +65,16 @@ row_lawful Cast = cast_lawful
 row_lawful (Between options) = between_lawful options
 row_lawful (Like options) = like_lawful options
 
--- the function that a name of a script stands for: a word, or words with one space between each two
-abbrev pub shipped_named : List ℕ → Option Shipped
-shipped_named w =
-    option_or (option_map Binary (operator_named w))
-    (option_or (if is_not_word w then Some Not else None)
-    (option_or (if is_null_word w then Some IsNull else None)
-    (option_or (if is_not_null_word w then Some IsNotNull else None)
-    (option_or (if is_cast_word w then Some Cast else None)
-    (option_or (option_map Between (between_named w))
-    (option_or (option_map Like (like_named w))
+-- the function that words of a script name
+abbrev pub shipped_named : List (List ℕ) → Option Shipped
+shipped_named ws =
+    option_or (option_map Binary (operator_called ws))
+    (option_or (if is_not_word ws then Some Not else None)
+    (option_or (if is_null_word ws then Some IsNull else None)
+    (option_or (if is_not_null_word ws then Some IsNotNull else None)
+    (option_or (if is_cast_word ws then Some Cast else None)
+    (option_or (option_map Between (between_named ws))
+    (option_or (option_map Like (like_named ws))
     None))))))
 
 -- the same function with the escape that is said, where one is; Like alone has one
@@ -84,9 +83,9 @@ escaped None s = Some s
 escaped (Some escape) (Like options) = Some (Like (with_escape options escape))
 escaped (Some escape) s = None
 
--- the function that a script calls by a name and what it says of the escape
-abbrev pub shipped_called : List ℕ → Option (Option ℕ) → Option Shipped
-shipped_called w said = option_and_then (escaped said) (shipped_named w)
+-- the function that a script calls by words and what it says of the escape
+abbrev pub shipped_called : List (List ℕ) → Option (Option ℕ) → Option Shipped
+shipped_called ws said = option_and_then (escaped said) (shipped_named ws)
 
 -- the number of a function and that of its options, in the code of trees
 abbrev pub shipped_number : Shipped → ℕ × ℕ

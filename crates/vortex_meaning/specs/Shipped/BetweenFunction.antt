@@ -69,14 +69,21 @@ between_function options = record {
 abbrev pub between_options : StrictComparison → StrictComparison → BetweenOptions
 between_options lower upper = record { lower_strict = lower; upper_strict = upper }
 
+abbrev pub bound_named : List ℕ → Option StrictComparison
+bound_named w =
+    if bytes_eq w (codes "<") then Some Strict
+    else (if bytes_eq w (codes "<=") then Some NonStrict
+    else None)
+
+abbrev pub bounds_of : Option StrictComparison → Option StrictComparison → Option BetweenOptions
+bounds_of (Some lower) (Some upper) = Some (between_options lower upper)
+bounds_of lower upper = None
+
 -- the words of scripts: `between`, and the operators of the lower and the upper bound
-abbrev pub between_named : List ℕ → Option BetweenOptions
-between_named w =
-    if bytes_eq w (codes "between < <") then Some (between_options Strict Strict)
-    else (if bytes_eq w (codes "between < <=") then Some (between_options Strict NonStrict)
-    else (if bytes_eq w (codes "between <= <") then Some (between_options NonStrict Strict)
-    else (if bytes_eq w (codes "between <= <=") then Some (between_options NonStrict NonStrict)
-    else None)))
+abbrev pub between_named : List (List ℕ) → Option BetweenOptions
+between_named (w ∷ lower ∷ upper ∷ []) =
+    if bytes_eq w (codes "between") then bounds_of (bound_named lower) (bound_named upper) else None
+between_named ws = None
 
 -- null is allowed by a type that is nullable if any of the three is
 three_allow : (x lower upper : Bool) (o : Option Bool)

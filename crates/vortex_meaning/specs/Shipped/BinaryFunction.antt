@@ -19,7 +19,7 @@ use Rattle.vortex_operators.specs.declared.operators.Operator.TheVariants.{Lte, 
 use Rattle.vortex_operators.specs.declared.operators.Operator.TheVariants.{Mul, Div}
 use Rattle.vortex_operators.specs.declared.operators.CompareOperator.{CompareOperator}
 use Rattle.vortex_operators.specs.declared.operators.CompareOperator.TheVariants as compare
-use Rattle.vortex_operators.specs.Operators.{is_arithmetic, is_boolean, text_of}
+use Rattle.vortex_operators.specs.Operators.{is_arithmetic, is_boolean, text_of, operator_named}
 use Rattle.vortex_operators.specs.Kleene.{kleene}
 use Rattle.vortex_operators.specs.OperatorValues.{boolean_value, comparison_value, comparison_type}
 use Rattle.vortex_operators.specs.OperatorValues.{holds}
@@ -277,6 +277,11 @@ operator_lawful op = record {
   never_faults = λ ts t vs s e h. operator_gives op ts vs s;
   one_fault = λ ts us vs ws x y e g. fault_by (numeric_operator_of op) op ts us vs ws x y e g;
 }
+
+-- the words of scripts: the operator's text
+abbrev pub operator_called : List (List ℕ) → Option Operator
+operator_called (w ∷ []) = operator_named w
+operator_called ws = None
 
 -- the number of an operator, in the code of trees
 abbrev pub operator_number : Operator → ℕ

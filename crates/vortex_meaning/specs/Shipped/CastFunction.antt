@@ -1,6 +1,6 @@
 -- Cast of a Bool to the nullable one; each value is kept.
-use Rattle.std.specs.Prelude.{◌≡◌, ℕ, List, [], ◌∷◌, Option, Some, None, Bool, true, codes, Any}
-use Rattle.std.specs.Prelude.{refl}
+use Rattle.std.specs.Prelude.{◌≡◌, ℕ, List, [], ◌∷◌, Option, Some, None, Bool, true, false}
+use Rattle.std.specs.Prelude.{codes, Any, refl}
 use Rattle.std.specs.Str.{bytes_eq}
 use Rattle.std.proofs.Common.{sym, ap, subst}
 use Rattle.vortex_errors.specs.declared.error.MismatchPlace.TheVariants as place
@@ -40,8 +40,9 @@ cast_function = record {
 }
 
 -- the word of scripts
-abbrev pub is_cast_word : List ℕ → Bool
-is_cast_word w = bytes_eq w (codes "cast")
+abbrev pub is_cast_word : List (List ℕ) → Bool
+is_cast_word (w ∷ []) = bytes_eq w (codes "cast")
+is_cast_word ws = false
 
 -- a value of Bool is one of the nullable Bool
 widened : (n : Bool) (v : Value) → HasType (bool_type n) v → HasType (bool_type true) v

@@ -75,13 +75,17 @@ like_options negated case_insensitive escape =
     record { negated = negated; case_insensitive = case_insensitive; escape = escape }
 
 -- the words of scripts, which name the backslash as the escape
-abbrev pub like_named : List ℕ → Option LikeOptions
-like_named w =
+abbrev pub like_word : List ℕ → Option LikeOptions
+like_word w =
     if bytes_eq w (codes "like") then Some (like_options false false (Some backslash))
     else (if bytes_eq w (codes "not_like") then Some (like_options true false (Some backslash))
     else (if bytes_eq w (codes "ilike") then Some (like_options false true (Some backslash))
     else (if bytes_eq w (codes "not_ilike") then Some (like_options true true (Some backslash))
     else None)))
+
+abbrev pub like_named : List (List ℕ) → Option LikeOptions
+like_named (w ∷ []) = like_word w
+like_named ws = None
 
 -- the same options with that escape
 abbrev pub with_escape : LikeOptions → Option ℕ → LikeOptions

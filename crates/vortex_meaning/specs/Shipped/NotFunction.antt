@@ -1,6 +1,6 @@
 -- Kleene's Not of a Bool.
-use Rattle.std.specs.Prelude.{◌≡◌, ℕ, List, [], ◌∷◌, Option, Some, None, Bool, true, codes, Any}
-use Rattle.std.specs.Prelude.{if◌then◌else◌, refl}
+use Rattle.std.specs.Prelude.{◌≡◌, ℕ, List, [], ◌∷◌, Option, Some, None, Bool, true, false}
+use Rattle.std.specs.Prelude.{codes, Any, if◌then◌else◌, refl}
 use Rattle.std.specs.Str.{bytes_eq}
 use Rattle.std.proofs.Common.{sym, ap, ◌∙◌, subst}
 use Rattle.vortex_errors.specs.declared.error.MismatchPlace.TheVariants as place
@@ -39,8 +39,9 @@ not_function = record {
 }
 
 -- the word of scripts
-abbrev pub is_not_word : List ℕ → Bool
-is_not_word w = bytes_eq w (codes "not")
+abbrev pub is_not_word : List (List ℕ) → Bool
+is_not_word (w ∷ []) = bytes_eq w (codes "not")
+is_not_word ws = false
 
 not_typed : (ts : List LogicalType) (t : LogicalType) (vs : List Value)
     → not_type ts ≡ Some t → HaveTypes ts vs → HasType t (of_one not_value vs)

@@ -45,11 +45,13 @@ abbrev pub is_not_null_function : RowFunction
 is_not_null_function = null_test is_not_null_id (codes "is_not_null") (λ v. not (is_null v))
 
 -- the words of scripts
-abbrev pub is_null_word : List ℕ → Bool
-is_null_word w = bytes_eq w (codes "is_null")
+abbrev pub is_null_word : List (List ℕ) → Bool
+is_null_word (w ∷ []) = bytes_eq w (codes "is_null")
+is_null_word ws = false
 
-abbrev pub is_not_null_word : List ℕ → Bool
-is_not_null_word w = bytes_eq w (codes "is_not_null")
+abbrev pub is_not_null_word : List (List ℕ) → Bool
+is_not_null_word (w ∷ []) = bytes_eq w (codes "is_not_null")
+is_not_null_word ws = false
 
 null_test_typed : (test : Value → Bool) (ts : List LogicalType) (t : LogicalType) (vs : List Value)
     → null_test_type ts ≡ Some t → HaveTypes ts vs → HasType t (of_one (λ v. truth (test v)) vs)

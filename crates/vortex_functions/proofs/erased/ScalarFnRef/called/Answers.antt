@@ -1,4 +1,4 @@
-use Rattle.std.proofs.Common.{◌≡◌, ◌∙◌, Some, None, sym, ap}
+use Rattle.std.proofs.Common.{◌≡◌, ◌∙◌, Some, None, sym, ap, map}
 use Rattle.std.specs.Option.{option_map}
 use Rattle.vortex_meaning.specs.Functions.{ours}
 use Rattle.vortex_meaning.specs.Shipped.{shipped_named, shipped_called}
@@ -8,13 +8,14 @@ use Rattle.vortex_functions.proofs.erased.ScalarFnRef.called.Goals as goal
 
 pub returns-in-Some : goal.returns-in-Some
 returns-in-Some g c =
+    let words = map (λ w. w.now) c.args.words.now in
     c.with_escape.ensures
-    ∙ with_said (function_of c.in_ok-function.function) (shipped_named c.args.word.now)
-    c.in-Some.escape c.in_ok-function.ensures
-    ∙ ap (λ said. option_map ours (shipped_called c.args.word.now said)) (sym c.in-Some.is)
+    ∙ with_said (function_of c.in_ok-function.function) (shipped_named words) c.in-Some.escape
+    c.in_ok-function.ensures
+    ∙ ap (λ said. option_map ours (shipped_called words said)) (sym c.in-Some.is)
 
 pub returns-in-None : goal.returns-in-None
 returns-in-None g c =
-    as_named (function_of c.in_ok-function.function) (shipped_named c.args.word.now)
-    c.in_ok-function.ensures
-    ∙ ap (λ said. option_map ours (shipped_called c.args.word.now said)) (sym c.in-None.is)
+    let words = map (λ w. w.now) c.args.words.now in
+    as_named (function_of c.in_ok-function.function) (shipped_named words) c.in_ok-function.ensures
+    ∙ ap (λ said. option_map ours (shipped_called words said)) (sym c.in-None.is)
