@@ -17,7 +17,7 @@ const YES: Nullability = Nullability::Nullable;
 /// More than calls within calls would reach.
 const LEVELS: usize = 200_000;
 
-/// Of columns within columns. Each holds its whole type, so their memory goes by the square of this.
+/// Of columns within columns. Each holds its whole type: their memory goes by the square of this.
 const COLUMNS: usize = 1_000;
 
 /// Of records, whose types hold names too.
