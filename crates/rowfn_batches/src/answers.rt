@@ -61,7 +61,7 @@ fn check_columns<C: ScalarFnVTable>(
         (RefusesColumnsFirst columns.now row_count (map (λ a. a.tree) answers.now)) }
 {
     for answer in answers {
-        answer.tree.tells_types();
+        let _typed = answer.tree.dtype();
         answer.tree.check_columns(columns, row_count, ctx)?;
     }
     Ok(())

@@ -75,10 +75,10 @@ fn simplified_by<C: ScalarFnRules>(
 }
 
 /// What Reduce makes of a node of either kind that is a call.
-fn reduced_node<'a, C: ScalarFnRules, T: BoundTree<C>>(
+fn reduced_node<'a, C: ScalarFnRules, L: RuleLeaf<C>>(
     alloc: Global,
-    node: &TreeReduceNode<'a, T>,
-) -> VortexResult<Option<TreeReduceNode<'a, T>>> {
+    node: &TreeReduceNode<'a, Tree<C, L>>,
+) -> VortexResult<Option<TreeReduceNode<'a, Tree<C, L>>>> {
     match node.tree().as_scalar() {
         Some(function) => reduced_by(alloc, function, node),
         None => Err(VortexError::ScopeMismatch),
@@ -86,10 +86,10 @@ fn reduced_node<'a, C: ScalarFnRules, T: BoundTree<C>>(
 }
 
 /// What says where a node of either kind that is a call is not null.
-fn validity_of_node<'a, C: ScalarFnRules, T: BoundTree<C>>(
+fn validity_of_node<'a, C: ScalarFnRules, L: RuleLeaf<C>>(
     alloc: Global,
-    node: &TreeReduceNode<'a, T>,
-) -> VortexResult<ReduceNodeValidity<TreeReduceNode<'a, T>>> {
+    node: &TreeReduceNode<'a, Tree<C, L>>,
+) -> VortexResult<ReduceNodeValidity<TreeReduceNode<'a, Tree<C, L>>>> {
     match node.tree().as_scalar() {
         Some(function) => validity_by(alloc, function, node),
         None => Err(VortexError::ScopeMismatch),

@@ -10,7 +10,7 @@ use Rattle.vortex_meaning.specs.Functions.{Function, function_arity, function_ty
 use Rattle.vortex_meaning.specs.Trees.{trees_of}
 use Rattle.vortex_meaning.specs.Eval.{tree_types}
 use Rattle.vortex_functions.specs.Binding.{IsCall}
-use Rattle.vortex_arrays.specs.Arrays.{Array, tree_in, rows_in, trees_in, other_rows}
+use Rattle.vortex_functions.specs.Arrays.{Array, tree_in, rows_in, trees_in, other_rows}
 
 -- the call of the function on the arrays, all of so many rows
 pub record IsArrayCall {V O : Type 0} (m : Meaning V O) (f : Function V O)

@@ -9,9 +9,8 @@ pub use Rattle.vortex_meaning.specs.Driver.{step}
 pub use Rattle.vortex_meaning.specs.Weights.{added, weights, weight_told}
 pub use Rattle.vortex_functions.specs.FunctionOf.{function_of}
 pub use Rattle.vortex_functions.specs.Walks.{AllMean, IsCopy}
-pub use Rattle.vortex_arrays.specs.Arrays.{tree_in, rows_in, trees_in, column_array, column_in}
-pub use Rattle.vortex_arrays.specs.Arrays.{children_in, other_rows, IsTyped}
+pub use Rattle.vortex_functions.specs.Arrays.{tree_in, rows_in, trees_in, column_array, column_in}
+pub use Rattle.vortex_functions.specs.Arrays.{children_in, other_rows, IsTyped}
 pub use Rattle.vortex_arrays.specs.Calls.{IsArrayCall, AnswersCallOfRows, AnswersCall}
 pub use Rattle.vortex_arrays.specs.Calls.{AnswersOperands}
-pub use Rattle.vortex_arrays.specs.Executing.{HasArrayRows, AnswersArray, LendsColumn}
 pub use Rattle.vortex_arrays.specs.Executing.{ArraysErrWhereArithmeticDoes}

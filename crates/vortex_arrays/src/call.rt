@@ -1,16 +1,12 @@
 //! Calls over arrays.
-ghost use Rattle.std.specs.Prelude.{◌≡◌, ◌+◌, All, IfOk, Some, map, min};
-ghost use Rattle.vortex_arrays.specs.Words.{AnswersUnlessMemory, AnswersCall, AnswersCallOfRows};
-ghost use Rattle.vortex_arrays.specs.Words.{function_of, other_rows, tree_types, trees_in};
-ghost use Rattle.vortex_arrays.specs.Words.{trees_of, type_of, IsTyped};
-ghost use Rattle.vortex_arrays.specs.Words.{added, weights};
+ghost use Rattle.std.specs.Prelude.{◌≡◌};
+ghost use Rattle.vortex_arrays.specs.Words.{AnswersCall, AnswersCallOfRows};
+ghost use Rattle.vortex_arrays.specs.Words.{function_of, other_rows};
 
-use crate::array::{ArrayRef, Node, Parts};
 use std::alloc::Global;
 use std::marker::Model;
-use std::rc::Rc;
-use vortex_columns::{DType, VortexError, VortexResult};
-use vortex_functions::ScalarFnRef;
+use vortex_columns::{VortexError, VortexResult};
+use vortex_functions::{ArrayRef, ScalarFnRef};
 use vortex_interface::ScalarFnVTable;
 
 /// An array that is a call.
@@ -32,36 +28,6 @@ impl<C: ScalarFnVTable> Model for ScalarFnArray<C> {
     ghost view = { λ a. a.array };
 
     ghost invariant = { λ a. IsSome (called a.array.0) };
-}
-
-/// The types of arrays.
-fn dtypes_of<C: ScalarFnVTable>(alloc: Global, children: &[ArrayRef<C>]) -> VortexResult<Vec<DType>>
-    ensures types { AnswersUnlessMemory result (λ dtypes.
-        tree_types C.meaning (trees_of (trees_in children.now)) ≡ Some (map type_of dtypes.items)) }
-    ensures typed { IfOk result (λ dtypes. All IsTyped children.now) }
-{
-    let mut dtypes = Vec::new(alloc);
-    for child in children {
-        dtypes.push(child.dtype().try_clone(alloc)?)?;
-    }
-    Ok(dtypes)
-}
-
-/// The weight of a call that is nullable or not: its children's, and what the function adds. Where
-/// that is past the greatest number, it is that number.
-fn call_weight<C: ScalarFnVTable>(
-    function: &ScalarFnRef<C>,
-    children: &[ArrayRef<C>],
-    nullable: bool,
-) -> u64
-    ensures { result ≡ min (added (function_of function.now) nullable
-        + weights C.meaning (trees_of (trees_in children.now))) 18446744073709551615 }
-{
-    let mut weight = function.added_weight(nullable);
-    for child in children {
-        weight = weight.saturating_add(child.weight());
-    }
-    weight
 }
 
 /// The row count of the first array that has not so many rows.
@@ -118,21 +84,8 @@ impl<C: ScalarFnVTable> ScalarFnArray<C> {
         if let Some(right) = first_other_len(&children, len) {
             return Err(VortexError::LengthMismatch { left: len, right });
         }
-        let dtypes = dtypes_of(alloc, &children)?;
-        let dtype = function.return_dtype(alloc, &dtypes)?;
-        let weight = call_weight(&function, &children, dtype.is_nullable());
-        let parts = Parts {
-            function,
-            children,
-            dtype,
-            weight,
-            settled: false,
-        };
         Ok(ScalarFnArray {
-            array: ArrayRef {
-                node: Node::Call(Rc::new(alloc, parts)?),
-                len,
-            },
+            array: ArrayRef::try_call(alloc, function, children, len)?,
         })
     }
 

@@ -8,11 +8,10 @@ ghost use Rattle.vortex_arrays.specs.Words.{AnswersUnlessMemory, AnswersCallOfRo
 ghost use Rattle.vortex_arrays.specs.Words.{AnswersOperands};
 ghost use Rattle.vortex_arrays.specs.Words.{IsArrayCall, function_of, ours, rows_in};
 
-use crate::array::ArrayRef;
 use crate::call::ScalarFnArray;
 use std::alloc::Global;
 use vortex_columns::VortexResult;
-use vortex_functions::ScalarFnRef;
+use vortex_functions::{ArrayRef, ScalarFnRef};
 use vortex_interface::ScalarFnVTable;
 use vortex_kernels::{BetweenOptions, Operator};
 use vortex_like::LikeOptions;

@@ -11,7 +11,12 @@ pub mod Upward
 pub mod Inputs
 pub mod Listed
 pub mod CallWeights
-pub mod BoundTrees
+pub mod Leaves
+pub mod TreeCalls
+pub mod ExpressionCalls
+pub mod ExpressionNodes
+pub mod ArrayChildren
+pub mod ArrayColumns
 pub mod SameValues
 pub mod Identities
 pub mod Called

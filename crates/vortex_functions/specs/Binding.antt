@@ -1,5 +1,6 @@
 -- What binding a leaf or a call answers, and when an answer is lent.
-use Rattle.std.specs.Prelude.{◌≡◌, ℕ, List, Some, None, true, false, length, slice_get, Result}
+use Rattle.std.specs.Prelude.{◌≡◌, ℕ, List, Some, None, true, false, length, map, slice_get}
+use Rattle.std.specs.Prelude.{Result}
 use Rattle.std.specs.declared.borrow.Cow.{Cow}
 use Rattle.std.specs.declared.borrow.Cow.TheVariants as cow
 use Rattle.vortex_errors.specs.declared.error.VortexError.{VortexError}
@@ -52,6 +53,13 @@ AnswersLeaf scope name result =
 abbrev pub AnswersBinding : {V O : Type 0} → Meaning V O → Function V O → List (Tree V O)
     → Result (Tree V O) VortexError → Type 0
 AnswersBinding m f ts result = Answers result (IsCall m f ts) (RefusesCall m f ts)
+
+-- of a tree of any kind, with what stands beside it
+abbrev pub AnswersTreeCall : {V O S B : Type 0} → (S → Tree V O) → (S → B) → Meaning V O
+    → Function V O → List S → B → Result S VortexError → Type 0
+AnswersTreeCall tree_of beside_of m f xs b result =
+    Answers result (λ a. IsCall m f (map tree_of xs) (tree_of a) × (beside_of a ≡ b))
+    (RefusesCall m f (map tree_of xs))
 
 abbrev pub IsLeaf : {V O : Type 0} → Tree V O → Type 0
 IsLeaf (leaf l) = Unit {0}

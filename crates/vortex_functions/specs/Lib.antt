@@ -1,9 +1,13 @@
 pub mod FunctionOf
 pub mod Fixed
+pub mod Arrays
 pub mod Nodes
 pub mod NodeFalls
+pub mod ExpressionLeaves
+pub mod ArrayLeaves
 pub mod Binding
 pub mod Executing
+pub mod ArrayExecuting
 pub mod Texts
 pub mod TreePieces
 pub mod Walks

@@ -1,50 +1,56 @@
 -- How a tree's node is seen.
-use Rattle.std.specs.Prelude.{◌≡◌, ◌+◌, ◌≤◌, List, [], ◌∷◌, string_bytes, IsTrue, Some, None, ⊤}
+use Rattle.std.specs.Prelude.{◌≡◌, ◌+◌, ◌≤◌, List, [], ◌∷◌, map, IsTrue, Option, Some, None, All}
 use Rattle.std.proofs.Common.{arith}
 use denote.Param.Weighed.{most}
 use Rattle.vortex_functions.specs.declared.tree.Parts.{Parts}
 use Rattle.vortex_functions.specs.declared.tree.Node.{Node}
-use Rattle.vortex_functions.specs.declared.tree.Node.TheVariants.{Column, Literal, Call}
-use Rattle.vortex_functions.specs.declared.tree.BoundExpression.TheInside.{Inside}
+use Rattle.vortex_functions.specs.declared.tree.Node.TheVariants.{Leaf, Call}
+use Rattle.vortex_functions.specs.declared.tree.Tree.TheInside.{Inside}
 use Rattle.vortex_types.specs.TypeOf.{type_of}
 use Rattle.vortex_meaning.specs.Meaning.{Meaning}
-use Rattle.vortex_meaning.specs.Trees.{place, Tree, leaf, constant, call, trees_of, node_count}
+use Rattle.vortex_types.specs.LogicalTypes.{null_type}
+use Rattle.vortex_meaning.specs.Trees.{place, Tree, leaf, call, trees_of, node_count}
 use Rattle.vortex_meaning.specs.Trees.{nodes_count}
 use Rattle.vortex_meaning.specs.Eval.{tree_type}
-use Rattle.vortex_meaning.specs.Rules.{Rules}
-use Rattle.vortex_meaning.specs.Driver.{simplify_or_reduce, step}
-use Rattle.vortex_meaning.specs.Made.{IsBound}
+use Rattle.vortex_meaning.specs.Driver.{step}
 use Rattle.vortex_meaning.specs.Weights.{weight_told}
 use Rattle.vortex_functions.specs.FunctionOf.{function_of}
 
--- the call that is made of these parts
-abbrev pub call_of : {V O : Type 0} → Parts V O → Tree V O
-call_of parts = call (function_of parts.function) (trees_of parts.children.items)
+pub most_le-nodes_count : {V O S : Type 0} (tree_of : S → Tree V O) (xs : List S)
+    → most (λ a. node_count (tree_of a) + 1) xs ≤ nodes_count (trees_of (map tree_of xs)) + 1
+most_le-nodes_count tree_of [] = omega arith
+most_le-nodes_count tree_of (a ∷ xs) = omega (arith, most_le-nodes_count tree_of xs)
 
-abbrev pub node_tree : {V O : Type 0} → Node V O → Tree V O
-node_tree (Column p name t) = leaf (place p (string_bytes name) (type_of t))
-node_tree (Literal s alloc) = constant s
-node_tree (Call parts) = call_of parts.value
+module _ {V L O B S : Type 0} (tree_of : S → Tree V O) where
+  -- the call that is made of these parts
+  abbrev pub call_of : Parts V L O B S → Tree V O
+  call_of parts =
+      call (function_of parts.function) (trees_of (map tree_of parts.children.items))
 
-abbrev pub expression_view : {V O : Type 0} → Inside V O → Tree V O
-expression_view a = node_tree a.node
+  abbrev pub node_tree : (L → Tree V O) → Node V L O B S → Tree V O
+  node_tree seen (Leaf l) = seen l
+  node_tree seen (Call parts) = call_of parts.value
 
-module _ {V O : Type 0} (m : Meaning V O) (r : Rules V O) where
-  -- a call is well typed, at every level, and has the type and the weight beside it; where it is
-  -- marked, no rule applies at any place of it
-  abbrev pub IsNode : Node V O → Type 0
-  IsNode (Column p name t) = ⊤
-  IsNode (Literal s alloc) = ⊤
-  IsNode (Call parts) =
+  abbrev pub tree_view : (Tree V O → B → S) → (L → Tree V O) → Inside V L O B S → S
+  tree_view see seen a = see (node_tree seen a.node) a.beside
+
+  -- a leaf may stand there; a call is well typed, and has the type and the weight beside it, the
+  -- same stands beside its children, and where it is marked, the rule applies at no place of it
+  abbrev pub IsNode : (S → B) → Meaning V O → (Tree V O → Option (Tree V O)) → (B → L → Type 0)
+      → B → Node V L O B S → Type 0
+  IsNode beside_of m rule fits b (Leaf l) = fits b l
+  IsNode beside_of m rule fits b (Call parts) =
       (tree_type m (call_of parts.value) ≡ Some (type_of parts.value.dtype))
+      × All (λ child. beside_of child ≡ b) parts.value.children.items
       × (parts.value.weight ≡ weight_told m (call_of parts.value))
-      × (IsTrue parts.value.settled → step (simplify_or_reduce m r) (call_of parts.value) ≡ None)
+      × (IsTrue parts.value.settled → step rule (call_of parts.value) ≡ None)
 
-  -- and its leaves are places, and its constants have their types
-  abbrev pub IsExpression : Inside V O → Type 0
-  IsExpression a = IsNode a.node × IsBound (node_tree a.node)
+  abbrev pub IsTree : (S → B) → (Tree V O → B → S) → Meaning V O
+      → (Tree V O → Option (Tree V O)) → (L → Tree V O) → (B → L → Type 0) → (S → Type 0)
+      → Inside V L O B S → Type 0
+  IsTree beside_of see m rule seen fits whole a =
+      IsNode beside_of m rule fits a.beside a.node × whole (tree_view see seen a)
 
-pub most_le-nodes_count : {V O : Type 0} (ts : List (Tree V O))
-    → most (λ t. node_count t + 1) ts ≤ nodes_count (trees_of ts) + 1
-most_le-nodes_count [] = omega arith
-most_le-nodes_count (t ∷ ts) = omega (arith, most_le-nodes_count ts)
+-- what stands for a tree of a kind that is never made
+abbrev pub shown : {V O : Type 0} → Tree V O
+shown = leaf (place 0 [] null_type)

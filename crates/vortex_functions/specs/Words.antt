@@ -31,10 +31,13 @@ pub use Rattle.vortex_functions.specs.Texts.{AppendsText, IsTextOf}
 pub use Rattle.vortex_functions.specs.TreePieces.{pieces_of, tree_pieces, leaf_text, BeginsText}
 pub use Rattle.vortex_functions.specs.TreePieces.{WritesPiece}
 pub use Rattle.vortex_functions.specs.Binding.{AnswersLeaf, AnswersBinding, IsLeaf, IsLeafAt}
-pub use Rattle.vortex_functions.specs.Binding.{field_leaf}
+pub use Rattle.vortex_functions.specs.Binding.{field_leaf, AnswersTreeCall}
 pub use Rattle.vortex_functions.specs.Executing.{HasRows, NodeFits, AnswersTree, AnswersExecution}
 pub use Rattle.vortex_functions.specs.Executing.{AnswersColumns, LendsLeaf, Fits}
 pub use Rattle.vortex_functions.specs.Walks.{AllMean, IsCopy}
 pub use Rattle.vortex_meaning.specs.OptionBytes.{WritesOptionsOf}
 pub use Rattle.vortex_meaning.specs.FunctionTexts.{held_text, value_text}
 pub use Rattle.vortex_functions.specs.SameFunctions.{AreSame, SameByIdentityAndOptions}
+pub use Rattle.vortex_functions.specs.Arrays.{tree_in, rows_in, column_array, column_in}
+pub use Rattle.vortex_functions.specs.Arrays.{children_in}
+pub use Rattle.vortex_functions.specs.ArrayExecuting.{HasArrayRows, AnswersArray, LendsColumn}

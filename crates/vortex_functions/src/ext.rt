@@ -4,7 +4,7 @@ ghost use Rattle.std.specs.Option.{option_map};
 ghost use Rattle.vortex_functions.specs.Words.{Shipped, ours, function_of, AnswersBinding};
 
 use crate::erased::ScalarFnRef;
-use crate::tree::BoundExpression;
+use crate::expression::BoundExpression;
 use crate::typed::TypedScalarFnInstance;
 use std::alloc::Global;
 use vortex_columns::VortexResult;

@@ -2,11 +2,13 @@
 //! shipped functions stand here too.
 #![tactic(auto)]
 
+pub mod array;
 mod between;
 mod binary;
 mod cast;
 pub mod custom;
 pub mod erased;
+pub mod expression;
 pub mod ext;
 pub mod function_values;
 mod like;
@@ -17,11 +19,13 @@ pub mod typed;
 pub mod value_laws;
 pub mod walk;
 
+pub use array::ArrayRef;
 pub use custom::NoCustom;
 pub use erased::{ScalarFnRef, ScalarFnSignature};
+pub use expression::BoundExpression;
 pub use ext::ScalarFnVTableExt;
 pub use function_values::ScalarFnOptions;
-pub use tree::BoundExpression;
+pub use tree::{Leaf, Tree};
 pub use typed::TypedScalarFnInstance;
 pub use vortex_interface::{
     Arity, ChildName, EmptyOptions, ExecutionArgs, ScalarFnId, ScalarFnVTable, VecExecutionArgs,

@@ -9,7 +9,7 @@ use Rattle.vortex_meaning.specs.Made.{IsBound}
 use Rattle.vortex_meaning.specs.Rewrites.{Rewrites}
 use Rattle.vortex_meaning.proofs.AfterRun.{bound_made, old_fault}
 use Rattle.vortex_meaning.proofs.RewrittenRows.{HasRows, fitting_row}
-use Rattle.vortex_arrays.specs.Arrays.{Array, tree_in, rows_in, IsTyped}
+use Rattle.vortex_functions.specs.Arrays.{Array, tree_in, rows_in, IsTyped}
 use Rattle.vortex_rewriting.specs.Keeping.{KeepsRows, RewritesKeepRows, RewritesKeepRowsOfArray}
 
 module _ {V O : Type 0} (m : Meaning V O) where

@@ -47,10 +47,18 @@ module _ {V O : Type 0} where
         not_refused m f us is_typed.0
         (ap (tree_type m) (with_children_call t f us is) ∙ is_typed.1)
 
-    pub others_called : {T : Type 0} (tree : T → Tree V O) (r : Result T VortexError)
-        → Answers r (λ made. IsCall m f us (tree made)) (RefusesCall m f us)
+    pub call_on_others : {S B : Type 0} (tree : S → Tree V O) (beside : S → B) (b : B)
+        (r : Result S VortexError)
+        → Answers r (λ made. IsCall m f us (tree made) × (beside made ≡ b)) (RefusesCall m f us)
         → AnswersUnlessMemory r (λ made. tree made ≡ with_children t us)
-    others_called tree r h =
-        Answers-weaker r (λ made. IsCall m f us (tree made))
+    call_on_others tree beside b r h =
+        Answers-weaker r (λ made. IsCall m f us (tree made) × (beside made ≡ b))
         (λ made. tree made ≡ with_children t us) (RefusesCall m f us) (λ e. ⊥)
-        (λ made p. p.is ∙ with_children_call t f us is) others_refused h
+        (λ made p. p.0.is ∙ with_children_call t f us is) others_refused h
+
+-- what stands beside what was made
+pub stands_beside : {S B : Type 0} (P : S → Type 0) (R : VortexError → Type 0) (beside : S → B)
+    (b d : B) (r : Result S VortexError) → Answers r (λ made. P made × (beside made ≡ b)) R
+    → b ≡ d → IfOk r (λ made. beside made ≡ d)
+stands_beside P R beside b d (Ok made) h is = h.1 ∙ is
+stands_beside P R beside b d (Err e) h is = tt

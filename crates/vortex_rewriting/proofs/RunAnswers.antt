@@ -19,7 +19,7 @@ use Rattle.vortex_meaning.specs.Driver.{step, Runs, RunsTo}
 use Rattle.vortex_meaning.specs.Running.{RefusesAfter, HasRowsAfter, IsFaultAfter}
 use Rattle.vortex_meaning.proofs.AfterRun.{executes_after, refuses_after, rows_after, fault_after}
 use Rattle.vortex_functions.specs.Executing.{Fits, AnswersExecution, LendsLeaf}
-use Rattle.vortex_arrays.specs.Arrays.{Array, tree_in, rows_in, IsTyped}
+use Rattle.vortex_functions.specs.Arrays.{Array, tree_in, rows_in, IsTyped}
 use Rattle.vortex_rewriting.specs.Rules.{expression_rule, expression_sound, array_rule, array_sound}
 use Rattle.vortex_rewriting.specs.Runs.{expression_step, array_step, AnswersRun}
 use Rattle.vortex_rewriting.proofs.Optimizing.{first_rule_sound}

@@ -26,17 +26,17 @@ map_push f more done a e = ap (map f) e ∙ map-append f done (a ∷ [])
 pub of_some : {A : Type 0} (P : A → Type 0) (o : Option A) (a : A) → IfSome o P → o ≡ Some a → P a
 of_some {A} P o a h e = subst (λ (x : Option A). IfSome x P) e h
 
--- one more of so many rows
-pub rows_push : {T : Type 0} (rows : T → ℕ) (n : ℕ) (more done : List T) (t : T)
+-- one more beside which that stands
+pub rows_push : {T B : Type 0} (rows : T → B) (n : B) (more done : List T) (t : T)
     → All (λ u. rows u ≡ n) done → rows t ≡ n → more ≡ done ++ t ∷ [] → All (λ u. rows u ≡ n) more
 rows_push rows n more done t h same m =
     subst (All (λ u. rows u ≡ n)) (sym m) (All-push (λ u. rows u ≡ n) done t h same)
 
 -- the rows of the frames above, and of the last one
-pub rows_above : {T : Type 0} (rows : T → ℕ) (n : ℕ) (all rest : List (Frame T)) (f : Frame T)
+pub rows_above : {T B : Type 0} (rows : T → B) (n : B) (all rest : List (Frame T)) (f : Frame T)
     → all ≡ rest ++ f ∷ [] → HaveRows rows n all
     → HaveRows rows n rest × (rows f.node ≡ n) × All (λ t. rows t ≡ n) f.done.items
-rows_above {T} rows n all rest f e h =
+rows_above {T} {B} rows n all rest f e h =
     let here = All-pop (λ (g : Frame T). (rows g.node ≡ n) × All (λ t. rows t ≡ n) g.done.items)
     all rest (Some f) e h in
     (here.0, here.1.0, here.1.1)
@@ -137,7 +137,7 @@ module _ {T V O : Type 0} (tree : T → Tree V O) where
         (frames_above all rest f e h).0
         (subst (λ u. IsSome (tree_type m u)) (sym (goes_up all rest f t more e p)) typed)
 
-    module _ (rows : T → ℕ) (above : List (Frame T)) (root : T) where
+    module _ {B : Type 0} (rows : T → B) (above : List (Frame T)) (root : T) where
       -- the whole tree is as it was, over the same rows, and what is done is settled
       pub record IsWalk (fs : List (Frame T)) (node : T) (done : List T) : Type 0 where
         pub frames : AreFrames rule (frames_in tree fs)

@@ -1,5 +1,5 @@
 -- What a search for the next place comes to.
-use Rattle.std.specs.Prelude.{◌≡◌, ℕ, Option, Some, None}
+use Rattle.std.specs.Prelude.{◌≡◌, Option, Some, None}
 use Rattle.vortex_rewriting.specs.declared.driver.Found.{Found}
 use Rattle.vortex_rewriting.specs.declared.driver.Found.TheVariants.{Settled, Place}
 use Rattle.vortex_meaning.specs.Trees.{Tree}
@@ -15,8 +15,8 @@ IsFound rule tree t (Place above old made) =
     × (t ≡ plug (frames_in tree above.items) (tree old))
     × (step rule (tree old) ≡ Some (tree made))
 
--- each tree in it has so many rows
-abbrev pub FoundHasRows : {T : Type 0} → (T → ℕ) → ℕ → Found T → Type 0
+-- the same stands beside each tree in it
+abbrev pub FoundHasRows : {T B : Type 0} → (T → B) → B → Found T → Type 0
 FoundHasRows rows n (Settled whole) = rows whole ≡ n
 FoundHasRows rows n (Place above old made) =
     HaveRows rows n above.items × (rows old ≡ n) × (rows made ≡ n)

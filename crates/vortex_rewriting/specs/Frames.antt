@@ -1,6 +1,6 @@
 -- A walk through a tree that rules rewrite: the frames above a place, from the root, each a node as
 -- it was and its first children as they are now.
-use Rattle.std.specs.Prelude.{◌≡◌, ◌<◌, ◌≤◌, ℕ, List, [], ◌∷◌, ◌++◌, Option, Some, None, ⊤, All}
+use Rattle.std.specs.Prelude.{◌≡◌, ◌<◌, ◌≤◌, List, [], ◌∷◌, ◌++◌, Option, Some, None, ⊤, All}
 use Rattle.std.specs.Prelude.{map, length, drop, slice_get}
 use Rattle.vortex_rewriting.specs.declared.frames.Frame.{Frame}
 use Rattle.vortex_meaning.specs.Trees.{Tree, children_of}
@@ -39,6 +39,6 @@ module _ {T : Type 0} where
       → List (Tree V O × List (Tree V O))
   frames_in tree fs = map (λ f. (tree f.node, map tree f.done.items)) fs
 
-  -- each tree in them has so many rows
-  abbrev pub HaveRows : (T → ℕ) → ℕ → List (Frame T) → Type 0
+  -- the same stands beside each tree in them: its row count, or nothing
+  abbrev pub HaveRows : {B : Type 0} → (T → B) → B → List (Frame T) → Type 0
   HaveRows rows n fs = All (λ f. (rows f.node ≡ n) × All (λ t. rows t ≡ n) f.done.items) fs

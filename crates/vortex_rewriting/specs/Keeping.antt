@@ -8,7 +8,7 @@ use Rattle.vortex_meaning.specs.Trees.{Tree}
 use Rattle.vortex_meaning.specs.Eval.{eval}
 use Rattle.vortex_meaning.specs.Execution.{LeavesFit, other_length}
 use Rattle.vortex_meaning.specs.Rewrites.{Rewrites}
-use Rattle.vortex_arrays.specs.Arrays.{Array, tree_in, rows_in}
+use Rattle.vortex_functions.specs.Arrays.{Array, tree_in, rows_in}
 
 module _ {V O : Type 0} (m : Meaning V O) where
   -- in each of n rows the second tree has the first one's value where that has one, and faults only

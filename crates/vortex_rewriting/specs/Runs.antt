@@ -10,7 +10,7 @@ use Rattle.vortex_meaning.specs.Trees.{Tree}
 use Rattle.vortex_meaning.specs.Rules.{Rules}
 use Rattle.vortex_meaning.specs.Running.{ExecutesAfter, RefusesAfter, HasRowsAfter, IsFaultAfter}
 use Rattle.vortex_functions.specs.Binding.{IsLeaf, IsLentLeaf}
-use Rattle.vortex_arrays.specs.Arrays.{Array, tree_in, rows_in}
+use Rattle.vortex_functions.specs.Arrays.{Array, tree_in, rows_in}
 use Rattle.vortex_rewriting.specs.Rules.{expression_rule, array_rule}
 use Rattle.vortex_rewriting.specs.Driving.{first_rule}
 

@@ -1,26 +1,52 @@
-//! Calls with another child.
-ghost use Rattle.std.specs.Prelude.{◌≡◌, ◌<◌, All, IfOk, Some, length, map, slice_get, slice_set};
+//! Calls with other children.
+ghost use Rattle.std.specs.Prelude.{◌≡◌, ◌<◌, All, IfOk, IsSome, Some, length, map, slice_get};
+ghost use Rattle.std.specs.Prelude.{slice_set};
 ghost use Rattle.vortex_meaning.specs.Places.{with_child};
 ghost use Rattle.vortex_functions.specs.Words.{children_of, tree_type, AnswersUnlessMemory};
+ghost use Rattle.vortex_rewriting.specs.Places.{with_children};
 
-use crate::tree::RewriteTree;
+use crate::leaf::RewriteLeaf;
 use std::alloc::Global;
 use vortex_columns::VortexResult;
+use vortex_functions::{Leaf, Tree};
+use vortex_interface::ScalarFnVTable;
 use vortex_rules::ScalarFnRules;
 
-/// Copies of the children, with another one in the place of that index. E9 alone.
-fn children_with<C: ScalarFnRules, T: RewriteTree<C>>(
+/// The same call on other children, beside which the same stands, on which it is well typed. E9
+/// alone.
+pub(crate) fn with_children<C: ScalarFnVTable, L: Leaf<C>>(
     alloc: Global,
-    parent: &T,
+    tree: &Tree<C, L>,
+    children: Vec<Tree<C, L>>,
+) -> VortexResult<Tree<C, L>>
+    requires typed { IsSome (tree_type C.meaning
+        (with_children (L.tree_of tree.now) (map L.tree_of children.items))) }
+    requires same_rows { All (λ child. L.beside_of child ≡ L.beside_of tree.now) children.items }
+    ensures answer { AnswersUnlessMemory result (λ made.
+        L.tree_of made ≡ with_children (L.tree_of tree.now) (map L.tree_of children.items)) }
+    ensures same_rows { IfOk result (λ made. L.beside_of made ≡ L.beside_of tree.now) }
+{
+    match tree.as_scalar() {
+        Some(function) => {
+            Tree::try_call(alloc, function.try_clone(alloc)?, children, tree.beside())
+        }
+        None => tree.try_clone(alloc),
+    }
+}
+
+/// Copies of the children, with another one in the place of that index. E9 alone.
+fn children_with<C: ScalarFnRules, L: RewriteLeaf<C>>(
+    alloc: Global,
+    parent: &Tree<C, L>,
     index: usize,
-    child: T,
-) -> VortexResult<Vec<T>>
-    requires is_child { index < length (children_of (T.tree parent.now)) }
-    requires same_rows { T.rows child ≡ T.rows parent.now }
-    ensures answer { AnswersUnlessMemory result (λ copies. map T.tree copies.items
-        ≡ slice_set (children_of (T.tree parent.now)) index (T.tree child)) }
+    child: Tree<C, L>,
+) -> VortexResult<Vec<Tree<C, L>>>
+    requires is_child { index < length (children_of (L.tree_of parent.now)) }
+    requires same_rows { L.beside_of child ≡ L.beside_of parent.now }
+    ensures answer { AnswersUnlessMemory result (λ copies. map L.tree_of copies.items
+        ≡ slice_set (children_of (L.tree_of parent.now)) index (L.tree_of child)) }
     ensures same_rows { IfOk result
-        (λ copies. All (λ copy. T.rows copy ≡ T.rows parent.now) copies.items) }
+        (λ copies. All (λ copy. L.beside_of copy ≡ L.beside_of parent.now) copies.items) }
 {
     let mut copies = Vec::new(alloc);
     for old in parent.children() {
@@ -32,21 +58,21 @@ fn children_with<C: ScalarFnRules, T: RewriteTree<C>>(
 
 /// A copy of a call with another child, of the old one's type and the call's row count, in the
 /// place of that index. E9 alone.
-pub(crate) fn with_child<C: ScalarFnRules, T: RewriteTree<C>>(
+pub(crate) fn with_child<C: ScalarFnRules, L: RewriteLeaf<C>>(
     alloc: Global,
-    parent: &T,
+    parent: &Tree<C, L>,
     index: usize,
-    child: T,
-) -> VortexResult<T>
-    requires is_child { index < length (children_of (T.tree parent.now)) }
-    requires same_type { (x : _) → slice_get (children_of (T.tree parent.now)) index ≡ Some x
-        → tree_type C.meaning (T.tree child) ≡ tree_type C.meaning x }
-    requires same_rows { T.rows child ≡ T.rows parent.now }
+    child: Tree<C, L>,
+) -> VortexResult<Tree<C, L>>
+    requires is_child { index < length (children_of (L.tree_of parent.now)) }
+    requires same_type { (x : _) → slice_get (children_of (L.tree_of parent.now)) index ≡ Some x
+        → tree_type C.meaning (L.tree_of child) ≡ tree_type C.meaning x }
+    requires same_rows { L.beside_of child ≡ L.beside_of parent.now }
     ensures answer { AnswersUnlessMemory result
-        (λ made. T.tree made ≡ with_child (T.tree parent.now) index (T.tree child)) }
-    ensures same_rows { IfOk result (λ made. T.rows made ≡ T.rows parent.now) }
+        (λ made. L.tree_of made ≡ with_child (L.tree_of parent.now) index (L.tree_of child)) }
+    ensures same_rows { IfOk result (λ made. L.beside_of made ≡ L.beside_of parent.now) }
 {
     let _typed = parent.dtype();
     let copies = children_with(alloc, parent, index, child)?;
-    parent.with_children(alloc, copies)
+    with_children(alloc, parent, copies)
 }

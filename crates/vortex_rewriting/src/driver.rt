@@ -11,24 +11,25 @@ ghost use Rattle.vortex_rewriting.specs.Found.{IsFound, FoundHasRows};
 
 use crate::frames::{Frame, next_child, over_children, whole_tree};
 use crate::rule::Rule;
-use crate::tree::RewriteTree;
+use crate::leaf::RewriteLeaf;
 use std::alloc::Global;
 use vortex_columns::VortexResult;
+use vortex_functions::Tree;
 use vortex_rules::ScalarFnRules;
 
 /// What Simplify makes of the tree at its root, or else what Reduce makes of it.
-fn apply_first<C: ScalarFnRules, T: RewriteTree<C>>(
+fn apply_first<C: ScalarFnRules, L: RewriteLeaf<C>>(
     alloc: Global,
-    tree: &T,
-) -> VortexResult<Option<T>>
+    tree: &Tree<C, L>,
+) -> VortexResult<Option<Tree<C, L>>>
     ensures answer { AnswersUnlessMemory result
-        (λ answer. option_map T.tree answer ≡ first_rule T.applied (T.tree tree.now)) }
+        (λ answer. option_map L.tree_of answer ≡ first_rule L.applied (L.tree_of tree.now)) }
     ensures same_rows { IfOk result
-        (λ answer. IfSome answer (λ made. T.rows made ≡ T.rows tree.now)) }
+        (λ answer. IfSome answer (λ made. L.beside_of made ≡ L.beside_of tree.now)) }
 {
-    match tree.apply(alloc, Rule::Simplify)? {
+    match L::apply(alloc, tree, Rule::Simplify)? {
         Some(made) => Ok(Some(made)),
-        None => tree.apply(alloc, Rule::Reduce),
+        None => L::apply(alloc, tree, Rule::Reduce),
     }
 }
 
@@ -43,18 +44,18 @@ enum Found<T> {
 
 /// Goes on from a tree below frames to the next place at which a rule applies. What is settled on
 /// the way is marked, and what is marked is passed over.
-fn seek<C: ScalarFnRules, T: RewriteTree<C>>(
+fn seek<C: ScalarFnRules, L: RewriteLeaf<C>>(
     alloc: Global,
-    above: Vec<Frame<T>>,
-    node: T,
-) -> VortexResult<Found<T>>
-    requires frames { AreFrames (first_rule T.applied) (frames_in T.tree above.items) }
+    above: Vec<Frame<Tree<C, L>>>,
+    node: Tree<C, L>,
+) -> VortexResult<Found<Tree<C, L>>>
+    requires frames { AreFrames (first_rule L.applied) (frames_in L.tree_of above.items) }
     requires typed { IsSome (tree_type C.meaning
-        (plug (frames_in T.tree above.items) (T.tree node))) }
-    requires same_rows { HaveRows T.rows (T.rows node) above.items }
-    ensures answer { AnswersUnlessMemory result (IsFound (first_rule T.applied) T.tree
-        (plug (frames_in T.tree above.items) (T.tree node))) }
-    ensures same_rows { IfOk result (FoundHasRows T.rows (T.rows node)) }
+        (plug (frames_in L.tree_of above.items) (L.tree_of node))) }
+    requires same_rows { HaveRows L.beside_of (L.beside_of node) above.items }
+    ensures answer { AnswersUnlessMemory result (IsFound (first_rule L.applied) L.tree_of
+        (plug (frames_in L.tree_of above.items) (L.tree_of node))) }
+    ensures same_rows { IfOk result (FoundHasRows L.beside_of (L.beside_of node)) }
 {
     let mut above = above;
     let mut node = node;
@@ -99,18 +100,18 @@ pub struct Optimized<T: Drop> {
 }
 
 /// At most `limit` steps from a tree. After one it goes on within what the rule made there.
-fn take_steps<C: ScalarFnRules, T: RewriteTree<C>>(
+fn take_steps<C: ScalarFnRules, L: RewriteLeaf<C>>(
     alloc: Global,
-    tree: &T,
+    tree: &Tree<C, L>,
     limit: u64,
-) -> VortexResult<Optimized<T>>
+) -> VortexResult<Optimized<Tree<C, L>>>
     ensures run { AnswersUnlessMemory result
-        (λ o. Runs (first_rule T.applied) o.steps (T.tree tree.now) (T.tree o.tree)) }
+        (λ o. Runs (first_rule L.applied) o.steps (L.tree_of tree.now) (L.tree_of o.tree)) }
     ensures limited { IfOk result (λ o. o.steps ≤ limit) }
     ensures done { IfOk result
-        (λ o. IsTrue o.done ↔ (step (first_rule T.applied) (T.tree o.tree) ≡ None)) }
+        (λ o. IsTrue o.done ↔ (step (first_rule L.applied) (L.tree_of o.tree) ≡ None)) }
     ensures stopped { IfOk result (λ o. o.done ≡ false → o.steps ≡ limit) }
-    ensures same_rows { IfOk result (λ o. T.rows o.tree ≡ T.rows tree.now) }
+    ensures same_rows { IfOk result (λ o. L.beside_of o.tree ≡ L.beside_of tree.now) }
 {
     let _typed = tree.dtype();
     let mut above = Vec::new(alloc);
@@ -144,25 +145,25 @@ fn take_steps<C: ScalarFnRules, T: RewriteTree<C>>(
 /// A run of steps: each rewrites the first place, children from left to right before their parent,
 /// at which a rule applies, by Simplify before Reduce. It stops where no rule applies anywhere, or
 /// after `limit` steps; a tree of shipped functions alone needs fewer than it weighs. E9 alone.
-pub fn optimize_recursive<C: ScalarFnRules, T: RewriteTree<C>>(
+pub fn optimize_recursive<C: ScalarFnRules, L: RewriteLeaf<C>>(
     alloc: Global,
-    tree: &T,
+    tree: &Tree<C, L>,
     limit: u64,
-) -> VortexResult<Optimized<T>>
+) -> VortexResult<Optimized<Tree<C, L>>>
     ensures run { AnswersUnlessMemory result
-        (λ o. Runs (first_rule T.applied) o.steps (T.tree tree.now) (T.tree o.tree)) }
-    ensures kept { IfOk result (λ o. Rewrites C.meaning (T.tree tree.now) (T.tree o.tree)) }
+        (λ o. Runs (first_rule L.applied) o.steps (L.tree_of tree.now) (L.tree_of o.tree)) }
+    ensures kept { IfOk result (λ o. Rewrites C.meaning (L.tree_of tree.now) (L.tree_of o.tree)) }
     ensures limited { IfOk result (λ o. o.steps ≤ limit) }
     ensures done { IfOk result
-        (λ o. IsTrue o.done ↔ (step (first_rule T.applied) (T.tree o.tree) ≡ None)) }
+        (λ o. IsTrue o.done ↔ (step (first_rule L.applied) (L.tree_of o.tree) ≡ None)) }
     ensures stopped { IfOk result (λ o. o.done ≡ false → o.steps ≡ limit) }
-    ensures lighter { IfOk result (λ o. OnlyShipped (T.tree tree.now)
-        → IsLighter C.meaning o.steps (T.tree tree.now) (T.tree o.tree)) }
-    ensures fewer { IfOk result (λ o. OnlyShipped (T.tree tree.now)
-        → o.steps < weight C.meaning (T.tree tree.now)) }
-    ensures ends { IfOk result (λ o. OnlyShipped (T.tree tree.now)
-        → weight C.meaning (T.tree tree.now) ≤ limit → IsTrue o.done) }
-    ensures same_rows { IfOk result (λ o. T.rows o.tree ≡ T.rows tree.now) }
+    ensures lighter { IfOk result (λ o. OnlyShipped (L.tree_of tree.now)
+        → IsLighter C.meaning o.steps (L.tree_of tree.now) (L.tree_of o.tree)) }
+    ensures fewer { IfOk result (λ o. OnlyShipped (L.tree_of tree.now)
+        → o.steps < weight C.meaning (L.tree_of tree.now)) }
+    ensures ends { IfOk result (λ o. OnlyShipped (L.tree_of tree.now)
+        → weight C.meaning (L.tree_of tree.now) ≤ limit → IsTrue o.done) }
+    ensures same_rows { IfOk result (λ o. L.beside_of o.tree ≡ L.beside_of tree.now) }
 {
     let _typed = tree.dtype();
     let optimized = take_steps(alloc, tree, limit)?;

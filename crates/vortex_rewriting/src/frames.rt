@@ -6,9 +6,11 @@ ghost use Rattle.vortex_rewriting.specs.Driving.{first_rule};
 ghost use Rattle.vortex_rewriting.specs.Frames.{partly, plug, frames_in, AreFrames, HaveRows};
 ghost use Rattle.vortex_rewriting.specs.Frames.{IsNext};
 
-use crate::tree::RewriteTree;
+use crate::children::with_children;
+use crate::leaf::RewriteLeaf;
 use std::alloc::Global;
 use vortex_columns::VortexResult;
+use vortex_functions::Tree;
 use vortex_rules::ScalarFnRules;
 
 /// A node above, and its first children as they are now.
@@ -19,15 +21,15 @@ pub(crate) struct Frame<T> {
 }
 
 /// A copy of the child after those that are done; none where all are.
-pub(crate) fn next_child<C: ScalarFnRules, T: RewriteTree<C>>(
+pub(crate) fn next_child<C: ScalarFnRules, L: RewriteLeaf<C>>(
     alloc: Global,
-    node: &T,
-    done: &[T],
-) -> VortexResult<Option<T>>
+    node: &Tree<C, L>,
+    done: &[Tree<C, L>],
+) -> VortexResult<Option<Tree<C, L>>>
     ensures answer { AnswersUnlessMemory result
-        (λ next. IsNext (T.tree node.now) (map T.tree done.now) (option_map T.tree next)) }
+        (λ next. IsNext (L.tree_of node.now) (map L.tree_of done.now) (option_map L.tree_of next)) }
     ensures same_rows { IfOk result
-        (λ next. IfSome next (λ child. T.rows child ≡ T.rows node.now)) }
+        (λ next. IfSome next (λ child. L.beside_of child ≡ L.beside_of node.now)) }
 {
     if done.len() < node.children().len() {
         Ok(Some(node.child(done.len()).try_clone(alloc)?))
@@ -38,32 +40,32 @@ pub(crate) fn next_child<C: ScalarFnRules, T: RewriteTree<C>>(
 
 /// The node on its children as they are now, all of which are done. It is made anew even where they
 /// are as they were: only a call that no one else holds can be marked.
-pub(crate) fn over_children<C: ScalarFnRules, T: RewriteTree<C>>(
+pub(crate) fn over_children<C: ScalarFnRules, L: RewriteLeaf<C>>(
     alloc: Global,
-    node: T,
-    done: Vec<T>,
-) -> VortexResult<T>
-    requires all { length (children_of (T.tree node)) ≤ length done.items }
-    requires typed { IsSome (tree_type C.meaning (partly (T.tree node) (map T.tree done.items))) }
-    requires same_rows { All (λ child. T.rows child ≡ T.rows node) done.items }
+    node: Tree<C, L>,
+    done: Vec<Tree<C, L>>,
+) -> VortexResult<Tree<C, L>>
+    requires all { length (children_of (L.tree_of node)) ≤ length done.items }
+    requires typed { IsSome (tree_type C.meaning (partly (L.tree_of node) (map L.tree_of done.items))) }
+    requires same_rows { All (λ child. L.beside_of child ≡ L.beside_of node) done.items }
     ensures answer { AnswersUnlessMemory result
-        (λ made. T.tree made ≡ partly (T.tree node) (map T.tree done.items)) }
-    ensures same_rows { IfOk result (λ made. T.rows made ≡ T.rows node) }
+        (λ made. L.tree_of made ≡ partly (L.tree_of node) (map L.tree_of done.items)) }
+    ensures same_rows { IfOk result (λ made. L.beside_of made ≡ L.beside_of node) }
 {
     if done.is_empty() {
         return Ok(node);
     }
-    node.with_children(alloc, done)
+    with_children(alloc, &node, done)
 }
 
 /// The node on its first children as they are now, and the others as they were.
-fn closed<C: ScalarFnRules, T: RewriteTree<C>>(alloc: Global, frame: Frame<T>) -> VortexResult<T>
+fn closed<C: ScalarFnRules, L: RewriteLeaf<C>>(alloc: Global, frame: Frame<Tree<C, L>>) -> VortexResult<Tree<C, L>>
     requires typed { IsSome (tree_type C.meaning
-        (partly (T.tree frame.node) (map T.tree frame.done.items))) }
-    requires same_rows { All (λ child. T.rows child ≡ T.rows frame.node) frame.done.items }
+        (partly (L.tree_of frame.node) (map L.tree_of frame.done.items))) }
+    requires same_rows { All (λ child. L.beside_of child ≡ L.beside_of frame.node) frame.done.items }
     ensures answer { AnswersUnlessMemory result
-        (λ made. T.tree made ≡ partly (T.tree frame.node) (map T.tree frame.done.items)) }
-    ensures same_rows { IfOk result (λ made. T.rows made ≡ T.rows frame.node) }
+        (λ made. L.tree_of made ≡ partly (L.tree_of frame.node) (map L.tree_of frame.done.items)) }
+    ensures same_rows { IfOk result (λ made. L.beside_of made ≡ L.beside_of frame.node) }
 {
     let Frame { node, mut done } = frame;
     while let Some(child) = next_child(alloc, &node, &done)? {
@@ -73,18 +75,18 @@ fn closed<C: ScalarFnRules, T: RewriteTree<C>>(alloc: Global, frame: Frame<T>) -
 }
 
 /// The whole tree, with that tree below the frames.
-pub(crate) fn whole_tree<C: ScalarFnRules, T: RewriteTree<C>>(
+pub(crate) fn whole_tree<C: ScalarFnRules, L: RewriteLeaf<C>>(
     alloc: Global,
-    above: Vec<Frame<T>>,
-    place: T,
-) -> VortexResult<T>
-    requires frames { AreFrames (first_rule T.applied) (frames_in T.tree above.items) }
+    above: Vec<Frame<Tree<C, L>>>,
+    place: Tree<C, L>,
+) -> VortexResult<Tree<C, L>>
+    requires frames { AreFrames (first_rule L.applied) (frames_in L.tree_of above.items) }
     requires typed { IsSome (tree_type C.meaning
-        (plug (frames_in T.tree above.items) (T.tree place))) }
-    requires same_rows { HaveRows T.rows (T.rows place) above.items }
+        (plug (frames_in L.tree_of above.items) (L.tree_of place))) }
+    requires same_rows { HaveRows L.beside_of (L.beside_of place) above.items }
     ensures answer { AnswersUnlessMemory result
-        (λ whole. T.tree whole ≡ plug (frames_in T.tree above.items) (T.tree place)) }
-    ensures same_rows { IfOk result (λ whole. T.rows whole ≡ T.rows place) }
+        (λ whole. L.tree_of whole ≡ plug (frames_in L.tree_of above.items) (L.tree_of place)) }
+    ensures same_rows { IfOk result (λ whole. L.beside_of whole ≡ L.beside_of place) }
 {
     let mut above = above;
     let mut whole = place;

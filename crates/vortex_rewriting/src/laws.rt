@@ -3,9 +3,8 @@ ghost use Rattle.std.specs.Prelude.{All};
 ghost use Rattle.vortex_functions.specs.Words.{AreTyped};
 ghost use Rattle.vortex_rewriting.specs.Keeping.{RewritesKeepRows, RewritesKeepRowsOfArray};
 
-use vortex_arrays::ArrayRef;
 use vortex_columns::Column;
-use vortex_functions::BoundExpression;
+use vortex_functions::{ArrayRef, BoundExpression};
 use vortex_interface::ScalarFnVTable;
 
 /// The rows of columns have their types.
@@ -27,7 +26,7 @@ pub fn rewrites_keep_rows<C: ScalarFnVTable>(
 )
     ensures { RewritesKeepRows C.meaning columns.now row_count tree.now }
 {
-    tree.tells_types();
+    let _typed = tree.dtype();
     tell_types(columns);
 }
 

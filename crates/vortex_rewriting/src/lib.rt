@@ -1,22 +1,22 @@
 //! Rules at any place of a tree.
 #![tactic(auto)]
 
-mod array;
+mod array_leaf;
 mod children;
 pub mod driver;
-mod expression;
+mod expression_leaf;
 mod frames;
 pub mod laws;
+pub mod leaf;
 pub mod places;
 pub mod rewrite;
 pub mod rule;
 pub mod running;
-pub mod tree;
 mod ways;
 
 pub use driver::{Optimized, optimize_recursive};
+pub use leaf::RewriteLeaf;
 pub use places::{Rewritten, rewrite_at, rewrite_list};
 pub use rewrite::Rewrite;
 pub use rule::Rule;
 pub use running::{run, run_array};
-pub use tree::RewriteTree;

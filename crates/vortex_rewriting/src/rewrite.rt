@@ -1,5 +1,8 @@
 //! Rewriting, as methods of trees.
-ghost use Rattle.std.specs.Prelude.{◌≡◌, ◌<◌, ◌≤◌, ◌↔◌, IfOk, IfSome, IsTrue, None, Some, false};
+ghost use Rattle.std.specs.Prelude.{◌≡◌, ◌<◌, ◌≤◌, ◌↔◌, IfOk, IfSome, IsTrue, None, Option, Some};
+ghost use Rattle.std.specs.Prelude.{false};
+ghost use Rattle.vortex_meaning.specs.Trees.{Tree};
+ghost use Rattle.vortex_rewriting.specs.declared.rule.Rule.{Rule};
 ghost use Rattle.vortex_errors.specs.Answers.{Answers};
 ghost use Rattle.vortex_errors.specs.declared.error.VortexError.TheVariants.{NoSuchPlace};
 ghost use Rattle.vortex_meaning.specs.Places.{rewritten_list};
@@ -11,31 +14,44 @@ ghost use Rattle.vortex_rewriting.specs.Driving.{first_rule};
 ghost use Rattle.vortex_rewriting.specs.Rewriting.{AnswersRewritten, steps_of};
 
 use crate::driver::{self, Optimized};
+use crate::leaf::RewriteLeaf;
 use crate::places::{self, Rewritten};
 use crate::rule::Rule;
-use crate::tree::RewriteTree;
 use std::alloc::Global;
 use vortex_columns::VortexResult;
+use vortex_functions::Tree;
 use vortex_rules::ScalarFnRules;
 
 /// Rewriting, as methods of every tree that is rewritten.
-pub trait Rewrite<C: ScalarFnRules>: RewriteTree<C> {
+pub trait Rewrite<C: ScalarFnRules>: Sized + Drop {
+    /// What stands beside a tree: its row count, or nothing.
+    type Beside;
+
+    /// The tree.
+    ghost tree: { Self → Tree C C.Options };
+
+    /// What stands beside it.
+    ghost rows: { Self → Self.Beside };
+
+    /// What a rule makes of a tree of this kind at its root.
+    ghost applied: { Rule → Tree C C.Options → Option (Tree C C.Options) };
+
     /// What a rule makes of the tree at the place that the path of child numbers leads to, all else
     /// as it was; None where the rule does not apply there. E13 where the path leaves the tree, and
     /// else E9 alone.
     fn rewrite_at(&self, alloc: Global, path: &[usize], rule: Rule) -> VortexResult<Option<Self>>
-        ensures answer { AnswersRewritten Self.tree (Self.applied rule) path.now
-            (Self.tree self.now) result }
+        ensures answer { AnswersRewritten tree (applied rule) path.now
+            (tree self.now) result }
         ensures kept { IfOk result (λ answer. IfSome answer
-            (λ made. Rewrites C.meaning (Self.tree self.now) (Self.tree made))) }
+            (λ made. Rewrites C.meaning (tree self.now) (tree made))) }
         ensures lighter { IfOk result (λ answer. IfSome answer
-            (λ made. OnlyShipped (Self.tree self.now)
-            → IsLighter C.meaning 1 (Self.tree self.now) (Self.tree made))) }
+            (λ made. OnlyShipped (tree self.now)
+            → IsLighter C.meaning 1 (tree self.now) (tree made))) }
         ensures fewer { IfOk result (λ answer. IfSome answer
-            (λ made. OnlyShipped (Self.tree self.now)
-            → 1 < weight C.meaning (Self.tree self.now))) }
+            (λ made. OnlyShipped (tree self.now)
+            → 1 < weight C.meaning (tree self.now))) }
         ensures same_rows { IfOk result
-            (λ answer. IfSome answer (λ made. Self.rows made ≡ Self.rows self.now)) };
+            (λ answer. IfSome answer (λ made. rows made ≡ rows self.now)) };
 
     /// What rules at places make of the tree, one after another: each step, a path of child numbers
     /// and a rule, is taken on the tree that those before it left. A step whose rule does not apply
@@ -47,17 +63,17 @@ pub trait Rewrite<C: ScalarFnRules>: RewriteTree<C> {
         steps: &[(&[usize], Rule)],
     ) -> VortexResult<Rewritten<Self>>
         ensures answer { Answers result
-            (λ made. rewritten_list Self.applied (steps_of steps.now) (Self.tree self.now)
-            ≡ Some (Self.tree made.tree, made.applied))
+            (λ made. rewritten_list applied (steps_of steps.now) (tree self.now)
+            ≡ Some (tree made.tree, made.applied))
             (λ e. (e ≡ NoSuchPlace)
-            × (rewritten_list Self.applied (steps_of steps.now) (Self.tree self.now) ≡ None)) }
+            × (rewritten_list applied (steps_of steps.now) (tree self.now) ≡ None)) }
         ensures kept { IfOk result
-            (λ made. Rewrites C.meaning (Self.tree self.now) (Self.tree made.tree)) }
-        ensures lighter { IfOk result (λ made. OnlyShipped (Self.tree self.now)
-            → IsLighter C.meaning made.applied (Self.tree self.now) (Self.tree made.tree)) }
-        ensures fewer { IfOk result (λ made. OnlyShipped (Self.tree self.now)
-            → made.applied < weight C.meaning (Self.tree self.now)) }
-        ensures same_rows { IfOk result (λ made. Self.rows made.tree ≡ Self.rows self.now) };
+            (λ made. Rewrites C.meaning (tree self.now) (tree made.tree)) }
+        ensures lighter { IfOk result (λ made. OnlyShipped (tree self.now)
+            → IsLighter C.meaning made.applied (tree self.now) (tree made.tree)) }
+        ensures fewer { IfOk result (λ made. OnlyShipped (tree self.now)
+            → made.applied < weight C.meaning (tree self.now)) }
+        ensures same_rows { IfOk result (λ made. rows made.tree ≡ rows self.now) };
 
     /// A run of steps: each rewrites the first place, children from left to right before their
     /// parent, at which a rule applies, by Simplify before Reduce. It stops where no rule applies
@@ -65,24 +81,37 @@ pub trait Rewrite<C: ScalarFnRules>: RewriteTree<C> {
     /// weighs. E9 alone.
     fn optimize_recursive(&self, alloc: Global, limit: u64) -> VortexResult<Optimized<Self>>
         ensures run { AnswersUnlessMemory result (λ o.
-            Runs (first_rule Self.applied) o.steps (Self.tree self.now) (Self.tree o.tree)) }
+            Runs (first_rule applied) o.steps (tree self.now) (tree o.tree)) }
         ensures kept { IfOk result
-            (λ o. Rewrites C.meaning (Self.tree self.now) (Self.tree o.tree)) }
+            (λ o. Rewrites C.meaning (tree self.now) (tree o.tree)) }
         ensures limited { IfOk result (λ o. o.steps ≤ limit) }
         ensures done { IfOk result
-            (λ o. IsTrue o.done ↔ (step (first_rule Self.applied) (Self.tree o.tree) ≡ None)) }
+            (λ o. IsTrue o.done ↔ (step (first_rule applied) (tree o.tree) ≡ None)) }
         ensures stopped { IfOk result (λ o. o.done ≡ false → o.steps ≡ limit) }
-        ensures lighter { IfOk result (λ o. OnlyShipped (Self.tree self.now)
-            → IsLighter C.meaning o.steps (Self.tree self.now) (Self.tree o.tree)) }
-        ensures fewer { IfOk result (λ o. OnlyShipped (Self.tree self.now)
-            → o.steps < weight C.meaning (Self.tree self.now)) }
-        ensures ends { IfOk result (λ o. OnlyShipped (Self.tree self.now)
-            → weight C.meaning (Self.tree self.now) ≤ limit → IsTrue o.done) }
-        ensures same_rows { IfOk result (λ o. Self.rows o.tree ≡ Self.rows self.now) };
+        ensures lighter { IfOk result (λ o. OnlyShipped (tree self.now)
+            → IsLighter C.meaning o.steps (tree self.now) (tree o.tree)) }
+        ensures fewer { IfOk result (λ o. OnlyShipped (tree self.now)
+            → o.steps < weight C.meaning (tree self.now)) }
+        ensures ends { IfOk result (λ o. OnlyShipped (tree self.now)
+            → weight C.meaning (tree self.now) ≤ limit → IsTrue o.done) }
+        ensures same_rows { IfOk result (λ o. rows o.tree ≡ rows self.now) };
 }
 
-impl<C: ScalarFnRules, T: RewriteTree<C>> Rewrite<C> for T {
-    fn rewrite_at(&self, alloc: Global, path: &[usize], rule: Rule) -> VortexResult<Option<T>> {
+impl<C: ScalarFnRules, L: RewriteLeaf<C>> Rewrite<C> for Tree<C, L> {
+    type Beside = L::Beside;
+
+    ghost tree = { L.tree_of };
+
+    ghost rows = { L.beside_of };
+
+    ghost applied = { L.applied };
+
+    fn rewrite_at(
+        &self,
+        alloc: Global,
+        path: &[usize],
+        rule: Rule,
+    ) -> VortexResult<Option<Tree<C, L>>> {
         places::rewrite_at(alloc, self, path, rule)
     }
 
@@ -90,11 +119,15 @@ impl<C: ScalarFnRules, T: RewriteTree<C>> Rewrite<C> for T {
         &self,
         alloc: Global,
         steps: &[(&[usize], Rule)],
-    ) -> VortexResult<Rewritten<T>> {
+    ) -> VortexResult<Rewritten<Tree<C, L>>> {
         places::rewrite_list(alloc, self, steps)
     }
 
-    fn optimize_recursive(&self, alloc: Global, limit: u64) -> VortexResult<Optimized<T>> {
+    fn optimize_recursive(
+        &self,
+        alloc: Global,
+        limit: u64,
+    ) -> VortexResult<Optimized<Tree<C, L>>> {
         driver::optimize_recursive(alloc, self, limit)
     }
 }

@@ -7,9 +7,8 @@ ghost use Rattle.vortex_rewriting.specs.Runs.{AnswersRun, AnswersRunOfArray};
 use crate::driver::optimize_recursive;
 use std::alloc::Global;
 use std::borrow::Cow;
-use vortex_arrays::ArrayRef;
 use vortex_columns::{Column, ExecutionCtx, VortexResult};
-use vortex_functions::BoundExpression;
+use vortex_functions::{ArrayRef, BoundExpression};
 use vortex_rules::ScalarFnRules;
 
 /// The rows, over columns, of the tree that a run of at most `limit` steps leads to: in each row in
@@ -30,9 +29,8 @@ pub fn run<'a, C: ScalarFnRules>(
 ) -> VortexResult<Cow<'a, Column>>
     ensures { AnswersRun C.meaning C.rules limit columns.now row_count tree.now result }
 {
-    // they say that the tree is well typed, and that each literal has its type
+    // it says that the tree is well typed, and that each literal has its type
     let _typed = tree.dtype();
-    tree.tells_types();
     tree.check_columns(columns, row_count, ctx)?;
     let optimized = optimize_recursive(ctx.alloc(), tree, limit)?;
     optimized.tree.execute(columns, row_count, ctx)

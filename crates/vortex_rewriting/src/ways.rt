@@ -6,7 +6,7 @@ ghost use Rattle.vortex_functions.specs.Words.{tree_type, AnswersUnlessMemory};
 ghost use Rattle.vortex_rewriting.specs.Ways.{IsWay, with_parents, LeadsOn, Leaves};
 
 use crate::children::with_child;
-use crate::tree::RewriteTree;
+use crate::leaf::RewriteLeaf;
 use std::alloc::Global;
 use vortex_columns::{VortexError, VortexResult};
 use vortex_rules::ScalarFnRules;
@@ -27,20 +27,20 @@ pub(crate) struct Way<'t, T> {
 
 /// The way that the path leads, whose depth takes memory and no stack. E13 where it leaves the
 /// tree, and else E9 alone.
-pub(crate) fn way_down<'t, C: ScalarFnRules, T: RewriteTree<C>>(
+pub(crate) fn way_down<'t, C: ScalarFnRules, L: RewriteLeaf<C>>(
     alloc: Global,
-    tree: &'t T,
+    tree: &'t Tree<C, L>,
     path: &[usize],
-) -> VortexResult<Way<'t, T>>
+) -> VortexResult<Way<'t, Tree<C, L>>>
     ensures answer { Answers result
-        (λ way. IsWay (map (λ p. (T.tree p.node.now, p.index)) way.parents.items)
-        (T.tree tree.now) (T.tree way.place.now)
-        × LeadsOn path.now (T.tree tree.now)
-        (map (λ p. (T.tree p.node.now, p.index)) way.parents.items) [] (T.tree way.place.now))
-        (λ e. (e ≡ NoSuchPlace) × Leaves path.now (T.tree tree.now)) }
+        (λ way. IsWay (map (λ p. (L.tree_of p.node.now, p.index)) way.parents.items)
+        (L.tree_of tree.now) (L.tree_of way.place.now)
+        × LeadsOn path.now (L.tree_of tree.now)
+        (map (λ p. (L.tree_of p.node.now, p.index)) way.parents.items) [] (L.tree_of way.place.now))
+        (λ e. (e ≡ NoSuchPlace) × Leaves path.now (L.tree_of tree.now)) }
     ensures same_rows { IfOk result
-        (λ way. All (λ p. T.rows p.node.now ≡ T.rows tree.now) way.parents.items
-        × (T.rows way.place.now ≡ T.rows tree.now)) }
+        (λ way. All (λ p. L.beside_of p.node.now ≡ L.beside_of tree.now) way.parents.items
+        × (L.beside_of way.place.now ≡ L.beside_of tree.now)) }
 {
     let mut parents = Vec::new(alloc);
     let mut place = tree;
@@ -58,22 +58,22 @@ pub(crate) fn way_down<'t, C: ScalarFnRules, T: RewriteTree<C>>(
 }
 
 /// The tree with another one, of the old one's type and row count, at the end of the way. E9 alone.
-pub(crate) fn way_up<'t, C: ScalarFnRules, T: RewriteTree<C>>(
+pub(crate) fn way_up<'t, C: ScalarFnRules, L: RewriteLeaf<C>>(
     alloc: Global,
-    tree: &T,
-    way: Way<'t, T>,
-    new: T,
-) -> VortexResult<T>
-    requires way { IsWay (map (λ p. (T.tree p.node.now, p.index)) way.parents.items)
-        (T.tree tree.now) (T.tree way.place.now) }
-    requires same_type { tree_type C.meaning (T.tree new)
-        ≡ tree_type C.meaning (T.tree way.place.now) }
-    requires parent_rows { All (λ p. T.rows p.node.now ≡ T.rows tree.now) way.parents.items }
-    requires same_rows { T.rows new ≡ T.rows tree.now }
-    ensures answer { AnswersUnlessMemory result (λ made. T.tree made
-        ≡ with_parents (map (λ p. (T.tree p.node.now, p.index)) way.entry.parents.items)
-        (T.tree new)) }
-    ensures same_rows { IfOk result (λ made. T.rows made ≡ T.rows tree.now) }
+    tree: &Tree<C, L>,
+    way: Way<'t, Tree<C, L>>,
+    new: Tree<C, L>,
+) -> VortexResult<Tree<C, L>>
+    requires way { IsWay (map (λ p. (L.tree_of p.node.now, p.index)) way.parents.items)
+        (L.tree_of tree.now) (L.tree_of way.place.now) }
+    requires same_type { tree_type C.meaning (L.tree_of new)
+        ≡ tree_type C.meaning (L.tree_of way.place.now) }
+    requires parent_rows { All (λ p. L.beside_of p.node.now ≡ L.beside_of tree.now) way.parents.items }
+    requires same_rows { L.beside_of new ≡ L.beside_of tree.now }
+    ensures answer { AnswersUnlessMemory result (λ made. L.tree_of made
+        ≡ with_parents (map (λ p. (L.tree_of p.node.now, p.index)) way.entry.parents.items)
+        (L.tree_of new)) }
+    ensures same_rows { IfOk result (λ made. L.beside_of made ≡ L.beside_of tree.now) }
 {
     let mut parents = way.parents;
     let mut made = new;

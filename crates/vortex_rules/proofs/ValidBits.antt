@@ -12,7 +12,7 @@ use Rattle.vortex_columns.specs.ValidityView.{ValidityForm, ValidityView, non_nu
 use Rattle.vortex_columns.specs.ValidityView.{all_invalid, array}
 use Rattle.vortex_columns.specs.Stored.{bool_column}
 use Rattle.vortex_meaning.specs.ValidityRules.{validity_column, column_validity}
-use Rattle.vortex_arrays.specs.Arrays.{column_tree}
+use Rattle.vortex_functions.specs.Arrays.{column_tree}
 use Rattle.vortex_rules.specs.ColumnValidity.{validity_by_form}
 
 abbrev pub plain : ValidityView

@@ -2,8 +2,8 @@
 use Rattle.std.specs.Prelude.{Option, Some, None, IfSome, []}
 use Rattle.vortex_meaning.specs.Meaning.{Meaning}
 use Rattle.vortex_meaning.specs.Rewrites.{Rewrites}
-use Rattle.vortex_arrays.specs.Arrays.{Array, tree_in, IsTyped}
-use Rattle.vortex_arrays.specs.Executing.{KeepsValues}
+use Rattle.vortex_functions.specs.Arrays.{Array, tree_in, IsTyped}
+use Rattle.vortex_functions.specs.ArrayExecuting.{KeepsValues}
 use Rattle.vortex_rules.specs.declared.tree_node.TreeReduceNode.{TreeReduceNode}
 use Rattle.vortex_rules.specs.NodeTrees.{array_of, tree_of}
 

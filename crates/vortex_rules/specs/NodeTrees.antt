@@ -2,7 +2,7 @@
 use Rattle.std.specs.Prelude.{ℕ}
 use Rattle.std.specs.Cow.{cow_value}
 use Rattle.vortex_meaning.specs.Trees.{Tree}
-use Rattle.vortex_arrays.specs.Arrays.{Array, tree_in, rows_in}
+use Rattle.vortex_functions.specs.Arrays.{Array, tree_in, rows_in}
 use Rattle.vortex_rules.specs.declared.tree_node.TreeReduceNode.{TreeReduceNode}
 
 module _ {V O : Type 0} where

@@ -1,5 +1,5 @@
 //! Nodes that rules run over: each stands for a tree.
-ghost use Rattle.std.specs.Prelude.{◌≡◌, ◌<◌, ℕ, All, IfOk, IsOkAnd, MatchOption, None, Some};
+ghost use Rattle.std.specs.Prelude.{◌≡◌, ◌<◌, All, IfOk, IsOkAnd, MatchOption, None, Some};
 ghost use Rattle.std.specs.Prelude.{length, slice_get};
 ghost use Rattle.std.specs.Option.{option_copied};
 ghost use Rattle.vortex_meaning.specs.Trees.{Tree};
@@ -29,8 +29,11 @@ pub trait ReduceTree<C: ScalarFnVTable>: Sized + Drop {
     /// The tree that the node stands for.
     ghost tree: { Self → Tree C C.Options };
 
-    /// The context in which it stands: how many rows an array tree has, and 0 for an expression.
-    ghost rows: { Self → ℕ };
+    /// What stands beside a tree: its row count, or nothing.
+    type Beside;
+
+    /// What stands beside the tree: how many rows an array tree has, and nothing for an expression.
+    ghost rows: { Self → Self.Beside };
 
     /// That the tree is lent, so that walking down takes no memory.
     ghost lent: { Self → Type 0 };

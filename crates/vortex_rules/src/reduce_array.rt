@@ -4,7 +4,7 @@ ghost use Rattle.vortex_meaning.specs.Functions.{Function};
 ghost use Rattle.vortex_meaning.specs.Rewrites.{Rewrites};
 ghost use Rattle.vortex_functions.specs.Words.{called, function_of, AnswersUnlessMemory};
 ghost use Rattle.vortex_rules.specs.Reduced.{IsReducedBy};
-ghost use Rattle.vortex_arrays.specs.Executing.{KeepsValues};
+ghost use Rattle.vortex_functions.specs.ArrayExecuting.{KeepsValues};
 ghost use Rattle.vortex_rules.specs.NodeTrees.{array_of, tree_of, rows_of};
 
 use crate::dispatch::reduce_call;

@@ -1,18 +1,17 @@
 //! Nodes over trees of either kind.
-ghost use Rattle.std.specs.Prelude.{◌≡◌, All, IfOk, IsOk, map};
+ghost use Rattle.std.specs.Prelude.{◌≡◌, IsOk, map};
 ghost use Rattle.std.specs.Cow.{cow_value, IsBorrowed, IsOwned};
-ghost use Rattle.vortex_functions.specs.Words.{function_of, AnswersUnlessMemory};
-ghost use Rattle.vortex_rules.specs.Making.{AnswersCall};
+ghost use Rattle.vortex_functions.specs.Words.{AnswersUnlessMemory};
 
 use crate::dispatch::validity_call;
+use crate::leaf::RuleLeaf;
 use crate::node::{ReduceNodeValidity, ReduceTree};
 use crate::rules::{ReduceNode, ScalarFnRules};
-use crate::tree::BoundTree;
 use std::alloc::Global;
 use std::borrow::Cow;
-use vortex_arrays::ArrayRef;
 use vortex_columns::{DType, Nullability, Scalar, VortexResult};
-use vortex_functions::{BoundExpression, ScalarFnRef};
+use vortex_functions::tree::{Leaf, Tree};
+use vortex_functions::{ArrayRef, BoundExpression, ScalarFnRef};
 use vortex_interface::ScalarFnVTable;
 
 /// A node that stands for a tree, lent or its own. Walking a lent one copies nothing.
@@ -102,10 +101,10 @@ impl<'a, C: ScalarFnVTable> TreeReduceNode<'a, ArrayRef<C>> {
 }
 
 /// The tree that a node stood for, copied where it is lent.
-fn into_tree<'a, C: ScalarFnVTable, T: BoundTree<C>>(
+fn into_tree<'a, C: ScalarFnVTable, L: Leaf<C>>(
     alloc: Global,
-    node: TreeReduceNode<'a, T>,
-) -> VortexResult<T>
+    node: TreeReduceNode<'a, Tree<C, L>>,
+) -> VortexResult<Tree<C, L>>
     ensures answer { AnswersUnlessMemory result (λ t. t ≡ cow_value node.entry.tree) }
     ensures owned { IsOwned node.entry.tree → IsOk result }
 {
@@ -116,10 +115,10 @@ fn into_tree<'a, C: ScalarFnVTable, T: BoundTree<C>>(
 }
 
 /// Copies of what nodes stand for.
-fn copies_of<'a, C: ScalarFnVTable, T: BoundTree<C>>(
+fn copies_of<'a, C: ScalarFnVTable, L: Leaf<C>>(
     alloc: Global,
-    nodes: &[TreeReduceNode<'a, T>],
-) -> VortexResult<Vec<T>>
+    nodes: &[TreeReduceNode<'a, Tree<C, L>>],
+) -> VortexResult<Vec<Tree<C, L>>>
     ensures { AnswersUnlessMemory result
         (λ copies. copies.items ≡ map (λ n. cow_value n.tree) nodes.now) }
 {
@@ -130,10 +129,12 @@ fn copies_of<'a, C: ScalarFnVTable, T: BoundTree<C>>(
     Ok(copies)
 }
 
-impl<'a, C: ScalarFnVTable, T: BoundTree<C>> ReduceTree<C> for TreeReduceNode<'a, T> {
-    ghost tree = { λ n. T.tree (cow_value n.tree) };
+impl<'a, C: ScalarFnVTable, L: RuleLeaf<C>> ReduceTree<C> for TreeReduceNode<'a, Tree<C, L>> {
+    type Beside = L::Beside;
 
-    ghost rows = { λ n. T.rows (cow_value n.tree) };
+    ghost tree = { λ n. L.tree_of (cow_value n.tree) };
+
+    ghost rows = { λ n. L.beside_of (cow_value n.tree) };
 
     ghost lent = { λ n. IsBorrowed n.tree };
 
@@ -152,7 +153,7 @@ impl<'a, C: ScalarFnVTable, T: BoundTree<C>> ReduceTree<C> for TreeReduceNode<'a
     fn child(&self, alloc: Global, index: usize) -> VortexResult<Self> {
         match &self.tree {
             Cow::Borrowed(tree) => {
-                let tree: &'a T = *tree;
+                let tree: &'a Tree<C, L> = *tree;
                 Ok(TreeReduceNode {
                     tree: Cow::Borrowed(tree.child(index)),
                 })
@@ -169,33 +170,27 @@ impl<'a, C: ScalarFnVTable, T: BoundTree<C>> ReduceTree<C> for TreeReduceNode<'a
         function: ScalarFnRef<C>,
         children: &[Self],
     ) -> VortexResult<Self>
-        requires { All (λ child. T.rows (cow_value child.tree) ≡ T.rows (cow_value self.now.tree))
-            children.now }
-        ensures answer { AnswersCall C.meaning (λ n. T.tree (cow_value n.tree))
-            (function_of function) children.now result }
-        ensures same_rows { IfOk result
-            (λ node. T.rows (cow_value node.tree) ≡ T.rows (cow_value self.now.tree)) }
     {
         let copies = copies_of(alloc, children)?;
-        let call = self.tree().new_call(alloc, function, copies)?;
+        let call = Tree::try_call(alloc, function, copies, self.tree().beside())?;
         Ok(TreeReduceNode {
             tree: Cow::Owned(call),
         })
     }
 
     fn as_constant(&self) -> Option<&Scalar> {
-        self.tree().as_constant()
+        L::as_constant(self.tree())
     }
 
     fn new_constant(&self, alloc: Global, scalar: Scalar) -> VortexResult<Self> {
-        let constant = self.tree().new_constant(alloc, scalar)?;
+        let constant = L::new_constant(alloc, scalar, self.tree().beside())?;
         Ok(TreeReduceNode {
             tree: Cow::Owned(constant),
         })
     }
 }
 
-impl<'a, C: ScalarFnRules, T: BoundTree<C>> ReduceNode<C> for TreeReduceNode<'a, T> {
+impl<'a, C: ScalarFnRules, L: RuleLeaf<C>> ReduceNode<C> for TreeReduceNode<'a, Tree<C, L>> {
     fn validity(&self, alloc: Global) -> VortexResult<ReduceNodeValidity<Self>> {
         if let Some(scalar) = self.as_constant() {
             let valid = Scalar::bool(!scalar.is_null(), Nullability::NonNullable);
@@ -205,7 +200,7 @@ impl<'a, C: ScalarFnRules, T: BoundTree<C>> ReduceNode<C> for TreeReduceNode<'a,
         if let Some(function) = self.scalar_fn() {
             return validity_call(alloc, function, self);
         }
-        match self.tree().leaf_validity(alloc)? {
+        match L::leaf_validity(alloc, self.tree())? {
             Some(valid) => Ok(ReduceNodeValidity::Reduced(TreeReduceNode {
                 tree: Cow::Owned(valid),
             })),

@@ -29,7 +29,7 @@ loop-answer-preserved g c =
     let answers = c.args.answers.now in
     let answer = c.answer-item.result in (
       placed_more IsBound (λ a. a.tree) answers k _ answer (add-one k) c.loop-answer-test.true
-          c.answer-item.is c.loop-answer.invariant.0 c.tells_types.ensures,
+          c.answer-item.is c.loop-answer.invariant.0 c.dtype-typed.ensures.typed,
       fit_more g.C.ScalarFnVTable.meaning c.args.columns.now c.args.row_count (λ a. a.tree) answers
           k
           _ answer (add-one k) c.loop-answer-test.true c.answer-item.is c.loop-answer.invariant.1

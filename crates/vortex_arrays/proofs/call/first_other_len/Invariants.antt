@@ -1,5 +1,5 @@
 use Rattle.std.proofs.Common.{◌≡◌, drop}
-use Rattle.vortex_arrays.specs.Arrays.{other_rows}
+use Rattle.vortex_functions.specs.Arrays.{other_rows}
 use Rattle.vortex_arrays.proofs.call.first_other_len.Given as goal
 
 -- those that were passed have the row count

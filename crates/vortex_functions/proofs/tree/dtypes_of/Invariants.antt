@@ -3,12 +3,12 @@ use Rattle.std.specs.Prelude.{All}
 use Rattle.vortex_types.specs.TypeOf.{type_of}
 use Rattle.vortex_meaning.specs.Trees.{trees_of}
 use Rattle.vortex_meaning.specs.Eval.{tree_types}
-use Rattle.vortex_meaning.specs.Made.{IsBound}
 use Rattle.vortex_functions.proofs.tree.dtypes_of.Given as goal
 
--- the types so far, of trees that are bound
+-- the types so far, of trees that are whole
 abbrev pub invariant-loop-child : goal.invariant-loop-child
 invariant-loop-child g l =
-    (tree_types g.C.ScalarFnVTable.meaning (trees_of (take l.child-index l.children)) ≡ Some
+    (tree_types g.C.ScalarFnVTable.meaning
+    (trees_of (take l.child-index (map g.L.Leaf.tree_of l.children))) ≡ Some
     (map type_of l.dtypes.items))
-    × All IsBound (take l.child-index l.children)
+    × All g.L.Leaf.whole (take l.child-index l.children)

@@ -11,7 +11,7 @@ use Rattle.vortex_rewriting.proofs.children.with_child.Goals as goal
 pub with_children-requires-clause-typed : goal.with_children-requires-clause-typed
 with_children-requires-clause-typed g c =
     let m = g.C.ScalarFnVTable.meaning in
-    let tree = g.T.BoundTree.tree in
+    let tree = g.L.Leaf.tree_of in
     let parent = tree c.args.parent.now in
     let us = map tree c.in_ok-copies.copies.items in
     some_is (tree_type m (with_children parent us)) (type_of c.dtype-typed.result.now)
@@ -19,4 +19,4 @@ with_children-requires-clause-typed g c =
     (ap (λ ts. tree_types m (trees_of ts)) c.in_ok-copies.ensures.answer
     ∙ other_types m (children_of parent) c.args.index (tree c.args.child) c.requires.is_child
     c.requires.same_type)
-    ∙ c.dtype-typed.ensures)
+    ∙ c.dtype-typed.ensures.dtype)

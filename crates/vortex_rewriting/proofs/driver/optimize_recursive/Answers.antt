@@ -6,27 +6,27 @@ use Rattle.vortex_rewriting.proofs.driver.optimize_recursive.Goals as goal
 
 pub returns-clause-kept : goal.returns-clause-kept
 returns-clause-kept g c =
-    let tree = g.T.BoundTree.tree in
+    let tree = g.L.Leaf.tree_of in
     let o = c.in_ok-optimized.optimized in
-    run_rewrites g.C.ScalarFnVTable.meaning g.T.RewriteTree.applied o.steps (tree c.args.tree.now)
-    (tree o.tree) (type_of c.dtype-typed.result.now) c.dtype-typed.ensures
-    c.in_ok-optimized.ensures.run g.met.T.RewriteTree.sound
+    run_rewrites g.C.ScalarFnVTable.meaning g.L.RewriteLeaf.applied o.steps (tree c.args.tree.now)
+    (tree o.tree) (type_of c.dtype-typed.result.now) c.dtype-typed.ensures.dtype
+    c.in_ok-optimized.ensures.run g.met.L.RewriteLeaf.sound
 
 pub returns-clause-lighter : goal.returns-clause-lighter
 returns-clause-lighter g c =
-    let tree = g.T.BoundTree.tree in
+    let tree = g.L.Leaf.tree_of in
     let o = c.in_ok-optimized.optimized in
-    run_lighter g.C.ScalarFnVTable.meaning g.T.RewriteTree.applied o.steps (tree c.args.tree.now)
-    (tree o.tree) (type_of c.dtype-typed.result.now) c.dtype-typed.ensures
-    c.in_ok-optimized.ensures.run g.met.T.RewriteTree.lightens
+    run_lighter g.C.ScalarFnVTable.meaning g.L.RewriteLeaf.applied o.steps (tree c.args.tree.now)
+    (tree o.tree) (type_of c.dtype-typed.result.now) c.dtype-typed.ensures.dtype
+    c.in_ok-optimized.ensures.run g.met.L.RewriteLeaf.lightens
 
 pub returns-clause-fewer : goal.returns-clause-fewer
 returns-clause-fewer g c =
-    let tree = g.T.BoundTree.tree in
+    let tree = g.L.Leaf.tree_of in
     let o = c.in_ok-optimized.optimized in
-    run_fewer g.C.ScalarFnVTable.meaning g.T.RewriteTree.applied o.steps (tree c.args.tree.now)
-    (tree o.tree) (type_of c.dtype-typed.result.now) c.dtype-typed.ensures
-    c.in_ok-optimized.ensures.run g.met.T.RewriteTree.lightens
+    run_fewer g.C.ScalarFnVTable.meaning g.L.RewriteLeaf.applied o.steps (tree c.args.tree.now)
+    (tree o.tree) (type_of c.dtype-typed.result.now) c.dtype-typed.ensures.dtype
+    c.in_ok-optimized.ensures.run g.met.L.RewriteLeaf.lightens
 
 must_be_done : (done : Bool) (steps limit : ℕ) → (done ≡ false → steps ≡ limit) → steps < limit
     → IsTrue done
@@ -37,10 +37,10 @@ must_be_done false steps limit stopped few =
 -- as many steps as the tree weighs are too many
 pub returns-clause-ends : goal.returns-clause-ends
 returns-clause-ends g c = λ shipped enough.
-    let tree = g.T.BoundTree.tree in
+    let tree = g.L.Leaf.tree_of in
     let o = c.in_ok-optimized.optimized in
-    let fewer = run_fewer g.C.ScalarFnVTable.meaning g.T.RewriteTree.applied o.steps
-    (tree c.args.tree.now) (tree o.tree) (type_of c.dtype-typed.result.now) c.dtype-typed.ensures
-    c.in_ok-optimized.ensures.run g.met.T.RewriteTree.lightens shipped in
+    let fewer = run_fewer g.C.ScalarFnVTable.meaning g.L.RewriteLeaf.applied o.steps
+    (tree c.args.tree.now) (tree o.tree) (type_of c.dtype-typed.result.now) c.dtype-typed.ensures.dtype
+    c.in_ok-optimized.ensures.run g.met.L.RewriteLeaf.lightens shipped in
     must_be_done o.done o.steps c.args.limit c.in_ok-optimized.ensures.stopped
     (omega (arith, fewer, enough))

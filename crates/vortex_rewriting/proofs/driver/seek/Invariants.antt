@@ -6,10 +6,10 @@ use Rattle.vortex_rewriting.proofs.driver.seek.Given as goal
 -- the whole tree is as it was, and what is done is settled
 abbrev pub invariant-loop-done : goal.invariant-loop-done
 invariant-loop-done g l =
-    let B = g.T.BoundTree in
-    IsWalk B.tree (first_rule g.T.RewriteTree.applied) B.rows l.fn.above.items l.fn.node
+    let B = g.L.Leaf in
+    IsWalk B.tree_of (first_rule g.L.RewriteLeaf.applied) B.beside_of l.fn.above.items l.fn.node
     l.above.items l.node l.done.items
 
 abbrev pub decreases-loop-done : goal.decreases-loop-done
 decreases-loop-done g l =
-    steps_left g.T.BoundTree.tree l.above.items l.node (length l.done.items)
+    steps_left g.L.Leaf.tree_of l.above.items l.node (length l.done.items)

@@ -7,9 +7,9 @@ use Rattle.vortex_rewriting.proofs.driver.take_steps.Given as goal
 -- the run so far
 abbrev pub invariant-loop-tree : goal.invariant-loop-tree
 invariant-loop-tree g l =
-    let tree = g.T.BoundTree.tree in
-    let rows = g.T.BoundTree.rows in
-    let rule = first_rule g.T.RewriteTree.applied in
+    let tree = g.L.Leaf.tree_of in
+    let rows = g.L.Leaf.beside_of in
+    let rule = first_rule g.L.RewriteLeaf.applied in
     record {
       run : Runs rule l.steps (tree l.tree) (plug (frames_in tree l.above.items) (tree l.place));
       frames : AreFrames rule (frames_in tree l.above.items);

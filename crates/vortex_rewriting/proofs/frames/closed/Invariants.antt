@@ -6,8 +6,8 @@ use Rattle.vortex_rewriting.proofs.frames.closed.Given as goal
 -- further children as they were are no change
 abbrev pub invariant-loop-done : goal.invariant-loop-done
 invariant-loop-done g l =
-    let tree = g.T.BoundTree.tree in
-    let rows = g.T.BoundTree.rows in
+    let tree = g.L.Leaf.tree_of in
+    let rows = g.L.Leaf.beside_of in
     record {
       same : partly (tree l.node) (map tree l.done.items)
           ≡ partly (tree l.node) (map tree l.initial.done.items);
@@ -16,4 +16,4 @@ invariant-loop-done g l =
 
 abbrev pub decreases-loop-done : goal.decreases-loop-done
 decreases-loop-done g l =
-    length (children_of (g.T.BoundTree.tree l.node)) - length l.done.items
+    length (children_of (g.L.Leaf.tree_of l.node)) - length l.done.items

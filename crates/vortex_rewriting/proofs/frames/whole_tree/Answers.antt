@@ -11,14 +11,14 @@ pub closed-requires-clause-typed : goal.closed-requires-clause-typed
 closed-requires-clause-typed g c =
     let m = g.C.ScalarFnVTable.meaning in
     let l = c.loop-frame in
-    over_typed g.T.BoundTree.tree (first_rule g.T.RewriteTree.applied) m l.above.items
+    over_typed g.L.Leaf.tree_of (first_rule g.L.RewriteLeaf.applied) m l.above.items
     c.pop.new.self.items c.in-Some.frame l.whole c.push.new.self.items c.in-Some.ensures.items
     c.in_ok-push.ensures.items l.invariant.frames
     (subst (λ t. IsSome (tree_type m t)) (sym l.invariant.same) c.requires.typed)
 
 pub closed-requires-clause-same_rows : goal.closed-requires-clause-same_rows
 closed-requires-clause-same_rows g c =
-    let rows = g.T.BoundTree.rows in
+    let rows = g.L.Leaf.beside_of in
     let l = c.loop-frame in
     let f = c.in-Some.frame in
     let here = rows_above rows (rows c.args.place) l.above.items c.pop.new.self.items f
@@ -29,8 +29,8 @@ closed-requires-clause-same_rows g c =
 
 pub loop-frame-preserved : goal.loop-frame-preserved
 loop-frame-preserved g c =
-    let tree = g.T.BoundTree.tree in
-    let rows = g.T.BoundTree.rows in
+    let tree = g.L.Leaf.tree_of in
+    let rows = g.L.Leaf.beside_of in
     let l = c.loop-frame in
     let rest = c.pop.new.self.items in
     let f = c.in-Some.frame in
@@ -38,7 +38,7 @@ loop-frame-preserved g c =
     l.invariant.rows_above in
     record {
       frames =
-          (frames_above tree (first_rule g.T.RewriteTree.applied) l.above.items rest f
+          (frames_above tree (first_rule g.L.RewriteLeaf.applied) l.above.items rest f
           c.in-Some.ensures.items l.invariant.frames).0;
       same =
           ap (plug (frames_in tree rest)) c.in_ok-whole.ensures.answer

@@ -6,10 +6,10 @@ use Rattle.vortex_rewriting.proofs.frames.whole_tree.Given as goal
 -- the whole tree is the same, over the same rows
 abbrev pub invariant-loop-frame : goal.invariant-loop-frame
 invariant-loop-frame g l =
-    let tree = g.T.BoundTree.tree in
-    let rows = g.T.BoundTree.rows in
+    let tree = g.L.Leaf.tree_of in
+    let rows = g.L.Leaf.beside_of in
     record {
-      frames : AreFrames (first_rule g.T.RewriteTree.applied) (frames_in tree l.above.items);
+      frames : AreFrames (first_rule g.L.RewriteLeaf.applied) (frames_in tree l.above.items);
       same : plug (frames_in tree l.above.items) (tree l.whole)
           ≡ plug (frames_in tree l.fn.above.items) (tree l.fn.place);
       rows_above : HaveRows rows (rows l.fn.place) l.above.items;

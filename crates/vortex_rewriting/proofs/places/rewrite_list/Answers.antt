@@ -11,8 +11,8 @@ use Rattle.vortex_rewriting.proofs.places.rewrite_list.Goals.{in-Some, in_defaul
 
 pub loop-step-preserved : goal.loop-step-preserved
 loop-step-preserved g c =
-    let tree = g.T.BoundTree.tree in
-    let apply = g.T.RewriteTree.applied in
+    let tree = g.L.Leaf.tree_of in
+    let apply = g.L.RewriteLeaf.applied in
     let steps = c.args.steps.now in
     let k = c.loop-step.step-index in
     let t = tree c.args.tree.now in
@@ -39,8 +39,8 @@ loop-step-preserved g c =
 
 pub returns-in_err-new-clause-answer : goal.returns-in_err-new-clause-answer
 returns-in_err-new-clause-answer g c =
-    let tree = g.T.BoundTree.tree in
-    let apply = g.T.RewriteTree.applied in
+    let tree = g.L.Leaf.tree_of in
+    let apply = g.L.RewriteLeaf.applied in
     let steps = c.args.steps.now in
     let t = tree c.args.tree.now in
     let x = tree c.loop-step.last in
@@ -53,41 +53,41 @@ returns-in_err-new-clause-answer g c =
 
 pub returns-clause-kept : goal.returns-clause-kept
 returns-clause-kept g c =
-    let tree = g.T.BoundTree.tree in
-    let apply = g.T.RewriteTree.applied in
+    let tree = g.L.Leaf.tree_of in
+    let apply = g.L.RewriteLeaf.applied in
     let steps = c.args.steps.now in
     let t = tree c.args.tree.now in
     let x = tree c.loop-step.last in
     let n = c.loop-step.applied in
-    rewritten_list_sound g.C.ScalarFnVTable.meaning apply g.met.T.RewriteTree.sound
-    (steps_of steps) t x n (type_of c.dtype-typed.result.now) c.dtype-typed.ensures
+    rewritten_list_sound g.C.ScalarFnVTable.meaning apply g.met.L.RewriteLeaf.sound
+    (steps_of steps) t x n (type_of c.dtype-typed.result.now) c.dtype-typed.ensures.dtype
     (all_taken apply steps c.loop-step.step-index t x n c.loop-step.invariant.0
     c.loop-step-test.false)
 
 pub returns-clause-lighter : goal.returns-clause-lighter
 returns-clause-lighter g c =
-    let tree = g.T.BoundTree.tree in
-    let apply = g.T.RewriteTree.applied in
+    let tree = g.L.Leaf.tree_of in
+    let apply = g.L.RewriteLeaf.applied in
     let steps = c.args.steps.now in
     let t = tree c.args.tree.now in
     let x = tree c.loop-step.last in
     let n = c.loop-step.applied in
     λ shipped.
-    rewritten_list_lighter g.C.ScalarFnVTable.meaning apply g.met.T.RewriteTree.lightens
-    (steps_of steps) t x n (type_of c.dtype-typed.result.now) c.dtype-typed.ensures shipped
+    rewritten_list_lighter g.C.ScalarFnVTable.meaning apply g.met.L.RewriteLeaf.lightens
+    (steps_of steps) t x n (type_of c.dtype-typed.result.now) c.dtype-typed.ensures.dtype shipped
     (all_taken apply steps c.loop-step.step-index t x n c.loop-step.invariant.0
     c.loop-step-test.false)
 
 pub returns-clause-fewer : goal.returns-clause-fewer
 returns-clause-fewer g c =
-    let tree = g.T.BoundTree.tree in
-    let apply = g.T.RewriteTree.applied in
+    let tree = g.L.Leaf.tree_of in
+    let apply = g.L.RewriteLeaf.applied in
     let steps = c.args.steps.now in
     let t = tree c.args.tree.now in
     let x = tree c.loop-step.last in
     let n = c.loop-step.applied in
     λ shipped.
-    rewritten_list_bound g.C.ScalarFnVTable.meaning apply g.met.T.RewriteTree.lightens
-    (steps_of steps) t x n (type_of c.dtype-typed.result.now) c.dtype-typed.ensures shipped
+    rewritten_list_bound g.C.ScalarFnVTable.meaning apply g.met.L.RewriteLeaf.lightens
+    (steps_of steps) t x n (type_of c.dtype-typed.result.now) c.dtype-typed.ensures.dtype shipped
     (all_taken apply steps c.loop-step.step-index t x n c.loop-step.invariant.0
     c.loop-step-test.false)

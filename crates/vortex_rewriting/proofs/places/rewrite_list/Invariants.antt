@@ -6,9 +6,9 @@ use Rattle.vortex_rewriting.proofs.places.rewrite_list.Given as goal
 -- the steps so far were taken
 abbrev pub invariant-loop-step : goal.invariant-loop-step
 invariant-loop-step g l =
-    let tree = g.T.BoundTree.tree in
-    let rows = g.T.BoundTree.rows in
-    (rewritten_list g.T.RewriteTree.applied (take l.step-index (steps_of l.steps)) (tree l.tree)
+    let tree = g.L.Leaf.tree_of in
+    let rows = g.L.Leaf.beside_of in
+    (rewritten_list g.L.RewriteLeaf.applied (take l.step-index (steps_of l.steps)) (tree l.tree)
     ≡ Some (tree l.last, l.applied))
     × (l.applied ≤ l.step-index)
     × (rows l.last ≡ rows l.tree)

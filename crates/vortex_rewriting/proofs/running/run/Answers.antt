@@ -30,6 +30,6 @@ returns g c =
     c.in_ok-optimized.ensures.stopped in
     run_answers m g.met.C.ScalarFnVTable.lawful r g.met.C.ScalarFnRules.rules_lawful c.args.limit
     c.args.columns.now c.args.row_count c.args.tree.now o.tree (type_of c.dtype-typed.result.now)
-    c.execute.result c.dtype-typed.ensures c.tells_types.ensures
+    c.execute.result c.dtype-typed.ensures.dtype c.dtype-typed.ensures.typed
     c.in_ok-check_columns.ensures.answer c.in_ok-check_columns.ensures.typed ended
     c.execute.ensures.answer c.execute.ensures.lent

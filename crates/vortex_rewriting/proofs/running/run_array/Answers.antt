@@ -5,7 +5,7 @@ use Rattle.vortex_errors.proofs.Answering.{Answers-weaker, UnlessMemory-weaker}
 use Rattle.vortex_meaning.specs.Eval.{IsFirstFault}
 use Rattle.vortex_meaning.specs.Running.{HasRowsAfter, IsFaultAfter}
 use Rattle.vortex_functions.specs.Words.{type_of}
-use Rattle.vortex_arrays.specs.Words.{tree_in, rows_in}
+use Rattle.vortex_functions.specs.Words.{tree_in, rows_in}
 use Rattle.vortex_rewriting.specs.Runs.{array_step}
 use Rattle.vortex_rewriting.proofs.RunAnswers.{runs_to, array_rows_after, array_fault_after}
 use Rattle.vortex_rewriting.proofs.running.run_array.Goals as goal

@@ -8,9 +8,9 @@ use Rattle.vortex_rewriting.proofs.ways.way_down.Goals as goal
 
 pub loop-first-preserved : goal.loop-first-preserved
 loop-first-preserved g c =
-    let tree = g.T.BoundTree.tree in
-    let rows = g.T.BoundTree.rows in
-    let f : Parent g.row.T.Denot → Tree g.row.C.Denot g.row.C-Options.Denot × ℕ =
+    let tree = g.L.Leaf.tree_of in
+    let rows = g.L.Leaf.beside_of in
+    let f : Parent g.row.L-Seen.Denot → Tree g.row.C.Denot g.row.C-Options.Denot × ℕ =
     λ p. (tree p.node.now, p.index) in
     let i = c.loop-first.invariant in
     let before = c.loop-first.parents.items in
@@ -22,7 +22,7 @@ loop-first-preserved g c =
     let path = c.args.path.now in
     let next : c.loop-first.left.now ≡ k ∷ rest = search rules in
     let is = popped f c.push.new.self.items before _ c.in_ok-push.ensures.items in
-    let here = λ (p : Parent g.row.T.Denot). rows p.node.now ≡ rows c.args.tree.now in (
+    let here = λ (p : Parent g.row.L-Seen.Denot). rows p.node.now ≡ rows c.args.tree.now in (
       subst (λ z. IsWay z t y) (sym is)
           (way_push (map f before) t x y k i.0 c.child-place.ensures.child),
       subst (λ z. LeadsOn path t z rest y) (sym is)

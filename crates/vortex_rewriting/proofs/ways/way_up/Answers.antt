@@ -10,10 +10,10 @@ use Rattle.vortex_rewriting.proofs.ways.way_up.Goals as goal
 
 pub with_child-requires-clause-is_child : goal.with_child-requires-clause-is_child
 with_child-requires-clause-is_child g c =
-    let tree = g.T.BoundTree.tree in
+    let tree = g.L.Leaf.tree_of in
     let i = c.loop-parent.invariant in
     let p = c.in-Some.parent in
-    let at = way_above (λ (p : Parent g.row.T.Denot). (tree p.node.now, p.index))
+    let at = way_above (λ (p : Parent g.row.L-Seen.Denot). (tree p.node.now, p.index))
     c.loop-parent.parents.items c.pop.new.self.items p (tree c.args.tree.now) i.0
     c.in-Some.ensures.items i.1 in
     is_within (children_of (tree p.node.now)) p.index i.0 at.1
@@ -21,10 +21,10 @@ with_child-requires-clause-is_child g c =
 pub with_child-requires-clause-same_type : goal.with_child-requires-clause-same_type
 with_child-requires-clause-same_type g c =
     let m = g.C.ScalarFnVTable.meaning in
-    let tree = g.T.BoundTree.tree in
+    let tree = g.L.Leaf.tree_of in
     let i = c.loop-parent.invariant in
     let p = c.in-Some.parent in
-    let at = way_above (λ (p : Parent g.row.T.Denot). (tree p.node.now, p.index))
+    let at = way_above (λ (p : Parent g.row.L-Seen.Denot). (tree p.node.now, p.index))
     c.loop-parent.parents.items c.pop.new.self.items p (tree c.args.tree.now) i.0
     c.in-Some.ensures.items i.1 in
     λ x there.
@@ -34,9 +34,9 @@ with_child-requires-clause-same_type g c =
 pub loop-parent-preserved : goal.loop-parent-preserved
 loop-parent-preserved g c =
     let m = g.C.ScalarFnVTable.meaning in
-    let tree = g.T.BoundTree.tree in
-    let rows = g.T.BoundTree.rows in
-    let f : Parent g.row.T.Denot → Tree g.row.C.Denot g.row.C-Options.Denot × ℕ =
+    let tree = g.L.Leaf.tree_of in
+    let rows = g.L.Leaf.beside_of in
+    let f : Parent g.row.L-Seen.Denot → Tree g.row.C.Denot g.row.C-Options.Denot × ℕ =
     λ p. (tree p.node.now, p.index) in
     let i = c.loop-parent.invariant in
     let p = c.in-Some.parent in
@@ -44,7 +44,7 @@ loop-parent-preserved g c =
     let rest = c.pop.new.self.items in
     let made = tree c.loop-parent.made in
     let at = way_above f all rest p (tree c.args.tree.now) i.0 c.in-Some.ensures.items i.1 in
-    let here = All-pop (λ (p : Parent g.row.T.Denot). rows p.node.now ≡ rows c.args.tree.now)
+    let here = All-pop (λ (p : Parent g.row.L-Seen.Denot). rows p.node.now ≡ rows c.args.tree.now)
     all rest (Some p) c.in-Some.ensures.items i.4 in (
       tree p.node.now,
       at.0,

@@ -1,7 +1,7 @@
 use Rattle.std.proofs.Common.{[], ◌∷◌, refl}
 use Rattle.vortex_meaning.specs.Shipped.{Between}
 use Rattle.vortex_meaning.specs.Functions.{ours}
-use Rattle.vortex_arrays.specs.Arrays.{rows_in}
+use Rattle.vortex_functions.specs.Arrays.{rows_in}
 use Rattle.vortex_arrays.proofs.Calls.{on_operands}
 use Rattle.vortex_arrays.proofs.functions.BetweenBetweenCall.try_new.Goals as goal
 

@@ -15,7 +15,7 @@ returns-clause-kept g c =
     let r = g.C.ScalarFnVTable.rules in
     let t = expression_of c.args.node.now in
     let k = type_of c.dtype-typed.result.now in
-    let typed = ap (tree_type m) (sym c.expression.ensures) ∙ c.dtype-typed.ensures in
+    let typed = ap (tree_type m) (sym c.expression.ensures) ∙ c.dtype-typed.ensures.dtype in
     AnswersUnlessMemory-weaker c.reduce_call.result (IsReducedBy m r expression_of t)
     (λ answer. IfSome answer (λ made. Rewrites m t (expression_of made)))
     (λ answer e. reduced_kept m expression_of g.met.C.ScalarFnVTable.lawful r

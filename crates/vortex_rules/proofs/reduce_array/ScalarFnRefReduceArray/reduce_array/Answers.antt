@@ -5,8 +5,8 @@ use Rattle.vortex_types.specs.TypeOf.{type_of}
 use Rattle.vortex_meaning.specs.Eval.{tree_type}
 use Rattle.vortex_meaning.specs.Rewrites.{Rewrites}
 use Rattle.vortex_rules.specs.NodeTrees.{array_of, tree_of}
-use Rattle.vortex_arrays.specs.Arrays.{tree_in, IsTyped}
-use Rattle.vortex_arrays.specs.Executing.{KeepsValues}
+use Rattle.vortex_functions.specs.Arrays.{tree_in, IsTyped}
+use Rattle.vortex_functions.specs.ArrayExecuting.{KeepsValues}
 use Rattle.vortex_rules.proofs.ValuesKept.{values_kept}
 use Rattle.vortex_rules.specs.Reduced.{IsReducedBy}
 use Rattle.vortex_rules.proofs.Kept.{reduced_kept}

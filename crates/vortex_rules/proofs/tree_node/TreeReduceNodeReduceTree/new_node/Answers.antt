@@ -8,13 +8,12 @@ use Rattle.vortex_functions.specs.Binding.{IsCall}
 use Rattle.vortex_rules.proofs.NodeLists.{trees_of_copies, refused_as_copies}
 use Rattle.vortex_rules.proofs.tree_node.TreeReduceNodeReduceTree.new_node.Goals as goal
 
-pub new_call-requires : goal.new_call-requires
-new_call-requires g c =
-    let rows = g.T.BoundTree.rows in
-    let n = rows (cow_value c.args.self.now.tree) in
-    subst (All (λ t. rows t ≡ rows c.tree.result.now)) (sym c.in_ok-copies.ensures)
-    (All-map (λ t. rows t ≡ rows c.tree.result.now) (λ n. cow_value n.tree) c.args.children.now
-    (λ k d lt. c.requires k d lt ∙ ap rows (sym c.tree.ensures)))
+pub try_call-requires : goal.try_call-requires
+try_call-requires g c =
+    let beside = g.L.Leaf.beside_of in
+    subst (All (λ t. beside t ≡ c.beside.result)) (sym c.in_ok-copies.ensures)
+    (All-map (λ t. beside t ≡ c.beside.result) (λ n. cow_value n.tree) c.args.children.now
+    (λ k d lt. c.requires k d lt ∙ ap beside (sym c.tree.ensures) ∙ sym c.beside.ensures))
 
 pub returns-in_err-call-clause-answer : goal.returns-in_err-call-clause-answer
 returns-in_err-call-clause-answer g c =
@@ -23,13 +22,13 @@ returns-in_err-call-clause-answer g c =
     let p =
     err_from_is_err_and c.from_residual-in_err-call.result c.from_residual-in_err-call.ensures.1 in
     rw (p.1, p.2)
-    (refused_as_copies m f g.T.BoundTree.tree c.args.children.now c.in_ok-copies.copies.items
-    c.in_err-call.field-0.0 c.in_ok-copies.ensures c.in_err-call.ensures.answer)
+    (refused_as_copies m f g.L.Leaf.tree_of c.args.children.now c.in_ok-copies.copies.items
+    c.in_err-call.field-0.0 c.in_ok-copies.ensures c.in_err-call.ensures)
 
 pub returns-clause-answer : goal.returns-clause-answer
 returns-clause-answer g c =
     let m = g.C.ScalarFnVTable.meaning in
     let f = function_of c.args.function in
-    subst (λ ts. IsCall m f ts (g.T.BoundTree.tree c.in_ok-call.call))
-    (trees_of_copies g.T.BoundTree.tree c.args.children.now c.in_ok-copies.copies.items
-    c.in_ok-copies.ensures) c.in_ok-call.ensures.answer
+    subst (λ ts. IsCall m f ts (g.L.Leaf.tree_of c.in_ok-call.call))
+    (trees_of_copies g.L.Leaf.tree_of c.args.children.now c.in_ok-copies.copies.items
+    c.in_ok-copies.ensures) c.in_ok-call.ensures.0

@@ -1,0 +1,107 @@
+use Rattle.std.proofs.Common.{◌≡◌, ◌+◌, ap, sym, subst, ◌∙◌, length, map, true, true≢false}
+use Rattle.std.specs.Prelude.{All, Some}
+use Rattle.std.proofs.lemmas.Result.{err_from_is_err_and}
+use Rattle.vortex_types.specs.TypeOf.{type_of}
+use Rattle.vortex_meaning.specs.Meaning.{fits}
+use Rattle.vortex_meaning.specs.Functions.{function_arity}
+use Rattle.vortex_meaning.specs.Trees.{trees_of}
+use Rattle.vortex_meaning.specs.Eval.{tree_types}
+use Rattle.vortex_meaning.specs.Weights.{added, weights}
+use Rattle.vortex_functions.specs.FunctionOf.{function_of}
+use Rattle.vortex_functions.proofs.CallWeights.{told, call_is_weighed}
+use Rattle.vortex_functions.proofs.TreeCalls.{dtypes_fit, is_typed, is_call, refused}
+use Rattle.vortex_functions.proofs.tree.Tree.try_call.Goals as goal
+
+pub return_dtype-requires : goal.return_dtype-requires
+return_dtype-requires g c =
+    let m = g.C.ScalarFnVTable.meaning in
+    let f = function_of c.args.function in
+    let tree_of = g.L.Leaf.tree_of in
+    let xs = c.args.children.items in
+    let arity : fits (function_arity m f) (length xs) ≡ true =
+    (λ j. fits (sym c.signature.ensures.arity j)
+    (sym (c.len-given.ensures ∙ c.args.children.ok.0) j))
+    ∙ sym c.matches.ensures
+    ∙ c.if-not-matches.false in
+    let typed : tree_types m (trees_of (map tree_of xs)) ≡ Some (map type_of c.deref-2.result.now) =
+    ap (λ ys. tree_types m (trees_of (map tree_of ys))) (sym c.deref.ensures.value)
+    ∙ c.in_ok-dtypes.ensures.types
+    ∙ ap (λ ds. Some (map type_of ds)) (sym c.deref-2.ensures.value) in
+    dtypes_fit tree_of m f xs c.deref-2.result.now typed arity
+
+pub returns-in_err-dtype : goal.returns-in_err-dtype
+returns-in_err-dtype g c =
+    let m = g.C.ScalarFnVTable.meaning in
+    let f = function_of c.args.function in
+    let tree_of = g.L.Leaf.tree_of in
+    let xs = c.args.children.items in
+    let arity : fits (function_arity m f) (length xs) ≡ true =
+    (λ j. fits (sym c.signature.ensures.arity j)
+    (sym (c.len-given.ensures ∙ c.args.children.ok.0) j))
+    ∙ sym c.matches.ensures
+    ∙ c.if-not-matches.false in
+    let typed : tree_types m (trees_of (map tree_of xs)) ≡ Some (map type_of c.deref-2.result.now) =
+    ap (λ ys. tree_types m (trees_of (map tree_of ys))) (sym c.deref.ensures.value)
+    ∙ c.in_ok-dtypes.ensures.types
+    ∙ ap (λ ds. Some (map type_of ds)) (sym c.deref-2.ensures.value) in
+    let p =
+    err_from_is_err_and c.from_residual-in_err-dtype.result
+    c.from_residual-in_err-dtype.ensures.1 in
+    rw (p.1, p.2)
+    (refused tree_of m f xs c.deref-2.result.now typed arity _ c.in_err-dtype.ensures)
+
+pub invariant_of-result : goal.invariant_of-result
+invariant_of-result g c =
+    let m = g.C.ScalarFnVTable.meaning in
+    let f = function_of c.args.function in
+    let tree_of = g.L.Leaf.tree_of in
+    let xs = c.args.children.items in
+    let arity : fits (function_arity m f) (length xs) ≡ true =
+    (λ j. fits (sym c.signature.ensures.arity j)
+    (sym (c.len-given.ensures ∙ c.args.children.ok.0) j))
+    ∙ sym c.matches.ensures
+    ∙ c.if-not-matches.false in
+    let typed : tree_types m (trees_of (map tree_of xs)) ≡ Some (map type_of c.deref-2.result.now) =
+    ap (λ ys. tree_types m (trees_of (map tree_of ys))) (sym c.deref.ensures.value)
+    ∙ c.in_ok-dtypes.ensures.types
+    ∙ ap (λ ds. Some (map type_of ds)) (sym c.deref-2.ensures.value) in
+    let has_type = is_typed tree_of m f xs c.deref-2.result.now typed arity
+    (type_of c.in_ok-dtype.dtype) c.in_ok-dtype.ensures in
+    let whole = subst (All g.L.Leaf.whole) c.deref.ensures.value c.in_ok-dtypes.ensures.whole in
+    rw c.in_ok-new.ensures.ok (
+      (
+        has_type,
+        c.requires,
+        call_is_weighed m f (map tree_of xs) (type_of c.in_ok-dtype.dtype) c.is_nullable.result
+            c.call_weight-weight.result has_type c.is_nullable.ensures
+            (c.call_weight-weight.ensures
+            ∙ ap
+            (λ ys. told (added f c.is_nullable.result
+            + weights m (trees_of (map tree_of ys))))
+            c.deref-3.ensures.value),
+        λ marked. absurd (true≢false (sym marked)),
+      ),
+      g.L.Leaf.whole_call f c.args.beside xs whole c.requires,
+    )
+
+-- the call, and what stands beside it
+pub returns : goal.returns
+returns g c =
+    let m = g.C.ScalarFnVTable.meaning in
+    let f = function_of c.args.function in
+    let tree_of = g.L.Leaf.tree_of in
+    let xs = c.args.children.items in
+    let arity : fits (function_arity m f) (length xs) ≡ true =
+    (λ j. fits (sym c.signature.ensures.arity j)
+    (sym (c.len-given.ensures ∙ c.args.children.ok.0) j))
+    ∙ sym c.matches.ensures
+    ∙ c.if-not-matches.false in
+    let typed : tree_types m (trees_of (map tree_of xs)) ≡ Some (map type_of c.deref-2.result.now) =
+    ap (λ ys. tree_types m (trees_of (map tree_of ys))) (sym c.deref.ensures.value)
+    ∙ c.in_ok-dtypes.ensures.types
+    ∙ ap (λ ds. Some (map type_of ds)) (sym c.deref-2.ensures.value) in
+    rw c.in_ok-new.ensures.ok (
+      is_call tree_of m f xs c.deref-2.result.now typed arity (type_of c.in_ok-dtype.dtype) _
+          c.in_ok-dtype.ensures (g.L.Leaf.tree_of_see _ _),
+      g.L.Leaf.beside_of_see _ _,
+    )

@@ -1,0 +1,141 @@
+//! Trees of calls over columns that they hold.
+ghost use Rattle.std.specs.Prelude.{◌≡◌, ◌↔◌, IfSome, IsTrue, length};
+ghost use Rattle.std.specs.Option.{option_copied};
+ghost use Rattle.vortex_functions.specs.Words.{AnswersUnlessMemory, literal, tree_in, rows_in};
+ghost use Rattle.vortex_functions.specs.Words.{column_array, column_in};
+
+use crate::tree::leaf::{Leaf, Shown};
+use crate::tree::{Node, Tree};
+use std::alloc::Global;
+use std::rc::Rc;
+use vortex_columns::{Column, DType, Scalar, VortexResult};
+use vortex_interface::ScalarFnVTable;
+
+mod execution;
+
+/// A leaf of an array tree.
+#[derive(Drop)]
+pub enum ArrayLeaf {
+    /// A handle of a column, which every copy of the array shares.
+    Column(Rc<Column>),
+    /// The Null column that stands where a call was taken down: no handle, since that takes memory.
+    Nulls(Column),
+}
+
+/// A column, or a well-typed call over arrays, all of one row count.
+pub type ArrayRef<C> = Tree<C, ArrayLeaf>;
+
+impl<C: ScalarFnVTable> Leaf<C> for ArrayLeaf {
+    ghost use Rattle.std.specs.Prelude.{refl};
+    ghost use Rattle.vortex_meaning.specs.ReduceRules.{reduce};
+    ghost use Rattle.vortex_functions.specs.Arrays.{tree_in, rows_in, children_in, IsTyped};
+    ghost use Rattle.vortex_functions.specs.ArrayLeaves as laws;
+    ghost use Rattle.vortex_functions.specs.ArrayLeaves.{array_leaf, StandsAmong};
+
+    type Beside = usize;
+    type Seen = (Shown<C>, usize);
+
+    ghost tree_of = { tree_in };
+
+    ghost beside_of = { rows_in };
+
+    ghost see = { λ t n. (t, n) };
+
+    ghost tree_of_see = { λ t n. refl };
+
+    ghost beside_of_see = { λ t n. refl };
+
+    ghost see_of = { λ a. refl };
+
+    ghost rule = { reduce C.meaning C.rules };
+
+    ghost seen = { array_leaf };
+
+    ghost fits = { StandsAmong };
+
+    ghost whole = { IsTyped };
+
+    ghost children = { children_in };
+
+    ghost children_are = { λ a. refl };
+
+    ghost whole_call = { laws.typed_call };
+
+    ghost not_called = { laws.not_called C C.Options };
+
+    ghost leaf_settles = { laws.settles C.meaning C.rules };
+
+    fn blank(alloc: Global, beside: usize) -> ArrayLeaf {
+        ArrayLeaf::Nulls(Column::null(beside))
+    }
+
+    fn share(&self, alloc: Global) -> VortexResult<ArrayLeaf> {
+        match self {
+            ArrayLeaf::Column(column) => Ok(ArrayLeaf::Column(column.clone()?)),
+            ArrayLeaf::Nulls(column) => Ok(ArrayLeaf::Nulls(column.try_clone(alloc)?)),
+        }
+    }
+
+    fn dtype(&self) -> &DType {
+        match self {
+            ArrayLeaf::Column(column) => column.dtype(),
+            ArrayLeaf::Nulls(column) => column.dtype(),
+        }
+    }
+}
+
+impl<C: ScalarFnVTable> ArrayRef<C> {
+    /// The array of a column, of the column's rows, which are not copied, neither here nor where
+    /// the array is copied. E9 alone.
+    pub fn column(alloc: Global, column: Column) -> VortexResult<ArrayRef<C>>
+        ensures { AnswersUnlessMemory result (λ a. a ≡ column_array column) }
+    {
+        // They say that each row has the type, and that the scalar of a constant column stands in
+        // each.
+        let _typed = column.dtype();
+        let _told = column.as_constant();
+        column.tells_truly();
+        let len = column.len();
+        Ok(Tree {
+            node: Node::Leaf(ArrayLeaf::Column(Rc::new(alloc, column)?)),
+            beside: len,
+        })
+    }
+
+    /// How many rows it has.
+    pub fn len(&self) -> usize
+        ensures { result ≡ rows_in self.now }
+    {
+        self.beside
+    }
+
+    /// Whether it has no row.
+    pub fn is_empty(&self) -> bool
+        ensures { IsTrue result ↔ (rows_in self.now ≡ 0) }
+    {
+        self.beside == 0
+    }
+
+    /// The scalar of a constant column; none of any other array.
+    pub fn as_constant(&self) -> Option<&Scalar>
+        ensures { option_copied result ≡ literal (tree_in self.now) }
+    {
+        match &self.node {
+            Node::Leaf(ArrayLeaf::Column(column)) => column.as_constant(),
+            Node::Leaf(ArrayLeaf::Nulls(column)) => column.as_constant(),
+            Node::Call(_) => None,
+        }
+    }
+
+    /// The column, lent; none of a call.
+    pub fn as_column(&self) -> Option<&Column>
+        ensures column { option_copied result ≡ column_in self.now }
+        ensures rows { IfSome result (λ c. length c.now.rows ≡ rows_in self.now) }
+    {
+        match &self.node {
+            Node::Leaf(ArrayLeaf::Column(column)) => Some(&**column),
+            Node::Leaf(ArrayLeaf::Nulls(column)) => Some(column),
+            Node::Call(_) => None,
+        }
+    }
+}

@@ -1,0 +1,104 @@
+//! What a tree is made of besides calls.
+ghost use Rattle.std.specs.Prelude.{◌≡◌, List, Option, None, Some, All, map};
+ghost use Rattle.vortex_errors.specs.Answers.{AnswersUnlessMemory};
+ghost use Rattle.vortex_types.specs.TypeOf.{type_of};
+ghost use Rattle.vortex_meaning.specs.Functions.{Function};
+ghost use Rattle.vortex_meaning.specs.Trees.{Tree, call, trees_of, children_of, called};
+ghost use Rattle.vortex_meaning.specs.Eval.{tree_type};
+ghost use Rattle.vortex_meaning.specs.Driver.{step};
+
+use std::alloc::Global;
+use std::marker::{Model, PhantomData};
+use vortex_columns::{DType, VortexResult};
+use vortex_interface::ScalarFnVTable;
+
+/// A kind of leaf, and what stands beside a tree over such leaves: its row count, or nothing.
+///
+/// Its laws say that a tree is seen as a pair of what it means and what stands beside it, that its
+/// children stand beside the same, and that a leaf is no call.
+pub trait Leaf<C: ScalarFnVTable>: Sized + Drop {
+    /// What stands beside a tree.
+    type Beside: Copy + Drop;
+
+    /// What a tree is seen as.
+    type Seen;
+
+    ghost tree_of: { Self.Seen → Tree C C.Options };
+
+    ghost beside_of: { Self.Seen → Self.Beside };
+
+    ghost see: { Tree C C.Options → Self.Beside → Self.Seen };
+
+    ghost tree_of_see: { (t : Tree C C.Options) (b : Self.Beside) → tree_of (see t b) ≡ t };
+
+    ghost beside_of_see: { (t : Tree C C.Options) (b : Self.Beside) → beside_of (see t b) ≡ b };
+
+    ghost see_of: { (a : Self.Seen) → see (tree_of a) (beside_of a) ≡ a };
+
+    /// The rule that a mark speaks of.
+    ghost rule: { Tree C C.Options → Option (Tree C C.Options) };
+
+    /// What a leaf is seen as.
+    ghost seen: { Self → Tree C C.Options };
+
+    /// Whether a leaf may stand there.
+    ghost fits: { Self.Beside → Self → Type 0 };
+
+    /// What is known of each tree: that what it holds has values of its types.
+    ghost whole: { Self.Seen → Type 0 };
+
+    /// The children of a tree, each as it is seen.
+    ghost children: { Self.Seen → List Self.Seen };
+
+    ghost children_are: { (a : Self.Seen)
+        → children a ≡ map (λ t. see t (beside_of a)) (children_of (tree_of a)) };
+
+    /// A call is whole where what stands below it is.
+    ghost whole_call: { (f : Function C C.Options) (b : Self.Beside) (xs : List Self.Seen)
+        → All whole xs → All (λ a. beside_of a ≡ b) xs
+        → whole (see (call f (trees_of (map tree_of xs))) b) };
+
+    ghost not_called: { (l : Self) → called (seen l) ≡ None };
+
+    ghost leaf_settles: { (l : Self) → step rule (seen l) ≡ None };
+
+    /// A leaf that stands where a call was taken out.
+    fn blank(alloc: Global, beside: Self::Beside) -> Self
+        ensures fits { Self.fits beside result }
+        ensures whole { Self.whole (Self.see (Self.seen result) beside) };
+
+    /// A copy, which may stand where the leaf does. E9 alone.
+    fn share(&self, alloc: Global) -> VortexResult<Self>
+        ensures seen { AnswersUnlessMemory result (λ l. Self.seen l ≡ Self.seen self.now) }
+        ensures fits { AnswersUnlessMemory result
+            (λ l. (b : Self.Beside) → Self.fits b self.now → Self.fits b l) };
+
+    /// The type of its values, of a leaf that may stand somewhere.
+    fn dtype(&self) -> &DType
+        ensures { (b : Self.Beside) → Self.fits b self.now
+            → tree_type C.meaning (Self.seen self.now) ≡ Some (type_of result.now) };
+
+    // the same laws a second time, where a proof finds them: a Model can name those above alone
+    ghost sees_tree: { (t : Tree C C.Options) (b : Self.Beside) → tree_of (see t b) ≡ t }
+        = { tree_of_see };
+
+    ghost sees_beside: { (t : Tree C C.Options) (b : Self.Beside) → beside_of (see t b) ≡ b }
+        = { beside_of_see };
+}
+
+/// Never made: its values are trees.
+pub struct Shown<C: ScalarFnVTable> {
+    of: PhantomData<C>,
+}
+
+impl<C: ScalarFnVTable> Model for Shown<C> {
+    ghost use Rattle.vortex_meaning.specs.Trees.{Tree};
+    ghost use Rattle.vortex_meaning.specs.TreeCodes.{coded_tree};
+    ghost use Rattle.vortex_functions.specs.Nodes.{shown};
+
+    ghost Value = { Tree C C.Options };
+
+    ghost coded = { coded_tree C.code C.Options.code };
+
+    ghost view = { λ _. shown };
+}

@@ -1,0 +1,44 @@
+//! Expressions are rewritten by Simplify and by Reduce.
+ghost use Rattle.std.specs.Prelude.{refl};
+ghost use Rattle.vortex_rewriting.specs.Rules.{expression_rule, expression_sound};
+ghost use Rattle.vortex_rewriting.specs.Rules.{expression_lightens};
+
+use crate::leaf::RewriteLeaf;
+use crate::rule::Rule;
+use std::alloc::Global;
+use std::borrow::Cow;
+use vortex_columns::VortexResult;
+use vortex_functions::BoundExpression;
+use vortex_functions::expression::ExpressionLeaf;
+use vortex_rules::{ExpressionReduceNode, ReduceExpression, ScalarFnRules};
+
+impl<C: ScalarFnRules> RewriteLeaf<C> for ExpressionLeaf {
+    ghost applied = { expression_rule C.meaning C.rules };
+
+    ghost rule_is = { refl };
+
+    fn apply(
+        alloc: Global,
+        tree: &BoundExpression<C>,
+        rule: Rule,
+    ) -> VortexResult<Option<BoundExpression<C>>> {
+        let Some(function) = tree.as_scalar() else {
+            return Ok(None);
+        };
+        match rule {
+            Rule::Simplify => function.simplify_expression(alloc, tree),
+            Rule::Reduce => {
+                let node = ExpressionReduceNode::new(Cow::Borrowed(tree));
+                match function.reduce_expression(alloc, &node)? {
+                    Some(made) => Ok(Some(made.into_expression(alloc)?)),
+                    None => Ok(None),
+                }
+            }
+        }
+    }
+
+    ghost sound = { expression_sound C.meaning C.rules C.ScalarFnVTable.lawful
+        C.ScalarFnRules.rules_lawful };
+
+    ghost lightens = { expression_lightens C.meaning C.rules C.ScalarFnVTable.lawful };
+}

@@ -1,7 +1,0 @@
-use Rattle.vortex_rules.proofs.Listed.{no_validity}
-use Rattle.vortex_rules.proofs.expression_tree.BoundExpressionBoundTree.leaf_validity.Goals as goal
-
-pub returns-clause-answer : goal.returns-clause-answer
-returns-clause-answer g c called literal r =
-    no_validity g.C.ScalarFnVTable.meaning r c.args.self.now c.as_column-leaf.result literal called
-    c.as_column-leaf.ensures

@@ -1,0 +1,50 @@
+//! The leaves of array trees, as rules ask of them.
+ghost use Rattle.std.specs.Prelude.{◌≡◌};
+ghost use Rattle.vortex_functions.specs.Words.{AnswersUnlessMemory};
+ghost use Rattle.vortex_rules.specs.ColumnValidity.{validity_as_column};
+
+use crate::leaf::RuleLeaf;
+use std::alloc::Global;
+use vortex_columns::{Column, Nullability, Scalar, Validity, VortexResult};
+use vortex_functions::ArrayRef;
+use vortex_functions::array::ArrayLeaf;
+use vortex_interface::ScalarFnVTable;
+
+/// Whether each row of a column is not null: a constant column where the form of the validity tells
+/// it of all rows, and the bits themselves where it lists them.
+fn column_validity(alloc: Global, column: &Column) -> VortexResult<Column>
+    ensures { AnswersUnlessMemory result (λ valid. valid ≡ validity_as_column column.now) }
+{
+    if let Some(bits) = column.valid_bits() {
+        return Column::try_bool(alloc, bits.try_clone(alloc)?, Validity::NonNullable);
+    }
+    let every = match column.validity(alloc)? {
+        Validity::AllInvalid => false,
+        _ => true,
+    };
+    let every = Scalar::bool(every, Nullability::NonNullable);
+    Column::constant(alloc, every, column.len())
+}
+
+impl<C: ScalarFnVTable> RuleLeaf<C> for ArrayLeaf {
+    fn as_constant(tree: &ArrayRef<C>) -> Option<&Scalar> {
+        tree.as_constant()
+    }
+
+    fn new_constant(alloc: Global, scalar: Scalar, beside: usize) -> VortexResult<ArrayRef<C>> {
+        let column = Column::constant(alloc, scalar, beside)?;
+        let array = ArrayRef::column(alloc, column)?;
+        Ok(array)
+    }
+
+    /// A column stands for its own rows, so a column says it.
+    fn leaf_validity(alloc: Global, tree: &ArrayRef<C>) -> VortexResult<Option<ArrayRef<C>>> {
+        match tree.as_column() {
+            Some(column) => {
+                let valid = column_validity(alloc, column)?;
+                Ok(Some(ArrayRef::column(alloc, valid)?))
+            }
+            None => Ok(None),
+        }
+    }
+}
