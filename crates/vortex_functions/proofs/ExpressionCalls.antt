@@ -11,6 +11,6 @@ use Rattle.vortex_functions.specs.Binding.{IsCall, RefusesCall, AnswersBinding, 
 
 module _ {V O : Type 0} (m : Meaning V O) (f : Function V O) (ts : List (Tree V O)) where
   pub bound_as_call : (r : Result (Tree V O) VortexError)
-      → AnswersTreeCall (λ t. t) (λ t. tt) m f ts tt r → AnswersBinding m f ts r
+      → AnswersTreeCall (λ t. t) (λ t. tt {0}) m f ts tt r → AnswersBinding m f ts r
   bound_as_call (Ok t) h = subst (λ xs. IsCall m f xs t) (map-id ts) h.0
   bound_as_call (Err e) h = subst (λ xs. UnlessMemory (RefusesCall m f xs) e) (map-id ts) h

@@ -17,7 +17,7 @@ use Rattle.vortex_interface.proofs.PieceTexts.{text_past}
 use Rattle.vortex_functions.specs.TreePieces.{pieces_of, tree_pieces, HasText, text_in, child_texts}
 use Rattle.vortex_functions.specs.TreePieces.{leaf_text}
 use Rattle.vortex_functions.proofs.TreeTexts.{parts}
-use Rattle.vortex_functions.specs.declared.tree.text.Writing.{Writing}
+use Rattle.vortex_functions.specs.declared.expression.text.Writing.{Writing}
 
 -- a tree, and the piece of its text that comes next
 abbrev pub Place : (V O : Type 0) → Type 0

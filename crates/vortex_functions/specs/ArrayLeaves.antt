@@ -16,9 +16,13 @@ use Rattle.vortex_functions.specs.Arrays.{IsTyped}
 use Rattle.vortex_functions.specs.declared.array.ArrayLeaf.{ArrayLeaf}
 use Rattle.vortex_functions.specs.declared.array.ArrayLeaf.TheVariants.{Column, Nulls}
 
+-- the column of a leaf
+abbrev pub leaf_column : ArrayLeaf → ColumnView
+leaf_column (Column c) = c.value
+leaf_column (Nulls c) = c
+
 abbrev pub array_leaf : {V O : Type 0} → ArrayLeaf → Tree V O
-array_leaf (Column c) = column_tree c.value
-array_leaf (Nulls c) = column_tree c
+array_leaf l = column_tree (leaf_column l)
 
 -- a column that is seen as a constant one has the scalar in each row
 abbrev pub TellsConstant : ColumnView → Type 0
@@ -26,8 +30,7 @@ TellsConstant c = IfSome c.constant (λ s. c ≡ constant_column s (length c.row
 
 -- a column of so many rows
 abbrev pub StandsAmong : ℕ → ArrayLeaf → Type 0
-StandsAmong n (Column c) = (length c.value.rows ≡ n) × TellsConstant c.value
-StandsAmong n (Nulls c) = (length c.rows ≡ n) × TellsConstant c
+StandsAmong n l = (length (leaf_column l).rows ≡ n) × TellsConstant (leaf_column l)
 
 module _ {V O : Type 0} where
   rows_below : (n : ℕ) (xs : List (Array V O)) → All IsTyped xs → All (λ a. rows_in a ≡ n) xs
@@ -52,8 +55,7 @@ module _ (V O : Type 0) where
   no_call c (Some s) = refl
 
   pub not_called : (l : ArrayLeaf) → called (array_leaf {V = V} {O = O} l) ≡ None
-  not_called (Column c) = no_call c.value c.value.constant
-  not_called (Nulls c) = no_call c c.constant
+  not_called l = no_call (leaf_column l) (leaf_column l).constant
 
 module _ {V O : Type 0} (m : Meaning V O) (r : Rules V O) where
   none : (c : ColumnView) (o : Option ScalarView) → step (reduce m r) (held_or_constant c o) ≡ None
@@ -61,5 +63,4 @@ module _ {V O : Type 0} (m : Meaning V O) (r : Rules V O) where
   none c (Some s) = refl
 
   pub settles : (l : ArrayLeaf) → step (reduce m r) (array_leaf l) ≡ None
-  settles (Column c) = none c.value c.value.constant
-  settles (Nulls c) = none c c.constant
+  settles l = none (leaf_column l) (leaf_column l).constant

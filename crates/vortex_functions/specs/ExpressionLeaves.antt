@@ -1,8 +1,9 @@
 -- The leaves of expressions as trees: places in a scope, and literals.
-use Rattle.std.specs.Prelude.{◌≡◌, ◌∷◌, List, [], None, All, map, refl, string_bytes, zero, suc}
+use Rattle.std.specs.Prelude.{◌≡◌, ◌∷◌, List, [], None, All, ⊤, map, refl, string_bytes, zero, suc}
 use Rattle.std.proofs.Common.{arith, sym}
 use Rattle.std.proofs.lemmas.List.{map-id}
 use Rattle.vortex_types.specs.TypeOf.{type_of}
+use Rattle.vortex_columns.specs.ColumnView.{ColumnView}
 use Rattle.vortex_meaning.specs.Functions.{Function}
 use Rattle.vortex_meaning.specs.Meaning.{Meaning}
 use Rattle.vortex_meaning.specs.Trees.{place, Tree, leaf, constant, call, trees_of, children_of}
@@ -10,12 +11,18 @@ use Rattle.vortex_meaning.specs.Trees.{called}
 use Rattle.vortex_meaning.specs.Rules.{Rules}
 use Rattle.vortex_meaning.specs.Driver.{simplify_or_reduce, step}
 use Rattle.vortex_meaning.specs.Made.{IsBound}
+use Rattle.vortex_meaning.specs.Execution.{LeafFits}
 use Rattle.vortex_functions.specs.declared.expression.ExpressionLeaf.{ExpressionLeaf}
 use Rattle.vortex_functions.specs.declared.expression.ExpressionLeaf.TheVariants.{Column, Literal}
 
 abbrev pub expression_leaf : {V O : Type 0} → ExpressionLeaf → Tree V O
 expression_leaf (Column p name t) = leaf (place p (string_bytes name) (type_of t))
 expression_leaf (Literal s alloc) = constant s
+
+-- the leaf's column is there, of the leaf's type; a literal asks for none
+abbrev pub HasColumn : List ColumnView → ExpressionLeaf → Type 0
+HasColumn cs (Column p name t) = LeafFits cs (place p (string_bytes name) (type_of t))
+HasColumn cs (Literal s alloc) = ⊤
 
 pub children_are : {V O : Type 0} (t : Tree V O) → children_of t ≡ map (λ x. x) (children_of t)
 children_are t = sym (map-id (children_of t))

@@ -3,6 +3,7 @@ ghost use Rattle.std.specs.Prelude.{◌≡◌, ◌↔◌, IfSome, IsTrue, length
 ghost use Rattle.std.specs.Option.{option_copied};
 ghost use Rattle.vortex_functions.specs.Words.{AnswersUnlessMemory, literal, tree_in, rows_in};
 ghost use Rattle.vortex_functions.specs.Words.{column_array, column_in};
+ghost use Rattle.vortex_functions.specs.ArrayLeaves.{leaf_column};
 
 use crate::tree::leaf::{Leaf, Shown};
 use crate::tree::{Node, Tree};
@@ -77,9 +78,18 @@ impl<C: ScalarFnVTable> Leaf<C> for ArrayLeaf {
     }
 
     fn dtype(&self) -> &DType {
+        self.column().dtype()
+    }
+}
+
+impl ArrayLeaf {
+    /// The column, lent.
+    fn column(&self) -> &Column
+        ensures { result.now ≡ leaf_column self.now }
+    {
         match self {
-            ArrayLeaf::Column(column) => column.dtype(),
-            ArrayLeaf::Nulls(column) => column.dtype(),
+            ArrayLeaf::Column(column) => &**column,
+            ArrayLeaf::Nulls(column) => column,
         }
     }
 }
@@ -121,8 +131,7 @@ impl<C: ScalarFnVTable> ArrayRef<C> {
         ensures { option_copied result ≡ literal (tree_in self.now) }
     {
         match &self.node {
-            Node::Leaf(ArrayLeaf::Column(column)) => column.as_constant(),
-            Node::Leaf(ArrayLeaf::Nulls(column)) => column.as_constant(),
+            Node::Leaf(leaf) => leaf.column().as_constant(),
             Node::Call(_) => None,
         }
     }
@@ -133,8 +142,7 @@ impl<C: ScalarFnVTable> ArrayRef<C> {
         ensures rows { IfSome result (λ c. length c.now.rows ≡ rows_in self.now) }
     {
         match &self.node {
-            Node::Leaf(ArrayLeaf::Column(column)) => Some(&**column),
-            Node::Leaf(ArrayLeaf::Nulls(column)) => Some(column),
+            Node::Leaf(leaf) => Some(leaf.column()),
             Node::Call(_) => None,
         }
     }

@@ -2,7 +2,7 @@
 ghost use Rattle.vortex_functions.specs.Words.{children_in, AllMean, HasArrayRows, AnswersArray};
 ghost use Rattle.vortex_functions.specs.Words.{LendsColumn};
 
-use super::{ArrayLeaf, ArrayRef};
+use super::ArrayRef;
 use crate::tree::Node;
 use crate::walk;
 use std::borrow::Cow;
@@ -20,8 +20,7 @@ impl<C: ScalarFnVTable> ArrayRef<C> {
         ensures { AnswersArray C.meaning self.now result }
     {
         match &self.node {
-            Node::Leaf(ArrayLeaf::Column(column)) => Ok(Cow::Borrowed(&**column)),
-            Node::Leaf(ArrayLeaf::Nulls(column)) => Ok(Cow::Borrowed(column)),
+            Node::Leaf(leaf) => Ok(Cow::Borrowed(leaf.column())),
             Node::Call(parts) => {
                 let args = VecExecutionArgs::new(inputs, self.beside);
                 Ok(Cow::Owned(parts.function.execute(&args, ctx)?))
@@ -44,8 +43,7 @@ impl<C: ScalarFnVTable> ArrayRef<C> {
         ensures lent { LendsColumn self.now result }
     {
         match &self.node {
-            Node::Leaf(ArrayLeaf::Column(column)) => Ok(Cow::Borrowed(&**column)),
-            Node::Leaf(ArrayLeaf::Nulls(column)) => Ok(Cow::Borrowed(column)),
+            Node::Leaf(leaf) => Ok(Cow::Borrowed(leaf.column())),
             Node::Call(_) => self.compute(ctx),
         }
     }

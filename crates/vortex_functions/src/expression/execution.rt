@@ -4,6 +4,7 @@ ghost use Rattle.vortex_functions.specs.Words.{children_of, AllMean, AnswersUnle
 ghost use Rattle.vortex_functions.specs.Words.{LeavesFit, NodeFits, other_length, AnswersTree};
 ghost use Rattle.vortex_functions.specs.Words.{AnswersExecution, LendsLeaf, IsLeaf, Fits};
 ghost use Rattle.vortex_functions.specs.Words.{AnswersColumns, AreTyped};
+ghost use Rattle.vortex_functions.specs.ExpressionLeaves.{expression_leaf, HasColumn};
 
 use super::{BoundExpression, ExpressionLeaf};
 use crate::tree::Node;
@@ -28,17 +29,50 @@ fn first_other_length(columns: &[Column], row_count: usize) -> Option<usize>
     None
 }
 
+impl ExpressionLeaf {
+    /// Whether the leaf's column is there, of the leaf's type; a literal asks for none.
+    fn fits(&self, columns: &[Column]) -> bool
+        ensures { IsTrue result ↔ HasColumn columns.now self.now }
+    {
+        match self {
+            ExpressionLeaf::Column(place, _, dtype) => match columns.get(*place) {
+                Some(column) => *column.dtype() == *dtype,
+                None => false,
+            },
+            ExpressionLeaf::Literal(_, _) => true,
+        }
+    }
+
+    /// The leaf's rows: its column, lent, or the literal in each. A column takes no memory.
+    fn rows<'a, C: ScalarFnVTable>(
+        &self,
+        columns: &'a [Column],
+        row_count: usize,
+        ctx: &mut ExecutionCtx,
+    ) -> VortexResult<Cow<'a, Column>>
+        requires { Fits columns.now row_count (expression_leaf {V = C} {O = C.Options} self.now) }
+        ensures answer { AnswersTree C.meaning columns.now row_count (expression_leaf self.now)
+            result }
+        ensures lent { LendsLeaf columns.now (expression_leaf {V = C} {O = C.Options} self.now)
+            result }
+    {
+        match self {
+            ExpressionLeaf::Column(place, _, _) => Ok(Cow::Borrowed(&columns[*place])),
+            ExpressionLeaf::Literal(scalar, _) => {
+                let scalar = scalar.try_clone(ctx.alloc())?;
+                Ok(Cow::Owned(Column::constant(ctx.alloc(), scalar, row_count)?))
+            }
+        }
+    }
+}
+
 impl<C: ScalarFnVTable> BoundExpression<C> {
     /// Whether a leaf's column is there, of the leaf's type; so it is of any other node.
     fn node_fits(&self, columns: &[Column]) -> bool
         ensures { IsTrue result ↔ NodeFits columns.now self.now }
     {
         match &self.node {
-            Node::Leaf(ExpressionLeaf::Column(place, _, dtype)) => match columns.get(*place) {
-                Some(column) => *column.dtype() == *dtype,
-                None => false,
-            },
-            Node::Leaf(ExpressionLeaf::Literal(_, _)) => true,
+            Node::Leaf(leaf) => leaf.fits(columns),
             Node::Call(_) => true,
         }
     }
@@ -70,8 +104,7 @@ impl<C: ScalarFnVTable> BoundExpression<C> {
         ensures lone { IsLeaf self.now → IsOk result }
     {
         match &self.node {
-            Node::Leaf(ExpressionLeaf::Column(_, _, _)) => Ok(self.node_fits(columns)),
-            Node::Leaf(ExpressionLeaf::Literal(_, _)) => Ok(true),
+            Node::Leaf(leaf) => Ok(leaf.fits(columns)),
             Node::Call(_) => self.nodes_fit(columns, ctx),
         }
     }
@@ -117,11 +150,7 @@ impl<C: ScalarFnVTable> BoundExpression<C> {
         ensures { AnswersTree C.meaning columns.now row_count self.now result }
     {
         match &self.node {
-            Node::Leaf(ExpressionLeaf::Column(at, _, _)) => Ok(Cow::Borrowed(&columns[*at])),
-            Node::Leaf(ExpressionLeaf::Literal(scalar, _)) => {
-                let scalar = scalar.try_clone(ctx.alloc())?;
-                Ok(Cow::Owned(Column::constant(ctx.alloc(), scalar, row_count)?))
-            }
+            Node::Leaf(leaf) => leaf.rows::<C>(columns, row_count, ctx),
             Node::Call(parts) => {
                 let args = VecExecutionArgs::new(inputs, row_count);
                 Ok(Cow::Owned(parts.function.execute(&args, ctx)?))
@@ -154,8 +183,7 @@ impl<C: ScalarFnVTable> BoundExpression<C> {
         ensures lent { LendsLeaf columns.now self.now result }
     {
         match &self.node {
-            Node::Leaf(ExpressionLeaf::Column(place, _, _)) => Ok(Cow::Borrowed(&columns[*place])),
-            Node::Leaf(ExpressionLeaf::Literal(_, _)) => self.compute(columns, row_count, ctx),
+            Node::Leaf(leaf) => leaf.rows::<C>(columns, row_count, ctx),
             Node::Call(_) => self.compute(columns, row_count, ctx),
         }
     }

@@ -48,11 +48,7 @@ impl<C: ScalarFnVTable> BoundExpression<C> {
                 parts.function.fmt_sql(&texts, &mut text)?;
                 Ok(text)
             }
-            Node::Leaf(ExpressionLeaf::Column(_, _, _)) => {
-                self.write_leaf(&mut text)?;
-                Ok(text)
-            }
-            Node::Leaf(ExpressionLeaf::Literal(_, _)) => {
+            Node::Leaf(_) => {
                 self.write_leaf(&mut text)?;
                 Ok(text)
             }
