@@ -1,5 +1,5 @@
 -- A call over arrays that is made.
-use Rattle.std.proofs.Common.{◌≡◌, ℕ, Bool, true, false, List, [], ◌∷◌, length, Some, None, ap}
+use Rattle.std.proofs.Common.{◌≡◌, ℕ, Bool, true, false, List, [], ◌∷◌, length, Some, None, refl, ap}
 use Rattle.std.proofs.Common.{arith, nat_eq, subst, sym, ◌∙◌}
 use Rattle.std.specs.Prelude.{slice_get, All, Result, Ok, Err}
 use Rattle.std.proofs.lemmas.List.{length-map}
@@ -12,11 +12,11 @@ use Rattle.vortex_errors.specs.Answers.{UnlessMemory}
 use Rattle.vortex_errors.proofs.Answering.{UnlessMemory-weaker}
 use Rattle.vortex_meaning.specs.Meaning.{Meaning, fits}
 use Rattle.vortex_meaning.specs.Functions.{Function, function_arity}
-use Rattle.vortex_functions.specs.Arrays.{Array, tree_in, rows_in, trees_in, other_rows}
-use Rattle.vortex_functions.specs.Binding.{RefusesCall, AnswersTreeCall}
+use Rattle.vortex_functions.specs.Arrays.{Array, rows_in, trees_in, other_rows}
+use Rattle.vortex_functions.specs.Binding.{RefusesCall}
 use Rattle.vortex_functions.specs.Binding as binding
 use Rattle.vortex_functions.proofs.Execution.{where_none}
-use Rattle.vortex_arrays.specs.Calls.{IsArrayCall, RefusesOperands, types, RefusesArrayCall, count}
+use Rattle.vortex_arrays.specs.Calls.{RefusesOperands, types, RefusesArrayCall, count}
 use Rattle.vortex_arrays.specs.Calls.{operands, AnswersCallOfRows, AnswersCall, AnswersOperands}
 
 fits_not : {A : Type 0} (b : Bool) → b ≡ true → b ≡ false → A
@@ -31,21 +31,16 @@ all_even n (a ∷ xs) h =
     All-cons (λ b. rows_in b ≡ n) a xs (eqb-true (rows_in a) n first.0) (all_even n xs first.1)
 
 module _ {V O : Type 0} (m : Meaning V O) where
-  -- a call over trees of one row count is one over arrays
-  pub call_of_rows : (f : Function V O) (xs : List (Array V O)) (n : ℕ)
-      (r : Result (Array V O) VortexError)
+  -- over arrays of one row count, which are as many as the function takes, what trees are refused
+  -- for arrays are
+  pub call_refused : (f : Function V O) (xs : List (Array V O)) (n : ℕ)
       → fits (function_arity m f) (length xs) ≡ true → other_rows n xs ≡ None
-      → AnswersTreeCall tree_in rows_in m f xs n r → AnswersCallOfRows m f xs n r
-  call_of_rows f xs n (Ok a) arity even h = record { call = h.0; rows = h.1; even = even }
-  call_of_rows f xs n (Err e) arity even h =
-      UnlessMemory-weaker (RefusesCall m f (trees_in xs)) (RefusesArrayCall m f xs n) over e h
-    where
-      trees_fit : fits (function_arity m f) (length (trees_in xs)) ≡ true
-      trees_fit = ap (λ k. fits (function_arity m f) k) (length-map xs (λ (x : Array V O). x.0)) ∙ arity
-
-      over : (d : VortexError) → RefusesCall m f (trees_in xs) d → RefusesArrayCall m f xs n d
-      over d (binding.count p q) = fits_not _ trees_fit p
-      over d (binding.types ks p q r s) = operands arity (types ks even q r s)
+      → (e : VortexError) → RefusesCall m f (trees_in xs) e → RefusesArrayCall m f xs n e
+  call_refused f xs n arity even e (binding.count p q) =
+      fits_not _
+      (ap (λ k. fits (function_arity m f) k) (length-map xs (λ (x : Array V O). x.0)) ∙ arity) p
+  call_refused f xs n arity even e (binding.types ks p q r s) =
+      operands arity (types ks even q r s)
 
   module _ (f : Function V O) where
     -- the first array's row count

@@ -134,18 +134,18 @@ module _ {V O : Type 0} (m : Meaning V O) where
       → tree_type m (operated And t u) ≡ Some (bool_type false)
   and_typed t u h k = type_of_two m (ours (Binary And)) t u (bool_type false) (bool_type false) h k
 
-  pub pair_typed : {N : Type 0} (of_node : N → Tree V O) (rows : N → ℕ) (n : ℕ) (pair : List N)
+  pub pair_typed : {N B : Type 0} (of_node : N → Tree V O) (rows : N → B) (n : B) (pair : List N)
       → length pair ≡ 2 → AreTruths m of_node rows n pair
       → tree_type m (call (ours (Binary And)) (trees_of (map of_node pair)))
       ≡ Some (bool_type false)
   pair_typed of_node rows n [] e h = absurd (omega arith)
   pair_typed of_node rows n (a ∷ []) e h = absurd (omega arith)
-  pair_typed {N} of_node rows n (a ∷ b ∷ []) e h =
+  pair_typed {N} {B} of_node rows n (a ∷ b ∷ []) e h =
       and_typed (of_node a) (of_node b) (h 0 a (omega arith)).0 (h 1 a (omega arith)).0
   pair_typed of_node rows n (a ∷ b ∷ c ∷ ns) e h = absurd (omega arith)
 
-  -- nodes that stand for trees, each over so many rows
-  module _ {N : Type 0} (of_node : N → Tree V O) (rows : N → ℕ) (n : ℕ) where
+  -- nodes that stand for trees, beside each of which that stands
+  module _ {N B : Type 0} (of_node : N → Tree V O) (rows : N → B) (n : B) where
     abbrev IsTruth : N → Type 0
     IsTruth node = (tree_type m (of_node node) ≡ Some (bool_type false)) × (rows node ≡ n)
 

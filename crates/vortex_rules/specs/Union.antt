@@ -1,5 +1,5 @@
 -- How nodes are joined by And in rounds.
-use Rattle.std.specs.Prelude.{◌≡◌, ℕ, List, [], ◌∷◌, Some, false}
+use Rattle.std.specs.Prelude.{◌≡◌, List, [], ◌∷◌, Some, false}
 use Rattle.std.specs.List.{All}
 use Rattle.vortex_types.specs.LogicalTypes.{bool_type}
 use Rattle.vortex_operators.specs.declared.operators.Operator.TheVariants.{And}
@@ -8,8 +8,8 @@ use Rattle.vortex_meaning.specs.Trees.{Tree}
 use Rattle.vortex_meaning.specs.Eval.{tree_type}
 use Rattle.vortex_meaning.specs.ComparisonTrees.{operated}
 
--- nodes of Bool without null, each over that many rows
-abbrev pub AreTruths : {V O N : Type 0} → Meaning V O → (N → Tree V O) → (N → ℕ) → ℕ → List N
+-- nodes of Bool without null, beside each of which that stands
+abbrev pub AreTruths : {V O N B : Type 0} → Meaning V O → (N → Tree V O) → (N → B) → B → List N
     → Type 0
 AreTruths m tree rows n nodes =
     All (λ node. (tree_type m (tree node) ≡ Some (bool_type false)) × (rows node ≡ n)) nodes

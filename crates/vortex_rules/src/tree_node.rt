@@ -1,7 +1,8 @@
 //! Nodes over trees of either kind.
-ghost use Rattle.std.specs.Prelude.{◌≡◌, IsOk, map};
+ghost use Rattle.std.specs.Prelude.{◌≡◌, All, IfOk, IsOk, map};
 ghost use Rattle.std.specs.Cow.{cow_value, IsBorrowed, IsOwned};
-ghost use Rattle.vortex_functions.specs.Words.{AnswersUnlessMemory};
+ghost use Rattle.vortex_functions.specs.Words.{function_of, AnswersUnlessMemory};
+ghost use Rattle.vortex_rules.specs.Making.{AnswersCall};
 
 use crate::dispatch::validity_call;
 use crate::leaf::RuleLeaf;

@@ -8,7 +8,7 @@ use Rattle.vortex_functions.proofs.Opened.{leaf_fits, no_leaf, never, past_end}
 use Rattle.vortex_functions.proofs.expression.ExpressionLeaf.fits.Goals as goal
 
 pub returns-in-Some : goal.returns-in-Some
-returns-in-Some g c =
+returns-in-Some c =
     let cs = c.args.columns.now in
     let p = c.in-Column.place in
     let t = type_of c.in-Column.dtype in
@@ -19,7 +19,7 @@ returns-in-Some g c =
     (c.eq.ensures ∙ ap (λ u. type_eq u t) c.dtype.ensures.dtype))
 
 pub returns-in-None : goal.returns-in-None
-returns-in-None g c =
+returns-in-None c =
     let cs = c.args.columns.now in
     let p = c.in-Column.place in
     let name = string_bytes c.in-Column.field-1 in

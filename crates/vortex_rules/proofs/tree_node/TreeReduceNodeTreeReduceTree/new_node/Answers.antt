@@ -6,7 +6,7 @@ use Rattle.std.proofs.lemmas.List.Elements.{All-map}
 use Rattle.vortex_functions.specs.FunctionOf.{function_of}
 use Rattle.vortex_functions.specs.Binding.{IsCall}
 use Rattle.vortex_rules.proofs.NodeLists.{trees_of_copies, refused_as_copies}
-use Rattle.vortex_rules.proofs.tree_node.TreeReduceNodeReduceTree.new_node.Goals as goal
+use Rattle.vortex_rules.proofs.tree_node.TreeReduceNodeTreeReduceTree.new_node.Goals as goal
 
 pub try_call-requires : goal.try_call-requires
 try_call-requires g c =

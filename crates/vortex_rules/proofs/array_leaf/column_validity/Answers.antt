@@ -5,7 +5,7 @@ use Rattle.vortex_columns.specs.ValidityView.{FitsRows}
 use Rattle.vortex_columns.specs.Stored.{bool_column}
 use Rattle.vortex_rules.specs.ColumnValidity.{validity_by_form, validity_as_column}
 use Rattle.vortex_rules.proofs.ValidBits.{plain, bits_are_validity}
-use Rattle.vortex_rules.proofs.array_tree.column_validity.Goals as goal
+use Rattle.vortex_rules.proofs.array_leaf.column_validity.Goals as goal
 
 pub returns-in-Some : goal.returns-in-Some
 returns-in-Some c =
