@@ -28,7 +28,7 @@ module _ {V O : Type 0} where
   weighs_one m (constant s) e = refl
   weighs_one m (call f ts) e = cc
 
-module _ {V L O B S : Type 0} (l : Ghosts L V B S O) where
+module _ {V L O B S : Type 0} (l : Ghosts L V O B S) where
   -- the children of a tree beside which that stands
   pub children_beside : (t : Tree V O) (b : B)
       → l.children (l.see t b) ≡ map (λ x. l.see x b) (children_of t)

@@ -9,7 +9,7 @@ use Rattle.vortex_meaning.specs.Trees.{Tree, node_count}
 use Rattle.vortex_functions.specs.Nodes.{node_tree, most_le-nodes_count}
 
 pub deep_le-node_count : (V L O B S : Type 0) (a : _) (b : _) (c : _) (d : _) (e : _) (f : _)
-    (g : _) (l : Ghosts L V B S O) (n : Node V L O B S) (t : Tree V O)
+    (g : _) (l : Ghosts L V O B S) (n : Node V L O B S) (t : Tree V O)
     → t ≡ node_tree l.tree_of l.seen n
     → max (deep-Node V L O B S a b c d e f g l n) 0 ≤ node_count t
 deep_le-node_count V L O B S a b c d e f g l (Leaf x) t is = omega arith

@@ -26,7 +26,7 @@ pub enum ArrayLeaf {
 /// A column, or a well-typed call over arrays, all of one row count.
 pub type ArrayRef<C> = Tree<C, ArrayLeaf>;
 
-impl<C: ScalarFnVTable> Leaf<C> for ArrayLeaf {
+impl<C: ScalarFnVTable> Leaf<C, C::Options> for ArrayLeaf {
     ghost use Rattle.std.specs.Prelude.{refl};
     ghost use Rattle.vortex_meaning.specs.ReduceRules.{reduce};
     ghost use Rattle.vortex_functions.specs.Arrays.{tree_in, rows_in, children_in, IsTyped};

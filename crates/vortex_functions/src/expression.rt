@@ -28,7 +28,7 @@ pub enum ExpressionLeaf {
 /// A well-typed tree of calls over column leaves and literals.
 pub type BoundExpression<C> = Tree<C, ExpressionLeaf>;
 
-impl<C: ScalarFnVTable> Leaf<C> for ExpressionLeaf {
+impl<C: ScalarFnVTable> Leaf<C, C::Options> for ExpressionLeaf {
     ghost use Rattle.std.specs.Prelude.{refl, ⊤};
     ghost use Rattle.vortex_meaning.specs.Trees.{children_of};
     ghost use Rattle.vortex_meaning.specs.Driver.{simplify_or_reduce};

@@ -21,7 +21,7 @@ pub use leaf::Leaf;
 /// What a call is made of.
 #[cycle(tree)]
 #[derive(Drop)]
-pub(crate) struct Parts<C: ScalarFnVTable, L: Leaf<C>> {
+pub(crate) struct Parts<C: ScalarFnVTable, L: Leaf<C, C::Options>> {
     pub(crate) function: ScalarFnRef<C>,
     pub(crate) children: Vec<Tree<C, L>>,
     /// The type of the call's answer.
@@ -34,7 +34,7 @@ pub(crate) struct Parts<C: ScalarFnVTable, L: Leaf<C>> {
 
 #[cycle(tree)]
 #[derive(Drop)]
-pub(crate) enum Node<C: ScalarFnVTable, L: Leaf<C>> {
+pub(crate) enum Node<C: ScalarFnVTable, L: Leaf<C, C::Options>> {
     Leaf(L),
     /// A handle of a call's parts, which every copy of the call shares.
     Call(Rc<Parts<C, L>>),
@@ -42,12 +42,12 @@ pub(crate) enum Node<C: ScalarFnVTable, L: Leaf<C>> {
 
 /// A well-typed tree of calls over leaves.
 #[cycle(tree)]
-pub struct Tree<C: ScalarFnVTable, L: Leaf<C>> {
+pub struct Tree<C: ScalarFnVTable, L: Leaf<C, C::Options>> {
     pub(crate) node: Node<C, L>,
     pub(crate) beside: L::Beside,
 }
 
-impl<C: ScalarFnVTable, L: Leaf<C>> Model for Tree<C, L> {
+impl<C: ScalarFnVTable, L: Leaf<C, C::Options>> Model for Tree<C, L> {
     ghost use Rattle.vortex_meaning.specs.Trees.{node_count};
 
     ghost Value = { L.Seen };
@@ -75,7 +75,7 @@ impl<C: ScalarFnVTable, L: Leaf<C>> Model for Tree<C, L> {
 /// The last handle of a call takes it down, by a work list, and the list is the children's own
 /// vector: the depth of a tree takes no stack, and a chain no memory. Where the list cannot grow,
 /// one child goes by a call of its own.
-impl<C: ScalarFnVTable, L: Leaf<C>> Drop for Tree<C, L> {
+impl<C: ScalarFnVTable, L: Leaf<C, C::Options>> Drop for Tree<C, L> {
     #[tactic(auto, using(crate::proofs::Counts::nodes_count_push))]
     fn drop(self) {
         let Tree { node, beside: _ } = self;
@@ -109,7 +109,7 @@ impl<C: ScalarFnVTable, L: Leaf<C>> Drop for Tree<C, L> {
 }
 
 /// The types of trees.
-fn dtypes_of<C: ScalarFnVTable, L: Leaf<C>>(
+fn dtypes_of<C: ScalarFnVTable, L: Leaf<C, C::Options>>(
     alloc: Global,
     children: &[Tree<C, L>],
 ) -> VortexResult<Vec<DType>>
@@ -126,7 +126,7 @@ fn dtypes_of<C: ScalarFnVTable, L: Leaf<C>>(
 
 /// The weight of a call that is nullable or not: its children's, and what the function adds. Where
 /// that is past the greatest number, it is that number.
-fn call_weight<C: ScalarFnVTable, L: Leaf<C>>(
+fn call_weight<C: ScalarFnVTable, L: Leaf<C, C::Options>>(
     function: &ScalarFnRef<C>,
     children: &[Tree<C, L>],
     nullable: bool,
@@ -141,7 +141,7 @@ fn call_weight<C: ScalarFnVTable, L: Leaf<C>>(
     weight
 }
 
-impl<C: ScalarFnVTable, L: Leaf<C>> Tree<C, L> {
+impl<C: ScalarFnVTable, L: Leaf<C, C::Options>> Tree<C, L> {
     /// The call of a function on trees beside which the same stands. E6 exactly where their count
     /// does not fit its arity, and then E3 exactly where their types are not accepted.
     pub fn try_call(

@@ -14,7 +14,7 @@ use vortex_rules::ScalarFnRules;
 
 /// The same call on other children, beside which the same stands, on which it is well typed. E9
 /// alone.
-pub(crate) fn with_children<C: ScalarFnVTable, L: Leaf<C>>(
+pub(crate) fn with_children<C: ScalarFnVTable, L: Leaf<C, C::Options>>(
     alloc: Global,
     tree: &Tree<C, L>,
     children: Vec<Tree<C, L>>,

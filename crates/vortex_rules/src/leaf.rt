@@ -10,7 +10,7 @@ use vortex_functions::tree::{Leaf, Tree};
 use vortex_interface::ScalarFnVTable;
 
 /// A kind of leaf over whose trees rules run: of an expression, or of an array tree.
-pub trait RuleLeaf<C: ScalarFnVTable>: Leaf<C> {
+pub trait RuleLeaf<C: ScalarFnVTable>: Leaf<C, C::Options> {
     /// The scalar of a constant; none of any other tree.
     fn as_constant(tree: &Tree<C, Self>) -> Option<&Scalar>
         ensures { option_copied result ≡ literal (Self.tree_of tree.now) };

@@ -102,7 +102,7 @@ impl<'a, C: ScalarFnVTable> TreeReduceNode<'a, ArrayRef<C>> {
 }
 
 /// The tree that a node stood for, copied where it is lent.
-fn into_tree<'a, C: ScalarFnVTable, L: Leaf<C>>(
+fn into_tree<'a, C: ScalarFnVTable, L: Leaf<C, C::Options>>(
     alloc: Global,
     node: TreeReduceNode<'a, Tree<C, L>>,
 ) -> VortexResult<Tree<C, L>>
@@ -116,7 +116,7 @@ fn into_tree<'a, C: ScalarFnVTable, L: Leaf<C>>(
 }
 
 /// Copies of what nodes stand for.
-fn copies_of<'a, C: ScalarFnVTable, L: Leaf<C>>(
+fn copies_of<'a, C: ScalarFnVTable, L: Leaf<C, C::Options>>(
     alloc: Global,
     nodes: &[TreeReduceNode<'a, Tree<C, L>>],
 ) -> VortexResult<Vec<Tree<C, L>>>
@@ -171,6 +171,12 @@ impl<'a, C: ScalarFnVTable, L: RuleLeaf<C>> ReduceTree<C> for TreeReduceNode<'a,
         function: ScalarFnRef<C>,
         children: &[Self],
     ) -> VortexResult<Self>
+        requires { All (λ child. L.beside_of (cow_value child.tree)
+            ≡ L.beside_of (cow_value self.now.tree)) children.now }
+        ensures answer { AnswersCall C.meaning (λ n. L.tree_of (cow_value n.tree))
+            (function_of function) children.now result }
+        ensures same_rows { IfOk result
+            (λ node. L.beside_of (cow_value node.tree) ≡ L.beside_of (cow_value self.now.tree)) }
     {
         let copies = copies_of(alloc, children)?;
         let call = Tree::try_call(alloc, function, copies, self.tree().beside())?;

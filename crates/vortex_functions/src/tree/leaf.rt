@@ -3,6 +3,7 @@ ghost use Rattle.std.specs.Prelude.{◌≡◌, List, Option, None, Some, All, ma
 ghost use Rattle.vortex_errors.specs.Answers.{AnswersUnlessMemory};
 ghost use Rattle.vortex_types.specs.TypeOf.{type_of};
 ghost use Rattle.vortex_meaning.specs.Functions.{Function};
+ghost use Rattle.vortex_meaning.specs.Meaning.{Meaning};
 ghost use Rattle.vortex_meaning.specs.Trees.{Tree, call, trees_of, children_of, called};
 ghost use Rattle.vortex_meaning.specs.Eval.{tree_type};
 ghost use Rattle.vortex_meaning.specs.Driver.{step};
@@ -12,34 +13,35 @@ use std::marker::{Model, PhantomData};
 use vortex_columns::{DType, VortexResult};
 use vortex_interface::ScalarFnVTable;
 
-/// A kind of leaf, and what stands beside a tree over such leaves: its row count, or nothing.
+/// A kind of leaf, of trees over a caller's functions `C` with their options `O`, and what stands
+/// beside such a tree: its row count, or nothing.
 ///
 /// Its laws say that a tree is seen as a pair of what it means and what stands beside it, that its
 /// children stand beside the same, and that a leaf is no call.
-pub trait Leaf<C: ScalarFnVTable>: Sized + Drop {
+pub trait Leaf<C, O>: Sized + Drop {
     /// What stands beside a tree.
     type Beside: Copy + Drop;
 
     /// What a tree is seen as.
     type Seen;
 
-    ghost tree_of: { Self.Seen → Tree C C.Options };
+    ghost tree_of: { Self.Seen → Tree C O };
 
     ghost beside_of: { Self.Seen → Self.Beside };
 
-    ghost see: { Tree C C.Options → Self.Beside → Self.Seen };
+    ghost see: { Tree C O → Self.Beside → Self.Seen };
 
-    ghost tree_of_see: { (t : Tree C C.Options) (b : Self.Beside) → tree_of (see t b) ≡ t };
+    ghost tree_of_see: { (t : Tree C O) (b : Self.Beside) → tree_of (see t b) ≡ t };
 
-    ghost beside_of_see: { (t : Tree C C.Options) (b : Self.Beside) → beside_of (see t b) ≡ b };
+    ghost beside_of_see: { (t : Tree C O) (b : Self.Beside) → beside_of (see t b) ≡ b };
 
     ghost see_of: { (a : Self.Seen) → see (tree_of a) (beside_of a) ≡ a };
 
     /// The rule that a mark speaks of.
-    ghost rule: { Tree C C.Options → Option (Tree C C.Options) };
+    ghost rule: { Tree C O → Option (Tree C O) };
 
     /// What a leaf is seen as.
-    ghost seen: { Self → Tree C C.Options };
+    ghost seen: { Self → Tree C O };
 
     /// Whether a leaf may stand there.
     ghost fits: { Self.Beside → Self → Type 0 };
@@ -54,7 +56,7 @@ pub trait Leaf<C: ScalarFnVTable>: Sized + Drop {
         → children a ≡ map (λ t. see t (beside_of a)) (children_of (tree_of a)) };
 
     /// A call is whole where what stands below it is.
-    ghost whole_call: { (f : Function C C.Options) (b : Self.Beside) (xs : List Self.Seen)
+    ghost whole_call: { (f : Function C O) (b : Self.Beside) (xs : List Self.Seen)
         → All whole xs → All (λ a. beside_of a ≡ b) xs
         → whole (see (call f (trees_of (map tree_of xs))) b) };
 
@@ -75,14 +77,14 @@ pub trait Leaf<C: ScalarFnVTable>: Sized + Drop {
 
     /// The type of its values, of a leaf that may stand somewhere.
     fn dtype(&self) -> &DType
-        ensures { (b : Self.Beside) → Self.fits b self.now
-            → tree_type C.meaning (Self.seen self.now) ≡ Some (type_of result.now) };
+        ensures { (m : Meaning C O) (b : Self.Beside) → Self.fits b self.now
+            → tree_type m (Self.seen self.now) ≡ Some (type_of result.now) };
 
     // the same laws a second time, where a proof finds them: a Model can name those above alone
-    ghost sees_tree: { (t : Tree C C.Options) (b : Self.Beside) → tree_of (see t b) ≡ t }
+    ghost sees_tree: { (t : Tree C O) (b : Self.Beside) → tree_of (see t b) ≡ t }
         = { tree_of_see };
 
-    ghost sees_beside: { (t : Tree C C.Options) (b : Self.Beside) → beside_of (see t b) ≡ b }
+    ghost sees_beside: { (t : Tree C O) (b : Self.Beside) → beside_of (see t b) ≡ b }
         = { beside_of_see };
 }
 

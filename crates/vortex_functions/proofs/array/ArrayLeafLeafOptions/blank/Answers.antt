@@ -1,5 +1,5 @@
 use Rattle.vortex_functions.proofs.ArrayColumns.{nulls_stand, nulls_are_typed}
-use Rattle.vortex_functions.proofs.array.ArrayLeafLeaf.blank.Goals as goal
+use Rattle.vortex_functions.proofs.array.ArrayLeafLeafOptions.blank.Goals as goal
 
 pub returns-clause-fits : goal.returns-clause-fits
 returns-clause-fits g c = nulls_stand c.args.beside c.null.result c.null.ensures
