@@ -14,8 +14,6 @@ use vortex_rules::{ArrayReduceNode, ReduceArray, ScalarFnRules};
 impl<C: ScalarFnRules> RewriteLeaf<C> for ArrayLeaf {
     ghost applied = { array_rule C.meaning C.rules };
 
-    ghost rule_is = { refl };
-
     fn apply(alloc: Global, tree: &ArrayRef<C>, rule: Rule) -> VortexResult<Option<ArrayRef<C>>> {
         let Some(function) = tree.as_scalar() else {
             return Ok(None);
@@ -31,6 +29,8 @@ impl<C: ScalarFnRules> RewriteLeaf<C> for ArrayLeaf {
             }
         }
     }
+
+    ghost rule_is = { refl };
 
     ghost sound = { array_sound C.meaning C.rules C.ScalarFnVTable.lawful
         C.ScalarFnRules.rules_lawful };

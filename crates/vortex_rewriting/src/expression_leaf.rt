@@ -15,8 +15,6 @@ use vortex_rules::{ExpressionReduceNode, ReduceExpression, ScalarFnRules};
 impl<C: ScalarFnRules> RewriteLeaf<C> for ExpressionLeaf {
     ghost applied = { expression_rule C.meaning C.rules };
 
-    ghost rule_is = { refl };
-
     fn apply(
         alloc: Global,
         tree: &BoundExpression<C>,
@@ -36,6 +34,8 @@ impl<C: ScalarFnRules> RewriteLeaf<C> for ExpressionLeaf {
             }
         }
     }
+
+    ghost rule_is = { refl };
 
     ghost sound = { expression_sound C.meaning C.rules C.ScalarFnVTable.lawful
         C.ScalarFnRules.rules_lawful };

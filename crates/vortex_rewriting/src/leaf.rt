@@ -19,9 +19,6 @@ pub trait RewriteLeaf<C: ScalarFnRules>: RuleLeaf<C> {
     /// What a rule makes of a tree of this kind at its root.
     ghost applied: { Rule → Tree C C.Options → Option (Tree C C.Options) };
 
-    /// The rule that marks speak of is the driver's.
-    ghost rule_is: { Self.rule ≡ first_rule applied };
-
     /// What a rule makes of the tree at its root; None where it does not apply. E9 alone.
     fn apply(
         alloc: Global,
@@ -32,6 +29,9 @@ pub trait RewriteLeaf<C: ScalarFnRules>: RuleLeaf<C> {
             (λ answer. option_map Self.tree_of answer ≡ applied rule (Self.tree_of tree.now)) }
         ensures same_rows { IfOk result
             (λ answer. IfSome answer (λ made. Self.beside_of made ≡ Self.beside_of tree.now)) };
+
+    /// The rule that marks speak of is the driver's.
+    ghost rule_is: { Self.Leaf.rule ≡ first_rule applied };
 
     ghost sound: { (rule : Rule) → IsSound C.meaning (applied rule) };
 

@@ -9,6 +9,7 @@ use crate::children::with_child;
 use crate::leaf::RewriteLeaf;
 use std::alloc::Global;
 use vortex_columns::{VortexError, VortexResult};
+use vortex_functions::Tree;
 use vortex_rules::ScalarFnRules;
 
 /// A node above, and the number of its child that the way leads to.

@@ -1,4 +1,4 @@
-use Rattle.std.proofs.Common.{◌≡◌, Some, None, sym, ap, ◌∙◌, length, arith}
+use Rattle.std.proofs.Common.{◌≡◌, Some, None, sym, ap, subst, ◌∙◌, length, arith}
 use Rattle.vortex_meaning.specs.Driver.{step}
 use Rattle.vortex_rewriting.specs.Driving.{first_rule}
 use Rattle.vortex_rewriting.specs.Frames.{plug, frames_in}
@@ -30,7 +30,8 @@ loop-done-preserved-in-Continue-branch-3 g c =
     c.in-Some.child c.deref.ensures.value c.in_ok-child.ensures.answer c.in-Some.is in
     passes B.tree_of (first_rule g.L.RewriteLeaf.applied) B.beside_of c.args.above.items c.args.node
     l.above.items l.node l.done.items c.push.new.self.items c.in-Some.child l.invariant at
-    (c.is_settled.ensures c.if-is_settled.true)
+    (subst (λ rule. step rule (B.tree_of c.in-Some.child) ≡ None) g.met.L.RewriteLeaf.rule_is
+    (c.is_settled.ensures c.if-is_settled.true))
     (of_some (λ t. B.beside_of t ≡ B.beside_of l.node) c.in_ok-child.field-0 c.in-Some.child
     c.in_ok-child.ensures.same_rows c.in-Some.is)
     c.in_ok-push-in-Some.ensures.items
@@ -90,10 +91,12 @@ mark_settled-requires g c =
     let l = c.loop-done in
     let all = all_done B.tree_of (B.tree_of l.node) l.done.items c.deref.result.now c.in_ok-child.field-0
     c.deref.ensures.value c.in_ok-child.ensures.answer c.in-None.is in
-    step_made B.tree_of (first_rule g.L.RewriteLeaf.applied) B.beside_of c.args.above.items c.args.node
-    l.above.items l.node c.in_ok-whole-in-None.whole l.done.items c.in_ok-made-in-None.field-0 None
-    l.invariant c.in_ok-whole-in-None.ensures.answer all c.in_ok-made-in-None.ensures.answer
-    c.in_default.is
+    subst (λ rule. step rule (B.tree_of c.in_ok-whole-in-None.whole) ≡ None)
+    (sym g.met.L.RewriteLeaf.rule_is)
+    (step_made B.tree_of (first_rule g.L.RewriteLeaf.applied) B.beside_of c.args.above.items
+    c.args.node l.above.items l.node c.in_ok-whole-in-None.whole l.done.items
+    c.in_ok-made-in-None.field-0 None l.invariant c.in_ok-whole-in-None.ensures.answer all
+    c.in_ok-made-in-None.ensures.answer c.in_default.is)
 
 pub returns-in_default-pop-clause-answer : goal.returns-in_default-pop-clause-answer
 returns-in_default-pop-clause-answer g c =
