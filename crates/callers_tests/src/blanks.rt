@@ -22,7 +22,7 @@ const TRUE: [Option<bool>; 2] = [Some(true), Some(true)];
 const FALSE: [Option<bool>; 2] = [Some(false), Some(false)];
 
 /// The function over the first so many of the leaves `a`, `b`, `a`.
-fn blank(alloc: Global, count: usize) -> Tree<Blank> {
+fn blank(alloc: Global, count: usize) -> Bound<Blank> {
     call_of_leaves(alloc, ScalarFnRef::custom(Blank, EmptyOptions), count)
 }
 
@@ -55,12 +55,12 @@ fn any_number_of_arguments_is_taken(rt: HostRuntime) {
 }
 
 /// The null test of it, over so many leaves.
-fn missing(alloc: Global, count: usize) -> Tree<Blank> {
+fn missing(alloc: Global, count: usize) -> Bound<Blank> {
     is_null(alloc, blank(alloc, count))
 }
 
 /// The other null test of it, over two leaves.
-fn there(alloc: Global) -> Tree<Blank> {
+fn there(alloc: Global) -> Bound<Blank> {
     is_not_null(alloc, blank(alloc, 2))
 }
 
@@ -76,7 +76,7 @@ fn null_for_arguments_that_are_not_is_told(rt: HostRuntime) {
 }
 
 /// And of a truth value and of it, over two leaves.
-fn beside(alloc: Global, truth: bool) -> Tree<Blank> {
+fn beside(alloc: Global, truth: bool) -> Bound<Blank> {
     let truth = literal(alloc, Ok(Scalar::from(truth)));
     between(alloc, truth, Operator::And, blank(alloc, 2))
 }

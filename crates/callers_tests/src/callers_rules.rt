@@ -9,7 +9,7 @@ use tree_fixtures::makers::*;
 use vortex_functions::*;
 
 /// The function that answers its first argument, over five columns.
-fn first_of_five(alloc: Global) -> Tree<First> {
+fn first_of_five(alloc: Global) -> Bound<First> {
     let words = ["a", "b", "c", "d", "e"];
     call_of_names(alloc, ScalarFnRef::custom(First, EmptyOptions), &words)
 }
@@ -25,7 +25,7 @@ fn five_validities_are_joined_in_rounds(rt: HostRuntime) {
 }
 
 /// The function that answers its first argument, of `b` and `a`.
-fn first_of_two(alloc: Global) -> Tree<First> {
+fn first_of_two(alloc: Global) -> Bound<First> {
     let function = ScalarFnRef::custom(First, EmptyOptions);
     let children = two(alloc, mixed(alloc, "b"), mixed(alloc, "a"))?;
     planted(alloc, BoundExpression::try_new(alloc, function, children))
@@ -39,7 +39,7 @@ fn a_callers_rules_apply(rt: HostRuntime) {
 }
 
 /// A caller's Not, of column `a` of nullable Bool.
-fn levelled_a(alloc: Global) -> Tree<Levelled> {
+fn levelled_a(alloc: Global) -> Bound<Levelled> {
     call_of_leaves(alloc, ScalarFnRef::custom(Levelled, Level { level: 3 }), 1)
 }
 
@@ -55,7 +55,7 @@ fn null_tests_ask_a_callers_validity(rt: HostRuntime) {
 }
 
 /// The function that stands where a caller has none, without arguments.
-fn none(alloc: Global) -> Tree<NoCustom> {
+fn none(alloc: Global) -> Bound<NoCustom> {
     call_of_leaves(alloc, ScalarFnRef::custom(NoCustom, EmptyOptions), 0)
 }
 

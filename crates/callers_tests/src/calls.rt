@@ -8,7 +8,7 @@ use tree_fixtures::makers::*;
 use vortex_functions::*;
 
 /// The caller's function that faults at false, over column `a`.
-fn must_be_true(alloc: Global) -> Tree<MustBeTrue> {
+fn must_be_true(alloc: Global) -> Bound<MustBeTrue> {
     call_of_leaves(alloc, ScalarFnRef::custom(MustBeTrue, EmptyOptions), 1)
 }
 

@@ -10,7 +10,7 @@ use vortex_functions::*;
 use vortex_rewriting::Rewrite;
 
 /// The call of the function whose rule never comes to an end, of column `a` of nullable Bool.
-fn growing(alloc: Global) -> Tree<Grow> {
+fn growing(alloc: Global) -> Bound<Grow> {
     call_of_leaves(alloc, ScalarFnRef::custom(Grow, EmptyOptions), 1)
 }
 

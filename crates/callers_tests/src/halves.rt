@@ -3,12 +3,12 @@
 use crate::half::Half;
 use fixtures::{Made, is_refused, kept, nullable_ints, yes};
 use std::alloc::Global;
-use tree_fixtures::makers::{Tree, YES, call_of, is_fault, leaf_of, numbers_by, one};
+use tree_fixtures::makers::{Bound, YES, call_of, is_fault, leaf_of, numbers_by, one};
 use vortex_columns::*;
 use vortex_functions::*;
 
 /// Half of a column `a` of nullable i32.
-fn half(alloc: Global) -> Tree<Half> {
+fn half(alloc: Global) -> Bound<Half> {
     let leaf = leaf_of(alloc, DType::Primitive(PType::I32, YES));
     call_of(alloc, ScalarFnRef::custom(Half, EmptyOptions), leaf)
 }

@@ -3,7 +3,7 @@
 use fixtures::rows_of;
 use rule_fixtures::array_makers::Held;
 use std::alloc::Global;
-use tree_fixtures::makers::{Tree, has_text};
+use tree_fixtures::makers::{Bound, has_text};
 use vortex_columns::*;
 use vortex_rewriting::{Rewrite, run, run_array};
 use vortex_rules::ScalarFnRules;
@@ -12,7 +12,7 @@ use vortex_rules::ScalarFnRules;
 /// tree of that text.
 pub fn rewrites_to<C: ScalarFnRules>(
     alloc: Global,
-    tree: Tree<C>,
+    tree: Bound<C>,
     limit: u64,
     ends: (u64, bool),
     wanted: &str,
@@ -24,7 +24,7 @@ pub fn rewrites_to<C: ScalarFnRules>(
 /// Whether a tree answers these rows over columns after a run of at most so many steps.
 pub fn runs_to<C: ScalarFnRules>(
     alloc: Global,
-    tree: Tree<C>,
+    tree: Bound<C>,
     columns: VortexResult<Vec<Column>>,
     limit: u64,
     wanted: &[Option<bool>],

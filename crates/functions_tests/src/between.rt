@@ -18,10 +18,10 @@ fn half_open() -> BetweenOptions {
 /// Between of three trees: the array, the lower bound, the upper bound.
 fn between_of<C: ScalarFnVTable>(
     alloc: Global,
-    array: Tree<C>,
-    lower: Tree<C>,
-    upper: Tree<C>,
-) -> Tree<C> {
+    array: Bound<C>,
+    lower: Bound<C>,
+    upper: Bound<C>,
+) -> Bound<C> {
     let children = three(alloc, array, lower, upper)?;
     planted(
         alloc,
@@ -30,33 +30,33 @@ fn between_of<C: ScalarFnVTable>(
 }
 
 /// The column `a` of nullable i32.
-fn score<C: ScalarFnVTable>(alloc: Global) -> Tree<C> {
+fn score<C: ScalarFnVTable>(alloc: Global) -> Bound<C> {
     leaf_of(alloc, DType::Primitive(PType::I32, YES))
 }
 
 /// The literal of an i32.
-fn number<C: ScalarFnVTable>(alloc: Global, value: i32) -> Tree<C> {
+fn number<C: ScalarFnVTable>(alloc: Global, value: i32) -> Bound<C> {
     literal(alloc, Ok(Scalar::from(value)))
 }
 
 /// The literal of a truth value.
-fn truth<C: ScalarFnVTable>(alloc: Global) -> Tree<C> {
+fn truth<C: ScalarFnVTable>(alloc: Global) -> Bound<C> {
     literal(alloc, Ok(Scalar::from(true)))
 }
 
 /// Column `a` between 10 and 50.
-fn from_ten_to_fifty<C: ScalarFnVTable>(alloc: Global) -> Tree<C> {
+fn from_ten_to_fifty<C: ScalarFnVTable>(alloc: Global) -> Bound<C> {
     between_of(alloc, score(alloc), number(alloc, 10), number(alloc, 50))
 }
 
 /// Between whose lower bound is a text, and its upper bound a truth value.
-fn above_a_text<C: ScalarFnVTable>(alloc: Global) -> Tree<C> {
+fn above_a_text<C: ScalarFnVTable>(alloc: Global) -> Bound<C> {
     let word = literal(alloc, Scalar::try_from_str(alloc, "a"));
     between_of(alloc, score(alloc), word, truth(alloc))
 }
 
 /// Between whose upper bound is a truth value.
-fn below_a_truth<C: ScalarFnVTable>(alloc: Global) -> Tree<C> {
+fn below_a_truth<C: ScalarFnVTable>(alloc: Global) -> Bound<C> {
     between_of(alloc, score(alloc), number(alloc, 10), truth(alloc))
 }
 

@@ -8,12 +8,12 @@ use vortex_functions::*;
 use vortex_operators::*;
 
 /// The sum of so many leaves of Bool.
-fn sum_of_truths<C: ScalarFnVTable>(alloc: Global, count: usize) -> Tree<C> {
+fn sum_of_truths<C: ScalarFnVTable>(alloc: Global, count: usize) -> Bound<C> {
     call_of_leaves(alloc, Binary.bind(Operator::Add), count)
 }
 
 /// An equality of a column of nullable u16 and a null text.
-fn number_is_text<C: ScalarFnVTable>(alloc: Global) -> Tree<C> {
+fn number_is_text<C: ScalarFnVTable>(alloc: Global) -> Bound<C> {
     between(
         alloc,
         leaf_of(alloc, DType::Primitive(PType::U16, YES)),
@@ -23,7 +23,7 @@ fn number_is_text<C: ScalarFnVTable>(alloc: Global) -> Tree<C> {
 }
 
 /// And of so many leaves of Bool.
-fn and_of_truths<C: ScalarFnVTable>(alloc: Global, count: usize) -> Tree<C> {
+fn and_of_truths<C: ScalarFnVTable>(alloc: Global, count: usize) -> Bound<C> {
     call_of_leaves(alloc, Binary.bind(Operator::And), count)
 }
 
@@ -51,7 +51,7 @@ fn types_of_arithmetic_are_refused(rt: HostRuntime) {
 }
 
 /// Cast of a column of i32.
-fn cast_of_numbers<C: ScalarFnVTable>(alloc: Global) -> Tree<C> {
+fn cast_of_numbers<C: ScalarFnVTable>(alloc: Global) -> Bound<C> {
     let numbers = leaf_of(alloc, DType::Primitive(PType::I32, NO));
     call_of(alloc, Cast.bind(CastOptions), numbers)
 }
@@ -62,7 +62,7 @@ fn cast_of_other_types_is_refused(rt: HostRuntime) {
 }
 
 /// Not of a column of i32.
-fn not_of_numbers<C: ScalarFnVTable>(alloc: Global) -> Tree<C> {
+fn not_of_numbers<C: ScalarFnVTable>(alloc: Global) -> Bound<C> {
     let numbers = leaf_of(alloc, DType::Primitive(PType::I32, NO));
     call_of(alloc, Not.bind(EmptyOptions), numbers)
 }

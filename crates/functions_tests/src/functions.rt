@@ -5,7 +5,7 @@ ghost use Rattle.std.specs.Prelude.{◌≡◌, length};
 use fixtures::{Made, nullable_bools, yes};
 use std::alloc::Global;
 use std::borrow::Cow;
-use tree_fixtures::makers::{Tree, call_of_leaves};
+use tree_fixtures::makers::{Bound, call_of_leaves};
 use vortex_columns::*;
 use vortex_functions::*;
 use vortex_operators::*;
@@ -78,7 +78,7 @@ fn calls_operator<C: ScalarFnVTable>(tree: &BoundExpression<C>, count: usize) ->
 }
 
 /// Whether a tree that was made is a call of an operator with so many children.
-fn is_operator_over<C: ScalarFnVTable>(tree: Tree<C>, count: usize) -> VortexResult<bool> {
+fn is_operator_over<C: ScalarFnVTable>(tree: Bound<C>, count: usize) -> VortexResult<bool> {
     Ok(calls_operator(&*tree?, count))
 }
 

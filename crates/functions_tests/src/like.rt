@@ -64,7 +64,7 @@ fn like_of<C: ScalarFnVTable>(
     alloc: Global,
     options: LikeOptions,
     types: (DType, DType),
-) -> Tree<C> {
+) -> Bound<C> {
     call_of_columns(alloc, Like.bind(options), types)
 }
 

@@ -57,7 +57,7 @@ fn is_constant_by<C: ScalarFnVTable>(
 /// Whether a tree that was made answers that scalar.
 fn answers_constant<C: ScalarFnVTable>(
     alloc: Global,
-    tree: Tree<C>,
+    tree: Bound<C>,
     wanted: VortexResult<Scalar>,
     row_count: usize,
 ) -> VortexResult<bool> {
@@ -74,12 +74,12 @@ fn has_truth<C: ScalarFnVTable>(tree: &BoundExpression<C>, wanted: bool) -> bool
 }
 
 /// Whether a tree that was made is the literal of that value of Bool.
-fn is_literal<C: ScalarFnVTable>(tree: Tree<C>, wanted: bool) -> VortexResult<bool> {
+fn is_literal<C: ScalarFnVTable>(tree: Bound<C>, wanted: bool) -> VortexResult<bool> {
     Ok(has_truth(&*tree?, wanted))
 }
 
 /// Whether a tree is no literal.
-fn is_no_literal<C: ScalarFnVTable>(tree: Tree<C>) -> VortexResult<bool> {
+fn is_no_literal<C: ScalarFnVTable>(tree: Bound<C>) -> VortexResult<bool> {
     Ok(tree?.as_literal().is_none())
 }
 

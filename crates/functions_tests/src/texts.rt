@@ -88,12 +88,12 @@ fn map_of_words(alloc: Global) -> VortexResult<DType> {
 }
 
 /// And of columns `a` and `b`.
-fn a_and_b<C: ScalarFnVTable>(alloc: Global) -> Tree<C> {
+fn a_and_b<C: ScalarFnVTable>(alloc: Global) -> Bound<C> {
     between(alloc, leaf(alloc, "a"), Operator::And, leaf(alloc, "b"))
 }
 
 /// `1 > 2`.
-fn one_is_greater_than_two<C: ScalarFnVTable>(alloc: Global) -> Tree<C> {
+fn one_is_greater_than_two<C: ScalarFnVTable>(alloc: Global) -> Bound<C> {
     between(
         alloc,
         literal(alloc, Ok(Scalar::from(1i32))),

@@ -7,7 +7,7 @@ use tree_fixtures::makers::*;
 use vortex_row_fn::*;
 
 /// A column of nullable i32, among `a`, `b` and `c`.
-fn number<C: ScalarFnVTable>(alloc: Global, name: &str) -> Tree<C> {
+fn number<C: ScalarFnVTable>(alloc: Global, name: &str) -> Bound<C> {
     let mut dtypes = Vec::new(alloc);
     for _ in 0..3 {
         dtypes.push(DType::Primitive(PType::I32, YES))?;
@@ -17,14 +17,14 @@ fn number<C: ScalarFnVTable>(alloc: Global, name: &str) -> Tree<C> {
 }
 
 /// Whether `a + b = c` is null.
-fn unknown_sum<C: ScalarFnVTable>(alloc: Global) -> Tree<C> {
+fn unknown_sum<C: ScalarFnVTable>(alloc: Global) -> Bound<C> {
     let sum = between(alloc, number(alloc, "a"), Operator::Add, number(alloc, "b"));
     let equal = between(alloc, sum, Operator::Eq, number(alloc, "c"));
     call_of(alloc, IsNull.bind(EmptyOptions), equal)
 }
 
 /// Not of whether true is null.
-fn is_there<C: ScalarFnVTable>(alloc: Global) -> Tree<C> {
+fn is_there<C: ScalarFnVTable>(alloc: Global) -> Bound<C> {
     let truth = literal(alloc, Ok(Scalar::from(true)));
     not_of(alloc, call_of(alloc, IsNull.bind(EmptyOptions), truth))
 }
@@ -32,7 +32,7 @@ fn is_there<C: ScalarFnVTable>(alloc: Global) -> Tree<C> {
 /// What Reduce makes of a tree at a place.
 fn reduced_at<C: ScalarFnRules>(
     alloc: Global,
-    tree: Tree<C>,
+    tree: Bound<C>,
     path: &[usize],
 ) -> VortexResult<Option<Box<BoundExpression<C>>>> {
     match tree?.rewrite_at(alloc, path, Rule::Reduce)? {
@@ -44,7 +44,7 @@ fn reduced_at<C: ScalarFnRules>(
 /// Whether Reduce at a place makes a tree of that text.
 fn reduces_to<C: ScalarFnRules>(
     alloc: Global,
-    tree: Tree<C>,
+    tree: Bound<C>,
     path: &[usize],
     wanted: &str,
 ) -> VortexResult<bool> {
@@ -55,12 +55,12 @@ fn reduces_to<C: ScalarFnRules>(
 }
 
 /// Whether Reduce does not apply at a place.
-fn stays<C: ScalarFnRules>(alloc: Global, tree: Tree<C>, path: &[usize]) -> VortexResult<bool> {
+fn stays<C: ScalarFnRules>(alloc: Global, tree: Bound<C>, path: &[usize]) -> VortexResult<bool> {
     Ok(reduced_at(alloc, tree, path)?.is_none())
 }
 
 /// Not of whether column `b` of Bool, which has no null, is null.
-fn not_missing<C: ScalarFnVTable>(alloc: Global) -> Tree<C> {
+fn not_missing<C: ScalarFnVTable>(alloc: Global) -> Bound<C> {
     let missing = call_of(
         alloc,
         IsNull.bind(EmptyOptions),
@@ -91,7 +91,7 @@ fn a_rule_applies_at_a_place(rt: HostRuntime) {
 /// What Simplify makes of a tree at a place.
 fn simplified_at<C: ScalarFnRules>(
     alloc: Global,
-    tree: Tree<C>,
+    tree: Bound<C>,
     path: &[usize],
 ) -> VortexResult<Option<Box<BoundExpression<C>>>> {
     match rewrite_at(alloc, &*tree?, path, Rule::Simplify)? {
@@ -103,7 +103,7 @@ fn simplified_at<C: ScalarFnRules>(
 /// Whether Simplify at a place makes a tree of that text.
 fn simplifies_to<C: ScalarFnRules>(
     alloc: Global,
-    tree: Tree<C>,
+    tree: Bound<C>,
     path: &[usize],
     wanted: &str,
 ) -> VortexResult<bool> {
@@ -114,13 +114,13 @@ fn simplifies_to<C: ScalarFnRules>(
 }
 
 /// And of a literal and column `a`.
-fn beside_a<C: ScalarFnVTable>(alloc: Global, left: Scalar) -> Tree<C> {
+fn beside_a<C: ScalarFnVTable>(alloc: Global, left: Scalar) -> Bound<C> {
     let left = literal(alloc, Ok(left));
     between(alloc, left, Operator::And, leaf(alloc, "a"))
 }
 
 /// Not of And of false and column `a`.
-fn not_of_false<C: ScalarFnVTable>(alloc: Global) -> Tree<C> {
+fn not_of_false<C: ScalarFnVTable>(alloc: Global) -> Bound<C> {
     not_of(alloc, beside_a(alloc, Scalar::from(false)))
 }
 
@@ -136,7 +136,7 @@ fn simplify_applies_at_a_place(rt: HostRuntime) {
 }
 
 /// Whether neither rule applies to a tree at its root.
-fn neither_applies<C: ScalarFnRules>(alloc: Global, tree: Tree<C>) -> VortexResult<bool> {
+fn neither_applies<C: ScalarFnRules>(alloc: Global, tree: Bound<C>) -> VortexResult<bool> {
     let tree = tree?;
     let reduced = rewrite_at(alloc, &*tree, &[], Rule::Reduce)?;
     let simplified = rewrite_at(alloc, &*tree, &[], Rule::Simplify)?;
@@ -155,7 +155,7 @@ fn split<C: ScalarFnVTable>(
     alloc: Global,
     function: ScalarFnRef<C>,
     operator: Operator,
-) -> Tree<C> {
+) -> Bound<C> {
     let types = (DType::Bool(YES), DType::Bool(NO));
     let both = call_of_columns(alloc, Binary.bind(operator), types);
     call_of(alloc, function, both)
@@ -174,7 +174,7 @@ fn null_tests_are_split_at_the_root(rt: HostRuntime) {
 /// What a list of steps makes of a tree.
 fn listed<C: ScalarFnRules>(
     alloc: Global,
-    tree: Tree<C>,
+    tree: Bound<C>,
     steps: &[(&[usize], Rule)],
 ) -> VortexResult<Box<Rewritten<BoundExpression<C>>>> {
     Ok(Box::new(alloc, tree?.rewrite_list(alloc, steps)?)?)
@@ -183,7 +183,7 @@ fn listed<C: ScalarFnRules>(
 /// Whether a list of steps makes a tree of that text, so many of them applied.
 fn lists_to<C: ScalarFnRules>(
     alloc: Global,
-    tree: Tree<C>,
+    tree: Bound<C>,
     steps: &[(&[usize], Rule)],
     wanted: (&str, usize),
 ) -> VortexResult<bool> {
@@ -218,7 +218,7 @@ fn rules_apply_one_after_another(rt: HostRuntime) {
 /// Whether a run of at most so many steps makes a tree of that text, in so many steps, and is done.
 fn optimizes_to<C: ScalarFnRules>(
     alloc: Global,
-    tree: Tree<C>,
+    tree: Bound<C>,
     limit: u64,
     wanted: (&str, u64, bool),
 ) -> VortexResult<bool> {
@@ -252,7 +252,7 @@ fn a_run_is_done_where_no_rule_applies(rt: HostRuntime) {
 /// one step each, and leave the tree itself as it was.
 fn goes_on_to<C: ScalarFnRules>(
     alloc: Global,
-    tree: Tree<C>,
+    tree: Bound<C>,
     wanted: (&str, &str),
 ) -> VortexResult<bool> {
     let tree = tree?;
@@ -405,7 +405,7 @@ fn rules_apply_to_an_array_one_after_another(rt: HostRuntime) {
 /// Whether a tree weighs so much, and after one step and after two so much.
 fn weighs<C: ScalarFnRules>(
     alloc: Global,
-    tree: Tree<C>,
+    tree: Bound<C>,
     wanted: (u64, u64, u64),
 ) -> VortexResult<bool> {
     let tree = tree?;
@@ -415,7 +415,7 @@ fn weighs<C: ScalarFnRules>(
 }
 
 /// True of nullable Bool and column `b`, which is not nullable.
-fn true_and_b_alone<C: ScalarFnVTable>(alloc: Global) -> Tree<C> {
+fn true_and_b_alone<C: ScalarFnVTable>(alloc: Global) -> Bound<C> {
     let truth = literal(
         alloc,
         Scalar::try_new(DType::Bool(YES), Some(ScalarValue::Bool(true))),

@@ -10,7 +10,7 @@ use vortex_row_fn::*;
 /// The rows of Bool that a tree answers after a run of at most so many steps.
 fn ran<C: ScalarFnRules>(
     alloc: Global,
-    tree: Tree<C>,
+    tree: Bound<C>,
     columns: VortexResult<Vec<Column>>,
     row_count: usize,
     limit: u64,
@@ -24,7 +24,7 @@ fn ran<C: ScalarFnRules>(
 /// Whether a tree answers these rows after a run of at most ten steps.
 fn runs_to<C: ScalarFnRules>(
     alloc: Global,
-    tree: Tree<C>,
+    tree: Bound<C>,
     columns: VortexResult<Vec<Column>>,
     wanted: &[Option<bool>],
 ) -> VortexResult<bool> {
@@ -32,7 +32,7 @@ fn runs_to<C: ScalarFnRules>(
 }
 
 /// Whether `a + b` is null, of columns of u8, where `a` is nullable.
-fn unknown_sum<C: ScalarFnVTable>(alloc: Global) -> Tree<C> {
+fn unknown_sum<C: ScalarFnVTable>(alloc: Global) -> Bound<C> {
     let types = (
         DType::Primitive(PType::U8, YES),
         DType::Primitive(PType::U8, NO),
@@ -85,7 +85,7 @@ fn is_lent(
 /// Whether a tree answers a lent column of these rows after a run of at most ten steps.
 fn lends<C: ScalarFnRules>(
     alloc: Global,
-    tree: Tree<C>,
+    tree: Bound<C>,
     columns: VortexResult<Vec<Column>>,
     wanted: &[Option<bool>],
 ) -> VortexResult<bool> {
@@ -96,7 +96,7 @@ fn lends<C: ScalarFnRules>(
 }
 
 /// True and column `a`.
-fn true_and_a<C: ScalarFnVTable>(alloc: Global) -> Tree<C> {
+fn true_and_a<C: ScalarFnVTable>(alloc: Global) -> Bound<C> {
     let truth = literal(alloc, Ok(Scalar::from(true)));
     between(alloc, truth, Operator::And, leaf(alloc, "a"))
 }
@@ -118,7 +118,7 @@ fn a_run_that_leaves_a_column_lends_it(rt: HostRuntime) {
 }
 
 /// False and whether 1 through 0 is 1.
-fn false_and_quotient<C: ScalarFnVTable>(alloc: Global) -> Tree<C> {
+fn false_and_quotient<C: ScalarFnVTable>(alloc: Global) -> Bound<C> {
     let dividend = literal(alloc, integer(PType::I32, 1));
     let divisor = literal(alloc, integer(PType::I32, 0));
     let quotient = between(alloc, dividend, Operator::Div, divisor);
@@ -140,7 +140,7 @@ fn a_deciding_literal_leaves_no_fault(rt: HostRuntime) {
 }
 
 /// False and column `a`.
-fn false_and_a<C: ScalarFnVTable>(alloc: Global) -> Tree<C> {
+fn false_and_a<C: ScalarFnVTable>(alloc: Global) -> Bound<C> {
     let falsehood = literal(alloc, Ok(Scalar::from(false)));
     between(alloc, falsehood, Operator::And, leaf(alloc, "a"))
 }

@@ -34,7 +34,7 @@ pub fn simplified_expression<C: ScalarFnRules>(
 }
 
 /// What Reduce makes of a tree.
-pub fn reduced<C: ScalarFnRules>(alloc: Global, tree: Tree<C>) -> Rewritten<C> {
+pub fn reduced<C: ScalarFnRules>(alloc: Global, tree: Bound<C>) -> Rewritten<C> {
     let tree = tree?;
     let node = ExpressionReduceNode::new(Cow::Borrowed(&*tree));
     match reduced_node(alloc, &node)? {
@@ -44,7 +44,7 @@ pub fn reduced<C: ScalarFnRules>(alloc: Global, tree: Tree<C>) -> Rewritten<C> {
 }
 
 /// What Simplify makes of a tree.
-pub fn simplified<C: ScalarFnRules>(alloc: Global, tree: Tree<C>) -> Rewritten<C> {
+pub fn simplified<C: ScalarFnRules>(alloc: Global, tree: Bound<C>) -> Rewritten<C> {
     match simplified_expression(alloc, &*tree?)? {
         Some(made) => Ok(Some(planted(alloc, Ok(made))?)),
         None => Ok(None),
@@ -52,7 +52,7 @@ pub fn simplified<C: ScalarFnRules>(alloc: Global, tree: Tree<C>) -> Rewritten<C
 }
 
 /// What says where a tree is not null, if a tree says it.
-pub fn validity_of<C: ScalarFnRules>(alloc: Global, tree: Tree<C>) -> Rewritten<C> {
+pub fn validity_of<C: ScalarFnRules>(alloc: Global, tree: Bound<C>) -> Rewritten<C> {
     let tree = tree?;
     let node = ExpressionReduceNode::new(Cow::Borrowed(&*tree));
     match node.validity(alloc)? {
@@ -64,7 +64,7 @@ pub fn validity_of<C: ScalarFnRules>(alloc: Global, tree: Tree<C>) -> Rewritten<
 }
 
 /// The union of the validities of a tree's children.
-pub fn united<C: ScalarFnRules>(alloc: Global, tree: Tree<C>) -> Rewritten<C> {
+pub fn united<C: ScalarFnRules>(alloc: Global, tree: Bound<C>) -> Rewritten<C> {
     let tree = tree?;
     let node = ExpressionReduceNode::new(Cow::Borrowed(&*tree));
     let made = union_child_validities(alloc, &node)?;
@@ -105,18 +105,18 @@ pub fn stays<C: ScalarFnVTable>(made: Rewritten<C>) -> VortexResult<bool> {
 }
 
 /// The leaf of column `a` of nullable Bool, or of column `b` of Bool.
-pub fn mixed<C: ScalarFnVTable>(alloc: Global, name: &str) -> Tree<C> {
+pub fn mixed<C: ScalarFnVTable>(alloc: Global, name: &str) -> Bound<C> {
     let scope = fields(alloc, ("a", "b"), (DType::Bool(YES), DType::Bool(NO)))?;
     planted(alloc, BoundExpression::column(alloc, &scope, name))
 }
 
 /// Whether a tree is null.
-pub fn is_null<C: ScalarFnVTable>(alloc: Global, child: Tree<C>) -> Tree<C> {
+pub fn is_null<C: ScalarFnVTable>(alloc: Global, child: Bound<C>) -> Bound<C> {
     call_of(alloc, IsNull.bind(EmptyOptions), child)
 }
 
 /// Whether a tree is not null.
-pub fn is_not_null<C: ScalarFnVTable>(alloc: Global, child: Tree<C>) -> Tree<C> {
+pub fn is_not_null<C: ScalarFnVTable>(alloc: Global, child: Bound<C>) -> Bound<C> {
     call_of(alloc, IsNotNull.bind(EmptyOptions), child)
 }
 
@@ -134,7 +134,7 @@ pub fn call_of_names<C: ScalarFnVTable>(
     alloc: Global,
     function: ScalarFnRef<C>,
     words: &[&str],
-) -> Tree<C> {
+) -> Bound<C> {
     let scope = scope_of(alloc, words)?;
     let mut children = Vec::new(alloc);
     for word in words {

@@ -10,17 +10,17 @@ use vortex_operators::*;
 use vortex_rules::*;
 
 /// An operator between columns `a` of nullable Bool and `b` of Bool.
-fn a_and_b<C: ScalarFnVTable>(alloc: Global, operator: Operator) -> Tree<C> {
+fn a_and_b<C: ScalarFnVTable>(alloc: Global, operator: Operator) -> Bound<C> {
     between(alloc, mixed(alloc, "a"), operator, mixed(alloc, "b"))
 }
 
 /// The same, with `b` on the left.
-fn b_and_a<C: ScalarFnVTable>(alloc: Global, operator: Operator) -> Tree<C> {
+fn b_and_a<C: ScalarFnVTable>(alloc: Global, operator: Operator) -> Bound<C> {
     between(alloc, mixed(alloc, "b"), operator, mixed(alloc, "a"))
 }
 
 /// An operator between a literal and column `b` of Bool.
-fn beside_b<C: ScalarFnVTable>(alloc: Global, left: Scalar, operator: Operator) -> Tree<C> {
+fn beside_b<C: ScalarFnVTable>(alloc: Global, left: Scalar, operator: Operator) -> Bound<C> {
     let left = literal(alloc, Ok(left));
     between(alloc, left, operator, mixed(alloc, "b"))
 }
@@ -48,7 +48,7 @@ fn null_tests_of_or_are_split(rt: HostRuntime) {
 }
 
 /// Whether the call of And over two columns that may both be null is null.
-fn is_null_of_two_nullable<C: ScalarFnVTable>(alloc: Global) -> Tree<C> {
+fn is_null_of_two_nullable<C: ScalarFnVTable>(alloc: Global) -> Bound<C> {
     is_null(
         alloc,
         between(alloc, leaf(alloc, "a"), Operator::And, leaf(alloc, "b")),
@@ -56,7 +56,7 @@ fn is_null_of_two_nullable<C: ScalarFnVTable>(alloc: Global) -> Tree<C> {
 }
 
 /// Whether the call of Or over two columns that may both be null is not null.
-fn is_not_null_of_two_nullable<C: ScalarFnVTable>(alloc: Global) -> Tree<C> {
+fn is_not_null_of_two_nullable<C: ScalarFnVTable>(alloc: Global) -> Bound<C> {
     is_not_null(
         alloc,
         between(alloc, leaf(alloc, "a"), Operator::Or, leaf(alloc, "b")),
@@ -64,7 +64,7 @@ fn is_not_null_of_two_nullable<C: ScalarFnVTable>(alloc: Global) -> Tree<C> {
 }
 
 /// Whether an equality of a column of nulls with itself is null.
-fn is_null_of_equal_nulls<C: ScalarFnVTable>(alloc: Global) -> Tree<C> {
+fn is_null_of_equal_nulls<C: ScalarFnVTable>(alloc: Global) -> Bound<C> {
     let left = leaf_of(alloc, DType::Null);
     let right = leaf_of(alloc, DType::Null);
     is_null(alloc, between(alloc, left, Operator::Eq, right))
@@ -88,7 +88,7 @@ fn null_tests_of_what_is_never_null_are_decided(rt: HostRuntime) {
 }
 
 /// Or of true of nullable Bool, and of false.
-fn true_or_false<C: ScalarFnVTable>(alloc: Global) -> Tree<C> {
+fn true_or_false<C: ScalarFnVTable>(alloc: Global) -> Bound<C> {
     let left = literal(alloc, Ok(Scalar::bool(true, YES)));
     let right = literal(alloc, Ok(Scalar::from(false)));
     between(alloc, left, Operator::Or, right)
@@ -106,7 +106,7 @@ fn and_and_or_beside_a_constant_are_reduced(rt: HostRuntime) {
 }
 
 /// And of a null of Bool and column `b`.
-fn null_and_b<C: ScalarFnVTable>(alloc: Global) -> Tree<C> {
+fn null_and_b<C: ScalarFnVTable>(alloc: Global) -> Bound<C> {
     beside_b(alloc, Scalar::null(DType::Bool(YES)), Operator::And)
 }
 
@@ -118,7 +118,7 @@ fn and_beside_null_stays(rt: HostRuntime) {
 }
 
 /// An equality of a column of nullable u16 and a null of its type.
-fn equals_null<C: ScalarFnVTable>(alloc: Global) -> Tree<C> {
+fn equals_null<C: ScalarFnVTable>(alloc: Global) -> Bound<C> {
     let dtype = DType::Primitive(PType::U16, YES);
     let null = literal(alloc, Ok(Scalar::null(dtype)));
     let column = leaf_of(alloc, DType::Primitive(PType::U16, YES));
@@ -136,7 +136,7 @@ fn operators_beside_a_constant_are_simplified(rt: HostRuntime) {
 }
 
 /// Between of three columns.
-fn between_columns<C: ScalarFnVTable>(alloc: Global) -> Tree<C> {
+fn between_columns<C: ScalarFnVTable>(alloc: Global) -> Bound<C> {
     let options = BetweenOptions {
         lower_strict: StrictComparison::NonStrict,
         upper_strict: StrictComparison::NonStrict,

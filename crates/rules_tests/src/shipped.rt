@@ -108,7 +108,7 @@ fn simplified_expression<C: ScalarFnRules>(
 }
 
 /// What Reduce makes of a tree.
-fn reduced<C: ScalarFnRules>(alloc: Global, tree: Tree<C>) -> Rewritten<C> {
+fn reduced<C: ScalarFnRules>(alloc: Global, tree: Bound<C>) -> Rewritten<C> {
     let tree = tree?;
     let node = ExpressionReduceNode::new(Cow::Borrowed(&*tree));
     match reduced_node(alloc, &node)? {
@@ -118,7 +118,7 @@ fn reduced<C: ScalarFnRules>(alloc: Global, tree: Tree<C>) -> Rewritten<C> {
 }
 
 /// What says where a tree is not null.
-fn validity<C: ScalarFnRules>(alloc: Global, tree: Tree<C>) -> Rewritten<C> {
+fn validity<C: ScalarFnRules>(alloc: Global, tree: Bound<C>) -> Rewritten<C> {
     let tree = tree?;
     let node = ExpressionReduceNode::new(Cow::Borrowed(&*tree));
     match validity_of_node(alloc, &node)? {
@@ -130,7 +130,7 @@ fn validity<C: ScalarFnRules>(alloc: Global, tree: Tree<C>) -> Rewritten<C> {
 }
 
 /// What Simplify makes of a tree.
-fn simplified<C: ScalarFnRules>(alloc: Global, tree: Tree<C>) -> Rewritten<C> {
+fn simplified<C: ScalarFnRules>(alloc: Global, tree: Bound<C>) -> Rewritten<C> {
     match simplified_expression(alloc, &*tree?)? {
         Some(made) => Ok(Some(planted(alloc, Ok(made))?)),
         None => Ok(None),
@@ -138,34 +138,34 @@ fn simplified<C: ScalarFnRules>(alloc: Global, tree: Tree<C>) -> Rewritten<C> {
 }
 
 /// An operator between columns `a` of nullable Bool and `b` of Bool.
-fn a_with_b<C: ScalarFnVTable>(alloc: Global, operator: Operator) -> Tree<C> {
+fn a_with_b<C: ScalarFnVTable>(alloc: Global, operator: Operator) -> Bound<C> {
     between(alloc, mixed(alloc, "a"), operator, mixed(alloc, "b"))
 }
 
 /// And of a literal and column `b` of Bool.
-fn beside_b<C: ScalarFnVTable>(alloc: Global, left: bool) -> Tree<C> {
+fn beside_b<C: ScalarFnVTable>(alloc: Global, left: bool) -> Bound<C> {
     let left = literal(alloc, Ok(Scalar::from(left)));
     between(alloc, left, Operator::And, mixed(alloc, "b"))
 }
 
 /// Not of column `a` of nullable Bool.
-fn not_a<C: ScalarFnVTable>(alloc: Global) -> Tree<C> {
+fn not_a<C: ScalarFnVTable>(alloc: Global) -> Bound<C> {
     not_of(alloc, leaf(alloc, "a"))
 }
 
 /// Cast of column `b` of Bool.
-fn cast_of_b<C: ScalarFnVTable>(alloc: Global) -> Tree<C> {
+fn cast_of_b<C: ScalarFnVTable>(alloc: Global) -> Bound<C> {
     call_of(alloc, Cast.bind(CastOptions), mixed(alloc, "b"))
 }
 
 /// LIKE of two columns of nullable texts.
-fn like_of_texts<C: ScalarFnVTable>(alloc: Global) -> Tree<C> {
+fn like_of_texts<C: ScalarFnVTable>(alloc: Global) -> Bound<C> {
     let types = (DType::Utf8(YES), DType::Utf8(YES));
     call_of_columns(alloc, Like.bind(LikeOptions::default()), types)
 }
 
 /// Between of three columns of nullable Bool.
-fn between_truths<C: ScalarFnVTable>(alloc: Global) -> Tree<C> {
+fn between_truths<C: ScalarFnVTable>(alloc: Global) -> Bound<C> {
     let options = BetweenOptions {
         lower_strict: StrictComparison::NonStrict,
         upper_strict: StrictComparison::NonStrict,

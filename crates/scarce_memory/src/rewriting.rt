@@ -23,7 +23,7 @@ const ROWS: [Option<bool>; 3] = [Some(true), Some(false), Some(true)];
 
 /// Whether a run answers this column over those of a table, and neither tree nor columns are
 /// changed.
-fn runs<C: ScalarFnRules>(alloc: Global, tree: Tree<C>, wanted: Made) -> VortexResult<bool> {
+fn runs<C: ScalarFnRules>(alloc: Global, tree: Bound<C>, wanted: Made) -> VortexResult<bool> {
     let (tree, wanted, table) = (tree?, wanted?, two_rows(alloc)?);
     let mut ctx = ExecutionCtx::new(alloc);
     let answer = run(&*tree, table.columns(), 2, 10, &mut ctx);
@@ -61,14 +61,14 @@ fn is_split<C: ScalarFnRules>(alloc: Global, tree: &BoundExpression<C>) -> Vorte
 }
 
 /// The same, and the tree itself is not changed.
-fn lists<C: ScalarFnRules>(alloc: Global, tree: Tree<C>) -> VortexResult<bool> {
+fn lists<C: ScalarFnRules>(alloc: Global, tree: Bound<C>) -> VortexResult<bool> {
     let tree = tree?;
     let answer = is_split(alloc, &*tree);
     unless_changed(has_text(alloc, &*tree, UNKNOWN), answer)
 }
 
 /// Not of column `a`.
-fn turned<C: ScalarFnRules>(alloc: Global) -> Tree<C> {
+fn turned<C: ScalarFnRules>(alloc: Global) -> Bound<C> {
     not_of(alloc, leaf(alloc, "a"))
 }
 
@@ -98,7 +98,7 @@ fn is_child<C: ScalarFnRules>(
 
 /// The same of a node with a tree of its own, which stays. What a caller's function lends outlives
 /// the node.
-fn has_child<'a, C: ScalarFnRules + 'a>(alloc: Global, tree: Tree<C>) -> VortexResult<bool> {
+fn has_child<'a, C: ScalarFnRules + 'a>(alloc: Global, tree: Bound<C>) -> VortexResult<bool> {
     let tree = Box::into_inner(tree?);
     let node: ExpressionReduceNode<'a, C> = ExpressionReduceNode::new(Cow::Owned(tree));
     let answer = is_child(alloc, &node);
@@ -113,7 +113,7 @@ fn is_turned<C: ScalarFnRules>(alloc: Global, tree: &BoundExpression<C>) -> Vort
 }
 
 /// The same, and its tree stays.
-fn makes_node<C: ScalarFnRules>(alloc: Global, tree: Tree<C>) -> VortexResult<bool> {
+fn makes_node<C: ScalarFnRules>(alloc: Global, tree: Bound<C>) -> VortexResult<bool> {
     let tree = tree?;
     let answer = is_turned(alloc, &*tree);
     unless_changed(has_text(alloc, &*tree, TURNED), answer)
@@ -127,7 +127,7 @@ fn is_literal<C: ScalarFnRules>(alloc: Global, tree: &BoundExpression<C>) -> Vor
 }
 
 /// The same, and its tree stays.
-fn makes_literal<C: ScalarFnRules>(alloc: Global, tree: Tree<C>) -> VortexResult<bool> {
+fn makes_literal<C: ScalarFnRules>(alloc: Global, tree: Bound<C>) -> VortexResult<bool> {
     let tree = tree?;
     let answer = is_literal(alloc, &*tree);
     unless_changed(has_text(alloc, &*tree, TURNED), answer)

@@ -14,7 +14,7 @@ use vortex_kernels::*;
 use vortex_rules::*;
 
 /// Whether a lone leaf lends the column, which is its own.
-fn lends<C: ScalarFnVTable>(alloc: Global, tree: Tree<C>, column: Made) -> VortexResult<bool> {
+fn lends<C: ScalarFnVTable>(alloc: Global, tree: Bound<C>, column: Made) -> VortexResult<bool> {
     let (tree, columns) = (tree?, one(alloc, column)?);
     Ok(yes(is_lent(alloc, &*tree, &columns)))
 }
@@ -32,7 +32,7 @@ fn is_lent<C: ScalarFnVTable>(
 }
 
 /// Whether the child of a lent node is the leaf of column `a`.
-fn lends_child<C: ScalarFnRules>(alloc: Global, tree: Tree<C>) -> VortexResult<bool> {
+fn lends_child<C: ScalarFnRules>(alloc: Global, tree: Bound<C>) -> VortexResult<bool> {
     let tree = tree?;
     Ok(yes(is_leaf(alloc, &*tree)))
 }

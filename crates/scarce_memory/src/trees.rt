@@ -22,7 +22,7 @@ pub const CLOSED: BetweenOptions = BetweenOptions {
 pub const UNKNOWN: &str = "vortex.is_null((($.a + $.b) = $.c))";
 
 /// `is_null((a + b) = c)`, over columns of nullable i32.
-pub fn unknown<C: ScalarFnVTable>(alloc: Global) -> Tree<C> {
+pub fn unknown<C: ScalarFnVTable>(alloc: Global) -> Bound<C> {
     let scope = scope_of(alloc, &["a", "b", "c"])?;
     let third = planted(alloc, BoundExpression::column(alloc, &scope, "c"));
     let sum = call_of_names(alloc, Binary.bind(Operator::Add), &["a", "b"]);
@@ -47,7 +47,7 @@ pub fn missing(alloc: Global) -> Made {
 }
 
 /// Whether a tree answers this column over those of a table, and neither is changed.
-fn executes<C: ScalarFnVTable>(alloc: Global, tree: Tree<C>, wanted: Made) -> VortexResult<bool> {
+fn executes<C: ScalarFnVTable>(alloc: Global, tree: Bound<C>, wanted: Made) -> VortexResult<bool> {
     let (tree, wanted, table) = (tree?, wanted?, two_rows(alloc)?);
     let mut ctx = ExecutionCtx::new(alloc);
     let answer = tree.execute(table.columns(), 2, &mut ctx);
@@ -56,11 +56,11 @@ fn executes<C: ScalarFnVTable>(alloc: Global, tree: Tree<C>, wanted: Made) -> Vo
 }
 
 /// Whether a tree has that text.
-fn is_told<C: ScalarFnVTable>(alloc: Global, tree: Tree<C>, wanted: &str) -> VortexResult<bool> {
+fn is_told<C: ScalarFnVTable>(alloc: Global, tree: Bound<C>, wanted: &str) -> VortexResult<bool> {
     has_text(alloc, &*tree?, wanted)
 }
 
-fn is_null<C: ScalarFnVTable>(alloc: Global) -> Tree<C> {
+fn is_null<C: ScalarFnVTable>(alloc: Global) -> Bound<C> {
     let children = one(alloc, leaf(alloc, "a"))?;
     planted(
         alloc,
@@ -68,7 +68,7 @@ fn is_null<C: ScalarFnVTable>(alloc: Global) -> Tree<C> {
     )
 }
 
-fn is_not_null<C: ScalarFnVTable>(alloc: Global) -> Tree<C> {
+fn is_not_null<C: ScalarFnVTable>(alloc: Global) -> Bound<C> {
     let children = one(alloc, leaf(alloc, "a"))?;
     planted(
         alloc,
@@ -76,13 +76,13 @@ fn is_not_null<C: ScalarFnVTable>(alloc: Global) -> Tree<C> {
     )
 }
 
-fn cast<C: ScalarFnVTable>(alloc: Global) -> Tree<C> {
+fn cast<C: ScalarFnVTable>(alloc: Global) -> Bound<C> {
     let children = one(alloc, leaf(alloc, "a"))?;
     planted(alloc, Cast.try_new_bound_expr(alloc, CastOptions, children))
 }
 
 /// Whether column `a` of texts is like itself.
-fn like<C: ScalarFnVTable>(alloc: Global) -> Tree<C> {
+fn like<C: ScalarFnVTable>(alloc: Global) -> Bound<C> {
     let dtype = DType::Utf8(YES);
     let children = two(
         alloc,
@@ -96,7 +96,7 @@ fn like<C: ScalarFnVTable>(alloc: Global) -> Tree<C> {
 }
 
 /// Whether column `a` lies between `b` and `a`.
-fn bounded<C: ScalarFnVTable>(alloc: Global) -> Tree<C> {
+fn bounded<C: ScalarFnVTable>(alloc: Global) -> Bound<C> {
     let children = three(alloc, leaf(alloc, "a"), leaf(alloc, "b"), leaf(alloc, "a"))?;
     planted(alloc, Between.try_new_bound_expr(alloc, CLOSED, children))
 }

@@ -12,13 +12,13 @@ pub const YES: Nullability = Nullability::Nullable;
 pub const NO: Nullability = Nullability::NonNullable;
 
 /// A tree on the heap, or why it could not be made.
-pub type Tree<C> = VortexResult<Box<BoundExpression<C>>>;
+pub type Bound<C> = VortexResult<Box<BoundExpression<C>>>;
 
 /// A tree, put on the heap.
 pub fn planted<C: ScalarFnVTable>(
     alloc: Global,
     tree: VortexResult<BoundExpression<C>>,
-) -> Tree<C> {
+) -> Bound<C> {
     Ok(Box::new(alloc, tree?)?)
 }
 
@@ -68,13 +68,13 @@ pub fn twice(alloc: Global, rows: &[Option<bool>]) -> VortexResult<Vec<Column>> 
 }
 
 /// The leaf of the column of that name.
-pub fn leaf<C: ScalarFnVTable>(alloc: Global, name: &str) -> Tree<C> {
+pub fn leaf<C: ScalarFnVTable>(alloc: Global, name: &str) -> Bound<C> {
     let scope = scope(alloc)?;
     planted(alloc, BoundExpression::column(alloc, &scope, name))
 }
 
 /// The leaf of column `a` of that type, alone in its scope.
-pub fn leaf_of<C: ScalarFnVTable>(alloc: Global, dtype: DType) -> Tree<C> {
+pub fn leaf_of<C: ScalarFnVTable>(alloc: Global, dtype: DType) -> Bound<C> {
     let mut dtypes = Vec::new(alloc);
     dtypes.push(dtype)?;
     let scope = StructFields::try_new(alloc, names(alloc, &["a"])?, dtypes)?;
@@ -82,12 +82,12 @@ pub fn leaf_of<C: ScalarFnVTable>(alloc: Global, dtype: DType) -> Tree<C> {
 }
 
 /// The leaf of a scalar.
-pub fn literal<C: ScalarFnVTable>(alloc: Global, scalar: VortexResult<Scalar>) -> Tree<C> {
+pub fn literal<C: ScalarFnVTable>(alloc: Global, scalar: VortexResult<Scalar>) -> Bound<C> {
     planted(alloc, Ok(BoundExpression::lit(alloc, scalar?)))
 }
 
 /// Not of a tree.
-pub fn not_of<C: ScalarFnVTable>(alloc: Global, child: Tree<C>) -> Tree<C> {
+pub fn not_of<C: ScalarFnVTable>(alloc: Global, child: Bound<C>) -> Bound<C> {
     let children = one(alloc, child)?;
     planted(alloc, Not.try_new_bound_expr(alloc, EmptyOptions, children))
 }
@@ -95,16 +95,16 @@ pub fn not_of<C: ScalarFnVTable>(alloc: Global, child: Tree<C>) -> Tree<C> {
 /// An operator between two trees.
 pub fn between<C: ScalarFnVTable>(
     alloc: Global,
-    left: Tree<C>,
+    left: Bound<C>,
     operator: Operator,
-    right: Tree<C>,
-) -> Tree<C> {
+    right: Bound<C>,
+) -> Bound<C> {
     let children = two(alloc, left, right)?;
     planted(alloc, Binary.try_new_bound_expr(alloc, operator, children))
 }
 
 /// And of true and column `b`.
-pub fn true_and_b<C: ScalarFnVTable>(alloc: Global) -> Tree<C> {
+pub fn true_and_b<C: ScalarFnVTable>(alloc: Global) -> Bound<C> {
     between(
         alloc,
         literal(alloc, Ok(Scalar::from(true))),
@@ -118,7 +118,7 @@ pub fn call_of_leaves<C: ScalarFnVTable>(
     alloc: Global,
     function: ScalarFnRef<C>,
     count: usize,
-) -> Tree<C> {
+) -> Bound<C> {
     let mut children = Vec::new(alloc);
     for i in 0..count {
         let name = if i % 2 == 0 { "a" } else { "b" };
@@ -131,8 +131,8 @@ pub fn call_of_leaves<C: ScalarFnVTable>(
 pub fn call_of<C: ScalarFnVTable>(
     alloc: Global,
     function: ScalarFnRef<C>,
-    child: Tree<C>,
-) -> Tree<C> {
+    child: Bound<C>,
+) -> Bound<C> {
     let children = one(alloc, child)?;
     planted(alloc, BoundExpression::try_new(alloc, function, children))
 }
@@ -142,7 +142,7 @@ pub fn call_of_columns<C: ScalarFnVTable>(
     alloc: Global,
     function: ScalarFnRef<C>,
     types: (DType, DType),
-) -> Tree<C> {
+) -> Bound<C> {
     let scope = fields(alloc, ("a", "b"), types)?;
     let first = planted(alloc, BoundExpression::column(alloc, &scope, "a"));
     let second = planted(alloc, BoundExpression::column(alloc, &scope, "b"));
@@ -151,7 +151,7 @@ pub fn call_of_columns<C: ScalarFnVTable>(
 }
 
 /// A copy of a tree.
-pub fn copied<C: ScalarFnVTable>(alloc: Global, tree: Tree<C>) -> Tree<C> {
+pub fn copied<C: ScalarFnVTable>(alloc: Global, tree: Bound<C>) -> Bound<C> {
     planted(alloc, tree?.try_clone(alloc))
 }
 
@@ -170,7 +170,7 @@ fn rows_by<C: ScalarFnVTable>(
 /// The rows of Bool that a tree answers over so many rows of those columns.
 pub fn executed<C: ScalarFnVTable>(
     alloc: Global,
-    tree: Tree<C>,
+    tree: Bound<C>,
     columns: VortexResult<Vec<Column>>,
     row_count: usize,
 ) -> VortexResult<Vec<Option<bool>>> {
@@ -181,7 +181,7 @@ pub fn executed<C: ScalarFnVTable>(
 /// Whether a tree answers these rows over those columns.
 pub fn answers<C: ScalarFnVTable>(
     alloc: Global,
-    tree: Tree<C>,
+    tree: Bound<C>,
     columns: VortexResult<Vec<Column>>,
     wanted: &[Option<bool>],
 ) -> VortexResult<bool> {
@@ -215,7 +215,7 @@ pub fn numbers_by<C: ScalarFnVTable>(
 /// Whether a tree answers these numbers over those columns.
 pub fn calculates<C: ScalarFnVTable>(
     alloc: Global,
-    tree: Tree<C>,
+    tree: Bound<C>,
     columns: VortexResult<Vec<Column>>,
     wanted: &[Option<i128>],
 ) -> VortexResult<bool> {
@@ -242,7 +242,11 @@ pub fn is_shown<C: ScalarFnVTable>(
 }
 
 /// Whether a tree has that text, and Display writes the same bytes.
-pub fn prints<C: ScalarFnVTable>(alloc: Global, tree: Tree<C>, wanted: &str) -> VortexResult<bool> {
+pub fn prints<C: ScalarFnVTable>(
+    alloc: Global,
+    tree: Bound<C>,
+    wanted: &str,
+) -> VortexResult<bool> {
     let tree = tree?;
     Ok(has_text(alloc, &*tree, wanted)? && is_shown(alloc, &*tree, wanted)?)
 }

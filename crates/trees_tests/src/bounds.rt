@@ -13,7 +13,7 @@ const STRICT: StrictComparison = StrictComparison::Strict;
 const LOOSE: StrictComparison = StrictComparison::NonStrict;
 
 /// A column of i32, among `x`, `lower` and `upper`; the lower bound can be null.
-fn column<C: ScalarFnVTable>(alloc: Global, name: &str) -> Tree<C> {
+fn column<C: ScalarFnVTable>(alloc: Global, name: &str) -> Bound<C> {
     let mut dtypes = Vec::new(alloc);
     dtypes.push(DType::Primitive(PType::I32, NO))?;
     dtypes.push(DType::Primitive(PType::I32, YES))?;
@@ -28,7 +28,7 @@ fn bounded<C: ScalarFnVTable>(
     alloc: Global,
     lower_strict: StrictComparison,
     upper_strict: StrictComparison,
-) -> Tree<C> {
+) -> Bound<C> {
     let options = BetweenOptions {
         lower_strict,
         upper_strict,

@@ -31,7 +31,7 @@ const NOT_ILIKE: LikeOptions = LikeOptions {
 };
 
 /// LIKE of column `a` and a pattern.
-fn like_of<C: ScalarFnVTable>(alloc: Global, options: LikeOptions, pattern: &str) -> Tree<C> {
+fn like_of<C: ScalarFnVTable>(alloc: Global, options: LikeOptions, pattern: &str) -> Bound<C> {
     let text = leaf_of(alloc, DType::Utf8(NO));
     let pattern = literal(alloc, Scalar::try_from_str(alloc, pattern));
     let children = two(alloc, text, pattern)?;

@@ -16,13 +16,13 @@ fn some_nulls(alloc: Global) -> VortexResult<Vec<Column>> {
 }
 
 /// A call of a function of the column `a` of nullable i32.
-fn over_numbers<C: ScalarFnVTable>(alloc: Global, function: ScalarFnRef<C>) -> Tree<C> {
+fn over_numbers<C: ScalarFnVTable>(alloc: Global, function: ScalarFnRef<C>) -> Bound<C> {
     let numbers = leaf_of(alloc, DType::Primitive(PType::I32, YES));
     call_of(alloc, function, numbers)
 }
 
 /// Cast of the column `a` of Bool.
-fn cast_of_truths<C: ScalarFnVTable>(alloc: Global) -> Tree<C> {
+fn cast_of_truths<C: ScalarFnVTable>(alloc: Global) -> Bound<C> {
     call_of(
         alloc,
         Cast.bind(CastOptions),
@@ -67,7 +67,7 @@ fn null_tests_answer(rt: HostRuntime) {
 }
 
 /// Whether a column of type Null is null.
-fn is_null_of_nulls<C: ScalarFnVTable>(alloc: Global) -> Tree<C> {
+fn is_null_of_nulls<C: ScalarFnVTable>(alloc: Global) -> Bound<C> {
     call_of(
         alloc,
         IsNull.bind(EmptyOptions),

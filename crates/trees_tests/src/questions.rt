@@ -19,7 +19,7 @@ fn over_types<C: ScalarFnVTable>(
     left: &Column,
     operator: Operator,
     right: &Column,
-) -> Tree<C> {
+) -> Bound<C> {
     let types = (
         left.dtype().try_clone(alloc)?,
         right.dtype().try_clone(alloc)?,

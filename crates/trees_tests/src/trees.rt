@@ -42,12 +42,12 @@ fn kleene_columns(alloc: Global) -> VortexResult<Vec<Column>> {
 }
 
 /// An operator between columns `a` and `b`.
-fn over_both<C: ScalarFnVTable>(alloc: Global, operator: Operator) -> Tree<C> {
+fn over_both<C: ScalarFnVTable>(alloc: Global, operator: Operator) -> Bound<C> {
     call_of_leaves(alloc, Binary.bind(operator), 2)
 }
 
 /// The function that stands where a caller has none, without arguments.
-fn none(alloc: Global) -> Tree<NoCustom> {
+fn none(alloc: Global) -> Bound<NoCustom> {
     call_of_leaves(alloc, ScalarFnRef::custom(NoCustom, EmptyOptions), 0)
 }
 
@@ -69,7 +69,7 @@ fn lends<C: ScalarFnVTable>(
 /// Whether a tree answers a lent column of these rows over those columns.
 fn is_lent<C: ScalarFnVTable>(
     alloc: Global,
-    tree: Tree<C>,
+    tree: Bound<C>,
     columns: VortexResult<Vec<Column>>,
     wanted: &[Option<bool>],
 ) -> VortexResult<bool> {
@@ -88,7 +88,7 @@ fn four_to_six(alloc: Global) -> Made {
 }
 
 /// `a < 5` over a column `a` of nullable u16.
-fn below_five<C: ScalarFnVTable>(alloc: Global) -> Tree<C> {
+fn below_five<C: ScalarFnVTable>(alloc: Global) -> Bound<C> {
     between(
         alloc,
         leaf_of(alloc, DType::Primitive(PType::U16, YES)),
@@ -98,7 +98,7 @@ fn below_five<C: ScalarFnVTable>(alloc: Global) -> Tree<C> {
 }
 
 /// An operator between a null of Bool and column `a`.
-fn beside_null<C: ScalarFnVTable>(alloc: Global, operator: Operator) -> Tree<C> {
+fn beside_null<C: ScalarFnVTable>(alloc: Global, operator: Operator) -> Bound<C> {
     between(
         alloc,
         literal(alloc, Ok(Scalar::null(DType::Bool(YES)))),
@@ -227,7 +227,7 @@ fn a_lone_leaf_is_lent(rt: HostRuntime) {
 }
 
 /// The leaf of the second of two columns, by its place.
-fn second_leaf<C: ScalarFnVTable>(alloc: Global) -> Tree<C> {
+fn second_leaf<C: ScalarFnVTable>(alloc: Global) -> Bound<C> {
     let scope = scope(alloc)?;
     if scope.len() != 2 {
         return Err(VortexError::ScopeMismatch);
@@ -264,7 +264,7 @@ fn a_leaf_without_its_column_is_refused(rt: HostRuntime) {
 }
 
 /// Not of And of Not of Not of `a`, and of `b`.
-fn deep<C: ScalarFnVTable>(alloc: Global) -> Tree<C> {
+fn deep<C: ScalarFnVTable>(alloc: Global) -> Bound<C> {
     let below = not_of(alloc, not_of(alloc, leaf(alloc, "a")));
     not_of(
         alloc,

@@ -1,11 +1,10 @@
 -- A call over arrays that is made.
 use Rattle.std.proofs.Common.{◌≡◌, ℕ, Bool, true, false, List, [], ◌∷◌, length, Some, None, refl, ap}
-use Rattle.std.proofs.Common.{arith, nat_eq, subst, sym, ◌∙◌}
+use Rattle.std.proofs.Common.{nat_eq, subst, sym, ◌∙◌}
 use Rattle.std.specs.Prelude.{slice_get, All, Result, Ok, Err}
 use Rattle.std.proofs.lemmas.List.{length-map}
 use Rattle.std.proofs.lemmas.List.Elements.{All-nil, All-cons}
 use borrow.Author.Tests.{eqb-true}
-use Rattle.vortex_types.specs.LogicalTypes.{LogicalType}
 use Rattle.vortex_errors.specs.declared.error.VortexError.{VortexError}
 use Rattle.vortex_errors.specs.declared.error.VortexError.TheVariants.{ArityMismatch}
 use Rattle.vortex_errors.specs.Answers.{UnlessMemory}

@@ -1,5 +1,5 @@
 -- A call over expressions that is bound.
-use Rattle.std.proofs.Common.{◌≡◌, List, map, subst}
+use Rattle.std.proofs.Common.{List, subst}
 use Rattle.std.specs.Prelude.{Result, Ok, Err}
 use Rattle.std.proofs.lemmas.List.{map-id}
 use Rattle.vortex_errors.specs.declared.error.VortexError.{VortexError}

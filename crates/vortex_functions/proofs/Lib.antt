@@ -14,7 +14,7 @@ pub mod CallWeights
 pub mod Leaves
 pub mod TreeCalls
 pub mod ExpressionCalls
-pub mod ExpressionNodes
+pub mod NodeKinds
 pub mod ArrayChildren
 pub mod ArrayColumns
 pub mod SameValues

@@ -34,6 +34,7 @@ impl<C: ScalarFnVTable> Leaf<C, C::Options> for ArrayLeaf {
     ghost use Rattle.vortex_functions.specs.ArrayLeaves.{array_leaf, StandsAmong};
 
     type Beside = usize;
+
     type Seen = (Shown<C>, usize);
 
     ghost tree_of = { tree_in };

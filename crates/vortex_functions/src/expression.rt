@@ -37,6 +37,7 @@ impl<C: ScalarFnVTable> Leaf<C, C::Options> for ExpressionLeaf {
     ghost use Rattle.vortex_functions.specs.ExpressionLeaves.{expression_leaf};
 
     type Beside = ();
+
     type Seen = Shown<C>;
 
     ghost tree_of = { λ t. t };

@@ -10,8 +10,8 @@ ghost use Rattle.vortex_rewriting.specs.Frames.{plug, frames_in, AreFrames, Have
 ghost use Rattle.vortex_rewriting.specs.Found.{IsFound, FoundHasRows};
 
 use crate::frames::{Frame, next_child, over_children, whole_tree};
-use crate::rule::Rule;
 use crate::leaf::RewriteLeaf;
+use crate::rule::Rule;
 use std::alloc::Global;
 use vortex_columns::VortexResult;
 use vortex_functions::Tree;

@@ -46,7 +46,8 @@ pub(crate) fn over_children<C: ScalarFnRules, L: RewriteLeaf<C>>(
     done: Vec<Tree<C, L>>,
 ) -> VortexResult<Tree<C, L>>
     requires all { length (children_of (L.tree_of node)) ≤ length done.items }
-    requires typed { IsSome (tree_type C.meaning (partly (L.tree_of node) (map L.tree_of done.items))) }
+    requires typed { IsSome (tree_type C.meaning
+        (partly (L.tree_of node) (map L.tree_of done.items))) }
     requires same_rows { All (λ child. L.beside_of child ≡ L.beside_of node) done.items }
     ensures answer { AnswersUnlessMemory result
         (λ made. L.tree_of made ≡ partly (L.tree_of node) (map L.tree_of done.items)) }
@@ -59,10 +60,14 @@ pub(crate) fn over_children<C: ScalarFnRules, L: RewriteLeaf<C>>(
 }
 
 /// The node on its first children as they are now, and the others as they were.
-fn closed<C: ScalarFnRules, L: RewriteLeaf<C>>(alloc: Global, frame: Frame<Tree<C, L>>) -> VortexResult<Tree<C, L>>
+fn closed<C: ScalarFnRules, L: RewriteLeaf<C>>(
+    alloc: Global,
+    frame: Frame<Tree<C, L>>,
+) -> VortexResult<Tree<C, L>>
     requires typed { IsSome (tree_type C.meaning
         (partly (L.tree_of frame.node) (map L.tree_of frame.done.items))) }
-    requires same_rows { All (λ child. L.beside_of child ≡ L.beside_of frame.node) frame.done.items }
+    requires same_rows { All (λ child. L.beside_of child ≡ L.beside_of frame.node)
+        frame.done.items }
     ensures answer { AnswersUnlessMemory result
         (λ made. L.tree_of made ≡ partly (L.tree_of frame.node) (map L.tree_of frame.done.items)) }
     ensures same_rows { IfOk result (λ made. L.beside_of made ≡ L.beside_of frame.node) }

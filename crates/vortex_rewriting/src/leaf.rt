@@ -20,11 +20,7 @@ pub trait RewriteLeaf<C: ScalarFnRules>: RuleLeaf<C> {
     ghost applied: { Rule → Tree C C.Options → Option (Tree C C.Options) };
 
     /// What a rule makes of the tree at its root; None where it does not apply. E9 alone.
-    fn apply(
-        alloc: Global,
-        tree: &Tree<C, Self>,
-        rule: Rule,
-    ) -> VortexResult<Option<Tree<C, Self>>>
+    fn apply(alloc: Global, tree: &Tree<C, Self>, rule: Rule) -> VortexResult<Option<Tree<C, Self>>>
         ensures answer { AnswersUnlessMemory result
             (λ answer. option_map Self.tree_of answer ≡ applied rule (Self.tree_of tree.now)) }
         ensures same_rows { IfOk result

@@ -7,8 +7,8 @@ ghost use Rattle.vortex_meaning.specs.Rewrites.{Rewrites};
 ghost use Rattle.vortex_meaning.specs.Weights.{weight, OnlyShipped, IsLighter};
 ghost use Rattle.vortex_rewriting.specs.Rewriting.{AnswersRewritten, steps_of};
 
-use crate::rule::Rule;
 use crate::leaf::RewriteLeaf;
+use crate::rule::Rule;
 use crate::ways::{way_down, way_up};
 use std::alloc::Global;
 use vortex_columns::VortexResult;
@@ -22,7 +22,8 @@ fn made_at<C: ScalarFnRules, L: RewriteLeaf<C>>(
     path: &[usize],
     rule: Rule,
 ) -> VortexResult<Option<Tree<C, L>>>
-    ensures answer { AnswersRewritten L.tree_of (L.applied rule) path.now (L.tree_of tree.now) result }
+    ensures answer { AnswersRewritten L.tree_of (L.applied rule) path.now (L.tree_of tree.now)
+        result }
     ensures same_rows { IfOk result
         (λ answer. IfSome answer (λ made. L.beside_of made ≡ L.beside_of tree.now)) }
 {
@@ -47,7 +48,8 @@ pub fn rewrite_at<C: ScalarFnRules, L: RewriteLeaf<C>>(
     path: &[usize],
     rule: Rule,
 ) -> VortexResult<Option<Tree<C, L>>>
-    ensures answer { AnswersRewritten L.tree_of (L.applied rule) path.now (L.tree_of tree.now) result }
+    ensures answer { AnswersRewritten L.tree_of (L.applied rule) path.now (L.tree_of tree.now)
+        result }
     ensures kept { IfOk result (λ answer. IfSome answer
         (λ made. Rewrites C.meaning (L.tree_of tree.now) (L.tree_of made))) }
     ensures lighter { IfOk result (λ answer. IfSome answer (λ made. OnlyShipped (L.tree_of tree.now)
@@ -82,7 +84,8 @@ pub fn rewrite_list<C: ScalarFnRules, L: RewriteLeaf<C>>(
         ≡ Some (L.tree_of made.tree, made.applied))
         (λ e. (e ≡ NoSuchPlace)
         × (rewritten_list L.applied (steps_of steps.now) (L.tree_of tree.now) ≡ None)) }
-    ensures kept { IfOk result (λ made. Rewrites C.meaning (L.tree_of tree.now) (L.tree_of made.tree)) }
+    ensures kept { IfOk result
+        (λ made. Rewrites C.meaning (L.tree_of tree.now) (L.tree_of made.tree)) }
     ensures lighter { IfOk result (λ made. OnlyShipped (L.tree_of tree.now)
         → IsLighter C.meaning made.applied (L.tree_of tree.now) (L.tree_of made.tree)) }
     ensures fewer { IfOk result (λ made. OnlyShipped (L.tree_of tree.now)

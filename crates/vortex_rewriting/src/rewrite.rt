@@ -123,11 +123,7 @@ impl<C: ScalarFnRules, L: RewriteLeaf<C>> Rewrite<C> for Tree<C, L> {
         places::rewrite_list(alloc, self, steps)
     }
 
-    fn optimize_recursive(
-        &self,
-        alloc: Global,
-        limit: u64,
-    ) -> VortexResult<Optimized<Tree<C, L>>> {
+    fn optimize_recursive(&self, alloc: Global, limit: u64) -> VortexResult<Optimized<Tree<C, L>>> {
         driver::optimize_recursive(alloc, self, limit)
     }
 }

@@ -69,7 +69,8 @@ pub(crate) fn way_up<'t, C: ScalarFnRules, L: RewriteLeaf<C>>(
         (L.tree_of tree.now) (L.tree_of way.place.now) }
     requires same_type { tree_type C.meaning (L.tree_of new)
         ≡ tree_type C.meaning (L.tree_of way.place.now) }
-    requires parent_rows { All (λ p. L.beside_of p.node.now ≡ L.beside_of tree.now) way.parents.items }
+    requires parent_rows { All (λ p. L.beside_of p.node.now ≡ L.beside_of tree.now)
+        way.parents.items }
     requires same_rows { L.beside_of new ≡ L.beside_of tree.now }
     ensures answer { AnswersUnlessMemory result (λ made. L.tree_of made
         ≡ with_parents (map (λ p. (L.tree_of p.node.now, p.index)) way.entry.parents.items)

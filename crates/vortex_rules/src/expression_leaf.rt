@@ -11,7 +11,11 @@ impl<C: ScalarFnVTable> RuleLeaf<C> for ExpressionLeaf {
         tree.as_literal()
     }
 
-    fn new_constant(alloc: Global, scalar: Scalar, _beside: ()) -> VortexResult<BoundExpression<C>> {
+    fn new_constant(
+        alloc: Global,
+        scalar: Scalar,
+        _beside: (),
+    ) -> VortexResult<BoundExpression<C>> {
         Ok(BoundExpression::lit(alloc, scalar))
     }
 

@@ -81,11 +81,9 @@ pub trait Leaf<C, O>: Sized + Drop {
             → tree_type m (Self.seen self.now) ≡ Some (type_of result.now) };
 
     // the same laws a second time, where a proof finds them: a Model can name those above alone
-    ghost sees_tree: { (t : Tree C O) (b : Self.Beside) → tree_of (see t b) ≡ t }
-        = { tree_of_see };
+    ghost sees_tree: { (t : Tree C O) (b : Self.Beside) → tree_of (see t b) ≡ t } = { tree_of_see };
 
-    ghost sees_beside: { (t : Tree C O) (b : Self.Beside) → beside_of (see t b) ≡ b }
-        = { beside_of_see };
+    ghost sees_beside: { (t : Tree C O) (b : Self.Beside) → beside_of (see t b) ≡ b } = { beside_of_see };
 }
 
 /// Never made: its values are trees.

@@ -40,7 +40,8 @@ returns-clause-ends g c = λ shipped enough.
     let tree = g.L.Leaf.tree_of in
     let o = c.in_ok-optimized.optimized in
     let fewer = run_fewer g.C.ScalarFnVTable.meaning g.L.RewriteLeaf.applied o.steps
-    (tree c.args.tree.now) (tree o.tree) (type_of c.dtype-typed.result.now) c.dtype-typed.ensures.dtype
+    (tree c.args.tree.now) (tree o.tree) (type_of c.dtype-typed.result.now)
+    c.dtype-typed.ensures.dtype
     c.in_ok-optimized.ensures.run g.met.L.RewriteLeaf.lightens shipped in
     must_be_done o.done o.steps c.args.limit c.in_ok-optimized.ensures.stopped
     (omega (arith, fewer, enough))

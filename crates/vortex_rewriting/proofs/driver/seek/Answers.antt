@@ -9,77 +9,82 @@ use Rattle.vortex_rewriting.proofs.driver.seek.Goals as goal
 
 pub loop-done-init : goal.loop-done-init
 loop-done-init g c =
-    let B = g.L.Leaf in
-    begins B.tree_of (first_rule g.L.RewriteLeaf.applied) B.beside_of c.args.above.items c.args.node
+    let tree = g.L.Leaf.tree_of in
+    let rows = g.L.Leaf.beside_of in
+    begins tree (first_rule g.L.RewriteLeaf.applied) rows c.args.above.items c.args.node
     c.new-done.result.items c.requires.frames c.requires.same_rows c.new-done.ensures.items
 
 pub loop-done-smaller-in-Continue-branch-3 : goal.loop-done-smaller-in-Continue-branch-3
 loop-done-smaller-in-Continue-branch-3 g c =
-    let B = g.L.Leaf in
+    let tree = g.L.Leaf.tree_of in
     let l = c.loop-done in
-    let at = next_is B.tree_of (B.tree_of l.node) l.done.items c.deref.result.now c.in_ok-child.field-0
+    let at = next_is tree (tree l.node) l.done.items c.deref.result.now c.in_ok-child.field-0
     c.in-Some.child c.deref.ensures.value c.in_ok-child.ensures.answer c.in-Some.is in
-    passes_fewer B.tree_of l.above.items l.node l.done.items c.push.new.self.items c.in-Some.child at
+    passes_fewer tree l.above.items l.node l.done.items c.push.new.self.items c.in-Some.child at
     c.in_ok-push-in-Some.ensures.items
 
 pub loop-done-preserved-in-Continue-branch-3 : goal.loop-done-preserved-in-Continue-branch-3
 loop-done-preserved-in-Continue-branch-3 g c =
-    let B = g.L.Leaf in
+    let tree = g.L.Leaf.tree_of in
+    let rows = g.L.Leaf.beside_of in
     let l = c.loop-done in
-    let at = next_is B.tree_of (B.tree_of l.node) l.done.items c.deref.result.now c.in_ok-child.field-0
+    let at = next_is tree (tree l.node) l.done.items c.deref.result.now c.in_ok-child.field-0
     c.in-Some.child c.deref.ensures.value c.in_ok-child.ensures.answer c.in-Some.is in
-    passes B.tree_of (first_rule g.L.RewriteLeaf.applied) B.beside_of c.args.above.items c.args.node
+    passes tree (first_rule g.L.RewriteLeaf.applied) rows c.args.above.items c.args.node
     l.above.items l.node l.done.items c.push.new.self.items c.in-Some.child l.invariant at
-    (subst (λ rule. step rule (B.tree_of c.in-Some.child) ≡ None) g.met.L.RewriteLeaf.rule_is
+    (subst (λ rule. step rule (tree c.in-Some.child) ≡ None) g.met.L.RewriteLeaf.rule_is
     (c.is_settled.ensures c.if-is_settled.true))
-    (of_some (λ t. B.beside_of t ≡ B.beside_of l.node) c.in_ok-child.field-0 c.in-Some.child
+    (of_some (λ t. rows t ≡ rows l.node) c.in_ok-child.field-0 c.in-Some.child
     c.in_ok-child.ensures.same_rows c.in-Some.is)
     c.in_ok-push-in-Some.ensures.items
 
 pub loop-done-smaller-else-is_settled : goal.loop-done-smaller-else-is_settled
 loop-done-smaller-else-is_settled g c =
-    let B = g.L.Leaf in
+    let tree = g.L.Leaf.tree_of in
     let l = c.loop-done in
-    let at = next_is B.tree_of (B.tree_of l.node) l.done.items c.deref.result.now c.in_ok-child.field-0
+    let at = next_is tree (tree l.node) l.done.items c.deref.result.now c.in_ok-child.field-0
     c.in-Some.child c.deref.ensures.value c.in_ok-child.ensures.answer c.in-Some.is in
-    descends_fewer B.tree_of l.above.items c.push-else-is_settled.new.self.items
+    descends_fewer tree l.above.items c.push-else-is_settled.new.self.items
     (record { node = l.node; done = l.done }) c.in-Some.child
     c.new-done-else-is_settled.result.items at c.in_ok-push-in-Some-2.ensures.items
     c.new-done-else-is_settled.ensures.items
 
 pub loop-done-preserved-else-is_settled : goal.loop-done-preserved-else-is_settled
 loop-done-preserved-else-is_settled g c =
-    let B = g.L.Leaf in
+    let tree = g.L.Leaf.tree_of in
+    let rows = g.L.Leaf.beside_of in
     let l = c.loop-done in
-    let at = next_is B.tree_of (B.tree_of l.node) l.done.items c.deref.result.now c.in_ok-child.field-0
+    let at = next_is tree (tree l.node) l.done.items c.deref.result.now c.in_ok-child.field-0
     c.in-Some.child c.deref.ensures.value c.in_ok-child.ensures.answer c.in-Some.is in
-    descends B.tree_of (first_rule g.L.RewriteLeaf.applied) B.beside_of c.args.above.items c.args.node
+    descends tree (first_rule g.L.RewriteLeaf.applied) rows c.args.above.items c.args.node
     l.above.items c.push-else-is_settled.new.self.items (record { node = l.node; done = l.done })
     c.in-Some.child
     c.new-done-else-is_settled.result.items l.invariant at
-    (of_some (λ t. B.beside_of t ≡ B.beside_of l.node) c.in_ok-child.field-0 c.in-Some.child
+    (of_some (λ t. rows t ≡ rows l.node) c.in_ok-child.field-0 c.in-Some.child
     c.in_ok-child.ensures.same_rows c.in-Some.is)
     c.in_ok-push-in-Some-2.ensures.items
     c.new-done-else-is_settled.ensures.items
 
 pub over_children-requires-clause-typed : goal.over_children-requires-clause-typed
 over_children-requires-clause-typed g c =
-    let B = g.L.Leaf in
+    let tree = g.L.Leaf.tree_of in
+    let rows = g.L.Leaf.beside_of in
     let l = c.loop-done in
-    node_typed B.tree_of (first_rule g.L.RewriteLeaf.applied) B.beside_of c.args.above.items c.args.node
+    node_typed tree (first_rule g.L.RewriteLeaf.applied) rows c.args.above.items c.args.node
     g.C.ScalarFnVTable.meaning l.above.items l.node l.done.items l.invariant c.requires.typed
 
 pub returns-in-Some-2-clause-answer : goal.returns-in-Some-2-clause-answer
 returns-in-Some-2-clause-answer g c =
-    let B = g.L.Leaf in
+    let tree = g.L.Leaf.tree_of in
+    let rows = g.L.Leaf.beside_of in
     let l = c.loop-done in
     let whole = c.in_ok-whole-in-None.whole in
-    let all = all_done B.tree_of (B.tree_of l.node) l.done.items c.deref.result.now c.in_ok-child.field-0
+    let all = all_done tree (tree l.node) l.done.items c.deref.result.now c.in_ok-child.field-0
     c.deref.ensures.value c.in_ok-child.ensures.answer c.in-None.is in (
       l.invariant.frames,
       sym l.invariant.same
-          ∙ ap (plug (frames_in B.tree_of l.above.items)) (sym c.in_ok-whole-in-None.ensures.answer),
-      step_made B.tree_of (first_rule g.L.RewriteLeaf.applied) B.beside_of c.args.above.items c.args.node
+          ∙ ap (plug (frames_in tree l.above.items)) (sym c.in_ok-whole-in-None.ensures.answer),
+      step_made tree (first_rule g.L.RewriteLeaf.applied) rows c.args.above.items c.args.node
           l.above.items l.node whole l.done.items c.in_ok-made-in-None.field-0
           (Some c.in-Some-2.made) l.invariant c.in_ok-whole-in-None.ensures.answer all
           c.in_ok-made-in-None.ensures.answer c.in-Some-2.is,
@@ -87,33 +92,35 @@ returns-in-Some-2-clause-answer g c =
 
 pub mark_settled-requires : goal.mark_settled-requires
 mark_settled-requires g c =
-    let B = g.L.Leaf in
+    let tree = g.L.Leaf.tree_of in
+    let rows = g.L.Leaf.beside_of in
     let l = c.loop-done in
-    let all = all_done B.tree_of (B.tree_of l.node) l.done.items c.deref.result.now c.in_ok-child.field-0
+    let all = all_done tree (tree l.node) l.done.items c.deref.result.now c.in_ok-child.field-0
     c.deref.ensures.value c.in_ok-child.ensures.answer c.in-None.is in
-    subst (λ rule. step rule (B.tree_of c.in_ok-whole-in-None.whole) ≡ None)
+    subst (λ rule. step rule (tree c.in_ok-whole-in-None.whole) ≡ None)
     (sym g.met.L.RewriteLeaf.rule_is)
-    (step_made B.tree_of (first_rule g.L.RewriteLeaf.applied) B.beside_of c.args.above.items
+    (step_made tree (first_rule g.L.RewriteLeaf.applied) rows c.args.above.items
     c.args.node l.above.items l.node c.in_ok-whole-in-None.whole l.done.items
     c.in_ok-made-in-None.field-0 None l.invariant c.in_ok-whole-in-None.ensures.answer all
     c.in_ok-made-in-None.ensures.answer c.in_default.is)
 
 pub returns-in_default-pop-clause-answer : goal.returns-in_default-pop-clause-answer
 returns-in_default-pop-clause-answer g c =
-    let B = g.L.Leaf in
+    let tree = g.L.Leaf.tree_of in
+    let rows = g.L.Leaf.beside_of in
     let rule = first_rule g.L.RewriteLeaf.applied in
     let l = c.loop-done in
-    let all = all_done B.tree_of (B.tree_of l.node) l.done.items c.deref.result.now c.in_ok-child.field-0
+    let all = all_done tree (tree l.node) l.done.items c.deref.result.now c.in_ok-child.field-0
     c.deref.ensures.value c.in_ok-child.ensures.answer c.in-None.is in
-    let settled = step_made B.tree_of rule B.beside_of c.args.above.items c.args.node
+    let settled = step_made tree rule rows c.args.above.items c.args.node
     l.above.items l.node c.in_ok-whole-in-None.whole l.done.items c.in_ok-made-in-None.field-0 None
     l.invariant c.in_ok-whole-in-None.ensures.answer all c.in_ok-made-in-None.ensures.answer
     c.in_default.is in
-    ends B.tree_of rule B.beside_of c.args.above.items c.args.node l.above.items l.node
+    ends tree rule rows c.args.above.items c.args.node l.above.items l.node
     c.mark_settled.new.self l.done.items l.invariant
     (omega (arith, c.in_default-pop.ensures.cases.0))
-    (ap B.tree_of c.mark_settled.ensures ∙ c.in_ok-whole-in-None.ensures.answer)
-    (ap (λ t. step rule (B.tree_of t)) c.mark_settled.ensures ∙ settled)
+    (ap tree c.mark_settled.ensures ∙ c.in_ok-whole-in-None.ensures.answer)
+    (ap (λ t. step rule (tree t)) c.mark_settled.ensures ∙ settled)
 
 pub loop-done-smaller : goal.loop-done-smaller
 loop-done-smaller g c =
@@ -124,18 +131,19 @@ loop-done-smaller g c =
 
 pub loop-done-preserved : goal.loop-done-preserved
 loop-done-preserved g c =
-    let B = g.L.Leaf in
+    let tree = g.L.Leaf.tree_of in
+    let rows = g.L.Leaf.beside_of in
     let rule = first_rule g.L.RewriteLeaf.applied in
     let l = c.loop-done in
-    let all = all_done B.tree_of (B.tree_of l.node) l.done.items c.deref.result.now c.in_ok-child.field-0
+    let all = all_done tree (tree l.node) l.done.items c.deref.result.now c.in_ok-child.field-0
     c.deref.ensures.value c.in_ok-child.ensures.answer c.in-None.is in
-    let settled = step_made B.tree_of rule B.beside_of c.args.above.items c.args.node
+    let settled = step_made tree rule rows c.args.above.items c.args.node
     l.above.items l.node c.in_ok-whole-in-None.whole l.done.items c.in_ok-made-in-None.field-0 None
     l.invariant c.in_ok-whole-in-None.ensures.answer all c.in_ok-made-in-None.ensures.answer
     c.in_default.is in
-    rises B.tree_of rule B.beside_of c.args.above.items c.args.node l.above.items c.pop.new.self.items
+    rises tree rule rows c.args.above.items c.args.node l.above.items c.pop.new.self.items
     c.in-Some-pop.parent l.node c.mark_settled.new.self l.done.items c.push-in-None.new.self.items
-    l.invariant (ap B.tree_of c.mark_settled.ensures ∙ c.in_ok-whole-in-None.ensures.answer)
-    (ap (λ t. step rule (B.tree_of t)) c.mark_settled.ensures ∙ settled)
-    (ap B.beside_of c.mark_settled.ensures ∙ c.in_ok-whole-in-None.ensures.same_rows)
+    l.invariant (ap tree c.mark_settled.ensures ∙ c.in_ok-whole-in-None.ensures.answer)
+    (ap (λ t. step rule (tree t)) c.mark_settled.ensures ∙ settled)
+    (ap rows c.mark_settled.ensures ∙ c.in_ok-whole-in-None.ensures.same_rows)
     c.in-Some-pop.ensures.items c.in_ok-push-in-None.ensures.items

@@ -48,9 +48,10 @@ returns-then-index-children-clause-answer g c =
     let rest = c.in-Some.rest.now in
     let next : c.loop-first.left.now ≡ k ∷ rest = search rules in
     let many = children_counted l place in
-    let lent = ap length c.children.ensures in
-    (refl,
-    way_leaves c.args.path.now (tree c.args.tree.now) (map f c.loop-first.parents.items)
-    c.loop-first.left.now rest k (tree place) c.loop-first.invariant.1 next
-    (slice_get_past (children_of (tree place)) k
-    (omega (arith, many, lent, c.if-index-children.true))))
+    let lent = ap length c.children.ensures in (
+      refl,
+      way_leaves c.args.path.now (tree c.args.tree.now) (map f c.loop-first.parents.items)
+          c.loop-first.left.now rest k (tree place) c.loop-first.invariant.1 next
+          (slice_get_past (children_of (tree place)) k
+          (omega (arith, many, lent, c.if-index-children.true))),
+    )

@@ -4,7 +4,7 @@ use Rattle.vortex_types.specs.TypeOf.{type_of}
 use Rattle.vortex_columns.specs.ColumnView.{constant_column}
 use Rattle.vortex_functions.specs.ExpressionLeaves.{expression_leaf}
 use Rattle.vortex_functions.proofs.Execution.{leaf_rows, constant_rows}
-use Rattle.vortex_functions.proofs.ExpressionNodes.{leaf_lent}
+use Rattle.vortex_functions.proofs.NodeKinds.{leaf_lent}
 use Rattle.vortex_functions.proofs.expression.ExpressionLeaf.rows.Goals as goal
 
 pub returns-in-Column-clause-answer : goal.returns-in-Column-clause-answer
@@ -19,7 +19,8 @@ returns-in-Column-clause-lent g c =
     leaf_lent _ _ c.args.columns.now c.args.self.now c.in-Column.place c.in-Column.field-1
     c.in-Column.field-2 _ c.in-Column.is c.requires.0 c.index-columns-place.is
 
-pub returns-in_ok-constant-in-Literal-clause-answer : goal.returns-in_ok-constant-in-Literal-clause-answer
+pub returns-in_ok-constant-in-Literal-clause-answer :
+    goal.returns-in_ok-constant-in-Literal-clause-answer
 returns-in_ok-constant-in-Literal-clause-answer g c =
     constant_rows g.C.ScalarFnVTable.meaning c.args.columns.now c.args.row_count
     (expression_leaf c.args.self.now) c.in-Literal.scalar c.in_ok-constant-in-Literal.field-0

@@ -1,4 +1,4 @@
-use Rattle.std.proofs.Common.{rules, refl, ℕ, ◌+◌, ◌<◌, ◌≤◌, arith, sym, ap, ◌∙◌, List}
+use Rattle.std.proofs.Common.{rules, refl, ◌<◌, arith, sym, ap, ◌∙◌}
 use Rattle.vortex_meaning.specs.Trees.{node_count}
 use Rattle.vortex_functions.specs.declared.tree.Parts.{Parts}
 use Rattle.vortex_functions.specs.declared.tree.Tree.TheInside.{Inside}

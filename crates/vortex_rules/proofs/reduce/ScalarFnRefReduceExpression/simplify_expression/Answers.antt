@@ -15,4 +15,5 @@ returns-clause-kept g c =
     AnswersUnlessMemory-weaker c.simplify_call.result (IsSimplifiedBy m r (λ u. u) t)
     (λ answer. IfSome answer (Rewrites m t))
     (λ answer e. simplified_kept m (λ u. u) g.met.C.ScalarFnVTable.lawful r
-    g.met.C.ScalarFnRules.rules_lawful t k answer c.dtype-typed.ensures.dtype e) c.simplify_call.ensures
+    g.met.C.ScalarFnRules.rules_lawful t k answer c.dtype-typed.ensures.dtype e)
+    c.simplify_call.ensures

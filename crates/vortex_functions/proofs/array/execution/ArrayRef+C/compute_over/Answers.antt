@@ -10,7 +10,7 @@ use Rattle.vortex_functions.proofs.Execution.{accepted}
 use Rattle.vortex_functions.specs.Arrays.{tree_in, trees_in}
 use Rattle.vortex_functions.specs.ArrayLeaves.{leaf_column}
 use Rattle.vortex_functions.specs.Nodes.{call_of}
-use Rattle.vortex_functions.proofs.ExpressionNodes.{IsArrayNode}
+use Rattle.vortex_functions.proofs.NodeKinds.{IsArrayNode}
 use Rattle.vortex_functions.proofs.ArrayChildren.{seen, rows_beneath}
 use Rattle.vortex_functions.proofs.ArrayColumns.{column_rows}
 use Rattle.vortex_functions.proofs.array.execution.ArrayRef+C.compute_over.Goals as goal

@@ -1,6 +1,6 @@
 use Rattle.std.proofs.Common.{subst}
 use Rattle.vortex_functions.specs.ArrayLeaves.{leaf_column}
-use Rattle.vortex_functions.proofs.ExpressionNodes.{IsArrayNode}
+use Rattle.vortex_functions.proofs.NodeKinds.{IsArrayNode}
 use Rattle.vortex_functions.proofs.ArrayChildren.{seen}
 use Rattle.vortex_functions.proofs.ArrayColumns.{column_rows}
 use Rattle.vortex_functions.proofs.array.execution.ArrayRef+C.execute.Goals as goal

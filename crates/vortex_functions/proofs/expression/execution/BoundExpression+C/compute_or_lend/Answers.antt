@@ -1,6 +1,6 @@
 use Rattle.std.proofs.Common.{sym, ap, ◌∙◌, subst}
 use Rattle.vortex_functions.specs.Executing.{Fits, AnswersTree, LendsLeaf}
-use Rattle.vortex_functions.proofs.ExpressionNodes.{expression_node}
+use Rattle.vortex_functions.proofs.NodeKinds.{expression_node}
 use Rattle.vortex_functions.proofs.expression.execution.BoundExpression+C.compute_or_lend.Goals
     as goal
 

@@ -5,8 +5,8 @@ use Rattle.vortex_meaning.specs.Trees.{call, trees_of}
 use Rattle.vortex_meaning.specs.Eval.{tree_type}
 use Rattle.vortex_functions.specs.FunctionOf.{function_of}
 use Rattle.vortex_functions.specs.Executing.{Fits, AnswersTree}
-use Rattle.vortex_functions.proofs.ExpressionNodes.{IsExpressionNode, expression_call}
-use Rattle.vortex_functions.proofs.ExpressionNodes.{expression_node}
+use Rattle.vortex_functions.proofs.NodeKinds.{IsExpressionNode, expression_call}
+use Rattle.vortex_functions.proofs.NodeKinds.{expression_node}
 use Rattle.vortex_functions.proofs.Execution.{AllHaveRows, self_faults, self_rows, counts_are}
 use Rattle.vortex_functions.proofs.Execution.{accepted}
 use Rattle.vortex_functions.proofs.Inputs.{rows_beside}
@@ -35,7 +35,8 @@ execute-requires-clause-arity g c =
     let lent : c.in-Call.parts.value ≡ parts = sym c.deref.ensures in
     let is : c.args.self.now ≡ call f (trees_of ts) =
     sym c.self.view_is ∙ ap expression_node c.in-Call.is ∙ ap expression_call lent in
-    let node = subst (IsExpressionNode m g.C.ScalarFnVTable.rules) c.in-Call.is c.self.invariant.0 in
+    let node =
+    subst (IsExpressionNode m g.C.ScalarFnVTable.rules) c.in-Call.is c.self.invariant.0 in
     let typed : tree_type m (call f (trees_of ts)) ≡ Some dtype =
     subst (λ p. tree_type m (expression_call p) ≡ Some (type_of p.dtype)) lent node.0 in
     let given = c.new-args.result.columns in
@@ -56,7 +57,8 @@ execute-requires-clause-accepted g c =
     let lent : c.in-Call.parts.value ≡ parts = sym c.deref.ensures in
     let is : c.args.self.now ≡ call f (trees_of ts) =
     sym c.self.view_is ∙ ap expression_node c.in-Call.is ∙ ap expression_call lent in
-    let node = subst (IsExpressionNode m g.C.ScalarFnVTable.rules) c.in-Call.is c.self.invariant.0 in
+    let node =
+    subst (IsExpressionNode m g.C.ScalarFnVTable.rules) c.in-Call.is c.self.invariant.0 in
     let typed : tree_type m (call f (trees_of ts)) ≡ Some dtype =
     subst (λ p. tree_type m (expression_call p) ≡ Some (type_of p.dtype)) lent node.0 in
     let given = c.new-args.result.columns in
@@ -75,7 +77,8 @@ returns-in_err-execute-in-Call g c =
     let f = function_of parts.function in
     let ts = map (λ t. t) parts.children.items in
     let is : c.args.self.now ≡ call f (trees_of ts) =
-    sym c.self.view_is ∙ ap expression_node c.in-Call.is ∙ ap expression_call (sym c.deref.ensures) in
+    sym c.self.view_is ∙ ap expression_node c.in-Call.is
+    ∙ ap expression_call (sym c.deref.ensures) in
     let given = c.new-args.result.columns in
     let all : AllHaveRows m cs n ts given =
     rw c.new-args.ensures.columns
@@ -99,7 +102,8 @@ returns g c =
     let lent : c.in-Call.parts.value ≡ parts = sym c.deref.ensures in
     let is : c.args.self.now ≡ call f (trees_of ts) =
     sym c.self.view_is ∙ ap expression_node c.in-Call.is ∙ ap expression_call lent in
-    let node = subst (IsExpressionNode m g.C.ScalarFnVTable.rules) c.in-Call.is c.self.invariant.0 in
+    let node =
+    subst (IsExpressionNode m g.C.ScalarFnVTable.rules) c.in-Call.is c.self.invariant.0 in
     let typed : tree_type m (call f (trees_of ts)) ≡ Some dtype =
     subst (λ p. tree_type m (expression_call p) ≡ Some (type_of p.dtype)) lent node.0 in
     let given = c.new-args.result.columns in

@@ -1,6 +1,6 @@
 use Rattle.std.proofs.Common.{sym, ap, ◌∙◌, subst, IsTrue, ◌↔◌}
 use Rattle.vortex_functions.specs.Executing.{NodeFits}
-use Rattle.vortex_functions.proofs.ExpressionNodes.{expression_node, leaf_node_fits}
+use Rattle.vortex_functions.proofs.NodeKinds.{expression_node, leaf_node_fits}
 use Rattle.vortex_functions.proofs.expression.execution.BoundExpression+C.node_fits.Goals as goal
 
 pub returns-in-Leaf : goal.returns-in-Leaf

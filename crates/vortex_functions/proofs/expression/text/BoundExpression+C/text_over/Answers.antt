@@ -6,8 +6,8 @@ use Rattle.vortex_meaning.specs.Functions.{function_arity}
 use Rattle.vortex_meaning.specs.Trees.{call, called, trees_of}
 use Rattle.vortex_meaning.specs.Eval.{tree_type}
 use Rattle.vortex_functions.specs.FunctionOf.{function_of}
-use Rattle.vortex_functions.proofs.ExpressionNodes.{IsExpressionNode, expression_call}
-use Rattle.vortex_functions.proofs.ExpressionNodes.{expression_node}
+use Rattle.vortex_functions.proofs.NodeKinds.{IsExpressionNode, expression_call}
+use Rattle.vortex_functions.proofs.NodeKinds.{expression_node}
 use Rattle.vortex_functions.specs.ExpressionLeaves.{not_called}
 use Rattle.vortex_functions.specs.Texts.{IsTextOf}
 use Rattle.vortex_functions.proofs.Inputs.{made_of_items}
@@ -24,7 +24,8 @@ fmt_sql-requires g c =
     let lent : c.in-Call.parts.value ≡ parts = sym c.deref.ensures in
     let is : c.args.self.now ≡ call f (trees_of ts) =
     sym c.self.view_is ∙ ap expression_node c.in-Call.is ∙ ap expression_call lent in
-    let node = subst (IsExpressionNode m g.C.ScalarFnVTable.rules) c.in-Call.is c.self.invariant.0 in
+    let node =
+    subst (IsExpressionNode m g.C.ScalarFnVTable.rules) c.in-Call.is c.self.invariant.0 in
     let typed : tree_type m (call f (trees_of ts)) ≡ Some (type_of parts.dtype) =
     subst (λ p. tree_type m (expression_call p) ≡ Some (type_of p.dtype)) lent node.0 in
     let all : AreTexts ts (map string_bytes c.args.texts.items) =
@@ -42,7 +43,8 @@ returns-in-Call g c =
     let f = function_of parts.function in
     let ts = map (λ t. t) parts.children.items in
     let is : c.args.self.now ≡ call f (trees_of ts) =
-    sym c.self.view_is ∙ ap expression_node c.in-Call.is ∙ ap expression_call (sym c.deref.ensures) in
+    sym c.self.view_is ∙ ap expression_node c.in-Call.is
+    ∙ ap expression_call (sym c.deref.ensures) in
     let all : AreTexts ts (map string_bytes c.deref-in-Call.result.now) =
     rw c.deref-in-Call.ensures.value
     (all_texts ts c.args.texts.items
