@@ -22,7 +22,7 @@ returns-then-not-is_boolean-clause-refused c = (
   refl,
   λ t.
       let no = c.if-not-is_boolean.true in
-      let yes = c.is_boolean.ensures ∙ (rw c.dtype.ensures at t) in
+      let yes = c.is_boolean.ensures ∙ (rw c.dtype.ensures.dtype at t) in
       cc,
 )
 
@@ -36,5 +36,5 @@ returns-clause-top c =
           ∙ sym (ap last_alone c.in-Some.ensures.items ∙ last_alone-append c.pop.new.self.items a);
       truth = rw pushed
           (of_one (λ a. IsTruth a.tree) a
-          (rw c.dtype.ensures (sym c.is_boolean.ensures ∙ c.if-not-is_boolean.false)));
+          (rw c.dtype.ensures.dtype (sym c.is_boolean.ensures ∙ c.if-not-is_boolean.false)));
     }
