@@ -4,7 +4,6 @@ use Rattle.std.proofs.Common.{length, map, take, Some}
 use Rattle.std.specs.Prelude.{slice_get}
 use Rattle.std.proofs.lemmas.List.{take-map}
 use Rattle.std.specs.declared.borrow.Cow.{Cow}
-use Rattle.std.specs.Cow.{cow_value}
 use Rattle.vortex_errors.specs.declared.error.VortexError.{VortexError}
 use Rattle.vortex_errors.specs.Answers.{UnlessMemory}
 use Rattle.vortex_columns.specs.ColumnView.{ColumnView}
@@ -16,8 +15,7 @@ use Rattle.vortex_functions.specs.Walks.{AllMean}
 use Rattle.vortex_functions.specs.Executing.{HasRows}
 use Rattle.vortex_functions.proofs.Chains.{nodes}
 use Rattle.vortex_functions.proofs.Counts.{node_and_children}
-use Rattle.vortex_functions.proofs.Execution.{AllHaveRows}
-use Rattle.vortex_functions.proofs.Inputs.{rows_beside}
+use Rattle.vortex_functions.proofs.Inputs.{made_of_items}
 use Rattle.vortex_functions.proofs.Upward.{fault_upward}
 use Rattle.vortex_functions.specs.Arrays.{Array, tree_in, rows_in, trees_in, children_in}
 use Rattle.vortex_functions.specs.Nodes.{node_tree, tree_view}
@@ -70,14 +68,14 @@ module _ {V O : Type 0} where
     beneath n (t ∷ ts) (o ∷ os) h = (h.0, beneath n ts os h.1)
 
     -- what was made of the children of an array that is known to be a call
-    pub rows_beneath : (self : Array V O) (f : Function V O) (xs : List (Array V O)) (n : ℕ)
+    pub made_beneath : (self : Array V O) (f : Function V O) (xs : List (Array V O)) (n : ℕ)
         (os : List (Cow ColumnView))
         → self ≡ (call f (trees_of (trees_in xs)), n)
         → AllMean (HasArrayRows m) (children_in self) os
-        → AllHaveRows m [] n (trees_in xs) (map cow_value os)
-    rows_beneath self f xs n os is h =
+        → AllMean (HasRows m [] n) (trees_in xs) os
+    made_beneath self f xs n os is h =
         let t = call f (trees_of (trees_in xs)) in
-        rows_beside m [] n t f (trees_in xs) os refl
+        made_of_items (HasRows m [] n) t f (trees_in xs) os refl
         (beneath n (children_of t) os
         (subst (λ (a : Array V O). AllMean (HasArrayRows m) (children_in a) os) is h))
 

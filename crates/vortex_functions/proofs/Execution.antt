@@ -2,7 +2,7 @@
 use Rattle.std.proofs.Common.{◌≡◌, ℕ, zero, suc, ◌<◌, refl, sym, ap, subst, ◌∙◌, List, [], ◌∷◌}
 use Rattle.std.proofs.Common.{◌++◌, length, get_or, take, inr, Bool, true, false, Option, Some}
 use Rattle.std.proofs.Common.{None, arith, nat_eq}
-use Rattle.std.specs.Prelude.{slice_get, if◌then◌else◌, ⊤}
+use Rattle.std.specs.Prelude.{slice_get, if◌then◌else◌, ⊤, Result}
 use Rattle.std.specs.Option.{option_and_then}
 use borrow.Author.Tests.{eqb-true}
 use Rattle.std.proofs.lemmas.Option.{get_or_from_slice_get}
@@ -13,8 +13,8 @@ use Rattle.vortex_types.specs.LogicalTypes.{LogicalType}
 use Rattle.vortex_types.specs.Values.{null}
 use Rattle.vortex_columns.specs.ColumnView.{ColumnView, row, constant_column}
 use Rattle.vortex_types.specs.ScalarView.{ScalarView}
-use Rattle.vortex_errors.specs.Answers.{UnlessMemory}
-use Rattle.vortex_errors.proofs.Answering.{UnlessMemory-weaker}
+use Rattle.vortex_errors.specs.Answers.{Answers}
+use Rattle.vortex_errors.proofs.Answering.{Answers-weaker}
 use Rattle.vortex_meaning.specs.Outcomes.{gives, GivesValue, HasCallRows, IsCallFault, call_row}
 use Rattle.vortex_meaning.specs.Outcomes.{types_in, values_at}
 use Rattle.vortex_meaning.specs.Meaning.{Meaning, fits}
@@ -158,24 +158,19 @@ module _ {V O : Type 0} where
             },
           )
 
-      -- the same for a tree that is known to be a call
-      module _ (self : Tree V O) (f : Function V O) (ts : List (Tree V O))
-          (is : self ≡ call f (trees_of ts)) where
-        pub self_faults : (ds : List ColumnView) (e : VortexError) → AllHaveRows m cs n ts ds
-            → UnlessMemory (IsCallFault (function_means m f) ds n) e
-            → UnlessMemory (IsFirstFault m cs n self) e
-        self_faults ds e h r =
-            UnlessMemory-weaker (IsCallFault (function_means m f) ds n) (IsFirstFault m cs n self)
-            (λ d p. subst (λ (s : Tree V O). IsFirstFault m cs n s d) (sym is)
-            (call_faults f ts ds d h p)) e r
-
-        pub self_rows : (ds : List ColumnView) (c : ColumnView) (k : LogicalType)
-            → AllHaveRows m cs n ts ds → tree_type m self ≡ Some k
-            → HasCallRows (function_type m f) (function_means m f) ds n c
-            → HasTreeRows m cs n self c
-        self_rows ds c k h e r =
-            subst (λ (s : Tree V O). HasTreeRows m cs n s c) (sym is)
-            (call_rows f ts ds c k h (ap (tree_type m) (sym is) ∙ e) r)
+      -- what a function answers over its arguments' rows is the call's
+      pub call_answers : (f : Function V O) (ts : List (Tree V O)) (ds : List ColumnView)
+          (k : LogicalType) (r : Result ColumnView VortexError)
+          → AllHaveRows m cs n ts ds → tree_type m (call f (trees_of ts)) ≡ Some k
+          → Answers r (HasCallRows (function_type m f) (function_means m f) ds n)
+          (IsCallFault (function_means m f) ds n)
+          → Answers r (HasTreeRows m cs n (call f (trees_of ts)))
+          (IsFirstFault m cs n (call f (trees_of ts)))
+      call_answers f ts ds k r h e a =
+          Answers-weaker r (HasCallRows (function_type m f) (function_means m f) ds n)
+          (HasTreeRows m cs n (call f (trees_of ts))) (IsCallFault (function_means m f) ds n)
+          (IsFirstFault m cs n (call f (trees_of ts))) (λ c p. call_rows f ts ds c k h e p)
+          (λ d p. call_faults f ts ds d h p) a
 
 pub where_none : (b : Bool) (o : Option ℕ) (l : ℕ) → (if b then o else Some l) ≡ None
     → (b ≡ true) × (o ≡ None)

@@ -28,15 +28,9 @@ module _ {V O : Type 0} where
       (ap children_of is ∙ list_of-trees_of ts) h
 
   module _ (m : Meaning V O) (cs : List ColumnView) (n : ℕ) where
-    beside : (ts : List (Tree V O)) (os : List (Cow ColumnView))
+    pub beside : (ts : List (Tree V O)) (os : List (Cow ColumnView))
         → AllMean (HasRows m cs n) ts os → AllHaveRows m cs n ts (map cow_value os)
     beside [] [] h = tt
     beside [] (o ∷ os) h = absurd h
     beside (t ∷ ts) [] h = absurd h
     beside (t ∷ ts) (o ∷ os) h = (h.0, beside ts os h.1)
-
-    pub rows_beside : (self : Tree V O) (f : Function V O) (ts : List (Tree V O))
-        (os : List (Cow ColumnView))
-        → self ≡ call f (trees_of ts) → AllMean (HasRows m cs n) (children_of self) os
-        → AllHaveRows m cs n ts (map cow_value os)
-    rows_beside self f ts os is h = beside ts os (made_of_items (HasRows m cs n) self f ts os is h)

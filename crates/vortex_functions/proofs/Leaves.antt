@@ -1,7 +1,6 @@
 -- What the laws of a kind of leaf say of its trees.
 use Rattle.std.proofs.Common.{◌≡◌, ℕ, zero, suc, List, [], ◌∷◌, map, Some, None, refl, sym, ap}
-use Rattle.std.proofs.Common.{length, subst, ◌∙◌, arith}
-use Rattle.std.proofs.lemmas.List.{length-map}
+use Rattle.std.proofs.Common.{subst, ◌∙◌, arith}
 use Rattle.std.specs.Prelude.{All, slice_get}
 use Rattle.std.proofs.lemmas.List.Elements.{All-nil, All-cons}
 use Rattle.vortex_meaning.specs.Functions.{Function}
@@ -96,7 +95,3 @@ module _ {V L O B S : Type 0} (l : Ghosts L V O B S) where
   children_beside_it a =
       subst (All (λ x. l.beside_of x ≡ l.beside_of a)) (sym (l.children_are a))
       (all_beside (l.beside_of a) (children_of (l.tree_of a)))
-
-  pub children_counted : (a : S) → length (children_of (l.tree_of a)) ≡ length (l.children a)
-  children_counted a =
-      ap length (sym (children_as_trees a)) ∙ length-map (l.children a) l.tree_of

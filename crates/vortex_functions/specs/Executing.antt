@@ -24,6 +24,10 @@ module _ {V O : Type 0} (m : Meaning V O) (columns : List ColumnView) (n : ℕ) 
   abbrev pub AnswersTree : Answer → Type 0
   AnswersTree result = Answers result HasRows (IsFirstFault m columns n t)
 
+  -- the same of a column of one's own
+  abbrev pub AnswersCallRows : Result ColumnView VortexError → Type 0
+  AnswersCallRows result = Answers result (HasTreeRows m columns n t) (IsFirstFault m columns n t)
+
   -- over any columns
   abbrev pub AnswersExecution : Answer → Type 0
   AnswersExecution result =

@@ -3,6 +3,7 @@ ghost use Rattle.std.specs.Prelude.{◌≡◌, ◌<◌, ◌≤◌, ◌+◌, ◌*
 ghost use Rattle.std.specs.Prelude.{All, IfOk, length, map, min, slice_get};
 ghost use Rattle.vortex_functions.specs.Words.{type_of, trees_of, called, tree_type, tree_types};
 ghost use Rattle.vortex_functions.specs.Words.{function_of, AnswersUnlessMemory, node_count};
+ghost use Rattle.vortex_functions.specs.Words.{children_of};
 ghost use Rattle.vortex_functions.specs.Words.{added, weights, weight_told, step};
 ghost use Rattle.vortex_functions.specs.Words.{AnswersTreeCall};
 
@@ -14,6 +15,7 @@ use std::rc::Rc;
 use vortex_columns::{DType, VortexError, VortexResult};
 use vortex_interface::ScalarFnVTable;
 
+mod execution;
 pub mod leaf;
 
 pub use leaf::Leaf;
@@ -228,8 +230,8 @@ impl<C: ScalarFnVTable, L: Leaf<C, C::Options>> Tree<C, L> {
         self.beside
     }
 
-    /// The children of a call, in order; a leaf has none.
-    pub fn children(&self) -> &[Tree<C, L>]
+    /// What stands below the root.
+    fn below(&self) -> &[Tree<C, L>]
         ensures { result.now ≡ L.children self.now }
     {
         match &self.node {
@@ -238,12 +240,32 @@ impl<C: ScalarFnVTable, L: Leaf<C, C::Options>> Tree<C, L> {
         }
     }
 
-    /// The child of that index.
-    pub fn child(&self, index: usize) -> &Tree<C, L>
+    /// The one of that place.
+    fn below_at(&self, index: usize) -> &Tree<C, L>
         requires { index < length (L.children self.now) }
         ensures { slice_get (L.children self.now) index ≡ Some result.now }
     {
-        &self.children()[index]
+        &self.below()[index]
+    }
+
+    /// The children of a call, in order; a leaf has none.
+    pub fn children(&self) -> &[Tree<C, L>]
+        ensures children { result.now ≡ L.children self.now }
+        ensures trees { map L.tree_of result.now ≡ children_of (L.tree_of self.now) }
+        ensures same_rows { All (λ child. L.beside_of child ≡ L.beside_of self.now) result.now }
+    {
+        self.below()
+    }
+
+    /// The child of that index.
+    pub fn child(&self, index: usize) -> &Tree<C, L>
+        requires { index < length (L.children self.now) }
+        ensures child { slice_get (L.children self.now) index ≡ Some result.now }
+        ensures tree { slice_get (children_of (L.tree_of self.now)) index
+            ≡ Some (L.tree_of result.now) }
+        ensures same_rows { L.beside_of result.now ≡ L.beside_of self.now }
+    {
+        self.below_at(index)
     }
 
     /// The function of a call.

@@ -12,7 +12,7 @@ use Rattle.vortex_meaning.specs.Places.{with_child, rewritten}
 use Rattle.vortex_meaning.proofs.DriverSteps.{child_at}
 use Rattle.vortex_meaning.proofs.StepPlaces.{same_trees}
 use Rattle.vortex_meaning.proofs.TypedCalls.{types_with}
-use Rattle.vortex_rewriting.specs.Ways.{IsWay, with_parents, LeadsOn, Leaves}
+use Rattle.vortex_rewriting.specs.Ways.{IsWay, with_parents, LeadsOn}
 
 pub is_within : {A : Type 0} (xs : List A) (k : ℕ) (x : A) → slice_get xs k ≡ Some x
     → k < length xs
@@ -76,14 +76,3 @@ module _ {V O : Type 0} where
         ∙ ap (option_map (option_map (with_parents ps)))
         (child_at rule k rest x y (rewritten rule rest y) h refl)
         ∙ further ps (x, k) (rewritten rule rest y)
-
-    -- no way leads on where the tree has no such child
-    pub way_leaves : slice_get (children_of x) k ≡ None → Leaves path t
-    way_leaves h =
-        λ rule.
-        on rule
-        ∙ ap (λ z. option_map (option_map (with_parents ps)) (rewritten rule z x)) next
-        ∙ ap
-        (λ o. option_map (option_map (with_parents ps))
-        (option_and_then (λ y. option_map (option_map (with_child x k)) (rewritten rule rest y)) o))
-        h

@@ -7,7 +7,7 @@ use crate::tree::Node;
 use crate::walk;
 use std::borrow::Cow;
 use vortex_columns::{Column, ExecutionCtx, VortexResult};
-use vortex_interface::{ScalarFnVTable, VecExecutionArgs};
+use vortex_interface::ScalarFnVTable;
 
 impl<C: ScalarFnVTable> ArrayRef<C> {
     /// The node's rows, over those of its children.
@@ -21,10 +21,7 @@ impl<C: ScalarFnVTable> ArrayRef<C> {
     {
         match &self.node {
             Node::Leaf(leaf) => Ok(Cow::Borrowed(leaf.column())),
-            Node::Call(parts) => {
-                let args = VecExecutionArgs::new(inputs, self.beside);
-                Ok(Cow::Owned(parts.function.execute(&args, ctx)?))
-            }
+            Node::Call(parts) => Ok(Cow::Owned(parts.call_rows(inputs, self.beside, ctx)?)),
         }
     }
 

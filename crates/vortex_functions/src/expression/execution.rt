@@ -11,7 +11,7 @@ use crate::tree::Node;
 use crate::walk;
 use std::borrow::Cow;
 use vortex_columns::{Column, ExecutionCtx, VortexError, VortexResult};
-use vortex_interface::{ScalarFnVTable, VecExecutionArgs};
+use vortex_interface::ScalarFnVTable;
 
 /// The length of the first column that has not so many rows. Where there is none, the columns' rows
 /// have their types.
@@ -151,10 +151,7 @@ impl<C: ScalarFnVTable> BoundExpression<C> {
     {
         match &self.node {
             Node::Leaf(leaf) => leaf.rows::<C>(columns, row_count, ctx),
-            Node::Call(parts) => {
-                let args = VecExecutionArgs::new(inputs, row_count);
-                Ok(Cow::Owned(parts.function.execute(&args, ctx)?))
-            }
+            Node::Call(parts) => Ok(Cow::Owned(parts.call_rows(inputs, row_count, ctx)?)),
         }
     }
 

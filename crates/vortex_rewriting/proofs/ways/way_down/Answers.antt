@@ -1,11 +1,9 @@
-use Rattle.std.proofs.Common.{rules, arith, ◌≡◌, ◌∷◌, ◌∙◌, ℕ, length, map, refl, ap, subst, sym}
-use Rattle.std.proofs.lemmas.Option.{slice_get_past}
+use Rattle.std.proofs.Common.{rules, ◌≡◌, ◌∷◌, ◌∙◌, ℕ, map, subst, sym}
 use Rattle.std.proofs.lemmas.List.Elements.{All-push, All-same}
-use Rattle.vortex_meaning.specs.Trees.{Tree, children_of}
+use Rattle.vortex_meaning.specs.Trees.{Tree}
 use Rattle.vortex_rewriting.specs.Ways.{IsWay, LeadsOn}
 use Rattle.vortex_rewriting.specs.declared.ways.Parent.{Parent}
-use Rattle.vortex_rewriting.proofs.DownAndUp.{popped, way_push, way_goes_on, way_leaves}
-use Rattle.vortex_functions.proofs.Leaves.{child_at, children_counted}
+use Rattle.vortex_rewriting.proofs.DownAndUp.{popped, way_push, way_goes_on}
 use Rattle.vortex_rewriting.proofs.ways.way_down.Goals as goal
 
 pub loop-first-preserved : goal.loop-first-preserved
@@ -23,35 +21,14 @@ loop-first-preserved g c =
     let rest = c.in-Some.rest.now in
     let path = c.args.path.now in
     let next : c.loop-first.left.now ≡ k ∷ rest = search rules in
-    let at = child_at g.L.Leaf c.loop-first.place.now k c.child-place.result.now
-    c.child-place.ensures in
     let is = popped f c.push.new.self.items before _ c.in_ok-push.ensures.items in
     let here = λ (p : Parent g.row.L-Seen.Denot). rows p.node.now ≡ rows c.args.tree.now in (
       subst (λ z. IsWay z t y) (sym is)
-          (way_push (map f before) t x y k i.0 at.0),
+          (way_push (map f before) t x y k i.0 c.child-place.ensures.tree),
       subst (λ z. LeadsOn path t z rest y) (sym is)
           (way_goes_on path t (map f before) c.loop-first.left.now rest k x i.1 next y
-          at.0),
+          c.child-place.ensures.tree),
       All-same here c.push.new.self.items _ c.in_ok-push.ensures.items
           (All-push here before _ i.2 i.3),
-      at.1 ∙ i.3,
-    )
-
-pub returns-then-index-children-clause-answer : goal.returns-then-index-children-clause-answer
-returns-then-index-children-clause-answer g c =
-    let l = g.L.Leaf in
-    let tree = l.tree_of in
-    let place = c.loop-first.place.now in
-    let f : Parent g.row.L-Seen.Denot → Tree g.row.C.Denot g.row.C-Options.Denot × ℕ =
-    λ p. (tree p.node.now, p.index) in
-    let k = c.in-Some.first.now in
-    let rest = c.in-Some.rest.now in
-    let next : c.loop-first.left.now ≡ k ∷ rest = search rules in
-    let many = children_counted l place in
-    let lent = ap length c.children.ensures in (
-      refl,
-      way_leaves c.args.path.now (tree c.args.tree.now) (map f c.loop-first.parents.items)
-          c.loop-first.left.now rest k (tree place) c.loop-first.invariant.1 next
-          (slice_get_past (children_of (tree place)) k
-          (omega (arith, many, lent, c.if-index-children.true))),
+      c.child-place.ensures.same_rows ∙ i.3,
     )

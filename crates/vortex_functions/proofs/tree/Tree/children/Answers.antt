@@ -1,28 +1,15 @@
-use Rattle.std.proofs.Common.{sym, subst, ap, ◌∙◌}
-use Rattle.vortex_functions.specs.FunctionOf.{function_of}
-use Rattle.vortex_functions.specs.declared.tree.Parts.{Parts}
-use Rattle.vortex_functions.specs.Nodes.{IsNode}
-use Rattle.vortex_functions.proofs.Counts.{seen_as}
-use Rattle.vortex_functions.proofs.Leaves.{leaf_has_none, call_has}
+use Rattle.std.proofs.Common.{◌≡◌, map, sym, subst, ap, ◌∙◌}
+use Rattle.std.specs.Prelude.{All}
+use Rattle.vortex_functions.proofs.Leaves.{children_as_trees, children_beside_it}
 use Rattle.vortex_functions.proofs.tree.Tree.children.Goals as goal
 
-pub returns-in-Leaf : goal.returns-in-Leaf
-returns-in-Leaf g c =
+pub returns-clause-trees : goal.returns-clause-trees
+returns-clause-trees g c =
     let l = g.L.Leaf in
-    let is = seen_as l c.args.self.now c.self.inside _ c.self.view_is c.in-Leaf.is in
-    sym (ap l.children is ∙ leaf_has_none l c.in-Leaf.field-0 c.self.inside.beside)
+    ap (map l.tree_of) c.below.ensures ∙ children_as_trees l c.args.self.now
 
-pub returns-in-Call : goal.returns-in-Call
-returns-in-Call g c =
+pub returns-clause-same_rows : goal.returns-clause-same_rows
+returns-clause-same_rows g c =
     let l = g.L.Leaf in
-    let m = g.C.ScalarFnVTable.meaning in
-    let b = c.self.inside.beside in
-    let is = seen_as l c.args.self.now c.self.inside _ c.self.view_is c.in-Call.is in
-    let node =
-    subst (λ x. IsNode l.tree_of l.beside_of m l.rule l.fits b x) c.in-Call.is
-    c.self.invariant.0 in
-    let parts = c.in-Call.parts.value in
-    c.deref-in-Call.ensures.value
-    ∙ ap (λ (p : Parts _ _ _ _ _). p.children.items) c.deref.ensures
-    ∙ call_has l (function_of parts.function) b parts.children.items node.1
-    ∙ ap l.children (sym is)
+    subst (All (λ x. l.beside_of x ≡ l.beside_of c.args.self.now)) (sym c.below.ensures)
+    (children_beside_it l c.args.self.now)

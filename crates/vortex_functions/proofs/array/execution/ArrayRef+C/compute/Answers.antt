@@ -17,7 +17,7 @@ loop-inputs-smaller-then-len-children g c =
     let same : length c.loop-inputs.inputs.items ≡ k = omega arith in
     rw (c.in_ok-push.ensures.items, c.new-inputs-then-len-children.ensures.items)
     (descended_fewer children_in array_nodes array_and_children c.child-child.result.now
-    c.loop-inputs.above.items _ k same c.child-child.ensures)
+    c.loop-inputs.above.items _ k same c.child-child.ensures.child)
 
 pub loop-inputs-preserved-then-len-children : goal.loop-inputs-preserved-then-len-children
 loop-inputs-preserved-then-len-children g c =
@@ -26,7 +26,7 @@ loop-inputs-preserved-then-len-children g c =
     rw (c.in_ok-push.ensures.items, c.new-inputs-then-len-children.ensures.items)
     (descended children_in (λ a. ⊤) (HasArrayRows g.C.ScalarFnVTable.meaning) c.args.self.now
     c.child-child.result.now c.loop-inputs.above.items _ k c.loop-inputs.invariant same
-    c.child-child.ensures tt)
+    c.child-child.ensures.child tt)
 
 pub loop-inputs-smaller : goal.loop-inputs-smaller
 loop-inputs-smaller g c =

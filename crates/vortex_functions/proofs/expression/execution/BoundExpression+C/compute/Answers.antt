@@ -16,7 +16,7 @@ loop-inputs-smaller-then-len-children g c =
     let same : length c.loop-inputs.inputs.items ≡ k = omega arith in
     rw (c.in_ok-push.ensures.items, c.new-inputs-then-len-children.ensures.items)
     (descended_fewer children_of node_count node_and_children
-    c.child-child.result.now c.loop-inputs.above.items _ k same c.child-child.ensures)
+    c.child-child.result.now c.loop-inputs.above.items _ k same c.child-child.ensures.child)
 
 pub loop-inputs-preserved-then-len-children : goal.loop-inputs-preserved-then-len-children
 loop-inputs-preserved-then-len-children g c =
@@ -26,11 +26,11 @@ loop-inputs-preserved-then-len-children g c =
     let child = c.child-child.result.now in
     let same : length c.loop-inputs.inputs.items ≡ k = omega arith in
     let fit =
-    fit_downward cs c.loop-inputs.node.now child k c.child-child.ensures
+    fit_downward cs c.loop-inputs.node.now child k c.child-child.ensures.child
     c.loop-inputs.invariant.1.0 in
     rw (c.in_ok-push.ensures.items, c.new-inputs-then-len-children.ensures.items)
     (descended children_of (Fits cs n) (HasRows g.C.ScalarFnVTable.meaning cs n) c.args.self.now
-    child c.loop-inputs.above.items _ k c.loop-inputs.invariant same c.child-child.ensures
+    child c.loop-inputs.above.items _ k c.loop-inputs.invariant same c.child-child.ensures.child
     (fit, c.loop-inputs.invariant.1.1))
 
 pub loop-inputs-smaller : goal.loop-inputs-smaller

@@ -13,7 +13,7 @@ loop-node-preserved g c =
     let listed =
     all_listed before c.children-child-items.result.now kids (now_of c.loop-child.list.items)
     c.loop-child.child-index c.loop-child.invariant c.loop-child-test.false
-    c.children-child-items.ensures in
+    c.children-child-items.ensures.children in
     listed_fit c.args.columns.now c.args.self.now c.loop-node.node.now c.in-Some.next.now before
     (now_of c.pop.new.self.items) c.loop-node.invariant
     (c.node_fits.ensures.0 c.if-not-node_fits.false)
@@ -27,7 +27,7 @@ loop-node-smaller g c =
     let listed =
     all_listed before c.children-child-items.result.now kids (now_of c.loop-child.list.items)
     c.loop-child.child-index c.loop-child.invariant c.loop-child-test.false
-    c.children-child-items.ensures in
+    c.children-child-items.ensures.children in
     listed_fewer c.loop-node.node.now c.in-Some.next.now before (now_of c.pop.new.self.items)
     (relisted before kids c.loop-child.list.items c.pop.new.self.items c.in-Some.next listed
     c.in-Some.ensures.items)
@@ -39,7 +39,7 @@ returns-in_default g c =
     let listed =
     all_listed before c.children-child-items.result.now kids (now_of c.loop-child.list.items)
     c.loop-child.child-index c.loop-child.invariant c.loop-child-test.false
-    c.children-child-items.ensures in
+    c.children-child-items.ensures.children in
     let none = none_left c.loop-child.list.items
     (λ h. true≢false
     (sym (c.in_default.ensures.variant.1 (omega (arith, h, c.loop-child.list.ok.0))))) in

@@ -12,7 +12,7 @@ loop-texts-smaller-then-len-children g c =
     let same : length c.loop-texts.texts.items ≡ k = omega arith in
     rw (c.in_ok-push.ensures.items, c.new-texts-then-len-children.ensures.items)
     (descended_fewer children_of node_count node_and_children
-    c.child-child.result.now c.loop-texts.above.items _ k same c.child-child.ensures)
+    c.child-child.result.now c.loop-texts.above.items _ k same c.child-child.ensures.child)
 
 pub loop-texts-preserved-then-len-children : goal.loop-texts-preserved-then-len-children
 loop-texts-preserved-then-len-children g c =
@@ -20,7 +20,7 @@ loop-texts-preserved-then-len-children g c =
     let same : length c.loop-texts.texts.items ≡ k = omega arith in
     rw (c.in_ok-push.ensures.items, c.new-texts-then-len-children.ensures.items)
     (descended children_of (λ t. ⊤) IsTextOf c.args.self.now c.child-child.result.now
-    c.loop-texts.above.items _ k c.loop-texts.invariant same c.child-child.ensures tt)
+    c.loop-texts.above.items _ k c.loop-texts.invariant same c.child-child.ensures.child tt)
 
 pub loop-texts-smaller : goal.loop-texts-smaller
 loop-texts-smaller g c =

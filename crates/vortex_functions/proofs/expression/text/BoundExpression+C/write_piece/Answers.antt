@@ -12,4 +12,4 @@ returns-in-None g c =
     let is : slice_get (tree_pieces c.args.self.now) c.args.index ≡ Some (argument place) =
     c.text_piece.ensures ∙ ap (λ p. Some (piece_of p)) c.in-Argument.is in
     nothing_said c.args.self.now c.args.index place (string_bytes c.args.out.now) is
-    (subst (λ n. n ≤ place) (ap length c.children.ensures) c.in-None.ensures.lookup.3)
+    (subst (λ n. n ≤ place) (ap length c.children.ensures.children) c.in-None.ensures.lookup.3)
