@@ -44,7 +44,7 @@ use Rattle.rowfn_scripts.specs.Sessions.{with_taken, with_call, shown_by, ShowsT
 use Rattle.rowfn_scripts.specs.Sessions.{RunsTop, optimized, OptimizesTop, prints_after}
 use Rattle.rowfn_scripts.specs.Sessions.{refused_after, RunsAfterTop, StepsTo}
 use Rattle.rowfn_scripts.specs.Scripts.{Reaches, begins, one_more, command_at, EndsAt, IsOutcome}
-use Rattle.rowfn_scripts.specs.Fitting.{Counted, AllShown, AllHaveTypes, AllFit, StackHasRows}
+use Rattle.rowfn_scripts.specs.Fitting.{Counted, AllShown, AllHaveTypes, AllFit}
 use Rattle.rowfn_scripts.specs.Fitting.{HaveRows, Fits}
 use Rattle.rowfn_scripts.specs.Telling.{EachHasFullOutcome}
 use Rattle.rowfn_scripts.proofs.OneRun.{some_run}

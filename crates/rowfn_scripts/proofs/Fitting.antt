@@ -39,7 +39,7 @@ use Rattle.rowfn_scripts.specs.Sessions.{SessionView, goes_on, refuses, is_malfo
 use Rattle.rowfn_scripts.specs.Sessions.{taken, with_rows, after_rows, added, with_column}
 use Rattle.rowfn_scripts.specs.Sessions.{with_leaf, with_literal, call_of, refused_at, with_taken}
 use Rattle.rowfn_scripts.specs.Sessions.{with_call, shown_by, ShowsTop, Runs, prints, refused}
-use Rattle.rowfn_scripts.specs.Sessions.{RunsTop, Optimizes, OptimizesTop, RunsAfter, prints_after}
+use Rattle.rowfn_scripts.specs.Sessions.{RunsTop, OptimizesTop, RunsAfter, prints_after}
 use Rattle.rowfn_scripts.specs.Sessions.{refused_after, RunsAfterTop, StepsTo}
 use Rattle.rowfn_scripts.specs.Scripts.{Reaches, begins, one_more, command_at}
 use Rattle.rowfn_scripts.specs.Fitting.{Counted, AreTypes, AllFit, AllHaveTypes, HasText, AllShown}

@@ -1,5 +1,5 @@
 -- Within a limit some run of steps leads from a tree, to one tree and by one number of steps.
-use Rattle.std.proofs.Common.{◌≡◌, ◌⊎◌, inl, inr, ℕ, zero, suc, ◌<◌, ◌≤◌, Option, Some, None}
+use Rattle.std.proofs.Common.{◌≡◌, ◌⊎◌, inl, inr, ℕ, zero, suc, ◌<◌, Option, Some, None}
 use Rattle.std.proofs.Common.{refl, sym, ap, subst, ◌∙◌, arith}
 use Rattle.vortex_meaning.specs.Trees.{Tree}
 use Rattle.vortex_meaning.specs.Driver.{step, Runs, RunsTo}

@@ -3,7 +3,8 @@ use Rattle.std.proofs.Common.{◌≡◌, ◌==◌, ℕ, suc, ◌+◌, ◌-◌, �
 use Rattle.std.proofs.Common.{None, Result, List, [], ◌∷◌, ◌++◌, length, take, drop, get_or}
 use Rattle.std.proofs.Common.{reverse, refl, sym, ap, subst, ◌∙◌, arith, ◌&&◌, if◌then◌else◌}
 use Rattle.std.proofs.Common.{◌≤◌, ◌⊎◌, inl, inr, ◌↔◌, IsTrue}
-use Rattle.std.specs.Prelude.{IfSome, MatchOption, nat_le, not}
+use Rattle.std.specs.Prelude.{IfSome, MatchOption, nat_le, not, String}
+use Rattle.std.specs.declared.alloc.Global.{Global}
 use Rattle.std.specs.Cmp.{unsigned_Decides}
 use Rattle.std.specs.Option.{is_some, is_none, option_and_then, option_map}
 use Rattle.std.specs.Result.{IsErrAnd}
@@ -16,6 +17,7 @@ use Rattle.vortex_errors.specs.declared.error.MismatchPlace.{MismatchPlace}
 use Rattle.vortex_errors.specs.declared.error.VortexError.{VortexError}
 use Rattle.vortex_errors.specs.declared.error.VortexError.TheVariants.{ScopeMismatch}
 use Rattle.vortex_errors.specs.Answers.{Answers, UnlessMemory}
+use Rattle.vortex_errors.proofs.Answering.{UnlessMemory-weaker}
 use Rattle.vortex_types.specs.LogicalTypes.{LogicalType, Fields, with_field, find_field}
 use Rattle.vortex_columns.specs.ColumnView.{ColumnView}
 use Rattle.vortex_meaning.specs.Meaning.{Meaning, fits}
@@ -42,7 +44,7 @@ use Rattle.rowfn_scripts.specs.Sessions.{with_leaf, call_of, refused_at, with_ta
 use Rattle.rowfn_scripts.specs.Sessions.{shown_by, ShowsTop, prints, refused, RunsTop, steps_text}
 use Rattle.rowfn_scripts.specs.Sessions.{Optimizes, OptimizesTop, prints_after, refused_after}
 use Rattle.rowfn_scripts.specs.Sessions.{RunsAfterTop}
-use Rattle.rowfn_scripts.specs.Stepping.{MakesStep}
+use Rattle.rowfn_scripts.specs.Stepping.{MakesStep, after_text}
 
 counted_parts : (a : Option LogicalType) (b : Option (List LogicalType)) (ks : List LogicalType)
     → with_type a b ≡ Some ks
@@ -51,18 +53,16 @@ counted_parts None b ks e = cc
 counted_parts (Some t) None ks e = cc
 counted_parts (Some t) (Some us) ks e = let is : t ∷ us ≡ ks = cc in (us, refl, ap length (sym is))
 
--- a refusal that a `?` passes on
-pub answers_refusal : {A : Type 0} (P : A → Type 0) (Q : VortexError → Type 0)
-    (r : Result A VortexError) (e : VortexError)
-    → IsErrAnd r (λ y. y ≡ e) → UnlessMemory Q e → Answers r P Q
-answers_refusal P Q r e h u = let p = err_from_is_err_and r h in rw (p.1, p.2) u
-
 -- whether a field is found
 pub found_or_not : {A : Type 0} (r : Option A) (o : Option (ℕ × LogicalType))
     (P : A → ℕ × LogicalType) (b : Bool)
     → MatchOption r (o ≡ None) (λ x. o ≡ Some (P x)) → b ≡ is_some r → is_none o ≡ not b
 found_or_not None o P b h e = ap is_none h ∙ sym (ap not e)
 found_or_not (Some x) o P b h e = ap is_none h ∙ sym (ap not e)
+
+not_not : (b : Bool) → not (not b) ≡ b
+not_not true = refl
+not_not false = refl
 
 module _ {V O : Type 0} where
   pub row_count_of : {s t : SessionView V O} → s ≡ t → s.row_count ≡ t.row_count
@@ -79,6 +79,11 @@ module _ {V O : Type 0} where
 
   pub printed_of : {s t : SessionView V O} → s ≡ t → s.printed ≡ t.printed
   printed_of e = ap (λ (s : SessionView V O). s.printed) e
+
+  -- what a test tells of whether the row count is said
+  pub unsaid : {s t : SessionView V O} {a b : Bool} → s ≡ t → is_some s.row_count ≡ not a → a ≡ b
+      → is_none t.row_count ≡ b
+  unsaid {a = a} e h k = ap is_none (sym (row_count_of e)) ∙ ap not h ∙ not_not a ∙ k
 
   -- the same column added to the same session
   pub same_added : (v s : SessionView V O) (name : List ℕ) (c : ColumnView) (fs : Fields)
@@ -203,7 +208,7 @@ module _ {V O : Type 0} where
       ∙ ap (λ (j : ℕ). taken j (reverse (take k xs ++ drop k xs))) counted
       ∙ last_by (take k xs) (drop k xs)
 
-  pub too_few : (n : ℕ) (xs : List (Tree V O)) → length xs < n → taken n (reverse xs) ≡ None
+  too_few : (n : ℕ) (xs : List (Tree V O)) → length xs < n → taken n (reverse xs) ≡ None
   too_few n xs h =
       let all = reverse xs in
       let few : nat_le n (length all) ≡ false =
@@ -222,14 +227,8 @@ module _ {V O : Type 0} where
           ∙ sym (take-suc xs (length xs - 1) t (omega arith))
           ∙ take_all (suc (length xs - 1)) xs (omega arith)
 
-  pub call_taken : (n : ℕ) (items stack ts kept : List (Tree V O)) (k : ℕ) → stack ≡ reverse items
-      → k + n ≡ length items → ts ≡ drop k items → kept ≡ take k items
-      → taken n stack ≡ Some (ts, reverse kept)
-  call_taken n items stack ts kept k e h a b =
-      ap (taken n) e ∙ last_taken n items k h ∙ (λ i. Some (sym a i, reverse (sym b i)))
-
   -- the function that words name, and none
-  pub named_is : (x : Function V O) (o : Option Shipped) → Some x ≡ option_map ours o
+  named_is : (x : Function V O) (o : Option Shipped) → Some x ≡ option_map ours o
       → (f : Shipped) × (o ≡ Some f) × (x ≡ ours f)
   named_is x None e = cc
   named_is x (Some f) e = (f, refl, cc)
@@ -237,7 +236,7 @@ module _ {V O : Type 0} where
   abbrev as_function : Option Shipped → Option (Function V O)
   as_function o = option_map ours o
 
-  pub unnamed : (o : Option Shipped) → None ≡ as_function o → o ≡ None
+  unnamed : (o : Option Shipped) → None ≡ as_function o → o ≡ None
   unnamed None e = refl
   unnamed (Some f) e = cc
 
@@ -277,50 +276,70 @@ module _ {V O : Type 0} where
       called : (o : Option Shipped) → shipped_called words chosen ≡ o → with_call m s o ≡ Call
       called o e = ap (with_call m s) (sym e) ∙ after_some s.row_count _ known
 
-      pub no_function : shipped_called words chosen ≡ None → is_malformed ≡ Call
-      no_function e = called None e
+      pub no_function : None ≡ as_function (shipped_called words chosen) → is_malformed ≡ Call
+      no_function e = called None (unnamed (shipped_called words chosen) e)
 
-      module _ (f : Shipped) (named : shipped_called words chosen ≡ Some f) where
-        pub no_arguments : taken (least_count (shipped_arity f)) s.stack ≡ None
-            → is_malformed ≡ Call
-        no_arguments e = ap (with_taken m f s) (sym e) ∙ called (Some f) named
+      -- the function that they name, how many trees it takes, and the trees that there are
+      module _ (x : Function V O) (n : ℕ) (items : List (Tree V O))
+          (is : Some x ≡ as_function (shipped_called words chosen))
+          (least : n ≡ least_count (function_arity m x)) (top : reverse items ≡ s.stack) where
+        named : (f : Shipped) × (shipped_called words chosen ≡ Some f) × (x ≡ ours f)
+        named = named_is x (shipped_called words chosen) is
 
-        module _ (ts rest : List (Tree V O))
-            (e : taken (least_count (shipped_arity f)) s.stack ≡ Some (ts, rest)) where
+        count_is : n ≡ least_count (shipped_arity named.0)
+        count_is = least ∙ ap (λ (g : Function V O). least_count (function_arity m g)) named.2
+
+        with_taken_is : (o : Option (List (Tree V O) × List (Tree V O)))
+            → taken n (reverse items) ≡ o → with_taken m named.0 s o ≡ Call
+        with_taken_is o e =
+            ap (with_taken m named.0 s) (sym e ∙ (λ i. taken (count_is i) (top i)))
+            ∙ called (Some named.0) named.1
+
+        pub no_arguments : length items < n → is_malformed ≡ Call
+        no_arguments h = with_taken_is None (too_few n items h)
+
+        module _ (k : ℕ) (ts kept : List (Tree V O)) (counted : k + n ≡ length items)
+            (last : ts ≡ drop k items) (first : kept ≡ take k items) where
           abbrev Made : Step V O
-          Made = goes_on (record s { stack = call_of m f ts ∷ rest })
+          Made = goes_on (record s { stack = call_of m named.0 ts ∷ reverse kept })
 
           abbrev Refuse : List LogicalType → Step V O
-          Refuse ks = refused_at m (shipped_place f ks)
+          Refuse ks = refused_at m (shipped_place named.0 ks)
 
-          by_type : (b : Bool) → is_some (tree_type m (call_of m f ts)) ≡ b
+          by_type : (b : Bool) → is_some (tree_type m (call_of m named.0 ts)) ≡ b
               → (if b then Made else Refuse (types_or_none (tree_types m (trees_of ts)))) ≡ Call
           by_type b h =
               (λ i. if sym h i then Made else Refuse (types_or_none (tree_types m (trees_of ts))))
-              ∙ ap (with_taken m f s) (sym e)
-              ∙ called (Some f) named
+              ∙ with_taken_is (Some (ts, reverse kept))
+              (last_taken n items k counted ∙ (λ i. Some (sym last i, reverse (sym first i))))
 
-          pub call_made : (t : Tree V O) → IsCall m (ours f) ts t
-              → goes_on (record s { stack = t ∷ rest }) ≡ Call
+          pub call_made : (t : Tree V O) → IsCall m x ts t
+              → goes_on (record s { stack = t ∷ reverse kept }) ≡ Call
           call_made t h =
-              ap (λ (u : Tree V O). goes_on (record s { stack = u ∷ rest })) h.is
-              ∙ by_type true (call_typed (ours f) ts t h)
+              let made = subst (λ (g : Function V O). IsCall m g ts t) named.2 h in
+              ap (λ (u : Tree V O). goes_on (record s { stack = u ∷ reverse kept })) made.is
+              ∙ by_type true (call_typed (ours named.0) ts t made)
 
           placed : (o : Option MismatchPlace) (d : VortexError) → IsMismatchAt o d
               → refuses d ≡ refused_at m o
           placed None d h = absurd h
           placed (Some p) d h = ap refuses h
 
-          pub call_refused : length ts ≡ least_count (shipped_arity f) → (d : VortexError)
-              → RefusesCall m (ours f) ts d → refuses d ≡ Call
-          call_refused counted d (count h is) =
-              let fit : fits (function_arity m (ours f)) (length ts) ≡ true =
-              (unsigned_Decides (length ts) (row_function f).count).1 counted in
+          refused_ours : (d : VortexError) → RefusesCall m (ours named.0) ts d → refuses d ≡ Call
+          refused_ours d (count h is) =
+              let many : length ts ≡ (row_function named.0).count =
+              ap length last ∙ omega (arith, length-drop k items, counted, count_is) in
+              let fit : fits (function_arity m (ours named.0)) (length ts) ≡ true =
+              (unsigned_Decides (length ts) (row_function named.0).count).1 many in
               cc
-          call_refused counted d (types ks h typed none is) =
-              placed (shipped_place f ks) d is
+          refused_ours d (types ks h typed none is) =
+              placed (shipped_place named.0 ks) d is
               ∙ ap Refuse (sym (ap types_or_none typed))
-              ∙ by_type false (call_untyped (ours f) ts ks typed none)
+              ∙ by_type false (call_untyped (ours named.0) ts ks typed none)
+
+          pub call_refused : (d : VortexError) → RefusesCall m x ts d → refuses d ≡ Call
+          call_refused d h =
+              refused_ours d (subst (λ (g : Function V O). RefusesCall m g ts d) named.2 h)
 
     module _ (n : ℕ) (s : SessionView V O) (t : Tree V O) (rest : List (Tree V O))
         (top : s.stack ≡ t ∷ rest) where
@@ -402,13 +421,23 @@ module _ {V O : Type 0} where
           subst (λ (stack : List (Tree V O)). OptimizesTop m rs s.row_count stack s (Replaced text))
           (sym top) (in_place s.row_count (Replaced text) known made)
 
+  -- a refusal that a `?` passes on
+  pub answers_refusal : (R : Step V O → Type 0) (Q : VortexError → Type 0) (s : SessionView V O)
+      (r : Result (Option (String Global)) VortexError) (e : VortexError)
+      → ((d : VortexError) → Q d → R (refuses d)) → IsErrAnd r (λ y. y ≡ e)
+      → UnlessMemory Q e → Answers r (λ text. R (after_text s text)) (λ d. R (refuses d))
+  answers_refusal R Q s r e weaker h u =
+      let p = err_from_is_err_and r h in
+      rw (p.1, p.2) (UnlessMemory-weaker Q (λ d. R (refuses d)) weaker e u)
+
   -- the same, of a line
-  pub stops : (P : SessionView V O → Step V O → Type 0) (s t : SessionView V O)
-      (r : Result (Unit {0}) Stop) (e : VortexError)
-      → IsErrAnd r (λ y. y ≡ Refused e) → UnlessMemory (λ e. P s (refuses e)) e
-      → t.printed ≡ s.printed → MakesStep P s r t
-  stops P s t r e h u kept =
-      let p = err_from_is_err_and r h in rw (p.1, p.2) (u, kept)
+  pub stops : (P : SessionView V O → Step V O → Type 0) (Q : VortexError → Type 0)
+      (s t : SessionView V O) (r : Result (Unit {0}) Stop) (e : VortexError)
+      → ((d : VortexError) → Q d → P s (refuses d)) → IsErrAnd r (λ y. y ≡ Refused e)
+      → UnlessMemory Q e → t.printed ≡ s.printed → MakesStep P s r t
+  stops P Q s t r e weaker h u kept =
+      let p = err_from_is_err_and r h in
+      rw (p.1, p.2) (UnlessMemory-weaker Q (λ d. P s (refuses d)) weaker e u, kept)
 
 shown_where : {V O : Type 0} (s : SessionView V O) (written text : List ℕ) (o : Option (List ℕ))
     → IfSome o (λ bytes. written ≡ bytes) → text ≡ written ++ 10 ∷ []

@@ -15,29 +15,22 @@ use Rattle.vortex_rewriting.specs.Rewriting.{AnswersRewritten}
 module _ {V O T : Type 0} (m : Meaning V O) (tree_in : T → Tree V O)
     (rule : Tree V O → Option (Tree V O)) (path : List ℕ) (t : Tree V O) (k : LogicalType)
     (typed : tree_type m t ≡ Some k) where
-  pub at_place_kept : IsSound m rule → (result : Result (Option T) VortexError)
-      → AnswersRewritten tree_in rule path t result
-      → IfOk result (λ answer. IfSome answer (λ made. Rewrites m t (tree_in made)))
-  at_place_kept sound (Err e) h = tt
-  at_place_kept sound (Ok None) h = tt
-  at_place_kept sound (Ok (Some made)) h =
-      rewritten_sound m rule sound path t (tree_in made) k typed h
+  pub record KeepsAt (result : Result (Option T) VortexError) : Type 0 where
+    pub kept : IfOk result (λ answer. IfSome answer (λ made. Rewrites m t (tree_in made)))
+    pub lighter : IfOk result (λ answer. IfSome answer
+        (λ made. OnlyShipped t → IsLighter m 1 t (tree_in made)))
+    pub fewer : IfOk result (λ answer. IfSome answer (λ made. OnlyShipped t → 1 < weight m t))
 
-  pub at_place_lighter : Lightens m rule → (result : Result (Option T) VortexError)
-      → AnswersRewritten tree_in rule path t result
-      → IfOk result (λ answer. IfSome answer
-      (λ made. OnlyShipped t → IsLighter m 1 t (tree_in made)))
-  at_place_lighter lightens (Err e) h = tt
-  at_place_lighter lightens (Ok None) h = tt
-  at_place_lighter lightens (Ok (Some made)) h =
-      λ shipped. rewritten_lighter m rule lightens path t (tree_in made) k typed shipped h
-
-  -- so one rewrite is fewer than the weight
-  pub at_place_fewer : Lightens m rule → (result : Result (Option T) VortexError)
-      → AnswersRewritten tree_in rule path t result
-      → IfOk result (λ answer. IfSome answer (λ made. OnlyShipped t → 1 < weight m t))
-  at_place_fewer lightens (Err e) h = tt
-  at_place_fewer lightens (Ok None) h = tt
-  at_place_fewer lightens (Ok (Some made)) h = λ shipped.
-      fewer m 1 t (tree_in made)
-      (rewritten_lighter m rule lightens path t (tree_in made) k typed shipped h)
+  -- one rewrite is fewer than the weight
+  pub keeps_at : IsSound m rule → Lightens m rule → (result : Result (Option T) VortexError)
+      → AnswersRewritten tree_in rule path t result → KeepsAt result
+  keeps_at sound lightens (Err e) h = record { kept = tt; lighter = tt; fewer = tt }
+  keeps_at sound lightens (Ok None) h = record { kept = tt; lighter = tt; fewer = tt }
+  keeps_at sound lightens (Ok (Some made)) h =
+      let lighter : OnlyShipped t → IsLighter m 1 t (tree_in made) =
+      λ shipped. rewritten_lighter m rule lightens path t (tree_in made) k typed shipped h in
+      record {
+        kept = rewritten_sound m rule sound path t (tree_in made) k typed h;
+        lighter = lighter;
+        fewer = λ shipped. fewer m 1 t (tree_in made) (lighter shipped);
+      }

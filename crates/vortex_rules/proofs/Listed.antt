@@ -1,6 +1,9 @@
 -- What the table of rules has for the call of a function, by the list of functions.
 use Rattle.std.proofs.Common.{◌≡◌, false, Option, Some, None, refl, sym, ap, ◌∙◌}
-use Rattle.std.specs.Prelude.{ℕ, MatchOption}
+use Rattle.std.specs.Prelude.{ℕ, MatchOption, Result}
+use Rattle.vortex_errors.specs.declared.error.VortexError.{VortexError}
+use Rattle.vortex_errors.specs.Answers.{AnswersUnlessMemory}
+use Rattle.vortex_errors.proofs.Answering.{AnswersUnlessMemory-weaker}
 use Rattle.vortex_operators.specs.declared.operators.Operator.{Operator}
 use Rattle.vortex_operators.specs.declared.operators.Operator.TheVariants.{And, Or}
 use Rattle.vortex_operators.specs.Operators.{is_boolean}
@@ -18,6 +21,9 @@ use Rattle.vortex_functions.specs.declared.erased.ScalarFnRef.TheVariants as ref
 use Rattle.vortex_functions.specs.declared.typed.TypedScalarFnInstance.{TypedScalarFnInstance}
 use Rattle.vortex_functions.specs.Binding.{IsLeaf, IsLeafAt}
 use Rattle.vortex_functions.specs.FunctionOf.{function_of, instance_in}
+use Rattle.vortex_rules.specs.declared.node.ReduceNodeValidity.{ReduceNodeValidity}
+use Rattle.vortex_rules.specs.Told.{IsTold}
+use Rattle.vortex_rules.specs.Reduced.{IsValidityBy}
 
 module _ {V O : Type 0} (m : Meaning V O) (r : Rules V O) where
   -- Reduce has nothing for a function that has no rule
@@ -91,7 +97,7 @@ module _ {V O : Type 0} (m : Meaning V O) (r : Rules V O) where
 
 module _ {V O : Type 0} (m : Meaning V O) where
   -- the default validity of a caller's function is its own, where it has no rule
-  pub own_validity : (t : Tree V O) (f : V) (o : O) → called t ≡ Some (custom f o)
+  own_validity : (t : Tree V O) (f : V) (o : O) → called t ≡ Some (custom f o)
       → default_validity m (custom f o) (trees_of (children_of t)) ≡ validity m (default_rules m) t
   own_validity (leaf l) f o c = cc
   own_validity (constant k) f o c = cc
@@ -99,6 +105,22 @@ module _ {V O : Type 0} (m : Meaning V O) where
       let is : g ≡ custom f o = cc in
       ap (default_validity m (custom f o)) (same_children m (default_rules m) ts)
       ∙ ap (λ h. validity m (default_rules m) (call h ts)) (sym is)
+
+  -- so what the default validity answers of a reference to a copy of it is an answer of its own
+  pub own_answer : {N : Type 0} (of_node : N → Tree V O) (t : Tree V O) (f : ScalarFnRef V O)
+      (v w : V) (o p : O) (answer : Result (ReduceNodeValidity N) VortexError)
+      → f ≡ ref.Custom (record { vtable = v; options = o }) → v ≡ w → o ≡ p
+      → called t ≡ Some (custom w p)
+      → AnswersUnlessMemory answer
+      (IsTold of_node (default_validity m (function_of f) (trees_of (children_of t))))
+      → AnswersUnlessMemory answer (IsValidityBy m (default_rules m) of_node t)
+  own_answer of_node t f v w o p answer is a b c h =
+      let same : function_of f ≡ custom w p = ap function_of is ∙ (λ j. custom (a j) (b j)) in
+      AnswersUnlessMemory-weaker answer
+      (IsTold of_node (default_validity m (function_of f) (trees_of (children_of t))))
+      (IsValidityBy m (default_rules m) of_node t)
+      (λ told e. e
+      ∙ ap (λ g. default_validity m g (trees_of (children_of t))) same ∙ own_validity t w p c) h
 
   pub no_instance : (f : ScalarFnRef V O)
       → ((i : TypedScalarFnInstance V O) → f ≡ ref.Custom i → ⊥) → instance_in f ≡ None

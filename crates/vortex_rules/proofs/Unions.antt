@@ -254,48 +254,42 @@ module _ {V O : Type 0} (m : Meaning V O) where
         → AreTruths m of_node rows n nodes → AreTruths m of_node rows n rest
     rest_truths nodes rest last e truths = (All-pop IsTruth nodes rest (Some last) e truths).0
 
-    -- one more beside the last
-    pub joined_beside : (nodes rest after : List N) (left right pushed last : N)
-        → nodes ≡ rest ++ left ∷ [] → after ≡ rest ++ pushed ∷ [] → pushed ≡ right
-        → of_node right ≡ operated And (of_node left) (of_node last)
-        → map of_node after ≡ joined_last (map of_node nodes) (of_node last)
-    joined_beside nodes rest after left right pushed last e push same is =
-        ap (map of_node) push
-        ∙ ap (λ node. map of_node (rest ++ node ∷ [])) same
-        ∙ map-append of_node rest (right ∷ [])
-        ∙ ap (λ t. map of_node rest ++ t ∷ []) is
-        ∙ sym (joined_last-append (map of_node rest) (of_node left) (of_node last))
-        ∙ ap (λ ts. joined_last ts (of_node last))
-        (sym (map-append of_node rest (left ∷ [])) ∙ sym (ap (map of_node) e))
+    -- nodes that one more was joined to
+    abbrev pub JoinsLast : List N → N → List N → Type 0
+    JoinsLast nodes last after =
+        (map of_node after ≡ joined_last (map of_node nodes) (of_node last))
+        × AreTruths m of_node rows n after
 
-    pub truths_beside : (nodes rest after : List N) (left right pushed last : N)
+    -- beside the last
+    pub joined_beside : (nodes rest after : List N) (left right pushed last : N)
         → nodes ≡ rest ++ left ∷ [] → after ≡ rest ++ pushed ∷ [] → pushed ≡ right
         → of_node right ≡ operated And (of_node left) (of_node last)
         → AreTruths m of_node rows n nodes
         → tree_type m (of_node last) ≡ Some (bool_type false) → rows right ≡ n
-        → AreTruths m of_node rows n after
-    truths_beside nodes rest after left right pushed last e push same is truths typed here =
+        → JoinsLast nodes last after
+    joined_beside nodes rest after left right pushed last e push same is truths typed here =
         let more = push ∙ ap (λ node. rest ++ node ∷ []) same in
         let first = last_truth nodes rest left e truths in
         let both : tree_type m (of_node right) ≡ Some (bool_type false) =
-        ap (tree_type m) is ∙ and_typed (of_node left) (of_node last) first.0 typed in
-        All-same IsTruth after (rest ++ right ∷ []) more
-        (All-push IsTruth rest right (rest_truths nodes rest left e truths) (both, here))
+        ap (tree_type m) is ∙ and_typed (of_node left) (of_node last) first.0 typed in (
+          ap (map of_node) more
+              ∙ map-append of_node rest (right ∷ [])
+              ∙ ap (λ t. map of_node rest ++ t ∷ []) is
+              ∙ sym (joined_last-append (map of_node rest) (of_node left) (of_node last))
+              ∙ ap (λ ts. joined_last ts (of_node last))
+              (sym (map-append of_node rest (left ∷ [])) ∙ sym (ap (map of_node) e)),
+          All-same IsTruth after (rest ++ right ∷ []) more
+              (All-push IsTruth rest right (rest_truths nodes rest left e truths) (both, here)),
+        )
 
+    -- alone
     pub joined_alone : (nodes rest after : List N) (pushed last : N) → nodes ≡ [] → rest ≡ []
-        → after ≡ rest ++ pushed ∷ [] → pushed ≡ last
-        → map of_node after ≡ joined_last (map of_node nodes) (of_node last)
-    joined_alone nodes rest after pushed last e none push same =
-        ap (map of_node) push
-        ∙ (λ j. map of_node (none j ++ same j ∷ []))
-        ∙ ap (λ xs. joined_last (map of_node xs) (of_node last)) (sym e)
-
-    pub truths_alone : (rest after : List N) (pushed last : N) → rest ≡ []
-        → after ≡ rest ++ pushed ∷ [] → pushed ≡ last → IsTruth last
-        → AreTruths m of_node rows n after
-    truths_alone rest after pushed last none push same truth =
-        All-same IsTruth after (last ∷ []) (push ∙ (λ j. none j ++ same j ∷ []))
-        (All-cons IsTruth last [] truth (All-nil IsTruth))
+        → after ≡ rest ++ pushed ∷ [] → pushed ≡ last → IsTruth last → JoinsLast nodes last after
+    joined_alone nodes rest after pushed last e none push same truth =
+        let one = push ∙ (λ j. none j ++ same j ∷ []) in (
+          ap (map of_node) one ∙ ap (λ xs. joined_last (map of_node xs) (of_node last)) (sym e),
+          All-same IsTruth after (last ∷ []) one (All-cons IsTruth last [] truth (All-nil IsTruth)),
+        )
 
     -- a round of nodes, and that fewer are left
     pub even_round : (k : ℕ) (nodes joined : List N) → length nodes ≡ k + k

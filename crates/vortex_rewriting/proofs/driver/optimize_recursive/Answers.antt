@@ -4,44 +4,35 @@ use Rattle.vortex_types.specs.TypeOf.{type_of}
 use Rattle.vortex_rewriting.proofs.Optimizing.{run_rewrites, run_lighter, run_fewer}
 use Rattle.vortex_rewriting.proofs.driver.optimize_recursive.Goals as goal
 
-pub returns-clause-kept : goal.returns-clause-kept
-returns-clause-kept g c =
-    let tree = g.L.Leaf.tree_of in
-    let o = c.in_ok-optimized.optimized in
-    run_rewrites g.C.ScalarFnVTable.meaning g.L.RewriteLeaf.applied o.steps (tree c.args.tree.now)
-    (tree o.tree) (type_of c.dtype-typed.result.now) c.dtype-typed.ensures.dtype
-    c.in_ok-optimized.ensures.run g.met.L.RewriteLeaf.sound
-
-pub returns-clause-lighter : goal.returns-clause-lighter
-returns-clause-lighter g c =
-    let tree = g.L.Leaf.tree_of in
-    let o = c.in_ok-optimized.optimized in
-    run_lighter g.C.ScalarFnVTable.meaning g.L.RewriteLeaf.applied o.steps (tree c.args.tree.now)
-    (tree o.tree) (type_of c.dtype-typed.result.now) c.dtype-typed.ensures.dtype
-    c.in_ok-optimized.ensures.run g.met.L.RewriteLeaf.lightens
-
-pub returns-clause-fewer : goal.returns-clause-fewer
-returns-clause-fewer g c =
-    let tree = g.L.Leaf.tree_of in
-    let o = c.in_ok-optimized.optimized in
-    run_fewer g.C.ScalarFnVTable.meaning g.L.RewriteLeaf.applied o.steps (tree c.args.tree.now)
-    (tree o.tree) (type_of c.dtype-typed.result.now) c.dtype-typed.ensures.dtype
-    c.in_ok-optimized.ensures.run g.met.L.RewriteLeaf.lightens
-
 must_be_done : (done : Bool) (steps limit : ℕ) → (done ≡ false → steps ≡ limit) → steps < limit
     → IsTrue done
 must_be_done true steps limit stopped few = refl
 must_be_done false steps limit stopped few =
     let all = stopped refl in absurd (omega (arith, all, few))
 
--- as many steps as the tree weighs are too many
-pub returns-clause-ends : goal.returns-clause-ends
-returns-clause-ends g c = λ shipped enough.
-    let tree = g.L.Leaf.tree_of in
+pub returns : goal.returns
+returns g c =
+    let m = g.C.ScalarFnVTable.meaning in
+    let apply = g.L.RewriteLeaf.applied in
     let o = c.in_ok-optimized.optimized in
-    let fewer = run_fewer g.C.ScalarFnVTable.meaning g.L.RewriteLeaf.applied o.steps
-    (tree c.args.tree.now) (tree o.tree) (type_of c.dtype-typed.result.now)
-    c.dtype-typed.ensures.dtype
-    c.in_ok-optimized.ensures.run g.met.L.RewriteLeaf.lightens shipped in
-    must_be_done o.done o.steps c.args.limit c.in_ok-optimized.ensures.stopped
-    (omega (arith, fewer, enough))
+    let run = c.in_ok-optimized.ensures in
+    let t = g.L.Leaf.tree_of c.args.tree.now in
+    let u = g.L.Leaf.tree_of o.tree in
+    let k = type_of c.dtype-typed.result.now in
+    let typed = c.dtype-typed.ensures.dtype in
+    let lightens = g.met.L.RewriteLeaf.lightens in
+    let fewer = run_fewer m apply o.steps t u k typed run.run lightens in
+    record {
+      run = run.run;
+      kept = run_rewrites m apply o.steps t u k typed run.run g.met.L.RewriteLeaf.sound;
+      limited = run.limited;
+      done = run.done;
+      stopped = run.stopped;
+      lighter = run_lighter m apply o.steps t u k typed run.run lightens;
+      fewer = fewer;
+      -- as many steps as the tree weighs are too many
+      ends = λ shipped enough.
+          must_be_done o.done o.steps c.args.limit run.stopped
+          (let few = fewer shipped in omega (arith, few, enough));
+      same_rows = run.same_rows;
+    }

@@ -51,43 +51,26 @@ returns-in_err-new-clause-answer g c =
     c.loop-step.invariant.0 _ c.loop-step-test.true c.in_err-new.field-0.0
     c.in_err-new.ensures.answer)
 
-pub returns-clause-kept : goal.returns-clause-kept
-returns-clause-kept g c =
+pub returns : goal.returns
+returns g c =
+    let m = g.C.ScalarFnVTable.meaning in
     let tree = g.L.Leaf.tree_of in
     let apply = g.L.RewriteLeaf.applied in
-    let steps = c.args.steps.now in
+    let steps = steps_of c.args.steps.now in
     let t = tree c.args.tree.now in
     let x = tree c.loop-step.last in
     let n = c.loop-step.applied in
-    rewritten_list_sound g.C.ScalarFnVTable.meaning apply g.met.L.RewriteLeaf.sound
-    (steps_of steps) t x n (type_of c.dtype-typed.result.now) c.dtype-typed.ensures.dtype
-    (all_taken apply steps c.loop-step.step-index t x n c.loop-step.invariant.0
-    c.loop-step-test.false)
-
-pub returns-clause-lighter : goal.returns-clause-lighter
-returns-clause-lighter g c =
-    let tree = g.L.Leaf.tree_of in
-    let apply = g.L.RewriteLeaf.applied in
-    let steps = c.args.steps.now in
-    let t = tree c.args.tree.now in
-    let x = tree c.loop-step.last in
-    let n = c.loop-step.applied in
-    λ shipped.
-    rewritten_list_lighter g.C.ScalarFnVTable.meaning apply g.met.L.RewriteLeaf.lightens
-    (steps_of steps) t x n (type_of c.dtype-typed.result.now) c.dtype-typed.ensures.dtype shipped
-    (all_taken apply steps c.loop-step.step-index t x n c.loop-step.invariant.0
-    c.loop-step-test.false)
-
-pub returns-clause-fewer : goal.returns-clause-fewer
-returns-clause-fewer g c =
-    let tree = g.L.Leaf.tree_of in
-    let apply = g.L.RewriteLeaf.applied in
-    let steps = c.args.steps.now in
-    let t = tree c.args.tree.now in
-    let x = tree c.loop-step.last in
-    let n = c.loop-step.applied in
-    λ shipped.
-    rewritten_list_bound g.C.ScalarFnVTable.meaning apply g.met.L.RewriteLeaf.lightens
-    (steps_of steps) t x n (type_of c.dtype-typed.result.now) c.dtype-typed.ensures.dtype shipped
-    (all_taken apply steps c.loop-step.step-index t x n c.loop-step.invariant.0
-    c.loop-step-test.false)
+    let k = type_of c.dtype-typed.result.now in
+    let typed = c.dtype-typed.ensures.dtype in
+    let lightens = g.met.L.RewriteLeaf.lightens in
+    let taken = all_taken apply c.args.steps.now c.loop-step.step-index t x n
+    c.loop-step.invariant.0 c.loop-step-test.false in
+    record {
+      answer = taken;
+      kept = rewritten_list_sound m apply g.met.L.RewriteLeaf.sound steps t x n k typed taken;
+      lighter = λ shipped.
+          rewritten_list_lighter m apply lightens steps t x n k typed shipped taken;
+      fewer = λ shipped.
+          rewritten_list_bound m apply lightens steps t x n k typed shipped taken;
+      same_rows = c.loop-step.invariant.2;
+    }

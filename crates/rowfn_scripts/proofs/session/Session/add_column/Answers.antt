@@ -4,9 +4,8 @@ use Rattle.std.specs.Cmp.{unsigned_Decides}
 use Rattle.vortex_errors.specs.declared.error.VortexError.TheVariants.{OutOfMemory}
 use Rattle.vortex_types.specs.LogicalTypes.{find_field, with_field}
 use Rattle.vortex_types.specs.TypeOf.{type_of}
-use Rattle.vortex_errors.proofs.Answering.{UnlessMemory-weaker}
 use Rattle.rowfn_lines.specs.Commands.{column}
-use Rattle.rowfn_scripts.specs.Sessions.{refuses, StepsTo}
+use Rattle.rowfn_scripts.specs.Sessions.{StepsTo}
 use Rattle.rowfn_scripts.proofs.SessionSteps.{row_count_of, fields_of, printed_of}
 use Rattle.rowfn_scripts.proofs.SessionSteps.{name_twice, column_added, same_added, stops}
 use Rattle.rowfn_scripts.proofs.Places.{place_or_not, no_place}
@@ -30,34 +29,23 @@ returns-then-is_some g c =
 pub returns-in_err-dtype : goal.returns-in_err-dtype
 returns-in_err-dtype g c =
     let s = c.args.self.now in
-    let P = StepsTo g.C.ScalarFnVTable.meaning g.C.ScalarFnVTable.rules
-    (column c.args.name.now c.args.added) in
-    let e = c.in_err-dtype.field-0.0 in
-    let memory =
-    UnlessMemory-weaker (λ e. ⊥) (λ e. P s (refuses e)) (λ d h. absurd h) e
-    c.in_err-dtype.ensures in
-    stops P s s c.from_residual.result e c.from_residual.ensures.1 memory
-    refl
+    stops (StepsTo g.C.ScalarFnVTable.meaning g.C.ScalarFnVTable.rules
+    (column c.args.name.now c.args.added)) (λ e. ⊥) s s c.from_residual.result
+    c.in_err-dtype.field-0.0 (λ d h. absurd h) c.from_residual.ensures.1 c.in_err-dtype.ensures refl
 
 pub returns-in_err-push : goal.returns-in_err-push
 returns-in_err-push g c =
-    let s = c.args.self.now in
-    let P = StepsTo g.C.ScalarFnVTable.meaning g.C.ScalarFnVTable.rules
-    (column c.args.name.now c.args.added) in
-    stops P s _ c.from_residual-in_err-push.result OutOfMemory c.from_residual-in_err-push.ensures.1
-    tt (printed_of c.self.view_is)
+    stops (StepsTo g.C.ScalarFnVTable.meaning g.C.ScalarFnVTable.rules
+    (column c.args.name.now c.args.added)) (λ e. ⊥) c.args.self.now _
+    c.from_residual-in_err-push.result OutOfMemory (λ d h. absurd h)
+    c.from_residual-in_err-push.ensures.1 tt (printed_of c.self.view_is)
 
 pub returns-in_err-add : goal.returns-in_err-add
 returns-in_err-add g c =
-    let s = c.args.self.now in
-    let P = StepsTo g.C.ScalarFnVTable.meaning g.C.ScalarFnVTable.rules
-    (column c.args.name.now c.args.added) in
-    let e = c.in_err-add.field-0.0 in
-    let memory =
-    UnlessMemory-weaker (λ e. ⊥) (λ e. P s (refuses e)) (λ d h. absurd h) e
-    c.in_err-add.ensures.added in
-    stops P s _ c.from_residual-in_err-add.result e c.from_residual-in_err-add.ensures.1
-    memory (printed_of c.self.view_is)
+    stops (StepsTo g.C.ScalarFnVTable.meaning g.C.ScalarFnVTable.rules
+    (column c.args.name.now c.args.added)) (λ e. ⊥) c.args.self.now _
+    c.from_residual-in_err-add.result c.in_err-add.field-0.0 (λ d h. absurd h)
+    c.from_residual-in_err-add.ensures.1 c.in_err-add.ensures.added (printed_of c.self.view_is)
 
 pub returns : goal.returns
 returns g c =

@@ -1,10 +1,9 @@
-use Rattle.std.proofs.Common.{◌≡◌, ◌∙◌, ap, sym, subst, not, false, ℕ, ◌≤◌, List, ◌∷◌, ◌++◌}
+use Rattle.std.proofs.Common.{◌≡◌, ◌∙◌, ap, sym, subst, ℕ, ◌≤◌, List, ◌∷◌, ◌++◌}
 use Rattle.std.proofs.Common.{reverse}
 use Rattle.std.proofs.Common.{string_bytes}
-use Rattle.std.specs.Option.{is_none}
 use Rattle.vortex_meaning.specs.Weights.{weight_told}
 use Rattle.rowfn_scripts.specs.Sessions.{Step, OptimizesTop}
-use Rattle.rowfn_scripts.proofs.SessionSteps.{row_count_of, stack_of, popped, same_optimized}
+use Rattle.rowfn_scripts.proofs.SessionSteps.{unsaid, stack_of, popped, same_optimized}
 use Rattle.rowfn_scripts.proofs.SessionSteps.{top_optimized}
 use Rattle.rowfn_scripts.proofs.session.Session.optimize.Goals as goal
 
@@ -17,10 +16,7 @@ returns g c =
     let o = c.in_ok-tree.field-0 in
     let kept = c.pop.new.self.items in
     let text = string_bytes c.in_ok-text.text in
-    let known : is_none s.row_count ≡ false =
-    ap is_none (sym (row_count_of c.self.view_is))
-    ∙ ap not c.is_none.ensures
-    ∙ ap (λ b. not (not b)) c.if-is_none.false in
+    let known = unsaid c.self.view_is c.is_none.ensures c.if-is_none.false in
     let top : s.stack ≡ old ∷ reverse kept =
     sym (stack_of c.self.view_is)
     ∙ popped c.self.inside.stack.items kept old c.in-Some.ensures.items in

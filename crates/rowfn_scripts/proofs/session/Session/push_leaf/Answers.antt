@@ -1,10 +1,9 @@
-use Rattle.std.proofs.Common.{◌≡◌, ◌∙◌, refl, ap, sym, not, false}
-use Rattle.std.specs.Option.{is_none}
+use Rattle.std.proofs.Common.{◌∙◌, refl, ap, sym}
 use Rattle.vortex_types.specs.LogicalTypes.{find_field}
 use Rattle.vortex_meaning.specs.Trees.{leaf, place}
 use Rattle.vortex_functions.proofs.FoundFields.{field_found}
 use Rattle.rowfn_scripts.proofs.Places.{field_there, no_field}
-use Rattle.rowfn_scripts.proofs.SessionSteps.{row_count_of, fields_of, stack_of, same_stacked}
+use Rattle.rowfn_scripts.proofs.SessionSteps.{unsaid, fields_of, stack_of, same_stacked}
 use Rattle.rowfn_scripts.proofs.SessionSteps.{same_leaf, leaf_pushed, leaf_refused}
 use Rattle.rowfn_scripts.proofs.session.Session.push_leaf.Goals as goal
 
@@ -17,10 +16,7 @@ pub returns-in_default : goal.returns-in_default
 returns-in_default g c =
     let s = c.args.self.now in
     let name = c.args.name.now in
-    let known : is_none s.row_count ≡ false =
-    ap is_none (sym (row_count_of c.self.view_is))
-    ∙ ap not c.is_none.ensures
-    ∙ ap (λ b. not (not b)) c.if-is_none.false in
+    let known = unsaid c.self.view_is c.is_none.ensures c.if-is_none.false in
     let none = no_field _ (sym c.find.ensures ∙ c.in_default.is) in
     let unknown = ap (find_field name) (sym (fields_of c.self.view_is)) ∙ none in
     (leaf_refused name s s.fields known unknown, refl)
@@ -29,10 +25,7 @@ pub returns : goal.returns
 returns g c =
     let s = c.args.self.now in
     let name = c.args.name.now in
-    let known : is_none s.row_count ≡ false =
-    ap is_none (sym (row_count_of c.self.view_is))
-    ∙ ap not c.is_none.ensures
-    ∙ ap (λ b. not (not b)) c.if-is_none.false in
+    let known = unsaid c.self.view_is c.is_none.ensures c.if-is_none.false in
     let there = field_there _ _ (sym c.in-Some.is ∙ c.find.ensures) in
     let at = field_found name c.self.inside.fields _ there.1 in
     let found = ap (find_field name) (sym (fields_of c.self.view_is)) ∙ there.1 in

@@ -1,12 +1,9 @@
 use Rattle.std.proofs.Common.{◌∙◌, ap, sym, subst, List, reverse, Some}
 use Rattle.vortex_columns.specs.ColumnView.{ColumnView}
-use Rattle.vortex_errors.proofs.Answering.{UnlessMemory-weaker}
 use Rattle.vortex_meaning.specs.Running.{ExecutesAfter, RefusesAfter}
 use Rattle.std.specs.Cow.{cow_value}
 use Rattle.vortex_rewriting.specs.Runs.{expression_step}
-use Rattle.rowfn_scripts.specs.Sessions.{refuses, RunsAfterTop}
-use Rattle.rowfn_scripts.specs.Sessions.{column_line}
-use Rattle.rowfn_scripts.specs.Stepping.{after_text}
+use Rattle.rowfn_scripts.specs.Sessions.{RunsAfterTop, column_line}
 use Rattle.rowfn_scripts.proofs.SessionSteps.{columns_of, stack_of, last_is_top, answers_refusal}
 use Rattle.rowfn_scripts.proofs.SessionSteps.{top_printed_after, top_refused_after}
 use Rattle.rowfn_scripts.proofs.session.Session.text_after.Goals as goal
@@ -24,15 +21,13 @@ returns-in_err-column g c =
     sym (stack_of c.self.view_is) ∙ ap reverse (sym c.deref.ensures.value)
     ∙ last_is_top c.deref.result.now tree c.in-Some.ensures.item.3.0 c.in-Some.ensures.item.1 in
     let columns = c.deref-2.ensures.value ∙ columns_of c.self.view_is in
-    answers_refusal (λ text. RunsAfterTop m rs limit (Some n) s.stack s (after_text s text))
-    (λ e. RunsAfterTop m rs limit (Some n) s.stack s (refuses e)) c.from_residual.result
-    c.in_err-column.field-0.0 c.from_residual.ensures.1
-    (UnlessMemory-weaker (RefusesAfter m c.deref-2.result.now n rule limit tree)
-    (λ e. RunsAfterTop m rs limit (Some n) s.stack s (refuses e))
+    answers_refusal (RunsAfterTop m rs limit (Some n) s.stack s)
+    (RefusesAfter m c.deref-2.result.now n rule limit tree) s c.from_residual.result
+    c.in_err-column.field-0.0
     (λ e h.
     top_refused_after m n s tree _ top rs limit e
     (subst (λ (cs : List ColumnView). RefusesAfter m cs n rule limit tree e) columns h))
-    c.in_err-column.field-0.0 c.in_err-column.ensures)
+    c.from_residual.ensures.1 c.in_err-column.ensures
 
 pub returns : goal.returns
 returns g c =
@@ -54,14 +49,9 @@ returns g c =
 
 pub returns-in_err-column_line : goal.returns-in_err-column_line
 returns-in_err-column_line g c =
-    let m = g.C.ScalarFnVTable.meaning in
-    let rs = g.C.ScalarFnVTable.rules in
     let s = c.args.self.now in
-    let n = c.args.count in
-    let limit = c.args.limit in
-    answers_refusal (λ text. RunsAfterTop m rs limit (Some n) s.stack s (after_text s text))
-    (λ e. RunsAfterTop m rs limit (Some n) s.stack s (refuses e))
-    c.from_residual-in_err-column_line.result c.in_err-column_line.field-0.0
-    c.from_residual-in_err-column_line.ensures.1
-    (UnlessMemory-weaker (λ e. ⊥) (λ e. RunsAfterTop m rs limit (Some n) s.stack s (refuses e))
-    (λ e h. absurd h) c.in_err-column_line.field-0.0 c.in_err-column_line.ensures)
+    answers_refusal
+    (RunsAfterTop g.C.ScalarFnVTable.meaning g.C.ScalarFnVTable.rules c.args.limit
+    (Some c.args.count) s.stack s) (λ e. ⊥) s c.from_residual-in_err-column_line.result
+    c.in_err-column_line.field-0.0 (λ e h. absurd h)
+    c.from_residual-in_err-column_line.ensures.1 c.in_err-column_line.ensures

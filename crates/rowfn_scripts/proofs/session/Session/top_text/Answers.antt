@@ -1,11 +1,8 @@
 use Rattle.std.proofs.Common.{◌∙◌, ap, sym, subst, List, reverse, Some}
 use Rattle.vortex_columns.specs.ColumnView.{ColumnView}
-use Rattle.vortex_errors.proofs.Answering.{UnlessMemory-weaker}
 use Rattle.vortex_meaning.specs.Execution.{Executes, RefusesExecution}
 use Rattle.std.specs.Cow.{cow_value}
-use Rattle.rowfn_scripts.specs.Sessions.{refuses, RunsTop}
-use Rattle.rowfn_scripts.specs.Sessions.{column_line}
-use Rattle.rowfn_scripts.specs.Stepping.{after_text}
+use Rattle.rowfn_scripts.specs.Sessions.{RunsTop, column_line}
 use Rattle.rowfn_scripts.proofs.SessionSteps.{columns_of, stack_of, last_is_top, top_printed}
 use Rattle.rowfn_scripts.proofs.SessionSteps.{top_refused, answers_refusal}
 use Rattle.rowfn_scripts.proofs.session.Session.top_text.Goals as goal
@@ -14,22 +11,18 @@ pub returns-in_err-column : goal.returns-in_err-column
 returns-in_err-column g c =
     let m = g.C.ScalarFnVTable.meaning in
     let s = c.args.self.now in
+    let n = c.args.count in
+    let tree = c.in-Some.tree.now in
     let top =
     sym (stack_of c.self.view_is) ∙ ap reverse (sym c.deref.ensures.value)
-    ∙ last_is_top c.deref.result.now c.in-Some.tree.now c.in-Some.ensures.item.3.0
-    c.in-Some.ensures.item.1 in
+    ∙ last_is_top c.deref.result.now tree c.in-Some.ensures.item.3.0 c.in-Some.ensures.item.1 in
     let columns = c.deref-2.ensures.value ∙ columns_of c.self.view_is in
-    answers_refusal (λ text. RunsTop m (Some c.args.count) s.stack s (after_text s text))
-    (λ e. RunsTop m (Some c.args.count) s.stack s (refuses e)) c.from_residual.result
-    c.in_err-column.field-0.0 c.from_residual.ensures.1
-    (UnlessMemory-weaker (RefusesExecution m c.deref-2.result.now c.args.count c.in-Some.tree.now)
-    (λ e. RunsTop m (Some c.args.count) s.stack s (refuses e))
+    answers_refusal (RunsTop m (Some n) s.stack s) (RefusesExecution m c.deref-2.result.now n tree)
+    s c.from_residual.result c.in_err-column.field-0.0
     (λ e h.
-    top_refused m c.args.count s c.in-Some.tree.now _ top e
-    (subst
-    (λ (cs : List ColumnView). RefusesExecution m cs c.args.count c.in-Some.tree.now e)
-    columns h))
-    c.in_err-column.field-0.0 c.in_err-column.ensures.answer)
+    top_refused m n s tree _ top e
+    (subst (λ (cs : List ColumnView). RefusesExecution m cs n tree e) columns h))
+    c.from_residual.ensures.1 c.in_err-column.ensures.answer
 
 pub returns : goal.returns
 returns g c =
@@ -49,11 +42,7 @@ returns g c =
 
 pub returns-in_err-column_line : goal.returns-in_err-column_line
 returns-in_err-column_line g c =
-    let m = g.C.ScalarFnVTable.meaning in
     let s = c.args.self.now in
-    answers_refusal (λ text. RunsTop m (Some c.args.count) s.stack s (after_text s text))
-    (λ e. RunsTop m (Some c.args.count) s.stack s (refuses e))
-    c.from_residual-in_err-column_line.result c.in_err-column_line.field-0.0
-    c.from_residual-in_err-column_line.ensures.1
-    (UnlessMemory-weaker (λ e. ⊥) (λ e. RunsTop m (Some c.args.count) s.stack s (refuses e))
-    (λ e h. absurd h) c.in_err-column_line.field-0.0 c.in_err-column_line.ensures)
+    answers_refusal (RunsTop g.C.ScalarFnVTable.meaning (Some c.args.count) s.stack s) (λ e. ⊥) s
+    c.from_residual-in_err-column_line.result c.in_err-column_line.field-0.0 (λ e h. absurd h)
+    c.from_residual-in_err-column_line.ensures.1 c.in_err-column_line.ensures
