@@ -30,9 +30,9 @@ pub record AreSound {V O : Type 0} (m : Meaning V O) (rs : Rules V O) : Type 0 w
   pub sound : IsSound m (expression_step m rs)
   pub lightens : Lightens m (expression_step m rs)
 
-pub are_sound : {V O : Type 0} (m : Meaning V O) (rs : Rules V O) → Lawful m → LawfulRules m rs
+pub are_sound : {V O : Type 0} {m : Meaning V O} {rs : Rules V O} → Lawful m → LawfulRules m rs
     → AreSound m rs
-are_sound m rs lawful rules_lawful = record {
+are_sound {m = m} {rs = rs} lawful rules_lawful = record {
   sound = first_rule_sound m (expression_rule m rs) (expression_sound m rs lawful rules_lawful);
   lightens = first_rule_lightens m (expression_rule m rs) (expression_lightens m rs lawful);
 }

@@ -1,18 +1,16 @@
 -- Each script has an outcome where memory suffices: each line makes a step of a session that
 -- lines reach.
-use Rattle.std.proofs.Common.{◌≡◌, ◌≢◌, ◌==◌, ◌⊎◌, inl, inr, ℕ, zero, suc, ◌+◌, ◌<◌, Bool, true}
-use Rattle.std.proofs.Common.{false, Option, Some, None, List, [], ◌∷◌, ◌++◌, length, refl, sym, ap}
-use Rattle.std.proofs.Common.{subst, ◌∙◌, arith, ◌&&◌, if◌then◌else◌}
+use Rattle.std.proofs.Common.{◌≡◌, ◌≢◌, ◌⊎◌, inl, inr, ℕ, zero, suc, ◌+◌, ◌<◌, true}
+use Rattle.std.proofs.Common.{Option, Some, None, List, [], ◌∷◌, ◌++◌, length, refl, sym, ap}
+use Rattle.std.proofs.Common.{subst, ◌∙◌, arith}
 use Rattle.std.specs.Prelude.{IfSome}
-use Rattle.std.specs.Option.{is_some, is_none}
+use Rattle.std.specs.Option.{is_some}
 use Rattle.vortex_errors.specs.declared.error.VortexError.{VortexError}
 use Rattle.vortex_errors.specs.declared.error.VortexError.TheVariants.{OutOfMemory}
-use Rattle.vortex_errors.specs.declared.error.MismatchPlace.{MismatchPlace}
 use Rattle.vortex_errors.specs.Answers.{UnlessMemory}
-use Rattle.vortex_types.specs.LogicalTypes.{LogicalType, find_field}
+use Rattle.vortex_types.specs.LogicalTypes.{find_field}
 use Rattle.vortex_columns.specs.ValidityView.{array}
 use Rattle.vortex_types.specs.Values.{Value}
-use Rattle.vortex_types.specs.ScalarView.{ScalarView}
 use Rattle.vortex_columns.specs.ColumnView.{ColumnView, row}
 use Rattle.vortex_meaning.specs.Outcomes.{Fault, arithmetic, custom, Outcome, gives, faults}
 use Rattle.vortex_meaning.specs.Outcomes.{error_of, GivesValue, IsRowFault}
@@ -23,12 +21,14 @@ use Rattle.vortex_meaning.specs.Driver.{RunsTo}
 use Rattle.vortex_meaning.specs.Rewrites.{HasRow}
 use Rattle.vortex_meaning.specs.Running.{faulty as faulty_after}
 use Rattle.vortex_meaning.proofs.AfterRun.{rows_after, fault_after}
+use Rattle.vortex_meaning.proofs.FaultyRows.{value_in}
+use Rattle.vortex_meaning.proofs.FirstFaults.{first_fault_of}
 use Rattle.vortex_rewriting.specs.Runs.{expression_step}
 use Rattle.vortex_meaning.specs.Functions.{Function}
-use Rattle.vortex_meaning.specs.Shipped.{Shipped, shipped_arity, shipped_called, shipped_place}
+use Rattle.vortex_meaning.specs.Shipped.{shipped_called}
 use Rattle.vortex_meaning.specs.Trees.{Tree, leaf, constant, call as call_tree, Trees, no_trees}
-use Rattle.vortex_meaning.specs.Trees.{tree, trees_of}
-use Rattle.vortex_meaning.specs.Eval.{tree_type, tree_types, types_or_none, eval, Settled}
+use Rattle.vortex_meaning.specs.Trees.{tree}
+use Rattle.vortex_meaning.specs.Eval.{tree_type, eval, Settled}
 use Rattle.vortex_meaning.specs.Eval.{AllSettled, IsFirstFault, IsFirstFaultIn}
 use Rattle.vortex_meaning.specs.Execution.{Executes, LeavesFit, other_length, faulty}
 use Rattle.rowfn_lines.specs.Commands.{Command, nothing, malformed, rows, column, get, literal}
@@ -38,39 +38,31 @@ use Rattle.rowfn_scripts.specs.Sessions.{column_line}
 use Rattle.rowfn_scripts.specs.declared.ending.End.{End}
 use Rattle.rowfn_scripts.specs.declared.ending.End.TheVariants.{Done, Refused, Malformed}
 use Rattle.rowfn_scripts.specs.Sessions.{SessionView, Step, goes_on, refuses, is_malformed, fresh}
-use Rattle.rowfn_scripts.specs.Sessions.{least_count, taken, with_rows, after_rows, with_column}
-use Rattle.rowfn_scripts.specs.Sessions.{added, with_leaf, with_literal, call_of, refused_at}
-use Rattle.rowfn_scripts.specs.Sessions.{with_taken, with_call, shown_by, ShowsTop, prints, refused}
+use Rattle.rowfn_scripts.specs.Sessions.{with_rows, after_rows, with_column}
+use Rattle.rowfn_scripts.specs.Sessions.{with_leaf, with_literal}
+use Rattle.rowfn_scripts.specs.Sessions.{with_call, shown_by, ShowsTop, prints, refused}
 use Rattle.rowfn_scripts.specs.Sessions.{RunsTop, optimized, OptimizesTop, prints_after}
 use Rattle.rowfn_scripts.specs.Sessions.{refused_after, RunsAfterTop, StepsTo}
 use Rattle.rowfn_scripts.specs.Scripts.{Reaches, begins, one_more, command_at, EndsAt, IsOutcome}
 use Rattle.rowfn_scripts.specs.Fitting.{Counted, AllShown, AllHaveTypes, AllFit}
 use Rattle.rowfn_scripts.specs.Fitting.{HaveRows, Fits}
 use Rattle.rowfn_scripts.specs.Telling.{EachHasFullOutcome}
-use Rattle.rowfn_scripts.proofs.OneRun.{some_run}
+use Rattle.rowfn_scripts.proofs.OneRun.{up_to, some_run}
 use Rattle.rowfn_scripts.proofs.AfterRules.{the_type, AreSound, rewritten, rewritten_typed}
 use Rattle.rowfn_scripts.proofs.Fitting.{reached_fits}
+use Rattle.rowfn_scripts.proofs.Steps.{of_rows, after, of_column, of_leaf, of_call}
 
 -- a fault is told, and not by want of memory
 tells_no_want : (f : Fault) → error_of f ≢ OutOfMemory
 tells_no_want (arithmetic o) e = cc
 tells_no_want (custom n) e = cc
 
-up_to : (i n : ℕ) → i < suc n → (i < n) ⊎ (i ≡ n)
-up_to i n h = grind arith
-
 below_none : (P : ℕ → Type 0) (i : ℕ) → i < 0 → P i
 below_none P i h = absurd (omega arith)
 
--- a row of the first n faults, and that is not want of memory
+-- a row of the first n faults, or each has a value
 abbrev RowFaults : ℕ → (ℕ → Outcome) → Type 0
-RowFaults n o = (e : VortexError) × IsRowFault n o e × (e ≢ OutOfMemory)
-
-later_fault : (n : ℕ) (o : ℕ → Outcome) → RowFaults n o → RowFaults (suc n) o
-later_fault n o p =
-    let r = p.1 in
-    let below : r.at < suc n = omega (arith, r.below) in
-    (p.0, record { at = r.at; below = below; fault = r.fault; here = r.here; told = r.told }, p.2)
+RowFaults n o = (i : ℕ) × (i < n) × (f : Fault) × (o i ≡ faults f)
 
 rows_settle : (o : ℕ → Outcome) (n : ℕ) → ((i : ℕ) → i < n → GivesValue (o i)) ⊎ RowFaults n o
 rows_settle o zero = inl (below_none (λ i. GivesValue (o i)))
@@ -78,12 +70,8 @@ rows_settle o (suc n) = by (rows_settle o n) (o n) refl
   where
     by : ((i : ℕ) → i < n → GivesValue (o i)) ⊎ RowFaults n o → (x : Outcome) → o n ≡ x
         → ((i : ℕ) → i < suc n → GivesValue (o i)) ⊎ RowFaults (suc n) o
-    by (inr p) x e = inr (later_fault n o p)
-    by (inl h) (faults f) e =
-        let below : n < suc n = omega arith in
-        let fault : IsRowFault (suc n) o (error_of f) =
-        record { at = n; below = below; fault = f; here = e; told = refl } in
-        inr (error_of f, fault, tells_no_want f)
+    by (inr p) x e = let lt = p.1 in inr (p.0, omega (arith, lt), p.2, p.3)
+    by (inl h) (faults f) e = inr (n, omega arith, f, e)
     by (inl h) (gives v) e = inl (λ i lt. here i (up_to i n lt))
       where
         here : (i : ℕ) → (i < n) ⊎ (i ≡ n) → GivesValue (o i)
@@ -91,41 +79,30 @@ rows_settle o (suc n) = by (rows_settle o n) (o n) refl
         here i (inr same) = subst GivesValue (sym (ap o same ∙ e)) tt
 
 module _ {V O : Type 0} (m : Meaning V O) (cs : List ColumnView) (n : ℕ) where
+  mutual
+    no_want : (t : Tree V O) (e : VortexError) → IsFirstFault m cs n t e → e ≢ OutOfMemory
+    no_want (leaf l) e k = absurd k
+    no_want (constant s) e k = absurd k
+    no_want (call_tree f ts) e (inl k) = no_want_in ts e k
+    no_want (call_tree f ts) e (inr p) = λ q. tells_no_want p.1.fault (sym p.1.told ∙ q)
+
+    no_want_in : (ts : Trees V O) (e : VortexError) → IsFirstFaultIn m cs n ts e
+        → e ≢ OutOfMemory
+    no_want_in no_trees e k = absurd k
+    no_want_in (tree t ts) e (inl k) = no_want t e k
+    no_want_in (tree t ts) e (inr p) = no_want_in ts e p.1
+
   abbrev Faults : Tree V O → Type 0
   Faults t = (e : VortexError) × IsFirstFault m cs n t e × (e ≢ OutOfMemory)
 
-  abbrev AnyFaults : Trees V O → Type 0
-  AnyFaults ts = (e : VortexError) × IsFirstFaultIn m cs n ts e × (e ≢ OutOfMemory)
-
-  of_call : (f : Function V O) (ts : Trees V O) → AllSettled m cs n ts ⊎ AnyFaults ts
-      → ((i : ℕ) → i < n → GivesValue (eval m cs (call_tree f ts) i))
-      ⊎ RowFaults n (eval m cs (call_tree f ts))
-      → Settled m cs n (call_tree f ts) ⊎ Faults (call_tree f ts)
-  of_call f ts (inr p) r = inr (p.0, inl p.1, p.2)
-  of_call f ts (inl h) (inl k) = inl k
-  of_call f ts (inl h) (inr q) = inr (q.0, inr (h, q.1), q.2)
-
-  of_first : (t : Tree V O) (ts : Trees V O) → Settled m cs n t ⊎ Faults t
-      → AllSettled m cs n ts ⊎ AnyFaults ts → AllSettled m cs n (tree t ts) ⊎ AnyFaults (tree t ts)
-  of_first t ts (inr p) r = inr (p.0, inl p.1, p.2)
-  of_first t ts (inl h) (inr q) = inr (q.0, inr (h, q.1), q.2)
-  of_first t ts (inl h) (inl k) = inl (h, k)
-
-  mutual
-    settled_or_faulty : (t : Tree V O) → Settled m cs n t ⊎ Faults t
-    settled_or_faulty (leaf l) = inl (λ i lt. tt)
-    settled_or_faulty (constant s) = inl (λ i lt. tt)
-    settled_or_faulty (call_tree f ts) =
-        of_call f ts (all_settled_or_faulty ts) (rows_settle (eval m cs (call_tree f ts)) n)
-
-    all_settled_or_faulty : (ts : Trees V O) → AllSettled m cs n ts ⊎ AnyFaults ts
-    all_settled_or_faulty no_trees = inl tt
-    all_settled_or_faulty (tree t ts) =
-        of_first t ts (settled_or_faulty t) (all_settled_or_faulty ts)
-
-value_in : (x : Outcome) → GivesValue x → (v : Value) × (x ≡ gives v)
-value_in (gives v) h = (v, refl)
-value_in (faults f) h = absurd h
+  settled_or_faulty : (t : Tree V O) → Settled m cs n t ⊎ Faults t
+  settled_or_faulty t = by (rows_settle (eval m cs t) n)
+    where
+      by : Settled m cs n t ⊎ RowFaults n (eval m cs t) → Settled m cs n t ⊎ Faults t
+      by (inl h) = inl h
+      by (inr p) =
+          let first = first_fault_of m cs n t p in
+          inr (first.0, first.1, no_want t first.0 first.1)
 
 -- rows that have values are those of a column
 abbrev RowsAre : (ℕ → Outcome) → ℕ → List Value → Type 0
@@ -174,60 +151,14 @@ module _ {V O : Type 0} (m : Meaning V O) where
     made : (r : Step V O) → r ≢ refuses OutOfMemory → Makes (λ q. q ≡ r)
     made r h = (r, refl, h)
 
-    rows_want : (n : ℕ) (r : Option ℕ) → with_rows n s r ≢ refuses OutOfMemory
-    rows_want n None e = cc
-    rows_want n (Some k) e = cc
+    abbrev Memory : Step V O → Type 0
+    Memory r = r ≢ refuses OutOfMemory
 
-    column_want_by : (name : List ℕ) (c : ColumnView) (b : Bool)
-        → (if b then goes_on (added name c s) else is_malformed) ≢ refuses OutOfMemory
-    column_want_by name c true e = cc
-    column_want_by name c false e = cc
+    refusal : (e : VortexError) → e ≢ OutOfMemory → Memory (refuses e)
+    refusal e h k = h (cc)
 
-    column_want : (name : List ℕ) (c : ColumnView) (r : Option ℕ)
-        → after_rows r (with_column name c s) ≢ refuses OutOfMemory
-    column_want name c None e = cc
-    column_want name c (Some n) e =
-        column_want_by name c ((length c.rows == n) && is_none (find_field name s.fields)) e
-
-    leaf_want : (name : List ℕ) (o : Option (ℕ × LogicalType))
-        → with_leaf name s o ≢ refuses OutOfMemory
-    leaf_want name None e = cc
-    leaf_want name (Some p) e = cc
-
-    get_want : (name : List ℕ) (r : Option ℕ)
-        → after_rows r (λ n. with_leaf name s (find_field name s.fields)) ≢ refuses OutOfMemory
-    get_want name None e = cc
-    get_want name (Some n) e = leaf_want name (find_field name s.fields) e
-
-    literal_want : (l : ScalarView) (r : Option ℕ)
-        → after_rows r (λ n. with_literal l s) ≢ refuses OutOfMemory
-    literal_want l None e = cc
-    literal_want l (Some n) e = cc
-
-    place_want : (p : Option MismatchPlace) → refused_at m p ≢ refuses OutOfMemory
-    place_want None e = cc
-    place_want (Some p) e = cc
-
-    tree_want : (u : SessionView V O) (b : Bool) (p : Option MismatchPlace)
-        → (if b then goes_on u else refused_at m p) ≢ refuses OutOfMemory
-    tree_want u true p e = cc
-    tree_want u false p e = place_want p e
-
-    taken_want : (f : Shipped) (o : Option (List (Tree V O) × List (Tree V O)))
-        → with_taken m f s o ≢ refuses OutOfMemory
-    taken_want f None e = cc
-    taken_want f (Some p) e =
-        let place = shipped_place f (types_or_none (tree_types m (trees_of p.0))) in
-        tree_want _ (is_some (tree_type m (call_of m f p.0))) place e
-
-    named_want : (o : Option Shipped) → with_call m s o ≢ refuses OutOfMemory
-    named_want None e = cc
-    named_want (Some f) e = taken_want f (taken (least_count (shipped_arity f)) s.stack) e
-
-    call_want : (words : List (List ℕ)) (chosen : Option (Option ℕ)) (r : Option ℕ)
-        → after_rows r (λ n. with_call m s (shipped_called words chosen)) ≢ refuses OutOfMemory
-    call_want words chosen None e = cc
-    call_want words chosen (Some n) e = named_want (shipped_called words chosen) e
+    after_count : (f : ℕ → Step V O) → ((n : ℕ) → Memory (f n)) → Memory (after_rows s.row_count f)
+    after_count f h = after m s Memory (λ e. cc) refusal s.row_count f (λ n k. h n)
 
     shows : (r : Option ℕ) (stack : List (Tree V O)) → AllShown stack → Makes (ShowsTop r stack s)
     shows None stack h = made is_malformed (λ e. cc)
@@ -236,10 +167,6 @@ module _ {V O : Type 0} (m : Meaning V O) where
         let text = h.0.0 in
         let P = λ (o : Option (List ℕ)). IfSome o (λ b. shown_by text s ≡ shown_by b s) in
         (shown_by text s, subst P (sym h.0.1) refl, λ e. cc)
-
-    told : (r : Step V O) (e : VortexError) → r ≡ refuses e → r ≡ refuses OutOfMemory
-        → e ≡ OutOfMemory
-    told r e h k = cc
 
     runs_by : (n : ℕ) (t : Tree V O) (stack : List (Tree V O)) → LeavesFit s.columns t
         → other_length n s.columns ≡ None → is_some (tree_type m t) ≡ true
@@ -250,7 +177,7 @@ module _ {V O : Type 0} (m : Meaning V O) where
         let next : SessionView V O = record s { printed = s.printed ++ column_line c.0 } in
         (goes_on next, prints c.0 c.1 refl, λ e. cc)
     runs_by n t stack fit lengths typed (inr p) =
-        (refuses p.0, refused p.0 (faulty fit lengths p.1) refl, λ e. p.2 (told _ p.0 refl e))
+        (refuses p.0, refused p.0 (faulty fit lengths p.1) refl, refusal p.0 p.2)
 
     runs : (r : Option ℕ) (stack : List (Tree V O)) → Counted r s.columns → AllFit s.columns stack
         → AllHaveTypes m stack → Makes (RunsTop m r stack s)
@@ -286,7 +213,7 @@ module _ {V O : Type 0} (m : Meaning V O) where
           p.1 in (
             refuses p.0,
             refused_after p.0 (faulty_after fit lengths after) refl,
-            λ e. p.2 (told _ p.0 refl e),
+            refusal p.0 p.2,
           )
 
     runs_after : (limit : ℕ) (r : Option ℕ) (stack : List (Tree V O)) → Counted r s.columns
@@ -312,11 +239,18 @@ module _ {V O : Type 0} (m : Meaning V O) where
     steps : Fits m s → (k : Command) → Makes (StepsTo m rs k s)
     steps fits nothing = made (goes_on s) (λ e. cc)
     steps fits malformed = made is_malformed (λ e. cc)
-    steps fits (rows n) = made _ (rows_want n s.row_count)
-    steps fits (column name c) = made _ (column_want name c s.row_count)
-    steps fits (get name) = made _ (get_want name s.row_count)
-    steps fits (literal l) = made _ (literal_want l s.row_count)
-    steps fits (call words chosen) = made _ (call_want words chosen s.row_count)
+    steps fits (rows n) =
+        made _ (of_rows m s Memory (λ e. cc) refusal n s.row_count (λ k e. cc))
+    steps fits (column name c) =
+        made _ (after_count (with_column name c s)
+        (λ n. of_column m s Memory (λ e. cc) refusal name c n (λ k e. cc)))
+    steps fits (get name) =
+        made _ (after_count (λ n. with_leaf name s (find_field name s.fields))
+        (λ n. of_leaf m s Memory (λ e. cc) refusal name (find_field name s.fields) (λ p k e. cc)))
+    steps fits (literal l) = made _ (after_count (λ n. with_literal l s) (λ n e. cc))
+    steps fits (call words chosen) =
+        made _ (after_count (λ n. with_call m s (shipped_called words chosen))
+        (λ n. of_call m s Memory (λ e. cc) refusal (shipped_called words chosen) (λ f p k t e. cc)))
     steps fits show = shows s.row_count s.stack fits.shown
     steps fits optimize = optimizes s.row_count s.stack
     steps fits run = runs s.row_count s.stack fits.counted fits.fit fits.with_types

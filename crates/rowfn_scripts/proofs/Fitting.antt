@@ -9,20 +9,21 @@ use Rattle.std.specs.Str.{bytes_eq}
 use Rattle.vortex_errors.specs.declared.error.VortexError.{VortexError}
 use Rattle.vortex_columns.specs.ColumnView.{ColumnView, row, AreTyped}
 use Rattle.vortex_types.specs.Typing.{HasType}
-use Rattle.vortex_errors.specs.declared.error.MismatchPlace.{MismatchPlace}
 use Rattle.vortex_types.specs.LogicalTypes.{LogicalType, Fields, no_fields, field, with_field}
 use Rattle.vortex_types.specs.LogicalTypes.{find_field, after_one}
 use Rattle.vortex_meaning.specs.Meaning.{Meaning}
-use Rattle.vortex_meaning.specs.Shipped.{Shipped, shipped_arity, shipped_called, shipped_place}
+use Rattle.vortex_meaning.specs.Shipped.{Shipped, shipped_arity, shipped_called}
 use Rattle.vortex_meaning.specs.Shipped.{shipped_text}
 use Rattle.vortex_meaning.specs.Functions.{ours}
 use Rattle.vortex_meaning.specs.Trees.{Leaf, place, held, Tree, leaf, constant, call as call_tree}
 use Rattle.vortex_meaning.specs.Trees.{Trees, no_trees, tree, trees_of}
 use Rattle.vortex_types.specs.ScalarView.{ScalarView}
-use Rattle.std.specs.Option.{is_some, option_and_then}
-use Rattle.std.specs.Prelude.{codes, IfSome, slice_index_or}
+use Rattle.std.specs.Option.{is_some, is_none, option_and_then}
+use Rattle.std.specs.Prelude.{⊤}
+use Rattle.std.proofs.lemmas.Bool.{and_parts}
+use Rattle.std.specs.Prelude.{codes, slice_index_or}
 use Rattle.vortex_meaning.specs.Printing.{literal_text, function_text, tree_texts, with_text}
-use Rattle.vortex_meaning.specs.Eval.{IsFirstFault, tree_type, tree_types, types_or_none}
+use Rattle.vortex_meaning.specs.Eval.{IsFirstFault, tree_type}
 use Rattle.vortex_meaning.specs.Eval.{rows_or_none}
 use Rattle.vortex_meaning.specs.Rules.{Rules}
 use Rattle.vortex_meaning.specs.Rewrites.{LeafHasRow, HasRow, AllHaveRow}
@@ -35,10 +36,11 @@ use Rattle.vortex_rewriting.specs.Runs.{expression_step}
 use Rattle.rowfn_lines.specs.Commands.{Command, nothing, malformed, rows, column, get, literal}
 use Rattle.rowfn_lines.specs.Commands.{call, show, optimize, run, run_after}
 use Rattle.rowfn_lines.proofs.SaidTyped.{IsTyped, said_typed}
-use Rattle.rowfn_scripts.specs.Sessions.{SessionView, goes_on, refuses, is_malformed, least_count}
-use Rattle.rowfn_scripts.specs.Sessions.{taken, with_rows, after_rows, added, with_column}
-use Rattle.rowfn_scripts.specs.Sessions.{with_leaf, with_literal, call_of, refused_at, with_taken}
-use Rattle.rowfn_scripts.specs.Sessions.{with_call, shown_by, ShowsTop, Runs, prints, refused}
+use Rattle.rowfn_scripts.specs.Sessions.{SessionView, Step, goes_on, refuses, is_malformed}
+use Rattle.rowfn_scripts.specs.Sessions.{least_count}
+use Rattle.rowfn_scripts.specs.Sessions.{taken, after_rows, added, with_column}
+use Rattle.rowfn_scripts.specs.Sessions.{with_leaf, with_literal, call_of}
+use Rattle.rowfn_scripts.specs.Sessions.{with_call, ShowsTop, Runs, prints, refused}
 use Rattle.rowfn_scripts.specs.Sessions.{RunsTop, OptimizesTop, RunsAfter, prints_after}
 use Rattle.rowfn_scripts.specs.Sessions.{refused_after, RunsAfterTop, StepsTo}
 use Rattle.rowfn_scripts.specs.Scripts.{Reaches, begins, one_more, command_at}
@@ -46,6 +48,8 @@ use Rattle.rowfn_scripts.specs.Fitting.{Counted, AreTypes, AllFit, AllHaveTypes,
 use Rattle.rowfn_scripts.specs.Fitting.{StackHasRows, HaveRows, Fits}
 use Rattle.rowfn_scripts.proofs.AfterRules.{AreSound, rewritten, rewritten_typed, rewritten_shown}
 use Rattle.rowfn_scripts.proofs.AfterRules.{refuses_fault}
+use Rattle.rowfn_scripts.proofs.Shown.{shows_text}
+use Rattle.rowfn_scripts.proofs.Steps.{of_rows, after, of_column, of_leaf, of_call}
 
 get_before : (cs : List ColumnView) (c d : ColumnView) (i : ℕ) → slice_get cs i ≡ Some d
     → slice_get (cs ++ c ∷ []) i ≡ Some d
@@ -201,8 +205,39 @@ module _ {V O : Type 0} where
         → taken n stack ≡ Some p → P stack → P p.0 × P p.1
     of_taken n stack p e h = taken_by (nat_le n (length stack)) n stack p e h
 
+texts_shown : {V O : Type 0} (ts : List (Tree V O)) → AllShown ts
+    → (texts : List (List ℕ)) × (tree_texts (trees_of ts) ≡ Some texts)
+texts_shown [] h = ([], refl)
+texts_shown (u ∷ us) h =
+    let more = texts_shown us h.1 in (h.0.0 ∷ more.0, λ i. with_text (h.0.1 i) (more.1 i))
+
 module _ {V O : Type 0} (m : Meaning V O) (s : SessionView V O) (fits : Fits m s) where
-  -- once the row count is said
+  call_shown : (f : Shipped) (ts : List (Tree V O)) → AllShown ts → HasText (call_of m f ts)
+  call_shown f ts h =
+      let texts = texts_shown ts h in (
+        shipped_text f texts.0,
+        ap (option_and_then (function_text {V = V} {O = O} (ours f))) texts.1,
+      )
+
+  -- before the row count is said
+  begun : (n : ℕ) → s.row_count ≡ None → Fits m (record s { row_count = Some n })
+  begun n known =
+      let none : s.columns ≡ [] =
+      subst (λ (r : Option ℕ). Counted r s.columns) known fits.counted in
+      let empty : s.stack ≡ [] =
+      subst (λ (r : Option ℕ). HaveRows r s.columns s.stack) known fits.with_rows in
+      record {
+        counted = ap (λ (cs : List ColumnView). other_length n cs) none;
+        typed = fits.typed;
+        typed_rows = fits.typed_rows;
+        with_rows =
+            subst (λ (ts : List (Tree V O)). StackHasRows s.columns n ts) (sym empty) tt;
+        fit = fits.fit;
+        with_types = fits.with_types;
+        shown = fits.shown;
+      }
+
+  -- and after
   module _ (n : ℕ) (known : s.row_count ≡ Some n) where
     counted_at : other_length n s.columns ≡ None
     counted_at = subst (λ (r : Option ℕ). Counted r s.columns) known fits.counted
@@ -214,172 +249,90 @@ module _ {V O : Type 0} (m : Meaning V O) (s : SessionView V O) (fits : Fits m s
         → HaveRows s.row_count cs ts
     as_rows cs ts h = subst (λ (r : Option ℕ). HaveRows r cs ts) (sym known) h
 
+    with_column_fits : (name : List ℕ) (c : ColumnView) → AreTyped c.dtype c.rows
+        → ((length c.rows == n) && is_none (find_field name s.fields)) ≡ true
+        → Fits m (added name c s)
+    with_column_fits name c said h =
+        let long = (and_parts (length c.rows == n) (is_none (find_field name s.fields)) h).0 in
+        let still = still_counted n s.columns c counted_at long in
+        record {
+          counted = subst (λ (r : Option ℕ). Counted r (s.columns ++ c ∷ [])) (sym known) still;
+          typed = still_typed s.fields s.columns name c fits.typed;
+          typed_rows = one_more_typed s.columns c fits.typed_rows said;
+          with_rows =
+              as_rows (s.columns ++ c ∷ []) s.stack
+              (stack_rows_still s.columns c n s.stack fits.fit rows_at);
+          fit = stack_still_fits s.columns c s.stack fits.fit;
+          with_types = fits.with_types;
+          shown = fits.shown;
+        }
+
+    -- other trees, and what was printed
+    with_stack : (stack : List (Tree V O)) (printed : List ℕ) → StackHasRows s.columns n stack
+        → AllFit s.columns stack → AllHaveTypes m stack → AllShown stack
+        → Fits m (record s { stack = stack; printed = printed })
+    with_stack stack printed typed fit types shown = record {
+      counted = fits.counted;
+      typed = fits.typed;
+      typed_rows = fits.typed_rows;
+      with_rows = as_rows s.columns stack typed;
+      fit = fit;
+      with_types = types;
+      shown = shown;
+    }
+
+    pushed : (t : Tree V O) → ((i : ℕ) → i < n → HasRow s.columns i t) → LeavesFit s.columns t
+        → is_some (tree_type m t) ≡ true → HasText t
+        → Fits m (record s { stack = t ∷ s.stack })
+    pushed t typed fit type shown =
+        with_stack (t ∷ s.stack) s.printed (typed, rows_at) (fit, fits.fit) (type, fits.with_types)
+        (shown, fits.shown)
+
+    leaf_fits : (name : List ℕ) (p : ℕ × LogicalType) → find_field name s.fields ≡ Some p
+        → Fits m (record s { stack = leaf (place p.0 name p.1) ∷ s.stack })
+    leaf_fits name p h =
+        let fit = found_fits name s.fields s.columns p fits.typed h in
+        let new : Tree V O = leaf (place p.0 name p.1) in
+        pushed new
+        (λ i lt. fitting_row s.columns n counted_at fits.typed_rows new i lt fit tt) fit refl
+        (codes "$." ++ name, refl)
+
+    literal_fits : (l : ScalarView) → HasType l.dtype l.value
+        → Fits m (record s { stack = constant l ∷ s.stack })
+    literal_fits l said =
+        pushed (constant l) (λ i lt. said) tt refl (literal_text l.dtype l.value, refl)
+
+    call_fits : (f : Shipped) (p : List (Tree V O) × List (Tree V O))
+        → taken (least_count (shipped_arity f)) s.stack ≡ Some p
+        → is_some (tree_type m (call_of m f p.0)) ≡ true
+        → Fits m (record s { stack = call_of m f p.0 ∷ p.1 })
+    call_fits f p h type =
+        let all =
+        of_taken
+        (λ ts. StackHasRows s.columns n ts × AllFit s.columns ts × AllHaveTypes m ts × AllShown ts)
+        (tt, tt, tt, tt)
+        (λ u us a b. ((a.0.0, b.0), (a.1.0, b.1), (a.2.0, b.2), (a.3.0, b.3)))
+        (λ u us a.
+        (((a.0.0, tt), (a.1.0, tt), (a.2.0, tt), (a.3.0, tt)), (a.0.1, a.1.1, a.2.1, a.3.1)))
+        (least_count (shipped_arity f)) s.stack p h
+        (rows_at, fits.fit, fits.with_types, fits.shown) in
+        with_stack (call_of m f p.0 ∷ p.1) s.printed
+        (all_rows s.columns n p.0 all.0.0, all.1.0) (all_fit s.columns p.0 all.0.1, all.1.1)
+        (type, all.1.2) (call_shown f p.0 all.0.3, all.1.3)
+
 module _ {V O : Type 0} (m : Meaning V O) (rs : Rules V O) (laws : AreSound m rs)
-    (s : SessionView V O) (fits : Fits m s) (t : SessionView V O) where
-  as_session : (u : SessionView V O) → goes_on t ≡ goes_on u → Fits m u → Fits m t
-  as_session u e h = let same : t ≡ u = cc in subst (λ (v : SessionView V O). Fits m v) (sym same) h
+    (s : SessionView V O) (fits : Fits m s) where
+  abbrev FitsAfter : Step V O → Type 0
+  FitsAfter (goes_on t) = Fits m t
+  FitsAfter (refuses e) = ⊤
+  FitsAfter is_malformed = ⊤
 
-  after_begin : (n : ℕ) (r : Option ℕ) → s.row_count ≡ r → goes_on t ≡ with_rows n s r → Fits m t
-  after_begin n (Some k) known e = cc
-  after_begin n None known e =
-      let none : s.columns ≡ [] =
-      subst (λ (r : Option ℕ). Counted r s.columns) known fits.counted in
-      let empty : s.stack ≡ [] =
-      subst (λ (r : Option ℕ). HaveRows r s.columns s.stack) known fits.with_rows in
-      let counted = ap (λ (cs : List ColumnView). other_length n cs) none in
-      as_session _ e
-      (record {
-        counted = counted;
-        typed = fits.typed;
-        typed_rows = fits.typed_rows;
-        with_rows =
-            subst (λ (ts : List (Tree V O)). StackHasRows s.columns n ts) (sym empty) tt;
-        fit = fits.fit;
-        with_types = fits.with_types;
-        shown = fits.shown;
-      })
+  as_step : (r a : Step V O) → r ≡ a → FitsAfter a → FitsAfter r
+  as_step r a e h = subst FitsAfter (sym e) h
 
-  after_column_by : (name : List ℕ) (c : ColumnView) (n : ℕ) (a b : Bool)
-      → AreTyped c.dtype c.rows → s.row_count ≡ Some n → (length c.rows == n) ≡ a
-      → goes_on t ≡ (if a && b then goes_on (added name c s) else is_malformed) → Fits m t
-  after_column_by name c n false b said known h e = cc
-  after_column_by name c n true false said known h e = cc
-  after_column_by name c n true true said known h e =
-      let counted = counted_at m s fits n known in
-      let rows =
-      stack_rows_still s.columns c n s.stack fits.fit (rows_at m s fits n known) in
-      let still = still_counted n s.columns c counted h in
-      as_session _ e
-      (record {
-        counted = subst (λ (r : Option ℕ). Counted r (s.columns ++ c ∷ [])) (sym known) still;
-        typed = still_typed s.fields s.columns name c fits.typed;
-        typed_rows = one_more_typed s.columns c fits.typed_rows said;
-        with_rows = as_rows m s fits n known (s.columns ++ c ∷ []) s.stack rows;
-        fit = stack_still_fits s.columns c s.stack fits.fit;
-        with_types = fits.with_types;
-        shown = fits.shown;
-      })
-
-  after_column : (name : List ℕ) (c : ColumnView) (r : Option ℕ) → AreTyped c.dtype c.rows
-      → s.row_count ≡ r → goes_on t ≡ after_rows r (with_column name c s) → Fits m t
-  after_column name c None said known e = cc
-  after_column name c (Some n) said known e = after_column_by name c n _ _ said known refl e
-
-  after_leaf : (n : ℕ) → s.row_count ≡ Some n → (name : List ℕ) (o : Option (ℕ × LogicalType))
-      → find_field name s.fields ≡ o → goes_on t ≡ with_leaf name s o → Fits m t
-  after_leaf n known name None h e = cc
-  after_leaf n known name (Some p) h e =
-      let fit = found_fits name s.fields s.columns p fits.typed h in
-      let new : Tree V O = leaf (place p.0 name p.1) in
-      let rows : (i : ℕ) → i < n → HasRow s.columns i new =
-      λ i lt. fitting_row s.columns n (counted_at m s fits n known) fits.typed_rows new i lt fit
-      tt in
-      as_session _ e
-      (record {
-        counted = fits.counted;
-        typed = fits.typed;
-        typed_rows = fits.typed_rows;
-        with_rows =
-            as_rows m s fits n known s.columns (new ∷ s.stack) (rows, rows_at m s fits n known);
-        fit = (fit, fits.fit);
-        with_types = (refl, fits.with_types);
-        shown = ((codes "$." ++ name, refl), fits.shown);
-      })
-
-  after_get : (name : List ℕ) (r : Option ℕ) → s.row_count ≡ r
-      → goes_on t ≡ after_rows r (λ n. with_leaf name s (find_field name s.fields)) → Fits m t
-  after_get name None known e = cc
-  after_get name (Some n) known e = after_leaf n known name _ refl e
-
-  after_push : (l : ScalarView) (r : Option ℕ) → HasType l.dtype l.value → s.row_count ≡ r
-      → goes_on t ≡ after_rows r (λ n. with_literal l s) → Fits m t
-  after_push l None said known e = cc
-  after_push l (Some n) said known e =
-      let rows = rows_at m s fits n known in
-      as_session _ e
-      (record {
-        counted = fits.counted;
-        typed = fits.typed;
-        typed_rows = fits.typed_rows;
-        with_rows =
-            as_rows m s fits n known s.columns (constant l ∷ s.stack) ((λ i lt. said), rows);
-        fit = (tt, fits.fit);
-        with_types = (refl, fits.with_types);
-        shown = ((literal_text l.dtype l.value, refl), fits.shown);
-      })
-
-  texts_shown : (ts : List (Tree V O)) → AllShown ts
-      → (texts : List (List ℕ)) × (tree_texts (trees_of ts) ≡ Some texts)
-  texts_shown [] h = ([], refl)
-  texts_shown (u ∷ us) h =
-      let more = texts_shown us h.1 in
-      (h.0.0 ∷ more.0, λ i. with_text (h.0.1 i) (more.1 i))
-
-  call_shown : (f : Shipped) (ts : List (Tree V O)) → AllShown ts → HasText (call_of m f ts)
-  call_shown f ts h =
-      let texts = texts_shown ts h in (
-        shipped_text f texts.0,
-        ap (option_and_then (function_text {V = V} {O = O} (ours f))) texts.1,
-      )
-
-  refused_differs : (p : Option MismatchPlace) → goes_on t ≡ refused_at m p → ⊥
-  refused_differs None e = cc
-  refused_differs (Some p) e = cc
-
-  after_tree : (n : ℕ) → s.row_count ≡ Some n → (u : Tree V O) (stack : List (Tree V O)) (b : Bool)
-      (p : Option MismatchPlace)
-      → ((i : ℕ) → i < n → HasRow s.columns i u) → StackHasRows s.columns n stack
-      → LeavesFit s.columns u → AllFit s.columns stack
-      → is_some (tree_type m u) ≡ b → AllHaveTypes m stack
-      → HasText u → AllShown stack
-      → goes_on t ≡ (if b then goes_on (record s { stack = u ∷ stack }) else refused_at m p)
-      → Fits m t
-  after_tree n known u stack true o new_rows below h k i j p q e =
-      as_session _ e
-      (record {
-        counted = fits.counted;
-        typed = fits.typed;
-        typed_rows = fits.typed_rows;
-        with_rows = as_rows m s fits n known s.columns (u ∷ stack) (new_rows, below);
-        fit = (h, k);
-        with_types = (i, j);
-        shown = (p, q);
-      })
-  after_tree n known u stack false o new_rows below h k i j p q e = absurd (refused_differs o e)
-
-  after_taken : (n : ℕ) → s.row_count ≡ Some n → (f : Shipped)
-      (o : Option (List (Tree V O) × List (Tree V O)))
-      → taken (least_count (shipped_arity f)) s.stack ≡ o → goes_on t ≡ with_taken m f s o
-      → Fits m t
-  after_taken n known f None h e = cc
-  after_taken n known f (Some p) h e =
-      let count = least_count (shipped_arity f) in
-      let a =
-      of_taken (StackHasRows s.columns n) tt (λ u us a b. (a.0, b)) (λ u us a. ((a.0, tt), a.1))
-      count s.stack p h (rows_at m s fits n known) in
-      let k =
-      of_taken (AllFit s.columns) tt (λ u us a b. (a.0, b)) (λ u us a. ((a.0, tt), a.1)) count
-      s.stack p h fits.fit in
-      let j =
-      of_taken (AllHaveTypes m) tt (λ u us a b. (a.0, b)) (λ u us a. ((a.0, tt), a.1)) count
-      s.stack p h fits.with_types in
-      let q =
-      of_taken AllShown tt (λ u us a b. (a.0, b)) (λ u us a. ((a.0, tt), a.1)) count s.stack p h
-      fits.shown in
-      let place = shipped_place f (types_or_none (tree_types m (trees_of p.0))) in
-      let whole = all_fit s.columns p.0 k.0 in
-      after_tree n known (call_of m f p.0) p.1 _ place (all_rows s.columns n p.0 a.0) a.1 whole k.1
-      refl j.1 (call_shown f p.0 q.0) q.1 e
-
-  after_named : (n : ℕ) → s.row_count ≡ Some n → (o : Option Shipped)
-      → goes_on t ≡ with_call m s o → Fits m t
-  after_named n known None e = cc
-  after_named n known (Some f) e = after_taken n known f _ refl e
-
-  after_call : (words : List (List ℕ)) (chosen : Option (Option ℕ)) (r : Option ℕ) → s.row_count ≡ r
-      → goes_on t ≡ after_rows r (λ n. with_call m s (shipped_called words chosen)) → Fits m t
-  after_call words chosen None known e = cc
-  after_call words chosen (Some n) known e = after_named n known (shipped_called words chosen) e
+  after_count : (f : ℕ → Step V O) → ((n : ℕ) → s.row_count ≡ Some n → FitsAfter (f n))
+      → FitsAfter (after_rows s.row_count f)
+  after_count f h = after m s FitsAfter tt (λ e k. tt) s.row_count f h
 
   fits_still : {printed : List ℕ} → Fits m (record s { printed = printed })
   fits_still = record {
@@ -392,74 +345,70 @@ module _ {V O : Type 0} (m : Meaning V O) (rs : Rules V O) (laws : AreSound m rs
     shown = fits.shown;
   }
 
-  after_run : (r : Option ℕ) (stack : List (Tree V O)) → RunsTop m r stack s (goes_on t) → Fits m t
-  after_run None stack e = cc
-  after_run (Some n) [] e = cc
-  after_run (Some n) (u ∷ stack) (prints c h e) = as_session _ e fits_still
-  after_run (Some n) (u ∷ stack) (refused e h is) = cc
+  after_run : (r : Option ℕ) (stack : List (Tree V O)) (a : Step V O) → RunsTop m r stack s a
+      → FitsAfter a
+  after_run None stack a e = as_step a is_malformed e tt
+  after_run (Some n) [] a e = as_step a is_malformed e tt
+  after_run (Some n) (u ∷ stack) a (prints c h e) = as_step a _ e fits_still
+  after_run (Some n) (u ∷ stack) a (refused d h e) = as_step a (refuses d) e tt
 
-  after_run_after : (limit : ℕ) (r : Option ℕ) (stack : List (Tree V O))
-      → RunsAfterTop m rs limit r stack s (goes_on t) → Fits m t
-  after_run_after limit None stack e = cc
-  after_run_after limit (Some n) [] e = cc
-  after_run_after limit (Some n) (u ∷ stack) (prints_after c h e) = as_session _ e fits_still
-  after_run_after limit (Some n) (u ∷ stack) (refused_after e h is) = cc
+  after_run_after : (limit : ℕ) (r : Option ℕ) (stack : List (Tree V O)) (a : Step V O)
+      → RunsAfterTop m rs limit r stack s a → FitsAfter a
+  after_run_after limit None stack a e = as_step a is_malformed e tt
+  after_run_after limit (Some n) [] a e = as_step a is_malformed e tt
+  after_run_after limit (Some n) (u ∷ stack) a (prints_after c h e) = as_step a _ e fits_still
+  after_run_after limit (Some n) (u ∷ stack) a (refused_after d h e) =
+      as_step a (refuses d) e tt
 
-  after_optimize : (r : Option ℕ) (stack : List (Tree V O)) → s.row_count ≡ r → s.stack ≡ stack
-      → OptimizesTop m rs r stack s (goes_on t) → Fits m t
-  after_optimize None stack known top e = cc
-  after_optimize (Some n) [] known top e = cc
-  after_optimize (Some n) (u ∷ stack) known top o =
-      let fit : AllFit s.columns (u ∷ stack) =
-      subst (λ (ts : List (Tree V O)). AllFit s.columns ts) top fits.fit in
-      let types : AllHaveTypes m (u ∷ stack) =
-      subst (λ (ts : List (Tree V O)). AllHaveTypes m ts) top fits.with_types in
-      let shown : AllShown (u ∷ stack) =
-      subst (λ (ts : List (Tree V O)). AllShown ts) top fits.shown in
-      let rows : StackHasRows s.columns n (u ∷ stack) =
-      subst (λ (ts : List (Tree V O)). StackHasRows s.columns n ts) top
-      (rows_at m s fits n known) in
-      let asks = (rewritten m rs laws (weight_told m u) u o.last o.run types.0).asks in
-      let last_rows : StackHasRows s.columns n (o.last ∷ stack) =
-      ((λ i lt. asks.rows s.columns i (rows.0 i lt)), rows.1) in
-      as_session _ o.is
-      (record {
-        counted = fits.counted;
-        typed = fits.typed;
-        typed_rows = fits.typed_rows;
-        with_rows = as_rows m s fits n known s.columns (o.last ∷ stack) last_rows;
-        fit = (asks.leaves s.columns fit.0, fit.1);
-        with_types = (
-          rewritten_typed m rs laws (weight_told m u) u o.last o.run types.0,
-          types.1,
-        );
-        shown = (
-          rewritten_shown m rs laws (weight_told m u) u o.last o.run types.0 shown.0,
-          shown.1,
-        );
-      })
+  after_optimize : (r : Option ℕ) (stack : List (Tree V O)) (a : Step V O) → s.row_count ≡ r
+      → s.stack ≡ stack → OptimizesTop m rs r stack s a → FitsAfter a
+  after_optimize None stack a known top e = as_step a is_malformed e tt
+  after_optimize (Some n) [] a known top e = as_step a is_malformed e tt
+  after_optimize (Some n) (u ∷ stack) a known top o =
+      let all =
+      subst
+      (λ (ts : List (Tree V O)).
+      StackHasRows s.columns n ts × AllFit s.columns ts × AllHaveTypes m ts × AllShown ts)
+      top (rows_at m s fits n known, fits.fit, fits.with_types, fits.shown) in
+      let limit = weight_told m u in
+      let asks = (rewritten m rs laws limit u o.last o.run all.2.0).asks in
+      as_step a _ o.is
+      (with_stack m s fits n known (o.last ∷ stack) _
+      ((λ i lt. asks.rows s.columns i (all.0.0 i lt)), all.0.1)
+      (asks.leaves s.columns all.1.0, all.1.1)
+      (rewritten_typed m rs laws limit u o.last o.run all.2.0, all.2.1)
+      (rewritten_shown m rs laws limit u o.last o.run all.2.0 all.3.0, all.3.1))
 
-  after_show : (r : Option ℕ) (stack : List (Tree V O)) → AllShown stack
-      → ShowsTop r stack s (goes_on t) → Fits m t
-  after_show None stack h e = cc
-  after_show (Some n) [] h e = cc
-  after_show (Some n) (u ∷ stack) h e =
-      let shows : goes_on t ≡ shown_by h.0.0 s =
-      subst (λ (o : Option (List ℕ)). IfSome o (λ text. goes_on t ≡ shown_by text s)) h.0.1 e in
-      as_session _ shows fits_still
+  after_show : (r : Option ℕ) (stack : List (Tree V O)) (a : Step V O) → AllShown stack
+      → ShowsTop r stack s a → FitsAfter a
+  after_show None stack a h e = as_step a is_malformed e tt
+  after_show (Some n) [] a h e = as_step a is_malformed e tt
+  after_show (Some n) (u ∷ stack) a h e = as_step a _ (shows_text s u a h.0 e) fits_still
 
-  after_line : (k : Command) → IsTyped k → StepsTo m rs k s (goes_on t) → Fits m t
-  after_line nothing said e = as_session s e fits
-  after_line malformed said e = cc
-  after_line (rows n) said e = after_begin n s.row_count refl e
-  after_line (column name c) said e = after_column name c s.row_count said refl e
-  after_line (get name) said e = after_get name s.row_count refl e
-  after_line (literal l) said e = after_push l s.row_count said refl e
-  after_line (call words chosen) said e = after_call words chosen s.row_count refl e
-  after_line show said e = after_show s.row_count s.stack fits.shown e
-  after_line optimize said e = after_optimize s.row_count s.stack refl refl e
-  after_line run said e = after_run s.row_count s.stack e
-  after_line (run_after limit) said e = after_run_after limit s.row_count s.stack e
+  after_line : (k : Command) → IsTyped k → (r : Step V O) → StepsTo m rs k s r → FitsAfter r
+  after_line nothing said r e = as_step r _ e fits
+  after_line malformed said r e = as_step r _ e tt
+  after_line (rows n) said r e =
+      as_step r _ e (of_rows m s FitsAfter tt (λ d k. tt) n s.row_count (begun m s fits n))
+  after_line (column name c) said r e =
+      as_step r _ e (after_count (with_column name c s)
+      (λ n known. of_column m s FitsAfter tt (λ d k. tt) name c n
+      (with_column_fits m s fits n known name c said)))
+  after_line (get name) said r e =
+      as_step r _ e (after_count (λ n. with_leaf name s (find_field name s.fields))
+      (λ n known. of_leaf m s FitsAfter tt (λ d k. tt) name (find_field name s.fields)
+      (leaf_fits m s fits n known name)))
+  after_line (literal l) said r e =
+      as_step r _ e (after_count (λ n. with_literal l s)
+      (λ n known. literal_fits m s fits n known l said))
+  after_line (call words chosen) said r e =
+      as_step r _ e (after_count (λ n. with_call m s (shipped_called words chosen))
+      (λ n known. of_call m s FitsAfter tt (λ d k. tt) (shipped_called words chosen)
+      (call_fits m s fits n known)))
+  after_line show said r e = after_show s.row_count s.stack r fits.shown e
+  after_line optimize said r e = after_optimize s.row_count s.stack r refl refl e
+  after_line run said r e = after_run s.row_count s.stack r e
+  after_line (run_after limit) said r e = after_run_after limit s.row_count s.stack r e
 
 none_typed : All (λ (d : ColumnView). AreTyped d.dtype d.rows) []
 none_typed i d lt = absurd (omega arith)
@@ -499,8 +448,8 @@ module _ {V O : Type 0} (m : Meaning V O) where
         shown = tt;
       }
       reached_fits lines k u (one_more n s t reached lt e) =
-          after_line m rs laws s (reached_fits lines n s reached) t (command_at lines n)
-          (said_typed (slice_index_or lines n [])) e
+          after_line m rs laws s (reached_fits lines n s reached) (command_at lines n)
+          (said_typed (slice_index_or lines n [])) (goes_on t) e
 
       module _ (lines : List (List ℕ)) (read n : ℕ) (s : SessionView V O) (t : Tree V O)
           (stack : List (Tree V O)) (reached : Reaches m rs lines read s)

@@ -4,7 +4,9 @@ pub mod Reading
 pub mod OneRun
 pub mod Shown
 pub mod AfterRules
+pub mod Steps
 pub mod Fitting
+pub mod OneStep
 pub mod Telling
 pub mod EachOutcome
 pub mod OneOutcome

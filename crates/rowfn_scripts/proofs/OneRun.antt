@@ -4,7 +4,7 @@ use Rattle.std.proofs.Common.{refl, sym, ap, subst, ◌∙◌, arith}
 use Rattle.vortex_meaning.specs.Trees.{Tree}
 use Rattle.vortex_meaning.specs.Driver.{step, Runs, RunsTo}
 
-up_to : (i n : ℕ) → i < suc n → (i < n) ⊎ (i ≡ n)
+pub up_to : (i n : ℕ) → i < suc n → (i < n) ⊎ (i ≡ n)
 up_to i n h = grind arith
 
 either : (n k : ℕ) → (n < k) ⊎ ((k < n) ⊎ (n ≡ k))

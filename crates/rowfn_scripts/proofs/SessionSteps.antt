@@ -25,6 +25,7 @@ use Rattle.vortex_meaning.specs.Rules.{Rules}
 use Rattle.vortex_meaning.specs.Weights.{weight_told}
 use Rattle.vortex_meaning.specs.Driver.{step, Runs}
 use Rattle.vortex_meaning.specs.Running.{ExecutesAfter, RefusesAfter}
+use Rattle.vortex_meaning.proofs.RuleAnswers.{not_not}
 use Rattle.vortex_rewriting.specs.Runs.{expression_step}
 use Rattle.vortex_meaning.specs.Shipped.{Shipped, row_function, shipped_arity, shipped_called}
 use Rattle.vortex_meaning.specs.Shipped.{shipped_place}
@@ -35,6 +36,7 @@ use Rattle.vortex_meaning.specs.Eval.{tree_type, tree_types, with_type, types_or
 use Rattle.vortex_meaning.specs.Execution.{Executes, RefusesExecution}
 use Rattle.vortex_meaning.specs.Printing.{tree_text}
 use Rattle.vortex_functions.specs.Binding.{IsCall, RefusesCall, count, types}
+use Rattle.vortex_functions.proofs.Bound.{type_count}
 use Rattle.rowfn_scripts.specs.Sessions.{column_line}
 use Rattle.rowfn_scripts.specs.declared.stop.Stop.{Stop}
 use Rattle.rowfn_scripts.specs.declared.stop.Stop.TheVariants.{Refused}
@@ -45,24 +47,6 @@ use Rattle.rowfn_scripts.specs.Sessions.{shown_by, ShowsTop, prints, refused, Ru
 use Rattle.rowfn_scripts.specs.Sessions.{Optimizes, OptimizesTop, prints_after, refused_after}
 use Rattle.rowfn_scripts.specs.Sessions.{RunsAfterTop}
 use Rattle.rowfn_scripts.specs.Stepping.{MakesStep, after_text}
-
-counted_parts : (a : Option LogicalType) (b : Option (List LogicalType)) (ks : List LogicalType)
-    → with_type a b ≡ Some ks
-    → (us : List LogicalType) × (b ≡ Some us) × (length ks ≡ suc (length us))
-counted_parts None b ks e = cc
-counted_parts (Some t) None ks e = cc
-counted_parts (Some t) (Some us) ks e = let is : t ∷ us ≡ ks = cc in (us, refl, ap length (sym is))
-
--- whether a field is found
-pub found_or_not : {A : Type 0} (r : Option A) (o : Option (ℕ × LogicalType))
-    (P : A → ℕ × LogicalType) (b : Bool)
-    → MatchOption r (o ≡ None) (λ x. o ≡ Some (P x)) → b ≡ is_some r → is_none o ≡ not b
-found_or_not None o P b h e = ap is_none h ∙ sym (ap not e)
-found_or_not (Some x) o P b h e = ap is_none h ∙ sym (ap not e)
-
-not_not : (b : Bool) → not (not b) ≡ b
-not_not true = refl
-not_not false = refl
 
 module _ {V O : Type 0} where
   pub row_count_of : {s t : SessionView V O} → s ≡ t → s.row_count ≡ t.row_count
@@ -154,10 +138,6 @@ module _ {V O : Type 0} where
         sym (ap (λ (r : Option ℕ). after_rows r (with_column name c s)) counted
         ∙ (λ i. if e i && f i then goes_on (added name c s) else is_malformed))
 
-    pub other_count : (length c.rows ≡ n → ⊥) → is_malformed ≡ Column
-    other_count h =
-        by_tests false _ (false_from_ne_true _ (λ e. h (eqb-true _ _ e))) refl
-
     known_name : (a : Bool) → (length c.rows == n) ≡ a → is_new ≡ false → is_malformed ≡ Column
     known_name true e f = by_tests true false e f
     known_name false e f = by_tests false false e f
@@ -241,18 +221,11 @@ module _ {V O : Type 0} where
   unnamed (Some f) e = cc
 
   module _ (m : Meaning V O) where
-    types_counted : (ts : List (Tree V O)) (ks : List LogicalType)
-        → tree_types m (trees_of ts) ≡ Some ks → length ks ≡ length ts
-    types_counted [] ks e = let is : [] ≡ ks = cc in ap length (sym is)
-    types_counted (t ∷ ts) ks e =
-        let p = counted_parts (tree_type m t) (tree_types m (trees_of ts)) ks e in
-        p.2 ∙ ap suc (types_counted ts p.0 p.1)
-
     call_typed : (f : Function V O) (ts : List (Tree V O)) (t : Tree V O) → IsCall m f ts t
         → is_some (tree_type m (call f (trees_of ts))) ≡ true
     call_typed f ts t h =
         let allowed : fits (function_arity m f) (length h.types) ≡ true =
-        ap (fits (function_arity m f)) (types_counted ts h.types h.typed) ∙ h.arity in
+        ap (fits (function_arity m f)) (type_count m ts h.types h.typed) ∙ h.arity in
         ap (λ (o : Option (List LogicalType)). is_some (option_and_then (call_type m f) o)) h.typed
         ∙ (λ i. is_some (if allowed i then h.accepted i else None))
 

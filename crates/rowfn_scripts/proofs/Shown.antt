@@ -1,6 +1,6 @@
 -- The trees that have texts are those of places and shipped functions alone.
-use Rattle.std.proofs.Common.{◌≡◌, Option, Some, None, List, [], ◌∷◌, ◌++◌, ℕ, refl, ap}
-use Rattle.std.specs.Prelude.{codes}
+use Rattle.std.proofs.Common.{◌≡◌, Option, Some, None, List, [], ◌∷◌, ◌++◌, ℕ, refl, ap, subst}
+use Rattle.std.specs.Prelude.{codes, IfSome}
 use Rattle.std.specs.Option.{option_and_then}
 use Rattle.vortex_meaning.specs.Bound.{OnlyPlaces, AllOnlyPlaces}
 use Rattle.vortex_meaning.specs.Weights.{OnlyShipped, AllShipped}
@@ -10,6 +10,7 @@ use Rattle.vortex_meaning.specs.Trees.{place, held, Tree, leaf, constant, call a
 use Rattle.vortex_meaning.specs.Trees.{no_trees, tree}
 use Rattle.vortex_meaning.specs.Printing.{tree_text, tree_texts, with_text, function_text}
 use Rattle.vortex_meaning.specs.Printing.{literal_text}
+use Rattle.rowfn_scripts.specs.Sessions.{SessionView, Step, shown_by}
 use Rattle.rowfn_scripts.specs.Fitting.{HasText}
 
 -- a tree with a text is a call of a shipped function on trees with texts
@@ -74,3 +75,8 @@ module _ {V O : Type 0} where
         let first = text_of t a.0 b.0 in
         let more = texts_of ts a.1 b.1 in
         (first.0 ∷ more.0, λ i. with_text (first.1 i) (more.1 i))
+
+-- the step that prints the text
+pub shows_text : {V O : Type 0} (s : SessionView V O) (x : Tree V O) (r : Step V O) (h : HasText x)
+    → IfSome (tree_text x) (λ text. r ≡ shown_by text s) → r ≡ shown_by h.0 s
+shows_text s x r h e = subst (λ (o : Option (List ℕ)). IfSome o (λ text. r ≡ shown_by text s)) h.1 e

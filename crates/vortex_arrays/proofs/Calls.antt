@@ -1,7 +1,7 @@
 -- A call over arrays that is made.
-use Rattle.std.proofs.Common.{◌≡◌, ℕ, Bool, true, false, List, [], ◌∷◌, length, Some, None, refl, ap}
-use Rattle.std.proofs.Common.{nat_eq, subst, sym, ◌∙◌}
-use Rattle.std.specs.Prelude.{slice_get, All, Result, Ok, Err}
+use Rattle.std.proofs.Common.{◌≡◌, ℕ, Bool, true, false, List, [], ◌∷◌, length, refl, ap}
+use Rattle.std.proofs.Common.{Option, Some, None, nat_eq, subst, sym, ◌∙◌}
+use Rattle.std.specs.Prelude.{slice_get, if◌then◌else◌, All, Result, Ok, Err}
 use Rattle.std.proofs.lemmas.List.{length-map}
 use Rattle.std.proofs.lemmas.List.Elements.{All-nil, All-cons}
 use borrow.Author.Tests.{eqb-true}
@@ -14,12 +14,16 @@ use Rattle.vortex_meaning.specs.Functions.{Function, function_arity}
 use Rattle.vortex_functions.specs.Arrays.{Array, rows_in, trees_in, other_rows}
 use Rattle.vortex_functions.specs.Binding.{RefusesCall}
 use Rattle.vortex_functions.specs.Binding as binding
-use Rattle.vortex_functions.proofs.Execution.{where_none}
 use Rattle.vortex_arrays.specs.Calls.{RefusesOperands, types, RefusesArrayCall, count}
 use Rattle.vortex_arrays.specs.Calls.{operands, AnswersCallOfRows, AnswersCall, AnswersOperands}
 
 fits_not : {A : Type 0} (b : Bool) → b ≡ true → b ≡ false → A
 fits_not b p q = cc
+
+where_none : (b : Bool) (o : Option ℕ) (l : ℕ) → (if b then o else Some l) ≡ None
+    → (b ≡ true) × (o ≡ None)
+where_none true o l e = (refl, e)
+where_none false o l e = cc
 
 -- arrays of one row count
 pub all_even : {V O : Type 0} (n : ℕ) (xs : List (Array V O)) → other_rows n xs ≡ None

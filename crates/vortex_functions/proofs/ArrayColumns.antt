@@ -18,22 +18,6 @@ use Rattle.vortex_functions.specs.Arrays.{AreRowsTyped}
 use Rattle.vortex_functions.specs.ArrayLeaves.{TellsConstant}
 use Rattle.vortex_functions.proofs.Execution.{constant_rows}
 
--- what reading a column as a constant tells of it
-abbrev pub IsConstantRead : ColumnView → Option (Bor ScalarView) → Type 0
-IsConstantRead c r =
-    MatchOption r (c.constant ≡ None) (λ s. c ≡ constant_column s.now (length c.rows))
-
-pub tells_constant : (c : ColumnView) (r : Option (Bor ScalarView)) → IsConstantRead c r
-    → TellsConstant c
-tells_constant c None h =
-    let P : Option ScalarView → Type 0 =
-    λ o. IfSome o (λ s. c ≡ constant_column s (length c.rows)) in
-    subst P (sym h) tt
-tells_constant c (Some s) h =
-    let P : Option ScalarView → Type 0 =
-    λ o. IfSome o (λ x. c ≡ constant_column x (length c.rows)) in
-    subst P (sym (ap (λ (d : ColumnView). d.constant) h)) h
-
 module _ {V O : Type 0} (m : Meaning V O) where
   -- a column has the rows of its array
   pub column_rows : (self : Array V O) (c : ColumnView) (n : ℕ) → self ≡ (column_tree c, n)
@@ -48,17 +32,6 @@ module _ {V O : Type 0} (m : Meaning V O) where
       go (Some s) p =
           constant_rows m [] n (held_or_constant c (Some s)) s c refl
           (p ∙ ap (constant_column s) count)
-
--- a column has a value of its type in each row
-module _ (V O : Type 0) (c : ColumnView) where
-  pub column_typed : AreTyped c.dtype c.rows → TellsTruly c
-      → AreRowsTyped {V = V} {O = O} (length c.rows) (column_tree c)
-  column_typed typed told = go c.constant told.1
-    where
-      go : (o : Option ScalarView) → IfSome o (λ s. HasType s.dtype s.value)
-          → AreRowsTyped {V = V} {O = O} (length c.rows) (held_or_constant c o)
-      go None h i lt = record { within = lt; typed = typed i null lt; told = told.0 i lt }
-      go (Some s) h i lt = h
 
 -- nulls have their type
 null_row : (n i : ℕ) → i < n → row (null_column n).rows i ≡ null
@@ -85,14 +58,3 @@ pub nulls_are_typed : (V O : Type 0) (n : ℕ) (c : ColumnView) → c ≡ null_c
 nulls_are_typed V O n c e =
     subst (λ (d : ColumnView). AreRowsTyped {V = V} {O = O} n (column_tree d)) (sym e)
     (nulls_typed n)
-
--- the type of a column is that of its tree
-module _ {V O : Type 0} (m : Meaning V O) where
-  pub column_type : (c : ColumnView) → TellsConstant c
-      → tree_type m (column_tree {V = V} {O = O} c) ≡ Some c.dtype
-  column_type c h = go c.constant h
-    where
-      go : (o : Option ScalarView) → IfSome o (λ s. c ≡ constant_column s (length c.rows))
-          → tree_type m (held_or_constant {V = V} {O = O} c o) ≡ Some c.dtype
-      go None p = refl
-      go (Some s) p = ap (λ (d : ColumnView). Some d.dtype) (sym p)

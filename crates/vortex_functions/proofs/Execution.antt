@@ -25,6 +25,7 @@ use Rattle.vortex_meaning.specs.Eval.{tree_type, tree_types, with_type, types_or
 use Rattle.vortex_meaning.specs.Eval.{eval_all, then_means, all_give, Settled, AllSettled}
 use Rattle.vortex_meaning.specs.Eval.{IsFirstFault, HasTreeRows}
 use Rattle.vortex_meaning.specs.Execution.{LeavesFit, other_length}
+use Rattle.vortex_meaning.proofs.RewrittenRows.{same_length}
 
 -- each tree's rows stand in the column beside it
 abbrev pub AllHaveRows : {V O : Type 0} → Meaning V O → List ColumnView → ℕ → List (Tree V O)
@@ -171,23 +172,6 @@ module _ {V O : Type 0} where
           (HasTreeRows m cs n (call f (trees_of ts))) (IsCallFault (function_means m f) ds n)
           (IsFirstFault m cs n (call f (trees_of ts))) (λ c p. call_rows f ts ds c k h e p)
           (λ d p. call_faults f ts ds d h p) a
-
-pub where_none : (b : Bool) (o : Option ℕ) (l : ℕ) → (if b then o else Some l) ≡ None
-    → (b ≡ true) × (o ≡ None)
-where_none true o l e = (refl, e)
-where_none false o l e = cc
-
--- columns that all have the row count
-pub same_length : (n : ℕ) (cs : List ColumnView) (p : ℕ) (c : ColumnView)
-    → other_length n cs ≡ None → slice_get cs p ≡ Some c → length c.rows ≡ n
-same_length n [] p c h e = cc
-same_length n (x ∷ xs) zero c h e =
-    let here : x ≡ c = cc in
-    let first = where_none (nat_eq (length x.rows) n) (other_length n xs) (length x.rows) h in
-    ap (λ (d : ColumnView). length d.rows) (sym here) ∙ eqb-true (length x.rows) n first.0
-same_length n (x ∷ xs) (suc p) c h e =
-    let first = where_none (nat_eq (length x.rows) n) (other_length n xs) (length x.rows) h in
-    same_length n xs p c first.1 e
 
 -- a column leaf's column
 pub leaf_rows : {V O : Type 0} (m : Meaning V O) (cs : List ColumnView) (n : ℕ) (self : Tree V O)

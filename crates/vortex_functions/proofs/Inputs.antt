@@ -11,13 +11,6 @@ use Rattle.vortex_functions.proofs.Execution.{AllHaveRows}
 use Rattle.vortex_functions.proofs.TreeLists.{list_of-trees_of}
 use Rattle.vortex_functions.specs.Executing.{HasRows}
 
--- copies that each equal their source
-pub same_copies : {A : Type 0} (ts os : List A) → AllMean IsCopy ts os → os ≡ ts
-same_copies [] [] h = refl
-same_copies [] (o ∷ os) h = absurd h
-same_copies (t ∷ ts) [] h = absurd h
-same_copies (t ∷ ts) (o ∷ os) h = λ j. h.0 j ∷ same_copies ts os h.1 j
-
 module _ {V O : Type 0} where
   -- what was made of the children of a tree that is known to be a call
   pub made_of_items : {P : Type 0} (means : Tree V O → P → Type 0) (self : Tree V O)

@@ -7,6 +7,7 @@ use Rattle.vortex_columns.specs.ColumnView.{ColumnView}
 use Rattle.vortex_meaning.specs.Trees.{Leaf, Tree, leaf, constant, call, Trees, no_trees, tree}
 use Rattle.vortex_meaning.specs.Trees.{trees_of, list_of, children_of, node_count, nodes_count}
 use Rattle.vortex_meaning.specs.Execution.{LeavesFit, AllLeavesFit}
+use Rattle.vortex_meaning.proofs.StepPlaces.{same_trees}
 use Rattle.vortex_functions.specs.Executing.{NodeFits}
 
 pub none_left : {A : Type 0} (xs : List A) → (0 < length xs → ⊥) → xs ≡ []
@@ -38,10 +39,6 @@ module _ {V O : Type 0} where
       → now ≡ before ++ take k ts → length ts ≤ k → ts ≡ kids → now ≡ before ++ kids
   all_listed before ts kids now k e h f =
       e ∙ ap (λ (xs : List (Tree V O)). before ++ xs) (take_all k ts h ∙ f)
-
-  same_trees : (ts : Trees V O) → trees_of (list_of ts) ≡ ts
-  same_trees no_trees = refl
-  same_trees (tree t ts) = ap (λ us. tree t us) (same_trees ts)
 
   count_append : (xs ys : List (Tree V O))
       → nodes_count (trees_of (xs ++ ys)) ≡ nodes_count (trees_of xs) + nodes_count (trees_of ys)
@@ -115,10 +112,3 @@ module _ {V O : Type 0} where
         let q = fits_below t node in
         let g = a.0 (subst (λ (xs : List (Tree V O)). AllFit xs) (sym e) tt) in
         inv.1 (q.0 g.1, g.0)
-
-    -- a lone leaf has no other node
-    pub lone_leaf_fits : (t : Tree V O) (l : Leaf) (b : Bool) → t ≡ leaf l
-        → (IsTrue b ↔ NodeFits cs t) → IsTrue b ↔ LeavesFit cs t
-    lone_leaf_fits t l b is h =
-        subst (λ (x : Tree V O). IsTrue b ↔ LeavesFit cs x) (sym is)
-        (subst (λ (x : Tree V O). IsTrue b ↔ NodeFits cs x) is h)

@@ -2,7 +2,7 @@
 -- that one.
 use Rattle.std.proofs.Common.{◌≡◌, ℕ, List, Bool, true, false, ◌&&◌, Option, Some, None, refl, ap}
 use Rattle.std.proofs.Common.{nat_eq, eq-eqb}
-use Rattle.std.proofs.lemmas.Bool.{eqb-true}
+use Rattle.std.proofs.lemmas.Bool.{eqb-true, and_parts, and_from}
 use Rattle.std.specs.Option.{option_eq}
 use Rattle.std.proofs.lemmas.Slice.Eq.{bytes_eq-Decides}
 use Rattle.std.specs.Str.{bytes_eq}
@@ -18,22 +18,14 @@ use Rattle.vortex_meaning.specs.Shipped.{Shipped}
 use Rattle.vortex_meaning.specs.Functions.{Function, ours, custom}
 use Rattle.vortex_functions.specs.SameFunctions.{AreSame}
 
-both_true : (a b : Bool) → (a && b) ≡ true → (a ≡ true) × (b ≡ true)
-both_true true b e = (refl, e)
-both_true false b e = cc
-
-and_true : (a b : Bool) → a ≡ true → b ≡ true → (a && b) ≡ true
-and_true true b p q = q
-and_true false b p q = p
-
 -- a test, and what it tells
 abbrev pub Tells : Bool → Type 0 → Type 0
 Tells b P = (b ≡ true → P) × (P → b ≡ true)
 
 tells_both : (a b : Bool) (P Q : Type 0) → Tells a P → Tells b Q → Tells (a && b) (P × Q)
 tells_both a b P Q p q = (
-  λ e. let both = both_true a b e in (p.0 both.0, q.0 both.1),
-  λ h. and_true a b (p.1 h.0) (q.1 h.1),
+  λ e. let both = and_parts a b e in (p.0 both.0, q.0 both.1),
+  λ h. and_from a b (p.1 h.0) (q.1 h.1),
 )
 
 pub operators_tell : (a b : Operator) → Tells (sameb operator.the_type a b) (a ≡ b)

@@ -69,14 +69,6 @@ module _ {V O : Type 0} where
           subst (λ xs. IfSome (function_text f xs) (λ b. out ≡ b)) (q ks refl)
           (subst (λ (o : List ℕ). IfSome (function_text f texts) (λ b. out ≡ o ++ b)) none g)
 
-  pub literal_has_text : (self : Tree V O) (s : ScalarView) (old out : List ℕ) (t : LogicalType)
-      (v : Value)
-      → self ≡ constant s → old ≡ [] → out ≡ old ++ literal_text t v → t ≡ s.dtype → v ≡ s.value
-      → IfSome (tree_text self) (λ b. out ≡ b)
-  literal_has_text self s old out t v is none e p q =
-      subst (λ (t : Tree V O). IfSome (tree_text t) (λ b. out ≡ b)) (sym is)
-      (e ∙ ap (λ (o : List ℕ). o ++ literal_text t v) none ∙ (λ j. literal_text (p j) (q j)))
-
   -- a well-typed call has as many children as fit
   pub children_fit : (m : Meaning V O) (f : Function V O) (ts : List (Tree V O)) (k : LogicalType)
       → tree_type m (call f (trees_of ts)) ≡ Some k → fits (function_arity m f) (length ts) ≡ true

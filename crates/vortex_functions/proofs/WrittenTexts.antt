@@ -1,9 +1,11 @@
 -- A tree that is written by pieces: what is written and what is left are its text, and less is left
 -- with each piece.
 use Rattle.std.proofs.Common.{◌≡◌, ℕ, zero, suc, ◌+◌, ◌<◌, ◌≤◌, length, List, [], ◌∷◌, ◌++◌, drop}
-use Rattle.std.proofs.Common.{map, Option, Some, None, refl, sym, ap, ◌∙◌, subst, arith}
-use Rattle.std.specs.Prelude.{⊤, codes, get_or, slice_get, IfSome}
-use Rattle.std.specs.Option.{option_and_then, option_map, unwrap_or}
+use Rattle.std.proofs.Common.{map, Option, Some, None, refl, sym, ap, ◌∙◌, subst, arith, add-one}
+use Rattle.std.proofs.Common.{Bor, string_bytes}
+use Rattle.std.specs.Prelude.{⊤, codes, get_or, slice_get, IfSome, String}
+use Rattle.std.specs.declared.alloc.Global.{Global}
+use Rattle.std.specs.Option.{option_and_then, option_map, option_copied, unwrap_or}
 use Rattle.std.proofs.lemmas.Option.{slice_get-map, slice_get_past, slice_get-get_or}
 use Rattle.std.proofs.lemmas.List.{append_assoc, append-nil}
 use Rattle.vortex_meaning.specs.CallTexts.{Piece, said, argument, told, piece_text}
@@ -15,13 +17,9 @@ use Rattle.vortex_meaning.specs.Trees.{tree, children_of, list_of, called}
 use Rattle.vortex_interface.proofs.PieceTexts.{drop_at, left_past, piece_written, text_got}
 use Rattle.vortex_interface.proofs.PieceTexts.{text_past}
 use Rattle.vortex_functions.specs.TreePieces.{pieces_of, tree_pieces, HasText, text_in, child_texts}
-use Rattle.vortex_functions.specs.TreePieces.{leaf_text}
+use Rattle.vortex_functions.specs.TreePieces.{leaf_text, WritesPiece}
 use Rattle.vortex_functions.proofs.TreeTexts.{parts}
 use Rattle.vortex_functions.specs.declared.expression.text.Writing.{Writing}
-
--- a tree, and the piece of its text that comes next
-abbrev pub Place : (V O : Type 0) → Type 0
-Place V O = Tree V O × ℕ
 
 -- the costs of pieces, where that of an argument is its tree's
 abbrev pub cost_at : ℕ → List ℕ → ℕ
@@ -68,20 +66,20 @@ module _ {V O : Type 0} where
   child_costs (constant s) = []
   child_costs (call f ts) = costs ts
 
-  -- what a place still costs, and several
-  abbrev pub place_cost : Place V O → ℕ
-  place_cost p = suc (pieces_cost (drop p.1 (tree_pieces p.0)) (child_costs p.0))
+  -- what a node costs from a piece on, and frames
+  abbrev cost_on : Tree V O → ℕ → ℕ
+  cost_on t k = suc (pieces_cost (drop k (tree_pieces t)) (child_costs t))
 
-  abbrev pub places_cost : List (Place V O) → ℕ
-  places_cost [] = 0
-  places_cost (p ∷ ps) = place_cost p + places_cost ps
+  abbrev pub frames_cost : List (Writing V O) → ℕ
+  frames_cost [] = 0
+  frames_cost (w ∷ ws) = cost_on w.node.now w.next + frames_cost ws
 
-  pub places_cost_push : (ps : List (Place V O)) (p : Place V O)
-      → places_cost (ps ++ p ∷ []) ≡ places_cost ps + place_cost p
-  places_cost_push [] p = omega arith
-  places_cost_push (q ∷ ps) p = omega (arith, places_cost_push ps p)
+  frames_cost_push : (ws : List (Writing V O)) (w : Writing V O)
+      → frames_cost (ws ++ w ∷ []) ≡ frames_cost ws + cost_on w.node.now w.next
+  frames_cost_push [] w = omega arith
+  frames_cost_push (x ∷ ws) w = omega (arith, frames_cost_push ws w)
 
-  cost_is : (t : Tree V O) → cost t ≡ place_cost (t, 0)
+  cost_is : (t : Tree V O) → cost t ≡ cost_on t 0
   cost_is (leaf l) = refl
   cost_is (constant s) = refl
   cost_is (call f ts) = refl
@@ -98,53 +96,41 @@ module _ {V O : Type 0} where
   child_cost (constant s) k c e = cc
   child_cost (call f ts) k c e = costs_at ts k c e
 
-  -- a place costs its next piece and what comes behind
+  -- that is its next piece and what comes behind
   cost_from : (t : Tree V O) (k : ℕ) (p : Piece) → slice_get (tree_pieces t) k ≡ Some p
-      → place_cost (t, k) ≡ piece_cost p (child_costs t) + place_cost (t, suc k)
+      → cost_on t k ≡ piece_cost p (child_costs t) + cost_on t (suc k)
   cost_from t k p e =
       let same = ap (λ ps. pieces_cost ps (child_costs t)) (drop_at (tree_pieces t) k p e) in
       omega (arith, same)
 
-  -- a piece that is written lessens the cost
-  pub said_costs : (t : Tree V O) (k : ℕ) (p : Piece) → slice_get (tree_pieces t) k ≡ Some p
-      → place_cost (t, suc k) < place_cost (t, k)
-  said_costs t k p e = omega (arith, cost_from t k p e, some_cost p (child_costs t))
+  -- what is left to write of a node, and of frames, the last of them first
+  abbrev left_on : Tree V O → ℕ → List ℕ
+  left_on t k = told (drop k (tree_pieces t)) (child_texts t)
 
-  -- and so does a child that is begun
-  pub begun_costs : (t : Tree V O) (k i : ℕ) (c : Tree V O)
-      → slice_get (tree_pieces t) k ≡ Some (argument i) → slice_get (children_of t) i ≡ Some c
-      → place_cost (t, suc k) + place_cost (c, 0) < place_cost (t, k)
-  begun_costs t k i c e at =
-      omega (arith, cost_from t k (argument i) e, child_cost t i c at, cost_is c)
-
-  -- what is left to write at a place, and at several, the last of them first
-  abbrev pub place_left : Place V O → List ℕ
-  place_left p = told (drop p.1 (tree_pieces p.0)) (child_texts p.0)
-
-  abbrev pub left : List (Place V O) → List ℕ
+  abbrev left : List (Writing V O) → List ℕ
   left [] = []
-  left (p ∷ ps) = left ps ++ place_left p
+  left (w ∷ ws) = left ws ++ left_on w.node.now w.next
 
-  pub left_push : (ps : List (Place V O)) (p : Place V O)
-      → left (ps ++ p ∷ []) ≡ place_left p ++ left ps
-  left_push [] p = sym (append-nil (place_left p))
-  left_push (q ∷ ps) p =
-      ap (λ bs. bs ++ place_left q) (left_push ps p)
-      ∙ append_assoc (place_left p) (left ps) (place_left q)
+  left_push : (ws : List (Writing V O)) (w : Writing V O)
+      → left (ws ++ w ∷ []) ≡ left_on w.node.now w.next ++ left ws
+  left_push [] w = sym (append-nil (left_on w.node.now w.next))
+  left_push (x ∷ ws) w =
+      ap (λ bs. bs ++ left_on x.node.now x.next) (left_push ws w)
+      ∙ append_assoc (left_on w.node.now w.next) (left ws) (left_on x.node.now x.next)
 
-  abbrev pub AllHaveText : List (Place V O) → Type 0
+  abbrev AllHaveText : List (Writing V O) → Type 0
   AllHaveText [] = ⊤
-  AllHaveText (p ∷ ps) = HasText p.0 × AllHaveText ps
+  AllHaveText (w ∷ ws) = HasText w.node.now × AllHaveText ws
 
-  pub texts_push : (ps : List (Place V O)) (p : Place V O)
-      → AllHaveText ps → HasText p.0 → AllHaveText (ps ++ p ∷ [])
-  texts_push [] p h t = (t, tt)
-  texts_push (q ∷ ps) p h t = (h.0, texts_push ps p h.1 t)
+  texts_push : (ws : List (Writing V O)) (w : Writing V O)
+      → AllHaveText ws → HasText w.node.now → AllHaveText (ws ++ w ∷ [])
+  texts_push [] w h t = (t, tt)
+  texts_push (x ∷ ws) w h t = (h.0, texts_push ws w h.1 t)
 
-  pub texts_pop : (ps : List (Place V O)) (p : Place V O)
-      → AllHaveText (ps ++ p ∷ []) → AllHaveText ps × HasText p.0
-  texts_pop [] p h = (tt, h.0)
-  texts_pop (q ∷ ps) p h = let r = texts_pop ps p h.1 in ((h.0, r.0), r.1)
+  texts_pop : (ws : List (Writing V O)) (w : Writing V O)
+      → AllHaveText (ws ++ w ∷ []) → AllHaveText ws × HasText w.node.now
+  texts_pop [] w h = (tt, h.0)
+  texts_pop (x ∷ ws) w h = let r = texts_pop ws w h.1 in ((h.0, r.0), r.1)
 
   texts_are : (ts : Trees V O) (texts : List (List ℕ)) → tree_texts ts ≡ Some texts
       → texts ≡ map text_in (list_of ts)
@@ -220,131 +206,134 @@ module _ {V O : Type 0} where
       some_same : {A : Type 0} {x y : A} → Some x ≡ Some y → x ≡ y
       some_same e = cc
 
-  -- what is written, and what is left at the places, is the root's text, where it has one
-  abbrev pub Writes : Tree V O → List ℕ → List (Place V O) → Type 0
-  Writes root out ps = HasText root → AllHaveText ps × (out ++ left ps ≡ text_in root)
+  -- what is written, and what is left of the frames, is the root's text, where it has one
+  abbrev pub Writes : Tree V O → List ℕ → List (Writing V O) → Type 0
+  Writes root out ws = HasText root → AllHaveText ws × (out ++ left ws ≡ text_in root)
 
-  -- past a node's last piece nothing is left of it
-  pub written_past : (root t : Tree V O) (out : List ℕ) (ps : List (Place V O)) (k : ℕ)
-      → Writes root out (ps ++ (t, k) ∷ []) → length (tree_pieces t) ≤ k → Writes root out ps
-  written_past root t out ps k w past h =
-      let r = w h in
-      let none = slice_get_past (tree_pieces t) k past in
-      let nothing : place_left (t, k) ≡ [] = left_past (tree_pieces t) (child_texts t) k none in
-      let rest : left (ps ++ (t, k) ∷ []) ≡ left ps =
-      left_push ps (t, k) ∙ ap (λ bs. bs ++ left ps) nothing in
-      ((texts_pop ps (t, k) r.0).0, ap (λ bs. out ++ bs) (sym rest) ∙ r.1)
-
-  -- after a piece is written
-  pub written_said : (root t : Tree V O) (out new : List ℕ) (ps : List (Place V O)) (k : ℕ)
-      (piece : Piece)
-      → Writes root out (ps ++ (t, k) ∷ []) → slice_get (tree_pieces t) k ≡ Some piece
-      → new ≡ out ++ piece_text piece (child_texts t) → Writes root new (ps ++ (t, suc k) ∷ [])
-  written_said root t out new ps k piece w e n h =
-      let r = w h in
-      let was = place_left (t, k) in
-      let is = place_left (t, suc k) in
-      let more : new ++ is ≡ out ++ was =
-      piece_written (tree_pieces t) (child_texts t) k piece out new (out ++ was) e refl n in
-      let texts = texts_pop ps (t, k) r.0 in (
-        texts_push ps (t, suc k) texts.0 texts.1,
-        ap (λ bs. new ++ bs) (left_push ps (t, suc k))
-            ∙ sym (append_assoc new is (left ps))
-            ∙ ap (λ bs. bs ++ left ps) more
-            ∙ append_assoc out was (left ps)
-            ∙ ap (λ bs. out ++ bs) (sym (left_push ps (t, k)))
-            ∙ r.1,
-      )
-
-  -- after a child is begun
-  pub written_begun : (root t c : Tree V O) (out new : List ℕ) (ps : List (Place V O)) (k i : ℕ)
-      → Writes root out (ps ++ (t, k) ∷ []) → slice_get (tree_pieces t) k ≡ Some (argument i)
-      → slice_get (children_of t) i ≡ Some c
-      → (HasText c → new ++ told (tree_pieces c) (child_texts c) ≡ out ++ text_in c)
-      → Writes root new ((ps ++ (t, suc k) ∷ []) ++ (c, 0) ∷ [])
-  written_begun root t c out new ps k i w e at b h =
-      let r = w h in
-      let texts = texts_pop ps (t, k) r.0 in
-      let has = call_text_is t texts.1 c i at in
-      let got : slice_get (child_texts t) i ≡ Some (text_in c) =
-      slice_get-map text_in (children_of t) i ∙ ap (option_map text_in) at in
-      let one : text_in c ≡ piece_text (argument i) (child_texts t) =
-      sym (text_got (child_texts t) i (text_in c) got) in
-      let next =
-      written_said root t out (out ++ text_in c) ps k (argument i) w e (ap (λ bs. out ++ bs) one)
-      h in
-      let above = ps ++ (t, suc k) ∷ [] in
-      let pieces = told (tree_pieces c) (child_texts c) in (
-        texts_push above (c, 0) next.0 has,
-        ap (λ bs. new ++ bs) (left_push above (c, 0))
-            ∙ sym (append_assoc new pieces (left above))
-            ∙ ap (λ bs. bs ++ left above) (b has)
-            ∙ next.1,
-      )
-
-  -- at the root, and at the end
-  pub written_first : (root : Tree V O) (old out : List ℕ) → old ≡ []
-      → (HasText root → out ++ told (tree_pieces root) (child_texts root) ≡ old ++ text_in root)
-      → Writes root out ((root, 0) ∷ [])
-  written_first root old out none b h =
-      ((h, tt), b h ∙ ap (λ bs. bs ++ text_in root) none)
-
-  pub written_all : (root : Tree V O) (out : List ℕ) → Writes root out []
-      → IfSome (tree_text root) (λ b. out ≡ b)
-  written_all root out w = go (tree_text root) refl
+  -- the last frame is taken off
+  module _ (all rest : List (Writing V O)) (last : Writing V O) (popped : all ≡ rest ++ last ∷ [])
     where
-      go : (o : Option (List ℕ)) → tree_text root ≡ o → IfSome o (λ b. out ≡ b)
-      go None e = tt
-      go (Some b) e =
-          sym (append-nil out) ∙ (w (b, e)).1 ∙ ap (λ o. unwrap_or o []) e
+      abbrev t : Tree V O
+      t = last.node.now
 
-  -- the costs of several places with another last one
-  pub past_costs : (ps : List (Place V O)) (p : Place V O)
-      → places_cost ps < places_cost (ps ++ p ∷ [])
-  past_costs ps p = omega (arith, places_cost_push ps p)
+      abbrev k : ℕ
+      k = last.next
 
-  pub said_costs_less : (t : Tree V O) (ps : List (Place V O)) (k : ℕ) (piece : Piece)
-      → slice_get (tree_pieces t) k ≡ Some piece
-      → places_cost (ps ++ (t, suc k) ∷ []) < places_cost (ps ++ (t, k) ∷ [])
-  said_costs_less t ps k piece e =
-      omega (
-        arith,
-        said_costs t k piece e,
-        places_cost_push ps (t, k),
-        places_cost_push ps (t, suc k),
-      )
+      pub past_costs : frames_cost rest < frames_cost all
+      past_costs = rw popped (omega (arith, frames_cost_push rest last))
 
-  pub begun_costs_less : (t c : Tree V O) (ps : List (Place V O)) (k i : ℕ)
-      → slice_get (tree_pieces t) k ≡ Some (argument i) → slice_get (children_of t) i ≡ Some c
-      → places_cost ((ps ++ (t, suc k) ∷ []) ++ (c, 0) ∷ []) < places_cost (ps ++ (t, k) ∷ [])
-  begun_costs_less t c ps k i e at =
-      omega (
-        arith,
-        begun_costs t k i c e at,
-        places_cost_push ps (t, k),
-        places_cost_push ps (t, suc k),
-        places_cost_push (ps ++ (t, suc k) ∷ []) (c, 0),
-      )
+      -- past its last piece nothing is left of it
+      pub written_past : (root : Tree V O) (out : List ℕ) → Writes root out all
+          → length (tree_pieces t) ≤ k → Writes root out rest
+      written_past root out w past h =
+          let r = subst (Writes root out) popped w h in
+          let none = slice_get_past (tree_pieces t) k past in
+          let nothing : left_on t k ≡ [] = left_past (tree_pieces t) (child_texts t) k none in
+          let same = left_push rest last ∙ ap (λ bs. bs ++ left rest) nothing in
+          ((texts_pop rest last r.0).0, ap (λ bs. out ++ bs) (sym same) ∙ r.1)
 
-  -- the places of frames
-  abbrev pub place_of : Writing V O → Place V O
-  place_of w = (w.node.now, w.next)
+      -- and stands behind its next piece
+      module _ (more : List (Writing V O))
+          (pushed : more ≡ rest ++ record { node = last.node; next = last.next + 1 } ∷ []) where
+        abbrev behind : Writing V O
+        behind = record { node = last.node; next = suc last.next }
 
-  abbrev pub places_of : List (Writing V O) → List (Place V O)
-  places_of ws = map place_of ws
+        goes : more ≡ rest ++ behind ∷ []
+        goes =
+            pushed
+            ∙ ap (λ n. rest ++ record { node = last.node; next = n } ∷ []) (add-one last.next)
 
-  pub places_push : (ws : List (Writing V O)) (w : Writing V O)
-      → places_of (ws ++ w ∷ []) ≡ places_of ws ++ place_of w ∷ []
-  places_push [] w = refl
-  places_push (x ∷ ws) w = ap (λ ps. place_of x ∷ ps) (places_push ws w)
+        pub said_costs : k < length (tree_pieces t) → frames_cost more < frames_cost all
+        said_costs within =
+            let piece = piece_there (tree_pieces t) k within in
+            rw (goes, popped)
+            (omega (
+              arith,
+              cost_from t k piece.0 piece.1,
+              some_cost piece.0 (child_costs t),
+              frames_cost_push rest last,
+              frames_cost_push rest behind,
+            ))
 
-  -- a frame that was taken from the list, and one that was put there
-  pub taken : (all rest : List (Writing V O)) (w : Writing V O) → all ≡ rest ++ w ∷ []
-      → places_of all ≡ places_of rest ++ (w.node.now, w.next) ∷ []
-  taken all rest w e = ap places_of e ∙ places_push rest w
+        -- after a piece is written
+        piece_said : (root : Tree V O) (out new : List ℕ) (piece : Piece) → Writes root out all
+            → slice_get (tree_pieces t) k ≡ Some piece
+            → new ≡ out ++ piece_text piece (child_texts t) → Writes root new (rest ++ behind ∷ [])
+        piece_said root out new piece w e n h =
+            let r = subst (Writes root out) popped w h in
+            let was = left_on t k in
+            let is = left_on t (suc k) in
+            let more : new ++ is ≡ out ++ was =
+            piece_written (tree_pieces t) (child_texts t) k piece out new (out ++ was) e refl n in
+            let texts = texts_pop rest last r.0 in (
+              texts_push rest behind texts.0 texts.1,
+              ap (λ bs. new ++ bs) (left_push rest behind)
+                  ∙ sym (append_assoc new is (left rest))
+                  ∙ ap (λ bs. bs ++ left rest) more
+                  ∙ append_assoc out was (left rest)
+                  ∙ ap (λ bs. out ++ bs) (sym (left_push rest last))
+                  ∙ r.1,
+            )
 
-  pub put : (all rest : List (Writing V O)) (w : Writing V O) (k : ℕ)
-      → all ≡ rest ++ w ∷ [] → w.next ≡ k
-      → places_of all ≡ places_of rest ++ (w.node.now, k) ∷ []
-  put all rest w k e n =
-      taken all rest w e ∙ ap (λ i. places_of rest ++ (w.node.now, i) ∷ []) n
+        module _ (root : Tree V O) (old new : String Global) (o : Option (Bor (Tree V O)))
+            (w : Writes root (string_bytes old) all)
+            (written : WritesPiece t k old new (option_copied o)) where
+          pub written_said : o ≡ None → k < length (tree_pieces t)
+              → Writes root (string_bytes new) more
+          written_said none within =
+              let piece = piece_there (tree_pieces t) k within in
+              let is = subst (λ x. WritesPiece t k old new (option_copied x)) none written in
+              subst (Writes root (string_bytes new)) (sym goes)
+              (piece_said root (string_bytes old) (string_bytes new) piece.0 w piece.1
+              (is piece.0 piece.1))
+
+          -- after a child is begun
+          module _ (child : Bor (Tree V O)) (found : o ≡ Some child) (deeper : List (Writing V O))
+              (begun : deeper ≡ more ++ record { node = child; next = 0 } ∷ []) where
+            abbrev first : Writing V O
+            first = record { node = child; next = 0 }
+
+            is : WritesPiece t k old new (Some child.now)
+            is = subst (λ x. WritesPiece t k old new (option_copied x)) found written
+
+            under : deeper ≡ (rest ++ behind ∷ []) ++ first ∷ []
+            under = begun ∙ ap (λ ws. ws ++ first ∷ []) goes
+
+            pub begun_costs : frames_cost deeper < frames_cost all
+            begun_costs =
+                rw (under, popped)
+                (omega (
+                  arith,
+                  cost_from t k (argument is.0) is.1,
+                  child_cost t is.0 child.now is.2,
+                  cost_is child.now,
+                  frames_cost_push rest last,
+                  frames_cost_push rest behind,
+                  frames_cost_push (rest ++ behind ∷ []) first,
+                ))
+
+            pub written_begun : Writes root (string_bytes new) deeper
+            written_begun = subst (Writes root (string_bytes new)) (sym under) there
+              where
+                there : Writes root (string_bytes new) ((rest ++ behind ∷ []) ++ first ∷ [])
+                there h =
+                    let c = child.now in
+                    let out = string_bytes old in
+                    let bytes = string_bytes new in
+                    let texts = texts_pop rest last (subst (Writes root out) popped w h).0 in
+                    let has = call_text_is t texts.1 c is.0 is.2 in
+                    let got : slice_get (child_texts t) is.0 ≡ Some (text_in c) =
+                    slice_get-map text_in (children_of t) is.0 ∙ ap (option_map text_in) is.2 in
+                    let one : text_in c ≡ piece_text (argument is.0) (child_texts t) =
+                    sym (text_got (child_texts t) is.0 (text_in c) got) in
+                    let next =
+                    piece_said root out (out ++ text_in c) (argument is.0) w is.1
+                    (ap (λ bs. out ++ bs) one) h in
+                    let above = rest ++ behind ∷ [] in
+                    let pieces = told (tree_pieces c) (child_texts c) in (
+                      texts_push above first next.0 has,
+                      ap (λ bs. bytes ++ bs) (left_push above first)
+                          ∙ sym (append_assoc bytes pieces (left above))
+                          ∙ ap (λ bs. bs ++ left above) (is.3 has)
+                          ∙ next.1,
+                    )

@@ -4,8 +4,7 @@ use Rattle.rowfn_scripts.proofs.laws.run_refuses_faults_alone.Goals as goal
 
 pub returns : goal.returns
 returns g c =
-    let m = g.C.ScalarFnVTable.meaning in
-    let rs = g.C.ScalarFnVTable.rules in
-    let sound = are_sound m rs g.met.C.ScalarFnVTable.lawful g.met.C.ScalarFnRules.rules_lawful in
     λ lines read n s t stack e reached known top.
-    refuses_faults_alone m rs sound lines read n s t stack reached known top e
+    refuses_faults_alone _ _
+    (are_sound g.met.C.ScalarFnVTable.lawful g.met.C.ScalarFnRules.rules_lawful)
+    lines read n s t stack reached known top e
