@@ -5,7 +5,7 @@ use std::alloc::Global;
 use std::fmt::Write;
 use vortex_columns::{DType, VortexResult};
 use vortex_functions::{BoundExpression, NoCustom};
-use vortex_rewriting::optimize_recursive;
+use vortex_rewriting::Rewrite;
 
 /// The name of a type, as expressions write it.
 fn push_type(out: &mut String, dtype: &DType) -> VortexResult<()> {
@@ -40,7 +40,7 @@ fn push_answer(out: &mut String, alloc: Global, answer: &Answer<NoCustom>) -> Vo
     out.push_str(answer.name.as_str())?;
     out.push_str("\n")?;
     push_tree(out, alloc, "tree", &answer.tree)?;
-    let optimized = optimize_recursive(alloc, &answer.tree, answer.tree.weight())?;
+    let optimized = answer.tree.optimize_recursive(alloc, answer.tree.weight())?;
     push_tree(out, alloc, "optimized", &optimized.tree)
 }
 

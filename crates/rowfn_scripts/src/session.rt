@@ -18,7 +18,7 @@ use vortex_columns::{
     Arity, Column, ExecutionCtx, Scalar, StructFields, VortexError, VortexResult,
 };
 use vortex_functions::{BoundExpression, ScalarFnRef, ScalarFnVTable};
-use vortex_rewriting::{Optimized, optimize_recursive, run};
+use vortex_rewriting::{Optimized, Rewrite, run};
 use vortex_rules::ScalarFnRules;
 
 /// The row count, the columns and the fields that name them, the trees that lines have pushed, and
@@ -262,7 +262,7 @@ impl<C: ScalarFnRules> Session<C> {
         let Some(old) = self.stack.pop() else {
             return Err(Stop::Malformed);
         };
-        let Optimized { tree, steps, done } = optimize_recursive(alloc, &old, old.weight())?;
+        let Optimized { tree, steps, done } = old.optimize_recursive(alloc, old.weight())?;
         let text = steps_text(alloc, steps, done)?;
         self.stack.push(tree)?;
         self.out.extend_from_slice(text.as_bytes())?;

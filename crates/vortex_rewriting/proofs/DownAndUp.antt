@@ -14,12 +14,6 @@ use Rattle.vortex_meaning.proofs.StepPlaces.{same_trees}
 use Rattle.vortex_meaning.proofs.TypedCalls.{types_with}
 use Rattle.vortex_rewriting.specs.Ways.{IsWay, with_parents, LeadsOn}
 
-pub is_within : {A : Type 0} (xs : List A) (k : ℕ) (x : A) → slice_get xs k ≡ Some x
-    → k < length xs
-is_within [] k x h = cc
-is_within (y ∷ ys) zero x h = omega arith
-is_within (y ∷ ys) (suc k) x h = let less = is_within ys k x h in omega (arith, less)
-
 pub popped : {A B : Type 0} (f : A → B) (items rest : List A) (p : A) → items ≡ rest ++ p ∷ []
     → map f items ≡ map f rest ++ f p ∷ []
 popped f items rest p e = ap (map f) e ∙ map-append f rest (p ∷ [])

@@ -2,6 +2,8 @@
 use Rattle.std.proofs.Common.{◌≡◌, ℕ, zero, suc, ◌+◌, ◌*◌, ◌<◌, ◌≤◌, List, [], ◌∷◌, ◌++◌, length}
 use Rattle.std.proofs.Common.{drop, Option, Some, None, refl, sym, ap, subst, ◌∙◌, arith}
 use Rattle.std.specs.Prelude.{slice_get, IsSome}
+use Rattle.std.proofs.lemmas.List.{append-nil, drop_all}
+use Rattle.vortex_interface.proofs.PieceTexts.{drop_at}
 use Rattle.vortex_meaning.specs.Trees.{Tree, leaf, constant, call, trees_of, list_of, children_of}
 use Rattle.vortex_meaning.specs.Trees.{node_count, nodes_count}
 use Rattle.vortex_meaning.specs.Driver.{step}
@@ -11,35 +13,13 @@ use Rattle.vortex_rewriting.specs.Places.{with_children}
 use Rattle.vortex_rewriting.specs.Frames.{partly, plug, AreSettled, AreFrames}
 use Rattle.vortex_meaning.proofs.StepPlaces.{same_trees}
 use Rattle.vortex_meaning.proofs.Driving.{child_typed}
+use Rattle.vortex_functions.proofs.TreeLists.{list_of-trees_of}
 use Rattle.vortex_rewriting.proofs.StepsBelow.{partly_more, step_at_root}
-
--- from a child on there is that child, and what is after it
-drop_child : {A : Type 0} (xs : List A) (k : ℕ) (x : A) → slice_get xs k ≡ Some x
-    → drop k xs ≡ x ∷ drop (suc k) xs
-drop_child [] k x e = cc
-drop_child (y ∷ ys) zero x e = let is : y ≡ x = cc in ap (λ z. z ∷ ys) is
-drop_child (y ∷ ys) (suc k) x e = drop_child ys k x e
-
-drop_all : {A : Type 0} (xs : List A) (k : ℕ) → length xs ≤ k → drop k xs ≡ []
-drop_all [] zero h = refl
-drop_all [] (suc k) h = refl
-drop_all (x ∷ xs) zero h = absurd (omega (arith, h))
-drop_all (x ∷ xs) (suc k) h = drop_all xs k (omega (arith, h))
-
-append_none : {A : Type 0} (xs : List A) → xs ++ [] ≡ xs
-append_none [] = refl
-append_none (x ∷ xs) = ap (λ ys. x ∷ ys) (append_none xs)
 
 get_next : {A : Type 0} (xs : List A) (x : A) (ys : List A)
     → slice_get (xs ++ x ∷ ys) (length xs) ≡ Some x
 get_next [] x ys = refl
 get_next (z ∷ zs) x ys = get_next zs x ys
-
-pub is_within : {A : Type 0} (xs : List A) (k : ℕ) (x : A) → slice_get xs k ≡ Some x
-    → k < length xs
-is_within [] k x h = cc
-is_within (y ∷ ys) zero x h = omega arith
-is_within (y ∷ ys) (suc k) x h = let less = is_within ys k x h in omega (arith, less)
 
 pub some_of : {A : Type 0} (o : Option A) → IsSome o → (a : A) × (o ≡ Some a)
 some_of None h = cc
@@ -67,23 +47,19 @@ module _ {V O : Type 0} where
       → partly t (done ++ x ∷ []) ≡ partly t done
   partly_next t done x e =
       partly_more t done x
-      ∙ ap (λ xs. with_children t (done ++ xs)) (sym (drop_child (children_of t) (length done) x e))
+      ∙ ap (λ xs. with_children t (done ++ xs)) (sym (drop_at (children_of t) (length done) x e))
 
   -- where all children are done none is left as it was
   pub partly_all : (t : Tree V O) (done : List (Tree V O))
       → length (children_of t) ≤ length done → partly t done ≡ with_children t done
   partly_all t done h =
       ap (with_children t)
-      (ap (λ xs. done ++ xs) (drop_all (children_of t) (length done) h) ∙ append_none done)
+      (ap (λ xs. done ++ xs) (drop_all (length done) (children_of t) h) ∙ append-nil done)
 
   pub plug_push : (fs : List (Tree V O × List (Tree V O))) (f : Tree V O × List (Tree V O))
       (t : Tree V O) → plug (fs ++ f ∷ []) t ≡ plug fs (partly f.0 (f.1 ++ t ∷ []))
   plug_push [] f t = refl
   plug_push (x ∷ xs) f t = ap (λ u. partly x.0 (x.1 ++ u ∷ [])) (plug_push xs f t)
-
-  list_back : (ts : List (Tree V O)) → list_of (trees_of ts) ≡ ts
-  list_back [] = refl
-  list_back (t ∷ ts) = ap (λ xs. t ∷ xs) (list_back ts)
 
   module _ (rule : Tree V O → Option (Tree V O)) where
     pub settled_next : (ts : List (Tree V O)) (t : Tree V O) → AreSettled rule ts
@@ -107,7 +83,7 @@ module _ {V O : Type 0} where
         → AreSettled rule (children_of (with_children t done))
     settled_children (leaf l) done h = tt
     settled_children (constant s) done h = tt
-    settled_children (call f ts) done h = subst (AreSettled rule) (sym (list_back done)) h
+    settled_children (call f ts) done h = subst (AreSettled rule) (sym (list_of-trees_of done)) h
 
     -- the step of a node on settled children is what the rule makes of it
     pub step_when_done : (t : Tree V O) (done : List (Tree V O)) → AreSettled rule done
@@ -156,7 +132,7 @@ module _ {V O : Type 0} where
   nodes_from : (ts : List (Tree V O)) (k : ℕ) (t : Tree V O) → slice_get ts k ≡ Some t
       → nodes_count (trees_of (drop k ts))
       ≡ node_count t + nodes_count (trees_of (drop (suc k) ts))
-  nodes_from ts k t e = ap (λ xs. nodes_count (trees_of xs)) (drop_child ts k t e)
+  nodes_from ts k t e = ap (λ xs. nodes_count (trees_of xs)) (drop_at ts k t e)
 
   node_and_children : (t : Tree V O)
       → node_count t ≡ suc (nodes_count (trees_of (children_of t)))

@@ -1,6 +1,6 @@
 -- The rule of the driver is sound and makes trees lighter, so a run of its steps is a rewrite, and
 -- of fewer steps than the weight of the tree.
-use Rattle.std.proofs.Common.{◌≡◌, ℕ, ◌<◌, Option, Some, ◌∙◌}
+use Rattle.std.proofs.Common.{◌≡◌, ℕ, ◌<◌, Option, Some, ◌∙◌, subst, sym}
 use Rattle.std.specs.Prelude.{IsSome}
 use Rattle.vortex_types.specs.LogicalTypes.{LogicalType}
 use Rattle.vortex_meaning.specs.Meaning.{Meaning}
@@ -26,19 +26,23 @@ module _ {V O : Type 0} (m : Meaning V O) (applied : Rule → Tree V O → Optio
   first_rule_lightens lightens =
       first_lightens m (applied Simplify) (applied Reduce) (lightens Simplify) (lightens Reduce)
 
-  module _ (n : ℕ) (t u : Tree V O) (k : LogicalType) (h : tree_type m t ≡ Some k)
-      (run : Runs (first_rule applied) n t u) where
-    pub run_rewrites : ((rule : Rule) → IsSound m (applied rule)) → Rewrites m t u
-    run_rewrites sound = runs_sound m (first_rule applied) (first_rule_sound sound) n t u k h run
+  module _ (rule : Tree V O → Option (Tree V O)) (is : rule ≡ first_rule applied) where
+    pub rule_sound : ((r : Rule) → IsSound m (applied r)) → IsSound m rule
+    rule_sound sound = subst (IsSound m) (sym is) (first_rule_sound sound)
 
-    pub run_typed : ((rule : Rule) → IsSound m (applied rule)) → IsSome (tree_type m u)
-    run_typed sound = some_is (tree_type m u) k ((run_rewrites sound).dtype ∙ h)
+    pub rule_lightens : ((r : Rule) → Lightens m (applied r)) → Lightens m rule
+    rule_lightens lightens = subst (Lightens m) (sym is) (first_rule_lightens lightens)
 
-    pub run_lighter : ((rule : Rule) → Lightens m (applied rule)) → OnlyShipped t
-        → IsLighter m n t u
-    run_lighter lightens shipped =
-        runs_lighter m (first_rule applied) (first_rule_lightens lightens) n t u k h shipped run
+module _ {V O : Type 0} (m : Meaning V O) (rule : Tree V O → Option (Tree V O)) (n : ℕ)
+    (t u : Tree V O) (k : LogicalType) (h : tree_type m t ≡ Some k) (run : Runs rule n t u) where
+  pub run_rewrites : IsSound m rule → Rewrites m t u
+  run_rewrites sound = runs_sound m rule sound n t u k h run
 
-    pub run_fewer : ((rule : Rule) → Lightens m (applied rule)) → OnlyShipped t → n < weight m t
-    run_fewer lightens shipped =
-        runs_bound m (first_rule applied) (first_rule_lightens lightens) n t u k h shipped run
+  pub run_typed : IsSound m rule → IsSome (tree_type m u)
+  run_typed sound = some_is (tree_type m u) k ((run_rewrites sound).dtype ∙ h)
+
+  pub run_lighter : Lightens m rule → OnlyShipped t → IsLighter m n t u
+  run_lighter lightens shipped = runs_lighter m rule lightens n t u k h shipped run
+
+  pub run_fewer : Lightens m rule → OnlyShipped t → n < weight m t
+  run_fewer lightens shipped = runs_bound m rule lightens n t u k h shipped run

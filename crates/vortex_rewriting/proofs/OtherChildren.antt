@@ -24,12 +24,6 @@ module _ {V O : Type 0} where
       let is : f ≡ g = cc in
       ap (λ x. call x (trees_of us)) is
 
-  pub with_children_leaf : (t : Tree V O) (us : List (Tree V O)) → called t ≡ None
-      → t ≡ with_children t us
-  with_children_leaf (leaf l) us h = refl
-  with_children_leaf (constant s) us h = refl
-  with_children_leaf (call g ts) us h = cc
-
   -- other children of the same types keep the type
   pub others_typed : (m : Meaning V O) (t : Tree V O) (us : List (Tree V O))
       → tree_types m (trees_of us) ≡ tree_types m (trees_of (children_of t))

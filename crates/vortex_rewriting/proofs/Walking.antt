@@ -5,6 +5,7 @@ use Rattle.std.specs.Prelude.{slice_get, IsSome, IfSome}
 use Rattle.std.specs.Option.{option_map}
 use Rattle.std.proofs.lemmas.List.{length-map, map-append}
 use Rattle.std.proofs.lemmas.List.Elements.{All-nil, All-push, All-pop}
+use Rattle.std.proofs.lemmas.Option.{slice_get_within}
 use Rattle.vortex_meaning.specs.Trees.{Tree, children_of}
 use Rattle.vortex_meaning.specs.Driver.{step}
 use Rattle.vortex_meaning.specs.Meaning.{Meaning}
@@ -15,7 +16,7 @@ use Rattle.vortex_rewriting.specs.Frames.{HaveRows}
 use Rattle.vortex_rewriting.proofs.StepsBelow.{length_next}
 use Rattle.vortex_rewriting.proofs.FrameWalks.{partly_none, partly_next, plug_push, frames_push}
 use Rattle.vortex_rewriting.proofs.FrameWalks.{frames_pop, settled_next, step_when_done}
-use Rattle.vortex_rewriting.proofs.FrameWalks.{below_typed, is_within, left_above, left_from}
+use Rattle.vortex_rewriting.proofs.FrameWalks.{below_typed, left_above, left_from}
 use Rattle.vortex_rewriting.proofs.FrameWalks.{past_fewer, down_fewer, up_fewer}
 
 pub map_push : {A B : Type 0} (f : A → B) (more done : List A) (a : A) → more ≡ done ++ a ∷ []
@@ -193,7 +194,7 @@ module _ {T V O : Type 0} (tree : T → Tree V O) where
         frames =
             subst (AreFrames rule) (sym (map_push seen all fs f e))
             (frames_push rule (frames_in tree fs) (seen f) w.frames w.settled
-            (is_within (children_of (tree f.node)) (length (map tree f.done.items)) (tree child)
+            (slice_get_within (children_of (tree f.node)) (length (map tree f.done.items)) (tree child)
             at));
         settled = subst (λ xs. AreSettled rule (map tree xs)) (sym n) tt;
         same =

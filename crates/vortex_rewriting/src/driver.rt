@@ -1,13 +1,11 @@
 //! The driver: rules at the first place at which one applies, again and again.
-ghost use Rattle.std.specs.Prelude.{◌≡◌, ◌<◌, ◌≤◌, ◌↔◌, IfOk, IfSome, IsSome, IsTrue, None, false};
+ghost use Rattle.std.specs.Prelude.{◌≡◌, ◌≤◌, ◌↔◌, IfOk, IsSome, IsTrue, None, false};
 ghost use Rattle.std.specs.Option.{option_map};
-ghost use Rattle.vortex_meaning.specs.Rewrites.{Rewrites};
-ghost use Rattle.vortex_meaning.specs.Weights.{weight, OnlyShipped, IsLighter};
 ghost use Rattle.vortex_meaning.specs.Driver.{step, Runs};
 ghost use Rattle.vortex_functions.specs.Words.{tree_type, AnswersUnlessMemory};
-ghost use Rattle.vortex_rewriting.specs.Driving.{first_rule};
 ghost use Rattle.vortex_rewriting.specs.Frames.{plug, frames_in, AreFrames, HaveRows};
 ghost use Rattle.vortex_rewriting.specs.Found.{IsFound, FoundHasRows};
+ghost use Rattle.vortex_rules.specs.Beside.{AnswersIfAny};
 
 use crate::frames::{Frame, next_child, over_children, whole_tree};
 use crate::leaf::RewriteLeaf;
@@ -22,10 +20,8 @@ fn apply_first<C: ScalarFnRules, L: RewriteLeaf<C>>(
     alloc: Global,
     tree: &Tree<C, L>,
 ) -> VortexResult<Option<Tree<C, L>>>
-    ensures answer { AnswersUnlessMemory result
-        (λ answer. option_map L.tree_of answer ≡ first_rule L.applied (L.tree_of tree.now)) }
-    ensures same_rows { IfOk result
-        (λ answer. IfSome answer (λ made. L.beside_of made ≡ L.beside_of tree.now)) }
+    ensures { AnswersIfAny L.beside_of (L.beside_of tree.now)
+        (λ answer. option_map L.tree_of answer ≡ L.rule (L.tree_of tree.now)) result }
 {
     match L::apply(alloc, tree, Rule::Simplify)? {
         Some(made) => Ok(Some(made)),
@@ -49,11 +45,11 @@ fn seek<C: ScalarFnRules, L: RewriteLeaf<C>>(
     above: Vec<Frame<Tree<C, L>>>,
     node: Tree<C, L>,
 ) -> VortexResult<Found<Tree<C, L>>>
-    requires frames { AreFrames (first_rule L.applied) (frames_in L.tree_of above.items) }
+    requires frames { AreFrames L.rule (frames_in L.tree_of above.items) }
     requires typed { IsSome (tree_type C.meaning
         (plug (frames_in L.tree_of above.items) (L.tree_of node))) }
     requires same_rows { HaveRows L.beside_of (L.beside_of node) above.items }
-    ensures answer { AnswersUnlessMemory result (IsFound (first_rule L.applied) L.tree_of
+    ensures answer { AnswersUnlessMemory result (IsFound L.rule L.tree_of
         (plug (frames_in L.tree_of above.items) (L.tree_of node))) }
     ensures same_rows { IfOk result (FoundHasRows L.beside_of (L.beside_of node)) }
 {
@@ -99,17 +95,18 @@ pub struct Optimized<T: Drop> {
     pub done: bool,
 }
 
-/// At most `limit` steps from a tree. After one it goes on within what the rule made there.
-fn take_steps<C: ScalarFnRules, L: RewriteLeaf<C>>(
+/// At most `limit` steps from a tree. After one it goes on within what the rule made there. E9
+/// alone.
+pub(crate) fn take_steps<C: ScalarFnRules, L: RewriteLeaf<C>>(
     alloc: Global,
     tree: &Tree<C, L>,
     limit: u64,
 ) -> VortexResult<Optimized<Tree<C, L>>>
     ensures run { AnswersUnlessMemory result
-        (λ o. Runs (first_rule L.applied) o.steps (L.tree_of tree.now) (L.tree_of o.tree)) }
+        (λ o. Runs L.rule o.steps (L.tree_of tree.now) (L.tree_of o.tree)) }
     ensures limited { IfOk result (λ o. o.steps ≤ limit) }
     ensures done { IfOk result
-        (λ o. IsTrue o.done ↔ (step (first_rule L.applied) (L.tree_of o.tree) ≡ None)) }
+        (λ o. IsTrue o.done ↔ (step L.rule (L.tree_of o.tree) ≡ None)) }
     ensures stopped { IfOk result (λ o. o.done ≡ false → o.steps ≡ limit) }
     ensures same_rows { IfOk result (λ o. L.beside_of o.tree ≡ L.beside_of tree.now) }
 {
@@ -140,32 +137,4 @@ fn take_steps<C: ScalarFnRules, L: RewriteLeaf<C>>(
             }
         }
     }
-}
-
-/// A run of steps: each rewrites the first place, children from left to right before their parent,
-/// at which a rule applies, by Simplify before Reduce. It stops where no rule applies anywhere, or
-/// after `limit` steps; a tree of shipped functions alone needs fewer than it weighs. E9 alone.
-pub fn optimize_recursive<C: ScalarFnRules, L: RewriteLeaf<C>>(
-    alloc: Global,
-    tree: &Tree<C, L>,
-    limit: u64,
-) -> VortexResult<Optimized<Tree<C, L>>>
-    ensures run { AnswersUnlessMemory result
-        (λ o. Runs (first_rule L.applied) o.steps (L.tree_of tree.now) (L.tree_of o.tree)) }
-    ensures kept { IfOk result (λ o. Rewrites C.meaning (L.tree_of tree.now) (L.tree_of o.tree)) }
-    ensures limited { IfOk result (λ o. o.steps ≤ limit) }
-    ensures done { IfOk result
-        (λ o. IsTrue o.done ↔ (step (first_rule L.applied) (L.tree_of o.tree) ≡ None)) }
-    ensures stopped { IfOk result (λ o. o.done ≡ false → o.steps ≡ limit) }
-    ensures lighter { IfOk result (λ o. OnlyShipped (L.tree_of tree.now)
-        → IsLighter C.meaning o.steps (L.tree_of tree.now) (L.tree_of o.tree)) }
-    ensures fewer { IfOk result (λ o. OnlyShipped (L.tree_of tree.now)
-        → o.steps < weight C.meaning (L.tree_of tree.now)) }
-    ensures ends { IfOk result (λ o. OnlyShipped (L.tree_of tree.now)
-        → weight C.meaning (L.tree_of tree.now) ≤ limit → IsTrue o.done) }
-    ensures same_rows { IfOk result (λ o. L.beside_of o.tree ≡ L.beside_of tree.now) }
-{
-    let _typed = tree.dtype();
-    let optimized = take_steps(alloc, tree, limit)?;
-    Ok(optimized)
 }

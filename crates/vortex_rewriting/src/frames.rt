@@ -2,16 +2,15 @@
 ghost use Rattle.std.specs.Prelude.{◌≡◌, ◌<◌, ◌≤◌, All, IfOk, IfSome, IsSome, length, map};
 ghost use Rattle.std.specs.Option.{option_map};
 ghost use Rattle.vortex_functions.specs.Words.{children_of, tree_type, AnswersUnlessMemory};
-ghost use Rattle.vortex_rewriting.specs.Driving.{first_rule};
 ghost use Rattle.vortex_rewriting.specs.Frames.{partly, plug, frames_in, AreFrames, HaveRows};
 ghost use Rattle.vortex_rewriting.specs.Frames.{IsNext};
+ghost use Rattle.vortex_rules.specs.Beside.{AnswersBeside};
 
 use crate::children::with_children;
-use crate::leaf::RewriteLeaf;
 use std::alloc::Global;
 use vortex_columns::VortexResult;
-use vortex_functions::Tree;
-use vortex_rules::ScalarFnRules;
+use vortex_functions::{Leaf, Tree};
+use vortex_interface::ScalarFnVTable;
 
 /// A node above, and its first children as they are now.
 #[derive(Drop)]
@@ -21,7 +20,7 @@ pub(crate) struct Frame<T> {
 }
 
 /// A copy of the child after those that are done; none where all are.
-pub(crate) fn next_child<C: ScalarFnRules, L: RewriteLeaf<C>>(
+pub(crate) fn next_child<C: ScalarFnVTable, L: Leaf<C, C::Options>>(
     alloc: Global,
     node: &Tree<C, L>,
     done: &[Tree<C, L>],
@@ -40,7 +39,7 @@ pub(crate) fn next_child<C: ScalarFnRules, L: RewriteLeaf<C>>(
 
 /// The node on its children as they are now, all of which are done. It is made anew even where they
 /// are as they were: only a call that no one else holds can be marked.
-pub(crate) fn over_children<C: ScalarFnRules, L: RewriteLeaf<C>>(
+pub(crate) fn over_children<C: ScalarFnVTable, L: Leaf<C, C::Options>>(
     alloc: Global,
     node: Tree<C, L>,
     done: Vec<Tree<C, L>>,
@@ -49,9 +48,8 @@ pub(crate) fn over_children<C: ScalarFnRules, L: RewriteLeaf<C>>(
     requires typed { IsSome (tree_type C.meaning
         (partly (L.tree_of node) (map L.tree_of done.items))) }
     requires same_rows { All (λ child. L.beside_of child ≡ L.beside_of node) done.items }
-    ensures answer { AnswersUnlessMemory result
-        (λ made. L.tree_of made ≡ partly (L.tree_of node) (map L.tree_of done.items)) }
-    ensures same_rows { IfOk result (λ made. L.beside_of made ≡ L.beside_of node) }
+    ensures { AnswersBeside L.beside_of (L.beside_of node) (λ made. L.tree_of made
+        ≡ partly (L.tree_of node) (map L.tree_of done.items)) result }
 {
     if done.is_empty() {
         return Ok(node);
@@ -60,7 +58,7 @@ pub(crate) fn over_children<C: ScalarFnRules, L: RewriteLeaf<C>>(
 }
 
 /// The node on its first children as they are now, and the others as they were.
-fn closed<C: ScalarFnRules, L: RewriteLeaf<C>>(
+fn closed<C: ScalarFnVTable, L: Leaf<C, C::Options>>(
     alloc: Global,
     frame: Frame<Tree<C, L>>,
 ) -> VortexResult<Tree<C, L>>
@@ -68,9 +66,9 @@ fn closed<C: ScalarFnRules, L: RewriteLeaf<C>>(
         (partly (L.tree_of frame.node) (map L.tree_of frame.done.items))) }
     requires same_rows { All (λ child. L.beside_of child ≡ L.beside_of frame.node)
         frame.done.items }
-    ensures answer { AnswersUnlessMemory result
-        (λ made. L.tree_of made ≡ partly (L.tree_of frame.node) (map L.tree_of frame.done.items)) }
-    ensures same_rows { IfOk result (λ made. L.beside_of made ≡ L.beside_of frame.node) }
+    ensures { AnswersBeside L.beside_of (L.beside_of frame.node)
+        (λ made. L.tree_of made ≡ partly (L.tree_of frame.node) (map L.tree_of frame.done.items))
+        result }
 {
     let Frame { node, mut done } = frame;
     while let Some(child) = next_child(alloc, &node, &done)? {
@@ -80,18 +78,18 @@ fn closed<C: ScalarFnRules, L: RewriteLeaf<C>>(
 }
 
 /// The whole tree, with that tree below the frames.
-pub(crate) fn whole_tree<C: ScalarFnRules, L: RewriteLeaf<C>>(
+pub(crate) fn whole_tree<C: ScalarFnVTable, L: Leaf<C, C::Options>>(
     alloc: Global,
     above: Vec<Frame<Tree<C, L>>>,
     place: Tree<C, L>,
 ) -> VortexResult<Tree<C, L>>
-    requires frames { AreFrames (first_rule L.applied) (frames_in L.tree_of above.items) }
+    requires frames { AreFrames L.rule (frames_in L.tree_of above.items) }
     requires typed { IsSome (tree_type C.meaning
         (plug (frames_in L.tree_of above.items) (L.tree_of place))) }
     requires same_rows { HaveRows L.beside_of (L.beside_of place) above.items }
-    ensures answer { AnswersUnlessMemory result
-        (λ whole. L.tree_of whole ≡ plug (frames_in L.tree_of above.items) (L.tree_of place)) }
-    ensures same_rows { IfOk result (λ whole. L.beside_of whole ≡ L.beside_of place) }
+    ensures { AnswersBeside L.beside_of (L.beside_of place)
+        (λ whole. L.tree_of whole ≡ plug (frames_in L.tree_of above.items) (L.tree_of place))
+        result }
 {
     let mut above = above;
     let mut whole = place;

@@ -1,12 +1,12 @@
 //! What rewriting asks of a kind of leaf.
-ghost use Rattle.std.specs.Prelude.{◌≡◌, IfOk, IfSome, Option};
+ghost use Rattle.std.specs.Prelude.{◌≡◌, Option};
 ghost use Rattle.std.specs.Option.{option_map};
 ghost use Rattle.vortex_meaning.specs.Trees.{Tree};
 ghost use Rattle.vortex_meaning.specs.Weights.{Lightens};
 ghost use Rattle.vortex_meaning.specs.Rewrites.{IsSound};
-ghost use Rattle.vortex_functions.specs.Words.{AnswersUnlessMemory};
 ghost use Rattle.vortex_rewriting.specs.Driving.{first_rule};
 ghost use Rattle.vortex_rewriting.specs.declared.rule.Rule.{Rule};
+ghost use Rattle.vortex_rules.specs.Beside.{AnswersIfAny};
 
 use crate::rule::Rule;
 use std::alloc::Global;
@@ -21,10 +21,9 @@ pub trait RewriteLeaf<C: ScalarFnRules>: RuleLeaf<C> {
 
     /// What a rule makes of the tree at its root; None where it does not apply. E9 alone.
     fn apply(alloc: Global, tree: &Tree<C, Self>, rule: Rule) -> VortexResult<Option<Tree<C, Self>>>
-        ensures answer { AnswersUnlessMemory result
-            (λ answer. option_map Self.tree_of answer ≡ applied rule (Self.tree_of tree.now)) }
-        ensures same_rows { IfOk result
-            (λ answer. IfSome answer (λ made. Self.beside_of made ≡ Self.beside_of tree.now)) };
+        ensures { AnswersIfAny Self.beside_of (Self.beside_of tree.now)
+            (λ answer. option_map Self.tree_of answer ≡ applied rule (Self.tree_of tree.now))
+            result };
 
     /// The rule that marks speak of is the driver's.
     ghost rule_is: { Self.Leaf.rule ≡ first_rule applied };

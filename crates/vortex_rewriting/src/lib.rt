@@ -14,9 +14,9 @@ pub mod rule;
 pub mod running;
 mod ways;
 
-pub use driver::{Optimized, optimize_recursive};
+pub use driver::Optimized;
 pub use leaf::RewriteLeaf;
-pub use places::{Rewritten, rewrite_at, rewrite_list};
+pub use places::Rewritten;
 pub use rewrite::Rewrite;
 pub use rule::Rule;
 pub use running::{run, run_array};

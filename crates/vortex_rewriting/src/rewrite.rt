@@ -1,4 +1,4 @@
-//! Rewriting, as methods of trees.
+//! Rewriting, as methods of trees of either kind.
 ghost use Rattle.std.specs.Prelude.{◌≡◌, ◌<◌, ◌≤◌, ◌↔◌, IfOk, IfSome, IsTrue, None, Option, Some};
 ghost use Rattle.std.specs.Prelude.{false};
 ghost use Rattle.vortex_meaning.specs.Trees.{Tree};
@@ -13,9 +13,9 @@ ghost use Rattle.vortex_functions.specs.Words.{AnswersUnlessMemory};
 ghost use Rattle.vortex_rewriting.specs.Driving.{first_rule};
 ghost use Rattle.vortex_rewriting.specs.Rewriting.{AnswersRewritten, steps_of};
 
-use crate::driver::{self, Optimized};
+use crate::driver::{Optimized, take_steps};
 use crate::leaf::RewriteLeaf;
-use crate::places::{self, Rewritten};
+use crate::places::{Rewritten, made_at, made_by};
 use crate::rule::Rule;
 use std::alloc::Global;
 use vortex_columns::VortexResult;
@@ -112,7 +112,8 @@ impl<C: ScalarFnRules, L: RewriteLeaf<C>> Rewrite<C> for Tree<C, L> {
         path: &[usize],
         rule: Rule,
     ) -> VortexResult<Option<Tree<C, L>>> {
-        places::rewrite_at(alloc, self, path, rule)
+        let _typed = self.dtype();
+        made_at(alloc, self, path, rule)
     }
 
     fn rewrite_list(
@@ -120,10 +121,14 @@ impl<C: ScalarFnRules, L: RewriteLeaf<C>> Rewrite<C> for Tree<C, L> {
         alloc: Global,
         steps: &[(&[usize], Rule)],
     ) -> VortexResult<Rewritten<Tree<C, L>>> {
-        places::rewrite_list(alloc, self, steps)
+        let _typed = self.dtype();
+        let made = made_by(alloc, self, steps)?;
+        Ok(made)
     }
 
     fn optimize_recursive(&self, alloc: Global, limit: u64) -> VortexResult<Optimized<Tree<C, L>>> {
-        driver::optimize_recursive(alloc, self, limit)
+        let _typed = self.dtype();
+        let optimized = take_steps(alloc, self, limit)?;
+        Ok(optimized)
     }
 }

@@ -4,7 +4,7 @@ ghost use Rattle.std.specs.Prelude.{◌≡◌};
 ghost use Rattle.vortex_functions.specs.Words.{AnswersUnlessMemory};
 ghost use Rattle.vortex_rewriting.specs.Runs.{AnswersRun, AnswersRunOfArray};
 
-use crate::driver::optimize_recursive;
+use crate::driver::take_steps;
 use std::alloc::Global;
 use std::borrow::Cow;
 use vortex_columns::{Column, ExecutionCtx, VortexResult};
@@ -32,7 +32,7 @@ pub fn run<'a, C: ScalarFnRules>(
     // it says that the tree is well typed, and that each literal has its type
     let _typed = tree.dtype();
     tree.check_columns(columns, row_count, ctx)?;
-    let optimized = optimize_recursive(ctx.alloc(), tree, limit)?;
+    let optimized = take_steps(ctx.alloc(), tree, limit)?;
     optimized.tree.execute(columns, row_count, ctx)
 }
 
@@ -59,7 +59,7 @@ pub fn run_array<C: ScalarFnRules>(
 {
     // it says that the tree is well typed, and that what it holds has values of its types
     let _typed = tree.dtype();
-    let optimized = optimize_recursive(ctx.alloc(), tree, limit)?;
+    let optimized = take_steps(ctx.alloc(), tree, limit)?;
     let column = optimized.tree.execute(ctx)?;
     own_column(ctx.alloc(), column)
 }

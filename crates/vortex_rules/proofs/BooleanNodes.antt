@@ -1,8 +1,11 @@
 -- A well-typed node of And or Or: its two operands, and what Reduce makes of it.
 use Rattle.std.proofs.Common.{◌≡◌, Bool, true, length, Option, Some, refl, sym, ap, ◌∙◌, arith}
-use Rattle.std.specs.Prelude.{slice_get}
+use Rattle.std.specs.Prelude.{slice_get, Result}
 use borrow.Author.Tests.{eqb-true}
 use Rattle.std.specs.Option.{option_map}
+use Rattle.vortex_errors.specs.declared.error.VortexError.{VortexError}
+use Rattle.vortex_errors.specs.Answers.{AnswersUnlessMemory}
+use Rattle.vortex_errors.proofs.Answering.{AnswersUnlessMemory-weaker}
 use Rattle.vortex_types.specs.LogicalTypes.{LogicalType, bool_type, is_nullable}
 use Rattle.vortex_operators.specs.declared.operators.Operator.{Operator}
 use Rattle.vortex_operators.specs.declared.operators.Operator.TheVariants.{And, Or}
@@ -51,17 +54,17 @@ module _ {V O : Type 0} (m : Meaning V O) where
   is_operated t op x y k c h l r = operated_by t op x y c (two_operands t op k c h) l r
 
   -- either operand can be cast
-  pub casts_left : (t : Tree V O) (op : Operator) (x y : Tree V O) (k : LogicalType)
-      → is_boolean op ≡ true → t ≡ operated op x y → tree_type m t ≡ Some k
+  pub casts_left : {t x y : Tree V O} {op : Operator} {k : LogicalType} → is_boolean op ≡ true
+      → t ≡ operated op x y → tree_type m t ≡ Some k
       → tree_type m (cast_of x) ≡ Some (bool_type true)
-  casts_left t op x y k b is h =
+  casts_left {x = x} {y = y} {op = op} {k = k} b is h =
       let c = bool_call m op x y k b (sym (ap (tree_type m) is) ∙ h) in
       type_of_one m (ours Cast) x (bool_type c.left_null) c.left
 
-  pub casts_right : (t : Tree V O) (op : Operator) (x y : Tree V O) (k : LogicalType)
-      → is_boolean op ≡ true → t ≡ operated op x y → tree_type m t ≡ Some k
+  pub casts_right : {t x y : Tree V O} {op : Operator} {k : LogicalType} → is_boolean op ≡ true
+      → t ≡ operated op x y → tree_type m t ≡ Some k
       → tree_type m (cast_of y) ≡ Some (bool_type true)
-  casts_right t op x y k b is h =
+  casts_right {x = x} {y = y} {op = op} {k = k} b is h =
       let c = bool_call m op x y k b (sym (ap (tree_type m) is) ∙ h) in
       type_of_one m (ours Cast) y (bool_type c.right_null) c.right
 
@@ -73,17 +76,20 @@ module _ {V O : Type 0} (m : Meaning V O) where
   table r op x y b = cc
 
   -- what Reduce makes of the node, by the constants among its operands
-  pub reduced : {N : Type 0} (of_node : N → Tree V O) (t : Tree V O) (op : Operator)
-      (x y : Tree V O)
-      (k : LogicalType) (n : Bool) (answer : Option N)
+  pub reduced : {N : Type 0} (of_node : N → Tree V O) {t x y : Tree V O} {op : Operator}
+      {k : LogicalType} {n : Bool} (answer : Result (Option N) VortexError)
       → is_boolean op ≡ true → t ≡ operated op x y → tree_type m t ≡ Some k → n ≡ is_nullable k
-      → option_map of_node answer
-      ≡ of_constants m op n x y (constant_truth x) (constant_truth y)
-      → IsReduced m of_node t answer
-  reduced of_node t op x y k n answer b is h null e =
+      → AnswersUnlessMemory answer
+      (λ a. option_map of_node a ≡ of_constants m op n x y (constant_truth x) (constant_truth y))
+      → AnswersUnlessMemory answer (IsReduced m of_node t)
+  reduced of_node {t} {x} {y} {op} {k} {n} answer b is h null e =
       let same : n ≡ is_nullable_tree m (operated op x y) =
       null ∙ sym (ap may_be_null (sym (ap (tree_type m) is) ∙ h)) in
-      λ r. e
+      AnswersUnlessMemory-weaker answer
+      (λ a. option_map of_node a ≡ of_constants m op n x y (constant_truth x) (constant_truth y))
+      (IsReduced m of_node t)
+      (λ a e r. e
       ∙ ap (λ q. of_constants m op q x y (constant_truth x) (constant_truth y)) same
       ∙ table r op x y b
-      ∙ sym (ap (reduce m r) is)
+      ∙ sym (ap (reduce m r) is))
+      e

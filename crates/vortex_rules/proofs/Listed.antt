@@ -16,6 +16,7 @@ use Rattle.vortex_meaning.specs.Rules.{Rules}
 use Rattle.vortex_meaning.specs.ReduceRules.{reduce_operator, reduce_shipped, reduce}
 use Rattle.vortex_meaning.specs.SimplifyRules.{simplify_shipped, simplify}
 use Rattle.vortex_meaning.specs.ValidityRules.{default_validity, default_rules, validity}
+use Rattle.vortex_meaning.proofs.StepPlaces.{same_trees}
 use Rattle.vortex_functions.specs.declared.erased.ScalarFnRef.{ScalarFnRef}
 use Rattle.vortex_functions.specs.declared.erased.ScalarFnRef.TheVariants as ref
 use Rattle.vortex_functions.specs.declared.typed.TypedScalarFnInstance.{TypedScalarFnInstance}
@@ -26,30 +27,6 @@ use Rattle.vortex_rules.specs.Told.{IsTold}
 use Rattle.vortex_rules.specs.Reduced.{IsValidityBy}
 
 module _ {V O : Type 0} (m : Meaning V O) (r : Rules V O) where
-  -- Reduce has nothing for a function that has no rule
-  pub not_reduced : (t : Tree V O) (s : Shipped) → called t ≡ Some (ours s)
-      → ((ts : Trees V O) → reduce_shipped m r s ts ≡ None) → None ≡ reduce m r t
-  not_reduced (leaf l) s c none = cc
-  not_reduced (constant k) s c none = cc
-  not_reduced (call f ts) s c none =
-      let is : f ≡ ours s = cc in
-      sym (none ts) ∙ ap (λ g. reduce m r (call g ts)) (sym is)
-
-  -- nor for an operator that is neither And nor Or
-  no_operator : (op : Operator) → is_boolean op ≡ false → (ts : Trees V O)
-      → reduce_operator m op ts ≡ None
-  no_operator And h ts = cc
-  no_operator Or h ts = cc
-  no_operator op h ts = refl
-
-  pub operator_not_reduced : (t : Tree V O) (op : Operator)
-      → called t ≡ Some (ours (Binary op)) → is_boolean op ≡ false → None ≡ reduce m r t
-  operator_not_reduced t op c h = not_reduced t (Binary op) c (no_operator op h)
-
-  same_children : (ts : Trees V O) → trees_of (list_of ts) ≡ ts
-  same_children no_trees = refl
-  same_children (tree t ts) = ap (tree t) (same_children ts)
-
   -- the validity of a call of a shipped function is the default one
   pub shipped_validity : (t : Tree V O) (s : Shipped) → called t ≡ Some (ours s)
       → default_validity m (ours s) (trees_of (children_of t)) ≡ validity m r t
@@ -57,17 +34,8 @@ module _ {V O : Type 0} (m : Meaning V O) (r : Rules V O) where
   shipped_validity (constant k) s c = cc
   shipped_validity (call f ts) s c =
       let is : f ≡ ours s = cc in
-      ap (default_validity m (ours s)) (same_children ts)
+      ap (default_validity m (ours s)) (same_trees ts)
       ∙ ap (λ g. validity m r (call g ts)) (sym is)
-
-  -- Simplify has nothing for a function that is no operator
-  pub not_simplified : (t : Tree V O) (s : Shipped) → called t ≡ Some (ours s)
-      → ((ts : Trees V O) → simplify_shipped m s ts ≡ None) → None ≡ simplify m r t
-  not_simplified (leaf l) s c none = cc
-  not_simplified (constant k) s c none = cc
-  not_simplified (call f ts) s c none =
-      let is : f ≡ ours s = cc in
-      sym (none ts) ∙ ap (λ g. simplify m r (call g ts)) (sym is)
 
   function_validity : (g : Function V O) (t : Tree V O)
       → ((f : V) (o : O) → g ≡ custom f o → ⊥) → called t ≡ Some g
@@ -103,7 +71,7 @@ module _ {V O : Type 0} (m : Meaning V O) where
   own_validity (constant k) f o c = cc
   own_validity (call g ts) f o c =
       let is : g ≡ custom f o = cc in
-      ap (default_validity m (custom f o)) (same_children m (default_rules m) ts)
+      ap (default_validity m (custom f o)) (same_trees ts)
       ∙ ap (λ h. validity m (default_rules m) (call h ts)) (sym is)
 
   -- so what the default validity answers of a reference to a copy of it is an answer of its own

@@ -27,18 +27,13 @@ use Rattle.vortex_rules.specs.NullTests.{within_operands}
 use Rattle.vortex_rules.proofs.Calls.{children_fit}
 
 module _ {V O : Type 0} (m : Meaning V O) where
-  fits_one : (which : NullTest) (t : Tree V O) (k : LogicalType)
-      → called t ≡ Some (ours (test_function which)) → tree_type m t ≡ Some k
-      → length (children_of t) ≡ 1
-  fits_one test.IsNull t k c h = eqb-true (length (children_of t)) 1
-      (children_fit m t (ours IsNull) k c h)
-  fits_one test.IsNotNull t k c h =
-      eqb-true (length (children_of t)) 1 (children_fit m t (ours IsNotNull) k c h)
-
   pub has_operand : (which : NullTest) (t : Tree V O) (k : LogicalType)
       → called t ≡ Some (ours (test_function which)) → tree_type m t ≡ Some k
       → length (children_of t) ≡ 1
-  has_operand which t k c h = fits_one which t k c h
+  has_operand test.IsNull t k c h = eqb-true (length (children_of t)) 1
+      (children_fit m t (ours IsNull) k c h)
+  has_operand test.IsNotNull t k c h =
+      eqb-true (length (children_of t)) 1 (children_fit m t (ours IsNotNull) k c h)
 
   tested_by : (f : Function V O) (t x : Tree V O) → called t ≡ Some f
       → length (children_of t) ≡ 1 → slice_get (children_of t) 0 ≡ Some x
@@ -57,7 +52,7 @@ module _ {V O : Type 0} (m : Meaning V O) where
       → called t ≡ Some (ours (test_function which)) → tree_type m t ≡ Some k
       → slice_get (children_of t) 0 ≡ Some x → t ≡ tested which x
   is_tested which t x k c h operand =
-      tested_by (ours (test_function which)) t x c (fits_one which t k c h) operand
+      tested_by (ours (test_function which)) t x c (has_operand which t k c h) operand
 
   -- what Reduce makes of the test, by whether null is a value of the operand's type, by the
   -- operand's validity, and by what it says within the operand
@@ -91,24 +86,6 @@ module _ {V O : Type 0} (m : Meaning V O) where
         (λ j. by_operand which (same j) (valid j) (within m which x))
         ∙ reduce_tested which x
         ∙ sym (ap (reduce m r) is)
-
-  -- the types of the calls that are made
-  pub type_of_test : (which : NullTest) (x : Tree V O) (k : LogicalType) → tree_type m x ≡ Some k
-      → tree_type m (tested which x) ≡ Some (bool_type false)
-  type_of_test test.IsNull x k h = type_of_one m (ours IsNull) x k h
-  type_of_test test.IsNotNull x k h = type_of_one m (ours IsNotNull) x k h
-
-  pub type_of_negated : (x : Tree V O) → tree_type m x ≡ Some (bool_type false)
-      → tree_type m (negated x) ≡ Some (bool_type false)
-  type_of_negated x h = type_of_one m (ours Not) x (bool_type false) h
-
-  pub type_beside_test : (which : NullTest) (op : Operator) (y : Tree V O)
-      → tree_type m y ≡ Some (bool_type false)
-      → tree_type m (beside_test which op y) ≡ Some (bool_type false)
-  type_beside_test test.IsNull And y h = h
-  type_beside_test test.IsNull op y h = type_of_negated y h
-  type_beside_test test.IsNotNull Or y h = h
-  type_beside_test test.IsNotNull op y h = type_of_negated y h
 
   pub type_of_split : (which : NullTest) (x y : Tree V O)
       → tree_type m x ≡ Some (bool_type false) → tree_type m y ≡ Some (bool_type false)

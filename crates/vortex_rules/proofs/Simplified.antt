@@ -1,6 +1,10 @@
 -- What Simplify makes of a node of an operator, by its operands.
 use Rattle.std.proofs.Common.{◌≡◌, Bool, true, Option, Some, refl, sym, ap, ◌∙◌}
+use Rattle.std.specs.Prelude.{Result}
 use Rattle.std.specs.Option.{option_map, is_some}
+use Rattle.vortex_errors.specs.declared.error.VortexError.{VortexError}
+use Rattle.vortex_errors.specs.Answers.{AnswersUnlessMemory}
+use Rattle.vortex_errors.proofs.Answering.{AnswersUnlessMemory-weaker}
 use Rattle.vortex_types.specs.LogicalTypes.{LogicalType, is_nullable}
 use Rattle.vortex_operators.specs.declared.operators.Operator.{Operator}
 use Rattle.vortex_operators.specs.declared.operators.Operator.TheVariants.{Eq, NotEq, Gt, Gte, Lt}
@@ -34,20 +38,26 @@ module _ {V O : Type 0} (m : Meaning V O) where
   comparison r op x y b = cc
 
   -- what Simplify makes of the node, by its operator
-  module _ {N : Type 0} (of_node : N → Tree V O) (t : Tree V O) (op : Operator) (x y : Tree V O)
-      (answer : Option N) (is : t ≡ operated op x y) where
-    pub simplified_boolean : (k : LogicalType) (n : Bool) → is_boolean op ≡ true
+  module _ {N : Type 0} (of_node : N → Tree V O) {t x y : Tree V O} {op : Operator}
+      (is : t ≡ operated op x y) (answer : Result (Option N) VortexError) where
+    pub simplified_boolean : {k : LogicalType} {n : Bool} → is_boolean op ≡ true
         → tree_type m t ≡ Some k → n ≡ is_nullable k
-        → option_map of_node answer ≡ simplify_operands m op n x y
-        → IsSimplified m of_node t answer
-    simplified_boolean k n b h null e =
+        → AnswersUnlessMemory answer (λ a. option_map of_node a ≡ simplify_operands m op n x y)
+        → AnswersUnlessMemory answer (IsSimplified m of_node t)
+    simplified_boolean {k} {n} b h null =
         let same : n ≡ is_nullable_tree m (operated op x y) =
         null ∙ sym (ap may_be_null (sym (ap (tree_type m) is) ∙ h)) in
-        λ r. e
+        AnswersUnlessMemory-weaker answer
+        (λ a. option_map of_node a ≡ simplify_operands m op n x y) (IsSimplified m of_node t)
+        (λ a e r. e
         ∙ ap (λ q. simplify_operands m op q x y) same
         ∙ boolean r op x y b
-        ∙ sym (ap (simplify m r) is)
+        ∙ sym (ap (simplify m r) is))
 
     pub simplified_comparison : is_some (compare_operator_of op) ≡ true
-        → option_map of_node answer ≡ simplify_comparison x y → IsSimplified m of_node t answer
-    simplified_comparison c e = λ r. e ∙ comparison r op x y c ∙ sym (ap (simplify m r) is)
+        → AnswersUnlessMemory answer (λ a. option_map of_node a ≡ simplify_comparison x y)
+        → AnswersUnlessMemory answer (IsSimplified m of_node t)
+    simplified_comparison c =
+        AnswersUnlessMemory-weaker answer (λ a. option_map of_node a ≡ simplify_comparison x y)
+        (IsSimplified m of_node t)
+        (λ a e r. e ∙ comparison r op x y c ∙ sym (ap (simplify m r) is))

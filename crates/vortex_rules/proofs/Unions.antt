@@ -95,6 +95,49 @@ module _ {V O : Type 0} where
       ap (λ n. pairs_of (take n (a ∷ b ∷ ts))) here
       ∙ ap (λ us. operated And a b ∷ us) (pairs_all k ts (omega arith))
 
+  -- nodes that stand for trees
+  module _ {N : Type 0} (of_node : N → Tree V O) where
+    pub all_pairs : (nodes joined : List N) (i : ℕ) → length nodes ≤ i + i + 1
+        → map of_node joined ≡ pairs_of (take (i + i) (map of_node nodes))
+        → map of_node joined ≡ pairs_of (map of_node nodes)
+    all_pairs nodes joined i h so_far =
+        so_far ∙ pairs_all i (map of_node nodes) (omega (arith, h, length-map nodes of_node))
+
+    -- a round of nodes, and that fewer are left
+    pub even_round : (k : ℕ) (nodes joined : List N) → length nodes ≡ k + k
+        → map of_node joined ≡ pairs_of (map of_node nodes)
+        → map of_node joined ≡ one_round (map of_node nodes)
+    even_round k nodes joined h e =
+        e ∙ sym (one_round-even k (map of_node nodes) (length-map nodes of_node ∙ h))
+
+    pub odd_round : (k : ℕ) (nodes rest : List N) (last : N) (pairs joined : List N)
+        → length rest ≡ k + k → nodes ≡ rest ++ last ∷ []
+        → map of_node pairs ≡ pairs_of (map of_node rest)
+        → map of_node joined ≡ joined_last (map of_node pairs) (of_node last)
+        → map of_node joined ≡ one_round (map of_node nodes)
+    odd_round k nodes rest last pairs joined h e p q =
+        q
+        ∙ ap (λ ts. joined_last ts (of_node last)) p
+        ∙ sym (one_round-odd k (map of_node rest) (of_node last) (length-map rest of_node ∙ h))
+        ∙ ap one_round (sym (map-append of_node rest (last ∷ [])) ∙ sym (ap (map of_node) e))
+
+    pub fewer_nodes : (nodes joined : List N) → 2 ≤ length nodes
+        → map of_node joined ≡ one_round (map of_node nodes) → length joined < length nodes
+    fewer_nodes nodes joined h e =
+        let many = length-map nodes of_node in
+        let fewer = round_fewer (map of_node nodes) (omega (arith, many)) in
+        let left : length joined ≡ length (one_round (map of_node nodes)) =
+        sym (length-map joined of_node) ∙ ap length e in
+        omega (arith, many, fewer, left)
+
+-- the next two of a list
+pub next_two : {N : Type 0} (nodes : List N) (i : ℕ)
+    → take (2 * i + 2 - 2 * i) (drop (2 * i) nodes) ≡ take 2 (drop (i + i) nodes)
+next_two nodes i =
+    let two : 2 * i + 2 - 2 * i ≡ 2 = omega arith in
+    let twice : 2 * i ≡ i + i = omega arith in
+    λ j. take (two j) (drop (twice j) nodes)
+
 module _ {V O : Type 0} (m : Meaning V O) where
   -- the null test of a child that is nullable, and none of another
   abbrev pub null_test_of : Bool → Tree V O → List (Tree V O)
@@ -195,14 +238,6 @@ module _ {V O : Type 0} (m : Meaning V O) where
         (map of_node joined ≡ pairs_of (take (i + i) (map of_node nodes)))
         × AreTruths m of_node rows n joined
 
-    -- the next two nodes
-    pub next_two : (nodes : List N) (i : ℕ)
-        → take (2 * i + 2 - 2 * i) (drop (2 * i) nodes) ≡ take 2 (drop (i + i) nodes)
-    next_two nodes i =
-        let two : 2 * i + 2 - 2 * i ≡ 2 = omega arith in
-        let twice : 2 * i ≡ i + i = omega arith in
-        λ j. take (two j) (drop (twice j) nodes)
-
     pub next_typed : (nodes : List N) (i : ℕ) (pair : List N) → i + i + 2 ≤ length nodes
         → pair ≡ take 2 (drop (i + i) nodes) → AreTruths m of_node rows n nodes
         → tree_type m (call (ours (Binary And)) (trees_of (map of_node pair)))
@@ -239,11 +274,6 @@ module _ {V O : Type 0} (m : Meaning V O) where
           All-same IsTruth after (joined ++ node ∷ []) more
               (All-push IsTruth joined node so_far.1 (both, here)),
         )
-
-    pub all_pairs : (nodes joined : List N) (i : ℕ) → length nodes ≤ i + i + 1
-        → PairsUpTo nodes i joined → map of_node joined ≡ pairs_of (map of_node nodes)
-    all_pairs nodes joined i h so_far =
-        so_far.0 ∙ pairs_all i (map of_node nodes) (omega (arith, h, length-map nodes of_node))
 
     -- the last node, taken off
     pub last_truth : (nodes rest : List N) (last : N) → nodes ≡ rest ++ last ∷ []
@@ -290,30 +320,3 @@ module _ {V O : Type 0} (m : Meaning V O) where
           ap (map of_node) one ∙ ap (λ xs. joined_last (map of_node xs) (of_node last)) (sym e),
           All-same IsTruth after (last ∷ []) one (All-cons IsTruth last [] truth (All-nil IsTruth)),
         )
-
-    -- a round of nodes, and that fewer are left
-    pub even_round : (k : ℕ) (nodes joined : List N) → length nodes ≡ k + k
-        → map of_node joined ≡ pairs_of (map of_node nodes)
-        → map of_node joined ≡ one_round (map of_node nodes)
-    even_round k nodes joined h e =
-        e ∙ sym (one_round-even k (map of_node nodes) (length-map nodes of_node ∙ h))
-
-    pub odd_round : (k : ℕ) (nodes rest : List N) (last : N) (pairs joined : List N)
-        → length rest ≡ k + k → nodes ≡ rest ++ last ∷ []
-        → map of_node pairs ≡ pairs_of (map of_node rest)
-        → map of_node joined ≡ joined_last (map of_node pairs) (of_node last)
-        → map of_node joined ≡ one_round (map of_node nodes)
-    odd_round k nodes rest last pairs joined h e p q =
-        q
-        ∙ ap (λ ts. joined_last ts (of_node last)) p
-        ∙ sym (one_round-odd k (map of_node rest) (of_node last) (length-map rest of_node ∙ h))
-        ∙ ap one_round (sym (map-append of_node rest (last ∷ [])) ∙ sym (ap (map of_node) e))
-
-    pub fewer_nodes : (nodes joined : List N) → 2 ≤ length nodes
-        → map of_node joined ≡ one_round (map of_node nodes) → length joined < length nodes
-    fewer_nodes nodes joined h e =
-        let many = length-map nodes of_node in
-        let fewer = round_fewer (map of_node nodes) (omega (arith, many)) in
-        let left : length joined ≡ length (one_round (map of_node nodes)) =
-        sym (length-map joined of_node) ∙ ap length e in
-        omega (arith, many, fewer, left)

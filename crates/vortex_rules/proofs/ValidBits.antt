@@ -43,14 +43,6 @@ bits_are_validity c bits is =
     let rows = listed bits ∙ ap (map truth) is ∙ truths_of c.rows in
     λ j. record { dtype = bool_type false; rows = rows j; constant = None; form = non_nullable }
 
--- as a tree it is the column's validity, of as many rows
-pub tree_by_form : {V O : Type 0} (form : ValidityForm) (c : ColumnView)
-    → column_tree {V = V} {O = O} (validity_by_form form c) ≡ column_validity form c
-tree_by_form non_nullable c = refl
-tree_by_form all_valid c = refl
-tree_by_form all_invalid c = refl
-tree_by_form array c = refl
-
 pub rows_by_form : (form : ValidityForm) (c : ColumnView)
     → length (validity_by_form form c).rows ≡ length c.rows
 rows_by_form non_nullable c = length-map-range_with_len (λ i. truth true) 0 (length c.rows)

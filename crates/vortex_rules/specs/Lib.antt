@@ -1,3 +1,4 @@
+pub mod Beside
 pub mod NodeTrees
 pub mod LeafValidity
 pub mod ColumnValidity

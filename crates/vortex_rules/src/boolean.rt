@@ -1,5 +1,5 @@
 //! The rule of And and of Or beside a constant.
-ghost use Rattle.std.specs.Prelude.{◌≡◌, IfOk, IfSome, IsTrue, Some, true};
+ghost use Rattle.std.specs.Prelude.{◌≡◌, IsTrue, Some, true};
 ghost use Rattle.std.specs.Option.{option_map};
 ghost use Rattle.vortex_types.specs.TypeOf.{allows_null};
 ghost use Rattle.vortex_types.specs.LogicalTypes.{bool_type};
@@ -9,8 +9,9 @@ ghost use Rattle.vortex_meaning.specs.Shipped.{Binary};
 ghost use Rattle.vortex_meaning.specs.Rules.{truth_constant, cast_of, constant_truth, decides};
 ghost use Rattle.vortex_meaning.specs.Rules.{widened};
 ghost use Rattle.vortex_meaning.specs.ReduceRules.{beside_constant, of_constants};
-ghost use Rattle.vortex_functions.specs.Words.{ours, called, tree_type, AnswersUnlessMemory};
+ghost use Rattle.vortex_functions.specs.Words.{ours, called, tree_type};
 ghost use Rattle.vortex_rules.specs.Reduced.{IsReduced};
+ghost use Rattle.vortex_rules.specs.Beside.{AnswersBeside, AnswersIfAny};
 
 use crate::making::call_on_one;
 use crate::node::ReduceTree;
@@ -60,9 +61,8 @@ pub(crate) fn truth_node<C: ScalarFnVTable, T: ReduceTree<C>>(
     nullability: Nullability,
     value: bool,
 ) -> VortexResult<T>
-    ensures answer { AnswersUnlessMemory result
-        (λ made. T.tree made ≡ truth_constant (allows_null nullability) value) }
-    ensures same_rows { IfOk result (λ made. T.rows made ≡ T.rows node.now) }
+    ensures { AnswersBeside T.rows (T.rows node.now) (λ made. T.tree made
+        ≡ truth_constant (allows_null nullability) value) result }
 {
     node.new_constant(alloc, Scalar::bool(value, nullability))
 }
@@ -76,9 +76,8 @@ fn widened<C: ScalarFnVTable, T: ReduceTree<C>>(
 ) -> VortexResult<T>
     requires casts { tree_type C.meaning (cast_of (T.tree operand)) ≡ Some (bool_type true) }
     requires same_rows { T.rows operand ≡ T.rows node.now }
-    ensures answer { AnswersUnlessMemory result
-        (λ made. T.tree made ≡ widened C.meaning (allows_null nullability) (T.tree operand)) }
-    ensures same_rows { IfOk result (λ made. T.rows made ≡ T.rows node.now) }
+    ensures { AnswersBeside T.rows (T.rows node.now) (λ made. T.tree made
+        ≡ widened C.meaning (allows_null nullability) (T.tree operand)) result }
 {
     if !nullability.is_nullable() {
         return Ok(operand);
@@ -100,9 +99,9 @@ pub(crate) fn beside_constant<C: ScalarFnVTable, T: ReduceTree<C>>(
 ) -> VortexResult<T>
     requires casts { tree_type C.meaning (cast_of (T.tree other)) ≡ Some (bool_type true) }
     requires same_rows { T.rows other ≡ T.rows node.now }
-    ensures answer { AnswersUnlessMemory result (λ made. T.tree made
-        ≡ beside_constant C.meaning operator (allows_null nullability) value (T.tree other)) }
-    ensures same_rows { IfOk result (λ made. T.rows made ≡ T.rows node.now) }
+    ensures { AnswersBeside T.rows (T.rows node.now) (λ made. T.tree made
+        ≡ beside_constant C.meaning operator (allows_null nullability) value (T.tree other))
+        result }
 {
     if decides(operator, value) {
         truth_node(alloc, node, nullability, value)
@@ -125,11 +124,9 @@ fn of_constants<C: ScalarFnVTable, T: ReduceTree<C>>(
     requires casts_right { tree_type C.meaning (cast_of (T.tree right)) ≡ Some (bool_type true) }
     requires left_rows { T.rows left ≡ T.rows node.now }
     requires right_rows { T.rows right ≡ T.rows node.now }
-    ensures answer { AnswersUnlessMemory result (λ answer. option_map T.tree answer
+    ensures { AnswersIfAny T.rows (T.rows node.now) (λ answer. option_map T.tree answer
         ≡ of_constants C.meaning operator (allows_null nullability) (T.tree left) (T.tree right)
-        (constant_truth (T.tree left)) (constant_truth (T.tree right))) }
-    ensures same_rows { IfOk result
-        (λ answer. IfSome answer (λ made. T.rows made ≡ T.rows node.now)) }
+        (constant_truth (T.tree left)) (constant_truth (T.tree right))) result }
 {
     let value_left = constant_truth(&left);
     let value_right = constant_truth(&right);
@@ -160,9 +157,8 @@ pub fn reduce_boolean<C: ScalarFnVTable, T: ReduceTree<C>>(
 ) -> VortexResult<Option<T>>
     requires boolean { IsTrue (is_boolean operator) }
     requires call { called (T.tree node.now) ≡ Some (ours (Binary operator)) }
-    ensures answer { AnswersUnlessMemory result (IsReduced C.meaning T.tree (T.tree node.now)) }
-    ensures same_rows { IfOk result
-        (λ answer. IfSome answer (λ made. T.rows made ≡ T.rows node.now)) }
+    ensures { AnswersIfAny T.rows (T.rows node.now) (IsReduced C.meaning T.tree (T.tree node.now))
+        result }
 {
     let nullability = node.node_dtype().nullability();
     let left = node.child(alloc, 0)?;

@@ -1,9 +1,9 @@
 //! The list of functions by their rules.
-ghost use Rattle.std.specs.Prelude.{◌≡◌, IfOk, IfSome, Some};
+ghost use Rattle.std.specs.Prelude.{◌≡◌, Some};
 ghost use Rattle.vortex_meaning.specs.Shipped.{Binary};
 ghost use Rattle.vortex_functions.specs.Words.{ours, called, function_of, AnswersUnlessMemory};
-ghost use Rattle.vortex_rules.specs.Told.{told_node};
 ghost use Rattle.vortex_rules.specs.Reduced.{IsReducedBy, IsSimplifiedBy, IsValidityBy};
+ghost use Rattle.vortex_rules.specs.Beside.{AnswersIfAny, AnswersValidity};
 
 use crate::boolean::reduce_boolean;
 use crate::node::{ReduceNodeValidity, ReduceTree};
@@ -25,10 +25,8 @@ fn reduce_operator<C: ScalarFnRules, T: ReduceTree<C>>(
     node: &T,
 ) -> VortexResult<Option<T>>
     requires { called (T.tree node.now) ≡ Some (ours (Binary operator)) }
-    ensures answer { AnswersUnlessMemory result
-        (IsReducedBy C.meaning C.rules T.tree (T.tree node.now)) }
-    ensures same_rows { IfOk result
-        (λ answer. IfSome answer (λ made. T.rows made ≡ T.rows node.now)) }
+    ensures { AnswersIfAny T.rows (T.rows node.now) (IsReducedBy C.meaning C.rules T.tree
+        (T.tree node.now)) result }
 {
     if operator.is_boolean() {
         reduce_boolean(alloc, operator, node)
@@ -45,10 +43,8 @@ pub fn reduce_call<C: ScalarFnRules, T: ReduceNode<C>>(
     node: &T,
 ) -> VortexResult<Option<T>>
     requires { called (T.tree node.now) ≡ Some (function_of function.now) }
-    ensures answer { AnswersUnlessMemory result
-        (IsReducedBy C.meaning C.rules T.tree (T.tree node.now)) }
-    ensures same_rows { IfOk result
-        (λ answer. IfSome answer (λ made. T.rows made ≡ T.rows node.now)) }
+    ensures { AnswersIfAny T.rows (T.rows node.now) (IsReducedBy C.meaning C.rules T.tree
+        (T.tree node.now)) result }
 {
     match function {
         ScalarFnRef::Binary(operator) => reduce_operator(alloc, *operator, node),
@@ -67,10 +63,8 @@ pub fn validity_call<C: ScalarFnRules, T: ReduceTree<C>>(
     node: &T,
 ) -> VortexResult<ReduceNodeValidity<T>>
     requires { called (T.tree node.now) ≡ Some (function_of function.now) }
-    ensures answer { AnswersUnlessMemory result
-        (IsValidityBy C.meaning C.rules T.tree (T.tree node.now)) }
-    ensures same_rows { IfOk result
-        (λ answer. IfSome (told_node answer) (λ made. T.rows made ≡ T.rows node.now)) }
+    ensures { AnswersValidity T.rows (T.rows node.now) (IsValidityBy C.meaning C.rules T.tree
+        (T.tree node.now)) result }
 {
     match function {
         ScalarFnRef::Custom(custom) => custom.vtable().validity(alloc, custom.options(), node),

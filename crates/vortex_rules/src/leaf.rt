@@ -1,8 +1,9 @@
 //! What rules ask of a kind of leaf.
-ghost use Rattle.std.specs.Prelude.{◌≡◌, IfOk, IfSome};
+ghost use Rattle.std.specs.Prelude.{◌≡◌};
 ghost use Rattle.std.specs.Option.{option_copied};
-ghost use Rattle.vortex_functions.specs.Words.{constant, literal, AnswersUnlessMemory};
+ghost use Rattle.vortex_functions.specs.Words.{constant, literal};
 ghost use Rattle.vortex_rules.specs.LeafValidity.{IsLeafValidity};
+ghost use Rattle.vortex_rules.specs.Beside.{AnswersBeside, AnswersIfAny};
 
 use std::alloc::Global;
 use vortex_columns::{Scalar, VortexResult};
@@ -21,14 +22,12 @@ pub trait RuleLeaf<C: ScalarFnVTable>: Leaf<C, C::Options> {
         scalar: Scalar,
         beside: Self::Beside,
     ) -> VortexResult<Tree<C, Self>>
-        ensures answer { AnswersUnlessMemory result (λ made. Self.tree_of made ≡ constant scalar) }
-        ensures same_rows { IfOk result (λ made. Self.beside_of made ≡ beside) };
+        ensures { AnswersBeside Self.beside_of beside (λ made. Self.tree_of made ≡ constant scalar)
+            result };
 
     /// Where a leaf that is no constant is not null, if a tree beside which the same stands says
     /// it. E9 alone.
     fn leaf_validity(alloc: Global, tree: &Tree<C, Self>) -> VortexResult<Option<Tree<C, Self>>>
-        ensures answer { AnswersUnlessMemory result
-            (IsLeafValidity C.meaning Self.tree_of (Self.tree_of tree.now)) }
-        ensures same_rows { IfOk result (λ answer. IfSome answer
-            (λ made. Self.beside_of made ≡ Self.beside_of tree.now)) };
+        ensures { AnswersIfAny Self.beside_of (Self.beside_of tree.now)
+            (IsLeafValidity C.meaning Self.tree_of (Self.tree_of tree.now)) result };
 }

@@ -1,7 +1,8 @@
 //! Calls that rules make: of functions that accept their operands, so that only memory can fail.
-ghost use Rattle.std.specs.Prelude.{◌≡◌, IfOk, IsSome};
+ghost use Rattle.std.specs.Prelude.{◌≡◌, IsSome};
 ghost use Rattle.vortex_meaning.specs.Trees.{call, no_trees, tree};
-ghost use Rattle.vortex_functions.specs.Words.{tree_type, function_of, AnswersUnlessMemory};
+ghost use Rattle.vortex_functions.specs.Words.{tree_type, function_of};
+ghost use Rattle.vortex_rules.specs.Beside.{AnswersBeside};
 
 use crate::node::ReduceTree;
 use std::alloc::Global;
@@ -19,9 +20,8 @@ pub(crate) fn call_on_one<C: ScalarFnVTable, T: ReduceTree<C>>(
     requires accepts { IsSome
         (tree_type C.meaning (call (function_of function) (tree (T.tree operand) no_trees))) }
     requires same_rows { T.rows operand ≡ T.rows node.now }
-    ensures answer { AnswersUnlessMemory result
-        (λ made. T.tree made ≡ call (function_of function) (tree (T.tree operand) no_trees)) }
-    ensures same_rows { IfOk result (λ made. T.rows made ≡ T.rows node.now) }
+    ensures { AnswersBeside T.rows (T.rows node.now) (λ made. T.tree made
+        ≡ call (function_of function) (tree (T.tree operand) no_trees)) result }
 {
     let mut operands = Vec::new(alloc);
     operands.push(operand)?;
@@ -40,9 +40,8 @@ pub(crate) fn call_on_two<C: ScalarFnVTable, T: ReduceTree<C>>(
         (call (function_of function) (tree (T.tree left) (tree (T.tree right) no_trees)))) }
     requires left_rows { T.rows left ≡ T.rows node.now }
     requires right_rows { T.rows right ≡ T.rows node.now }
-    ensures answer { AnswersUnlessMemory result (λ made. T.tree made
-        ≡ call (function_of function) (tree (T.tree left) (tree (T.tree right) no_trees))) }
-    ensures same_rows { IfOk result (λ made. T.rows made ≡ T.rows node.now) }
+    ensures { AnswersBeside T.rows (T.rows node.now) (λ made. T.tree made
+        ≡ call (function_of function) (tree (T.tree left) (tree (T.tree right) no_trees))) result }
 {
     let mut operands = Vec::new(alloc);
     operands.push(left)?;

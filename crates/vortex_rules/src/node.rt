@@ -6,6 +6,7 @@ ghost use Rattle.vortex_meaning.specs.Trees.{Tree};
 ghost use Rattle.vortex_functions.specs.Words.{type_of, constant, children_of, called, literal};
 ghost use Rattle.vortex_functions.specs.Words.{tree_type, function_of, AnswersUnlessMemory};
 ghost use Rattle.vortex_rules.specs.Making.{AnswersCall};
+ghost use Rattle.vortex_rules.specs.Beside.{AnswersBeside};
 
 use std::alloc::Global;
 use vortex_columns::{DType, Scalar, VortexResult};
@@ -79,6 +80,5 @@ pub trait ReduceTree<C: ScalarFnVTable>: Sized + Drop {
 
     /// The constant of that scalar, in the same context. E9 alone.
     fn new_constant(&self, alloc: Global, scalar: Scalar) -> VortexResult<Self>
-        ensures answer { AnswersUnlessMemory result (λ node. tree node ≡ constant scalar) }
-        ensures same_rows { IfOk result (λ node. rows node ≡ rows self.now) };
+        ensures { AnswersBeside rows (rows self.now) (λ node. tree node ≡ constant scalar) result };
 }

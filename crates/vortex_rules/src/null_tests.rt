@@ -11,6 +11,7 @@ ghost use Rattle.vortex_rules.specs.NullTests.{test_function, of_no_null, joined
 ghost use Rattle.vortex_rules.specs.NullTests.{boolean_called, tested, by_validity, beside_test};
 ghost use Rattle.vortex_rules.specs.NullTests.{within, within_operands};
 ghost use Rattle.vortex_rules.specs.Reduced.{IsReducedBy};
+ghost use Rattle.vortex_rules.specs.Beside.{AnswersBeside, AnswersIfAny};
 
 use crate::making::{call_on_one, call_on_two};
 use crate::node::{ReduceNodeValidity, ReduceTree};
@@ -138,10 +139,8 @@ fn within_operands<C: ScalarFnVTable, T: ReduceTree<C>>(
         (tree_type C.meaning (operated operator (T.tree left) (T.tree right))) }
     requires left_rows { T.rows left ≡ T.rows node.now }
     requires right_rows { T.rows right ≡ T.rows node.now }
-    ensures answer { AnswersUnlessMemory result (λ answer. option_map T.tree answer
-        ≡ within_operands C.meaning test operator (T.tree left) (T.tree right)) }
-    ensures same_rows { IfOk result
-        (λ answer. IfSome answer (λ made. T.rows made ≡ T.rows node.now)) }
+    ensures { AnswersIfAny T.rows (T.rows node.now) (λ answer. option_map T.tree answer
+        ≡ within_operands C.meaning test operator (T.tree left) (T.tree right)) result }
 {
     let Some((nullable, other)) = nullable_first(left, right) else {
         return Ok(None);
@@ -159,10 +158,8 @@ fn within<C: ScalarFnVTable, T: ReduceTree<C>>(
     test: NullTest,
     node: &T,
 ) -> VortexResult<Option<T>>
-    ensures answer { AnswersUnlessMemory result (λ answer. option_map T.tree answer
-        ≡ within C.meaning test (T.tree node.now)) }
-    ensures same_rows { IfOk result
-        (λ answer. IfSome answer (λ made. T.rows made ≡ T.rows node.now)) }
+    ensures { AnswersIfAny T.rows (T.rows node.now) (λ answer. option_map T.tree answer
+        ≡ within C.meaning test (T.tree node.now)) result }
 {
     let _typed = node.node_dtype();
     let Some(operator) = boolean_called(node) else {
@@ -182,9 +179,8 @@ fn by_validity<C: ScalarFnVTable, T: ReduceTree<C>>(
 ) -> VortexResult<T>
     requires truth { tree_type C.meaning (T.tree valid) ≡ Some (bool_type false) }
     requires same_rows { T.rows valid ≡ T.rows node.now }
-    ensures answer { AnswersUnlessMemory result
-        (λ made. T.tree made ≡ by_validity test (T.tree valid)) }
-    ensures same_rows { IfOk result (λ made. T.rows made ≡ T.rows node.now) }
+    ensures { AnswersBeside T.rows (T.rows node.now) (λ made. T.tree made
+        ≡ by_validity test (T.tree valid)) result }
 {
     match test {
         NullTest::IsNull => call_on_one(alloc, node, ScalarFnRef::Not, valid),
@@ -202,10 +198,8 @@ pub fn reduce_null_test<C: ScalarFnRules, T: ReduceNode<C>>(
     node: &T,
 ) -> VortexResult<Option<T>>
     requires { called (T.tree node.now) ≡ Some (ours (test_function test)) }
-    ensures answer { AnswersUnlessMemory result
-        (IsReducedBy C.meaning C.rules T.tree (T.tree node.now)) }
-    ensures same_rows { IfOk result
-        (λ answer. IfSome answer (λ made. T.rows made ≡ T.rows node.now)) }
+    ensures { AnswersIfAny T.rows (T.rows node.now) (IsReducedBy C.meaning C.rules T.tree
+        (T.tree node.now)) result }
 {
     let _typed = node.node_dtype();
     let operand = node.child(alloc, 0)?;

@@ -1,11 +1,11 @@
 //! The rules of callers' functions, and nodes that tell their validity.
-ghost use Rattle.std.specs.Prelude.{◌≡◌, IfOk, IfSome, Some};
+ghost use Rattle.std.specs.Prelude.{◌≡◌, Some};
 ghost use Rattle.vortex_meaning.specs.Functions.{custom};
 ghost use Rattle.vortex_meaning.specs.Rewrites.{LawfulRules};
 ghost use Rattle.vortex_functions.specs.Words.{called, AnswersUnlessMemory};
 ghost use Rattle.vortex_rules.specs.Identities.{IsOwnIdentity};
-ghost use Rattle.vortex_rules.specs.Told.{told_node};
 ghost use Rattle.vortex_rules.specs.Reduced.{IsReducedBy, IsSimplifiedBy, IsValidityBy};
+ghost use Rattle.vortex_rules.specs.Beside.{AnswersIfAny, AnswersValidity};
 
 use crate::node::{ReduceNodeValidity, ReduceTree};
 use std::alloc::Global;
@@ -28,10 +28,8 @@ pub trait ScalarFnRules: ScalarFnVTable {
         node: &T,
     ) -> VortexResult<Option<T>>
         requires { called (T.tree node.now) ≡ Some (custom self.now options.now) }
-        ensures answer { AnswersUnlessMemory result
-            (IsReducedBy Self.meaning Self.rules T.tree (T.tree node.now)) }
-        ensures same_rows { IfOk result
-            (λ answer. IfSome answer (λ made. T.rows made ≡ T.rows node.now)) };
+        ensures { AnswersIfAny T.rows (T.rows node.now) (IsReducedBy Self.meaning Self.rules T.tree
+            (T.tree node.now)) result };
 
     /// Where such a call is not null, if a tree says it.
     fn validity<T: ReduceTree<Self>>(
@@ -41,10 +39,8 @@ pub trait ScalarFnRules: ScalarFnVTable {
         node: &T,
     ) -> VortexResult<ReduceNodeValidity<T>>
         requires { called (T.tree node.now) ≡ Some (custom self.now options.now) }
-        ensures answer { AnswersUnlessMemory result
-            (IsValidityBy Self.meaning Self.rules T.tree (T.tree node.now)) }
-        ensures same_rows { IfOk result
-            (λ answer. IfSome (told_node answer) (λ made. T.rows made ≡ T.rows node.now)) };
+        ensures { AnswersValidity T.rows (T.rows node.now) (IsValidityBy Self.meaning Self.rules
+            T.tree (T.tree node.now)) result };
 
     /// What such a call of an expression is simplified to, if a rule applies.
     fn simplify(
@@ -66,8 +62,6 @@ pub trait ScalarFnRules: ScalarFnVTable {
 pub trait ReduceNode<C: ScalarFnRules>: ReduceTree<C> {
     /// Where the node is not null, if a tree says it. E9 alone.
     fn validity(&self, alloc: Global) -> VortexResult<ReduceNodeValidity<Self>>
-        ensures answer { AnswersUnlessMemory result
-            (IsValidityBy C.meaning C.rules Self.tree (Self.tree self.now)) }
-        ensures same_rows { IfOk result
-            (λ answer. IfSome (told_node answer) (λ made. Self.rows made ≡ Self.rows self.now)) };
+        ensures { AnswersValidity Self.rows (Self.rows self.now)
+            (IsValidityBy C.meaning C.rules Self.tree (Self.tree self.now)) result };
 }

@@ -1,8 +1,8 @@
 //! The rules of the shipped functions, as calls of their own.
-ghost use Rattle.std.specs.Prelude.{◌≡◌, IfOk, IfSome, Some};
+ghost use Rattle.std.specs.Prelude.{◌≡◌, Some};
 ghost use Rattle.vortex_functions.specs.Words.{ours, called, AnswersUnlessMemory};
-ghost use Rattle.vortex_rules.specs.Told.{told_node};
 ghost use Rattle.vortex_rules.specs.Reduced.{IsReducedBy, IsSimplifiedBy, IsValidityBy};
+ghost use Rattle.vortex_rules.specs.Beside.{AnswersIfAny, AnswersValidity};
 
 use crate::dispatch::{reduce_call, simplify_call, validity_call};
 use crate::node::{ReduceNodeValidity, ReduceTree};
@@ -22,10 +22,8 @@ pub trait ShippedRules: ScalarFnVTableExt {
         node: &T,
     ) -> VortexResult<Option<T>>
         requires { called (T.tree node.now) ≡ Some (ours (Self.ships options.now)) }
-        ensures answer { AnswersUnlessMemory result
-            (IsReducedBy C.meaning C.rules T.tree (T.tree node.now)) }
-        ensures same_rows { IfOk result
-            (λ answer. IfSome answer (λ made. T.rows made ≡ T.rows node.now)) }
+        ensures { AnswersIfAny T.rows (T.rows node.now) (IsReducedBy C.meaning C.rules T.tree
+            (T.tree node.now)) result }
     {
         let options = self.clone_options(alloc, options)?;
         reduce_call(alloc, &self.bind(options), node)
@@ -39,10 +37,8 @@ pub trait ShippedRules: ScalarFnVTableExt {
         node: &T,
     ) -> VortexResult<ReduceNodeValidity<T>>
         requires { called (T.tree node.now) ≡ Some (ours (Self.ships options.now)) }
-        ensures answer { AnswersUnlessMemory result
-            (IsValidityBy C.meaning C.rules T.tree (T.tree node.now)) }
-        ensures same_rows { IfOk result
-            (λ answer. IfSome (told_node answer) (λ made. T.rows made ≡ T.rows node.now)) }
+        ensures { AnswersValidity T.rows (T.rows node.now) (IsValidityBy C.meaning C.rules T.tree
+            (T.tree node.now)) result }
     {
         let options = self.clone_options(alloc, options)?;
         validity_call(alloc, &self.bind(options), node)

@@ -1,5 +1,5 @@
 //! The rules of Simplify: operators with a literal.
-ghost use Rattle.std.specs.Prelude.{◌≡◌, IfOk, IfSome, Some, true};
+ghost use Rattle.std.specs.Prelude.{◌≡◌, IfSome, Some, true};
 ghost use Rattle.std.specs.Option.{option_map};
 ghost use Rattle.vortex_types.specs.TypeOf.{allows_null};
 ghost use Rattle.vortex_types.specs.LogicalTypes.{bool_type};
@@ -7,8 +7,9 @@ ghost use Rattle.vortex_meaning.specs.Shipped.{Binary};
 ghost use Rattle.vortex_meaning.specs.Rules.{cast_of};
 ghost use Rattle.vortex_meaning.specs.SimplifyRules.{is_null_literal, simplify_comparison};
 ghost use Rattle.vortex_meaning.specs.SimplifyRules.{simplify_operands, left_of_nulls};
-ghost use Rattle.vortex_functions.specs.Words.{ours, called, tree_type, AnswersUnlessMemory};
+ghost use Rattle.vortex_functions.specs.Words.{ours, called, tree_type};
 ghost use Rattle.vortex_rules.specs.Simplified.{IsSimplified};
+ghost use Rattle.vortex_rules.specs.Beside.{AnswersIfAny};
 
 use crate::boolean::{beside_constant, constant_truth, decides};
 use crate::node::ReduceTree;
@@ -37,10 +38,8 @@ fn simplify_comparison<C: ScalarFnVTable, T: ReduceTree<C>>(
     left: T,
     right: T,
 ) -> VortexResult<Option<T>>
-    ensures answer { AnswersUnlessMemory result (λ answer.
-        option_map T.tree answer ≡ simplify_comparison (T.tree left) (T.tree right)) }
-    ensures same_rows { IfOk result
-        (λ answer. IfSome answer (λ made. T.rows made ≡ T.rows node.now)) }
+    ensures { AnswersIfAny T.rows (T.rows node.now) (λ answer. option_map T.tree answer
+        ≡ simplify_comparison (T.tree left) (T.tree right)) result }
 {
     if is_null_literal(&left) || is_null_literal(&right) {
         let null = Scalar::null(DType::Bool(Nullability::Nullable));
@@ -77,11 +76,9 @@ fn simplify_operands<C: ScalarFnVTable, T: ReduceTree<C>>(
     requires casts_right { tree_type C.meaning (cast_of (T.tree right)) ≡ Some (bool_type true) }
     requires left_rows { T.rows left ≡ T.rows node.now }
     requires right_rows { T.rows right ≡ T.rows node.now }
-    ensures answer { AnswersUnlessMemory result (λ answer. option_map T.tree answer
+    ensures { AnswersIfAny T.rows (T.rows node.now) (λ answer. option_map T.tree answer
         ≡ simplify_operands C.meaning operator (allows_null nullability) (T.tree left)
-        (T.tree right)) }
-    ensures same_rows { IfOk result
-        (λ answer. IfSome answer (λ made. T.rows made ≡ T.rows node.now)) }
+        (T.tree right)) result }
 {
     let value_left = constant_truth(&left);
     let value_right = constant_truth(&right);
@@ -112,9 +109,8 @@ pub fn simplify_operator<C: ScalarFnVTable, T: ReduceTree<C>>(
     node: &T,
 ) -> VortexResult<Option<T>>
     requires { called (T.tree node.now) ≡ Some (ours (Binary operator)) }
-    ensures answer { AnswersUnlessMemory result (IsSimplified C.meaning T.tree (T.tree node.now)) }
-    ensures same_rows { IfOk result
-        (λ answer. IfSome answer (λ made. T.rows made ≡ T.rows node.now)) }
+    ensures { AnswersIfAny T.rows (T.rows node.now) (IsSimplified C.meaning T.tree
+        (T.tree node.now)) result }
 {
     let nullability = node.node_dtype().nullability();
     let left = node.child(alloc, 0)?;

@@ -3,12 +3,12 @@ ghost use Rattle.std.specs.Prelude.{◌≡◌, IfOk, Some, false, map, true};
 ghost use Rattle.vortex_types.specs.LogicalTypes.{bool_type};
 ghost use Rattle.vortex_operators.specs.declared.operators.Operator.TheVariants.{And};
 ghost use Rattle.vortex_meaning.specs.ComparisonTrees.{operated};
-ghost use Rattle.vortex_meaning.specs.Rules.{is_not_null_of};
 ghost use Rattle.vortex_meaning.specs.ValidityRules.{null_tests, one_round, all_of};
 ghost use Rattle.vortex_meaning.specs.ValidityRules.{union_child_validities};
 ghost use Rattle.vortex_functions.specs.Words.{trees_of, children_of, tree_type};
 ghost use Rattle.vortex_functions.specs.Words.{AnswersUnlessMemory};
 ghost use Rattle.vortex_rules.specs.Union.{AreTruths, pairs_of, joined_last};
+ghost use Rattle.vortex_rules.specs.Beside.{AnswersBeside};
 
 use crate::boolean::truth_node;
 use crate::making::call_on_two;
@@ -69,9 +69,8 @@ fn both<C: ScalarFnVTable, T: ReduceTree<C>>(
     requires right_truth { tree_type C.meaning (T.tree right) ≡ Some (bool_type false) }
     requires left_rows { T.rows left ≡ T.rows node.now }
     requires right_rows { T.rows right ≡ T.rows node.now }
-    ensures answer { AnswersUnlessMemory result
-        (λ made. T.tree made ≡ operated And (T.tree left) (T.tree right)) }
-    ensures same_rows { IfOk result (λ made. T.rows made ≡ T.rows node.now) }
+    ensures { AnswersBeside T.rows (T.rows node.now) (λ made. T.tree made
+        ≡ operated And (T.tree left) (T.tree right)) result }
 {
     call_on_two(alloc, node, ScalarFnRef::Binary(Operator::And), left, right)
 }
@@ -131,9 +130,8 @@ fn all_of<C: ScalarFnVTable, T: ReduceTree<C>>(
     mut tests: Vec<T>,
 ) -> VortexResult<T>
     requires { AreTruths C.meaning T.tree T.rows (T.rows node.now) tests.items }
-    ensures answer { AnswersUnlessMemory result
-        (λ made. T.tree made ≡ all_of (map T.tree tests.items)) }
-    ensures same_rows { IfOk result (λ made. T.rows made ≡ T.rows node.now) }
+    ensures { AnswersBeside T.rows (T.rows node.now) (λ made. T.tree made
+        ≡ all_of (map T.tree tests.items)) result }
 {
     while tests.len() > 1 {
         tests = one_round(alloc, node, tests)?;
@@ -150,9 +148,8 @@ pub fn union_child_validities<C: ScalarFnVTable, T: ReduceTree<C>>(
     alloc: Global,
     node: &T,
 ) -> VortexResult<T>
-    ensures answer { AnswersUnlessMemory result (λ made. T.tree made
-        ≡ union_child_validities C.meaning (trees_of (children_of (T.tree node.now)))) }
-    ensures same_rows { IfOk result (λ made. T.rows made ≡ T.rows node.now) }
+    ensures { AnswersBeside T.rows (T.rows node.now) (λ made. T.tree made
+        ≡ union_child_validities C.meaning (trees_of (children_of (T.tree node.now)))) result }
 {
     let tests = null_tests(alloc, node)?;
     all_of(alloc, node, tests)

@@ -1,5 +1,5 @@
 //! The validity that a call has by the types of its children alone.
-ghost use Rattle.std.specs.Prelude.{◌≡◌, IfOk, IfSome, IsTrue, Some, length, map};
+ghost use Rattle.std.specs.Prelude.{◌≡◌, IsTrue, Some, length, map};
 ghost use Rattle.std.specs.List.{list_any};
 ghost use Rattle.std.specs.Option.{option_map};
 ghost use Rattle.vortex_meaning.specs.Rules.{may_be_null};
@@ -8,7 +8,8 @@ ghost use Rattle.vortex_functions.specs.Words.{type_of, fits, function_arity, fu
 ghost use Rattle.vortex_functions.specs.Words.{function_of};
 ghost use Rattle.vortex_functions.specs.Words.{called, trees_of, children_of, tree_types};
 ghost use Rattle.vortex_functions.specs.Words.{AnswersUnlessMemory};
-ghost use Rattle.vortex_rules.specs.Told.{told_node, IsTold};
+ghost use Rattle.vortex_rules.specs.Told.{IsTold};
+ghost use Rattle.vortex_rules.specs.Beside.{AnswersValidity};
 
 use crate::node::{ReduceNodeValidity, ReduceTree};
 use crate::union::union_child_validities;
@@ -85,10 +86,8 @@ pub fn default_validity<C: ScalarFnVTable, T: ReduceTree<C>>(
     node: &T,
 ) -> VortexResult<ReduceNodeValidity<T>>
     requires { called (T.tree node.now) ≡ Some (function_of function.now) }
-    ensures answer { AnswersUnlessMemory result (IsTold T.tree (default_validity C.meaning
-        (function_of function.now) (trees_of (children_of (T.tree node.now))))) }
-    ensures same_rows { IfOk result
-        (λ told. IfSome (told_node told) (λ made. T.rows made ≡ T.rows node.now)) }
+    ensures { AnswersValidity T.rows (T.rows node.now) (IsTold T.tree (default_validity C.meaning
+        (function_of function.now) (trees_of (children_of (T.tree node.now))))) result }
 {
     let _typed = node.node_dtype();
     if !function.signature().is_strict {

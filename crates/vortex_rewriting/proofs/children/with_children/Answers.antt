@@ -4,25 +4,20 @@ use Rattle.vortex_functions.specs.Binding.{IsCall, RefusesCall}
 use Rattle.vortex_rewriting.proofs.OtherChildren.{call_on_others, stands_beside}
 use Rattle.vortex_rewriting.proofs.children.with_children.Goals as goal
 
-pub returns-in_ok-try_clone-in-Some-clause-answer :
-    goal.returns-in_ok-try_clone-in-Some-clause-answer
-returns-in_ok-try_clone-in-Some-clause-answer g c =
-    let m = g.C.ScalarFnVTable.meaning in
-    let l = g.L.Leaf in
-    let us = map l.tree_of c.args.children.items in
-    let f = c.in_ok-try_clone-in-Some.field-0 in
-    let called =
-    c.in-Some.ensures ∙ ap (λ f. Some (function_of f)) (sym c.in_ok-try_clone-in-Some.ensures) in
-    call_on_others m (l.tree_of c.args.tree.now) (function_of f) called us c.requires.typed
-    l.tree_of l.beside_of c.beside.result c.try_call.result c.try_call.ensures
-
-pub returns-in_ok-try_clone-in-Some-clause-same_rows :
-    goal.returns-in_ok-try_clone-in-Some-clause-same_rows
-returns-in_ok-try_clone-in-Some-clause-same_rows g c =
+pub returns-in_ok-try_clone-in-Some : goal.returns-in_ok-try_clone-in-Some
+returns-in_ok-try_clone-in-Some g c =
     let m = g.C.ScalarFnVTable.meaning in
     let l = g.L.Leaf in
     let us = map l.tree_of c.args.children.items in
     let f = function_of c.in_ok-try_clone-in-Some.field-0 in
-    stands_beside (λ made. IsCall m f us (l.tree_of made)) (RefusesCall m f us) l.beside_of
-    c.beside.result (l.beside_of c.args.tree.now) c.try_call.result c.try_call.ensures
-    c.beside.ensures
+    let called =
+    c.in-Some.ensures ∙ ap (λ f. Some (function_of f)) (sym c.in_ok-try_clone-in-Some.ensures) in
+    record {
+      answer =
+          call_on_others m (l.tree_of c.args.tree.now) f called us c.requires.typed l.tree_of
+          l.beside_of c.beside.result c.try_call.result c.try_call.ensures;
+      same_rows =
+          stands_beside (λ made. IsCall m f us (l.tree_of made)) (RefusesCall m f us) l.beside_of
+          c.beside.result (l.beside_of c.args.tree.now) c.try_call.result c.try_call.ensures
+          c.beside.ensures;
+    }

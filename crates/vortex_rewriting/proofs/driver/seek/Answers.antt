@@ -1,6 +1,5 @@
 use Rattle.std.proofs.Common.{◌≡◌, Some, None, sym, ap, subst, ◌∙◌, length, arith}
 use Rattle.vortex_meaning.specs.Driver.{step}
-use Rattle.vortex_rewriting.specs.Driving.{first_rule}
 use Rattle.vortex_rewriting.specs.Frames.{plug, frames_in}
 use Rattle.vortex_rewriting.proofs.Walking.{of_some, begins, next_is, passes, passes_fewer}
 use Rattle.vortex_rewriting.proofs.Walking.{descends, descends_fewer, all_done, step_made, ends}
@@ -11,7 +10,7 @@ pub loop-done-init : goal.loop-done-init
 loop-done-init g c =
     let tree = g.L.Leaf.tree_of in
     let rows = g.L.Leaf.beside_of in
-    begins tree (first_rule g.L.RewriteLeaf.applied) rows c.args.above.items c.args.node
+    begins tree g.L.Leaf.rule rows c.args.above.items c.args.node
     c.new-done.result.items c.requires.frames c.requires.same_rows c.new-done.ensures.items
 
 pub loop-done-smaller-in-Continue-branch-3 : goal.loop-done-smaller-in-Continue-branch-3
@@ -30,10 +29,9 @@ loop-done-preserved-in-Continue-branch-3 g c =
     let l = c.loop-done in
     let at = next_is tree (tree l.node) l.done.items c.deref.result.now c.in_ok-child.field-0
     c.in-Some.child c.deref.ensures.value c.in_ok-child.ensures.answer c.in-Some.is in
-    passes tree (first_rule g.L.RewriteLeaf.applied) rows c.args.above.items c.args.node
+    passes tree g.L.Leaf.rule rows c.args.above.items c.args.node
     l.above.items l.node l.done.items c.push.new.self.items c.in-Some.child l.invariant at
-    (subst (λ rule. step rule (tree c.in-Some.child) ≡ None) g.met.L.RewriteLeaf.rule_is
-    (c.is_settled.ensures c.if-is_settled.true))
+    (c.is_settled.ensures c.if-is_settled.true)
     (of_some (λ t. rows t ≡ rows l.node) c.in_ok-child.field-0 c.in-Some.child
     c.in_ok-child.ensures.same_rows c.in-Some.is)
     c.in_ok-push-in-Some.ensures.items
@@ -56,7 +54,7 @@ loop-done-preserved-else-is_settled g c =
     let l = c.loop-done in
     let at = next_is tree (tree l.node) l.done.items c.deref.result.now c.in_ok-child.field-0
     c.in-Some.child c.deref.ensures.value c.in_ok-child.ensures.answer c.in-Some.is in
-    descends tree (first_rule g.L.RewriteLeaf.applied) rows c.args.above.items c.args.node
+    descends tree g.L.Leaf.rule rows c.args.above.items c.args.node
     l.above.items c.push-else-is_settled.new.self.items (record { node = l.node; done = l.done })
     c.in-Some.child
     c.new-done-else-is_settled.result.items l.invariant at
@@ -70,7 +68,7 @@ over_children-requires-clause-typed g c =
     let tree = g.L.Leaf.tree_of in
     let rows = g.L.Leaf.beside_of in
     let l = c.loop-done in
-    node_typed tree (first_rule g.L.RewriteLeaf.applied) rows c.args.above.items c.args.node
+    node_typed tree g.L.Leaf.rule rows c.args.above.items c.args.node
     g.C.ScalarFnVTable.meaning l.above.items l.node l.done.items l.invariant c.requires.typed
 
 pub returns-in-Some-2-clause-answer : goal.returns-in-Some-2-clause-answer
@@ -84,7 +82,7 @@ returns-in-Some-2-clause-answer g c =
       l.invariant.frames,
       sym l.invariant.same
           ∙ ap (plug (frames_in tree l.above.items)) (sym c.in_ok-whole-in-None.ensures.answer),
-      step_made tree (first_rule g.L.RewriteLeaf.applied) rows c.args.above.items c.args.node
+      step_made tree g.L.Leaf.rule rows c.args.above.items c.args.node
           l.above.items l.node whole l.done.items c.in_ok-made-in-None.field-0
           (Some c.in-Some-2.made) l.invariant c.in_ok-whole-in-None.ensures.answer all
           c.in_ok-made-in-None.ensures.answer c.in-Some-2.is,
@@ -97,18 +95,16 @@ mark_settled-requires g c =
     let l = c.loop-done in
     let all = all_done tree (tree l.node) l.done.items c.deref.result.now c.in_ok-child.field-0
     c.deref.ensures.value c.in_ok-child.ensures.answer c.in-None.is in
-    subst (λ rule. step rule (tree c.in_ok-whole-in-None.whole) ≡ None)
-    (sym g.met.L.RewriteLeaf.rule_is)
-    (step_made tree (first_rule g.L.RewriteLeaf.applied) rows c.args.above.items
+    step_made tree g.L.Leaf.rule rows c.args.above.items
     c.args.node l.above.items l.node c.in_ok-whole-in-None.whole l.done.items
     c.in_ok-made-in-None.field-0 None l.invariant c.in_ok-whole-in-None.ensures.answer all
-    c.in_ok-made-in-None.ensures.answer c.in_default.is)
+    c.in_ok-made-in-None.ensures.answer c.in_default.is
 
 pub returns-in_default-pop-clause-answer : goal.returns-in_default-pop-clause-answer
 returns-in_default-pop-clause-answer g c =
     let tree = g.L.Leaf.tree_of in
     let rows = g.L.Leaf.beside_of in
-    let rule = first_rule g.L.RewriteLeaf.applied in
+    let rule = g.L.Leaf.rule in
     let l = c.loop-done in
     let all = all_done tree (tree l.node) l.done.items c.deref.result.now c.in_ok-child.field-0
     c.deref.ensures.value c.in_ok-child.ensures.answer c.in-None.is in
@@ -133,7 +129,7 @@ pub loop-done-preserved : goal.loop-done-preserved
 loop-done-preserved g c =
     let tree = g.L.Leaf.tree_of in
     let rows = g.L.Leaf.beside_of in
-    let rule = first_rule g.L.RewriteLeaf.applied in
+    let rule = g.L.Leaf.rule in
     let l = c.loop-done in
     let all = all_done tree (tree l.node) l.done.items c.deref.result.now c.in_ok-child.field-0
     c.deref.ensures.value c.in_ok-child.ensures.answer c.in-None.is in

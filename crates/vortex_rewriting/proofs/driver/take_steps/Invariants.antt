@@ -1,6 +1,5 @@
 use Rattle.std.proofs.Common.{◌≡◌, ◌≤◌, ◌-◌}
 use Rattle.vortex_meaning.specs.Driver.{Runs}
-use Rattle.vortex_rewriting.specs.Driving.{first_rule}
 use Rattle.vortex_rewriting.specs.Frames.{plug, frames_in, AreFrames, HaveRows}
 use Rattle.vortex_rewriting.proofs.driver.take_steps.Given as goal
 
@@ -9,7 +8,7 @@ abbrev pub invariant-loop-tree : goal.invariant-loop-tree
 invariant-loop-tree g l =
     let tree = g.L.Leaf.tree_of in
     let rows = g.L.Leaf.beside_of in
-    let rule = first_rule g.L.RewriteLeaf.applied in
+    let rule = g.L.Leaf.rule in
     record {
       run : Runs rule l.steps (tree l.tree) (plug (frames_in tree l.above.items) (tree l.place));
       frames : AreFrames rule (frames_in tree l.above.items);

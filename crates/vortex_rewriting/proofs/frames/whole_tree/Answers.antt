@@ -1,7 +1,6 @@
 use Rattle.std.proofs.Common.{sym, ap, subst, ◌∙◌}
 use Rattle.std.specs.Prelude.{IsSome}
 use Rattle.vortex_meaning.specs.Eval.{tree_type}
-use Rattle.vortex_rewriting.specs.Driving.{first_rule}
 use Rattle.vortex_rewriting.specs.Frames.{plug, frames_in}
 use Rattle.vortex_rewriting.proofs.Walking.{goes_up, frames_above, over_typed, rows_above}
 use Rattle.vortex_rewriting.proofs.Walking.{rows_push}
@@ -11,7 +10,7 @@ pub closed-requires-clause-typed : goal.closed-requires-clause-typed
 closed-requires-clause-typed g c =
     let m = g.C.ScalarFnVTable.meaning in
     let l = c.loop-frame in
-    over_typed g.L.Leaf.tree_of (first_rule g.L.RewriteLeaf.applied) m l.above.items
+    over_typed g.L.Leaf.tree_of g.L.Leaf.rule m l.above.items
     c.pop.new.self.items c.in-Some.frame l.whole c.push.new.self.items c.in-Some.ensures.items
     c.in_ok-push.ensures.items l.invariant.frames
     (subst (λ t. IsSome (tree_type m t)) (sym l.invariant.same) c.requires.typed)
@@ -38,7 +37,7 @@ loop-frame-preserved g c =
     l.invariant.rows_above in
     record {
       frames =
-          (frames_above tree (first_rule g.L.RewriteLeaf.applied) l.above.items rest f
+          (frames_above tree g.L.Leaf.rule l.above.items rest f
           c.in-Some.ensures.items l.invariant.frames).0;
       same =
           ap (plug (frames_in tree rest)) c.in_ok-whole.ensures.answer

@@ -1,5 +1,4 @@
 use Rattle.std.proofs.Common.{◌≡◌, length}
-use Rattle.vortex_rewriting.specs.Driving.{first_rule}
 use Rattle.vortex_rewriting.specs.Frames.{plug, frames_in, AreFrames, HaveRows}
 use Rattle.vortex_rewriting.proofs.frames.whole_tree.Given as goal
 
@@ -9,7 +8,7 @@ invariant-loop-frame g l =
     let tree = g.L.Leaf.tree_of in
     let rows = g.L.Leaf.beside_of in
     record {
-      frames : AreFrames (first_rule g.L.RewriteLeaf.applied) (frames_in tree l.above.items);
+      frames : AreFrames g.L.Leaf.rule (frames_in tree l.above.items);
       same : plug (frames_in tree l.above.items) (tree l.whole)
           ≡ plug (frames_in tree l.fn.above.items) (tree l.fn.place);
       rows_above : HaveRows rows (rows l.fn.place) l.above.items;

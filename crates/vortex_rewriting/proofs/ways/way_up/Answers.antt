@@ -1,10 +1,11 @@
 use Rattle.std.proofs.Common.{◌≡◌, ℕ, ap, sym, ◌∙◌, map, Some}
 use Rattle.std.proofs.lemmas.List.Elements.{All-pop}
+use Rattle.std.proofs.lemmas.Option.{slice_get_within}
 use Rattle.vortex_meaning.specs.Trees.{Tree, children_of}
 use Rattle.vortex_meaning.specs.Eval.{tree_type}
 use Rattle.vortex_rewriting.specs.Ways.{with_parents}
 use Rattle.vortex_rewriting.specs.declared.ways.Parent.{Parent}
-use Rattle.vortex_rewriting.proofs.DownAndUp.{is_within, popped, way_above, with_last}
+use Rattle.vortex_rewriting.proofs.DownAndUp.{popped, way_above, with_last}
 use Rattle.vortex_rewriting.proofs.DownAndUp.{with_child_typed}
 use Rattle.vortex_rewriting.proofs.ways.way_up.Goals as goal
 
@@ -16,7 +17,7 @@ with_child-requires-clause-is_child g c =
     let at = way_above (λ (p : Parent g.row.L-Seen.Denot). (tree p.node.now, p.index))
     c.loop-parent.parents.items c.pop.new.self.items p (tree c.args.tree.now) i.0
     c.in-Some.ensures.items i.1 in
-    is_within (children_of (tree p.node.now)) p.index i.0 at.1
+    slice_get_within (children_of (tree p.node.now)) p.index i.0 at.1
 
 pub with_child-requires-clause-same_type : goal.with_child-requires-clause-same_type
 with_child-requires-clause-same_type g c =

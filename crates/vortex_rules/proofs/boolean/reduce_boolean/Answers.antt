@@ -1,13 +1,10 @@
-use Rattle.std.proofs.Common.{arith}
-use Rattle.std.specs.Prelude.{◌≡◌}
-use Rattle.std.specs.Option.{option_map}
-use Rattle.vortex_errors.proofs.Answering.{Answers-weaker}
-use Rattle.vortex_types.specs.TypeOf.{type_of, allows_null}
-use Rattle.vortex_meaning.specs.Rules.{constant_truth}
-use Rattle.vortex_meaning.specs.ReduceRules.{of_constants}
-use Rattle.vortex_rules.specs.Reduced.{IsReduced}
+use Rattle.std.proofs.Common.{◌≡◌, arith}
+use Rattle.vortex_types.specs.TypeOf.{type_of}
+use Rattle.vortex_meaning.specs.ComparisonTrees.{operated}
 use Rattle.vortex_rules.proofs.BooleanNodes.{two_operands, is_operated, casts_left, casts_right}
 use Rattle.vortex_rules.proofs.BooleanNodes.{reduced}
+use Rattle.vortex_rules.proofs.boolean.reduce_boolean.Given.{Over}
+use Rattle.vortex_rules.proofs.boolean.reduce_boolean.Goals.{In_ok-right}
 use Rattle.vortex_rules.proofs.boolean.reduce_boolean.Goals as goal
 
 pub child-requires : goal.child-requires
@@ -24,46 +21,34 @@ child-requires-2 g c =
     (type_of c.node_dtype.result.now) c.requires.call c.node_dtype.ensures in
     omega arith
 
+-- the node, by its operands
+operands : (g : Over) (c : In_ok-right g)
+    → g.T.ReduceTree.tree c.args.node.now
+    ≡ operated c.args.operator (g.T.ReduceTree.tree c.in_ok-left.left)
+    (g.T.ReduceTree.tree c.in_ok-right.right)
+operands g c =
+    let tree = g.T.ReduceTree.tree in
+    is_operated g.C.ScalarFnVTable.meaning (tree c.args.node.now) c.args.operator
+    (tree c.in_ok-left.left) (tree c.in_ok-right.right) (type_of c.node_dtype.result.now)
+    c.requires.call c.node_dtype.ensures c.in_ok-left.ensures.answer c.in_ok-right.ensures.answer
+
 pub of_constants-requires-clause-casts_left : goal.of_constants-requires-clause-casts_left
 of_constants-requires-clause-casts_left g c =
-    let m = g.C.ScalarFnVTable.meaning in
-    let t = g.T.ReduceTree.tree c.args.node.now in
-    let x = g.T.ReduceTree.tree c.in_ok-left.left in
-    let y = g.T.ReduceTree.tree c.in_ok-right.right in
-    let k = type_of c.node_dtype.result.now in
-    let is =
-    is_operated m t c.args.operator x y k c.requires.call c.node_dtype.ensures
-    c.in_ok-left.ensures.answer c.in_ok-right.ensures.answer in
-    casts_left m t c.args.operator x y k c.requires.boolean is c.node_dtype.ensures
+    casts_left g.C.ScalarFnVTable.meaning c.requires.boolean
+    (operands g (goal.at.of_constants-requires-clause-casts_left g c).In_ok-right)
+    c.node_dtype.ensures
 
 pub of_constants-requires-clause-casts_right : goal.of_constants-requires-clause-casts_right
 of_constants-requires-clause-casts_right g c =
-    let m = g.C.ScalarFnVTable.meaning in
-    let t = g.T.ReduceTree.tree c.args.node.now in
-    let x = g.T.ReduceTree.tree c.in_ok-left.left in
-    let y = g.T.ReduceTree.tree c.in_ok-right.right in
-    let k = type_of c.node_dtype.result.now in
-    let is =
-    is_operated m t c.args.operator x y k c.requires.call c.node_dtype.ensures
-    c.in_ok-left.ensures.answer c.in_ok-right.ensures.answer in
-    casts_right m t c.args.operator x y k c.requires.boolean is c.node_dtype.ensures
+    casts_right g.C.ScalarFnVTable.meaning c.requires.boolean
+    (operands g (goal.at.of_constants-requires-clause-casts_right g c).In_ok-right)
+    c.node_dtype.ensures
 
-pub returns-clause-answer : goal.returns-clause-answer
-returns-clause-answer g c =
-    let m = g.C.ScalarFnVTable.meaning in
-    let t = g.T.ReduceTree.tree c.args.node.now in
-    let x = g.T.ReduceTree.tree c.in_ok-left.left in
-    let y = g.T.ReduceTree.tree c.in_ok-right.right in
-    let k = type_of c.node_dtype.result.now in
-    let n = allows_null c.nullability-nullability.result in
-    let is =
-    is_operated m t c.args.operator x y k c.requires.call c.node_dtype.ensures
-    c.in_ok-left.ensures.answer c.in_ok-right.ensures.answer in
-    Answers-weaker c.of_constants.result
-    (λ answer. option_map g.T.ReduceTree.tree answer
-    ≡ of_constants m c.args.operator n x y (constant_truth x) (constant_truth y))
-    (IsReduced m g.T.ReduceTree.tree t) (λ e. ⊥) (λ e. ⊥)
-    (λ answer e. reduced m g.T.ReduceTree.tree t c.args.operator x y k n answer c.requires.boolean
-    is
-    c.node_dtype.ensures c.nullability-nullability.ensures e) (λ e h. h)
-    c.of_constants.ensures.answer
+pub returns : goal.returns
+returns g c = record {
+  answer =
+      reduced g.C.ScalarFnVTable.meaning g.T.ReduceTree.tree c.of_constants.result
+      c.requires.boolean (operands g (goal.at.returns g c).In_ok-right) c.node_dtype.ensures
+      c.nullability-nullability.ensures c.of_constants.ensures.answer;
+  same_rows = c.of_constants.ensures.same_rows;
+}

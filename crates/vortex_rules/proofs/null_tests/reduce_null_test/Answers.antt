@@ -1,4 +1,5 @@
-use Rattle.std.proofs.Common.{◌≡◌, true, Some, None, sym, ap, ◌∙◌, arith}
+use Rattle.std.proofs.Common.{◌≡◌, true, Some, None, sym, ap, subst, ◌∙◌, arith}
+use Rattle.std.specs.Prelude.{IfOk, IfSome}
 use Rattle.std.specs.Option.{option_map}
 use Rattle.vortex_errors.proofs.Answering.{AnswersUnlessMemory-weaker}
 use Rattle.vortex_types.specs.TypeOf.{type_of}
@@ -32,11 +33,12 @@ by_validity-requires-clause-truth g c =
     (type_of c.node_dtype.result.now) c.node_dtype.ensures said in
     sound.dtype
 
-pub returns-clause-answer : goal.returns-clause-answer
-returns-clause-answer g c =
+pub returns : goal.returns
+returns g c =
     let m = g.C.ScalarFnVTable.meaning in
     let r = g.C.ScalarFnVTable.rules in
     let of_node = g.T.ReduceTree.tree in
+    let rows = g.T.ReduceTree.rows in
     let t = of_node c.args.node.now in
     let x = of_node c.in_ok-operand.operand in
     let k = type_of c.node_dtype.result.now in
@@ -46,7 +48,15 @@ returns-clause-answer g c =
     let unsaid : None ≡ validity m r x =
     ap (λ w. option_map of_node (told_node w)) (sym c.in-Irreducible.is)
     ∙ c.in_ok-valid.ensures.answer in
-    AnswersUnlessMemory-weaker c.within.result
-    (λ answer. option_map of_node answer ≡ within m c.args.test x) (IsReducedBy m r of_node t)
-    (λ answer e. e ∙ reduce_node m r c.args.test t x k true None is c.node_dtype.ensures
-    c.if-not-is_nullable.ensures unsaid) c.within.ensures.answer
+    record {
+      answer =
+          AnswersUnlessMemory-weaker c.within.result
+          (λ answer. option_map of_node answer ≡ within m c.args.test x)
+          (IsReducedBy m r of_node t)
+          (λ answer e. e ∙ reduce_node m r c.args.test t x k true None is c.node_dtype.ensures
+          c.if-not-is_nullable.ensures unsaid) c.within.ensures.answer;
+      same_rows =
+          subst
+          (λ n. IfOk c.within.result (λ answer. IfSome answer (λ made. rows made ≡ n)))
+          c.in_ok-operand.ensures.same_rows c.within.ensures.same_rows;
+    }

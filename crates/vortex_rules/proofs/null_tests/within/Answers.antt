@@ -42,8 +42,8 @@ within_operands-requires-clause-typed g c =
     c.in_ok-right.ensures.answer in
     subst (λ o. IsSome o) (sym (sym (ap (tree_type m) is) ∙ c.node_dtype-typed.ensures)) refl
 
-pub returns-clause-answer : goal.returns-clause-answer
-returns-clause-answer g c =
+pub returns : goal.returns
+returns g c =
     let m = g.C.ScalarFnVTable.meaning in
     let of_node = g.T.ReduceTree.tree in
     let t = of_node c.args.node.now in
@@ -54,8 +54,12 @@ returns-clause-answer g c =
     let y = of_node c.in_ok-right.right in
     let is = is_operated m t op x y k which.0 c.node_dtype-typed.ensures c.in_ok-left.ensures.answer
     c.in_ok-right.ensures.answer in
-    AnswersUnlessMemory-weaker c.within_operands.result
-    (λ answer. option_map of_node answer ≡ within_operands m c.args.test op x y)
-    (λ answer. option_map of_node answer ≡ within m c.args.test t)
-    (λ answer e. e ∙ within_node m c.args.test op t x y which.1 is)
-    c.within_operands.ensures.answer
+    record {
+      answer =
+          AnswersUnlessMemory-weaker c.within_operands.result
+          (λ answer. option_map of_node answer ≡ within_operands m c.args.test op x y)
+          (λ answer. option_map of_node answer ≡ within m c.args.test t)
+          (λ answer e. e ∙ within_node m c.args.test op t x y which.1 is)
+          c.within_operands.ensures.answer;
+      same_rows = c.within_operands.ensures.same_rows;
+    }

@@ -1,11 +1,10 @@
 use Rattle.std.proofs.Common.{◌≡◌, sym, ◌∙◌, arith}
-use Rattle.std.specs.Option.{option_map}
-use Rattle.vortex_errors.proofs.Answering.{AnswersUnlessMemory-weaker}
-use Rattle.vortex_types.specs.TypeOf.{type_of, allows_null}
-use Rattle.vortex_meaning.specs.SimplifyRules.{simplify_operands, simplify_comparison}
-use Rattle.vortex_rules.specs.Simplified.{IsSimplified}
+use Rattle.vortex_types.specs.TypeOf.{type_of}
+use Rattle.vortex_meaning.specs.ComparisonTrees.{operated}
 use Rattle.vortex_rules.proofs.BooleanNodes.{two_operands, is_operated, casts_left, casts_right}
 use Rattle.vortex_rules.proofs.Simplified.{simplified_boolean, simplified_comparison}
+use Rattle.vortex_rules.proofs.simplify.simplify_operator.Given.{Over}
+use Rattle.vortex_rules.proofs.simplify.simplify_operator.Goals.{In_ok-right}
 use Rattle.vortex_rules.proofs.simplify.simplify_operator.Goals as goal
 
 pub child-requires : goal.child-requires
@@ -22,64 +21,46 @@ child-requires-2 g c =
     (type_of c.node_dtype.result.now) c.requires c.node_dtype.ensures in
     omega arith
 
+-- the node, by its operands
+operands : (g : Over) (c : In_ok-right g)
+    → g.T.ReduceTree.tree c.args.node.now
+    ≡ operated c.args.operator (g.T.ReduceTree.tree c.in_ok-left.left)
+    (g.T.ReduceTree.tree c.in_ok-right.right)
+operands g c =
+    let tree = g.T.ReduceTree.tree in
+    is_operated g.C.ScalarFnVTable.meaning (tree c.args.node.now) c.args.operator
+    (tree c.in_ok-left.left) (tree c.in_ok-right.right) (type_of c.node_dtype.result.now)
+    c.requires c.node_dtype.ensures c.in_ok-left.ensures.answer c.in_ok-right.ensures.answer
+
 pub simplify_operands-requires-clause-casts_left : goal.simplify_operands-requires-clause-casts_left
 simplify_operands-requires-clause-casts_left g c =
-    let m = g.C.ScalarFnVTable.meaning in
-    let t = g.T.ReduceTree.tree c.args.node.now in
-    let x = g.T.ReduceTree.tree c.in_ok-left.left in
-    let y = g.T.ReduceTree.tree c.in_ok-right.right in
-    let k = type_of c.node_dtype.result.now in
-    let is =
-    is_operated m t c.args.operator x y k c.requires c.node_dtype.ensures
-    c.in_ok-left.ensures.answer c.in_ok-right.ensures.answer in
-    casts_left m t c.args.operator x y k (sym c.is_boolean.ensures ∙ c.if-is_boolean.true) is
+    casts_left g.C.ScalarFnVTable.meaning (sym c.is_boolean.ensures ∙ c.if-is_boolean.true)
+    (operands g (goal.at.simplify_operands-requires-clause-casts_left g c).In_ok-right)
     c.node_dtype.ensures
 
 pub simplify_operands-requires-clause-casts_right :
     goal.simplify_operands-requires-clause-casts_right
 simplify_operands-requires-clause-casts_right g c =
-    let m = g.C.ScalarFnVTable.meaning in
-    let t = g.T.ReduceTree.tree c.args.node.now in
-    let x = g.T.ReduceTree.tree c.in_ok-left.left in
-    let y = g.T.ReduceTree.tree c.in_ok-right.right in
-    let k = type_of c.node_dtype.result.now in
-    let is =
-    is_operated m t c.args.operator x y k c.requires c.node_dtype.ensures
-    c.in_ok-left.ensures.answer c.in_ok-right.ensures.answer in
-    casts_right m t c.args.operator x y k (sym c.is_boolean.ensures ∙ c.if-is_boolean.true) is
+    casts_right g.C.ScalarFnVTable.meaning (sym c.is_boolean.ensures ∙ c.if-is_boolean.true)
+    (operands g (goal.at.simplify_operands-requires-clause-casts_right g c).In_ok-right)
     c.node_dtype.ensures
 
-pub returns-then-is_boolean-clause-answer : goal.returns-then-is_boolean-clause-answer
-returns-then-is_boolean-clause-answer g c =
-    let m = g.C.ScalarFnVTable.meaning in
-    let tree = g.T.ReduceTree.tree in
-    let t = tree c.args.node.now in
-    let x = tree c.in_ok-left.left in
-    let y = tree c.in_ok-right.right in
-    let k = type_of c.node_dtype.result.now in
-    let n = allows_null c.nullability-nullability.result in
-    let is =
-    is_operated m t c.args.operator x y k c.requires c.node_dtype.ensures
-    c.in_ok-left.ensures.answer c.in_ok-right.ensures.answer in
-    AnswersUnlessMemory-weaker c.simplify_operands.result
-    (λ answer. option_map tree answer ≡ simplify_operands m c.args.operator n x y)
-    (IsSimplified m tree t)
-    (λ answer e. simplified_boolean m tree t c.args.operator x y answer is k n
-    (sym c.is_boolean.ensures ∙ c.if-is_boolean.true) c.node_dtype.ensures
-    c.nullability-nullability.ensures e) c.simplify_operands.ensures.answer
+pub returns-then-is_boolean : goal.returns-then-is_boolean
+returns-then-is_boolean g c = record {
+  answer =
+      simplified_boolean g.C.ScalarFnVTable.meaning g.T.ReduceTree.tree
+      (operands g (goal.at.returns-then-is_boolean g c).In_ok-right)
+      c.simplify_operands.result (sym c.is_boolean.ensures ∙ c.if-is_boolean.true)
+      c.node_dtype.ensures c.nullability-nullability.ensures c.simplify_operands.ensures.answer;
+  same_rows = c.simplify_operands.ensures.same_rows;
+}
 
-pub returns-then-is_comparison-clause-answer : goal.returns-then-is_comparison-clause-answer
-returns-then-is_comparison-clause-answer g c =
-    let m = g.C.ScalarFnVTable.meaning in
-    let tree = g.T.ReduceTree.tree in
-    let t = tree c.args.node.now in
-    let x = tree c.in_ok-left.left in
-    let y = tree c.in_ok-right.right in
-    let k = type_of c.node_dtype.result.now in
-    let is =
-    is_operated m t c.args.operator x y k c.requires c.node_dtype.ensures
-    c.in_ok-left.ensures.answer c.in_ok-right.ensures.answer in
-    AnswersUnlessMemory-weaker c.simplify_comparison.result
-    (λ answer. option_map tree answer ≡ simplify_comparison x y) (IsSimplified m tree t)
-    (λ answer e. simplified_comparison m tree t c.args.operator x y answer is
-    (sym c.is_comparison.ensures ∙ c.if-is_comparison.true) e) c.simplify_comparison.ensures.answer
+pub returns-then-is_comparison : goal.returns-then-is_comparison
+returns-then-is_comparison g c = record {
+  answer =
+      simplified_comparison g.C.ScalarFnVTable.meaning g.T.ReduceTree.tree
+      (operands g (goal.at.returns-then-is_comparison g c).In_ok-right)
+      c.simplify_comparison.result (sym c.is_comparison.ensures ∙ c.if-is_comparison.true)
+      c.simplify_comparison.ensures.answer;
+  same_rows = c.simplify_comparison.ensures.same_rows;
+}

@@ -1,4 +1,5 @@
 use Rattle.std.proofs.Common.{map, ap, ◌∙◌, arith}
+use Rattle.std.proofs.lemmas.Grind.{common_steps}
 use Rattle.vortex_meaning.specs.ValidityRules.{all_of}
 use Rattle.vortex_meaning.proofs.JoinedByAnd.{all_of-one_round}
 use Rattle.vortex_rules.proofs.Unions.{last_truth, fewer_nodes}
@@ -6,10 +7,8 @@ use Rattle.vortex_rules.proofs.union.all_of.Goals as goal
 
 pub loop-tests-smaller : goal.loop-tests-smaller
 loop-tests-smaller g c =
-    let rows = g.T.ReduceTree.rows in
-    let fewer = fewer_nodes g.C.ScalarFnVTable.meaning g.T.ReduceTree.tree rows
-    (rows c.args.node.now) c.loop-tests.tests.items c.in_ok-tests.tests.items (omega arith)
-    c.in_ok-tests.ensures.answer in
+    let fewer = fewer_nodes g.T.ReduceTree.tree c.loop-tests.tests.items c.in_ok-tests.tests.items
+    (omega arith) c.in_ok-tests.ensures.answer in
     omega (arith, fewer)
 
 pub loop-tests-preserved : goal.loop-tests-preserved
@@ -20,9 +19,13 @@ loop-tests-preserved g c = (
   c.in_ok-tests.ensures.truths,
 )
 
-pub returns-in-Some-clause-same_rows : goal.returns-in-Some-clause-same_rows
-returns-in-Some-clause-same_rows g c =
+pub returns-in-Some : goal.returns-in-Some
+returns-in-Some g c =
     let rows = g.T.ReduceTree.rows in
-    (last_truth g.C.ScalarFnVTable.meaning g.T.ReduceTree.tree rows (rows c.args.node.now)
-    c.loop-tests.tests.items c.pop.new.self.items c.in-Some.test c.in-Some.ensures.items
-    c.loop-tests.invariant.1).1
+    record {
+      answer = grind (arith, common_steps);
+      same_rows =
+          (last_truth g.C.ScalarFnVTable.meaning g.T.ReduceTree.tree rows (rows c.args.node.now)
+          c.loop-tests.tests.items c.pop.new.self.items c.in-Some.test c.in-Some.ensures.items
+          c.loop-tests.invariant.1).1;
+    }

@@ -7,15 +7,12 @@ use Rattle.vortex_rules.proofs.union.one_round.Goals as goal
 
 pub returns-then-len-eq0-clause-answer : goal.returns-then-len-eq0-clause-answer
 returns-then-len-eq0-clause-answer g c =
-    let m = g.C.ScalarFnVTable.meaning in
     let tree = g.T.ReduceTree.tree in
-    let rows = g.T.ReduceTree.rows in
-    let n = rows c.args.node.now in
     let tests = c.args.tests.items in
     AnswersUnlessMemory-weaker c.pairs_of.result
     (λ joined. map tree joined.items ≡ pairs_of (map tree c.deref.result.now))
     (λ joined. map tree joined.items ≡ one_round (map tree tests))
-    (λ joined e. even_round m tree rows n (c.len.result / 2) tests joined.items (omega arith)
+    (λ joined e. even_round tree (c.len.result / 2) tests joined.items (omega arith)
     (e ∙ ap (λ nodes. pairs_of (map tree nodes)) c.deref.ensures.value)) c.pairs_of.ensures.answer
 
 pub join_last-requires-clause-truth : goal.join_last-requires-clause-truth
@@ -32,10 +29,7 @@ join_last-requires-clause-same_rows g c =
 
 pub returns-in_ok-joined-in-Some-clause-answer : goal.returns-in_ok-joined-in-Some-clause-answer
 returns-in_ok-joined-in-Some-clause-answer g c =
-    let m = g.C.ScalarFnVTable.meaning in
     let tree = g.T.ReduceTree.tree in
-    let rows = g.T.ReduceTree.rows in
-    let n = rows c.args.node.now in
     let tests = c.args.tests.items in
     let rest = c.pop.new.self.items in
     let pairs = c.in_ok-joined-in-Some.joined.items in
@@ -43,7 +37,7 @@ returns-in_ok-joined-in-Some-clause-answer g c =
     AnswersUnlessMemory-weaker c.join_last.result
     (λ joined. map tree joined.items ≡ joined_last (map tree pairs) (tree last))
     (λ joined. map tree joined.items ≡ one_round (map tree tests))
-    (λ joined e. odd_round m tree rows n (c.len.result / 2) tests rest last pairs joined.items
+    (λ joined e. odd_round tree (c.len.result / 2) tests rest last pairs joined.items
     (omega (arith, c.in-Some.ensures.cases)) c.in-Some.ensures.items
     (c.in_ok-joined-in-Some.ensures.answer
     ∙ ap (λ nodes. pairs_of (map tree nodes)) c.deref-in-Some.ensures.value) e)

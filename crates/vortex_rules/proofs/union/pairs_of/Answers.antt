@@ -20,7 +20,7 @@ returns-in_err-new_node-clause-answer g c =
     let i = c.loop-pair.pair in
     let pair = take (2 * i + 2 - 2 * i) (drop (2 * i) tests) in
     let typed = next_typed m tree rows n tests i pair (omega arith)
-    (next_two m tree rows n tests i) c.requires in
+    (next_two tests i) c.requires in
     let p =
     err_from_is_err_and c.from_residual.result c.from_residual.ensures.1 in
     rw (p.1, p.2)
@@ -38,12 +38,11 @@ loop-pair-preserved g c =
     let i = c.loop-pair.pair in
     one_more_pair m tree rows n tests c.loop-pair.joined.items i
     (take (2 * i + 2 - 2 * i) (drop (2 * i) tests)) c.in_ok-new_node.field-0
-    c.push.new.self.items (omega arith) (next_two m tree rows n tests i) c.requires
+    c.push.new.self.items (omega arith) (next_two tests i) c.requires
     c.loop-pair.invariant c.in_ok-push.ensures.items c.in_ok-new_node.ensures.answer.is
     c.in_ok-new_node.ensures.same_rows
 
 pub returns-clause-answer : goal.returns-clause-answer
 returns-clause-answer g c =
-    let m = g.C.ScalarFnVTable.meaning in
-    all_pairs m g.T.ReduceTree.tree g.T.ReduceTree.rows (g.T.ReduceTree.rows c.args.node.now)
-    c.args.tests.now c.loop-pair.joined.items c.loop-pair.pair (omega arith) c.loop-pair.invariant
+    all_pairs g.T.ReduceTree.tree c.args.tests.now c.loop-pair.joined.items c.loop-pair.pair
+    (omega arith) c.loop-pair.invariant.0

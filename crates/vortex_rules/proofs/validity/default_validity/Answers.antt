@@ -10,8 +10,8 @@ use Rattle.vortex_functions.specs.FunctionOf.{function_of}
 use Rattle.vortex_rules.proofs.DefaultValidities.{holds_where, types_fit, over_null, over_solid}
 use Rattle.vortex_rules.proofs.validity.default_validity.Goals as goal
 
-pub returns-then-any_is_null_type-clause-answer : goal.returns-then-any_is_null_type-clause-answer
-returns-then-any_is_null_type-clause-answer g c =
+pub returns-then-any_is_null_type : goal.returns-then-any_is_null_type
+returns-then-any_is_null_type g c =
     let m = g.C.ScalarFnVTable.meaning in
     let f = function_of c.args.function.now in
     let ds = c.in_ok-dtypes.dtypes.items in
@@ -22,8 +22,12 @@ returns-then-any_is_null_type-clause-answer g c =
     ap (list_any (λ d. is_null_type (type_of d))) (sym c.deref.ensures.value)
     ∙ sym c.any_is_null_type.ensures
     ∙ c.if-any_is_null_type.true in
-    sym (over_null m f (trees_of (children_of (g.T.ReduceTree.tree c.args.node.now))) ds strict
-    c.in_ok-dtypes.ensures any)
+    record {
+      answer =
+          sym (over_null m f (trees_of (children_of (g.T.ReduceTree.tree c.args.node.now))) ds
+          strict c.in_ok-dtypes.ensures any);
+      same_rows = tt;
+    }
 
 pub may_be_null-requires : goal.may_be_null-requires
 may_be_null-requires g c =
@@ -33,8 +37,8 @@ may_be_null-requires g c =
     ∙ types_fit m (g.T.ReduceTree.tree c.args.node.now) f (type_of c.node_dtype-typed.result.now)
     c.in_ok-dtypes.dtypes.items c.requires c.node_dtype-typed.ensures c.in_ok-dtypes.ensures
 
-pub returns-clause-answer : goal.returns-clause-answer
-returns-clause-answer g c =
+pub returns : goal.returns
+returns g c =
     let m = g.C.ScalarFnVTable.meaning in
     let f = function_of c.args.function.now in
     let ds = c.in_ok-dtypes.dtypes.items in
@@ -49,6 +53,10 @@ returns-clause-answer g c =
     ap (λ ts. may_be_null (function_type m f (map type_of ts))) (sym c.deref-2.ensures.value)
     ∙ sym c.in_ok-may_be_null.ensures
     ∙ c.if-branch.false in
-    ap Some c.in_ok-made.ensures.answer
-    ∙ sym (over_solid m f (trees_of (children_of (g.T.ReduceTree.tree c.args.node.now))) ds strict
-    c.in_ok-dtypes.ensures any may)
+    record {
+      answer =
+          ap Some c.in_ok-made.ensures.answer
+          ∙ sym (over_solid m f (trees_of (children_of (g.T.ReduceTree.tree c.args.node.now))) ds
+          strict c.in_ok-dtypes.ensures any may);
+      same_rows = c.in_ok-made.ensures.same_rows;
+    }

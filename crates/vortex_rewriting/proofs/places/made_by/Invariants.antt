@@ -1,7 +1,7 @@
 use Rattle.std.proofs.Common.{◌≡◌, ◌≤◌, Some, take}
 use Rattle.vortex_meaning.specs.Places.{rewritten_list}
 use Rattle.vortex_rewriting.specs.Rewriting.{steps_of}
-use Rattle.vortex_rewriting.proofs.places.rewrite_list.Given as goal
+use Rattle.vortex_rewriting.proofs.places.made_by.Given as goal
 
 -- the steps so far were taken
 abbrev pub invariant-loop-step : goal.invariant-loop-step
