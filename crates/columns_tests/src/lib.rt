@@ -1,4 +1,4 @@
-//! Tests of types, values, scalars and columns.
+//! Tests of views and their words, of types, values, scalars and columns.
 #![tactic(auto)]
 
 #[cfg(test)]
@@ -23,5 +23,11 @@ mod texts;
 mod types;
 #[cfg(test)]
 mod values;
+#[cfg(test)]
+mod view_fitting;
+#[cfg(test)]
+mod view_layout;
+#[cfg(test)]
+mod view_order;
 #[cfg(test)]
 mod views;

@@ -1,5 +1,5 @@
-//! Tests of functions and of their calls in trees: names and marks, what is refused when a tree is
-//! bound, literals and texts.
+//! Tests of functions and of trees: names and marks, what is refused when a tree is bound, literals
+//! and texts, what trees answer over columns, and what functions answer over encoded ones.
 #![tactic(auto)]
 
 #[cfg(test)]
@@ -7,12 +7,30 @@ mod between;
 #[cfg(test)]
 mod binding;
 #[cfg(test)]
+mod bits;
+#[cfg(test)]
+mod bounds;
+#[cfg(test)]
+mod encoded;
+#[cfg(test)]
 mod function_values;
 #[cfg(test)]
 mod functions;
 #[cfg(test)]
 mod like;
 #[cfg(test)]
+mod like_rows;
+#[cfg(test)]
 mod literals;
 #[cfg(test)]
+mod nested;
+#[cfg(test)]
+mod null_tests;
+#[cfg(test)]
+mod numeric;
+#[cfg(test)]
+mod questions;
+#[cfg(test)]
 mod texts;
+#[cfg(test)]
+mod trees;

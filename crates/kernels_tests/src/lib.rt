@@ -1,5 +1,6 @@
-//! Tests of the kernels, of the operators that choose them, and of checked arithmetic, with values
-//! from outside.
+//! Tests of the kernels, of the operators that choose them, of checked arithmetic and of LIKE, with
+//! values from outside: truth values that a stranger hands in begin anywhere in their bytes, with any
+//! bits under nulls and around them.
 #![tactic(auto)]
 
 #[cfg(test)]
@@ -11,7 +12,11 @@ mod boolean;
 #[cfg(test)]
 mod compare;
 #[cfg(test)]
+mod hostile_bits;
+#[cfg(test)]
 mod integers;
+#[cfg(test)]
+mod like;
 #[cfg(test)]
 mod nested;
 #[cfg(test)]

@@ -1,8 +1,8 @@
 //! Rules at places of a tree, and the driver.
 
 use fixtures::{are_rows, is_refused, names, nullable_bools, yes};
-use rule_fixtures::array_makers::*;
 use std::alloc::Global;
+use tree_fixtures::array_makers::*;
 use tree_fixtures::makers::*;
 use vortex_row_fn::*;
 
@@ -94,7 +94,7 @@ fn simplified_at<C: ScalarFnRules>(
     tree: Bound<C>,
     path: &[usize],
 ) -> VortexResult<Option<Box<BoundExpression<C>>>> {
-    match rewrite_at(alloc, &*tree?, path, Rule::Simplify)? {
+    match tree?.rewrite_at(alloc, path, Rule::Simplify)? {
         Some(made) => Ok(Some(planted(alloc, Ok(made))?)),
         None => Ok(None),
     }
@@ -138,8 +138,8 @@ fn simplify_applies_at_a_place(rt: HostRuntime) {
 /// Whether neither rule applies to a tree at its root.
 fn neither_applies<C: ScalarFnRules>(alloc: Global, tree: Bound<C>) -> VortexResult<bool> {
     let tree = tree?;
-    let reduced = rewrite_at(alloc, &*tree, &[], Rule::Reduce)?;
-    let simplified = rewrite_at(alloc, &*tree, &[], Rule::Simplify)?;
+    let reduced = tree.rewrite_at(alloc, &[], Rule::Reduce)?;
+    let simplified = tree.rewrite_at(alloc, &[], Rule::Simplify)?;
     Ok(reduced.is_none() && simplified.is_none())
 }
 
@@ -276,7 +276,7 @@ fn column_stays(alloc: Global, rows: &[Option<bool>]) -> VortexResult<bool> {
     let column = nullable_bools(alloc, rows)?;
     let array = ArrayRef::<NoCustom>::column(alloc, Box::into_inner(column))?;
     let array = Box::new(alloc, array)?;
-    let made = Box::new(alloc, optimize_recursive(alloc, &*array, 3)?)?;
+    let made = Box::new(alloc, array.optimize_recursive(alloc, 3)?)?;
     let is_same = made.done && made.steps == 0 && made.tree.len() == rows.len();
     Ok(is_same && made.tree.as_column().is_some())
 }
@@ -318,7 +318,7 @@ fn array_at<C: ScalarFnRules>(
     path: &[usize],
     rule: Rule,
 ) -> VortexResult<Option<Box<ArrayRef<C>>>> {
-    match rewrite_at(alloc, &*array?, path, rule)? {
+    match array?.rewrite_at(alloc, path, rule)? {
         Some(made) => Ok(Some(Box::new(alloc, made)?)),
         None => Ok(None),
     }
@@ -370,7 +370,7 @@ fn array_listed<C: ScalarFnRules>(
     array: Held<C>,
     steps: &[(&[usize], Rule)],
 ) -> VortexResult<Box<Rewritten<ArrayRef<C>>>> {
-    Ok(Box::new(alloc, rewrite_list(alloc, &*array?, steps)?)?)
+    Ok(Box::new(alloc, array?.rewrite_list(alloc, steps)?)?)
 }
 
 /// Whether a list of steps makes an array of these rows, so many of them applied.
@@ -409,8 +409,8 @@ fn weighs<C: ScalarFnRules>(
     wanted: (u64, u64, u64),
 ) -> VortexResult<bool> {
     let tree = tree?;
-    let once = Box::new(alloc, optimize_recursive(alloc, &*tree, 1)?)?;
-    let twice = Box::new(alloc, optimize_recursive(alloc, &*tree, 2)?)?;
+    let once = Box::new(alloc, tree.optimize_recursive(alloc, 1)?)?;
+    let twice = Box::new(alloc, tree.optimize_recursive(alloc, 2)?)?;
     Ok((tree.weight(), once.tree.weight(), twice.tree.weight()) == wanted)
 }
 

@@ -1,9 +1,9 @@
 //! Execution after a run of rules.
 
 use fixtures::{are_rows, integer, is_refused, kept, nullable_bools, rows_of, yes};
-use rule_fixtures::array_makers::*;
 use std::alloc::Global;
 use std::borrow::Cow;
+use tree_fixtures::array_makers::*;
 use tree_fixtures::makers::*;
 use vortex_row_fn::*;
 

@@ -4,9 +4,9 @@ use crate::comparing::{are_same, unless_changed};
 use crate::seen::Tally;
 use crate::trees::{UNKNOWN, missing, two_rows, unknown};
 use fixtures::{Made, kept, nullable_bools};
-use rule_fixtures::array_makers::{Held, array_answers, over_columns};
 use std::alloc::Global;
 use std::borrow::Cow;
+use tree_fixtures::array_makers::{Held, array_answers, over_columns};
 use tree_fixtures::makers::*;
 use vortex_arrays::*;
 use vortex_columns::*;
@@ -56,7 +56,7 @@ fn runs_array<C: ScalarFnRules>(alloc: Global, array: Held<C>, wanted: Made) -> 
 /// Whether two steps, one of which is at a place below, make the tree that no rule applies to.
 fn is_split<C: ScalarFnRules>(alloc: Global, tree: &BoundExpression<C>) -> VortexResult<bool> {
     let steps: [(&[usize], Rule); 2] = [(&[], Rule::Reduce), (&[0, 0], Rule::Reduce)];
-    let made = Box::new(alloc, rewrite_list(alloc, tree, &steps)?)?;
+    let made = Box::new(alloc, tree.rewrite_list(alloc, &steps)?)?;
     Ok(made.applied == 2 && has_text(alloc, &made.tree, SPLIT)?)
 }
 

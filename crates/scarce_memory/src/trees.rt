@@ -3,10 +3,10 @@
 use crate::comparing::{Table, unless_changed};
 use crate::seen::Tally;
 use fixtures::{Made, bools, nullable_bools, nullable_ints, numbers, texts};
-use rule_fixtures::array_makers::{Held, array_answers, held, made};
-use rule_fixtures::rewritten::{call_of_names, scope_of};
 use std::alloc::Global;
+use tree_fixtures::array_makers::{Held, array_answers, held, made};
 use tree_fixtures::makers::*;
+use tree_fixtures::rewritten::{call_of_names, scope_of};
 use vortex_arrays::*;
 use vortex_columns::*;
 use vortex_functions::*;

@@ -1,8 +1,11 @@
-//! Tests of rows that flow: what is written, how a stream ends, and the words that call it.
+//! Tests of rows that flow: what is read of the lines of an expression and of fields, what a batch
+//! answers, what is written, how a stream ends, and the words that call it.
 #![tactic(auto)]
 
 #[cfg(test)]
 mod answers;
+#[cfg(test)]
+mod batch_answers;
 #[cfg(test)]
 mod cases;
 #[cfg(test)]
@@ -10,8 +13,14 @@ mod endings;
 #[cfg(test)]
 mod explained;
 #[cfg(test)]
+mod expressions;
+#[cfg(test)]
+mod fields;
+#[cfg(test)]
 mod options;
 #[cfg(test)]
 mod picks;
 #[cfg(test)]
 mod pipes;
+#[cfg(test)]
+mod transcript;

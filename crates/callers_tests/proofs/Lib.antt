@@ -1,5 +1,0 @@
-pub mod Faults
-pub mod Firsts
-pub mod Grown
-pub mod Halving
-pub mod NullRows

@@ -1,2 +1,0 @@
-pub mod RunLength
-pub mod Words

@@ -1,0 +1,213 @@
+//! What the adaptors settle, and what they ask the kernels of a run-length column.
+
+use callers::run_length::RunLength;
+use fixtures::{Made, bools, constant, kept, numbers, rows_of, yes};
+use std::alloc::Global;
+use vortex_columns::{
+    Column, DType, ExecutionCtx, Nullability, PType, Scalar, VortexError, VortexResult,
+};
+use vortex_encoded::{BooleanExecuteAdaptor, CompareExecuteAdaptor, EncodedColumn};
+use vortex_kernels::Operator;
+
+/// A run-length column on the heap.
+type Runs = VortexResult<Box<RunLength>>;
+
+/// An adaptor's answer on the heap.
+type Answer = VortexResult<Option<Box<Column>>>;
+
+const YES: Option<bool> = Some(true);
+
+const NO: Option<bool> = Some(false);
+
+const NULL: Option<bool> = None;
+
+const PLAIN: Nullability = Nullability::NonNullable;
+
+const NULLABLE: Nullability = Nullability::Nullable;
+
+/// Runs of these values, the second and third beginning at these rows.
+fn runs(alloc: Global, values: Made, starts: &[usize], len: usize) -> Runs {
+    let starts = starts.to_vec(alloc)?;
+    Ok(Box::new(alloc, RunLength::try_new(values?, starts, len)?)?)
+}
+
+/// An answer, put on the heap.
+fn held(alloc: Global, answer: VortexResult<Option<Column>>) -> Answer {
+    match answer? {
+        Some(column) => Ok(Some(Box::new(alloc, column)?)),
+        None => Ok(None),
+    }
+}
+
+/// The compare adaptor beside a column of the same length and type.
+fn compare_beside(
+    alloc: Global,
+    array: Box<RunLength>,
+    op: Operator,
+    other: &Column,
+    child_idx: usize,
+) -> Answer {
+    if array.len() != other.len() || !array.dtype().eq_ignore_nullability(other.dtype()) {
+        return Err(VortexError::InvalidColumn);
+    }
+    let adaptor = CompareExecuteAdaptor(Box::into_inner(array));
+    let ctx = &mut ExecutionCtx::new(alloc);
+    held(
+        alloc,
+        adaptor.execute_parent(&adaptor.0, op, other, child_idx, ctx),
+    )
+}
+
+/// The compare adaptor.
+fn compared(alloc: Global, array: Runs, op: Operator, other: Made, child_idx: usize) -> Answer {
+    let (array, other) = (array?, other?);
+    compare_beside(alloc, array, op, &*other, child_idx)
+}
+
+/// The boolean adaptor beside a column of the same length, both of Bool.
+fn combine_beside(
+    alloc: Global,
+    array: Box<RunLength>,
+    op: Operator,
+    other: &Column,
+    child_idx: usize,
+) -> Answer {
+    if array.len() != other.len() {
+        return Err(VortexError::InvalidColumn);
+    }
+    if !array.dtype().is_boolean() || !other.dtype().is_boolean() {
+        return Err(VortexError::InvalidColumn);
+    }
+    let adaptor = BooleanExecuteAdaptor(Box::into_inner(array));
+    let ctx = &mut ExecutionCtx::new(alloc);
+    held(
+        alloc,
+        adaptor.execute_parent(&adaptor.0, op, other, child_idx, ctx),
+    )
+}
+
+/// The boolean adaptor.
+fn combined(alloc: Global, array: Runs, op: Operator, other: Made, child_idx: usize) -> Answer {
+    let (array, other) = (array?, other?);
+    combine_beside(alloc, array, op, &*other, child_idx)
+}
+
+/// Whether nothing is answered.
+fn is_none(answer: Answer) -> VortexResult<bool> {
+    Ok(answer?.is_none())
+}
+
+/// Whether these rows of Bool are answered.
+fn has_rows(
+    alloc: Global,
+    answer: Answer,
+    nullability: Nullability,
+    wanted: &[Option<bool>],
+) -> VortexResult<bool> {
+    match answer? {
+        None => Ok(false),
+        Some(column) => {
+            let is_bool = column.dtype().is_boolean();
+            let is_as_nullable = column.dtype().nullability() == nullability;
+            Ok(is_bool && is_as_nullable && rows_of(alloc, &*column)?.as_slice() == wanted)
+        }
+    }
+}
+
+/// The rows 1 2 3.
+fn one_two_three(alloc: Global) -> Runs {
+    runs(alloc, numbers(alloc, &[1i32, 2, 3]), &[1, 2], 3)
+}
+
+/// The number 2 in each of so many rows.
+fn twos(alloc: Global, len: usize) -> Made {
+    constant(alloc, PType::I32, 2, len)
+}
+
+/// A null of i32 in each of three rows.
+fn null_numbers(alloc: Global) -> Made {
+    let scalar = Scalar::null(DType::Primitive(PType::I32, NULLABLE));
+    kept(alloc, Column::constant(alloc, scalar, 3))
+}
+
+#[test]
+fn a_kernel_is_asked_with_the_swapped_comparison(rt: HostRuntime) {
+    let alloc = rt.alloc();
+    let right = compared(alloc, one_two_three(alloc), Operator::Lt, twos(alloc, 3), 1);
+    assert!(rt; yes(has_rows(alloc, right, PLAIN, &[NO, NO, YES])));
+    let rows = runs(alloc, numbers(alloc, &[1i32, 2, 3]), &[2, 3], 5);
+    let left = compared(alloc, rows, Operator::Lt, twos(alloc, 5), 0);
+    assert!(rt; yes(has_rows(alloc, left, PLAIN, &[YES, YES, NO, NO, NO])));
+}
+
+#[test]
+fn other_operators_and_children_are_not_answered(rt: HostRuntime) {
+    let alloc = rt.alloc();
+    let sum = compared(
+        alloc,
+        one_two_three(alloc),
+        Operator::Add,
+        twos(alloc, 3),
+        1,
+    );
+    assert!(rt; yes(is_none(sum)));
+    let third = compared(alloc, one_two_three(alloc), Operator::Lt, twos(alloc, 3), 2);
+    assert!(rt; yes(is_none(third)));
+}
+
+#[test]
+fn a_null_constant_and_no_rows_are_settled(rt: HostRuntime) {
+    let alloc = rt.alloc();
+    // neither is asked of the kernel, which answers beside other constants alone
+    let nulls = compared(
+        alloc,
+        one_two_three(alloc),
+        Operator::Lt,
+        null_numbers(alloc),
+        1,
+    );
+    assert!(rt; yes(has_rows(alloc, nulls, NULLABLE, &[NULL, NULL, NULL])));
+    let none = runs(alloc, numbers(alloc, &[1i32]), &[], 0);
+    let empty = compared(alloc, none, Operator::Lt, numbers::<i32>(alloc, &[]), 1);
+    assert!(rt; yes(has_rows(alloc, empty, PLAIN, &[])));
+}
+
+/// The rows true false false.
+fn truths(alloc: Global) -> Runs {
+    runs(alloc, bools(alloc, &[true, false]), &[1], 3)
+}
+
+/// A truth value in each of three rows.
+fn constant_truth(alloc: Global, value: bool, nullability: Nullability) -> Made {
+    kept(
+        alloc,
+        Column::constant(alloc, Scalar::bool(value, nullability), 3),
+    )
+}
+
+/// A null of Bool in each of three rows.
+fn null_truths(alloc: Global) -> Made {
+    kept(
+        alloc,
+        Column::constant(alloc, Scalar::null(DType::Bool(NULLABLE)), 3),
+    )
+}
+
+#[test]
+fn a_constant_beside_and_is_settled(rt: HostRuntime) {
+    let alloc = rt.alloc();
+    // the kernel answers beside null constants alone
+    let other = constant_truth(alloc, false, PLAIN);
+    let decided = combined(alloc, truths(alloc), Operator::And, other, 0);
+    assert!(rt; yes(has_rows(alloc, decided, PLAIN, &[NO, NO, NO])));
+    let other = constant_truth(alloc, true, NULLABLE);
+    let decoded = combined(alloc, truths(alloc), Operator::And, other, 1);
+    assert!(rt; yes(has_rows(alloc, decoded, NULLABLE, &[YES, NO, NO])));
+}
+
+#[test]
+fn a_null_constant_beside_and_is_asked_of_the_kernel(rt: HostRuntime) {
+    let alloc = rt.alloc();
+    let asked = combined(alloc, truths(alloc), Operator::And, null_truths(alloc), 0);
+    assert!(rt; yes(has_rows(alloc, asked, NULLABLE, &[NULL, NO, NO])));
+}

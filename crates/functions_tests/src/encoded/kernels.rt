@@ -1,0 +1,131 @@
+//! What a dictionary stands for, and its kernels.
+
+use crate::encoded::questions::*;
+use fixtures::{Made, constant, has_rows, is_refused, kept, numbers, yes};
+use std::alloc::Global;
+use vortex_columns::{
+    Column, DType, ExecutionCtx, Nullability, PType, Scalar, VortexError, VortexResult,
+};
+use vortex_dictionary::DictColumn;
+use vortex_encoded::{BooleanKernel, CompareExecuteAdaptor, CompareKernel, EncodedColumn};
+use vortex_kernels::{CompareOperator, Operator};
+
+/// An answer on the heap.
+type Answer = VortexResult<Option<Box<Column>>>;
+
+#[test]
+fn each_row_is_the_value_that_its_code_names(rt: HostRuntime) {
+    let alloc = rt.alloc();
+    let rows = rows_of(alloc, three_one_null_three(alloc));
+    assert!(rt; yes(has_numbers(alloc, rows, &[Some(3), Some(1), None, Some(3)])));
+}
+
+#[test]
+fn codes_are_below_the_count_of_values(rt: HostRuntime) {
+    let alloc = rt.alloc();
+    let empty = rows_of(alloc, dictionary(alloc, numbers::<u8>(alloc, &[]), &[]));
+    assert!(rt; yes(has_numbers(alloc, empty, &[])));
+    let past = dictionary(alloc, numbers::<u8>(alloc, &[]), &[0]);
+    assert!(rt; is_refused(past, "InvalidColumn"));
+    let last = dictionary(alloc, numbers(alloc, &[1u8, 3]), &[1, 2]);
+    assert!(rt; is_refused(last, "InvalidColumn"));
+}
+
+/// An answer, put on the heap.
+fn held(alloc: Global, answer: VortexResult<Option<Column>>) -> Answer {
+    match answer? {
+        Some(column) => Ok(Some(Box::new(alloc, column)?)),
+        None => Ok(None),
+    }
+}
+
+/// What was answered.
+fn answered(answer: Answer) -> Made {
+    match answer? {
+        Some(column) => Ok(column),
+        None => Err(VortexError::InvalidColumn),
+    }
+}
+
+/// Whether nothing was.
+fn nothing(answer: Answer) -> VortexResult<bool> {
+    Ok(answer?.is_none())
+}
+
+/// The adaptor's answer for a call whose child of that index is the dictionary.
+fn compare_beside(
+    alloc: Global,
+    dictionary: Box<DictColumn>,
+    operator: Operator,
+    other: &Column,
+    child_idx: usize,
+) -> Answer {
+    if dictionary.len() != other.len() || !dictionary.dtype().eq_ignore_nullability(other.dtype()) {
+        return Err(VortexError::InvalidColumn);
+    }
+    let adaptor = CompareExecuteAdaptor(Box::into_inner(dictionary));
+    let ctx = &mut ExecutionCtx::new(alloc);
+    held(
+        alloc,
+        adaptor.execute_parent(&adaptor.0, operator, other, child_idx, ctx),
+    )
+}
+
+/// The same beside a constant u8 2.
+fn adapted(alloc: Global, dictionary: Dict, operator: Operator, child_idx: usize) -> Answer {
+    let (dictionary, other) = (dictionary?, constant(alloc, PType::U8, 2, 4)?);
+    compare_beside(alloc, dictionary, operator, &*other, child_idx)
+}
+
+#[test]
+fn the_adaptor_asks_the_kernel(rt: HostRuntime) {
+    let alloc = rt.alloc();
+    let less = adapted(alloc, three_one_null_three(alloc), Operator::Lt, 1);
+    assert!(rt; yes(has_rows(alloc, answered(less), &[YES, NO, NULL, YES])));
+}
+
+/// The kernel's comparison with a column that is no constant.
+fn compared(alloc: Global, dictionary: Dict, other: Made) -> Answer {
+    let (dictionary, other) = (dictionary?, other?);
+    if dictionary.len() != other.len() || !dictionary.dtype().eq_ignore_nullability(other.dtype()) {
+        return Err(VortexError::InvalidColumn);
+    }
+    let ctx = &mut ExecutionCtx::new(alloc);
+    held(alloc, dictionary.compare(&*other, CompareOperator::Lt, ctx))
+}
+
+/// And, Or or another operator of a dictionary of Bool with a column of as many rows.
+fn combined(alloc: Global, dictionary: Dict, operator: Operator, other: Made) -> Answer {
+    let (dictionary, other) = (dictionary?, other?);
+    if dictionary.len() != other.len()
+        || !dictionary.dtype().is_boolean()
+        || !other.dtype().is_boolean()
+    {
+        return Err(VortexError::InvalidColumn);
+    }
+    let ctx = &mut ExecutionCtx::new(alloc);
+    held(alloc, dictionary.boolean(&*other, operator, ctx))
+}
+
+/// True, null and false under the codes 0 2 1 0.
+fn truths(alloc: Global) -> Dict {
+    let values = kept(alloc, Column::of_bools(alloc, &[YES, NULL, NO]));
+    dictionary(alloc, values, &[0, 2, 1, 0])
+}
+
+/// A null of Bool in each of four rows.
+fn nulls(alloc: Global) -> Made {
+    let scalar = Scalar::null(DType::Bool(Nullability::Nullable));
+    kept(alloc, Column::constant(alloc, scalar, 4))
+}
+
+#[test]
+fn the_kernels_answer_beside_constants_alone(rt: HostRuntime) {
+    let alloc = rt.alloc();
+    let and = combined(alloc, truths(alloc), Operator::And, nulls(alloc));
+    assert!(rt; yes(has_rows(alloc, answered(and), &[NULL, NO, NULL, NULL])));
+    let equal = combined(alloc, truths(alloc), Operator::Eq, nulls(alloc));
+    assert!(rt; yes(nothing(equal)));
+    let column = numbers(alloc, &[1u8, 2, 3, 4]);
+    assert!(rt; yes(nothing(compared(alloc, three_one_null_three(alloc), column))));
+}

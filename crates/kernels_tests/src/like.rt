@@ -1,0 +1,9 @@
+//! Tests of LIKE, with values from outside.
+
+mod columns;
+mod escapes;
+mod folding;
+mod forms;
+mod patterns;
+mod questions;
+mod shapes;

@@ -1,0 +1,54 @@
+//! Callers' functions in trees.
+
+use callers::levelled::{Level, Levelled};
+use callers::must_be_true::MustBeTrue;
+use fixtures::yes;
+use std::alloc::Global;
+use tree_fixtures::makers::*;
+use vortex_functions::*;
+
+/// The caller's function that faults at false, over column `a`.
+fn must_be_true(alloc: Global) -> Bound<MustBeTrue> {
+    call_of_leaves(alloc, ScalarFnRef::custom(MustBeTrue, EmptyOptions), 1)
+}
+
+#[test]
+fn a_callers_function_answers(rt: HostRuntime) {
+    let alloc = rt.alloc();
+    assert!(rt;
+        yes(answers::<MustBeTrue>(
+            alloc,
+            not_of(alloc, must_be_true(alloc)),
+            twice(alloc, &[Some(true), None]),
+            &[Some(false), None],
+        ))
+    );
+}
+
+#[test]
+fn a_callers_function_faults(rt: HostRuntime) {
+    let alloc = rt.alloc();
+    assert!(rt;
+        is_fault(
+            executed::<MustBeTrue>(
+                alloc,
+                not_of(alloc, must_be_true(alloc)),
+                twice(alloc, &[Some(true), Some(false)]),
+                2,
+            ),
+            1,
+        )
+    );
+}
+
+#[test]
+fn the_text_of_a_call_has_its_options(rt: HostRuntime) {
+    let alloc = rt.alloc();
+    assert!(rt;
+        yes(prints(
+            alloc,
+            call_of_leaves(alloc, ScalarFnRef::custom(Levelled, Level { level: 3 }), 1),
+            "test.levelled($.a, opts=level 3)",
+        ))
+    );
+}

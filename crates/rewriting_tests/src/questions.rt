@@ -1,0 +1,49 @@
+//! Questions to runs of rules.
+
+use fixtures::rows_of;
+use std::alloc::Global;
+use tree_fixtures::array_makers::Held;
+use tree_fixtures::makers::{Bound, has_text};
+use vortex_columns::*;
+use vortex_rewriting::{Rewrite, run, run_array};
+use vortex_rules::ScalarFnRules;
+
+/// Whether a run of at most so many steps takes that many, comes to its end or not, and makes a
+/// tree of that text.
+pub fn rewrites_to<C: ScalarFnRules>(
+    alloc: Global,
+    tree: Bound<C>,
+    limit: u64,
+    ends: (u64, bool),
+    wanted: &str,
+) -> VortexResult<bool> {
+    let made = Box::new(alloc, tree?.optimize_recursive(alloc, limit)?)?;
+    Ok((made.steps, made.done) == ends && has_text(alloc, &made.tree, wanted)?)
+}
+
+/// Whether a tree answers these rows over columns after a run of at most so many steps.
+pub fn runs_to<C: ScalarFnRules>(
+    alloc: Global,
+    tree: Bound<C>,
+    columns: VortexResult<Vec<Column>>,
+    limit: u64,
+    wanted: &[Option<bool>],
+) -> VortexResult<bool> {
+    let (tree, columns) = (tree?, columns?);
+    let mut ctx = ExecutionCtx::new(alloc);
+    let answer = run(&*tree, &columns, wanted.len(), limit, &mut ctx)?;
+    let answer = Box::new(alloc, answer)?;
+    Ok(rows_of(alloc, &**answer)?.as_slice() == wanted)
+}
+
+/// Whether an array answers these rows after a run of at most ten steps.
+pub fn array_runs_to<C: ScalarFnRules>(
+    alloc: Global,
+    array: Held<C>,
+    wanted: &[Option<bool>],
+) -> VortexResult<bool> {
+    let array = array?;
+    let mut ctx = ExecutionCtx::new(alloc);
+    let answer = Box::new(alloc, run_array(&*array, 10, &mut ctx)?)?;
+    Ok(rows_of(alloc, &*answer)?.as_slice() == wanted)
+}

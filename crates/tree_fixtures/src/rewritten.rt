@@ -1,0 +1,144 @@
+//! What rules make of expressions at their root, and trees that they are asked of.
+
+use crate::makers::*;
+use fixtures::{fields, names};
+use std::alloc::Global;
+use std::borrow::Cow;
+use vortex_columns::*;
+use vortex_functions::*;
+use vortex_rules::*;
+
+/// What a rule made of a tree, if one applied.
+pub type Rewritten<C> = VortexResult<Option<Box<BoundExpression<C>>>>;
+
+/// What Reduce makes of a node, if a rule applies.
+pub fn reduced_node<'a, C: ScalarFnRules>(
+    alloc: Global,
+    node: &ExpressionReduceNode<'a, C>,
+) -> VortexResult<Option<ExpressionReduceNode<'a, C>>> {
+    match node.expression().as_scalar() {
+        Some(function) => function.reduce_expression(alloc, node),
+        None => Ok(None),
+    }
+}
+
+/// What Simplify makes of an expression, if a rule applies.
+pub fn simplified_expression<C: ScalarFnRules>(
+    alloc: Global,
+    expression: &BoundExpression<C>,
+) -> VortexResult<Option<BoundExpression<C>>> {
+    match expression.as_scalar() {
+        Some(function) => function.simplify_expression(alloc, expression),
+        None => Ok(None),
+    }
+}
+
+/// What Reduce makes of a tree.
+pub fn reduced<C: ScalarFnRules>(alloc: Global, tree: Bound<C>) -> Rewritten<C> {
+    let tree = tree?;
+    let node = ExpressionReduceNode::new(Cow::Borrowed(&*tree));
+    match reduced_node(alloc, &node)? {
+        Some(made) => Ok(Some(planted(alloc, made.into_expression(alloc))?)),
+        None => Ok(None),
+    }
+}
+
+/// What Simplify makes of a tree.
+pub fn simplified<C: ScalarFnRules>(alloc: Global, tree: Bound<C>) -> Rewritten<C> {
+    match simplified_expression(alloc, &*tree?)? {
+        Some(made) => Ok(Some(planted(alloc, Ok(made))?)),
+        None => Ok(None),
+    }
+}
+
+/// What says where a tree is not null, if a tree says it.
+pub fn validity_of<C: ScalarFnRules>(alloc: Global, tree: Bound<C>) -> Rewritten<C> {
+    let tree = tree?;
+    let node = ExpressionReduceNode::new(Cow::Borrowed(&*tree));
+    match node.validity(alloc)? {
+        ReduceNodeValidity::Reduced(made) => {
+            Ok(Some(planted(alloc, made.into_expression(alloc))?))
+        }
+        ReduceNodeValidity::Irreducible => Ok(None),
+    }
+}
+
+/// The union of the validities of a tree's children.
+pub fn united<C: ScalarFnRules>(alloc: Global, tree: Bound<C>) -> Rewritten<C> {
+    let tree = tree?;
+    let node = ExpressionReduceNode::new(Cow::Borrowed(&*tree));
+    let made = union_child_validities(alloc, &node)?;
+    Ok(Some(planted(alloc, made.into_expression(alloc))?))
+}
+
+/// Whether a rule made a tree of that text.
+pub fn becomes<C: ScalarFnVTable>(
+    alloc: Global,
+    made: Rewritten<C>,
+    wanted: &str,
+) -> VortexResult<bool> {
+    match made? {
+        Some(made) => Ok(made.sql_text(alloc)?.as_str() == wanted),
+        None => Ok(false),
+    }
+}
+
+/// Whether a rule made a literal of nullable Bool of that text.
+pub fn is_nullable_literal<C: ScalarFnVTable>(
+    alloc: Global,
+    made: Rewritten<C>,
+    wanted: &str,
+) -> VortexResult<bool> {
+    match made? {
+        Some(made) => {
+            let text = made.sql_text(alloc)?;
+            let is_literal = made.as_literal().is_some() && *made.dtype() == DType::Bool(YES);
+            Ok(is_literal && text.as_str() == wanted)
+        }
+        None => Ok(false),
+    }
+}
+
+/// Whether no rule applies.
+pub fn stays<C: ScalarFnVTable>(made: Rewritten<C>) -> VortexResult<bool> {
+    Ok(made?.is_none())
+}
+
+/// The leaf of column `a` of nullable Bool, or of column `b` of Bool.
+pub fn mixed<C: ScalarFnVTable>(alloc: Global, name: &str) -> Bound<C> {
+    let scope = fields(alloc, ("a", "b"), (DType::Bool(YES), DType::Bool(NO)))?;
+    planted(alloc, BoundExpression::column(alloc, &scope, name))
+}
+
+/// Whether a tree is null.
+pub fn is_null<C: ScalarFnVTable>(alloc: Global, child: Bound<C>) -> Bound<C> {
+    call_of(alloc, IsNull.bind(EmptyOptions), child)
+}
+
+/// Whether a tree is not null.
+pub fn is_not_null<C: ScalarFnVTable>(alloc: Global, child: Bound<C>) -> Bound<C> {
+    call_of(alloc, IsNotNull.bind(EmptyOptions), child)
+}
+
+/// Columns of nullable i32, by their names.
+pub fn scope_of(alloc: Global, words: &[&str]) -> VortexResult<StructFields> {
+    let mut dtypes = Vec::new(alloc);
+    for _ in 0..words.len() {
+        dtypes.push(DType::Primitive(PType::I32, YES))?;
+    }
+    StructFields::try_new(alloc, names(alloc, words)?, dtypes)
+}
+
+/// A call of a function of columns of nullable i32, by their names.
+pub fn call_of_names<C: ScalarFnVTable>(
+    alloc: Global,
+    function: ScalarFnRef<C>,
+    words: &[&str],
+) -> Bound<C> {
+    let scope = scope_of(alloc, words)?;
+    let mut children = Vec::new(alloc);
+    for word in words {
+        children.push(BoundExpression::column(alloc, &scope, word)?)?;
+    }
+    planted(alloc, BoundExpression::try_new(alloc, function, children))
+}
