@@ -7,6 +7,7 @@ mod columns;
 mod dictionary;
 mod integers;
 mod like;
+mod nested;
 mod project;
 mod texts;
 mod timing;

@@ -6,6 +6,7 @@ use crate::columns::{Bits, Bools, Ints, Rows, TextViews, Texts, views_of};
 use crate::dictionary::{self, Dictionary};
 use crate::integers::*;
 use crate::like;
+use crate::nested;
 use crate::project;
 use crate::texts::*;
 use crate::timing::{Case, Form, form};
@@ -257,6 +258,22 @@ fn null_cases(shape: &Shape, chance: &mut Chance) -> Vec<Case> {
     ]
 }
 
+/// Records of two integers, of which the first decides in three rows of four, and lists of four.
+fn nested_cases(shape: &Shape, chance: &mut Chance) -> Vec<Case> {
+    let records = Rc::new((chance.records(shape), chance.records(shape)));
+    let lists = Rc::new((chance.lists(shape), chance.lists(shape)));
+    vec![
+        case("struct of two i64 < struct", &records, project::records, vec![
+            form("a loop over pairs", &records, nested::less_by_loop),
+            form("the fields joined, product", &records, nested::less_by_fields),
+        ]),
+        case("list of four i64 < list", &lists, project::lists, vec![
+            form("a loop over slices", &lists, nested::less_by_slices),
+            form("arrays compared", &lists, nested::less_by_arrays),
+        ]),
+    ]
+}
+
 /// Words or lines beside one pattern; the last is a whole text.
 fn like_cases(shape: &Shape, chance: &mut Chance, name: &str, are_long: bool) -> Vec<Case> {
     let texts = Rc::new(chance.words(shape, are_long));
@@ -361,6 +378,7 @@ pub fn cases(shape: &Shape) -> Vec<Case> {
     cases.push(tree_case(shape, &mut chance));
     cases.extend(between_cases(shape, &mut chance));
     cases.extend(null_cases(shape, &mut chance));
+    cases.extend(nested_cases(shape, &mut chance));
     cases.extend(like_cases(shape, &mut chance, "text", false));
     cases.extend(like_cases(shape, &mut chance, "line", true));
     for count in [100, 65_536] {

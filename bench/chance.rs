@@ -1,6 +1,7 @@
 //! Columns of chance.
 
 use crate::columns::{Bits, Bools, Rows, Texts};
+use crate::nested::{Lists, Records};
 
 #[derive(Clone, Copy)]
 pub struct Shape {
@@ -73,6 +74,18 @@ impl Chance {
 
     pub fn bools(&mut self, shape: &Shape, offset: usize) -> Bools {
         Rows { values: self.bits(offset, shape.rows, 50), valid: self.valid(shape, offset) }
+    }
+
+    /// Records whose first integer is one of four.
+    pub fn records(&mut self, shape: &Shape) -> Records {
+        let first = (0..shape.rows).map(|_| self.below(4) as i64).collect();
+        let Rows { values: second, valid } = self.rows(shape, |x| x as i64);
+        Rows { values: (first, second), valid }
+    }
+
+    /// Lists of four integers, each one of four.
+    pub fn lists(&mut self, shape: &Shape) -> Lists {
+        self.rows(shape, |x| std::array::from_fn(|i| (x >> (2 * i) & 3) as i64))
     }
 
     /// A code below the count in each row.

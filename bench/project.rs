@@ -2,6 +2,7 @@
 
 use crate::columns::{Bits, Bools, Ints, Rows, Texts};
 use crate::dictionary::Dictionary;
+use crate::nested::{Lists, Records};
 use crate::timing::columns_begin;
 
 /// The calls by the numbers that they have in kernels/measured.rt.txt.
@@ -57,6 +58,16 @@ unsafe extern "C" {
     ) -> u64;
     fn bench_i32_null_tests(
         input: *const i32, input_len: usize, input_valid: *const u8, input_valid_len: usize, is_negated: bool,
+    ) -> u64;
+    fn bench_records(
+        left_first: *const i64, left_first_len: usize, left_second: *const i64, left_second_len: usize,
+        left_valid: *const u8, left_valid_len: usize,
+        right_first: *const i64, right_first_len: usize, right_second: *const i64, right_second_len: usize,
+        right_valid: *const u8, right_valid_len: usize,
+    ) -> u64;
+    fn bench_lists(
+        left: *const i64, left_len: usize, left_valid: *const u8, left_valid_len: usize,
+        right: *const i64, right_len: usize, right_valid: *const u8, right_valid_len: usize,
     ) -> u64;
     fn bench_dictionary_ints(
         values: *const i64, values_len: usize, valid: *const u8, valid_len: usize,
@@ -170,6 +181,30 @@ pub fn null_tests(input: &Ints, is_negated: bool) -> u64 {
     let valid = bytes_of(&input.valid);
     unsafe {
         bench_i32_null_tests(input.values.as_ptr(), input.values.len(), valid.as_ptr(), valid.len(), is_negated)
+    }
+}
+
+/// `<` of records of two integers.
+pub fn records((l, r): &(Records, Records)) -> u64 {
+    let (lv, rv) = (bytes_of(&l.valid), bytes_of(&r.valid));
+    let ((la, lb), (ra, rb)) = (&l.values, &r.values);
+    unsafe {
+        bench_records(
+            la.as_ptr(), la.len(), lb.as_ptr(), lb.len(), lv.as_ptr(), lv.len(),
+            ra.as_ptr(), ra.len(), rb.as_ptr(), rb.len(), rv.as_ptr(), rv.len(),
+        )
+    }
+}
+
+/// `<` of lists of four integers.
+pub fn lists((l, r): &(Lists, Lists)) -> u64 {
+    let (lv, rv) = (bytes_of(&l.valid), bytes_of(&r.valid));
+    let (left, right) = (l.values.as_flattened(), r.values.as_flattened());
+    unsafe {
+        bench_lists(
+            left.as_ptr(), left.len(), lv.as_ptr(), lv.len(),
+            right.as_ptr(), right.len(), rv.as_ptr(), rv.len(),
+        )
     }
 }
 
