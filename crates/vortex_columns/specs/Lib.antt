@@ -16,6 +16,7 @@ pub mod PairOrder
 pub mod ValueSizes
 pub mod Questions
 pub mod SingleValue
+pub mod SingleParts
 pub mod Words
 pub mod Printing
 pub mod Shapes
