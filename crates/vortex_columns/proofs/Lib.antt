@@ -8,6 +8,7 @@ pub mod ListParts
 pub mod NamedColumns
 pub mod Parts
 pub mod OptionRows
+pub mod TypedRest
 pub mod ElementPlaces
 pub mod TakenRows
 pub mod JointRows

@@ -9,6 +9,7 @@ pub mod KeptParts
 pub mod Falls
 pub mod Made
 pub mod Options
+pub mod RowValues
 pub mod ScalarOf
 pub mod CellTypes
 pub mod CellOrder

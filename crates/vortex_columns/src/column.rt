@@ -7,9 +7,12 @@ mod letting_go;
 mod nested;
 mod options;
 mod reads;
+mod rows;
 mod stored;
 mod taken;
 mod taken_frames;
+
+pub use rows::{BoolRows, IntRows, TextRows};
 
 use crate::scalar::Scalar;
 use crate::validity::Validity;
