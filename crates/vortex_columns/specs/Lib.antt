@@ -10,6 +10,7 @@ pub mod Falls
 pub mod Made
 pub mod Options
 pub mod RowValues
+pub mod TrueRows
 pub mod ScalarOf
 pub mod CellTypes
 pub mod CellOrder

@@ -11,6 +11,7 @@ mod rows;
 mod stored;
 mod taken;
 mod taken_frames;
+mod true_rows;
 
 pub use rows::{BoolRows, IntRows, TextRows};
 
