@@ -14,6 +14,8 @@ mod order;
 #[cfg(test)]
 mod parts;
 #[cfg(test)]
+mod rows;
+#[cfg(test)]
 mod scalars;
 #[cfg(test)]
 mod taken;

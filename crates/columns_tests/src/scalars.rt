@@ -1,6 +1,6 @@
 //! Scalars.
 
-use crate::values::{entry, integers, list, typed};
+use crate::values::{bytes, entry, integers, list, typed};
 use fixtures::{boxed, fields, integer, is_refused, yes};
 use std::alloc::Global;
 use std::cmp::Ordering;
@@ -25,6 +25,26 @@ fn truth_values_are_ordered(rt: HostRuntime) {
     assert!(rt; stand(&Scalar::from(false), Ordering::Less, &yes));
     assert!(rt; stand(&yes, Ordering::Equal, &Scalar::from(true)));
     assert!(rt; stand(&null_truth(), Ordering::Less, &Scalar::from(false)));
+}
+
+/// Whether a text and the same letters as bytes are lent as what they are alone.
+fn are_lent(alloc: Global) -> VortexResult<bool> {
+    let text = Scalar::try_from_str(alloc, "new")?;
+    let letters = typed(DType::Binary(NO), bytes(alloc, &[110, 101, 119]))?;
+    let texts = text.as_text_opt() == Some("new") && letters.as_text_opt().is_none();
+    let byte_strings = match letters.as_bytes_opt() {
+        Some(lent) => lent.len() == 3 && lent[0] == 110 && lent[2] == 119,
+        None => false,
+    };
+    Ok(texts && byte_strings && text.as_bytes_opt().is_none())
+}
+
+#[test]
+fn values_are_lent_by_their_kinds(rt: HostRuntime) {
+    assert!(rt; Scalar::from(-7i32).as_int_opt() == Some(-7));
+    assert!(rt; Scalar::from(true).as_int_opt().is_none());
+    assert!(rt; null_integer().as_int_opt().is_none());
+    assert!(rt; yes(are_lent(rt.alloc())));
 }
 
 fn null_integer() -> Scalar {

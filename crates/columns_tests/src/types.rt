@@ -49,6 +49,20 @@ fn fields_are_found_by_name(rt: HostRuntime) {
     assert!(rt; yes(count_is(named(alloc, &["a", "b"], 2), 2)));
 }
 
+/// Fields that are listed: a price and what is nullable.
+fn listed(alloc: Global, name: &str) -> VortexResult<StructFields> {
+    let price = DType::Primitive(PType::I32, NO);
+    StructFields::of(alloc, &[("price", price), (name, DType::Bool(YES))])
+}
+
+#[test]
+fn fields_are_listed(rt: HostRuntime) {
+    let alloc = rt.alloc();
+    assert!(rt; yes(count_is(listed(alloc, "sold"), 2)));
+    assert!(rt; yes(stands_at(listed(alloc, "sold"), "sold", 1)));
+    assert!(rt; is_refused(listed(alloc, "price"), "InvalidColumn"));
+}
+
 #[test]
 fn names_and_types_pair(rt: HostRuntime) {
     let alloc = rt.alloc();

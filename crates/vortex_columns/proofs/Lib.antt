@@ -8,6 +8,8 @@ pub mod ListParts
 pub mod NamedColumns
 pub mod Parts
 pub mod OptionRows
+pub mod TypedRest
+pub mod TrueCodes
 pub mod ElementPlaces
 pub mod TakenRows
 pub mod JointRows

@@ -9,6 +9,8 @@ pub mod KeptParts
 pub mod Falls
 pub mod Made
 pub mod Options
+pub mod RowValues
+pub mod TrueRows
 pub mod ScalarOf
 pub mod CellTypes
 pub mod CellOrder
@@ -16,6 +18,7 @@ pub mod PairOrder
 pub mod ValueSizes
 pub mod Questions
 pub mod SingleValue
+pub mod SingleParts
 pub mod Words
 pub mod Printing
 pub mod Shapes

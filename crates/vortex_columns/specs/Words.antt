@@ -9,6 +9,8 @@ pub use Rattle.vortex_types.specs.Typing.{Each, HasType, HaveFields, IsList, IsP
 pub use Rattle.vortex_columns.specs.ValidityView.{array, validity_of, is_valid_row, FitsRows}
 pub use Rattle.vortex_types.specs.ValueOf.{value_of, value_or_null}
 pub use Rattle.vortex_types.specs.Values.{null, truth, number, text, truth_of, is_null}
+pub use Rattle.vortex_types.specs.Values.{bytes}
+pub use Rattle.vortex_columns.specs.SingleParts.{number_of, text_of, bytes_of}
 pub use Rattle.vortex_types.specs.Values.{values_of, value_count}
 pub use Rattle.vortex_columns.specs.Cells.{cell_value, sequence_value, sequence_values}
 pub use Rattle.vortex_columns.specs.Cells.{IsCell, IsSequence}

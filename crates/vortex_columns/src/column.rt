@@ -7,9 +7,13 @@ mod letting_go;
 mod nested;
 mod options;
 mod reads;
+mod rows;
 mod stored;
 mod taken;
 mod taken_frames;
+mod true_rows;
+
+pub use rows::{BoolRows, IntRows, TextRows};
 
 use crate::scalar::Scalar;
 use crate::validity::Validity;

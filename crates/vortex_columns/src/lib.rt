@@ -13,7 +13,7 @@ pub mod validity;
 mod value_text;
 
 pub use cell::{Cell, Sequence, cell_of};
-pub use column::Column;
+pub use column::{BoolRows, Column, IntRows, TextRows};
 pub use scalar::Scalar;
 pub use valid_rows::{ValidRows, both_valid};
 pub use validity::Validity;

@@ -1,8 +1,9 @@
 //! A value, or null, with its type.
-ghost use Rattle.std.specs.Prelude.{◌≡◌, [], IsTrue, MatchOption};
+ghost use Rattle.std.specs.Prelude.{◌≡◌, [], IsTrue, MatchOption, None};
 ghost use Rattle.vortex_columns.specs.Words.{MadeWhere, AnswersUnlessMemory, InvalidColumn};
 ghost use Rattle.vortex_columns.specs.Words.{HasType, is_nullable, bool_type, text_scalar};
 ghost use Rattle.vortex_columns.specs.Words.{null, truth, truth_of, is_null, cell_value, IsCell};
+ghost use Rattle.vortex_columns.specs.Words.{number_of, text, text_of, bytes, bytes_of};
 
 use crate::cell::{Cell, cell_of};
 use crate::validity::Validity;
@@ -103,6 +104,38 @@ impl Scalar {
     {
         match &self.value {
             Some(ScalarValue::Bool(b)) => Some(*b),
+            _ => None,
+        }
+    }
+
+    /// The number, of an integer of any of the eight types that is not null.
+    pub fn as_int_opt(&self) -> Option<i128>
+        ensures { result ≡ number_of self.now.value }
+    {
+        match &self.value {
+            Some(ScalarValue::Int(n)) => Some(*n),
+            _ => None,
+        }
+    }
+
+    /// The text, lent, of a Utf8 that is not null.
+    pub fn as_text_opt(&self) -> Option<&str>
+        ensures { MatchOption result (text_of self.now.value ≡ None)
+            (λ t. self.now.value ≡ text t.now) }
+    {
+        match &self.value {
+            Some(ScalarValue::Utf8(t)) => Some(t.as_str()),
+            _ => None,
+        }
+    }
+
+    /// The bytes, lent, of a Binary that is not null.
+    pub fn as_bytes_opt(&self) -> Option<&[u8]>
+        ensures { MatchOption result (bytes_of self.now.value ≡ None)
+            (λ b. self.now.value ≡ bytes b.now) }
+    {
+        match &self.value {
+            Some(ScalarValue::Binary(b)) => Some(b.as_slice()),
             _ => None,
         }
     }

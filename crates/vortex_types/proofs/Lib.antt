@@ -1,4 +1,5 @@
 pub mod NamesDiffer
+pub mod ListedNames
 pub mod TypeViews
 pub mod Agreeing
 pub mod ScalarViews

@@ -1,5 +1,6 @@
 pub mod LogicalTypes
 pub mod FieldNames
+pub mod ListedFields
 pub mod TypeEquality
 pub mod Agreement
 pub mod Values

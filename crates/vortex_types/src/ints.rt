@@ -108,6 +108,10 @@ pub trait NativePType: Copy + Drop {
         ensures value { result ≡ number self }
         ensures fits { FitsPType ptype (number self) };
 
+    /// Which of the eight it is.
+    fn integer_type() -> PType
+        ensures { result ≡ ptype };
+
     /// The order of the numbers.
     fn total_compare(self, other: Self) -> Ordering
         ensures { result ≡ int_cmp (number self) (number other) };

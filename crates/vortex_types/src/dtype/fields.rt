@@ -46,6 +46,7 @@ impl StructFields {
     ghost use Rattle.vortex_types.specs.LogicalTypes.{no_fields, with_field, field_count};
     ghost use Rattle.vortex_types.specs.LogicalTypes.{field_type, find_field};
     ghost use Rattle.vortex_types.specs.FieldNames.{field_name};
+    ghost use Rattle.vortex_types.specs.ListedFields.{listed_fields, NameEachOnce};
 
     /// No fields. Takes no memory.
     pub fn new(alloc: Global) -> StructFields
@@ -83,6 +84,21 @@ impl StructFields {
         Ok(StructFields {
             fields: pairs(alloc, names, types)?,
         })
+    }
+
+    /// The fields that are listed, each a name with its type; both are copied. E12 exactly where a
+    /// name stands twice.
+    pub fn of(alloc: Global, fields: &[(&str, DType)]) -> VortexResult<StructFields>
+        ensures { AnswersWhere result (NameEachOnce fields.now)
+            (λ f. struct_fields f ≡ listed_fields fields.now) InvalidColumn }
+    {
+        let mut names = Vec::new(alloc);
+        let mut types = Vec::new(alloc);
+        for field in fields {
+            names.push(String::from_str(alloc, field.0)?)?;
+            types.push(field.1.try_clone(alloc)?)?;
+        }
+        StructFields::try_new(alloc, names, types)
     }
 
     /// How many fields there are.

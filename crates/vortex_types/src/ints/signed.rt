@@ -2,6 +2,7 @@
 ghost use Rattle.std.specs.Prelude.{◌≡◌, map};
 
 use super::{Ints, NativePType};
+use crate::dtype::PType;
 use std::cmp::Ordering;
 
 impl NativePType for i8 {
@@ -15,6 +16,10 @@ impl NativePType for i8 {
 
     fn to_i128(self) -> i128 {
         i128::from(self)
+    }
+
+    fn integer_type() -> PType {
+        PType::I8
     }
 
     fn total_compare(self, other: i8) -> Ordering {
@@ -57,6 +62,10 @@ impl NativePType for i16 {
         i128::from(self)
     }
 
+    fn integer_type() -> PType {
+        PType::I16
+    }
+
     fn total_compare(self, other: i16) -> Ordering {
         self.cmp(&other)
     }
@@ -97,6 +106,10 @@ impl NativePType for i32 {
         i128::from(self)
     }
 
+    fn integer_type() -> PType {
+        PType::I32
+    }
+
     fn total_compare(self, other: i32) -> Ordering {
         self.cmp(&other)
     }
@@ -135,6 +148,10 @@ impl NativePType for i64 {
 
     fn to_i128(self) -> i128 {
         i128::from(self)
+    }
+
+    fn integer_type() -> PType {
+        PType::I64
     }
 
     fn total_compare(self, other: i64) -> Ordering {

@@ -2,6 +2,7 @@
 ghost use Rattle.std.specs.Prelude.{◌≡◌, map};
 
 use super::{Ints, NativePType};
+use crate::dtype::PType;
 use std::cmp::Ordering;
 
 impl NativePType for u8 {
@@ -15,6 +16,10 @@ impl NativePType for u8 {
 
     fn to_i128(self) -> i128 {
         i128::from(self)
+    }
+
+    fn integer_type() -> PType {
+        PType::U8
     }
 
     fn total_compare(self, other: u8) -> Ordering {
@@ -57,6 +62,10 @@ impl NativePType for u16 {
         i128::from(self)
     }
 
+    fn integer_type() -> PType {
+        PType::U16
+    }
+
     fn total_compare(self, other: u16) -> Ordering {
         self.cmp(&other)
     }
@@ -97,6 +106,10 @@ impl NativePType for u32 {
         i128::from(self)
     }
 
+    fn integer_type() -> PType {
+        PType::U32
+    }
+
     fn total_compare(self, other: u32) -> Ordering {
         self.cmp(&other)
     }
@@ -135,6 +148,10 @@ impl NativePType for u64 {
 
     fn to_i128(self) -> i128 {
         i128::from(self)
+    }
+
+    fn integer_type() -> PType {
+        PType::U64
     }
 
     fn total_compare(self, other: u64) -> Ordering {

@@ -1,0 +1,58 @@
+//! Rows of columns as Rust's own values.
+
+use fixtures::yes;
+use std::alloc::Global;
+use vortex_columns::{Column, DType, Nullability, PType, Scalar, VortexResult};
+
+/// Whether a column of truth values has these rows, and is read neither as integers nor as texts.
+fn reads_bools(alloc: Global, rows: &[Option<bool>]) -> VortexResult<bool> {
+    let column = Column::of_bools(alloc, rows)?;
+    let others = column.int_rows::<u8>().is_none() && column.text_rows().is_none();
+    let Some(read) = column.bool_rows() else {
+        return Ok(false);
+    };
+    Ok(others && read.eq(rows.iter().copied()))
+}
+
+/// Whether a column of 32-bit integers has these rows, and is read as no other integers.
+fn reads_ints(alloc: Global, rows: &[Option<i32>]) -> VortexResult<bool> {
+    let column = Column::of_ints(alloc, rows)?;
+    let others = column.int_rows::<u32>().is_none() && column.int_rows::<i64>().is_none();
+    let Some(read) = column.int_rows::<i32>() else {
+        return Ok(false);
+    };
+    Ok(others && column.bool_rows().is_none() && read.eq(rows.iter().copied()))
+}
+
+/// Whether a column of texts has these rows.
+fn reads_texts(alloc: Global, rows: &[Option<&str>]) -> VortexResult<bool> {
+    let column = Column::of_texts(alloc, rows)?;
+    let Some(read) = column.text_rows() else {
+        return Ok(false);
+    };
+    Ok(read.eq(rows.iter().copied()))
+}
+
+#[test]
+fn rows_are_read_in_their_order(rt: HostRuntime) {
+    let alloc = rt.alloc();
+    assert!(rt; yes(reads_bools(alloc, &[Some(true), None, Some(false)])));
+    assert!(rt; yes(reads_ints(alloc, &[None, Some(-3), Some(7)])));
+    assert!(rt; yes(reads_texts(alloc, &[Some("new"), None, Some("")])));
+    assert!(rt; yes(reads_ints(alloc, &[])));
+}
+
+/// Whether a constant's value is read in each row.
+fn reads_constant(alloc: Global) -> VortexResult<bool> {
+    let column = Column::constant(alloc, Scalar::from(5i32), 3);
+    let nulls = Column::constant(alloc, Scalar::null(DType::Bool(Nullability::Nullable)), 2);
+    let (Some(fives), Some(none)) = (column.int_rows::<i32>(), nulls.bool_rows()) else {
+        return Ok(false);
+    };
+    Ok(fives.eq([Some(5), Some(5), Some(5)].iter().copied()) && none.eq([None, None].iter().copied()))
+}
+
+#[test]
+fn constants_are_read_row_by_row(rt: HostRuntime) {
+    assert!(rt; yes(reads_constant(rt.alloc())));
+}
