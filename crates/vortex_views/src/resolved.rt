@@ -21,13 +21,16 @@ pub struct ResolvedViews<'a> {
 }
 
 impl<'a> ResolvedViews<'a> {
-    ghost use Rattle.vortex_views.specs.LentValues.{lent_values};
+    ghost use Rattle.vortex_views.specs.LentValues.{lent_values, lent_views, lent_buffers};
     ghost use Rattle.vortex_views.specs.LentValue.{row_value};
 
     /// These views over these buffers, in which each of them lies.
     pub fn new(views: &'a [BinaryView], buffers: &'a [Vec<u8>]) -> ResolvedViews<'a>
         requires { AreViewsIn (map (λ b. b.items) buffers.now) views.now }
-        ensures { lent_values result ≡ values_in (map (λ b. b.items) buffers.now) views.now }
+        ensures values { lent_values result
+            ≡ values_in (map (λ b. b.items) buffers.now) views.now }
+        ensures views { lent_views result ≡ views.now }
+        ensures buffers { lent_buffers result ≡ map (λ b. b.items) buffers.now }
     {
         ResolvedViews { views, buffers }
     }
@@ -40,11 +43,16 @@ impl<'a> ResolvedViews<'a> {
         self.views.len()
     }
 
-    /// The view of value `i`.
+    /// The view of value `i`, byte for byte as it was lent: a longer value's with the number of its
+    /// buffer and its offset there.
     #[inline(always)]
     pub fn view(&self, i: usize) -> &'a BinaryView
         requires { i < length (lent_values self.now) }
-        ensures { IsViewOf (slice_index_or (lent_values self.now) i []) (view_bytes result.now) }
+        ensures lent { view_bytes result.now
+            ≡ slice_index_or (map view_bytes (lent_views self.now)) i [] }
+        ensures fits { IsViewIn (lent_buffers self.now) (view_bytes result.now) }
+        ensures value { IsViewOf (slice_index_or (lent_values self.now) i [])
+            (view_bytes result.now) }
     {
         view_at(self.views, i)
     }
