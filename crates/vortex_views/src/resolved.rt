@@ -129,6 +129,15 @@ pub(crate) fn value_of<'a>(view: &'a BinaryView, buffers: &'a [Vec<u8>]) -> &'a 
     }
 }
 
+/// Whether two views have the same words.
+#[inline(always)]
+pub(crate) fn is_same_view(a: &BinaryView, b: &BinaryView) -> bool
+    ensures { IsTrue result ↔ (view_bytes a.now ≡ view_bytes b.now) }
+{
+    equal_words_say_equal_views(a, b);
+    a.as_u128() == b.as_u128()
+}
+
 /// Whether a view of a short value is padded with zeros.
 fn is_padded(view: &BinaryView) -> bool
     requires { IsInlined (view_bytes view.now) }
@@ -136,8 +145,7 @@ fn is_padded(view: &BinaryView) -> bool
         ↔ (view_bytes view.now ≡ inlined_view (inlined_value (view_bytes view.now))) }
 {
     let padded = BinaryView::new_inlined(part(view.as_bytes(), 4, view.len() as usize));
-    equal_words_say_equal_views(view, &padded);
-    view.as_u128() == padded.as_u128()
+    is_same_view(view, &padded)
 }
 
 /// Whether the bytes of a long view lie in this buffer, and begin as the view says.
