@@ -90,6 +90,7 @@ pub use vortex_kernels::kleene_boolean_buffer_scalar;
 pub use vortex_kernels::kleene_boolean_buffers;
 pub use vortex_kernels::kleene_words;
 pub use vortex_kernels::scalar_cmp;
+pub use vortex_like::LikeForm;
 pub use vortex_like::LikeOptions;
 pub use vortex_like::LikePattern;
 pub use vortex_like::LikeToken;

@@ -137,7 +137,7 @@ same_words n xs ys e = digits-take n xs ∙ ap (λ zs. digits n 0 zs) e ∙ sym 
 room : (n m : ℕ) (xs : List ℕ) → n + m ≤ length xs → m ≤ length (drop n xs)
 room n m xs h = omega (arith, length-drop n xs)
 
-later : (n : ℕ) (xs : List ℕ) → AreBytes xs → AreBytes (drop n xs)
+pub later : (n : ℕ) (xs : List ℕ) → AreBytes xs → AreBytes (drop n xs)
 later n xs h i = rw (get_or-drop n xs i 0) (h (n + i))
 
 -- words at two places are equal where so many bytes are

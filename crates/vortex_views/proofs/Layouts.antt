@@ -86,7 +86,7 @@ full n v e =
     (λ i h. sym (get_or-map-range_with_len (λ k. get_or v k 0) 0 n i i 0 (omega arith)
     (omega arith)))
 
-eight : (v : List ℕ) → AreBytes v → AreBytes (padded 8 v)
+pub eight : (v : List ℕ) → AreBytes v → AreBytes (padded 8 v)
 eight v h zero = h 0
 eight v h (suc zero) = h 1
 eight v h (suc (suc zero)) = h 2
@@ -98,7 +98,7 @@ eight v h (suc (suc (suc (suc (suc (suc (suc zero))))))) = h 7
 eight v h (suc (suc (suc (suc (suc (suc (suc (suc i)))))))) = omega arith
 
 -- equal words are of equal bytes
-same_word : (v w : List ℕ) → AreBytes v → AreBytes w → from_le_bytes w64 v ≡ from_le_bytes w64 w
+pub same_word : (v w : List ℕ) → AreBytes v → AreBytes w → from_le_bytes w64 v ≡ from_le_bytes w64 w
     → padded 8 v ≡ padded 8 w
 same_word v w h k e =
     sym (le_bytes_8 (padded 8 v) (from_le_bytes w64 v) refl (eight v h) refl)

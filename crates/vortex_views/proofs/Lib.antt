@@ -3,6 +3,9 @@ pub mod ByteOrder
 pub mod WordOrder
 pub mod Layouts
 pub mod Resolving
+pub mod FirstBytes
+pub mod LastBytes
+pub mod Telling
 pub mod Placed
 pub mod Pushing
 pub mod Collecting

@@ -7,12 +7,12 @@ use Rattle.std.proofs.lemmas.Bool.{cases_lt, cond-true, cond-false, le-leb, leb-
 use Rattle.std.proofs.lemmas.Bool.{false_from_ne_true}
 use Rattle.vortex_views.specs.declared.view.BinaryView.{BinaryView}
 use Rattle.vortex_views.specs.ViewBytes.{view_bytes, view_len, view_offset, view_buffer}
-use Rattle.vortex_views.specs.ViewBytes.{inlined_view, inlined_value}
+use Rattle.vortex_views.specs.ViewBytes.{inlined_view, inlined_value, padded}
 use Rattle.vortex_views.specs.Resolved.{AreViewsIn, IsViewIn, IsViewOf, LiesIn, values_in, value_in}
 use Rattle.vortex_views.specs.Resolved.{long_value}
 use Rattle.vortex_views.proofs.Layouts.{short_len, short_tail}
 use Rattle.vortex_views.specs.ValueWords.{order_prefix_word, order_tail_word}
-use Rattle.std.specs.Int.{w32, w64, from_be_bytes}
+use Rattle.std.specs.Int.{w32, w64, from_be_bytes, from_le_bytes}
 
 pub view_at : (bufs : List (List ℕ)) (views : List BinaryView) (i : ℕ) (v : BinaryView)
     → AreViewsIn bufs views
@@ -138,6 +138,27 @@ prefix_by value v h (inr s) = ap (λ z. from_be_bytes w32 (drop 4 z)) (h.inlined
 pub prefix_of_view : (value v : List ℕ) → IsViewOf value v
     → from_be_bytes w32 (drop 4 v) ≡ order_prefix_word value
 prefix_of_view value v h = prefix_by value v h (cases_lt 12 (length value))
+
+same_four : (v w : List ℕ) → take 4 v ≡ take 4 w
+    → from_le_bytes w32 v ≡ from_le_bytes w32 (padded 4 w)
+same_four v w e =
+    omega (
+      arith,
+      first_at 0 v w (omega arith) e,
+      first_at 1 v w (omega arith) e,
+      first_at 2 v w (omega arith) e,
+      first_at 3 v w (omega arith) e,
+    )
+
+four_by : (value v : List ℕ) → IsViewOf value v → (12 < length value) ⊎ (length value ≤ 12)
+    → from_le_bytes w32 (drop 4 v) ≡ from_le_bytes w32 (padded 4 value)
+four_by value v h (inl l) = same_four (drop 4 v) value (h.start l)
+four_by value v h (inr s) = ap (λ z. from_le_bytes w32 (drop 4 z)) (h.inlined s)
+
+-- the same word, the first byte the lowest
+pub four_of_view : (value v : List ℕ) → IsViewOf value v
+    → from_le_bytes w32 (drop 4 v) ≡ from_le_bytes w32 (padded 4 value)
+four_of_view value v h = four_by value v h (cases_lt 12 (length value))
 
 -- and the second, of a short one
 pub tail_of_view : (value v : List ℕ) → IsViewOf value v → view_len v ≤ 12

@@ -15,7 +15,7 @@ use std::mem;
 use vortex_errors::{VortexError, VortexResult};
 
 /// The most bytes of a value, and of a buffer that values are placed in.
-const MOST_BYTES: usize = 4294967295;
+const MOST_BYTES: usize = BinaryView::MAX_SIZE;
 
 /// The most buffers.
 const MOST_BUFFERS: usize = 4294967296;

@@ -1,6 +1,7 @@
 //! What the words of values and of views say. These functions do nothing: their contracts are
 //! proved.
-ghost use Rattle.std.specs.Prelude.{◌≡◌, ◌≢◌, ◌≤◌, ◌<◌, ◌⊎◌, ◌↔◌, length, take, drop};
+ghost use Rattle.std.specs.Prelude.{◌≡◌, ◌≢◌, ◌≤◌, ◌<◌, ◌⊎◌, ◌↔◌, ℕ, length, take, drop};
+ghost use Rattle.std.specs.Prelude.{slice_index};
 ghost use Rattle.std.specs.Int.{w32, w64, w128, from_le_bytes, from_be_bytes};
 ghost use Rattle.std.specs.Ordering.{nat_cmp, ordering_then};
 ghost use Rattle.vortex_views.specs.ViewBytes.{view_bytes, inlined_view, long_view, padded};
@@ -107,6 +108,12 @@ pub fn short_and_long_values_have_different_heads(short: &[u8], long: &[u8])
     requires long { 12 < length long.now }
     requires in_u32 { length long.now ≤ 4294967295 }
     ensures { head_word short.now ≢ head_word long.now }
+{}
+
+/// Bytes are below 256.
+#[inline(always)]
+pub(crate) fn learn_bytes(bytes: &[u8])
+    ensures { (i : ℕ) → slice_index bytes.now i < 256 }
 {}
 
 /// How the words of two values order them, step by step.

@@ -5,6 +5,7 @@ pub mod builder;
 mod byte_words;
 pub mod collect;
 pub mod laws;
+pub mod literals;
 pub mod ordered;
 pub mod places;
 pub mod resolved;
@@ -14,6 +15,7 @@ mod words;
 
 pub use builder::ViewsBuilder;
 pub use collect::{ByteString, collect_views};
+pub use literals::{LongFront, LongWhole, ShortFront, ShortWhole, ValueTest, WholeEnd};
 pub use ordered::{ConstantBytes, Row, WordsOfBytes, compare, equal};
 pub use places::{Place, Places, gather};
 pub use resolved::{ResolvedViews, check_views, fits};

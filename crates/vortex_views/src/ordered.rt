@@ -1,7 +1,7 @@
 //! Values compared by their words, and by their bytes where words do not tell.
 ghost use Rattle.std.specs.Prelude.{◌≡◌, ◌≤◌, ◌↔◌, ℕ, List, IsTrue, length, map};
 ghost use Rattle.vortex_views.specs.ViewBytes.{view_bytes};
-ghost use Rattle.vortex_views.specs.Resolved.{IsViewIn};
+ghost use Rattle.vortex_views.specs.Resolved.{IsViewIn, IsViewOf};
 ghost use Rattle.vortex_views.specs.ValueWords.{compare_bytes, head_word};
 ghost use Rattle.vortex_views.specs.ValueWords.{order_prefix_word, order_tail_word};
 
@@ -61,6 +61,14 @@ impl<'a> Row<'a> {
             (view_bytes view.now) }
     {
         Row { view, buffers }
+    }
+
+    /// The view, of 16 bytes.
+    #[inline(always)]
+    pub(crate) fn view(&self) -> &'a BinaryView
+        ensures { IsViewOf (row_value self.now) (view_bytes result.now) }
+    {
+        self.view
     }
 }
 

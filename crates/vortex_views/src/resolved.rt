@@ -21,13 +21,16 @@ pub struct ResolvedViews<'a> {
 }
 
 impl<'a> ResolvedViews<'a> {
-    ghost use Rattle.vortex_views.specs.LentValues.{lent_values};
+    ghost use Rattle.vortex_views.specs.LentValues.{lent_values, lent_views, lent_buffers};
     ghost use Rattle.vortex_views.specs.LentValue.{row_value};
 
     /// These views over these buffers, in which each of them lies.
     pub fn new(views: &'a [BinaryView], buffers: &'a [Vec<u8>]) -> ResolvedViews<'a>
         requires { AreViewsIn (map (λ b. b.items) buffers.now) views.now }
-        ensures { lent_values result ≡ values_in (map (λ b. b.items) buffers.now) views.now }
+        ensures values { lent_values result
+            ≡ values_in (map (λ b. b.items) buffers.now) views.now }
+        ensures views { lent_views result ≡ views.now }
+        ensures buffers { lent_buffers result ≡ map (λ b. b.items) buffers.now }
     {
         ResolvedViews { views, buffers }
     }
@@ -40,11 +43,16 @@ impl<'a> ResolvedViews<'a> {
         self.views.len()
     }
 
-    /// The view of value `i`.
+    /// The view of value `i`, byte for byte as it was lent: a longer value's with the number of its
+    /// buffer and its offset there.
     #[inline(always)]
     pub fn view(&self, i: usize) -> &'a BinaryView
         requires { i < length (lent_values self.now) }
-        ensures { IsViewOf (slice_index_or (lent_values self.now) i []) (view_bytes result.now) }
+        ensures lent { view_bytes result.now
+            ≡ slice_index_or (map view_bytes (lent_views self.now)) i [] }
+        ensures fits { IsViewIn (lent_buffers self.now) (view_bytes result.now) }
+        ensures value { IsViewOf (slice_index_or (lent_values self.now) i [])
+            (view_bytes result.now) }
     {
         view_at(self.views, i)
     }
@@ -121,6 +129,15 @@ pub(crate) fn value_of<'a>(view: &'a BinaryView, buffers: &'a [Vec<u8>]) -> &'a 
     }
 }
 
+/// Whether two views have the same words.
+#[inline(always)]
+pub(crate) fn is_same_view(a: &BinaryView, b: &BinaryView) -> bool
+    ensures { IsTrue result ↔ (view_bytes a.now ≡ view_bytes b.now) }
+{
+    equal_words_say_equal_views(a, b);
+    a.as_u128() == b.as_u128()
+}
+
 /// Whether a view of a short value is padded with zeros.
 fn is_padded(view: &BinaryView) -> bool
     requires { IsInlined (view_bytes view.now) }
@@ -128,8 +145,7 @@ fn is_padded(view: &BinaryView) -> bool
         ↔ (view_bytes view.now ≡ inlined_view (inlined_value (view_bytes view.now))) }
 {
     let padded = BinaryView::new_inlined(part(view.as_bytes(), 4, view.len() as usize));
-    equal_words_say_equal_views(view, &padded);
-    view.as_u128() == padded.as_u128()
+    is_same_view(view, &padded)
 }
 
 /// Whether the bytes of a long view lie in this buffer, and begin as the view says.

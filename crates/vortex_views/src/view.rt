@@ -19,6 +19,9 @@ impl BinaryView {
     /// A value of so many bytes lies in its view.
     pub const MAX_INLINED_SIZE: usize = 12;
 
+    /// The most bytes of a value that a view tells.
+    pub const MAX_SIZE: usize = 4294967295;
+
     /// The view of a short value, which lies in it.
     #[inline]
     pub fn new_inlined(value: &[u8]) -> BinaryView
