@@ -1,15 +1,16 @@
 //! The interface of a row function.
 ghost use Rattle.std.specs.Prelude.{◌≡◌, ℕ, List, length, map, IsTrue, IsSome, IfOk, MatchResult};
-ghost use Rattle.std.specs.Prelude.{slice_get, string_bytes, Some, ⊤};
+ghost use Rattle.std.specs.Prelude.{slice_get, Option, Some, None};
 ghost use Rattle.vortex_interface.specs.Words.{ColumnView, Meaning, Lawful, Rules, fits, types_in};
 ghost use Rattle.vortex_interface.specs.Words.{AnswersUnlessMemory, AnswersType, AnswersCall};
-ghost use Rattle.vortex_interface.specs.Words.{Continues, PastInputs, ReadsOrRefuses};
+ghost use Rattle.vortex_interface.specs.Words.{PastInputs, WritesBytes, AnswersOptions};
+ghost use Rattle.vortex_interface.specs.Words.{AppendsDefaultOrOwn};
 
 use crate::printing::write_call;
 use std::alloc::Global;
 use std::fmt::{Debug, Display};
 use std::hash::Hash;
-use vortex_columns::{Arity, Column, DType, ExecutionCtx, VortexError, VortexResult};
+use vortex_columns::{Arity, Column, DType, ExecutionCtx, VortexResult};
 
 /// A function's identity, as `vortex.binary`.
 pub type ScalarFnId = &'static str;
@@ -43,7 +44,8 @@ pub trait ExecutionArgs {
 ///
 /// What it means is a ghost member: the row meaning of argument types and values, the type of its
 /// answer, its arity, names and marks. The calls answer what the member says, and the member is
-/// lawful.
+/// lawful. Further members say the bytes of its options and the text of its calls; where an
+/// implementation leaves these out, there are no bytes, and the text is the default.
 pub trait ScalarFnVTable: Sized + Clone + Drop {
     type Options: Clone + Debug + Display + Eq + Hash + Drop;
 
@@ -53,24 +55,27 @@ pub trait ScalarFnVTable: Sized + Clone + Drop {
     /// it; it stands here since a tree's mark, that no rule applies in it, speaks of it.
     ghost rules: { Rules Self Self.Options };
 
+    /// The bytes that options are written as, where the function writes them.
+    ghost option_bytes: { Self → Self.Options → Option (List ℕ) } = { λ _ _. None };
+
+    /// The options that bytes are read as, where there are such.
+    ghost options_read: { Self → List ℕ → Option Self.Options } = { λ _ _. None };
+
+    /// The texts that a call may have beside the default, by the texts of its arguments.
+    ghost own_text: { Self → Self.Options → List (List ℕ) → List ℕ → Type 0 } = { λ _ _ _ _. ⊥ };
+
     /// The function's identity, as `vortex.binary`.
     fn id(&self) -> ScalarFnId
         ensures { result.now ≡ meaning.id self.now };
 
-    /// The options as bytes, where the function writes them. Refuses for memory alone; the default
-    /// writes none.
+    /// The options as bytes, where the function writes them, else `None`. Refuses for memory alone.
     fn serialize(&self, alloc: Global, options: &Self::Options) -> VortexResult<Option<Vec<u8>>>
-        ensures { AnswersUnlessMemory result (λ _. ⊤) }
-    {
-        Ok(None)
-    }
+        ensures { AnswersUnlessMemory result
+            (WritesBytes (option_bytes self.now options.now)) };
 
-    /// The options that the bytes are read as, or E8. The default reads none.
+    /// The options that the bytes are read as; E8 exactly where there are none.
     fn deserialize(&self, alloc: Global, bytes: &[u8]) -> VortexResult<Self::Options>
-        ensures { ReadsOrRefuses result }
-    {
-        Err(VortexError::BadOptions)
-    }
+        ensures { AnswersOptions (options_read self.now bytes.now) result };
 
     /// How many arguments a call takes.
     fn arity(&self, options: &Self::Options) -> Arity
@@ -107,22 +112,24 @@ pub trait ScalarFnVTable: Sized + Clone + Drop {
         ensures { AnswersCall meaning self.now options.now
             (A.inputs args.now) (A.rows args.now) result };
 
-    /// Appends the text of a call, by the texts of its arguments, whose count fits. Refuses for
-    /// memory alone.
+    /// Appends the text of a call, by the texts of its arguments, whose count fits: the default, or
+    /// the function's own. Refuses for memory alone.
     ///
     /// The default is `id(a, b)`; where the text of the options is not empty, `, opts=` and that
     /// text stand before the `)`.
     fn fmt_sql(
         &self,
+        alloc: Global,
         options: &Self::Options,
         children: &[String],
         out: &mut String,
     ) -> VortexResult<()>
         requires { IsTrue (fits (meaning.arity self.now options.now) (length children.now)) }
-        ensures { AnswersUnlessMemory result
-            (λ _. Continues (string_bytes out.old) (string_bytes out.new)) }
+        ensures { AnswersUnlessMemory result (λ _. AppendsDefaultOrOwn (meaning.id self.now)
+            (Self.Options.output options.now) (own_text self.now options.now)
+            children.now out.old out.new) }
     {
-        let text = options.to_string(*out.allocator())?;
+        let text = options.to_string(alloc)?;
         write_call(out, self.id(), text.as_str(), children)
     }
 

@@ -1,5 +1,5 @@
 -- A tree weighs something, and no more than five for each of its nodes.
-use Rattle.std.proofs.Common.{◌≡◌, ℕ, ◌*◌, ◌<◌, ◌≤◌, Bool, true, false, arith}
+use Rattle.std.proofs.Common.{ℕ, ◌*◌, ◌<◌, ◌≤◌, Bool, true, false, arith}
 use Rattle.vortex_operators.specs.declared.operators.Operator.{Operator}
 use Rattle.vortex_operators.specs.declared.operators.Operator.TheVariants.{And, Or}
 use Rattle.vortex_meaning.specs.Meaning.{Meaning}
@@ -9,7 +9,6 @@ use Rattle.vortex_meaning.specs.Trees.{Tree, leaf, constant, call, Trees, no_tre
 use Rattle.vortex_meaning.specs.Trees.{node_count, nodes_count}
 use Rattle.vortex_meaning.specs.Rules.{is_nullable_tree}
 use Rattle.vortex_meaning.specs.Weights.{operator_added, shipped_added, added, weight, weights}
-use Rattle.vortex_meaning.specs.Weights.{weight_told}
 
 -- a call adds one to five
 abbrev IsSmall : ℕ → Type 0
@@ -58,7 +57,3 @@ module _ {V O : Type 0} (m : Meaning V O) where
         let first = weight_bound t in
         let others = weights_bound ts in
         omega (arith, first, others)
-
-  -- so it is with the weight as 64 bits tell it
-  pub told_bound : (t : Tree V O) (w : ℕ) → w ≡ weight_told m t → w ≤ 5 * node_count t
-  told_bound t w told = let most = weight_bound t in omega (arith, told, most)

@@ -39,7 +39,3 @@ unary_pieces name end = said name ∷ said (codes "(") ∷ argument 0 ∷ said e
 
 abbrev pub call_end : List ℕ → List ℕ
 call_end options = options_text options ++ codes ")"
-
--- what was there stays at the beginning
-abbrev pub Continues : List ℕ → List ℕ → Type 0
-Continues old new = (rest : List ℕ) × (new ≡ old ++ rest)

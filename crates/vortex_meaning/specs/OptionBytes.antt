@@ -1,6 +1,5 @@
--- The bytes that the options of a shipped function are written as, and what byte strings are read
--- as.
-use Rattle.std.specs.Prelude.{◌≡◌, ℕ, List, [], Option, Some, None, IsSomeAnd, Vec, Result}
+-- The bytes that the options of a function are written as, and what byte strings are read as.
+use Rattle.std.specs.Prelude.{◌≡◌, ℕ, List, [], Option, Some, None, Vec, Result}
 use Rattle.std.specs.Prelude.{MatchResult, ⊤}
 use Rattle.std.specs.Option.{option_map}
 use Rattle.std.specs.declared.alloc.Global.{Global}
@@ -36,24 +35,23 @@ HasCharacters f = ⊤
 abbrev pub Written : Type 0
 Written = Option (Vec ℕ Global)
 
--- these bytes are written
-abbrev pub WritesBytes : List ℕ → Written → Type 0
-WritesBytes bytes written = IsSomeAnd written (λ v. v.items ≡ bytes)
+-- these bytes are written; or none are, where there are none
+abbrev pub WritesBytes : Option (List ℕ) → Written → Type 0
+WritesBytes bytes written = option_map (λ v. v.items) written ≡ bytes
 
--- the options of a shipped function are
-abbrev pub WritesOptions : Shipped → Written → Type 0
-WritesOptions f = WritesBytes (shipped_bytes f)
+-- the bytes of any function's options: of a shipped one always some, of a caller's those that it
+-- says
+abbrev pub function_bytes : {V O : Type 0} → (V → O → Option (List ℕ)) → Function V O
+    → Option (List ℕ)
+function_bytes bytes (ours s) = Some (shipped_bytes s)
+function_bytes bytes (custom f o) = bytes f o
 
--- the same of any function; what a caller's writes stays open
-abbrev pub WritesOptionsOf : {V O : Type 0} → Function V O → Written → Type 0
-WritesOptionsOf (ours s) written = WritesOptions s written
-WritesOptionsOf (custom f o) written = ⊤
+-- the options that the bytes are read as; E8 exactly where there are none; or memory ran out
+abbrev pub AnswersOptions : {O : Type 0} → Option O → Result O VortexError → Type 0
+AnswersOptions found result =
+    Answers result (λ o. found ≡ Some o) (λ e. (found ≡ None) × (e ≡ BadOptions))
 
--- any options; or E8, or memory ran out
-abbrev pub ReadsOrRefuses : {O : Type 0} → Result O VortexError → Type 0
-ReadsOrRefuses result = Answers result (λ options. ⊤) (λ e. e ≡ BadOptions)
-
--- the options that the bytes are read as; E8 exactly where there are none. No memory is taken
+-- the same, where no memory is taken
 abbrev pub ReadsOptions : {O : Type 0} → Option O → Result O VortexError → Type 0
 ReadsOptions found result =
     MatchResult result (λ o. found ≡ Some o) (λ e. (found ≡ None) × (e ≡ BadOptions))

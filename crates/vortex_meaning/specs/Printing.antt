@@ -2,7 +2,7 @@
 use Rattle.std.specs.Prelude.{ℕ, List, [], ◌∷◌, ◌++◌, Option, Some, None, codes}
 use Rattle.std.specs.Option.{option_and_then}
 pub use Rattle.vortex_columns.specs.Printing.{literal_text}
-pub use Rattle.vortex_meaning.specs.CallTexts.{joined, comma, Continues, Appends}
+pub use Rattle.vortex_meaning.specs.CallTexts.{joined, comma, Appends}
 use Rattle.vortex_meaning.specs.Shipped.{shipped_text}
 use Rattle.vortex_meaning.specs.Functions.{Function, ours, custom}
 use Rattle.vortex_meaning.specs.Trees.{place, held, Tree, leaf, constant, call, Trees, no_trees}

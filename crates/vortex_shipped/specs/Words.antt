@@ -14,11 +14,11 @@ pub use Rattle.vortex_meaning.specs.Shipped.LikeFunction.{like_id, like_words, e
 pub use Rattle.vortex_meaning.specs.Arithmetic.{arithmetic_type}
 pub use Rattle.vortex_meaning.specs.Answering.{AnswersShippedType}
 pub use Rattle.vortex_shipped.specs.Typing.{IsTypeFound}
-pub use Rattle.vortex_shipped.specs.Texts.{AppendsCall}
+pub use Rattle.vortex_shipped.specs.Texts.{AppendsCall, IsCallText}
 pub use Rattle.vortex_operators.specs.OptionBytes.{operator_bytes, operator_read, between_bytes}
 pub use Rattle.vortex_operators.specs.OptionBytes.{between_read}
 pub use Rattle.vortex_like.specs.OptionBytes.{like_bytes, like_read, IsLikeFormat}
-pub use Rattle.vortex_meaning.specs.OptionBytes.{WritesBytes, WritesOptions, ReadsOptions}
+pub use Rattle.vortex_meaning.specs.OptionBytes.{WritesBytes, ReadsOptions}
 pub use Rattle.vortex_meaning.specs.OptionBytes.{shipped_bytes, with_options, HasCharacters}
 pub use Rattle.vortex_interface.specs.Pieces.{piece_of}
 pub use Rattle.vortex_errors.specs.OptionBytes.{IsFormat}

@@ -1,10 +1,10 @@
 //! Between: whether a value lies between two bounds.
-ghost use Rattle.std.specs.Prelude.{◌≡◌, length, map};
+ghost use Rattle.std.specs.Prelude.{◌≡◌, Some, length, map};
 ghost use Rattle.vortex_meaning.specs.Shipped as shipped;
 ghost use Rattle.vortex_shipped.specs.Words.{no_rules, shipped_pieces, AnswersUnlessMemory};
 ghost use Rattle.vortex_shipped.specs.Words.{AppendsCall, AnswersShippedType};
 ghost use Rattle.vortex_shipped.specs.Words.{between_id, shipped_meaning, shipped_lawful};
-ghost use Rattle.vortex_shipped.specs.Words.{WritesOptions, ReadsOptions, between_read};
+ghost use Rattle.vortex_shipped.specs.Words.{IsCallText, ReadsOptions, between_bytes, between_read};
 
 use crate::option_bytes::write_byte;
 use std::alloc::Global;
@@ -30,14 +30,18 @@ impl ScalarFnVTable for Between {
 
     ghost rules = { no_rules };
 
+    ghost option_bytes = { λ f options. Some (between_bytes options) };
+
+    ghost options_read = { λ f bytes. between_read bytes };
+
+    ghost own_text = { λ f options. IsCallText (shipped.Between options) };
+
     fn id(&self) -> ScalarFnId {
         "vortex.between"
     }
 
     /// One byte: bit 0 where the lower bound is strict, bit 1 where the upper is.
-    fn serialize(&self, alloc: Global, options: &BetweenOptions) -> VortexResult<Option<Vec<u8>>>
-        ensures { AnswersUnlessMemory result (WritesOptions (shipped.Between options.now)) }
-    {
+    fn serialize(&self, alloc: Global, options: &BetweenOptions) -> VortexResult<Option<Vec<u8>>> {
         write_byte(alloc, options.to_byte())
     }
 
@@ -97,6 +101,7 @@ impl ScalarFnVTable for Between {
     /// `(lower < array <= upper)`.
     fn fmt_sql(
         &self,
+        _alloc: Global,
         options: &BetweenOptions,
         children: &[String],
         out: &mut String,

@@ -1,12 +1,13 @@
 //! The operators of two operands.
-ghost use Rattle.std.specs.Prelude.{◌≡◌, length, map};
+ghost use Rattle.std.specs.Prelude.{◌≡◌, Some, length, map};
 ghost use Rattle.vortex_meaning.specs.Shipped as shipped;
 ghost use Rattle.vortex_shipped.specs.Words.{no_rules, shipped_pieces, AnswersUnlessMemory};
 ghost use Rattle.vortex_shipped.specs.Words.{type_of, AppendsCall, binary_id, both_bool};
 ghost use Rattle.vortex_shipped.specs.Words.{compared_type, arithmetic_type, operator_type};
 ghost use Rattle.vortex_shipped.specs.Words.{operator_place, shipped_meaning, shipped_lawful};
 ghost use Rattle.vortex_shipped.specs.Words.{AnswersShippedType, IsTypeFound};
-ghost use Rattle.vortex_shipped.specs.Words.{WritesOptions, ReadsOptions, operator_read};
+ghost use Rattle.vortex_shipped.specs.Words.{IsCallText, ReadsOptions, operator_bytes};
+ghost use Rattle.vortex_shipped.specs.Words.{operator_read};
 
 use crate::option_bytes::write_byte;
 use std::alloc::Global;
@@ -102,14 +103,18 @@ impl ScalarFnVTable for Binary {
 
     ghost rules = { no_rules };
 
+    ghost option_bytes = { λ f operator. Some (operator_bytes operator) };
+
+    ghost options_read = { λ f bytes. operator_read bytes };
+
+    ghost own_text = { λ f operator. IsCallText (shipped.Binary operator) };
+
     fn id(&self) -> ScalarFnId {
         "vortex.binary"
     }
 
     /// The operator's byte.
-    fn serialize(&self, alloc: Global, operator: &Operator) -> VortexResult<Option<Vec<u8>>>
-        ensures { AnswersUnlessMemory result (WritesOptions (shipped.Binary operator.now)) }
-    {
+    fn serialize(&self, alloc: Global, operator: &Operator) -> VortexResult<Option<Vec<u8>>> {
         write_byte(alloc, operator.to_byte())
     }
 
@@ -159,6 +164,7 @@ impl ScalarFnVTable for Binary {
     /// `(a op b)`.
     fn fmt_sql(
         &self,
+        _alloc: Global,
         operator: &Operator,
         children: &[String],
         out: &mut String,

@@ -1,10 +1,10 @@
 //! Cast of Bool to the nullable one.
+ghost use Rattle.std.specs.Prelude.{[], Some};
 ghost use Rattle.vortex_meaning.specs.Shipped as shipped;
 ghost use Rattle.vortex_shipped.specs.Words.{no_rules, shipped_pieces, AnswersUnlessMemory};
 ghost use Rattle.vortex_shipped.specs.Words.{AppendsCall, cast_id};
 ghost use Rattle.vortex_shipped.specs.Words.{shipped_meaning, shipped_lawful, AnswersShippedType};
-ghost use Rattle.std.specs.Prelude.{IsOk};
-ghost use Rattle.vortex_shipped.specs.Words.{WritesOptions};
+ghost use Rattle.vortex_shipped.specs.Words.{IsCallText, ReadsOptions};
 
 use std::alloc::Global;
 use std::fmt;
@@ -55,20 +55,24 @@ impl ScalarFnVTable for Cast {
 
     ghost rules = { no_rules };
 
+    ghost option_bytes = { λ f o. Some [] };
+
+    ghost options_read = { λ f bytes. Some (record {}) };
+
+    ghost own_text = { λ f o. IsCallText shipped.Cast };
+
     fn id(&self) -> ScalarFnId {
         "vortex.cast"
     }
 
     /// No bytes.
-    fn serialize(&self, alloc: Global, _options: &CastOptions) -> VortexResult<Option<Vec<u8>>>
-        ensures { AnswersUnlessMemory result (WritesOptions shipped.Cast) }
-    {
+    fn serialize(&self, alloc: Global, _options: &CastOptions) -> VortexResult<Option<Vec<u8>>> {
         Ok(Some(Vec::new(alloc)))
     }
 
     /// Any bytes are read; takes no memory.
     fn deserialize(&self, _alloc: Global, _bytes: &[u8]) -> VortexResult<CastOptions>
-        ensures { IsOk result }
+        ensures { ReadsOptions (Some (record {})) result }
     {
         Ok(CastOptions)
     }
@@ -108,6 +112,7 @@ impl ScalarFnVTable for Cast {
     /// `vortex.cast(a, opts=bool?)`.
     fn fmt_sql(
         &self,
+        _alloc: Global,
         options: &CastOptions,
         children: &[String],
         out: &mut String,

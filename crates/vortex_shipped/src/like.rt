@@ -5,7 +5,7 @@ ghost use Rattle.vortex_shipped.specs.Words.{no_rules, shipped_pieces, AnswersUn
 ghost use Rattle.vortex_shipped.specs.Words.{AppendsCall, like_id, like_words};
 ghost use Rattle.vortex_shipped.specs.Words.{escape_pieces, piece_of};
 ghost use Rattle.vortex_shipped.specs.Words.{shipped_meaning, shipped_lawful, AnswersShippedType};
-ghost use Rattle.vortex_shipped.specs.Words.{WritesOptions, ReadsOptions, like_read};
+ghost use Rattle.vortex_shipped.specs.Words.{IsCallText, ReadsOptions, like_bytes, like_read};
 
 use std::alloc::Global;
 use vortex_columns::{
@@ -56,6 +56,12 @@ impl ScalarFnVTable for Like {
 
     ghost rules = { no_rules };
 
+    ghost option_bytes = { λ f options. Some (like_bytes options) };
+
+    ghost options_read = { λ f bytes. like_read bytes };
+
+    ghost own_text = { λ f options. IsCallText (shipped.Like options) };
+
     fn id(&self) -> ScalarFnId {
         "vortex.like"
     }
@@ -63,9 +69,7 @@ impl ScalarFnVTable for Like {
     /// One byte: bit 0 where negated, bit 1 where case insensitive. For another escape than the
     /// backslash bit 2 too, and behind it the character as four bytes, the greatest first; for none
     /// bit 3 too.
-    fn serialize(&self, alloc: Global, options: &LikeOptions) -> VortexResult<Option<Vec<u8>>>
-        ensures { AnswersUnlessMemory result (WritesOptions (shipped.Like options.now)) }
-    {
+    fn serialize(&self, alloc: Global, options: &LikeOptions) -> VortexResult<Option<Vec<u8>>> {
         Ok(Some(options.to_bytes(alloc)?))
     }
 
@@ -114,6 +118,7 @@ impl ScalarFnVTable for Like {
     /// ''` behind it where the escape is not the backslash.
     fn fmt_sql(
         &self,
+        _alloc: Global,
         options: &LikeOptions,
         children: &[String],
         out: &mut String,

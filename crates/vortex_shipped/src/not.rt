@@ -1,10 +1,10 @@
 //! Kleene's Not.
+ghost use Rattle.std.specs.Prelude.{[], Some};
 ghost use Rattle.vortex_meaning.specs.Shipped as shipped;
 ghost use Rattle.vortex_shipped.specs.Words.{no_rules, shipped_pieces, AnswersUnlessMemory};
 ghost use Rattle.vortex_shipped.specs.Words.{AppendsCall, not_id, shipped_meaning, shipped_lawful};
 ghost use Rattle.vortex_shipped.specs.Words.{AnswersShippedType};
-ghost use Rattle.std.specs.Prelude.{IsOk};
-ghost use Rattle.vortex_shipped.specs.Words.{WritesOptions};
+ghost use Rattle.vortex_shipped.specs.Words.{IsCallText, ReadsOptions};
 
 use std::alloc::Global;
 use vortex_columns::{
@@ -27,20 +27,24 @@ impl ScalarFnVTable for Not {
 
     ghost rules = { no_rules };
 
+    ghost option_bytes = { λ f o. Some [] };
+
+    ghost options_read = { λ f bytes. Some (record {}) };
+
+    ghost own_text = { λ f o. IsCallText shipped.Not };
+
     fn id(&self) -> ScalarFnId {
         "vortex.not"
     }
 
     /// No bytes.
-    fn serialize(&self, alloc: Global, _options: &EmptyOptions) -> VortexResult<Option<Vec<u8>>>
-        ensures { AnswersUnlessMemory result (WritesOptions shipped.Not) }
-    {
+    fn serialize(&self, alloc: Global, _options: &EmptyOptions) -> VortexResult<Option<Vec<u8>>> {
         Ok(Some(Vec::new(alloc)))
     }
 
     /// Any bytes are read; takes no memory.
     fn deserialize(&self, _alloc: Global, _bytes: &[u8]) -> VortexResult<EmptyOptions>
-        ensures { IsOk result }
+        ensures { ReadsOptions (Some (record {})) result }
     {
         Ok(EmptyOptions)
     }
@@ -80,6 +84,7 @@ impl ScalarFnVTable for Not {
     /// `vortex.not(a)`.
     fn fmt_sql(
         &self,
+        _alloc: Global,
         options: &EmptyOptions,
         children: &[String],
         out: &mut String,

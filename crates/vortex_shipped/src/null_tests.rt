@@ -1,12 +1,11 @@
 //! The null tests: whether a row of any type is null, and whether it is not.
-ghost use Rattle.std.specs.Prelude.{◌≡◌, length};
+ghost use Rattle.std.specs.Prelude.{◌≡◌, [], Some, length};
 ghost use Rattle.vortex_meaning.specs.Shipped as shipped;
 ghost use Rattle.vortex_shipped.specs.Words.{no_rules, shipped_pieces, AnswersUnlessMemory};
 ghost use Rattle.vortex_shipped.specs.Words.{AppendsCall, AnswersShippedType};
 ghost use Rattle.vortex_shipped.specs.Words.{is_null_id, is_not_null_id, shipped_meaning};
 ghost use Rattle.vortex_shipped.specs.Words.{shipped_lawful};
-ghost use Rattle.std.specs.Prelude.{IsOk};
-ghost use Rattle.vortex_shipped.specs.Words.{WritesOptions};
+ghost use Rattle.vortex_shipped.specs.Words.{IsCallText, ReadsOptions};
 
 use std::alloc::Global;
 use vortex_columns::{Arity, Column, DType, ExecutionCtx, Nullability, VortexResult};
@@ -27,20 +26,24 @@ impl ScalarFnVTable for IsNull {
 
     ghost rules = { no_rules };
 
+    ghost option_bytes = { λ f o. Some [] };
+
+    ghost options_read = { λ f bytes. Some (record {}) };
+
+    ghost own_text = { λ f o. IsCallText shipped.IsNull };
+
     fn id(&self) -> ScalarFnId {
         "vortex.is_null"
     }
 
     /// No bytes.
-    fn serialize(&self, alloc: Global, _options: &EmptyOptions) -> VortexResult<Option<Vec<u8>>>
-        ensures { AnswersUnlessMemory result (WritesOptions shipped.IsNull) }
-    {
+    fn serialize(&self, alloc: Global, _options: &EmptyOptions) -> VortexResult<Option<Vec<u8>>> {
         Ok(Some(Vec::new(alloc)))
     }
 
     /// Any bytes are read; takes no memory.
     fn deserialize(&self, _alloc: Global, _bytes: &[u8]) -> VortexResult<EmptyOptions>
-        ensures { IsOk result }
+        ensures { ReadsOptions (Some (record {})) result }
     {
         Ok(EmptyOptions)
     }
@@ -78,6 +81,7 @@ impl ScalarFnVTable for IsNull {
     /// `vortex.is_null(a)`.
     fn fmt_sql(
         &self,
+        _alloc: Global,
         options: &EmptyOptions,
         children: &[String],
         out: &mut String,
@@ -131,20 +135,24 @@ impl ScalarFnVTable for IsNotNull {
 
     ghost rules = { no_rules };
 
+    ghost option_bytes = { λ f o. Some [] };
+
+    ghost options_read = { λ f bytes. Some (record {}) };
+
+    ghost own_text = { λ f o. IsCallText shipped.IsNotNull };
+
     fn id(&self) -> ScalarFnId {
         "vortex.is_not_null"
     }
 
     /// No bytes.
-    fn serialize(&self, alloc: Global, _options: &EmptyOptions) -> VortexResult<Option<Vec<u8>>>
-        ensures { AnswersUnlessMemory result (WritesOptions shipped.IsNotNull) }
-    {
+    fn serialize(&self, alloc: Global, _options: &EmptyOptions) -> VortexResult<Option<Vec<u8>>> {
         Ok(Some(Vec::new(alloc)))
     }
 
     /// Any bytes are read; takes no memory.
     fn deserialize(&self, _alloc: Global, _bytes: &[u8]) -> VortexResult<EmptyOptions>
-        ensures { IsOk result }
+        ensures { ReadsOptions (Some (record {})) result }
     {
         Ok(EmptyOptions)
     }
@@ -182,6 +190,7 @@ impl ScalarFnVTable for IsNotNull {
     /// `is_not_null(a)`.
     fn fmt_sql(
         &self,
+        _alloc: Global,
         options: &EmptyOptions,
         children: &[String],
         out: &mut String,
