@@ -1,6 +1,6 @@
 -- The rules of the function that answers its first argument are lawful.
 use Rattle.std.specs.Prelude.{◌≡◌, codes, get_or, Some}
-use Rattle.std.proofs.Common.{sym, ap, ◌∙◌, subst, arith}
+use Rattle.std.proofs.Common.{sym, ap, ◌∙◌, subst, arith, inl}
 use Rattle.vortex_types.specs.LogicalTypes.{LogicalType}
 use Rattle.vortex_meaning.specs.Functions.{custom}
 use Rattle.vortex_meaning.specs.Trees.{Tree, call, Trees, no_trees, tree}
@@ -26,7 +26,7 @@ module _ {V O : Type 0} where
       subst (Rewrites first_meaning (call (custom f o) (tree x ts))) is
       (record {
         dtype = p.2 ∙ same ∙ sym h;
-        asks = record { leaves = λ cs k. k.0; rows = λ cs i k. k.0; places = λ k. k.0 };
+        asks = record { leaves = λ p name a is. inl is; rows = λ cs i k. k.0; places = λ k. k.0 };
         value = λ cs i w k e.
             let q = means_parts first_value _ w e in
             let r = values_parts (eval first_meaning cs x i) (eval_all first_meaning cs ts i) q.0

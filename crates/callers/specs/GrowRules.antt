@@ -14,6 +14,7 @@ use Rattle.vortex_meaning.specs.Eval.{tree_type}
 use Rattle.vortex_meaning.specs.Rewrites.{Rewrites, LawfulRules}
 use Rattle.vortex_meaning.proofs.TypedCalls.{typed_call, one_type, type_of_one, eval_one}
 use Rattle.vortex_meaning.proofs.TypedValues.{value_typed}
+use Rattle.vortex_meaning.proofs.Leaves.{in_one}
 use Rattle.vortex_meaning.proofs.Rewriting.{child_rewrites}
 use Rattle.vortex_rules.specs.Identities.{IsOwnIdentity, first_letter}
 use Rattle.callers.specs.Grow.{grow_meaning, grow_lawful, grow_rules, grown, not_of}
@@ -41,7 +42,7 @@ module _ {V O : Type 0} where
       record {
         dtype = twice ∙ sym h;
         asks = record {
-          leaves = λ cs k. ((k, tt), tt);
+          leaves = λ p name a is. in_one (in_one is);
           rows = λ cs i k. ((k, tt), tt);
           places = λ k. ((k, tt), tt);
         };

@@ -22,6 +22,7 @@ use Rattle.vortex_meaning.specs.Rewrites.{HasRow}
 use Rattle.vortex_meaning.specs.Running.{faulty as faulty_after}
 use Rattle.vortex_meaning.proofs.AfterRun.{rows_after, fault_after}
 use Rattle.vortex_meaning.proofs.FaultyRows.{value_in}
+use Rattle.vortex_meaning.proofs.Leaves.{leaves_still_fit}
 use Rattle.vortex_meaning.proofs.FirstFaults.{first_fault_of}
 use Rattle.vortex_rewriting.specs.Runs.{expression_step}
 use Rattle.vortex_meaning.specs.Functions.{Function}
@@ -195,7 +196,8 @@ module _ {V O : Type 0} (m : Meaning V O) where
           → Makes (RunsAfterTop m rs limit (Some n) (t ∷ stack) s)
       runs_after_by (inl settled) =
           let k = the_type (tree_type m t) typed in
-          let fits = (rewritten m rs laws limit t u run typed).asks.leaves s.columns fit in
+          let asks = (rewritten m rs laws limit t u run typed).asks in
+          let fits = leaves_still_fit s.columns t u asks fit in
           let c = executed s.columns n u fits lengths
           (rewritten_typed m rs laws limit t u run typed) settled in
           let after =

@@ -31,6 +31,7 @@ use Rattle.vortex_meaning.specs.Running.{IsFaultAfter}
 use Rattle.vortex_meaning.specs.Weights.{weight_told}
 use Rattle.vortex_meaning.specs.Execution.{LeafFits, LeavesFit, AllLeavesFit, other_length}
 use Rattle.vortex_meaning.proofs.ArithmeticErrs.{refuses_first}
+use Rattle.vortex_meaning.proofs.Leaves.{leaves_still_fit}
 use Rattle.vortex_meaning.proofs.RewrittenRows.{fitting_row}
 use Rattle.vortex_rewriting.specs.Runs.{expression_step}
 use Rattle.rowfn_lines.specs.Commands.{Command, nothing, malformed, rows, column, get, literal}
@@ -375,7 +376,7 @@ module _ {V O : Type 0} (m : Meaning V O) (rs : Rules V O) (laws : AreSound m rs
       as_step a _ o.is
       (with_stack m s fits n known (o.last ∷ stack) _
       ((λ i lt. asks.rows s.columns i (all.0.0 i lt)), all.0.1)
-      (asks.leaves s.columns all.1.0, all.1.1)
+      (leaves_still_fit s.columns u o.last asks all.1.0, all.1.1)
       (rewritten_typed m rs laws limit u o.last o.run all.2.0, all.2.1)
       (rewritten_shown m rs laws limit u o.last o.run all.2.0 all.3.0, all.3.1))
 

@@ -15,6 +15,7 @@ use Rattle.vortex_meaning.specs.Made.{IsMadeLeaf, IsMade, AllMade, IsPlace, IsBo
 use Rattle.vortex_meaning.specs.Driver.{RunsTo}
 use Rattle.vortex_meaning.specs.Running.{KeepsRows, FaultsSomewhere, HasRowsAfter, IsFaultAfter}
 use Rattle.vortex_meaning.specs.Running.{ExecutesAfter, RefusesAfter, faulty}
+use Rattle.vortex_meaning.proofs.Leaves.{leaves_still_fit}
 use Rattle.vortex_meaning.proofs.Driving.{runs_sound}
 use Rattle.vortex_meaning.proofs.RewrittenRows.{HasRows, fitting_row}
 use Rattle.vortex_meaning.proofs.RuleAnswers.{gives_is}
@@ -93,5 +94,5 @@ module _ {V O : Type 0} (m : Meaning V O) (rule : Tree V O → Option (Tree V O)
     pub refuses_after : (e : VortexError) → RefusesExecution m cs n u e
         → RefusesAfter m cs n rule limit t e
     refuses_after e h =
-        let fits = run_rewrites.asks.leaves cs fit in
+        let fits = leaves_still_fit cs t u run_rewrites.asks fit in
         faulty fit lengths (fault_after with_rows e (refuses_first m cs n u e fits lengths h))

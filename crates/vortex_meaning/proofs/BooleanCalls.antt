@@ -26,6 +26,7 @@ use Rattle.vortex_meaning.specs.Rewrites.{AsksNoMore, Rewrites}
 use Rattle.vortex_meaning.proofs.TypedCalls.{two_types, typed_call, type_of_one, two_values}
 use Rattle.vortex_meaning.proofs.TypedCalls.{eval_one, eval_two}
 use Rattle.vortex_meaning.proofs.TypedValues.{value_typed}
+use Rattle.vortex_meaning.proofs.Leaves.{in_one}
 use Rattle.vortex_meaning.proofs.Rewriting.{asks_nothing}
 use Rattle.vortex_meaning.proofs.KleeneConstants.{left_decides, right_decides, left_leaves}
 use Rattle.vortex_meaning.proofs.KleeneConstants.{right_leaves, truth_back, truth_is}
@@ -150,17 +151,18 @@ module _ {V O : Type 0} (m : Meaning V O) where
       by : (b : Bool) → AsksNoMore t (if b then x else cast_of x)
       by true = a
       by false = record {
-        leaves = λ cs h. (a.leaves cs h, tt);
+        leaves = λ p name k h. a.leaves p name k (in_one h);
         rows = λ cs i h. (a.rows cs i h, tt);
         places = λ h. (a.places h, tt);
       }
 
   pub asks_left : (op : Operator) (x y : Tree V O) → AsksNoMore (operated op x y) x
-  asks_left op x y = record { leaves = λ cs h. h.0; rows = λ cs i h. h.0; places = λ h. h.0 }
+  asks_left op x y =
+      record { leaves = λ p name k h. inl h; rows = λ cs i h. h.0; places = λ h. h.0 }
 
   pub asks_right : (op : Operator) (x y : Tree V O) → AsksNoMore (operated op x y) y
   asks_right op x y =
-      record { leaves = λ cs h. h.1.0; rows = λ cs i h. h.1.0; places = λ h. h.1.0 }
+      record { leaves = λ p name k h. inr (inl h); rows = λ cs i h. h.1.0; places = λ h. h.1.0 }
 
   module _ (op : Operator) (b : is_boolean op ≡ true) (x y : Tree V O) (n a : Bool)
       (c : IsBoolCall op x y n) where

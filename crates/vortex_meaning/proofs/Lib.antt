@@ -1,6 +1,7 @@
 pub mod RuleAnswers
 pub mod TypedCalls
 pub mod TypedValues
+pub mod Leaves
 pub mod Rewriting
 pub mod KleeneConstants
 pub mod BooleanCalls

@@ -1,7 +1,7 @@
 -- Null tests that need not compute their child: of a child that is never null, one whose validity
 -- is a tree, and And or Or with one nullable operand.
 use Rattle.std.proofs.Common.{◌≡◌, ℕ, Bool, true, false, not, List, [], ◌∷◌, Option, Some, None}
-use Rattle.std.proofs.Common.{refl, sym, ap, ◌∙◌, subst}
+use Rattle.std.proofs.Common.{refl, sym, ap, ◌∙◌, subst, inl, ⊎_elim}
 use Rattle.vortex_types.specs.LogicalTypes.{LogicalType, bool_type, is_nullable}
 use Rattle.vortex_types.specs.Values.{Value, truth, is_null, truth_of, truth_or_null}
 use Rattle.vortex_columns.specs.ColumnView.{ColumnView}
@@ -24,6 +24,7 @@ use Rattle.vortex_meaning.specs.ReduceRules.{is_not_null_within}
 use Rattle.vortex_meaning.specs.Rewrites.{HasRow, AsksNoMore, Rewrites, IsValidityOf}
 use Rattle.vortex_meaning.proofs.TypedCalls.{type_of_one, type_of_two, one_value, eval_one}
 use Rattle.vortex_meaning.proofs.TypedValues.{value_typed, never_null}
+use Rattle.vortex_meaning.proofs.Leaves.{in_one, in_two}
 use Rattle.vortex_meaning.proofs.Rewriting.{asks_same, asks_nothing}
 use Rattle.vortex_meaning.proofs.KleeneConstants.{truth_back, truth_in, kleene_turned}
 use Rattle.vortex_meaning.proofs.BooleanCalls.{bool_call, bool_values, eval_bool, asks_left}
@@ -146,9 +147,11 @@ module _ {V O : Type 0} (m : Meaning V O) where
           (test_type x (bool_type true) s.nullable) typed
           ∙ joined_type join b ∙ sym (test_type node t h);
       asks = record {
-        leaves = λ cs k.
-            let right = asks.leaves cs (s.asks_other.leaves cs k.0) in
-            ((s.asks_nullable.leaves cs k.0, tt), (right, tt));
+        leaves = λ p name k h.
+            inl
+            (⊎_elim (λ left. s.asks_nullable.leaves p name k (in_one left))
+            (λ right. s.asks_other.leaves p name k (asks.leaves p name k right))
+            (in_two h));
         rows = λ cs i k.
             let right = asks.rows cs i (s.asks_other.rows cs i k.0) in
             ((s.asks_nullable.rows cs i k.0, tt), (right, tt));
@@ -186,7 +189,11 @@ module _ {V O : Type 0} (m : Meaning V O) where
     split_negated op join node x y t b h s said =
         split_test op join not node x y (negated y) t b h s
         (type_of_one m (ours Not) y (bool_type false) s.other)
-        (record { leaves = λ cs k. (k, tt); rows = λ cs i k. (k, tt); places = λ k. (k, tt) })
+        (record {
+          leaves = λ p name k h. in_one h;
+          rows = λ cs i k. (k, tt);
+          places = λ k. (k, tt);
+        })
         (λ cs i c e. eval_one m cs i (ours Not) y (truth c) e) said
 
   module _ (lawful : Lawful m) where
@@ -340,7 +347,7 @@ module _ {V O : Type 0} (m : Meaning V O) where
         type_of_one m (ours Not) v (bool_type false) valid.dtype
         ∙ sym (test_type IsNull is_null (λ ts w. refl) (λ k. refl) x t h);
     asks = record {
-      leaves = λ cs k. (valid.asks.leaves cs k.0, tt);
+      leaves = λ p name k h. inl (valid.asks.leaves p name k (in_one h));
       rows = λ cs i k. (valid.asks.rows cs i k.0, tt);
       places = λ k. (valid.asks.places k.0, tt);
     };
@@ -356,7 +363,7 @@ module _ {V O : Type 0} (m : Meaning V O) where
   is_not_null_by_validity x v t h valid = record {
     dtype = valid.dtype ∙ sym (test_type IsNotNull is_not_null (λ ts w. refl) (λ k. refl) x t h);
     asks = record {
-      leaves = λ cs k. valid.asks.leaves cs k.0;
+      leaves = λ p name k h. inl (valid.asks.leaves p name k h);
       rows = λ cs i k. valid.asks.rows cs i k.0;
       places = λ k. valid.asks.places k.0;
     };

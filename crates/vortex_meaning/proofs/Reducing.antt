@@ -54,7 +54,7 @@ module _ {V O : Type 0} (m : Meaning V O) where
   both_constant op x y n a z b c h k = record {
     dtype = sym c.node;
     asks = record {
-      leaves = λ cs p. tt;
+      leaves = λ at name k p. absurd p;
       rows = λ cs i p. table_typed op n a z b;
       places = λ p. tt;
     };

@@ -1,15 +1,17 @@
 -- Rewrites follow one another, and a rewrite of a child is one of its call.
 use Rattle.std.proofs.Common.{◌≡◌, ℕ, zero, suc, List, [], ◌∷◌, Some, refl, ap, ◌∙◌, subst}
+use Rattle.std.proofs.Math.Logic.{⊎_map}
 use Rattle.std.specs.Prelude.{slice_get, slice_set}
 use Rattle.std.specs.Option.{option_and_then}
+use Rattle.vortex_types.specs.LogicalTypes.{LogicalType}
 use Rattle.vortex_types.specs.Values.{Value}
 use Rattle.vortex_columns.specs.ColumnView.{ColumnView}
 use Rattle.vortex_meaning.specs.Meaning.{Meaning}
 use Rattle.vortex_meaning.specs.Functions.{Function, function_means, call_type}
-use Rattle.vortex_meaning.specs.Trees.{Tree, call, Trees, tree, trees_of}
+use Rattle.vortex_meaning.specs.Trees.{place, Tree, call, Trees, tree, trees_of}
+use Rattle.vortex_meaning.specs.Leaves.{IsLeafIn}
 use Rattle.vortex_meaning.specs.Eval.{all_give, with_first, then_means, types_or_none, with_type}
 use Rattle.vortex_meaning.specs.Eval.{tree_types, eval, eval_all}
-use Rattle.vortex_meaning.specs.Execution.{AllLeavesFit}
 use Rattle.vortex_meaning.specs.Rules.{truth_constant}
 use Rattle.vortex_meaning.specs.Rewrites.{AllHaveRow, AsksNoMore, Rewrites}
 use Rattle.vortex_meaning.specs.Bound.{AllOnlyPlaces}
@@ -17,18 +19,19 @@ use Rattle.vortex_meaning.proofs.TypedCalls.{means_parts, values_parts}
 
 module _ {V O : Type 0} where
   pub asks_same : (t : Tree V O) → AsksNoMore t t
-  asks_same t = record { leaves = λ cs h. h; rows = λ cs i h. h; places = λ h. h }
+  asks_same t = record { leaves = λ p name k h. h; rows = λ cs i h. h; places = λ h. h }
 
   pub asks_trans : (t u v : Tree V O) → AsksNoMore t u → AsksNoMore u v → AsksNoMore t v
   asks_trans t u v a b = record {
-    leaves = λ cs h. b.leaves cs (a.leaves cs h);
+    leaves = λ p name k h. a.leaves p name k (b.leaves p name k h);
     rows = λ cs i h. b.rows cs i (a.rows cs i h);
     places = λ h. b.places (a.places h);
   }
 
   -- a truth value asks nothing
   pub asks_nothing : (t : Tree V O) (n b : _) → AsksNoMore t (truth_constant n b)
-  asks_nothing t n b = record { leaves = λ cs h. tt; rows = λ cs i h. tt; places = λ h. tt }
+  asks_nothing t n b =
+      record { leaves = λ p name k h. absurd h; rows = λ cs i h. tt; places = λ h. tt }
 
   module _ (m : Meaning V O) where
     pub rewrites_same : (t : Tree V O) → Rewrites m t t
@@ -44,7 +47,8 @@ module _ {V O : Type 0} where
     -- the same of trees side by side
     pub record AllRewrite (ts us : Trees V O) : Type 0 where
       pub dtypes : tree_types m us ≡ tree_types m ts
-      pub leaves : (cs : List ColumnView) → AllLeavesFit cs ts → AllLeavesFit cs us
+      pub leaves : (p : ℕ) (name : List ℕ) (k : LogicalType) → IsLeafIn (place p name k) us
+          → IsLeafIn (place p name k) ts
       pub rows : (cs : List ColumnView) (i : ℕ) → AllHaveRow cs i ts → AllHaveRow cs i us
       pub places : AllOnlyPlaces ts → AllOnlyPlaces us
       pub values : (cs : List ColumnView) (i : ℕ) (ws : List Value) → AllHaveRow cs i ts
@@ -53,7 +57,7 @@ module _ {V O : Type 0} where
     pub all_same : (ts : Trees V O) → AllRewrite ts ts
     all_same ts = record {
       dtypes = refl;
-      leaves = λ cs h. h;
+      leaves = λ p name k h. h;
       rows = λ cs i h. h;
       places = λ h. h;
       values = λ cs i ws p e. e;
@@ -63,7 +67,7 @@ module _ {V O : Type 0} where
         → AllRewrite (tree t ts) (tree u us)
     all_rewrite t u ts us a b = record {
       dtypes = λ j. with_type (a.dtype j) (b.dtypes j);
-      leaves = λ cs h. (a.asks.leaves cs h.0, b.leaves cs h.1);
+      leaves = λ p name k h. ⊎_map (a.asks.leaves p name k) (b.leaves p name k) h;
       rows = λ cs i h. (a.asks.rows cs i h.0, b.rows cs i h.1);
       places = λ h. (a.asks.places h.0, b.places h.1);
       values = λ cs i ws p e.

@@ -16,6 +16,7 @@ use Rattle.vortex_meaning.specs.Rewrites.{LeafHasRow, HasRow, AllHaveRow, Rewrit
 use Rattle.vortex_meaning.specs.Made.{IsMadeLeaf, IsMade, AllMade}
 use Rattle.vortex_meaning.specs.Places.{rewritten_list}
 use Rattle.vortex_meaning.specs.Driver.{Runs}
+use Rattle.vortex_meaning.proofs.Leaves.{leaves_still_fit}
 use Rattle.vortex_meaning.proofs.Driving.{rewritten_list_sound, runs_sound}
 
 -- columns of one length have it each
@@ -84,7 +85,7 @@ module _ {V O : Type 0} (m : Meaning V O) (cs : List ColumnView) (n : ℕ) where
   rewritten_executes t u c a typed made k =
       let rows = λ (i : ℕ) (lt : i < n). fitting_row cs n k.lengths typed t i lt k.fit made in
       record {
-        fit = a.asks.leaves cs k.fit;
+        fit = leaves_still_fit cs t u a.asks k.fit;
         lengths = k.lengths;
         rows = rewritten_rows t u c a rows k.rows;
       }

@@ -1,7 +1,9 @@
--- The rule table at work: what it answers for some trees, each by computing.
-use Rattle.std.proofs.Common.{◌≡◌, true, false, [], ◌∷◌, Some, None, refl}
+-- The rule table at work: what it answers for some trees, each by computing; and what is no
+-- rewrite.
+use Rattle.std.proofs.Common.{◌≡◌, ℕ, List, true, false, [], ◌∷◌, Some, None, refl}
 use Rattle.vortex_types.specs.declared.dtype.PType.TheVariants.{I32}
-use Rattle.vortex_types.specs.LogicalTypes.{null_type, bool_type, integer_type, text_type}
+use Rattle.vortex_types.specs.LogicalTypes.{LogicalType, null_type, bool_type, integer_type}
+use Rattle.vortex_types.specs.LogicalTypes.{text_type}
 use Rattle.vortex_types.specs.Values.{null, truth}
 use Rattle.vortex_columns.specs.ColumnView.{ColumnView}
 use Rattle.vortex_columns.specs.ValidityView.{ValidityForm, non_nullable, all_valid, all_invalid}
@@ -16,6 +18,7 @@ use Rattle.vortex_meaning.specs.Trees.{place, held, Tree, leaf, constant, call, 
 use Rattle.vortex_meaning.specs.ComparisonTrees.{negated, operated}
 use Rattle.vortex_meaning.specs.Rules.{Rules, truth_constant, is_null_of, is_not_null_of, cast_of}
 use Rattle.vortex_meaning.specs.ValidityRules.{all_of, validity}
+use Rattle.vortex_meaning.specs.Rewrites.{Rewrites}
 use Rattle.vortex_meaning.specs.ReduceRules.{reduce}
 use Rattle.vortex_meaning.specs.SimplifyRules.{simplify}
 
@@ -195,3 +198,11 @@ module _ {V O : Type 0} (m : Meaning V O) (r : Rules V O) where
 
   two_nulls : simplify m r (operated Or no_truth no_truth) ≡ Some no_truth
   two_nulls = refl
+
+  -- a place of another name is no rewrite
+  of_other_name : (p : ℕ) (a b : List ℕ) (k : LogicalType) → ¬ (a ≡ b)
+      → ¬ Rewrites m (leaf (place p a k)) (leaf (place p b k))
+  of_other_name p a b k other h =
+      let same : place p b k ≡ place p a k = h.asks.leaves p b k refl in
+      let names : a ≡ b = cc in
+      other names

@@ -120,7 +120,11 @@ module _ {V O : Type 0} (m : Meaning V O) where
         let null_here = types two.0 two.1 two.2 two.3 nulls in
         let nullable = or_either (is_nullable two.0) (is_nullable two.1) null_here in
         sym (h ∙ ap Some (sym is) ∙ ap (λ n. Some (bool_type n)) nullable);
-    asks = record { leaves = λ cs k. tt; rows = λ cs i k. refl; places = λ k. tt };
+    asks = record {
+      leaves = λ at name k is. absurd is;
+      rows = λ cs i k. refl;
+      places = λ k. tt;
+    };
     value = λ cs i w p e.
         let q = two_values m cs i (ours (Binary (operator_of op))) x y w e in
         let ts = types_or_none (tree_types m (tree x (tree y no_trees))) in

@@ -1,6 +1,7 @@
 -- The validity of a node says in which rows it is null.
 use Rattle.std.proofs.Common.{◌≡◌, ℕ, suc, ◌<◌, Bool, true, false, not, List, [], ◌∷◌, length}
-use Rattle.std.proofs.Common.{Option, Some, None, refl, sym, ap, ◌∙◌, subst, arith}
+use Rattle.std.proofs.Common.{Option, Some, None, refl, sym, ap, ◌∙◌, subst, arith, inl, inr}
+use Rattle.std.proofs.Common.{⊎_elim}
 use Rattle.std.specs.Prelude.{◌&&◌, if◌then◌else◌, Any}
 use Rattle.std.specs.List.{list_any}
 use Rattle.std.proofs.lemmas.List.{get_or-map, length-map}
@@ -24,10 +25,10 @@ use Rattle.vortex_meaning.specs.Meaning.{Meaning, Lawful, HaveTypes, AreAlike}
 use Rattle.vortex_meaning.specs.Shipped.{Binary, IsNotNull}
 use Rattle.vortex_meaning.specs.Functions.{Function, ours, custom, function_type, function_means}
 use Rattle.vortex_meaning.specs.Functions.{function_strict}
-use Rattle.vortex_meaning.specs.Trees.{place, held, Tree, leaf, constant, call, Trees, no_trees}
-use Rattle.vortex_meaning.specs.Trees.{tree}
+use Rattle.vortex_meaning.specs.Trees.{Leaf, place, held, Tree, leaf, constant, call, Trees}
+use Rattle.vortex_meaning.specs.Trees.{no_trees, tree}
+use Rattle.vortex_meaning.specs.Leaves.{IsLeafOf, IsLeafIn}
 use Rattle.vortex_meaning.specs.Eval.{all_give, tree_type, tree_types, eval, eval_all}
-use Rattle.vortex_meaning.specs.Execution.{LeavesFit, AllLeavesFit}
 use Rattle.vortex_meaning.specs.ComparisonTrees.{operated}
 use Rattle.vortex_meaning.specs.Rules.{Rules, no_rules, truth_constant, is_not_null_of, may_be_null}
 use Rattle.vortex_meaning.specs.Rules.{is_nullable_tree}
@@ -42,6 +43,7 @@ use Rattle.vortex_meaning.proofs.TypedCalls.{types_parts, values_parts, typed_ca
 use Rattle.vortex_meaning.proofs.TypedCalls.{type_of_two, call_value, eval_one}
 use Rattle.vortex_meaning.proofs.TypedValues.{function_typed, function_alike, function_null}
 use Rattle.vortex_meaning.proofs.TypedValues.{values_typed}
+use Rattle.vortex_meaning.proofs.Leaves.{in_one, in_two}
 use Rattle.vortex_meaning.proofs.Rewriting.{asks_nothing}
 use Rattle.vortex_meaning.proofs.BooleanCalls.{eval_bool}
 use Rattle.vortex_meaning.proofs.JoinedByAnd.{AllSay, all_of_says}
@@ -159,12 +161,12 @@ module _ {V O : Type 0} (m : Meaning V O) where
       each_test (λ u. tree_type m u ≡ Some (bool_type false)) t (null_tests m ts)
       (is_nullable_tree m t) (type_of_one m (ours IsNotNull) t a.0 a.2) (tests_typed ts a.1 a.3)
 
-  tests_fit : (cs : List ColumnView) (ts : Trees V O) → AllLeavesFit cs ts
-      → AllSay (λ u p. LeavesFit cs u) (null_tests m ts) true
-  tests_fit cs no_trees h = refl
-  tests_fit cs (tree t ts) h =
-      each_test (LeavesFit cs) t (null_tests m ts) (is_nullable_tree m t) (h.0, tt)
-      (tests_fit cs ts h.1)
+  tests_leaves : (l : Leaf) (Q : Type 0) (ts : Trees V O) → (IsLeafIn l ts → Q)
+      → AllSay (λ u p. IsLeafOf l u → Q) (null_tests m ts) true
+  tests_leaves l Q no_trees h = refl
+  tests_leaves l Q (tree t ts) h =
+      each_test (λ u. IsLeafOf l u → Q) t (null_tests m ts) (is_nullable_tree m t)
+      (λ is. h (inl (in_one is))) (tests_leaves l Q ts (λ is. h (inr is)))
 
   tests_have_row : (cs : List ColumnView) (i : ℕ) (ts : Trees V O) → AllHaveRow cs i ts
       → AllSay (λ u p. HasRow cs i u) (null_tests m ts) true
@@ -230,9 +232,11 @@ module _ {V O : Type 0} (m : Meaning V O) where
   union_asks : (f : Function V O) (ts : Trees V O)
       → AsksNoMore (call f ts) (union_child_validities m ts)
   union_asks f ts = record {
-    leaves = λ cs h.
-        all_of_says (λ u p. LeavesFit cs u) (λ t u p q a b. (a, (b, tt))) tt (null_tests m ts) true
-        (tests_fit cs ts h);
+    leaves = λ p name k h.
+        let l = place p name k in
+        all_of_says (λ u b. IsLeafOf l u → IsLeafIn l ts)
+        (λ t u b c one other is. ⊎_elim one other (in_two is)) (λ is. absurd is) (null_tests m ts)
+        true (tests_leaves l (IsLeafIn l ts) ts (λ is. is)) h;
     rows = λ cs i h.
         all_of_says (λ u p. HasRow cs i u) (λ t u p q a b. (a, (b, tt))) tt (null_tests m ts) true
         (tests_have_row cs i ts h);
@@ -335,7 +339,7 @@ module _ {V O : Type 0} (m : Meaning V O) where
     array_sound c = record {
       dtype = refl;
       asks = record {
-        leaves = λ cs h. tt;
+        leaves = λ p name k is. cc;
         rows = λ cs i h. validity_row c i h;
         places = λ h. absurd h;
       };

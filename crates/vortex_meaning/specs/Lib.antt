@@ -16,6 +16,7 @@ pub mod ValidityRules
 pub mod ReduceRules
 pub mod SimplifyRules
 pub mod Bound
+pub mod Leaves
 pub mod Rewrites
 pub mod Made
 pub mod Weights

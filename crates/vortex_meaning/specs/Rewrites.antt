@@ -10,8 +10,8 @@ use Rattle.vortex_meaning.specs.Meaning.{Meaning}
 use Rattle.vortex_meaning.specs.Functions.{custom}
 use Rattle.vortex_meaning.specs.Trees.{Leaf, place, held, Tree, leaf, constant, call, Trees}
 use Rattle.vortex_meaning.specs.Trees.{no_trees, tree}
+use Rattle.vortex_meaning.specs.Leaves.{IsLeafOf}
 use Rattle.vortex_meaning.specs.Eval.{leaf_value, tree_type, eval}
-use Rattle.vortex_meaning.specs.Execution.{LeavesFit}
 use Rattle.vortex_meaning.specs.Rules.{Rules}
 use Rattle.vortex_meaning.specs.Bound.{OnlyPlaces}
 
@@ -38,10 +38,12 @@ abbrev mutual
   AllHaveRow cs i no_trees = ⊤
   AllHaveRow cs i (tree t ts) = HasRow cs i t × AllHaveRow cs i ts
 
--- the new tree asks no more of columns: where they fit the old one's leaves they fit its own, and
--- so in each row; and it holds no column where the old one holds none
+-- The new tree asks no more of columns: each place in a scope that is a leaf of it is one of the
+-- old tree, of the same name and type; in each row in which the old one's leaves and constants have
+-- values of their types, its own have; and it holds no column where the old one holds none.
 pub record AsksNoMore {V O : Type 0} (t u : Tree V O) : Type 0 where
-  pub leaves : (cs : List ColumnView) → LeavesFit cs t → LeavesFit cs u
+  pub leaves : (p : ℕ) (name : List ℕ) (k : LogicalType) → IsLeafOf (place p name k) u
+      → IsLeafOf (place p name k) t
   pub rows : (cs : List ColumnView) (i : ℕ) → HasRow cs i t → HasRow cs i u
   pub places : OnlyPlaces t → OnlyPlaces u
 
