@@ -1,2 +1,5 @@
-pub mod Fields
 pub mod Batches
+pub mod Fields
+pub mod Kept
+pub mod Records
+pub mod Scanning

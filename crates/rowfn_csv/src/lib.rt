@@ -3,6 +3,7 @@
 
 pub mod batch;
 pub mod format;
+pub mod laws;
 pub mod quoting;
 mod raw;
 pub mod rows;

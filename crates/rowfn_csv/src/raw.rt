@@ -1,7 +1,12 @@
 //! What the bytes of a record tell beyond its fields: which fields stand in quotes, and whether the
 //! last quote is closed.
+ghost use Rattle.std.specs.Prelude.{◌≡◌, ◌≢◌, List, Bool, true, false, map, OnOk, IfOk};
+ghost use Rattle.rowfn_csv.specs.Records.{Field, SaysFields, is_quoted, quoted_at};
+ghost use Rattle.rowfn_csv.specs.Records.{without_line_end};
+ghost use Rattle.rowfn_csv.specs.Scanning.{place_behind, AreMarks, Knows};
 
-use std::alloc::AllocError;
+use memchr::memchr;
+use std::alloc::{AllocError, Global};
 
 /// Where a byte of a record stands.
 #[derive(Clone, Copy, PartialEq, Eq)]
@@ -22,7 +27,9 @@ fn ends_line(byte: u8) -> bool {
 }
 
 /// Where the byte behind this one stands, in the same record.
-fn behind(place: Place, byte: u8, delimiter: u8) -> Place {
+fn behind(place: Place, byte: u8, delimiter: u8) -> Place
+    ensures { result ≡ place_behind delimiter place byte }
+{
     match place {
         Place::Quoted if byte == b'"' => Place::Closed,
         Place::Quoted => Place::Quoted,
@@ -41,13 +48,18 @@ pub fn without_blank_lines(raw: &[u8]) -> &[u8] {
 }
 
 /// The record without the end of its line.
-pub fn without_line_end(raw: &[u8]) -> &[u8] {
+pub fn without_line_end(raw: &[u8]) -> &[u8]
+    ensures { result.now ≡ without_line_end raw.now }
+{
     let raw = raw.strip_suffix(b"\n").unwrap_or(raw);
     raw.strip_suffix(b"\r").unwrap_or(raw)
 }
 
 /// Whether each quote of a record is closed, which begins with its first field.
-pub fn is_closed(raw: &[u8], delimiter: u8) -> bool {
+pub fn is_closed(raw: &[u8], delimiter: u8) -> bool
+    ensures { (closed : Bool) → (fields : List Field) → delimiter ≢ 34
+        → SaysFields delimiter closed raw.now fields → result ≡ closed }
+{
     let mut place = Place::Start;
     for byte in raw {
         place = behind(place, *byte, delimiter);
@@ -57,7 +69,11 @@ pub fn is_closed(raw: &[u8], delimiter: u8) -> bool {
 
 /// Tells of each field of a record whether it stands in quotes; the record begins with its first
 /// field. Refused only for want of memory.
-pub fn mark_quoted(raw: &[u8], delimiter: u8, marks: &mut Vec<bool>) -> Result<(), AllocError> {
+fn mark_quoted(raw: &[u8], delimiter: u8, marks: &mut Vec<bool>) -> Result<(), AllocError>
+    ensures { (closed : Bool) → (fields : List Field) → delimiter ≢ 34
+        → SaysFields delimiter closed raw.now fields
+        → OnOk result (marks.new.items ≡ map is_quoted fields) }
+{
     marks.clear();
     let mut place = Place::Start;
     for byte in raw {
@@ -70,4 +86,65 @@ pub fn mark_quoted(raw: &[u8], delimiter: u8, marks: &mut Vec<bool>) -> Result<(
         marks.push(false)?;
     }
     Ok(())
+}
+
+/// Which fields of a line stand in quotes: found out where it is asked for the first time.
+#[derive(Drop)]
+pub struct Quotes {
+    marks: Vec<bool>,
+    is_marked: bool,
+}
+
+impl Quotes {
+    /// Nothing is known yet; takes no memory.
+    pub fn new(alloc: Global) -> Quotes
+        ensures { result.is_marked ≡ false }
+    {
+        Quotes {
+            marks: Vec::new(alloc),
+            is_marked: false,
+        }
+    }
+
+    /// Another line is asked for from here on.
+    pub fn forget(&mut self)
+        ensures { self.new.is_marked ≡ false }
+    {
+        self.is_marked = false;
+    }
+
+    /// Marks the fields of a line.
+    fn mark(&mut self, line: &[u8], delimiter: u8) -> Result<(), AllocError>
+        ensures marks { OnOk result
+            (AreMarks delimiter (without_line_end line.now) self.new.marks.items) }
+        ensures kept { self.new.is_marked ≡ self.old.is_marked }
+    {
+        let raw = without_line_end(line);
+        if memchr(b'"', raw).is_none() {
+            self.marks.clear();
+            return Ok(());
+        }
+        mark_quoted(raw, delimiter, &mut self.marks)
+    }
+
+    /// Whether a field of a line stands in quotes. Refused only for want of memory.
+    #[inline(never)]
+    pub fn is_quoted(
+        &mut self,
+        line: &[u8],
+        delimiter: u8,
+        index: usize,
+    ) -> Result<bool, AllocError>
+        requires { Knows delimiter line.now self.old }
+        ensures knows { Knows delimiter line.now self.new }
+        ensures quoted { (closed : Bool) → (said : List Field) → delimiter ≢ 34
+            → SaysFields delimiter closed (without_line_end line.now) said
+            → IfOk result (λ is_quoted. is_quoted ≡ quoted_at said index) }
+    {
+        if !self.is_marked {
+            self.mark(line, delimiter)?;
+            self.is_marked = true;
+        }
+        Ok(self.marks.get(index).copied().unwrap_or(false))
+    }
 }

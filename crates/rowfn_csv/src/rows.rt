@@ -1,8 +1,17 @@
 //! The records of the input, one at a time, each with its bytes.
+ghost use Rattle.std.specs.Prelude.{◌≡◌, ◌≢◌, ◌∷◌, [], ◌++◌, ◌&&◌, Bool, not, List, map, OnOk};
+ghost use Rattle.std.specs.Prelude.{IfOk};
+ghost use Rattle.std.specs.Str.{bytes_eq};
+ghost use Rattle.csv.specs.Reading.{reader_source};
+ghost use Rattle.csv.specs.Records.{fields_of, field_at};
+ghost use Rattle.rowfn_csv.specs.Kept.{bytes_between, last_bytes, is_ended};
+ghost use Rattle.rowfn_csv.specs.Records.{Field, SaysFields, quoted_at, reads_null, field_taken};
+ghost use Rattle.rowfn_csv.specs.Records.{without_line_end};
+ghost use Rattle.rowfn_csv.specs.Scanning.{Knows};
 
 use crate::batch::Batch;
 use crate::format::Format;
-use crate::raw::{is_closed, mark_quoted, without_blank_lines, without_line_end};
+use crate::raw::{Quotes, is_closed, without_blank_lines, without_line_end};
 use crate::tee::Tee;
 use csv::{ByteRecord, Error, ErrorKind, Reader, ReaderBuilder};
 use std::alloc::{AllocError, Global};
@@ -29,11 +38,10 @@ pub enum ReadError {
 #[derive(Drop)]
 pub struct Rows<'a, R> {
     reader: Reader<Tee<R>>,
-    record: ByteRecord,
+    last: ByteRecord,
     span: Span,
     format: Format<'a>,
-    quoted: Vec<bool>,
-    is_marked: bool,
+    quotes: Quotes,
 }
 
 /// What is told of a read that failed. A call of its own, so that a row that is read has no room
@@ -54,8 +62,66 @@ fn without_mark(bytes: &[u8]) -> &[u8] {
 
 /// Whether a field is that text.
 #[inline(always)]
-fn is_text(field: &[u8], text: &[u8]) -> bool {
+fn is_text(field: &[u8], text: &[u8]) -> bool
+    ensures { result ≡ bytes_eq field.now text.now }
+{
     field.len() == text.len() && field == text
+}
+
+/// Whether a field of a record is the text that stands for null.
+#[inline(always)]
+fn reads_null(fields: &ByteRecord, null: &[u8], index: usize) -> bool
+    ensures { result ≡ reads_null null.now (field_at (fields_of fields.now) index) }
+{
+    match fields.get(index) {
+        Some(field) => is_text(field, null),
+        None => false,
+    }
+}
+
+/// Whether a field of a record says null: the text that stands for null, in no quotes. `line` has
+/// the record's bytes.
+#[inline(always)]
+fn is_null(
+    fields: &ByteRecord,
+    line: &[u8],
+    format: &Format<'_>,
+    quotes: &mut Quotes,
+    index: usize,
+) -> Result<bool, AllocError>
+    requires { Knows format.now.delimiter line.now quotes.old }
+    ensures knows { Knows format.now.delimiter line.now quotes.new }
+    ensures null { (closed : Bool) → (said : List Field) → format.now.delimiter ≢ 34
+        → SaysFields format.now.delimiter closed (without_line_end line.now) said
+        → IfOk result (λ is_null. is_null ≡ (reads_null format.now.null.now
+        (field_at (fields_of fields.now) index) && not (quoted_at said index))) }
+{
+    Ok(reads_null(fields, format.null, index) && !quotes.is_quoted(line, format.delimiter, index)?)
+}
+
+/// Adds the fields of a record at those places to the batch; an empty one where the record has none.
+/// `line` has the record's bytes. Refused only for want of memory.
+fn add_fields(
+    fields: &ByteRecord,
+    line: &[u8],
+    format: &Format<'_>,
+    quotes: &mut Quotes,
+    batch: &mut Batch,
+    places: &[usize],
+) -> Result<(), AllocError>
+    requires { Knows format.now.delimiter line.now quotes.old }
+    ensures fields { (closed : Bool) → (said : List Field) → format.now.delimiter ≢ 34
+        → SaysFields format.now.delimiter closed (without_line_end line.now) said
+        → OnOk result (batch.new.fields ≡ batch.old.fields
+        ++ map (field_taken format.now.null.now (fields_of fields.now) said) places.now) }
+    ensures spans { OnOk result (batch.new.spans ≡ batch.old.spans) }
+{
+    for place in places {
+        let is_null = is_null(fields, line, format, quotes, *place)?;
+        let field = fields.get(*place).unwrap_or(&[]);
+        batch.push_field(field, is_null)?;
+    }
+    Ok(())
 }
 
 impl<'a, R: Read> Rows<'a, R> {
@@ -68,19 +134,17 @@ impl<'a, R: Read> Rows<'a, R> {
             .from_reader(alloc, Tee::new(alloc, reader));
         Rows {
             reader,
-            record: ByteRecord::new(alloc),
+            last: ByteRecord::new(alloc),
             span: Span { start: 0, end: 0 },
             format,
-            quoted: Vec::new(alloc),
-            is_marked: false,
+            quotes: Quotes::new(alloc),
         }
     }
 
     /// Reads the next record, and tells whether there was one.
     pub fn read(&mut self) -> Result<bool, ReadError> {
-        self.is_marked = false;
         let start = self.reader.position().byte;
-        let found = match self.reader.read_byte_record(&mut self.record) {
+        let found = match self.reader.read_byte_record(&mut self.last) {
             Ok(found) => found,
             Err(error) => return Err(read_error(error)),
         };
@@ -112,8 +176,10 @@ impl<'a, R: Read> Rows<'a, R> {
     }
 
     /// The fields of the last record.
-    pub fn record(&self) -> &ByteRecord {
-        &self.record
+    pub fn record(&self) -> &ByteRecord
+        ensures { result.now ≡ self.now.last }
+    {
+        &self.last
     }
 
     /// Where the last record lies.
@@ -122,7 +188,9 @@ impl<'a, R: Read> Rows<'a, R> {
     }
 
     /// The bytes of a record that is still kept.
-    pub fn bytes(&self, span: Span) -> &[u8] {
+    pub fn bytes(&self, span: Span) -> &[u8]
+        ensures { result.now ≡ bytes_between (reader_source self.now.reader) span.start span.end }
+    {
         self.reader.get_ref().between(span.start, span.end)
     }
 
@@ -133,68 +201,39 @@ impl<'a, R: Read> Rows<'a, R> {
 
     /// Whether the last record ends within quotes: it then is the input's last, and no read behind
     /// it tells so.
-    pub fn is_open(&self) -> bool {
+    pub fn is_open(&self) -> bool
+        ensures { (closed : Bool) → (said : List Field) → self.now.format.delimiter ≢ 34
+            → SaysFields self.now.format.delimiter closed (last_bytes self.now) said
+            → result ≡ (is_ended self.now && not closed) }
+    {
         if !self.reader.get_ref().is_ended() {
             return false;
         }
-        !is_closed(self.bytes(self.span), self.format.delimiter)
-    }
-
-    /// Whether no byte of the last record is a quote that the fields lack.
-    fn has_no_quotes(&self) -> bool {
-        let separators = self.record.len().saturating_sub(1);
-        let plain = self.record.as_slice().len().saturating_add(separators);
-        let bytes = without_line_end(self.bytes(self.span));
-        bytes.len() == plain
-    }
-
-    /// Marks which fields of the last record stand in quotes; no mark is none.
-    fn mark(&mut self) -> Result<(), AllocError> {
-        self.quoted.clear();
-        self.is_marked = true;
-        if self.has_no_quotes() {
-            return Ok(());
-        }
-        let delimiter = self.format.delimiter;
-        let Span { start, end } = self.span;
-        let bytes = self.reader.get_ref().between(start, end);
-        mark_quoted(bytes, delimiter, &mut self.quoted)
-    }
-
-    /// Whether a field of the last record stands in quotes.
-    #[inline(never)]
-    fn is_quoted(&mut self, index: usize) -> Result<bool, AllocError> {
-        if !self.is_marked {
-            self.mark()?;
-        }
-        Ok(self.quoted.get(index).copied().unwrap_or(false))
-    }
-
-    /// Whether a field of the last record is the text that stands for null.
-    #[inline(always)]
-    fn reads_null(&self, index: usize) -> bool {
-        match self.record.get(index) {
-            Some(field) => is_text(field, self.format.null),
-            None => false,
-        }
-    }
-
-    /// Whether a field of the last record says null: the text that stands for null, in no quotes.
-    #[inline(always)]
-    fn is_null(&mut self, index: usize) -> Result<bool, AllocError> {
-        Ok(self.reads_null(index) && !self.is_quoted(index)?)
+        let raw = without_line_end(self.bytes(self.span));
+        !is_closed(raw, self.format.delimiter)
     }
 
     /// Adds the fields of the last record at those places to the batch, as a row; an empty one
     /// where the record has none. Refused only for want of memory.
-    pub fn add_to(&mut self, batch: &mut Batch, places: &[usize]) -> Result<(), AllocError> {
-        for place in places {
-            let is_null = self.is_null(*place)?;
-            match self.record.get(*place) {
-                Some(field) => batch.push_field(field, is_null)?,
-                None => batch.push_field(&[], is_null)?,
-            }
-        }
+    pub fn add_to(&mut self, batch: &mut Batch, places: &[usize]) -> Result<(), AllocError>
+        ensures fields { (closed : Bool) → (said : List Field) → self.old.format.delimiter ≢ 34
+            → SaysFields self.old.format.delimiter closed (last_bytes self.old) said
+            → OnOk result (batch.new.fields ≡ batch.old.fields
+            ++ map (field_taken self.old.format.null.now (fields_of self.old.last) said)
+            places.now) }
+        ensures spans { OnOk result (batch.new.spans ≡ batch.old.spans ++ (self.old.span ∷ [])) }
+    {
+        let Span { start, end } = self.span;
+        let line = self.reader.get_ref().between(start, end);
+        self.quotes.forget();
+        add_fields(
+            &self.last,
+            line,
+            &self.format,
+            &mut self.quotes,
+            batch,
+            places,
+        )?;
         batch.end_row(self.span)
     }
 }

@@ -18,6 +18,9 @@ pub struct Tee<R> {
 }
 
 impl<R: Read> Tee<R> {
+    ghost use Rattle.std.specs.Prelude.{◌≡◌};
+    ghost use Rattle.rowfn_csv.specs.Kept.{bytes_between};
+
     /// Nothing is read yet; takes no memory.
     pub fn new(alloc: Global, inner: R) -> Tee<R> {
         Tee {
@@ -37,12 +40,16 @@ impl<R: Read> Tee<R> {
     }
 
     /// Whether the reader below has told its end.
-    pub fn is_ended(&self) -> bool {
+    pub fn is_ended(&self) -> bool
+        ensures { result ≡ self.now.ended }
+    {
         self.ended
     }
 
     /// The bytes between two places of the input, without those that are no longer kept.
-    pub fn between(&self, start: u64, end: u64) -> &[u8] {
+    pub fn between(&self, start: u64, end: u64) -> &[u8]
+        ensures { result.now ≡ bytes_between self.now start end }
+    {
         let start = start.saturating_sub(self.first) as usize;
         let end = end.saturating_sub(self.first) as usize;
         self.kept.as_slice().get(start..end).unwrap_or(&[])

@@ -1,0 +1,25 @@
+-- The bytes of the last record that was read.
+use Rattle.std.specs.Prelude.{ℕ, List, [], Bool, ◌-◌, ◌&&◌, length, nat_le, slice_range}
+use Rattle.std.specs.Prelude.{if◌then◌else◌}
+use Rattle.csv.specs.Reading.{reader_source}
+use Rattle.rowfn_csv.specs.declared.tee.Tee.{Tee}
+use Rattle.rowfn_csv.specs.declared.rows.Rows.{Rows}
+use Rattle.rowfn_csv.specs.Records.{without_line_end}
+
+-- bytes from one place up to another; none where they do not reach so far
+abbrev pub part : List ℕ → ℕ → ℕ → List ℕ
+part bytes start end =
+    if nat_le start end && nat_le end (length bytes) then slice_range bytes start end else []
+
+-- those between two places of the input that are kept
+abbrev pub bytes_between : {R : Type 0} → Tee R → ℕ → ℕ → List ℕ
+bytes_between tee start end = part tee.kept.items (start - tee.first) (end - tee.first)
+
+-- the bytes of the last record, without the end of its line
+abbrev pub last_bytes : {R : Type 0} → Rows R → List ℕ
+last_bytes rows =
+    without_line_end (bytes_between (reader_source rows.reader) rows.span.start rows.span.end)
+
+-- whether the reader below has told its end
+abbrev pub is_ended : {R : Type 0} → Rows R → Bool
+is_ended rows = (reader_source rows.reader).ended
