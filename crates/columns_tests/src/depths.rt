@@ -103,7 +103,7 @@ fn values(alloc: Global) -> VortexResult<ScalarValue> {
 }
 
 /// A value and another behind it.
-fn pair(
+pub fn pair(
     alloc: Global,
     first: Option<ScalarValue>,
     last: Option<ScalarValue>,

@@ -10,6 +10,8 @@ mod depths;
 #[cfg(test)]
 mod errors;
 #[cfg(test)]
+mod levels;
+#[cfg(test)]
 mod order;
 #[cfg(test)]
 mod parts;

@@ -4,7 +4,7 @@
 
 use crate::seen::Tally;
 use crate::trees::CLOSED;
-use fixtures::{Made, bools, yes};
+use fixtures::{Made, bools, boxed, fields, yes};
 use std::alloc::Global;
 use std::borrow::Cow;
 use tree_fixtures::makers::*;
@@ -125,17 +125,47 @@ fn takes_views(alloc: Global) -> VortexResult<bool> {
     Ok(yes(values.map(|values| values.len() == 1)))
 }
 
-/// Whether texts are compared, as a scalar is made of each.
-fn compares(alloc: Global) -> VortexResult<bool> {
-    let (left, right) = (String::from_str(alloc, "a")?, String::from_str(alloc, "b")?);
+/// A list of two.
+fn list(alloc: Global, first: ScalarValue, second: ScalarValue) -> VortexResult<ScalarValue> {
+    let mut items = Vec::new(alloc);
+    items.push(Some(first))?;
+    items.push(Some(second))?;
+    Ok(ScalarValue::List(items))
+}
+
+/// A record of two lists, of which the second has that truth value last.
+fn record(alloc: Global, last: bool) -> VortexResult<ScalarValue> {
+    let first = list(alloc, ScalarValue::Bool(true), ScalarValue::Bool(true))?;
+    let second = list(alloc, ScalarValue::Bool(true), ScalarValue::Bool(last))?;
+    list(alloc, first, second)
+}
+
+/// The type of such records.
+fn record_type(alloc: Global) -> VortexResult<DType> {
+    let first = DType::List(boxed(alloc, DType::Bool(NO))?, NO);
+    let second = DType::List(boxed(alloc, DType::Bool(NO))?, NO);
+    Ok(DType::Struct(fields(alloc, ("a", "b"), (first, second))?, NO))
+}
+
+/// Such a record, and its type.
+fn typed_record(alloc: Global, last: bool) -> VortexResult<(DType, ScalarValue)> {
+    Ok((record_type(alloc)?, record(alloc, last)?))
+}
+
+/// Whether records are typed, their types told to be equal, and they themselves compared.
+fn compares(
+    left: VortexResult<(DType, ScalarValue)>,
+    right: VortexResult<(DType, ScalarValue)>,
+) -> VortexResult<bool> {
+    let (left, right) = (left?, right?);
     Ok(yes(is_below(left, right)))
 }
 
-fn is_below(left: String, right: String) -> VortexResult<bool> {
-    let left = Scalar::try_new(DType::Utf8(NO), Some(ScalarValue::Utf8(left)))?;
-    let right = Scalar::try_new(DType::Utf8(NO), Some(ScalarValue::Utf8(right)))?;
+fn is_below(left: (DType, ScalarValue), right: (DType, ScalarValue)) -> VortexResult<bool> {
+    let left = Scalar::try_new(left.0, Some(left.1))?;
+    let right = Scalar::try_new(right.0, Some(right.1))?;
     let answer = scalar_cmp(&left, &right, CompareOperator::Lt)?;
-    Ok(answer.as_bool_opt() == Some(true))
+    Ok(*left.dtype() == *right.dtype() && answer.as_bool_opt() == Some(true))
 }
 
 /// The types that functions return.
@@ -166,8 +196,8 @@ fn ask_types(alloc: Global, tally: &mut Tally) {
     tally.note(call, returns(alloc, function, two_utf8s(alloc), YES));
 }
 
-/// `BitBuffer::new` is the last call of all: `tools/scarce_memory --wrong` refuses the last
-/// allocation.
+/// What the last two calls are handed is made before `BitBuffer::new` is called, so that the last
+/// allocation of all is not theirs: `tools/scarce_memory` refuses it, and they show it where it is.
 pub fn ask(alloc: Global, tally: &mut Tally) {
     let column = bools(alloc, &[true, false]);
     let leaf_alone = leaf_of::<NoCustom>(alloc, DType::Bool(NO));
@@ -179,7 +209,8 @@ pub fn ask(alloc: Global, tally: &mut Tally) {
         "VecExecutionArgs::get",
         finds(alloc, bools(alloc, &[true, false])),
     );
-    tally.note("scalar_cmp", compares(alloc));
     tally.note("BinaryViews::try_new", takes_views(alloc));
+    let (left, right) = (typed_record(alloc, false), typed_record(alloc, true));
     tally.note("BitBuffer::new", takes_bits(alloc));
+    tally.note("scalar_cmp", compares(left, right));
 }

@@ -11,10 +11,13 @@ ghost use Rattle.vortex_columns.specs.SingleValue.{single_value};
 mod order;
 
 use crate::column::Column;
-use order::Comparing;
 use std::alloc::Global;
 use std::cmp::Ordering;
 use vortex_types::{ScalarValue, VortexResult};
+
+/// How many levels of a value go by calls within calls: more than values are known to have, in less
+/// than a megabyte of stack.
+pub(crate) const LEVELS: usize = 1_000;
 
 /// A value, or null, that is read where it lies. Takes no memory.
 #[derive(Clone, Copy)]
@@ -139,23 +142,14 @@ impl Cell<'_> {
     }
 
     /// The order of two values: of two lists that of the first values that differ, and else the
-    /// shorter one is less. Takes no memory but for lists that stand in a list before its last
-    /// value: what is around them is kept in memory, or on the stack where memory is refused.
+    /// shorter one is less. Takes no memory down to a thousand levels. What is around lists that
+    /// stand deeper is kept in memory, or on the stack where memory is refused.
     pub fn compare(&self, other: &Cell<'_>) -> Ordering
         requires self_whole { IsCell self.now }
         requires other_whole { IsCell other.now }
         ensures { result ≡ compare_values (cell_value self.now) (cell_value other.now) }
     {
-        if let (Cell::Sequence(left), Cell::Sequence(right)) = (*self, *other) {
-            let pair = Comparing {
-                left,
-                right,
-                next: 0,
-                on_equal: Ordering::Equal,
-            };
-            return pair.order();
-        }
-        self.compare_single(other)
+        self.compare_within(other, LEVELS)
     }
 }
 

@@ -1,4 +1,6 @@
-//! Whether values have types.
+//! Whether values have types: by calls within calls, which take no memory, down to a depth. The
+//! sequences around what lies deeper stand in a list, so that it takes no more stack; where that
+//! list cannot grow, calls go on.
 ghost use Rattle.std.specs.Prelude.{◌≡◌, ◌↔◌, ◌<◌, ◌++◌, [], ◌∷◌, IsTrue, All, MatchOption};
 ghost use Rattle.vortex_columns.specs.Words.{cell_value, sequence_value, sequence_values};
 ghost use Rattle.vortex_columns.specs.Words.{IsCell, IsSequence, HasType, type_of};
@@ -6,7 +8,7 @@ ghost use Rattle.vortex_columns.specs.Shapes.{shape_type};
 ghost use Rattle.vortex_columns.specs.Questions.{HasSingleType, IsMadeOf, part_type, frames_in};
 ghost use Rattle.vortex_columns.specs.Questions.{LiesBehind, IsAsking, IsOpened, asked_count};
 
-use crate::cell::{Cell, Sequence};
+use crate::cell::{Cell, LEVELS, Sequence};
 use crate::value_text::Shape;
 use vortex_types::DType;
 
@@ -21,15 +23,24 @@ pub(crate) fn are_bytes(bytes: &[u8]) -> bool
 }
 
 impl Cell<'_> {
-    /// Whether the value has the type. How deep it nests takes no stack where the sequences around
-    /// find memory; what stands last in a sequence takes neither.
+    /// Whether the value has the type. Takes no memory down to a thousand levels. What is around
+    /// lists that stand deeper is kept in memory, or on the stack where memory is refused.
     pub fn has_type(&self, dtype: &DType) -> bool
         requires { IsCell self.now }
         ensures { IsTrue result ↔ HasType (type_of dtype.now) (cell_value self.now) }
     {
+        self.has_shape(Shape::Of(dtype), LEVELS)
+    }
+
+    /// The same of any shape, by as many calls within calls as there are levels.
+    #[cycle(has_shape)]
+    fn has_shape(&self, shape: Shape<'_>, levels: usize) -> bool
+        requires { IsCell self.now }
+        ensures { IsTrue result ↔ HasType (shape_type shape.entry) (cell_value self.now) }
+    {
         match self {
-            Cell::Sequence(values) => has_shape(values, Shape::Of(dtype)),
-            _ => self.has_single_type(Shape::Of(dtype)),
+            Cell::Sequence(values) => values.have_shape(shape, levels),
+            _ => self.has_single_type(shape),
         }
     }
 
@@ -147,43 +158,67 @@ fn take_last<'a, 't>(above: &mut Option<Vec<Asking<'a, 't>>>) -> Option<Asking<'
     }
 }
 
-/// Whether the values are a value of the type. The sequences around one that is being asked stand
-/// in a list: how deep they nest takes no stack. Where the list cannot grow, the value is asked by
-/// a call.
-fn has_shape(root: &Sequence<'_>, shape: Shape<'_>) -> bool
-    requires { IsSequence root.now }
-    ensures { IsTrue result ↔ HasType (shape_type shape.entry) (sequence_value root.now) }
-{
-    let Some(mut here) = Asking::open(root, shape) else {
-        return false;
-    };
-    let mut above = None;
-    loop {
-        if here.next < here.values.len() {
-            let cell = here.values.get(here.next);
+impl Sequence<'_> {
+    /// Whether the values are a value of the type, by as many calls within calls as there are levels.
+    #[cycle(has_shape)]
+    fn have_shape(&self, shape: Shape<'_>, levels: usize) -> bool
+        requires { IsSequence self.now }
+        ensures { IsTrue result ↔ HasType (shape_type shape.entry) (sequence_value self.now) }
+    {
+        if levels == 0 {
+            return self.have_shape_by_list(shape);
+        }
+        let Some(mut here) = Asking::open(self, shape) else {
+            return false;
+        };
+        while here.next < here.values.len() {
             let wanted = here.next_shape();
-            here.next += 1;
-            match cell {
-                Cell::Sequence(inner) => {
-                    let Some(opened) = Asking::open(&inner, wanted) else {
-                        return false;
-                    };
-                    if here.lay_by(&mut above) {
-                        here = opened;
-                    } else if !has_shape(&inner, wanted) {
-                        return false;
-                    }
-                }
-                single => {
-                    if !single.has_single_type(wanted) {
-                        return false;
-                    }
-                }
+            if !here.values.get(here.next).has_shape(wanted, levels - 1) {
+                return false;
             }
-        } else {
-            match take_last(&mut above) {
-                Some(outer) => here = outer,
-                None => return true,
+            here.next += 1;
+        }
+        true
+    }
+
+    /// Whether the values are a value of the type. The sequences around one that is being asked
+    /// stand in a list. Where it cannot grow, the value is asked by calls.
+    #[cycle(has_shape)]
+    fn have_shape_by_list(&self, shape: Shape<'_>) -> bool
+        requires { IsSequence self.now }
+        ensures { IsTrue result ↔ HasType (shape_type shape.entry) (sequence_value self.now) }
+    {
+        let Some(mut here) = Asking::open(self, shape) else {
+            return false;
+        };
+        let mut above = None;
+        loop {
+            if here.next < here.values.len() {
+                let cell = here.values.get(here.next);
+                let wanted = here.next_shape();
+                here.next += 1;
+                match cell {
+                    Cell::Sequence(inner) => {
+                        let Some(opened) = Asking::open(&inner, wanted) else {
+                            return false;
+                        };
+                        if here.lay_by(&mut above) {
+                            here = opened;
+                        } else if !inner.have_shape(wanted, LEVELS) {
+                            return false;
+                        }
+                    }
+                    single => {
+                        if !single.has_single_type(wanted) {
+                            return false;
+                        }
+                    }
+                }
+            } else {
+                match take_last(&mut above) {
+                    Some(outer) => here = outer,
+                    None => return true,
+                }
             }
         }
     }

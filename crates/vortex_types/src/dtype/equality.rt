@@ -4,7 +4,7 @@ ghost use Rattle.vortex_types.specs.TypeEquality.{alike_types};
 ghost use Rattle.vortex_types.specs.Agreement.{nulls_agree, types_agree, fields_agree};
 ghost use Rattle.vortex_types.specs.Agreement.{leaves_agree};
 
-use super::pairs::{Pair, Pairs};
+use super::pairs::{LEVELS, Pair, Pairs};
 use super::{DType, Nullability, StructFields};
 use std::alloc::Global;
 
@@ -71,10 +71,9 @@ impl DType {
     ghost use Rattle.vortex_types.specs.TypeCopies.{HasParts};
     ghost use Rattle.vortex_types.specs.TypeOf.{type_of};
 
-    /// Whether the types agree: nullability counts where they are to agree exactly. The types
-    /// inside are compared by a list of pairs, so that depth takes no stack; lists within lists
-    /// need no memory. Where that list cannot grow, a call compares what it has no place for.
-    #[cycle(agree)]
+    /// Whether the types agree: nullability counts where they are to agree exactly. Takes no memory
+    /// down to a thousand levels. What lies deeper stands in a list, and takes stack where that
+    /// cannot grow; of a type that is made of one other at each level, it takes neither.
     pub(super) fn agrees(&self, other: &DType, exactly: bool) -> bool
         ensures { result ≡ types_agree exactly (type_of self.now) (type_of other.now) }
     {
@@ -128,6 +127,6 @@ impl StructFields {
         ensures { result ≡ fields_agree exactly (struct_fields self.now) (struct_fields other.now) }
     {
         let mut pairs = Pairs::new(*self.fields.allocator());
-        pairs.put_fields(self, other, exactly) && pairs.agree(exactly)
+        pairs.put_fields(self, other, exactly, LEVELS) && pairs.agree(exactly)
     }
 }

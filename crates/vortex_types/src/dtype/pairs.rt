@@ -1,5 +1,5 @@
-//! Types compared by a list of pairs that are still to be compared, so that no depth of a type
-//! takes stack.
+//! Types compared by calls within calls, which take no memory, down to a depth. What lies deeper is
+//! put to a list of pairs that are still to be compared, so that it takes no more stack.
 ghost use Rattle.std.specs.Prelude.{◌≡◌, ◌<◌, ◌≤◌, ◌+◌, ◌∷◌, ◌++◌, [], ◌&&◌, MatchOption};
 ghost use Rattle.vortex_types.specs.Agreement.{types_agree, fields_agree};
 ghost use Rattle.vortex_types.specs.TypeOf.{type_of, struct_fields};
@@ -8,6 +8,10 @@ ghost use Rattle.vortex_types.specs.TypePairs.{all_agree, pair_agrees, waiting, 
 
 use crate::dtype::{DType, StructFields};
 use std::alloc::Global;
+
+/// How many levels of a type go by calls within calls: more than types are known to have, in less
+/// than a megabyte of stack.
+pub(super) const LEVELS: usize = 1_000;
 
 /// A type, and another with which it is to agree.
 #[derive(Clone, Copy)]
@@ -56,23 +60,22 @@ impl<'a> Pairs<'a> {
     }
 
     /// Whether every pair agrees.
-    #[cycle(agree)]
     pub(super) fn agree(self, exactly: bool) -> bool
         ensures { result ≡ all_agree exactly (waiting self.entry) }
     {
         let mut pairs = self;
         while let Some(pair) = pairs.pop() {
-            if !pairs.step(pair, exactly) {
+            if !pairs.step(pair, exactly, LEVELS) {
                 return false;
             }
         }
         true
     }
 
-    /// Compares the pair but for the types inside, which are put to the pairs. False only where
-    /// some pair differs.
+    /// Compares the pair, but for types that lie deeper in it than so many levels, which are put to
+    /// the pairs. False only where some pair differs.
     #[cycle(agree)]
-    fn step(&mut self, pair: Pair<'a>, exactly: bool) -> bool
+    fn step(&mut self, pair: Pair<'a>, exactly: bool, levels: usize) -> bool
         ensures agree { (result && all_agree exactly (waiting self.new))
             ≡ (pair_agrees exactly pair.entry && all_agree exactly (waiting self.old)) }
         ensures fewer { weight_of (waiting self.new)
@@ -80,60 +83,65 @@ impl<'a> Pairs<'a> {
     {
         match (pair.own, pair.other) {
             (DType::Struct(fs, n), DType::Struct(gs, m)) => {
-                n.agrees(*m, exactly) && self.put_fields(fs, gs, exactly)
+                n.agrees(*m, exactly) && self.put_fields(fs, gs, exactly, levels)
             }
             (DType::List(t, n), DType::List(u, m)) => {
-                n.agrees(*m, exactly) && self.put(t, u, exactly)
+                n.agrees(*m, exactly) && self.put(t, u, exactly, levels)
             }
             (DType::FixedSizeList(t, s, n), DType::FixedSizeList(u, r, m)) => {
                 if *s != *r {
                     return false;
                 }
-                n.agrees(*m, exactly) && self.put(t, u, exactly)
+                n.agrees(*m, exactly) && self.put(t, u, exactly, levels)
             }
             (DType::Map(k, v, n), DType::Map(l, w, m)) => {
                 if !n.agrees(*m, exactly) {
                     return false;
                 }
-                self.put(k, l, exactly) && self.put(v, w, exactly)
+                self.put(k, l, exactly, levels) && self.put(v, w, exactly, levels)
             }
             // types made of no other, or of two kinds
             (own, other) => own.agrees_as_leaf(other, exactly),
         }
     }
 
-    /// One pair more. It is compared at once where the type is made of no other, and by a call
-    /// where there is no memory to keep it. False only where it differs.
+    /// One pair more. It is compared by a call where levels are left, at once where the type is made
+    /// of no other, and by calls again where there is no memory to keep it. False only where it
+    /// differs.
     #[cycle(agree)]
-    fn put(&mut self, own: &'a DType, other: &'a DType, exactly: bool) -> bool
+    fn put(&mut self, own: &'a DType, other: &'a DType, exactly: bool, levels: usize) -> bool
         ensures agree { (result && all_agree exactly (waiting self.new))
             ≡ (types_agree exactly (type_of own.now) (type_of other.now)
             && all_agree exactly (waiting self.old)) }
         ensures fewer { weight_of (waiting self.new)
             ≤ weight_of (waiting self.old) + type_weight own.now }
     {
+        let pair = Pair { own, other };
+        if levels > 0 {
+            return self.step(pair, exactly, levels - 1);
+        }
         if own.parts_allocator().is_none() {
             return own.agrees_as_leaf(other, exactly);
         }
-        let pair = Pair { own, other };
         if self.first.is_none() {
             self.first = Some(pair);
             return true;
         }
         match self.others.push(pair) {
             Ok(()) => true,
-            Err(_) => own.agrees(other, exactly),
+            Err(_) => self.step(pair, exactly, LEVELS),
         }
     }
 
-    /// The types of the fields as pairs. False only where a name or a pair differs, or the counts
-    /// of the fields.
+    /// The types of the fields as pairs, of which so many levels may be compared by calls. False only
+    /// where a name or a pair differs, or the counts of the fields.
     #[cycle(agree)]
     pub(super) fn put_fields(
         &mut self,
         own: &'a StructFields,
         other: &'a StructFields,
         exactly: bool,
+        levels: usize,
     ) -> bool
         ensures agree { (result && all_agree exactly (waiting self.new))
             ≡ (fields_agree exactly (struct_fields own.now) (struct_fields other.now)
@@ -150,7 +158,7 @@ impl<'a> Pairs<'a> {
             if field.0.as_str() != others.0.as_str() {
                 return false;
             }
-            if !self.put(&field.1, &others.1, exactly) {
+            if !self.put(&field.1, &others.1, exactly, levels) {
                 return false;
             }
         }

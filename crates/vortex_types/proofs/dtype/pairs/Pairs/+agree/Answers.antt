@@ -2,61 +2,35 @@ use Rattle.std.proofs.Common.{◌≡◌, ◌<◌, ◌+◌, ◌∷◌, ◌&&◌, 
 use Rattle.std.proofs.Common.{drop, refl, sym, ap, ◌∙◌, arith, rules}
 use Rattle.std.proofs.lemmas.Bool.{and_left, and_right, and_from, eq-eqb, ne_eqb}
 use Rattle.std.proofs.lemmas.List.{drop_more}
-use Rattle.std.proofs.lemmas.List.Sums.{sum_by_push}
 use Rattle.vortex_types.specs.Agreement.{nulls_agree, types_agree}
 use Rattle.vortex_types.specs.TypeOf.{type_of, struct_fields, allows_null}
 use Rattle.vortex_types.specs.TypeParts.{type_weight}
-use Rattle.vortex_types.specs.TypePairs.{all_agree, waiting, weight_of}
+use Rattle.vortex_types.specs.TypePairs.{all_agree, waiting}
 use Rattle.vortex_types.proofs.TypeViews.{struct_count}
 use Rattle.vortex_types.proofs.Agreeing.{struct_agrees, counts_refute, agree_from_end, names_refute}
 use Rattle.vortex_types.proofs.Agreeing.{types_refute, passed, part_differs, part_passed}
 use Rattle.vortex_types.proofs.CopySteps.{weights_at}
-use Rattle.vortex_types.proofs.PairSteps.{and_true, all_push, all_put, field_weighs_less}
+use Rattle.vortex_types.proofs.PairSteps.{all_put, field_weighs_less}
 use Rattle.vortex_types.proofs.PairSteps.{struct_pair, list_pair, fixed_pair, map_pair}
 use Rattle.vortex_types.proofs.PairSteps.{inside_alike, inside_differs}
-use Rattle.vortex_types.proofs.dtype.+agree.Goals as goal
+use Rattle.vortex_types.proofs.dtype.pairs.Pairs.+agree.Goals as goal
 
-pub DType::agrees-returns-in-Some : goal.DType::agrees-returns-in-Some
-DType::agrees-returns-in-Some t c =
-    c.agree.ensures ∙ ap (all_agree c.args.exactly) c.one.ensures ∙ and_true _
-
-pub pairs::Pairs::agree-returns-then-not-step : goal.pairs::Pairs::agree-returns-then-not-step
-pairs::Pairs::agree-returns-then-not-step t c =
-    c.if-not-step.ensures.agree
-    ∙ sym (all_push c.args.exactly (waiting c.pop.new.self) c.in-Some.pair)
-    ∙ sym (ap (all_agree c.args.exactly) c.in-Some.ensures)
-    ∙ c.loop-pair.invariant.0
-
-pub pairs::Pairs::agree-loop-pair-preserved : goal.pairs::Pairs::agree-loop-pair-preserved
-pairs::Pairs::agree-loop-pair-preserved t c = (
-  c.if-not-step.ensures.agree
-      ∙ sym (all_push c.args.exactly (waiting c.pop.new.self) c.in-Some.pair)
-      ∙ sym (ap (all_agree c.args.exactly) c.in-Some.ensures)
-      ∙ c.loop-pair.invariant.0,
-  omega (
-    arith,
-    c.step.ensures.fewer,
-    ap weight_of c.in-Some.ensures ∙ sum_by_push _ (waiting c.pop.new.self) c.in-Some.pair,
-    c.loop-pair.invariant.1,
-  ),
-)
-
-pub pairs::Pairs::put-returns-in-Ok-clause-agree : goal.pairs::Pairs::put-returns-in-Ok-clause-agree
-pairs::Pairs::put-returns-in-Ok-clause-agree t c =
+pub put-returns-in-Ok-clause-agree : goal.put-returns-in-Ok-clause-agree
+put-returns-in-Ok-clause-agree t c =
     all_put c.args.exactly c.args.self.now.first _ _ _ c.in-Ok.ensures.items
 
-pub pairs::Pairs::put_fields-returns-then-len-clause-agree :
-    goal.pairs::Pairs::put_fields-returns-then-len-clause-agree
-pairs::Pairs::put_fields-returns-then-len-clause-agree t c =
+pub put_fields-returns-then-len-clause-agree :
+    goal.put_fields-returns-then-len-clause-agree
+put_fields-returns-then-len-clause-agree t c =
     let a = struct_count c.args.own.now in
     let b = struct_count c.args.other.now in
     ap (λ b. b && all_agree c.args.exactly (waiting c.args.self.now))
     (counts_refute c.args.exactly (struct_fields c.args.own.now)
     (struct_fields c.args.other.now) (λ e. omega arith))
 
-pub pairs::Pairs::put_fields-returns-then-ne-clause-agree :
-    goal.pairs::Pairs::put_fields-returns-then-ne-clause-agree
-pairs::Pairs::put_fields-returns-then-ne-clause-agree t c =
+pub put_fields-returns-then-ne-clause-agree :
+    goal.put_fields-returns-then-ne-clause-agree
+put_fields-returns-then-ne-clause-agree t c =
     let e = c.args.exactly in
     let fs = c.args.own.now.fields.items in
     let gs = c.args.other.now.fields.items in
@@ -72,17 +46,17 @@ pairs::Pairs::put_fields-returns-then-ne-clause-agree t c =
     (ap (λ b. b && all_agree e (waiting c.args.self.now))
     (struct_agrees e c.args.own.now c.args.other.now))
 
-pub pairs::Pairs::put_fields-put-requires : goal.pairs::Pairs::put_fields-put-requires
-pairs::Pairs::put_fields-put-requires t c =
+pub put_fields-put-requires : goal.put_fields-put-requires
+put_fields-put-requires t c =
     let fs = c.args.own.now.fields.items in
     let f = c.index-field.result.now in
     let same : f ≡ get_or fs c.loop-k.k f = c.index-field.ensures in
     let less = field_weighs_less fs c.loop-k.k f (omega arith) in
     let weight = ap (λ g. type_weight g.1) same in search rules
 
-pub pairs::Pairs::put_fields-returns-then-not-put-clause-agree :
-    goal.pairs::Pairs::put_fields-returns-then-not-put-clause-agree
-pairs::Pairs::put_fields-returns-then-not-put-clause-agree t c =
+pub put_fields-returns-then-not-put-clause-agree :
+    goal.put_fields-returns-then-not-put-clause-agree
+put_fields-returns-then-not-put-clause-agree t c =
     let e = c.args.exactly in
     let fs = c.args.own.now.fields.items in
     let gs = c.args.other.now.fields.items in
@@ -96,8 +70,8 @@ pairs::Pairs::put_fields-returns-then-not-put-clause-agree t c =
     (ap (λ b. b && all_agree e (waiting c.args.self.now))
     (struct_agrees e c.args.own.now c.args.other.now))
 
-pub pairs::Pairs::put_fields-loop-k-preserved : goal.pairs::Pairs::put_fields-loop-k-preserved
-pairs::Pairs::put_fields-loop-k-preserved t c =
+pub put_fields-loop-k-preserved : goal.put_fields-loop-k-preserved
+put_fields-loop-k-preserved t c =
     let e = c.args.exactly in
     let fs = c.args.own.now.fields.items in
     let gs = c.args.other.now.fields.items in
@@ -116,9 +90,9 @@ pairs::Pairs::put_fields-loop-k-preserved t c =
       omega (arith, c.put.ensures.fewer, weights_at _ _ f at, c.loop-k.invariant.1),
     )
 
-pub pairs::Pairs::put_fields-returns-clause-agree :
-    goal.pairs::Pairs::put_fields-returns-clause-agree
-pairs::Pairs::put_fields-returns-clause-agree t c =
+pub put_fields-returns-clause-agree :
+    goal.put_fields-returns-clause-agree
+put_fields-returns-clause-agree t c =
     let e = c.args.exactly in
     let fs = c.args.own.now.fields.items in
     let gs = c.args.other.now.fields.items in
@@ -132,27 +106,27 @@ pairs::Pairs::put_fields-returns-clause-agree t c =
     (ap (λ b. b && all_agree e (waiting c.args.self.now))
     (struct_agrees e c.args.own.now c.args.other.now))
 
-pub pairs::Pairs::step-returns-then-agrees-clause-agree :
-    goal.pairs::Pairs::step-returns-then-agrees-clause-agree
-pairs::Pairs::step-returns-then-agrees-clause-agree t c =
+pub step-returns-then-agrees-clause-agree :
+    goal.step-returns-then-agrees-clause-agree
+step-returns-then-agrees-clause-agree t c =
     let s = c.in-Struct-Struct in
     inside_alike _ _ _ _ c.put_fields.ensures.agree c.if-agrees.ensures
     ∙ sym
     (ap (λ b. b && all_agree c.args.exactly (waiting c.args.self.now))
     (struct_pair c.args.exactly _ _ s.n s.m s.fs s.gs s.is-0 s.is-1))
 
-pub pairs::Pairs::step-returns-else-agrees-clause-agree :
-    goal.pairs::Pairs::step-returns-else-agrees-clause-agree
-pairs::Pairs::step-returns-else-agrees-clause-agree t c =
+pub step-returns-else-agrees-clause-agree :
+    goal.step-returns-else-agrees-clause-agree
+step-returns-else-agrees-clause-agree t c =
     let s = c.in-Struct-Struct in
     inside_differs _ _ _ _ c.agrees.ensures c.if-agrees.ensures
     ∙ sym
     (ap (λ b. b && all_agree c.args.exactly (waiting c.args.self.now))
     (struct_pair c.args.exactly _ _ s.n s.m s.fs s.gs s.is-0 s.is-1))
 
-pub pairs::Pairs::step-returns-then-agrees-2-clause-agree :
-    goal.pairs::Pairs::step-returns-then-agrees-2-clause-agree
-pairs::Pairs::step-returns-then-agrees-2-clause-agree t c =
+pub step-returns-then-agrees-2-clause-agree :
+    goal.step-returns-then-agrees-2-clause-agree
+step-returns-then-agrees-2-clause-agree t c =
     let s = c.in-List-List in
     inside_alike _ _ _ _ c.put.ensures.agree c.if-agrees-2.ensures
     ∙ sym
@@ -160,18 +134,18 @@ pairs::Pairs::step-returns-then-agrees-2-clause-agree t c =
     (list_pair c.args.exactly _ _ s.n s.m s.t s.u _ _ s.is-0 s.is-1 c.deref.ensures
     c.deref-then-agrees-2.ensures))
 
-pub pairs::Pairs::step-returns-else-agrees-2-clause-agree :
-    goal.pairs::Pairs::step-returns-else-agrees-2-clause-agree
-pairs::Pairs::step-returns-else-agrees-2-clause-agree t c =
+pub step-returns-else-agrees-2-clause-agree :
+    goal.step-returns-else-agrees-2-clause-agree
+step-returns-else-agrees-2-clause-agree t c =
     let s = c.in-List-List in
     inside_differs _ _ _ _ c.agrees-in-List-List.ensures c.if-agrees-2.ensures
     ∙ sym
     (ap (λ b. b && all_agree c.args.exactly (waiting c.args.self.now))
     (list_pair c.args.exactly _ _ s.n s.m s.t s.u _ _ s.is-0 s.is-1 refl refl))
 
-pub pairs::Pairs::step-returns-then-s-r-clause-agree :
-    goal.pairs::Pairs::step-returns-then-s-r-clause-agree
-pairs::Pairs::step-returns-then-s-r-clause-agree t c =
+pub step-returns-then-s-r-clause-agree :
+    goal.step-returns-then-s-r-clause-agree
+step-returns-then-s-r-clause-agree t c =
     let s = c.in-FixedSizeList-FixedSizeList in
     let differ = sym (and_left (nat_eq s.s s.r) _ (ne_eqb s.s s.r c.if-s-r.true)) in
     inside_differs _ _ _ false differ differ
@@ -179,9 +153,9 @@ pairs::Pairs::step-returns-then-s-r-clause-agree t c =
     (ap (λ b. b && all_agree c.args.exactly (waiting c.args.self.now))
     (fixed_pair c.args.exactly _ _ s.n s.m s.t s.u s.s s.r _ _ s.is-0 s.is-1 refl refl))
 
-pub pairs::Pairs::step-returns-then-agrees-3-clause-agree :
-    goal.pairs::Pairs::step-returns-then-agrees-3-clause-agree
-pairs::Pairs::step-returns-then-agrees-3-clause-agree t c =
+pub step-returns-then-agrees-3-clause-agree :
+    goal.step-returns-then-agrees-3-clause-agree
+step-returns-then-agrees-3-clause-agree t c =
     let s = c.in-FixedSizeList-FixedSizeList in
     let same : nat_eq s.s s.r ≡ true = eq-eqb s.s s.r c.if-s-r.false in
     inside_alike _ _ _ _ c.put-then-agrees-3.ensures.agree
@@ -191,9 +165,9 @@ pairs::Pairs::step-returns-then-agrees-3-clause-agree t c =
     (fixed_pair c.args.exactly _ _ s.n s.m s.t s.u s.s s.r _ _ s.is-0 s.is-1
     c.deref-then-agrees-3.ensures c.deref-then-agrees-3-2.ensures))
 
-pub pairs::Pairs::step-returns-else-agrees-3-clause-agree :
-    goal.pairs::Pairs::step-returns-else-agrees-3-clause-agree
-pairs::Pairs::step-returns-else-agrees-3-clause-agree t c =
+pub step-returns-else-agrees-3-clause-agree :
+    goal.step-returns-else-agrees-3-clause-agree
+step-returns-else-agrees-3-clause-agree t c =
     let s = c.in-FixedSizeList-FixedSizeList in
     let differ = sym (and_right (nat_eq s.s s.r) _ (sym c.if-agrees-3.ensures)) in
     inside_differs _ _ _ _ (c.if-agrees-3.false ∙ differ) differ
@@ -201,9 +175,9 @@ pairs::Pairs::step-returns-else-agrees-3-clause-agree t c =
     (ap (λ b. b && all_agree c.args.exactly (waiting c.args.self.now))
     (fixed_pair c.args.exactly _ _ s.n s.m s.t s.u s.s s.r _ _ s.is-0 s.is-1 refl refl))
 
-pub pairs::Pairs::step-returns-then-not-agrees-clause-agree :
-    goal.pairs::Pairs::step-returns-then-not-agrees-clause-agree
-pairs::Pairs::step-returns-then-not-agrees-clause-agree t c =
+pub step-returns-then-not-agrees-clause-agree :
+    goal.step-returns-then-not-agrees-clause-agree
+step-returns-then-not-agrees-clause-agree t c =
     let s = c.in-Map-Map in
     let differ =
     sym
@@ -215,9 +189,9 @@ pairs::Pairs::step-returns-then-not-agrees-clause-agree t c =
     (map_pair c.args.exactly _ _ s.n s.m s.k s.v s.l s.w _ _ _ _ s.is-0 s.is-1 refl refl
     refl refl))
 
-pub pairs::Pairs::step-returns-then-put-clause-agree :
-    goal.pairs::Pairs::step-returns-then-put-clause-agree
-pairs::Pairs::step-returns-then-put-clause-agree t c =
+pub step-returns-then-put-clause-agree :
+    goal.step-returns-then-put-clause-agree
+step-returns-then-put-clause-agree t c =
     let e = c.args.exactly in
     let s = c.in-Map-Map in
     let others = all_agree e (waiting c.args.self.now) in
@@ -237,9 +211,9 @@ pairs::Pairs::step-returns-then-put-clause-agree t c =
     c.deref-in-Map-Map.ensures c.deref-then-put.ensures c.deref-in-Map-Map-2.ensures
     c.deref-then-put-2.ensures))
 
-pub pairs::Pairs::step-returns-else-put-clause-agree :
-    goal.pairs::Pairs::step-returns-else-put-clause-agree
-pairs::Pairs::step-returns-else-put-clause-agree t c =
+pub step-returns-else-put-clause-agree :
+    goal.step-returns-else-put-clause-agree
+step-returns-else-put-clause-agree t c =
     let e = c.args.exactly in
     let s = c.in-Map-Map in
     let others = all_agree e (waiting c.args.self.now) in
