@@ -89,13 +89,6 @@ impl<C: ScalarFnVTable> ScalarFnArray<C> {
         })
     }
 
-    /// The call, lent as an array.
-    pub fn as_array(&self) -> &ArrayRef<C>
-        ensures { result.now ≡ self.now }
-    {
-        &self.array
-    }
-
     /// The call as an array.
     pub fn into_array(self) -> ArrayRef<C>
         ensures { result ≡ self }

@@ -24,7 +24,7 @@ pub use Rattle.vortex_meaning.specs.Eval.{tree_type, tree_types}
 pub use Rattle.vortex_meaning.specs.Execution.{LeavesFit, other_length}
 pub use Rattle.vortex_meaning.specs.Driver.{simplify_or_reduce, step}
 pub use Rattle.vortex_meaning.specs.Made.{IsBound}
-pub use Rattle.vortex_meaning.specs.Weights.{added, weights, weight_told}
+pub use Rattle.vortex_meaning.specs.Weights.{added, weight, weights, weight_told}
 pub use Rattle.vortex_meaning.specs.Printing.{tree_text}
 pub use Rattle.vortex_functions.specs.FunctionOf.{function_of, operator_in, is_not, instance_in}
 pub use Rattle.vortex_functions.specs.Texts.{AppendsText, IsTextOf}
@@ -35,7 +35,7 @@ pub use Rattle.vortex_functions.specs.Binding.{field_leaf, AnswersTreeCall}
 pub use Rattle.vortex_functions.specs.Executing.{HasRows, NodeFits, AnswersTree, AnswersExecution}
 pub use Rattle.vortex_functions.specs.Executing.{AnswersColumns, LendsLeaf, Fits}
 pub use Rattle.vortex_functions.specs.Walks.{AllMean, IsCopy}
-pub use Rattle.vortex_meaning.specs.OptionBytes.{WritesOptionsOf}
+pub use Rattle.vortex_meaning.specs.OptionBytes.{WritesBytes, function_bytes}
 pub use Rattle.vortex_meaning.specs.FunctionTexts.{held_text, value_text}
 pub use Rattle.vortex_functions.specs.SameFunctions.{AreSame, SameByIdentityAndOptions}
 pub use Rattle.vortex_functions.specs.Arrays.{tree_in, rows_in, column_array, column_in}

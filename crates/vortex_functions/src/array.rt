@@ -7,7 +7,7 @@ ghost use Rattle.vortex_functions.specs.ArrayLeaves.{leaf_column};
 
 use crate::tree::leaf::{Leaf, Shown};
 use crate::tree::{Node, Tree};
-use std::alloc::Global;
+use std::alloc::{AllocError, Global};
 use std::rc::Rc;
 use vortex_columns::{Column, DType, Scalar, VortexResult};
 use vortex_interface::ScalarFnVTable;
@@ -71,10 +71,10 @@ impl<C: ScalarFnVTable> Leaf<C, C::Options> for ArrayLeaf {
         ArrayLeaf::Nulls(Column::null(beside))
     }
 
-    fn share(&self, alloc: Global) -> VortexResult<ArrayLeaf> {
+    fn share(&self) -> Result<ArrayLeaf, AllocError> {
         match self {
             ArrayLeaf::Column(column) => Ok(ArrayLeaf::Column(column.clone()?)),
-            ArrayLeaf::Nulls(column) => Ok(ArrayLeaf::Nulls(column.try_clone(alloc)?)),
+            ArrayLeaf::Nulls(column) => Ok(ArrayLeaf::Nulls(column.clone()?)),
         }
     }
 

@@ -287,13 +287,18 @@ impl<C: ScalarFnVTable> ScalarFnRef<C> {
 
     /// Appends the text of a call, by the texts of its arguments; what a caller's function writes
     /// stays open.
-    pub(crate) fn fmt_sql(&self, children: &[String], out: &mut String) -> VortexResult<()>
+    pub(crate) fn fmt_sql(
+        &self,
+        alloc: Global,
+        children: &[String],
+        out: &mut String,
+    ) -> VortexResult<()>
         requires { IsTrue (fits (function_arity C.meaning (function_of self.now))
             (length children.now)) }
         ensures { AnswersUnlessMemory result
             (λ _. AppendsText (function_of self.now) children.now out.old out.new) }
     {
-        with_function!(self, f, options => f.fmt_sql(options, children, out))
+        with_function!(self, f, options => f.fmt_sql(alloc, options, children, out))
     }
 
     /// How many pieces the text of a call has; of a caller's function none.

@@ -9,7 +9,7 @@ ghost use Rattle.vortex_functions.specs.Words.{field_leaf, IsBound};
 use crate::erased::ScalarFnRef;
 use crate::tree::leaf::{Leaf, Shown};
 use crate::tree::{Node, Tree};
-use std::alloc::Global;
+use std::alloc::{AllocError, Global};
 use vortex_columns::{DType, Nullability, Scalar, StructFields, VortexError, VortexResult};
 use vortex_interface::ScalarFnVTable;
 
@@ -74,15 +74,15 @@ impl<C: ScalarFnVTable> Leaf<C, C::Options> for ExpressionLeaf {
         ExpressionLeaf::Literal(Scalar::bool(false, Nullability::NonNullable), alloc)
     }
 
-    fn share(&self, alloc: Global) -> VortexResult<ExpressionLeaf> {
+    fn share(&self) -> Result<ExpressionLeaf, AllocError> {
         match self {
             ExpressionLeaf::Column(place, name, dtype) => {
-                let name = String::from_str(alloc, name.as_str())?;
-                let dtype = dtype.try_clone(alloc)?;
+                let name = name.clone()?;
+                let dtype = dtype.clone()?;
                 Ok(ExpressionLeaf::Column(*place, name, dtype))
             }
-            ExpressionLeaf::Literal(scalar, _) => {
-                Ok(ExpressionLeaf::Literal(scalar.try_clone(alloc)?, alloc))
+            ExpressionLeaf::Literal(scalar, alloc) => {
+                Ok(ExpressionLeaf::Literal(scalar.clone()?, *alloc))
             }
         }
     }

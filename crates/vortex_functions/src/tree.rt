@@ -4,11 +4,11 @@ ghost use Rattle.std.specs.Prelude.{All, IfOk, length, map, min, slice_get};
 ghost use Rattle.vortex_functions.specs.Words.{type_of, trees_of, called, tree_type, tree_types};
 ghost use Rattle.vortex_functions.specs.Words.{function_of, AnswersUnlessMemory, node_count};
 ghost use Rattle.vortex_functions.specs.Words.{children_of};
-ghost use Rattle.vortex_functions.specs.Words.{added, weights, weight_told, step};
+ghost use Rattle.vortex_functions.specs.Words.{added, weight, weights, weight_told, step};
 ghost use Rattle.vortex_functions.specs.Words.{AnswersTreeCall};
 
 use crate::erased::ScalarFnRef;
-use std::alloc::Global;
+use std::alloc::{AllocError, Global};
 use std::marker::Model;
 use std::mem;
 use std::rc::Rc;
@@ -189,10 +189,11 @@ impl<C: ScalarFnVTable, L: Leaf<C, C::Options>> Tree<C, L> {
     }
 
     /// The weight, which rules over shipped functions lessen: at most five for each node. Where it
-    /// is past the greatest number, it is that number.
+    /// is past the greatest number, that number is told.
     pub fn weight(&self) -> u64
         ensures told { result ≡ weight_told C.meaning (L.tree_of self.now) }
-        ensures bounded { result ≤ 5 * node_count (L.tree_of self.now) }
+        ensures bounded { weight C.meaning (L.tree_of self.now)
+            ≤ 5 * node_count (L.tree_of self.now) }
     {
         match &self.node {
             Node::Leaf(_) => 1,
@@ -281,11 +282,20 @@ impl<C: ScalarFnVTable, L: Leaf<C, C::Options>> Tree<C, L> {
 
     /// A copy that equals its source. That of a call is a handle: it shares the call's parts, takes
     /// no memory, and is refused only where no more handles can be counted.
-    pub fn try_clone(&self, alloc: Global) -> VortexResult<Tree<C, L>>
+    pub fn try_clone(&self, _alloc: Global) -> VortexResult<Tree<C, L>>
         ensures { AnswersUnlessMemory result (λ t. t ≡ self.now) }
     {
+        Ok(self.clone()?)
+    }
+}
+
+/// A copy that equals its source, as `try_clone` makes it.
+impl<C: ScalarFnVTable, L: Leaf<C, C::Options>> Clone for Tree<C, L> {
+    ghost is_clone = { λ tree copy. copy ≡ tree };
+
+    fn clone(&self) -> Result<Tree<C, L>, AllocError> {
         let node = match &self.node {
-            Node::Leaf(leaf) => Node::Leaf(leaf.share(alloc)?),
+            Node::Leaf(leaf) => Node::Leaf(leaf.share()?),
             Node::Call(parts) => Node::Call(parts.clone()?),
         };
         Ok(Tree {

@@ -45,7 +45,7 @@ impl<C: ScalarFnVTable> BoundExpression<C> {
         let mut text = String::new(alloc);
         match &self.node {
             Node::Call(parts) => {
-                parts.function.fmt_sql(&texts, &mut text)?;
+                parts.function.fmt_sql(alloc, &texts, &mut text)?;
                 Ok(text)
             }
             Node::Leaf(_) => {

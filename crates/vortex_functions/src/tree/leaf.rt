@@ -1,6 +1,5 @@
 //! What a tree is made of besides calls.
-ghost use Rattle.std.specs.Prelude.{◌≡◌, List, Option, None, Some, All, map};
-ghost use Rattle.vortex_errors.specs.Answers.{AnswersUnlessMemory};
+ghost use Rattle.std.specs.Prelude.{◌≡◌, List, Option, None, Some, All, IfOk, map};
 ghost use Rattle.vortex_types.specs.TypeOf.{type_of};
 ghost use Rattle.vortex_meaning.specs.Functions.{Function};
 ghost use Rattle.vortex_meaning.specs.Meaning.{Meaning};
@@ -8,9 +7,9 @@ ghost use Rattle.vortex_meaning.specs.Trees.{Tree, call, trees_of, children_of, 
 ghost use Rattle.vortex_meaning.specs.Eval.{tree_type};
 ghost use Rattle.vortex_meaning.specs.Driver.{step};
 
-use std::alloc::Global;
+use std::alloc::{AllocError, Global};
 use std::marker::{Model, PhantomData};
-use vortex_columns::{DType, VortexResult};
+use vortex_columns::DType;
 use vortex_interface::ScalarFnVTable;
 
 /// A kind of leaf, of trees over a caller's functions `C` with their options `O`, and what stands
@@ -69,10 +68,10 @@ pub trait Leaf<C, O>: Sized + Drop {
         ensures fits { Self.fits beside result }
         ensures whole { Self.whole (Self.see (Self.seen result) beside) };
 
-    /// A copy, which may stand where the leaf does. E9 alone.
-    fn share(&self, alloc: Global) -> VortexResult<Self>
-        ensures seen { AnswersUnlessMemory result (λ l. Self.seen l ≡ Self.seen self.now) }
-        ensures fits { AnswersUnlessMemory result
+    /// A copy, which may stand where the leaf does.
+    fn share(&self) -> Result<Self, AllocError>
+        ensures seen { IfOk result (λ l. Self.seen l ≡ Self.seen self.now) }
+        ensures fits { IfOk result
             (λ l. (b : Self.Beside) → Self.fits b self.now → Self.fits b l) };
 
     /// The type of its values, of a leaf that may stand somewhere.
