@@ -11,12 +11,13 @@ ghost use Rattle.vortex_columns.specs.SingleValue.{single_value};
 mod order;
 
 use crate::column::Column;
+use order::Comparing;
 use std::alloc::Global;
 use std::cmp::Ordering;
 use vortex_types::{ScalarValue, VortexResult};
 
-/// How many levels of a value go by calls within calls: more than values are known to have, in less
-/// than a megabyte of stack.
+/// How many levels of a value go by calls within calls: more than values are known to have, in about
+/// a megabyte of stack.
 pub(crate) const LEVELS: usize = 1_000;
 
 /// A value, or null, that is read where it lies. Takes no memory.
@@ -149,7 +150,16 @@ impl Cell<'_> {
         requires other_whole { IsCell other.now }
         ensures { result ≡ compare_values (cell_value self.now) (cell_value other.now) }
     {
-        self.compare_within(other, LEVELS)
+        if let (Cell::Sequence(left), Cell::Sequence(right)) = (*self, *other) {
+            let pair = Comparing {
+                left,
+                right,
+                next: 0,
+                on_equal: Ordering::Equal,
+            };
+            return pair.order(LEVELS);
+        }
+        self.compare_single(other)
     }
 }
 

@@ -38,7 +38,8 @@ impl Scalar {
     ghost use Rattle.vortex_columns.specs.Words.{constant_form, validity_of};
 
     /// A value of a type, or null. E12 exactly where the value does not have the type, or the type
-    /// has no null. Takes no memory.
+    /// has no null. Takes no memory down to a thousand levels, and is never out of memory
+    /// (`Cell::has_type`).
     pub fn try_new(dtype: DType, value: Option<ScalarValue>) -> VortexResult<Scalar>
         ensures { MadeWhere result
             (HasType (type_of dtype) (value_or_null value))

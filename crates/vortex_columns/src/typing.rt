@@ -1,6 +1,4 @@
-//! Whether values have types: by calls within calls, which take no memory, down to a depth. The
-//! sequences around what lies deeper stand in a list, so that it takes no more stack; where that
-//! list cannot grow, calls go on.
+//! Whether values have types.
 ghost use Rattle.std.specs.Prelude.{◌≡◌, ◌↔◌, ◌<◌, ◌++◌, [], ◌∷◌, IsTrue, All, MatchOption};
 ghost use Rattle.vortex_columns.specs.Words.{cell_value, sequence_value, sequence_values};
 ghost use Rattle.vortex_columns.specs.Words.{IsCell, IsSequence, HasType, type_of};
@@ -29,18 +27,9 @@ impl Cell<'_> {
         requires { IsCell self.now }
         ensures { IsTrue result ↔ HasType (type_of dtype.now) (cell_value self.now) }
     {
-        self.has_shape(Shape::Of(dtype), LEVELS)
-    }
-
-    /// The same of any shape, by as many calls within calls as there are levels.
-    #[cycle(has_shape)]
-    fn has_shape(&self, shape: Shape<'_>, levels: usize) -> bool
-        requires { IsCell self.now }
-        ensures { IsTrue result ↔ HasType (shape_type shape.entry) (cell_value self.now) }
-    {
         match self {
-            Cell::Sequence(values) => values.have_shape(shape, levels),
-            _ => self.has_single_type(shape),
+            Cell::Sequence(values) => has_shape(values, Shape::Of(dtype), LEVELS),
+            _ => self.has_single_type(Shape::Of(dtype)),
         }
     }
 
@@ -158,67 +147,43 @@ fn take_last<'a, 't>(above: &mut Option<Vec<Asking<'a, 't>>>) -> Option<Asking<'
     }
 }
 
-impl Sequence<'_> {
-    /// Whether the values are a value of the type, by as many calls within calls as there are levels.
-    #[cycle(has_shape)]
-    fn have_shape(&self, shape: Shape<'_>, levels: usize) -> bool
-        requires { IsSequence self.now }
-        ensures { IsTrue result ↔ HasType (shape_type shape.entry) (sequence_value self.now) }
-    {
-        if levels == 0 {
-            return self.have_shape_by_list(shape);
-        }
-        let Some(mut here) = Asking::open(self, shape) else {
-            return false;
-        };
-        while here.next < here.values.len() {
+/// Whether the values are a value of the type. Sequences inside are asked by calls within calls,
+/// which take no memory, while levels are left. The sequences around what lies deeper stand in a
+/// list; where it cannot grow, calls go on.
+fn has_shape(root: &Sequence<'_>, shape: Shape<'_>, levels: usize) -> bool
+    requires { IsSequence root.now }
+    ensures { IsTrue result ↔ HasType (shape_type shape.entry) (sequence_value root.now) }
+{
+    let Some(mut here) = Asking::open(root, shape) else {
+        return false;
+    };
+    let mut above = None;
+    loop {
+        if here.next < here.values.len() {
+            let cell = here.values.get(here.next);
             let wanted = here.next_shape();
-            if !here.values.get(here.next).has_shape(wanted, levels - 1) {
-                return false;
-            }
             here.next += 1;
-        }
-        true
-    }
-
-    /// Whether the values are a value of the type. The sequences around one that is being asked
-    /// stand in a list. Where it cannot grow, the value is asked by calls.
-    #[cycle(has_shape)]
-    fn have_shape_by_list(&self, shape: Shape<'_>) -> bool
-        requires { IsSequence self.now }
-        ensures { IsTrue result ↔ HasType (shape_type shape.entry) (sequence_value self.now) }
-    {
-        let Some(mut here) = Asking::open(self, shape) else {
-            return false;
-        };
-        let mut above = None;
-        loop {
-            if here.next < here.values.len() {
-                let cell = here.values.get(here.next);
-                let wanted = here.next_shape();
-                here.next += 1;
-                match cell {
-                    Cell::Sequence(inner) => {
-                        let Some(opened) = Asking::open(&inner, wanted) else {
-                            return false;
-                        };
-                        if here.lay_by(&mut above) {
-                            here = opened;
-                        } else if !inner.have_shape(wanted, LEVELS) {
-                            return false;
-                        }
-                    }
-                    single => {
-                        if !single.has_single_type(wanted) {
-                            return false;
-                        }
+            match cell {
+                Cell::Sequence(inner) => {
+                    let Some(opened) = Asking::open(&inner, wanted) else {
+                        return false;
+                    };
+                    if levels == 0 && here.lay_by(&mut above) {
+                        here = opened;
+                    } else if !has_shape(&inner, wanted, levels.checked_sub(1).unwrap_or(LEVELS)) {
+                        return false;
                     }
                 }
-            } else {
-                match take_last(&mut above) {
-                    Some(outer) => here = outer,
-                    None => return true,
+                single => {
+                    if !single.has_single_type(wanted) {
+                        return false;
+                    }
                 }
+            }
+        } else {
+            match take_last(&mut above) {
+                Some(outer) => here = outer,
+                None => return true,
             }
         }
     }

@@ -1,13 +1,11 @@
-//! The order of two values: by calls within calls, which take no memory, down to a depth. The pairs
-//! of sequences around what lies deeper stand in a list, so that it takes no more stack; where that
-//! list cannot grow, calls go on.
+//! The order of two sequences. Those inside go by calls within calls, which take no memory, down to
+//! a depth. The pairs around what lies deeper stand in a list, so that it takes no more stack; where
+//! that list cannot grow, calls go on.
 ghost use Rattle.std.specs.Prelude.{◌≡◌, ◌<◌, ◌≤◌, ◌++◌, [], ◌∷◌, if◌then◌else◌, MatchOption};
-ghost use Rattle.vortex_columns.specs.Words.{cell_value, sequence_value, sequence_values, row};
-ghost use Rattle.vortex_columns.specs.Words.{compare_values, IsCell, IsSequence};
+ghost use Rattle.vortex_columns.specs.Words.{sequence_value, sequence_values, IsSequence, row};
 ghost use Rattle.vortex_columns.specs.PairOrder.{ArePaired, shared, order_at, order_from, on_end};
 ghost use Rattle.vortex_columns.specs.PairOrder.{size_left, size_at, pairs_in, AreFound};
 ghost use Rattle.vortex_columns.specs.PairOrder.{found_order, found_size};
-ghost use Rattle.std.specs.declared.cmp.Ordering.TheVariants.{Equal};
 
 use crate::cell::{Cell, LEVELS, Sequence};
 use std::alloc::Global;
@@ -16,11 +14,11 @@ use std::cmp::Ordering;
 /// Two sequences that are compared from a place on, with the order where no value differs from
 /// there.
 #[derive(Clone, Copy)]
-struct Comparing<'a> {
-    left: Sequence<'a>,
-    right: Sequence<'a>,
-    next: usize,
-    on_equal: Ordering,
+pub(super) struct Comparing<'a> {
+    pub(super) left: Sequence<'a>,
+    pub(super) right: Sequence<'a>,
+    pub(super) next: usize,
+    pub(super) on_equal: Ordering,
 }
 
 /// How far two sequences are compared.
@@ -83,58 +81,10 @@ impl<'a> Around<'a> {
     }
 }
 
-impl Cell<'_> {
-    /// The order of two values, by as many calls within calls as there are levels.
-    #[cycle(order)]
-    pub(super) fn compare_within(&self, other: &Cell<'_>, levels: usize) -> Ordering
-        requires self_whole { IsCell self.now }
-        requires other_whole { IsCell other.now }
-        ensures { result ≡ compare_values (cell_value self.now) (cell_value other.now) }
-    {
-        if let (Cell::Sequence(left), Cell::Sequence(right)) = (*self, *other) {
-            return Comparing::new(left, right).order(levels);
-        }
-        self.compare_single(other)
-    }
-}
-
 impl<'a> Comparing<'a> {
-    /// The whole of both.
-    fn new(left: Sequence<'a>, right: Sequence<'a>) -> Comparing<'a>
-        ensures { result
-            ≡ record { left = left.entry; right = right.entry; next = 0; on_equal = Equal } }
-    {
-        Comparing {
-            left,
-            right,
-            next: 0,
-            on_equal: Ordering::Equal,
-        }
-    }
-
-    /// The order of what is left, by as many calls within calls as there are levels.
-    #[cycle(order)]
-    fn order(&self, levels: usize) -> Ordering
-        requires { ArePaired self.now }
-        ensures { result ≡ order_from self.now }
-    {
-        if levels == 0 {
-            return self.order_by_list();
-        }
-        for k in self.next..self.shared() {
-            let one = self.left.get(k);
-            let order = one.compare_within(&self.right.get(k), levels - 1);
-            if order.is_ne() {
-                return order;
-            }
-        }
-        self.on_end()
-    }
-
-    /// The order of what is left. Takes memory for each sequence in which one stands before the
-    /// last value, and stack where that is refused.
-    #[cycle(order)]
-    fn order_by_list(&self) -> Ordering
+    /// The order of what is left. A sequence that stands before the last value of one takes a call
+    /// while levels are left, and else memory, or calls again where that is refused.
+    pub(super) fn order(&self, levels: usize) -> Ordering
         requires { ArePaired self.now }
         ensures { result ≡ order_from self.now }
     {
@@ -149,11 +99,10 @@ impl<'a> Comparing<'a> {
                 Found::Order(order) => return order,
                 Found::Last(inner) => here = inner,
                 Found::Before(outer, inner) => {
-                    if above.push(outer) {
+                    if levels == 0 && above.push(outer) {
                         here = inner;
                     } else {
-                        // no memory for it
-                        match inner.order(LEVELS) {
+                        match inner.order(levels.checked_sub(1).unwrap_or(LEVELS)) {
                             Ordering::Equal => here = outer,
                             order => return order,
                         }
@@ -212,7 +161,13 @@ impl<'a> Comparing<'a> {
             next: k + 1,
             on_equal: self.on_equal,
         };
-        Found::Before(outer, Comparing::new(left, right))
+        let inner = Comparing {
+            left,
+            right,
+            next: 0,
+            on_equal: Ordering::Equal,
+        };
+        Found::Before(outer, inner)
     }
 
     /// In how many places both have a value.

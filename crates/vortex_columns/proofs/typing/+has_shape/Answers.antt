@@ -1,35 +1,17 @@
 use Rattle.std.proofs.Common.{◌≡◌, ◌<◌, ◌≤◌, ◌++◌, subst, arith, Bool, option_to_list}
 use Rattle.std.proofs.lemmas.List.Elements.{All-nil}
 use Rattle.vortex_types.specs.Values.{value_depth}
-use Rattle.vortex_columns.specs.Cells.{cell_value, sequence_value}
+use Rattle.vortex_columns.specs.Cells.{sequence_value}
 use Rattle.vortex_columns.specs.Shapes.{shape_type}
 use Rattle.vortex_columns.specs.Questions.{asked_count, frames_in, LiesBehind, with_rest}
 use Rattle.vortex_columns.proofs.AskedFrames.{IsWithin, further, begun, went_in, went_out}
 use Rattle.vortex_columns.proofs.AskedFrames.{within_more, within_less, within_opened, deeper}
 use Rattle.vortex_columns.proofs.AskedFrames.{less_in}
-use Rattle.vortex_columns.proofs.cell.+has_shape.Goals as goal
+use Rattle.vortex_columns.proofs.typing.+has_shape.Goals as goal
 
-pub Sequence::have_shape-loop-here-init : goal.Sequence::have_shape-loop-here-init
-Sequence::have_shape-loop-here-init t c =
-    let s = c.args.self.now in
-    let depth = value_depth (sequence_value s) in
-    let whole = shape_type c.args.shape in
-    record {
-      meaning = begun c.in-Some.here s whole c.in-Some.ensures;
-      within = within_opened depth c.in-Some.here s whole c.in-Some.ensures (omega arith);
-    }
-
-pub Sequence::have_shape-has_shape-requires : goal.Sequence::have_shape-has_shape-requires
-Sequence::have_shape-has_shape-requires t c =
-    let f = c.loop-here.here in
-    let less : f.next < asked_count f = omega arith in
-    let falls = deeper f (cell_value c.get.result) less c.get.ensures.value in
-    (omega (arith, falls, c.loop-here.invariant.within.1, c.decreases), c.get.ensures.whole)
-
-pub Sequence::have_shape_by_list-loop-here-init :
-    goal.Sequence::have_shape_by_list-loop-here-init
-Sequence::have_shape_by_list-loop-here-init t c =
-    let s = c.args.self.now in
+pub loop-here-init : goal.loop-here-init
+loop-here-init t c =
+    let s = c.args.root.now in
     let depth = value_depth (sequence_value s) in
     let whole = shape_type c.args.shape in
     record {
@@ -38,9 +20,8 @@ Sequence::have_shape_by_list-loop-here-init t c =
       above_within = All-nil (IsWithin depth);
     }
 
-pub Sequence::have_shape_by_list-loop-here-smaller-then-lay_by :
-    goal.Sequence::have_shape_by_list-loop-here-smaller-then-lay_by
-Sequence::have_shape_by_list-loop-here-smaller-then-lay_by t c =
+pub loop-here-smaller-then-lay_by : goal.loop-here-smaller-then-lay_by
+loop-here-smaller-then-lay_by t c =
     let f = c.loop-here.here in
     let fs = frames_in c.loop-here.above in
     let gs = frames_in c.lay_by.new.above in
@@ -51,15 +32,14 @@ Sequence::have_shape_by_list-loop-here-smaller-then-lay_by t c =
     less_in f c.in-Some-open.opened c.in-Sequence.inner (shape_type c.next_shape-wanted.result)
     fs gs less c.in-Sequence.ensures.value laid c.in-Some-open.ensures
 
-pub Sequence::have_shape_by_list-loop-here-preserved-then-lay_by :
-    goal.Sequence::have_shape_by_list-loop-here-preserved-then-lay_by
-Sequence::have_shape_by_list-loop-here-preserved-then-lay_by t c =
+pub loop-here-preserved-then-lay_by : goal.loop-here-preserved-then-lay_by
+loop-here-preserved-then-lay_by t c =
     let f = c.loop-here.here in
     let fs = frames_in c.loop-here.above in
     let gs = frames_in c.lay_by.new.above in
     let inner = c.in-Sequence.inner in
     let wanted = shape_type c.next_shape-wanted.result in
-    let depth = value_depth (sequence_value c.args.self.now) in
+    let depth = value_depth (sequence_value c.args.root.now) in
     let less : f.next < asked_count f = omega arith in
     let laid : gs ≡ fs ++ option_to_list (with_rest (further f)) =
     subst (λ (lies : Bool). LiesBehind lies (further f) fs gs) c.if-lay_by.true
@@ -78,22 +58,20 @@ Sequence::have_shape_by_list-loop-here-preserved-then-lay_by t c =
           within_more depth (further f) fs gs laid within c.loop-here.invariant.above_within;
     }
 
-pub Sequence::have_shape_by_list-have_shape-requires :
-    goal.Sequence::have_shape_by_list-have_shape-requires
-Sequence::have_shape_by_list-have_shape-requires t c =
+pub has_shape-requires : goal.has_shape-requires
+has_shape-requires t c =
     let f = c.loop-here.here in
     let less : f.next < asked_count f = omega arith in
     let falls = deeper f (sequence_value c.in-Sequence.inner) less c.in-Sequence.ensures.value in
     (omega (arith, falls, c.loop-here.invariant.within.1, c.decreases), c.in-Sequence.ensures.whole)
 
-pub Sequence::have_shape_by_list-loop-here-preserved :
-    goal.Sequence::have_shape_by_list-loop-here-preserved
-Sequence::have_shape_by_list-loop-here-preserved t c =
+pub loop-here-preserved : goal.loop-here-preserved
+loop-here-preserved t c =
     let f = c.loop-here.here in
     let fs = frames_in c.loop-here.above in
     let gs = frames_in c.take_last.new.above in
     let outer = c.in-Some-take_last.outer in
-    let depth = value_depth (sequence_value c.args.self.now) in
+    let depth = value_depth (sequence_value c.args.root.now) in
     let none : asked_count f ≤ f.next = omega arith in
     let all = c.loop-here.invariant.above_within in
     let there = within_less depth outer fs gs c.in-Some-take_last.ensures all in

@@ -1,37 +1,19 @@
 use Rattle.std.proofs.Common.{◌≡◌, ◌++◌, List, [], ◌∷◌, sym, ap, ◌∙◌, subst, arith}
 use Rattle.std.specs.Ordering.{ordering_then}
-use Rattle.vortex_types.specs.Order.{compare_values}
-use Rattle.vortex_columns.specs.Cells.{cell_value}
-use Rattle.vortex_columns.specs.PairOrder.{order_at, order_from, shared, pairs_in}
+use Rattle.vortex_columns.specs.PairOrder.{order_from, pairs_in}
 use Rattle.vortex_columns.specs.declared.cell.order.Comparing.{Comparing}
-use Rattle.vortex_columns.proofs.Compare.{then_next, then_equal, at_end}
+use Rattle.vortex_columns.proofs.Compare.{then_next}
 use Rattle.vortex_columns.proofs.PairsAround.{AreAround, order_around, size_around, pushed, popped}
 use Rattle.vortex_columns.proofs.PairsAround.{order_pushed, size_pushed}
-use Rattle.vortex_columns.proofs.cell.+order.Goals as goal
+use Rattle.vortex_columns.proofs.cell.order.Comparing.+order.Goals as goal
 
-pub Cell::compare_within-returns-in-Sequence-Sequence :
-    goal.Cell::compare_within-returns-in-Sequence-Sequence
-Cell::compare_within-returns-in-Sequence-Sequence t c =
-    c.order.ensures ∙ ap order_from c.new.ensures ∙ sym (then_equal _)
-    ∙ (λ i.
-    compare_values (cell_value (sym c.in-Sequence-Sequence.is-0 i))
-    (cell_value (sym c.in-Sequence-Sequence.is-1 i)))
-
-pub order::Comparing::order-returns : goal.order::Comparing::order-returns
-order::Comparing::order-returns t c =
-    let self = c.args.self.now in
-    let all : shared self ≡ c.loop-k.k = omega arith in
-    c.on_end.ensures ∙ sym (at_end self) ∙ ap (λ n. order_at n self) all ∙ c.loop-k.invariant.0
-
-pub order::Comparing::order_by_list-loop-above-smaller-in-Some :
-    goal.order::Comparing::order_by_list-loop-above-smaller-in-Some
-order::Comparing::order_by_list-loop-above-smaller-in-Some t c =
+pub loop-above-smaller-in-Some : goal.loop-above-smaller-in-Some
+loop-above-smaller-in-Some t c =
     let less = ap size_around c.in-Some.ensures in
     omega (arith, less, size_pushed (pairs_in c.pop.new.self) c.in-Some.outer)
 
-pub order::Comparing::order_by_list-loop-above-preserved-in-Some :
-    goal.order::Comparing::order_by_list-loop-above-preserved-in-Some
-order::Comparing::order_by_list-loop-above-preserved-in-Some t c =
+pub loop-above-preserved-in-Some : goal.loop-above-preserved-in-Some
+loop-above-preserved-in-Some t c =
     let l = c.loop-above in
     let outer = c.in-Some.outer in
     let rest = pairs_in c.pop.new.self in
@@ -48,16 +30,14 @@ order::Comparing::order_by_list-loop-above-preserved-in-Some t c =
       omega (arith, less, size_pushed rest outer, l.invariant.3),
     )
 
-pub order::Comparing::order_by_list-loop-above-smaller-then-push :
-    goal.order::Comparing::order_by_list-loop-above-smaller-then-push
-order::Comparing::order_by_list-loop-above-smaller-then-push t c =
+pub loop-above-smaller-then-push : goal.loop-above-smaller-then-push
+loop-above-smaller-then-push t c =
     let more = ap size_around c.if-push.ensures in
     let sizes = size_pushed (pairs_in c.loop-above.above) c.in-Before.outer in
     omega (arith, more, sizes, c.in-Before.ensures.falls)
 
-pub order::Comparing::order_by_list-loop-above-preserved-then-push :
-    goal.order::Comparing::order_by_list-loop-above-preserved-then-push
-order::Comparing::order_by_list-loop-above-preserved-then-push t c =
+pub loop-above-preserved-then-push : goal.loop-above-preserved-then-push
+loop-above-preserved-then-push t c =
     let l = c.loop-above in
     let inner = c.in-Before.inner in
     let outer = c.in-Before.outer in
