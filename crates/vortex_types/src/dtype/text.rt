@@ -12,7 +12,7 @@ ghost use Rattle.vortex_types.specs.TypePieces.{pieces_text, piece_cost, pieces_
 
 use super::{DType, StructFields};
 use std::alloc::{AllocError, Global};
-use std::fmt::Write;
+use std::fmt::{self, Write};
 use vortex_errors::VortexResult;
 
 /// A piece of a type's text, in a list from which the last is written first.
@@ -160,6 +160,30 @@ impl DType {
         match self.leaf() {
             Ok(_leaf) => self.write_flat(out),
             Err(alloc) => self.write_by_pieces(alloc, out),
+        }
+    }
+}
+
+/// The bytes of `write_text`; want of memory is an error.
+impl fmt::Debug for DType {
+    ghost use Rattle.std.specs.Prelude.{Some};
+    ghost use Rattle.vortex_types.specs.TypeOf.{type_of};
+    ghost use Rattle.vortex_types.specs.DTypeTexts.{type_text};
+
+    ghost debug_output = { λ dtype. Some (type_text (type_of dtype)) };
+
+    #[tactic(auto, using(crate::proofs::TextPieces::flat_text))]
+    fn fmt<W: fmt::Write>(&self, f: &mut fmt::Formatter<W>) -> fmt::Result {
+        match self.leaf() {
+            Ok(_leaf) => write!(f, "{}{}", self.opening(), self.null_mark()),
+            // the allocator that a part of the type holds
+            Err(alloc) => {
+                let mut text = String::new(alloc);
+                match self.write_by_pieces(alloc, &mut text) {
+                    Ok(()) => write!(f, "{text}"),
+                    Err(_) => Err(fmt::Error),
+                }
+            }
         }
     }
 }
