@@ -2,7 +2,7 @@
 
 use std::alloc::Global;
 use vortex_errors::VortexResult;
-use vortex_views::{BinaryView, ViewsBuilder, check_views};
+use vortex_views::{BinaryView, ResolvedViews, ViewsBuilder, check_views};
 
 /// Whether a view lies in the one buffer of thirteen bytes, `hello, world!`.
 fn lies(alloc: Global, view: BinaryView) -> VortexResult<bool> {
@@ -39,6 +39,27 @@ fn long_views_lie_in_buffers(rt: HostRuntime) {
     assert!(rt; says(lies(alloc, BinaryView::new_long(13, *b"hell", 1, 0)), false));
     assert!(rt; says(lies(alloc, BinaryView::new_long(13, *b"ello", 0, 1)), false));
     assert!(rt; says(lies(alloc, BinaryView::new_long(13, *b"help", 0, 0)), false));
+}
+
+/// Whether the second of two views of `hello, world!` is lent with its own buffer and offset.
+fn lends_the_second(alloc: Global) -> VortexResult<bool> {
+    let mut buffers = Vec::new(alloc);
+    buffers.push(b"hello, world!".to_vec(alloc)?)?;
+    buffers.push(b"O hello, world!".to_vec(alloc)?)?;
+    let views = [
+        BinaryView::new_long(13, *b"hell", 0, 0),
+        BinaryView::new_long(13, *b"hell", 1, 2),
+    ];
+    if !check_views(&views, &buffers) {
+        return Ok(false);
+    }
+    let view = *ResolvedViews::new(&views, &buffers).view(1);
+    Ok(view.len() == 13 && view.buffer() == 1 && view.offset() == 2)
+}
+
+#[test]
+fn a_view_is_lent_as_it_was_handed_over(rt: HostRuntime) {
+    assert!(rt; says(lends_the_second(rt.alloc()), true));
 }
 
 /// Whether a builder holds these two values, one behind the other.

@@ -7,3 +7,4 @@ mod forms;
 mod patterns;
 mod questions;
 mod shapes;
+mod view_sizes;

@@ -12,11 +12,9 @@ use Rattle.vortex_errors.specs.Answers.{AnswersUnlessMemory, AnswersWhere}
 use Rattle.vortex_types.specs.LogicalTypes.{LogicalType, null_type, bool_type, integer_type}
 use Rattle.vortex_types.specs.LogicalTypes.{text_type, bytes_type, struct_type, list_type}
 use Rattle.vortex_types.specs.LogicalTypes.{fixed_size_list_type, map_type, is_text_type}
-use Rattle.vortex_types.specs.LogicalTypes.{is_nullable}
 use Rattle.vortex_types.specs.ScalarView.{ScalarView}
 use Rattle.vortex_types.specs.Typing.{HasType, OrNull, IsText}
 use Rattle.vortex_columns.specs.ValidityView.{ValidityView, is_valid_row, FitsRows}
-use Rattle.vortex_columns.specs.ValidityView.{non_nullable}
 use Rattle.vortex_types.specs.Values.{Value, null, truth, number, text, bytes, list, is_null}
 use Rattle.vortex_errors.proofs.Answering.{answers_where, AnswersUnlessMemory-weaker}
 use Rattle.vortex_columns.specs.ColumnView.{ColumnView, row, AreTyped, constant_column}

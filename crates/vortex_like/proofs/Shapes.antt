@@ -1,5 +1,5 @@
 -- The tokens of patterns of simple shapes, and what such patterns match.
-use Rattle.std.proofs.Common.{◌≡◌, ◌≢◌, ℕ, Bool, true, false, List, [], ◌∷◌, ◌++◌, map, refl, sym}
+use Rattle.std.proofs.Common.{◌≡◌, ℕ, Bool, true, false, List, [], ◌∷◌, ◌++◌, map, refl, sym}
 use Rattle.std.proofs.Common.{ap}
 use Rattle.std.proofs.Common.{◌∙◌, arith, cond, eq-eqb, Option, Some, None}
 use Rattle.std.proofs.lemmas.List.{append-nil, nil_from_length}
@@ -11,7 +11,7 @@ use Rattle.std.specs.Str.{chars}
 use Rattle.std.specs.Cow.{cow_str_bytes}
 use Rattle.vortex_like.specs.Cuts.{is_special, StartsSpecial}
 use Rattle.vortex_like.specs.Tokens.{Token, any, one, character, tokens_of, plain_token, Match}
-use Rattle.vortex_like.specs.Tokens.{percent, underscore, is_escape, last_token, same_character}
+use Rattle.vortex_like.specs.Tokens.{percent, underscore, is_escape, same_character}
 use Rattle.vortex_like.specs.Variants.{is_wildcard, meets_escape, AreLiteralThenWildcard}
 use Rattle.vortex_like.specs.Variants.{IsVariantOf, TellsMatches}
 use Rattle.vortex_like.specs.declared.variant.LikeVariant.{LikeVariant}

@@ -46,6 +46,7 @@ pub record IsWalk (fold : Bool) (tokens : List Token) (whole : List ℕ) (at : �
   pub looked : asked_before at tokens ≤ looks
   pub back_looked : BackLooked tokens back looks
   pub counted : looks + steps tokens whole at back + 1 ≤ (length whole + 1) * (length tokens + 1)
+  pub unlooked : 0 < asked tokens → looks ≡ 0 → rest ≡ whole
 
 any_is : (t : Token) → is_any t ≡ true → t ≡ any
 any_is any e = refl
@@ -137,6 +138,7 @@ module _ (fold : Bool) (tokens : List Token) (whole : List ℕ) where
     looked = omega arith;
     back_looked = tt;
     counted = omega arith;
+    unlooked = λ _ _. refl;
   }
 
   pub passes_any : (at looks : ℕ) (text : Bor (List ℕ)) (back : Option Place)
@@ -166,16 +168,18 @@ module _ (fold : Bool) (tokens : List Token) (whole : List ℕ) where
                   h w.stands.shorter,
               w.counted,
             );
+        unlooked = w.unlooked;
       }
 
   pub passes_one : (at c looks looks' : ℕ) (rest : List ℕ) (back : Option Place)
       → begins_with_any (drop at tokens) ≡ false → first_accepts fold (drop at tokens) c ≡ true
-      → looks' ≡ looks + 1
+      → (at < length tokens → looks' ≡ looks + 1)
       → IsWalk fold tokens whole at (c ∷ rest) back looks
       → IsWalk fold tokens whole (at + 1) rest back looks'
-  passes_one at c looks looks' rest back e accepted more w =
+  passes_one at c looks looks' rest back e accepted counts w =
       let there = accepted_there fold tokens at c e accepted in
       let next = there.1 in
+      let more : looks' ≡ looks + 1 = counts next.within in
       record {
         within = omega (arith, next.within);
         back_within = w.back_within;
@@ -193,15 +197,29 @@ module _ (fold : Bool) (tokens : List Token) (whole : List ℕ) where
               steps_accept (length tokens) at (room whole (back_of tokens back)) next.within,
               w.counted,
             );
+        unlooked = λ _ none. absurd (omega arith);
       }
+
+  -- a token that refuses a character was looked at, and where none is left one was before
+  pub refused_looked : (at looks looks' : ℕ) (rest : List ℕ) (back : Option Place)
+      → (at < length tokens → looks' ≡ looks + 1) → looks ≤ looks'
+      → IsWalk fold tokens whole at rest back looks → 0 < asked tokens → 0 < looks'
+  refused_looked at looks looks' rest back counts le w some =
+      elim (cases_lt at (length tokens)) [
+        | inl lt ↦ omega (arith, counts lt)
+        | inr past ↦
+            let all : asked_before at tokens ≡ asked tokens = ap asked (take_all at tokens past) in
+            omega (arith, w.looked)
+      ]
 
   pub goes_back : (at c x looks looks' : ℕ) (rest : List ℕ) (place : Place) (later : Bor (List ℕ))
       → begins_with_any (drop at tokens) ≡ false → first_accepts fold (drop at tokens) c ≡ false
-      → looks' ≤ looks + 1 → looks ≤ looks' → chars place.text.now ≡ x ∷ chars later.now
+      → looks' ≤ looks + 1 → looks ≤ looks' → (at < length tokens → looks' ≡ looks + 1)
+      → chars place.text.now ≡ x ∷ chars later.now
       → IsWalk fold tokens whole at (c ∷ rest) (Some place) looks
       → IsWalk fold tokens whole place.at (chars later.now)
       (Some (record { at = place.at; text = later })) looks'
-  goes_back at c x looks looks' rest place later e refused le more split w =
+  goes_back at c x looks looks' rest place later e refused le more counts split w =
       let stands =
       subst
       (λ (text : List ℕ).
@@ -227,21 +245,28 @@ module _ (fold : Bool) (tokens : List Token) (whole : List ℕ) where
                   ≤ (length whole + 1) * (length tokens + 1))
                   fewer w.counted,
             );
+        unlooked = λ some none.
+            let looked : 0 < looks' =
+            refused_looked at looks looks' (c ∷ rest) (Some place) counts more w some in
+            absurd (omega arith);
       }
 
   pub goes_further : (at c looks looks' : ℕ) (rest : List ℕ) (back : Option Place) (place : Place)
       → begins_with_any (drop at tokens) ≡ false → first_accepts fold (drop at tokens) c ≡ false
-      → looks' ≤ looks + 1 → looks ≤ looks' → IsFurther back place
+      → looks' ≤ looks + 1 → looks ≤ looks' → (at < length tokens → looks' ≡ looks + 1)
+      → IsFurther back place
       → IsWalk fold tokens whole at (c ∷ rest) back looks
       → IsWalk fold tokens whole place.at (chars place.text.now) (Some place) looks'
-  goes_further at c looks looks' rest None place e refused le more further w = absurd further
-  goes_further at c looks looks' rest (Some from) place e refused le more further w =
+  goes_further at c looks looks' rest None place e refused le more counts further w =
+      absurd further
+  goes_further at c looks looks' rest (Some from) place e refused le more counts further w =
       subst
       (λ (n : ℕ).
       IsWalk fold tokens whole n (chars place.text.now)
       (Some (record { at = n; text = place.text })) looks')
       (sym further.0)
-      (goes_back at c further.1.0 looks looks' rest from place.text e refused le more further.1.1 w)
+      (goes_back at c further.1.0 looks looks' rest from place.text e refused le more counts
+      further.1.1 w)
 
   -- a sequence at the end matches what is left
   pub ends_any : (at looks : ℕ) (text : Bor (List ℕ)) (back : Option Place)
@@ -296,6 +321,15 @@ module _ (fold : Bool) (tokens : List Token) (whole : List ℕ) where
       let all : asked_before at tokens ≡ asked tokens =
       ap asked (take_all at tokens (omega arith)) in
       omega (arith, w.looked)
+
+  -- at the end of a text that is not empty
+  pub end_looked : (at looks : ℕ) (back : Option Place) → IsWalk fold tokens whole at [] back looks
+      → 0 < asked tokens → (whole ≡ [] → ⊥) → 0 < looks
+  end_looked at looks back w some full =
+      elim (cases_lt 0 looks) [
+        | inl lt ↦ lt
+        | inr le ↦ absurd (full (sym (w.unlooked some (omega arith))))
+      ]
 
   pub can_look : (at looks : ℕ) (rest : List ℕ) (back : Option Place) → length whole < 2 ^ 64
       → length tokens < 2 ^ 64 → IsWalk fold tokens whole at rest back looks

@@ -1,28 +1,31 @@
 //! One pattern beside the texts of a column: a loop for each form, chosen before the rows.
-ghost use Rattle.std.specs.Prelude.{◌≡◌, ◌<◌, ◌&&◌, ℕ, List, true, false, not, length};
-ghost use Rattle.std.specs.Str.{chars};
+ghost use Rattle.std.specs.Prelude.{◌≡◌, ◌<◌, ◌&&◌, ℕ, List, true, false, not, length, nat_eq};
+ghost use Rattle.std.specs.Prelude.{string_bytes};
+ghost use Rattle.std.specs.List.{starts_with, ends_with};
+ghost use Rattle.std.specs.Str.{chars, bytes_eq};
 ghost use Rattle.vortex_like.specs.Words.{AnswersUnlessMemory, is_match, is_null, row, AreTold};
 ghost use Rattle.vortex_like.specs.Words.{IsSaid, turned, texts_of, text_at, AreTexts, AreAscii};
 ghost use Rattle.vortex_like.specs.Words.{test_form, test_tokens, test_folds, is_ascii_form};
 ghost use Rattle.vortex_like.specs.Words.{form_said};
 
 use crate::form_test::FormTest;
-use crate::text_tests::TextTest;
-use crate::texts::{RowTexts, Texts};
+use crate::text_tests::{ByBytes, EndTest, FrontTest, WholeTest};
+use crate::texts::Texts;
 use crate::token_test::TokenTest;
 use std::alloc::Global;
 use vortex_bits::{RowBits, collect_rows};
 use vortex_columns::{BitBuffer, Column, VortexResult};
+use vortex_views::{BinaryView, LongFront, LongWhole, ShortFront, ShortWhole, ValueTest, WholeEnd};
 
 /// What a test that reads any bytes says of each text, whether it lies under a null or not.
 #[derive(Clone, Copy)]
-struct Tested<'a, T: TextTest> {
+struct Tested<'a, T: ValueTest> {
     texts: Texts<'a>,
     test: &'a T,
     negated: bool,
 }
 
-impl<T: TextTest> RowBits for Tested<'_, T> {
+impl<T: ValueTest> RowBits for Tested<'_, T> {
     ghost has_row = { λ r i. (i < length (texts_of r.texts))
         × T.can_read r.test.now (text_at (texts_of r.texts) i) };
 
@@ -30,18 +33,18 @@ impl<T: TextTest> RowBits for Tested<'_, T> {
         (T.said r.test.now (text_at (texts_of r.texts) i)) };
 
     fn bit(&self, i: usize) -> bool {
-        self.test.passes(self.texts.bytes(i)) != self.negated
+        self.test.passes(&self.texts.row(i)) != self.negated
     }
 }
 
 /// The same of a test that reads texts alone: what lies under a null is passed over.
 #[derive(Clone, Copy)]
-struct ValidTested<'a, T: TextTest> {
+struct ValidTested<'a, T: ValueTest> {
     column: &'a Column,
     tested: Tested<'a, T>,
 }
 
-impl<T: TextTest> RowBits for ValidTested<'_, T> {
+impl<T: ValueTest> RowBits for ValidTested<'_, T> {
     ghost has_row = { λ r i. (i < length r.column.now.rows)
         × (is_null (row r.column.now.rows i) ≡ false → (i < length (texts_of r.tested.texts))
         × T.can_read r.tested.test.now (text_at (texts_of r.tested.texts) i)) };
@@ -56,7 +59,7 @@ impl<T: TextTest> RowBits for ValidTested<'_, T> {
 }
 
 /// What a test that reads any bytes says of the texts of a column, turned over where negated.
-fn said_by_test<T: TextTest>(
+fn said_by_test<T: ValueTest>(
     alloc: Global,
     column: &Column,
     texts: Texts<'_>,
@@ -77,11 +80,11 @@ fn said_by_test<T: TextTest>(
 }
 
 /// What a test token by token says of them: it reads no text under a null.
-fn said_by_tokens(
+fn said_by_tokens<'a>(
     alloc: Global,
-    column: &Column,
-    texts: Texts<'_>,
-    test: &TokenTest,
+    column: &'a Column,
+    texts: Texts<'a>,
+    test: &'a TokenTest,
     negated: bool,
 ) -> VortexResult<BitBuffer>
     requires { AreTexts column.now (texts_of texts) }
@@ -91,11 +94,72 @@ fn said_by_tokens(
 {
     let tested = Tested {
         texts,
-        test,
+        test: &ByBytes { test },
         negated,
     };
     let rows = ValidTested { column, tested };
     collect_rows(alloc, &rows, column.len())
+}
+
+/// Which texts of a column are this one, turned over where negated: by the words of their views,
+/// which are made of the literal before the rows.
+fn said_by_whole(
+    alloc: Global,
+    column: &Column,
+    texts: Texts<'_>,
+    test: &WholeTest,
+    negated: bool,
+) -> VortexResult<BitBuffer>
+    requires { AreTexts column.now (texts_of texts) }
+    ensures { AnswersUnlessMemory result (AreTold (length column.now.rows) (λ i b. IsSaid
+        (λ bytes. bytes_eq (string_bytes test.now.literal) bytes)
+        negated (row column.now.rows i) b)) }
+{
+    let literal = test.literal.as_bytes();
+    if literal.len() <= BinaryView::MAX_INLINED_SIZE {
+        return said_by_test(alloc, column, texts, &ShortWhole::new(literal), negated);
+    }
+    if literal.len() <= BinaryView::MAX_SIZE {
+        return said_by_test(alloc, column, texts, &LongWhole::new(literal), negated);
+    }
+    said_by_test(alloc, column, texts, &ByBytes { test }, negated)
+}
+
+/// Which begin with it, likewise.
+fn said_by_front(
+    alloc: Global,
+    column: &Column,
+    texts: Texts<'_>,
+    test: &FrontTest,
+    negated: bool,
+) -> VortexResult<BitBuffer>
+    requires { AreTexts column.now (texts_of texts) }
+    ensures { AnswersUnlessMemory result (AreTold (length column.now.rows) (λ i b. IsSaid
+        (λ bytes. starts_with nat_eq bytes (string_bytes test.now.literal))
+        negated (row column.now.rows i) b)) }
+{
+    let literal = test.literal.as_bytes();
+    if literal.len() <= 4 {
+        return said_by_test(alloc, column, texts, &ShortFront::new(literal), negated);
+    }
+    said_by_test(alloc, column, texts, &LongFront::new(literal), negated)
+}
+
+/// Which end with it, likewise.
+fn said_by_end(
+    alloc: Global,
+    column: &Column,
+    texts: Texts<'_>,
+    test: &EndTest,
+    negated: bool,
+) -> VortexResult<BitBuffer>
+    requires { AreTexts column.now (texts_of texts) }
+    ensures { AnswersUnlessMemory result (AreTold (length column.now.rows) (λ i b. IsSaid
+        (λ bytes. ends_with nat_eq bytes (string_bytes test.now.literal))
+        negated (row column.now.rows i) b)) }
+{
+    let end = WholeEnd::new(test.literal.as_bytes());
+    said_by_test(alloc, column, texts, &end, negated)
 }
 
 /// What the test of a pattern says of the texts of a column, turned over where negated.
@@ -111,13 +175,21 @@ fn said_by_form(
         (λ i b. IsSaid (form_said test.now) negated (row column.now.rows i) b)) }
 {
     match test {
-        FormTest::Eq(test) => said_by_test(alloc, column, texts, test, negated),
-        FormTest::StartsWith(test) => said_by_test(alloc, column, texts, test, negated),
-        FormTest::EndsWith(test) => said_by_test(alloc, column, texts, test, negated),
-        FormTest::Contains(test) => said_by_test(alloc, column, texts, test, negated),
-        FormTest::IEqAscii(test) => said_by_test(alloc, column, texts, test, negated),
-        FormTest::IStartsWithAscii(test) => said_by_test(alloc, column, texts, test, negated),
-        FormTest::IEndsWithAscii(test) => said_by_test(alloc, column, texts, test, negated),
+        FormTest::Eq(test) => said_by_whole(alloc, column, texts, test, negated),
+        FormTest::StartsWith(test) => said_by_front(alloc, column, texts, test, negated),
+        FormTest::EndsWith(test) => said_by_end(alloc, column, texts, test, negated),
+        FormTest::Contains(test) => {
+            said_by_test(alloc, column, texts, &ByBytes { test }, negated)
+        }
+        FormTest::IEqAscii(test) => {
+            said_by_test(alloc, column, texts, &ByBytes { test }, negated)
+        }
+        FormTest::IStartsWithAscii(test) => {
+            said_by_test(alloc, column, texts, &ByBytes { test }, negated)
+        }
+        FormTest::IEndsWithAscii(test) => {
+            said_by_test(alloc, column, texts, &ByBytes { test }, negated)
+        }
         FormTest::Tokens(test) => said_by_tokens(alloc, column, texts, test, negated),
     }
 }

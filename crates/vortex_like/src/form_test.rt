@@ -1,5 +1,6 @@
 //! The test that a pattern is compiled to, by its form.
-ghost use Rattle.std.specs.Prelude.{◌≡◌, ◌≢◌, ◌+◌, ◌*◌, ◌≤◌, length, true, false, IsTrue, IsUtf8};
+ghost use Rattle.std.specs.Prelude.{◌≡◌, ◌≢◌, ◌+◌, ◌*◌, ◌<◌, ◌≤◌, [], length, true, false};
+ghost use Rattle.std.specs.Prelude.{IsTrue, IsUtf8};
 ghost use Rattle.std.specs.Str.{chars, IsAscii};
 ghost use Rattle.vortex_like.specs.Words.{AnswersUnlessMemory, is_match, asked, form_of};
 ghost use Rattle.vortex_like.specs.Words.{plain_form, folded_form, test_form, test_tokens};
@@ -169,6 +170,8 @@ impl FormTest {
             ≤ (length (chars haystack.now) + 1) * (length (test_tokens self.now) + 1) }
         ensures least { test_form self.now ≡ LikeForm.Tokens → IsTrue result.0
             → asked (test_tokens self.now) ≤ result.1 }
+        ensures some { test_form self.now ≡ LikeForm.Tokens → 0 < asked (test_tokens self.now)
+            → chars haystack.now ≢ [] → 0 < result.1 }
     {
         match self {
             FormTest::Tokens(test) => test.passes_counted(haystack),

@@ -1,6 +1,6 @@
 //! Tokens beside a text: the matcher.
 ghost use Rattle.std.specs.Prelude.{◌≡◌, ◌+◌, ◌*◌, ◌<◌, ◌≤◌, ◌↔◌, ◌^◌, ◌-◌, true, IsTrue, length};
-ghost use Rattle.std.specs.Prelude.{drop, MatchOption};
+ghost use Rattle.std.specs.Prelude.{◌≢◌, [], drop, MatchOption};
 ghost use Rattle.std.specs.Str.{chars};
 ghost use Rattle.vortex_like.specs.Words.{Match, begins_with_any, first_accepts, asked, IsLast};
 ghost use Rattle.vortex_like.specs.Words.{IsFurther};
@@ -37,7 +37,7 @@ fn first_accepts(
     ensures answer { result ≡ first_accepts case_insensitive (drop at tokens.now) c }
     ensures most { looks.new ≤ looks.old + 1 }
     ensures least { looks.old ≤ looks.new }
-    ensures counted { result ≡ true → looks.new ≡ looks.old + 1 }
+    ensures counted { at < length tokens.now → looks.new ≡ looks.old + 1 }
 {
     match tokens.get(at) {
         Some(token) => token.accepts(c, case_insensitive, looks),
@@ -65,6 +65,7 @@ pub(crate) fn match_tokens(
     ensures answer { IsTrue result.0 ↔ Match case_insensitive tokens.now (chars text.now) }
     ensures most { result.1 ≤ (length (chars text.now) + 1) * (length tokens.now + 1) }
     ensures least { IsTrue result.0 → asked tokens.now ≤ result.1 }
+    ensures some { 0 < asked tokens.now → chars text.now ≢ [] → 0 < result.1 }
 {
     let mut looks = Looks::new();
     let mut at = 0;

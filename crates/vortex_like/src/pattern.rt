@@ -1,5 +1,6 @@
 //! A pattern, read once, and the texts that it matches.
-ghost use Rattle.std.specs.Prelude.{◌≡◌, ◌≢◌, ◌+◌, ◌*◌, ◌≤◌, ◌↔◌, Some, length, IsTrue, IsUtf8};
+ghost use Rattle.std.specs.Prelude.{◌≡◌, ◌≢◌, ◌+◌, ◌*◌, ◌<◌, ◌≤◌, ◌↔◌, [], Some, length};
+ghost use Rattle.std.specs.Prelude.{IsTrue, IsUtf8};
 ghost use Rattle.std.specs.Str.{chars, IsAscii};
 ghost use Rattle.vortex_like.specs.Words.{AnswersUnlessMemory, Match, is_match, pattern_of, asked};
 ghost use Rattle.vortex_like.specs.Words.{backslash};
@@ -111,7 +112,8 @@ impl LikePattern {
 
     /// The same, and how often a token was compared with a character: at most as often as the text
     /// has characters, and once more, for each token and once more. A form other than Tokens
-    /// compares none; where Tokens matches it is at least once for each token but `%`.
+    /// compares none. Tokens compares each token but `%` at least once where it matches, and one of
+    /// them where it does not, if there is one and the text is not empty.
     pub fn matches_counted(&self, haystack: &[u8]) -> (bool, Looks)
         requires utf8 { IsUtf8 haystack.now }
         requires ascii { IsTrue self.now.ascii_haystack → IsAscii haystack.now }
@@ -124,6 +126,8 @@ impl LikePattern {
         ensures none { self.now.form ≢ LikeForm.Tokens → result.1 ≡ 0 }
         ensures least { self.now.form ≡ LikeForm.Tokens → IsTrue result.0
             → asked self.now.tokens ≤ result.1 }
+        ensures some { self.now.form ≡ LikeForm.Tokens → 0 < asked self.now.tokens
+            → chars haystack.now ≢ [] → 0 < result.1 }
     {
         self.test.passes_counted(haystack)
     }

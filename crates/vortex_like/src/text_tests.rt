@@ -5,6 +5,7 @@ ghost use Rattle.std.specs.Str.{bytes_eq};
 ghost use Rattle.vortex_like.specs.ByteTests.{holds_inside};
 
 use memchr::memmem::{Finder, FinderBuilder};
+use vortex_views::{Row, ValueTest, WordsOfBytes};
 
 /// A test of texts, by their bytes, that takes no memory.
 pub(crate) trait TextTest {
@@ -17,6 +18,23 @@ pub(crate) trait TextTest {
     fn passes(&self, haystack: &[u8]) -> bool
         requires { can_read self.now haystack.now }
         ensures { result ≡ said self.now haystack.now };
+}
+
+/// The same test of a row's text, by its bytes.
+#[derive(Clone, Copy)]
+pub(crate) struct ByBytes<'a, T: TextTest> {
+    pub(crate) test: &'a T,
+}
+
+impl<T: TextTest> ValueTest for ByBytes<'_, T> {
+    ghost can_read = { λ t bytes. T.can_read t.test.now bytes };
+
+    ghost said = { λ t bytes. T.said t.test.now bytes };
+
+    #[inline(always)]
+    fn passes(&self, row: &Row<'_>) -> bool {
+        self.test.passes(row.value_bytes())
+    }
 }
 
 /// Whether a text is this one.

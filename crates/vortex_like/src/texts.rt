@@ -5,6 +5,7 @@ ghost use Rattle.vortex_like.specs.Words.{is_text_type, texts_of, text_at, AreTe
 ghost use Rattle.vortex_like.specs.Words.{IsTextColumn, is_null, row};
 
 use vortex_columns::{Cell, Column, ResolvedViews};
+use vortex_views::Row;
 
 /// The texts of a column that is no constant, each where it lies. Under a null lie any bytes.
 #[derive(Clone, Copy)]
@@ -78,7 +79,18 @@ impl RowTexts for OneText<'_> {
     }
 }
 
-impl Texts<'_> {
+impl<'a> Texts<'a> {
+    ghost use Rattle.vortex_views.specs.LentValue.{row_value};
+
+    /// The text of a row, with the words of its view.
+    #[inline(always)]
+    pub(crate) fn row(&self, i: usize) -> Row<'a>
+        requires { i < length (texts_of self.now) }
+        ensures { row_value result ≡ text_at (texts_of self.now) i }
+    {
+        self.rows.row(i)
+    }
+
     /// Whether the text of a row is ASCII, if the row is not null.
     fn is_ascii_at(&self, column: &Column, i: usize) -> bool
         requires texts { AreTexts column.now (texts_of self.now) }

@@ -1,5 +1,6 @@
 //! The test of texts token by token.
-ghost use Rattle.std.specs.Prelude.{◌≡◌, ◌+◌, ◌*◌, ◌≤◌, ℕ, List, length, IsTrue, IsUtf8};
+ghost use Rattle.std.specs.Prelude.{◌≡◌, ◌≢◌, ◌+◌, ◌*◌, ◌<◌, ◌≤◌, ℕ, List, [], length, IsTrue};
+ghost use Rattle.std.specs.Prelude.{IsUtf8};
 ghost use Rattle.std.specs.Str.{chars};
 ghost use Rattle.vortex_like.specs.Words.{is_match, asked};
 
@@ -23,6 +24,8 @@ impl TokenTest {
         ensures most { result.1
             ≤ (length (chars haystack.now) + 1) * (length self.now.tokens.items + 1) }
         ensures least { IsTrue result.0 → asked self.now.tokens.items ≤ result.1 }
+        ensures some { 0 < asked self.now.tokens.items → chars haystack.now ≢ []
+            → 0 < result.1 }
     {
         let text = unsafe { str::from_utf8_unchecked(haystack) };
         match_tokens(self.tokens.as_slice(), text, self.case_insensitive)

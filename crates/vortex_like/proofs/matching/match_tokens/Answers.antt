@@ -2,7 +2,7 @@ use Rattle.std.proofs.Common.{◌<◌, ◌^◌, ◌≤◌, subst, List, ℕ, len
 use Rattle.std.specs.Str.{chars}
 use Rattle.std.proofs.lemmas.Str.{length-le-encodes, encodes-chars}
 use Rattle.vortex_like.proofs.Walk.{passes_any, passes_one, goes_further, ends, ends_any}
-use Rattle.vortex_like.proofs.Walk.{ends_looked, can_look}
+use Rattle.vortex_like.proofs.Walk.{ends_looked, can_look, refused_looked, end_looked}
 use Rattle.vortex_like.proofs.matching.match_tokens.Goals as goal
 
 pub loop-back-preserved-then-begins_with_any : goal.loop-back-preserved-then-begins_with_any
@@ -37,7 +37,7 @@ loop-back-preserved-then-first_accepts c = (
   passes_one c.args.case_insensitive c.args.tokens.now (chars c.args.text.now) c.loop-back.at
       c.in-Some.c c.loop-back.looks c.first_accepts.new.looks (chars c.in-Some.after.now)
       c.loop-back.back (sym c.if-begins_with_any.ensures) (sym c.if-first_accepts.ensures.answer)
-      (c.first_accepts.ensures.counted c.if-first_accepts.true)
+      c.first_accepts.ensures.counted
       (rw c.in-Some.ensures.characters at c.loop-back.invariant.1),
 )
 
@@ -48,7 +48,7 @@ loop-back-preserved c = (
       c.in-Some.c c.loop-back.looks c.first_accepts.new.looks (chars c.in-Some.after.now)
       c.loop-back.back c.in-Some-one_further.place (sym c.if-begins_with_any.ensures)
       (sym c.if-first_accepts.ensures.answer) c.first_accepts.ensures.most
-      c.first_accepts.ensures.least c.in-Some-one_further.ensures
+      c.first_accepts.ensures.least c.first_accepts.ensures.counted c.in-Some-one_further.ensures
       (rw c.in-Some.ensures.characters at c.loop-back.invariant.1),
 )
 
@@ -72,3 +72,23 @@ returns-then-at-tokens-clause-least c =
     c.loop-back.looks c.loop-back.rest c.loop-back.back (sym c.if-begins_with_any.ensures)
     c.if-at-tokens.true c.loop-back.invariant.1 in
     λ _. found.1
+
+pub returns-then-at-tokens-clause-some : goal.returns-then-at-tokens-clause-some
+returns-then-at-tokens-clause-some c =
+    let found =
+    ends_any c.args.case_insensitive c.args.tokens.now (chars c.args.text.now) c.loop-back.at
+    c.loop-back.looks c.loop-back.rest c.loop-back.back (sym c.if-begins_with_any.ensures)
+    c.if-at-tokens.true c.loop-back.invariant.1 in
+    λ some _. omega (arith, found.1, some)
+
+pub returns-in_default-clause-some : goal.returns-in_default-clause-some
+returns-in_default-clause-some c =
+    end_looked c.args.case_insensitive c.args.tokens.now (chars c.args.text.now) c.loop-back.at
+    c.loop-back.looks c.loop-back.back
+    (rw c.in_default.ensures.characters at c.loop-back.invariant.1)
+
+pub returns-in_default-one_further-clause-some : goal.returns-in_default-one_further-clause-some
+returns-in_default-one_further-clause-some c = λ some _.
+    refused_looked c.args.case_insensitive c.args.tokens.now (chars c.args.text.now) c.loop-back.at
+    c.loop-back.looks c.first_accepts.new.looks (chars c.loop-back.rest.now) c.loop-back.back
+    c.first_accepts.ensures.counted c.first_accepts.ensures.least c.loop-back.invariant.1 some
