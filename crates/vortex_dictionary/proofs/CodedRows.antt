@@ -1,7 +1,7 @@
 -- The rows of a dictionary, and what a kernel says of its values.
 use Rattle.std.proofs.Common.{◌≡◌, ℕ, ◌<◌, Bool, true, false, List, length, refl, sym, ap, ◌∙◌}
 use Rattle.std.proofs.Common.{map, subst, arith}
-use Rattle.std.specs.Prelude.{◌↔◌, ◌||◌, ◌&&◌, All, IsTrue, is_some, slice_index}
+use Rattle.std.specs.Prelude.{◌||◌, ◌&&◌, is_some, slice_index}
 use Rattle.std.proofs.lemmas.List.{get_or-map, length-map}
 use Rattle.std.proofs.lemmas.List.FromFn.{length-map-range_with_len}
 use Rattle.vortex_errors.specs.declared.error.VortexError.{VortexError}
@@ -20,7 +20,7 @@ use Rattle.vortex_kernels.specs.Boolean.{AnswersBoolean, HasBooleanRows, are_boo
 use Rattle.vortex_kernels.specs.Comparison.{AnswersCompare, RefusesCompare, HasComparisonRows}
 use Rattle.vortex_kernels.specs.Comparison.{is_settled, uneven, unlike}
 use Rattle.vortex_kernels.proofs.Comparing.{constant_row}
-use Rattle.vortex_dictionary.specs.Dictionary.{DictView, AreCoded, decoded}
+use Rattle.vortex_dictionary.specs.Dictionary.{DictView, decoded}
 
 -- a row is the value that its code names
 pub coded_row : (rows : List Value) (codes : List ℕ) (i : ℕ) → i < length codes
@@ -142,16 +142,3 @@ comparison_of_values op d v other told e s codes at under below is same alike h 
         each = rows.each;
       };
     }
-
--- as many other values under the same codes
-pub below_over : (m n : ℕ) (xs ys : List ℕ) → m ≡ n → xs ≡ ys → All (λ code. code < n) ys
-    → All (λ code. code < m) xs
-below_over m n xs ys long same h =
-    subst (λ (k : ℕ). All (λ code. code < k) xs) (sym long)
-    (subst (λ (zs : List ℕ). All (λ code. code < n) zs) (sym same) h)
-
-pub coded_over : (b : Bool) (m n : ℕ) (xs ys : List ℕ) → m ≡ n → xs ≡ ys
-    → (IsTrue b ↔ AreCoded n ys) → IsTrue b ↔ AreCoded m xs
-coded_over b m n xs ys long same h =
-    subst (λ (k : ℕ). IsTrue b ↔ AreCoded k xs) (sym long)
-    (subst (λ (zs : List ℕ). IsTrue b ↔ AreCoded n zs) (sym same) h)

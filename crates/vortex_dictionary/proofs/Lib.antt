@@ -1,4 +1,5 @@
 pub mod Marks
+pub mod KeptCodes
 pub mod CallInputs
 pub mod CodedRows
 pub mod PushedRows

@@ -1,13 +1,24 @@
 -- How a dictionary column is kept.
-use Rattle.std.specs.Prelude.{◌↔◌, IsTrue}
+use Rattle.std.specs.Prelude.{ℕ, List, ◌↔◌, IsTrue, length, ⊤}
+use Rattle.vortex_dictionary.specs.declared.codes.Codes.{Codes}
+use Rattle.vortex_dictionary.specs.declared.codes.Codes.TheVariants.{Owned, Shared}
 use Rattle.vortex_dictionary.specs.declared.dictionary.DictColumn.TheInside.{Inside}
-use Rattle.vortex_dictionary.specs.Dictionary.{DictView, AllCoded}
+use Rattle.vortex_dictionary.specs.Dictionary.{DictView, AreCoded}
 use Rattle.vortex_columns.specs.Taken.{AreRowsOf}
 
-abbrev pub dict_view : Inside → DictView
-dict_view a = record { values = a.values; codes = a.codes.value.items }
+abbrev pub codes_in : Codes → List ℕ
+codes_in (Owned codes) = codes.items
+codes_in (Shared codes all_coded) = codes.value.items
 
--- each code names a value, and it is known whether each value has a code
+-- of shared codes it is known whether each of so many values has one
+abbrev pub AreKnown : ℕ → Codes → Type 0
+AreKnown count (Owned codes) = ⊤
+AreKnown count (Shared codes all_coded) = IsTrue all_coded ↔ AreCoded count codes.value.items
+
+abbrev pub dict_view : Inside → DictView
+dict_view a = record { values = a.values; codes = codes_in a.codes }
+
+-- each code names a value
 pub record IsDict (a : Inside) : Type 0 where
-  pub rows : AreRowsOf a.values a.codes.value.items
-  pub coded : IsTrue a.all_coded ↔ AllCoded (dict_view a)
+  pub rows : AreRowsOf a.values (codes_in a.codes)
+  pub known : AreKnown (length a.values.rows) a.codes

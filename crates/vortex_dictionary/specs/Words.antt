@@ -1,7 +1,7 @@
 -- The words of the contracts, from one place.
 pub use Rattle.std.specs.List.{Contains}
 pub use Rattle.vortex_errors.specs.declared.error.VortexError.TheVariants.{InvalidColumn}
-pub use Rattle.vortex_errors.specs.Answers.{Answers, AnswersUnlessMemory, AnswersWhere}
+pub use Rattle.vortex_errors.specs.Answers.{Answers, AnswersUnlessMemory, MadeWhere}
 pub use Rattle.vortex_types.specs.LogicalTypes.{is_bool_type}
 pub use Rattle.vortex_types.specs.TypeEquality.{alike_types}
 pub use Rattle.vortex_types.specs.TypeOf.{type_of}
@@ -15,6 +15,7 @@ pub use Rattle.vortex_columns.specs.Taken.{AreRowsOf, IsTaken}
 pub use Rattle.vortex_dictionary.specs.Dictionary.{DictView, coded_dict, decoded, AreCoded}
 pub use Rattle.vortex_dictionary.specs.Dictionary.{AllCoded}
 pub use Rattle.vortex_dictionary.specs.Dictionary.{compares_beside, combines_beside}
+pub use Rattle.vortex_dictionary.specs.Kept.{codes_in, AreKnown}
 pub use Rattle.vortex_dictionary.specs.PushDown.{constants, inputs_of, TakesInputs, RefusesInputs}
 pub use Rattle.vortex_dictionary.specs.PushDown.{MayRunOver, AnswersPushDown}
 pub use Rattle.vortex_dictionary.specs.Laws.{RowsAreOfRows, ErrsWhereRowsFault}

@@ -1,25 +1,23 @@
 //! Columns whose values stand once.
 ghost use Rattle.std.specs.Prelude.{◌≡◌, ◌↔◌, IsTrue, length};
-ghost use Rattle.vortex_dictionary.specs.Words.{AnswersUnlessMemory, AnswersWhere, AreRowsOf};
+ghost use Rattle.vortex_dictionary.specs.Words.{AnswersUnlessMemory, MadeWhere, AreRowsOf};
 ghost use Rattle.vortex_dictionary.specs.Words.{AllCoded, InvalidColumn, decoded};
 
-use crate::codes::{are_below, are_coded};
+use crate::codes::{Codes, are_below};
+use std::alloc::Global;
 use std::marker::Model;
-use std::rc::Rc;
 use vortex_columns::{Column, DType, ExecutionCtx, VortexError, VortexResult};
 use vortex_encoded::EncodedColumn;
 
 /// A column by its values and a code for each row, the number of the row's value. A null row has
 /// the code of a null value.
 ///
-/// Values that no code names may stand among them, and equal values more than once. What a call
-/// makes of a dictionary shares its codes.
+/// Values that no code names may stand among them, and equal values more than once. The codes are
+/// kept as they were handed over, and once `share` was called where dictionaries share them.
 #[derive(Drop)]
 pub struct DictColumn {
     values: Column,
-    codes: Rc<Vec<u32>>,
-    /// Whether each value has a code.
-    all_coded: bool,
+    codes: Codes,
 }
 
 impl Model for DictColumn {
@@ -37,23 +35,31 @@ impl Model for DictColumn {
 
 impl DictColumn {
     /// The values, and for each row a code. E12 exactly where a code is not below the number of
-    /// values.
+    /// values. Takes no memory.
     pub fn try_new(values: Column, codes: Vec<u32>) -> VortexResult<DictColumn>
-        ensures { AnswersWhere result
+        ensures { MadeWhere result
             (AreRowsOf values codes.items)
             (λ d. d ≡ record { values = values; codes = codes.items })
             InvalidColumn }
     {
-        let alloc = *codes.allocator();
         if !are_below(&codes, values.len()) {
             return Err(VortexError::InvalidColumn);
         }
-        let all_coded = are_coded(alloc, &codes, values.len())?;
         Ok(DictColumn {
             values,
-            codes: Rc::new(alloc, codes)?,
-            all_coded,
+            codes: Codes::Owned(codes),
         })
+    }
+
+    /// The same column, whose codes dictionaries share from here on: what `push_down` makes of it
+    /// has them without a copy, and shares them too. Looks at each code once, and not at all where
+    /// they are shared already.
+    pub fn share(self, alloc: Global) -> VortexResult<DictColumn>
+        ensures { AnswersUnlessMemory result (λ d. d ≡ self) }
+    {
+        let DictColumn { values, codes } = self;
+        let codes = codes.share(alloc, values.len())?;
+        Ok(DictColumn { values, codes })
     }
 
     /// The values, lent.
@@ -68,26 +74,25 @@ impl DictColumn {
         ensures codes { result.now ≡ self.now.codes }
         ensures below { AreRowsOf self.now.values self.now.codes }
     {
-        self.codes.as_slice()
+        self.codes.codes()
     }
 
-    /// Whether each value has a code. It was counted when the codes were given.
-    pub(crate) fn all_coded(&self) -> bool
-        ensures { IsTrue result ↔ AllCoded self.now }
+    /// Whether each value has a code. Of shared codes it is known.
+    pub(crate) fn all_coded(&self, alloc: Global) -> VortexResult<bool>
+        ensures { AnswersUnlessMemory result (λ b. IsTrue b ↔ AllCoded self.now) }
     {
-        self.all_coded
+        self.codes.all_coded(alloc, self.values.len())
     }
 
     /// The same codes over as many other values.
-    pub(crate) fn with_values(&self, values: Column) -> VortexResult<DictColumn>
+    pub(crate) fn with_values(&self, alloc: Global, values: Column) -> VortexResult<DictColumn>
         requires { length values.rows ≡ length self.now.values.rows }
         ensures { AnswersUnlessMemory result
             (λ d. d ≡ record { values = values; codes = self.now.codes }) }
     {
         Ok(DictColumn {
             values,
-            codes: self.codes.clone()?,
-            all_coded: self.all_coded,
+            codes: self.codes.try_clone(alloc)?,
         })
     }
 }
@@ -100,7 +105,7 @@ impl EncodedColumn for DictColumn {
     }
 
     fn len(&self) -> usize {
-        self.codes.len()
+        self.codes().len()
     }
 
     fn decode(&self, ctx: &mut ExecutionCtx) -> VortexResult<Column> {

@@ -29,6 +29,12 @@ pub(crate) fn dictionary(alloc: Global, values: Made, codes: &[u32]) -> Dict {
     Ok(Box::new(alloc, DictColumn::try_new(values, codes)?)?)
 }
 
+/// The same, its codes shared.
+pub(crate) fn shared(alloc: Global, dictionary: Dict) -> Dict {
+    let dictionary = Box::into_inner(dictionary?);
+    Ok(Box::new(alloc, dictionary.share(alloc)?)?)
+}
+
 /// The u8 1, null and 3 under the codes 2 0 1 2.
 pub(crate) fn three_one_null_three(alloc: Global) -> Dict {
     let values = kept(alloc, Column::of_ints(alloc, &[Some(1u8), None, Some(3)]));

@@ -27,7 +27,7 @@ returns-in_err-answers g c =
     rw (p.1, p.2)
     (faulted g.C.ScalarFnVTable.meaning (function_of c.args.function.now) d _ _ is _
     (ap (map cow_value) c.deref.ensures.value) _ c.new-args.ensures.columns _ long
-    c.in_ok-check_inputs.ensures (c.may_run_over.ensures.0 c.if-not-may_run_over.false) _
+    c.in_ok-check_inputs.ensures (c.in_ok-may_run_over.ensures.0 c.if-not-branch.false) _
     c.in_err-answers.ensures)
 
 pub returns : goal.returns
@@ -41,5 +41,5 @@ returns g c =
     ∙ ap (λ (v : ColumnView). length v.rows) c.values-values.ensures in
     pushed g.C.ScalarFnVTable.meaning (function_of c.args.function.now) d _ _ is _
     (ap (map cow_value) c.deref.ensures.value) _ c.new-args.ensures.columns _ long
-    c.in_ok-check_inputs.ensures (c.may_run_over.ensures.0 c.if-not-may_run_over.false)
+    c.in_ok-check_inputs.ensures (c.in_ok-may_run_over.ensures.0 c.if-not-branch.false)
     c.in_ok-answers.answers _ c.in_ok-answers.ensures c.in_ok-with_values.ensures

@@ -1,6 +1,7 @@
-use Rattle.std.proofs.Common.{◌≡◌, ap, sym, ◌∙◌, length}
+use Rattle.std.proofs.Common.{◌≡◌, ℕ, ap, sym, subst, ◌∙◌, length}
 use Rattle.vortex_dictionary.specs.Dictionary.{DictView}
-use Rattle.vortex_dictionary.proofs.CodedRows.{below_over, coded_over}
+use Rattle.vortex_dictionary.specs.Kept.{AreKnown}
+use Rattle.vortex_dictionary.proofs.KeptCodes.{below_over}
 use Rattle.vortex_dictionary.proofs.dictionary.DictColumn.with_values.Goals as goal
 
 pub invariant_of-result : goal.invariant_of-result
@@ -8,9 +9,9 @@ invariant_of-result c =
     let a = c.self.inside in
     let long : length c.args.values.rows ≡ length a.values.rows =
     c.requires ∙ ap (λ (d : DictView). length d.values.rows) (sym c.self.view_is) in
-    let same : c.in_ok-clone.field-0.value.items ≡ a.codes.value.items =
-    ap (λ v. v.items) c.in_ok-clone.ensures.cases in
     record {
-      rows = below_over _ _ _ _ long same c.self.invariant.rows;
-      coded = coded_over _ _ _ _ _ long same c.self.invariant.coded;
+      rows = below_over _ _ _ _ long c.in_ok-try_clone.ensures.0 c.self.invariant.rows;
+      known =
+          c.in_ok-try_clone.ensures.1 _
+          (subst (λ (n : ℕ). AreKnown n a.codes) (sym long) c.self.invariant.known);
     }
