@@ -1,5 +1,5 @@
 -- Rows that are valid on both sides, and which rows a storage tells to be valid.
-use Rattle.std.proofs.Common.{◌≡◌, ℕ, ◌<◌, Bool, true, false, length, refl, sym, ap, subst, ◌∙◌}
+use Rattle.std.proofs.Common.{◌≡◌, ◌<◌, Bool, true, false, length, refl, sym, ap, ◌∙◌}
 use Rattle.std.proofs.Common.{[], arith}
 use Rattle.std.specs.Prelude.{◌||◌, not}
 use Rattle.std.proofs.lemmas.List.Elements.{All-get_or}
@@ -8,8 +8,8 @@ use Rattle.vortex_types.specs.Typing.{HasType}
 use Rattle.vortex_types.specs.Values.{null, is_null}
 use Rattle.vortex_types.proofs.NullValues.{not_null}
 use Rattle.vortex_columns.specs.ColumnView.{ColumnView, row, AreTyped}
-use Rattle.vortex_columns.specs.ValidityView.{ValidityView, non_nullable}
-use Rattle.vortex_columns.specs.ValidRows.{IsJointValidity, either_nullable, AreValid, IsAsValid}
+use Rattle.vortex_columns.specs.ValidityView.{non_nullable}
+use Rattle.vortex_columns.specs.ValidRows.{IsJointValidity, either_nullable}
 
 -- where neither type has null each row is valid
 pub valid_everywhere : (l r : ColumnView) → length l.rows ≡ length r.rows

@@ -1,4 +1,4 @@
-use Rattle.std.proofs.Common.{◌≡◌, ◌∙◌, length, sym, ap}
+use Rattle.std.proofs.Common.{◌∙◌, length, sym, ap}
 use Rattle.vortex_columns.specs.ColumnView.{ColumnView}
 use Rattle.vortex_columns.proofs.StoredRows.{opened_fits, opened_validity}
 use Rattle.vortex_columns.proofs.column.Column.valid_rows.Goals as goal
