@@ -1,5 +1,5 @@
 pub mod Batches
 pub mod Fields
-pub mod Kept
+pub mod KeptLines
 pub mod Records
 pub mod Scanning

@@ -2,9 +2,8 @@
 ghost use Rattle.std.specs.Prelude.{◌≡◌, ◌≢◌, ◌∷◌, [], ◌++◌, ◌&&◌, Bool, not, List, map, OnOk};
 ghost use Rattle.std.specs.Prelude.{IfOk};
 ghost use Rattle.std.specs.Str.{bytes_eq};
-ghost use Rattle.csv.specs.Reading.{reader_source};
 ghost use Rattle.csv.specs.Records.{fields_of, field_at};
-ghost use Rattle.rowfn_csv.specs.Kept.{bytes_between, last_bytes, is_ended};
+ghost use Rattle.rowfn_csv.specs.KeptLines.{line_of, last_bytes, is_ended};
 ghost use Rattle.rowfn_csv.specs.Records.{Field, SaysFields, quoted_at, reads_null, field_taken};
 ghost use Rattle.rowfn_csv.specs.Records.{without_line_end};
 ghost use Rattle.rowfn_csv.specs.Scanning.{Knows};
@@ -189,7 +188,7 @@ impl<'a, R: Read> Rows<'a, R> {
 
     /// The bytes of a record that is still kept.
     pub fn bytes(&self, span: Span) -> &[u8]
-        ensures { result.now ≡ bytes_between (reader_source self.now.reader) span.start span.end }
+        ensures { result.now ≡ line_of self.now span }
     {
         self.reader.get_ref().between(span.start, span.end)
     }

@@ -19,7 +19,7 @@ pub struct Tee<R> {
 
 impl<R: Read> Tee<R> {
     ghost use Rattle.std.specs.Prelude.{◌≡◌};
-    ghost use Rattle.rowfn_csv.specs.Kept.{bytes_between};
+    ghost use Rattle.rowfn_csv.specs.KeptLines.{bytes_between};
 
     /// Nothing is read yet; takes no memory.
     pub fn new(alloc: Global, inner: R) -> Tee<R> {

@@ -1,10 +1,14 @@
 -- One more column that stands in a header.
 use Rattle.std.proofs.Common.{◌≡◌, ◌≢◌, ℕ, ◌<◌, ◌≤◌, ◌+◌, suc, List, [], ◌∷◌, ◌++◌, length}
 use Rattle.std.proofs.Common.{ap, sym, ◌∙◌, get_or, add-one, zero, Some, string_bytes, arith, take}
+use Rattle.std.proofs.Common.{refl, subst}
 use Rattle.std.proofs.Math.Seq.{take-suc}
 use Rattle.csv.specs.Records.{field_at}
 use Rattle.rowfn_batches.specs.declared.columns.Declared.{Declared}
-use Rattle.rowfn_rows.specs.Layouts.{LacksFrom, IsFirstFrom, StandsOnce, StandAt}
+use Rattle.std.proofs.lemmas.Option.{slice_get_read}
+use Rattle.rowfn_rows.specs.declared.errors.StreamError.{StreamError}
+use Rattle.rowfn_rows.specs.Layouts.{LacksFrom, IsFirstFrom, StandsOnce, StandAt, RefusesName}
+use Rattle.rowfn_rows.specs.Layouts.{RefusesHeader, at_column}
 
 -- a field that is there lies among the fields
 within : (fields : List (List ℕ)) (q : ℕ) (x : List ℕ) → field_at fields q ≡ Some x
@@ -57,3 +61,12 @@ next_column fields ds k d ps now name p h is named before once pushed =
         ap (λ (n : ℕ). take n ds) (add-one k)
         ∙ take-suc ds k d h
         ∙ ap (λ (x : Declared). take k ds ++ (x ∷ [])) (sym is)
+
+-- a column at which a loop over declared columns ends
+pub refused_at : (fields : List (List ℕ)) (ds : List Declared) (k : ℕ) (d : Declared)
+    (ps : List ℕ) (name : List ℕ) (e : StreamError) → k < length ds → d ≡ get_or ds k d
+    → name ≡ string_bytes d.name → StandAt fields (take k ds) ps → RefusesName fields name e
+    → RefusesHeader fields ds e
+refused_at fields ds k d ps name e h is named before why =
+    at_column k d ps (slice_get_read ds (length ds) k d refl h is) before
+    (subst (λ (n : List ℕ). RefusesName fields n e) named why)

@@ -1,4 +1,7 @@
 pub mod FirstRows
 pub mod LastAlone
 pub mod Layouts
+pub mod Lines
 pub mod Outputs
+pub mod Passed
+pub mod Within

@@ -1,5 +1,5 @@
 -- What the rows of a batch answer, up to the first that ends the stream, and what ends it there.
-use Rattle.std.specs.Prelude.{◌≡◌, ◌+◌, ◌*◌, ◌-◌, ◌^◌, ◌<◌, ℕ, List, length, map, take, Option}
+use Rattle.std.specs.Prelude.{◌≡◌, ◌+◌, ◌*◌, ◌-◌, ◌^◌, min, ℕ, List, length, map, take, Option}
 use Rattle.std.specs.Prelude.{Some, None, slice_get, string_bytes, Vec, ⊤}
 use Rattle.std.specs.declared.alloc.Global.{Global}
 use Rattle.vortex_errors.specs.declared.error.VortexError.{VortexError}
@@ -20,8 +20,8 @@ use Rattle.rowfn_rows.specs.declared.errors.StreamError.{StreamError}
 use Rattle.rowfn_rows.specs.declared.errors.StreamError.TheVariants as end
 
 -- the number of a row, counted from 1 behind the rows before the batch; it stays at the greatest
-abbrev pub IsNumber : ℕ → ℕ → ℕ → Type 0
-IsNumber before row number = before + row < 2 ^ 64 - 1 → number ≡ before + row + 1
+abbrev pub row_number : ℕ → ℕ → ℕ
+row_number before row = min (before + row + 1) (2 ^ 64 - 1)
 
 -- the bytes of a field, and none of a null field
 abbrev pub field_told : Option (Vec ℕ Global) → Field
@@ -32,13 +32,13 @@ module _ (before : ℕ) (row : ℕ) where
   -- the field of that row that its column does not hold, with the column's name and type
   abbrev pub TellsMisfit : Option Declared → Field → StreamError → Type 0
   TellsMisfit (Some d) f (end.Misfit number column kind nullability field) =
-      IsNumber before row number × (string_bytes column ≡ string_bytes d.name) × (kind ≡ d.kind)
+      (number ≡ row_number before row) × (string_bytes column ≡ string_bytes d.name) × (kind ≡ d.kind)
       × (nullability ≡ d.nullability) × (field_told field ≡ f)
   TellsMisfit d f e = ⊥
 
   -- the fault of that row
   abbrev pub TellsFault : VortexError → StreamError → Type 0
-  TellsFault fault (end.Fault number told) = IsNumber before row number × (told ≡ fault)
+  TellsFault fault (end.Fault number told) = (number ≡ row_number before row) × (told ≡ fault)
   TellsFault fault e = ⊥
 
 -- a column whose texts are too long, by its name

@@ -1,9 +1,15 @@
--- The status with which a program tells what ended a stream.
+-- What a read that failed ends, and the status with which a program tells what ended a stream.
 use Rattle.std.specs.Prelude.{ℕ}
+use Rattle.rowfn_csv.specs.declared.rows.ReadError.{ReadError}
+use Rattle.rowfn_csv.specs.declared.rows.ReadError.TheVariants as read
 use Rattle.rowfn_batches.specs.declared.expression.ExpressionError.{ExpressionError}
 use Rattle.rowfn_batches.specs.declared.expression.ExpressionError.TheVariants as line
 use Rattle.rowfn_rows.specs.declared.errors.StreamError.{StreamError}
 use Rattle.rowfn_rows.specs.declared.errors.StreamError.TheVariants as end
+
+abbrev pub read_ending : ReadError → StreamError
+read_ending (read.Io e) = end.Reading e
+read_ending read.OutOfMemory = end.OutOfMemory
 
 -- 4 for an expression that is wrong, but for want of memory
 abbrev pub expression_status : ExpressionError → ℕ

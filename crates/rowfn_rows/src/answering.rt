@@ -4,7 +4,7 @@ ghost use Rattle.std.specs.Prelude.{MatchResult};
 ghost use Rattle.rowfn_batches.specs.Fields.{field_in};
 ghost use Rattle.rowfn_batches.specs.Batches.{field_at};
 ghost use Rattle.rowfn_rows.specs.declared.errors.StreamError.TheVariants.{OutOfMemory};
-ghost use Rattle.rowfn_rows.specs.BatchAnswers.{IsNumber, TellsMisfit, TellsName, AreFirst};
+ghost use Rattle.rowfn_rows.specs.BatchAnswers.{row_number, TellsMisfit, TellsName, AreFirst};
 ghost use Rattle.rowfn_rows.specs.BatchAnswers.{AreAnswers, EndsAnswers, EndsBatch};
 ghost use Rattle.rowfn_rows.specs.BatchAnswers.{IsUnserved, IsUnanswered};
 
@@ -31,9 +31,10 @@ pub struct Task<'a> {
     pub rows_before: u64,
 }
 
-/// The number of a row of a batch, counted from 1 over the whole input.
+/// The number of a row of a batch, counted from 1 over the whole input; 18,446,744,073,709,551,615
+/// where it is larger.
 pub fn row_number(rows_before: u64, row: usize) -> u64
-    ensures { IsNumber rows_before row result }
+    ensures { result ≡ row_number rows_before row }
 {
     rows_before.saturating_add(row as u64).saturating_add(1)
 }

@@ -59,6 +59,11 @@ pub enum StreamError {
 }
 
 impl From<ReadError> for StreamError {
+    ghost use Rattle.rowfn_rows.specs.Endings.{read_ending};
+    ghost use Rattle.std.specs.Prelude.{◌≡◌};
+
+    ghost from_gives = { λ error e. e ≡ read_ending error };
+
     fn from(error: ReadError) -> StreamError {
         match error {
             ReadError::Io(error) => StreamError::Reading(error),
@@ -68,6 +73,11 @@ impl From<ReadError> for StreamError {
 }
 
 impl From<ExpressionError> for StreamError {
+    ghost use Rattle.rowfn_rows.specs.declared.errors.StreamError.TheVariants.{Expression};
+    ghost use Rattle.std.specs.Prelude.{◌≡◌};
+
+    ghost from_gives = { λ error e. e ≡ Expression error };
+
     fn from(error: ExpressionError) -> StreamError {
         StreamError::Expression(error)
     }

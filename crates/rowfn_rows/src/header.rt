@@ -1,7 +1,10 @@
 //! Where the declared columns stand in the input.
-ghost use Rattle.std.specs.Prelude.{◌≡◌, ◌↔◌, Some, IsTrue, IfOk, MatchOption, length};
+ghost use Rattle.std.specs.Prelude.{◌≡◌, ◌↔◌, Some, IsTrue, IfOk, IfErr, MatchOption, MatchResult};
+ghost use Rattle.std.specs.Prelude.{length};
+ghost use Rattle.std.specs.List.{range_with_len};
 ghost use Rattle.csv.specs.Records.{fields_of, field_at};
 ghost use Rattle.rowfn_rows.specs.Layouts.{LacksFrom, IsFirstFrom, StandsOnce, StandAt};
+ghost use Rattle.rowfn_rows.specs.Layouts.{RefusesName, RefusesHeader};
 
 use crate::errors::StreamError;
 use rowfn_batches::Declared;
@@ -40,7 +43,8 @@ fn find_from(header: &ByteRecord, name: &str, start: usize) -> Option<usize>
 
 /// Where a name stands in a header. Refused where it is missing or stands twice.
 fn place_of(alloc: Global, header: &ByteRecord, name: &str) -> Result<usize, StreamError>
-    ensures { IfOk result (λ place. StandsOnce (fields_of header.now) name.now place) }
+    ensures { MatchResult result (StandsOnce (fields_of header.now) name.now)
+        (RefusesName (fields_of header.now) name.now) }
 {
     // A header has no more fields than a number counts, so there is a place behind each.
     let _count = header.len();
@@ -53,13 +57,16 @@ fn place_of(alloc: Global, header: &ByteRecord, name: &str) -> Result<usize, Str
     }
 }
 
-/// Where each declared column stands in a header. Refused where one is missing or stands twice.
+/// Where each declared column stands in a header. Refused where one is missing or stands twice, with
+/// the name of the first that is or does.
 fn places_of(
     alloc: Global,
     declared: &[Declared],
     header: &ByteRecord,
 ) -> Result<Vec<usize>, StreamError>
-    ensures { IfOk result (λ places. StandAt (fields_of header.now) declared.now places.items) }
+    ensures { MatchResult result
+        (λ places. StandAt (fields_of header.now) declared.now places.items)
+        (RefusesHeader (fields_of header.now) declared.now) }
 {
     let mut places = Vec::new(alloc);
     for column in declared {
@@ -68,7 +75,8 @@ fn places_of(
     Ok(places)
 }
 
-/// The layout that a header tells. Refused where a declared column is missing or stands twice.
+/// The layout that a header tells. Refused where a declared column is missing or stands twice, with
+/// the name of the first that is or does.
 pub fn named_layout(
     alloc: Global,
     declared: &[Declared],
@@ -77,6 +85,7 @@ pub fn named_layout(
     ensures places { IfOk result
         (λ layout. StandAt (fields_of header.now) declared.now layout.places.items) }
     ensures width { IfOk result (λ layout. layout.width ≡ length (fields_of header.now)) }
+    ensures refused { IfErr result (RefusesHeader (fields_of header.now) declared.now) }
 {
     let places = places_of(alloc, declared, header)?;
     Ok(Layout {
@@ -86,7 +95,11 @@ pub fn named_layout(
 }
 
 /// The layout of an input without a header: the declared columns in their order.
-pub fn declared_layout(alloc: Global, declared: &[Declared]) -> Result<Layout, AllocError> {
+pub fn declared_layout(alloc: Global, declared: &[Declared]) -> Result<Layout, AllocError>
+    ensures places { IfOk result
+        (λ layout. layout.places.items ≡ range_with_len 0 (length declared.now)) }
+    ensures width { IfOk result (λ layout. layout.width ≡ length declared.now) }
+{
     let mut places = Vec::new(alloc);
     for i in 0..declared.len() {
         places.push(i)?;

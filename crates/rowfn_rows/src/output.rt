@@ -1,14 +1,18 @@
 //! What is written: answers as fields of CSV, or rows of the input as they stand.
-ghost use Rattle.std.specs.Prelude.{◌≡◌, ◌↔◌, ◌<◌, ◌∷◌, [], IsTrue, OnOk, true, length};
-ghost use Rattle.vortex_types.specs.Values.{truth};
+ghost use Rattle.std.specs.Prelude.{◌≡◌, ◌<◌, ◌≤◌, ◌+◌, ◌∷◌, [], OnOk, IfOk, length, map};
+ghost use Rattle.std.specs.Prelude.{if◌then◌else◌};
 ghost use Rattle.vortex_columns.specs.ColumnView.{row};
 ghost use Rattle.vortex_meaning.specs.CallTexts.{joined, separator_before};
 ghost use Rattle.rowfn_csv.specs.Fields.{text_field};
+ghost use Rattle.rowfn_csv.specs.KeptLines.{line_of};
 ghost use Rattle.rowfn_rows.specs.Outputs.{Adds, name_field, value_field, row_fields, row_line};
+ghost use Rattle.rowfn_rows.specs.Outputs.{HaveRows, row_lines, is_true, picked_texts};
+ghost use Rattle.rowfn_rows.specs.Outputs.{picked_count};
 
 use rowfn_batches::push_field;
-use rowfn_csv::{Format, quote_from};
+use rowfn_csv::{Format, Rows, Span, quote_from};
 use std::alloc::{AllocError, Global};
+use std::io::Read;
 use vortex_columns::{Cell, Column};
 
 /// What is to be written next. Its buffers serve from batch to batch.
@@ -84,6 +88,7 @@ impl<'a> Output<'a> {
 
     /// Adds the value of a row as a field. Refused only for want of memory.
     fn push_value(&mut self, column: &Column, place: usize) -> Result<(), AllocError>
+        requires { place < length column.now.rows }
         ensures { OnOk result (Adds self.old self.new
             (value_field self.old.format.delimiter self.old.format.null.now
             (row column.now.rows place))) }
@@ -107,6 +112,7 @@ impl<'a> Output<'a> {
 
     /// Adds the values of a row as fields. Refused only for want of memory.
     fn push_values(&mut self, answers: &[Column], place: usize) -> Result<(), AllocError>
+        requires { HaveRows (place + 1) answers.now }
         ensures { OnOk result (Adds self.old self.new
             (joined (self.old.format.delimiter ∷ []) (row_fields self.old.format.delimiter
             self.old.format.null.now answers.now place))) }
@@ -119,19 +125,66 @@ impl<'a> Output<'a> {
     }
 
     /// Adds a row of the answers as a line. Refused only for want of memory.
-    pub fn push_row(&mut self, answers: &[Column], place: usize) -> Result<(), AllocError>
+    fn push_row(&mut self, answers: &[Column], place: usize) -> Result<(), AllocError>
+        requires { HaveRows (place + 1) answers.now }
         ensures { OnOk result (Adds self.old self.new
             (row_line self.old.format.delimiter self.old.format.null.now answers.now place)) }
     {
         self.push_values(answers, place)?;
         self.end_line()
     }
+
+    /// Adds the first rows of the answers, a line each. Refused only for want of memory.
+    pub fn push_rows(&mut self, answers: &[Column], row_count: usize) -> Result<(), AllocError>
+        requires { HaveRows row_count answers.now }
+        ensures { OnOk result (Adds self.old self.new
+            (row_lines self.old.format.delimiter self.old.format.null.now answers.now row_count)) }
+    {
+        for row in 0..row_count {
+            self.push_row(answers, row)?;
+        }
+        Ok(())
+    }
+
+    /// Adds the line of a row where a column is true in it, and tells whether it is. Refused only for
+    /// want of memory.
+    fn push_if_true(&mut self, top: &Column, i: usize, line: &[u8]) -> Result<bool, AllocError>
+        requires { i < length top.now.rows }
+        ensures { IfOk result (λ picked. (picked ≡ is_true (row top.now.rows i))
+            × Adds self.old self.new (if is_true (row top.now.rows i) then line.now else [])) }
+    {
+        if !is_true(top, i) {
+            return Ok(false);
+        }
+        self.push_bytes(line)?;
+        Ok(true)
+    }
+
+    /// Adds the lines of those rows in which a column is true, and tells how many those are; `spans`
+    /// has a row of the column for each line. Refused only for want of memory.
+    pub fn push_picked<R: Read>(
+        &mut self,
+        top: &Column,
+        rows: &Rows<'_, R>,
+        spans: &[Span],
+    ) -> Result<u64, AllocError>
+        requires { length spans.now ≤ length top.now.rows }
+        ensures lines { OnOk result (Adds self.old self.new
+            (picked_texts top.now (map (line_of rows.now) spans.now))) }
+        ensures count { IfOk result (λ count. count ≡ picked_count top.now (length spans.now)) }
+    {
+        let mut count = 0;
+        for (i, span) in spans.iter().enumerate() {
+            count += u64::from(self.push_if_true(top, i, rows.bytes(*span))?);
+        }
+        Ok(count)
+    }
 }
 
 /// Whether a column is true in a row; it is not where it is null there.
-pub fn is_true(column: &Column, i: usize) -> bool
+fn is_true(column: &Column, i: usize) -> bool
     requires { i < length column.now.rows }
-    ensures { IsTrue result ↔ row column.now.rows i ≡ truth true }
+    ensures { result ≡ is_true (row column.now.rows i) }
 {
     match column.cell(i) {
         Cell::Bool(true) => true,

@@ -1,15 +1,20 @@
 //! The stream: batches of rows, answered and written one behind the other.
-ghost use Rattle.std.specs.Prelude.{IfOk, IfErr};
+ghost use Rattle.std.specs.Prelude.{◌≡◌, ◌≤◌, IfOk, IfErr, OnOk, MatchResult, length};
+ghost use Rattle.std.specs.Io.KnownBytes.{Appends};
+ghost use Rattle.rowfn_rows.specs.BatchAnswers.{IsUnanswered};
+ghost use Rattle.rowfn_rows.specs.Outputs.{Adds, HaveRows};
+ghost use Rattle.rowfn_rows.specs.Passing.{IsAnswered, batch_text, KeepsReading, IsCleared};
+ghost use Rattle.rowfn_rows.specs.Passing.{IsWriting, PassesOn};
 ghost use Rattle.rowfn_rows.specs.Tops.{IsTop, RefusesTop};
 
 use crate::answering::{Answered, Task, row_number};
 use crate::errors::StreamError;
 use crate::header::{Layout, declared_layout, named_layout};
-use crate::output::{Output, is_true};
+use crate::output::Output;
 use crate::settings::Settings;
 use rowfn_batches::Expression;
 use rowfn_csv::{Batch, ReadError, Rows};
-use std::alloc::Global;
+use std::alloc::{AllocError, Global};
 use std::io::{Read, Write};
 use vortex_columns::Column;
 use vortex_functions::NoCustom;
@@ -157,7 +162,12 @@ impl<'a, R: Read + Drop> Stream<'a, R> {
     }
 
     /// What the rows of the batch answer, behind which an error ends the stream, if there is one.
-    fn answer(&self, error: Option<StreamError>) -> Result<Answered, StreamError> {
+    fn answer(&self, error: Option<StreamError>) -> Result<Answered, StreamError>
+        ensures { MatchResult result
+            (λ a. IsAnswered self.now error a.row_count a.answers.items a.error)
+            (IsUnanswered self.now.expression.now self.now.batch.fields
+            (length self.now.batch.spans)) }
+    {
         let fields = self.batch.fields(self.alloc)?;
         let task = Task {
             alloc: self.alloc,
@@ -167,35 +177,35 @@ impl<'a, R: Read + Drop> Stream<'a, R> {
         task.answer_batch(&fields, self.batch.len(), error)
     }
 
-    /// Puts the answers of the first rows down.
-    fn put_answers(&mut self, answers: &[Column], row_count: usize) -> Result<(), StreamError> {
-        for row in 0..row_count {
-            if self.output.push_row(answers, row).is_err() {
-                return Err(StreamError::OutOfMemory);
-            }
+    /// Puts down what is written of the first rows: a line of the answers for each, or the lines of
+    /// the input of those in which the last answer is true. Tells how many those are. Refused only
+    /// for want of memory.
+    fn push_batch(&mut self, answers: &[Column], row_count: usize) -> Result<u64, AllocError>
+        requires rows { HaveRows row_count answers.now }
+        requires spans { row_count ≤ length self.old.batch.spans }
+        ensures text { OnOk result (Adds self.old.output self.new.output
+            (batch_text self.old answers.now row_count)) }
+        ensures kept { KeepsReading self.old self.new }
+    {
+        if !self.settings.picks_rows {
+            self.output.push_rows(answers, row_count)?;
+            return Ok(row_count as u64);
         }
-        let written = self.summary.rows_written;
-        self.summary.rows_written = written.saturating_add(row_count as u64);
-        Ok(())
-    }
-
-    /// Puts those of the first rows down in which the only answer is true.
-    fn pick_rows(&mut self, answers: &[Column], row_count: usize) -> Result<(), StreamError> {
         let Some(top) = answers.last() else {
-            return Ok(());
+            return Ok(0);
         };
-        let spans = self.batch.spans();
-        for row in 0..row_count.min(spans.len()).min(top.len()) {
-            if is_true(top, row) {
-                self.output.push_bytes(self.rows.bytes(spans[row]))?;
-                self.summary.rows_written = self.summary.rows_written.saturating_add(1);
-            }
-        }
-        Ok(())
+        let spans = &self.batch.spans()[..row_count];
+        self.output.push_picked(top, &self.rows, spans)
     }
 
-    /// Writes what was put down.
-    fn write<W: Write>(&mut self, writer: &mut W) -> Result<(), StreamError> {
+    /// Writes what was put down. Refused only where the writer refuses.
+    fn write<W: Write>(&mut self, writer: &mut W) -> Result<(), StreamError>
+        ensures written { OnOk result (Appends (W.contents writer.old) (W.contents writer.new)
+            self.old.output.bytes.items) }
+        ensures cleared { OnOk result (IsCleared self.old.output self.new.output) }
+        ensures kept { KeepsReading self.old self.new }
+        ensures refused { IfErr result IsWriting }
+    {
         if let Err(error) = writer.write_all(self.output.bytes()) {
             return Err(StreamError::Writing(error));
         }
@@ -206,25 +216,33 @@ impl<'a, R: Read + Drop> Stream<'a, R> {
         Ok(())
     }
 
-    /// Answers and writes the batch.
+    /// Answers and writes the batch: the lines of its rows in their order, up to the first that ends
+    /// the stream, and then the error that does, if any.
     fn pass<W: Write>(
         &mut self,
         error: Option<StreamError>,
         writer: &mut W,
-    ) -> Result<(), StreamError> {
+    ) -> Result<(), StreamError>
+        ensures passes { PassesOn self.old error (W.contents writer.old) (W.contents writer.new)
+            result }
+        ensures cleared { OnOk result (IsCleared self.old.output self.new.output) }
+        ensures kept { KeepsReading self.old self.new }
+    {
         let Answered {
             answers,
             row_count,
             error,
         } = self.answer(error)?;
-        if self.settings.picks_rows {
-            self.pick_rows(&answers, row_count)?;
-        } else {
-            self.put_answers(&answers, row_count)?;
-        }
+        let count = self.push_batch(&answers, row_count)?;
         self.write(writer)?;
-        let read = self.summary.rows_read;
-        self.summary.rows_read = read.saturating_add(self.batch.len() as u64);
+        let Summary {
+            rows_read,
+            rows_written,
+        } = self.summary;
+        self.summary = Summary {
+            rows_read: rows_read.saturating_add(self.batch.len() as u64),
+            rows_written: rows_written.saturating_add(count),
+        };
         match error {
             Some(error) => Err(error),
             None => Ok(()),

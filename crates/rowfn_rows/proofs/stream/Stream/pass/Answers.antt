@@ -1,0 +1,41 @@
+use Rattle.std.proofs.Common.{◌≡◌, ◌∙◌, ℕ, List, Option, Some, None, Err, ap, sym}
+use Rattle.std.proofs.lemmas.Result.{err_from_is_err_and}
+use Rattle.rowfn_rows.specs.Passing.{ended, unwritten}
+use Rattle.rowfn_rows.proofs.Passed.{have, within, passed}
+use Rattle.rowfn_rows.proofs.stream.Stream.pass.Goals as goal
+
+pub push_batch-requires-clause-rows : goal.push_batch-requires-clause-rows
+push_batch-requires-clause-rows g c =
+    let a = c.in_ok-answers in
+    have c.args.self.now c.args.error _ a.row_count _ c.deref.result.now _ a.ensures
+    (cc a.row_count-is) (cc c.deref.ensures.value)
+
+pub push_batch-requires-clause-spans : goal.push_batch-requires-clause-spans
+push_batch-requires-clause-spans g c =
+    let a = c.in_ok-answers in
+    within c.args.self.now c.args.error _ a.row_count _ c.deref.result.now _ a.ensures
+    (cc a.row_count-is) (cc c.deref.ensures.value)
+
+pub returns-in_err-write-clause-passes : goal.returns-in_err-write-clause-passes
+returns-in_err-write-clause-passes g c =
+    let p = err_from_is_err_and c.from_residual-in_err-write.result
+    c.from_residual-in_err-write.ensures.1 in
+    unwritten c.in_err-write.field-0.0 c.in_err-write.ensures.refused (p.1 ∙ ap Err p.2)
+
+pub returns-in-Some-clause-passes : goal.returns-in-Some-clause-passes
+returns-in-Some-clause-passes g c =
+    let a = c.in_ok-answers in
+    let same : a.field-0.error ≡ Some c.in-Some.error = cc c.in-Some.is in
+    passed c.args.self.now c.args.error _ a.row_count _ c.deref.result.now _ a.ensures
+    (cc a.row_count-is) (cc c.deref.ensures.value)
+    c.push_batch.new.self _ _ _ c.in_ok-count.ensures.text c.in_ok-write.ensures.written
+    (sym (ap ended same))
+
+pub returns-clause-passes : goal.returns-clause-passes
+returns-clause-passes g c =
+    let a = c.in_ok-answers in
+    let same : a.field-0.error ≡ None = cc c.in-None.is in
+    passed c.args.self.now c.args.error _ a.row_count _ c.deref.result.now _ a.ensures
+    (cc a.row_count-is) (cc c.deref.ensures.value)
+    c.push_batch.new.self _ _ _ c.in_ok-count.ensures.text c.in_ok-write.ensures.written
+    (sym (ap ended same))
