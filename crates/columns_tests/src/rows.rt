@@ -2,7 +2,7 @@
 
 use fixtures::yes;
 use std::alloc::Global;
-use vortex_columns::{Column, DType, Nullability, PType, Scalar, VortexResult};
+use vortex_columns::{Column, DType, ExecutionCtx, Nullability, Scalar, VortexResult};
 
 /// Whether a column of truth values has these rows, and is read neither as integers nor as texts.
 fn reads_bools(alloc: Global, rows: &[Option<bool>]) -> VortexResult<bool> {
@@ -44,15 +44,39 @@ fn rows_are_read_in_their_order(rt: HostRuntime) {
 
 /// Whether a constant's value is read in each row.
 fn reads_constant(alloc: Global) -> VortexResult<bool> {
-    let column = Column::constant(alloc, Scalar::from(5i32), 3);
-    let nulls = Column::constant(alloc, Scalar::null(DType::Bool(Nullability::Nullable)), 2);
+    let column = Column::constant(alloc, Scalar::from(5i32), 3)?;
+    let nulls = Column::constant(alloc, Scalar::null(DType::Bool(Nullability::Nullable)), 2)?;
     let (Some(fives), Some(none)) = (column.int_rows::<i32>(), nulls.bool_rows()) else {
         return Ok(false);
     };
-    Ok(fives.eq([Some(5), Some(5), Some(5)].iter().copied()) && none.eq([None, None].iter().copied()))
+    Ok(
+        fives.eq([Some(5), Some(5), Some(5)].iter().copied())
+            && none.eq([None, None].iter().copied()),
+    )
 }
 
 #[test]
 fn constants_are_read_row_by_row(rt: HostRuntime) {
     assert!(rt; yes(reads_constant(rt.alloc())));
+}
+
+/// Whether the rows of a column that are true have these numbers, and are taken by them.
+fn true_in(alloc: Global, column: VortexResult<Column>, wanted: &[u32]) -> VortexResult<bool> {
+    let column = column?;
+    if !column.dtype().is_boolean() {
+        return Ok(false);
+    }
+    let codes = column.true_rows(alloc)?;
+    let taken = column.take(&codes, &mut ExecutionCtx::new(alloc))?;
+    Ok(codes.as_slice() == wanted && taken.len() == wanted.len())
+}
+
+#[test]
+fn true_rows_are_numbered(rt: HostRuntime) {
+    let alloc = rt.alloc();
+    let rows = [Some(false), Some(true), None, Some(true)];
+    let constant = Column::constant(alloc, Scalar::from(true), 3);
+    assert!(rt; yes(true_in(alloc, Column::of_bools(alloc, &rows), &[1, 3])));
+    assert!(rt; yes(true_in(alloc, Column::of_bools(alloc, &[None]), &[])));
+    assert!(rt; yes(true_in(alloc, constant, &[0, 1, 2])));
 }

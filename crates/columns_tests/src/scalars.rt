@@ -47,6 +47,27 @@ fn values_are_lent_by_their_kinds(rt: HostRuntime) {
     assert!(rt; yes(are_lent(rt.alloc())));
 }
 
+/// Whether a scalar is printed so for debugging.
+fn prints(alloc: Global, scalar: VortexResult<Scalar>, wanted: &str) -> VortexResult<bool> {
+    let scalar = scalar?;
+    let printed = format!(in alloc; "{scalar:?}")?;
+    Ok(printed.as_str() == wanted)
+}
+
+#[test]
+fn scalars_and_types_are_printed_for_debugging(rt: HostRuntime) {
+    let alloc = rt.alloc();
+    let letters = typed(DType::Binary(NO), bytes(alloc, &[0, 255]));
+    let items = list_type(alloc).and_then(|dtype| typed(dtype, list(alloc, &[Some(1)])));
+    assert!(rt; yes(prints(alloc, Ok(null_integer()), "null")));
+    assert!(rt; yes(prints(alloc, Ok(Scalar::from(-7i16)), "-7i16")));
+    assert!(rt; yes(prints(alloc, Scalar::try_from_str(alloc, "new"), "\"new\"")));
+    assert!(rt; yes(prints(alloc, letters, "0x00ff")));
+    assert!(rt; yes(prints(alloc, items, "[1u8]")));
+    assert_eq!(rt; *Scalar::from(true).dtype(), DType::Bool(NO));
+    assert_eq!(rt; Scalar::from(true), Scalar::bool(true, NO));
+}
+
 fn null_integer() -> Scalar {
     Scalar::null(DType::Primitive(PType::I32, YES))
 }

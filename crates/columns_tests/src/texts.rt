@@ -10,10 +10,12 @@ use vortex_columns::{
     Column, DType, Nullability, PType, Scalar, ScalarValue, Validity, VortexResult,
 };
 
-/// Whether the column's text is this one.
+/// Whether the column's text is this one, and is printed for debugging.
 fn reads(alloc: Global, column: Made, wanted: &str) -> VortexResult<bool> {
-    let text = column?.text(alloc)?;
-    Ok(text.as_str() == wanted)
+    let column = column?;
+    let text = column.text(alloc)?;
+    let printed = format!(in alloc; "{:?}", *column)?;
+    Ok(text.as_str() == wanted && printed.as_str() == wanted)
 }
 
 #[test]

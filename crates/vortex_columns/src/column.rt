@@ -13,11 +13,10 @@ mod taken;
 mod taken_frames;
 mod true_rows;
 
-pub use rows::{BoolRows, IntRows, TextRows};
-
 use crate::scalar::Scalar;
 use crate::validity::Validity;
 use letting_go::Within;
+pub use rows::{BoolRows, IntRows, TextRows};
 use std::marker::Model;
 use vortex_bits::BitBuffer;
 use vortex_types::{DType, Ints};

@@ -1,14 +1,16 @@
 //! The texts of columns and of literals.
-ghost use Rattle.std.specs.Prelude.{◌≡◌, string_bytes};
+ghost use Rattle.std.specs.Prelude.{◌≡◌, string_bytes, true};
 ghost use Rattle.vortex_types.specs.Texts.{Appends};
-ghost use Rattle.vortex_columns.specs.Words.{AnswersUnlessMemory};
-ghost use Rattle.vortex_columns.specs.Printing.{column_text, literal_text};
+ghost use Rattle.vortex_columns.specs.Words.{AnswersUnlessMemory, type_of};
+ghost use Rattle.vortex_columns.specs.Printing.{column_text, literal_text, number_suffix};
 
+use crate::cell::Cell;
 use crate::column::Column;
 use crate::scalar::Scalar;
 use crate::value_text::{Shape, write_value};
 use std::alloc::Global;
-use vortex_types::VortexResult;
+use std::fmt;
+use vortex_types::{DType, ScalarValue, VortexResult};
 
 impl Column {
     /// The type, a colon, and the value of each row after a space, as `i32?: 1 null -3`; of no rows
@@ -41,5 +43,88 @@ impl Scalar {
             (λ _. Appends out.old (literal_text self.now.dtype self.now.value) out.new) }
     {
         write_value(out, true, Shape::Of(self.dtype()), &self.cell())
+    }
+}
+
+impl Scalar {
+    /// The text of `write_literal` alone.
+    fn literal(&self, alloc: Global) -> VortexResult<String>
+        ensures { AnswersUnlessMemory result
+            (λ text. string_bytes text ≡ literal_text self.now.dtype self.now.value) }
+    {
+        let mut text = String::new(alloc);
+        self.write_literal(&mut text)?;
+        Ok(text)
+    }
+}
+
+/// The bytes of `write_literal`; want of memory is an error.
+impl fmt::Debug for Scalar {
+    ghost use Rattle.std.specs.Prelude.{Some};
+    ghost use Rattle.vortex_columns.specs.Printing.{literal_text};
+
+    ghost debug_output = { λ scalar. Some (literal_text scalar.dtype scalar.value) };
+
+    fn fmt<W: fmt::Write>(&self, f: &mut fmt::Formatter<W>) -> fmt::Result {
+        // bytes and lists hold an allocator, and what is written without one needs none
+        let text = match self.value() {
+            None => return write!(f, "null"),
+            Some(ScalarValue::Bool(b)) => return write!(f, "{b}"),
+            Some(ScalarValue::Int(n)) => return write!(f, "{n}{}", suffix(self.dtype())),
+            Some(ScalarValue::Utf8(text)) => return write!(f, "\"{text}\""),
+            Some(ScalarValue::Binary(bytes)) => self.literal(*bytes.allocator()),
+            Some(ScalarValue::List(items)) => self.literal(*items.allocator()),
+        };
+        match text {
+            Ok(text) => write!(f, "{text}"),
+            Err(_) => Err(fmt::Error),
+        }
+    }
+}
+
+/// What follows a whole number in a literal of that type.
+fn suffix(dtype: &DType) -> &'static str
+    ensures { result.now ≡ number_suffix true (type_of dtype.now) }
+{
+    match dtype {
+        DType::Primitive(ptype, _) => ptype.text(),
+        _ => "",
+    }
+}
+
+/// A value that is no sequence, as `Column::text` writes it.
+fn print_cell<W: fmt::Write>(cell: &Cell<'_>, f: &mut fmt::Formatter<W>) -> fmt::Result {
+    match cell {
+        Cell::Null => write!(f, "null"),
+        Cell::Bool(b) => write!(f, "{b}"),
+        Cell::Int(n) => write!(f, "{n}"),
+        Cell::Text(text) => write!(f, "\"{text}\""),
+        Cell::Bytes(bytes) => {
+            write!(f, "0x")?;
+            for byte in *bytes {
+                write!(f, "{byte:02x}")?;
+            }
+            Ok(())
+        }
+        Cell::Sequence(_) => Err(fmt::Error),
+    }
+}
+
+/// The bytes of `text`; want of memory is an error.
+impl fmt::Debug for Column {
+    fn fmt<W: fmt::Write>(&self, f: &mut fmt::Formatter<W>) -> fmt::Result {
+        if let Some(alloc) = self.allocator() {
+            return match self.text(alloc) {
+                Ok(text) => write!(f, "{text}"),
+                Err(_) => Err(fmt::Error),
+            };
+        }
+        // no value lies within another, so that each is written where it is read
+        write!(f, "{:?}:", self.dtype())?;
+        for i in 0..self.len() {
+            write!(f, " ")?;
+            print_cell(&self.cell(i), f)?;
+        }
+        Ok(())
     }
 }

@@ -24,8 +24,7 @@ pub returns-clause-within : goal.returns-clause-within
 returns-clause-within c =
     let rows = c.args.self.now.rows in
     let i = c.loop-i.i in
-    let over : i ≡ length rows = search rules in
-    (
+    let over : i ≡ length rows = search rules in (
       search rules,
       are_rows rows i c.loop-i.codes.items (sym over) c.loop-i.invariant,
     )
