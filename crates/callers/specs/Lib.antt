@@ -4,6 +4,7 @@ pub mod FirstRules
 pub mod Grow
 pub mod GrowRules
 pub mod Half
+pub mod LevelBytes
 pub mod LevelledRules
 pub mod MustBeTrue
 pub mod Required

@@ -1,21 +1,24 @@
-//! A caller's function with options that have a text.
-ghost use Rattle.std.specs.Prelude.{codes};
+//! A caller's function with options that have a text, and are written as bytes.
+ghost use Rattle.std.specs.Prelude.{Some, codes};
 ghost use Rattle.vortex_meaning.specs.Shipped.{shipped_lawful};
 ghost use Rattle.vortex_meaning.specs.Shipped as shipped;
 ghost use Rattle.vortex_meaning.specs.ValidityRules.{default_rules};
 ghost use Rattle.callers.specs.LevelledRules.{levelled_meaning, levelled_rules_lawful};
 ghost use Rattle.callers.specs.LevelledRules.{levelled_identity};
+ghost use Rattle.callers.specs.LevelBytes.{level_bytes, level_read};
+ghost use Rattle.vortex_errors.specs.Answers.{AnswersUnlessMemory};
+ghost use Rattle.vortex_meaning.specs.OptionBytes.{WritesBytes, ReadsOptions};
 
 use std::alloc::Global;
 use std::fmt;
-use vortex_columns::{Arity, Column, DType, ExecutionCtx, VortexResult};
+use vortex_columns::{Arity, Column, DType, ExecutionCtx, VortexError, VortexResult};
 use vortex_functions::{
     BoundExpression, ChildName, EmptyOptions, ExecutionArgs, Not, ScalarFnId, ScalarFnRef,
     ScalarFnVTable,
 };
 use vortex_rules::{ReduceNodeValidity, ReduceTree, ScalarFnRules, default_validity};
 
-/// Options that have a text.
+/// Options that have a text and are one byte.
 #[derive(Clone, Debug, PartialEq, Eq, Hash, Drop)]
 pub struct Level {
     pub level: u8,
@@ -38,8 +41,31 @@ impl ScalarFnVTable for Levelled {
 
     ghost rules = { default_rules levelled_meaning };
 
+    ghost option_bytes = { λ f level. Some (level_bytes level) };
+
+    ghost options_read = { λ f bytes. level_read bytes };
+
     fn id(&self) -> ScalarFnId {
         "test.levelled"
+    }
+
+    /// One byte: the level.
+    fn serialize(&self, alloc: Global, level: &Level) -> VortexResult<Option<Vec<u8>>>
+        ensures { AnswersUnlessMemory result (WritesBytes (Some (level_bytes level.now))) }
+    {
+        let mut bytes = Vec::new(alloc);
+        bytes.push(level.level)?;
+        Ok(Some(bytes))
+    }
+
+    /// E8 exactly for bytes that are not one; takes no memory.
+    fn deserialize(&self, _alloc: Global, bytes: &[u8]) -> VortexResult<Level>
+        ensures { ReadsOptions (level_read bytes.now) result }
+    {
+        match bytes {
+            [level] => Ok(Level { level: *level }),
+            _ => Err(VortexError::BadOptions),
+        }
     }
 
     fn arity(&self, _level: &Level) -> Arity {

@@ -1,6 +1,7 @@
 //! Options as bytes, and functions as values: their texts, and which are found where others are
 //! kept.
 
+use callers::levelled::{Level, Levelled};
 use fixtures::{is_refused, yes};
 use std::alloc::Global;
 use std::collections::HashMap;
@@ -40,7 +41,11 @@ fn keeps<V: ScalarFnVTable>(
 }
 
 /// Whether a function writes those bytes of its options.
-fn writes(alloc: Global, function: Function, wanted: &[u8]) -> VortexResult<bool> {
+fn writes<C: ScalarFnVTable>(
+    alloc: Global,
+    function: ScalarFnRef<C>,
+    wanted: &[u8],
+) -> VortexResult<bool> {
     match function.options().serialize(alloc)? {
         Some(bytes) => Ok(bytes.as_slice() == wanted),
         None => Ok(false),
@@ -200,11 +205,26 @@ fn other_options_come_back(rt: HostRuntime) {
 #[test]
 fn values_write_their_options(rt: HostRuntime) {
     let alloc = rt.alloc();
-    assert!(rt; yes(writes(alloc, operator(Operator::Add), &[8])));
-    assert!(rt; yes(writes(alloc, Between.bind(bounds(NonStrict, Strict)), &[2])));
-    assert!(rt; yes(writes(alloc, Like.bind(like(true, false)), &[1])));
-    assert!(rt; yes(writes(alloc, Not.bind(EmptyOptions), &[])));
+    assert!(rt; yes(writes::<NoCustom>(alloc, operator(Operator::Add), &[8])));
+    assert!(rt; yes(writes::<NoCustom>(alloc, Between.bind(bounds(NonStrict, Strict)), &[2])));
+    assert!(rt; yes(writes::<NoCustom>(alloc, Like.bind(like(true, false)), &[1])));
+    assert!(rt; yes(writes::<NoCustom>(alloc, Not.bind(EmptyOptions), &[])));
     assert!(rt; yes(writes_nothing(alloc, own())));
+}
+
+#[test]
+fn a_callers_options_come_back(rt: HostRuntime) {
+    let alloc = rt.alloc();
+    assert!(rt; yes(keeps(alloc, Levelled, Level { level: 3 }, &[3])));
+    assert!(rt;
+        yes(writes(
+            alloc,
+            ScalarFnRef::custom(Levelled, Level { level: 7 }),
+            &[7]
+        ))
+    );
+    assert!(rt; refuses(alloc, Levelled, &[]));
+    assert!(rt; refuses(alloc, Levelled, &[3, 3]));
 }
 
 #[test]

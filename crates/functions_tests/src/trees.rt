@@ -226,6 +226,19 @@ fn a_lone_leaf_is_lent(rt: HostRuntime) {
     );
 }
 
+/// What a tree that is lent is owned as: a copy.
+fn owned<C: ScalarFnVTable>(alloc: Global, tree: Bound<C>) -> Bound<C> {
+    let tree = tree?;
+    Ok(Box::new(alloc, Cow::Borrowed(&*tree).into_owned()?)?)
+}
+
+#[test]
+fn a_lent_tree_is_owned_as_a_copy(rt: HostRuntime) {
+    let alloc = rt.alloc();
+    assert!(rt; yes(prints::<NoCustom>(alloc, owned(alloc, below_five(alloc)), "($.a < 5u16)")));
+    assert!(rt; yes(prints::<NoCustom>(alloc, owned(alloc, leaf(alloc, "b")), "$.b")));
+}
+
 /// The leaf of the second of two columns, by its place.
 fn second_leaf<C: ScalarFnVTable>(alloc: Global) -> Bound<C> {
     let scope = scope(alloc)?;

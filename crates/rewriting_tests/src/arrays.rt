@@ -50,6 +50,22 @@ fn lends<C: ScalarFnVTable>(alloc: Global, array: Held<C>) -> VortexResult<bool>
     }
 }
 
+/// What an array that is lent is owned as: a copy.
+fn owned<C: ScalarFnVTable>(alloc: Global, array: Held<C>) -> Held<C> {
+    let array = array?;
+    Ok(Box::new(alloc, Cow::Borrowed(&*array).into_owned()?)?)
+}
+
+#[test]
+fn a_lent_array_is_owned_as_a_copy(rt: HostRuntime) {
+    let alloc = rt.alloc();
+    let there = is_there::<NoCustom>(alloc, held(alloc, x(alloc)));
+    let rows = [Some(true), Some(true), Some(false)];
+    assert!(rt; yes(array_answers(alloc, owned(alloc, there), &rows)));
+    let column = held::<NoCustom>(alloc, x(alloc));
+    assert!(rt; yes(array_answers(alloc, owned(alloc, column), &[Some(true), Some(true), None])));
+}
+
 #[test]
 fn other_lengths_are_refused_before_types(rt: HostRuntime) {
     let alloc = rt.alloc();

@@ -35,7 +35,7 @@ pub use Rattle.vortex_functions.specs.Binding.{field_leaf, AnswersTreeCall}
 pub use Rattle.vortex_functions.specs.Executing.{HasRows, NodeFits, AnswersTree, AnswersExecution}
 pub use Rattle.vortex_functions.specs.Executing.{AnswersColumns, LendsLeaf, Fits}
 pub use Rattle.vortex_functions.specs.Walks.{AllMean, IsCopy}
-pub use Rattle.vortex_meaning.specs.OptionBytes.{WritesBytes, function_bytes}
+pub use Rattle.vortex_meaning.specs.OptionBytes.{WritesOptionsOf}
 pub use Rattle.vortex_meaning.specs.FunctionTexts.{held_text, value_text}
 pub use Rattle.vortex_functions.specs.SameFunctions.{AreSame, SameByIdentityAndOptions}
 pub use Rattle.vortex_functions.specs.Arrays.{tree_in, rows_in, column_array, column_in}

@@ -31,14 +31,6 @@ impl ScalarFnVTable for NoCustom {
         "rowfn.none"
     }
 
-    fn serialize(&self, _alloc: Global, _options: &EmptyOptions) -> VortexResult<Option<Vec<u8>>> {
-        Ok(None)
-    }
-
-    fn deserialize(&self, _alloc: Global, _bytes: &[u8]) -> VortexResult<EmptyOptions> {
-        Err(VortexError::BadOptions)
-    }
-
     fn arity(&self, _options: &EmptyOptions) -> Arity {
         Arity::Exact(0)
     }

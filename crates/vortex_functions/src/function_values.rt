@@ -1,8 +1,7 @@
 //! Functions with their options as values: their options as bytes and texts, and when two are
 //! equal.
 ghost use Rattle.std.specs.Prelude.{◌≡◌};
-ghost use Rattle.vortex_functions.specs.Words.{function_of, function_bytes, AnswersUnlessMemory};
-ghost use Rattle.vortex_functions.specs.Words.{WritesBytes};
+ghost use Rattle.vortex_functions.specs.Words.{function_of, AnswersUnlessMemory, WritesOptionsOf};
 
 use crate::erased::{ScalarFnRef, with_function};
 use crate::typed::TypedScalarFnInstance;
@@ -70,11 +69,11 @@ impl<C: ScalarFnVTable> ScalarFnRef<C> {
 }
 
 impl<'a, C: ScalarFnVTable> ScalarFnOptions<'a, C> {
-    /// The bytes that the function writes of its options, where it writes any: a shipped one
-    /// always, a caller's what its interface says. Refuses for memory alone.
+    /// The bytes that the function writes of its options: a shipped one always writes its own, a
+    /// caller's those that its interface says, or none. Refuses for memory alone.
     pub fn serialize(&self, alloc: Global) -> VortexResult<Option<Vec<u8>>>
         ensures { AnswersUnlessMemory result
-            (WritesBytes (function_bytes C.option_bytes (function_of self.now.function.now))) }
+            (WritesOptionsOf C.option_bytes (function_of self.now.function.now)) }
     {
         with_function!(self.function, f, options => f.serialize(alloc, options))
     }

@@ -12,4 +12,4 @@ pub use Rattle.vortex_meaning.specs.CallTexts.{Piece, told, piece_text, text_at,
 pub use Rattle.vortex_interface.specs.Pieces.{piece_of}
 pub use Rattle.vortex_interface.specs.Args.{ArgsView, coded_args, AreOfLength, PastInputs}
 pub use Rattle.vortex_interface.specs.Texts.{AppendsCall, AppendsDefaultOrOwn}
-pub use Rattle.vortex_meaning.specs.OptionBytes.{WritesBytes, AnswersOptions}
+pub use Rattle.vortex_meaning.specs.OptionBytes.{MayWriteBytes, MayReadOptions}

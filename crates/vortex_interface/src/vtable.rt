@@ -3,14 +3,14 @@ ghost use Rattle.std.specs.Prelude.{◌≡◌, ℕ, List, length, map, IsTrue, I
 ghost use Rattle.std.specs.Prelude.{slice_get, Option, Some, None};
 ghost use Rattle.vortex_interface.specs.Words.{ColumnView, Meaning, Lawful, Rules, fits, types_in};
 ghost use Rattle.vortex_interface.specs.Words.{AnswersUnlessMemory, AnswersType, AnswersCall};
-ghost use Rattle.vortex_interface.specs.Words.{PastInputs, WritesBytes, AnswersOptions};
+ghost use Rattle.vortex_interface.specs.Words.{PastInputs, MayWriteBytes, MayReadOptions};
 ghost use Rattle.vortex_interface.specs.Words.{AppendsDefaultOrOwn};
 
 use crate::printing::write_call;
 use std::alloc::Global;
 use std::fmt::{Debug, Display};
 use std::hash::Hash;
-use vortex_columns::{Arity, Column, DType, ExecutionCtx, VortexResult};
+use vortex_columns::{Arity, Column, DType, ExecutionCtx, VortexError, VortexResult};
 
 /// A function's identity, as `vortex.binary`.
 pub type ScalarFnId = &'static str;
@@ -68,14 +68,21 @@ pub trait ScalarFnVTable: Sized + Clone + Drop {
     fn id(&self) -> ScalarFnId
         ensures { result.now ≡ meaning.id self.now };
 
-    /// The options as bytes, where the function writes them, else `None`. Refuses for memory alone.
+    /// The options as bytes, where the function writes them; the default writes none. Refuses for
+    /// memory alone.
     fn serialize(&self, alloc: Global, options: &Self::Options) -> VortexResult<Option<Vec<u8>>>
         ensures { AnswersUnlessMemory result
-            (WritesBytes (option_bytes self.now options.now)) };
+            (MayWriteBytes (option_bytes self.now options.now)) }
+    {
+        Ok(None)
+    }
 
-    /// The options that the bytes are read as; E8 exactly where there are none.
+    /// The options that the bytes are read as, or E8. The default reads none.
     fn deserialize(&self, alloc: Global, bytes: &[u8]) -> VortexResult<Self::Options>
-        ensures { AnswersOptions (options_read self.now bytes.now) result };
+        ensures { MayReadOptions (options_read self.now bytes.now) result }
+    {
+        Err(VortexError::BadOptions)
+    }
 
     /// How many arguments a call takes.
     fn arity(&self, options: &Self::Options) -> Arity

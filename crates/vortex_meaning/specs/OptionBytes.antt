@@ -1,5 +1,5 @@
 -- The bytes that the options of a function are written as, and what byte strings are read as.
-use Rattle.std.specs.Prelude.{◌≡◌, ℕ, List, [], Option, Some, None, Vec, Result}
+use Rattle.std.specs.Prelude.{◌≡◌, ◌⊎◌, ℕ, List, [], Option, Some, None, Vec, Result}
 use Rattle.std.specs.Prelude.{MatchResult, ⊤}
 use Rattle.std.specs.Option.{option_map}
 use Rattle.std.specs.declared.alloc.Global.{Global}
@@ -39,19 +39,21 @@ Written = Option (Vec ℕ Global)
 abbrev pub WritesBytes : Option (List ℕ) → Written → Type 0
 WritesBytes bytes written = option_map (λ v. v.items) written ≡ bytes
 
--- the bytes of any function's options: of a shipped one always some, of a caller's those that it
--- says
-abbrev pub function_bytes : {V O : Type 0} → (V → O → Option (List ℕ)) → Function V O
-    → Option (List ℕ)
-function_bytes bytes (ours s) = Some (shipped_bytes s)
-function_bytes bytes (custom f o) = bytes f o
+-- none are written, or these bytes
+abbrev pub MayWriteBytes : Option (List ℕ) → Written → Type 0
+MayWriteBytes bytes written = (written ≡ None) ⊎ WritesBytes bytes written
 
--- the options that the bytes are read as; E8 exactly where there are none; or memory ran out
-abbrev pub AnswersOptions : {O : Type 0} → Option O → Result O VortexError → Type 0
-AnswersOptions found result =
-    Answers result (λ o. found ≡ Some o) (λ e. (found ≡ None) × (e ≡ BadOptions))
+-- the options of any function: of a shipped one its bytes, of a caller's none, or those that it says
+abbrev pub WritesOptionsOf : {V O : Type 0} → (V → O → Option (List ℕ)) → Function V O → Written
+    → Type 0
+WritesOptionsOf bytes (ours s) written = WritesBytes (Some (shipped_bytes s)) written
+WritesOptionsOf bytes (custom f o) written = MayWriteBytes (bytes f o) written
 
--- the same, where no memory is taken
+-- the options that the bytes are read as, or E8; or memory ran out
+abbrev pub MayReadOptions : {O : Type 0} → Option O → Result O VortexError → Type 0
+MayReadOptions found result = Answers result (λ o. found ≡ Some o) (λ e. e ≡ BadOptions)
+
+-- the options that the bytes are read as, and E8 exactly where there are none. No memory is taken
 abbrev pub ReadsOptions : {O : Type 0} → Option O → Result O VortexError → Type 0
 ReadsOptions found result =
     MatchResult result (λ o. found ≡ Some o) (λ e. (found ≡ None) × (e ≡ BadOptions))

@@ -4,7 +4,8 @@ ghost use Rattle.vortex_meaning.specs.Shipped as shipped;
 ghost use Rattle.vortex_shipped.specs.Words.{no_rules, shipped_pieces, AnswersUnlessMemory};
 ghost use Rattle.vortex_shipped.specs.Words.{AppendsCall, AnswersShippedType};
 ghost use Rattle.vortex_shipped.specs.Words.{between_id, shipped_meaning, shipped_lawful};
-ghost use Rattle.vortex_shipped.specs.Words.{IsCallText, ReadsOptions, between_bytes, between_read};
+ghost use Rattle.vortex_shipped.specs.Words.{IsCallText, WritesBytes, ReadsOptions, between_bytes};
+ghost use Rattle.vortex_shipped.specs.Words.{between_read};
 
 use crate::option_bytes::write_byte;
 use std::alloc::Global;
@@ -41,7 +42,9 @@ impl ScalarFnVTable for Between {
     }
 
     /// One byte: bit 0 where the lower bound is strict, bit 1 where the upper is.
-    fn serialize(&self, alloc: Global, options: &BetweenOptions) -> VortexResult<Option<Vec<u8>>> {
+    fn serialize(&self, alloc: Global, options: &BetweenOptions) -> VortexResult<Option<Vec<u8>>>
+        ensures { AnswersUnlessMemory result (WritesBytes (Some (between_bytes options.now))) }
+    {
         write_byte(alloc, options.to_byte())
     }
 

@@ -6,8 +6,8 @@ ghost use Rattle.vortex_shipped.specs.Words.{type_of, AppendsCall, binary_id, bo
 ghost use Rattle.vortex_shipped.specs.Words.{compared_type, arithmetic_type, operator_type};
 ghost use Rattle.vortex_shipped.specs.Words.{operator_place, shipped_meaning, shipped_lawful};
 ghost use Rattle.vortex_shipped.specs.Words.{AnswersShippedType, IsTypeFound};
-ghost use Rattle.vortex_shipped.specs.Words.{IsCallText, ReadsOptions, operator_bytes};
-ghost use Rattle.vortex_shipped.specs.Words.{operator_read};
+ghost use Rattle.vortex_shipped.specs.Words.{IsCallText, WritesBytes, ReadsOptions};
+ghost use Rattle.vortex_shipped.specs.Words.{operator_bytes, operator_read};
 
 use crate::option_bytes::write_byte;
 use std::alloc::Global;
@@ -114,7 +114,9 @@ impl ScalarFnVTable for Binary {
     }
 
     /// The operator's byte.
-    fn serialize(&self, alloc: Global, operator: &Operator) -> VortexResult<Option<Vec<u8>>> {
+    fn serialize(&self, alloc: Global, operator: &Operator) -> VortexResult<Option<Vec<u8>>>
+        ensures { AnswersUnlessMemory result (WritesBytes (Some (operator_bytes operator.now))) }
+    {
         write_byte(alloc, operator.to_byte())
     }
 

@@ -4,7 +4,7 @@ ghost use Rattle.vortex_meaning.specs.Shipped as shipped;
 ghost use Rattle.vortex_shipped.specs.Words.{no_rules, shipped_pieces, AnswersUnlessMemory};
 ghost use Rattle.vortex_shipped.specs.Words.{AppendsCall, cast_id};
 ghost use Rattle.vortex_shipped.specs.Words.{shipped_meaning, shipped_lawful, AnswersShippedType};
-ghost use Rattle.vortex_shipped.specs.Words.{IsCallText, ReadsOptions};
+ghost use Rattle.vortex_shipped.specs.Words.{IsCallText, WritesBytes, ReadsOptions};
 
 use std::alloc::Global;
 use std::fmt;
@@ -66,7 +66,9 @@ impl ScalarFnVTable for Cast {
     }
 
     /// No bytes.
-    fn serialize(&self, alloc: Global, _options: &CastOptions) -> VortexResult<Option<Vec<u8>>> {
+    fn serialize(&self, alloc: Global, _options: &CastOptions) -> VortexResult<Option<Vec<u8>>>
+        ensures { AnswersUnlessMemory result (WritesBytes (Some [])) }
+    {
         Ok(Some(Vec::new(alloc)))
     }
 

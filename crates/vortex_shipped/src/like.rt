@@ -5,7 +5,8 @@ ghost use Rattle.vortex_shipped.specs.Words.{no_rules, shipped_pieces, AnswersUn
 ghost use Rattle.vortex_shipped.specs.Words.{AppendsCall, like_id, like_words};
 ghost use Rattle.vortex_shipped.specs.Words.{escape_pieces, piece_of};
 ghost use Rattle.vortex_shipped.specs.Words.{shipped_meaning, shipped_lawful, AnswersShippedType};
-ghost use Rattle.vortex_shipped.specs.Words.{IsCallText, ReadsOptions, like_bytes, like_read};
+ghost use Rattle.vortex_shipped.specs.Words.{IsCallText, WritesBytes, ReadsOptions, like_bytes};
+ghost use Rattle.vortex_shipped.specs.Words.{like_read};
 
 use std::alloc::Global;
 use vortex_columns::{
@@ -69,7 +70,9 @@ impl ScalarFnVTable for Like {
     /// One byte: bit 0 where negated, bit 1 where case insensitive. For another escape than the
     /// backslash bit 2 too, and behind it the character as four bytes, the greatest first; for none
     /// bit 3 too.
-    fn serialize(&self, alloc: Global, options: &LikeOptions) -> VortexResult<Option<Vec<u8>>> {
+    fn serialize(&self, alloc: Global, options: &LikeOptions) -> VortexResult<Option<Vec<u8>>>
+        ensures { AnswersUnlessMemory result (WritesBytes (Some (like_bytes options.now))) }
+    {
         Ok(Some(options.to_bytes(alloc)?))
     }
 

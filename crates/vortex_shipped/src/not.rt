@@ -4,7 +4,7 @@ ghost use Rattle.vortex_meaning.specs.Shipped as shipped;
 ghost use Rattle.vortex_shipped.specs.Words.{no_rules, shipped_pieces, AnswersUnlessMemory};
 ghost use Rattle.vortex_shipped.specs.Words.{AppendsCall, not_id, shipped_meaning, shipped_lawful};
 ghost use Rattle.vortex_shipped.specs.Words.{AnswersShippedType};
-ghost use Rattle.vortex_shipped.specs.Words.{IsCallText, ReadsOptions};
+ghost use Rattle.vortex_shipped.specs.Words.{IsCallText, WritesBytes, ReadsOptions};
 
 use std::alloc::Global;
 use vortex_columns::{
@@ -38,7 +38,9 @@ impl ScalarFnVTable for Not {
     }
 
     /// No bytes.
-    fn serialize(&self, alloc: Global, _options: &EmptyOptions) -> VortexResult<Option<Vec<u8>>> {
+    fn serialize(&self, alloc: Global, _options: &EmptyOptions) -> VortexResult<Option<Vec<u8>>>
+        ensures { AnswersUnlessMemory result (WritesBytes (Some [])) }
+    {
         Ok(Some(Vec::new(alloc)))
     }
 

@@ -5,7 +5,7 @@ ghost use Rattle.vortex_shipped.specs.Words.{no_rules, shipped_pieces, AnswersUn
 ghost use Rattle.vortex_shipped.specs.Words.{AppendsCall, AnswersShippedType};
 ghost use Rattle.vortex_shipped.specs.Words.{is_null_id, is_not_null_id, shipped_meaning};
 ghost use Rattle.vortex_shipped.specs.Words.{shipped_lawful};
-ghost use Rattle.vortex_shipped.specs.Words.{IsCallText, ReadsOptions};
+ghost use Rattle.vortex_shipped.specs.Words.{IsCallText, WritesBytes, ReadsOptions};
 
 use std::alloc::Global;
 use vortex_columns::{Arity, Column, DType, ExecutionCtx, Nullability, VortexResult};
@@ -37,7 +37,9 @@ impl ScalarFnVTable for IsNull {
     }
 
     /// No bytes.
-    fn serialize(&self, alloc: Global, _options: &EmptyOptions) -> VortexResult<Option<Vec<u8>>> {
+    fn serialize(&self, alloc: Global, _options: &EmptyOptions) -> VortexResult<Option<Vec<u8>>>
+        ensures { AnswersUnlessMemory result (WritesBytes (Some [])) }
+    {
         Ok(Some(Vec::new(alloc)))
     }
 
@@ -146,7 +148,9 @@ impl ScalarFnVTable for IsNotNull {
     }
 
     /// No bytes.
-    fn serialize(&self, alloc: Global, _options: &EmptyOptions) -> VortexResult<Option<Vec<u8>>> {
+    fn serialize(&self, alloc: Global, _options: &EmptyOptions) -> VortexResult<Option<Vec<u8>>>
+        ensures { AnswersUnlessMemory result (WritesBytes (Some [])) }
+    {
         Ok(Some(Vec::new(alloc)))
     }
 
