@@ -1,4 +1,4 @@
-use Rattle.std.proofs.Common.{rules, ap, sym, ◌∙◌, ◌≡◌, ◌≤◌, length, arith}
+use Rattle.std.proofs.Common.{rules, ap, sym, ◌∙◌, ◌≡◌, length}
 use Rattle.vortex_columns.specs.TrueRows.{is_true}
 use Rattle.vortex_columns.proofs.TrueCodes.{one_more_true, one_more_other, are_rows}
 use Rattle.vortex_columns.proofs.column.Column.true_rows.Goals as goal
