@@ -53,10 +53,11 @@ pub next_line : (old now last : Output) (answers : List ColumnView) (n : ℕ)
     → Adds now last (row_line now.format.delimiter now.format.null.now answers n)
     → Adds old last (row_lines old.format.delimiter old.format.null.now answers (n + 1))
 next_line old now last answers n before added =
-    next_bytes old now last (row_line old.format.delimiter old.format.null.now answers) n before
-    (added.0
-    ∙ ap (λ (f : Format). now.bytes.items ++ row_line f.delimiter f.null.now answers n) before.1,
-    added.1)
+    next_bytes old now last (row_line old.format.delimiter old.format.null.now answers) n before (
+      added.0
+          ∙ ap (λ (f : Format). now.bytes.items ++ row_line f.delimiter f.null.now answers n) before.1,
+      added.1,
+    )
 
 pub no_bytes : (old : Output) → Adds old old []
 no_bytes old = (sym (append-nil old.bytes.items), refl)
@@ -73,11 +74,12 @@ pub next_picked : {R : Type 0} (rows : Rows R) (spans : List Span) (top : Column
     → Adds now last (if is_true (row top.rows i) then line else [])
     → Adds old last (flat_map (picked_line rows spans top) (range_with_len 0 (i + 1)))
 next_picked rows spans top old now last i s line h is before added =
-    next_bytes old now last (picked_line rows spans top) i before
-    (added.0
-    ∙ ap (λ (t : List ℕ). now.bytes.items ++ (if is_true (row top.rows i) then t else []))
-    (is ∙ sym (get_or-map (line_of rows) spans i s [] h)),
-    added.1)
+    next_bytes old now last (picked_line rows spans top) i before (
+      added.0
+          ∙ ap (λ (t : List ℕ). now.bytes.items ++ (if is_true (row top.rows i) then t else []))
+          (is ∙ sym (get_or-map (line_of rows) spans i s [] h)),
+      added.1,
+    )
 
 -- how many pass a test of the first numbers, with one more
 pub next_count : (p : ℕ → Bool) (n count x : ℕ) (b : Bool) → count ≡ count_by p (range_with_len 0 n)

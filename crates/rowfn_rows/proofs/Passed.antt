@@ -1,6 +1,6 @@
 -- A batch that was answered: it can be put down, and is passed on where that was written.
 use Rattle.std.proofs.Common.{◌≡◌, ◌∙◌, ℕ, ◌≤◌, ◌-◌, ◌++◌, List, Option, Some, Result, length, take}
-use Rattle.std.proofs.Common.{Bool, true, false, not, map, refl, sym, subst, arith, ap, if◌then◌else◌}
+use Rattle.std.proofs.Common.{Bool, true, map, sym, subst, ap, if◌then◌else◌}
 use Rattle.std.specs.Prelude.{OnOk, slice_get}
 use Rattle.std.specs.Io.KnownBytes.{Appends}
 use Rattle.vortex_columns.specs.ColumnView.{ColumnView}
@@ -14,15 +14,11 @@ use Rattle.rowfn_rows.specs.Passing.{IsAnswered, batch_text, picked_lines, Passe
 use Rattle.rowfn_rows.specs.Passing.{answered, ended}
 use Rattle.rowfn_rows.proofs.Within.{have_rows, within_batch}
 
-picks : (b : Bool) → not b ≡ false → b ≡ true
-picks true e = refl
-picks false e = cc e
-
 -- lines of rows that are picked are what is written of a batch whose rows are
 pub picked_pushed : {R E : Type 0} (s : Stream R) (new : Output) (answers : List ColumnView) (n : ℕ)
     (top : ColumnView) (spans : List Span) (r : Result ℕ E)
     → OnOk r (Adds s.output new (picked_texts top (map (line_of s.rows) spans)))
-    → not s.settings.picks_rows ≡ false → Some top ≡ slice_get answers (length answers - 1)
+    → s.settings.picks_rows ≡ true → Some top ≡ slice_get answers (length answers - 1)
     → spans ≡ take n s.batch.spans → OnOk r (Adds s.output new (batch_text s answers n))
 picked_pushed {R} {E} s new answers n top spans r h picked got is =
     subst (λ (t : List ℕ). OnOk r (Adds s.output new t)) told h
@@ -33,32 +29,30 @@ picked_pushed {R} {E} s new answers n top spans r h picked got is =
         ∙ ap (λ (x : Option ColumnView). picked_lines s x n) got
         ∙ ap (λ (b : Bool). if b then picked_lines s (slice_get answers (length answers - 1)) n
         else row_lines s.output.format.delimiter s.output.format.null.now answers n)
-        (sym (picks s.settings.picks_rows picked))
+        (sym picked)
 
-module _ {R : Type 0} (s : Stream R) (behind : Option StreamError) (n m : ℕ)
+module _ {R : Type 0} (s : Stream R) (behind : Option StreamError) (n : ℕ)
     (answers lent : List ColumnView) (e : Option StreamError) (is : IsAnswered s behind n answers e)
-    (same_count : m ≡ n) (same_answers : lent ≡ answers) where
-  pub have : HaveRows m lent
+    (same : lent ≡ answers) where
+  pub have : HaveRows n lent
   have =
-      subst (λ (k : ℕ). HaveRows k lent) (sym same_count)
-      (subst (λ (cs : List ColumnView). HaveRows n cs) (sym same_answers)
-      (have_rows s.expression.now s.batch.fields n answers is.rows))
+      subst (λ (cs : List ColumnView). HaveRows n cs) (sym same)
+      (have_rows s.expression.now s.batch.fields n answers is.rows)
 
-  pub within : m ≤ length s.batch.spans
+  pub within : n ≤ length s.batch.spans
   within =
-      omega (arith, same_count, within_batch s.expression.now s.batch.fields s.summary.rows_read
-      (length s.batch.spans) behind n e is.ends)
+      within_batch s.expression.now s.batch.fields s.summary.rows_read (length s.batch.spans)
+      behind n e is.ends
 
   pub passed : (put : Stream R) (before after : Option (List ℕ))
       (result : Result (Unit {0}) StreamError)
-      → Adds s.output put.output (batch_text s lent m)
+      → Adds s.output put.output (batch_text s lent n)
       → Appends before after put.output.bytes.items → result ≡ ended e
       → PassesOn s behind before after result
   passed put before after result adds wrote ends =
       answered n answers e is
       (subst (λ (bytes : List ℕ). Appends before after bytes)
       (adds.0
-      ∙ ap (λ (k : ℕ). s.output.bytes.items ++ batch_text s lent k) same_count
-      ∙ ap (λ (cs : List ColumnView). s.output.bytes.items ++ batch_text s cs n) same_answers)
+      ∙ ap (λ (cs : List ColumnView). s.output.bytes.items ++ batch_text s cs n) same)
       wrote)
       ends

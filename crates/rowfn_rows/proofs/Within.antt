@@ -57,5 +57,8 @@ module _ (x : Expression NoCustom EmptyOptions) (fs : List Field) where
   pub within_batch : (before count : ℕ) (behind : Option StreamError) (n : ℕ)
       (e : Option StreamError) → EndsBatch x fs before count behind n e → n ≤ count
   within_batch before count behind n e (fit, other, fitting, ends) =
-      omega (arith, within_fitting before count behind fit other fitting,
-      within_answers before fit other n e ends)
+      omega (
+        arith,
+        within_fitting before count behind fit other fitting,
+        within_answers before fit other n e ends,
+      )

@@ -7,14 +7,14 @@ use Rattle.rowfn_rows.proofs.stream.Stream.pass.Goals as goal
 pub push_batch-requires-clause-rows : goal.push_batch-requires-clause-rows
 push_batch-requires-clause-rows g c =
     let a = c.in_ok-answers in
-    have c.args.self.now c.args.error _ a.row_count _ c.deref.result.now _ a.ensures
-    (cc a.row_count-is) (cc c.deref.ensures.value)
+    have c.args.self.now c.args.error a.field-0.row_count _ c.deref.result.now _ a.ensures
+    (cc c.deref.ensures.value)
 
 pub push_batch-requires-clause-spans : goal.push_batch-requires-clause-spans
 push_batch-requires-clause-spans g c =
     let a = c.in_ok-answers in
-    within c.args.self.now c.args.error _ a.row_count _ c.deref.result.now _ a.ensures
-    (cc a.row_count-is) (cc c.deref.ensures.value)
+    within c.args.self.now c.args.error a.field-0.row_count _ c.deref.result.now _ a.ensures
+    (cc c.deref.ensures.value)
 
 pub returns-in_err-write-clause-passes : goal.returns-in_err-write-clause-passes
 returns-in_err-write-clause-passes g c =
@@ -26,8 +26,8 @@ pub returns-in-Some-clause-passes : goal.returns-in-Some-clause-passes
 returns-in-Some-clause-passes g c =
     let a = c.in_ok-answers in
     let same : a.field-0.error ≡ Some c.in-Some.error = cc c.in-Some.is in
-    passed c.args.self.now c.args.error _ a.row_count _ c.deref.result.now _ a.ensures
-    (cc a.row_count-is) (cc c.deref.ensures.value)
+    passed c.args.self.now c.args.error a.field-0.row_count _ c.deref.result.now _ a.ensures
+    (cc c.deref.ensures.value)
     c.push_batch.new.self _ _ _ c.in_ok-count.ensures.text c.in_ok-write.ensures.written
     (sym (ap ended same))
 
@@ -35,7 +35,7 @@ pub returns-clause-passes : goal.returns-clause-passes
 returns-clause-passes g c =
     let a = c.in_ok-answers in
     let same : a.field-0.error ≡ None = cc c.in-None.is in
-    passed c.args.self.now c.args.error _ a.row_count _ c.deref.result.now _ a.ensures
-    (cc a.row_count-is) (cc c.deref.ensures.value)
+    passed c.args.self.now c.args.error a.field-0.row_count _ c.deref.result.now _ a.ensures
+    (cc c.deref.ensures.value)
     c.push_batch.new.self _ _ _ c.in_ok-count.ensures.text c.in_ok-write.ensures.written
     (sym (ap ended same))
