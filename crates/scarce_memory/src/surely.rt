@@ -7,6 +7,7 @@ use crate::trees::CLOSED;
 use fixtures::{Made, bools, boxed, fields, yes};
 use std::alloc::Global;
 use std::borrow::Cow;
+use std::mem;
 use tree_fixtures::makers::*;
 use vortex_columns::*;
 use vortex_functions::*;
@@ -165,7 +166,11 @@ fn is_below(left: (DType, ScalarValue), right: (DType, ScalarValue)) -> VortexRe
     let left = Scalar::try_new(left.0, Some(left.1))?;
     let right = Scalar::try_new(right.0, Some(right.1))?;
     let answer = scalar_cmp(&left, &right, CompareOperator::Lt)?;
-    Ok(*left.dtype() == *right.dtype() && answer.as_bool_opt() == Some(true))
+    let is_below = *left.dtype() == *right.dtype() && answer.as_bool_opt() == Some(true);
+    // to drop them takes memory, and nothing here may ask for it
+    mem::forget(left);
+    mem::forget(right);
+    Ok(is_below)
 }
 
 /// The types that functions return.
