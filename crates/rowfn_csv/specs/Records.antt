@@ -25,8 +25,8 @@ BeginsBare [] = ⊤
 BeginsBare (b ∷ bs) = b ≢ 34
 
 -- A field stands bare: bytes without a delimiter, of which the first is no quote. Or it stands in
--- quotes, each quote in it twice; what stands bare behind them is read as more of it. Of one that is
--- open the quote that closes it is lacking.
+-- quotes, each quote in it twice; what stands bare behind them is read as more of it. Of one that
+-- is open the quote that closes it is lacking.
 abbrev pub Spells : ℕ → Bool → Field → List ℕ → Type 0
 Spells delimiter closed (bare text) bytes =
     (closed ≡ true) × (bytes ≡ text) × Lacks delimiter text × BeginsBare text
@@ -57,8 +57,8 @@ abbrev pub reads_null : List ℕ → Option (List ℕ) → Bool
 reads_null null None = false
 reads_null null (Some text) = bytes_eq text null
 
--- The field at a place of a record, by the texts of its fields and how they stand: nothing for null,
--- which is the text that stands for it, bare; an empty text where the record has no such field.
+-- The field at a place of a record, by the texts of its fields and how they stand: nothing for
+-- null, which is the text that stands for it, bare; an empty text where the record has no such field.
 abbrev pub field_taken : List ℕ → List (List ℕ) → List Field → ℕ → Option (List ℕ)
 field_taken null texts said i =
     field_said (unwrap_or (field_at texts i) [])

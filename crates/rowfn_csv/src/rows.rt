@@ -98,8 +98,8 @@ fn is_null(
     Ok(reads_null(fields, format.null, index) && !quotes.is_quoted(line, format.delimiter, index)?)
 }
 
-/// Adds the fields of a record at those places to the batch; an empty one where the record has none.
-/// `line` has the record's bytes. Refused only for want of memory.
+/// Adds the fields of a record at those places to the batch; an empty one where the record has
+/// none. `line` has the record's bytes. Refused only for want of memory.
 fn add_fields(
     fields: &ByteRecord,
     line: &[u8],

@@ -1,4 +1,5 @@
 pub mod FirstRows
+pub mod Flowing
 pub mod LastAlone
 pub mod Layouts
 pub mod Lines

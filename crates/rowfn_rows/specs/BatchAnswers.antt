@@ -32,8 +32,8 @@ module _ (before : ℕ) (row : ℕ) where
   -- the field of that row that its column does not hold, with the column's name and type
   abbrev pub TellsMisfit : Option Declared → Field → StreamError → Type 0
   TellsMisfit (Some d) f (end.Misfit number column kind nullability field) =
-      (number ≡ row_number before row) × (string_bytes column ≡ string_bytes d.name) × (kind ≡ d.kind)
-      × (nullability ≡ d.nullability) × (field_told field ≡ f)
+      (number ≡ row_number before row) × (string_bytes column ≡ string_bytes d.name)
+      × (kind ≡ d.kind) × (nullability ≡ d.nullability) × (field_told field ≡ f)
   TellsMisfit d f e = ⊥
 
   -- the fault of that row

@@ -46,7 +46,8 @@ RefusesName fields name e = ⊥
 
 -- why a header is refused: by the first declared column that does not stand there once, all before
 -- it do; or memory ran out
-pub data RefusesHeader (fields : List (List ℕ)) (ds : List Declared) (e : StreamError) : Type 0 where
+pub data RefusesHeader (fields : List (List ℕ)) (ds : List Declared) (e : StreamError)
+    : Type 0 where
   at_column : (k : ℕ) (d : Declared) (places : List ℕ) → slice_get ds k ≡ Some d
       → StandAt fields (take k ds) places → RefusesName fields (string_bytes d.name) e
       → RefusesHeader fields ds e

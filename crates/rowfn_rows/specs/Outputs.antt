@@ -1,5 +1,5 @@
 -- What is put down to be written, and what of a row.
-use Rattle.std.specs.Prelude.{◌≡◌, ℕ, ◌+◌, ◌<◌, ◌≤◌, List, [], ◌∷◌, ◌++◌, map, if◌then◌else◌}
+use Rattle.std.specs.Prelude.{◌≡◌, ℕ, ◌≤◌, List, [], ◌∷◌, ◌++◌, map, if◌then◌else◌}
 use Rattle.std.specs.Prelude.{Bool, false, All, length, slice_index_or, count_by}
 use Rattle.std.specs.List.{flat_map, range_with_len}
 use Rattle.vortex_types.specs.Values.{Value, is_null, truth}

@@ -57,8 +57,8 @@ fn place_of(alloc: Global, header: &ByteRecord, name: &str) -> Result<usize, Str
     }
 }
 
-/// Where each declared column stands in a header. Refused where one is missing or stands twice, with
-/// the name of the first that is or does.
+/// Where each declared column stands in a header. Refused where one is missing or stands twice,
+/// with the name of the first that is or does.
 fn places_of(
     alloc: Global,
     declared: &[Declared],

@@ -146,8 +146,8 @@ impl<'a> Output<'a> {
         Ok(())
     }
 
-    /// Adds the line of a row where a column is true in it, and tells whether it is. Refused only for
-    /// want of memory.
+    /// Adds the line of a row where a column is true in it, and tells whether it is. Refused only
+    /// for want of memory.
     fn push_if_true(&mut self, top: &Column, i: usize, line: &[u8]) -> Result<bool, AllocError>
         requires { i < length top.now.rows }
         ensures { IfOk result (λ picked. (picked ≡ is_true (row top.now.rows i))
@@ -160,8 +160,8 @@ impl<'a> Output<'a> {
         Ok(true)
     }
 
-    /// Adds the lines of those rows in which a column is true, and tells how many those are; `spans`
-    /// has a row of the column for each line. Refused only for want of memory.
+    /// Adds the lines of those rows in which a column is true, and tells how many those are; each
+    /// of `spans` lies in a row of the column. Refused only for want of memory.
     pub fn push_picked<R: Read>(
         &mut self,
         top: &Column,

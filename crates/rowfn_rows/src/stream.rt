@@ -4,7 +4,8 @@ ghost use Rattle.std.specs.Io.KnownBytes.{Appends};
 ghost use Rattle.rowfn_rows.specs.BatchAnswers.{IsUnanswered};
 ghost use Rattle.rowfn_rows.specs.Outputs.{Adds, HaveRows};
 ghost use Rattle.rowfn_rows.specs.Passing.{IsAnswered, batch_text, KeepsReading, IsCleared};
-ghost use Rattle.rowfn_rows.specs.Passing.{IsWriting, PassesOn};
+ghost use Rattle.rowfn_rows.specs.Passing.{IsWriting, PassesOn, IsRefilled, IsBehind, PassesNext};
+ghost use Rattle.rowfn_rows.specs.Passing.{Flows};
 ghost use Rattle.rowfn_rows.specs.Tops.{IsTop, RefusesTop};
 
 use crate::answering::{Answered, Task, row_number};
@@ -35,6 +36,21 @@ enum Filled {
     Ended,
     /// No row can be read behind those of the batch.
     Broken(StreamError),
+}
+
+impl Filled {
+    /// Whether more rows may follow.
+    fn goes_on(&self) -> bool {
+        matches!(self, Filled::Full)
+    }
+
+    /// What ends the stream behind the batch, if anything does.
+    fn into_error(self) -> Option<StreamError> {
+        match self {
+            Filled::Broken(error) => Some(error),
+            Filled::Full | Filled::Ended => None,
+        }
+    }
 }
 
 /// A stream between two batches.
@@ -94,7 +110,10 @@ impl<'a, R: Read + Drop> Stream<'a, R> {
         settings: &Settings<'a>,
         expression: &'a Expression<NoCustom>,
         reader: R,
-    ) -> Result<Stream<'a, R>, StreamError> {
+    ) -> Result<Stream<'a, R>, StreamError>
+        ensures expression { IfOk result (λ s. s.expression.now ≡ expression.now) }
+        ensures none_read { IfOk result (λ s. s.summary.rows_read ≡ 0) }
+    {
         let mut rows = Rows::new(alloc, settings.format, reader);
         let mut output = Output::new(alloc, settings.format);
         let layout = if settings.header {
@@ -138,10 +157,12 @@ impl<'a, R: Read + Drop> Stream<'a, R> {
     }
 
     /// Reads the rows of the next batch.
-    fn fill(&mut self) -> Filled {
+    fn fill(&mut self) -> Filled
+        ensures { IsRefilled self.old self.new }
+    {
         self.batch.clear();
         self.rows.keep_from_here();
-        for _ in 0..self.settings.batch.max(1) {
+        'rows: for _ in 0..self.settings.batch.max(1) {
             match self.rows.read() {
                 Ok(true) => {}
                 Ok(false) => return Filled::Ended,
@@ -186,6 +207,7 @@ impl<'a, R: Read + Drop> Stream<'a, R> {
         ensures text { OnOk result (Adds self.old.output self.new.output
             (batch_text self.old answers.now row_count)) }
         ensures kept { KeepsReading self.old self.new }
+        ensures summary { self.new.summary ≡ self.old.summary }
     {
         if !self.settings.picks_rows {
             self.output.push_rows(answers, row_count)?;
@@ -204,6 +226,7 @@ impl<'a, R: Read + Drop> Stream<'a, R> {
             self.old.output.bytes.items) }
         ensures cleared { OnOk result (IsCleared self.old.output self.new.output) }
         ensures kept { KeepsReading self.old self.new }
+        ensures summary { self.new.summary ≡ self.old.summary }
         ensures refused { IfErr result IsWriting }
     {
         if let Err(error) = writer.write_all(self.output.bytes()) {
@@ -216,8 +239,8 @@ impl<'a, R: Read + Drop> Stream<'a, R> {
         Ok(())
     }
 
-    /// Answers and writes the batch: the lines of its rows in their order, up to the first that ends
-    /// the stream, and then the error that does, if any.
+    /// Answers and writes the batch: the lines of its rows in their order, up to the first that
+    /// ends the stream. Refused with the error that does, if any.
     fn pass<W: Write>(
         &mut self,
         error: Option<StreamError>,
@@ -225,8 +248,7 @@ impl<'a, R: Read + Drop> Stream<'a, R> {
     ) -> Result<(), StreamError>
         ensures passes { PassesOn self.old error (W.contents writer.old) (W.contents writer.new)
             result }
-        ensures cleared { OnOk result (IsCleared self.old.output self.new.output) }
-        ensures kept { KeepsReading self.old self.new }
+        ensures behind { OnOk result (IsBehind self.old self.new) }
     {
         let Answered {
             answers,
@@ -247,6 +269,17 @@ impl<'a, R: Read + Drop> Stream<'a, R> {
             Some(error) => Err(error),
             None => Ok(()),
         }
+    }
+
+    /// Reads the next batch and passes it on; tells whether the input goes on behind it.
+    fn pass_next<W: Write>(&mut self, writer: &mut W) -> Result<bool, StreamError>
+        ensures { PassesNext self.old self.new (W.contents writer.old) (W.contents writer.new)
+            result }
+    {
+        let filled = self.fill();
+        let goes_on = filled.goes_on();
+        self.pass(filled.into_error(), writer)?;
+        Ok(goes_on)
     }
 }
 
@@ -288,17 +321,15 @@ pub fn flow<R: Read + Drop, W: Write>(
     expression: &Expression<NoCustom>,
     reader: R,
     writer: &mut W,
-) -> Result<Summary, StreamError> {
+) -> Result<Summary, StreamError>
+    ensures { Flows reader expression.now (W.contents writer.old) (W.contents writer.new) result }
+{
     let mut stream = Stream::begin(alloc, settings, expression, reader)?;
     stream.write(writer)?;
-    for _ in 0..u64::MAX {
-        match stream.fill() {
-            Filled::Full => stream.pass(None, writer)?,
-            Filled::Ended => {
-                stream.pass(None, writer)?;
-                break;
-            }
-            Filled::Broken(error) => stream.pass(Some(error), writer)?,
+    'batches: for _ in 0..u64::MAX {
+        let goes_on = stream.pass_next(writer)?;
+        if !goes_on {
+            return Ok(stream.summary);
         }
     }
     Ok(stream.summary)

@@ -1,4 +1,4 @@
-use Rattle.std.proofs.Common.{ℕ, ◌≤◌, Bool, arith}
+use Rattle.std.proofs.Common.{◌≤◌, arith}
 use Rattle.vortex_columns.specs.ColumnView.{row}
 use Rattle.rowfn_rows.specs.Outputs.{is_true}
 use Rattle.rowfn_rows.proofs.Lines.{next_picked, next_count, one_at_most}
