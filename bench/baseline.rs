@@ -107,9 +107,10 @@ fn main() {
         return print_forms(&lines(picks, |case| forms_alone(case, rounds)));
     }
     let table = lines(picks, |case| measured(case, rounds));
-    print_header("time over that of Rust's best form");
+    print_header("time over that of Rust's best form: the median of pairs, and its quartiles");
     for line in &table {
-        print_row(&line.name, line.seen.each_ref().map(|seen| seen.as_ref().map(|seen| format!("{:.2}", seen.ratio))));
+        let cell = |seen: &Seen| format!("{:.2} ({:.2} to {:.2})", seen.ratio.median, seen.ratio.low, seen.ratio.high);
+        print_row(&line.name, line.seen.each_ref().map(|seen| seen.as_ref().map(cell)));
     }
     println!();
     print_header("the best form");

@@ -4,11 +4,31 @@ use crate::columns::Answer;
 use std::cell::{Cell, RefCell};
 use std::hint::black_box;
 use std::rc::Rc;
-use std::time::{Duration, Instant};
+use std::time::Duration;
 
 unsafe extern "C" {
     fn malloc_trim(pad: usize) -> i32;
     fn mallinfo2() -> Allocated;
+    fn clock_gettime(clock: i32, time: *mut Time) -> i32;
+}
+
+/// What a clock of the C library tells.
+#[repr(C)]
+#[derive(Default)]
+struct Time {
+    seconds: i64,
+    nanoseconds: i64,
+}
+
+/// The clock of the processor time of the thread that asks, on Linux.
+const THREAD_TIME: i32 = 3;
+
+/// The processor time that this thread has taken: what others take meanwhile does not count.
+fn thread_time() -> Duration {
+    let mut time = Time::default();
+    // SAFETY: it writes one time there
+    unsafe { clock_gettime(THREAD_TIME, &mut time) };
+    Duration::new(time.seconds as u64, time.nanoseconds as u32)
 }
 
 /// What the C library tells of its memory, in its order.
@@ -77,29 +97,42 @@ impl Case {
 /// Calls that are long enough for a good measure, and short enough to find the processor idle.
 const LONG_ENOUGH: Duration = Duration::from_millis(3);
 
-/// So many calls, and the least time that they took.
-struct Least {
+/// How many calls a turn makes, and what one call took in each turn that counts.
+struct Series {
     repeat: usize,
-    time: Duration,
+    times: Vec<f64>,
 }
 
-impl Least {
-    const NONE: Least = Least { repeat: 1, time: Duration::MAX };
+impl Series {
+    const NONE: Series = Series { repeat: 1, times: Vec::new() };
 
-    /// Whether there were enough calls for their time to count.
+    /// Whether there were enough calls for their time to count; if not, turns are to make twice as many.
     fn counts(&mut self, time: Duration) -> bool {
         let is_enough = time >= LONG_ENOUGH;
         if is_enough {
-            self.time = self.time.min(time);
+            self.times.push(time.as_secs_f64() / self.repeat as f64);
         } else {
             self.repeat *= 2;
-            self.time = Duration::MAX;
+            self.times.clear();
         }
         is_enough
     }
+}
 
-    fn of_one(&self) -> f64 {
-        self.time.as_secs_f64() / self.repeat as f64
+/// The least quarter, the middle and the greatest quarter of what was seen.
+#[derive(Clone, Copy)]
+pub struct Quartiles {
+    pub low: f64,
+    pub median: f64,
+    pub high: f64,
+}
+
+impl Quartiles {
+    fn of(seen: impl Iterator<Item = f64>) -> Quartiles {
+        let mut seen: Vec<f64> = seen.collect();
+        seen.sort_by(f64::total_cmp);
+        let at = |part: usize| seen.get((seen.len().max(1) - 1) * part / 4).copied().unwrap_or(f64::NAN);
+        Quartiles { low: at(1), median: at(2), high: at(3) }
     }
 }
 
@@ -107,9 +140,9 @@ impl Least {
 struct Turns {
     forms: Vec<Form>,
     rounds_left: usize,
-    began: Option<Instant>,
-    ours: Least,
-    rust: Vec<Least>,
+    began: Option<Duration>,
+    ours: Series,
+    rust: Vec<Series>,
 }
 
 thread_local! {
@@ -118,11 +151,11 @@ thread_local! {
 
 impl Turns {
     fn forms_turn(&mut self) {
-        for (form, least) in self.forms.iter().zip(&mut self.rust) {
+        for (form, series) in self.forms.iter().zip(&mut self.rust) {
             loop {
-                let began = Instant::now();
-                (form.calls)(least.repeat);
-                if least.counts(began.elapsed()) {
+                let began = thread_time();
+                (form.calls)(series.repeat);
+                if series.counts(thread_time() - began) {
                     break;
                 }
             }
@@ -130,7 +163,7 @@ impl Turns {
     }
 
     /// What the project's calls took that ended now, and how many it is to make next.
-    fn next(&mut self, now: Instant) -> usize {
+    fn next(&mut self, now: Duration) -> usize {
         if let Some(began) = self.began.take()
             && self.ours.counts(now - began)
         {
@@ -145,23 +178,23 @@ impl Turns {
 /// runs while they are made.
 #[unsafe(no_mangle)]
 extern "C" fn bench_next() -> usize {
-    let now = Instant::now();
+    let now = thread_time();
     if let Some(before) = BEFORE.take() {
         HELD.set(Some(bytes_in_use().saturating_sub(before)));
     }
     TURNS.with_borrow_mut(|turns| {
         let turns = turns.as_mut().expect("a case is measured");
         let repeat = turns.next(now);
-        turns.began = Some(Instant::now());
+        turns.began = Some(thread_time());
         repeat
     })
 }
 
-/// The project's time over that of the best form, which that is, and the time of each form over that of the best; how many
-/// bytes its columns hold, where that was asked for.
+/// The project's time over that of the best form in the turns of one round each, which form that is, and the median time of
+/// each form over that of the best; how many bytes its columns hold, where that was asked for.
 pub struct Seen {
     pub held: Option<usize>,
-    pub ratio: f64,
+    pub ratio: Quartiles,
     pub best: &'static str,
     pub forms: Vec<(&'static str, f64)>,
 }
@@ -170,31 +203,33 @@ pub fn measured(case: Case, rounds: usize) -> Seen {
     // memory that earlier cases freed is joined, so that the project's texts lie as they would in a new process
     unsafe { malloc_trim(0) };
     let sum = case.sum();
-    let rust = case.forms.iter().map(|_| Least::NONE).collect();
-    let turns = Turns { forms: case.forms, rounds_left: rounds, began: None, ours: Least::NONE, rust };
+    let rust = case.forms.iter().map(|_| Series::NONE).collect();
+    let turns = Turns { forms: case.forms, rounds_left: rounds, began: None, ours: Series::NONE, rust };
     TURNS.set(Some(turns));
     assert_eq!((case.ours)(), sum, "{}: the answers of both sides differ", case.name);
-    let turns = TURNS.take().unwrap();
-    let names = turns.forms.iter().map(|form| form.name);
-    seen(turns.ours.of_one(), names.zip(turns.rust.iter().map(Least::of_one)).collect())
+    seen(TURNS.take().unwrap())
 }
 
-fn seen(ours: f64, mut forms: Vec<(&'static str, f64)>) -> Seen {
-    let (best, least) = forms.iter().copied().min_by(|x, y| x.1.total_cmp(&y.1)).unwrap();
+fn seen(turns: Turns) -> Seen {
+    let middles = turns.rust.iter().map(|series| Quartiles::of(series.times.iter().copied()).median);
+    let mut forms: Vec<_> = turns.forms.iter().map(|form| form.name).zip(middles).collect();
+    let at = (0..forms.len()).min_by(|i, j| forms[*i].1.total_cmp(&forms[*j].1)).expect("a case has a form");
+    let (best, least) = forms[at];
     for (_, time) in &mut forms {
         *time /= least;
     }
-    Seen { held: HELD.take(), ratio: ours / least, best, forms }
+    // the last turns of both sides are pairs: where a side began anew with more calls, its earlier ones are gone
+    let pairs = turns.ours.times.iter().rev().zip(turns.rust[at].times.iter().rev());
+    Seen { held: HELD.take(), ratio: Quartiles::of(pairs.map(|(ours, rust)| ours / rust)), best, forms }
 }
 
 /// The forms alone: the time of each over that of the best.
 pub fn forms_alone(case: Case, rounds: usize) -> Seen {
     case.sum();
-    let rust = case.forms.iter().map(|_| Least::NONE).collect();
-    let mut turns = Turns { forms: case.forms, rounds_left: rounds, began: None, ours: Least::NONE, rust };
+    let rust = case.forms.iter().map(|_| Series::NONE).collect();
+    let mut turns = Turns { forms: case.forms, rounds_left: rounds, began: None, ours: Series::NONE, rust };
     for _ in 0..rounds {
         turns.forms_turn();
     }
-    let names = turns.forms.iter().map(|form| form.name);
-    seen(f64::NAN, names.zip(turns.rust.iter().map(Least::of_one)).collect())
+    seen(turns)
 }
