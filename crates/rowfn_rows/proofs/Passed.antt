@@ -1,14 +1,17 @@
 -- A batch that was answered: it can be put down, and is passed on where that was written.
-use Rattle.std.proofs.Common.{◌≡◌, ◌∙◌, ℕ, ◌≤◌, ◌-◌, ◌++◌, List, Option, Some, Result, length, take}
-use Rattle.std.proofs.Common.{Bool, true, map, sym, subst, ap, if◌then◌else◌}
-use Rattle.std.specs.Prelude.{OnOk, slice_get}
-use Rattle.std.specs.Io.KnownBytes.{Appends}
+use Rattle.std.proofs.Common.{◌≡◌, ◌∙◌, ℕ, ◌≤◌, ◌-◌, ◌++◌, List, Option, Some, None, Result, Ok, Err}
+use Rattle.std.proofs.Common.{Bool, true, map, sym, subst, ap, refl, if◌then◌else◌, length, take}
+use Rattle.std.specs.Prelude.{OnOk, IfOk, IfErr, MatchResult, slice_get}
+use Rattle.std.specs.Io.KnownBytes.{Appends, Keeps}
 use Rattle.vortex_columns.specs.ColumnView.{ColumnView}
+use Rattle.rowfn_batches.specs.Fields.{Field}
 use Rattle.rowfn_csv.specs.declared.rows.Span.{Span}
 use Rattle.rowfn_csv.specs.KeptLines.{line_of}
+use Rattle.rowfn_rows.specs.declared.answering.Answered.{Answered}
 use Rattle.rowfn_rows.specs.declared.errors.StreamError.{StreamError}
 use Rattle.rowfn_rows.specs.declared.output.Output.{Output}
 use Rattle.rowfn_rows.specs.declared.stream.Stream.{Stream}
+use Rattle.rowfn_rows.specs.BatchAnswers.{AreAnswers, EndsBatch, IsUnanswered}
 use Rattle.rowfn_rows.specs.Outputs.{Adds, HaveRows, picked_texts, row_lines}
 use Rattle.rowfn_rows.specs.Passing.{IsAnswered, batch_text, picked_lines, PassesOn}
 use Rattle.rowfn_rows.specs.Passing.{answered, ended}
@@ -56,3 +59,36 @@ module _ {R : Type 0} (s : Stream R) (behind : Option StreamError) (n : ℕ)
       ∙ ap (λ (cs : List ColumnView). s.output.bytes.items ++ batch_text s cs n) same)
       wrote)
       ends
+
+-- what is written nothing to stays as it is
+pub kept_as_it_is : (held : Option (List ℕ)) → Keeps held held
+kept_as_it_is None = tt
+kept_as_it_is (Some xs) = refl
+
+-- what a batch answers by its fields and their count is what the stream's batch answers
+module _ {R : Type 0} (s : Stream R) (behind : Option StreamError) (fs : List Field) (count : ℕ)
+    (same : fs ≡ s.batch.fields) (counted : count ≡ length s.batch.spans) where
+  pub answered_so : (r : Result Answered StreamError)
+      → IfOk r (λ a. AreAnswers s.expression.now fs a.row_count a.answers.items)
+      → IfOk r (λ a. EndsBatch s.expression.now fs s.summary.rows_read count behind a.row_count
+      a.error)
+      → IfErr r (IsUnanswered s.expression.now fs count)
+      → MatchResult r (λ a. IsAnswered s behind a.row_count a.answers.items a.error)
+      (IsUnanswered s.expression.now s.batch.fields (length s.batch.spans))
+  answered_so (Ok a) rows ends refused =
+      record {
+        rows = subst
+            (λ (f : List Field). AreAnswers s.expression.now f a.row_count a.answers.items) same
+            rows;
+        ends = subst
+            (λ (f : List Field). EndsBatch s.expression.now f s.summary.rows_read
+            (length s.batch.spans) behind a.row_count a.error)
+            same
+            (subst
+            (λ (n : ℕ). EndsBatch s.expression.now fs s.summary.rows_read n behind a.row_count
+            a.error)
+            counted ends);
+      }
+  answered_so (Err e) rows ends refused =
+      subst (λ (f : List Field). IsUnanswered s.expression.now f (length s.batch.spans) e) same
+      (subst (λ (n : ℕ). IsUnanswered s.expression.now fs n e) counted refused)

@@ -1,7 +1,7 @@
 use Rattle.std.proofs.Common.{◌≡◌, ◌∙◌, Some, None, Err, ap, sym}
 use Rattle.std.proofs.lemmas.Result.{err_from_is_err_and}
-use Rattle.rowfn_rows.specs.Passing.{ended, unwritten}
-use Rattle.rowfn_rows.proofs.Passed.{have, within, passed}
+use Rattle.rowfn_rows.specs.Passing.{ended, unanswered, unwritten}
+use Rattle.rowfn_rows.proofs.Passed.{have, within, passed, kept_as_it_is}
 use Rattle.rowfn_rows.proofs.stream.Stream.pass.Goals as goal
 
 pub push_batch-requires-clause-rows : goal.push_batch-requires-clause-rows
@@ -15,6 +15,12 @@ push_batch-requires-clause-spans g c =
     let a = c.in_ok-answers in
     within c.args.self.now c.args.error a.field-0.row_count _ c.deref.result.now _ a.ensures
     (cc c.deref.ensures.value)
+
+pub returns-in_err-answers-clause-passes : goal.returns-in_err-answers-clause-passes
+returns-in_err-answers-clause-passes g c =
+    let p = err_from_is_err_and c.from_residual.result c.from_residual.ensures.1 in
+    unanswered c.in_err-answers.field-0.0 c.in_err-answers.ensures
+    (kept_as_it_is (g.W.Write.contents c.args.writer.now)) (p.1 ∙ ap Err p.2)
 
 pub returns-in_err-write-clause-passes : goal.returns-in_err-write-clause-passes
 returns-in_err-write-clause-passes g c =
