@@ -5,6 +5,20 @@ count=${ROWS:-100000}
 scratch=$(mktemp -d /tmp/rowfn_engines.XXXXXX)
 chmod 755 "$scratch"
 
+# Whatever ends the script, what it started ends too: a script that starts something says in `stop` how that ends.
+stop() { :; }
+finish() {
+    status=$?
+    trap - EXIT
+    stop
+    rm -rf "$scratch"
+    exit "$status"
+}
+trap finish EXIT
+trap 'exit 129' HUP
+trap 'exit 130' INT
+trap 'exit 143' TERM
+
 # `rt run` in crates/rowfn_stream proves and builds the program, and leaves it there.
 program=${ROWFN_STREAM:-$here/../../crates/rowfn_stream/out/rowfn_stream}
 if [ ! -x "$program" ]; then
@@ -28,13 +42,14 @@ needs() {
     done
 }
 
-# whether an engine's answer is that over the whole file
+# whether an engine's answer is that over the whole file; both stay where they differ
 compare() {
     if cmp -s "$1" "$scratch/whole.csv"; then
         echo "$2: the same as over the whole file, $(wc -l < "$1") lines"
     else
-        echo "$2: another answer than over the whole file: $1 beside $scratch/whole.csv" >&2
-        trap - EXIT
+        differ=$(mktemp -d /tmp/rowfn_differ.XXXXXX)
+        cp "$1" "$scratch/whole.csv" "$differ"
+        echo "$2: another answer than over the whole file: $differ/$(basename "$1") beside $differ/whole.csv" >&2
         exit 1
     fi
 }
