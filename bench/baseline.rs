@@ -20,12 +20,12 @@ use timing::{Case, Seen, forms_alone, measured};
 
 const SIZES: [(usize, &str); 3] = [(1_000, "1,000"), (65_536, "65,536"), (1_000_000, "1,000,000")];
 
-/// How long it takes to make, copy, execute and let go of a chain of calls, on the stack that a program has.
+/// How long it takes to make, copy, execute and drop a chain of calls, on the stack that a program has.
 fn deep() {
     for calls in [250_000, 500_000, 1_000_000] {
         let began = Instant::now();
         assert_eq!(project::deep(calls), 1);
-        println!("a chain of {calls} calls made, copied, executed and let go: {} ms", began.elapsed().as_millis());
+        println!("a chain of {calls} calls made, copied, executed and dropped: {} ms", began.elapsed().as_millis());
     }
 }
 

@@ -1,4 +1,4 @@
-//! The project's exported calls, over lent columns. Each asks `bench_next` how often to call, and answers a checksum.
+//! The project's exported calls, over borrowed columns. Each asks `bench_next` how often to call, and answers a checksum.
 
 use crate::columns::{Bits, Bools, Ints, Rows, Texts};
 use crate::dictionary::Dictionary;

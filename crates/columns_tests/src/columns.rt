@@ -125,7 +125,7 @@ fn tells_validity(column: Made, wanted: (bool, bool, bool)) -> VortexResult<bool
     Ok(dtype.is_boolean() && dtype.is_nullable() && are_valid(&*column, wanted))
 }
 
-/// Whether three bits are lent, and a bit for each of three rows that are valid or not.
+/// Whether three bits are borrowed, and a bit for each of three rows that are valid or not.
 fn are_lent(column: &Column) -> bool {
     match (column.bits(), column.valid_bits()) {
         (Some(bits), Some(valid)) => bits.len() == 3 && valid.len() == 3,

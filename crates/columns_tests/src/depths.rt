@@ -212,21 +212,21 @@ fn copy_of(alloc: Global, made: VortexResult<Scalar>) -> VortexResult<Scalar> {
     literal.try_clone(alloc)
 }
 
-/// Whether two types are equal; both are let go here.
+/// Whether two types are equal; both are dropped here.
 fn are_equal_types(one: VortexResult<DType>, other: VortexResult<DType>) -> VortexResult<bool> {
     let one = one?;
     let other = other?;
     Ok(one == other)
 }
 
-/// Whether two types differ; both are let go here.
+/// Whether two types differ; both are dropped here.
 fn differ(one: VortexResult<DType>, other: VortexResult<DType>) -> VortexResult<bool> {
     let one = one?;
     let other = other?;
     Ok(one != other)
 }
 
-/// Whether two types differ in nullability alone; both are let go here.
+/// Whether two types differ in nullability alone; both are dropped here.
 fn differ_by_null(one: VortexResult<DType>, other: VortexResult<DType>) -> VortexResult<bool> {
     let one = one?;
     let other = other?;
@@ -240,20 +240,20 @@ fn is_written_in(alloc: Global, made: VortexResult<Scalar>, count: usize) -> Vor
     Ok(out.len() == count)
 }
 
-/// Whether a value was made; it is let go here.
+/// Whether a value was made; it is dropped here.
 fn was_made<T: Drop>(made: VortexResult<T>) -> VortexResult<bool> {
     let _value = made?;
     Ok(true)
 }
 
-/// Whether a type has a copy; both are let go here.
+/// Whether a type has a copy; both are dropped here.
 fn has_a_copy(alloc: Global, made: VortexResult<DType>) -> VortexResult<bool> {
     let dtype = made?;
     let _copy = dtype.try_clone(alloc)?;
     Ok(true)
 }
 
-/// Whether a value has a copy; both are let go here.
+/// Whether a value has a copy; both are dropped here.
 fn value_has_a_copy(alloc: Global, made: VortexResult<ScalarValue>) -> VortexResult<bool> {
     let value = made?;
     let _copy = value.try_clone(alloc)?;

@@ -7,7 +7,7 @@ use std::alloc::Global;
 use std::cmp::Ordering;
 use vortex_columns::{Column, PType, ScalarValue, Validity, VortexResult, cell_of};
 
-/// Which parts are lent: bits, integers, bytes, a field, and those of lists, fixed-size lists and
+/// Which parts are borrowed: bits, integers, bytes, a field, and those of lists, fixed-size lists and
 /// maps.
 fn parts(column: &Column) -> [bool; 7] {
     if column.len() == 0 {
@@ -117,7 +117,7 @@ fn constants_alone_are_constants(rt: HostRuntime) {
     assert!(rt; !yes(is_constant(pair(alloc))));
 }
 
-/// Whether these integers are lent, and none of another type.
+/// Whether these integers are borrowed, and none of another type.
 fn lends_integers(column: &Column, wanted: &[i32]) -> bool {
     let same = match column.ints::<i32>() {
         Some(ints) => ints == wanted,

@@ -27,7 +27,7 @@ fn truth_values_are_ordered(rt: HostRuntime) {
     assert!(rt; stand(&null_truth(), Ordering::Less, &Scalar::from(false)));
 }
 
-/// Whether a text and the same letters as bytes are lent as what they are alone.
+/// Whether a text and the same letters as bytes are borrowed as what they are alone.
 fn are_lent(alloc: Global) -> VortexResult<bool> {
     let text = Scalar::try_from_str(alloc, "new")?;
     let letters = typed(DType::Binary(NO), bytes(alloc, &[110, 101, 119]))?;

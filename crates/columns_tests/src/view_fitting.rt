@@ -41,7 +41,7 @@ fn long_views_lie_in_buffers(rt: HostRuntime) {
     assert!(rt; says(lies(alloc, BinaryView::new_long(13, *b"help", 0, 0)), false));
 }
 
-/// Whether the second of two views of `hello, world!` is lent with its own buffer and offset.
+/// Whether the second of two views of `hello, world!` is borrowed with its own buffer and offset.
 fn lends_the_second(alloc: Global) -> VortexResult<bool> {
     let mut buffers = Vec::new(alloc);
     buffers.push(b"hello, world!".to_vec(alloc)?)?;

@@ -82,7 +82,7 @@ fn overlapping(alloc: Global) -> Made {
     )
 }
 
-/// Whether the two rows are these texts, by the bytes that are lent and by the scalar of the
+/// Whether the two rows are these texts, by the bytes that are borrowed and by the scalar of the
 /// second.
 fn are_texts(alloc: Global, column: &Column, first: &str, second: &str) -> VortexResult<bool> {
     if column.len() != 2 {

@@ -91,7 +91,7 @@ fn is_custom<C: ScalarFnVTable>(function: ScalarFnRef<C>, name: &str) -> bool {
         }
 }
 
-/// One lent and one owned input.
+/// One borrowed and one owned input.
 fn two_inputs<'a>(
     alloc: Global,
     first: &'a Column,

@@ -66,7 +66,7 @@ fn lends<C: ScalarFnVTable>(
     }
 }
 
-/// Whether a tree answers a lent column of these rows over those columns.
+/// Whether a tree answers a borrowed column of these rows over those columns.
 fn is_lent<C: ScalarFnVTable>(
     alloc: Global,
     tree: Bound<C>,
@@ -226,7 +226,7 @@ fn a_lone_leaf_is_lent(rt: HostRuntime) {
     );
 }
 
-/// What a tree that is lent is owned as: a copy.
+/// What a tree that is borrowed is owned as: a copy.
 fn owned<C: ScalarFnVTable>(alloc: Global, tree: Bound<C>) -> Bound<C> {
     let tree = tree?;
     Ok(Box::new(alloc, Cow::Borrowed(&*tree).into_owned()?)?)

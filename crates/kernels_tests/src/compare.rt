@@ -232,7 +232,7 @@ fn rows_by(operator: CompareOperator) -> [Option<bool>; 6] {
     }
 }
 
-/// The comparison of two columns that are lent.
+/// The comparison of two columns that are borrowed.
 fn lent_compared(alloc: Global, left: &Column, operator: CompareOperator, right: &Column) -> Made {
     kept(
         alloc,

@@ -50,7 +50,7 @@ fn lends<C: ScalarFnVTable>(alloc: Global, array: Held<C>) -> VortexResult<bool>
     }
 }
 
-/// What an array that is lent is owned as: a copy.
+/// What an array that is borrowed is owned as: a copy.
 fn owned<C: ScalarFnVTable>(alloc: Global, array: Held<C>) -> Held<C> {
     let array = array?;
     Ok(Box::new(alloc, Cow::Borrowed(&*array).into_owned()?)?)

@@ -72,7 +72,7 @@ fn a_fault_goes_with_the_call_that_a_step_drops(rt: HostRuntime) {
     assert!(rt; is_refused(unchanged, "Arithmetic.Add"));
 }
 
-/// Whether an answer is a lent column of these rows.
+/// Whether an answer is a borrowed column of these rows.
 fn is_lent(
     alloc: Global,
     answer: VortexResult<Cow<'_, Column>>,
@@ -82,7 +82,7 @@ fn is_lent(
     Ok(matches!(&*answer, Cow::Borrowed(_)) && are_rows(alloc, &**answer, wanted)?)
 }
 
-/// Whether a tree answers a lent column of these rows after a run of at most ten steps.
+/// Whether a tree answers a borrowed column of these rows after a run of at most ten steps.
 fn lends<C: ScalarFnRules>(
     alloc: Global,
     tree: Bound<C>,

@@ -101,7 +101,7 @@ module _ {V O X : Type 0} (m : Meaning V O) (cs : List ColumnView) (n : ℕ) (f 
   refuses_columns_at (y ∷ xs) (suc k) x e below at h r =
       inr (h.0, refuses_columns_at xs k x e (omega (arith, below)) at h.1 r)
 
--- a column that was lent, or its copy
+-- a column that was borrowed, or its copy
 pub owned_is : (x c : ColumnView) → (x ≡ c) ⊎ (x ≡ c) → x ≡ c
 owned_is x c (inl e) = e
 owned_is x c (inr e) = e

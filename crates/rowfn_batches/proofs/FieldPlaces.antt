@@ -24,7 +24,7 @@ use Rattle.rowfn_batches.specs.Batches.{field_at, fits_in, fits_at, IsFirstMisfi
 abbrev said : LogicalType → Value → ScalarView
 said t v = record { dtype = t; value = v }
 
--- a field that is lent
+-- a field that is borrowed
 pub field_is : (fs : List (Option (Bor (List ℕ)))) (k : ℕ) (d : Option (Bor (List ℕ)))
     → k < length fs → field_in (get_or fs k d) ≡ field_at (map field_in fs) k
 field_is fs k d within = sym (get_or-map field_in fs k d None within)

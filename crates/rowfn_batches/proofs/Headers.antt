@@ -22,7 +22,7 @@ use Rattle.rowfn_batches.specs.Expressions.{joined, given_at, IsHeader, AreHeade
 use Rattle.rowfn_batches.specs.Expressions.{Reaches}
 use Rattle.rowfn_batches.specs.Expressions.{Stops, line_at}
 
--- the name that is lent
+-- the name that is borrowed
 pub names_at : (names : List (Option (String Global))) (k : ℕ)
     (name : Option (Bor (Option (String Global)))) → IsItemAt names k name
     → given_at name ≡ joined (slice_get (map given_in names) k)

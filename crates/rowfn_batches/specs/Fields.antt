@@ -15,7 +15,7 @@ use Rattle.rowfn_batches.specs.declared.columns.Declared.{Declared}
 abbrev pub Field : Type 0
 Field = Option (List ℕ)
 
--- the field that is lent
+-- the field that is borrowed
 abbrev pub field_in : Option (Bor (List ℕ)) → Field
 field_in = option_map (λ b. b.now)
 

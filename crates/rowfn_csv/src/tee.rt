@@ -61,7 +61,7 @@ impl<R: Read> Tee<R> {
         self.kept.as_slice().get(index as usize).copied()
     }
 
-    /// Lets go of what nobody asks for again.
+    /// Drops what nobody asks for again.
     fn forget(&mut self) {
         let passed = self.wanted.get().saturating_sub(self.first);
         let count = self.kept.len().min(passed as usize);

@@ -1,4 +1,4 @@
--- What the fields of the first rows make, as fields that are lent say it.
+-- What the fields of the first rows make, as fields that are borrowed say it.
 use Rattle.std.proofs.Common.{◌≡◌, ◌∙◌, ◌*◌, ℕ, List, Option, Result, Ok, Err, length, map, take}
 use Rattle.std.proofs.Common.{ap, sym, subst}
 use Rattle.std.specs.Prelude.{IfOk}
@@ -21,7 +21,7 @@ if_ok-weaker (Err e) P Q f h = tt
 module _ (x : Expression NoCustom EmptyOptions) (fs : List (Option (Bor (List ℕ)))) (n : ℕ)
     (ds : List Declared) (is : ds ≡ x.columns.items) (whole : List (Option (Bor (List ℕ))))
     (taken : whole ≡ take (length ds * n) fs) where
-  -- what holds of the declared columns and the lent fields holds of the first fields
+  -- what holds of the declared columns and the borrowed fields holds of the first fields
   pub of_first : (P : List Declared → List Field → Type 0) → P ds (map field_in whole)
       → P x.columns.items (first_fields x (map field_in fs) n)
   of_first P h =

@@ -41,7 +41,7 @@ fn copies(alloc: Global, columns: &[Column]) -> VortexResult<Vec<Column>> {
     Ok(copies)
 }
 
-/// Two columns that a call is lent, and their copies.
+/// Two columns that a call borrows, and their copies.
 #[derive(Drop)]
 pub struct Sides {
     pub left: Box<Column>,
@@ -68,7 +68,7 @@ impl Sides {
         are_same(&*self.left, &*self.left_copy) && are_same(&*self.right, &*self.right_copy)
     }
 
-    /// Whether both are as they were, and a call that was lent them answers this column.
+    /// Whether both are as they were, and a call that borrowed them answers this column.
     pub fn answer(&self, answer: Made, wanted: &Column) -> VortexResult<bool> {
         if !self.stay() {
             return Ok(false);
@@ -77,7 +77,7 @@ impl Sides {
     }
 }
 
-/// Columns that a call is lent, and their copies.
+/// Columns that a call borrows, and their copies.
 #[derive(Drop)]
 pub struct Table {
     columns: Vec<Column>,
@@ -91,12 +91,12 @@ impl Table {
         Ok(Table { columns, copies })
     }
 
-    /// The columns, lent.
+    /// The columns, borrowed.
     pub fn columns(&self) -> &[Column] {
         &self.columns
     }
 
-    /// Whether they are as they were, and a call that was lent them answers this column.
+    /// Whether they are as they were, and a call that borrowed them answers this column.
     pub fn answer(
         &self,
         alloc: Global,
@@ -111,7 +111,7 @@ impl Table {
     }
 }
 
-/// How a call answers, if what it was lent is as it was.
+/// How a call answers, if what it borrowed is as it was.
 pub fn unless_changed(
     is_as_it_was: VortexResult<bool>,
     answer: VortexResult<bool>,

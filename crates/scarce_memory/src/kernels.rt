@@ -1,4 +1,4 @@
-//! The kernels over columns, which are lent, and over bits.
+//! The kernels over columns, which are borrowed, and over bits.
 
 use crate::comparing::{Sides, are_same};
 use crate::seen::Tally;

@@ -1,7 +1,7 @@
 //! Tries what calls answer where memory is refused.
 //!
 //! Each is made on small inputs, and its answer held against the known one. A call may be out of
-//! memory instead, and what it was lent is then as it was. `tools/scarce_memory` runs the program
+//! memory instead, and what it borrowed is then as it was. `tools/scarce_memory` runs the program
 //! once for each allocation, which it refuses. The program ends with 0 where each call answers,
 //! with 3 where memory ran out, and with 1 where an answer is wrong.
 #![tactic(auto)]

@@ -1,4 +1,4 @@
-//! Rules over trees and arrays, which are lent: nodes, lists of steps, and runs.
+//! Rules over trees and arrays, which are borrowed: nodes, lists of steps, and runs.
 
 use crate::comparing::{are_same, unless_changed};
 use crate::seen::Tally;

@@ -32,7 +32,7 @@ fn is_lent<C: ScalarFnVTable>(
     }
 }
 
-/// Whether the child of a lent node is the leaf of column `a`.
+/// Whether the child of a borrowed node is the leaf of column `a`.
 fn lends_child<C: ScalarFnRules>(alloc: Global, tree: Bound<C>) -> VortexResult<bool> {
     let tree = tree?;
     Ok(yes(is_leaf(alloc, &*tree)))
@@ -87,7 +87,7 @@ fn returns(
     Ok(yes(dtype.map(|dtype| dtype == DType::Bool(nullability))))
 }
 
-/// One lent input.
+/// One borrowed input.
 fn one_input(alloc: Global, column: &Column) -> VortexResult<VecExecutionArgs<'_>> {
     let mut inputs = Vec::new(alloc);
     inputs.push(Cow::Borrowed(column))?;

@@ -1,4 +1,4 @@
-//! Trees: how calls are bound, their texts, and what they answer over columns, which are lent.
+//! Trees: how calls are bound, their texts, and what they answer over columns, which are borrowed.
 
 use crate::comparing::{Table, unless_changed};
 use crate::seen::Tally;

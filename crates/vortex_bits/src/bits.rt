@@ -102,7 +102,7 @@ impl BitBuffer {
         (self.bytes[byte] >> (within % 8)) & 1 == 1
     }
 
-    /// The `len` bits from bit `from` on, lent where they lie. Takes no memory.
+    /// The `len` bits from bit `from` on, borrowed where they lie. Takes no memory.
     pub fn slice(&self, from: usize, len: usize) -> BitView<'_>
         requires { from + len ≤ length self.now }
         ensures { AreRows len (λ i. slice_index_or self.now (from + i) false) result }

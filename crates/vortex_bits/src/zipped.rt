@@ -45,9 +45,9 @@ impl WordFormula for Either {
 
 /// The left one is not set, whatever the right one.
 #[derive(Clone, Copy)]
-pub struct LeftTurned {}
+pub struct LeftNegated {}
 
-impl WordFormula for LeftTurned {
+impl WordFormula for LeftNegated {
     ghost use Rattle.std.specs.Prelude.{not};
 
     ghost says = { λ l r. not l };

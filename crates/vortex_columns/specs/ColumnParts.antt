@@ -6,8 +6,8 @@ use Rattle.vortex_types.specs.LogicalTypes.{text_type, bytes_type, struct_type, 
 use Rattle.vortex_types.specs.LogicalTypes.{fixed_size_list_type, map_type, Fields, no_fields}
 use Rattle.vortex_types.specs.LogicalTypes.{field, type_depth}
 use Rattle.vortex_columns.specs.ColumnView.{ColumnView}
-use Rattle.vortex_columns.specs.declared.column.letting_go.Within.{Within}
-use Rattle.vortex_columns.specs.declared.column.letting_go.Within.TheVariants.{One, Two, Many}
+use Rattle.vortex_columns.specs.declared.column.dropping.Within.{Within}
+use Rattle.vortex_columns.specs.declared.column.dropping.Within.TheVariants.{One, Two, Many}
 
 -- an empty struct weighs more than a leaf
 abbrev mutual

@@ -29,9 +29,9 @@ pub enum Cell<'a> {
     Bool(bool),
     /// An integer of any of the eight types.
     Int(i128),
-    /// A text, lent from the scalar or the column.
+    /// A text, borrowed from the scalar or the column.
     Text(&'a str),
-    /// Bytes, lent likewise.
+    /// Bytes, borrowed likewise.
     Bytes(&'a [u8]),
     /// A list, a record, a map or an entry of a map.
     Sequence(Sequence<'a>),
@@ -52,7 +52,7 @@ pub enum Sequence<'a> {
     Entry(&'a Column, &'a Column, usize),
 }
 
-/// The value of a scalar where it lies: its text, bytes and inner values are lent. Takes no memory.
+/// The value of a scalar where it lies: its text, bytes and inner values are borrowed. Takes no memory.
 pub fn cell_of(value: &ScalarValue) -> Cell<'_>
     ensures whole { IsCell result }
     ensures value { cell_value result ≡ value_of value.now }

@@ -3,7 +3,7 @@
 
 mod constructors;
 mod copies;
-mod letting_go;
+mod dropping;
 mod nested;
 mod options;
 mod reads;
@@ -15,7 +15,7 @@ mod true_rows;
 
 use crate::scalar::Scalar;
 use crate::validity::Validity;
-use letting_go::Within;
+use dropping::Within;
 pub use rows::{BoolRows, IntRows, TextRows};
 use std::marker::Model;
 use vortex_bits::BitBuffer;
@@ -80,7 +80,7 @@ impl Model for Column {
     ghost size_decreases = { λ a h. storage_falls a.len (type_of a.dtype) a.storage h };
 }
 
-/// A column is let go by a list of what is still to go, so its depth takes no stack. Lists within
+/// A column is dropped by a list of what is still to go, so its depth takes no stack. Lists within
 /// lists take no memory, and the fields of a struct are themselves the list where that is empty.
 /// Where the list cannot grow, what it has no place for goes by a call.
 impl Drop for Column {

@@ -1,4 +1,4 @@
-//! Columns of typed rows, scalars, and cells that are lent from both; with the types that stand
+//! Columns of typed rows, scalars, and cells that are borrowed from both; with the types that stand
 //! below.
 #![tactic(auto)]
 

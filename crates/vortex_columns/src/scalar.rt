@@ -76,7 +76,7 @@ impl Scalar {
         }
     }
 
-    /// The type, lent. The value has it.
+    /// The type, borrowed. The value has it.
     pub fn dtype(&self) -> &DType
         ensures dtype { type_of result.now ≡ self.now.dtype }
         ensures typed { HasType self.now.dtype self.now.value }
@@ -119,7 +119,7 @@ impl Scalar {
         }
     }
 
-    /// The text, lent, of a Utf8 that is not null.
+    /// The text, borrowed, of a Utf8 that is not null.
     pub fn as_text_opt(&self) -> Option<&str>
         ensures { MatchOption result (text_of self.now.value ≡ None)
             (λ t. self.now.value ≡ text t.now) }
@@ -130,7 +130,7 @@ impl Scalar {
         }
     }
 
-    /// The bytes, lent, of a Binary that is not null.
+    /// The bytes, borrowed, of a Binary that is not null.
     pub fn as_bytes_opt(&self) -> Option<&[u8]>
         ensures { MatchOption result (bytes_of self.now.value ≡ None)
             (λ b. self.now.value ≡ bytes b.now) }

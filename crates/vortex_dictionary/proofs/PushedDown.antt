@@ -13,7 +13,7 @@ use Rattle.vortex_dictionary.specs.Dictionary.{DictView}
 use Rattle.vortex_dictionary.specs.PushDown.{inputs_of, TakesInputs, RefusesInputs, MayRunOver}
 use Rattle.vortex_dictionary.specs.PushDown.{RefusesPushDown, binding, fault, PushesDown}
 
--- the arguments, of the values that were lent
+-- the arguments, of the values that were borrowed
 pub inputs_are : (k : ℕ) (v : ColumnView) (d : DictView) (others : List ScalarView)
     (made : List ColumnView)
     → made ≡ inputs_of k v others → v ≡ d.values → made ≡ inputs_of k d.values others

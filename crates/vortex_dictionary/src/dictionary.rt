@@ -62,14 +62,14 @@ impl DictColumn {
         Ok(DictColumn { values, codes })
     }
 
-    /// The values, lent.
+    /// The values, borrowed.
     pub fn values(&self) -> &Column
         ensures { result.now ≡ self.now.values }
     {
         &self.values
     }
 
-    /// For each row the number of its value, lent.
+    /// For each row the number of its value, borrowed.
     pub fn codes(&self) -> &[u32]
         ensures codes { result.now ≡ self.now.codes }
         ensures below { AreRowsOf self.now.values self.now.codes }

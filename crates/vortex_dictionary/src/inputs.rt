@@ -27,7 +27,7 @@ fn push_constants<'a>(
     Ok(())
 }
 
-/// The column, lent, in its place among the others.
+/// The column, borrowed, in its place among the others.
 pub(crate) fn inputs_of<'a>(
     alloc: Global,
     column: &'a Column,

@@ -10,7 +10,7 @@ use vortex_columns::{Column, DType, ExecutionCtx, VortexResult};
 pub trait EncodedColumn {
     ghost column: { Self → ColumnView };
 
-    /// The type of its rows, lent.
+    /// The type of its rows, borrowed.
     fn dtype(&self) -> &DType
         ensures { type_of result.now ≡ (column self.now).dtype };
 

@@ -50,7 +50,7 @@ module _ (V O : Type 0) (cs : List ColumnView) where
   leaf_tree_fits (Column p name t) b h = h
   leaf_tree_fits (Literal s alloc) b h = h
 
-  -- a column at the leaf's place is lent
+  -- a column at the leaf's place is borrowed
   pub leaf_lent : (l : ExpressionLeaf) (p : ℕ) (name : String Global) (t : DType)
       (b : Bor ColumnView)
       → l ≡ Column p name t → LeavesFit {V = V} {O = O} cs (expression_leaf l)

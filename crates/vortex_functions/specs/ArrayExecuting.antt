@@ -1,4 +1,4 @@
--- What executing an array answers, which may be lent. No column stands outside it.
+-- What executing an array answers, which may be borrowed. No column stands outside it.
 use Rattle.std.specs.Prelude.{◌≡◌, ◌<◌, ℕ, [], Result, IfSome, IsOkAnd}
 use Rattle.std.specs.declared.borrow.Cow.{Cow}
 use Rattle.std.specs.declared.borrow.Cow.TheVariants.{Borrowed, Owned}
@@ -15,7 +15,7 @@ abbrev Answer : Type 0
 Answer = Result (Cow ColumnView) VortexError
 
 module _ {V O : Type 0} (m : Meaning V O) (a : Array V O) where
-  -- the column, which may be lent, has the array's rows
+  -- the column, which may be borrowed, has the array's rows
   abbrev pub HasArrayRows : Cow ColumnView → Type 0
   HasArrayRows c = HasRows m [] (rows_in a) (tree_in a) c
 
@@ -27,7 +27,7 @@ abbrev pub IsLent : ColumnView → Cow ColumnView → Type 0
 IsLent c (Borrowed lent) = lent.now ≡ c
 IsLent c (Owned d) = ⊥
 
--- a lone column is lent, and no memory is taken
+-- a lone column is borrowed, and no memory is taken
 abbrev pub LendsColumn : {V O : Type 0} → Array V O → Answer → Type 0
 LendsColumn a result = IfSome (column_in a) (λ c. IsOkAnd result (IsLent c))
 

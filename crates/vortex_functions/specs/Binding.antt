@@ -1,4 +1,4 @@
--- What binding a leaf or a call answers, and when an answer is lent.
+-- What binding a leaf or a call answers, and when an answer is borrowed.
 use Rattle.std.specs.Prelude.{◌≡◌, ℕ, List, Some, None, true, false, length, map, slice_get}
 use Rattle.std.specs.Prelude.{Result}
 use Rattle.std.specs.declared.borrow.Cow.{Cow}
@@ -70,7 +70,7 @@ abbrev pub IsLeafAt : {V O : Type 0} → ℕ → Tree V O → Type 0
 IsLeafAt k (leaf (place p name t)) = k ≡ p
 IsLeafAt k t = ⊥
 
--- the answer is the column at the leaf's place, lent
+-- the answer is the column at the leaf's place, borrowed
 abbrev pub IsLentLeaf : {V O : Type 0} → List ColumnView → Tree V O → Cow ColumnView → Type 0
 IsLentLeaf cs (leaf (place p name t)) (cow.Borrowed c) = slice_get cs p ≡ Some c.now
 IsLentLeaf cs t c = ⊥

@@ -1,4 +1,4 @@
--- What executing a tree answers, which may be lent.
+-- What executing a tree answers, which may be borrowed.
 use Rattle.std.specs.Prelude.{◌≡◌, ℕ, List, None, Result, IsOkAnd, ⊤}
 use Rattle.std.specs.Cow.{cow_value}
 use Rattle.std.specs.declared.borrow.Cow.{Cow}
@@ -16,7 +16,7 @@ abbrev Answer : Type 0
 Answer = Result (Cow ColumnView) VortexError
 
 module _ {V O : Type 0} (m : Meaning V O) (columns : List ColumnView) (n : ℕ) (t : Tree V O) where
-  -- the column, which may be lent, has the tree's rows
+  -- the column, which may be borrowed, has the tree's rows
   abbrev pub HasRows : Cow ColumnView → Type 0
   HasRows c = HasTreeRows m columns n t (cow_value c)
 
@@ -33,7 +33,7 @@ module _ {V O : Type 0} (m : Meaning V O) (columns : List ColumnView) (n : ℕ) 
   AnswersExecution result =
       Answers result (λ c. Executes m columns n t (cow_value c)) (RefusesExecution m columns n t)
 
--- a lone leaf is lent, and no memory is taken
+-- a lone leaf is borrowed, and no memory is taken
 abbrev pub LendsLeaf : {V O : Type 0} → List ColumnView → Tree V O → Answer → Type 0
 LendsLeaf columns t result = IsLeaf t → IsOkAnd result (IsLentLeaf columns t)
 

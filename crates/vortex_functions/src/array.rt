@@ -84,7 +84,7 @@ impl<C: ScalarFnVTable> Leaf<C, C::Options> for ArrayLeaf {
 }
 
 impl ArrayLeaf {
-    /// The column, lent.
+    /// The column, borrowed.
     fn column(&self) -> &Column
         ensures { result.now ≡ leaf_column self.now }
     {
@@ -137,7 +137,7 @@ impl<C: ScalarFnVTable> ArrayRef<C> {
         }
     }
 
-    /// The column, lent; none of a call.
+    /// The column, borrowed; none of a call.
     pub fn as_column(&self) -> Option<&Column>
         ensures column { option_copied result ≡ column_in self.now }
         ensures rows { IfSome result (λ c. length c.now.rows ≡ rows_in self.now) }

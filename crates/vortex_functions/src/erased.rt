@@ -200,7 +200,7 @@ impl<C: ScalarFnVTable> ScalarFnRef<C> {
         }
     }
 
-    /// The caller's function with its options, lent.
+    /// The caller's function with its options, borrowed.
     pub fn as_custom(&self) -> Option<&TypedScalarFnInstance<C>>
         ensures { option_copied result ≡ instance_in self.now }
     {

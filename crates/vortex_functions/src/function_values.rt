@@ -52,7 +52,7 @@ impl<V: ScalarFnVTable> Hash for TypedScalarFnInstance<V> {
     }
 }
 
-/// The options of a function, lent with it.
+/// The options of a function, borrowed with it.
 #[derive(Drop)]
 pub struct ScalarFnOptions<'a, C: ScalarFnVTable> {
     /// The function that holds them.
@@ -60,7 +60,7 @@ pub struct ScalarFnOptions<'a, C: ScalarFnVTable> {
 }
 
 impl<C: ScalarFnVTable> ScalarFnRef<C> {
-    /// The options, lent.
+    /// The options, borrowed.
     pub fn options(&self) -> ScalarFnOptions<'_, C>
         ensures { result.function.now ≡ self.now }
     {

@@ -82,7 +82,7 @@ impl<C: ScalarFnVTable, L: Leaf<C, C::Options>> Drop for Tree<C, L> {
     fn drop(self) {
         let Tree { node, beside: _ } = self;
         let mut list = match node {
-            // the leaf is named, and so let go of by itself, and not by letting go of a node
+            // the leaf is named, and so dropped by itself, and not by dropping a node
             Node::Leaf(_leaf) => return,
             Node::Call(parts) => match Rc::into_inner(parts) {
                 Some(parts) => parts.children,

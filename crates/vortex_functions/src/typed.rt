@@ -18,14 +18,14 @@ impl<V: ScalarFnVTable> TypedScalarFnInstance<V> {
         TypedScalarFnInstance { vtable, options }
     }
 
-    /// The function, lent.
+    /// The function, borrowed.
     pub fn vtable(&self) -> &V
         ensures { result.now ≡ self.now.vtable }
     {
         &self.vtable
     }
 
-    /// The options, lent.
+    /// The options, borrowed.
     pub fn options(&self) -> &V::Options
         ensures { result.now ≡ self.now.options }
     {

@@ -1,4 +1,4 @@
-//! The inputs of a call, owned or lent.
+//! The inputs of a call, owned or borrowed.
 ghost use Rattle.std.specs.Prelude.{◌≡◌, map};
 ghost use Rattle.std.specs.Cow.{cow_value};
 ghost use Rattle.vortex_interface.specs.Words.{AreOfLength};
@@ -8,7 +8,7 @@ use std::borrow::Cow;
 use std::marker::Model;
 use vortex_columns::{Column, VortexError, VortexResult};
 
-/// The inputs of a call, owned or lent, all of one length.
+/// The inputs of a call, owned or borrowed, all of one length.
 #[derive(Drop)]
 pub struct VecExecutionArgs<'a> {
     inputs: Vec<Cow<'a, Column>>,

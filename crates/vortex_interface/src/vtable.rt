@@ -24,7 +24,7 @@ pub trait ExecutionArgs {
 
     ghost rows: { Self → ℕ };
 
-    /// The input of that index, lent. E1 exactly from `num_inputs` on; takes no memory.
+    /// The input of that index, borrowed. E1 exactly from `num_inputs` on; takes no memory.
     fn get(&self, index: usize) -> VortexResult<&Column>
         ensures input { MatchResult result
             (λ c. slice_get (inputs self.now) index ≡ Some c.now)

@@ -49,7 +49,7 @@ finds_same n f f' h h' e d (Some i) w = record {
   right = sym (d i w.inside) ∙ w.right;
 }
 
--- what is found in lists that are lent whole
+-- what is found in lists that are borrowed whole
 pub finds_listed : (bits valid s v : List Bool) (w : ValidityView) (m n : ℕ) (o : Option ℕ)
     → AreRows m (λ i. slice_index_or bits (0 + i) false) s → m ≡ length bits
     → AreRows n (λ i. slice_index_or valid (0 + i) false) v → n ≡ length valid

@@ -12,7 +12,7 @@ use crate::kleene::{KleeneTable, kleene_table};
 use crate::operators::Operator;
 use crate::truths::{Operand, operand_of};
 use crate::validity::same_valid;
-use vortex_bits::{Both, Either, LeftTurned, zip_bits_with};
+use vortex_bits::{Both, Either, LeftNegated, zip_bits_with};
 use vortex_columns::{
     BitBuffer, Column, DType, ExecutionCtx, MismatchPlace, Nullability, Scalar, ValidRows,
     Validity, VortexError, VortexResult,
@@ -81,7 +81,7 @@ pub fn execute_not(input: &Column, ctx: &mut ExecutionCtx) -> VortexResult<Colum
     match (input.as_constant(), input.bits()) {
         (Some(scalar), _) => Column::constant(ctx.alloc(), not_scalar(scalar), input.len()),
         (None, Some(bits)) => {
-            let values = zip_bits_with::<LeftTurned>(ctx.alloc(), bits, false)?;
+            let values = zip_bits_with::<LeftNegated>(ctx.alloc(), bits, false)?;
             let validity = same_valid(ctx.alloc(), input)?;
             Column::try_bool(ctx.alloc(), values, validity)
         }

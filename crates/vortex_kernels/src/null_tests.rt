@@ -4,7 +4,7 @@ ghost use Rattle.vortex_kernels.specs.Words.{AnswersUnlessMemory, HasTruths, Has
 ghost use Rattle.vortex_kernels.specs.Words.{HasNotNullTests, IsConstantUnlessListed};
 
 use std::alloc::Global;
-use vortex_bits::{LeftTurned, zip_bits_with};
+use vortex_bits::{LeftNegated, zip_bits_with};
 use vortex_columns::{
     BitBuffer, Column, ExecutionCtx, Nullability, Scalar, ValidRows, Validity, VortexResult,
 };
@@ -37,7 +37,7 @@ pub fn execute_is_null(input: &Column, ctx: &mut ExecutionCtx) -> VortexResult<C
         ValidRows::Every => one_truth(alloc, false, input.len()),
         ValidRows::No => one_truth(alloc, true, input.len()),
         ValidRows::Listed(valid) => {
-            let nulls = zip_bits_with::<LeftTurned>(alloc, valid, false)?;
+            let nulls = zip_bits_with::<LeftNegated>(alloc, valid, false)?;
             listed_truths(alloc, nulls)
         }
     }

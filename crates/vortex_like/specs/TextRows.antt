@@ -10,7 +10,7 @@ use Rattle.vortex_like.specs.declared.texts.Texts.{Texts}
 use Rattle.vortex_like.specs.declared.texts.TextColumn.{TextColumn}
 use Rattle.vortex_like.specs.declared.texts.TextColumn.TheVariants.{One, Rows, Null}
 
--- the bytes that are lent
+-- the bytes that are borrowed
 abbrev pub texts_of : Texts → List (List ℕ)
 texts_of texts = lent_values texts.rows
 

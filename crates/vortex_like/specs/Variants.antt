@@ -37,7 +37,7 @@ abbrev pub is_lent : CowStr Global → Bool
 is_lent (Borrowed text) = true
 is_lent (Owned text) = false
 
--- the text of the pattern without its escapes, lent exactly where no escape was met
+-- the text of the pattern without its escapes, borrowed exactly where no escape was met
 abbrev pub IsVariantOf : Option ℕ → List ℕ → Option LikeVariant → Type 0
 IsVariantOf escape pattern None = AreLiteralThenWildcard (tokens_of escape pattern) []
 IsVariantOf escape pattern (Some (Exact text)) =

@@ -12,7 +12,7 @@ use std::borrow::CowStr;
 use vortex_types::VortexResult;
 
 /// A pattern that one text alone matches, or what every text that matches it begins with. Two are
-/// equal by form and text, lent or owned.
+/// equal by form and text, borrowed or owned.
 #[derive(Debug, Drop, PartialEq)]
 pub enum LikeVariant<'a> {
     /// The pattern has no wildcard.
@@ -108,7 +108,7 @@ impl<'a> LikeVariant<'a> {
     /// stands before its first one, each without its escapes. None exactly where it begins with a
     /// wildcard that is not escaped.
     ///
-    /// The text is lent where no escape was met before that point, a backslash at the end among
+    /// The text is borrowed where no escape was met before that point, a backslash at the end among
     /// them. Refuses for memory alone (E9).
     pub fn from_str(alloc: Global, pattern: &'a str) -> VortexResult<Option<LikeVariant<'a>>>
         ensures variant { AnswersUnlessMemory result

@@ -23,8 +23,8 @@ module _ {V O : Type 0} (m : Meaning V O) (r : Rules V O) where
   array_step = first_rule (array_rule m r)
 
   module _ (limit : ℕ) where
-    -- the column, which may be lent, has the rows of the tree that a run leads to; where that tree
-    -- is a lone leaf it is the leaf's column, lent
+    -- the column, which may be borrowed, has the rows of the tree that a run leads to; where that tree
+    -- is a lone leaf it is the leaf's column, borrowed
     pub record IsRunAnswer (cs : List ColumnView) (n : ℕ) (t : Tree V O) (c : Cow ColumnView)
         : Type 0 where
       pub executes : ExecutesAfter m cs n expression_step limit t (cow_value c)

@@ -13,7 +13,7 @@ use vortex_rules::ScalarFnRules;
 
 /// The rows, over columns, of the tree that a run of at most `limit` steps leads to: in each row in
 /// which the tree itself has a value they are that value. Where the run leads to a lone leaf, its
-/// column is lent.
+/// column is borrowed.
 ///
 /// In order: E11 where a leaf of the tree itself has a column that is missing or of another type,
 /// though a step would drop the leaf; E2 where a column has not `row_count` rows, with `left` the
@@ -36,7 +36,7 @@ pub fn run<'a, C: ScalarFnRules>(
     optimized.tree.execute(columns, row_count, ctx)
 }
 
-/// The column itself, copied where it is lent. E9 alone.
+/// The column itself, copied where it is borrowed. E9 alone.
 fn own_column(alloc: Global, column: Cow<'_, Column>) -> VortexResult<Column>
     ensures { AnswersUnlessMemory result (λ own. own ≡ cow_value column.entry) }
 {

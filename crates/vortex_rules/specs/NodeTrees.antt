@@ -1,4 +1,4 @@
--- What a node stands for, lent or its own.
+-- What a node stands for, borrowed or its own.
 use Rattle.std.specs.Prelude.{ℕ}
 use Rattle.std.specs.Cow.{cow_value}
 use Rattle.vortex_meaning.specs.Trees.{Tree}

@@ -36,7 +36,7 @@ pub trait ReduceTree<C: ScalarFnVTable>: Sized + Drop {
     /// What stands beside the tree: how many rows an array tree has, and nothing for an expression.
     ghost rows: { Self → Self.Beside };
 
-    /// That the tree is lent, so that walking down takes no memory.
+    /// That the tree is borrowed, so that walking down takes no memory.
     ghost lent: { Self → Type 0 };
 
     /// The type of the tree's values.
@@ -53,7 +53,7 @@ pub trait ReduceTree<C: ScalarFnVTable>: Sized + Drop {
     fn child_count(&self) -> usize
         ensures { result ≡ length (children_of (tree self.now)) };
 
-    /// The child of that index, in the same context. E9 alone, and only where the node is no lent
+    /// The child of that index, in the same context. E9 alone, and only where the node is no borrowed
     /// tree.
     fn child(&self, alloc: Global, index: usize) -> VortexResult<Self>
         requires { index < length (children_of (tree self.now)) }

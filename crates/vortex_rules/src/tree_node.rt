@@ -15,7 +15,7 @@ use vortex_functions::tree::{Leaf, Tree};
 use vortex_functions::{ArrayRef, BoundExpression, ScalarFnRef};
 use vortex_interface::ScalarFnVTable;
 
-/// A node that stands for a tree, lent or its own. Walking a lent one copies nothing.
+/// A node that stands for a tree, borrowed or its own. Walking a borrowed one copies nothing.
 pub struct TreeReduceNode<'a, T: Drop> {
     tree: Cow<'a, T>,
 }
@@ -56,7 +56,7 @@ impl<'a, T: Drop> TreeReduceNode<'a, T> {
         }
     }
 
-    /// The same by value, lent or its own.
+    /// The same by value, borrowed or its own.
     fn into_cow(self) -> Cow<'a, T>
         ensures { result ≡ self.entry.tree }
     {
@@ -73,7 +73,7 @@ impl<'a, C: ScalarFnVTable> TreeReduceNode<'a, BoundExpression<C>> {
         self.tree()
     }
 
-    /// The expression that it stood for. A lent one is copied, and so can answer E9; one of its
+    /// The expression that it stood for. A borrowed one is copied, and so can answer E9; one of its
     /// own takes no memory.
     pub fn into_expression(self, alloc: Global) -> VortexResult<BoundExpression<C>>
         ensures answer { AnswersUnlessMemory result (λ e. e ≡ cow_value self.entry.tree) }
@@ -91,7 +91,7 @@ impl<'a, C: ScalarFnVTable> TreeReduceNode<'a, ArrayRef<C>> {
         self.tree()
     }
 
-    /// The array tree that it stood for. A lent one is copied, and so can answer E9; one of its own
+    /// The array tree that it stood for. A borrowed one is copied, and so can answer E9; one of its own
     /// takes no memory.
     pub fn into_array(self, alloc: Global) -> VortexResult<ArrayRef<C>>
         ensures answer { AnswersUnlessMemory result (λ a. a ≡ cow_value self.entry.tree) }
@@ -101,7 +101,7 @@ impl<'a, C: ScalarFnVTable> TreeReduceNode<'a, ArrayRef<C>> {
     }
 }
 
-/// The tree that a node stood for, copied where it is lent.
+/// The tree that a node stood for, copied where it is borrowed.
 fn into_tree<'a, C: ScalarFnVTable, L: Leaf<C, C::Options>>(
     alloc: Global,
     node: TreeReduceNode<'a, Tree<C, L>>,

@@ -4,8 +4,8 @@ use denote.Param.Weighed.{most}
 use Rattle.std.specs.declared.alloc.Global.{Global}
 use Rattle.vortex_types.specs.declared.dtype.DType.{DType, fold-DType, size-DType}
 use Rattle.vortex_types.specs.declared.dtype.DType.TheOpen.{DType-F, StructFields-F}
-use Rattle.vortex_types.specs.declared.dtype.letting_go.Within.{Within}
-use Rattle.vortex_types.specs.declared.dtype.letting_go.Within.TheVariants.{One, Two, Many}
+use Rattle.vortex_types.specs.declared.dtype.dropping.Within.{Within}
+use Rattle.vortex_types.specs.declared.dtype.dropping.Within.TheVariants.{One, Two, Many}
 
 -- a field weighs one more than its type
 abbrev pub weights_of : List (String Global × ℕ) → ℕ

@@ -8,11 +8,11 @@ mod copying;
 mod equality;
 mod fields;
 mod integer_types;
-mod letting_go;
+mod dropping;
 mod pairs;
 pub mod text;
 
-use letting_go::Within;
+use dropping::Within;
 use std::alloc::{AllocError, Global};
 use std::ops::BitOr;
 use vortex_errors::VortexResult;
@@ -100,7 +100,7 @@ pub struct StructFields {
     fields: Vec<(String, DType)>,
 }
 
-/// A type is let go by a list of what is still to go, so its depth takes no stack; and lists within
+/// A type is dropped by a list of what is still to go, so its depth takes no stack; and lists within
 /// lists take no memory. Where the list cannot grow, what it has no place for goes by a call.
 impl Drop for DType {
     #[tactic(auto, using(crate::proofs::TypeWeights::weights))]

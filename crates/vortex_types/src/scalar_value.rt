@@ -25,7 +25,7 @@ pub enum ScalarValue {
     List(Vec<Option<ScalarValue>>),
 }
 
-/// A value is let go by a list of what is still to go, so its depth takes no stack; and lists of
+/// A value is dropped by a list of what is still to go, so its depth takes no stack; and lists of
 /// one value within one another take no memory. Where the list cannot grow, what it has no place
 /// for goes by a call.
 impl Drop for ScalarValue {

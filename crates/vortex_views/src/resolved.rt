@@ -1,4 +1,4 @@
-//! Views and the buffers that their long values lie in, lent together.
+//! Views and the buffers that their long values lie in, borrowed together.
 ghost use Rattle.std.specs.Prelude.{◌≡◌, ◌<◌, ◌≤◌, ◌+◌, ◌↔◌, [], IsTrue, length, map};
 ghost use Rattle.std.specs.Prelude.{slice_index_or};
 ghost use Rattle.std.specs.Prelude.{take, drop};
@@ -43,7 +43,7 @@ impl<'a> ResolvedViews<'a> {
         self.views.len()
     }
 
-    /// The view of value `i`, byte for byte as it was lent: a longer value's with the number of its
+    /// The view of value `i`, byte for byte as it was borrowed: a longer value's with the number of its
     /// buffer and its offset there.
     #[inline(always)]
     pub fn view(&self, i: usize) -> &'a BinaryView

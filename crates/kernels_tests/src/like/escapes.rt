@@ -78,7 +78,7 @@ fn the_escape_is_not_folded(rt: HostRuntime) {
     assert!(rt; yes(matches(alloc, options, "K%", &["%", "kx"], &[true, false])));
 }
 
-/// Whether a pattern with that escape begins with a text, and whether that is lent.
+/// Whether a pattern with that escape begins with a text, and whether that is borrowed.
 fn is_prefix(
     alloc: Global,
     pattern: &str,
@@ -92,7 +92,7 @@ fn is_prefix(
     }
 }
 
-/// Whether a pattern with that escape is one text, and whether that is lent.
+/// Whether a pattern with that escape is one text, and whether that is borrowed.
 fn is_exact(
     alloc: Global,
     pattern: &str,
@@ -106,7 +106,7 @@ fn is_exact(
     }
 }
 
-/// Whether a text is this, lent or owned.
+/// Whether a text is this, borrowed or owned.
 fn is_so(text: &CowStr<'_>, wanted: &str, lent: bool) -> bool {
     if lent {
         is_lent(text, wanted)

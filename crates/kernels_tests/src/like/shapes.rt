@@ -7,7 +7,7 @@ use std::borrow::CowStr;
 use vortex_columns::VortexResult;
 use vortex_like::{LikeOptions, LikeVariant};
 
-/// Whether a text is this, and lent.
+/// Whether a text is this, and borrowed.
 pub(crate) fn is_lent(text: &CowStr<'_>, wanted: &str) -> bool {
     match text {
         CowStr::Borrowed(text) => *text == wanted,
@@ -23,7 +23,7 @@ pub(crate) fn is_owned(text: &CowStr<'_>, wanted: &str) -> bool {
     }
 }
 
-/// Whether a pattern is one text, and whether that is lent.
+/// Whether a pattern is one text, and whether that is borrowed.
 fn is_exact(alloc: Global, pattern: &str, wanted: &str, lent: bool) -> VortexResult<bool> {
     match LikeVariant::from_str(alloc, pattern)? {
         Some(LikeVariant::Exact(text)) => {
@@ -33,7 +33,7 @@ fn is_exact(alloc: Global, pattern: &str, wanted: &str, lent: bool) -> VortexRes
     }
 }
 
-/// Whether a pattern begins with that text, and whether that is lent.
+/// Whether a pattern begins with that text, and whether that is borrowed.
 fn is_prefix(alloc: Global, pattern: &str, wanted: &str, lent: bool) -> VortexResult<bool> {
     match LikeVariant::from_str(alloc, pattern)? {
         Some(LikeVariant::Prefix(text)) => {

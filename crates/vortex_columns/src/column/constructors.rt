@@ -144,7 +144,7 @@ impl Column {
         Ok(Column::of_text_values(views, validity))
     }
 
-    /// A column of texts that are lent, which are copied once. E12 as for `try_utf8`.
+    /// A column of texts that are borrowed, which are copied once. E12 as for `try_utf8`.
     pub fn try_texts(alloc: Global, values: &[&str], validity: Validity) -> VortexResult<Column>
         ensures { AnswersWhere result
             (MakeLentTexts values.now (validity_of validity))

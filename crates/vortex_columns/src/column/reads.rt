@@ -20,7 +20,7 @@ impl Column {
     ghost use Rattle.vortex_columns.specs.Words.{constant_column, array};
     ghost use Rattle.vortex_columns.specs.ValidRows.{valid_view, AreValid, IsListed};
 
-    /// The type, lent. Each row has it, null included: a row is null only where the type is
+    /// The type, borrowed. Each row has it, null included: a row is null only where the type is
     /// nullable.
     pub fn dtype(&self) -> &DType
         ensures dtype { type_of result.now ≡ self.now.dtype }
@@ -46,7 +46,7 @@ impl Column {
         self.storage.validity(alloc)
     }
 
-    /// Which rows are not null, lent: a list only where the validity's form is an array of bits.
+    /// Which rows are not null, borrowed: a list only where the validity's form is an array of bits.
     /// Takes no memory.
     pub fn valid_rows(&self) -> ValidRows<'_>
         ensures rows { AreValid (valid_view result) self.now.rows }
@@ -121,7 +121,7 @@ impl Column {
     }
 }
 
-/// The parts of a column that is no constant, lent. Takes no memory.
+/// The parts of a column that is no constant, borrowed. Takes no memory.
 impl Column {
     ghost use Rattle.vortex_columns.specs.Words.{HasBits, AreBits, HasInts, AreInts, HasBytes};
     ghost use Rattle.vortex_columns.specs.Words.{AreBytes, AreBytesAt, lent_values, array};

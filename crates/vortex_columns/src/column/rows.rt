@@ -230,7 +230,7 @@ impl Column {
         }
     }
 
-    /// The texts of a column of Utf8, lent; none of another type.
+    /// The texts of a column of Utf8, borrowed; none of another type.
     pub fn text_rows(&self) -> Option<TextRows<'_>>
         ensures { MatchOption result (is_text_type self.now.dtype ≡ false)
             (λ rows. (is_text_type self.now.dtype ≡ true) × (rows ≡ self.now.rows)) }

@@ -206,7 +206,7 @@ impl Storage {
         }
     }
 
-    /// The rows that are not null, lent.
+    /// The rows that are not null, borrowed.
     pub(super) fn valid_rows(&self) -> ValidRows<'_>
         ensures rows { IsAsValid (stored_validity (stored_of self.now)) (valid_view result) }
         ensures listed { IsListed result → (stored_validity (stored_of self.now)).form ≡ array }

@@ -33,7 +33,7 @@ impl<C: ScalarFnVTable> ArrayRef<C> {
     }
 
     /// The array's meaning, row by row: a column of its type and row count, or the fault of the
-    /// first call, in post-order, that faults in some row. A lone column is lent, and takes no
+    /// first call, in post-order, that faults in some row. A lone column is borrowed, and takes no
     /// memory.
     pub fn execute<'a>(&'a self, ctx: &mut ExecutionCtx) -> VortexResult<Cow<'a, Column>>
         ensures answer { AnswersArray C.meaning self.now result }

@@ -43,7 +43,7 @@ impl ExpressionLeaf {
         }
     }
 
-    /// The leaf's rows: its column, lent, or the literal in each. A column takes no memory.
+    /// The leaf's rows: its column, borrowed, or the literal in each. A column takes no memory.
     fn rows<'a, C: ScalarFnVTable>(
         &self,
         columns: &'a [Column],
@@ -168,7 +168,7 @@ impl<C: ScalarFnVTable> BoundExpression<C> {
         walk!(self, ctx.alloc(), node, inputs => node.compute_over(columns, row_count, inputs, ctx))
     }
 
-    /// The same, and a lone leaf's column is lent.
+    /// The same, and a lone leaf's column is borrowed.
     fn compute_or_lend<'a>(
         &self,
         columns: &'a [Column],
@@ -190,7 +190,7 @@ impl<C: ScalarFnVTable> BoundExpression<C> {
     /// In order: E11 where a leaf's column is missing or of another type; E2 where a column has not
     /// `row_count` rows, with `left` the row count and `right` the length of the first such column;
     /// then the fault of the first call, in post-order, that faults in some row. A lone column leaf
-    /// is lent, and takes no memory.
+    /// is borrowed, and takes no memory.
     pub fn execute<'a>(
         &self,
         columns: &'a [Column],

@@ -99,7 +99,7 @@ impl<C: ScalarFnVTable> BoundExpression<C> {
         }
     }
 
-    /// Writes a piece of the node's text. Where a child stands there, it is begun and lent, and its
+    /// Writes a piece of the node's text. Where a child stands there, it is begun and borrowed, and its
     /// pieces come next.
     fn write_piece(
         &self,

@@ -8,7 +8,7 @@ use Rattle.rowfn_batches.specs.Expressions.{line_at, ending_of, Reaches, begins,
 use Rattle.rowfn_batches.proofs.Headers.{ends_here}
 use Rattle.rowfn_batches.proofs.expression.read_lines.Goals as goal
 
--- the bytes of the line that is lent
+-- the bytes of the line that is borrowed
 line_is : (lines : List (Bor (List ℕ))) (n : ℕ) (d : Bor (List ℕ)) → n < length lines
     → (get_or lines n d).now ≡ line_at (map (λ l. l.now) lines) n
 line_is lines n d below = sym (get_or-map (λ l. l.now) lines n d [] below)

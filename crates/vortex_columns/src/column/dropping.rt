@@ -1,4 +1,4 @@
-//! What a column is taken apart into when it is let go.
+//! What a column is taken apart into when it is dropped.
 ghost use Rattle.std.specs.Prelude.{◌<◌, ◌≤◌};
 ghost use Rattle.vortex_types.specs.LogicalTypes.{type_depth};
 ghost use Rattle.vortex_columns.specs.ColumnParts.{type_weight, weight_within, deepest_within};

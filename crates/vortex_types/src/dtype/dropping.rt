@@ -1,4 +1,4 @@
-//! What a type is taken apart into when it is let go.
+//! What a type is taken apart into when it is dropped.
 ghost use Rattle.std.specs.Prelude.{◌<◌};
 ghost use Rattle.vortex_types.specs.TypeParts.{type_weight, weight_within, deepest_within};
 ghost use Rattle.vortex_types.specs.declared.dtype.DType.{size-DType};
