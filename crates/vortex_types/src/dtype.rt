@@ -5,10 +5,10 @@ ghost use Rattle.vortex_types.specs.LogicalTypes.{is_nullable, with_nullability,
 ghost use Rattle.vortex_types.specs.LogicalTypes.{is_text_type, is_integer_type};
 
 mod copying;
+mod dropping;
 mod equality;
 mod fields;
 mod integer_types;
-mod dropping;
 mod pairs;
 pub mod text;
 
