@@ -1,8 +1,8 @@
 //! Rows of columns as Rust's own values.
 
-use fixtures::yes;
+use fixtures::{Made, bools, constant, nullable_bools, numbers, yes};
 use std::alloc::Global;
-use vortex_columns::{Column, DType, ExecutionCtx, Nullability, Scalar, VortexResult};
+use vortex_columns::{Column, DType, ExecutionCtx, Nullability, PType, Scalar, VortexResult};
 
 /// Whether a column of truth values has these rows, and is read neither as integers nor as texts.
 fn reads_bools(alloc: Global, rows: &[Option<bool>]) -> VortexResult<bool> {
@@ -79,4 +79,47 @@ fn true_rows_are_numbered(rt: HostRuntime) {
     assert!(rt; yes(true_in(alloc, Column::of_bools(alloc, &rows), &[1, 3])));
     assert!(rt; yes(true_in(alloc, Column::of_bools(alloc, &[None]), &[])));
     assert!(rt; yes(true_in(alloc, constant, &[0, 1, 2])));
+}
+
+/// Whether two columns are equal, from either side; both are dropped here.
+fn are_equal(left: Made, right: Made) -> VortexResult<bool> {
+    let (left, right) = (left?, right?);
+    let equal = *left == *right;
+    Ok(equal && *right == *left)
+}
+
+/// Whether two columns differ, from either side; both are dropped here.
+fn differ(left: Made, right: Made) -> VortexResult<bool> {
+    let (left, right) = (left?, right?);
+    let differ = *left != *right;
+    Ok(differ && *right != *left)
+}
+
+/// 5 in each of three rows, as a constant.
+fn fives(alloc: Global) -> Made {
+    constant(alloc, PType::I32, 5, 3)
+}
+
+#[test]
+fn columns_are_equal_by_type_and_rows(rt: HostRuntime) {
+    let alloc = rt.alloc();
+    assert!(rt; yes(are_equal(numbers(alloc, &[5i32, 5, 5]), fives(alloc))));
+    assert!(rt; yes(differ(numbers(alloc, &[5i32, 5]), fives(alloc))));
+    assert!(rt; yes(differ(numbers(alloc, &[5i32, 5, 6]), fives(alloc))));
+    assert!(rt; yes(differ(numbers(alloc, &[5i64, 5, 5]), fives(alloc))));
+    let yes_or_null = [Some(true), None];
+    let yes_or_no = [Some(true), Some(false)];
+    assert!(rt;
+        yes(are_equal(
+            nullable_bools(alloc, &yes_or_null),
+            nullable_bools(alloc, &yes_or_null)
+        ))
+    );
+    assert!(rt;
+        yes(differ(
+            nullable_bools(alloc, &yes_or_null),
+            nullable_bools(alloc, &yes_or_no)
+        ))
+    );
+    assert!(rt; yes(differ(bools(alloc, &[true]), nullable_bools(alloc, &[Some(true)]))));
 }

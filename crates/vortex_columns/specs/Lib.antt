@@ -1,5 +1,6 @@
 pub mod ValidityView
 pub mod ValidRows
+pub mod ColumnEquality
 pub mod ColumnView
 pub mod Cells
 pub mod Scalars

@@ -4,6 +4,7 @@
 mod constructors;
 mod copies;
 mod dropping;
+mod equality;
 mod nested;
 mod options;
 mod reads;

@@ -65,7 +65,8 @@ fn join_valid(alloc: Global, lhs: &Column, rhs: &Column) -> VortexResult<Validit
 }
 
 /// The validity of rows that are null on neither side, of columns of one length, for a type that is
-/// nullable if either is. A list of bits is made only where a side has one. E9 alone.
+/// nullable if either is. A list of bits is made only where a side has one. E9 where memory
+/// is refused.
 pub fn both_valid(alloc: Global, lhs: &Column, rhs: &Column) -> VortexResult<Validity>
     requires { length lhs.now.rows ≡ length rhs.now.rows }
     ensures { AnswersUnlessMemory result

@@ -1,6 +1,6 @@
 //! The rows of a column as Rust's own values, in their order: none where a row is null. They are
 //! read where they lie, which takes no memory.
-ghost use Rattle.std.specs.Prelude.{◌≡◌, ◌∷◌, [], true, false, MatchOption};
+ghost use Rattle.std.specs.Prelude.{◌≡◌, ◌∷◌, [], true, false, MatchOption, IfSome};
 ghost use Rattle.vortex_columns.specs.Words.{IsCell, cell_value, HasType};
 ghost use Rattle.vortex_columns.specs.Words.{bool_type, integer_type, text_type};
 ghost use Rattle.vortex_columns.specs.RowValues.{bool_row, int_row, text_row};
@@ -12,7 +12,7 @@ use vortex_types::{DType, NativePType};
 
 /// The rows of a column from one on, as cells; seen as the values of the rows that are left.
 #[derive(Drop)]
-struct CellRows<'a> {
+pub(super) struct CellRows<'a> {
     column: &'a Column,
     next: usize,
 }
@@ -33,15 +33,16 @@ impl<'a> Model for CellRows<'a> {
 }
 
 impl<'a> CellRows<'a> {
-    fn of(column: &'a Column) -> CellRows<'a>
+    pub(super) fn of(column: &'a Column) -> CellRows<'a>
         ensures { result ≡ column.now.rows }
     {
         CellRows { column, next: 0 }
     }
 
     /// The next row; none after the last.
-    fn next_cell(&mut self) -> Option<Cell<'a>>
-        ensures { MatchOption result ((self.old ≡ []) × (self.new ≡ []))
+    pub(super) fn next_cell(&mut self) -> Option<Cell<'a>>
+        ensures whole { IfSome result IsCell }
+        ensures rows { MatchOption result ((self.old ≡ []) × (self.new ≡ []))
             (λ c. self.old ≡ cell_value c ∷ self.new) }
     {
         if self.next == self.column.len() {

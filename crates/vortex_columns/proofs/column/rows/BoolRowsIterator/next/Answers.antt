@@ -5,5 +5,5 @@ use Rattle.vortex_columns.proofs.column.rows.BoolRowsIterator.next.Goals as goal
 
 pub invariant_of-self-2 : goal.invariant_of-self-2
 invariant_of-self-2 c =
-    typed_rest (bool_type true) _ c.self.inside.cells c.next_cell.new.self c.in_ok-next_cell.ensures
+    typed_rest (bool_type true) _ c.self.inside.cells c.next_cell.new.self c.in_ok-next_cell.ensures.rows
     c.self.invariant
