@@ -1,10 +1,14 @@
-//! Encoded columns, the kernels that they bring, and the adaptors by which a call asks a kernel.
+//! Encoded columns, the kernels that they bring, and the adaptors by which a call asks a kernel; the
+//! dictionary, whose values stand once, and functions that are run over these in place of the rows.
 #![tactic(auto)]
 
 pub mod boolean;
 pub mod compare;
+pub mod dictionary;
 pub mod encoded;
+pub mod laws;
 
 pub use boolean::{BooleanExecuteAdaptor, BooleanKernel};
 pub use compare::{CompareExecuteAdaptor, CompareKernel};
+pub use dictionary::DictColumn;
 pub use encoded::EncodedColumn;

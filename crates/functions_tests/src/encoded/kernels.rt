@@ -6,8 +6,9 @@ use std::alloc::Global;
 use vortex_columns::{
     Column, DType, ExecutionCtx, Nullability, PType, Scalar, VortexError, VortexResult,
 };
-use vortex_dictionary::DictColumn;
-use vortex_encoded::{BooleanKernel, CompareExecuteAdaptor, CompareKernel, EncodedColumn};
+use vortex_encoded::{
+    BooleanKernel, CompareExecuteAdaptor, CompareKernel, DictColumn, EncodedColumn,
+};
 use vortex_kernels::{CompareOperator, Operator};
 
 /// An answer on the heap.
