@@ -1,7 +1,7 @@
 //! Options as bytes, and functions as values: their texts, and which are found where others are
 //! kept.
 
-use callers::levelled::{Level, Levelled};
+use caller_functions::levelled::{Level, Levelled};
 use fixtures::{is_refused, yes};
 use std::alloc::Global;
 use std::collections::HashMap;

@@ -1,7 +1,7 @@
 //! Trees over a function that takes any number of arguments and is null in each row.
 
 use crate::questions::{array_runs_to, rewrites_to, runs_to};
-use callers::blank::Blank;
+use caller_functions::blank::Blank;
 use fixtures::yes;
 use std::alloc::Global;
 use tree_fixtures::array_makers::{Held, array_answers, held, made, x};

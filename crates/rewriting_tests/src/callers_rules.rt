@@ -1,7 +1,7 @@
 //! The rules of callers' functions.
 
-use callers::first::First;
-use callers::levelled::{Level, Levelled};
+use caller_functions::first::First;
+use caller_functions::levelled::{Level, Levelled};
 use fixtures::yes;
 use std::alloc::Global;
 use tree_fixtures::makers::*;

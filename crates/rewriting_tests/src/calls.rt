@@ -1,7 +1,7 @@
 //! Callers' functions in trees.
 
-use callers::levelled::{Level, Levelled};
-use callers::must_be_true::MustBeTrue;
+use caller_functions::levelled::{Level, Levelled};
+use caller_functions::must_be_true::MustBeTrue;
 use fixtures::yes;
 use std::alloc::Global;
 use tree_fixtures::makers::*;

@@ -1,7 +1,7 @@
 //! A run that only its limit ends.
 
 use crate::questions::{rewrites_to, runs_to};
-use callers::grow::Grow;
+use caller_functions::grow::Grow;
 use fixtures::yes;
 use std::alloc::Global;
 use tree_fixtures::makers::*;

@@ -1,6 +1,6 @@
 //! Execution of a caller's function that stands on arithmetic.
 
-use callers::half::Half;
+use caller_functions::half::Half;
 use fixtures::{Made, is_refused, kept, nullable_ints, yes};
 use std::alloc::Global;
 use tree_fixtures::makers::{Bound, YES, call_of, is_fault, leaf_of, numbers_by, one};

@@ -1,6 +1,6 @@
 //! What the adaptors settle, and what they ask the kernels of a run-length column.
 
-use callers::run_length::RunLength;
+use caller_functions::run_length::RunLength;
 use fixtures::{Made, bools, constant, kept, numbers, rows_of, yes};
 use std::alloc::Global;
 use vortex_columns::{

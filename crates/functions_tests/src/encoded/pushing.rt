@@ -1,7 +1,7 @@
 //! Functions over the values of a dictionary.
 
 use crate::encoded::questions::*;
-use callers::required::Required;
+use caller_functions::required::Required;
 use fixtures::{has_rows, integer, is_refused, kept, numbers, texts, yes};
 use std::alloc::Global;
 use vortex_columns::*;

@@ -1,8 +1,0 @@
-use Rattle.std.proofs.Common.{length, ◌∙◌}
-use Rattle.callers.proofs.RunRows.{constant_length}
-use Rattle.callers.proofs.run_length.boolean_runs.Goals as goal
-
-pub execute_boolean-requires : goal.execute_boolean-requires
-execute_boolean-requires c =
-    constant_length c.args.scalar.now (length c.args.values.now.rows) c.deref.result.now
-    (c.deref.ensures ∙ c.in_ok-beside.ensures)
