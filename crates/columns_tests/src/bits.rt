@@ -1,13 +1,13 @@
 //! Bits, validity and integers.
 
-use fixtures::{is_refused, yes};
+use fixtures::{Ask, same};
 use std::alloc::Global;
 use vortex_columns::{BitBuffer, Ints, NativePType, Nullability, PType, Validity, VortexResult};
 
 /// Whether the bits are those two.
-fn are(bits: VortexResult<BitBuffer>, wanted: (bool, bool)) -> VortexResult<bool> {
+fn are(rt: HostRuntime, bits: VortexResult<BitBuffer>, wanted: (bool, bool)) -> VortexResult<bool> {
     let bits = bits?;
-    Ok(bits.len() == 2 && (bits.value(0), bits.value(1)) == wanted)
+    Ok(bits.len() == 2 && same(rt, (bits.value(0), bits.value(1)), wanted))
 }
 
 fn from_bools(alloc: Global, first: bool, second: bool) -> VortexResult<BitBuffer> {
@@ -21,9 +21,15 @@ fn copy(alloc: Global, bits: VortexResult<BitBuffer>) -> VortexResult<BitBuffer>
 #[test]
 fn bits_are_read(rt: HostRuntime) {
     let alloc = rt.alloc();
-    assert!(rt; yes(are(from_bools(alloc, true, false), (true, false))));
-    assert!(rt; yes(are(from_bools(alloc, false, true), (false, true))));
-    assert!(rt; yes(are(copy(alloc, from_bools(alloc, true, false)), (true, false))));
+    assert!(rt; rt.yes(are(rt, from_bools(alloc, true, false), (true, false))));
+    assert!(rt; rt.yes(are(rt, from_bools(alloc, false, true), (false, true))));
+    assert!(rt;
+        rt.yes(are(
+            rt,
+            copy(alloc, from_bools(alloc, true, false)),
+            (true, false)
+        ))
+    );
 }
 
 /// So many zero bytes, as bits from an offset on.
@@ -38,10 +44,10 @@ fn zeros(alloc: Global, bytes: usize, offset: usize, len: usize) -> VortexResult
 #[test]
 fn bits_past_the_bytes_are_refused(rt: HostRuntime) {
     let alloc = rt.alloc();
-    assert!(rt; is_refused(zeros(alloc, 9, 7, 70), "InvalidColumn"));
-    assert!(rt; is_refused(zeros(alloc, 0, 1, 0), "InvalidColumn"));
-    assert!(rt; is_refused(zeros(alloc, 1, usize::MAX, 1), "InvalidColumn"));
-    assert!(rt; yes(zeros(alloc, 9, 2, 70).map(|bits| bits.len() == 70)));
+    assert!(rt; rt.is_refused(zeros(alloc, 9, 7, 70), "InvalidColumn"));
+    assert!(rt; rt.is_refused(zeros(alloc, 0, 1, 0), "InvalidColumn"));
+    assert!(rt; rt.is_refused(zeros(alloc, 1, usize::MAX, 1), "InvalidColumn"));
+    assert!(rt; rt.yes(zeros(alloc, 9, 2, 70).map(|bits| bits.len() == 70)));
 }
 
 /// The bits of bytes 0x80, 0x01, 0x00 and 0xFF from place 7 on.
@@ -58,9 +64,9 @@ fn words(alloc: Global, from: usize, len: usize) -> VortexResult<u64> {
     Ok(bits.slice(from, len).word(0))
 }
 
-fn is_word(word: VortexResult<u64>, wanted: u64) -> bool {
+fn is_word(rt: HostRuntime, word: VortexResult<u64>, wanted: u64) -> bool {
     match word {
-        Ok(word) => word == wanted,
+        Ok(word) => same(rt, word, wanted),
         Err(_) => false,
     }
 }
@@ -68,11 +74,11 @@ fn is_word(word: VortexResult<u64>, wanted: u64) -> bool {
 #[test]
 fn words_begin_anywhere_and_end_with_the_range(rt: HostRuntime) {
     let alloc = rt.alloc();
-    assert!(rt; is_word(words(alloc, 0, 20), 0b1110_0000_0000_0000_0011));
-    assert!(rt; is_word(words(alloc, 1, 19), 0b111_0000_0000_0000_0001));
-    assert!(rt; is_word(words(alloc, 0, 18), 0b10_0000_0000_0000_0011));
-    assert!(rt; is_word(words(alloc, 17, 2), 0b11));
-    assert!(rt; is_word(words(alloc, 20, 0), 0));
+    assert!(rt; is_word(rt, words(alloc, 0, 20), 0b1110_0000_0000_0000_0011));
+    assert!(rt; is_word(rt, words(alloc, 1, 19), 0b111_0000_0000_0000_0001));
+    assert!(rt; is_word(rt, words(alloc, 0, 18), 0b10_0000_0000_0000_0011));
+    assert!(rt; is_word(rt, words(alloc, 17, 2), 0b11));
+    assert!(rt; is_word(rt, words(alloc, 20, 0), 0));
 }
 
 /// Whether a validity of those bits, and its copy, fit two rows alone, lend the bits and are
@@ -90,7 +96,7 @@ fn is_listed(alloc: Global, bits: VortexResult<BitBuffer>) -> VortexResult<bool>
 #[test]
 fn validity_is_read(rt: HostRuntime) {
     let alloc = rt.alloc();
-    assert!(rt; yes(is_listed(alloc, from_bools(alloc, true, false))));
+    assert!(rt; rt.yes(is_listed(alloc, from_bools(alloc, true, false))));
     assert!(rt; Validity::NonNullable.nullability() == Nullability::NonNullable);
     assert!(rt; Validity::NonNullable.is_valid(7));
     assert!(rt; Validity::AllValid.is_valid(7));
@@ -107,20 +113,20 @@ fn copy_of(alloc: Global, ints: VortexResult<Ints>) -> VortexResult<Ints> {
 }
 
 /// Whether integers are of i16 alone, and are those.
-fn are_shorts(ints: &Ints, wanted: &[i16]) -> bool {
+fn are_shorts(rt: HostRuntime, ints: &Ints, wanted: &[i16]) -> bool {
     let same = match i16::of(ints) {
-        Some(values) => values == wanted,
+        Some(values) => same(rt, values, wanted),
         None => false,
     };
     same && ints.ptype() == PType::I16 && u16::of(ints).is_none()
 }
 
-fn has_shorts(ints: VortexResult<Ints>, wanted: &[i16]) -> VortexResult<bool> {
-    Ok(are_shorts(&ints?, wanted))
+fn has_shorts(rt: HostRuntime, ints: VortexResult<Ints>, wanted: &[i16]) -> VortexResult<bool> {
+    Ok(are_shorts(rt, &ints?, wanted))
 }
 
 #[test]
 fn integers_are_read(rt: HostRuntime) {
     let alloc = rt.alloc();
-    assert!(rt; yes(has_shorts(copy_of(alloc, shorts(alloc)), &[5, -6])));
+    assert!(rt; rt.yes(has_shorts(rt, copy_of(alloc, shorts(alloc)), &[5, -6])));
 }

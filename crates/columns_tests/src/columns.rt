@@ -1,6 +1,6 @@
 //! Columns as their makers make and refuse them.
 
-use fixtures::{Made, copied, has_rows, is_refused, kept, names, nullable_bools, numbers, yes};
+use fixtures::{Ask, Made, copied, has_rows, kept, names, nullable_bools, numbers, same};
 use std::alloc::Global;
 use vortex_columns::{BitBuffer, Cell, Column, ValidRows, Validity, VortexResult, both_valid};
 
@@ -90,12 +90,12 @@ fn unevenly_valid_bits(alloc: Global) -> Made {
 #[test]
 fn invalid_columns_are_refused(rt: HostRuntime) {
     let alloc = rt.alloc();
-    assert!(rt; is_refused(unevenly_valid(alloc), "InvalidColumn"));
-    assert!(rt; is_refused(unevenly_valid_bits(alloc), "InvalidColumn"));
-    assert!(rt; is_refused(records(alloc, "a", "a", 2), "InvalidColumn"));
-    assert!(rt; is_refused(records(alloc, "a", "b", 3), "InvalidColumn"));
-    assert!(rt; is_refused(lists(alloc, [0, usize::MAX], [1, 1]), "InvalidColumn"));
-    assert!(rt; is_refused(maps(alloc, &[5]), "InvalidColumn"));
+    assert!(rt; rt.is_refused(unevenly_valid(alloc), "InvalidColumn"));
+    assert!(rt; rt.is_refused(unevenly_valid_bits(alloc), "InvalidColumn"));
+    assert!(rt; rt.is_refused(records(alloc, "a", "a", 2), "InvalidColumn"));
+    assert!(rt; rt.is_refused(records(alloc, "a", "b", 3), "InvalidColumn"));
+    assert!(rt; rt.is_refused(lists(alloc, [0, usize::MAX], [1, 1]), "InvalidColumn"));
+    assert!(rt; rt.is_refused(maps(alloc, &[5]), "InvalidColumn"));
 }
 
 /// No elements, as lists whose sizes add up to more than usize holds.
@@ -110,19 +110,23 @@ fn past_usize(alloc: Global) -> Made {
 
 #[test]
 fn a_product_past_usize_is_refused(rt: HostRuntime) {
-    assert!(rt; is_refused(past_usize(rt.alloc()), "InvalidColumn"));
+    assert!(rt; rt.is_refused(past_usize(rt.alloc()), "InvalidColumn"));
 }
 
 /// Whether these three rows are valid, or not.
-fn are_valid(column: &Column, wanted: (bool, bool, bool)) -> bool {
-    column.len() == 3 && (column.is_valid(0), column.is_valid(1), column.is_valid(2)) == wanted
+fn are_valid(rt: HostRuntime, column: &Column, wanted: (bool, bool, bool)) -> bool {
+    if column.len() != 3 {
+        return same(rt, column.len(), 3);
+    }
+    let valid = (column.is_valid(0), column.is_valid(1), column.is_valid(2));
+    same(rt, valid, wanted)
 }
 
 /// Whether a column of nullable Bool tells which of its three rows are valid.
-fn tells_validity(column: Made, wanted: (bool, bool, bool)) -> VortexResult<bool> {
+fn tells_validity(rt: HostRuntime, column: Made, wanted: (bool, bool, bool)) -> VortexResult<bool> {
     let column = column?;
     let dtype = column.dtype();
-    Ok(dtype.is_boolean() && dtype.is_nullable() && are_valid(&*column, wanted))
+    Ok(dtype.is_boolean() && dtype.is_nullable() && are_valid(rt, &*column, wanted))
 }
 
 /// Whether three bits are borrowed, and a bit for each of three rows that are valid or not.
@@ -154,10 +158,10 @@ fn a_nullable_column_is_read(rt: HostRuntime) {
     let alloc = rt.alloc();
     let rows = [Some(true), None, Some(false)];
     let copy = copied(alloc, nullable_bools(alloc, &rows));
-    assert!(rt; yes(has_rows(alloc, copy, &rows)));
-    assert!(rt; yes(tells_validity(nullable_bools(alloc, &rows), (true, false, true))));
-    assert!(rt; yes(lends_bits(nullable_bools(alloc, &rows))));
-    assert!(rt; yes(lists_validity(alloc, nullable_bools(alloc, &rows))));
+    assert!(rt; rt.yes(has_rows(rt, copy, &rows)));
+    assert!(rt; rt.yes(tells_validity(rt, nullable_bools(alloc, &rows), (true, false, true))));
+    assert!(rt; rt.yes(lends_bits(nullable_bools(alloc, &rows))));
+    assert!(rt; rt.yes(lists_validity(alloc, nullable_bools(alloc, &rows))));
 }
 
 /// How a column lends its valid rows: all of them, none, or by a list of so many bits.
@@ -169,26 +173,27 @@ fn lent_as(column: Made) -> VortexResult<(bool, bool, usize)> {
     })
 }
 
-fn lends(column: Made, wanted: (bool, bool, usize)) -> VortexResult<bool> {
-    Ok(lent_as(column)? == wanted)
+fn lends(rt: HostRuntime, column: Made, wanted: (bool, bool, usize)) -> VortexResult<bool> {
+    Ok(same(rt, lent_as(column)?, wanted))
 }
 
 #[test]
 fn valid_rows_are_lent(rt: HostRuntime) {
     let alloc = rt.alloc();
     let listed = nullable_bools(alloc, &[Some(true), None]);
-    assert!(rt; yes(lends(pair(alloc), (true, false, 0))));
-    assert!(rt; yes(lends(byte_lists(alloc), (false, true, 0))));
-    assert!(rt; yes(lends(listed, (false, false, 2))));
+    assert!(rt; rt.yes(lends(rt, pair(alloc), (true, false, 0))));
+    assert!(rt; rt.yes(lends(rt, byte_lists(alloc), (false, true, 0))));
+    assert!(rt; rt.yes(lends(rt, listed, (false, false, 2))));
 }
 
 /// Whether these of four rows are valid on both sides.
 fn joined_as(
-    alloc: Global,
+    rt: HostRuntime,
     left: &Column,
     right: &Column,
     wanted: [bool; 4],
 ) -> VortexResult<bool> {
+    let alloc = rt.alloc();
     if left.len() != 4 || right.len() != 4 {
         return Ok(false);
     }
@@ -202,11 +207,11 @@ fn joined_as(
         valid.is_valid(2),
         valid.is_valid(3),
     ];
-    Ok(told == wanted)
+    Ok(same(rt, told, wanted))
 }
 
-fn joins(alloc: Global, left: Made, right: Made, wanted: [bool; 4]) -> VortexResult<bool> {
-    joined_as(alloc, &*left?, &*right?, wanted)
+fn joins(rt: HostRuntime, left: Made, right: Made, wanted: [bool; 4]) -> VortexResult<bool> {
+    joined_as(rt, &*left?, &*right?, wanted)
 }
 
 #[test]
@@ -216,8 +221,8 @@ fn rows_are_valid_on_both_sides(rt: HostRuntime) {
     let right = nullable_bools(alloc, &[None, None, Some(true), Some(true)]);
     let full = numbers(alloc, &[1i32, 2, 3, 4]);
     let other = nullable_bools(alloc, &[None, Some(true), Some(true), Some(false)]);
-    assert!(rt; yes(joins(alloc, left, right, [false, false, false, true])));
-    assert!(rt; yes(joins(alloc, full, other, [false, true, true, true])));
+    assert!(rt; rt.yes(joins(rt, left, right, [false, false, false, true])));
+    assert!(rt; rt.yes(joins(rt, full, other, [false, true, true, true])));
 }
 
 /// Whether a column of nullable i32 of three rows has these.
@@ -274,17 +279,17 @@ fn makes_lent_texts(alloc: Global, rows: [&str; 2]) -> VortexResult<bool> {
 #[test]
 fn columns_are_made_of_lent_texts(rt: HostRuntime) {
     let alloc = rt.alloc();
-    assert!(rt; yes(makes_texts(alloc, [Some("hello"), None])));
-    assert!(rt; yes(makes_texts(alloc, [Some("a text that is longer than a view"), Some("")])));
-    assert!(rt; yes(makes_lent_texts(alloc, ["hello, world!", "\u{a3}"])));
+    assert!(rt; rt.yes(makes_texts(alloc, [Some("hello"), None])));
+    assert!(rt; rt.yes(makes_texts(alloc, [Some("a text that is longer than a view"), Some("")])));
+    assert!(rt; rt.yes(makes_lent_texts(alloc, ["hello, world!", "\u{a3}"])));
 }
 
 #[test]
 fn columns_are_made_of_options(rt: HostRuntime) {
     let alloc = rt.alloc();
-    assert!(rt; yes(makes_ints(alloc, [Some(1), None, Some(-3)])));
-    assert!(rt; yes(makes_ints(alloc, [Some(1), Some(2), Some(3)])));
+    assert!(rt; rt.yes(makes_ints(alloc, [Some(1), None, Some(-3)])));
+    assert!(rt; rt.yes(makes_ints(alloc, [Some(1), Some(2), Some(3)])));
     let rows = [Some(true), None, Some(false)];
     let bools = kept(alloc, Column::of_bools(alloc, &rows));
-    assert!(rt; yes(has_rows(alloc, bools, &rows)));
+    assert!(rt; rt.yes(has_rows(rt, bools, &rows)));
 }

@@ -2,7 +2,7 @@
 
 use crate::order::stand;
 use crate::taken::are_below;
-use fixtures::{Made, boxed, fields, is_refused, kept, names, yes};
+use fixtures::{Ask, Made, boxed, fields, kept, names, same};
 use std::alloc::Global;
 use std::cmp::Ordering;
 use vortex_columns::{
@@ -287,9 +287,10 @@ fn written(alloc: Global, made: VortexResult<DType>) -> VortexResult<String> {
 }
 
 /// Whether a type is written so.
-fn reads(alloc: Global, made: VortexResult<DType>, wanted: &str) -> VortexResult<bool> {
+fn reads(rt: HostRuntime, made: VortexResult<DType>, wanted: &str) -> VortexResult<bool> {
+    let alloc = rt.alloc();
     let text = written(alloc, made)?;
-    Ok(text.as_str() == wanted)
+    Ok(same(rt, text.as_str(), wanted))
 }
 
 /// Whether a type's text has that many bytes, and begins so.
@@ -307,87 +308,87 @@ fn begins(
 fn types_within_types_have_texts(rt: HostRuntime) {
     let alloc = rt.alloc();
     let wanted = "struct{x: map[struct{b: binary, a: list[utf8?; 3]?}?, list[null]], y: bool}";
-    assert!(rt; yes(reads(alloc, mixed(alloc), wanted)));
+    assert!(rt; rt.yes(reads(rt, mixed(alloc), wanted)));
 }
 
 #[test]
 fn deep_types_have_texts(rt: HostRuntime) {
     let alloc = rt.alloc();
     // `null` has four bytes, and each level around it six to eleven
-    assert!(rt; yes(begins(alloc, lists(alloc), 6 * LEVELS + 4, "list[list[")));
-    assert!(rt; yes(begins(alloc, pairs(alloc), 9 * LEVELS + 4, "list[list[")));
-    assert!(rt; yes(begins(alloc, maps_by_key(alloc), 11 * LEVELS + 4, "map[map[")));
-    assert!(rt; yes(begins(alloc, maps_by_value(alloc), 11 * LEVELS + 4, "map[null, ")));
-    assert!(rt; yes(begins(alloc, structs(alloc), 11 * LEVELS + 4, "struct{a: ")));
+    assert!(rt; rt.yes(begins(alloc, lists(alloc), 6 * LEVELS + 4, "list[list[")));
+    assert!(rt; rt.yes(begins(alloc, pairs(alloc), 9 * LEVELS + 4, "list[list[")));
+    assert!(rt; rt.yes(begins(alloc, maps_by_key(alloc), 11 * LEVELS + 4, "map[map[")));
+    assert!(rt; rt.yes(begins(alloc, maps_by_value(alloc), 11 * LEVELS + 4, "map[null, ")));
+    assert!(rt; rt.yes(begins(alloc, structs(alloc), 11 * LEVELS + 4, "struct{a: ")));
 }
 
 #[test]
 fn copies_equal_their_types(rt: HostRuntime) {
     let alloc = rt.alloc();
-    assert!(rt; yes(copy_equals(alloc, mixed(alloc))));
+    assert!(rt; rt.yes(copy_equals(alloc, mixed(alloc))));
 }
 
 #[test]
 fn deep_types_are_copied(rt: HostRuntime) {
     let alloc = rt.alloc();
-    assert!(rt; yes(has_a_copy(alloc, lists(alloc))));
-    assert!(rt; yes(has_a_copy(alloc, pairs(alloc))));
-    assert!(rt; yes(has_a_copy(alloc, maps_by_key(alloc))));
-    assert!(rt; yes(has_a_copy(alloc, maps_by_value(alloc))));
-    assert!(rt; yes(has_a_copy(alloc, structs(alloc))));
+    assert!(rt; rt.yes(has_a_copy(alloc, lists(alloc))));
+    assert!(rt; rt.yes(has_a_copy(alloc, pairs(alloc))));
+    assert!(rt; rt.yes(has_a_copy(alloc, maps_by_key(alloc))));
+    assert!(rt; rt.yes(has_a_copy(alloc, maps_by_value(alloc))));
+    assert!(rt; rt.yes(has_a_copy(alloc, structs(alloc))));
 }
 
 #[test]
 fn deep_types_are_equal(rt: HostRuntime) {
     let alloc = rt.alloc();
-    assert!(rt; yes(are_equal_types(lists(alloc), lists(alloc))));
-    assert!(rt; yes(are_equal_types(maps_by_key(alloc), maps_by_key(alloc))));
-    assert!(rt; yes(are_equal_types(maps_by_value(alloc), maps_by_value(alloc))));
-    assert!(rt; yes(are_equal_types(structs(alloc), structs(alloc))));
-    assert!(rt; yes(are_equal_types(structs_by_first(alloc), structs_by_first(alloc))));
+    assert!(rt; rt.yes(are_equal_types(lists(alloc), lists(alloc))));
+    assert!(rt; rt.yes(are_equal_types(maps_by_key(alloc), maps_by_key(alloc))));
+    assert!(rt; rt.yes(are_equal_types(maps_by_value(alloc), maps_by_value(alloc))));
+    assert!(rt; rt.yes(are_equal_types(structs(alloc), structs(alloc))));
+    assert!(rt; rt.yes(are_equal_types(structs_by_first(alloc), structs_by_first(alloc))));
 }
 
 #[test]
 fn deep_types_are_told_apart(rt: HostRuntime) {
     let alloc = rt.alloc();
-    assert!(rt; yes(differ(lists(alloc), lists_of(alloc, DType::Utf8(NO)))));
-    assert!(rt; yes(differ(maps_by_key(alloc), maps_by_value(alloc))));
+    assert!(rt; rt.yes(differ(lists(alloc), lists_of(alloc, DType::Utf8(NO)))));
+    assert!(rt; rt.yes(differ(maps_by_key(alloc), maps_by_value(alloc))));
     let one = lists_of(alloc, DType::Utf8(NO));
-    assert!(rt; yes(differ_by_null(one, lists_of(alloc, DType::Utf8(YES)))));
+    assert!(rt; rt.yes(differ_by_null(one, lists_of(alloc, DType::Utf8(YES)))));
 }
 
 #[test]
 fn deep_types_are_let_go(rt: HostRuntime) {
     let alloc = rt.alloc();
-    assert!(rt; yes(was_made(lists(alloc))));
-    assert!(rt; yes(was_made(pairs(alloc))));
-    assert!(rt; yes(was_made(maps_by_key(alloc))));
-    assert!(rt; yes(was_made(maps_by_value(alloc))));
-    assert!(rt; yes(was_made(structs(alloc))));
+    assert!(rt; rt.yes(was_made(lists(alloc))));
+    assert!(rt; rt.yes(was_made(pairs(alloc))));
+    assert!(rt; rt.yes(was_made(maps_by_key(alloc))));
+    assert!(rt; rt.yes(was_made(maps_by_value(alloc))));
+    assert!(rt; rt.yes(was_made(structs(alloc))));
 }
 
 #[test]
 fn deep_literals_are_typed_and_compared(rt: HostRuntime) {
     let alloc = rt.alloc();
-    assert!(rt; yes(are_equal(literal(alloc), literal(alloc))));
+    assert!(rt; rt.yes(are_equal(literal(alloc), literal(alloc))));
 }
 
 #[test]
 fn deep_literals_equal_their_copies(rt: HostRuntime) {
     let alloc = rt.alloc();
-    assert!(rt; yes(are_equal(literal(alloc), copy_of(alloc, literal(alloc)))));
+    assert!(rt; rt.yes(are_equal(literal(alloc), copy_of(alloc, literal(alloc)))));
 }
 
 #[test]
 fn deep_values_are_copied(rt: HostRuntime) {
     let alloc = rt.alloc();
-    assert!(rt; yes(value_has_a_copy(alloc, values(alloc))));
+    assert!(rt; rt.yes(value_has_a_copy(alloc, values(alloc))));
 }
 
 #[test]
 fn deep_literals_are_written(rt: HostRuntime) {
     let alloc = rt.alloc();
-    assert!(rt; yes(is_written_in(alloc, literal(alloc), 2 * LEVELS)));
+    assert!(rt; rt.yes(is_written_in(alloc, literal(alloc), 2 * LEVELS)));
 }
 
 #[test]
@@ -398,31 +399,31 @@ fn deep_values_are_compared(rt: HostRuntime) {
         Ordering::Equal,
         first_values(alloc, 1),
     );
-    assert!(rt; yes(same));
+    assert!(rt; rt.yes(same));
     let less = stand(
         first_values(alloc, 1),
         Ordering::Less,
         first_values(alloc, 2),
     );
-    assert!(rt; yes(less));
+    assert!(rt; rt.yes(less));
 }
 
 #[test]
 fn rows_of_deep_columns_are_taken(rt: HostRuntime) {
     let alloc = rt.alloc();
-    assert!(rt; yes(is_taken_twice(alloc, singles(alloc))));
-    assert!(rt; yes(is_taken_twice(alloc, records(alloc))));
+    assert!(rt; rt.yes(is_taken_twice(alloc, singles(alloc))));
+    assert!(rt; rt.yes(is_taken_twice(alloc, records(alloc))));
 }
 
 #[test]
 fn literals_that_nest_before_their_last_value_are_typed(rt: HostRuntime) {
     let alloc = rt.alloc();
-    assert!(rt; yes(was_made(record(alloc, ScalarValue::Bool(true)))));
-    assert!(rt; is_refused(record(alloc, ScalarValue::Int(1)), "InvalidColumn"));
-    assert!(rt; yes(was_made(keyed(alloc))));
+    assert!(rt; rt.yes(was_made(record(alloc, ScalarValue::Bool(true)))));
+    assert!(rt; rt.is_refused(record(alloc, ScalarValue::Int(1)), "InvalidColumn"));
+    assert!(rt; rt.yes(was_made(keyed(alloc))));
 }
 
 #[test]
 fn deep_values_are_let_go(rt: HostRuntime) {
-    assert!(rt; yes(was_made(values(rt.alloc()))));
+    assert!(rt; rt.yes(was_made(values(rt.alloc()))));
 }

@@ -2,7 +2,7 @@
 
 use crate::depths::pair;
 use crate::order::stand;
-use fixtures::{fields, is_refused, yes};
+use fixtures::{Ask, fields};
 use std::alloc::Global;
 use std::cmp::Ordering;
 use vortex_columns::{DType, Nullability, PType, Scalar, ScalarValue, VortexResult};
@@ -54,18 +54,22 @@ fn is_typed(alloc: Global, levels: usize, innermost: i128) -> VortexResult<bool>
 }
 
 /// Whether types of so many levels are equal where they are the same, and else not.
-fn types_are_told_apart(alloc: Global, levels: usize) -> bool {
-    yes(are_equal_types(alloc, levels, PType::U8, PType::U8))
-        && !yes(are_equal_types(alloc, levels, PType::U8, PType::I8))
+fn types_are_told_apart(rt: HostRuntime, levels: usize) -> bool {
+    let alloc = rt.alloc();
+    rt.yes(are_equal_types(alloc, levels, PType::U8, PType::U8))
+        && !rt.yes(are_equal_types(alloc, levels, PType::U8, PType::I8))
 }
 
 /// Whether values of so many levels are ordered by their innermost one.
-fn values_are_ordered(alloc: Global, levels: usize) -> bool {
-    yes(stand(
+fn values_are_ordered(rt: HostRuntime, levels: usize) -> bool {
+    let alloc = rt.alloc();
+    rt.yes(stand(
+        rt,
         records(alloc, levels, 1),
         Ordering::Equal,
         records(alloc, levels, 1),
-    )) && yes(stand(
+    )) && rt.yes(stand(
+        rt,
         records(alloc, levels, 2),
         Ordering::Greater,
         records(alloc, levels, 1),
@@ -74,42 +78,41 @@ fn values_are_ordered(alloc: Global, levels: usize) -> bool {
 
 /// Whether the innermost value decides whether one of so many levels has its type: 255 is a U8, and
 /// 256 is none.
-fn values_are_typed(alloc: Global, levels: usize) -> bool {
-    yes(is_typed(alloc, levels, 255)) && is_refused(scalar(alloc, levels, 256), "InvalidColumn")
+fn values_are_typed(rt: HostRuntime, levels: usize) -> bool {
+    let alloc = rt.alloc();
+    rt.yes(is_typed(alloc, levels, 255))
+        && rt.is_refused(scalar(alloc, levels, 256), "InvalidColumn")
 }
 
 #[test]
 fn types_are_told_apart_at_any_level(rt: HostRuntime) {
-    let alloc = rt.alloc();
-    assert!(rt; types_are_told_apart(alloc, 1));
-    assert!(rt; types_are_told_apart(alloc, 2));
-    assert!(rt; types_are_told_apart(alloc, 999));
-    assert!(rt; types_are_told_apart(alloc, 1_000));
-    assert!(rt; types_are_told_apart(alloc, 1_001));
-    assert!(rt; types_are_told_apart(alloc, 1_002));
-    assert!(rt; types_are_told_apart(alloc, 2_100));
+    assert!(rt; types_are_told_apart(rt, 1));
+    assert!(rt; types_are_told_apart(rt, 2));
+    assert!(rt; types_are_told_apart(rt, 999));
+    assert!(rt; types_are_told_apart(rt, 1_000));
+    assert!(rt; types_are_told_apart(rt, 1_001));
+    assert!(rt; types_are_told_apart(rt, 1_002));
+    assert!(rt; types_are_told_apart(rt, 2_100));
 }
 
 #[test]
 fn values_are_ordered_at_any_level(rt: HostRuntime) {
-    let alloc = rt.alloc();
-    assert!(rt; values_are_ordered(alloc, 1));
-    assert!(rt; values_are_ordered(alloc, 2));
-    assert!(rt; values_are_ordered(alloc, 999));
-    assert!(rt; values_are_ordered(alloc, 1_000));
-    assert!(rt; values_are_ordered(alloc, 1_001));
-    assert!(rt; values_are_ordered(alloc, 1_002));
-    assert!(rt; values_are_ordered(alloc, 2_100));
+    assert!(rt; values_are_ordered(rt, 1));
+    assert!(rt; values_are_ordered(rt, 2));
+    assert!(rt; values_are_ordered(rt, 999));
+    assert!(rt; values_are_ordered(rt, 1_000));
+    assert!(rt; values_are_ordered(rt, 1_001));
+    assert!(rt; values_are_ordered(rt, 1_002));
+    assert!(rt; values_are_ordered(rt, 2_100));
 }
 
 #[test]
 fn values_are_typed_at_any_level(rt: HostRuntime) {
-    let alloc = rt.alloc();
-    assert!(rt; values_are_typed(alloc, 1));
-    assert!(rt; values_are_typed(alloc, 2));
-    assert!(rt; values_are_typed(alloc, 999));
-    assert!(rt; values_are_typed(alloc, 1_000));
-    assert!(rt; values_are_typed(alloc, 1_001));
-    assert!(rt; values_are_typed(alloc, 1_002));
-    assert!(rt; values_are_typed(alloc, 2_100));
+    assert!(rt; values_are_typed(rt, 1));
+    assert!(rt; values_are_typed(rt, 2));
+    assert!(rt; values_are_typed(rt, 999));
+    assert!(rt; values_are_typed(rt, 1_000));
+    assert!(rt; values_are_typed(rt, 1_001));
+    assert!(rt; values_are_typed(rt, 1_002));
+    assert!(rt; values_are_typed(rt, 2_100));
 }

@@ -2,7 +2,7 @@
 
 use crate::columns::{byte_lists, fixed, lists, maps, pair, records};
 use crate::values::{entry, list};
-use fixtures::{Made, constant, kept, texts, yes};
+use fixtures::{Ask, Made, constant, kept, same, texts};
 use std::alloc::Global;
 use std::cmp::Ordering;
 use vortex_columns::{Column, PType, ScalarValue, Validity, VortexResult, cell_of};
@@ -52,9 +52,10 @@ fn copy_reads(alloc: Global, column: &Column) -> VortexResult<bool> {
 }
 
 /// Whether the column's copy reads as it does, and it lends these parts alone.
-fn lends(alloc: Global, column: Made, wanted: [bool; 7]) -> VortexResult<bool> {
+fn lends(rt: HostRuntime, column: Made, wanted: [bool; 7]) -> VortexResult<bool> {
+    let alloc = rt.alloc();
     let column = column?;
-    Ok(parts(&*column) == wanted && copy_reads(alloc, &*column)?)
+    Ok(same(rt, parts(&*column), wanted) && copy_reads(alloc, &*column)?)
 }
 
 const NONE: [bool; 7] = [false; 7];
@@ -82,25 +83,25 @@ fn two_texts(alloc: Global) -> Made {
 #[test]
 fn null_and_constants_lend_no_part(rt: HostRuntime) {
     let alloc = rt.alloc();
-    assert!(rt; yes(lends(alloc, nulls(alloc), NONE)));
-    assert!(rt; yes(lends(alloc, constant(alloc, PType::I32, 1, 2), NONE)));
+    assert!(rt; rt.yes(lends(rt, nulls(alloc), NONE)));
+    assert!(rt; rt.yes(lends(rt, constant(alloc, PType::I32, 1, 2), NONE)));
 }
 
 #[test]
 fn flat_columns_lend_their_values(rt: HostRuntime) {
     let alloc = rt.alloc();
-    assert!(rt; yes(lends(alloc, pair(alloc), INTS)));
-    assert!(rt; yes(lends(alloc, two_texts(alloc), BYTES)));
-    assert!(rt; yes(lends(alloc, byte_lists(alloc), BYTES)));
+    assert!(rt; rt.yes(lends(rt, pair(alloc), INTS)));
+    assert!(rt; rt.yes(lends(rt, two_texts(alloc), BYTES)));
+    assert!(rt; rt.yes(lends(rt, byte_lists(alloc), BYTES)));
 }
 
 #[test]
 fn nested_columns_lend_their_parts(rt: HostRuntime) {
     let alloc = rt.alloc();
-    assert!(rt; yes(lends(alloc, records(alloc, "a", "b", 2), FIELD)));
-    assert!(rt; yes(lends(alloc, lists(alloc, [0, 0], [2, 1]), LISTS)));
-    assert!(rt; yes(lends(alloc, fixed(alloc), FIXED)));
-    assert!(rt; yes(lends(alloc, maps(alloc, &[5, 6]), MAPS)));
+    assert!(rt; rt.yes(lends(rt, records(alloc, "a", "b", 2), FIELD)));
+    assert!(rt; rt.yes(lends(rt, lists(alloc, [0, 0], [2, 1]), LISTS)));
+    assert!(rt; rt.yes(lends(rt, fixed(alloc), FIXED)));
+    assert!(rt; rt.yes(lends(rt, maps(alloc, &[5, 6]), MAPS)));
 }
 
 /// Whether a column is a constant one.
@@ -111,52 +112,52 @@ fn is_constant(column: Made) -> VortexResult<bool> {
 #[test]
 fn constants_alone_are_constants(rt: HostRuntime) {
     let alloc = rt.alloc();
-    assert!(rt; yes(is_constant(constant(alloc, PType::I32, 1, 2))));
-    assert!(rt; yes(is_constant(constant(alloc, PType::I32, 1, 0))));
-    assert!(rt; !yes(is_constant(nulls(alloc))));
-    assert!(rt; !yes(is_constant(pair(alloc))));
+    assert!(rt; rt.yes(is_constant(constant(alloc, PType::I32, 1, 2))));
+    assert!(rt; rt.yes(is_constant(constant(alloc, PType::I32, 1, 0))));
+    assert!(rt; !rt.yes(is_constant(nulls(alloc))));
+    assert!(rt; !rt.yes(is_constant(pair(alloc))));
 }
 
 /// Whether these integers are borrowed, and none of another type.
-fn lends_integers(column: &Column, wanted: &[i32]) -> bool {
+fn lends_integers(rt: HostRuntime, column: &Column, wanted: &[i32]) -> bool {
     let same = match column.ints::<i32>() {
-        Some(ints) => ints == wanted,
+        Some(ints) => same(rt, ints, wanted),
         None => false,
     };
     same && column.ints::<u64>().is_none()
 }
 
-fn integers_are(column: Made, wanted: &[i32]) -> VortexResult<bool> {
-    Ok(lends_integers(&*column?, wanted))
+fn integers_are(rt: HostRuntime, column: Made, wanted: &[i32]) -> VortexResult<bool> {
+    Ok(lends_integers(rt, &*column?, wanted))
 }
 
 #[test]
 fn integers_are_lent(rt: HostRuntime) {
     let alloc = rt.alloc();
-    assert!(rt; yes(integers_are(pair(alloc), &[5, 6])));
+    assert!(rt; rt.yes(integers_are(rt, pair(alloc), &[5, 6])));
 }
 
 /// Whether row 1 of two texts is this, by either read.
-fn lends_second(column: &Column, wanted: &[u8]) -> bool {
+fn lends_second(rt: HostRuntime, column: &Column, wanted: &[u8]) -> bool {
     if column.len() != 2 {
         return false;
     }
     match column.views() {
         Some(rows) if rows.len() == 2 => {
-            rows.bytes(1) == wanted && column.bytes_at(1) == Some(wanted)
+            same(rt, rows.bytes(1), wanted) && column.bytes_at(1) == Some(wanted)
         }
         _ => false,
     }
 }
 
-fn second_text_is(column: Made, wanted: &str) -> VortexResult<bool> {
-    Ok(lends_second(&*column?, wanted.as_bytes()))
+fn second_text_is(rt: HostRuntime, column: Made, wanted: &str) -> VortexResult<bool> {
+    Ok(lends_second(rt, &*column?, wanted.as_bytes()))
 }
 
 #[test]
 fn texts_are_lent(rt: HostRuntime) {
     let alloc = rt.alloc();
-    assert!(rt; yes(second_text_is(two_texts(alloc), "b")));
+    assert!(rt; rt.yes(second_text_is(rt, two_texts(alloc), "b")));
 }
 
 /// Whether there is a field at 1, and none at 2.
@@ -167,7 +168,7 @@ fn has_two_fields(column: Made) -> VortexResult<bool> {
 
 #[test]
 fn fields_end(rt: HostRuntime) {
-    assert!(rt; yes(has_two_fields(records(rt.alloc(), "a", "b", 2))));
+    assert!(rt; rt.yes(has_two_fields(records(rt.alloc(), "a", "b", 2))));
 }
 
 /// Whether row `i` stands in that order to a value.
@@ -190,14 +191,14 @@ fn overlapping_lists_are_read(rt: HostRuntime) {
     let alloc = rt.alloc();
     let whole = [Some(5), Some(6)];
     let column = lists(alloc, [0, 0], [2, 1]);
-    assert!(rt; yes(row_stands(column, 0, Ordering::Equal, list(alloc, &whole))));
+    assert!(rt; rt.yes(row_stands(column, 0, Ordering::Equal, list(alloc, &whole))));
     let column = lists(alloc, [0, 0], [2, 1]);
-    assert!(rt; yes(row_stands(column, 1, Ordering::Less, list(alloc, &whole))));
+    assert!(rt; rt.yes(row_stands(column, 1, Ordering::Less, list(alloc, &whole))));
 }
 
 #[test]
 fn entries_of_maps_are_read(rt: HostRuntime) {
     let alloc = rt.alloc();
     let column = maps(alloc, &[5, 6]);
-    assert!(rt; yes(row_stands(column, 0, Ordering::Equal, entry(alloc, 6, Some(6)))));
+    assert!(rt; rt.yes(row_stands(column, 0, Ordering::Equal, entry(alloc, 6, Some(6)))));
 }

@@ -1,6 +1,6 @@
 //! Rows of columns as Rust's own values.
 
-use fixtures::{Made, bools, constant, nullable_bools, numbers, yes};
+use fixtures::{Ask, Made, bools, constant, nullable_bools, numbers, same};
 use std::alloc::Global;
 use vortex_columns::{Column, DType, ExecutionCtx, Nullability, PType, Scalar, VortexResult};
 
@@ -36,10 +36,10 @@ fn reads_texts(alloc: Global, rows: &[Option<&str>]) -> VortexResult<bool> {
 #[test]
 fn rows_are_read_in_their_order(rt: HostRuntime) {
     let alloc = rt.alloc();
-    assert!(rt; yes(reads_bools(alloc, &[Some(true), None, Some(false)])));
-    assert!(rt; yes(reads_ints(alloc, &[None, Some(-3), Some(7)])));
-    assert!(rt; yes(reads_texts(alloc, &[Some("new"), None, Some("")])));
-    assert!(rt; yes(reads_ints(alloc, &[])));
+    assert!(rt; rt.yes(reads_bools(alloc, &[Some(true), None, Some(false)])));
+    assert!(rt; rt.yes(reads_ints(alloc, &[None, Some(-3), Some(7)])));
+    assert!(rt; rt.yes(reads_texts(alloc, &[Some("new"), None, Some("")])));
+    assert!(rt; rt.yes(reads_ints(alloc, &[])));
 }
 
 /// Whether a constant's value is read in each row.
@@ -57,18 +57,19 @@ fn reads_constant(alloc: Global) -> VortexResult<bool> {
 
 #[test]
 fn constants_are_read_row_by_row(rt: HostRuntime) {
-    assert!(rt; yes(reads_constant(rt.alloc())));
+    assert!(rt; rt.yes(reads_constant(rt.alloc())));
 }
 
 /// Whether the rows of a column that are true have these numbers, and are taken by them.
-fn true_in(alloc: Global, column: VortexResult<Column>, wanted: &[u32]) -> VortexResult<bool> {
+fn true_in(rt: HostRuntime, column: VortexResult<Column>, wanted: &[u32]) -> VortexResult<bool> {
+    let alloc = rt.alloc();
     let column = column?;
     if !column.dtype().is_boolean() {
         return Ok(false);
     }
     let codes = column.true_rows(alloc)?;
     let taken = column.take(&codes, &mut ExecutionCtx::new(alloc))?;
-    Ok(codes.as_slice() == wanted && taken.len() == wanted.len())
+    Ok(same(rt, codes.as_slice(), wanted) && same(rt, taken.len(), wanted.len()))
 }
 
 #[test]
@@ -76,9 +77,9 @@ fn true_rows_are_numbered(rt: HostRuntime) {
     let alloc = rt.alloc();
     let rows = [Some(false), Some(true), None, Some(true)];
     let constant = Column::constant(alloc, Scalar::from(true), 3);
-    assert!(rt; yes(true_in(alloc, Column::of_bools(alloc, &rows), &[1, 3])));
-    assert!(rt; yes(true_in(alloc, Column::of_bools(alloc, &[None]), &[])));
-    assert!(rt; yes(true_in(alloc, constant, &[0, 1, 2])));
+    assert!(rt; rt.yes(true_in(rt, Column::of_bools(alloc, &rows), &[1, 3])));
+    assert!(rt; rt.yes(true_in(rt, Column::of_bools(alloc, &[None]), &[])));
+    assert!(rt; rt.yes(true_in(rt, constant, &[0, 1, 2])));
 }
 
 /// Whether two columns are equal, from either side; both are dropped here.
@@ -103,23 +104,23 @@ fn fives(alloc: Global) -> Made {
 #[test]
 fn columns_are_equal_by_type_and_rows(rt: HostRuntime) {
     let alloc = rt.alloc();
-    assert!(rt; yes(are_equal(numbers(alloc, &[5i32, 5, 5]), fives(alloc))));
-    assert!(rt; yes(differ(numbers(alloc, &[5i32, 5]), fives(alloc))));
-    assert!(rt; yes(differ(numbers(alloc, &[5i32, 5, 6]), fives(alloc))));
-    assert!(rt; yes(differ(numbers(alloc, &[5i64, 5, 5]), fives(alloc))));
+    assert!(rt; rt.yes(are_equal(numbers(alloc, &[5i32, 5, 5]), fives(alloc))));
+    assert!(rt; rt.yes(differ(numbers(alloc, &[5i32, 5]), fives(alloc))));
+    assert!(rt; rt.yes(differ(numbers(alloc, &[5i32, 5, 6]), fives(alloc))));
+    assert!(rt; rt.yes(differ(numbers(alloc, &[5i64, 5, 5]), fives(alloc))));
     let yes_or_null = [Some(true), None];
     let yes_or_no = [Some(true), Some(false)];
     assert!(rt;
-        yes(are_equal(
+        rt.yes(are_equal(
             nullable_bools(alloc, &yes_or_null),
             nullable_bools(alloc, &yes_or_null)
         ))
     );
     assert!(rt;
-        yes(differ(
+        rt.yes(differ(
             nullable_bools(alloc, &yes_or_null),
             nullable_bools(alloc, &yes_or_no)
         ))
     );
-    assert!(rt; yes(differ(bools(alloc, &[true]), nullable_bools(alloc, &[Some(true)]))));
+    assert!(rt; rt.yes(differ(bools(alloc, &[true]), nullable_bools(alloc, &[Some(true)]))));
 }

@@ -1,7 +1,7 @@
 //! Scalars.
 
 use crate::values::{bytes, entry, integers, list, typed};
-use fixtures::{boxed, fields, integer, is_refused, yes};
+use fixtures::{Ask, boxed, fields, integer, same};
 use std::alloc::Global;
 use std::cmp::Ordering;
 use vortex_columns::{DType, Nullability, PType, Scalar, ScalarValue, VortexResult};
@@ -44,14 +44,15 @@ fn values_are_lent_by_their_kinds(rt: HostRuntime) {
     assert!(rt; Scalar::from(-7i32).as_int_opt() == Some(-7));
     assert!(rt; Scalar::from(true).as_int_opt().is_none());
     assert!(rt; null_integer().as_int_opt().is_none());
-    assert!(rt; yes(are_lent(rt.alloc())));
+    assert!(rt; rt.yes(are_lent(rt.alloc())));
 }
 
 /// Whether a scalar is printed so for debugging.
-fn prints(alloc: Global, scalar: VortexResult<Scalar>, wanted: &str) -> VortexResult<bool> {
+fn prints(rt: HostRuntime, scalar: VortexResult<Scalar>, wanted: &str) -> VortexResult<bool> {
+    let alloc = rt.alloc();
     let scalar = scalar?;
     let printed = format!(in alloc; "{scalar:?}")?;
-    Ok(printed.as_str() == wanted)
+    Ok(same(rt, printed.as_str(), wanted))
 }
 
 #[test]
@@ -59,11 +60,11 @@ fn scalars_and_types_are_printed_for_debugging(rt: HostRuntime) {
     let alloc = rt.alloc();
     let letters = typed(DType::Binary(NO), bytes(alloc, &[0, 255]));
     let items = list_type(alloc).and_then(|dtype| typed(dtype, list(alloc, &[Some(1)])));
-    assert!(rt; yes(prints(alloc, Ok(null_integer()), "null")));
-    assert!(rt; yes(prints(alloc, Ok(Scalar::from(-7i16)), "-7i16")));
-    assert!(rt; yes(prints(alloc, Scalar::try_from_str(alloc, "new"), "\"new\"")));
-    assert!(rt; yes(prints(alloc, letters, "0x00ff")));
-    assert!(rt; yes(prints(alloc, items, "[1u8]")));
+    assert!(rt; rt.yes(prints(rt, Ok(null_integer()), "null")));
+    assert!(rt; rt.yes(prints(rt, Ok(Scalar::from(-7i16)), "-7i16")));
+    assert!(rt; rt.yes(prints(rt, Scalar::try_from_str(alloc, "new"), "\"new\"")));
+    assert!(rt; rt.yes(prints(rt, letters, "0x00ff")));
+    assert!(rt; rt.yes(prints(rt, items, "[1u8]")));
     assert_eq!(rt; *Scalar::from(true).dtype(), DType::Bool(NO));
     assert_eq!(rt; Scalar::from(true), Scalar::bool(true, NO));
 }
@@ -85,7 +86,7 @@ fn scalars_are_read(rt: HostRuntime) {
     assert!(rt; null.is_null() && no.as_bool_opt() == Some(false));
     assert!(rt; *null.dtype() != *no.dtype());
     assert!(rt; null.dtype().eq_ignore_nullability(no.dtype()));
-    assert!(rt; yes(copies(rt.alloc(), &no)));
+    assert!(rt; rt.yes(copies(rt.alloc(), &no)));
 }
 
 /// Whether 1 of i32 and 1 of nullable i32 are equal.
@@ -96,7 +97,7 @@ fn nullability_is_passed_over() -> VortexResult<bool> {
 
 #[test]
 fn integers_are_ordered_within_a_type(rt: HostRuntime) {
-    assert!(rt; yes(nullability_is_passed_over()));
+    assert!(rt; rt.yes(nullability_is_passed_over()));
     assert!(rt;
         Scalar::from(1i32)
             .partial_cmp(&Scalar::from(1i64))
@@ -132,7 +133,7 @@ fn text_is_less(alloc: Global, left: &str, right: &str) -> VortexResult<bool> {
 
 #[test]
 fn a_text_is_less_than_one_that_continues_it(rt: HostRuntime) {
-    assert!(rt; yes(text_is_less(rt.alloc(), "a", "a\0")));
+    assert!(rt; rt.yes(text_is_less(rt.alloc(), "a", "a\0")));
 }
 
 fn list_type(alloc: Global) -> VortexResult<DType> {
@@ -155,6 +156,7 @@ fn map_type(alloc: Global) -> VortexResult<DType> {
 
 /// Whether a type takes a value, or refuses it as invalid.
 fn takes(
+    rt: HostRuntime,
     dtype: VortexResult<DType>,
     value: VortexResult<ScalarValue>,
     wanted: bool,
@@ -163,33 +165,33 @@ fn takes(
     Ok(if wanted {
         answer.is_ok()
     } else {
-        is_refused(answer, "InvalidColumn")
+        rt.is_refused(answer, "InvalidColumn")
     })
 }
 
 #[test]
 fn flat_values_have_their_type(rt: HostRuntime) {
-    assert!(rt; is_refused(integer(PType::I8, 128), "InvalidColumn"));
-    assert!(rt; is_refused(Scalar::try_new(DType::Bool(NO), None), "InvalidColumn"));
+    assert!(rt; rt.is_refused(integer(PType::I8, 128), "InvalidColumn"));
+    assert!(rt; rt.is_refused(Scalar::try_new(DType::Bool(NO), None), "InvalidColumn"));
 }
 
 #[test]
 fn lists_have_elements_of_their_type(rt: HostRuntime) {
     let alloc = rt.alloc();
     let (one, two) = ([Some(1), None], [Some(1), Some(2)]);
-    assert!(rt; yes(takes(list_type(alloc), list(alloc, &one), false)));
-    assert!(rt; yes(takes(list_type(alloc), list(alloc, &two), true)));
+    assert!(rt; rt.yes(takes(rt, list_type(alloc), list(alloc, &one), false)));
+    assert!(rt; rt.yes(takes(rt, list_type(alloc), list(alloc, &two), true)));
     let three = [Some(1), Some(2), Some(3)];
-    assert!(rt; yes(takes(pair_type(alloc), list(alloc, &three), false)));
-    assert!(rt; yes(takes(pair_type(alloc), list(alloc, &two), true)));
+    assert!(rt; rt.yes(takes(rt, pair_type(alloc), list(alloc, &three), false)));
+    assert!(rt; rt.yes(takes(rt, pair_type(alloc), list(alloc, &two), true)));
 }
 
 #[test]
 fn structs_and_maps_have_parts_of_their_types(rt: HostRuntime) {
     let alloc = rt.alloc();
-    assert!(rt; yes(takes(struct_type(alloc), list(alloc, &[None]), false)));
-    assert!(rt; yes(takes(map_type(alloc), list(alloc, &[Some(1)]), false)));
-    assert!(rt; yes(takes(map_type(alloc), entry(alloc, 1, None), true)));
+    assert!(rt; rt.yes(takes(rt, struct_type(alloc), list(alloc, &[None]), false)));
+    assert!(rt; rt.yes(takes(rt, map_type(alloc), list(alloc, &[Some(1)]), false)));
+    assert!(rt; rt.yes(takes(rt, map_type(alloc), entry(alloc, 1, None), true)));
 }
 
 /// Whether a list's copy has two items, of which the first is null.
@@ -206,5 +208,5 @@ fn copies_nested(alloc: Global) -> VortexResult<bool> {
 
 #[test]
 fn nested_values_are_copied(rt: HostRuntime) {
-    assert!(rt; yes(copies_nested(rt.alloc())));
+    assert!(rt; rt.yes(copies_nested(rt.alloc())));
 }

@@ -2,9 +2,10 @@
 ghost use Rattle.std.specs.Prelude.{◌<◌, ◌↔◌, IsTrue, All};
 
 use crate::columns::{byte_lists, lists};
-use fixtures::{Made, constant, kept, names, nullable_bools, nullable_ints, numbers, texts, yes};
+use fixtures::{
+    Ask, Made, constant, kept, names, nullable_bools, nullable_ints, numbers, same, texts,
+};
 use std::alloc::Global;
-use std::cmp::Ordering;
 use vortex_columns::{Column, ExecutionCtx, PType, Validity, VortexResult};
 
 /// Whether each code is below this count.
@@ -19,54 +20,35 @@ pub fn are_below(codes: &[u32], count: usize) -> bool
     true
 }
 
-/// Whether two columns have the same type and the same rows.
-fn alike(left: &Column, right: &Column) -> bool {
-    if left.len() != right.len() || !(*left.dtype() == *right.dtype()) {
-        return false;
-    }
-    for i in 0..left.len() {
-        if i >= right.len() || left.compare_rows(i, right, i) != Ordering::Equal {
-            return false;
-        }
-    }
-    true
-}
-
 /// Whether the rows of these numbers are those of another column, which is a constant or none as
 /// the first is.
-fn takes(alloc: Global, column: &Column, codes: &[u32], wanted: &Column) -> VortexResult<bool> {
+fn takes(rt: HostRuntime, column: &Column, codes: &[u32], wanted: &Column) -> VortexResult<bool> {
+    let alloc = rt.alloc();
     if !are_below(codes, column.len()) {
         return Ok(false);
     }
     let taken = kept(alloc, column.take(codes, &mut ExecutionCtx::new(alloc)))?;
     let constant = taken.as_constant().is_some() == column.as_constant().is_some();
-    Ok(constant && alike(&*taken, wanted))
+    Ok(constant && same(rt, &*taken, wanted))
 }
 
 /// The same of columns on the heap.
-fn gives(alloc: Global, column: Made, codes: &[u32], wanted: Made) -> VortexResult<bool> {
-    takes(alloc, &*column?, codes, &*wanted?)
+fn gives(rt: HostRuntime, column: Made, codes: &[u32], wanted: Made) -> VortexResult<bool> {
+    takes(rt, &*column?, codes, &*wanted?)
 }
 
 #[test]
 fn integers_are_taken(rt: HostRuntime) {
     let alloc = rt.alloc();
     let wanted = numbers(alloc, &[30i32, 10, 30, 20]);
-    assert!(rt;
-        yes(gives(
-            alloc,
-            numbers(alloc, &[10i32, 20, 30]),
-            &[2, 0, 2, 1],
-            wanted
-        ))
-    );
+    assert!(rt; rt.yes(gives(rt, numbers(alloc, &[10i32, 20, 30]), &[2, 0, 2, 1], wanted)));
     let wanted = numbers(alloc, &[0u64, u64::MAX]);
-    assert!(rt; yes(gives(alloc, numbers(alloc, &[u64::MAX, 0]), &[1, 0], wanted)));
+    assert!(rt; rt.yes(gives(rt, numbers(alloc, &[u64::MAX, 0]), &[1, 0], wanted)));
     let wanted = numbers(alloc, &[-128i8]);
-    assert!(rt; yes(gives(alloc, numbers(alloc, &[127i8, -128]), &[1], wanted)));
+    assert!(rt; rt.yes(gives(rt, numbers(alloc, &[127i8, -128]), &[1], wanted)));
     let rows = [Some(1), None, Some(3)];
     let wanted = nullable_ints(alloc, &[None, Some(3), None]);
-    assert!(rt; yes(gives(alloc, nullable_ints(alloc, &rows), &[1, 2, 1], wanted)));
+    assert!(rt; rt.yes(gives(rt, nullable_ints(alloc, &rows), &[1, 2, 1], wanted)));
 }
 
 /// The codes 0, 1 and 2 in turn, so many of them, and the truth values that they name.
@@ -85,18 +67,18 @@ fn in_turn(alloc: Global, count: u32) -> VortexResult<(Vec<u32>, Vec<Option<bool
 }
 
 /// Whether so many truth values are taken, in words of 64 and a rest.
-fn takes_in_turn(alloc: Global, count: u32) -> VortexResult<bool> {
+fn takes_in_turn(rt: HostRuntime, count: u32) -> VortexResult<bool> {
+    let alloc = rt.alloc();
     let (codes, rows) = in_turn(alloc, count)?;
     let column = nullable_bools(alloc, &[Some(true), None, Some(false)]);
-    gives(alloc, column, &codes, nullable_bools(alloc, &rows))
+    gives(rt, column, &codes, nullable_bools(alloc, &rows))
 }
 
 #[test]
 fn truth_values_are_taken(rt: HostRuntime) {
-    let alloc = rt.alloc();
-    assert!(rt; yes(takes_in_turn(alloc, 0)));
-    assert!(rt; yes(takes_in_turn(alloc, 64)));
-    assert!(rt; yes(takes_in_turn(alloc, 131)));
+    assert!(rt; rt.yes(takes_in_turn(rt, 0)));
+    assert!(rt; rt.yes(takes_in_turn(rt, 64)));
+    assert!(rt; rt.yes(takes_in_turn(rt, 131)));
 }
 
 fn short_and_long(alloc: Global) -> Made {
@@ -120,11 +102,11 @@ fn texts_and_bytes_are_taken(rt: HostRuntime) {
     let alloc = rt.alloc();
     let words = ["hello, world, again", "", "a", "hello, world, again"];
     let wanted = texts(alloc, &words, Validity::AllValid);
-    assert!(rt; yes(gives(alloc, short_and_long(alloc), &[1, 2, 0, 1], wanted)));
+    assert!(rt; rt.yes(gives(rt, short_and_long(alloc), &[1, 2, 0, 1], wanted)));
     let column = bytes(alloc, &[&[255], b"more than twelve bytes"]);
     let wanted = bytes(alloc, &[b"more than twelve bytes", &[255]]);
-    assert!(rt; yes(gives(alloc, column, &[1, 0], wanted)));
-    assert!(rt; yes(gives(alloc, byte_lists(alloc), &[0], byte_lists(alloc))));
+    assert!(rt; rt.yes(gives(rt, column, &[1, 0], wanted)));
+    assert!(rt; rt.yes(gives(rt, byte_lists(alloc), &[0], byte_lists(alloc))));
 }
 
 /// Records of a number and a name.
@@ -165,24 +147,17 @@ fn records_lists_and_maps_are_taken(rt: HostRuntime) {
     let alloc = rt.alloc();
     let wanted = people(alloc, &[8, 9, 8], &["bo", "al", "bo"]);
     assert!(rt;
-        yes(gives(
-            alloc,
+        rt.yes(gives(
+            rt,
             people(alloc, &[9, 8], &["al", "bo"]),
             &[1, 0, 1],
             wanted
         ))
     );
     let wanted = lists(alloc, [1, 0], [1, 2]);
-    assert!(rt; yes(gives(alloc, lists(alloc, [0, 1], [2, 1]), &[1, 0], wanted)));
+    assert!(rt; rt.yes(gives(rt, lists(alloc, [0, 1], [2, 1]), &[1, 0], wanted)));
     let wanted = identities(alloc, &[0, 1, 0], &[1, 2, 1]);
-    assert!(rt;
-        yes(gives(
-            alloc,
-            identities(alloc, &[1, 0], &[2, 1]),
-            &[1, 0, 1],
-            wanted
-        ))
-    );
+    assert!(rt; rt.yes(gives(rt, identities(alloc, &[1, 0], &[2, 1]), &[1, 0, 1], wanted)));
 }
 
 /// Lists of one size of these integers.
@@ -210,12 +185,12 @@ fn lists_of_one_size_are_taken(rt: HostRuntime) {
     let alloc = rt.alloc();
     let column = fixed_sizes(alloc, &[1, 2, 3, 4, 5, 6], 2, 3);
     let wanted = fixed_sizes(alloc, &[5, 6, 1, 2], 2, 2);
-    assert!(rt; yes(gives(alloc, column, &[2, 0], wanted)));
+    assert!(rt; rt.yes(gives(rt, column, &[2, 0], wanted)));
     let column = pairs_of_pairs(alloc, &[1, 2, 3, 4, 5, 6, 7, 8], 2);
     let wanted = pairs_of_pairs(alloc, &[5, 6, 7, 8, 5, 6, 7, 8], 2);
-    assert!(rt; yes(gives(alloc, column, &[1, 1], wanted)));
+    assert!(rt; rt.yes(gives(rt, column, &[1, 1], wanted)));
     let wanted = fixed_sizes(alloc, &[], 0, 4);
-    assert!(rt; yes(gives(alloc, fixed_sizes(alloc, &[], 0, 3), &[2, 2, 0, 1], wanted)));
+    assert!(rt; rt.yes(gives(rt, fixed_sizes(alloc, &[], 0, 3), &[2, 2, 0, 1], wanted)));
 }
 
 fn nulls(alloc: Global, len: usize) -> Made {
@@ -225,20 +200,20 @@ fn nulls(alloc: Global, len: usize) -> Made {
 #[test]
 fn nulls_and_constants_are_taken(rt: HostRuntime) {
     let alloc = rt.alloc();
-    assert!(rt; yes(gives(alloc, nulls(alloc, 2), &[1, 1, 0], nulls(alloc, 3))));
+    assert!(rt; rt.yes(gives(rt, nulls(alloc, 2), &[1, 1, 0], nulls(alloc, 3))));
     let column = constant(alloc, PType::I32, 1, 2);
-    assert!(rt; yes(gives(alloc, column, &[0, 1, 1], constant(alloc, PType::I32, 1, 3))));
+    assert!(rt; rt.yes(gives(rt, column, &[0, 1, 1], constant(alloc, PType::I32, 1, 3))));
 }
 
 #[test]
 fn no_codes_take_no_rows(rt: HostRuntime) {
     let alloc = rt.alloc();
     let none = texts(alloc, &[], Validity::AllValid);
-    assert!(rt; yes(gives(alloc, short_and_long(alloc), &[], none)));
+    assert!(rt; rt.yes(gives(rt, short_and_long(alloc), &[], none)));
     let none = people(alloc, &[], &[]);
-    assert!(rt; yes(gives(alloc, people(alloc, &[9], &["al"]), &[], none)));
+    assert!(rt; rt.yes(gives(rt, people(alloc, &[9], &["al"]), &[], none)));
     let none = fixed_sizes(alloc, &[], 2, 0);
-    assert!(rt; yes(gives(alloc, fixed_sizes(alloc, &[1, 2], 2, 1), &[], none)));
+    assert!(rt; rt.yes(gives(rt, fixed_sizes(alloc, &[1, 2], 2, 1), &[], none)));
     let none = constant(alloc, PType::I32, 1, 0);
-    assert!(rt; yes(gives(alloc, constant(alloc, PType::I32, 1, 2), &[], none)));
+    assert!(rt; rt.yes(gives(rt, constant(alloc, PType::I32, 1, 2), &[], none)));
 }

@@ -3,7 +3,8 @@
 use crate::columns::{byte_lists, fixed, lists, maps, records};
 use crate::values::{bytes, integers, list, typed};
 use fixtures::{
-    Made, bools, boxed, constant, fields, kept, nullable_bools, nullable_ints, numbers, texts, yes,
+    Ask, Made, bools, boxed, constant, fields, kept, nullable_bools, nullable_ints, numbers, same,
+    texts,
 };
 use std::alloc::Global;
 use vortex_columns::{
@@ -11,36 +12,31 @@ use vortex_columns::{
 };
 
 /// Whether the column's text is this one, and is printed for debugging.
-fn reads(alloc: Global, column: Made, wanted: &str) -> VortexResult<bool> {
+fn reads(rt: HostRuntime, column: Made, wanted: &str) -> VortexResult<bool> {
+    let alloc = rt.alloc();
     let column = column?;
     let text = column.text(alloc)?;
     let printed = format!(in alloc; "{:?}", *column)?;
-    Ok(text.as_str() == wanted && printed.as_str() == wanted)
+    Ok(same(rt, text.as_str(), wanted) && same(rt, printed.as_str(), wanted))
 }
 
 #[test]
 fn columns_of_numbers_have_texts(rt: HostRuntime) {
     let alloc = rt.alloc();
     let greatest = constant(alloc, PType::U64, 18446744073709551615, 1);
-    assert!(rt; yes(reads(alloc, numbers::<i32>(alloc, &[]), "i32:")));
-    assert!(rt;
-        yes(reads(
-            alloc,
-            nullable_ints(alloc, &[Some(3), None]),
-            "i32?: 3 null"
-        ))
-    );
-    assert!(rt; yes(reads(alloc, numbers(alloc, &[-128i8, 1]), "i8: -128 1")));
-    assert!(rt; yes(reads(alloc, greatest, "u64: 18446744073709551615")));
+    assert!(rt; rt.yes(reads(rt, numbers::<i32>(alloc, &[]), "i32:")));
+    assert!(rt; rt.yes(reads(rt, nullable_ints(alloc, &[Some(3), None]), "i32?: 3 null")));
+    assert!(rt; rt.yes(reads(rt, numbers(alloc, &[-128i8, 1]), "i8: -128 1")));
+    assert!(rt; rt.yes(reads(rt, greatest, "u64: 18446744073709551615")));
 }
 
 #[test]
 fn columns_of_truth_values_have_texts(rt: HostRuntime) {
     let alloc = rt.alloc();
     let unknown = nullable_bools(alloc, &[None, Some(true)]);
-    assert!(rt; yes(reads(alloc, bools(alloc, &[false, true]), "bool: false true")));
-    assert!(rt; yes(reads(alloc, unknown, "bool?: null true")));
-    assert!(rt; yes(reads(alloc, kept(alloc, Ok(Column::null(2))), "null: null null")));
+    assert!(rt; rt.yes(reads(rt, bools(alloc, &[false, true]), "bool: false true")));
+    assert!(rt; rt.yes(reads(rt, unknown, "bool?: null true")));
+    assert!(rt; rt.yes(reads(rt, kept(alloc, Ok(Column::null(2))), "null: null null")));
 }
 
 #[test]
@@ -48,9 +44,9 @@ fn columns_of_texts_and_bytes_have_texts(rt: HostRuntime) {
     let alloc = rt.alloc();
     let three = texts(alloc, &["aab", "100%", ""], Validity::NonNullable);
     let quoted = texts(alloc, &["\"a"], Validity::AllValid);
-    assert!(rt; yes(reads(alloc, three, "utf8: \"aab\" \"100%\" \"\"")));
-    assert!(rt; yes(reads(alloc, quoted, "utf8?: \"\"a\"")));
-    assert!(rt; yes(reads(alloc, byte_lists(alloc), "binary?: null")));
+    assert!(rt; rt.yes(reads(rt, three, "utf8: \"aab\" \"100%\" \"\"")));
+    assert!(rt; rt.yes(reads(rt, quoted, "utf8?: \"\"a\"")));
+    assert!(rt; rt.yes(reads(rt, byte_lists(alloc), "binary?: null")));
 }
 
 #[test]
@@ -58,10 +54,10 @@ fn columns_of_lists_and_records_have_texts(rt: HostRuntime) {
     let alloc = rt.alloc();
     let entries = "map[i32, i32]: [{key: 6, value: 6}] []";
     let pairs = "struct{a: i32, b: i32}: {a: 5, b: 5} {a: 6, b: 6}";
-    assert!(rt; yes(reads(alloc, lists(alloc, [0, 0], [2, 1]), "list[i32]: [5, 6] [5]")));
-    assert!(rt; yes(reads(alloc, fixed(alloc), "list[i32; 1]?: [5] [6]")));
-    assert!(rt; yes(reads(alloc, maps(alloc, &[5, 6]), entries)));
-    assert!(rt; yes(reads(alloc, records(alloc, "a", "b", 2), pairs)));
+    assert!(rt; rt.yes(reads(rt, lists(alloc, [0, 0], [2, 1]), "list[i32]: [5, 6] [5]")));
+    assert!(rt; rt.yes(reads(rt, fixed(alloc), "list[i32; 1]?: [5] [6]")));
+    assert!(rt; rt.yes(reads(rt, maps(alloc, &[5, 6]), entries)));
+    assert!(rt; rt.yes(reads(rt, records(alloc, "a", "b", 2), pairs)));
 }
 
 /// A number and a list of one number and null, in a record.
@@ -84,18 +80,19 @@ fn one(alloc: Global, scalar: VortexResult<Scalar>) -> Made {
 }
 
 /// Whether the scalar is written so, behind what stood there.
-fn writes(alloc: Global, scalar: VortexResult<Scalar>, wanted: &str) -> VortexResult<bool> {
+fn writes(rt: HostRuntime, scalar: VortexResult<Scalar>, wanted: &str) -> VortexResult<bool> {
+    let alloc = rt.alloc();
     let mut out = String::from_str(alloc, "= ")?;
     scalar?.write_literal(&mut out)?;
-    Ok(out.as_str() == wanted)
+    Ok(same(rt, out.as_str(), wanted))
 }
 
 #[test]
 fn numbers_of_literals_have_types(rt: HostRuntime) {
     let alloc = rt.alloc();
     let all = "struct{n: u8, m: list[i32?]?}: {n: 1, m: [5, null]}";
-    assert!(rt; yes(reads(alloc, one(alloc, nested(alloc)), all)));
-    assert!(rt; yes(writes(alloc, nested(alloc), "= {n: 1u8, m: [5i32, null]}")));
+    assert!(rt; rt.yes(reads(rt, one(alloc, nested(alloc)), all)));
+    assert!(rt; rt.yes(writes(rt, nested(alloc), "= {n: 1u8, m: [5i32, null]}")));
 }
 
 #[test]
@@ -103,5 +100,5 @@ fn bytes_are_hexadecimal(rt: HostRuntime) {
     let alloc = rt.alloc();
     let dtype = DType::Binary(Nullability::NonNullable);
     let two = one(alloc, typed(dtype, bytes(alloc, &[0, 255])));
-    assert!(rt; yes(reads(alloc, two, "binary: 0x00ff")));
+    assert!(rt; rt.yes(reads(rt, two, "binary: 0x00ff")));
 }

@@ -1,6 +1,6 @@
 //! Types, their nullability, and fields.
 
-use fixtures::{fields, is_refused, names, yes};
+use fixtures::{Ask, fields, names, same};
 use std::alloc::Global;
 use vortex_columns::{DType, Nullability, PType, StructFields, VortexResult};
 
@@ -23,10 +23,15 @@ fn named(alloc: Global, words: &[&str], count: usize) -> VortexResult<StructFiel
 }
 
 /// Whether the fields have a name at that place, with a nullable type.
-fn stands_at(fields: VortexResult<StructFields>, name: &str, wanted: usize) -> VortexResult<bool> {
+fn stands_at(
+    rt: HostRuntime,
+    fields: VortexResult<StructFields>,
+    name: &str,
+    wanted: usize,
+) -> VortexResult<bool> {
     let fields = fields?;
     Ok(match fields.find(name) {
-        Some((place, dtype)) => place == wanted && dtype.is_nullable(),
+        Some((place, dtype)) => same(rt, place, wanted) && dtype.is_nullable(),
         None => false,
     })
 }
@@ -37,16 +42,20 @@ fn lack(fields: VortexResult<StructFields>, name: &str) -> VortexResult<bool> {
 }
 
 /// Whether there are so many fields.
-fn count_is(fields: VortexResult<StructFields>, wanted: usize) -> VortexResult<bool> {
-    Ok(fields?.len() == wanted)
+fn count_is(
+    rt: HostRuntime,
+    fields: VortexResult<StructFields>,
+    wanted: usize,
+) -> VortexResult<bool> {
+    Ok(same(rt, fields?.len(), wanted))
 }
 
 #[test]
 fn fields_are_found_by_name(rt: HostRuntime) {
     let alloc = rt.alloc();
-    assert!(rt; yes(stands_at(named(alloc, &["a", "b"], 2), "b", 1)));
-    assert!(rt; yes(lack(named(alloc, &["a", "b"], 2), "c")));
-    assert!(rt; yes(count_is(named(alloc, &["a", "b"], 2), 2)));
+    assert!(rt; rt.yes(stands_at(rt, named(alloc, &["a", "b"], 2), "b", 1)));
+    assert!(rt; rt.yes(lack(named(alloc, &["a", "b"], 2), "c")));
+    assert!(rt; rt.yes(count_is(rt, named(alloc, &["a", "b"], 2), 2)));
 }
 
 /// Fields that are listed: a price and what is nullable.
@@ -58,17 +67,17 @@ fn listed(alloc: Global, name: &str) -> VortexResult<StructFields> {
 #[test]
 fn fields_are_listed(rt: HostRuntime) {
     let alloc = rt.alloc();
-    assert!(rt; yes(count_is(listed(alloc, "sold"), 2)));
-    assert!(rt; yes(stands_at(listed(alloc, "sold"), "sold", 1)));
-    assert!(rt; is_refused(listed(alloc, "price"), "InvalidColumn"));
+    assert!(rt; rt.yes(count_is(rt, listed(alloc, "sold"), 2)));
+    assert!(rt; rt.yes(stands_at(rt, listed(alloc, "sold"), "sold", 1)));
+    assert!(rt; rt.is_refused(listed(alloc, "price"), "InvalidColumn"));
 }
 
 #[test]
 fn names_and_types_pair(rt: HostRuntime) {
     let alloc = rt.alloc();
-    assert!(rt; yes(count_is(named(alloc, &[], 0), 0)));
-    assert!(rt; is_refused(named(alloc, &["a", "a"], 2), "InvalidColumn"));
-    assert!(rt; is_refused(named(alloc, &["a", "b"], 1), "InvalidColumn"));
+    assert!(rt; rt.yes(count_is(rt, named(alloc, &[], 0), 0)));
+    assert!(rt; rt.is_refused(named(alloc, &["a", "a"], 2), "InvalidColumn"));
+    assert!(rt; rt.is_refused(named(alloc, &["a", "b"], 1), "InvalidColumn"));
 }
 
 /// Adds a field of nullable Bool, unless its name stands already.
@@ -92,9 +101,9 @@ fn grown(alloc: Global) -> VortexResult<StructFields> {
 #[test]
 fn fields_are_added(rt: HostRuntime) {
     let alloc = rt.alloc();
-    assert!(rt; yes(count_is(grown(alloc), 2)));
-    assert!(rt; yes(stands_at(grown(alloc), "a", 0)));
-    assert!(rt; yes(stands_at(grown(alloc), "b", 1)));
+    assert!(rt; rt.yes(count_is(rt, grown(alloc), 2)));
+    assert!(rt; rt.yes(stands_at(rt, grown(alloc), "a", 0)));
+    assert!(rt; rt.yes(stands_at(rt, grown(alloc), "b", 1)));
 }
 
 #[test]
@@ -113,8 +122,8 @@ fn loses_null(alloc: Global, dtype: DType) -> VortexResult<bool> {
 #[test]
 fn types_change_their_nullability(rt: HostRuntime) {
     let alloc = rt.alloc();
-    assert!(rt; yes(loses_null(alloc, DType::Bool(NO).with_nullability(YES))));
-    assert!(rt; yes(loses_null(alloc, DType::Utf8(NO).with_nullability(YES))));
+    assert!(rt; rt.yes(loses_null(alloc, DType::Bool(NO).with_nullability(YES))));
+    assert!(rt; rt.yes(loses_null(alloc, DType::Utf8(NO).with_nullability(YES))));
 }
 
 /// Whether a struct of nullable Bool is a copy of itself, and differs from one of plain Bool by
@@ -138,27 +147,28 @@ fn two_truths(alloc: Global, second: Nullability) -> VortexResult<StructFields> 
 
 /// Whether two lists of fields are equal as wanted.
 fn fields_are_equal(
+    rt: HostRuntime,
     left: VortexResult<StructFields>,
     right: VortexResult<StructFields>,
     wanted: bool,
 ) -> VortexResult<bool> {
-    Ok((left? == right?) == wanted)
+    Ok(same(rt, left? == right?, wanted))
 }
 
 #[test]
 fn fields_are_compared_with_nullability(rt: HostRuntime) {
     let alloc = rt.alloc();
     let (left, right) = (two_truths(alloc, YES), two_truths(alloc, YES));
-    assert!(rt; yes(fields_are_equal(left, right, true)));
+    assert!(rt; rt.yes(fields_are_equal(rt, left, right, true)));
     let (left, right) = (two_truths(alloc, YES), two_truths(alloc, NO));
-    assert!(rt; yes(fields_are_equal(left, right, false)));
+    assert!(rt; rt.yes(fields_are_equal(rt, left, right, false)));
     let (left, right) = (two_truths(alloc, YES), named(alloc, &["a", "c"], 2));
-    assert!(rt; yes(fields_are_equal(left, right, false)));
+    assert!(rt; rt.yes(fields_are_equal(rt, left, right, false)));
 }
 
 #[test]
 fn types_are_compared_with_and_without_nullability(rt: HostRuntime) {
-    assert!(rt; yes(differ_by_null(rt.alloc())));
+    assert!(rt; rt.yes(differ_by_null(rt.alloc())));
 }
 
 /// Whether the type holds these two numbers, and not those beside them.

@@ -1,12 +1,12 @@
 //! Columns of texts whose views and buffers are handed in.
 
-use fixtures::{Made, copied, is_refused, kept, yes};
+use fixtures::{Ask, Made, copied, kept};
 use std::alloc::Global;
 use vortex_columns::{BinaryView, BitBuffer, Column, Scalar, Validity, VortexResult};
 
 /// Whether a column is refused as one that does not fit.
-fn refused(column: Made) -> bool {
-    is_refused(column, "InvalidColumn")
+fn refused(rt: HostRuntime, column: Made) -> bool {
+    rt.is_refused(column, "InvalidColumn")
 }
 
 /// A column of these two views over one buffer, `hello, world!`.
@@ -47,16 +47,31 @@ fn badly_padded() -> BinaryView {
 #[test]
 fn views_are_refused_under_nulls_too(rt: HostRuntime) {
     let alloc = rt.alloc();
-    assert!(rt; refused(beside_whole(alloc, badly_padded(), true)));
-    assert!(rt; refused(beside_whole(alloc, badly_padded(), false)));
+    assert!(rt; refused(rt, beside_whole(alloc, badly_padded(), true)));
+    assert!(rt; refused(rt, beside_whole(alloc, badly_padded(), false)));
 }
 
 #[test]
 fn views_that_lie_elsewhere_are_refused(rt: HostRuntime) {
     let alloc = rt.alloc();
-    assert!(rt; refused(beside_whole(alloc, BinaryView::new_long(13, *b"hell", 1, 0), true)));
-    assert!(rt; refused(beside_whole(alloc, BinaryView::new_long(13, *b"ello", 0, 1), false)));
-    assert!(rt; refused(beside_whole(alloc, BinaryView::new_long(13, *b"help", 0, 0), true)));
+    assert!(rt;
+        refused(
+            rt,
+            beside_whole(alloc, BinaryView::new_long(13, *b"hell", 1, 0), true)
+        )
+    );
+    assert!(rt;
+        refused(
+            rt,
+            beside_whole(alloc, BinaryView::new_long(13, *b"ello", 0, 1), false)
+        )
+    );
+    assert!(rt;
+        refused(
+            rt,
+            beside_whole(alloc, BinaryView::new_long(13, *b"help", 0, 0), true)
+        )
+    );
 }
 
 fn has_two(column: Made) -> VortexResult<bool> {
@@ -66,8 +81,13 @@ fn has_two(column: Made) -> VortexResult<bool> {
 #[test]
 fn texts_are_utf8_where_they_are_valid(rt: HostRuntime) {
     let alloc = rt.alloc();
-    assert!(rt; refused(beside_whole(alloc, BinaryView::new_inlined(&[0xFF]), true)));
-    assert!(rt; yes(has_two(beside_whole(alloc, BinaryView::new_inlined(&[0xFF]), false))));
+    assert!(rt;
+        refused(
+            rt,
+            beside_whole(alloc, BinaryView::new_inlined(&[0xFF]), true)
+        )
+    );
+    assert!(rt; rt.yes(has_two(beside_whole(alloc, BinaryView::new_inlined(&[0xFF]), false))));
 }
 
 /// Two texts that overlap in one buffer.
@@ -104,9 +124,9 @@ fn has_texts(alloc: Global, column: Made, first: &str, second: &str) -> VortexRe
 #[test]
 fn views_may_overlap(rt: HostRuntime) {
     let alloc = rt.alloc();
-    assert!(rt; yes(has_texts(alloc, overlapping(alloc), "hello, world!", "o, world! hel")));
+    assert!(rt; rt.yes(has_texts(alloc, overlapping(alloc), "hello, world!", "o, world! hel")));
     assert!(rt;
-        yes(has_texts(
+        rt.yes(has_texts(
             alloc,
             copied(alloc, overlapping(alloc)),
             "hello, world!",

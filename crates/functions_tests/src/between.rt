@@ -1,6 +1,6 @@
 //! Between in trees.
 
-use fixtures::{is_refused, nullable_ints, yes};
+use fixtures::{Ask, nullable_ints, same};
 use std::alloc::Global;
 use tree_fixtures::makers::*;
 use vortex_columns::*;
@@ -63,9 +63,9 @@ fn below_a_truth<C: ScalarFnVTable>(alloc: Global) -> Bound<C> {
 #[test]
 fn bounds_of_other_types_are_refused(rt: HostRuntime) {
     let alloc = rt.alloc();
-    assert!(rt; is_refused(above_a_text::<NoCustom>(alloc), "TypeMismatch.BetweenLower"));
+    assert!(rt; rt.is_refused(above_a_text::<NoCustom>(alloc), "TypeMismatch.BetweenLower"));
     assert!(rt;
-        is_refused(
+        rt.is_refused(
             below_a_truth::<NoCustom>(alloc),
             "TypeMismatch.BetweenUpper"
         )
@@ -84,14 +84,14 @@ fn scores(alloc: Global) -> VortexResult<Vec<Column>> {
 fn between_answers(rt: HostRuntime) {
     let alloc = rt.alloc();
     let wanted = [Some(true), Some(false), None, Some(false)];
-    assert!(rt; yes(answers::<NoCustom>(alloc, from_ten_to_fifty(alloc), scores(alloc), &wanted,)));
+    assert!(rt; rt.yes(answers::<NoCustom>(rt, from_ten_to_fifty(alloc), scores(alloc), &wanted,)));
 }
 
 #[test]
 fn between_prints(rt: HostRuntime) {
     let alloc = rt.alloc();
     let text = "(10i32 <= $.a < 50i32)";
-    assert!(rt; yes(prints::<NoCustom>(alloc, from_ten_to_fifty(alloc), text)));
+    assert!(rt; rt.yes(prints::<NoCustom>(rt, from_ten_to_fifty(alloc), text)));
 }
 
 /// Whether a copy of Between has its options, identity and names, and is not strict.
@@ -115,15 +115,16 @@ fn names(words: &[&str]) -> bool {
 }
 
 /// Whether options print that text.
-fn options_print(alloc: Global, options: BetweenOptions, text: &str) -> VortexResult<bool> {
-    Ok(options.to_string(alloc)?.as_str() == text)
+fn options_print(rt: HostRuntime, options: BetweenOptions, text: &str) -> VortexResult<bool> {
+    let alloc = rt.alloc();
+    Ok(same(rt, options.to_string(alloc)?.as_str(), text))
 }
 
 #[test]
 fn between_tells_what_it_is(rt: HostRuntime) {
     let alloc = rt.alloc();
-    assert!(rt; yes(is_between::<NoCustom>(alloc, Between.bind(half_open()))));
+    assert!(rt; rt.yes(is_between::<NoCustom>(alloc, Between.bind(half_open()))));
     assert!(rt; names(&["between", "<=", "<"]));
     let text = "lower_strict: <=, upper_strict: <";
-    assert!(rt; yes(options_print(alloc, half_open(), text)));
+    assert!(rt; rt.yes(options_print(rt, half_open(), text)));
 }

@@ -1,6 +1,6 @@
 //! What is refused when a tree is bound.
 
-use fixtures::is_refused;
+use fixtures::Ask;
 use std::alloc::Global;
 use tree_fixtures::makers::*;
 use vortex_columns::*;
@@ -30,20 +30,20 @@ fn and_of_truths<C: ScalarFnVTable>(alloc: Global, count: usize) -> Bound<C> {
 #[test]
 fn a_third_child_is_refused(rt: HostRuntime) {
     let alloc = rt.alloc();
-    assert!(rt; is_misfit(and_of_truths::<NoCustom>(alloc, 3), Arity::Exact(2), 3));
+    assert!(rt; is_misfit(rt, and_of_truths::<NoCustom>(alloc, 3), Arity::Exact(2), 3));
 }
 
 #[test]
 fn arity_is_refused_before_types(rt: HostRuntime) {
     let alloc = rt.alloc();
-    assert!(rt; is_misfit(sum_of_truths::<NoCustom>(alloc, 3), Arity::Exact(2), 3));
+    assert!(rt; is_misfit(rt, sum_of_truths::<NoCustom>(alloc, 3), Arity::Exact(2), 3));
 }
 
 #[test]
 fn types_of_arithmetic_are_refused(rt: HostRuntime) {
     let alloc = rt.alloc();
     assert!(rt;
-        is_refused(
+        rt.is_refused(
             sum_of_truths::<NoCustom>(alloc, 2),
             "TypeMismatch.Arithmetic"
         )
@@ -58,7 +58,7 @@ fn cast_of_numbers<C: ScalarFnVTable>(alloc: Global) -> Bound<C> {
 
 #[test]
 fn cast_of_other_types_is_refused(rt: HostRuntime) {
-    assert!(rt; is_refused(cast_of_numbers::<NoCustom>(rt.alloc()), "TypeMismatch.Cast"));
+    assert!(rt; rt.is_refused(cast_of_numbers::<NoCustom>(rt.alloc()), "TypeMismatch.Cast"));
 }
 
 /// Not of a column of i32.
@@ -69,19 +69,19 @@ fn not_of_numbers<C: ScalarFnVTable>(alloc: Global) -> Bound<C> {
 
 #[test]
 fn not_of_other_types_is_refused(rt: HostRuntime) {
-    assert!(rt; is_refused(not_of_numbers::<NoCustom>(rt.alloc()), "TypeMismatch.Not"));
+    assert!(rt; rt.is_refused(not_of_numbers::<NoCustom>(rt.alloc()), "TypeMismatch.Not"));
 }
 
 #[test]
 fn a_comparison_of_other_types_is_refused(rt: HostRuntime) {
     let alloc = rt.alloc();
-    assert!(rt; is_refused(number_is_text::<NoCustom>(alloc), "TypeMismatch.Compare"));
+    assert!(rt; rt.is_refused(number_is_text::<NoCustom>(alloc), "TypeMismatch.Compare"));
 }
 
 #[test]
 fn an_unknown_column_is_refused(rt: HostRuntime) {
     let alloc = rt.alloc();
-    assert!(rt; is_refused(leaf::<NoCustom>(alloc, "c"), "ScopeMismatch"));
+    assert!(rt; rt.is_refused(leaf::<NoCustom>(alloc, "c"), "ScopeMismatch"));
 }
 
 /// Whether a word of scripts names the operator.

@@ -1,7 +1,7 @@
 //! And, Or and comparisons in trees, of bits at offsets and of nulls.
 
 use crate::questions::{FALSE, NULL, TRUE, compares};
-use fixtures::{Made, kept, yes};
+use fixtures::{Ask, Made, kept};
 use std::alloc::Global;
 use vortex_columns::*;
 use vortex_operators::*;
@@ -18,38 +18,38 @@ fn alike(alloc: Global, byte: u8, bytes: usize, offset: usize, len: usize) -> Ma
 
 /// Whether an operator between 70 rows that are all true, and 70 of which each other one is,
 /// answers true in the even rows, and this in the odd ones.
-fn seventy(alloc: Global, operator: Operator, odd: bool) -> VortexResult<bool> {
+fn seventy(rt: HostRuntime, operator: Operator, odd: bool) -> VortexResult<bool> {
+    let alloc = rt.alloc();
     let mut wanted = Vec::new(alloc);
     for i in 0..70 {
         wanted.push(Some(i % 2 == 0 || odd))?;
     }
     let left = alike(alloc, 0xFF, 10, 7, 70);
     let right = alike(alloc, 0x55, 9, 0, 70);
-    compares(alloc, left, operator, right, &wanted)
+    compares(rt, left, operator, right, &wanted)
 }
 
 #[test]
 fn seventy_rows_at_two_offsets(rt: HostRuntime) {
-    let alloc = rt.alloc();
-    assert!(rt; yes(seventy(alloc, Operator::And, false)));
-    assert!(rt; yes(seventy(alloc, Operator::Or, true)));
+    assert!(rt; rt.yes(seventy(rt, Operator::And, false)));
+    assert!(rt; rt.yes(seventy(rt, Operator::Or, true)));
 }
 
 /// Whether a comparison of two rows, from bit 1 of byte 6 on, with two from the beginning of byte 2
 /// answers these.
-fn two_rows(alloc: Global, operator: Operator, wanted: [Option<bool>; 2]) -> VortexResult<bool> {
+fn two_rows(rt: HostRuntime, operator: Operator, wanted: [Option<bool>; 2]) -> VortexResult<bool> {
+    let alloc = rt.alloc();
     let left = alike(alloc, 0x06, 1, 1, 2);
     let right = alike(alloc, 0x02, 1, 0, 2);
-    compares(alloc, left, operator, right, &wanted)
+    compares(rt, left, operator, right, &wanted)
 }
 
 #[test]
 fn bits_at_two_offsets_are_compared(rt: HostRuntime) {
-    let alloc = rt.alloc();
-    assert!(rt; yes(two_rows(alloc, Operator::Lt, [FALSE, FALSE])));
-    assert!(rt; yes(two_rows(alloc, Operator::Gte, [TRUE, TRUE])));
-    assert!(rt; yes(two_rows(alloc, Operator::Eq, [FALSE, TRUE])));
-    assert!(rt; yes(two_rows(alloc, Operator::Gt, [TRUE, FALSE])));
+    assert!(rt; rt.yes(two_rows(rt, Operator::Lt, [FALSE, FALSE])));
+    assert!(rt; rt.yes(two_rows(rt, Operator::Gte, [TRUE, TRUE])));
+    assert!(rt; rt.yes(two_rows(rt, Operator::Eq, [FALSE, TRUE])));
+    assert!(rt; rt.yes(two_rows(rt, Operator::Gt, [TRUE, FALSE])));
 }
 
 /// Bits with that validity.
@@ -60,20 +60,20 @@ fn bits(alloc: Global, values: &[bool], validity: Validity) -> Made {
 
 /// Whether an operator between two nulls over true, and false and true, answers these rows.
 fn beside_nulls(
-    alloc: Global,
+    rt: HostRuntime,
     operator: Operator,
     wanted: [Option<bool>; 2],
 ) -> VortexResult<bool> {
+    let alloc = rt.alloc();
     let left = bits(alloc, &[true, true], Validity::AllInvalid);
     let right = bits(alloc, &[false, true], Validity::NonNullable);
-    compares(alloc, left, operator, right, &wanted)
+    compares(rt, left, operator, right, &wanted)
 }
 
 #[test]
 fn rows_beside_nulls_can_be_decided(rt: HostRuntime) {
-    let alloc = rt.alloc();
-    assert!(rt; yes(beside_nulls(alloc, Operator::And, [FALSE, NULL])));
-    assert!(rt; yes(beside_nulls(alloc, Operator::Or, [NULL, TRUE])));
+    assert!(rt; rt.yes(beside_nulls(rt, Operator::And, [FALSE, NULL])));
+    assert!(rt; rt.yes(beside_nulls(rt, Operator::Or, [NULL, TRUE])));
 }
 
 /// Two rows of type Null.
@@ -85,5 +85,5 @@ fn two_nulls(alloc: Global) -> Made {
 fn nulls_are_never_equal(rt: HostRuntime) {
     let alloc = rt.alloc();
     let (left, right) = (two_nulls(alloc), two_nulls(alloc));
-    assert!(rt; yes(compares(alloc, left, Operator::Eq, right, &[NULL, NULL])));
+    assert!(rt; rt.yes(compares(rt, left, Operator::Eq, right, &[NULL, NULL])));
 }

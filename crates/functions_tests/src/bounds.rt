@@ -1,7 +1,7 @@
 //! Between in trees, by the strictness of its bounds and by nulls.
 
 use crate::questions::{FALSE, NULL, TRUE};
-use fixtures::{names, nullable_ints, numbers, yes};
+use fixtures::{Ask, names, nullable_ints, numbers};
 use std::alloc::Global;
 use tree_fixtures::makers::*;
 use vortex_columns::*;
@@ -55,26 +55,26 @@ fn five(alloc: Global) -> VortexResult<Vec<Column>> {
 
 /// Whether Between of five numbers and their bounds, so strict, answers these rows.
 fn of_five(
-    alloc: Global,
+    rt: HostRuntime,
     lower_strict: StrictComparison,
     upper_strict: StrictComparison,
     wanted: [Option<bool>; 5],
 ) -> VortexResult<bool> {
+    let alloc = rt.alloc();
     let tree = bounded::<NoCustom>(alloc, lower_strict, upper_strict);
-    answers(alloc, tree, five(alloc), &wanted)
+    answers(rt, tree, five(alloc), &wanted)
 }
 
 #[test]
 fn bounds_are_left_out_where_they_are_strict(rt: HostRuntime) {
-    let alloc = rt.alloc();
     let wanted = [TRUE, TRUE, TRUE, TRUE, FALSE];
-    assert!(rt; yes(of_five(alloc, LOOSE, LOOSE, wanted)));
+    assert!(rt; rt.yes(of_five(rt, LOOSE, LOOSE, wanted)));
     let wanted = [TRUE, TRUE, FALSE, FALSE, FALSE];
-    assert!(rt; yes(of_five(alloc, LOOSE, STRICT, wanted)));
+    assert!(rt; rt.yes(of_five(rt, LOOSE, STRICT, wanted)));
     let wanted = [TRUE, FALSE, TRUE, FALSE, FALSE];
-    assert!(rt; yes(of_five(alloc, STRICT, LOOSE, wanted)));
+    assert!(rt; rt.yes(of_five(rt, STRICT, LOOSE, wanted)));
     let wanted = [TRUE, FALSE, FALSE, FALSE, FALSE];
-    assert!(rt; yes(of_five(alloc, STRICT, STRICT, wanted)));
+    assert!(rt; rt.yes(of_five(rt, STRICT, STRICT, wanted)));
 }
 
 /// Numbers beside lower bounds of which two are null.
@@ -92,9 +92,9 @@ fn a_row_beside_a_null_bound_can_be_false(rt: HostRuntime) {
     let alloc = rt.alloc();
     let tree = bounded::<NoCustom>(alloc, LOOSE, LOOSE);
     let wanted = [FALSE, NULL, TRUE];
-    assert!(rt; yes(answers(alloc, tree, beside_nulls(alloc), &wanted)));
+    assert!(rt; rt.yes(answers(rt, tree, beside_nulls(alloc), &wanted)));
     let tree = bounded::<NoCustom>(alloc, LOOSE, LOOSE);
     let there = call_of(alloc, IsNotNull.bind(EmptyOptions), tree);
     let wanted = [TRUE, FALSE, TRUE];
-    assert!(rt; yes(answers(alloc, there, beside_nulls(alloc), &wanted)));
+    assert!(rt; rt.yes(answers(rt, there, beside_nulls(alloc), &wanted)));
 }

@@ -2,7 +2,7 @@
 //! kept.
 
 use caller_functions::levelled::{Level, Levelled};
-use fixtures::{is_refused, yes};
+use fixtures::{Ask, same};
 use std::alloc::Global;
 use std::collections::HashMap;
 use vortex_columns::*;
@@ -14,40 +14,44 @@ type Function = ScalarFnRef<NoCustom>;
 
 /// Whether bytes are read as those options.
 fn reads<V: ScalarFnVTable>(
-    alloc: Global,
+    rt: HostRuntime,
     function: V,
     bytes: &[u8],
     wanted: V::Options,
 ) -> VortexResult<bool> {
-    Ok(function.deserialize(alloc, bytes)? == wanted)
+    let alloc = rt.alloc();
+    Ok(same(rt, function.deserialize(alloc, bytes)?, wanted))
 }
 
 /// Whether bytes are those of no options.
-fn refuses<V: ScalarFnVTable>(alloc: Global, function: V, bytes: &[u8]) -> bool {
-    is_refused(function.deserialize(alloc, bytes), "BadOptions")
+fn refuses<V: ScalarFnVTable>(rt: HostRuntime, function: V, bytes: &[u8]) -> bool {
+    let alloc = rt.alloc();
+    rt.is_refused(function.deserialize(alloc, bytes), "BadOptions")
 }
 
 /// Whether options are read back from what is written of them, and are written as those bytes.
 fn keeps<V: ScalarFnVTable>(
-    alloc: Global,
+    rt: HostRuntime,
     function: V,
     options: V::Options,
     wanted: &[u8],
 ) -> VortexResult<bool> {
+    let alloc = rt.alloc();
     let Some(bytes) = function.serialize(alloc, &options)? else {
         return Ok(false);
     };
-    Ok(bytes.as_slice() == wanted && function.deserialize(alloc, &bytes)? == options)
+    Ok(same(rt, bytes.as_slice(), wanted) && function.deserialize(alloc, &bytes)? == options)
 }
 
 /// Whether a function writes those bytes of its options.
 fn writes<C: ScalarFnVTable>(
-    alloc: Global,
+    rt: HostRuntime,
     function: ScalarFnRef<C>,
     wanted: &[u8],
 ) -> VortexResult<bool> {
+    let alloc = rt.alloc();
     match function.options().serialize(alloc)? {
-        Some(bytes) => Ok(bytes.as_slice() == wanted),
+        Some(bytes) => Ok(same(rt, bytes.as_slice(), wanted)),
         None => Ok(false),
     }
 }
@@ -58,18 +62,21 @@ fn writes_nothing(alloc: Global, function: Function) -> VortexResult<bool> {
 }
 
 /// Whether a function has that text, and its options have that one.
-fn is_shown(alloc: Global, function: Function, text: &str, options: &str) -> VortexResult<bool> {
+fn is_shown(rt: HostRuntime, function: Function, text: &str, options: &str) -> VortexResult<bool> {
+    let alloc = rt.alloc();
     let shown = function.to_string(alloc)?;
-    Ok(shown.as_str() == text && function.options().to_string(alloc)?.as_str() == options)
+    let told = function.options().to_string(alloc)?;
+    Ok(same(rt, shown.as_str(), text) && same(rt, told.as_str(), options))
 }
 
 /// Whether what stands for a debugger is the same of both.
-fn debugs_alike(alloc: Global, one: Function, other: Function) -> VortexResult<bool> {
+fn debugs_alike(rt: HostRuntime, one: Function, other: Function) -> VortexResult<bool> {
+    let alloc = rt.alloc();
     let shown = format!(in alloc; "{one:?}")?;
     let again = format!(in alloc; "{other:?}")?;
     let options = one.options();
     let held = format!(in alloc; "{options:?}")?;
-    Ok(shown.as_str() == again.as_str() && held.len() < shown.len())
+    Ok(same(rt, shown.as_str(), again.as_str()) && held.len() < shown.len())
 }
 
 /// Whether a function is found where another is kept, which is where the two are equal.
@@ -123,44 +130,40 @@ fn own() -> Function {
 
 #[test]
 fn option_bytes_are_read(rt: HostRuntime) {
-    let alloc = rt.alloc();
-    assert!(rt; yes(reads(alloc, Binary, &[11], Operator::Div)));
-    assert!(rt; yes(reads(alloc, Binary, &[0], Operator::Eq)));
-    assert!(rt; yes(reads(alloc, Like, &[0], like(false, false))));
-    assert!(rt; yes(reads(alloc, Like, &[3], like(true, true))));
-    assert!(rt; yes(reads(alloc, Between, &[1], bounds(Strict, NonStrict))));
-    assert!(rt; yes(reads(alloc, Not, &[7, 7], EmptyOptions)));
+    assert!(rt; rt.yes(reads(rt, Binary, &[11], Operator::Div)));
+    assert!(rt; rt.yes(reads(rt, Binary, &[0], Operator::Eq)));
+    assert!(rt; rt.yes(reads(rt, Like, &[0], like(false, false))));
+    assert!(rt; rt.yes(reads(rt, Like, &[3], like(true, true))));
+    assert!(rt; rt.yes(reads(rt, Between, &[1], bounds(Strict, NonStrict))));
+    assert!(rt; rt.yes(reads(rt, Not, &[7, 7], EmptyOptions)));
 }
 
 #[test]
 fn other_bytes_are_refused(rt: HostRuntime) {
-    let alloc = rt.alloc();
-    assert!(rt; refuses(alloc, Binary, &[12]));
-    assert!(rt; refuses(alloc, Binary, &[]));
-    assert!(rt; refuses(alloc, Binary, &[0, 0]));
-    assert!(rt; refuses(alloc, Between, &[4]));
-    assert!(rt; refuses(alloc, NoCustom, &[]));
+    assert!(rt; refuses(rt, Binary, &[12]));
+    assert!(rt; refuses(rt, Binary, &[]));
+    assert!(rt; refuses(rt, Binary, &[0, 0]));
+    assert!(rt; refuses(rt, Between, &[4]));
+    assert!(rt; refuses(rt, NoCustom, &[]));
 }
 
 #[test]
 fn other_bytes_are_no_escape(rt: HostRuntime) {
-    let alloc = rt.alloc();
-    assert!(rt; refuses(alloc, Like, &[4]));
-    assert!(rt; refuses(alloc, Like, &[16]));
-    assert!(rt; refuses(alloc, Like, &[12]));
-    assert!(rt; refuses(alloc, Like, &[4, 0, 0, 0, 92]));
-    assert!(rt; refuses(alloc, Like, &[4, 0, 0, 216, 0]));
-    assert!(rt; refuses(alloc, Like, &[4, 0, 0, 33]));
+    assert!(rt; refuses(rt, Like, &[4]));
+    assert!(rt; refuses(rt, Like, &[16]));
+    assert!(rt; refuses(rt, Like, &[12]));
+    assert!(rt; refuses(rt, Like, &[4, 0, 0, 0, 92]));
+    assert!(rt; refuses(rt, Like, &[4, 0, 0, 216, 0]));
+    assert!(rt; refuses(rt, Like, &[4, 0, 0, 33]));
 }
 
 #[test]
 fn escapes_come_back(rt: HostRuntime) {
-    let alloc = rt.alloc();
-    assert!(rt; yes(keeps(alloc, Like, escaped(false, None), &[8])));
-    assert!(rt; yes(keeps(alloc, Like, escaped(false, Some('!')), &[4, 0, 0, 0, 33])));
+    assert!(rt; rt.yes(keeps(rt, Like, escaped(false, None), &[8])));
+    assert!(rt; rt.yes(keeps(rt, Like, escaped(false, Some('!')), &[4, 0, 0, 0, 33])));
     assert!(rt;
-        yes(keeps(
-            alloc,
+        rt.yes(keeps(
+            rt,
             Like,
             escaped(true, Some('\u{1f600}')),
             &[5, 0, 1, 246, 0]
@@ -170,109 +173,92 @@ fn escapes_come_back(rt: HostRuntime) {
 
 #[test]
 fn operators_come_back(rt: HostRuntime) {
-    let alloc = rt.alloc();
-    assert!(rt; yes(keeps(alloc, Binary, Operator::Eq, &[0])));
-    assert!(rt; yes(keeps(alloc, Binary, Operator::NotEq, &[1])));
-    assert!(rt; yes(keeps(alloc, Binary, Operator::Gt, &[2])));
-    assert!(rt; yes(keeps(alloc, Binary, Operator::Gte, &[3])));
-    assert!(rt; yes(keeps(alloc, Binary, Operator::Lt, &[4])));
-    assert!(rt; yes(keeps(alloc, Binary, Operator::Lte, &[5])));
-    assert!(rt; yes(keeps(alloc, Binary, Operator::And, &[6])));
-    assert!(rt; yes(keeps(alloc, Binary, Operator::Or, &[7])));
-    assert!(rt; yes(keeps(alloc, Binary, Operator::Add, &[8])));
-    assert!(rt; yes(keeps(alloc, Binary, Operator::Sub, &[9])));
-    assert!(rt; yes(keeps(alloc, Binary, Operator::Mul, &[10])));
-    assert!(rt; yes(keeps(alloc, Binary, Operator::Div, &[11])));
+    assert!(rt; rt.yes(keeps(rt, Binary, Operator::Eq, &[0])));
+    assert!(rt; rt.yes(keeps(rt, Binary, Operator::NotEq, &[1])));
+    assert!(rt; rt.yes(keeps(rt, Binary, Operator::Gt, &[2])));
+    assert!(rt; rt.yes(keeps(rt, Binary, Operator::Gte, &[3])));
+    assert!(rt; rt.yes(keeps(rt, Binary, Operator::Lt, &[4])));
+    assert!(rt; rt.yes(keeps(rt, Binary, Operator::Lte, &[5])));
+    assert!(rt; rt.yes(keeps(rt, Binary, Operator::And, &[6])));
+    assert!(rt; rt.yes(keeps(rt, Binary, Operator::Or, &[7])));
+    assert!(rt; rt.yes(keeps(rt, Binary, Operator::Add, &[8])));
+    assert!(rt; rt.yes(keeps(rt, Binary, Operator::Sub, &[9])));
+    assert!(rt; rt.yes(keeps(rt, Binary, Operator::Mul, &[10])));
+    assert!(rt; rt.yes(keeps(rt, Binary, Operator::Div, &[11])));
 }
 
 #[test]
 fn other_options_come_back(rt: HostRuntime) {
-    let alloc = rt.alloc();
-    assert!(rt; yes(keeps(alloc, Between, bounds(NonStrict, NonStrict), &[0])));
-    assert!(rt; yes(keeps(alloc, Between, bounds(Strict, NonStrict), &[1])));
-    assert!(rt; yes(keeps(alloc, Between, bounds(NonStrict, Strict), &[2])));
-    assert!(rt; yes(keeps(alloc, Between, bounds(Strict, Strict), &[3])));
-    assert!(rt; yes(keeps(alloc, Like, like(false, false), &[0])));
-    assert!(rt; yes(keeps(alloc, Like, like(true, false), &[1])));
-    assert!(rt; yes(keeps(alloc, Like, like(false, true), &[2])));
-    assert!(rt; yes(keeps(alloc, Like, like(true, true), &[3])));
-    assert!(rt; yes(keeps(alloc, Not, EmptyOptions, &[])));
-    assert!(rt; yes(keeps(alloc, IsNull, EmptyOptions, &[])));
-    assert!(rt; yes(keeps(alloc, IsNotNull, EmptyOptions, &[])));
-    assert!(rt; yes(keeps(alloc, Cast, CastOptions, &[])));
+    assert!(rt; rt.yes(keeps(rt, Between, bounds(NonStrict, NonStrict), &[0])));
+    assert!(rt; rt.yes(keeps(rt, Between, bounds(Strict, NonStrict), &[1])));
+    assert!(rt; rt.yes(keeps(rt, Between, bounds(NonStrict, Strict), &[2])));
+    assert!(rt; rt.yes(keeps(rt, Between, bounds(Strict, Strict), &[3])));
+    assert!(rt; rt.yes(keeps(rt, Like, like(false, false), &[0])));
+    assert!(rt; rt.yes(keeps(rt, Like, like(true, false), &[1])));
+    assert!(rt; rt.yes(keeps(rt, Like, like(false, true), &[2])));
+    assert!(rt; rt.yes(keeps(rt, Like, like(true, true), &[3])));
+    assert!(rt; rt.yes(keeps(rt, Not, EmptyOptions, &[])));
+    assert!(rt; rt.yes(keeps(rt, IsNull, EmptyOptions, &[])));
+    assert!(rt; rt.yes(keeps(rt, IsNotNull, EmptyOptions, &[])));
+    assert!(rt; rt.yes(keeps(rt, Cast, CastOptions, &[])));
 }
 
 #[test]
 fn values_write_their_options(rt: HostRuntime) {
     let alloc = rt.alloc();
-    assert!(rt; yes(writes::<NoCustom>(alloc, operator(Operator::Add), &[8])));
-    assert!(rt; yes(writes::<NoCustom>(alloc, Between.bind(bounds(NonStrict, Strict)), &[2])));
-    assert!(rt; yes(writes::<NoCustom>(alloc, Like.bind(like(true, false)), &[1])));
-    assert!(rt; yes(writes::<NoCustom>(alloc, Not.bind(EmptyOptions), &[])));
-    assert!(rt; yes(writes_nothing(alloc, own())));
+    assert!(rt; rt.yes(writes::<NoCustom>(rt, operator(Operator::Add), &[8])));
+    assert!(rt; rt.yes(writes::<NoCustom>(rt, Between.bind(bounds(NonStrict, Strict)), &[2])));
+    assert!(rt; rt.yes(writes::<NoCustom>(rt, Like.bind(like(true, false)), &[1])));
+    assert!(rt; rt.yes(writes::<NoCustom>(rt, Not.bind(EmptyOptions), &[])));
+    assert!(rt; rt.yes(writes_nothing(alloc, own())));
 }
 
 #[test]
 fn a_callers_options_come_back(rt: HostRuntime) {
-    let alloc = rt.alloc();
-    assert!(rt; yes(keeps(alloc, Levelled, Level { level: 3 }, &[3])));
-    assert!(rt;
-        yes(writes(
-            alloc,
-            ScalarFnRef::custom(Levelled, Level { level: 7 }),
-            &[7]
-        ))
-    );
-    assert!(rt; refuses(alloc, Levelled, &[]));
-    assert!(rt; refuses(alloc, Levelled, &[3, 3]));
+    assert!(rt; rt.yes(keeps(rt, Levelled, Level { level: 3 }, &[3])));
+    assert!(rt; rt.yes(writes(rt, ScalarFnRef::custom(Levelled, Level { level: 7 }), &[7])));
+    assert!(rt; refuses(rt, Levelled, &[]));
+    assert!(rt; refuses(rt, Levelled, &[3, 3]));
 }
 
 #[test]
 fn values_print(rt: HostRuntime) {
-    let alloc = rt.alloc();
     let text = "lower_strict: <, upper_strict: <=";
     let between = "vortex.between(lower_strict: <, upper_strict: <=)";
-    assert!(rt;
-        yes(is_shown(
-            alloc,
-            Between.bind(bounds(Strict, NonStrict)),
-            between,
-            text
-        ))
-    );
-    assert!(rt; yes(is_shown(alloc, operator(Operator::Add), "vortex.binary(+)", "+")));
-    assert!(rt; yes(is_shown(alloc, Cast.bind(CastOptions), "vortex.cast(bool?)", "bool?")));
-    assert!(rt; yes(is_shown(alloc, Not.bind(EmptyOptions), "vortex.not()", "")));
-    assert!(rt; yes(is_shown(alloc, own(), "rowfn.none()", "")));
-    assert!(rt; yes(debugs_alike(alloc, own(), own())));
+    assert!(rt; rt.yes(is_shown(rt, Between.bind(bounds(Strict, NonStrict)), between, text)));
+    assert!(rt; rt.yes(is_shown(rt, operator(Operator::Add), "vortex.binary(+)", "+")));
+    assert!(rt; rt.yes(is_shown(rt, Cast.bind(CastOptions), "vortex.cast(bool?)", "bool?")));
+    assert!(rt; rt.yes(is_shown(rt, Not.bind(EmptyOptions), "vortex.not()", "")));
+    assert!(rt; rt.yes(is_shown(rt, own(), "rowfn.none()", "")));
+    assert!(rt; rt.yes(debugs_alike(rt, own(), own())));
 }
 
 #[test]
 fn equal_values_are_found(rt: HostRuntime) {
     let alloc = rt.alloc();
-    assert!(rt; yes(is_found(alloc, operator(Operator::Add), operator(Operator::Add))));
+    assert!(rt; rt.yes(is_found(alloc, operator(Operator::Add), operator(Operator::Add))));
     assert!(rt;
-        yes(is_found(
+        rt.yes(is_found(
             alloc,
             Like.bind(like(true, false)),
             Like.bind(like(true, false))
         ))
     );
-    assert!(rt; yes(is_found(alloc, Cast.bind(CastOptions), Cast.bind(CastOptions))));
-    assert!(rt; yes(is_found(alloc, own(), own())));
+    assert!(rt; rt.yes(is_found(alloc, Cast.bind(CastOptions), Cast.bind(CastOptions))));
+    assert!(rt; rt.yes(is_found(alloc, own(), own())));
 }
 
 #[test]
 fn other_values_are_missed(rt: HostRuntime) {
     let alloc = rt.alloc();
-    assert!(rt; yes(is_missed(alloc, operator(Operator::Add), operator(Operator::Sub))));
+    assert!(rt; rt.yes(is_missed(alloc, operator(Operator::Add), operator(Operator::Sub))));
     assert!(rt;
-        yes(is_missed(
+        rt.yes(is_missed(
             alloc,
             Like.bind(like(true, false)),
             Like.bind(like(false, true))
         ))
     );
-    assert!(rt; yes(is_missed(alloc, Not.bind(EmptyOptions), IsNull.bind(EmptyOptions))));
-    assert!(rt; yes(is_missed(alloc, Not.bind(EmptyOptions), own())));
+    assert!(rt; rt.yes(is_missed(alloc, Not.bind(EmptyOptions), IsNull.bind(EmptyOptions))));
+    assert!(rt; rt.yes(is_missed(alloc, Not.bind(EmptyOptions), own())));
 }

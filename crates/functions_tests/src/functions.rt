@@ -2,7 +2,7 @@
 
 ghost use Rattle.std.specs.Prelude.{◌≡◌, length};
 
-use fixtures::{Made, nullable_bools, yes};
+use fixtures::{Ask, Made, nullable_bools, same};
 use std::alloc::Global;
 use std::borrow::Cow;
 use tree_fixtures::makers::{Bound, call_of_leaves};
@@ -120,32 +120,33 @@ fn has_rows<A: ExecutionArgs>(args: &A, index: usize, row_count: usize) -> bool 
 }
 
 /// Whether an input past the end is refused, by its index and the count of inputs.
-fn is_past<A: ExecutionArgs>(args: &A, wanted: usize, count: usize) -> bool {
+fn is_past<A: ExecutionArgs>(rt: HostRuntime, args: &A, wanted: usize, count: usize) -> bool {
     match args.get(wanted) {
         Err(VortexError::IndexOutOfBounds { index, num_inputs }) => {
-            index == wanted && num_inputs == count
+            same(rt, (index, num_inputs), (wanted, count))
         }
         _ => false,
     }
 }
 
 /// Whether there are two inputs of one row, the second has one row, and there is no third.
-fn are_two<A: ExecutionArgs>(args: &A) -> bool {
-    has_counts(args, 2, 1) && has_rows(args, 1, 1) && is_past(args, 2, 2)
+fn are_two<A: ExecutionArgs>(rt: HostRuntime, args: &A) -> bool {
+    has_counts(args, 2, 1) && has_rows(args, 1, 1) && is_past(rt, args, 2, 2)
 }
 
 /// Whether two columns of one row are two inputs.
-fn are_inputs(alloc: Global, first: &Column, second: Column) -> VortexResult<bool> {
+fn are_inputs(rt: HostRuntime, first: &Column, second: Column) -> VortexResult<bool> {
+    let alloc = rt.alloc();
     if first.len() != 1 || second.len() != 1 {
         return Ok(false);
     }
-    Ok(are_two(&two_inputs(alloc, first, second)?))
+    Ok(are_two(rt, &two_inputs(alloc, first, second)?))
 }
 
 /// Whether two columns that were made are two inputs.
-fn are_two_inputs(alloc: Global, first: Made, second: Made) -> VortexResult<bool> {
+fn are_two_inputs(rt: HostRuntime, first: Made, second: Made) -> VortexResult<bool> {
     let (first, second) = (first?, second?);
-    are_inputs(alloc, &*first, Box::into_inner(second))
+    are_inputs(rt, &*first, Box::into_inner(second))
 }
 
 #[test]
@@ -171,25 +172,25 @@ fn shipped_functions_have_marks(rt: HostRuntime) {
 
 #[test]
 fn a_function_tells_what_it_is(rt: HostRuntime) {
-    assert!(rt; yes(is_copied::<NoCustom>(rt.alloc(), and(), Operator::And)));
+    assert!(rt; rt.yes(is_copied::<NoCustom>(rt.alloc(), and(), Operator::And)));
     assert!(rt; is_not::<NoCustom>(ScalarFnRef::Not));
     assert!(rt; is_null_test::<NoCustom>(ScalarFnRef::IsNull));
     assert!(rt; is_not_null_test::<NoCustom>(ScalarFnRef::IsNotNull));
-    assert!(rt; yes(is_copied_cast::<NoCustom>(rt.alloc(), ScalarFnRef::Cast)));
+    assert!(rt; rt.yes(is_copied_cast::<NoCustom>(rt.alloc(), ScalarFnRef::Cast)));
     assert!(rt; is_custom(ScalarFnRef::custom(NoCustom, EmptyOptions), "rowfn.none"));
 }
 
 #[test]
 fn a_call_tells_its_function_and_children(rt: HostRuntime) {
-    assert!(rt; yes(is_operator_over::<NoCustom>(call_of_leaves(rt.alloc(), and(), 2), 2)));
+    assert!(rt; rt.yes(is_operator_over::<NoCustom>(call_of_leaves(rt.alloc(), and(), 2), 2)));
 }
 
 #[test]
 fn inputs_end(rt: HostRuntime) {
     let alloc = rt.alloc();
     assert!(rt;
-        yes(are_two_inputs(
-            alloc,
+        rt.yes(are_two_inputs(
+            rt,
             nullable_bools(alloc, &[Some(true)]),
             nullable_bools(alloc, &[None]),
         ))

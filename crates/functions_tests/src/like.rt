@@ -1,6 +1,6 @@
 //! LIKE in trees: what it is, what it refuses, its texts and its rows.
 
-use fixtures::{is_refused, texts, yes};
+use fixtures::{Ask, texts};
 use std::alloc::Global;
 use tree_fixtures::makers::*;
 use vortex_columns::*;
@@ -87,9 +87,10 @@ fn two_numbers() -> (DType, DType) {
 }
 
 /// Whether LIKE with these options, of two columns of texts, has that text.
-fn like_prints(alloc: Global, options: LikeOptions, wanted: &str) -> VortexResult<bool> {
+fn like_prints(rt: HostRuntime, options: LikeOptions, wanted: &str) -> VortexResult<bool> {
+    let alloc = rt.alloc();
     let types = (DType::Utf8(NO), DType::Utf8(NO));
-    prints::<NoCustom>(alloc, like_of(alloc, options, types), wanted)
+    prints::<NoCustom>(rt, like_of(alloc, options, types), wanted)
 }
 
 /// Columns of two texts and of a pattern for each.
@@ -103,10 +104,11 @@ fn texts_and_patterns(alloc: Global) -> VortexResult<Vec<Column>> {
 
 /// Whether LIKE with these options answers these rows of two texts, each beside a pattern of its
 /// own.
-fn says(alloc: Global, options: LikeOptions, wanted: &[Option<bool>]) -> VortexResult<bool> {
+fn says(rt: HostRuntime, options: LikeOptions, wanted: &[Option<bool>]) -> VortexResult<bool> {
+    let alloc = rt.alloc();
     let types = (DType::Utf8(NO), DType::Utf8(NO));
     let tree = like_of::<NoCustom>(alloc, options, types);
-    answers(alloc, tree, texts_and_patterns(alloc), wanted)
+    answers(rt, tree, texts_and_patterns(alloc), wanted)
 }
 
 #[test]
@@ -117,8 +119,8 @@ fn like_has_names_and_marks(rt: HostRuntime) {
 #[test]
 fn like_tells_its_options(rt: HostRuntime) {
     let alloc = rt.alloc();
-    assert!(rt; yes(is_copied_like::<NoCustom>(alloc, Like.bind(NOT_LIKE), NOT_LIKE)));
-    assert!(rt; yes(is_copied_like::<NoCustom>(alloc, ScalarFnRef::Like(ILIKE), ILIKE)));
+    assert!(rt; rt.yes(is_copied_like::<NoCustom>(alloc, Like.bind(NOT_LIKE), NOT_LIKE)));
+    assert!(rt; rt.yes(is_copied_like::<NoCustom>(alloc, ScalarFnRef::Like(ILIKE), ILIKE)));
 }
 
 #[test]
@@ -133,20 +135,19 @@ fn words_name_like(rt: HostRuntime) {
 fn inputs_are_refused_before_patterns(rt: HostRuntime) {
     let alloc = rt.alloc();
     let numbers = like_of::<NoCustom>(alloc, LIKE, two_numbers());
-    assert!(rt; is_refused(numbers, "TypeMismatch.LikeInput"));
+    assert!(rt; rt.is_refused(numbers, "TypeMismatch.LikeInput"));
     let number = like_of::<NoCustom>(alloc, ILIKE, number_and_text());
-    assert!(rt; is_refused(number, "TypeMismatch.LikeInput"));
+    assert!(rt; rt.is_refused(number, "TypeMismatch.LikeInput"));
     let pattern = like_of::<NoCustom>(alloc, LIKE, text_and_number());
-    assert!(rt; is_refused(pattern, "TypeMismatch.LikePattern"));
+    assert!(rt; rt.is_refused(pattern, "TypeMismatch.LikePattern"));
 }
 
 #[test]
 fn calls_of_like_print(rt: HostRuntime) {
-    let alloc = rt.alloc();
-    assert!(rt; yes(like_prints(alloc, LIKE, "$.a like $.b")));
-    assert!(rt; yes(like_prints(alloc, NOT_LIKE, "$.a not like $.b")));
-    assert!(rt; yes(like_prints(alloc, ILIKE, "$.a ilike $.b")));
-    assert!(rt; yes(like_prints(alloc, NOT_ILIKE, "$.a not ilike $.b")));
+    assert!(rt; rt.yes(like_prints(rt, LIKE, "$.a like $.b")));
+    assert!(rt; rt.yes(like_prints(rt, NOT_LIKE, "$.a not like $.b")));
+    assert!(rt; rt.yes(like_prints(rt, ILIKE, "$.a ilike $.b")));
+    assert!(rt; rt.yes(like_prints(rt, NOT_ILIKE, "$.a not ilike $.b")));
 }
 
 /// LIKE with that escape.
@@ -156,10 +157,9 @@ fn escaped(escape: Option<char>) -> LikeOptions {
 
 #[test]
 fn escapes_print(rt: HostRuntime) {
-    let alloc = rt.alloc();
-    assert!(rt; yes(like_prints(alloc, escaped(Some('!')), "$.a like $.b escape '!'")));
-    assert!(rt; yes(like_prints(alloc, escaped(Some('\'')), "$.a like $.b escape '''")));
-    assert!(rt; yes(like_prints(alloc, escaped(None), "$.a like $.b escape ''")));
+    assert!(rt; rt.yes(like_prints(rt, escaped(Some('!')), "$.a like $.b escape '!'")));
+    assert!(rt; rt.yes(like_prints(rt, escaped(Some('\'')), "$.a like $.b escape '''")));
+    assert!(rt; rt.yes(like_prints(rt, escaped(None), "$.a like $.b escape ''")));
 }
 
 /// Whether a script that says so of the escape calls LIKE with these options.
@@ -180,9 +180,8 @@ fn scripts_choose_escapes(rt: HostRuntime) {
 
 #[test]
 fn like_answers(rt: HostRuntime) {
-    let alloc = rt.alloc();
-    assert!(rt; yes(says(alloc, LIKE, &[Some(true), Some(false)])));
-    assert!(rt; yes(says(alloc, NOT_LIKE, &[Some(false), Some(true)])));
-    assert!(rt; yes(says(alloc, ILIKE, &[Some(true), Some(true)])));
-    assert!(rt; yes(says(alloc, NOT_ILIKE, &[Some(false), Some(false)])));
+    assert!(rt; rt.yes(says(rt, LIKE, &[Some(true), Some(false)])));
+    assert!(rt; rt.yes(says(rt, NOT_LIKE, &[Some(false), Some(true)])));
+    assert!(rt; rt.yes(says(rt, ILIKE, &[Some(true), Some(true)])));
+    assert!(rt; rt.yes(says(rt, NOT_ILIKE, &[Some(false), Some(false)])));
 }

@@ -1,6 +1,6 @@
 //! LIKE in trees: texts beside one pattern.
 
-use fixtures::{texts, yes};
+use fixtures::{Ask, texts};
 use std::alloc::Global;
 use tree_fixtures::makers::*;
 use vortex_columns::*;
@@ -40,106 +40,100 @@ fn like_of<C: ScalarFnVTable>(alloc: Global, options: LikeOptions, pattern: &str
 
 /// Whether LIKE of these words and a pattern answers these rows.
 fn says(
-    alloc: Global,
+    rt: HostRuntime,
     options: LikeOptions,
     pattern: &str,
     words: &[&str],
     wanted: &[bool],
 ) -> VortexResult<bool> {
+    let alloc = rt.alloc();
     let mut rows = Vec::new(alloc);
     for row in wanted {
         rows.push(Some(*row))?;
     }
     let tree = like_of::<NoCustom>(alloc, options, pattern);
     let columns = one(alloc, texts(alloc, words, Validity::NonNullable));
-    answers(alloc, tree, columns, &rows)
+    answers(rt, tree, columns, &rows)
 }
 
 const WORDS: [&str; 4] = ["hello", "world", "help", "jello"];
 
 /// Whether LIKE of the four words and a pattern is this.
-fn of_words(alloc: Global, pattern: &str, wanted: [bool; 4]) -> bool {
-    yes(says(alloc, LIKE, pattern, &WORDS, &wanted))
+fn of_words(rt: HostRuntime, pattern: &str, wanted: [bool; 4]) -> bool {
+    rt.yes(says(rt, LIKE, pattern, &WORDS, &wanted))
 }
 
 /// Whether LIKE says yes to the first word and no to the second.
-fn parts(alloc: Global, pattern: &str, words: [&str; 2]) -> bool {
-    yes(says(alloc, LIKE, pattern, &words, &[true, false]))
+fn parts(rt: HostRuntime, pattern: &str, words: [&str; 2]) -> bool {
+    rt.yes(says(rt, LIKE, pattern, &words, &[true, false]))
 }
 
 #[test]
 fn literals_and_sequences(rt: HostRuntime) {
-    let alloc = rt.alloc();
-    assert!(rt; of_words(alloc, "hello", [true, false, false, false]));
-    assert!(rt; of_words(alloc, "he%", [true, false, true, false]));
-    assert!(rt; of_words(alloc, "%llo", [true, false, false, true]));
-    assert!(rt; of_words(alloc, "%ell%", [true, false, false, true]));
+    assert!(rt; of_words(rt, "hello", [true, false, false, false]));
+    assert!(rt; of_words(rt, "he%", [true, false, true, false]));
+    assert!(rt; of_words(rt, "%llo", [true, false, false, true]));
+    assert!(rt; of_words(rt, "%ell%", [true, false, false, true]));
 }
 
 #[test]
 fn single_characters(rt: HostRuntime) {
-    let alloc = rt.alloc();
-    assert!(rt; of_words(alloc, "h_llo", [true, false, false, false]));
-    assert!(rt; of_words(alloc, "h%o", [true, false, false, false]));
-    assert!(rt; of_words(alloc, "%", [true, true, true, true]));
-    assert!(rt; of_words(alloc, "_____", [true, true, false, true]));
+    assert!(rt; of_words(rt, "h_llo", [true, false, false, false]));
+    assert!(rt; of_words(rt, "h%o", [true, false, false, false]));
+    assert!(rt; of_words(rt, "%", [true, true, true, true]));
+    assert!(rt; of_words(rt, "_____", [true, true, false, true]));
 }
 
 #[test]
 fn escapes(rt: HostRuntime) {
-    let alloc = rt.alloc();
     let words = ["100%", "100x", "a_b", "axb"];
-    assert!(rt; yes(says(alloc, LIKE, "100\\%", &words, &[true, false, false, false])));
-    assert!(rt; yes(says(alloc, LIKE, "a\\_b", &words, &[false, false, true, false])));
-    assert!(rt; parts(alloc, "foo\\%", ["foo%", "foobar"]));
-    assert!(rt; parts(alloc, "\\%\\_", ["%_", "xx"]));
-    assert!(rt; parts(alloc, "\\a", ["a", "aa"]));
-    assert!(rt; parts(alloc, "\\\\a", ["\\a", "a"]));
-    assert!(rt; parts(alloc, "\\\\", ["\\", ""]));
+    assert!(rt; rt.yes(says(rt, LIKE, "100\\%", &words, &[true, false, false, false])));
+    assert!(rt; rt.yes(says(rt, LIKE, "a\\_b", &words, &[false, false, true, false])));
+    assert!(rt; parts(rt, "foo\\%", ["foo%", "foobar"]));
+    assert!(rt; parts(rt, "\\%\\_", ["%_", "xx"]));
+    assert!(rt; parts(rt, "\\a", ["a", "aa"]));
+    assert!(rt; parts(rt, "\\\\a", ["\\a", "a"]));
+    assert!(rt; parts(rt, "\\\\", ["\\", ""]));
 }
 
 #[test]
 fn no_other_character_is_special(rt: HostRuntime) {
-    let alloc = rt.alloc();
     let words = ["a.c", "abc", "a$c"];
-    assert!(rt; yes(says(alloc, LIKE, "a.%", &words, &[true, false, false])));
+    assert!(rt; rt.yes(says(rt, LIKE, "a.%", &words, &[true, false, false])));
     let words = ["h£llo", "hxllo", "h£xllo"];
-    assert!(rt; yes(says(alloc, LIKE, "h_llo", &words, &[true, true, false])));
-    assert!(rt; parts(alloc, ".", [".", "x"]));
-    assert!(rt; parts(alloc, "$", ["$", "x"]));
+    assert!(rt; rt.yes(says(rt, LIKE, "h_llo", &words, &[true, true, false])));
+    assert!(rt; parts(rt, ".", [".", "x"]));
+    assert!(rt; parts(rt, "$", ["$", "x"]));
 }
 
 #[test]
 fn sequences_reach_over_any_character(rt: HostRuntime) {
-    let alloc = rt.alloc();
-    assert!(rt; parts(alloc, "f%o", ["frodo", "frodo!"]));
-    assert!(rt; parts(alloc, "f_o", ["foo", "fooo"]));
-    assert!(rt; parts(alloc, "foo%bar", ["foo\nbar", "xfoobar"]));
-    assert!(rt; parts(alloc, "foo_bar", ["foo£bar", "fooxxbar"]));
-    assert!(rt; parts(alloc, "%foobar%", ["xfoobary", "foo"]));
-    assert!(rt; parts(alloc, "h_llo w%d", ["h£llo wd", "hxxllo world"]));
+    assert!(rt; parts(rt, "f%o", ["frodo", "frodo!"]));
+    assert!(rt; parts(rt, "f_o", ["foo", "fooo"]));
+    assert!(rt; parts(rt, "foo%bar", ["foo\nbar", "xfoobar"]));
+    assert!(rt; parts(rt, "foo_bar", ["foo£bar", "fooxxbar"]));
+    assert!(rt; parts(rt, "%foobar%", ["xfoobary", "foo"]));
+    assert!(rt; parts(rt, "h_llo w%d", ["h£llo wd", "hxxllo world"]));
 }
 
 #[test]
 fn like_is_turned_over_and_folds_case(rt: HostRuntime) {
-    let alloc = rt.alloc();
     let words = ["hello", "world"];
-    assert!(rt; yes(says(alloc, NOT_LIKE, "he%", &words, &[false, true])));
+    assert!(rt; rt.yes(says(rt, NOT_LIKE, "he%", &words, &[false, true])));
     let words = ["HELLO", "world"];
-    assert!(rt; yes(says(alloc, NOT_ILIKE, "he%", &words, &[false, true])));
+    assert!(rt; rt.yes(says(rt, NOT_ILIKE, "he%", &words, &[false, true])));
     let words = ["HELLO", "world", "Help"];
-    assert!(rt; yes(says(alloc, ILIKE, "he%", &words, &[true, false, true])));
+    assert!(rt; rt.yes(says(rt, ILIKE, "he%", &words, &[true, false, true])));
     let words = ["AbC", "AbCd"];
-    assert!(rt; yes(says(alloc, ILIKE, "abc", &words, &[true, false])));
+    assert!(rt; rt.yes(says(rt, ILIKE, "abc", &words, &[true, false])));
     let words = ["hello world", "worlds"];
-    assert!(rt; yes(says(alloc, ILIKE, "%WORLD", &words, &[true, false])));
+    assert!(rt; rt.yes(says(rt, ILIKE, "%WORLD", &words, &[true, false])));
 }
 
 #[test]
 fn characters_fold_one_by_one(rt: HostRuntime) {
-    let alloc = rt.alloc();
-    assert!(rt; yes(says(alloc, ILIKE, "ss", &["\u{df}"], &[false])));
-    assert!(rt; yes(says(alloc, ILIKE, "k", &["K"], &[true])));
+    assert!(rt; rt.yes(says(rt, ILIKE, "ss", &["\u{df}"], &[false])));
+    assert!(rt; rt.yes(says(rt, ILIKE, "k", &["K"], &[true])));
 }
 
 /// Column `a`: the same text three times, and `b`: a pattern for each.
@@ -157,7 +151,7 @@ fn each_row_has_its_pattern(rt: HostRuntime) {
     let types = (DType::Utf8(NO), DType::Utf8(NO));
     let tree = call_of_columns::<NoCustom>(alloc, Like.bind(LIKE), types);
     let wanted = [Some(true), Some(false), Some(true)];
-    assert!(rt; yes(answers(alloc, tree, three_patterns(alloc), &wanted)));
+    assert!(rt; rt.yes(answers(rt, tree, three_patterns(alloc), &wanted)));
 }
 
 /// Column `a`: the same text four times, and `b`: patterns of which one is null.
@@ -180,5 +174,5 @@ fn a_null_pattern_gives_null(rt: HostRuntime) {
     let types = (DType::Utf8(NO), DType::Utf8(YES));
     let tree = call_of_columns::<NoCustom>(alloc, Like.bind(LIKE), types);
     let wanted = [Some(true), Some(true), None, Some(true)];
-    assert!(rt; yes(answers(alloc, tree, a_null_pattern(alloc), &wanted)));
+    assert!(rt; rt.yes(answers(rt, tree, a_null_pattern(alloc), &wanted)));
 }

@@ -1,6 +1,6 @@
 //! Leaves that are literals.
 
-use fixtures::{nullable_bools, yes};
+use fixtures::{Ask, nullable_bools};
 use std::alloc::Global;
 use tree_fixtures::makers::*;
 use vortex_columns::*;
@@ -87,29 +87,34 @@ fn is_no_literal<C: ScalarFnVTable>(tree: Bound<C>) -> VortexResult<bool> {
 fn a_literal_answers_a_constant_column_of_its_type(rt: HostRuntime) {
     let alloc = rt.alloc();
     assert!(rt;
-        yes(answers_constant::<NoCustom>(alloc, copied(alloc, literal(alloc, five())), five(), 3))
+        rt.yes(answers_constant::<NoCustom>(
+            alloc,
+            copied(alloc, literal(alloc, five())),
+            five(),
+            3
+        ))
     );
 }
 
 #[test]
 fn a_literal_tells_its_scalar(rt: HostRuntime) {
     let alloc = rt.alloc();
-    assert!(rt; yes(is_literal::<NoCustom>(literal(alloc, Ok(Scalar::from(true))), true)));
+    assert!(rt; rt.yes(is_literal::<NoCustom>(literal(alloc, Ok(Scalar::from(true))), true)));
 }
 
 #[test]
 fn other_trees_are_no_literals(rt: HostRuntime) {
     let alloc = rt.alloc();
-    assert!(rt; yes(is_no_literal::<NoCustom>(leaf(alloc, "a"))));
-    assert!(rt; yes(is_no_literal::<NoCustom>(true_and_b(alloc))));
+    assert!(rt; rt.yes(is_no_literal::<NoCustom>(leaf(alloc, "a"))));
+    assert!(rt; rt.yes(is_no_literal::<NoCustom>(true_and_b(alloc))));
 }
 
 #[test]
 fn and_with_a_literal_executes(rt: HostRuntime) {
     let alloc = rt.alloc();
     assert!(rt;
-        yes(answers::<NoCustom>(
-            alloc,
+        rt.yes(answers::<NoCustom>(
+            rt,
             true_and_b(alloc),
             two(
                 alloc,

@@ -1,6 +1,6 @@
 //! The null tests and Cast in trees.
 
-use fixtures::{bools, kept, nullable_ints, yes};
+use fixtures::{Ask, bools, kept, nullable_ints};
 use std::alloc::Global;
 use tree_fixtures::makers::*;
 use vortex_columns::*;
@@ -37,16 +37,12 @@ fn two_truths(alloc: Global) -> VortexResult<Vec<Column>> {
 
 /// Whether a null test answers these rows over 1, null, 2, null, 3.
 fn tests<C: ScalarFnVTable>(
-    alloc: Global,
+    rt: HostRuntime,
     function: ScalarFnRef<C>,
     wanted: &[Option<bool>],
 ) -> VortexResult<bool> {
-    answers(
-        alloc,
-        over_numbers(alloc, function),
-        some_nulls(alloc),
-        wanted,
-    )
+    let alloc = rt.alloc();
+    answers(rt, over_numbers(alloc, function), some_nulls(alloc), wanted)
 }
 
 const NULLS: [Option<bool>; 5] = [
@@ -61,9 +57,8 @@ const VALUES: [Option<bool>; 5] = [Some(true), Some(false), Some(true), Some(fal
 
 #[test]
 fn null_tests_answer(rt: HostRuntime) {
-    let alloc = rt.alloc();
-    assert!(rt; yes(tests::<NoCustom>(alloc, IsNull.bind(EmptyOptions), &NULLS)));
-    assert!(rt; yes(tests::<NoCustom>(alloc, IsNotNull.bind(EmptyOptions), &VALUES)));
+    assert!(rt; rt.yes(tests::<NoCustom>(rt, IsNull.bind(EmptyOptions), &NULLS)));
+    assert!(rt; rt.yes(tests::<NoCustom>(rt, IsNotNull.bind(EmptyOptions), &VALUES)));
 }
 
 /// Whether a column of type Null is null.
@@ -85,7 +80,7 @@ fn each_row_of_type_null_is_null(rt: HostRuntime) {
     let alloc = rt.alloc();
     let wanted = [Some(true), Some(true)];
     let tree = is_null_of_nulls::<NoCustom>(alloc);
-    assert!(rt; yes(answers(alloc, tree, two_nulls(alloc), &wanted)));
+    assert!(rt; rt.yes(answers(rt, tree, two_nulls(alloc), &wanted)));
 }
 
 #[test]
@@ -93,6 +88,6 @@ fn cast_answers(rt: HostRuntime) {
     let alloc = rt.alloc();
     let wanted = [Some(true), Some(false)];
     assert!(rt;
-        yes(answers::<NoCustom>(alloc, cast_of_truths(alloc), two_truths(alloc), &wanted,))
+        rt.yes(answers::<NoCustom>(rt, cast_of_truths(alloc), two_truths(alloc), &wanted,))
     );
 }

@@ -29,28 +29,30 @@ fn over_types<C: ScalarFnVTable>(
 
 /// Whether an operator between two columns answers these rows of Bool.
 pub(crate) fn compares(
-    alloc: Global,
+    rt: HostRuntime,
     left: Made,
     operator: Operator,
     right: Made,
     wanted: &[Option<bool>],
 ) -> VortexResult<bool> {
+    let alloc = rt.alloc();
     let (left, right) = (left?, right?);
     let tree = over_types::<NoCustom>(alloc, &*left, operator, &*right);
-    answers(alloc, tree, two(alloc, Ok(left), Ok(right)), wanted)
+    answers(rt, tree, two(alloc, Ok(left), Ok(right)), wanted)
 }
 
 /// Whether an operator between two columns answers these numbers.
 pub(crate) fn computes(
-    alloc: Global,
+    rt: HostRuntime,
     left: Made,
     operator: Operator,
     right: Made,
     wanted: &[Option<i128>],
 ) -> VortexResult<bool> {
+    let alloc = rt.alloc();
     let (left, right) = (left?, right?);
     let tree = over_types::<NoCustom>(alloc, &*left, operator, &*right);
-    calculates(alloc, tree, two(alloc, Ok(left), Ok(right)), wanted)
+    calculates(rt, tree, two(alloc, Ok(left), Ok(right)), wanted)
 }
 
 /// What an operator between two columns of one row answers as rows of Bool, or why it does not.

@@ -1,6 +1,6 @@
 //! The texts of trees, by `sql_text` and by Display.
 
-use fixtures::{boxed, fields, yes};
+use fixtures::{Ask, boxed, fields};
 use std::alloc::Global;
 use tree_fixtures::makers::*;
 use vortex_columns::*;
@@ -8,8 +8,13 @@ use vortex_functions::*;
 use vortex_operators::*;
 
 /// Whether the literal of a scalar has that text.
-fn literal_prints(alloc: Global, scalar: VortexResult<Scalar>, wanted: &str) -> VortexResult<bool> {
-    prints::<NoCustom>(alloc, literal(alloc, scalar), wanted)
+fn literal_prints(
+    rt: HostRuntime,
+    scalar: VortexResult<Scalar>,
+    wanted: &str,
+) -> VortexResult<bool> {
+    let alloc = rt.alloc();
+    prints::<NoCustom>(rt, literal(alloc, scalar), wanted)
 }
 
 /// An integer of a nullable type.
@@ -104,14 +109,13 @@ fn one_is_greater_than_two<C: ScalarFnVTable>(alloc: Global) -> Bound<C> {
 
 #[test]
 fn signed_integers_print_with_their_type(rt: HostRuntime) {
-    let alloc = rt.alloc();
-    assert!(rt; yes(literal_prints(alloc, Ok(Scalar::from(1i32)), "1i32")));
-    assert!(rt; yes(literal_prints(alloc, nullable_integer(PType::I8, -3), "-3i8")));
-    assert!(rt; yes(literal_prints(alloc, nullable_integer(PType::I16, 100), "100i16")));
-    assert!(rt; yes(literal_prints(alloc, nullable_integer(PType::I32, 0), "0i32")));
+    assert!(rt; rt.yes(literal_prints(rt, Ok(Scalar::from(1i32)), "1i32")));
+    assert!(rt; rt.yes(literal_prints(rt, nullable_integer(PType::I8, -3), "-3i8")));
+    assert!(rt; rt.yes(literal_prints(rt, nullable_integer(PType::I16, 100), "100i16")));
+    assert!(rt; rt.yes(literal_prints(rt, nullable_integer(PType::I32, 0), "0i32")));
     assert!(rt;
-        yes(literal_prints(
-            alloc,
+        rt.yes(literal_prints(
+            rt,
             nullable_integer(PType::I64, -9223372036854775808),
             "-9223372036854775808i64",
         ))
@@ -120,19 +124,18 @@ fn signed_integers_print_with_their_type(rt: HostRuntime) {
 
 #[test]
 fn unsigned_integers_print_with_their_type(rt: HostRuntime) {
-    let alloc = rt.alloc();
-    assert!(rt; yes(literal_prints(alloc, nullable_integer(PType::U8, 255), "255u8")));
-    assert!(rt; yes(literal_prints(alloc, nullable_integer(PType::U16, 10), "10u16")));
+    assert!(rt; rt.yes(literal_prints(rt, nullable_integer(PType::U8, 255), "255u8")));
+    assert!(rt; rt.yes(literal_prints(rt, nullable_integer(PType::U16, 10), "10u16")));
     assert!(rt;
-        yes(literal_prints(
-            alloc,
+        rt.yes(literal_prints(
+            rt,
             nullable_integer(PType::U32, 4294967295),
             "4294967295u32",
         ))
     );
     assert!(rt;
-        yes(literal_prints(
-            alloc,
+        rt.yes(literal_prints(
+            rt,
             nullable_integer(PType::U64, 18446744073709551615),
             "18446744073709551615u64",
         ))
@@ -141,32 +144,31 @@ fn unsigned_integers_print_with_their_type(rt: HostRuntime) {
 
 #[test]
 fn truths_and_nulls_print(rt: HostRuntime) {
-    let alloc = rt.alloc();
-    assert!(rt; yes(literal_prints(alloc, Ok(Scalar::from(true)), "true")));
-    assert!(rt; yes(literal_prints(alloc, Ok(Scalar::bool(false, YES)), "false")));
-    assert!(rt; yes(literal_prints(alloc, Scalar::try_new(DType::Utf8(YES), None), "null",)));
+    assert!(rt; rt.yes(literal_prints(rt, Ok(Scalar::from(true)), "true")));
+    assert!(rt; rt.yes(literal_prints(rt, Ok(Scalar::bool(false, YES)), "false")));
+    assert!(rt; rt.yes(literal_prints(rt, Scalar::try_new(DType::Utf8(YES), None), "null",)));
 }
 
 #[test]
 fn words_and_bytes_print(rt: HostRuntime) {
     let alloc = rt.alloc();
     assert!(rt;
-        yes(literal_prints(
-            alloc,
+        rt.yes(literal_prints(
+            rt,
             Scalar::try_from_str(alloc, "a \"b\" é"),
             "\"a \"b\" é\"",
         ))
     );
     assert!(rt;
-        yes(literal_prints(
-            alloc,
+        rt.yes(literal_prints(
+            rt,
             value_of(Ok(DType::Binary(NO)), bytes(alloc, &[0, 10, 171, 255])),
             "0x000aabff",
         ))
     );
     assert!(rt;
-        yes(literal_prints(
-            alloc,
+        rt.yes(literal_prints(
+            rt,
             value_of(Ok(DType::Binary(NO)), bytes(alloc, &[])),
             "0x",
         ))
@@ -176,10 +178,10 @@ fn words_and_bytes_print(rt: HostRuntime) {
 #[test]
 fn lists_print(rt: HostRuntime) {
     let alloc = rt.alloc();
-    assert!(rt; yes(literal_prints(alloc, value_of(list_of_bools(alloc), empty(alloc)), "[]")));
+    assert!(rt; rt.yes(literal_prints(rt, value_of(list_of_bools(alloc), empty(alloc)), "[]")));
     assert!(rt;
-        yes(literal_prints(
-            alloc,
+        rt.yes(literal_prints(
+            rt,
             value_of(two_numbers(alloc), pair(alloc, number(-1), number(2))),
             "[-1i64, 2i64]",
         ))
@@ -189,10 +191,10 @@ fn lists_print(rt: HostRuntime) {
 #[test]
 fn structs_print(rt: HostRuntime) {
     let alloc = rt.alloc();
-    assert!(rt; yes(literal_prints(alloc, value_of(no_fields(alloc), empty(alloc)), "{}")));
+    assert!(rt; rt.yes(literal_prints(rt, value_of(no_fields(alloc), empty(alloc)), "{}")));
     assert!(rt;
-        yes(literal_prints(
-            alloc,
+        rt.yes(literal_prints(
+            rt,
             value_of(
                 number_and_list(alloc),
                 pair(
@@ -210,8 +212,8 @@ fn structs_print(rt: HostRuntime) {
 fn maps_print(rt: HostRuntime) {
     let alloc = rt.alloc();
     assert!(rt;
-        yes(literal_prints(
-            alloc,
+        rt.yes(literal_prints(
+            rt,
             value_of(
                 map_of_words(alloc),
                 pair(
@@ -228,23 +230,23 @@ fn maps_print(rt: HostRuntime) {
 #[test]
 fn calls_of_operators_print(rt: HostRuntime) {
     let alloc = rt.alloc();
-    assert!(rt; yes(prints::<NoCustom>(alloc, true_and_b(alloc), "(true and $.b)")));
-    assert!(rt; yes(prints::<NoCustom>(alloc, one_is_greater_than_two(alloc), "(1i32 > 2i32)",)));
+    assert!(rt; rt.yes(prints::<NoCustom>(rt, true_and_b(alloc), "(true and $.b)")));
+    assert!(rt; rt.yes(prints::<NoCustom>(rt, one_is_greater_than_two(alloc), "(1i32 > 2i32)",)));
 }
 
 #[test]
 fn calls_by_name_print(rt: HostRuntime) {
     let alloc = rt.alloc();
     assert!(rt;
-        yes(prints::<NoCustom>(
-            alloc,
+        rt.yes(prints::<NoCustom>(
+            rt,
             not_of(alloc, a_and_b(alloc)),
             "vortex.not(($.a and $.b))",
         ))
     );
     assert!(rt;
-        yes(prints(
-            alloc,
+        rt.yes(prints(
+            rt,
             call_of_leaves(alloc, ScalarFnRef::custom(NoCustom, EmptyOptions), 0),
             "rowfn.none()",
         ))

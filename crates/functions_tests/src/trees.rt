@@ -1,6 +1,6 @@
 //! Execution of trees.
 
-use fixtures::{Made, are_rows, bools, is_refused, is_uneven, kept, nullable_bools, yes};
+use fixtures::{Ask, Made, are_rows, bools, kept, nullable_bools};
 use std::alloc::Global;
 use std::borrow::Cow;
 use tree_fixtures::makers::*;
@@ -53,28 +53,29 @@ fn none(alloc: Global) -> Bound<NoCustom> {
 
 /// Whether a tree lends a column of these rows.
 fn lends<C: ScalarFnVTable>(
-    alloc: Global,
+    rt: HostRuntime,
     tree: &BoundExpression<C>,
     columns: &[Column],
     wanted: &[Option<bool>],
 ) -> VortexResult<bool> {
+    let alloc = rt.alloc();
     let mut ctx = ExecutionCtx::new(alloc);
     let answer = Box::new(alloc, tree.execute(columns, wanted.len(), &mut ctx)?)?;
     match &*answer {
-        Cow::Borrowed(column) => are_rows(alloc, column, wanted),
+        Cow::Borrowed(column) => are_rows(rt, column, wanted),
         Cow::Owned(_) => Ok(false),
     }
 }
 
 /// Whether a tree answers a borrowed column of these rows over those columns.
 fn is_lent<C: ScalarFnVTable>(
-    alloc: Global,
+    rt: HostRuntime,
     tree: Bound<C>,
     columns: VortexResult<Vec<Column>>,
     wanted: &[Option<bool>],
 ) -> VortexResult<bool> {
     let (tree, columns) = (tree?, columns?);
-    lends(alloc, &*tree, &columns, wanted)
+    lends(rt, &*tree, &columns, wanted)
 }
 
 /// 4, 5, 6 and null.
@@ -111,8 +112,8 @@ fn beside_null<C: ScalarFnVTable>(alloc: Global, operator: Operator) -> Bound<C>
 fn and_follows_kleenes_table(rt: HostRuntime) {
     let alloc = rt.alloc();
     assert!(rt;
-        yes(answers::<NoCustom>(
-            alloc,
+        rt.yes(answers::<NoCustom>(
+            rt,
             copied(alloc, over_both(alloc, Operator::And)),
             kleene_columns(alloc),
             &[
@@ -134,8 +135,8 @@ fn and_follows_kleenes_table(rt: HostRuntime) {
 fn or_follows_kleenes_table(rt: HostRuntime) {
     let alloc = rt.alloc();
     assert!(rt;
-        yes(answers::<NoCustom>(
-            alloc,
+        rt.yes(answers::<NoCustom>(
+            rt,
             copied(alloc, over_both(alloc, Operator::Or)),
             kleene_columns(alloc),
             &[
@@ -157,8 +158,8 @@ fn or_follows_kleenes_table(rt: HostRuntime) {
 fn not_of_and_follows_kleenes_table(rt: HostRuntime) {
     let alloc = rt.alloc();
     assert!(rt;
-        yes(answers::<NoCustom>(
-            alloc,
+        rt.yes(answers::<NoCustom>(
+            rt,
             not_of(alloc, over_both(alloc, Operator::And)),
             kleene_columns(alloc),
             &[
@@ -180,7 +181,7 @@ fn not_of_and_follows_kleenes_table(rt: HostRuntime) {
 fn lengths_are_compared_with_the_row_count(rt: HostRuntime) {
     let alloc = rt.alloc();
     assert!(rt;
-        is_uneven(
+        rt.is_uneven(
             executed::<NoCustom>(
                 alloc,
                 over_both(alloc, Operator::And),
@@ -200,8 +201,8 @@ fn lengths_are_compared_with_the_row_count(rt: HostRuntime) {
 fn a_function_without_arguments_answers_every_row(rt: HostRuntime) {
     let alloc = rt.alloc();
     assert!(rt;
-        yes(answers::<NoCustom>(
-            alloc,
+        rt.yes(answers::<NoCustom>(
+            rt,
             not_of(alloc, none(alloc)),
             twice(alloc, &[Some(true), None]),
             &[Some(true), Some(true)],
@@ -213,8 +214,8 @@ fn a_function_without_arguments_answers_every_row(rt: HostRuntime) {
 fn a_lone_leaf_is_lent(rt: HostRuntime) {
     let alloc = rt.alloc();
     assert!(rt;
-        yes(is_lent::<NoCustom>(
-            alloc,
+        rt.yes(is_lent::<NoCustom>(
+            rt,
             leaf(alloc, "b"),
             two(
                 alloc,
@@ -235,8 +236,8 @@ fn owned<C: ScalarFnVTable>(alloc: Global, tree: Bound<C>) -> Bound<C> {
 #[test]
 fn a_lent_tree_is_owned_as_a_copy(rt: HostRuntime) {
     let alloc = rt.alloc();
-    assert!(rt; yes(prints::<NoCustom>(alloc, owned(alloc, below_five(alloc)), "($.a < 5u16)")));
-    assert!(rt; yes(prints::<NoCustom>(alloc, owned(alloc, leaf(alloc, "b")), "$.b")));
+    assert!(rt; rt.yes(prints::<NoCustom>(rt, owned(alloc, below_five(alloc)), "($.a < 5u16)")));
+    assert!(rt; rt.yes(prints::<NoCustom>(rt, owned(alloc, leaf(alloc, "b")), "$.b")));
 }
 
 /// The leaf of the second of two columns, by its place.
@@ -256,15 +257,15 @@ fn a_leaf_of_a_place_lends_its_column(rt: HostRuntime) {
         nullable_bools(alloc, &[None]),
         nullable_bools(alloc, &[Some(true)]),
     );
-    assert!(rt; yes(prints::<NoCustom>(alloc, second_leaf(alloc), "$.b")));
-    assert!(rt; yes(is_lent::<NoCustom>(alloc, second_leaf(alloc), columns, &[Some(true)])));
+    assert!(rt; rt.yes(prints::<NoCustom>(rt, second_leaf(alloc), "$.b")));
+    assert!(rt; rt.yes(is_lent::<NoCustom>(rt, second_leaf(alloc), columns, &[Some(true)])));
 }
 
 #[test]
 fn a_leaf_without_its_column_is_refused(rt: HostRuntime) {
     let alloc = rt.alloc();
     assert!(rt;
-        is_refused(
+        rt.is_refused(
             executed::<NoCustom>(
                 alloc,
                 leaf(alloc, "b"),
@@ -289,7 +290,7 @@ fn deep<C: ScalarFnVTable>(alloc: Global) -> Bound<C> {
 fn the_deepest_leaf_is_refused_without_its_column(rt: HostRuntime) {
     let alloc = rt.alloc();
     assert!(rt;
-        is_refused(
+        rt.is_refused(
             executed::<NoCustom>(
                 alloc,
                 deep(alloc),
@@ -305,7 +306,7 @@ fn the_deepest_leaf_is_refused_without_its_column(rt: HostRuntime) {
 fn a_leaf_over_a_column_of_another_type_is_refused_before_lengths(rt: HostRuntime) {
     let alloc = rt.alloc();
     assert!(rt;
-        is_refused(
+        rt.is_refused(
             executed::<NoCustom>(
                 alloc,
                 leaf(alloc, "b"),
@@ -325,8 +326,8 @@ fn a_leaf_over_a_column_of_another_type_is_refused_before_lengths(rt: HostRuntim
 fn a_comparison_with_a_literal_executes(rt: HostRuntime) {
     let alloc = rt.alloc();
     assert!(rt;
-        yes(answers::<NoCustom>(
-            alloc,
+        rt.yes(answers::<NoCustom>(
+            rt,
             below_five(alloc),
             one(alloc, four_to_six(alloc)),
             &[Some(true), Some(false), Some(false), None],
@@ -338,8 +339,8 @@ fn a_comparison_with_a_literal_executes(rt: HostRuntime) {
 fn and_with_a_null_literal_executes(rt: HostRuntime) {
     let alloc = rt.alloc();
     assert!(rt;
-        yes(answers::<NoCustom>(
-            alloc,
+        rt.yes(answers::<NoCustom>(
+            rt,
             beside_null(alloc, Operator::And),
             twice(alloc, &[Some(false), Some(true), None]),
             &[Some(false), None, None],
@@ -351,8 +352,8 @@ fn and_with_a_null_literal_executes(rt: HostRuntime) {
 fn or_with_a_null_literal_executes(rt: HostRuntime) {
     let alloc = rt.alloc();
     assert!(rt;
-        yes(answers::<NoCustom>(
-            alloc,
+        rt.yes(answers::<NoCustom>(
+            rt,
             beside_null(alloc, Operator::Or),
             twice(alloc, &[Some(false), Some(true), None]),
             &[None, Some(true), None],

@@ -3,7 +3,7 @@
 use crate::questions::{
     NO, NULL, YES, constant_of, null_integer, nullable_texts, plain_texts, says, says_or_null,
 };
-use fixtures::{Made, bools, constant, kept, nullable_ints, numbers, yes};
+use fixtures::{Ask, Made, bools, constant, kept, nullable_ints, numbers};
 use std::alloc::Global;
 use vortex_columns::{Column, ExecutionCtx, PType, Scalar, VortexError};
 use vortex_kernels::{BetweenOptions, StrictComparison, execute_between};
@@ -59,13 +59,13 @@ fn five(alloc: Global) -> (Made, Made, Made) {
 fn bounds_are_left_out_where_they_are_strict(rt: HostRuntime) {
     let alloc = rt.alloc();
     let loose = between(alloc, five(alloc), LOOSE, LOOSE);
-    assert!(rt; yes(says(alloc, loose, &[true, true, true, true, false])));
+    assert!(rt; rt.yes(says(rt, loose, &[true, true, true, true, false])));
     let upper = between(alloc, five(alloc), LOOSE, STRICT);
-    assert!(rt; yes(says(alloc, upper, &[true, true, false, false, false])));
+    assert!(rt; rt.yes(says(rt, upper, &[true, true, false, false, false])));
     let lower = between(alloc, five(alloc), STRICT, LOOSE);
-    assert!(rt; yes(says(alloc, lower, &[true, false, true, false, false])));
+    assert!(rt; rt.yes(says(rt, lower, &[true, false, true, false, false])));
     let both = between(alloc, five(alloc), STRICT, STRICT);
-    assert!(rt; yes(says(alloc, both, &[true, false, false, false, false])));
+    assert!(rt; rt.yes(says(rt, both, &[true, false, false, false, false])));
 }
 
 /// Numbers beside lower bounds of which two are null.
@@ -90,9 +90,9 @@ fn below_null(alloc: Global) -> (Made, Made, Made) {
 fn a_row_beside_one_null_can_be_false(rt: HostRuntime) {
     let alloc = rt.alloc();
     let lower = between(alloc, beside_nulls(alloc), LOOSE, LOOSE);
-    assert!(rt; yes(says_or_null(alloc, lower, &[NO, NULL, YES])));
+    assert!(rt; rt.yes(says_or_null(rt, lower, &[NO, NULL, YES])));
     let upper = between(alloc, below_null(alloc), LOOSE, LOOSE);
-    assert!(rt; yes(says_or_null(alloc, upper, &[NULL, NULL, NO, NULL, NO])));
+    assert!(rt; rt.yes(says_or_null(rt, upper, &[NULL, NULL, NO, NULL, NO])));
 }
 
 /// Numbers and nulls beside a lower constant.
@@ -126,11 +126,11 @@ fn twos(alloc: Global) -> (Made, Made, Made) {
 fn constants_stand_on_every_side(rt: HostRuntime) {
     let alloc = rt.alloc();
     let column = between(alloc, above_three(alloc), STRICT, LOOSE);
-    assert!(rt; yes(says_or_null(alloc, column, &[YES, NULL, NO])));
+    assert!(rt; rt.yes(says_or_null(rt, column, &[YES, NULL, NO])));
     let array = between(alloc, fives(alloc), LOOSE, STRICT);
-    assert!(rt; yes(says(alloc, array, &[false, false])));
+    assert!(rt; rt.yes(says(rt, array, &[false, false])));
     let all = between(alloc, twos(alloc), STRICT, STRICT);
-    assert!(rt; yes(says(alloc, all, &[true, true])));
+    assert!(rt; rt.yes(says(rt, all, &[true, true])));
 }
 
 /// Words beside the constant b and a column.
@@ -155,7 +155,7 @@ fn truths(alloc: Global) -> (Made, Made, Made) {
 fn other_types_lie_between(rt: HostRuntime) {
     let alloc = rt.alloc();
     let texts = between(alloc, words(alloc), LOOSE, LOOSE);
-    assert!(rt; yes(says_or_null(alloc, texts, &[YES, NO, NULL])));
+    assert!(rt; rt.yes(says_or_null(rt, texts, &[YES, NO, NULL])));
     let bools = between(alloc, truths(alloc), STRICT, LOOSE);
-    assert!(rt; yes(says(alloc, bools, &[true, false])));
+    assert!(rt; rt.yes(says(rt, bools, &[true, false])));
 }

@@ -3,7 +3,7 @@
 use crate::questions::{
     NO, NULL, NULLABLE, PLAIN, YES, combined, compared, has_rows, negated, says, says_or_null,
 };
-use fixtures::{Made, bools, kept, nullable_bools, yes};
+use fixtures::{Ask, Made, bools, kept, nullable_bools};
 use std::alloc::Global;
 use vortex_columns::{BitBuffer, Column, DType, Nullability, Scalar, Validity, VortexResult};
 use vortex_kernels::{CompareOperator, Operator};
@@ -26,17 +26,11 @@ fn table(alloc: Global, operator: Operator) -> Made {
 fn follows_kleenes_tables(rt: HostRuntime) {
     let alloc = rt.alloc();
     let both = [YES, NO, NULL, NO, NO, NO, NULL, NO, NULL];
-    assert!(rt; yes(says_or_null(alloc, table(alloc, Operator::And), &both)));
+    assert!(rt; rt.yes(says_or_null(rt, table(alloc, Operator::And), &both)));
     let either = [YES, YES, YES, YES, NO, NULL, YES, NULL, NULL];
-    assert!(rt; yes(says_or_null(alloc, table(alloc, Operator::Or), &either)));
+    assert!(rt; rt.yes(says_or_null(rt, table(alloc, Operator::Or), &either)));
     let not_both = [NO, YES, NULL, YES, YES, YES, NULL, YES, NULL];
-    assert!(rt;
-        yes(says_or_null(
-            alloc,
-            negated(alloc, table(alloc, Operator::And)),
-            &not_both
-        ))
-    );
+    assert!(rt; rt.yes(says_or_null(rt, negated(alloc, table(alloc, Operator::And)), &not_both)));
 }
 
 /// Yes and No, beside a column of two rows.
@@ -48,11 +42,11 @@ fn yes_and_no(alloc: Global, operator: Operator, right: Made) -> Made {
 fn is_nullable_if_a_side_is(rt: HostRuntime) {
     let alloc = rt.alloc();
     let both = yes_and_no(alloc, Operator::And, bools(alloc, &[true, true]));
-    assert!(rt; yes(says(alloc, both, &[true, false])));
+    assert!(rt; rt.yes(says(rt, both, &[true, false])));
     let both = yes_and_no(alloc, Operator::And, bools(alloc, &[true, true]));
-    assert!(rt; yes(says(alloc, negated(alloc, both), &[false, true])));
+    assert!(rt; rt.yes(says(rt, negated(alloc, both), &[false, true])));
     let mixed = yes_and_no(alloc, Operator::Or, nullable_bools(alloc, &[NULL, NULL]));
-    assert!(rt; yes(says_or_null(alloc, mixed, &[YES, NULL])));
+    assert!(rt; rt.yes(says_or_null(rt, mixed, &[YES, NULL])));
 }
 
 /// A form in which a column of Bool lends its rows.
@@ -144,7 +138,8 @@ fn either(left: Option<bool>, right: Option<bool>) -> Option<bool> {
 }
 
 /// Whether And of two forms answers as Kleene's table does.
-fn ands(alloc: Global, left: Form, right: Form) -> VortexResult<bool> {
+fn ands(rt: HostRuntime, left: Form, right: Form) -> VortexResult<bool> {
+    let alloc = rt.alloc();
     let ([a, b], [c, d]) = (rows(left), rows(right));
     let answer = combined(
         alloc,
@@ -153,11 +148,12 @@ fn ands(alloc: Global, left: Form, right: Form) -> VortexResult<bool> {
         formed(alloc, right),
     );
     let nullability = nullability(left) | nullability(right);
-    has_rows(alloc, answer, nullability, &[both(a, c), both(b, d)])
+    has_rows(rt, answer, nullability, &[both(a, c), both(b, d)])
 }
 
 /// Whether Or of two forms answers as Kleene's table does.
-fn ors(alloc: Global, left: Form, right: Form) -> VortexResult<bool> {
+fn ors(rt: HostRuntime, left: Form, right: Form) -> VortexResult<bool> {
+    let alloc = rt.alloc();
     let ([a, b], [c, d]) = (rows(left), rows(right));
     let answer = combined(
         alloc,
@@ -166,13 +162,13 @@ fn ors(alloc: Global, left: Form, right: Form) -> VortexResult<bool> {
         formed(alloc, right),
     );
     let nullability = nullability(left) | nullability(right);
-    has_rows(alloc, answer, nullability, &[either(a, c), either(b, d)])
+    has_rows(rt, answer, nullability, &[either(a, c), either(b, d)])
 }
 
 /// Whether a form answers beside each form as Kleene's tables do.
-fn answers_beside_each(alloc: Global, left: Form) -> bool {
+fn answers_beside_each(rt: HostRuntime, left: Form) -> bool {
     for right in FORMS {
-        if !yes(ands(alloc, left, right)) || !yes(ors(alloc, left, right)) {
+        if !rt.yes(ands(rt, left, right)) || !rt.yes(ors(rt, left, right)) {
             return false;
         }
     }
@@ -181,31 +177,30 @@ fn answers_beside_each(alloc: Global, left: Form) -> bool {
 
 #[test]
 fn answers_each_pair_of_forms(rt: HostRuntime) {
-    let alloc = rt.alloc();
-    assert!(rt; answers_beside_each(alloc, Form::Plain));
-    assert!(rt; answers_beside_each(alloc, Form::AllValid));
-    assert!(rt; answers_beside_each(alloc, Form::Masked));
-    assert!(rt; answers_beside_each(alloc, Form::AllInvalid));
-    assert!(rt; answers_beside_each(alloc, Form::OneTruth));
-    assert!(rt; answers_beside_each(alloc, Form::OneNull));
+    assert!(rt; answers_beside_each(rt, Form::Plain));
+    assert!(rt; answers_beside_each(rt, Form::AllValid));
+    assert!(rt; answers_beside_each(rt, Form::Masked));
+    assert!(rt; answers_beside_each(rt, Form::AllInvalid));
+    assert!(rt; answers_beside_each(rt, Form::OneTruth));
+    assert!(rt; answers_beside_each(rt, Form::OneNull));
 }
 
 /// Whether Not of a form answers each row turned, in a column of the same nullability.
-fn nots(alloc: Global, form: Form) -> VortexResult<bool> {
+fn nots(rt: HostRuntime, form: Form) -> VortexResult<bool> {
+    let alloc = rt.alloc();
     let [a, b] = rows(form);
     let answer = negated(alloc, formed(alloc, form));
-    has_rows(alloc, answer, nullability(form), &[turned(a), turned(b)])
+    has_rows(rt, answer, nullability(form), &[turned(a), turned(b)])
 }
 
 #[test]
 fn turns_each_form(rt: HostRuntime) {
-    let alloc = rt.alloc();
-    assert!(rt; yes(nots(alloc, Form::Plain)));
-    assert!(rt; yes(nots(alloc, Form::AllValid)));
-    assert!(rt; yes(nots(alloc, Form::Masked)));
-    assert!(rt; yes(nots(alloc, Form::AllInvalid)));
-    assert!(rt; yes(nots(alloc, Form::OneTruth)));
-    assert!(rt; yes(nots(alloc, Form::OneNull)));
+    assert!(rt; rt.yes(nots(rt, Form::Plain)));
+    assert!(rt; rt.yes(nots(rt, Form::AllValid)));
+    assert!(rt; rt.yes(nots(rt, Form::Masked)));
+    assert!(rt; rt.yes(nots(rt, Form::AllInvalid)));
+    assert!(rt; rt.yes(nots(rt, Form::OneTruth)));
+    assert!(rt; rt.yes(nots(rt, Form::OneNull)));
 }
 
 /// No and Yes, both valid.
@@ -223,13 +218,13 @@ fn lists_no_valid_rows(answer: Made) -> VortexResult<bool> {
 fn lists_no_valid_rows_where_none_is_null(rt: HostRuntime) {
     let alloc = rt.alloc();
     let and = combined(alloc, all_valid(alloc), Operator::And, all_valid(alloc));
-    assert!(rt; yes(lists_no_valid_rows(and)));
-    assert!(rt; yes(lists_no_valid_rows(negated(alloc, all_valid(alloc)))));
+    assert!(rt; rt.yes(lists_no_valid_rows(and)));
+    assert!(rt; rt.yes(lists_no_valid_rows(negated(alloc, all_valid(alloc)))));
     let equal = compared(
         alloc,
         all_valid(alloc),
         CompareOperator::Eq,
         all_valid(alloc),
     );
-    assert!(rt; yes(lists_no_valid_rows(equal)));
+    assert!(rt; rt.yes(lists_no_valid_rows(equal)));
 }

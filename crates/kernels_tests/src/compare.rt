@@ -5,8 +5,7 @@ use crate::questions::{
     nullable_texts, plain_texts, says, says_or_null,
 };
 use fixtures::{
-    Made, bools, constant, is_refused, is_uneven, kept, nullable_bools, nullable_ints, numbers,
-    rows_of, yes,
+    Ask, Made, bools, constant, kept, nullable_bools, nullable_ints, numbers, rows_of, same,
 };
 use std::alloc::Global;
 use vortex_columns::{Column, ExecutionCtx, PType, Scalar, VortexResult};
@@ -27,9 +26,9 @@ fn truths(alloc: Global, operator: CompareOperator) -> Made {
 fn compares_truth_values(rt: HostRuntime) {
     let alloc = rt.alloc();
     let less = truths(alloc, CompareOperator::Lt);
-    assert!(rt; yes(says(alloc, less, &[false, true, false, false])));
+    assert!(rt; rt.yes(says(rt, less, &[false, true, false, false])));
     let not_less = truths(alloc, CompareOperator::Gte);
-    assert!(rt; yes(says(alloc, not_less, &[true, false, true, true])));
+    assert!(rt; rt.yes(says(rt, not_less, &[true, false, true, true])));
 }
 
 /// The least and the greatest i64.
@@ -42,10 +41,10 @@ fn compares_with_a_constant_on_either_side(rt: HostRuntime) {
     let alloc = rt.alloc();
     let zero = constant(alloc, PType::I64, 0, 2);
     let greater = compared(alloc, extremes(alloc), CompareOperator::Gt, zero);
-    assert!(rt; yes(says(alloc, greater, &[false, true])));
+    assert!(rt; rt.yes(says(rt, greater, &[false, true])));
     let zero = constant(alloc, PType::I64, 0, 2);
     let less = compared(alloc, zero, CompareOperator::Lt, extremes(alloc));
-    assert!(rt; yes(says(alloc, less, &[false, true])));
+    assert!(rt; rt.yes(says(rt, less, &[false, true])));
 }
 
 /// Two rows of type Null.
@@ -62,7 +61,7 @@ fn compares_columns_of_null(rt: HostRuntime) {
         CompareOperator::Eq,
         null_column(alloc),
     );
-    assert!(rt; yes(says_or_null(alloc, equal, &[NULL, NULL])));
+    assert!(rt; rt.yes(says_or_null(rt, equal, &[NULL, NULL])));
 }
 
 /// The texts a and b.
@@ -85,11 +84,11 @@ fn is_settled_before_the_types(rt: HostRuntime) {
         CompareOperator::Eq,
         plain_texts(alloc, &[]),
     );
-    assert!(rt; yes(says(alloc, equal, &[])));
+    assert!(rt; rt.yes(says(rt, equal, &[])));
     let equal = compared(alloc, nulls(alloc), CompareOperator::Eq, words(alloc));
-    assert!(rt; yes(says_or_null(alloc, equal, &[NULL, NULL])));
+    assert!(rt; rt.yes(says_or_null(rt, equal, &[NULL, NULL])));
     let less = compared(alloc, words(alloc), CompareOperator::Lt, nulls(alloc));
-    assert!(rt; yes(says_or_null(alloc, less, &[NULL, NULL])));
+    assert!(rt; rt.yes(says_or_null(rt, less, &[NULL, NULL])));
 }
 
 /// The number 1 twice, as a constant.
@@ -103,8 +102,9 @@ fn constant_texts(alloc: Global) -> Made {
 }
 
 /// Whether columns are refused there for their types.
-fn is_refused_at(alloc: Global, left: Made, right: Made, place: &str) -> bool {
-    is_refused(compared(alloc, left, CompareOperator::Eq, right), place)
+fn is_refused_at(rt: HostRuntime, left: Made, right: Made, place: &str) -> bool {
+    let alloc = rt.alloc();
+    rt.is_refused(compared(alloc, left, CompareOperator::Eq, right), place)
 }
 
 #[test]
@@ -112,24 +112,24 @@ fn refuses_other_types(rt: HostRuntime) {
     let alloc = rt.alloc();
     assert!(rt;
         is_refused_at(
-            alloc,
+            rt,
             ones(alloc),
             constant_texts(alloc),
             "TypeMismatch.Scalars"
         )
     );
     let one_and_two = numbers(alloc, &[1i32, 2]);
-    assert!(rt; is_refused_at(alloc, one_and_two, words(alloc), "TypeMismatch.Compare"));
+    assert!(rt; is_refused_at(rt, one_and_two, words(alloc), "TypeMismatch.Compare"));
     let one_and_two = numbers(alloc, &[1i32, 2]);
     assert!(rt;
         is_refused_at(
-            alloc,
+            rt,
             one_and_two,
             constant_texts(alloc),
             "TypeMismatch.Compare"
         )
     );
-    assert!(rt; is_refused_at(alloc, ones(alloc), words(alloc), "TypeMismatch.Compare"));
+    assert!(rt; is_refused_at(rt, ones(alloc), words(alloc), "TypeMismatch.Compare"));
 }
 
 #[test]
@@ -137,7 +137,7 @@ fn refuses_two_lengths(rt: HostRuntime) {
     let alloc = rt.alloc();
     let two = numbers(alloc, &[1i32, 2]);
     let three = plain_texts(alloc, &["a", "b", "c"]);
-    assert!(rt; is_uneven(compared(alloc, two, CompareOperator::Eq, three), (2, 3)));
+    assert!(rt; rt.is_uneven(compared(alloc, two, CompareOperator::Eq, three), (2, 3)));
 }
 
 /// The text a, twice.
@@ -156,9 +156,10 @@ fn long_texts(alloc: Global) -> Made {
 }
 
 /// Whether a column is less than another in these rows.
-fn lessens(alloc: Global, left: Made, right: Made, wanted: &[Option<bool>]) -> bool {
-    yes(says_or_null(
-        alloc,
+fn lessens(rt: HostRuntime, left: Made, right: Made, wanted: &[Option<bool>]) -> bool {
+    let alloc = rt.alloc();
+    rt.yes(says_or_null(
+        rt,
         compared(alloc, left, CompareOperator::Lt, right),
         wanted,
     ))
@@ -173,10 +174,10 @@ fn compares_texts(rt: HostRuntime) {
         CompareOperator::Lt,
         long_texts(alloc),
     );
-    assert!(rt; yes(says(alloc, less, &[true, true])));
+    assert!(rt; rt.yes(says(rt, less, &[true, true])));
     assert!(rt;
         lessens(
-            alloc,
+            rt,
             short_text_and_null(alloc),
             long_texts(alloc),
             &[YES, NULL]
@@ -184,7 +185,7 @@ fn compares_texts(rt: HostRuntime) {
     );
     assert!(rt;
         lessens(
-            alloc,
+            rt,
             long_texts(alloc),
             short_text_and_null(alloc),
             &[NO, NULL]
@@ -193,7 +194,8 @@ fn compares_texts(rt: HostRuntime) {
 }
 
 /// Whether a text is less than a constant one.
-fn is_below(alloc: Global, text: &str, constant: &str) -> bool {
+fn is_below(rt: HostRuntime, text: &str, constant: &str) -> bool {
+    let alloc = rt.alloc();
     let right = constant_of(alloc, Scalar::try_from_str(alloc, constant), 1);
     let less = compared(
         alloc,
@@ -201,23 +203,16 @@ fn is_below(alloc: Global, text: &str, constant: &str) -> bool {
         CompareOperator::Lt,
         right,
     );
-    yes(says(alloc, less, &[true]))
+    rt.yes(says(rt, less, &[true]))
 }
 
 #[test]
 fn compares_texts_with_a_constant(rt: HostRuntime) {
-    let alloc = rt.alloc();
-    assert!(rt; is_below(alloc, "", "\0"));
-    assert!(rt;
-        is_below(
-            alloc,
-            "\0\0\0\0\0\0\0\0\0\0\0\0",
-            "\0\0\0\0\0\0\0\0\0\0\0\0\0"
-        )
-    );
-    assert!(rt; is_below(alloc, "abcdefghijkl", "abcdefghijklm"));
-    assert!(rt; is_below(alloc, "hello", "hello, world!"));
-    assert!(rt; is_below(alloc, "hello, world!", "hello, worlds"));
+    assert!(rt; is_below(rt, "", "\0"));
+    assert!(rt; is_below(rt, "\0\0\0\0\0\0\0\0\0\0\0\0", "\0\0\0\0\0\0\0\0\0\0\0\0\0"));
+    assert!(rt; is_below(rt, "abcdefghijkl", "abcdefghijklm"));
+    assert!(rt; is_below(rt, "hello", "hello, world!"));
+    assert!(rt; is_below(rt, "hello, world!", "hello, worlds"));
 }
 
 /// The comparison of 1 and 2, of 2 and 1, of 2 and 2, and of pairs with nulls.
@@ -241,37 +236,40 @@ fn lent_compared(alloc: Global, left: &Column, operator: CompareOperator, right:
 }
 
 /// Whether two answers have the same rows.
-fn have_same_rows(alloc: Global, left: Made, right: Made) -> VortexResult<bool> {
+fn have_same_rows(rt: HostRuntime, left: Made, right: Made) -> VortexResult<bool> {
+    let alloc = rt.alloc();
     let (left, right) = (rows_of(alloc, &*left?)?, rows_of(alloc, &*right?)?);
-    Ok(left.as_slice() == right.as_slice())
+    Ok(same(rt, left.as_slice(), right.as_slice()))
 }
 
 /// Whether `not (left op right)` is `left inverse right`.
-fn is_inverse(alloc: Global, left: &Column, operator: CompareOperator, right: &Column) -> bool {
+fn is_inverse(rt: HostRuntime, left: &Column, operator: CompareOperator, right: &Column) -> bool {
+    let alloc = rt.alloc();
     let not = negated(alloc, lent_compared(alloc, left, operator, right));
     let inverse = lent_compared(alloc, left, operator.inverse(), right);
-    yes(have_same_rows(alloc, not, inverse))
+    rt.yes(have_same_rows(rt, not, inverse))
 }
 
 /// Whether `left op right` and `right swap left` are the rows of the table.
 fn follows_the_table(
-    alloc: Global,
+    rt: HostRuntime,
     left: &Column,
     operator: CompareOperator,
     right: &Column,
 ) -> bool {
+    let alloc = rt.alloc();
     let answer = lent_compared(alloc, left, operator, right);
     let swapped = lent_compared(alloc, right, operator.swap(), left);
     let wanted = rows_by(operator);
-    yes(says_or_null(alloc, answer, &wanted)) && yes(says_or_null(alloc, swapped, &wanted))
+    rt.yes(says_or_null(rt, answer, &wanted)) && rt.yes(says_or_null(rt, swapped, &wanted))
 }
 
 /// Whether the six comparisons of two columns follow the table, and turn as they should.
-fn all_turn(alloc: Global, left: Made, right: Made) -> VortexResult<bool> {
+fn all_turn(rt: HostRuntime, left: Made, right: Made) -> VortexResult<bool> {
     let (left, right) = (left?, right?);
     for operator in COMPARISONS {
-        if !follows_the_table(alloc, &*left, operator, &*right)
-            || !is_inverse(alloc, &*left, operator, &*right)
+        if !follows_the_table(rt, &*left, operator, &*right)
+            || !is_inverse(rt, &*left, operator, &*right)
         {
             return Ok(false);
         }
@@ -284,7 +282,7 @@ fn turns_comparisons_of_numbers(rt: HostRuntime) {
     let alloc = rt.alloc();
     let left = nullable_ints(alloc, &[Some(1), Some(2), Some(2), None, Some(1), None]);
     let right = nullable_ints(alloc, &[Some(2), Some(1), Some(2), Some(1), None, None]);
-    assert!(rt; yes(all_turn(alloc, left, right)));
+    assert!(rt; rt.yes(all_turn(rt, left, right)));
 }
 
 #[test]
@@ -292,7 +290,7 @@ fn turns_comparisons_of_truth_values(rt: HostRuntime) {
     let alloc = rt.alloc();
     let left = nullable_bools(alloc, &[NO, YES, YES, NULL, NO, NULL]);
     let right = nullable_bools(alloc, &[YES, NO, YES, NO, NULL, NULL]);
-    assert!(rt; yes(all_turn(alloc, left, right)));
+    assert!(rt; rt.yes(all_turn(rt, left, right)));
 }
 
 /// The texts 1, 2, 2, null, 1 and null.
@@ -310,5 +308,5 @@ fn right_texts(alloc: Global) -> Made {
 #[test]
 fn turns_comparisons_of_texts(rt: HostRuntime) {
     let alloc = rt.alloc();
-    assert!(rt; yes(all_turn(alloc, left_texts(alloc), right_texts(alloc))));
+    assert!(rt; rt.yes(all_turn(rt, left_texts(alloc), right_texts(alloc))));
 }

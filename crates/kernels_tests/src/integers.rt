@@ -2,7 +2,7 @@
 //! constants.
 
 use crate::questions::{COMPARISONS, compared, says};
-use fixtures::{Made, constant, kept, numbers, yes};
+use fixtures::{Ask, Made, constant, kept, numbers};
 use std::alloc::Global;
 use vortex_columns::{Column, NativePType, PType, Validity, VortexResult};
 use vortex_kernels::CompareOperator;
@@ -68,24 +68,26 @@ fn of_the_least(operator: CompareOperator) -> [bool; 4] {
 
 /// Whether two columns compare as they should.
 fn columns_compare<T: NativePType>(
-    alloc: Global,
+    rt: HostRuntime,
     operator: CompareOperator,
     least: T,
     greatest: T,
 ) -> VortexResult<bool> {
+    let alloc = rt.alloc();
     let left = left_column(alloc, least, greatest);
     let answer = compared(alloc, left, operator, right_column(alloc, least, greatest));
-    says(alloc, answer, &of_columns(operator))
+    says(rt, answer, &of_columns(operator))
 }
 
 /// Whether a column compares with a constant as it should.
 fn greatest_compares<T: NativePType>(
-    alloc: Global,
+    rt: HostRuntime,
     operator: CompareOperator,
     ptype: PType,
     least: T,
     greatest: T,
 ) -> VortexResult<bool> {
+    let alloc = rt.alloc();
     let left = left_column(alloc, least, greatest);
     let answer = compared(
         alloc,
@@ -93,29 +95,30 @@ fn greatest_compares<T: NativePType>(
         operator,
         constant(alloc, ptype, greatest.to_i128(), 4),
     );
-    says(alloc, answer, &beside_the_greatest(operator))
+    says(rt, answer, &beside_the_greatest(operator))
 }
 
 /// Whether a constant compares with a column as it should.
 fn least_compares<T: NativePType>(
-    alloc: Global,
+    rt: HostRuntime,
     operator: CompareOperator,
     ptype: PType,
     least: T,
     greatest: T,
 ) -> VortexResult<bool> {
+    let alloc = rt.alloc();
     let left = constant(alloc, ptype, least.to_i128(), 4);
     let answer = compared(alloc, left, operator, right_column(alloc, least, greatest));
-    says(alloc, answer, &of_the_least(operator))
+    says(rt, answer, &of_the_least(operator))
 }
 
 /// Whether the least and the greatest value of a type compare as they should, in columns and in
 /// constants.
-fn compares<T: NativePType>(alloc: Global, ptype: PType, least: T, greatest: T) -> bool {
+fn compares<T: NativePType>(rt: HostRuntime, ptype: PType, least: T, greatest: T) -> bool {
     for operator in COMPARISONS {
-        if !yes(columns_compare(alloc, operator, least, greatest))
-            || !yes(greatest_compares(alloc, operator, ptype, least, greatest))
-            || !yes(least_compares(alloc, operator, ptype, least, greatest))
+        if !rt.yes(columns_compare(rt, operator, least, greatest))
+            || !rt.yes(greatest_compares(rt, operator, ptype, least, greatest))
+            || !rt.yes(least_compares(rt, operator, ptype, least, greatest))
         {
             return false;
         }
@@ -131,43 +134,46 @@ fn are_of_one_type(left: Made, right: Made) -> VortexResult<bool> {
 
 #[test]
 fn compares_each_signed_type(rt: HostRuntime) {
-    let alloc = rt.alloc();
-    assert!(rt; compares(alloc, PType::I8, -128i8, 127));
-    assert!(rt; compares(alloc, PType::I16, -32768i16, 32767));
-    assert!(rt; compares(alloc, PType::I32, -2147483648i32, 2147483647));
-    assert!(rt;
-        compares(
-            alloc,
-            PType::I64,
-            -9223372036854775808i64,
-            9223372036854775807
-        )
-    );
+    assert!(rt; compares(rt, PType::I8, -128i8, 127));
+    assert!(rt; compares(rt, PType::I16, -32768i16, 32767));
+    assert!(rt; compares(rt, PType::I32, -2147483648i32, 2147483647));
+    assert!(rt; compares(rt, PType::I64, -9223372036854775808i64, 9223372036854775807));
 }
 
 #[test]
 fn compares_each_unsigned_type(rt: HostRuntime) {
-    let alloc = rt.alloc();
-    assert!(rt; compares(alloc, PType::U8, 0u8, 255));
-    assert!(rt; compares(alloc, PType::U16, 0u16, 65535));
-    assert!(rt; compares(alloc, PType::U32, 0u32, 4294967295));
-    assert!(rt; compares(alloc, PType::U64, 0u64, 18446744073709551615));
+    assert!(rt; compares(rt, PType::U8, 0u8, 255));
+    assert!(rt; compares(rt, PType::U16, 0u16, 65535));
+    assert!(rt; compares(rt, PType::U32, 0u32, 4294967295));
+    assert!(rt; compares(rt, PType::U64, 0u64, 18446744073709551615));
 }
 
 #[test]
 fn holds_each_signed_type_in_a_constant(rt: HostRuntime) {
     let alloc = rt.alloc();
-    assert!(rt; yes(are_of_one_type(numbers(alloc, &[1i8]), constant(alloc, PType::I8, 1, 1))));
-    assert!(rt; yes(are_of_one_type(numbers(alloc, &[1i16]), constant(alloc, PType::I16, 1, 1))));
-    assert!(rt; yes(are_of_one_type(numbers(alloc, &[1i32]), constant(alloc, PType::I32, 1, 1))));
-    assert!(rt; yes(are_of_one_type(numbers(alloc, &[1i64]), constant(alloc, PType::I64, 1, 1))));
+    assert!(rt; rt.yes(are_of_one_type(numbers(alloc, &[1i8]), constant(alloc, PType::I8, 1, 1))));
+    assert!(rt;
+        rt.yes(are_of_one_type(numbers(alloc, &[1i16]), constant(alloc, PType::I16, 1, 1)))
+    );
+    assert!(rt;
+        rt.yes(are_of_one_type(numbers(alloc, &[1i32]), constant(alloc, PType::I32, 1, 1)))
+    );
+    assert!(rt;
+        rt.yes(are_of_one_type(numbers(alloc, &[1i64]), constant(alloc, PType::I64, 1, 1)))
+    );
 }
 
 #[test]
 fn holds_each_unsigned_type_in_a_constant(rt: HostRuntime) {
     let alloc = rt.alloc();
-    assert!(rt; yes(are_of_one_type(numbers(alloc, &[1u8]), constant(alloc, PType::U8, 1, 1))));
-    assert!(rt; yes(are_of_one_type(numbers(alloc, &[1u16]), constant(alloc, PType::U16, 1, 1))));
-    assert!(rt; yes(are_of_one_type(numbers(alloc, &[1u32]), constant(alloc, PType::U32, 1, 1))));
-    assert!(rt; yes(are_of_one_type(numbers(alloc, &[1u64]), constant(alloc, PType::U64, 1, 1))));
+    assert!(rt; rt.yes(are_of_one_type(numbers(alloc, &[1u8]), constant(alloc, PType::U8, 1, 1))));
+    assert!(rt;
+        rt.yes(are_of_one_type(numbers(alloc, &[1u16]), constant(alloc, PType::U16, 1, 1)))
+    );
+    assert!(rt;
+        rt.yes(are_of_one_type(numbers(alloc, &[1u32]), constant(alloc, PType::U32, 1, 1)))
+    );
+    assert!(rt;
+        rt.yes(are_of_one_type(numbers(alloc, &[1u64]), constant(alloc, PType::U64, 1, 1)))
+    );
 }

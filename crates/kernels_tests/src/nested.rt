@@ -1,7 +1,7 @@
 //! Comparisons of structs, lists and maps, by rows.
 
 use crate::questions::{NULL, PLAIN, YES, compared, constant_of, says, says_or_null, valid_rows};
-use fixtures::{Made, boxed, is_refused, kept, names, nullable_ints, numbers, yes};
+use fixtures::{Ask, Made, boxed, kept, names, nullable_ints, numbers};
 use std::alloc::Global;
 use vortex_columns::{Column, DType, PType, Scalar, ScalarValue, Validity, VortexResult};
 use vortex_kernels::CompareOperator;
@@ -89,13 +89,14 @@ fn maps(alloc: Global, value: Option<i32>, sizes: &[usize]) -> Made {
 
 /// Whether a comparison answers these rows of non-nullable Bool.
 fn answers(
-    alloc: Global,
+    rt: HostRuntime,
     left: Made,
     operator: CompareOperator,
     right: Made,
     wanted: &[bool],
 ) -> bool {
-    yes(says(alloc, compared(alloc, left, operator, right), wanted))
+    let alloc = rt.alloc();
+    rt.yes(says(rt, compared(alloc, left, operator, right), wanted))
 }
 
 /// The structs of 1 and 2, and of 2 and 0.
@@ -112,12 +113,12 @@ fn right_pairs(alloc: Global) -> Made {
 fn compares_structs_field_by_field(rt: HostRuntime) {
     let alloc = rt.alloc();
     let (left, right) = (left_pairs(alloc), right_pairs(alloc));
-    assert!(rt; answers(alloc, left, CompareOperator::Lt, right, &[true, false]));
+    assert!(rt; answers(rt, left, CompareOperator::Lt, right, &[true, false]));
     let (left, right) = (left_pairs(alloc), right_pairs(alloc));
-    assert!(rt; answers(alloc, left, CompareOperator::Gt, right, &[false, true]));
+    assert!(rt; answers(rt, left, CompareOperator::Gt, right, &[false, true]));
     let left = pairs(alloc, &["a", "b"], &[1, 1], &[3, 3]);
     let right = pairs(alloc, &["a", "b"], &[1, 1], &[3, 4]);
-    assert!(rt; answers(alloc, left, CompareOperator::Eq, right, &[true, false]));
+    assert!(rt; answers(rt, left, CompareOperator::Eq, right, &[true, false]));
 }
 
 /// The structs of null and of 0.
@@ -147,16 +148,16 @@ fn null_and_negative(alloc: Global) -> Made {
 fn compares_structs_with_nulls(rt: HostRuntime) {
     let alloc = rt.alloc();
     let (left, right) = (null_and_zero(alloc), zeros(alloc));
-    assert!(rt; answers(alloc, left, CompareOperator::Lt, right, &[true, false]));
+    assert!(rt; answers(rt, left, CompareOperator::Lt, right, &[true, false]));
     let (left, right) = (null_and_zero(alloc), zeros(alloc));
-    assert!(rt; answers(alloc, left, CompareOperator::Eq, right, &[false, true]));
+    assert!(rt; answers(rt, left, CompareOperator::Eq, right, &[false, true]));
     let less = compared(
         alloc,
         null_and_negative(alloc),
         CompareOperator::Lt,
         zeros(alloc),
     );
-    assert!(rt; yes(says_or_null(alloc, less, &[NULL, YES])));
+    assert!(rt; rt.yes(says_or_null(rt, less, &[NULL, YES])));
 }
 
 #[test]
@@ -165,7 +166,7 @@ fn refuses_structs_of_other_names(rt: HostRuntime) {
     let left = pairs(alloc, &["a", "b"], &[1], &[2]);
     let right = pairs(alloc, &["b", "a"], &[1], &[2]);
     let equal = compared(alloc, left, CompareOperator::Eq, right);
-    assert!(rt; is_refused(equal, "TypeMismatch.Compare"));
+    assert!(rt; rt.is_refused(equal, "TypeMismatch.Compare"));
 }
 
 /// The lists [1, 2], [2], [null] and [].
@@ -191,7 +192,7 @@ fn compares_lists_by_the_first_difference(rt: HostRuntime) {
     let (left, right) = (left_lists(alloc), right_lists(alloc));
     assert!(rt;
         answers(
-            alloc,
+            rt,
             left,
             CompareOperator::Lt,
             right,
@@ -201,7 +202,7 @@ fn compares_lists_by_the_first_difference(rt: HostRuntime) {
     let (left, right) = (left_lists(alloc), right_lists(alloc));
     assert!(rt;
         answers(
-            alloc,
+            rt,
             left,
             CompareOperator::Gt,
             right,
@@ -211,7 +212,7 @@ fn compares_lists_by_the_first_difference(rt: HostRuntime) {
     let (left, right) = (left_lists(alloc), right_lists(alloc));
     assert!(rt;
         answers(
-            alloc,
+            rt,
             left,
             CompareOperator::Eq,
             right,
@@ -224,9 +225,9 @@ fn compares_lists_by_the_first_difference(rt: HostRuntime) {
 fn compares_maps(rt: HostRuntime) {
     let alloc = rt.alloc();
     let (null, zero) = (maps(alloc, None, &[1, 0]), maps(alloc, Some(0), &[1, 1]));
-    assert!(rt; answers(alloc, null, CompareOperator::Lt, zero, &[true, true]));
+    assert!(rt; answers(rt, null, CompareOperator::Lt, zero, &[true, true]));
     let (null, zero) = (maps(alloc, None, &[1, 0]), maps(alloc, Some(0), &[1, 1]));
-    assert!(rt; answers(alloc, null, CompareOperator::Eq, zero, &[false, false]));
+    assert!(rt; answers(rt, null, CompareOperator::Eq, zero, &[false, false]));
 }
 
 /// Two lists of no elements, of a fixed size.
@@ -256,9 +257,9 @@ fn bare_structs(alloc: Global) -> Made {
 fn compares_values_of_no_parts(rt: HostRuntime) {
     let alloc = rt.alloc();
     let (left, right) = (empty_lists(alloc), empty_lists(alloc));
-    assert!(rt; answers(alloc, left, CompareOperator::Eq, right, &[true, true]));
+    assert!(rt; answers(rt, left, CompareOperator::Eq, right, &[true, true]));
     let (left, right) = (bare_structs(alloc), bare_structs(alloc));
-    assert!(rt; answers(alloc, left, CompareOperator::Eq, right, &[true, true, true]));
+    assert!(rt; answers(rt, left, CompareOperator::Eq, right, &[true, true, true]));
 }
 
 /// The integers as the elements of a list.
@@ -291,7 +292,7 @@ fn overlapping_lists(alloc: Global) -> Made {
 fn compares_overlapping_lists_with_a_constant(rt: HostRuntime) {
     let alloc = rt.alloc();
     let (left, right) = (overlapping_lists(alloc), constant_lists(alloc));
-    assert!(rt; answers(alloc, left, CompareOperator::Eq, right, &[true, false]));
+    assert!(rt; answers(rt, left, CompareOperator::Eq, right, &[true, false]));
     let (left, right) = (constant_lists(alloc), overlapping_lists(alloc));
-    assert!(rt; answers(alloc, left, CompareOperator::Eq, right, &[true, false]));
+    assert!(rt; answers(rt, left, CompareOperator::Eq, right, &[true, false]));
 }

@@ -4,7 +4,7 @@ use crate::questions::{
     NULLABLE, PLAIN, calculated, constant_of, has_numbers, null_integer, nullable_numbers,
     number_at, plain_texts,
 };
-use fixtures::{Made, constant, is_refused, is_uneven, kept, nullable_ints, numbers, yes};
+use fixtures::{Ask, Made, constant, kept, nullable_ints, numbers, same};
 use std::alloc::Global;
 use vortex_columns::{BitBuffer, Cell, Column, NumericOperator, PType, Validity, VortexResult};
 
@@ -18,20 +18,20 @@ fn i8_by(alloc: Global, left: i8, operator: NumericOperator, right: i8) -> Made 
 fn divides_toward_zero(rt: HostRuntime) {
     let alloc = rt.alloc();
     let quotient = i8_by(alloc, -7, NumericOperator::Div, 2);
-    assert!(rt; yes(has_numbers(alloc, quotient, PLAIN, &[Some(-3)])));
+    assert!(rt; rt.yes(has_numbers(rt, quotient, PLAIN, &[Some(-3)])));
 }
 
 #[test]
 fn refuses_what_the_type_does_not_hold(rt: HostRuntime) {
     let alloc = rt.alloc();
     let quotient = i8_by(alloc, -128, NumericOperator::Div, -1);
-    assert!(rt; is_refused(quotient, "Arithmetic.Div"));
+    assert!(rt; rt.is_refused(quotient, "Arithmetic.Div"));
     let product = i8_by(alloc, -128, NumericOperator::Mul, -1);
-    assert!(rt; is_refused(product, "Arithmetic.Mul"));
+    assert!(rt; rt.is_refused(product, "Arithmetic.Mul"));
     let sum = i8_by(alloc, 127, NumericOperator::Add, 1);
-    assert!(rt; is_refused(sum, "Arithmetic.Add"));
+    assert!(rt; rt.is_refused(sum, "Arithmetic.Add"));
     let difference = i8_by(alloc, -128, NumericOperator::Sub, 1);
-    assert!(rt; is_refused(difference, "Arithmetic.Sub"));
+    assert!(rt; rt.is_refused(difference, "Arithmetic.Sub"));
 }
 
 /// The quotient of 7 and a null by 2 and 0.
@@ -50,8 +50,8 @@ fn over_null(alloc: Global) -> Made {
 #[test]
 fn no_fault_beside_null(rt: HostRuntime) {
     let alloc = rt.alloc();
-    assert!(rt; yes(has_numbers(alloc, beside_null(alloc), NULLABLE, &[Some(3), None])));
-    assert!(rt; yes(has_numbers(alloc, over_null(alloc), NULLABLE, &[None])));
+    assert!(rt; rt.yes(has_numbers(rt, beside_null(alloc), NULLABLE, &[Some(3), None])));
+    assert!(rt; rt.yes(has_numbers(rt, over_null(alloc), NULLABLE, &[None])));
 }
 
 /// The greatest u64 and 0.
@@ -69,7 +69,7 @@ fn greatest_and_zero(alloc: Global) -> Made {
 fn adds_zero_to_the_greatest(rt: HostRuntime) {
     let alloc = rt.alloc();
     let sum = greatest_and_zero(alloc);
-    assert!(rt; yes(has_numbers(alloc, sum, PLAIN, &[Some(18446744073709551615)])));
+    assert!(rt; rt.yes(has_numbers(rt, sum, PLAIN, &[Some(18446744073709551615)])));
 }
 
 /// The sum of columns of i32.
@@ -84,17 +84,17 @@ fn refuses_types_then_lengths(rt: HostRuntime) {
     let two = plain_texts(alloc, &["a", "b"]);
     let three = plain_texts(alloc, &["a", "b", "c"]);
     let sum = calculated(alloc, two, NumericOperator::Add, three);
-    assert!(rt; is_refused(sum, "TypeMismatch.Arithmetic"));
+    assert!(rt; rt.is_refused(sum, "TypeMismatch.Arithmetic"));
     let (wide, narrow) = (numbers(alloc, &[1i32]), numbers(alloc, &[1i16]));
     let sum = calculated(alloc, wide, NumericOperator::Add, narrow);
-    assert!(rt; is_refused(sum, "TypeMismatch.Arithmetic"));
-    assert!(rt; is_uneven(sum_of(alloc, &[1, 2], &[1, 2, 3]), (2, 3)));
+    assert!(rt; rt.is_refused(sum, "TypeMismatch.Arithmetic"));
+    assert!(rt; rt.is_uneven(sum_of(alloc, &[1, 2], &[1, 2, 3]), (2, 3)));
     let none = sum_of(alloc, &[], &[]);
-    assert!(rt; yes(has_numbers(alloc, none, PLAIN, &[])));
+    assert!(rt; rt.yes(has_numbers(rt, none, PLAIN, &[])));
 }
 
 /// So many of an i32, as a constant.
-fn same(alloc: Global, value: i128, len: usize) -> Made {
+fn repeated(alloc: Global, value: i128, len: usize) -> Made {
     constant(alloc, PType::I32, value, len)
 }
 
@@ -106,20 +106,20 @@ fn difference(alloc: Global, left: Made, right: Made) -> Made {
 #[test]
 fn takes_constants_on_either_side(rt: HostRuntime) {
     let alloc = rt.alloc();
-    let right = difference(alloc, numbers(alloc, &[1i32, 2]), same(alloc, 5, 2));
-    assert!(rt; yes(has_numbers(alloc, right, PLAIN, &[Some(-4), Some(-3)])));
-    let left = difference(alloc, same(alloc, 5, 2), numbers(alloc, &[1i32, 2]));
-    assert!(rt; yes(has_numbers(alloc, left, PLAIN, &[Some(4), Some(3)])));
-    let both = difference(alloc, same(alloc, 5, 2), same(alloc, 7, 2));
-    assert!(rt; yes(has_numbers(alloc, both, PLAIN, &[Some(-2), Some(-2)])));
+    let right = difference(alloc, numbers(alloc, &[1i32, 2]), repeated(alloc, 5, 2));
+    assert!(rt; rt.yes(has_numbers(rt, right, PLAIN, &[Some(-4), Some(-3)])));
+    let left = difference(alloc, repeated(alloc, 5, 2), numbers(alloc, &[1i32, 2]));
+    assert!(rt; rt.yes(has_numbers(rt, left, PLAIN, &[Some(4), Some(3)])));
+    let both = difference(alloc, repeated(alloc, 5, 2), repeated(alloc, 7, 2));
+    assert!(rt; rt.yes(has_numbers(rt, both, PLAIN, &[Some(-2), Some(-2)])));
 }
 
 /// Whether an answer is a constant of that number.
-fn is_constant(answer: Made, wanted: i128) -> VortexResult<bool> {
+fn is_constant(rt: HostRuntime, answer: Made, wanted: i128) -> VortexResult<bool> {
     let answer = answer?;
     Ok(match answer.as_constant() {
         Some(scalar) => match scalar.cell() {
-            Cell::Int(number) => number == wanted,
+            Cell::Int(number) => same(rt, number, wanted),
             _ => false,
         },
         None => false,
@@ -128,24 +128,17 @@ fn is_constant(answer: Made, wanted: i128) -> VortexResult<bool> {
 
 /// The quotient of two constants of so many rows.
 fn quotient(alloc: Global, left: i128, right: i128, len: usize) -> Made {
-    let (left, right) = (same(alloc, left, len), same(alloc, right, len));
+    let (left, right) = (repeated(alloc, left, len), repeated(alloc, right, len));
     calculated(alloc, left, NumericOperator::Div, right)
 }
 
 #[test]
 fn two_constants_answer_a_constant(rt: HostRuntime) {
     let alloc = rt.alloc();
-    assert!(rt; yes(is_constant(quotient(alloc, -7, 2, 3), -3)));
-    assert!(rt;
-        yes(has_numbers(
-            alloc,
-            quotient(alloc, -7, 2, 2),
-            PLAIN,
-            &[Some(-3), Some(-3)]
-        ))
-    );
-    assert!(rt; is_refused(quotient(alloc, 7, 0, 1), "Arithmetic.Div"));
-    assert!(rt; yes(has_numbers(alloc, quotient(alloc, 7, 0, 0), PLAIN, &[])));
+    assert!(rt; rt.yes(is_constant(rt, quotient(alloc, -7, 2, 3), -3)));
+    assert!(rt; rt.yes(has_numbers(rt, quotient(alloc, -7, 2, 2), PLAIN, &[Some(-3), Some(-3)])));
+    assert!(rt; rt.is_refused(quotient(alloc, 7, 0, 1), "Arithmetic.Div"));
+    assert!(rt; rt.yes(has_numbers(rt, quotient(alloc, 7, 0, 0), PLAIN, &[])));
 }
 
 /// Two nulls of i32, as a constant.
@@ -157,9 +150,9 @@ fn nulls(alloc: Global) -> Made {
 fn takes_constant_nulls(rt: HostRuntime) {
     let alloc = rt.alloc();
     let left = difference(alloc, nulls(alloc), numbers(alloc, &[1i32, 2]));
-    assert!(rt; yes(has_numbers(alloc, left, NULLABLE, &[None, None])));
-    let right = difference(alloc, same(alloc, -2147483648, 2), nulls(alloc));
-    assert!(rt; yes(has_numbers(alloc, right, NULLABLE, &[None, None])));
+    assert!(rt; rt.yes(has_numbers(rt, left, NULLABLE, &[None, None])));
+    let right = difference(alloc, repeated(alloc, -2147483648, 2), nulls(alloc));
+    assert!(rt; rt.yes(has_numbers(rt, right, NULLABLE, &[None, None])));
 }
 
 /// 130 rows of i16, of which row 64 is null: 0, but the greatest in one row.
@@ -194,9 +187,9 @@ fn are_ones(column: Made) -> VortexResult<bool> {
 #[test]
 fn looks_at_all_rows(rt: HostRuntime) {
     let alloc = rt.alloc();
-    assert!(rt; yes(are_ones(one_more(alloc, 64))));
-    assert!(rt; is_refused(one_more(alloc, 129), "Arithmetic.Add"));
-    assert!(rt; is_refused(one_more(alloc, 0), "Arithmetic.Add"));
+    assert!(rt; rt.yes(are_ones(one_more(alloc, 64))));
+    assert!(rt; rt.is_refused(one_more(alloc, 129), "Arithmetic.Add"));
+    assert!(rt; rt.is_refused(one_more(alloc, 0), "Arithmetic.Add"));
 }
 
 /// The greatest i64 and -3, times 2.
@@ -238,10 +231,10 @@ fn least_products(alloc: Global) -> Made {
 fn products_of_64_bits_fault_where_valid(rt: HostRuntime) {
     let alloc = rt.alloc();
     let least = Some(-9223372036854775808);
-    assert!(rt; yes(has_numbers(alloc, least_products(alloc), PLAIN, &[least, least])));
-    assert!(rt; yes(has_numbers(alloc, doubled(alloc, false), NULLABLE, &[None, Some(-6)])));
-    assert!(rt; is_refused(doubled(alloc, true), "Arithmetic.Mul"));
+    assert!(rt; rt.yes(has_numbers(rt, least_products(alloc), PLAIN, &[least, least])));
+    assert!(rt; rt.yes(has_numbers(rt, doubled(alloc, false), NULLABLE, &[None, Some(-6)])));
+    assert!(rt; rt.is_refused(doubled(alloc, true), "Arithmetic.Mul"));
     let unsigned = doubled_unsigned(alloc, false);
-    assert!(rt; yes(has_numbers(alloc, unsigned, NULLABLE, &[Some(6), None])));
-    assert!(rt; is_refused(doubled_unsigned(alloc, true), "Arithmetic.Mul"));
+    assert!(rt; rt.yes(has_numbers(rt, unsigned, NULLABLE, &[Some(6), None])));
+    assert!(rt; rt.is_refused(doubled_unsigned(alloc, true), "Arithmetic.Mul"));
 }

@@ -1,8 +1,7 @@
 //! The tables of the operators: their texts, their order, and what turns them.
 
 use crate::questions::combined;
-use fixtures::{bools, yes};
-use std::alloc::Global;
+use fixtures::{Ask, bools, same};
 use vortex_columns::VortexResult;
 use vortex_kernels::{CompareOperator, Operator};
 
@@ -45,54 +44,57 @@ fn are_in_order<T: PartialOrd + Copy>(operators: &[T]) -> bool {
 }
 
 /// Whether an operator is written so, and found by what is written.
-fn is_written(alloc: Global, operator: Operator, text: &str) -> VortexResult<bool> {
+fn is_written(rt: HostRuntime, operator: Operator, text: &str) -> VortexResult<bool> {
+    let alloc = rt.alloc();
     let printed = format!(in alloc; "{operator}")?;
     let found = Operator::from_text(text) == Some(operator);
-    Ok(found && operator.text() == text && printed.as_str() == text)
+    Ok(found && same(rt, operator.text(), text) && same(rt, printed.as_str(), text))
 }
 
 /// Whether a comparison is of that operator, and written so.
 fn is_compared_by(
-    alloc: Global,
+    rt: HostRuntime,
     compare: VortexResult<CompareOperator>,
     operator: Operator,
     text: &str,
 ) -> VortexResult<bool> {
+    let alloc = rt.alloc();
     let compare = compare?;
     let printed = format!(in alloc; "{compare}")?;
-    Ok(Operator::from(compare) == operator && printed.as_str() == text)
+    Ok(same(rt, Operator::from(compare), operator) && same(rt, printed.as_str(), text))
 }
 
 /// Whether an operator is a comparison, and it and the comparison are written so.
-fn is_comparison(alloc: Global, operator: Operator, text: &str) -> bool {
+fn is_comparison(rt: HostRuntime, operator: Operator, text: &str) -> bool {
     operator.is_comparison()
-        && yes(is_written(alloc, operator, text))
-        && yes(is_compared_by(alloc, CompareOperator::try_from(operator), operator, text))
+        && rt.yes(is_written(rt, operator, text))
+        && rt.yes(is_compared_by(rt, CompareOperator::try_from(operator), operator, text))
 }
 
 /// Whether an operator is no comparison, and written so.
-fn is_other(alloc: Global, operator: Operator, text: &str) -> bool {
+fn is_other(rt: HostRuntime, operator: Operator, text: &str) -> bool {
     match CompareOperator::try_from(operator) {
         Ok(_) => false,
         Err(_) => {
             (operator.is_boolean() || operator.is_arithmetic())
-                && yes(is_written(alloc, operator, text))
+                && rt.yes(is_written(rt, operator, text))
         }
     }
 }
 
 /// Whether a call is refused by that number and with that text.
 fn is_refused_with<T: Drop>(
-    alloc: Global,
+    rt: HostRuntime,
     answer: VortexResult<T>,
     number: u8,
     text: &str,
 ) -> VortexResult<bool> {
+    let alloc = rt.alloc();
     match answer {
         Ok(_) => Ok(false),
         Err(error) => {
             let printed = format!(in alloc; "{error}")?;
-            Ok(error.number() == number && printed.as_str() == text)
+            Ok(same(rt, error.number(), number) && same(rt, printed.as_str(), text))
         }
     }
 }
@@ -117,24 +119,22 @@ fn orders_the_operators(rt: HostRuntime) {
 
 #[test]
 fn prints_the_comparisons(rt: HostRuntime) {
-    let alloc = rt.alloc();
-    assert!(rt; is_comparison(alloc, Operator::Eq, "="));
-    assert!(rt; is_comparison(alloc, Operator::NotEq, "!="));
-    assert!(rt; is_comparison(alloc, Operator::Gt, ">"));
-    assert!(rt; is_comparison(alloc, Operator::Gte, ">="));
-    assert!(rt; is_comparison(alloc, Operator::Lt, "<"));
-    assert!(rt; is_comparison(alloc, Operator::Lte, "<="));
+    assert!(rt; is_comparison(rt, Operator::Eq, "="));
+    assert!(rt; is_comparison(rt, Operator::NotEq, "!="));
+    assert!(rt; is_comparison(rt, Operator::Gt, ">"));
+    assert!(rt; is_comparison(rt, Operator::Gte, ">="));
+    assert!(rt; is_comparison(rt, Operator::Lt, "<"));
+    assert!(rt; is_comparison(rt, Operator::Lte, "<="));
 }
 
 #[test]
 fn prints_the_other_operators(rt: HostRuntime) {
-    let alloc = rt.alloc();
-    assert!(rt; is_other(alloc, Operator::And, "and"));
-    assert!(rt; is_other(alloc, Operator::Or, "or"));
-    assert!(rt; is_other(alloc, Operator::Add, "+"));
-    assert!(rt; is_other(alloc, Operator::Sub, "-"));
-    assert!(rt; is_other(alloc, Operator::Mul, "*"));
-    assert!(rt; is_other(alloc, Operator::Div, "/"));
+    assert!(rt; is_other(rt, Operator::And, "and"));
+    assert!(rt; is_other(rt, Operator::Or, "or"));
+    assert!(rt; is_other(rt, Operator::Add, "+"));
+    assert!(rt; is_other(rt, Operator::Sub, "-"));
+    assert!(rt; is_other(rt, Operator::Mul, "*"));
+    assert!(rt; is_other(rt, Operator::Div, "/"));
 }
 
 #[test]
@@ -153,9 +153,9 @@ fn refuses_other_operators(rt: HostRuntime) {
         Operator::Eq,
         bools(alloc, &[true]),
     );
-    assert!(rt; yes(is_refused_with(alloc, equal, 4, "= is no boolean operator")));
+    assert!(rt; rt.yes(is_refused_with(rt, equal, 4, "= is no boolean operator")));
     let and = CompareOperator::try_from(Operator::And);
-    assert!(rt; yes(is_refused_with(alloc, and, 5, "and is no comparison")));
+    assert!(rt; rt.yes(is_refused_with(rt, and, 5, "and is no comparison")));
 }
 
 #[test]

@@ -1,7 +1,7 @@
 //! One call of a kernel each, and short questions to its answer.
 ghost use Rattle.std.specs.Prelude.{◌<◌, length};
 
-use fixtures::{Made, kept, rows_of, texts};
+use fixtures::{Made, kept, rows_of, same, texts};
 use std::alloc::Global;
 use vortex_columns::{
     BitBuffer, Cell, Column, DType, ExecutionCtx, NativePType, Nullability, NumericOperator, PType,
@@ -82,34 +82,36 @@ pub(crate) fn negated(alloc: Global, column: Made) -> Made {
 
 /// Whether an answer is these rows of Bool.
 pub(crate) fn has_rows(
-    alloc: Global,
+    rt: HostRuntime,
     answer: Made,
     nullability: Nullability,
     wanted: &[Option<bool>],
 ) -> VortexResult<bool> {
+    let alloc = rt.alloc();
     let answer = answer?;
     if !answer.dtype().is_boolean() || answer.dtype().nullability() != nullability {
-        return Ok(false);
+        return Ok(same(rt, answer.dtype(), &DType::Bool(nullability)));
     }
-    Ok(rows_of(alloc, &*answer)?.as_slice() == wanted)
+    Ok(same(rt, rows_of(alloc, &*answer)?.as_slice(), wanted))
 }
 
 /// Whether an answer is these rows of non-nullable Bool.
-pub(crate) fn says(alloc: Global, answer: Made, wanted: &[bool]) -> VortexResult<bool> {
+pub(crate) fn says(rt: HostRuntime, answer: Made, wanted: &[bool]) -> VortexResult<bool> {
+    let alloc = rt.alloc();
     let mut rows = Vec::new(alloc);
     for row in wanted {
         rows.push(Some(*row))?;
     }
-    has_rows(alloc, answer, PLAIN, &rows)
+    has_rows(rt, answer, PLAIN, &rows)
 }
 
 /// Whether an answer is these rows of nullable Bool.
 pub(crate) fn says_or_null(
-    alloc: Global,
+    rt: HostRuntime,
     answer: Made,
     wanted: &[Option<bool>],
 ) -> VortexResult<bool> {
-    has_rows(alloc, answer, NULLABLE, wanted)
+    has_rows(rt, answer, NULLABLE, wanted)
 }
 
 /// The number in a row, where there is one.
@@ -133,16 +135,17 @@ fn numbers_of(alloc: Global, column: &Column) -> VortexResult<Vec<Option<i128>>>
 
 /// Whether an answer is these rows of integers.
 pub(crate) fn has_numbers(
-    alloc: Global,
+    rt: HostRuntime,
     answer: Made,
     nullability: Nullability,
     wanted: &[Option<i128>],
 ) -> VortexResult<bool> {
+    let alloc = rt.alloc();
     let answer = answer?;
     if !answer.dtype().is_primitive() || answer.dtype().nullability() != nullability {
         return Ok(false);
     }
-    Ok(numbers_of(alloc, &*answer)?.as_slice() == wanted)
+    Ok(same(rt, numbers_of(alloc, &*answer)?.as_slice(), wanted))
 }
 
 /// The rows that are not null, as a list of bits.

@@ -1,7 +1,7 @@
 //! Comparisons of scalars.
 
 use crate::questions::{COMPARISONS, NO, NULL, NULLABLE, PLAIN, YES, null_integer};
-use fixtures::{is_refused, yes};
+use fixtures::{Ask, same};
 use std::alloc::Global;
 use vortex_columns::{DType, Nullability, PType, Scalar, ScalarValue, VortexResult};
 use vortex_kernels::{CompareOperator, scalar_cmp};
@@ -18,6 +18,7 @@ fn compared(
 
 /// Whether an answer is this truth value or null of Bool.
 fn says(
+    rt: HostRuntime,
     answer: VortexResult<Scalar>,
     nullability: Nullability,
     wanted: Option<bool>,
@@ -26,7 +27,7 @@ fn says(
     if !answer.dtype().is_boolean() || answer.dtype().nullability() != nullability {
         return Ok(false);
     }
-    Ok(answer.as_bool_opt() == wanted && answer.is_null() == wanted.is_none())
+    Ok(same(rt, answer.as_bool_opt(), wanted) && same(rt, answer.is_null(), wanted.is_none()))
 }
 
 /// The text a.
@@ -48,9 +49,11 @@ fn nullable_two() -> VortexResult<Scalar> {
 }
 
 /// Whether a null beside a text answers a null by each comparison.
-fn null_beside_text_is_null(alloc: Global) -> bool {
+fn null_beside_text_is_null(rt: HostRuntime) -> bool {
+    let alloc = rt.alloc();
     for operator in COMPARISONS {
-        if !yes(says(
+        if !rt.yes(says(
+            rt,
             compared(null_integer(), operator, text(alloc)),
             NULLABLE,
             NULL,
@@ -62,9 +65,10 @@ fn null_beside_text_is_null(alloc: Global) -> bool {
 }
 
 /// Whether a number beside a text is refused by each comparison.
-fn number_beside_text_is_refused(alloc: Global) -> bool {
+fn number_beside_text_is_refused(rt: HostRuntime) -> bool {
+    let alloc = rt.alloc();
     for operator in COMPARISONS {
-        if !is_refused(
+        if !rt.is_refused(
             compared(one(), operator, text(alloc)),
             "TypeMismatch.Scalars",
         ) {
@@ -76,17 +80,16 @@ fn number_beside_text_is_refused(alloc: Global) -> bool {
 
 #[test]
 fn compares_other_types_only_where_one_is_null(rt: HostRuntime) {
-    let alloc = rt.alloc();
-    assert!(rt; null_beside_text_is_null(alloc));
-    assert!(rt; number_beside_text_is_refused(alloc));
+    assert!(rt; null_beside_text_is_null(rt));
+    assert!(rt; number_beside_text_is_refused(rt));
 }
 
 #[test]
 fn answers_a_nullable_truth_value_if_a_side_is(rt: HostRuntime) {
     let differ = compared(one(), CompareOperator::NotEq, nullable_two());
-    assert!(rt; yes(says(differ, NULLABLE, YES)));
+    assert!(rt; rt.yes(says(rt, differ, NULLABLE, YES)));
     let differ = compared(nullable_two(), CompareOperator::NotEq, one());
-    assert!(rt; yes(says(differ, NULLABLE, YES)));
+    assert!(rt; rt.yes(says(rt, differ, NULLABLE, YES)));
     let differ = compared(one(), CompareOperator::NotEq, one());
-    assert!(rt; yes(says(differ, PLAIN, NO)));
+    assert!(rt; rt.yes(says(rt, differ, PLAIN, NO)));
 }

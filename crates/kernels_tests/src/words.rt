@@ -6,7 +6,7 @@ ghost use Rattle.vortex_operators.specs.Operators.{is_boolean};
 use crate::questions::{
     COMPARISONS, NO, NULL, NULLABLE, YES, combined, compared, has_rows, negated, says, says_or_null,
 };
-use fixtures::{Made, is_refused, kept, yes};
+use fixtures::{Ask, Made, kept};
 use std::alloc::Global;
 use vortex_columns::{
     BitBuffer, Column, ExecutionCtx, Nullability, Validity, VortexError, VortexResult,
@@ -134,30 +134,32 @@ struct Sides<'a> {
     around: bool,
 }
 
-fn agrees(alloc: Global, sides: &Sides<'_>, asked: Asked) -> VortexResult<bool> {
+fn agrees(rt: HostRuntime, sides: &Sides<'_>, asked: Asked) -> VortexResult<bool> {
+    let alloc = rt.alloc();
     let left = column_at(alloc, sides.left, sides.offsets.0, sides.around);
     let right = column_at(alloc, sides.right, sides.offsets.1, sides.around);
     let rows = wanted(alloc, asked, sides.left, sides.right)?;
-    has_rows(alloc, answer(alloc, asked, left, right), NULLABLE, &rows)
+    has_rows(rt, answer(alloc, asked, left, right), NULLABLE, &rows)
 }
 
 /// Whether And, Or and the comparisons of two sides agree with what is wanted.
-fn all_agree(alloc: Global, sides: &Sides<'_>) -> VortexResult<bool> {
+fn all_agree(rt: HostRuntime, sides: &Sides<'_>) -> VortexResult<bool> {
     for operator in COMPARISONS {
-        if !agrees(alloc, sides, Asked::Order(operator))? {
+        if !agrees(rt, sides, Asked::Order(operator))? {
             return Ok(false);
         }
     }
-    Ok(agrees(alloc, sides, Asked::Both)? && agrees(alloc, sides, Asked::Either)?)
+    Ok(agrees(rt, sides, Asked::Both)? && agrees(rt, sides, Asked::Either)?)
 }
 
 /// Whether Not of a side agrees.
 fn not_agrees(
-    alloc: Global,
+    rt: HostRuntime,
     rows: &[Option<bool>],
     offset: u8,
     around: bool,
 ) -> VortexResult<bool> {
+    let alloc = rt.alloc();
     let mut turned = Vec::new(alloc);
     for row in rows {
         turned.push(match row {
@@ -166,11 +168,12 @@ fn not_agrees(
         })?;
     }
     let answer = negated(alloc, column_at(alloc, rows, offset, around));
-    has_rows(alloc, answer, NULLABLE, &turned)
+    has_rows(rt, answer, NULLABLE, &turned)
 }
 
 /// Whether all agree beside one left offset, at each right one.
-fn agree_beside(alloc: Global, len: usize, offset: u8) -> VortexResult<bool> {
+fn agree_beside(rt: HostRuntime, len: usize, offset: u8) -> VortexResult<bool> {
+    let alloc = rt.alloc();
     let left = rows(alloc, len, 3)?;
     let right = rows(alloc, len, 7)?;
     for place in 0..32u8 {
@@ -180,17 +183,17 @@ fn agree_beside(alloc: Global, len: usize, offset: u8) -> VortexResult<bool> {
             offsets: (offset, place % 16),
             around: place < 16,
         };
-        if !all_agree(alloc, &sides)? {
+        if !all_agree(rt, &sides)? {
             return Ok(false);
         }
     }
-    Ok(not_agrees(alloc, &left, offset, false)? && not_agrees(alloc, &left, offset, true)?)
+    Ok(not_agrees(rt, &left, offset, false)? && not_agrees(rt, &left, offset, true)?)
 }
 
 /// Whether all agree at each pair of offsets.
-fn agree_at_every_offset(alloc: Global, len: usize) -> VortexResult<bool> {
+fn agree_at_every_offset(rt: HostRuntime, len: usize) -> VortexResult<bool> {
     for offset in 0..16u8 {
-        if !agree_beside(alloc, len, offset)? {
+        if !agree_beside(rt, len, offset)? {
             return Ok(false);
         }
     }
@@ -199,18 +202,16 @@ fn agree_at_every_offset(alloc: Global, len: usize) -> VortexResult<bool> {
 
 #[test]
 fn offsets_change_nothing_below_a_word(rt: HostRuntime) {
-    let alloc = rt.alloc();
-    assert!(rt; yes(agree_at_every_offset(alloc, 0)));
-    assert!(rt; yes(agree_at_every_offset(alloc, 1)));
-    assert!(rt; yes(agree_at_every_offset(alloc, 63)));
+    assert!(rt; rt.yes(agree_at_every_offset(rt, 0)));
+    assert!(rt; rt.yes(agree_at_every_offset(rt, 1)));
+    assert!(rt; rt.yes(agree_at_every_offset(rt, 63)));
 }
 
 #[test]
 fn offsets_change_nothing_from_a_word_on(rt: HostRuntime) {
-    let alloc = rt.alloc();
-    assert!(rt; yes(agree_at_every_offset(alloc, 64)));
-    assert!(rt; yes(agree_at_every_offset(alloc, 65)));
-    assert!(rt; yes(agree_at_every_offset(alloc, 130)));
+    assert!(rt; rt.yes(agree_at_every_offset(rt, 64)));
+    assert!(rt; rt.yes(agree_at_every_offset(rt, 65)));
+    assert!(rt; rt.yes(agree_at_every_offset(rt, 130)));
 }
 
 /// So many bytes that are alike, as bits at an offset.
@@ -242,8 +243,8 @@ fn even_rows(alloc: Global) -> VortexResult<Vec<bool>> {
 fn seventy_rows_at_two_offsets(rt: HostRuntime) {
     let alloc = rt.alloc();
     let even = even_rows(alloc).expect(&rt, "memory");
-    assert!(rt; yes(says(alloc, seventy(alloc, Operator::And), &even)));
-    assert!(rt; yes(says(alloc, seventy(alloc, Operator::Or), &[true; 70])));
+    assert!(rt; rt.yes(says(rt, seventy(alloc, Operator::And), &even)));
+    assert!(rt; rt.yes(says(rt, seventy(alloc, Operator::Or), &[true; 70])));
 }
 
 /// The comparison of two rows, from bit 1 of byte 6 on, with two from the beginning of byte 2.
@@ -259,10 +260,10 @@ fn two_rows(alloc: Global, operator: CompareOperator) -> Made {
 #[test]
 fn compares_bits_at_two_offsets(rt: HostRuntime) {
     let alloc = rt.alloc();
-    assert!(rt; yes(says(alloc, two_rows(alloc, CompareOperator::Lt), &[false, false])));
-    assert!(rt; yes(says(alloc, two_rows(alloc, CompareOperator::Gte), &[true, true])));
-    assert!(rt; yes(says(alloc, two_rows(alloc, CompareOperator::Eq), &[false, true])));
-    assert!(rt; yes(says(alloc, two_rows(alloc, CompareOperator::Gt), &[true, false])));
+    assert!(rt; rt.yes(says(rt, two_rows(alloc, CompareOperator::Lt), &[false, false])));
+    assert!(rt; rt.yes(says(rt, two_rows(alloc, CompareOperator::Gte), &[true, true])));
+    assert!(rt; rt.yes(says(rt, two_rows(alloc, CompareOperator::Eq), &[false, true])));
+    assert!(rt; rt.yes(says(rt, two_rows(alloc, CompareOperator::Gt), &[true, false])));
 }
 
 /// Two rows of nulls over Yes, with No and Yes without nulls.
@@ -289,9 +290,9 @@ fn buffers(alloc: Global, operator: Operator) -> Made {
 #[test]
 fn buffers_follow_kleenes_tables(rt: HostRuntime) {
     let alloc = rt.alloc();
-    assert!(rt; yes(says_or_null(alloc, buffers(alloc, Operator::And), &[NO, NULL])));
-    assert!(rt; yes(says_or_null(alloc, buffers(alloc, Operator::Or), &[NULL, YES])));
-    assert!(rt; is_refused(buffers(alloc, Operator::Eq), "NotBooleanOperator"));
+    assert!(rt; rt.yes(says_or_null(rt, buffers(alloc, Operator::And), &[NO, NULL])));
+    assert!(rt; rt.yes(says_or_null(rt, buffers(alloc, Operator::Or), &[NULL, YES])));
+    assert!(rt; rt.is_refused(buffers(alloc, Operator::Eq), "NotBooleanOperator"));
 }
 
 /// Yes, No and null, three times each, with Yes, No and null in turn; a bit is set under each null.
@@ -336,7 +337,7 @@ fn with_null(alloc: Global, operator: Operator) -> Made {
 #[test]
 fn a_null_scalar_leaves_what_decides(rt: HostRuntime) {
     let alloc = rt.alloc();
-    assert!(rt; yes(says_or_null(alloc, with_null(alloc, Operator::And), &[NULL, NO, NULL])));
-    assert!(rt; yes(says_or_null(alloc, with_null(alloc, Operator::Or), &[YES, NULL, NULL])));
-    assert!(rt; is_refused(with_null(alloc, Operator::Eq), "NotBooleanOperator"));
+    assert!(rt; rt.yes(says_or_null(rt, with_null(alloc, Operator::And), &[NULL, NO, NULL])));
+    assert!(rt; rt.yes(says_or_null(rt, with_null(alloc, Operator::Or), &[YES, NULL, NULL])));
+    assert!(rt; rt.is_refused(with_null(alloc, Operator::Eq), "NotBooleanOperator"));
 }

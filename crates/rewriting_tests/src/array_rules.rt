@@ -1,6 +1,6 @@
 //! The rules of rewriting at the root of array trees.
 
-use fixtures::{Made, are_rows, bools, kept, yes};
+use fixtures::{Ask, Made, are_rows, bools, kept};
 use std::alloc::Global;
 use std::borrow::Cow;
 use tree_fixtures::array_makers::*;
@@ -82,7 +82,7 @@ fn calls_operator<C: ScalarFnVTable>(array: Held<C>, wanted: Operator) -> Vortex
 
 /// Whether an array is a column of Bool without null, of these rows, and no constant one.
 fn is_column<C: ScalarFnVTable>(
-    alloc: Global,
+    rt: HostRuntime,
     array: Held<C>,
     wanted: &[Option<bool>],
 ) -> VortexResult<bool> {
@@ -90,7 +90,7 @@ fn is_column<C: ScalarFnVTable>(
     match array.as_column() {
         Some(column) => {
             let is_plain = column.as_constant().is_none() && *column.dtype() == DType::Bool(NO);
-            Ok(are_rows(alloc, column, wanted)? && is_plain)
+            Ok(are_rows(rt, column, wanted)? && is_plain)
         }
         None => Ok(false),
     }
@@ -148,28 +148,28 @@ const ALL: [Option<bool>; 3] = [Some(true), Some(true), Some(true)];
 fn whether_and_is_null_is_split(rt: HostRuntime) {
     let alloc = rt.alloc();
     let split = split_is_null::<NoCustom>(alloc, x(alloc), y(alloc));
-    assert!(rt; yes(calls_operator(split, Operator::And)));
+    assert!(rt; rt.yes(calls_operator(split, Operator::And)));
     let left = first_of(alloc, split_is_null::<NoCustom>(alloc, x(alloc), y(alloc)));
-    assert!(rt; yes(calls(left, "vortex.is_null")));
+    assert!(rt; rt.yes(calls(left, "vortex.is_null")));
     let tested = first_of(alloc, split_is_null::<NoCustom>(alloc, x(alloc), y(alloc)));
-    assert!(rt; yes(array_answers(alloc, tested, &WHERE_NULL)));
+    assert!(rt; rt.yes(array_answers(rt, tested, &WHERE_NULL)));
     let right = second_of(alloc, split_is_null::<NoCustom>(alloc, x(alloc), y(alloc)));
-    assert!(rt; yes(is_column(alloc, right, &Y)));
+    assert!(rt; rt.yes(is_column(rt, right, &Y)));
     let executed = split_is_null::<NoCustom>(alloc, x(alloc), y(alloc));
-    assert!(rt; yes(array_answers(alloc, executed, &WHERE_NULL)));
+    assert!(rt; rt.yes(array_answers(rt, executed, &WHERE_NULL)));
 }
 
 #[test]
 fn whether_and_is_null_is_split_with_the_nullable_one_on_the_right(rt: HostRuntime) {
     let alloc = rt.alloc();
     let split = split_is_null::<NoCustom>(alloc, y(alloc), x(alloc));
-    assert!(rt; yes(calls_operator(split, Operator::And)));
+    assert!(rt; rt.yes(calls_operator(split, Operator::And)));
     let left = first_of(alloc, split_is_null::<NoCustom>(alloc, y(alloc), x(alloc)));
-    assert!(rt; yes(calls(left, "vortex.is_null")));
+    assert!(rt; rt.yes(calls(left, "vortex.is_null")));
     let right = second_of(alloc, split_is_null::<NoCustom>(alloc, y(alloc), x(alloc)));
-    assert!(rt; yes(is_column(alloc, right, &Y)));
+    assert!(rt; rt.yes(is_column(rt, right, &Y)));
     let executed = split_is_null::<NoCustom>(alloc, y(alloc), x(alloc));
-    assert!(rt; yes(array_answers(alloc, executed, &WHERE_NULL)));
+    assert!(rt; rt.yes(array_answers(rt, executed, &WHERE_NULL)));
 }
 
 /// Whether `x` is null, reduced.
@@ -181,51 +181,51 @@ fn reduced_test_of_x<C: ScalarFnRules>(alloc: Global, left: Made, right: Made) -
 fn whether_a_column_is_null_is_not_of_its_validity(rt: HostRuntime) {
     let alloc = rt.alloc();
     let first = reduced_test_of_x::<NoCustom>(alloc, x(alloc), y(alloc));
-    assert!(rt; yes(calls(first, "vortex.not")));
+    assert!(rt; rt.yes(calls(first, "vortex.not")));
     let first = reduced_test_of_x::<NoCustom>(alloc, x(alloc), y(alloc));
-    assert!(rt; yes(is_column(alloc, first_of(alloc, first), &Z)));
+    assert!(rt; rt.yes(is_column(rt, first_of(alloc, first), &Z)));
     let second = reduced_test_of_x::<NoCustom>(alloc, y(alloc), x(alloc));
-    assert!(rt; yes(calls(second, "vortex.not")));
+    assert!(rt; rt.yes(calls(second, "vortex.not")));
     let second = reduced_test_of_x::<NoCustom>(alloc, y(alloc), x(alloc));
-    assert!(rt; yes(is_column(alloc, first_of(alloc, second), &Z)));
+    assert!(rt; rt.yes(is_column(rt, first_of(alloc, second), &Z)));
 }
 
 #[test]
 fn whether_or_is_not_null_is_split(rt: HostRuntime) {
     let alloc = rt.alloc();
     let split = split_is_not_null::<NoCustom>(alloc, x(alloc), y(alloc));
-    assert!(rt; yes(calls_operator(split, Operator::Or)));
+    assert!(rt; rt.yes(calls_operator(split, Operator::Or)));
     let left = first_of(
         alloc,
         split_is_not_null::<NoCustom>(alloc, x(alloc), y(alloc)),
     );
-    assert!(rt; yes(calls(left, "vortex.is_not_null")));
+    assert!(rt; rt.yes(calls(left, "vortex.is_not_null")));
     let right = second_of(
         alloc,
         split_is_not_null::<NoCustom>(alloc, x(alloc), y(alloc)),
     );
-    assert!(rt; yes(is_column(alloc, right, &Y)));
+    assert!(rt; rt.yes(is_column(rt, right, &Y)));
     let executed = split_is_not_null::<NoCustom>(alloc, x(alloc), y(alloc));
-    assert!(rt; yes(array_answers(alloc, executed, &ALL)));
+    assert!(rt; rt.yes(array_answers(rt, executed, &ALL)));
 }
 
 #[test]
 fn whether_or_is_not_null_is_split_with_the_nullable_one_on_the_right(rt: HostRuntime) {
     let alloc = rt.alloc();
     let split = split_is_not_null::<NoCustom>(alloc, y(alloc), x(alloc));
-    assert!(rt; yes(calls_operator(split, Operator::Or)));
+    assert!(rt; rt.yes(calls_operator(split, Operator::Or)));
     let left = first_of(
         alloc,
         split_is_not_null::<NoCustom>(alloc, y(alloc), x(alloc)),
     );
-    assert!(rt; yes(calls(left, "vortex.is_not_null")));
+    assert!(rt; rt.yes(calls(left, "vortex.is_not_null")));
     let right = second_of(
         alloc,
         split_is_not_null::<NoCustom>(alloc, y(alloc), x(alloc)),
     );
-    assert!(rt; yes(is_column(alloc, right, &Y)));
+    assert!(rt; rt.yes(is_column(rt, right, &Y)));
     let executed = split_is_not_null::<NoCustom>(alloc, y(alloc), x(alloc));
-    assert!(rt; yes(array_answers(alloc, executed, &ALL)));
+    assert!(rt; rt.yes(array_answers(rt, executed, &ALL)));
 }
 
 /// And of true of nullable Bool and of `y`, reduced.
@@ -237,11 +237,11 @@ fn reduced_beside_nullable_true<C: ScalarFnRules>(alloc: Global) -> Held<C> {
 fn a_column_beside_a_nullable_true_is_cast(rt: HostRuntime) {
     let alloc = rt.alloc();
     let cast = reduced_beside_nullable_true::<NoCustom>(alloc);
-    assert!(rt; yes(calls(cast, "vortex.cast")));
+    assert!(rt; rt.yes(calls(cast, "vortex.cast")));
     let cast = reduced_beside_nullable_true::<NoCustom>(alloc);
-    assert!(rt; yes(is_nullable(cast)));
+    assert!(rt; rt.yes(is_nullable(cast)));
     let cast = reduced_beside_nullable_true::<NoCustom>(alloc);
-    assert!(rt; yes(array_answers(alloc, cast, &Y)));
+    assert!(rt; rt.yes(array_answers(rt, cast, &Y)));
 }
 
 /// An operator between a column and a constant one of three rows, reduced.
@@ -268,18 +268,18 @@ fn after_always<C: ScalarFnRules>(
 fn a_constant_that_does_not_decide_leaves_the_column(rt: HostRuntime) {
     let alloc = rt.alloc();
     let right = before_always::<NoCustom>(alloc, z(alloc), Operator::And, true);
-    assert!(rt; yes(is_column(alloc, right, &Z)));
+    assert!(rt; rt.yes(is_column(rt, right, &Z)));
     let left = after_always::<NoCustom>(alloc, true, Operator::And, z(alloc));
-    assert!(rt; yes(is_column(alloc, left, &Z)));
+    assert!(rt; rt.yes(is_column(rt, left, &Z)));
 }
 
 #[test]
 fn a_constant_that_decides_is_left(rt: HostRuntime) {
     let alloc = rt.alloc();
     let right = before_always::<NoCustom>(alloc, z(alloc), Operator::Or, true);
-    assert!(rt; yes(is_always(right, true, 3)));
+    assert!(rt; rt.yes(is_always(right, true, 3)));
     let left = after_always::<NoCustom>(alloc, true, Operator::Or, z(alloc));
-    assert!(rt; yes(is_always(left, true, 3)));
+    assert!(rt; rt.yes(is_always(left, true, 3)));
 }
 
 /// An operator between two constant columns of so many rows, reduced.
@@ -298,11 +298,11 @@ fn of_constants<C: ScalarFnRules>(
 fn two_constants_are_one(rt: HostRuntime) {
     let alloc = rt.alloc();
     let both_true = of_constants::<NoCustom>(alloc, true, Operator::Or, true, 3);
-    assert!(rt; yes(is_always(both_true, true, 3)));
+    assert!(rt; rt.yes(is_always(both_true, true, 3)));
     let one_true = of_constants::<NoCustom>(alloc, true, Operator::Or, false, 3);
-    assert!(rt; yes(is_always(one_true, true, 3)));
+    assert!(rt; rt.yes(is_always(one_true, true, 3)));
     let one_false = of_constants::<NoCustom>(alloc, false, Operator::And, true, 3);
-    assert!(rt; yes(is_always(one_false, false, 3)));
+    assert!(rt; rt.yes(is_always(one_false, false, 3)));
     let no_rows = of_constants::<NoCustom>(alloc, true, Operator::And, false, 0);
-    assert!(rt; yes(is_always(no_rows, false, 0)));
+    assert!(rt; rt.yes(is_always(no_rows, false, 0)));
 }

@@ -1,6 +1,6 @@
 //! Array trees: how they are made, and what they answer.
 
-use fixtures::{is_refused, is_uneven, nullable_bools, numbers, yes};
+use fixtures::{Ask, nullable_bools, numbers};
 use std::alloc::Global;
 use std::borrow::Cow;
 use tree_fixtures::array_makers::*;
@@ -61,9 +61,9 @@ fn a_lent_array_is_owned_as_a_copy(rt: HostRuntime) {
     let alloc = rt.alloc();
     let there = is_there::<NoCustom>(alloc, held(alloc, x(alloc)));
     let rows = [Some(true), Some(true), Some(false)];
-    assert!(rt; yes(array_answers(alloc, owned(alloc, there), &rows)));
+    assert!(rt; rt.yes(array_answers(rt, owned(alloc, there), &rows)));
     let column = held::<NoCustom>(alloc, x(alloc));
-    assert!(rt; yes(array_answers(alloc, owned(alloc, column), &[Some(true), Some(true), None])));
+    assert!(rt; rt.yes(array_answers(rt, owned(alloc, column), &[Some(true), Some(true), None])));
 }
 
 #[test]
@@ -72,7 +72,7 @@ fn other_lengths_are_refused_before_types(rt: HostRuntime) {
     let two_rows = numbers::<i32>(alloc, &[1, 2]);
     let three_rows = numbers::<i32>(alloc, &[1, 2, 3]);
     assert!(rt;
-        is_uneven(
+        rt.is_uneven(
             over_columns::<NoCustom>(alloc, two_rows, Operator::And, three_rows),
             (2, 3)
         )
@@ -85,7 +85,7 @@ fn types_are_refused(rt: HostRuntime) {
     let left = numbers::<i32>(alloc, &[1, 2, 3]);
     let right = numbers::<i32>(alloc, &[1, 2, 3]);
     assert!(rt;
-        is_refused(
+        rt.is_refused(
             over_columns::<NoCustom>(alloc, left, Operator::And, right),
             "TypeMismatch.Boolean"
         )
@@ -95,7 +95,7 @@ fn types_are_refused(rt: HostRuntime) {
 #[test]
 fn a_third_child_is_refused(rt: HostRuntime) {
     let alloc = rt.alloc();
-    assert!(rt; is_misfit(and_of_three::<NoCustom>(alloc), Arity::Exact(2), 3));
+    assert!(rt; is_misfit(rt, and_of_three::<NoCustom>(alloc), Arity::Exact(2), 3));
 }
 
 #[test]
@@ -105,8 +105,8 @@ fn an_array_tree_answers_its_rows(rt: HostRuntime) {
     let right = nullable_bools(alloc, &[Some(true), Some(true), None]);
     let both = over_columns::<NoCustom>(alloc, left, Operator::And, right);
     assert!(rt;
-        yes(array_answers(
-            alloc,
+        rt.yes(array_answers(
+            rt,
             is_there(alloc, both),
             &[Some(true), Some(false), Some(true)]
         ))
@@ -116,13 +116,13 @@ fn an_array_tree_answers_its_rows(rt: HostRuntime) {
 #[test]
 fn a_call_without_children_has_its_rows(rt: HostRuntime) {
     let alloc = rt.alloc();
-    assert!(rt; yes(array_answers(alloc, none_of_rows(alloc, 2), &[Some(false), Some(false)])));
+    assert!(rt; rt.yes(array_answers(rt, none_of_rows(alloc, 2), &[Some(false), Some(false)])));
 }
 
 #[test]
 fn a_lone_column_is_lent(rt: HostRuntime) {
     let alloc = rt.alloc();
-    assert!(rt; yes(lends::<NoCustom>(alloc, held(alloc, numbers::<i32>(alloc, &[1])))));
+    assert!(rt; rt.yes(lends::<NoCustom>(alloc, held(alloc, numbers::<i32>(alloc, &[1])))));
 }
 
 /// A call of And without children.
@@ -146,8 +146,8 @@ fn none_of_none(alloc: Global) -> Held<NoCustom> {
 #[test]
 fn a_call_without_children_is_refused_where_no_row_count_is_given(rt: HostRuntime) {
     let alloc = rt.alloc();
-    assert!(rt; is_refused(and_of_none::<NoCustom>(alloc), "ArityMismatch"));
-    assert!(rt; is_refused(none_of_none(alloc), "ArityMismatch"));
+    assert!(rt; rt.is_refused(and_of_none::<NoCustom>(alloc), "ArityMismatch"));
+    assert!(rt; rt.is_refused(none_of_none(alloc), "ArityMismatch"));
 }
 
 /// A sum of two columns of u8, whose second row is past 255.
@@ -161,13 +161,13 @@ fn large_sum<C: ScalarFnVTable>(alloc: Global) -> Held<C> {
 fn a_sum_out_of_range_faults(rt: HostRuntime) {
     let alloc = rt.alloc();
     let wanted = [None, None];
-    let sum = array_answers::<NoCustom>(alloc, large_sum(alloc), &wanted);
-    assert!(rt; is_refused(sum, "Arithmetic.Add"));
+    let sum = array_answers::<NoCustom>(rt, large_sum(alloc), &wanted);
+    assert!(rt; rt.is_refused(sum, "Arithmetic.Add"));
 }
 
 #[test]
 fn or_beside_a_null_answers(rt: HostRuntime) {
     let alloc = rt.alloc();
     let either = over_columns::<NoCustom>(alloc, x(alloc), Operator::Or, y(alloc));
-    assert!(rt; yes(array_answers(alloc, either, &[Some(true), Some(true), Some(true)])));
+    assert!(rt; rt.yes(array_answers(rt, either, &[Some(true), Some(true), Some(true)])));
 }

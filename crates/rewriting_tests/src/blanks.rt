@@ -2,7 +2,7 @@
 
 use crate::questions::{array_runs_to, rewrites_to, runs_to};
 use caller_functions::blank::Blank;
-use fixtures::yes;
+use fixtures::Ask;
 use std::alloc::Global;
 use tree_fixtures::array_makers::{Held, array_answers, held, made, x};
 use tree_fixtures::makers::*;
@@ -32,26 +32,28 @@ fn valid_rows(alloc: Global) -> VortexResult<Vec<Column>> {
 }
 
 /// Whether it is null in both rows of two columns, over so many leaves.
-fn is_blank(alloc: Global, count: usize) -> bool {
+fn is_blank(rt: HostRuntime, count: usize) -> bool {
+    let alloc = rt.alloc();
     let columns = twice(alloc, &[Some(true), None]);
-    yes(answers(alloc, blank(alloc, count), columns, &NULLS))
+    rt.yes(answers(rt, blank(alloc, count), columns, &NULLS))
 }
 
 /// Whether it is null in each of so many rows of no columns.
-fn is_blank_alone(alloc: Global, wanted: &[Option<bool>]) -> bool {
-    yes(answers(alloc, blank(alloc, 0), Ok(Vec::new(alloc)), wanted))
+fn is_blank_alone(rt: HostRuntime, wanted: &[Option<bool>]) -> bool {
+    let alloc = rt.alloc();
+    rt.yes(answers(rt, blank(alloc, 0), Ok(Vec::new(alloc)), wanted))
 }
 
 #[test]
 fn any_number_of_arguments_is_taken(rt: HostRuntime) {
     let alloc = rt.alloc();
-    assert!(rt; is_blank(alloc, 0));
-    assert!(rt; is_blank(alloc, 2));
-    assert!(rt; is_blank(alloc, 3));
-    assert!(rt; is_blank_alone(alloc, &[]));
-    assert!(rt; is_blank_alone(alloc, &[None, None, None]));
-    assert!(rt; yes(prints(alloc, blank(alloc, 0), "test.blank()")));
-    assert!(rt; yes(prints(alloc, blank(alloc, 2), "test.blank($.a, $.b)")));
+    assert!(rt; is_blank(rt, 0));
+    assert!(rt; is_blank(rt, 2));
+    assert!(rt; is_blank(rt, 3));
+    assert!(rt; is_blank_alone(rt, &[]));
+    assert!(rt; is_blank_alone(rt, &[None, None, None]));
+    assert!(rt; rt.yes(prints(rt, blank(alloc, 0), "test.blank()")));
+    assert!(rt; rt.yes(prints(rt, blank(alloc, 2), "test.blank($.a, $.b)")));
 }
 
 /// The null test of it, over so many leaves.
@@ -67,12 +69,12 @@ fn there(alloc: Global) -> Bound<Blank> {
 #[test]
 fn null_for_arguments_that_are_not_is_told(rt: HostRuntime) {
     let alloc = rt.alloc();
-    assert!(rt; yes(answers(alloc, missing(alloc, 0), valid_rows(alloc), &TRUE)));
-    assert!(rt; yes(answers(alloc, missing(alloc, 2), valid_rows(alloc), &TRUE)));
-    assert!(rt; yes(answers(alloc, there(alloc), valid_rows(alloc), &FALSE)));
-    assert!(rt; yes(stays(reduced(alloc, missing(alloc, 0)))));
-    assert!(rt; yes(stays(reduced(alloc, missing(alloc, 2)))));
-    assert!(rt; yes(stays(reduced(alloc, there(alloc)))));
+    assert!(rt; rt.yes(answers(rt, missing(alloc, 0), valid_rows(alloc), &TRUE)));
+    assert!(rt; rt.yes(answers(rt, missing(alloc, 2), valid_rows(alloc), &TRUE)));
+    assert!(rt; rt.yes(answers(rt, there(alloc), valid_rows(alloc), &FALSE)));
+    assert!(rt; rt.yes(stays(rt, reduced(alloc, missing(alloc, 0)))));
+    assert!(rt; rt.yes(stays(rt, reduced(alloc, missing(alloc, 2)))));
+    assert!(rt; rt.yes(stays(rt, reduced(alloc, there(alloc)))));
 }
 
 /// And of a truth value and of it, over two leaves.
@@ -85,13 +87,13 @@ fn beside(alloc: Global, truth: bool) -> Bound<Blank> {
 fn a_run_goes_on_round_it(rt: HostRuntime) {
     let alloc = rt.alloc();
     let text = "test.blank($.a, $.b)";
-    assert!(rt; yes(rewrites_to(alloc, beside(alloc, true), 9, (1, true), text)));
-    assert!(rt; yes(runs_to(alloc, beside(alloc, true), valid_rows(alloc), 9, &NULLS)));
-    assert!(rt; yes(runs_to(alloc, beside(alloc, false), valid_rows(alloc), 9, &FALSE)));
+    assert!(rt; rt.yes(rewrites_to(rt, beside(alloc, true), 9, (1, true), text)));
+    assert!(rt; rt.yes(runs_to(rt, beside(alloc, true), valid_rows(alloc), 9, &NULLS)));
+    assert!(rt; rt.yes(runs_to(rt, beside(alloc, false), valid_rows(alloc), 9, &FALSE)));
     let text = "vortex.is_null(test.blank($.a, $.b))";
-    assert!(rt; yes(rewrites_to(alloc, missing(alloc, 2), 9, (0, true), text)));
-    assert!(rt; yes(runs_to(alloc, missing(alloc, 2), valid_rows(alloc), 9, &TRUE)));
-    assert!(rt; yes(runs_to(alloc, missing(alloc, 0), Ok(Vec::new(alloc)), 9, &TRUE)));
+    assert!(rt; rt.yes(rewrites_to(rt, missing(alloc, 2), 9, (0, true), text)));
+    assert!(rt; rt.yes(runs_to(rt, missing(alloc, 2), valid_rows(alloc), 9, &TRUE)));
+    assert!(rt; rt.yes(runs_to(rt, missing(alloc, 0), Ok(Vec::new(alloc)), 9, &TRUE)));
 }
 
 /// The function over the array of a column, so many times, each of three rows.
@@ -122,12 +124,12 @@ fn of_no_rows_known(alloc: Global) -> VortexResult<ScalarFnArray<Blank>> {
 #[test]
 fn arrays_are_taken_in_any_number(rt: HostRuntime) {
     let alloc = rt.alloc();
-    assert!(rt; yes(array_answers(alloc, blank_array(alloc, 0), &[None, None, None])));
-    assert!(rt; yes(array_answers(alloc, blank_array(alloc, 2), &[None, None, None])));
+    assert!(rt; rt.yes(array_answers(rt, blank_array(alloc, 0), &[None, None, None])));
+    assert!(rt; rt.yes(array_answers(rt, blank_array(alloc, 2), &[None, None, None])));
     let all = [Some(true), Some(true), Some(true)];
-    assert!(rt; yes(array_answers(alloc, missing_array(alloc, 0), &all)));
-    assert!(rt; yes(array_answers(alloc, missing_array(alloc, 2), &all)));
-    assert!(rt; yes(array_runs_to(alloc, missing_array(alloc, 2), &all)));
+    assert!(rt; rt.yes(array_answers(rt, missing_array(alloc, 0), &all)));
+    assert!(rt; rt.yes(array_answers(rt, missing_array(alloc, 2), &all)));
+    assert!(rt; rt.yes(array_runs_to(rt, missing_array(alloc, 2), &all)));
     let any = Arity::Variadic { min: 0, max: None };
-    assert!(rt; is_misfit(of_no_rows_known(alloc), any, 0));
+    assert!(rt; is_misfit(rt, of_no_rows_known(alloc), any, 0));
 }

@@ -2,7 +2,7 @@
 
 use caller_functions::levelled::{Level, Levelled};
 use caller_functions::must_be_true::MustBeTrue;
-use fixtures::yes;
+use fixtures::Ask;
 use std::alloc::Global;
 use tree_fixtures::makers::*;
 use vortex_functions::*;
@@ -16,8 +16,8 @@ fn must_be_true(alloc: Global) -> Bound<MustBeTrue> {
 fn a_callers_function_answers(rt: HostRuntime) {
     let alloc = rt.alloc();
     assert!(rt;
-        yes(answers::<MustBeTrue>(
-            alloc,
+        rt.yes(answers::<MustBeTrue>(
+            rt,
             not_of(alloc, must_be_true(alloc)),
             twice(alloc, &[Some(true), None]),
             &[Some(false), None],
@@ -30,6 +30,7 @@ fn a_callers_function_faults(rt: HostRuntime) {
     let alloc = rt.alloc();
     assert!(rt;
         is_fault(
+            rt,
             executed::<MustBeTrue>(
                 alloc,
                 not_of(alloc, must_be_true(alloc)),
@@ -45,8 +46,8 @@ fn a_callers_function_faults(rt: HostRuntime) {
 fn the_text_of_a_call_has_its_options(rt: HostRuntime) {
     let alloc = rt.alloc();
     assert!(rt;
-        yes(prints(
-            alloc,
+        rt.yes(prints(
+            rt,
             call_of_leaves(alloc, ScalarFnRef::custom(Levelled, Level { level: 3 }), 1),
             "test.levelled($.a, opts=level 3)",
         ))

@@ -2,7 +2,7 @@
 
 use crate::questions::{rewrites_to, runs_to};
 use caller_functions::grow::Grow;
-use fixtures::yes;
+use fixtures::{Ask, same};
 use std::alloc::Global;
 use tree_fixtures::makers::*;
 use vortex_columns::*;
@@ -19,19 +19,20 @@ const TEN: &str = "test.grow(vortex.not(vortex.not(vortex.not(vortex.not(vortex.
     vortex.not(vortex.not(vortex.not(vortex.not(vortex.not($.a)))))))))))";
 
 /// Whether five steps, and no more, make ten Nots, and the tree then answers these rows.
-fn grows_by_ten(alloc: Global, rows: &[Option<bool>]) -> VortexResult<bool> {
+fn grows_by_ten(rt: HostRuntime, rows: &[Option<bool>]) -> VortexResult<bool> {
+    let alloc = rt.alloc();
     let made = Box::new(alloc, growing(alloc)?.optimize_recursive(alloc, 5)?)?;
     if made.steps != 5 || made.done {
         return Ok(false);
     }
     let tree = planted(alloc, Ok(Box::into_inner(made).tree))?;
     let text = tree.sql_text(alloc)?;
-    Ok(text.as_str() == TEN && answers(alloc, Ok(tree), twice(alloc, rows), rows)?)
+    Ok(same(rt, text.as_str(), TEN) && answers(rt, Ok(tree), twice(alloc, rows), rows)?)
 }
 
 #[test]
 fn a_run_without_end_stops_at_its_limit(rt: HostRuntime) {
-    assert!(rt; yes(grows_by_ten(rt.alloc(), &[Some(true), Some(false), None])));
+    assert!(rt; rt.yes(grows_by_ten(rt, &[Some(true), Some(false), None])));
 }
 
 /// True, false, null.
@@ -41,8 +42,8 @@ const ROWS: [Option<bool>; 3] = [Some(true), Some(false), None];
 fn a_run_answers_wherever_its_limit_stops_it(rt: HostRuntime) {
     let alloc = rt.alloc();
     let once = "test.grow(vortex.not(vortex.not($.a)))";
-    assert!(rt; yes(rewrites_to(alloc, growing(alloc), 0, (0, false), "test.grow($.a)")));
-    assert!(rt; yes(rewrites_to(alloc, growing(alloc), 1, (1, false), once)));
-    assert!(rt; yes(runs_to(alloc, growing(alloc), twice(alloc, &ROWS), 0, &ROWS)));
-    assert!(rt; yes(runs_to(alloc, growing(alloc), twice(alloc, &ROWS), 100, &ROWS)));
+    assert!(rt; rt.yes(rewrites_to(rt, growing(alloc), 0, (0, false), "test.grow($.a)")));
+    assert!(rt; rt.yes(rewrites_to(rt, growing(alloc), 1, (1, false), once)));
+    assert!(rt; rt.yes(runs_to(rt, growing(alloc), twice(alloc, &ROWS), 0, &ROWS)));
+    assert!(rt; rt.yes(runs_to(rt, growing(alloc), twice(alloc, &ROWS), 100, &ROWS)));
 }

@@ -1,7 +1,7 @@
 //! Execution of a caller's function that stands on arithmetic.
 
 use caller_functions::half::Half;
-use fixtures::{Made, is_refused, kept, nullable_ints, yes};
+use fixtures::{Ask, Made, kept, nullable_ints, same};
 use std::alloc::Global;
 use tree_fixtures::makers::{Bound, YES, call_of, is_fault, leaf_of, numbers_by, one};
 use vortex_columns::*;
@@ -30,22 +30,23 @@ fn halved(alloc: Global, rows: Made, row_count: usize) -> VortexResult<Vec<Optio
 }
 
 /// Whether the halves of a column's rows are these.
-fn has_halves(alloc: Global, rows: Made, wanted: &[Option<i128>]) -> VortexResult<bool> {
-    Ok(halved(alloc, rows, wanted.len())?.as_slice() == wanted)
+fn has_halves(rt: HostRuntime, rows: Made, wanted: &[Option<i128>]) -> VortexResult<bool> {
+    let alloc = rt.alloc();
+    Ok(same(rt, halved(alloc, rows, wanted.len())?.as_slice(), wanted))
 }
 
 #[test]
 fn halves_even_numbers_beside_null(rt: HostRuntime) {
     let alloc = rt.alloc();
     let rows = nullable_ints(alloc, &[Some(4), None]);
-    assert!(rt; yes(has_halves(alloc, rows, &[Some(2), None])));
+    assert!(rt; rt.yes(has_halves(rt, rows, &[Some(2), None])));
 }
 
 #[test]
 fn an_odd_number_faults(rt: HostRuntime) {
     let alloc = rt.alloc();
     let rows = nullable_ints(alloc, &[Some(4), Some(3)]);
-    assert!(rt; is_fault(halved(alloc, rows, 2), 1));
+    assert!(rt; is_fault(rt, halved(alloc, rows, 2), 1));
 }
 
 /// Four rows, of which the second and the last fault.
@@ -56,12 +57,12 @@ fn two_faults(alloc: Global) -> Made {
 #[test]
 fn several_rows_fault(rt: HostRuntime) {
     let alloc = rt.alloc();
-    assert!(rt; is_fault(halved(alloc, two_faults(alloc), 4), 1));
-    assert!(rt; is_refused(halved(alloc, two_faults(alloc), 4), "Custom"));
+    assert!(rt; is_fault(rt, halved(alloc, two_faults(alloc), 4), 1));
+    assert!(rt; rt.is_refused(halved(alloc, two_faults(alloc), 4), "Custom"));
 }
 
 #[test]
 fn an_odd_number_under_null_is_no_fault(rt: HostRuntime) {
     let alloc = rt.alloc();
-    assert!(rt; yes(has_halves(alloc, three_under_null(alloc), &[None])));
+    assert!(rt; rt.yes(has_halves(rt, three_under_null(alloc), &[None])));
 }

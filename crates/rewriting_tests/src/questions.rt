@@ -1,7 +1,6 @@
 //! Questions to runs of rules.
 
-use fixtures::rows_of;
-use std::alloc::Global;
+use fixtures::{are_rows, same};
 use tree_fixtures::array_makers::Held;
 use tree_fixtures::makers::{Bound, has_text};
 use vortex_columns::*;
@@ -11,39 +10,42 @@ use vortex_rules::ScalarFnRules;
 /// Whether a run of at most so many steps takes that many, comes to its end or not, and makes a
 /// tree of that text.
 pub fn rewrites_to<C: ScalarFnRules>(
-    alloc: Global,
+    rt: HostRuntime,
     tree: Bound<C>,
     limit: u64,
     ends: (u64, bool),
     wanted: &str,
 ) -> VortexResult<bool> {
+    let alloc = rt.alloc();
     let made = Box::new(alloc, tree?.optimize_recursive(alloc, limit)?)?;
-    Ok((made.steps, made.done) == ends && has_text(alloc, &made.tree, wanted)?)
+    Ok(same(rt, (made.steps, made.done), ends) && has_text(rt, &made.tree, wanted)?)
 }
 
 /// Whether a tree answers these rows over columns after a run of at most so many steps.
 pub fn runs_to<C: ScalarFnRules>(
-    alloc: Global,
+    rt: HostRuntime,
     tree: Bound<C>,
     columns: VortexResult<Vec<Column>>,
     limit: u64,
     wanted: &[Option<bool>],
 ) -> VortexResult<bool> {
+    let alloc = rt.alloc();
     let (tree, columns) = (tree?, columns?);
     let mut ctx = ExecutionCtx::new(alloc);
     let answer = run(&*tree, &columns, wanted.len(), limit, &mut ctx)?;
     let answer = Box::new(alloc, answer)?;
-    Ok(rows_of(alloc, &**answer)?.as_slice() == wanted)
+    are_rows(rt, &**answer, wanted)
 }
 
 /// Whether an array answers these rows after a run of at most ten steps.
 pub fn array_runs_to<C: ScalarFnRules>(
-    alloc: Global,
+    rt: HostRuntime,
     array: Held<C>,
     wanted: &[Option<bool>],
 ) -> VortexResult<bool> {
+    let alloc = rt.alloc();
     let array = array?;
     let mut ctx = ExecutionCtx::new(alloc);
     let answer = Box::new(alloc, run_array(&*array, 10, &mut ctx)?)?;
-    Ok(rows_of(alloc, &*answer)?.as_slice() == wanted)
+    are_rows(rt, &*answer, wanted)
 }

@@ -1,6 +1,6 @@
 //! The caller that the README shows.
 
-use fixtures::{are_rows, fields, numbers, yes};
+use fixtures::{Ask, are_rows, fields, numbers, same};
 use std::alloc::Global;
 use tree_fixtures::makers::one;
 use vortex_row_fn::*;
@@ -18,15 +18,19 @@ fn below_ten<C: ScalarFnVTable>(
 
 /// Whether `price < 10` answers these rows over those columns.
 fn answers_below_ten<C: ScalarFnVTable>(
-    alloc: Global,
+    rt: HostRuntime,
     scope: &StructFields,
     columns: &[Column],
     wanted: &[Option<bool>],
 ) -> VortexResult<bool> {
+    let alloc = rt.alloc();
     let tree = Box::new(alloc, below_ten::<C>(alloc, scope)?)?;
     let mut ctx = ExecutionCtx::new(alloc);
     let answer = Box::new(alloc, tree.execute(columns, wanted.len(), &mut ctx)?)?;
-    Ok(answer.text(alloc)?.as_str() == "bool: true false" && are_rows(alloc, &**answer, wanted)?)
+    Ok(
+        same(rt, answer.text(alloc)?.as_str(), "bool: true false")
+            && are_rows(rt, &**answer, wanted)?,
+    )
 }
 
 /// Fields `price` of i32, and `name` of texts.
@@ -37,13 +41,14 @@ fn goods(alloc: Global) -> VortexResult<StructFields> {
 }
 
 /// Whether of 7 and 12 the first alone is below 10.
-fn first_is_below_ten<C: ScalarFnVTable>(alloc: Global) -> VortexResult<bool> {
+fn first_is_below_ten<C: ScalarFnVTable>(rt: HostRuntime) -> VortexResult<bool> {
+    let alloc = rt.alloc();
     let scope = goods(alloc)?;
     let prices = one(alloc, numbers(alloc, &[7i32, 12]))?;
-    answers_below_ten::<C>(alloc, &scope, &prices, &[Some(true), Some(false)])
+    answers_below_ten::<C>(rt, &scope, &prices, &[Some(true), Some(false)])
 }
 
 #[test]
 fn the_readme_says_what_happens(rt: HostRuntime) {
-    assert!(rt; yes(first_is_below_ten::<NoCustom>(rt.alloc())));
+    assert!(rt; rt.yes(first_is_below_ten::<NoCustom>(rt)));
 }

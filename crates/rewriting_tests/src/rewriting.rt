@@ -1,6 +1,6 @@
 //! Rules at places of a tree, and the driver.
 
-use fixtures::{are_rows, is_refused, names, nullable_bools, yes};
+use fixtures::{Ask, are_rows, names, nullable_bools, same};
 use std::alloc::Global;
 use tree_fixtures::array_makers::*;
 use tree_fixtures::makers::*;
@@ -43,13 +43,14 @@ fn reduced_at<C: ScalarFnRules>(
 
 /// Whether Reduce at a place makes a tree of that text.
 fn reduces_to<C: ScalarFnRules>(
-    alloc: Global,
+    rt: HostRuntime,
     tree: Bound<C>,
     path: &[usize],
     wanted: &str,
 ) -> VortexResult<bool> {
+    let alloc = rt.alloc();
     match reduced_at(alloc, tree, path)? {
-        Some(made) => Ok(made.sql_text(alloc)?.as_str() == wanted),
+        Some(made) => Ok(same(rt, made.sql_text(alloc)?.as_str(), wanted)),
         None => Ok(false),
     }
 }
@@ -73,19 +74,19 @@ fn not_missing<C: ScalarFnVTable>(alloc: Global) -> Bound<C> {
 fn a_column_without_null_is_never_null(rt: HostRuntime) {
     let alloc = rt.alloc();
     let missing = not_missing::<NoCustom>(alloc);
-    assert!(rt; yes(reduces_to(alloc, missing, &[0], "vortex.not(false)")));
+    assert!(rt; rt.yes(reduces_to(rt, missing, &[0], "vortex.not(false)")));
     let nowhere = reduced_at(alloc, not_missing::<NoCustom>(alloc), &[1]);
-    assert!(rt; is_refused(nowhere, "NoSuchPlace"));
+    assert!(rt; rt.is_refused(nowhere, "NoSuchPlace"));
 }
 
 #[test]
 fn a_rule_applies_at_a_place(rt: HostRuntime) {
     let alloc = rt.alloc();
     let there = is_there::<NoCustom>(alloc);
-    assert!(rt; yes(reduces_to(alloc, there, &[0], "vortex.not(false)")));
-    assert!(rt; yes(stays(alloc, is_there::<NoCustom>(alloc), &[])));
+    assert!(rt; rt.yes(reduces_to(rt, there, &[0], "vortex.not(false)")));
+    assert!(rt; rt.yes(stays(alloc, is_there::<NoCustom>(alloc), &[])));
     let nowhere = reduced_at(alloc, is_there::<NoCustom>(alloc), &[1]);
-    assert!(rt; is_refused(nowhere, "NoSuchPlace"));
+    assert!(rt; rt.is_refused(nowhere, "NoSuchPlace"));
 }
 
 /// What Simplify makes of a tree at a place.
@@ -102,13 +103,14 @@ fn simplified_at<C: ScalarFnRules>(
 
 /// Whether Simplify at a place makes a tree of that text.
 fn simplifies_to<C: ScalarFnRules>(
-    alloc: Global,
+    rt: HostRuntime,
     tree: Bound<C>,
     path: &[usize],
     wanted: &str,
 ) -> VortexResult<bool> {
+    let alloc = rt.alloc();
     match simplified_at(alloc, tree, path)? {
-        Some(made) => Ok(made.sql_text(alloc)?.as_str() == wanted),
+        Some(made) => Ok(same(rt, made.sql_text(alloc)?.as_str(), wanted)),
         None => Ok(false),
     }
 }
@@ -128,11 +130,11 @@ fn not_of_false<C: ScalarFnVTable>(alloc: Global) -> Bound<C> {
 fn simplify_applies_at_a_place(rt: HostRuntime) {
     let alloc = rt.alloc();
     let decided = beside_a::<NoCustom>(alloc, Scalar::from(false));
-    assert!(rt; yes(simplifies_to(alloc, decided, &[], "false")));
+    assert!(rt; rt.yes(simplifies_to(rt, decided, &[], "false")));
     let below = not_of_false::<NoCustom>(alloc);
-    assert!(rt; yes(simplifies_to(alloc, below, &[0], "vortex.not(false)")));
+    assert!(rt; rt.yes(simplifies_to(rt, below, &[0], "vortex.not(false)")));
     let nowhere = simplified_at(alloc, not_of_false::<NoCustom>(alloc), &[1]);
-    assert!(rt; is_refused(nowhere, "NoSuchPlace"));
+    assert!(rt; rt.is_refused(nowhere, "NoSuchPlace"));
 }
 
 /// Whether neither rule applies to a tree at its root.
@@ -147,7 +149,7 @@ fn neither_applies<C: ScalarFnRules>(alloc: Global, tree: Bound<C>) -> VortexRes
 fn and_beside_null_stays(rt: HostRuntime) {
     let alloc = rt.alloc();
     let null = beside_a::<NoCustom>(alloc, Scalar::null(DType::Bool(YES)));
-    assert!(rt; yes(neither_applies(alloc, null)));
+    assert!(rt; rt.yes(neither_applies(alloc, null)));
 }
 
 /// A null test of an operator between columns `a` of nullable Bool and `b` of Bool.
@@ -165,10 +167,10 @@ fn split<C: ScalarFnVTable>(
 fn null_tests_are_split_at_the_root(rt: HostRuntime) {
     let alloc = rt.alloc();
     let there = split::<NoCustom>(alloc, IsNotNull.bind(EmptyOptions), Operator::Or);
-    assert!(rt; yes(reduces_to(alloc, there, &[], "(is_not_null($.a) or $.b)")));
+    assert!(rt; rt.yes(reduces_to(rt, there, &[], "(is_not_null($.a) or $.b)")));
     let missing = split::<NoCustom>(alloc, IsNull.bind(EmptyOptions), Operator::Or);
     let text = "(vortex.is_null($.a) and vortex.not($.b))";
-    assert!(rt; yes(reduces_to(alloc, missing, &[], text)));
+    assert!(rt; rt.yes(reduces_to(rt, missing, &[], text)));
 }
 
 /// What a list of steps makes of a tree.
@@ -182,14 +184,15 @@ fn listed<C: ScalarFnRules>(
 
 /// Whether a list of steps makes a tree of that text, so many of them applied.
 fn lists_to<C: ScalarFnRules>(
-    alloc: Global,
+    rt: HostRuntime,
     tree: Bound<C>,
     steps: &[(&[usize], Rule)],
     wanted: (&str, usize),
 ) -> VortexResult<bool> {
+    let alloc = rt.alloc();
     let made = listed(alloc, tree, steps)?;
     let text = made.tree.sql_text(alloc)?;
-    Ok(text.as_str() == wanted.0 && made.applied == wanted.1)
+    Ok(same(rt, (text.as_str(), made.applied), wanted))
 }
 
 /// The tree that no rule applies to any more.
@@ -204,7 +207,7 @@ fn rules_apply_one_after_another(rt: HostRuntime) {
         (&[0], Rule::Reduce),
         (&[0, 0], Rule::Reduce),
     ];
-    assert!(rt; yes(lists_to(alloc, sum, &steps, (SPLIT, 2))));
+    assert!(rt; rt.yes(lists_to(rt, sum, &steps, (SPLIT, 2))));
     let outside: [(&[usize], Rule); 4] = [
         (&[], Rule::Reduce),
         (&[0], Rule::Reduce),
@@ -212,19 +215,23 @@ fn rules_apply_one_after_another(rt: HostRuntime) {
         (&[0, 5], Rule::Reduce),
     ];
     let refused = listed(alloc, unknown_sum::<NoCustom>(alloc), &outside);
-    assert!(rt; is_refused(refused, "NoSuchPlace"));
+    assert!(rt; rt.is_refused(refused, "NoSuchPlace"));
 }
 
 /// Whether a run of at most so many steps makes a tree of that text, in so many steps, and is done.
 fn optimizes_to<C: ScalarFnRules>(
-    alloc: Global,
+    rt: HostRuntime,
     tree: Bound<C>,
     limit: u64,
     wanted: (&str, u64, bool),
 ) -> VortexResult<bool> {
+    let alloc = rt.alloc();
     let made = Box::new(alloc, tree?.optimize_recursive(alloc, limit)?)?;
     let (text, steps, done) = wanted;
-    Ok(made.tree.sql_text(alloc)?.as_str() == text && made.steps == steps && made.done == done)
+    Ok(
+        same(rt, made.tree.sql_text(alloc)?.as_str(), text)
+            && same(rt, (made.steps, made.done), (steps, done)),
+    )
 }
 
 #[test]
@@ -232,35 +239,36 @@ fn a_run_goes_up_to_its_limit(rt: HostRuntime) {
     let alloc = rt.alloc();
     let sum = unknown_sum::<NoCustom>(alloc);
     let unchanged = ("vortex.is_null((($.a + $.b) = $.c))", 0, false);
-    assert!(rt; yes(optimizes_to(alloc, sum, 0, unchanged)));
+    assert!(rt; rt.yes(optimizes_to(rt, sum, 0, unchanged)));
     let sum = unknown_sum::<NoCustom>(alloc);
     let text = "vortex.not((is_not_null(($.a + $.b)) and is_not_null($.c)))";
-    assert!(rt; yes(optimizes_to(alloc, sum, 1, (text, 1, false))));
+    assert!(rt; rt.yes(optimizes_to(rt, sum, 1, (text, 1, false))));
 }
 
 #[test]
 fn a_run_is_done_where_no_rule_applies(rt: HostRuntime) {
     let alloc = rt.alloc();
     let sum = unknown_sum::<NoCustom>(alloc);
-    assert!(rt; yes(optimizes_to(alloc, sum, 2, (SPLIT, 2, true))));
+    assert!(rt; rt.yes(optimizes_to(rt, sum, 2, (SPLIT, 2, true))));
     let null = literal(alloc, Ok(Scalar::null(DType::Bool(YES))));
     let test = call_of::<NoCustom>(alloc, IsNull.bind(EmptyOptions), null);
-    assert!(rt; yes(optimizes_to(alloc, test, 5, ("vortex.not(false)", 1, true))));
+    assert!(rt; rt.yes(optimizes_to(rt, test, 5, ("vortex.not(false)", 1, true))));
 }
 
 /// Whether a run of one step and one from where it stopped make, of a tree, one of that text, in
 /// one step each, and leave the tree itself as it was.
 fn goes_on_to<C: ScalarFnRules>(
-    alloc: Global,
+    rt: HostRuntime,
     tree: Bound<C>,
     wanted: (&str, &str),
 ) -> VortexResult<bool> {
+    let alloc = rt.alloc();
     let tree = tree?;
     let first = Box::new(alloc, tree.optimize_recursive(alloc, 1)?)?;
     let second = Box::new(alloc, first.tree.optimize_recursive(alloc, 5)?)?;
     let steps = first.steps == 1 && !first.done && second.steps == 1 && second.done;
     let (before, after) = (tree.sql_text(alloc)?, second.tree.sql_text(alloc)?);
-    Ok(steps && (before.as_str(), after.as_str()) == wanted)
+    Ok(steps && same(rt, (before.as_str(), after.as_str()), wanted))
 }
 
 #[test]
@@ -268,7 +276,7 @@ fn a_run_goes_on_where_another_stopped(rt: HostRuntime) {
     let alloc = rt.alloc();
     let sum = unknown_sum::<NoCustom>(alloc);
     let wanted = ("vortex.is_null((($.a + $.b) = $.c))", SPLIT);
-    assert!(rt; yes(goes_on_to(alloc, sum, wanted)));
+    assert!(rt; rt.yes(goes_on_to(rt, sum, wanted)));
 }
 
 /// Whether the array of a column without rules at its root is left as it is, with its rows.
@@ -283,26 +291,27 @@ fn column_stays(alloc: Global, rows: &[Option<bool>]) -> VortexResult<bool> {
 
 /// Whether an array tests for null, optimized, answers these rows after so many steps.
 fn null_test_answers(
-    alloc: Global,
+    rt: HostRuntime,
     rows: &[Option<bool>],
     wanted: &[Option<bool>],
 ) -> VortexResult<bool> {
+    let alloc = rt.alloc();
     let column = nullable_bools(alloc, rows)?;
     let array = ArrayRef::<NoCustom>::column(alloc, Box::into_inner(column))?;
     let test = Box::new(alloc, IsNull::new(alloc, array)?.into_array())?;
     let made = Box::new(alloc, test.optimize_recursive(alloc, 5)?)?;
     let mut ctx = ExecutionCtx::new(alloc);
     let answer = Box::new(alloc, made.tree.execute(&mut ctx)?)?;
-    Ok(are_rows(alloc, &**answer, wanted)? && made.done && made.steps == 1)
+    Ok(are_rows(rt, &**answer, wanted)? && made.done && made.steps == 1)
 }
 
 #[test]
 fn array_trees_are_rewritten(rt: HostRuntime) {
     let alloc = rt.alloc();
     let rows = [Some(true), Some(true), None];
-    assert!(rt; yes(column_stays(alloc, &rows)));
+    assert!(rt; rt.yes(column_stays(alloc, &rows)));
     let missing = [Some(false), Some(false), Some(true)];
-    assert!(rt; yes(null_test_answers(alloc, &rows, &missing)));
+    assert!(rt; rt.yes(null_test_answers(rt, &rows, &missing)));
 }
 
 /// Whether And of `x` and `y` is null, as an array tree.
@@ -326,14 +335,15 @@ fn array_at<C: ScalarFnRules>(
 
 /// Whether a rule at a place of an array makes one of these rows.
 fn array_becomes<C: ScalarFnRules>(
-    alloc: Global,
+    rt: HostRuntime,
     array: Held<C>,
     path: &[usize],
     rule: Rule,
     wanted: &[Option<bool>],
 ) -> VortexResult<bool> {
+    let alloc = rt.alloc();
     match array_at(alloc, array, path, rule)? {
-        Some(made) => array_answers(alloc, Ok(made), wanted),
+        Some(made) => array_answers(rt, Ok(made), wanted),
         None => Ok(false),
     }
 }
@@ -355,13 +365,13 @@ const MISSING: [Option<bool>; 3] = [Some(false), Some(false), Some(true)];
 fn a_rule_applies_at_a_place_of_an_array(rt: HostRuntime) {
     let alloc = rt.alloc();
     let missing = missing_both::<NoCustom>(alloc);
-    assert!(rt; yes(array_becomes(alloc, missing, &[], Rule::Reduce, &MISSING)));
+    assert!(rt; rt.yes(array_becomes(rt, missing, &[], Rule::Reduce, &MISSING)));
     let missing = missing_both::<NoCustom>(alloc);
-    assert!(rt; yes(array_stays(alloc, missing, &[0], Rule::Reduce)));
+    assert!(rt; rt.yes(array_stays(alloc, missing, &[0], Rule::Reduce)));
     let missing = missing_both::<NoCustom>(alloc);
-    assert!(rt; yes(array_stays(alloc, missing, &[], Rule::Simplify)));
+    assert!(rt; rt.yes(array_stays(alloc, missing, &[], Rule::Simplify)));
     let nowhere = array_at(alloc, missing_both::<NoCustom>(alloc), &[1], Rule::Reduce);
-    assert!(rt; is_refused(nowhere, "NoSuchPlace"));
+    assert!(rt; rt.is_refused(nowhere, "NoSuchPlace"));
 }
 
 /// What a list of steps makes of an array.
@@ -375,16 +385,17 @@ fn array_listed<C: ScalarFnRules>(
 
 /// Whether a list of steps makes an array of these rows, so many of them applied.
 fn array_lists_to<C: ScalarFnRules>(
-    alloc: Global,
+    rt: HostRuntime,
     array: Held<C>,
     steps: &[(&[usize], Rule)],
     wanted: &[Option<bool>],
     applied: usize,
 ) -> VortexResult<bool> {
+    let alloc = rt.alloc();
     let made = array_listed(alloc, array, steps)?;
     let mut ctx = ExecutionCtx::new(alloc);
     let answer = Box::new(alloc, made.tree.execute(&mut ctx)?)?;
-    Ok(are_rows(alloc, &**answer, wanted)? && made.applied == applied)
+    Ok(are_rows(rt, &**answer, wanted)? && made.applied == applied)
 }
 
 #[test]
@@ -396,22 +407,24 @@ fn rules_apply_to_an_array_one_after_another(rt: HostRuntime) {
         (&[0], Rule::Simplify),
     ];
     let missing = missing_both::<NoCustom>(alloc);
-    assert!(rt; yes(array_lists_to(alloc, missing, &steps, &MISSING, 2)));
+    assert!(rt; rt.yes(array_lists_to(rt, missing, &steps, &MISSING, 2)));
     let outside: [(&[usize], Rule); 2] = [(&[], Rule::Reduce), (&[0, 5], Rule::Reduce)];
     let refused = array_listed(alloc, missing_both::<NoCustom>(alloc), &outside);
-    assert!(rt; is_refused(refused, "NoSuchPlace"));
+    assert!(rt; rt.is_refused(refused, "NoSuchPlace"));
 }
 
 /// Whether a tree weighs so much, and after one step and after two so much.
 fn weighs<C: ScalarFnRules>(
-    alloc: Global,
+    rt: HostRuntime,
     tree: Bound<C>,
     wanted: (u64, u64, u64),
 ) -> VortexResult<bool> {
+    let alloc = rt.alloc();
     let tree = tree?;
     let once = Box::new(alloc, tree.optimize_recursive(alloc, 1)?)?;
     let twice = Box::new(alloc, tree.optimize_recursive(alloc, 2)?)?;
-    Ok((tree.weight(), once.tree.weight(), twice.tree.weight()) == wanted)
+    let weights = (tree.weight(), once.tree.weight(), twice.tree.weight());
+    Ok(same(rt, weights, wanted))
 }
 
 /// True of nullable Bool and column `b`, which is not nullable.
@@ -426,6 +439,6 @@ fn true_and_b_alone<C: ScalarFnVTable>(alloc: Global) -> Bound<C> {
 #[test]
 fn a_rewrite_makes_a_tree_lighter(rt: HostRuntime) {
     let alloc = rt.alloc();
-    assert!(rt; yes(weighs(alloc, unknown_sum::<NoCustom>(alloc), (15, 14, 12))));
-    assert!(rt; yes(weighs(alloc, true_and_b_alone::<NoCustom>(alloc), (5, 2, 2))));
+    assert!(rt; rt.yes(weighs(rt, unknown_sum::<NoCustom>(alloc), (15, 14, 12))));
+    assert!(rt; rt.yes(weighs(rt, true_and_b_alone::<NoCustom>(alloc), (5, 2, 2))));
 }

@@ -1,6 +1,6 @@
 //! Execution after a run of rules.
 
-use fixtures::{are_rows, integer, is_refused, kept, nullable_bools, rows_of, yes};
+use fixtures::{Ask, are_rows, integer, kept, nullable_bools, rows_of, same};
 use std::alloc::Global;
 use std::borrow::Cow;
 use tree_fixtures::array_makers::*;
@@ -23,12 +23,17 @@ fn ran<C: ScalarFnRules>(
 
 /// Whether a tree answers these rows after a run of at most ten steps.
 fn runs_to<C: ScalarFnRules>(
-    alloc: Global,
+    rt: HostRuntime,
     tree: Bound<C>,
     columns: VortexResult<Vec<Column>>,
     wanted: &[Option<bool>],
 ) -> VortexResult<bool> {
-    Ok(ran(alloc, tree, columns, wanted.len(), 10)?.as_slice() == wanted)
+    let alloc = rt.alloc();
+    Ok(same(
+        rt,
+        ran(alloc, tree, columns, wanted.len(), 10)?.as_slice(),
+        wanted,
+    ))
 }
 
 /// Whether `a + b` is null, of columns of u8, where `a` is nullable.
@@ -65,34 +70,36 @@ fn bytes(alloc: Global) -> VortexResult<Vec<Column>> {
 fn a_fault_goes_with_the_call_that_a_step_drops(rt: HostRuntime) {
     let alloc = rt.alloc();
     let executed = executed::<NoCustom>(alloc, unknown_sum(alloc), bytes(alloc), 2);
-    assert!(rt; is_refused(executed, "Arithmetic.Add"));
+    assert!(rt; rt.is_refused(executed, "Arithmetic.Add"));
     let wanted = [Some(false), Some(true)];
-    assert!(rt; yes(runs_to::<NoCustom>(alloc, unknown_sum(alloc), bytes(alloc), &wanted)));
+    assert!(rt; rt.yes(runs_to::<NoCustom>(rt, unknown_sum(alloc), bytes(alloc), &wanted)));
     let unchanged = ran::<NoCustom>(alloc, unknown_sum(alloc), bytes(alloc), 2, 0);
-    assert!(rt; is_refused(unchanged, "Arithmetic.Add"));
+    assert!(rt; rt.is_refused(unchanged, "Arithmetic.Add"));
 }
 
 /// Whether an answer is a borrowed column of these rows.
 fn is_lent(
-    alloc: Global,
+    rt: HostRuntime,
     answer: VortexResult<Cow<'_, Column>>,
     wanted: &[Option<bool>],
 ) -> VortexResult<bool> {
+    let alloc = rt.alloc();
     let answer = Box::new(alloc, answer?)?;
-    Ok(matches!(&*answer, Cow::Borrowed(_)) && are_rows(alloc, &**answer, wanted)?)
+    Ok(matches!(&*answer, Cow::Borrowed(_)) && are_rows(rt, &**answer, wanted)?)
 }
 
 /// Whether a tree answers a borrowed column of these rows after a run of at most ten steps.
 fn lends<C: ScalarFnRules>(
-    alloc: Global,
+    rt: HostRuntime,
     tree: Bound<C>,
     columns: VortexResult<Vec<Column>>,
     wanted: &[Option<bool>],
 ) -> VortexResult<bool> {
+    let alloc = rt.alloc();
     let (tree, columns) = (tree?, columns?);
     let mut ctx = ExecutionCtx::new(alloc);
     let answer = run(&*tree, &columns, wanted.len(), 10, &mut ctx);
-    is_lent(alloc, answer, wanted)
+    is_lent(rt, answer, wanted)
 }
 
 /// True and column `a`.
@@ -113,8 +120,8 @@ fn truths(alloc: Global) -> VortexResult<Vec<Column>> {
 fn a_run_that_leaves_a_column_lends_it(rt: HostRuntime) {
     let alloc = rt.alloc();
     let rows = [Some(true), Some(false), None];
-    assert!(rt; yes(lends::<NoCustom>(alloc, leaf(alloc, "a"), truths(alloc), &rows)));
-    assert!(rt; yes(lends::<NoCustom>(alloc, true_and_a(alloc), truths(alloc), &rows)));
+    assert!(rt; rt.yes(lends::<NoCustom>(rt, leaf(alloc, "a"), truths(alloc), &rows)));
+    assert!(rt; rt.yes(lends::<NoCustom>(rt, true_and_a(alloc), truths(alloc), &rows)));
 }
 
 /// False and whether 1 through 0 is 1.
@@ -133,10 +140,10 @@ fn a_deciding_literal_leaves_no_fault(rt: HostRuntime) {
     let alloc = rt.alloc();
     let none = Ok(Vec::new(alloc));
     let executed = executed::<NoCustom>(alloc, false_and_quotient(alloc), none, 1);
-    assert!(rt; is_refused(executed, "Arithmetic.Div"));
+    assert!(rt; rt.is_refused(executed, "Arithmetic.Div"));
     let none = Ok(Vec::new(alloc));
     let tree = false_and_quotient::<NoCustom>(alloc);
-    assert!(rt; yes(runs_to(alloc, tree, none, &[Some(false)])));
+    assert!(rt; rt.yes(runs_to(rt, tree, none, &[Some(false)])));
 }
 
 /// False and column `a`.
@@ -150,24 +157,25 @@ fn leaves_are_looked_at_before_a_step_drops_them(rt: HostRuntime) {
     let alloc = rt.alloc();
     let none = Ok(Vec::new(alloc));
     let refused = ran::<NoCustom>(alloc, false_and_a(alloc), none, 1, 10);
-    assert!(rt; is_refused(refused, "ScopeMismatch"));
+    assert!(rt; rt.is_refused(refused, "ScopeMismatch"));
     let given = one(alloc, nullable_bools(alloc, &[None]));
     let refused = ran::<NoCustom>(alloc, false_and_a(alloc), given, 2, 10);
-    assert!(rt; is_refused(refused, "LengthMismatch"));
+    assert!(rt; rt.is_refused(refused, "LengthMismatch"));
     let given = one(alloc, nullable_bools(alloc, &[None]));
-    assert!(rt; yes(runs_to::<NoCustom>(alloc, false_and_a(alloc), given, &[Some(false)])));
+    assert!(rt; rt.yes(runs_to::<NoCustom>(rt, false_and_a(alloc), given, &[Some(false)])));
 }
 
 /// Whether an array answers these rows after a run of at most ten steps.
 fn array_runs_to<C: ScalarFnRules>(
-    alloc: Global,
+    rt: HostRuntime,
     array: Held<C>,
     wanted: &[Option<bool>],
 ) -> VortexResult<bool> {
+    let alloc = rt.alloc();
     let array = array?;
     let mut ctx = ExecutionCtx::new(alloc);
     let answer = Box::new(alloc, run_array(&*array, 10, &mut ctx)?)?;
-    Ok(rows_of(alloc, &*answer)?.as_slice() == wanted)
+    are_rows(rt, &*answer, wanted)
 }
 
 /// Whether an array is null.
@@ -182,7 +190,7 @@ fn arrays_are_executed_after_a_run(rt: HostRuntime) {
     let alloc = rt.alloc();
     let both = over_columns::<NoCustom>(alloc, x(alloc), Operator::And, y(alloc));
     let missing = [Some(false), Some(false), Some(true)];
-    assert!(rt; yes(array_runs_to(alloc, test_of(alloc, both), &missing)));
+    assert!(rt; rt.yes(array_runs_to(rt, test_of(alloc, both), &missing)));
     let rows = [Some(true), Some(true), None];
-    assert!(rt; yes(array_runs_to::<NoCustom>(alloc, held(alloc, x(alloc)), &rows)));
+    assert!(rt; rt.yes(array_runs_to::<NoCustom>(rt, held(alloc, x(alloc)), &rows)));
 }

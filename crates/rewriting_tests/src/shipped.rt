@@ -2,7 +2,7 @@
 ghost use Rattle.std.specs.Prelude.{◌≡◌, Some};
 ghost use Rattle.vortex_functions.specs.Words.{called, function_of};
 
-use fixtures::yes;
+use fixtures::Ask;
 use std::alloc::Global;
 use std::borrow::Cow;
 use tree_fixtures::array_makers::{Held, array_answers, held, made, over_columns, x, y};
@@ -177,69 +177,69 @@ fn between_truths<C: ScalarFnVTable>(alloc: Global) -> Bound<C> {
 fn operators_and_null_tests_are_reduced(rt: HostRuntime) {
     let alloc = rt.alloc();
     let kept = reduced(alloc, beside_b::<NoCustom>(alloc, true));
-    assert!(rt; yes(becomes(alloc, kept, "$.b")));
+    assert!(rt; rt.yes(becomes(rt, kept, "$.b")));
     let there = is_not_null::<NoCustom>(alloc, a_with_b(alloc, Operator::Or));
     let text = "(is_not_null($.a) or $.b)";
-    assert!(rt; yes(becomes(alloc, reduced(alloc, there), text)));
+    assert!(rt; rt.yes(becomes(rt, reduced(alloc, there), text)));
     let missing = is_null::<NoCustom>(alloc, a_with_b(alloc, Operator::Or));
     let text = "(vortex.is_null($.a) and vortex.not($.b))";
-    assert!(rt; yes(becomes(alloc, reduced(alloc, missing), text)));
+    assert!(rt; rt.yes(becomes(rt, reduced(alloc, missing), text)));
 }
 
 #[test]
 fn other_functions_are_not_reduced(rt: HostRuntime) {
     let alloc = rt.alloc();
-    assert!(rt; yes(stays(reduced(alloc, not_a::<NoCustom>(alloc)))));
-    assert!(rt; yes(stays(reduced(alloc, cast_of_b::<NoCustom>(alloc)))));
-    assert!(rt; yes(stays(reduced(alloc, like_of_texts::<NoCustom>(alloc)))));
-    assert!(rt; yes(stays(reduced(alloc, between_truths::<NoCustom>(alloc)))));
+    assert!(rt; rt.yes(stays(rt, reduced(alloc, not_a::<NoCustom>(alloc)))));
+    assert!(rt; rt.yes(stays(rt, reduced(alloc, cast_of_b::<NoCustom>(alloc)))));
+    assert!(rt; rt.yes(stays(rt, reduced(alloc, like_of_texts::<NoCustom>(alloc)))));
+    assert!(rt; rt.yes(stays(rt, reduced(alloc, between_truths::<NoCustom>(alloc)))));
 }
 
 #[test]
 fn strict_functions_have_a_validity(rt: HostRuntime) {
     let alloc = rt.alloc();
     let not = validity(alloc, not_a::<NoCustom>(alloc));
-    assert!(rt; yes(becomes(alloc, not, "is_not_null($.a)")));
+    assert!(rt; rt.yes(becomes(rt, not, "is_not_null($.a)")));
     let equal = validity(alloc, a_with_b::<NoCustom>(alloc, Operator::Eq));
-    assert!(rt; yes(becomes(alloc, equal, "is_not_null($.a)")));
+    assert!(rt; rt.yes(becomes(rt, equal, "is_not_null($.a)")));
     let text = "(is_not_null($.a) and is_not_null($.b))";
     let like = validity(alloc, like_of_texts::<NoCustom>(alloc));
-    assert!(rt; yes(becomes(alloc, like, text)));
+    assert!(rt; rt.yes(becomes(rt, like, text)));
 }
 
 #[test]
 fn other_functions_have_none(rt: HostRuntime) {
     let alloc = rt.alloc();
     let both = a_with_b::<NoCustom>(alloc, Operator::And);
-    assert!(rt; yes(stays(validity(alloc, both))));
-    assert!(rt; yes(stays(validity(alloc, cast_of_b::<NoCustom>(alloc)))));
-    assert!(rt; yes(stays(validity(alloc, between_truths::<NoCustom>(alloc)))));
+    assert!(rt; rt.yes(stays(rt, validity(alloc, both))));
+    assert!(rt; rt.yes(stays(rt, validity(alloc, cast_of_b::<NoCustom>(alloc)))));
+    assert!(rt; rt.yes(stays(rt, validity(alloc, between_truths::<NoCustom>(alloc)))));
     let test = is_null::<NoCustom>(alloc, mixed(alloc, "a"));
-    assert!(rt; yes(stays(validity(alloc, test))));
+    assert!(rt; rt.yes(stays(rt, validity(alloc, test))));
     let test = is_not_null::<NoCustom>(alloc, mixed(alloc, "a"));
-    assert!(rt; yes(stays(validity(alloc, test))));
+    assert!(rt; rt.yes(stays(rt, validity(alloc, test))));
 }
 
 #[test]
 fn operators_are_simplified(rt: HostRuntime) {
     let alloc = rt.alloc();
     let decided = simplified(alloc, beside_b::<NoCustom>(alloc, false));
-    assert!(rt; yes(becomes(alloc, decided, "false")));
+    assert!(rt; rt.yes(becomes(rt, decided, "false")));
     let kept = simplified(alloc, beside_b::<NoCustom>(alloc, true));
-    assert!(rt; yes(becomes(alloc, kept, "$.b")));
+    assert!(rt; rt.yes(becomes(rt, kept, "$.b")));
     let both = a_with_b::<NoCustom>(alloc, Operator::And);
-    assert!(rt; yes(stays(simplified(alloc, both))));
+    assert!(rt; rt.yes(stays(rt, simplified(alloc, both))));
 }
 
 #[test]
 fn other_functions_are_not_simplified(rt: HostRuntime) {
     let alloc = rt.alloc();
-    assert!(rt; yes(stays(simplified(alloc, not_a::<NoCustom>(alloc)))));
-    assert!(rt; yes(stays(simplified(alloc, cast_of_b::<NoCustom>(alloc)))));
-    assert!(rt; yes(stays(simplified(alloc, like_of_texts::<NoCustom>(alloc)))));
-    assert!(rt; yes(stays(simplified(alloc, between_truths::<NoCustom>(alloc)))));
+    assert!(rt; rt.yes(stays(rt, simplified(alloc, not_a::<NoCustom>(alloc)))));
+    assert!(rt; rt.yes(stays(rt, simplified(alloc, cast_of_b::<NoCustom>(alloc)))));
+    assert!(rt; rt.yes(stays(rt, simplified(alloc, like_of_texts::<NoCustom>(alloc)))));
+    assert!(rt; rt.yes(stays(rt, simplified(alloc, between_truths::<NoCustom>(alloc)))));
     let test = is_null::<NoCustom>(alloc, mixed(alloc, "b"));
-    assert!(rt; yes(stays(simplified(alloc, test))));
+    assert!(rt; rt.yes(stays(rt, simplified(alloc, test))));
 }
 
 /// What Reduce makes of an array; a refusal where no rule applies.
@@ -279,8 +279,8 @@ fn calls_over_arrays_are_reduced_and_have_a_validity(rt: HostRuntime) {
     let alloc = rt.alloc();
     let missing = reduced_array(alloc, unknown_both::<NoCustom>(alloc));
     let rows = [Some(false), Some(false), Some(true)];
-    assert!(rt; yes(array_answers(alloc, missing, &rows)));
+    assert!(rt; rt.yes(array_answers(rt, missing, &rows)));
     let there = validity_of_array(alloc, not_x::<NoCustom>(alloc));
     let rows = [Some(true), Some(true), Some(false)];
-    assert!(rt; yes(array_answers(alloc, there, &rows)));
+    assert!(rt; rt.yes(array_answers(rt, there, &rows)));
 }

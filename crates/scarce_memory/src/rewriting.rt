@@ -2,11 +2,11 @@
 
 use crate::comparing::{are_same, unless_changed};
 use crate::seen::Tally;
-use crate::trees::{UNKNOWN, missing, two_rows, unknown};
+use crate::trees::{UNKNOWN, array_answers, has_text, missing, two_rows, unknown};
 use fixtures::{Made, kept, nullable_bools};
 use std::alloc::Global;
 use std::borrow::Cow;
-use tree_fixtures::array_makers::{Held, array_answers, over_columns};
+use tree_fixtures::array_makers::{Held, over_columns};
 use tree_fixtures::makers::*;
 use vortex_arrays::*;
 use vortex_columns::*;

@@ -9,6 +9,14 @@ pub struct Tally {
     pub wrong: Option<&'static str>,
 }
 
+/// Whether a question is answered, and with yes.
+pub fn yes(answer: VortexResult<bool>) -> bool {
+    match answer {
+        Ok(answer) => answer,
+        Err(_) => false,
+    }
+}
+
 impl Tally {
     /// No call is seen yet.
     pub fn new() -> Tally {

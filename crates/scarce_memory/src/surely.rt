@@ -2,9 +2,9 @@
 //! is made first, and then the call itself may not be out of memory. Calls without either say so by
 //! their type, and are not tried.
 
-use crate::seen::Tally;
+use crate::seen::{Tally, yes};
 use crate::trees::CLOSED;
-use fixtures::{Made, bools, boxed, fields, yes};
+use fixtures::{Made, bools, boxed, fields};
 use std::alloc::Global;
 use std::borrow::Cow;
 use std::mem;

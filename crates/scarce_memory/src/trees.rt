@@ -4,7 +4,7 @@ use crate::comparing::{Table, unless_changed};
 use crate::seen::Tally;
 use fixtures::{Made, bools, nullable_bools, nullable_ints, numbers, texts};
 use std::alloc::Global;
-use tree_fixtures::array_makers::{Held, array_answers, held, made};
+use tree_fixtures::array_makers::{Held, array_rows, held, made};
 use tree_fixtures::makers::*;
 use tree_fixtures::rewritten::{call_of_names, scope_of};
 use vortex_arrays::*;
@@ -20,6 +20,24 @@ pub const CLOSED: BetweenOptions = BetweenOptions {
 
 /// The text of the tree that is executed and rewritten.
 pub const UNKNOWN: &str = "vortex.is_null((($.a + $.b) = $.c))";
+
+/// Whether `sql_text` gives that text.
+pub fn has_text<C: ScalarFnVTable>(
+    alloc: Global,
+    tree: &BoundExpression<C>,
+    wanted: &str,
+) -> VortexResult<bool> {
+    Ok(tree.sql_text(alloc)?.as_str() == wanted)
+}
+
+/// Whether an array's copy has these rows.
+pub fn array_answers<C: ScalarFnVTable>(
+    alloc: Global,
+    array: Held<C>,
+    wanted: &[Option<bool>],
+) -> VortexResult<bool> {
+    Ok(array_rows(alloc, array)?.as_slice() == wanted)
+}
 
 /// `is_null((a + b) = c)`, over columns of nullable i32.
 pub fn unknown<C: ScalarFnVTable>(alloc: Global) -> Bound<C> {

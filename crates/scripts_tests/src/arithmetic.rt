@@ -20,52 +20,40 @@ run
 
 #[test]
 fn operators_calculate(rt: HostRuntime) {
-    let alloc = rt.alloc();
     let script = "rows 2\ncol a i32? 7 null\ncol b i32? 2 0\nget a\nget b\ncall /\nrun\n";
-    assert!(rt; prints(alloc, script, "i32?: 3 null\n"));
+    assert!(rt; prints(rt, script, "i32?: 3 null\n"));
     let script = "rows 2\ncol a i8 -7 100\nlit i8 2\nget a\ncall -\nrun\n";
-    assert!(rt; prints(alloc, script, "i8: 9 -98\n"));
+    assert!(rt; prints(rt, script, "i8: 9 -98\n"));
     let script = "rows 2\ncol a u8? 250 null\nget a\nlit u8 5\ncall +\nrun\n";
-    assert!(rt; prints(alloc, script, "u8?: 255 null\n"));
+    assert!(rt; prints(rt, script, "u8?: 255 null\n"));
     let script = "rows 1\ncol a i64 -3\nget a\nget a\ncall *\nshow\nrun\n";
-    assert!(rt; prints(alloc, script, "($.a * $.a)\ni64: 9\n"));
+    assert!(rt; prints(rt, script, "($.a * $.a)\ni64: 9\n"));
 }
 
 #[test]
 fn no_rows_have_no_fault(rt: HostRuntime) {
-    let alloc = rt.alloc();
     let script = "rows 0\nlit i32 1\nlit i32 0\ncall /\nrun\n";
-    assert!(rt; prints(alloc, script, "i32:\n"));
+    assert!(rt; prints(rt, script, "i32:\n"));
 }
 
 #[test]
 fn types_of_arithmetic_are_refused(rt: HostRuntime) {
-    let alloc = rt.alloc();
     let refusal = "error: TypeMismatch.Arithmetic\n";
     let script = "rows 1\nlit i32 1\nlit i64 1\ncall +\n";
-    assert!(rt; is_refused(alloc, script, "", refusal));
+    assert!(rt; is_refused(rt, script, "", refusal));
     let script = "rows 1\nlit bool true\nlit bool true\ncall +\n";
-    assert!(rt; is_refused(alloc, script, "", refusal));
+    assert!(rt; is_refused(rt, script, "", refusal));
 }
 
 #[test]
 fn the_first_call_that_faults_is_told(rt: HostRuntime) {
-    let alloc = rt.alloc();
     let shown = "(($.a / $.b) + ($.c + $.d))\n";
-    assert!(rt;
-        is_refused(
-            alloc,
-            FAULTS_ON_BOTH_SIDES,
-            shown,
-            "error: Arithmetic.Div\n"
-        )
-    );
+    assert!(rt; is_refused(rt, FAULTS_ON_BOTH_SIDES, shown, "error: Arithmetic.Div\n"));
 }
 
 #[test]
 fn a_deciding_operand_hides_no_fault(rt: HostRuntime) {
-    let alloc = rt.alloc();
     let script =
         "rows 2\ncol a bool false false\nget a\nlit i32 1\nlit i32 0\ncall /\nlit i32 1\ncall =\ncall and\nrun\n";
-    assert!(rt; is_refused(alloc, script, "", "error: Arithmetic.Div\n"));
+    assert!(rt; is_refused(rt, script, "", "error: Arithmetic.Div\n"));
 }

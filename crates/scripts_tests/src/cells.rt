@@ -4,47 +4,43 @@ use crate::endings::{is_malformed_at_2, prints};
 
 #[test]
 fn numbers_are_read_and_printed(rt: HostRuntime) {
-    let alloc = rt.alloc();
     let script = "rows 4\ncol n i8? -128 null -0 007\nget n\nrun\n";
-    assert!(rt; prints(alloc, script, "i8?: -128 null 0 7\n"));
+    assert!(rt; prints(rt, script, "i8?: -128 null 0 7\n"));
     let script =
         "rows 1\nlit u64 00000000000000000000000000000000000000000000000018446744073709551615\nrun\n";
-    assert!(rt; prints(alloc, script, "u64: 18446744073709551615\n"));
+    assert!(rt; prints(rt, script, "u64: 18446744073709551615\n"));
 }
 
 #[test]
 fn texts_are_read_and_printed(rt: HostRuntime) {
     let script = " rows 3\ncol s utf8  \"\"   \"# null\" \"caf\u{e9}\" \nget s\nrun\n";
     let out = "utf8: \"\" \"# null\" \"caf\u{e9}\"\n";
-    assert!(rt; prints(rt.alloc(), script, out));
+    assert!(rt; prints(rt, script, out));
 }
 
 #[test]
 fn numbers_that_the_type_does_not_hold_are_malformed(rt: HostRuntime) {
-    let alloc = rt.alloc();
-    assert!(rt; is_malformed_at_2(alloc, "rows 1\ncol u u8 256\n"));
-    assert!(rt; is_malformed_at_2(alloc, "rows 1\ncol u u8 -1\n"));
-    assert!(rt; is_malformed_at_2(alloc, "rows 1\ncol u i8 +1\n"));
-    assert!(rt; is_malformed_at_2(alloc, "rows 1\ncol u i8 -\n"));
-    assert!(rt; is_malformed_at_2(alloc, "rows 1\ncol u i8 \"1\"\n"));
+    assert!(rt; is_malformed_at_2(rt, "rows 1\ncol u u8 256\n"));
+    assert!(rt; is_malformed_at_2(rt, "rows 1\ncol u u8 -1\n"));
+    assert!(rt; is_malformed_at_2(rt, "rows 1\ncol u i8 +1\n"));
+    assert!(rt; is_malformed_at_2(rt, "rows 1\ncol u i8 -\n"));
+    assert!(rt; is_malformed_at_2(rt, "rows 1\ncol u i8 \"1\"\n"));
     let script = "rows 1\nlit u64 100000000000000000000000000000000000000000000000000\n";
-    assert!(rt; is_malformed_at_2(alloc, script));
+    assert!(rt; is_malformed_at_2(rt, script));
 }
 
 #[test]
 fn texts_stand_in_quotes(rt: HostRuntime) {
-    let alloc = rt.alloc();
-    assert!(rt; is_malformed_at_2(alloc, "rows 1\ncol s utf8 a\n"));
-    assert!(rt; is_malformed_at_2(alloc, "rows 1\ncol s utf8 null\n"));
-    assert!(rt; is_malformed_at_2(alloc, "rows 1\ncol s utf8 \"a\n"));
-    assert!(rt; is_malformed_at_2(alloc, "rows 1\ncol s utf8 \"a\"b\n"));
-    assert!(rt; is_malformed_at_2(alloc, "rows 1\ncol \"s\" utf8 \"a\"\n"));
+    assert!(rt; is_malformed_at_2(rt, "rows 1\ncol s utf8 a\n"));
+    assert!(rt; is_malformed_at_2(rt, "rows 1\ncol s utf8 null\n"));
+    assert!(rt; is_malformed_at_2(rt, "rows 1\ncol s utf8 \"a\n"));
+    assert!(rt; is_malformed_at_2(rt, "rows 1\ncol s utf8 \"a\"b\n"));
+    assert!(rt; is_malformed_at_2(rt, "rows 1\ncol \"s\" utf8 \"a\"\n"));
 }
 
 #[test]
 fn literals_have_one_cell_of_a_type(rt: HostRuntime) {
-    let alloc = rt.alloc();
-    assert!(rt; is_malformed_at_2(alloc, "rows 1\nlit i8\n"));
-    assert!(rt; is_malformed_at_2(alloc, "rows 1\nlit i8 1 2\n"));
-    assert!(rt; is_malformed_at_2(alloc, "rows 1\nlit i9 1\n"));
+    assert!(rt; is_malformed_at_2(rt, "rows 1\nlit i8\n"));
+    assert!(rt; is_malformed_at_2(rt, "rows 1\nlit i8 1 2\n"));
+    assert!(rt; is_malformed_at_2(rt, "rows 1\nlit i9 1\n"));
 }

@@ -75,27 +75,26 @@ lit utf8 \"a%\"
 
 #[test]
 fn lines_and_words(rt: HostRuntime) {
-    assert!(rt; prints(rt.alloc(), WORDS, "utf8: \"two words # no comment\"\n"));
+    assert!(rt; prints(rt, WORDS, "utf8: \"two words # no comment\"\n"));
 }
 
 #[test]
 fn columns_of_several_types(rt: HostRuntime) {
-    assert!(rt; prints(rt.alloc(), COLUMNS, "bool: true false\nu16?: 50 null\n"));
+    assert!(rt; prints(rt, COLUMNS, "bool: true false\nu16?: 50 null\n"));
 }
 
 #[test]
 fn signed_integers(rt: HostRuntime) {
-    let alloc = rt.alloc();
     let script = "rows 2\ncol n i8 -128 127\nget n\nrun\n";
-    assert!(rt; prints(alloc, script, "i8: -128 127\n"));
+    assert!(rt; prints(rt, script, "i8: -128 127\n"));
     let script = "rows 2\ncol n i16 -32768 32767\nget n\nrun\n";
-    assert!(rt; prints(alloc, script, "i16: -32768 32767\n"));
+    assert!(rt; prints(rt, script, "i16: -32768 32767\n"));
     let script = "rows 2\ncol n i32 -2147483648 2147483647\nget n\nrun\n";
-    assert!(rt; prints(alloc, script, "i32: -2147483648 2147483647\n"));
+    assert!(rt; prints(rt, script, "i32: -2147483648 2147483647\n"));
     let script = "rows 2\ncol n i64 -9223372036854775808 9223372036854775807\nget n\nrun\n";
     assert!(rt;
         prints(
-            alloc,
+            rt,
             script,
             "i64: -9223372036854775808 9223372036854775807\n"
         )
@@ -104,49 +103,45 @@ fn signed_integers(rt: HostRuntime) {
 
 #[test]
 fn unsigned_integers(rt: HostRuntime) {
-    let alloc = rt.alloc();
     let script = "rows 2\ncol n u8 0 255\nget n\nrun\n";
-    assert!(rt; prints(alloc, script, "u8: 0 255\n"));
+    assert!(rt; prints(rt, script, "u8: 0 255\n"));
     let script = "rows 2\ncol n u16 0 65535\nget n\nrun\n";
-    assert!(rt; prints(alloc, script, "u16: 0 65535\n"));
+    assert!(rt; prints(rt, script, "u16: 0 65535\n"));
     let script = "rows 2\ncol n u32 0 4294967295\nget n\nrun\n";
-    assert!(rt; prints(alloc, script, "u32: 0 4294967295\n"));
+    assert!(rt; prints(rt, script, "u32: 0 4294967295\n"));
     let script = "rows 2\ncol n u64 0 18446744073709551615\nget n\nrun\n";
-    assert!(rt; prints(alloc, script, "u64: 0 18446744073709551615\n"));
+    assert!(rt; prints(rt, script, "u64: 0 18446744073709551615\n"));
 }
 
 #[test]
 fn nulls_and_texts(rt: HostRuntime) {
-    let alloc = rt.alloc();
     let script = "rows 2\ncol s utf8? null \"null\"\nget s\nrun\n";
-    assert!(rt; prints(alloc, script, "utf8?: null \"null\"\n"));
+    assert!(rt; prints(rt, script, "utf8?: null \"null\"\n"));
     let script = "rows 2\ncol s utf8 \"\" \"C:\\n\"\nget s\nrun\n";
-    assert!(rt; prints(alloc, script, "utf8: \"\" \"C:\\n\"\n"));
+    assert!(rt; prints(rt, script, "utf8: \"\" \"C:\\n\"\n"));
 }
 
 #[test]
 fn a_literal_stands_in_each_row(rt: HostRuntime) {
-    let alloc = rt.alloc();
     let script = "rows 3\nlit u8? 7\nshow\nrun\n";
-    assert!(rt; prints(alloc, script, "7u8\nu8?: 7 7 7\n"));
+    assert!(rt; prints(rt, script, "7u8\nu8?: 7 7 7\n"));
 }
 
 #[test]
 fn the_last_tree_is_on_the_right(rt: HostRuntime) {
-    assert!(rt; prints(rt.alloc(), STACK, "$.b\n($.a - $.b)\ni32: 5 6\n"));
+    assert!(rt; prints(rt, STACK, "$.b\n($.a - $.b)\ni32: 5 6\n"));
 }
 
 #[test]
 fn texts_of_literals(rt: HostRuntime) {
-    assert!(rt; prints(rt.alloc(), LITERALS, "1i32\n2u8\n\"a b\"\nfalse\nnull\n"));
+    assert!(rt; prints(rt, LITERALS, "1i32\n2u8\n\"a b\"\nfalse\nnull\n"));
 }
 
 #[test]
 fn comparisons(rt: HostRuntime) {
-    let alloc = rt.alloc();
     assert!(rt;
         prints_after(
-            alloc,
+            rt,
             COMPARED,
             "call =\nrun\n",
             "bool?: false true false null\n"
@@ -154,7 +149,7 @@ fn comparisons(rt: HostRuntime) {
     );
     assert!(rt;
         prints_after(
-            alloc,
+            rt,
             COMPARED,
             "call !=\nrun\n",
             "bool?: true false true null\n"
@@ -162,7 +157,7 @@ fn comparisons(rt: HostRuntime) {
     );
     assert!(rt;
         prints_after(
-            alloc,
+            rt,
             COMPARED,
             "call <\nrun\n",
             "bool?: true false false null\n"
@@ -170,7 +165,7 @@ fn comparisons(rt: HostRuntime) {
     );
     assert!(rt;
         prints_after(
-            alloc,
+            rt,
             COMPARED,
             "call <=\nrun\n",
             "bool?: true true false null\n"
@@ -178,7 +173,7 @@ fn comparisons(rt: HostRuntime) {
     );
     assert!(rt;
         prints_after(
-            alloc,
+            rt,
             COMPARED,
             "call >\nrun\n",
             "bool?: false false true null\n"
@@ -186,7 +181,7 @@ fn comparisons(rt: HostRuntime) {
     );
     assert!(rt;
         prints_after(
-            alloc,
+            rt,
             COMPARED,
             "call >=\nrun\n",
             "bool?: false true true null\n"
@@ -196,91 +191,83 @@ fn comparisons(rt: HostRuntime) {
 
 #[test]
 fn calculations(rt: HostRuntime) {
-    let alloc = rt.alloc();
-    assert!(rt; prints_after(alloc, CALCULATED, "call +\nrun\n", "i8?: -5 null\n"));
-    assert!(rt; prints_after(alloc, CALCULATED, "call -\nrun\n", "i8?: -9 null\n"));
-    assert!(rt; prints_after(alloc, CALCULATED, "call *\nrun\n", "i8?: -14 null\n"));
-    assert!(rt; prints_after(alloc, CALCULATED, "call /\nrun\n", "i8?: -3 null\n"));
+    assert!(rt; prints_after(rt, CALCULATED, "call +\nrun\n", "i8?: -5 null\n"));
+    assert!(rt; prints_after(rt, CALCULATED, "call -\nrun\n", "i8?: -9 null\n"));
+    assert!(rt; prints_after(rt, CALCULATED, "call *\nrun\n", "i8?: -14 null\n"));
+    assert!(rt; prints_after(rt, CALCULATED, "call /\nrun\n", "i8?: -3 null\n"));
 }
 
 #[test]
 fn faults_of_calculations(rt: HostRuntime) {
-    let alloc = rt.alloc();
     let script = "rows 1\nlit u8 250\nlit u8 6\ncall +\nrun\n";
-    assert!(rt; is_refused(alloc, script, "", "error: Arithmetic.Add\n"));
+    assert!(rt; is_refused(rt, script, "", "error: Arithmetic.Add\n"));
     let script = "rows 1\nlit u8 0\nlit u8 1\ncall -\nrun\n";
-    assert!(rt; is_refused(alloc, script, "", "error: Arithmetic.Sub\n"));
+    assert!(rt; is_refused(rt, script, "", "error: Arithmetic.Sub\n"));
     let script = "rows 1\nlit i8 -128\nlit i8 -1\ncall *\nrun\n";
-    assert!(rt; is_refused(alloc, script, "", "error: Arithmetic.Mul\n"));
+    assert!(rt; is_refused(rt, script, "", "error: Arithmetic.Mul\n"));
     let script = "rows 1\nlit i8 -128\nlit i8 -1\ncall /\nrun\n";
-    assert!(rt; is_refused(alloc, script, "", "error: Arithmetic.Div\n"));
+    assert!(rt; is_refused(rt, script, "", "error: Arithmetic.Div\n"));
 }
 
 #[test]
 fn bounds(rt: HostRuntime) {
-    let alloc = rt.alloc();
     let out = "($.l <= $.x <= $.u)\nbool: true true true true false\n";
-    assert!(rt; prints_after(alloc, BOUNDED, "call between <= <=\nshow\nrun\n", out));
+    assert!(rt; prints_after(rt, BOUNDED, "call between <= <=\nshow\nrun\n", out));
     let out = "($.l <= $.x < $.u)\nbool: true true false false false\n";
-    assert!(rt; prints_after(alloc, BOUNDED, "call between <= <\nshow\nrun\n", out));
+    assert!(rt; prints_after(rt, BOUNDED, "call between <= <\nshow\nrun\n", out));
     let out = "($.l < $.x <= $.u)\nbool: true false true false false\n";
-    assert!(rt; prints_after(alloc, BOUNDED, "call between < <=\nshow\nrun\n", out));
+    assert!(rt; prints_after(rt, BOUNDED, "call between < <=\nshow\nrun\n", out));
     let out = "($.l < $.x < $.u)\nbool: true false false false false\n";
-    assert!(rt; prints_after(alloc, BOUNDED, "call between < <\nshow\nrun\n", out));
+    assert!(rt; prints_after(rt, BOUNDED, "call between < <\nshow\nrun\n", out));
 }
 
 #[test]
 fn like_words(rt: HostRuntime) {
-    let alloc = rt.alloc();
     let out = "$.s like \"a%\"\nbool?: true false false null\n";
-    assert!(rt; prints_after(alloc, LIKENED, "call like\nshow\nrun\n", out));
+    assert!(rt; prints_after(rt, LIKENED, "call like\nshow\nrun\n", out));
     let out = "$.s not like \"a%\"\nbool?: false true true null\n";
-    assert!(rt; prints_after(alloc, LIKENED, "call not_like\nshow\nrun\n", out));
+    assert!(rt; prints_after(rt, LIKENED, "call not_like\nshow\nrun\n", out));
     let out = "$.s ilike \"a%\"\nbool?: true true false null\n";
-    assert!(rt; prints_after(alloc, LIKENED, "call ilike\nshow\nrun\n", out));
+    assert!(rt; prints_after(rt, LIKENED, "call ilike\nshow\nrun\n", out));
     let out = "$.s not ilike \"a%\"\nbool?: false false true null\n";
-    assert!(rt; prints_after(alloc, LIKENED, "call not_ilike\nshow\nrun\n", out));
+    assert!(rt; prints_after(rt, LIKENED, "call not_ilike\nshow\nrun\n", out));
 }
 
 #[test]
 fn patterns(rt: HostRuntime) {
-    let alloc = rt.alloc();
     let script =
         "rows 3\ncol s utf8 \"aaxaab\" \"aab\" \"ab\"\nget s\nlit utf8 \"%a_b\"\ncall like\nrun\n";
-    assert!(rt; prints(alloc, script, "bool: true true false\n"));
+    assert!(rt; prints(rt, script, "bool: true true false\n"));
     let script =
         "rows 2\ncol s utf8 \"\\abc\" \"abc\"\nget s\nlit utf8 \"\\\\%\"\ncall like\nrun\n";
-    assert!(rt; prints(alloc, script, "bool: true false\n"));
+    assert!(rt; prints(rt, script, "bool: true false\n"));
 }
 
 #[test]
 fn types_are_refused(rt: HostRuntime) {
-    let alloc = rt.alloc();
     let script = "rows 1\nlit i32 1\nlit bool true\ncall and\n";
-    assert!(rt; is_refused(alloc, script, "", "error: TypeMismatch.Boolean\n"));
+    assert!(rt; is_refused(rt, script, "", "error: TypeMismatch.Boolean\n"));
     let script = "rows 1\nlit i32 1\ncall not\n";
-    assert!(rt; is_refused(alloc, script, "", "error: TypeMismatch.Not\n"));
+    assert!(rt; is_refused(rt, script, "", "error: TypeMismatch.Not\n"));
     let script = "rows 1\nlit i32 1\nlit i32 1\nlit bool true\ncall between < <\n";
-    assert!(rt; is_refused(alloc, script, "", "error: TypeMismatch.BetweenUpper\n"));
+    assert!(rt; is_refused(rt, script, "", "error: TypeMismatch.BetweenUpper\n"));
 }
 
 #[test]
 fn malformed_lines(rt: HostRuntime) {
-    let alloc = rt.alloc();
-    assert!(rt; is_malformed_at_4(alloc, "\n\nrows 1\nfoo\n"));
-    assert!(rt; is_malformed_at_1(alloc, "rows 1 # one\n"));
-    assert!(rt; is_malformed_at_1(alloc, "\"rows\" 1\n"));
+    assert!(rt; is_malformed_at_4(rt, "\n\nrows 1\nfoo\n"));
+    assert!(rt; is_malformed_at_1(rt, "rows 1 # one\n"));
+    assert!(rt; is_malformed_at_1(rt, "\"rows\" 1\n"));
 }
 
 #[test]
 fn a_script_ends_in_one_of_three_ways(rt: HostRuntime) {
-    let alloc = rt.alloc();
     let out = "bool: true\n";
-    assert!(rt; ends(alloc, b"rows 1\nlit bool true\nrun\n", out, 0, ""));
+    assert!(rt; ends(rt, b"rows 1\nlit bool true\nrun\n", out, 0, ""));
     let line = "error: ScopeMismatch\n";
     assert!(rt;
         ends(
-            alloc,
+            rt,
             b"rows 1\nlit bool true\nrun\nget z\nrun\n",
             out,
             1,
@@ -288,13 +275,5 @@ fn a_script_ends_in_one_of_three_ways(rt: HostRuntime) {
         )
     );
     let line = "line 4: malformed\n";
-    assert!(rt;
-        ends(
-            alloc,
-            b"rows 1\nlit bool true\nrun\nstop\nrun\n",
-            out,
-            2,
-            line
-        )
-    );
+    assert!(rt; ends(rt, b"rows 1\nlit bool true\nrun\nstop\nrun\n", out, 2, line));
 }

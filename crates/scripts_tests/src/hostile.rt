@@ -66,34 +66,33 @@ fn every_beginning_of_a_script_ends_by_its_lines(rt: HostRuntime) {
 
 #[test]
 fn the_whole_script_prints_all(rt: HostRuntime) {
-    assert!(rt; ends(rt.alloc(), SCRIPT.as_bytes(), OUT, 0, ""));
+    assert!(rt; ends(rt, SCRIPT.as_bytes(), OUT, 0, ""));
 }
 
 /// Whether a line behind four others is malformed.
-fn is_malformed_behind_literals(alloc: Global, line: &str) -> bool {
+fn is_malformed_behind_literals(rt: HostRuntime, line: &str) -> bool {
+    let alloc = rt.alloc();
     let mut script = String::new(alloc);
     let _ = script.push_str("rows 1\nlit i8 1\nlit i8 1\nlit i8 1\n");
     let _ = script.push_str(line);
-    ends(alloc, script.as_bytes(), "", 2, "line 5: malformed\n")
+    ends(rt, script.as_bytes(), "", 2, "line 5: malformed\n")
 }
 
 #[test]
 fn odd_lines_are_malformed(rt: HostRuntime) {
-    let alloc = rt.alloc();
-    assert!(rt; is_malformed_at_4(alloc, "\n\nrows 1\nfoo\n"));
-    assert!(rt; is_malformed_at_1(alloc, "rows 1000000\n"));
-    assert!(rt; is_malformed_at_1(alloc, "get a\n"));
-    assert!(rt; is_malformed_behind_literals(alloc, "lit i8 -129"));
-    assert!(rt; is_malformed_behind_literals(alloc, "lit utf8 \"a"));
-    assert!(rt; is_malformed_behind_literals(alloc, "lit utf8 \"a\"b"));
-    assert!(rt; is_malformed_behind_literals(alloc, "call between < !"));
+    assert!(rt; is_malformed_at_4(rt, "\n\nrows 1\nfoo\n"));
+    assert!(rt; is_malformed_at_1(rt, "rows 1000000\n"));
+    assert!(rt; is_malformed_at_1(rt, "get a\n"));
+    assert!(rt; is_malformed_behind_literals(rt, "lit i8 -129"));
+    assert!(rt; is_malformed_behind_literals(rt, "lit utf8 \"a"));
+    assert!(rt; is_malformed_behind_literals(rt, "lit utf8 \"a\"b"));
+    assert!(rt; is_malformed_behind_literals(rt, "call between < !"));
 }
 
 #[test]
 fn lines_before_a_byte_that_is_no_text_act(rt: HostRuntime) {
-    let alloc = rt.alloc();
     let line = "line 3: malformed\n";
-    assert!(rt; ends(alloc, b"rows 1\nlit i8 1\n\xFF\nshow\n", "", 2, line));
+    assert!(rt; ends(rt, b"rows 1\nlit i8 1\n\xFF\nshow\n", "", 2, line));
     let line = "line 4: malformed\n";
-    assert!(rt; ends(alloc, b"rows 1\nlit i8 1\nshow\n# \xFF\n", "1i8\n", 2, line));
+    assert!(rt; ends(rt, b"rows 1\nlit i8 1\nshow\n# \xFF\n", "1i8\n", 2, line));
 }

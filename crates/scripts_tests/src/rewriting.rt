@@ -44,57 +44,52 @@ steps 2 done true
 vortex.not(((is_not_null($.a) and is_not_null($.b)) and is_not_null($.c)))
 bool: false true
 ";
-    assert!(rt; prints_after(rt.alloc(), SUM, "show\noptimize\nshow\nrun\n", out));
+    assert!(rt; prints_after(rt, SUM, "show\noptimize\nshow\nrun\n", out));
 }
 
 #[test]
 fn the_test_of_a_null_is_optimized(rt: HostRuntime) {
-    let alloc = rt.alloc();
     let script = "rows 1\nlit bool? null\ncall is_null\noptimize\nshow\n";
-    assert!(rt; prints(alloc, script, "steps 1 done true\nvortex.not(false)\n"));
+    assert!(rt; prints(rt, script, "steps 1 done true\nvortex.not(false)\n"));
 }
 
 #[test]
 fn a_run_of_rules_drops_a_fault(rt: HostRuntime) {
-    let alloc = rt.alloc();
     assert!(rt;
         is_refused(
-            alloc,
+            rt,
             OVERFLOW,
             "bool: false true\n",
             "error: Arithmetic.Add\n"
         )
     );
-    assert!(rt; is_refused(alloc, DECIDED, "bool: false\n", "error: Arithmetic.Div\n"));
+    assert!(rt; is_refused(rt, DECIDED, "bool: false\n", "error: Arithmetic.Div\n"));
 }
 
 #[test]
 fn a_column_is_asked_for_before_a_run_drops_it(rt: HostRuntime) {
-    let alloc = rt.alloc();
     let script = "rows 1\nlit bool false\nget c\ncall and\nrun 10\n";
-    assert!(rt; is_refused(alloc, script, "", "error: ScopeMismatch\n"));
+    assert!(rt; is_refused(rt, script, "", "error: ScopeMismatch\n"));
 }
 
 #[test]
 fn a_run_of_rules_leaves_the_tree(rt: HostRuntime) {
     let out = "bool: false true\nvortex.is_null((($.a + $.b) = $.c))\n";
-    assert!(rt; prints_after(rt.alloc(), SUM, "run 10\nshow\n", out));
+    assert!(rt; prints_after(rt, SUM, "run 10\nshow\n", out));
 }
 
 #[test]
 fn lines_that_rewrite_are_malformed(rt: HostRuntime) {
-    let alloc = rt.alloc();
-    assert!(rt; is_malformed_at_2(alloc, "rows 1\noptimize\n"));
-    assert!(rt; is_malformed_at_2(alloc, "rows 1\nrun 1\n"));
-    assert!(rt; is_malformed_at_3(alloc, "rows 1\nlit bool true\noptimize 1\n"));
-    assert!(rt; is_malformed_at_3(alloc, "rows 1\nlit bool true\nrun 18446744073709551616\n"));
-    assert!(rt; is_malformed_at_3(alloc, "rows 1\nlit bool true\nrun -1\n"));
-    assert!(rt; is_malformed_at_3(alloc, "rows 1\nlit bool true\nrun 1 2\n"));
+    assert!(rt; is_malformed_at_2(rt, "rows 1\noptimize\n"));
+    assert!(rt; is_malformed_at_2(rt, "rows 1\nrun 1\n"));
+    assert!(rt; is_malformed_at_3(rt, "rows 1\nlit bool true\noptimize 1\n"));
+    assert!(rt; is_malformed_at_3(rt, "rows 1\nlit bool true\nrun 18446744073709551616\n"));
+    assert!(rt; is_malformed_at_3(rt, "rows 1\nlit bool true\nrun -1\n"));
+    assert!(rt; is_malformed_at_3(rt, "rows 1\nlit bool true\nrun 1 2\n"));
 }
 
 #[test]
 fn the_greatest_number_of_steps_is_read(rt: HostRuntime) {
-    let alloc = rt.alloc();
     let script = "rows 1\nlit bool true\nrun 18446744073709551615\n";
-    assert!(rt; prints(alloc, script, "bool: true\n"));
+    assert!(rt; prints(rt, script, "bool: true\n"));
 }

@@ -32,78 +32,73 @@ fn behind_columns(alloc: Global, lines: &str) -> String {
 }
 
 /// Whether lines behind columns `a` and `b` print that.
-fn print_behind(alloc: Global, lines: &str, out: &str) -> bool {
-    prints(alloc, behind_columns(alloc, lines).as_str(), out)
+fn print_behind(rt: HostRuntime, lines: &str, out: &str) -> bool {
+    let alloc = rt.alloc();
+    prints(rt, behind_columns(alloc, lines).as_str(), out)
 }
 
 /// Whether lines behind columns `a` and `b` print that, and then find no column.
-fn find_none_behind(alloc: Global, lines: &str, out: &str) -> bool {
+fn find_none_behind(rt: HostRuntime, lines: &str, out: &str) -> bool {
+    let alloc = rt.alloc();
     let script = behind_columns(alloc, lines);
-    is_refused(alloc, script.as_str(), out, "error: ScopeMismatch\n")
+    is_refused(rt, script.as_str(), out, "error: ScopeMismatch\n")
 }
 
 #[test]
 fn and_or_and_not_run_over_columns(rt: HostRuntime) {
-    let alloc = rt.alloc();
     let and = "bool?: true false null false false false null false null\n";
-    assert!(rt; print_behind(alloc, "call and\nrun\n", and));
+    assert!(rt; print_behind(rt, "call and\nrun\n", and));
     let or = "bool?: true true true true false null true null null\n";
-    assert!(rt; print_behind(alloc, "call or\nrun\n", or));
+    assert!(rt; print_behind(rt, "call or\nrun\n", or));
     let not_and = "bool?: false true null true true true null true null\n";
-    assert!(rt; print_behind(alloc, "call and\ncall not\nrun\n", not_and));
+    assert!(rt; print_behind(rt, "call and\ncall not\nrun\n", not_and));
 }
 
 #[test]
 fn what_was_printed_stays(rt: HostRuntime) {
-    let alloc = rt.alloc();
     let out =
         "bool?: true false null true false null true false null\nbool?: true true true false true null null true null\n";
-    assert!(rt; find_none_behind(alloc, "run\ncall not\ncall or\nrun\nget c\nrun\n", out));
+    assert!(rt; find_none_behind(rt, "run\ncall not\ncall or\nrun\nget c\nrun\n", out));
     let script = "rows 1\ncol a bool true\nget a\nrun\nget z\n";
-    assert!(rt; is_refused(alloc, script, "bool: true\n", "error: ScopeMismatch\n"));
+    assert!(rt; is_refused(rt, script, "bool: true\n", "error: ScopeMismatch\n"));
 }
 
 #[test]
 fn a_column_runs(rt: HostRuntime) {
-    let alloc = rt.alloc();
-    assert!(rt; prints(alloc, "rows 0\ncol a bool\nget a\nrun\n", "bool:\n"));
+    assert!(rt; prints(rt, "rows 0\ncol a bool\nget a\nrun\n", "bool:\n"));
     let script = "rows 000002\ncol A bool? null true\nget A\ncall not\nrun\n";
-    assert!(rt; prints(alloc, script, "bool?: null false\n"));
+    assert!(rt; prints(rt, script, "bool?: null false\n"));
 }
 
 #[test]
 fn texts_and_truth_values_compare(rt: HostRuntime) {
-    let alloc = rt.alloc();
     let script = "rows 3\ncol s utf8? \"a\" null \"b c\"\nget s\nlit utf8 \"b\"\ncall <\nrun\n";
-    assert!(rt; prints(alloc, script, "bool?: true null false\n"));
+    assert!(rt; prints(rt, script, "bool?: true null false\n"));
     let out = "bool: false true false false\nbool: true false true true\n";
-    assert!(rt; prints(alloc, TRUTHS_COMPARED, out));
+    assert!(rt; prints(rt, TRUTHS_COMPARED, out));
 }
 
 #[test]
 fn integers_compare(rt: HostRuntime) {
-    let alloc = rt.alloc();
     let script =
         "rows 2\ncol n i64 -9223372036854775808 9223372036854775807\nget n\nlit i64 0\ncall >\nrun\n";
-    assert!(rt; prints(alloc, script, "bool: false true\n"));
+    assert!(rt; prints(rt, script, "bool: false true\n"));
     let script = "rows 1\ncol n i32 1\nget n\nlit i64 1\ncall =\nrun\n";
-    assert!(rt; is_refused(alloc, script, "", "error: TypeMismatch.Compare\n"));
+    assert!(rt; is_refused(rt, script, "", "error: TypeMismatch.Compare\n"));
 }
 
 #[test]
 fn trees_are_shown(rt: HostRuntime) {
-    let alloc = rt.alloc();
     let script = "rows 2\ncol n u16? 1 null\nlit u16 1\nget n\ncall !=\nshow\nrun\n";
-    assert!(rt; prints(alloc, script, "(1u16 != $.n)\nbool?: false null\n"));
+    assert!(rt; prints(rt, script, "(1u16 != $.n)\nbool?: false null\n"));
     let script =
         "rows 1\ncol a bool true\ncol b bool? null\nget a\nget b\ncall and\ncall not\nshow\n";
-    assert!(rt; prints(alloc, script, "vortex.not(($.a and $.b))\n"));
+    assert!(rt; prints(rt, script, "vortex.not(($.a and $.b))\n"));
 }
 
 #[test]
 fn the_deepest_fault_is_told(rt: HostRuntime) {
-    let alloc = rt.alloc();
     let script =
         "rows 1\ncol a u8 255\nget a\nlit u8 1\ncall +\nlit u8 9\ncall <\ncall not\ncall not\nrun\n";
-    assert!(rt; is_refused(alloc, script, "", "error: Arithmetic.Add\n"));
+    assert!(rt; is_refused(rt, script, "", "error: Arithmetic.Add\n"));
 }

@@ -10,14 +10,13 @@ const NUMBER: &str = "col n i32?\nget n\nas n\n";
 
 #[test]
 fn answers_are_written_under_their_names(rt: HostRuntime) {
-    let alloc = rt.alloc();
-    assert!(rt; gives(alloc, plain(SUM, "a,b\n1,2\n3,4\n"), "sum\n3\n7\n"));
+    assert!(rt; gives(rt, plain(SUM, "a,b\n1,2\n3,4\n"), "sum\n3\n7\n"));
     let two = "col a i64\nget a\nlit i64 1\ncall +\nas next\nget a\n";
-    assert!(rt; gives(alloc, plain(two, "a\n1\n"), "next,$.a\n2,1\n"));
+    assert!(rt; gives(rt, plain(two, "a\n1\n"), "next,$.a\n2,1\n"));
     let unnamed = "col a i64\nget a\nlit utf8 \"x, y\"\n";
     assert!(rt;
         gives(
-            alloc,
+            rt,
             plain(unnamed, "a\n1\n"),
             "$.a,\"\"\"x, y\"\"\"\n1,\"x, y\"\n"
         )
@@ -26,17 +25,10 @@ fn answers_are_written_under_their_names(rt: HostRuntime) {
 
 #[test]
 fn columns_stand_in_any_order_among_others(rt: HostRuntime) {
-    let alloc = rt.alloc();
+    assert!(rt; gives(rt, plain(SUM, "x,b,y,a\nu,2,v,1\n,4,,3\n"), "sum\n3\n7\n"));
     assert!(rt;
         gives(
-            alloc,
-            plain(SUM, "x,b,y,a\nu,2,v,1\n,4,,3\n"),
-            "sum\n3\n7\n"
-        )
-    );
-    assert!(rt;
-        gives(
-            alloc,
+            rt,
             plain("lit bool true\nas t\n", "a,b\n1,2\n"),
             "t\ntrue\n"
         )
@@ -45,47 +37,43 @@ fn columns_stand_in_any_order_among_others(rt: HostRuntime) {
 
 #[test]
 fn without_a_header_columns_are_the_declared_ones(rt: HostRuntime) {
-    let alloc = rt.alloc();
-    assert!(rt; gives(alloc, headless(SUM, "1,2\n3,4\n"), "3\n7\n"));
-    assert!(rt; gives(alloc, headless(SUM, ""), ""));
-    assert!(rt; gives(alloc, plain(SUM, "a,b\n"), "sum\n"));
+    assert!(rt; gives(rt, headless(SUM, "1,2\n3,4\n"), "3\n7\n"));
+    assert!(rt; gives(rt, headless(SUM, ""), ""));
+    assert!(rt; gives(rt, plain(SUM, "a,b\n"), "sum\n"));
 }
 
 #[test]
 fn fields_are_parted_by_the_delimiter(rt: HostRuntime) {
-    let alloc = rt.alloc();
     let expression = "col a utf8\ncol b utf8\nget a\nget b\n";
     let tabs = Case {
         delimiter: b'\t',
         ..headless(expression, "x,y\tz\n\"p\tq\"\t;\n")
     };
-    assert!(rt; gives(alloc, tabs, "x,y\tz\n\"p\tq\"\t;\n"));
+    assert!(rt; gives(rt, tabs, "x,y\tz\n\"p\tq\"\t;\n"));
     let semicolons = Case {
         delimiter: b';',
         ..headless(expression, "x,y;z\n\"p;q\";r\n")
     };
-    assert!(rt; gives(alloc, semicolons, "x,y;z\n\"p;q\";r\n"));
+    assert!(rt; gives(rt, semicolons, "x,y;z\n\"p;q\";r\n"));
 }
 
 #[test]
 fn texts_are_quoted_where_needed(rt: HostRuntime) {
-    let alloc = rt.alloc();
     let input = "t\n\"a\"\n\"a,b\"\n\"a\"\"b\"\n\"a\nb\"\n\"a\r\nb\"\na\"b\n a \n";
     let output = "t\na\n\"a,b\"\n\"a\"\"b\"\n\"a\nb\"\n\"a\r\nb\"\n\"a\"\"b\"\n a \n";
-    assert!(rt; gives(alloc, plain(TEXT, input), output));
-    assert!(rt; gives(alloc, plain(TEXT, "t\nπ\n"), "t\nπ\n"));
+    assert!(rt; gives(rt, plain(TEXT, input), output));
+    assert!(rt; gives(rt, plain(TEXT, "t\nπ\n"), "t\nπ\n"));
 }
 
 #[test]
 fn null_is_the_empty_field_without_quotes(rt: HostRuntime) {
-    let alloc = rt.alloc();
     let two = "col t utf8?\ncol n i32?\nget t\nget n\n";
     let rows = "a,1\n\"\",2\n,3\nb,\n,\n";
-    assert!(rt; gives(alloc, headless(two, rows), rows));
-    assert!(rt; gives(alloc, headless(two, "\"\",\n\"\",1\n"), "\"\",\n\"\",1\n"));
+    assert!(rt; gives(rt, headless(two, rows), rows));
+    assert!(rt; gives(rt, headless(two, "\"\",\n\"\",1\n"), "\"\",\n\"\",1\n"));
     assert!(rt;
         gives(
-            alloc,
+            rt,
             headless(two, "\"a,\"\"\",\n,\"1\"\n"),
             "\"a,\"\"\",\n,1\n"
         )
@@ -94,35 +82,33 @@ fn null_is_the_empty_field_without_quotes(rt: HostRuntime) {
 
 #[test]
 fn null_may_be_another_text(rt: HostRuntime) {
-    let alloc = rt.alloc();
     let na = Case {
         null: "NA",
         ..plain(TEXT, "t\nNA\n\"NA\"\n\"\"\nNAN\n")
     };
-    assert!(rt; gives(alloc, na, "t\nNA\n\"NA\"\n\"\"\nNAN\n"));
+    assert!(rt; gives(rt, na, "t\nNA\n\"NA\"\n\"\"\nNAN\n"));
     let zero = Case {
         null: "0",
         ..plain(NUMBER, "n\n0\n1\n00\n\"0\"\n")
     };
-    assert!(rt; gives(alloc, zero, "n\n0\n1\n\"0\"\n\"0\"\n"));
+    assert!(rt; gives(rt, zero, "n\n0\n1\n\"0\"\n\"0\"\n"));
 }
 
 #[test]
 fn lines_end_in_any_way(rt: HostRuntime) {
-    let alloc = rt.alloc();
-    assert!(rt; gives(alloc, plain(SUM, "a,b\r\n1,2\r\n3,4\r\n"), "sum\n3\n7\n"));
-    assert!(rt; gives(alloc, plain(SUM, "a,b\r1,2\r3,4"), "sum\n3\n7\n"));
+    assert!(rt; gives(rt, plain(SUM, "a,b\r\n1,2\r\n3,4\r\n"), "sum\n3\n7\n"));
+    assert!(rt; gives(rt, plain(SUM, "a,b\r1,2\r3,4"), "sum\n3\n7\n"));
     assert!(rt;
         gives(
-            alloc,
+            rt,
             plain(SUM, "\n\na,b\n\n1,2\n\r\n\n3,4\n\n\n"),
             "sum\n3\n7\n"
         )
     );
-    assert!(rt; gives(alloc, plain(SUM, "\u{feff}a,b\n1,2\n3,4"), "sum\n3\n7\n"));
+    assert!(rt; gives(rt, plain(SUM, "\u{feff}a,b\n1,2\n3,4"), "sum\n3\n7\n"));
     assert!(rt;
         gives(
-            alloc,
+            rt,
             plain(SUM, "\u{feff}\"a\",b\n1,\"2\"\n3,4"),
             "sum\n3\n7\n"
         )
@@ -131,21 +117,19 @@ fn lines_end_in_any_way(rt: HostRuntime) {
 
 #[test]
 fn rows_are_counted(rt: HostRuntime) {
-    let alloc = rt.alloc();
-    assert!(rt; counts(alloc, plain(SUM, "a,b\n1,2\n3,4\n5,6\n"), 3, 3));
-    assert!(rt; counts(alloc, plain(SUM, "a,b\n"), 0, 0));
+    assert!(rt; counts(rt, plain(SUM, "a,b\n1,2\n3,4\n5,6\n"), 3, 3));
+    assert!(rt; counts(rt, plain(SUM, "a,b\n"), 0, 0));
     let small = "col a i64\nget a\nlit i64 4\ncall <\n";
     let picked = Case {
         picks_rows: true,
         ..plain(small, "a\n1\n5\n3\n9\n4\n")
     };
-    assert!(rt; counts(alloc, picked, 5, 2));
+    assert!(rt; counts(rt, picked, 5, 2));
 }
 
 #[test]
 fn each_kind_flows_through(rt: HostRuntime) {
-    let alloc = rt.alloc();
     let four = "col a bool\ncol b u8?\ncol c i64\ncol d utf8\nget a\nget b\nget c\nget d\n";
     let rows = "true,255,-9223372036854775808,x\nfalse,,9223372036854775807,y\n";
-    assert!(rt; gives(alloc, headless(four, rows), rows));
+    assert!(rt; gives(rt, headless(four, rows), rows));
 }

@@ -7,29 +7,26 @@ const SUM: &str =
 
 #[test]
 fn answers_stand_in_the_order_of_their_trees(rt: HostRuntime) {
-    let alloc = rt.alloc();
-    assert!(rt; prints(alloc, SUM, b"6,3,-7,2", 2, "sum,ratio,\n9,2,\n-5,-3,\n"));
+    assert!(rt; prints(rt, SUM, b"6,3,-7,2", 2, "sum,ratio,\n9,2,\n-5,-3,\n"));
     let text =
         "col s utf8?\nget s\nas s\nget s\nlit utf8 \"b%\"\ncall like\nas b\nlit u8? null\nas n\n";
     let out = "s,b,n,\nbc,true,~,\n~,~,~,\nc,false,~,\n";
-    assert!(rt; prints(alloc, text, b"bc,~,c", 3, out));
+    assert!(rt; prints(rt, text, b"bc,~,c", 3, out));
 }
 
 #[test]
 fn the_first_row_that_faults_is_told(rt: HostRuntime) {
-    let alloc = rt.alloc();
     let out = "sum,ratio,\nrow 1: Arithmetic.Div";
-    assert!(rt; prints(alloc, SUM, b"1,1,1,0,127,1", 3, out));
+    assert!(rt; prints(rt, SUM, b"1,1,1,0,127,1", 3, out));
     let out = "sum,ratio,\nrow 1: Arithmetic.Add";
-    assert!(rt; prints(alloc, SUM, b"1,1,127,1,1,0", 3, out));
+    assert!(rt; prints(rt, SUM, b"1,1,127,1,1,0", 3, out));
     let out = "sum,ratio,\nrow 0: Arithmetic.Add";
-    assert!(rt; prints(alloc, SUM, b"-128,-1", 1, out));
+    assert!(rt; prints(rt, SUM, b"-128,-1", 1, out));
 }
 
 #[test]
 fn columns_and_rows_may_be_none(rt: HostRuntime) {
-    let alloc = rt.alloc();
-    assert!(rt; prints(alloc, "lit i8 1\nas x", b"", 2, "x,\n1,\n1,\n"));
-    assert!(rt; prints(alloc, "lit i8 1\nas x", b"", 0, "x,\n"));
-    assert!(rt; prints(alloc, SUM, b"", 0, "sum,ratio,\n"));
+    assert!(rt; prints(rt, "lit i8 1\nas x", b"", 2, "x,\n1,\n1,\n"));
+    assert!(rt; prints(rt, "lit i8 1\nas x", b"", 0, "x,\n"));
+    assert!(rt; prints(rt, SUM, b"", 0, "sum,ratio,\n"));
 }

@@ -1,6 +1,7 @@
 //! Questions to streams.
 
 use crate::pipes::{Drips, Sink};
+use fixtures::{same, same_text};
 use rowfn_batches::read_expression;
 use rowfn_rows::{Format, Settings, StreamError, Summary, flow, top_alone};
 use std::alloc::Global;
@@ -82,27 +83,28 @@ fn run_case(
 
 /// Whether a stream writes that output, and tells that text with that status, if it fails.
 fn ends_once(
-    alloc: Global,
+    rt: HostRuntime,
     case: &Case<'_>,
     batch: usize,
     step: usize,
     wanted: (&str, u8, &str),
 ) -> bool {
+    let alloc = rt.alloc();
     let (output, status, told) = wanted;
     let mut sink = Sink {
         taken: Vec::new(alloc),
         limit: case.limit,
     };
     let outcome = run_case(alloc, case, batch, step, &mut sink);
-    if sink.taken.as_slice() != output.as_bytes() {
+    if !same_text(rt, &sink.taken, output) {
         return false;
     }
     match outcome {
-        Ok(_) => status == 0,
+        Ok(_) => same(rt, 0, status),
         Err(error) => {
-            error.status() == status
+            same(rt, error.status(), status)
                 && match format!(in alloc; "{error}") {
-                    Ok(text) => text.as_str() == told,
+                    Ok(text) => same(rt, text.as_str(), told),
                     Err(_) => false,
                 }
         }
@@ -110,10 +112,10 @@ fn ends_once(
 }
 
 /// Whether a stream ends so, whatever the batches and the reads.
-pub fn ends(alloc: Global, case: Case<'_>, output: &str, status: u8, told: &str) -> bool {
+pub fn ends(rt: HostRuntime, case: Case<'_>, output: &str, status: u8, told: &str) -> bool {
     for batch in [1, 2, 7, 8192] {
         for step in [1, 2, 5, 8192] {
-            if !ends_once(alloc, &case, batch, step, (output, status, told)) {
+            if !ends_once(rt, &case, batch, step, (output, status, told)) {
                 return false;
             }
         }
@@ -122,23 +124,21 @@ pub fn ends(alloc: Global, case: Case<'_>, output: &str, status: u8, told: &str)
 }
 
 /// Whether a stream is read to its end, and that is written.
-pub fn gives(alloc: Global, case: Case<'_>, output: &str) -> bool {
-    ends(alloc, case, output, 0, "")
+pub fn gives(rt: HostRuntime, case: Case<'_>, output: &str) -> bool {
+    ends(rt, case, output, 0, "")
 }
 
 /// How many rows a stream reads and writes.
-pub fn counts(alloc: Global, case: Case<'_>, rows_read: u64, rows_written: u64) -> bool {
+pub fn counts(rt: HostRuntime, case: Case<'_>, rows_read: u64, rows_written: u64) -> bool {
+    let alloc = rt.alloc();
     let mut sink = Sink {
         taken: Vec::new(alloc),
         limit: case.limit,
     };
     match run_case(alloc, &case, 2, 3, &mut sink) {
         Ok(summary) => {
-            summary
-                == Summary {
-                    rows_read,
-                    rows_written,
-                }
+            let counts = (summary.rows_read, summary.rows_written);
+            same(rt, counts, (rows_read, rows_written))
         }
         Err(_) => false,
     }

@@ -1,13 +1,14 @@
 //! What is told of an expression.
 
+use fixtures::same;
 use rowfn_batches::read_expression;
 use rowfn_rows::explain;
-use std::alloc::Global;
 
-fn explains(alloc: Global, expression: &str, wanted: &str) -> bool {
+fn explains(rt: HostRuntime, expression: &str, wanted: &str) -> bool {
+    let alloc = rt.alloc();
     match read_expression(alloc, expression.as_bytes()) {
         Ok(expression) => match explain(alloc, &expression) {
-            Ok(text) => text.as_str() == wanted,
+            Ok(text) => same(rt, text.as_str(), wanted),
             Err(_) => false,
         },
         Err(_) => false,
@@ -30,5 +31,5 @@ $.a
 fn each_answer_is_told(rt: HostRuntime) {
     let expression =
         "col a i32?\ncol b i32?\nget a\nget b\ncall +\ncall is_null\nas known\nget a\n";
-    assert!(rt; explains(rt.alloc(), expression, WANTED));
+    assert!(rt; explains(rt, expression, WANTED));
 }

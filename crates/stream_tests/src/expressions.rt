@@ -1,35 +1,34 @@
 //! What is read of expressions.
 
 use crate::transcript::{is_refused, prints};
-use std::alloc::Global;
 
 const A_LINE: &str =
     "expected a line of an expression: col, get, lit, call, optimize, as, or a comment";
 
 /// Whether the line of that number is told to be none of an expression.
-fn is_no_line(alloc: Global, text: &[u8], number: usize) -> bool {
+fn is_no_line(rt: HostRuntime, text: &[u8], number: usize) -> bool {
+    let alloc = rt.alloc();
     match format!(in alloc; "line {number}: {A_LINE}") {
-        Ok(line) => is_refused(alloc, text, line.as_str()),
+        Ok(line) => is_refused(rt, text, line.as_str()),
         Err(_) => false,
     }
 }
 
 #[test]
 fn a_tree_is_left(rt: HostRuntime) {
-    let alloc = rt.alloc();
     assert!(rt;
         is_refused(
-            alloc,
+            rt,
             b"",
             "line 1: expected a tree, which get, lit or call makes"
         )
     );
     let none = "line 2: expected a tree, which get, lit or call makes";
-    assert!(rt; is_refused(alloc, b"col a i32", none));
-    assert!(rt; is_refused(alloc, b"col a i32\n", none));
+    assert!(rt; is_refused(rt, b"col a i32", none));
+    assert!(rt; is_refused(rt, b"col a i32\n", none));
     assert!(rt;
         is_refused(
-            alloc,
+            rt,
             b"# nothing\n   ",
             "line 3: expected a tree, which get, lit or call makes"
         )
@@ -38,72 +37,60 @@ fn a_tree_is_left(rt: HostRuntime) {
 
 #[test]
 fn lines_of_scripts_that_say_rows_or_print_are_none(rt: HostRuntime) {
-    let alloc = rt.alloc();
-    assert!(rt; is_no_line(alloc, b"rows 0\n", 1));
-    assert!(rt; is_no_line(alloc, b"lit i8 1\nshow\n", 2));
-    assert!(rt; is_no_line(alloc, b"lit i8 1\nrun", 2));
-    assert!(rt; is_no_line(alloc, b"lit i8 1\nrun 3", 2));
-    assert!(rt; is_no_line(alloc, b"xor", 1));
-    assert!(rt; is_no_line(alloc, b"\n# \xFF", 2));
+    assert!(rt; is_no_line(rt, b"rows 0\n", 1));
+    assert!(rt; is_no_line(rt, b"lit i8 1\nshow\n", 2));
+    assert!(rt; is_no_line(rt, b"lit i8 1\nrun", 2));
+    assert!(rt; is_no_line(rt, b"lit i8 1\nrun 3", 2));
+    assert!(rt; is_no_line(rt, b"xor", 1));
+    assert!(rt; is_no_line(rt, b"\n# \xFF", 2));
 }
 
 #[test]
 fn columns_are_declared_once_and_without_cells(rt: HostRuntime) {
-    let alloc = rt.alloc();
     let wanted = "line 1: expected col, a new name and a type, without cells";
-    assert!(rt; is_refused(alloc, b"col a i32 1", wanted));
-    assert!(rt; is_refused(alloc, b"col a int", wanted));
-    assert!(rt; is_refused(alloc, b"col a- i32", wanted));
-    assert!(rt; is_refused(alloc, b" col  a", wanted));
+    assert!(rt; is_refused(rt, b"col a i32 1", wanted));
+    assert!(rt; is_refused(rt, b"col a int", wanted));
+    assert!(rt; is_refused(rt, b"col a- i32", wanted));
+    assert!(rt; is_refused(rt, b" col  a", wanted));
     let wanted = "line 2: expected col, a new name and a type, without cells";
-    assert!(rt; is_refused(alloc, b"col a i32\ncol a utf8", wanted));
+    assert!(rt; is_refused(rt, b"col a i32\ncol a utf8", wanted));
 }
 
 #[test]
 fn malformed_lines_tell_what_they_want(rt: HostRuntime) {
-    let alloc = rt.alloc();
-    assert!(rt;
-        is_refused(
-            alloc,
-            b"get",
-            "line 1: expected get and the name of a column"
-        )
-    );
+    assert!(rt; is_refused(rt, b"get", "line 1: expected get and the name of a column"));
     let wanted = "line 1: expected lit, a type and a value of it";
-    assert!(rt; is_refused(alloc, b"lit i8 300", wanted));
-    assert!(rt; is_refused(alloc, b"lit utf8 \"a", wanted));
+    assert!(rt; is_refused(rt, b"lit i8 300", wanted));
+    assert!(rt; is_refused(rt, b"lit utf8 \"a", wanted));
     let wanted = "line 1: expected call and a function, behind as many trees as it takes";
-    assert!(rt; is_refused(alloc, b"call xor", wanted));
-    assert!(rt; is_refused(alloc, b"call not", wanted));
+    assert!(rt; is_refused(rt, b"call xor", wanted));
+    assert!(rt; is_refused(rt, b"call not", wanted));
     let wanted = "line 1: expected optimize alone, behind a tree";
-    assert!(rt; is_refused(alloc, b"optimize", wanted));
+    assert!(rt; is_refused(rt, b"optimize", wanted));
 }
 
 #[test]
 fn names_are_given_to_trees(rt: HostRuntime) {
-    let alloc = rt.alloc();
     let wanted = "line 1: expected as and a name, behind a tree";
-    assert!(rt; is_refused(alloc, b"as x", wanted));
+    assert!(rt; is_refused(rt, b"as x", wanted));
     let wanted = "line 2: expected as and a name, behind a tree";
-    assert!(rt; is_refused(alloc, b"lit i8 1\nas x y", wanted));
-    assert!(rt; is_refused(alloc, b"lit i8 1\nas", wanted));
-    assert!(rt; is_refused(alloc, b"lit i8 1\nas \"x\"", wanted));
-    assert!(rt; is_refused(alloc, b"lit i8 1\nas x-1", wanted));
+    assert!(rt; is_refused(rt, b"lit i8 1\nas x y", wanted));
+    assert!(rt; is_refused(rt, b"lit i8 1\nas", wanted));
+    assert!(rt; is_refused(rt, b"lit i8 1\nas \"x\"", wanted));
+    assert!(rt; is_refused(rt, b"lit i8 1\nas x-1", wanted));
 }
 
 #[test]
 fn calls_are_refused_by_name(rt: HostRuntime) {
-    let alloc = rt.alloc();
     let unknown = "line 1: column unknown, missing or of another type";
-    assert!(rt; is_refused(alloc, b"get a", unknown));
-    assert!(rt; is_refused(alloc, b"lit i8 1\ncall not", "line 2: types refused"));
+    assert!(rt; is_refused(rt, b"get a", unknown));
+    assert!(rt; is_refused(rt, b"lit i8 1\ncall not", "line 2: types refused"));
 }
 
 #[test]
 fn headers_are_names_or_texts(rt: HostRuntime) {
-    let alloc = rt.alloc();
     let text = "col a i8\nget a\nlit i8 1\ncall +\nget a\nas b\n";
-    assert!(rt; prints(alloc, text, b"1", 1, "($.a + 1i8),b,\n2,1,\n"));
+    assert!(rt; prints(rt, text, b"1", 1, "($.a + 1i8),b,\n2,1,\n"));
     let text = "col a bool\nget a\nas x\ncall not\nget a\nas y\nas z\noptimize";
-    assert!(rt; prints(alloc, text, b"true", 1, "vortex.not($.a),z,\nfalse,true,\n"));
+    assert!(rt; prints(rt, text, b"true", 1, "vortex.not($.a),z,\nfalse,true,\n"));
 }

@@ -1,6 +1,7 @@
 //! The words that a stream is called with.
 
 use clap::error::ErrorKind;
+use fixtures::same;
 use rowfn_options::{Options, Source, read_options};
 use std::alloc::{AllocError, Global};
 
@@ -41,13 +42,14 @@ fn described(alloc: Global, options: &Options<'_>) -> Result<String, AllocError>
 }
 
 /// Whether the words are taken, and say what is wanted.
-fn says(alloc: Global, line: &str, wanted: &str) -> bool {
+fn says(rt: HostRuntime, line: &str, wanted: &str) -> bool {
+    let alloc = rt.alloc();
     let Ok(words) = words_of(alloc, line) else {
         return false;
     };
     match read_options(alloc, &words) {
         Ok(options) => match described(alloc, &options) {
-            Ok(text) => text.as_str() == wanted,
+            Ok(text) => same(rt, text.as_str(), wanted),
             Err(_) => false,
         },
         Err(_) => false,
@@ -55,94 +57,74 @@ fn says(alloc: Global, line: &str, wanted: &str) -> bool {
 }
 
 /// Whether the words are refused so.
-fn is_refused(alloc: Global, line: &str, wanted: ErrorKind) -> bool {
+fn is_refused(rt: HostRuntime, line: &str, wanted: ErrorKind) -> bool {
+    let alloc = rt.alloc();
     let Ok(words) = words_of(alloc, line) else {
         return false;
     };
     match read_options(alloc, &words) {
         Ok(_) => false,
-        Err(error) => error.kind() == wanted,
+        Err(error) => same(rt, error.kind(), wanted),
     }
 }
 
 #[test]
 fn the_expression_stands_in_a_file_or_in_words(rt: HostRuntime) {
-    let alloc = rt.alloc();
     assert!(rt;
         says(
-            alloc,
+            rt,
             "p sum.rows",
             "44 true '' 8192 Answer false file sum.rows"
         )
     );
     let told = "44 true '' 8192 Answer false line get a line get b";
-    assert!(rt; says(alloc, "p -e get|a -e get|b", told));
-    assert!(rt; is_refused(alloc, "p", ErrorKind::MissingRequiredArgument));
-    assert!(rt; is_refused(alloc, "p -e get|a sum.rows", ErrorKind::ArgumentConflict));
+    assert!(rt; says(rt, "p -e get|a -e get|b", told));
+    assert!(rt; is_refused(rt, "p", ErrorKind::MissingRequiredArgument));
+    assert!(rt; is_refused(rt, "p -e get|a sum.rows", ErrorKind::ArgumentConflict));
 }
 
 #[test]
 fn fields_are_told(rt: HostRuntime) {
-    let alloc = rt.alloc();
     assert!(rt;
         says(
-            alloc,
+            rt,
             "p --delimiter ; f",
             "59 true '' 8192 Answer false file f"
         )
     );
     assert!(rt;
         says(
-            alloc,
+            rt,
             "p --delimiter \\t f",
             "9 true '' 8192 Answer false file f"
         )
     );
     assert!(rt;
         says(
-            alloc,
+            rt,
             "p --no-header f",
             "44 false '' 8192 Answer false file f"
         )
     );
-    assert!(rt; says(alloc, "p --header f", "44 true '' 8192 Answer false file f"));
-    assert!(rt;
-        says(
-            alloc,
-            "p --null NA f",
-            "44 true 'NA' 8192 Answer false file f"
-        )
-    );
-    assert!(rt; says(alloc, "p --null= f", "44 true '' 8192 Answer false file f"));
-    assert!(rt; is_refused(alloc, "p --delimiter ;; f", ErrorKind::InvalidValue));
-    assert!(rt; is_refused(alloc, "p --delimiter \" f", ErrorKind::InvalidValue));
-    assert!(rt; is_refused(alloc, "p --delimiter π f", ErrorKind::InvalidValue));
-    assert!(rt;
-        is_refused(
-            alloc,
-            "p --header --no-header f",
-            ErrorKind::ArgumentConflict
-        )
-    );
+    assert!(rt; says(rt, "p --header f", "44 true '' 8192 Answer false file f"));
+    assert!(rt; says(rt, "p --null NA f", "44 true 'NA' 8192 Answer false file f"));
+    assert!(rt; says(rt, "p --null= f", "44 true '' 8192 Answer false file f"));
+    assert!(rt; is_refused(rt, "p --delimiter ;; f", ErrorKind::InvalidValue));
+    assert!(rt; is_refused(rt, "p --delimiter \" f", ErrorKind::InvalidValue));
+    assert!(rt; is_refused(rt, "p --delimiter π f", ErrorKind::InvalidValue));
+    assert!(rt; is_refused(rt, "p --header --no-header f", ErrorKind::ArgumentConflict));
 }
 
 #[test]
 fn what_is_done_is_told(rt: HostRuntime) {
-    let alloc = rt.alloc();
-    assert!(rt; says(alloc, "p --where f", "44 true '' 8192 Pick false file f"));
-    assert!(rt;
-        says(
-            alloc,
-            "p --explain f",
-            "44 true '' 8192 Explain false file f"
-        )
-    );
-    assert!(rt; says(alloc, "p --summary f", "44 true '' 8192 Answer true file f"));
-    assert!(rt; says(alloc, "p --batch 7 f", "44 true '' 7 Answer false file f"));
-    assert!(rt; is_refused(alloc, "p --batch 0 f", ErrorKind::ValueValidation));
-    assert!(rt; is_refused(alloc, "p --batch x f", ErrorKind::ValueValidation));
-    assert!(rt; is_refused(alloc, "p --where --explain f", ErrorKind::ArgumentConflict));
-    assert!(rt; is_refused(alloc, "p --other f", ErrorKind::UnknownArgument));
-    assert!(rt; is_refused(alloc, "p --help", ErrorKind::DisplayHelp));
-    assert!(rt; is_refused(alloc, "p --version", ErrorKind::DisplayVersion));
+    assert!(rt; says(rt, "p --where f", "44 true '' 8192 Pick false file f"));
+    assert!(rt; says(rt, "p --explain f", "44 true '' 8192 Explain false file f"));
+    assert!(rt; says(rt, "p --summary f", "44 true '' 8192 Answer true file f"));
+    assert!(rt; says(rt, "p --batch 7 f", "44 true '' 7 Answer false file f"));
+    assert!(rt; is_refused(rt, "p --batch 0 f", ErrorKind::ValueValidation));
+    assert!(rt; is_refused(rt, "p --batch x f", ErrorKind::ValueValidation));
+    assert!(rt; is_refused(rt, "p --where --explain f", ErrorKind::ArgumentConflict));
+    assert!(rt; is_refused(rt, "p --other f", ErrorKind::UnknownArgument));
+    assert!(rt; is_refused(rt, "p --help", ErrorKind::DisplayHelp));
+    assert!(rt; is_refused(rt, "p --version", ErrorKind::DisplayVersion));
 }

@@ -1,5 +1,6 @@
 //! What an expression prints over the rows of a batch.
 
+use fixtures::same_text;
 use rowfn_batches::{
     BatchError, Expression, execute_answers, first_fault, push_field, read_columns, read_expression,
 };
@@ -116,17 +117,19 @@ fn transcript(
 }
 
 /// Whether an expression prints that over rows.
-pub fn prints(alloc: Global, text: &str, fields: &[u8], row_count: usize, out: &str) -> bool {
+pub fn prints(rt: HostRuntime, text: &str, fields: &[u8], row_count: usize, out: &str) -> bool {
+    let alloc = rt.alloc();
     match transcript(alloc, text.as_bytes(), fields, row_count) {
-        Ok(printed) => printed.as_slice() == out.as_bytes(),
+        Ok(printed) => same_text(rt, &printed, out),
         Err(_) => false,
     }
 }
 
 /// Whether bytes are no expression, which is told so.
-pub fn is_refused(alloc: Global, text: &[u8], out: &str) -> bool {
+pub fn is_refused(rt: HostRuntime, text: &[u8], out: &str) -> bool {
+    let alloc = rt.alloc();
     match transcript(alloc, text, b"", 0) {
-        Ok(printed) => printed.as_slice() == out.as_bytes(),
+        Ok(printed) => same_text(rt, &printed, out),
         Err(_) => false,
     }
 }

@@ -1,6 +1,6 @@
 //! Array trees by their parts, and what they answer.
 
-use fixtures::{Made, are_rows, bools, nullable_bools};
+use fixtures::{Made, bools, nullable_bools, rows_of, same};
 use std::alloc::Global;
 use vortex_arrays::*;
 use vortex_columns::*;
@@ -32,16 +32,24 @@ pub fn over_columns<C: ScalarFnVTable>(
     made(alloc, Binary::try_new(alloc, left, right, operator))
 }
 
-/// Whether an array's copy has these rows.
-pub fn array_answers<C: ScalarFnVTable>(
+/// The rows of Bool that an array's copy answers.
+pub fn array_rows<C: ScalarFnVTable>(
     alloc: Global,
     array: Held<C>,
-    wanted: &[Option<bool>],
-) -> VortexResult<bool> {
+) -> VortexResult<Vec<Option<bool>>> {
     let copy = array?.try_clone(alloc)?;
     let mut ctx = ExecutionCtx::new(alloc);
     let column = copy.execute(&mut ctx)?;
-    are_rows(alloc, &*column, wanted)
+    rows_of(alloc, &*column)
+}
+
+/// Whether an array's copy has these rows.
+pub fn array_answers<C: ScalarFnVTable>(
+    rt: HostRuntime,
+    array: Held<C>,
+    wanted: &[Option<bool>],
+) -> VortexResult<bool> {
+    Ok(same(rt, array_rows(rt.alloc(), array)?.as_slice(), wanted))
 }
 
 /// True, true, null.

@@ -1,7 +1,7 @@
 //! Trees and their columns by their parts, and questions to trees. Each function over trees stays
 //! generic in the caller's functions; the tests pick the one they run.
 
-use fixtures::{fields, names, nullable_bools, rows_of};
+use fixtures::{Ask, fields, names, nullable_bools, rows_of, same};
 use std::alloc::Global;
 use vortex_columns::*;
 use vortex_functions::*;
@@ -180,12 +180,13 @@ pub fn executed<C: ScalarFnVTable>(
 
 /// Whether a tree answers these rows over those columns.
 pub fn answers<C: ScalarFnVTable>(
-    alloc: Global,
+    rt: HostRuntime,
     tree: Bound<C>,
     columns: VortexResult<Vec<Column>>,
     wanted: &[Option<bool>],
 ) -> VortexResult<bool> {
-    Ok(executed(alloc, tree, columns, wanted.len())?.as_slice() == wanted)
+    let rows = executed(rt.alloc(), tree, columns, wanted.len())?;
+    Ok(same(rt, rows.as_slice(), wanted))
 }
 
 /// The number in each row, where there is one.
@@ -214,55 +215,63 @@ pub fn numbers_by<C: ScalarFnVTable>(
 
 /// Whether a tree answers these numbers over those columns.
 pub fn calculates<C: ScalarFnVTable>(
-    alloc: Global,
+    rt: HostRuntime,
     tree: Bound<C>,
     columns: VortexResult<Vec<Column>>,
     wanted: &[Option<i128>],
 ) -> VortexResult<bool> {
     let (tree, columns) = (tree?, columns?);
-    Ok(numbers_by(alloc, &*tree, &columns, wanted.len())?.as_slice() == wanted)
+    let numbers = numbers_by(rt.alloc(), &*tree, &columns, wanted.len())?;
+    Ok(same(rt, numbers.as_slice(), wanted))
 }
 
 /// Whether `sql_text` gives that text.
 pub fn has_text<C: ScalarFnVTable>(
-    alloc: Global,
+    rt: HostRuntime,
     tree: &BoundExpression<C>,
     wanted: &str,
 ) -> VortexResult<bool> {
-    Ok(tree.sql_text(alloc)?.as_str() == wanted)
+    Ok(same(rt, tree.sql_text(rt.alloc())?.as_str(), wanted))
 }
 
 /// Whether Display writes that text.
 pub fn is_shown<C: ScalarFnVTable>(
-    alloc: Global,
+    rt: HostRuntime,
     tree: &BoundExpression<C>,
     wanted: &str,
 ) -> VortexResult<bool> {
-    Ok(tree.to_string(alloc)?.as_str() == wanted)
+    Ok(same(rt, tree.to_string(rt.alloc())?.as_str(), wanted))
 }
 
 /// Whether a tree has that text, and Display writes the same bytes.
 pub fn prints<C: ScalarFnVTable>(
-    alloc: Global,
+    rt: HostRuntime,
     tree: Bound<C>,
     wanted: &str,
 ) -> VortexResult<bool> {
     let tree = tree?;
-    Ok(has_text(alloc, &*tree, wanted)? && is_shown(alloc, &*tree, wanted)?)
+    Ok(has_text(rt, &*tree, wanted)? && is_shown(rt, &*tree, wanted)?)
 }
 
 /// Whether a caller's function faults with that number.
-pub fn is_fault<T: Drop>(answer: VortexResult<T>, wanted: u64) -> bool {
+pub fn is_fault<T: Drop>(rt: HostRuntime, answer: VortexResult<T>, wanted: u64) -> bool {
     match answer {
-        Err(VortexError::Custom(number)) => number == wanted,
-        _ => false,
+        Err(VortexError::Custom(number)) => same(rt, number, wanted),
+        other => rt.is_refused(other, "Custom"),
     }
 }
 
 /// Whether a count of children is refused, for that arity.
-pub fn is_misfit<T: Drop>(answer: VortexResult<T>, wanted: Arity, count: usize) -> bool {
+pub fn is_misfit<T: Drop>(
+    rt: HostRuntime,
+    answer: VortexResult<T>,
+    wanted: Arity,
+    count: usize,
+) -> bool {
     match answer {
-        Err(VortexError::ArityMismatch { arity, given }) => arity == wanted && given == count,
-        _ => false,
+        Err(VortexError::ArityMismatch { arity, given }) => {
+            same(rt, (arity, given), (wanted, count))
+        }
+        other => rt.is_refused(other, "ArityMismatch"),
     }
 }

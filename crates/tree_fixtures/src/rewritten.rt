@@ -1,7 +1,7 @@
 //! What rules make of expressions at their root, and trees that they are asked of.
 
 use crate::makers::*;
-use fixtures::{fields, names};
+use fixtures::{fields, names, same};
 use std::alloc::Global;
 use std::borrow::Cow;
 use vortex_columns::*;
@@ -73,35 +73,37 @@ pub fn united<C: ScalarFnRules>(alloc: Global, tree: Bound<C>) -> Rewritten<C> {
 
 /// Whether a rule made a tree of that text.
 pub fn becomes<C: ScalarFnVTable>(
-    alloc: Global,
+    rt: HostRuntime,
     made: Rewritten<C>,
     wanted: &str,
 ) -> VortexResult<bool> {
     match made? {
-        Some(made) => Ok(made.sql_text(alloc)?.as_str() == wanted),
-        None => Ok(false),
+        Some(made) => has_text(rt, &*made, wanted),
+        None => Ok(same(rt, "no tree", wanted)),
     }
 }
 
 /// Whether a rule made a literal of nullable Bool of that text.
 pub fn is_nullable_literal<C: ScalarFnVTable>(
-    alloc: Global,
+    rt: HostRuntime,
     made: Rewritten<C>,
     wanted: &str,
 ) -> VortexResult<bool> {
     match made? {
         Some(made) => {
-            let text = made.sql_text(alloc)?;
             let is_literal = made.as_literal().is_some() && *made.dtype() == DType::Bool(YES);
-            Ok(is_literal && text.as_str() == wanted)
+            Ok(same(rt, is_literal, true) && has_text(rt, &*made, wanted)?)
         }
-        None => Ok(false),
+        None => Ok(same(rt, "no tree", wanted)),
     }
 }
 
 /// Whether no rule applies.
-pub fn stays<C: ScalarFnVTable>(made: Rewritten<C>) -> VortexResult<bool> {
-    Ok(made?.is_none())
+pub fn stays<C: ScalarFnVTable>(rt: HostRuntime, made: Rewritten<C>) -> VortexResult<bool> {
+    match made? {
+        Some(made) => has_text(rt, &*made, "no tree"),
+        None => Ok(true),
+    }
 }
 
 /// The leaf of column `a` of nullable Bool, or of column `b` of Bool.

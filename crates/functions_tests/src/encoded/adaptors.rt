@@ -1,7 +1,7 @@
 //! What the adaptors settle, and what they ask the kernels of a run-length column.
 
 use caller_functions::run_length::RunLength;
-use fixtures::{Made, bools, constant, kept, numbers, rows_of, yes};
+use fixtures::{Ask, Made, are_rows, bools, constant, kept, numbers};
 use std::alloc::Global;
 use vortex_columns::{
     Column, DType, ExecutionCtx, Nullability, PType, Scalar, VortexError, VortexResult,
@@ -99,7 +99,7 @@ fn is_none(answer: Answer) -> VortexResult<bool> {
 
 /// Whether these rows of Bool are answered.
 fn has_rows(
-    alloc: Global,
+    rt: HostRuntime,
     answer: Answer,
     nullability: Nullability,
     wanted: &[Option<bool>],
@@ -109,7 +109,7 @@ fn has_rows(
         Some(column) => {
             let is_bool = column.dtype().is_boolean();
             let is_as_nullable = column.dtype().nullability() == nullability;
-            Ok(is_bool && is_as_nullable && rows_of(alloc, &*column)?.as_slice() == wanted)
+            Ok(is_bool && is_as_nullable && are_rows(rt, &*column, wanted)?)
         }
     }
 }
@@ -134,10 +134,10 @@ fn null_numbers(alloc: Global) -> Made {
 fn a_kernel_is_asked_with_the_swapped_comparison(rt: HostRuntime) {
     let alloc = rt.alloc();
     let right = compared(alloc, one_two_three(alloc), Operator::Lt, twos(alloc, 3), 1);
-    assert!(rt; yes(has_rows(alloc, right, PLAIN, &[NO, NO, YES])));
+    assert!(rt; rt.yes(has_rows(rt, right, PLAIN, &[NO, NO, YES])));
     let rows = runs(alloc, numbers(alloc, &[1i32, 2, 3]), &[2, 3], 5);
     let left = compared(alloc, rows, Operator::Lt, twos(alloc, 5), 0);
-    assert!(rt; yes(has_rows(alloc, left, PLAIN, &[YES, YES, NO, NO, NO])));
+    assert!(rt; rt.yes(has_rows(rt, left, PLAIN, &[YES, YES, NO, NO, NO])));
 }
 
 #[test]
@@ -150,9 +150,9 @@ fn other_operators_and_children_are_not_answered(rt: HostRuntime) {
         twos(alloc, 3),
         1,
     );
-    assert!(rt; yes(is_none(sum)));
+    assert!(rt; rt.yes(is_none(sum)));
     let third = compared(alloc, one_two_three(alloc), Operator::Lt, twos(alloc, 3), 2);
-    assert!(rt; yes(is_none(third)));
+    assert!(rt; rt.yes(is_none(third)));
 }
 
 #[test]
@@ -166,10 +166,10 @@ fn a_null_constant_and_no_rows_are_settled(rt: HostRuntime) {
         null_numbers(alloc),
         1,
     );
-    assert!(rt; yes(has_rows(alloc, nulls, NULLABLE, &[NULL, NULL, NULL])));
+    assert!(rt; rt.yes(has_rows(rt, nulls, NULLABLE, &[NULL, NULL, NULL])));
     let none = runs(alloc, numbers(alloc, &[1i32]), &[], 0);
     let empty = compared(alloc, none, Operator::Lt, numbers::<i32>(alloc, &[]), 1);
-    assert!(rt; yes(has_rows(alloc, empty, PLAIN, &[])));
+    assert!(rt; rt.yes(has_rows(rt, empty, PLAIN, &[])));
 }
 
 /// The rows true false false.
@@ -199,15 +199,15 @@ fn a_constant_beside_and_is_settled(rt: HostRuntime) {
     // the kernel answers beside null constants alone
     let other = constant_truth(alloc, false, PLAIN);
     let decided = combined(alloc, truths(alloc), Operator::And, other, 0);
-    assert!(rt; yes(has_rows(alloc, decided, PLAIN, &[NO, NO, NO])));
+    assert!(rt; rt.yes(has_rows(rt, decided, PLAIN, &[NO, NO, NO])));
     let other = constant_truth(alloc, true, NULLABLE);
     let decoded = combined(alloc, truths(alloc), Operator::And, other, 1);
-    assert!(rt; yes(has_rows(alloc, decoded, NULLABLE, &[YES, NO, NO])));
+    assert!(rt; rt.yes(has_rows(rt, decoded, NULLABLE, &[YES, NO, NO])));
 }
 
 #[test]
 fn a_null_constant_beside_and_is_asked_of_the_kernel(rt: HostRuntime) {
     let alloc = rt.alloc();
     let asked = combined(alloc, truths(alloc), Operator::And, null_truths(alloc), 0);
-    assert!(rt; yes(has_rows(alloc, asked, NULLABLE, &[NULL, NO, NO])));
+    assert!(rt; rt.yes(has_rows(rt, asked, NULLABLE, &[NULL, NO, NO])));
 }

@@ -2,7 +2,7 @@
 
 use crate::encoded::questions::*;
 use caller_functions::required::Required;
-use fixtures::{has_rows, integer, is_refused, kept, numbers, texts, yes};
+use fixtures::{Ask, has_rows, integer, kept, numbers, texts};
 use std::alloc::Global;
 use vortex_columns::*;
 use vortex_functions::*;
@@ -26,24 +26,26 @@ fn greater(alloc: Global, child_idx: usize) -> Pushed {
 }
 
 /// Whether these are the values.
-fn has_values(alloc: Global, answer: Pushed, wanted: &[Option<bool>]) -> VortexResult<bool> {
-    has_rows(alloc, values_of(alloc, made(answer)), wanted)
+fn has_values(rt: HostRuntime, answer: Pushed, wanted: &[Option<bool>]) -> VortexResult<bool> {
+    let alloc = rt.alloc();
+    has_rows(rt, values_of(alloc, made(answer)), wanted)
 }
 
 /// Whether these are the rows.
-fn stands_for(alloc: Global, answer: Pushed, wanted: &[Option<bool>]) -> VortexResult<bool> {
-    has_rows(alloc, rows_of(alloc, made(answer)), wanted)
+fn stands_for(rt: HostRuntime, answer: Pushed, wanted: &[Option<bool>]) -> VortexResult<bool> {
+    let alloc = rt.alloc();
+    has_rows(rt, rows_of(alloc, made(answer)), wanted)
 }
 
 #[test]
 fn the_values_are_compared_and_the_codes_stay(rt: HostRuntime) {
     let alloc = rt.alloc();
-    assert!(rt; yes(has_values(alloc, greater(alloc, 0), &[NO, NULL, YES])));
-    assert!(rt; yes(has_codes(made(greater(alloc, 0)), &[2, 0, 1, 2])));
-    assert!(rt; yes(stands_for(alloc, greater(alloc, 0), &[YES, NO, NULL, YES])));
-    assert!(rt; yes(has_values(alloc, greater(alloc, 1), &[YES, NULL, NO])));
-    assert!(rt; yes(has_codes(made(greater(alloc, 1)), &[2, 0, 1, 2])));
-    assert!(rt; yes(stands_for(alloc, greater(alloc, 1), &[NO, YES, NULL, NO])));
+    assert!(rt; rt.yes(has_values(rt, greater(alloc, 0), &[NO, NULL, YES])));
+    assert!(rt; rt.yes(has_codes(rt, made(greater(alloc, 0)), &[2, 0, 1, 2])));
+    assert!(rt; rt.yes(stands_for(rt, greater(alloc, 0), &[YES, NO, NULL, YES])));
+    assert!(rt; rt.yes(has_values(rt, greater(alloc, 1), &[YES, NULL, NO])));
+    assert!(rt; rt.yes(has_codes(rt, made(greater(alloc, 1)), &[2, 0, 1, 2])));
+    assert!(rt; rt.yes(stands_for(rt, greater(alloc, 1), &[NO, YES, NULL, NO])));
 }
 
 /// Not of what was made.
@@ -56,9 +58,9 @@ fn turned(alloc: Global, answer: Pushed) -> Pushed {
 fn an_answer_is_pushed_down_again(rt: HostRuntime) {
     let alloc = rt.alloc();
     let again = turned(alloc, greater(alloc, 0));
-    assert!(rt; yes(stands_for(alloc, again, &[NO, YES, NULL, NO])));
+    assert!(rt; rt.yes(stands_for(rt, again, &[NO, YES, NULL, NO])));
     let again = turned(alloc, greater(alloc, 0));
-    assert!(rt; yes(has_codes(made(again), &[2, 0, 1, 2])));
+    assert!(rt; rt.yes(has_codes(rt, made(again), &[2, 0, 1, 2])));
 }
 
 /// IsNull of the first dictionary.
@@ -81,8 +83,8 @@ fn between(alloc: Global) -> Pushed {
 #[test]
 fn functions_of_one_and_of_three_arguments(rt: HostRuntime) {
     let alloc = rt.alloc();
-    assert!(rt; yes(stands_for(alloc, null_test(alloc), &[NO, NO, YES, NO])));
-    assert!(rt; yes(stands_for(alloc, between(alloc), &[YES, NO, NULL, YES])));
+    assert!(rt; rt.yes(stands_for(rt, null_test(alloc), &[NO, NO, YES, NO])));
+    assert!(rt; rt.yes(stands_for(rt, between(alloc), &[YES, NO, NULL, YES])));
 }
 
 /// Gt of the first dictionary and others.
@@ -95,9 +97,9 @@ fn greater_than(alloc: Global, others: Others) -> Pushed {
 fn what_binding_refuses(rt: HostRuntime) {
     let alloc = rt.alloc();
     let text = greater_than(alloc, one(alloc, Scalar::try_from_str(alloc, "a")));
-    assert!(rt; is_refused(text, "TypeMismatch.Compare"));
+    assert!(rt; rt.is_refused(text, "TypeMismatch.Compare"));
     let alone = greater_than(alloc, none(alloc));
-    assert!(rt; is_refused(alone, "ArityMismatch"));
+    assert!(rt; rt.is_refused(alone, "ArityMismatch"));
 }
 
 /// 8 divided by a dictionary of i8.
@@ -111,19 +113,19 @@ fn eight_by(alloc: Global, values: &[i8], codes: &[u32]) -> Pushed {
 #[test]
 fn a_fallible_function_over_values_that_are_not_all_used(rt: HostRuntime) {
     let alloc = rt.alloc();
-    assert!(rt; yes(is_none(eight_by(alloc, &[0, 4], &[1, 1]))));
-    assert!(rt; is_refused(eight_by(alloc, &[0, 4], &[1, 0]), "Arithmetic.Div"));
+    assert!(rt; rt.yes(is_none(eight_by(alloc, &[0, 4], &[1, 1]))));
+    assert!(rt; rt.is_refused(eight_by(alloc, &[0, 4], &[1, 0]), "Arithmetic.Div"));
 }
 
 #[test]
 fn a_fallible_function_over_values_that_are_all_used(rt: HostRuntime) {
     let alloc = rt.alloc();
     let quotients = values_of(alloc, made(eight_by(alloc, &[2, 4], &[1, 0, 1])));
-    assert!(rt; yes(has_numbers(alloc, quotients, &[Some(4), Some(2)])));
+    assert!(rt; rt.yes(has_numbers(rt, quotients, &[Some(4), Some(2)])));
     let rows = rows_of(alloc, made(eight_by(alloc, &[2, 4], &[1, 0, 1])));
-    assert!(rt; yes(has_numbers(alloc, rows, &[Some(2), Some(4), Some(2)])));
-    let codes = has_codes(made(eight_by(alloc, &[2, 4], &[1, 0, 1])), &[1, 0, 1]);
-    assert!(rt; yes(codes));
+    assert!(rt; rt.yes(has_numbers(rt, rows, &[Some(2), Some(4), Some(2)])));
+    let codes = has_codes(rt, made(eight_by(alloc, &[2, 4], &[1, 0, 1])), &[1, 0, 1]);
+    assert!(rt; rt.yes(codes));
 }
 
 /// LIKE of a dictionary of three texts and a pattern.
@@ -144,8 +146,8 @@ fn like(alloc: Global, pattern: &str) -> Pushed {
 #[test]
 fn like_over_the_values(rt: HostRuntime) {
     let alloc = rt.alloc();
-    assert!(rt; yes(stands_for(alloc, like(alloc, "p%"), &[NO, YES, YES, YES])));
-    assert!(rt; yes(stands_for(alloc, like(alloc, "%r"), &[NO, YES, NO, YES])));
+    assert!(rt; rt.yes(stands_for(rt, like(alloc, "p%"), &[NO, YES, YES, YES])));
+    assert!(rt; rt.yes(stands_for(rt, like(alloc, "%r"), &[NO, YES, NO, YES])));
 }
 
 /// A caller's function over a dictionary of Bool, which faults at nulls.
@@ -165,8 +167,8 @@ fn required(alloc: Global, values: &[Option<bool>], codes: &[u32]) -> Pushed {
 fn a_callers_fallible_function(rt: HostRuntime) {
     let alloc = rt.alloc();
     let all = required(alloc, &[NO, YES], &[1, 0, 1]);
-    assert!(rt; yes(stands_for(alloc, all, &[YES, NO, YES])));
+    assert!(rt; rt.yes(stands_for(rt, all, &[YES, NO, YES])));
     let null = required(alloc, &[NO, NULL], &[1, 0, 1]);
-    assert!(rt; is_refused(null, "Custom"));
-    assert!(rt; yes(is_none(required(alloc, &[NO, NULL], &[0, 0]))));
+    assert!(rt; rt.is_refused(null, "Custom"));
+    assert!(rt; rt.yes(is_none(required(alloc, &[NO, NULL], &[0, 0]))));
 }

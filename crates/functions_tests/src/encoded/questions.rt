@@ -1,6 +1,6 @@
 //! Dictionaries by their parts, one call each, and short questions to its answer.
 
-use fixtures::{Made, kept};
+use fixtures::{Made, kept, same};
 use std::alloc::Global;
 use vortex_columns::{Cell, Column, ExecutionCtx, Scalar, VortexError, VortexResult};
 use vortex_encoded::{DictColumn, EncodedColumn};
@@ -101,8 +101,8 @@ pub(crate) fn rows_of(alloc: Global, dictionary: Dict) -> Made {
 }
 
 /// Whether these are its codes.
-pub(crate) fn has_codes(dictionary: Dict, wanted: &[u32]) -> VortexResult<bool> {
-    Ok(dictionary?.codes() == wanted)
+pub(crate) fn has_codes(rt: HostRuntime, dictionary: Dict, wanted: &[u32]) -> VortexResult<bool> {
+    Ok(same(rt, dictionary?.codes(), wanted))
 }
 
 /// The numbers of a column of integers.
@@ -120,11 +120,12 @@ fn numbers_of(alloc: Global, column: &Column) -> VortexResult<Vec<Option<i128>>>
 
 /// Whether a column of integers has these rows.
 pub(crate) fn has_numbers(
-    alloc: Global,
+    rt: HostRuntime,
     column: Made,
     wanted: &[Option<i128>],
 ) -> VortexResult<bool> {
-    Ok(numbers_of(alloc, &*column?)?.as_slice() == wanted)
+    let alloc = rt.alloc();
+    Ok(same(rt, numbers_of(alloc, &*column?)?.as_slice(), wanted))
 }
 
 /// Whether nothing is answered.

@@ -3,7 +3,7 @@
 use crate::like::questions::{
     LIKE, NO, NOT_LIKE, NULL, YES, like, nullable, one, plain, says, says_or_null,
 };
-use fixtures::{Made, kept, yes};
+use fixtures::{Ask, Made, kept};
 use std::alloc::Global;
 use vortex_columns::{BinaryView, BitBuffer, Column, DType, Nullability, Scalar, Validity};
 use vortex_like::LikeOptions;
@@ -15,7 +15,7 @@ fn a_pattern_for_each_row(rt: HostRuntime) {
     let alloc = rt.alloc();
     let patterns = plain(alloc, &["he%", "%world", "h_llo"]);
     let answer = like(alloc, one(alloc, "hello", 3), LIKE, patterns);
-    assert!(rt; yes(says(alloc, answer, &[true, false, true])));
+    assert!(rt; rt.yes(says(rt, answer, &[true, false, true])));
 }
 
 /// LIKE of two equal texts, beside a null pattern with this under the null.
@@ -28,9 +28,9 @@ fn beside_null(alloc: Global, under: &str) -> Made {
 fn a_null_pattern_gives_null(rt: HostRuntime) {
     let alloc = rt.alloc();
     let wanted = [NULL, YES];
-    assert!(rt; yes(says_or_null(alloc, beside_null(alloc, ""), NULLABLE, &wanted)));
-    assert!(rt; yes(says_or_null(alloc, beside_null(alloc, "he%"), NULLABLE, &wanted)));
-    assert!(rt; yes(says_or_null(alloc, beside_null(alloc, "\\"), NULLABLE, &wanted)));
+    assert!(rt; rt.yes(says_or_null(rt, beside_null(alloc, ""), NULLABLE, &wanted)));
+    assert!(rt; rt.yes(says_or_null(rt, beside_null(alloc, "he%"), NULLABLE, &wanted)));
+    assert!(rt; rt.yes(says_or_null(rt, beside_null(alloc, "\\"), NULLABLE, &wanted)));
 }
 
 /// A null with the byte 0xFF under it, which is no UTF-8, and `he%`.
@@ -52,14 +52,14 @@ fn what_lies_under_a_null_need_be_no_text(rt: HostRuntime) {
     let alloc = rt.alloc();
     let words = plain(alloc, &["hello", "hello"]);
     let answer = like(alloc, words, LIKE, no_text_under_a_null(alloc));
-    assert!(rt; yes(says_or_null(alloc, answer, NULLABLE, &[NULL, YES])));
+    assert!(rt; rt.yes(says_or_null(rt, answer, NULLABLE, &[NULL, YES])));
     let answer = like(
         alloc,
         no_text_under_a_null(alloc),
         LIKE,
         one(alloc, "h_%", 2),
     );
-    assert!(rt; yes(says_or_null(alloc, answer, NULLABLE, &[NULL, YES])));
+    assert!(rt; rt.yes(says_or_null(rt, answer, NULLABLE, &[NULL, YES])));
 }
 
 /// Two texts that overlap in one buffer: `hello, world!` and `o, world! hel`.
@@ -81,9 +81,9 @@ fn overlapping(alloc: Global) -> Made {
 fn texts_that_overlap_are_tested(rt: HostRuntime) {
     let alloc = rt.alloc();
     let answer = like(alloc, overlapping(alloc), LIKE, one(alloc, "%world!", 2));
-    assert!(rt; yes(says(alloc, answer, &[true, false])));
+    assert!(rt; rt.yes(says(rt, answer, &[true, false])));
     let answer = like(alloc, overlapping(alloc), LIKE, one(alloc, "o, w%", 2));
-    assert!(rt; yes(says(alloc, answer, &[false, true])));
+    assert!(rt; rt.yes(says(rt, answer, &[false, true])));
 }
 
 #[test]
@@ -91,7 +91,7 @@ fn a_null_text_gives_null(rt: HostRuntime) {
     let alloc = rt.alloc();
     let words = nullable(alloc, &["hello", "hello", "world"], &[true, false, true]);
     let answer = like(alloc, words, NOT_LIKE, one(alloc, "he%", 3));
-    assert!(rt; yes(says_or_null(alloc, answer, NULLABLE, &[NO, NULL, YES])));
+    assert!(rt; rt.yes(says_or_null(rt, answer, NULLABLE, &[NO, NULL, YES])));
 }
 
 /// The null of a text in each of so many rows.
@@ -114,15 +114,15 @@ fn of_null(alloc: Global, options: LikeOptions) -> Made {
 fn a_constant_null_gives_nulls(rt: HostRuntime) {
     let alloc = rt.alloc();
     let wanted = [NULL, NULL];
-    assert!(rt; yes(says_or_null(alloc, of_null(alloc, LIKE), NULLABLE, &wanted)));
-    assert!(rt; yes(says_or_null(alloc, of_null(alloc, NOT_LIKE), NULLABLE, &wanted)));
+    assert!(rt; rt.yes(says_or_null(rt, of_null(alloc, LIKE), NULLABLE, &wanted)));
+    assert!(rt; rt.yes(says_or_null(rt, of_null(alloc, NOT_LIKE), NULLABLE, &wanted)));
     let answer = like(alloc, null_texts(alloc, 2), LIKE, one(alloc, "%", 2));
-    assert!(rt; yes(says_or_null(alloc, answer, NULLABLE, &wanted)));
+    assert!(rt; rt.yes(says_or_null(rt, answer, NULLABLE, &wanted)));
 }
 
 #[test]
 fn no_rows(rt: HostRuntime) {
     let alloc = rt.alloc();
     let answer = like(alloc, plain(alloc, &[]), LIKE, one(alloc, "he%", 0));
-    assert!(rt; yes(says(alloc, answer, &[])));
+    assert!(rt; rt.yes(says(rt, answer, &[])));
 }

@@ -75,7 +75,7 @@ pub(crate) fn one(alloc: Global, word: &str, len: usize) -> Made {
 
 /// Whether an answer is these rows of a Bool of that nullability.
 pub(crate) fn says_or_null(
-    alloc: Global,
+    rt: HostRuntime,
     answer: Made,
     nullability: Nullability,
     wanted: &[Option<bool>],
@@ -84,16 +84,17 @@ pub(crate) fn says_or_null(
     if !answer.dtype().is_boolean() || answer.dtype().nullability() != nullability {
         return Ok(false);
     }
-    has_rows(alloc, Ok(answer), wanted)
+    has_rows(rt, Ok(answer), wanted)
 }
 
 /// Whether an answer is these rows of non-nullable Bool.
-pub(crate) fn says(alloc: Global, answer: Made, wanted: &[bool]) -> VortexResult<bool> {
+pub(crate) fn says(rt: HostRuntime, answer: Made, wanted: &[bool]) -> VortexResult<bool> {
+    let alloc = rt.alloc();
     let mut rows = Vec::new(alloc);
     for row in wanted {
         rows.push(Some(*row))?;
     }
-    says_or_null(alloc, answer, Nullability::NonNullable, &rows)
+    says_or_null(rt, answer, Nullability::NonNullable, &rows)
 }
 
 /// The pattern in each row of a column that is no constant.
@@ -107,12 +108,13 @@ fn repeated(alloc: Global, word: &str, len: usize) -> Made {
 
 /// Whether LIKE of each word and one pattern is this, as a constant and row by row.
 pub(crate) fn matches(
-    alloc: Global,
+    rt: HostRuntime,
     options: LikeOptions,
     pattern: &str,
     words: &[&str],
     wanted: &[bool],
 ) -> VortexResult<bool> {
+    let alloc = rt.alloc();
     let once = like(
         alloc,
         plain(alloc, words),
@@ -125,10 +127,10 @@ pub(crate) fn matches(
         options,
         repeated(alloc, pattern, words.len()),
     );
-    Ok(says(alloc, once, wanted)? && says(alloc, each, wanted)?)
+    Ok(says(rt, once, wanted)? && says(rt, each, wanted)?)
 }
 
 /// Whether LIKE says yes to the first word and no to the second.
-pub(crate) fn parts(alloc: Global, pattern: &str, words: [&str; 2]) -> VortexResult<bool> {
-    matches(alloc, LIKE, pattern, &words, &[true, false])
+pub(crate) fn parts(rt: HostRuntime, pattern: &str, words: [&str; 2]) -> VortexResult<bool> {
+    matches(rt, LIKE, pattern, &words, &[true, false])
 }

@@ -2,37 +2,34 @@
 //! head, twelve in the view.
 
 use crate::like::questions::{LIKE, matches};
-use fixtures::yes;
-use std::alloc::Global;
+use fixtures::Ask;
 
 /// Whether LIKE of each text and the pattern is this.
-fn says(alloc: Global, pattern: &str, texts: &[&str], wanted: &[bool]) -> bool {
-    yes(matches(alloc, LIKE, pattern, texts, wanted))
+fn says(rt: HostRuntime, pattern: &str, texts: &[&str], wanted: &[bool]) -> bool {
+    rt.yes(matches(rt, LIKE, pattern, texts, wanted))
 }
 
 #[test]
 fn whole_texts(rt: HostRuntime) {
-    let alloc = rt.alloc();
     let short = [
         "twelve bytes",
         "twelve byte",
         "twelve bytes!",
         "twelve-bytes",
     ];
-    assert!(rt; says(alloc, "twelve bytes", &short, &[true, false, false, false]));
+    assert!(rt; says(rt, "twelve bytes", &short, &[true, false, false, false]));
     let long = [
         "thirteen byte",
         "thirteen bits",
         "thirteen bytes",
         "thirteen",
     ];
-    assert!(rt; says(alloc, "thirteen byte", &long, &[true, false, false, false]));
-    assert!(rt; says(alloc, "", &["", "a"], &[true, false]));
+    assert!(rt; says(rt, "thirteen byte", &long, &[true, false, false, false]));
+    assert!(rt; says(rt, "", &["", "a"], &[true, false]));
 }
 
 #[test]
 fn beginnings(rt: HostRuntime) {
-    let alloc = rt.alloc();
     let texts = [
         "twel",
         "twe",
@@ -40,18 +37,11 @@ fn beginnings(rt: HostRuntime) {
         "thirteen byte",
         "twelve bytes lie there",
     ];
-    assert!(rt; says(alloc, "twel%", &texts, &[true, false, true, false, true]));
+    assert!(rt; says(rt, "twel%", &texts, &[true, false, true, false, true]));
+    assert!(rt; says(rt, "twelve b%", &texts, &[false, false, true, false, true]));
     assert!(rt;
         says(
-            alloc,
-            "twelve b%",
-            &texts,
-            &[false, false, true, false, true]
-        )
-    );
-    assert!(rt;
-        says(
-            alloc,
+            rt,
             "twelve bytes l%",
             &texts,
             &[false, false, false, false, true]
@@ -59,7 +49,7 @@ fn beginnings(rt: HostRuntime) {
     );
     assert!(rt;
         says(
-            alloc,
+            rt,
             "tweed and silk%",
             &texts,
             &[false, false, false, false, false]
@@ -69,7 +59,6 @@ fn beginnings(rt: HostRuntime) {
 
 #[test]
 fn endings(rt: HostRuntime) {
-    let alloc = rt.alloc();
     let texts = [
         "bytes",
         "ytes",
@@ -77,10 +66,10 @@ fn endings(rt: HostRuntime) {
         "thirteen bytes",
         "thirteen bytes!",
     ];
-    assert!(rt; says(alloc, "%bytes", &texts, &[true, false, true, true, false]));
+    assert!(rt; says(rt, "%bytes", &texts, &[true, false, true, true, false]));
     assert!(rt;
         says(
-            alloc,
+            rt,
             "%twelve bytes",
             &texts,
             &[false, false, true, false, false]
@@ -88,7 +77,7 @@ fn endings(rt: HostRuntime) {
     );
     assert!(rt;
         says(
-            alloc,
+            rt,
             "%thirteen bytes",
             &texts,
             &[false, false, false, true, false]
@@ -96,7 +85,7 @@ fn endings(rt: HostRuntime) {
     );
     assert!(rt;
         says(
-            alloc,
+            rt,
             "%t",
             &["t", "", "at", "ta"],
             &[true, false, true, false]
@@ -106,9 +95,8 @@ fn endings(rt: HostRuntime) {
 
 #[test]
 fn zero_bytes_are_no_padding(rt: HostRuntime) {
-    let alloc = rt.alloc();
     let texts = ["a", "a\0", "a\0b", "ab"];
-    assert!(rt; says(alloc, "a\0", &texts, &[false, true, false, false]));
-    assert!(rt; says(alloc, "a\0%", &texts, &[false, true, true, false]));
-    assert!(rt; says(alloc, "%\0", &texts, &[false, true, false, false]));
+    assert!(rt; says(rt, "a\0", &texts, &[false, true, false, false]));
+    assert!(rt; says(rt, "a\0%", &texts, &[false, true, true, false]));
+    assert!(rt; says(rt, "%\0", &texts, &[false, true, false, false]));
 }
