@@ -8,7 +8,6 @@ use Rattle.vortex_types.specs.Typing.{HasType}
 use Rattle.vortex_types.specs.Values.{Value, null, truth, number, text, bytes, list, is_null}
 use Rattle.vortex_types.specs.Values.{truth_of, truth_or_null}
 use Rattle.vortex_columns.specs.ColumnView.{ColumnView, row, constant_column}
-use Rattle.vortex_operators.specs.Kleene.{kleene}
 use Rattle.vortex_operators.specs.OperatorValues.{boolean_value}
 use Rattle.vortex_operators.specs.Operators.{is_boolean}
 use Rattle.vortex_operators.specs.SwapLaws.{turned}
@@ -18,21 +17,11 @@ use Rattle.vortex_kernels.specs.Boolean.{AnswersBoolean}
 use Rattle.vortex_kernels.specs.Comparison.{IsConstantOf}
 use Rattle.vortex_kernels.proofs.CastRows.{only_null}
 use Rattle.vortex_kernels.proofs.Comparing.{constant_row}
-use Rattle.vortex_encoded.specs.Encoded.{InOrder, decides}
+use Rattle.vortex_meaning.specs.Rules.{decides}
+use Rattle.vortex_meaning.proofs.KleeneConstants.{right_decides}
+use Rattle.vortex_encoded.specs.Encoded.{InOrder}
 use Rattle.vortex_encoded.specs.Encoded.{is_value_constant, boolean_answers}
 use Rattle.vortex_encoded.proofs.Answering.{told_rows, is_below, either_side}
-
-pub decided : (op : Operator) (b : Bool) (o : Option Bool) → is_boolean op ≡ true
-    → decides op b ≡ true → kleene op o (Some b) ≡ Some b
-decided And false None h d = refl
-decided And false (Some true) h d = refl
-decided And false (Some false) h d = refl
-decided And true o h d = cc
-decided Or true None h d = refl
-decided Or true (Some true) h d = refl
-decided Or true (Some false) h d = refl
-decided Or false o h d = cc
-decided op b o h d = cc
 
 some_truth : (v : Value) (b : Bool) → truth_of v ≡ Some b → v ≡ truth b
 some_truth (truth a) b e = let same : a ≡ b = cc in ap truth same
@@ -98,7 +87,7 @@ pub decided_row : (op : Operator) (b : Bool) (c other : ColumnView) → is_boole
     → decides op b ≡ true → length c.rows ≡ length other.rows → IsConstantOf (truth b) other
     → (i : ℕ) → i < length c.rows → truth b ≡ boolean_value op (row c.rows i) (row other.rows i)
 decided_row op b c other h d lengths constant i lt =
-    ap truth_or_null (sym (decided op b (truth_of (row c.rows i)) h d))
+    ap truth_or_null (sym (right_decides op b (truth_of (row c.rows i)) d))
     ∙ ap (boolean_value op (row c.rows i)) (sym (constant i (omega (arith, lengths))))
 
 -- where the adaptor answers: beside a constant that is not null, and beside any other column

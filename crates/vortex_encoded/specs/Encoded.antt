@@ -8,7 +8,6 @@ use Rattle.vortex_types.specs.Values.{is_null}
 use Rattle.vortex_columns.specs.ColumnView.{ColumnView, row}
 use Rattle.vortex_operators.specs.declared.operators.CompareOperator.{CompareOperator}
 use Rattle.vortex_operators.specs.declared.operators.Operator.{Operator}
-use Rattle.vortex_operators.specs.declared.operators.Operator.TheVariants.{And}
 use Rattle.vortex_operators.specs.Operators.{is_boolean, compare_operator_of, compare_swap}
 use Rattle.vortex_kernels.specs.Comparison.{AnswersCompare, is_null_constant}
 use Rattle.vortex_kernels.specs.Rows.{HasRows}
@@ -36,11 +35,6 @@ is_value_scalar (Some s) = not (is_null s.value)
 
 abbrev pub is_value_constant : ColumnView → Bool
 is_value_constant c = is_value_scalar c.constant
-
--- false decides And and true decides Or, whatever stands beside it
-abbrev pub decides : Operator → Bool → Bool
-decides And b = not b
-decides op b = b
 
 -- the rows of a column, as Bool of that nullability
 abbrev pub HasRowsAs : Bool → ColumnView → ColumnView → Type 0

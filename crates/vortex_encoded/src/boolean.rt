@@ -53,7 +53,8 @@ fn decides(operator: Operator, value: bool) -> bool
 {
     match operator {
         Operator::And => !value,
-        _ => value,
+        Operator::Or => value,
+        _ => false,
     }
 }
 
