@@ -112,6 +112,13 @@ fn is_turned(
 }
 
 #[test]
+fn one_truth_value_decides_and_and_or(rt: HostRuntime) {
+    assert!(rt; Operator::And.is_decided_by(false) && !Operator::And.is_decided_by(true));
+    assert!(rt; Operator::Or.is_decided_by(true) && !Operator::Or.is_decided_by(false));
+    assert!(rt; !Operator::Eq.is_decided_by(false) && !Operator::Eq.is_decided_by(true));
+}
+
+#[test]
 fn orders_the_operators(rt: HostRuntime) {
     assert!(rt; are_in_order(&OPERATORS));
     assert!(rt; are_in_order(&COMPARISONS));

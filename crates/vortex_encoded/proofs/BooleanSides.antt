@@ -8,6 +8,7 @@ use Rattle.vortex_types.specs.Typing.{HasType}
 use Rattle.vortex_types.specs.Values.{Value, null, truth, number, text, bytes, list, is_null}
 use Rattle.vortex_types.specs.Values.{truth_of, truth_or_null}
 use Rattle.vortex_columns.specs.ColumnView.{ColumnView, row, constant_column}
+use Rattle.vortex_operators.specs.Kleene.{decides}
 use Rattle.vortex_operators.specs.OperatorValues.{boolean_value}
 use Rattle.vortex_operators.specs.Operators.{is_boolean}
 use Rattle.vortex_operators.specs.SwapLaws.{turned}
@@ -17,7 +18,6 @@ use Rattle.vortex_kernels.specs.Boolean.{AnswersBoolean}
 use Rattle.vortex_kernels.specs.Comparison.{IsConstantOf}
 use Rattle.vortex_kernels.proofs.CastRows.{only_null}
 use Rattle.vortex_kernels.proofs.Comparing.{constant_row}
-use Rattle.vortex_meaning.specs.Rules.{decides}
 use Rattle.vortex_meaning.proofs.KleeneConstants.{right_decides}
 use Rattle.vortex_encoded.specs.Encoded.{InOrder}
 use Rattle.vortex_encoded.specs.Encoded.{is_value_constant, boolean_answers}

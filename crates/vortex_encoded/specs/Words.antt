@@ -15,7 +15,6 @@ pub use Rattle.vortex_kernels.specs.Boolean.{are_bools, AnswersBoolean, HasBoole
 pub use Rattle.vortex_kernels.specs.Comparison.{AnswersCompare, HasComparisonRows}
 pub use Rattle.vortex_kernels.specs.Comparison.{IsConstantOf, is_null_constant}
 pub use Rattle.vortex_meaning.specs.Outcomes.{types_in}
-pub use Rattle.vortex_meaning.specs.Rules.{decides}
 pub use Rattle.vortex_functions.specs.FunctionOf.{function_of}
 pub use Rattle.vortex_encoded.specs.Encoded.{IsDecoded, GivesWhere, InOrder, HasRowsAs}
 pub use Rattle.vortex_encoded.specs.Encoded.{boolean_answers, compare_answers}

@@ -3,7 +3,7 @@ ghost use Rattle.std.specs.Prelude.{◌≡◌, ◌<◌, ℕ, Bool, false, length
 ghost use Rattle.vortex_encoded.specs.Words.{AnswersUnlessMemory, AnswersBoolean, ColumnView};
 ghost use Rattle.vortex_encoded.specs.Words.{GivesWhere, HasBooleanRows, HasRowsAs, InOrder};
 ghost use Rattle.vortex_encoded.specs.Words.{IsConstantOf, Operator, allows_null, are_bools};
-ghost use Rattle.vortex_encoded.specs.Words.{boolean_answers, decides, is_bool_type, is_boolean};
+ghost use Rattle.vortex_encoded.specs.Words.{boolean_answers, is_bool_type, is_boolean};
 ghost use Rattle.vortex_encoded.specs.Words.{is_nullable, is_value_constant, truth};
 
 use crate::encoded::EncodedColumn;
@@ -46,18 +46,6 @@ fn constant_truth(column: &Column) -> Option<bool>
     scalar.as_bool_opt()
 }
 
-/// Whether the truth value is And's or Or's answer whatever stands beside it; if not, the other
-/// side is.
-fn decides(operator: Operator, value: bool) -> bool
-    ensures { result ≡ decides operator value }
-{
-    match operator {
-        Operator::And => !value,
-        Operator::Or => value,
-        _ => false,
-    }
-}
-
 /// The rows of a column of Bool, nullable or not.
 fn with_nullability(
     column: Column,
@@ -91,7 +79,7 @@ fn beside_truth<V: EncodedColumn>(
     ensures { AnswersUnlessMemory result (HasBooleanRows operator (V.column array.now) other.now) }
 {
     let nullability = array.dtype().nullability() | other.dtype().nullability();
-    if decides(operator, value) {
+    if operator.is_decided_by(value) {
         let scalar = Scalar::bool(value, nullability);
         return Column::constant(ctx.alloc(), scalar, array.len());
     }

@@ -7,6 +7,7 @@ use Rattle.vortex_types.specs.LogicalTypes.{text_type, bytes_type, struct_type, 
 use Rattle.vortex_types.specs.LogicalTypes.{fixed_size_list_type, map_type}
 use Rattle.vortex_types.specs.Values.{Value, truth, truth_of, truth_or_null}
 use Rattle.vortex_columns.specs.ColumnView.{ColumnView}
+use Rattle.vortex_operators.specs.Kleene.{decides}
 use Rattle.vortex_operators.specs.declared.operators.Operator.{Operator}
 use Rattle.vortex_operators.specs.declared.operators.Operator.TheVariants.{And, Or}
 use Rattle.vortex_operators.specs.Operators.{is_boolean}
@@ -20,7 +21,7 @@ use Rattle.vortex_meaning.specs.Functions.{ours}
 use Rattle.vortex_meaning.specs.Trees.{Tree, leaf, constant, call, no_trees, tree}
 use Rattle.vortex_meaning.specs.Eval.{types_or_none, tree_type, tree_types, eval}
 use Rattle.vortex_meaning.specs.ComparisonTrees.{operated}
-use Rattle.vortex_meaning.specs.Rules.{truth_constant, cast_of, constant_truth, decides}
+use Rattle.vortex_meaning.specs.Rules.{truth_constant, cast_of, constant_truth}
 use Rattle.vortex_meaning.specs.Rules.{may_be_null, is_nullable_tree, widened}
 use Rattle.vortex_meaning.specs.Rewrites.{AsksNoMore, Rewrites}
 use Rattle.vortex_meaning.proofs.TypedCalls.{two_types, typed_call, type_of_one, two_values}

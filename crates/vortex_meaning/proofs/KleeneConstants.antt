@@ -7,8 +7,7 @@ use Rattle.vortex_types.specs.Typing.{HasType}
 use Rattle.vortex_operators.specs.declared.operators.Operator.{Operator}
 use Rattle.vortex_operators.specs.declared.operators.Operator.TheVariants.{And, Or}
 use Rattle.vortex_operators.specs.Operators.{is_boolean}
-use Rattle.vortex_operators.specs.Kleene.{kleene}
-use Rattle.vortex_meaning.specs.Rules.{decides}
+use Rattle.vortex_operators.specs.Kleene.{kleene, decides}
 
 pub left_decides : (op : Operator) (b : Bool) (a : Option Bool) → decides op b ≡ true
     → kleene op (Some b) a ≡ Some b

@@ -5,6 +5,7 @@ use Rattle.std.proofs.Common.{◌∙◌, subst, inl, inr, arith}
 use Rattle.std.specs.Prelude.{◌||◌, ◌⊎◌, if◌then◌else◌}
 use Rattle.std.specs.Option.{option_map, option_or}
 use Rattle.vortex_types.specs.LogicalTypes.{LogicalType, bool_type}
+use Rattle.vortex_operators.specs.Kleene.{decides}
 use Rattle.vortex_operators.specs.declared.operators.Operator.{Operator}
 use Rattle.vortex_operators.specs.declared.operators.Operator.TheVariants.{And, Or}
 use Rattle.vortex_operators.specs.Operators.{is_boolean}
@@ -16,7 +17,7 @@ use Rattle.vortex_meaning.specs.Trees.{Tree, leaf, constant, call, Trees, no_tre
 use Rattle.vortex_meaning.specs.Eval.{tree_type}
 use Rattle.vortex_meaning.specs.ComparisonTrees.{negated, operated}
 use Rattle.vortex_meaning.specs.Rules.{Rules, no_rules, truth_constant, is_null_of, is_not_null_of}
-use Rattle.vortex_meaning.specs.Rules.{constant_truth, decides, may_be_null, is_nullable_tree}
+use Rattle.vortex_meaning.specs.Rules.{constant_truth, may_be_null, is_nullable_tree}
 use Rattle.vortex_meaning.specs.Rules.{widened}
 use Rattle.vortex_meaning.specs.ValidityRules.{validity}
 use Rattle.vortex_meaning.specs.ReduceRules.{nullable_first, by_nullability, is_null_within}

@@ -1,6 +1,7 @@
 -- Simplify makes trees of shipped functions lighter, whatever the rules of other functions.
 use Rattle.std.proofs.Common.{◌≡◌, Bool, Option, Some, None, refl, ◌∙◌, subst, arith}
 use Rattle.std.specs.Prelude.{◌&&◌, ◌||◌}
+use Rattle.vortex_operators.specs.Kleene.{decides}
 use Rattle.vortex_operators.specs.declared.operators.Operator.{Operator}
 use Rattle.vortex_operators.specs.declared.operators.Operator.TheVariants.{Eq, NotEq, Gt, Gte, Lt}
 use Rattle.vortex_operators.specs.declared.operators.Operator.TheVariants.{Lte, And, Or, Add, Sub}
@@ -10,7 +11,7 @@ use Rattle.vortex_meaning.specs.Shipped.{Shipped, Binary}
 use Rattle.vortex_meaning.specs.Functions.{ours, custom}
 use Rattle.vortex_meaning.specs.Trees.{Tree, leaf, constant, call, Trees, no_trees, tree}
 use Rattle.vortex_meaning.specs.ComparisonTrees.{operated}
-use Rattle.vortex_meaning.specs.Rules.{Rules, no_rules, constant_truth, decides, is_nullable_tree}
+use Rattle.vortex_meaning.specs.Rules.{Rules, no_rules, constant_truth, is_nullable_tree}
 use Rattle.vortex_meaning.specs.SimplifyRules.{is_null_literal, simplify_comparison, decided}
 use Rattle.vortex_meaning.specs.SimplifyRules.{left_of_nulls, undecided, simplify_operands}
 use Rattle.vortex_meaning.specs.SimplifyRules.{simplify_operator, simplify_shipped, simplify}

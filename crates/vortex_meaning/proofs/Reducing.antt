@@ -9,7 +9,7 @@ use Rattle.vortex_operators.specs.declared.operators.Operator.{Operator}
 use Rattle.vortex_operators.specs.declared.operators.Operator.TheVariants.{And, Or}
 use Rattle.vortex_operators.specs.Operators.{is_boolean}
 use Rattle.vortex_operators.specs.OperatorValues.{boolean_value}
-use Rattle.vortex_operators.specs.Kleene.{kleene}
+use Rattle.vortex_operators.specs.Kleene.{kleene, decides}
 use Rattle.vortex_meaning.specs.Outcomes.{gives}
 use Rattle.vortex_meaning.specs.Meaning.{Meaning, Lawful}
 use Rattle.vortex_meaning.specs.Shipped.{Shipped, Binary, IsNull, IsNotNull}
@@ -18,7 +18,7 @@ use Rattle.vortex_meaning.specs.Trees.{Tree, leaf, constant, call, Trees, no_tre
 use Rattle.vortex_meaning.specs.Eval.{tree_type}
 use Rattle.vortex_meaning.specs.ComparisonTrees.{negated, operated}
 use Rattle.vortex_meaning.specs.Rules.{Rules, truth_constant, is_null_of, is_not_null_of}
-use Rattle.vortex_meaning.specs.Rules.{constant_truth, decides, may_be_null, is_nullable_tree}
+use Rattle.vortex_meaning.specs.Rules.{constant_truth, may_be_null, is_nullable_tree}
 use Rattle.vortex_meaning.specs.Rules.{widened}
 use Rattle.vortex_meaning.specs.ValidityRules.{validity}
 use Rattle.vortex_meaning.specs.ReduceRules.{table_constant, is_null_within, is_not_null_within}

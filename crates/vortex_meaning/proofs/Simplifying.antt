@@ -8,6 +8,7 @@ use Rattle.vortex_types.specs.Values.{Value, null, truth, is_null}
 use Rattle.vortex_types.specs.Order.{compare_values}
 use Rattle.vortex_types.proofs.NullValues.{null_is}
 use Rattle.vortex_columns.specs.ColumnView.{ColumnView}
+use Rattle.vortex_operators.specs.Kleene.{decides}
 use Rattle.vortex_operators.specs.declared.operators.Operator.{Operator}
 use Rattle.vortex_operators.specs.declared.operators.Operator.TheVariants.{Eq, NotEq, Gt, Gte, Lt}
 use Rattle.vortex_operators.specs.declared.operators.Operator.TheVariants.{Lte, And, Or, Add, Sub}
@@ -27,7 +28,7 @@ use Rattle.vortex_meaning.specs.Functions.{ours, custom}
 use Rattle.vortex_meaning.specs.Trees.{Tree, leaf, constant, call, Trees, no_trees, tree}
 use Rattle.vortex_meaning.specs.Eval.{types_or_none, tree_type, tree_types, eval}
 use Rattle.vortex_meaning.specs.ComparisonTrees.{operated, compared}
-use Rattle.vortex_meaning.specs.Rules.{Rules, constant_truth, decides, is_nullable_tree}
+use Rattle.vortex_meaning.specs.Rules.{Rules, constant_truth, is_nullable_tree}
 use Rattle.vortex_meaning.specs.SimplifyRules.{is_null_scalar, is_null_literal, simplify_comparison}
 use Rattle.vortex_meaning.specs.SimplifyRules.{decided, left_of_nulls, undecided, simplify_operands}
 use Rattle.vortex_meaning.specs.SimplifyRules.{simplify_boolean, simplify_operator}

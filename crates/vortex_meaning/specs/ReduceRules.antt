@@ -7,14 +7,14 @@ use Rattle.vortex_types.specs.LogicalTypes.{bool_type}
 use Rattle.vortex_types.specs.Values.{truth_or_null}
 use Rattle.vortex_operators.specs.declared.operators.Operator.{Operator}
 use Rattle.vortex_operators.specs.declared.operators.Operator.TheVariants.{And, Or}
-use Rattle.vortex_operators.specs.Kleene.{kleene}
+use Rattle.vortex_operators.specs.Kleene.{kleene, decides}
 use Rattle.vortex_meaning.specs.Meaning.{Meaning}
 use Rattle.vortex_meaning.specs.Shipped.{Shipped, Binary, IsNull, IsNotNull}
 use Rattle.vortex_meaning.specs.Functions.{ours, custom}
 use Rattle.vortex_meaning.specs.Trees.{Tree, leaf, constant, call, Trees, no_trees, tree}
 use Rattle.vortex_meaning.specs.ComparisonTrees.{negated, operated}
 use Rattle.vortex_meaning.specs.Rules.{Rules, truth_constant, is_null_of, is_not_null_of}
-use Rattle.vortex_meaning.specs.Rules.{constant_truth, decides, is_nullable_tree, widened}
+use Rattle.vortex_meaning.specs.Rules.{constant_truth, is_nullable_tree, widened}
 use Rattle.vortex_meaning.specs.ValidityRules.{validity}
 
 -- of two operands the nullable one and then the other, where one of them is nullable and one is not

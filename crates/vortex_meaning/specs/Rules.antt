@@ -1,10 +1,8 @@
 -- A caller's rules, and the words in which the shipped ones are said.
-use Rattle.std.specs.Prelude.{Option, Some, None, Bool, true, false, not, if◌then◌else◌}
+use Rattle.std.specs.Prelude.{Option, Some, None, Bool, true, false, if◌then◌else◌}
 use Rattle.std.specs.Option.{option_and_then}
 use Rattle.vortex_types.specs.LogicalTypes.{LogicalType, bool_type, is_nullable}
 use Rattle.vortex_types.specs.Values.{truth, truth_of}
-use Rattle.vortex_operators.specs.declared.operators.Operator.{Operator}
-use Rattle.vortex_operators.specs.declared.operators.Operator.TheVariants.{And, Or}
 use Rattle.vortex_meaning.specs.Meaning.{Meaning}
 use Rattle.vortex_meaning.specs.Shipped.{IsNull, IsNotNull, Cast}
 use Rattle.vortex_meaning.specs.Functions.{ours}
@@ -46,12 +44,6 @@ cast_of t = call (ours Cast) (tree t no_trees)
 -- the truth value of a constant that has one: of Bool, and not null
 abbrev pub constant_truth : {V O : Type 0} → Tree V O → Option Bool
 constant_truth t = option_and_then (λ s. truth_of s.value) (literal t)
-
--- false decides And, and true decides Or, whatever the other operand
-abbrev pub decides : Operator → Bool → Bool
-decides And b = not b
-decides Or b = b
-decides op b = false
 
 -- whether null may be a value of that type; where there is no type it may
 abbrev pub may_be_null : Option LogicalType → Bool

@@ -5,6 +5,7 @@ use Rattle.std.specs.Option.{option_or}
 use Rattle.vortex_types.specs.LogicalTypes.{bool_type, is_nullable}
 use Rattle.vortex_types.specs.Values.{null, is_null}
 use Rattle.vortex_types.specs.ScalarView.{ScalarView}
+use Rattle.vortex_operators.specs.Kleene.{decides}
 use Rattle.vortex_operators.specs.declared.operators.Operator.{Operator}
 use Rattle.vortex_operators.specs.declared.operators.Operator.TheVariants.{And, Or, Add, Sub, Mul}
 use Rattle.vortex_operators.specs.declared.operators.Operator.TheVariants.{Div}
@@ -13,7 +14,7 @@ use Rattle.vortex_meaning.specs.Shipped.{Shipped, Binary}
 use Rattle.vortex_meaning.specs.Functions.{ours, custom}
 use Rattle.vortex_meaning.specs.Trees.{Tree, leaf, constant, call, Trees, no_trees, tree, literal}
 use Rattle.vortex_meaning.specs.ComparisonTrees.{operated}
-use Rattle.vortex_meaning.specs.Rules.{Rules, truth_constant, constant_truth, decides}
+use Rattle.vortex_meaning.specs.Rules.{Rules, truth_constant, constant_truth}
 use Rattle.vortex_meaning.specs.Rules.{is_nullable_tree, widened}
 
 -- null, of a type that has null, as the type of each null scalar does

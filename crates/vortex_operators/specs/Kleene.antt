@@ -29,6 +29,12 @@ kleene And a b = kleene_and a b
 kleene Or a b = kleene_or a b
 kleene o a b = None
 
+-- false decides And, and true decides Or, whatever the other operand; no other operator is decided
+abbrev pub decides : Operator → Bool → Bool
+decides And b = not b
+decides Or b = b
+decides op b = false
+
 -- nothing only where null is allowed
 abbrev pub Allows : Bool → Option Bool → Type 0
 Allows n None = IsTrue n

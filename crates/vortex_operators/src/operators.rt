@@ -5,7 +5,7 @@ ghost use Rattle.vortex_operators.specs.Operators.{operator_of, compare_operator
 ghost use Rattle.vortex_operators.specs.Operators.{compare_inverse, compare_swap, inverse_of};
 ghost use Rattle.vortex_operators.specs.Operators.{logical_inverse_of, swap_of, is_arithmetic};
 ghost use Rattle.vortex_operators.specs.Operators.{is_boolean};
-ghost use Rattle.vortex_operators.specs.Kleene.{AreDual};
+ghost use Rattle.vortex_operators.specs.Kleene.{AreDual, decides};
 ghost use Rattle.vortex_operators.specs.Arithmetic.{numeric_operator_of};
 
 use std::cmp::Ordering;
@@ -164,6 +164,18 @@ impl Operator {
         match self {
             Operator::And => true,
             Operator::Or => true,
+            _ => false,
+        }
+    }
+
+    /// Whether that truth value of one operand is the answer, whatever the other operand: false is
+    /// And's, and true Or's.
+    pub fn is_decided_by(&self, value: bool) -> bool
+        ensures { result ≡ decides self.now value }
+    {
+        match self {
+            Operator::And => !value,
+            Operator::Or => value,
             _ => false,
         }
     }

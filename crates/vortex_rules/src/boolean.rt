@@ -6,7 +6,7 @@ ghost use Rattle.vortex_types.specs.LogicalTypes.{bool_type};
 ghost use Rattle.vortex_operators.specs.Kleene.{kleene};
 ghost use Rattle.vortex_operators.specs.Operators.{is_boolean};
 ghost use Rattle.vortex_meaning.specs.Shipped.{Binary};
-ghost use Rattle.vortex_meaning.specs.Rules.{truth_constant, cast_of, constant_truth, decides};
+ghost use Rattle.vortex_meaning.specs.Rules.{truth_constant, cast_of, constant_truth};
 ghost use Rattle.vortex_meaning.specs.Rules.{widened};
 ghost use Rattle.vortex_meaning.specs.ReduceRules.{beside_constant, of_constants};
 ghost use Rattle.vortex_functions.specs.Words.{ours, called, tree_type};
@@ -28,18 +28,6 @@ pub(crate) fn constant_truth<C: ScalarFnVTable, T: ReduceTree<C>>(node: &T) -> O
     match node.as_constant() {
         Some(scalar) => scalar.as_bool_opt(),
         None => None,
-    }
-}
-
-/// Whether the value decides the operator, whatever the other operand: false does And, and true
-/// does Or.
-pub(crate) fn decides(operator: Operator, value: bool) -> bool
-    ensures { result ≡ decides operator value }
-{
-    match operator {
-        Operator::And => !value,
-        Operator::Or => value,
-        _ => false,
     }
 }
 
@@ -103,7 +91,7 @@ pub(crate) fn beside_constant<C: ScalarFnVTable, T: ReduceTree<C>>(
         ≡ beside_constant C.meaning operator (allows_null nullability) value (T.tree other))
         result }
 {
-    if decides(operator, value) {
+    if operator.is_decided_by(value) {
         truth_node(alloc, node, nullability, value)
     } else {
         widened(alloc, node, nullability, other)

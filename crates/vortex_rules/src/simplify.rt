@@ -11,7 +11,7 @@ ghost use Rattle.vortex_functions.specs.Words.{ours, called, tree_type};
 ghost use Rattle.vortex_rules.specs.Simplified.{IsSimplified};
 ghost use Rattle.vortex_rules.specs.Beside.{AnswersIfAny};
 
-use crate::boolean::{beside_constant, constant_truth, decides};
+use crate::boolean::{beside_constant, constant_truth};
 use crate::node::ReduceTree;
 use std::alloc::Global;
 use vortex_columns::{DType, Nullability, Scalar, VortexResult};
@@ -84,7 +84,7 @@ fn simplify_operands<C: ScalarFnVTable, T: ReduceTree<C>>(
     let value_right = constant_truth(&right);
     match (value_left, value_right) {
         (Some(a), Some(b)) => {
-            let value = if decides(operator, a) { a } else { b };
+            let value = if operator.is_decided_by(a) { a } else { b };
             let made = beside_constant(alloc, node, operator, nullability, value, right)?;
             Ok(Some(made))
         }

@@ -8,8 +8,8 @@ use Rattle.vortex_encoded.proofs.Answering.{constant_answers}
 use Rattle.vortex_encoded.proofs.BooleanSides.{decided_row}
 use Rattle.vortex_encoded.proofs.boolean.beside_truth.Goals as goal
 
-pub returns-then-decides : goal.returns-then-decides
-returns-then-decides g c =
+pub returns-then-is_decided_by : goal.returns-then-is_decided_by
+returns-then-is_decided_by g c =
     let column = g.V.EncodedColumn.column c.args.array.now in
     let other = c.args.other.now in
     let op = c.args.operator in
@@ -23,5 +23,5 @@ returns-then-decides g c =
     (λ i lt.
     ap (λ (s : ScalarView). s.value) c.bool-scalar.ensures
     ∙ decided_row op c.args.value column other c.requires.operator
-    (sym c.decides.ensures ∙ c.if-decides.true) c.requires.lengths c.requires.constant i lt)
+    (sym c.is_decided_by.ensures ∙ c.if-is_decided_by.true) c.requires.lengths c.requires.constant i lt)
     c.constant.ensures
