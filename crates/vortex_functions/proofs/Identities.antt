@@ -1,5 +1,5 @@
 -- Identities and options tell functions.
-use Rattle.std.proofs.Common.{◌≡◌, Bool, ap, sym}
+use Rattle.std.proofs.Common.{◌≡◌, Bool, true, false, refl, ap, sym}
 use Rattle.std.proofs.lemmas.Slice.Eq.{bytes_eq-Decides}
 use Rattle.vortex_meaning.specs.Meaning.{Meaning}
 use Rattle.vortex_meaning.specs.Shipped as shipped
@@ -14,6 +14,16 @@ told (shipped.Binary o) (shipped.Binary p) i h = cc
 told (shipped.Between o) (shipped.Between p) i h = cc
 told (shipped.Like o) (shipped.Like p) i h = cc
 told s (shipped.Binary p) i h = cc
+told (shipped.NullTest false) (shipped.NullTest false) i h = refl
+told (shipped.NullTest true) (shipped.NullTest true) i h = refl
+told s (shipped.NullTest false) i h =
+    let same = (bytes_eq-Decides (shipped_id s) (shipped_id (shipped.NullTest false))).1 i in cc
+told s (shipped.NullTest true) i h =
+    let same = (bytes_eq-Decides (shipped_id s) (shipped_id (shipped.NullTest true))).1 i in cc
+told (shipped.NullTest false) t i h =
+    let same = (bytes_eq-Decides (shipped_id (shipped.NullTest false)) (shipped_id t)).1 i in cc
+told (shipped.NullTest true) t i h =
+    let same = (bytes_eq-Decides (shipped_id (shipped.NullTest true)) (shipped_id t)).1 i in cc
 told s t i h = let same = (bytes_eq-Decides (shipped_id s) (shipped_id t)).1 i in cc
 
 pub told_by : {V O : Type 0} (m : Meaning V O) (E : O → O → Bool) → SameByIdentityAndOptions m E

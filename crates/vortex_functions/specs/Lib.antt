@@ -9,7 +9,7 @@ pub mod Binding
 pub mod Executing
 pub mod ArrayExecuting
 pub mod Texts
-pub mod TreePieces
+pub mod WrittenTexts
 pub mod Walks
 pub mod SameFunctions
 pub mod Words

@@ -52,5 +52,5 @@ module _ {V L O B S : Type 0} (tree_of : S → Tree V O) where
       IsNode beside_of m rule fits a.beside a.node × whole (tree_view see seen a)
 
 -- what stands for a tree of a kind that is never made
-abbrev pub shown : {V O : Type 0} → Tree V O
-shown = leaf (place 0 [] null_type)
+abbrev pub placeholder : {V O : Type 0} → Tree V O
+placeholder = leaf (place 0 [] null_type)

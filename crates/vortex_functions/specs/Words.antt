@@ -8,7 +8,7 @@ pub use Rattle.vortex_meaning.specs.Meaning.{fits}
 pub use Rattle.vortex_meaning.specs.Shipped.{Shipped, shipped_named}
 pub use Rattle.vortex_meaning.specs.Shipped.BinaryFunction.{operator_called}
 pub use Rattle.vortex_meaning.specs.Shipped.NotFunction.{is_not_word}
-pub use Rattle.vortex_meaning.specs.Shipped.NullTestFunctions.{is_null_word, is_not_null_word}
+pub use Rattle.vortex_meaning.specs.Shipped.NullTestFunctions.{null_test_word}
 pub use Rattle.vortex_meaning.specs.Shipped.CastFunction.{is_cast_word}
 pub use Rattle.vortex_meaning.specs.Shipped.BetweenFunction.{between_named, bound_named}
 pub use Rattle.vortex_meaning.specs.Shipped.LikeFunction.{like_named, like_word}
@@ -17,7 +17,6 @@ pub use Rattle.vortex_meaning.specs.Functions.{function_child_name, function_typ
 pub use Rattle.vortex_meaning.specs.Functions.{function_strict, function_infallible}
 pub use Rattle.vortex_meaning.specs.Answering.{AnswersFunctionType, AnswersFunction}
 pub use Rattle.vortex_meaning.specs.CallTexts.{Appends}
-pub use Rattle.vortex_interface.specs.Pieces.{piece_of}
 pub use Rattle.vortex_meaning.specs.Trees.{constant, trees_of, children_of, called, literal}
 pub use Rattle.vortex_meaning.specs.Trees.{node_count}
 pub use Rattle.vortex_meaning.specs.Eval.{tree_type, tree_types}
@@ -28,8 +27,7 @@ pub use Rattle.vortex_meaning.specs.Weights.{added, weight, weights, weight_told
 pub use Rattle.vortex_meaning.specs.Printing.{tree_text}
 pub use Rattle.vortex_functions.specs.FunctionOf.{function_of, operator_in, is_not, instance_in}
 pub use Rattle.vortex_functions.specs.Texts.{AppendsText, IsTextOf}
-pub use Rattle.vortex_functions.specs.TreePieces.{pieces_of, tree_pieces, leaf_text, BeginsText}
-pub use Rattle.vortex_functions.specs.TreePieces.{WritesPiece}
+pub use Rattle.vortex_functions.specs.WrittenTexts.{leaf_text, WritesBeforeOf, WritesPart}
 pub use Rattle.vortex_functions.specs.Binding.{AnswersLeaf, AnswersBinding, IsLeaf, IsLeafAt}
 pub use Rattle.vortex_functions.specs.Binding.{field_leaf, AnswersTreeCall}
 pub use Rattle.vortex_functions.specs.Executing.{HasRows, NodeFits, AnswersTree, AnswersExecution}

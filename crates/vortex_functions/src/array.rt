@@ -5,7 +5,7 @@ ghost use Rattle.vortex_functions.specs.Words.{AnswersUnlessMemory, literal, tre
 ghost use Rattle.vortex_functions.specs.Words.{column_array, column_in};
 ghost use Rattle.vortex_functions.specs.ArrayLeaves.{leaf_column};
 
-use crate::tree::leaf::{Leaf, Shown};
+use crate::tree::leaf::{Leaf, Placeholder};
 use crate::tree::{Node, Tree};
 use std::alloc::{AllocError, Global};
 use std::rc::Rc;
@@ -35,7 +35,7 @@ impl<C: ScalarFnVTable> Leaf<C, C::Options> for ArrayLeaf {
 
     type Beside = usize;
 
-    type Seen = (Shown<C>, usize);
+    type Seen = (Placeholder<C>, usize);
 
     ghost tree_of = { tree_in };
 

@@ -1,28 +1,23 @@
 //! A function with its options: a shipped one or a caller's.
-ghost use Rattle.std.specs.Prelude.{◌≡◌, ◌<◌, slice_get, Some, None, IsTrue, IsSome, MatchResult};
-ghost use Rattle.std.specs.Prelude.{length, map};
+ghost use Rattle.std.specs.Prelude.{◌≡◌, Some, None, IsTrue, IsSome, MatchResult, length, map};
 ghost use Rattle.vortex_functions.specs.Words.{types_in, fits, function_of, function_id};
 ghost use Rattle.vortex_functions.specs.Words.{function_arity, function_child_name, function_type};
 ghost use Rattle.vortex_functions.specs.Words.{function_strict, function_infallible};
 ghost use Rattle.vortex_functions.specs.Words.{AnswersUnlessMemory, AnswersFunctionType};
-ghost use Rattle.vortex_functions.specs.Words.{AnswersFunction, AppendsText, added, pieces_of};
-ghost use Rattle.vortex_functions.specs.Words.{piece_of};
+ghost use Rattle.vortex_functions.specs.Words.{AnswersFunction, AppendsText, added, WritesBeforeOf};
 
 use crate::ext::ScalarFnVTableExt;
 use crate::typed::TypedScalarFnInstance;
 use std::alloc::Global;
 use vortex_columns::{Arity, Column, DType, ExecutionCtx, VortexResult};
-use vortex_interface::{
-    ChildName, ExecutionArgs, ScalarFnId, ScalarFnVTable, TextPiece, TextPieces,
-};
+use vortex_interface::{ChildName, ExecutionArgs, ScalarFnId, ScalarFnVTable, argument_text};
 use vortex_kernels::{BetweenOptions, Operator};
 use vortex_like::LikeOptions;
 use vortex_shipped::{Between, Binary, Cast, IsNotNull, IsNull, Like, Not};
 
-/// The list of the functions, each with its interface and its options; of a caller's function the
-/// last expression.
-macro_rules! with_shipped {
-    ($function:expr, $f:ident, $options:ident => $body:expr, $custom:ident => $else:expr) => {
+/// The list of the functions, each with its interface and its options.
+macro_rules! with_function {
+    ($function:expr, $f:ident, $options:ident => $body:expr) => {
         match $function {
             ScalarFnRef::Binary(operator) => {
                 let $f = &vortex_shipped::Binary;
@@ -59,24 +54,16 @@ macro_rules! with_shipped {
                 let $options = like;
                 $body
             }
-            ScalarFnRef::Custom($custom) => $else,
+            ScalarFnRef::Custom(custom) => {
+                let $f = custom.vtable();
+                let $options = custom.options();
+                $body
+            }
         }
     };
 }
 
-/// The same for every function, a caller's too.
-macro_rules! with_function {
-    ($function:expr, $f:ident, $options:ident => $body:expr) => {
-        $crate::erased::with_shipped!($function, $f, $options => $body, custom => {
-            let $f = custom.vtable();
-            let $options = custom.options();
-            $body
-        })
-    };
-}
-
 pub(crate) use with_function;
-pub(crate) use with_shipped;
 
 /// A function with its options: a shipped one, or a caller's of type `C`.
 ///
@@ -285,35 +272,33 @@ impl<C: ScalarFnVTable> ScalarFnRef<C> {
         with_function!(self, f, options => f.execute(options, args, ctx))
     }
 
-    /// Appends the text of a call, by the texts of its arguments; what a caller's function writes
-    /// stays open.
-    pub(crate) fn fmt_sql(
+    /// Appends what stands in the text of a call of `count` arguments before the one that is
+    /// printed `index`-th, and answers which argument that is; `count` at the end, where `index` is
+    /// `count`. What a caller's function writes stays open. Refuses for memory alone.
+    pub(crate) fn write_before(
         &self,
         alloc: Global,
-        children: &[String],
+        index: usize,
+        count: usize,
         out: &mut String,
-    ) -> VortexResult<()>
-        requires { IsTrue (fits (function_arity C.meaning (function_of self.now))
-            (length children.now)) }
+    ) -> VortexResult<usize>
+        ensures { AnswersUnlessMemory result
+            (WritesBeforeOf (function_of self.now) index out.old out.new) }
+    {
+        with_function!(self, f, options => f.write_before(alloc, options, index, count, out))
+    }
+
+    /// Appends the text of a call, by the texts of its arguments; what a caller's function writes
+    /// stays open. Refuses for memory alone.
+    pub fn fmt_sql(&self, alloc: Global, children: &[String], out: &mut String) -> VortexResult<()>
         ensures { AnswersUnlessMemory result
             (λ _. AppendsText (function_of self.now) children.now out.old out.new) }
     {
-        with_function!(self, f, options => f.fmt_sql(alloc, options, children, out))
-    }
-
-    /// How many pieces the text of a call has; of a caller's function none.
-    pub(crate) fn piece_count(&self) -> usize
-        ensures { result ≡ length (pieces_of (function_of self.now)) }
-    {
-        with_shipped!(self, f, options => f.piece_count(options), _custom => 0)
-    }
-
-    /// The piece of that place in the text of a call.
-    pub(crate) fn text_piece(&self, index: usize) -> TextPiece
-        requires { index < length (pieces_of (function_of self.now)) }
-        ensures { slice_get (pieces_of (function_of self.now)) index ≡ Some (piece_of result) }
-    {
-        with_shipped!(self, f, options => f.text_piece(options, index), _custom => unreachable!())
+        for index in 0..children.len() + 1 {
+            let place = self.write_before(alloc, index, children.len(), out)?;
+            out.push_str(argument_text(place, children))?;
+        }
+        Ok(())
     }
 
     /// The shipped function that words of a script name, as `and`, or `between`, `<` and `<=`.

@@ -7,7 +7,7 @@ ghost use Rattle.vortex_functions.specs.Words.{AnswersBinding, IsLeaf, IsLeafAt,
 ghost use Rattle.vortex_functions.specs.Words.{field_leaf, IsBound};
 
 use crate::erased::ScalarFnRef;
-use crate::tree::leaf::{Leaf, Shown};
+use crate::tree::leaf::{Leaf, Placeholder};
 use crate::tree::{Node, Tree};
 use std::alloc::{AllocError, Global};
 use vortex_columns::{DType, Nullability, Scalar, StructFields, VortexError, VortexResult};
@@ -38,7 +38,7 @@ impl<C: ScalarFnVTable> Leaf<C, C::Options> for ExpressionLeaf {
 
     type Beside = ();
 
-    type Seen = Shown<C>;
+    type Seen = Placeholder<C>;
 
     ghost tree_of = { λ t. t };
 

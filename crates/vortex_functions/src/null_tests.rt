@@ -7,13 +7,13 @@ use vortex_interface::{EmptyOptions, ScalarFnVTable};
 use vortex_shipped::{IsNotNull, IsNull};
 
 impl ScalarFnVTableExt for IsNull {
-    ghost use Rattle.std.specs.Prelude.{Some, None, if◌then◌else◌};
+    ghost use Rattle.std.specs.Prelude.{true, false, Some, None, if◌then◌else◌};
     ghost use Rattle.vortex_meaning.specs.Shipped as shipped;
-    ghost use Rattle.vortex_functions.specs.Words.{is_null_word};
+    ghost use Rattle.vortex_functions.specs.Words.{null_test_word};
 
     ghost ships = { λ _. shipped.IsNull };
 
-    ghost names = { λ words. if is_null_word words then Some shipped.IsNull else None };
+    ghost names = { λ words. if null_test_word false words then Some shipped.IsNull else None };
 
     fn bind<C: ScalarFnVTable>(&self, _options: EmptyOptions) -> ScalarFnRef<C> {
         ScalarFnRef::IsNull
@@ -28,13 +28,13 @@ impl ScalarFnVTableExt for IsNull {
 }
 
 impl ScalarFnVTableExt for IsNotNull {
-    ghost use Rattle.std.specs.Prelude.{Some, None, if◌then◌else◌};
+    ghost use Rattle.std.specs.Prelude.{true, false, Some, None, if◌then◌else◌};
     ghost use Rattle.vortex_meaning.specs.Shipped as shipped;
-    ghost use Rattle.vortex_functions.specs.Words.{is_not_null_word};
+    ghost use Rattle.vortex_functions.specs.Words.{null_test_word};
 
     ghost ships = { λ _. shipped.IsNotNull };
 
-    ghost names = { λ words. if is_not_null_word words then Some shipped.IsNotNull else None };
+    ghost names = { λ words. if null_test_word true words then Some shipped.IsNotNull else None };
 
     fn bind<C: ScalarFnVTable>(&self, _options: EmptyOptions) -> ScalarFnRef<C> {
         ScalarFnRef::IsNotNull

@@ -1,2 +1,2 @@
-pub mod PieceTexts
+pub mod PartTexts
 pub mod InputLemmas

@@ -1,4 +1,3 @@
 pub mod Args
-pub mod Pieces
 pub mod Texts
 pub mod Words

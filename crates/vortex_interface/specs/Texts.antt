@@ -1,23 +1,40 @@
--- When the text of a call is written behind what a text holds already.
-use Rattle.std.specs.Prelude.{◌≡◌, ◌⊎◌, ℕ, List, Option, IfSome, map, string_bytes, String}
+-- What a call of a function writes of its text, part by part, and its whole text.
+use Rattle.std.specs.Prelude.{◌≡◌, ◌⊎◌, ◌++◌, ℕ, zero, suc, List, [], Option, IfSome, length, map}
+use Rattle.std.specs.Prelude.{string_bytes, String}
 use Rattle.std.specs.declared.alloc.Global.{Global}
-use Rattle.vortex_meaning.specs.CallTexts.{Appends, call_text}
+use Rattle.vortex_meaning.specs.CallTexts.{Appends, text_at, default_before}
 
--- by the identity, the text of the options and those of the arguments
-abbrev pub AppendsCall : List ℕ → List ℕ → List (String Global)
-    → String Global → String Global → Type 0
-AppendsCall id options texts old new = Appends old (call_text id options (map string_bytes texts))
-    new
+-- what may stand in the text of a call of so many arguments before the one that is printed k-th, and
+-- which argument that is
+abbrev pub Parts : Type 1
+Parts = ℕ → ℕ → List ℕ → ℕ → Type 0
 
--- a call's text by default: by the identity, and by what the options print, where that is known
-abbrev pub IsDefaultText : List ℕ → Option (List ℕ) → List (List ℕ) → List ℕ → Type 0
-IsDefaultText id printed texts text =
-    (options : List ℕ) × IfSome printed (λ bytes. options ≡ bytes)
-    × (text ≡ call_text id options texts)
+-- the default, by the identity, and by what the options print, where that is known; the arguments in
+-- their order
+abbrev pub IsDefault : List ℕ → Option (List ℕ) → Parts
+IsDefault id printed count k text place =
+    (options : List ℕ) × (k ≡ count → IfSome printed (λ bytes. options ≡ bytes))
+    × (text ≡ default_before id options count k) × (place ≡ k)
 
--- a call's text is written: the default, or one of the function's own
-abbrev pub AppendsDefaultOrOwn : List ℕ → Option (List ℕ) → (List (List ℕ) → List ℕ → Type 0)
-    → List (String Global) → String Global → String Global → Type 0
-AppendsDefaultOrOwn id printed own texts old new =
-    (text : List ℕ) × Appends old text new
-    × (IsDefaultText id printed (map string_bytes texts) text ⊎ own (map string_bytes texts) text)
+-- the default, or what is the function's own
+abbrev pub IsDefaultOrOwn : List ℕ → Option (List ℕ) → Parts → Parts
+IsDefaultOrOwn id printed own count k text place =
+    IsDefault id printed count k text place ⊎ own count k text place
+
+-- such a part is written
+abbrev pub WritesPart : Parts → ℕ → ℕ → String Global → String Global → ℕ → Type 0
+WritesPart part count k old new place =
+    (text : List ℕ) × Appends old text new × part count k text place
+
+-- from the k-th on so many parts, each with the text of its argument
+abbrev pub AreTold : (ℕ → List ℕ → ℕ → Type 0) → ℕ → ℕ → List (List ℕ) → List ℕ → Type 0
+AreTold part k zero texts told = told ≡ []
+AreTold part k (suc left) texts told =
+    (text : List ℕ) × (place : ℕ) × (rest : List ℕ) × part k text place
+    × AreTold part (suc k) left texts rest × (told ≡ text ++ text_at place texts ++ rest)
+
+-- the text of a call is written, by the texts of its arguments
+abbrev pub AppendsCall : Parts → List (String Global) → String Global → String Global → Type 0
+AppendsCall part texts old new =
+    (told : List ℕ) × Appends old told new
+    × AreTold (part (length texts)) 0 (suc (length texts)) (map string_bytes texts) told

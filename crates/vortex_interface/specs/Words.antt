@@ -7,9 +7,7 @@ pub use Rattle.vortex_meaning.specs.Outcomes.{types_in}
 pub use Rattle.vortex_meaning.specs.Meaning.{Meaning, Lawful, fits}
 pub use Rattle.vortex_meaning.specs.Rules.{Rules, no_rules}
 pub use Rattle.vortex_meaning.specs.Answering.{AnswersType, AnswersCall}
-pub use Rattle.vortex_meaning.specs.CallTexts.{Appends, joined, options_text}
-pub use Rattle.vortex_meaning.specs.CallTexts.{Piece, told, piece_text, text_at, unary_pieces}
-pub use Rattle.vortex_interface.specs.Pieces.{piece_of}
+pub use Rattle.vortex_meaning.specs.CallTexts.{Appends, options_text, opening, text_at}
 pub use Rattle.vortex_interface.specs.Args.{ArgsView, coded_args, AreOfLength, PastInputs}
-pub use Rattle.vortex_interface.specs.Texts.{AppendsCall, AppendsDefaultOrOwn}
+pub use Rattle.vortex_interface.specs.Texts.{Parts, IsDefaultOrOwn, WritesPart, AppendsCall}
 pub use Rattle.vortex_meaning.specs.OptionBytes.{MayWriteBytes, MayReadOptions}

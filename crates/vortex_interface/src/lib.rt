@@ -5,13 +5,11 @@
 pub mod args;
 pub mod laws;
 pub mod options;
-pub mod pieces;
 pub mod printing;
 pub mod vtable;
 
 pub use args::VecExecutionArgs;
 pub use options::EmptyOptions;
-pub use pieces::{TextPiece, TextPieces, unary_piece, write_pieces};
-pub use printing::write_call;
+pub use printing::argument_text;
 pub use vortex_columns::Arity;
 pub use vtable::{ChildName, ExecutionArgs, ScalarFnId, ScalarFnVTable};

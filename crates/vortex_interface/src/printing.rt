@@ -1,25 +1,24 @@
-//! The texts of calls, in the bytes of UTF-8, written behind what a text holds already. Each
+//! The parts of a call's text, in the bytes of UTF-8, written behind what a text holds already. Each
 //! refuses for memory alone (E9).
-ghost use Rattle.std.specs.Prelude.{map, string_bytes};
-ghost use Rattle.vortex_interface.specs.Words.{AnswersUnlessMemory, Appends, joined, options_text};
-ghost use Rattle.vortex_interface.specs.Words.{AppendsCall};
+ghost use Rattle.std.specs.Prelude.{◌≡◌, map, string_bytes};
+ghost use Rattle.vortex_interface.specs.Words.{AnswersUnlessMemory, Appends, options_text, opening};
+ghost use Rattle.vortex_interface.specs.Words.{text_at};
 
-use vortex_columns::{VortexResult, write_separator};
+use vortex_columns::VortexResult;
 
-/// Texts with a separator between each two.
-fn write_joined(out: &mut String, separator: &str, texts: &[String]) -> VortexResult<()>
-    ensures { AnswersUnlessMemory result
-        (λ _. Appends out.old (joined separator.now (map string_bytes texts.now)) out.new) }
+/// A call's identity and `(`, before its first argument.
+pub(crate) fn write_opening(out: &mut String, id: &str, index: usize) -> VortexResult<()>
+    ensures { AnswersUnlessMemory result (λ _. Appends out.old (opening id.now index) out.new) }
 {
-    for k in 0..texts.len() {
-        write_separator(out, separator, k)?;
-        out.push_str(texts[k].as_str())?;
+    if index == 0 {
+        out.push_str(id)?;
+        out.push_str("(")?;
     }
     Ok(())
 }
 
-/// The text of a function's options, after its arguments.
-fn write_options(out: &mut String, options: &str) -> VortexResult<()>
+/// The text of a function's options, where it is not empty.
+pub(crate) fn write_options(out: &mut String, options: &str) -> VortexResult<()>
     ensures { AnswersUnlessMemory result (λ _. Appends out.old (options_text options.now) out.new) }
 {
     if !options.is_empty() {
@@ -29,21 +28,12 @@ fn write_options(out: &mut String, options: &str) -> VortexResult<()>
     Ok(())
 }
 
-/// A call by its function's identity: `id(a, b)`, and the text of the options where it is not
-/// empty.
-pub fn write_call(
-    out: &mut String,
-    id: &str,
-    options: &str,
-    children: &[String],
-) -> VortexResult<()>
-    ensures { AnswersUnlessMemory result
-        (λ _. AppendsCall id.now options.now children.now out.old out.new) }
+/// The text of the argument of that place, where there is one.
+pub fn argument_text(place: usize, children: &[String]) -> &str
+    ensures { result.now ≡ text_at place (map string_bytes children.now) }
 {
-    out.push_str(id)?;
-    out.push_str("(")?;
-    write_joined(out, ", ", children)?;
-    write_options(out, options)?;
-    out.push_str(")")?;
-    Ok(())
+    match children.get(place) {
+        Some(text) => text.as_str(),
+        None => "",
+    }
 }

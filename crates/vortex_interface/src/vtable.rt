@@ -4,13 +4,15 @@ ghost use Rattle.std.specs.Prelude.{slice_get, Option, Some, None};
 ghost use Rattle.vortex_interface.specs.Words.{ColumnView, Meaning, Lawful, Rules, fits, types_in};
 ghost use Rattle.vortex_interface.specs.Words.{AnswersUnlessMemory, AnswersType, AnswersCall};
 ghost use Rattle.vortex_interface.specs.Words.{PastInputs, MayWriteBytes, MayReadOptions};
-ghost use Rattle.vortex_interface.specs.Words.{AppendsDefaultOrOwn};
+ghost use Rattle.vortex_interface.specs.Words.{Parts, IsDefaultOrOwn, WritesPart, AppendsCall};
 
-use crate::printing::write_call;
+use crate::printing::{argument_text, write_opening, write_options};
 use std::alloc::Global;
 use std::fmt::{Debug, Display};
 use std::hash::Hash;
-use vortex_columns::{Arity, Column, DType, ExecutionCtx, VortexError, VortexResult};
+use vortex_columns::{
+    Arity, Column, DType, ExecutionCtx, VortexError, VortexResult, write_separator,
+};
 
 /// A function's identity, as `vortex.binary`.
 pub type ScalarFnId = &'static str;
@@ -61,8 +63,8 @@ pub trait ScalarFnVTable: Sized + Clone + Drop {
     /// The options that bytes are read as, where there are such.
     ghost options_read: { Self → List ℕ → Option Self.Options } = { λ _ _. None };
 
-    /// The texts that a call may have beside the default, by the texts of its arguments.
-    ghost own_text: { Self → Self.Options → List (List ℕ) → List ℕ → Type 0 } = { λ _ _ _ _. ⊥ };
+    /// What may stand in the text of a call before an argument beside the default, and at the end.
+    ghost own_parts: { Self → Self.Options → Parts } = { λ _ _ _ _ _ _. ⊥ };
 
     /// The function's identity, as `vortex.binary`.
     fn id(&self) -> ScalarFnId
@@ -119,12 +121,38 @@ pub trait ScalarFnVTable: Sized + Clone + Drop {
         ensures { AnswersCall meaning self.now options.now
             (A.inputs args.now) (A.rows args.now) result };
 
-    /// Appends the text of a call, by the texts of its arguments, whose count fits: the default, or
-    /// the function's own. Refuses for memory alone.
+    /// Appends what stands in the text of a call of `count` arguments before the one that is
+    /// printed `index`-th, and answers which argument that is. At the end, where `index` is
+    /// `count`, it appends what ends the call, and answers `count`. Refuses for memory alone.
     ///
-    /// The default is `id(a, b)`; where the text of the options is not empty, `, opts=` and that
-    /// text stand before the `)`.
-    fn fmt_sql(
+    /// The default is the text `id(a, b)`; where the text of the options is not empty, `, opts=`
+    /// and that text stand before the `)`.
+    fn write_before(
+        &self,
+        alloc: Global,
+        options: &Self::Options,
+        index: usize,
+        count: usize,
+        out: &mut String,
+    ) -> VortexResult<usize>
+        ensures { AnswersUnlessMemory result (WritesPart (IsDefaultOrOwn (meaning.id self.now)
+            (Self.Options.output options.now) (own_parts self.now options.now))
+            count index out.old out.new) }
+    {
+        write_opening(out, self.id(), index)?;
+        if index == count {
+            let text = options.to_string(alloc)?;
+            write_options(out, text.as_str())?;
+            out.push_str(")")?;
+        } else {
+            write_separator(out, ", ", index)?;
+        }
+        Ok(index)
+    }
+
+    /// Appends the text of a call, by the texts of its arguments, whose count fits: for each what
+    /// `write_before` says and then its own. Refuses for memory alone.
+    final fn fmt_sql(
         &self,
         alloc: Global,
         options: &Self::Options,
@@ -132,12 +160,15 @@ pub trait ScalarFnVTable: Sized + Clone + Drop {
         out: &mut String,
     ) -> VortexResult<()>
         requires { IsTrue (fits (meaning.arity self.now options.now) (length children.now)) }
-        ensures { AnswersUnlessMemory result (λ _. AppendsDefaultOrOwn (meaning.id self.now)
-            (Self.Options.output options.now) (own_text self.now options.now)
-            children.now out.old out.new) }
+        ensures { AnswersUnlessMemory result (λ _. AppendsCall (IsDefaultOrOwn
+            (meaning.id self.now) (Self.Options.output options.now)
+            (own_parts self.now options.now)) children.now out.old out.new) }
     {
-        let text = options.to_string(alloc)?;
-        write_call(out, self.id(), text.as_str(), children)
+        for index in 0..children.len() + 1 {
+            let place = self.write_before(alloc, options, index, children.len(), out)?;
+            out.push_str(argument_text(place, children))?;
+        }
+        Ok(())
     }
 
     /// Whether a null argument makes the answer null.

@@ -11,7 +11,7 @@ use Rattle.vortex_operators.specs.declared.operators.Operator.TheVariants.{And, 
 use Rattle.vortex_operators.specs.Operators.{is_boolean}
 use Rattle.vortex_meaning.specs.Meaning.{Meaning, Lawful}
 use Rattle.vortex_meaning.specs.Arguments.{or_either}
-use Rattle.vortex_meaning.specs.Shipped.{Shipped, Binary, Not, IsNull, IsNotNull}
+use Rattle.vortex_meaning.specs.Shipped.{Shipped, Binary, Not, NullTest, IsNull, IsNotNull}
 use Rattle.vortex_meaning.specs.Functions.{ours, custom}
 use Rattle.vortex_meaning.specs.Trees.{Tree, leaf, constant, call, Trees, no_trees, tree}
 use Rattle.vortex_meaning.specs.Eval.{tree_type}
@@ -256,8 +256,8 @@ module _ {V O : Type 0} (m : Meaning V O) where
         → tree_type m u ≡ tree_type m (call (ours f) ts) → reduce_shipped m r f ts ≡ Some u
         → IsLess m (call (ours f) ts) u
     shipped_less (Binary op) ts u t h s k e = operator_less op ts u s e
-    shipped_less IsNull ts u t h s k e = is_null_less ts u t h s k e
-    shipped_less IsNotNull ts u t h s k e = is_not_null_less ts u t h s k e
+    shipped_less (NullTest false) ts u t h s k e = is_null_less ts u t h s k e
+    shipped_less (NullTest true) ts u t h s k e = is_not_null_less ts u t h s k e
     shipped_less f ts u t h s k e = cc
 
     reduced_less : (t u : Tree V O) (k : LogicalType) → tree_type m t ≡ Some k → OnlyShipped t
@@ -295,8 +295,8 @@ module _ {V O : Type 0} (m : Meaning V O) where
     reduce_alone (leaf l) s = refl
     reduce_alone (constant c) s = refl
     reduce_alone (call (ours (Binary op)) ts) s = refl
-    reduce_alone (call (ours IsNull) ts) s = is_null_alone ts s.1
-    reduce_alone (call (ours IsNotNull) ts) s = is_not_null_alone ts s.1
+    reduce_alone (call (ours (NullTest false)) ts) s = is_null_alone ts s.1
+    reduce_alone (call (ours (NullTest true)) ts) s = is_not_null_alone ts s.1
     reduce_alone (call (ours f) ts) s = refl
     reduce_alone (call (custom f o) ts) s = absurd s.0
 

@@ -12,7 +12,7 @@ use Rattle.vortex_operators.specs.OperatorValues.{boolean_value}
 use Rattle.vortex_operators.specs.Kleene.{kleene, decides}
 use Rattle.vortex_meaning.specs.Outcomes.{gives}
 use Rattle.vortex_meaning.specs.Meaning.{Meaning, Lawful}
-use Rattle.vortex_meaning.specs.Shipped.{Shipped, Binary, IsNull, IsNotNull}
+use Rattle.vortex_meaning.specs.Shipped.{Shipped, Binary, NullTest, IsNull, IsNotNull}
 use Rattle.vortex_meaning.specs.Functions.{ours, custom}
 use Rattle.vortex_meaning.specs.Trees.{Tree, leaf, constant, call, Trees, no_trees, tree}
 use Rattle.vortex_meaning.specs.Eval.{tree_type}
@@ -164,8 +164,8 @@ module _ {V O : Type 0} (m : Meaning V O) where
           → tree_type m (call (ours s) ts) ≡ Some t → reduce_shipped m r s ts ≡ Some u
           → Rewrites m (call (ours s) ts) u
       shipped_sound (Binary op) ts u t h e = operator_sound op ts u t h e
-      shipped_sound IsNull ts u t h e = is_null_sound ts u t h e
-      shipped_sound IsNotNull ts u t h e = is_not_null_sound ts u t h e
+      shipped_sound (NullTest false) ts u t h e = is_null_sound ts u t h e
+      shipped_sound (NullTest true) ts u t h e = is_not_null_sound ts u t h e
       shipped_sound s ts u t h e = cc
 
     -- what Reduce answers for a well-typed tree keeps its type and its values

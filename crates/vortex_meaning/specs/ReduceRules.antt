@@ -9,7 +9,7 @@ use Rattle.vortex_operators.specs.declared.operators.Operator.{Operator}
 use Rattle.vortex_operators.specs.declared.operators.Operator.TheVariants.{And, Or}
 use Rattle.vortex_operators.specs.Kleene.{kleene, decides}
 use Rattle.vortex_meaning.specs.Meaning.{Meaning}
-use Rattle.vortex_meaning.specs.Shipped.{Shipped, Binary, IsNull, IsNotNull}
+use Rattle.vortex_meaning.specs.Shipped.{Shipped, Binary, NullTest}
 use Rattle.vortex_meaning.specs.Functions.{ours, custom}
 use Rattle.vortex_meaning.specs.Trees.{Tree, leaf, constant, call, Trees, no_trees, tree}
 use Rattle.vortex_meaning.specs.ComparisonTrees.{negated, operated}
@@ -96,8 +96,8 @@ module _ {V O : Type 0} (m : Meaning V O) where
   -- the rules for a shipped function: operators and null tests alone have some
   abbrev pub reduce_shipped : Rules V O → Shipped → Trees V O → Option (Tree V O)
   reduce_shipped r (Binary op) ts = reduce_operator op ts
-  reduce_shipped r IsNull ts = reduce_is_null r ts
-  reduce_shipped r IsNotNull ts = reduce_is_not_null r ts
+  reduce_shipped r (NullTest false) ts = reduce_is_null r ts
+  reduce_shipped r (NullTest true) ts = reduce_is_not_null r ts
   reduce_shipped r s ts = None
 
   -- what a node is reduced to, where a rule applies

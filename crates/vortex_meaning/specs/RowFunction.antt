@@ -6,7 +6,6 @@ use Rattle.vortex_types.specs.LogicalTypes.{LogicalType, is_nullable}
 use Rattle.vortex_types.specs.Values.{Value, null}
 use Rattle.vortex_meaning.specs.Outcomes.{Fault, Outcome, faults, GivesValue, GivesType, GivesNull}
 use Rattle.vortex_meaning.specs.Meaning.{HaveTypes, AreAlike}
-use Rattle.vortex_meaning.specs.CallTexts.{Piece}
 
 -- id: the identity
 -- count: how many arguments
@@ -16,7 +15,8 @@ use Rattle.vortex_meaning.specs.CallTexts.{Piece}
 -- means: the row meaning of argument types and values
 -- strict: null where an argument is
 -- infallible: no row faults
--- pieces: the text of a call, with the places of its arguments' texts
+-- before: what stands in the text of a call before the argument that is printed k-th, and at the end
+-- printed: which argument that is; none at the end
 -- added: what a call adds to the weight of its arguments, where it is nullable and where it is not
 pub record RowFunction : Type 0 where
   pub id : List ℕ
@@ -27,7 +27,8 @@ pub record RowFunction : Type 0 where
   pub means : List LogicalType → List Value → Outcome
   pub strict : Bool
   pub infallible : Bool
-  pub pieces : List Piece
+  pub before : ℕ → List ℕ
+  pub printed : ℕ → ℕ
   pub added : Bool → ℕ
 
 -- the laws of a lawful function, as `Meaning` says them of any, and one more

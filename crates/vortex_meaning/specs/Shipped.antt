@@ -7,7 +7,7 @@ pub mod CastFunction
 pub mod BetweenFunction
 pub mod LikeFunction
 use Rattle.std.specs.Prelude.{◌≡◌, ℕ, zero, suc, List, Option, Some, None, Bool, if◌then◌else◌}
-use Rattle.std.specs.Prelude.{refl}
+use Rattle.std.specs.Prelude.{true, false, refl}
 use Rattle.std.specs.Option.{option_map, option_or, option_and_then}
 use Rattle.std.proofs.Common.{ap}
 use Rattle.vortex_errors.specs.declared.arity.Arity.{Arity}
@@ -20,15 +20,14 @@ use Rattle.vortex_operators.specs.declared.between.BetweenOptions.{BetweenOption
 use Rattle.vortex_like.specs.declared.options.LikeOptions.{LikeOptions}
 use Rattle.vortex_meaning.specs.Outcomes.{Outcome}
 use Rattle.vortex_meaning.specs.Meaning.{Meaning, Lawful}
-use Rattle.vortex_meaning.specs.CallTexts.{Piece, told}
+use Rattle.vortex_meaning.specs.CallTexts.{text_told}
 use Rattle.vortex_meaning.specs.RowFunction.{RowFunction, LawfulRow}
 use Rattle.vortex_meaning.specs.Shipped.BinaryFunction.{operator_function, operator_lawful}
 use Rattle.vortex_meaning.specs.Shipped.BinaryFunction.{operator_number, operator_called}
 use Rattle.vortex_meaning.specs.Shipped.BinaryFunction.{operator_numbered, operator_back}
 use Rattle.vortex_meaning.specs.Shipped.NotFunction.{not_function, not_lawful, is_not_word}
-use Rattle.vortex_meaning.specs.Shipped.NullTestFunctions.{is_null_function, is_null_lawful}
-use Rattle.vortex_meaning.specs.Shipped.NullTestFunctions.{is_null_word, is_not_null_function}
-use Rattle.vortex_meaning.specs.Shipped.NullTestFunctions.{is_not_null_lawful, is_not_null_word}
+use Rattle.vortex_meaning.specs.Shipped.NullTestFunctions.{null_test, null_test_lawful}
+use Rattle.vortex_meaning.specs.Shipped.NullTestFunctions.{null_test_word}
 use Rattle.vortex_meaning.specs.Shipped.CastFunction.{cast_function, cast_lawful, is_cast_word}
 use Rattle.vortex_meaning.specs.Shipped.BetweenFunction.{between_function, between_lawful}
 use Rattle.vortex_meaning.specs.Shipped.BetweenFunction.{between_named, between_number}
@@ -41,17 +40,22 @@ use Rattle.vortex_meaning.specs.Shipped.LikeFunction.{like_back}
 pub data Shipped : Type 0 where
   Binary : Operator → Shipped
   Not : Shipped
-  IsNull : Shipped
-  IsNotNull : Shipped
+  NullTest : Bool → Shipped
   Cast : Shipped
   Between : BetweenOptions → Shipped
   Like : LikeOptions → Shipped
 
+-- whether a value is null, and whether it is not
+abbrev pub IsNull : Shipped
+IsNull = NullTest false
+
+abbrev pub IsNotNull : Shipped
+IsNotNull = NullTest true
+
 abbrev pub row_function : Shipped → RowFunction
 row_function (Binary op) = operator_function op
 row_function Not = not_function
-row_function IsNull = is_null_function
-row_function IsNotNull = is_not_null_function
+row_function (NullTest negated) = null_test negated
 row_function Cast = cast_function
 row_function (Between options) = between_function options
 row_function (Like options) = like_function options
@@ -59,8 +63,7 @@ row_function (Like options) = like_function options
 pub row_lawful : (s : Shipped) → LawfulRow (row_function s)
 row_lawful (Binary op) = operator_lawful op
 row_lawful Not = not_lawful
-row_lawful IsNull = is_null_lawful
-row_lawful IsNotNull = is_not_null_lawful
+row_lawful (NullTest negated) = null_test_lawful negated
 row_lawful Cast = cast_lawful
 row_lawful (Between options) = between_lawful options
 row_lawful (Like options) = like_lawful options
@@ -70,8 +73,8 @@ abbrev pub shipped_named : List (List ℕ) → Option Shipped
 shipped_named ws =
     option_or (option_map Binary (operator_called ws))
     (option_or (if is_not_word ws then Some Not else None)
-    (option_or (if is_null_word ws then Some IsNull else None)
-    (option_or (if is_not_null_word ws then Some IsNotNull else None)
+    (option_or (if null_test_word false ws then Some IsNull else None)
+    (option_or (if null_test_word true ws then Some IsNotNull else None)
     (option_or (if is_cast_word ws then Some Cast else None)
     (option_or (option_map Between (between_named ws))
     (option_or (option_map Like (like_named ws))
@@ -91,8 +94,8 @@ shipped_called ws said = option_and_then (escaped said) (shipped_named ws)
 abbrev pub shipped_number : Shipped → ℕ × ℕ
 shipped_number (Binary op) = (0, operator_number op)
 shipped_number Not = (1, 0)
-shipped_number IsNull = (2, 0)
-shipped_number IsNotNull = (3, 0)
+shipped_number (NullTest false) = (2, 0)
+shipped_number (NullTest true) = (3, 0)
 shipped_number Cast = (4, 0)
 shipped_number (Between options) = (5, between_number options)
 shipped_number (Like options) = (6, like_number options)
@@ -109,8 +112,8 @@ shipped_numbered (suc (suc (suc (suc (suc (suc f)))))) n = Like (like_numbered n
 pub shipped_back : (s : Shipped) → shipped_numbered (shipped_number s).0 (shipped_number s).1 ≡ s
 shipped_back (Binary op) = ap Binary (operator_back op)
 shipped_back Not = refl
-shipped_back IsNull = refl
-shipped_back IsNotNull = refl
+shipped_back (NullTest false) = refl
+shipped_back (NullTest true) = refl
 shipped_back Cast = refl
 shipped_back (Between options) = ap Between (between_back options)
 shipped_back (Like options) = ap Like (like_back options)
@@ -141,11 +144,14 @@ is_strict s = (row_function s).strict
 abbrev pub is_infallible : Shipped → Bool
 is_infallible s = (row_function s).infallible
 
-abbrev pub shipped_text : Shipped → List (List ℕ) → List ℕ
-shipped_text s texts = told (row_function s).pieces texts
+abbrev pub shipped_before : Shipped → ℕ → List ℕ
+shipped_before s k = (row_function s).before k
 
-abbrev pub shipped_pieces : Shipped → List Piece
-shipped_pieces s = (row_function s).pieces
+abbrev pub shipped_printed : Shipped → ℕ → ℕ
+shipped_printed s k = (row_function s).printed k
+
+abbrev pub shipped_text : Shipped → List (List ℕ) → List ℕ
+shipped_text s texts = text_told (shipped_before s) (shipped_printed s) texts
 
 abbrev pub shipped_added : Shipped → Bool → ℕ
 shipped_added s nullable = (row_function s).added nullable

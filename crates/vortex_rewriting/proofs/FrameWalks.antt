@@ -3,7 +3,6 @@ use Rattle.std.proofs.Common.{◌≡◌, ℕ, zero, suc, ◌+◌, ◌*◌, ◌<�
 use Rattle.std.proofs.Common.{drop, Option, Some, None, refl, sym, ap, subst, ◌∙◌, arith}
 use Rattle.std.specs.Prelude.{slice_get, IsSome}
 use Rattle.std.proofs.lemmas.List.{append-nil, drop_all}
-use Rattle.vortex_interface.proofs.PieceTexts.{drop_at}
 use Rattle.vortex_meaning.specs.Trees.{Tree, leaf, constant, call, trees_of, list_of, children_of}
 use Rattle.vortex_meaning.specs.Trees.{node_count, nodes_count}
 use Rattle.vortex_meaning.specs.Driver.{step}
@@ -15,6 +14,12 @@ use Rattle.vortex_meaning.proofs.StepPlaces.{same_trees}
 use Rattle.vortex_meaning.proofs.Driving.{child_typed}
 use Rattle.vortex_functions.proofs.TreeLists.{list_of-trees_of}
 use Rattle.vortex_rewriting.proofs.StepsBelow.{partly_more, step_at_root}
+
+drop_at : {A : Type 0} (xs : List A) (k : ℕ) (x : A) → slice_get xs k ≡ Some x
+    → drop k xs ≡ x ∷ drop (suc k) xs
+drop_at [] k x e = cc
+drop_at (y ∷ ys) zero x e = let p : y ≡ x = cc in ap (λ z. z ∷ ys) p
+drop_at (y ∷ ys) (suc k) x e = drop_at ys k x e
 
 get_next : {A : Type 0} (xs : List A) (x : A) (ys : List A)
     → slice_get (xs ++ x ∷ ys) (length xs) ≡ Some x

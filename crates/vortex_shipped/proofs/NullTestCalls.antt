@@ -11,6 +11,7 @@ use Rattle.vortex_columns.specs.ColumnView.{ColumnView}
 use Rattle.vortex_kernels.specs.NullTests.{HasTests}
 use Rattle.vortex_meaning.specs.Outcomes.{Outcome, gives, HasCallRows, IsCallFault, types_in}
 use Rattle.vortex_meaning.specs.Shipped.NullTestFunctions.{null_test_type, null_test}
+use Rattle.vortex_meaning.specs.Shipped.NullTestFunctions.{null_test_value}
 
 only_input : (cs : List ColumnView) (c : ColumnView)
     → IsSome (null_test_type (types_in cs)) → slice_get cs 0 ≡ Some c → cs ≡ c ∷ []
@@ -18,10 +19,13 @@ only_input [] c h p = cc
 only_input (x ∷ []) c h p = cc
 only_input (x ∷ y ∷ cs) c h p = cc
 
--- of either null test, by what it says of a value
-module _ (id printed : List ℕ) (test : Value → Bool) where
+-- of either null test
+module _ (negated : Bool) where
+  abbrev test : Value → Bool
+  test = null_test_value negated
+
   abbrev Means : List LogicalType → List Value → Outcome
-  Means = (null_test id printed test).means
+  Means = (null_test negated).means
 
   test_rows : (c d : ColumnView) (n : ℕ) → length c.rows ≡ n → HasTests test c d
       → HasCallRows null_test_type Means (c ∷ []) n d

@@ -1,13 +1,15 @@
--- The text of a call, and when it is written behind what a text holds already.
-use Rattle.std.specs.Prelude.{◌≡◌, ℕ, List, map, string_bytes, String}
+-- What a call of a shipped function writes of its text.
+use Rattle.std.specs.Prelude.{◌≡◌, ℕ, String}
 use Rattle.std.specs.declared.alloc.Global.{Global}
 use Rattle.vortex_meaning.specs.CallTexts.{Appends}
-use Rattle.vortex_meaning.specs.Shipped.{Shipped, shipped_text}
+use Rattle.vortex_meaning.specs.Shipped.{Shipped, shipped_before, shipped_printed}
+use Rattle.vortex_interface.specs.Texts.{Parts}
 
--- that of a call of a shipped function, by the texts of its arguments
-abbrev pub IsCallText : Shipped → List (List ℕ) → List ℕ → Type 0
-IsCallText s texts text = text ≡ shipped_text s texts
+-- what stands before the argument that is printed k-th, and which argument that is
+abbrev pub shipped_parts : Shipped → Parts
+shipped_parts s count k text place = (text ≡ shipped_before s k) × (place ≡ shipped_printed s k)
 
 -- it is written
-abbrev pub AppendsCall : Shipped → List (String Global) → String Global → String Global → Type 0
-AppendsCall s texts old new = Appends old (shipped_text s (map string_bytes texts)) new
+abbrev pub WritesBefore : Shipped → ℕ → String Global → String Global → ℕ → Type 0
+WritesBefore s k old new place =
+    Appends old (shipped_before s k) new × (place ≡ shipped_printed s k)

@@ -1,20 +1,19 @@
 //! Between: whether a value lies between two bounds.
 ghost use Rattle.std.specs.Prelude.{◌≡◌, Some, length, map};
 ghost use Rattle.vortex_meaning.specs.Shipped as shipped;
-ghost use Rattle.vortex_shipped.specs.Words.{no_rules, shipped_pieces, AnswersUnlessMemory};
-ghost use Rattle.vortex_shipped.specs.Words.{AppendsCall, AnswersShippedType};
+ghost use Rattle.vortex_shipped.specs.Words.{no_rules, AnswersUnlessMemory};
+ghost use Rattle.vortex_shipped.specs.Words.{WritesBefore, AnswersShippedType};
 ghost use Rattle.vortex_shipped.specs.Words.{between_id, shipped_meaning, shipped_lawful};
-ghost use Rattle.vortex_shipped.specs.Words.{IsCallText, WritesBytes, ReadsOptions, between_bytes};
-ghost use Rattle.vortex_shipped.specs.Words.{between_read};
+ghost use Rattle.vortex_shipped.specs.Words.{shipped_parts, WritesBytes, ReadsOptions};
+ghost use Rattle.vortex_shipped.specs.Words.{between_bytes, between_read};
 
 use crate::option_bytes::write_byte;
+use crate::texts::write_spaced;
 use std::alloc::Global;
 use vortex_columns::{
     Arity, Column, DType, ExecutionCtx, MismatchPlace, VortexError, VortexResult,
 };
-use vortex_interface::{
-    ChildName, ExecutionArgs, ScalarFnId, ScalarFnVTable, TextPiece, TextPieces, write_pieces,
-};
+use vortex_interface::{ChildName, ExecutionArgs, ScalarFnId, ScalarFnVTable};
 use vortex_kernels::{BetweenOptions, execute_between};
 
 /// Whether each row lies between its bounds, of a type that all three share apart from nullability,
@@ -35,7 +34,7 @@ impl ScalarFnVTable for Between {
 
     ghost options_read = { λ f bytes. between_read bytes };
 
-    ghost own_text = { λ f options. IsCallText (shipped.Between options) };
+    ghost own_parts = { λ f options. shipped_parts (shipped.Between options) };
 
     fn id(&self) -> ScalarFnId {
         "vortex.between"
@@ -102,17 +101,35 @@ impl ScalarFnVTable for Between {
     }
 
     /// `(lower < array <= upper)`.
-    fn fmt_sql(
+    fn write_before(
         &self,
         _alloc: Global,
         options: &BetweenOptions,
-        children: &[String],
+        index: usize,
+        _count: usize,
         out: &mut String,
-    ) -> VortexResult<()>
+    ) -> VortexResult<usize>
         ensures { AnswersUnlessMemory result
-            (λ _. AppendsCall (shipped.Between options.now) children.now out.old out.new) }
+            (WritesBefore (shipped.Between options.now) index out.old out.new) }
     {
-        write_pieces(out, self, options, children)
+        match index {
+            0 => {
+                out.push_str("(")?;
+                Ok(1)
+            }
+            1 => {
+                write_spaced(out, options.lower_strict.to_operator().text())?;
+                Ok(0)
+            }
+            2 => {
+                write_spaced(out, options.upper_strict.to_operator().text())?;
+                Ok(2)
+            }
+            _ => {
+                out.push_str(")")?;
+                Ok(index)
+            }
+        }
     }
 
     fn is_strict(&self, _options: &BetweenOptions) -> bool {
@@ -139,26 +156,4 @@ impl ScalarFnVTable for Between {
     }
 
     ghost lawful = { shipped_lawful between_id shipped.Between };
-}
-
-/// `(lower < array <= upper)`.
-impl TextPieces<BetweenOptions> for Between {
-    ghost pieces = { λ options. shipped_pieces (shipped.Between options) };
-
-    fn piece_count(&self, _options: &BetweenOptions) -> usize {
-        11
-    }
-
-    fn text_piece(&self, options: &BetweenOptions, index: usize) -> TextPiece {
-        match index {
-            0 => TextPiece::Said("("),
-            1 => TextPiece::Argument(1),
-            3 => TextPiece::Said(options.lower_strict.to_operator().text()),
-            5 => TextPiece::Argument(0),
-            7 => TextPiece::Said(options.upper_strict.to_operator().text()),
-            9 => TextPiece::Argument(2),
-            10 => TextPiece::Said(")"),
-            _ => TextPiece::Said(" "),
-        }
-    }
 }

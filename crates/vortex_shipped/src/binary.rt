@@ -1,22 +1,21 @@
 //! The operators of two operands.
 ghost use Rattle.std.specs.Prelude.{◌≡◌, Some, length, map};
 ghost use Rattle.vortex_meaning.specs.Shipped as shipped;
-ghost use Rattle.vortex_shipped.specs.Words.{no_rules, shipped_pieces, AnswersUnlessMemory};
-ghost use Rattle.vortex_shipped.specs.Words.{type_of, AppendsCall, binary_id, both_bool};
+ghost use Rattle.vortex_shipped.specs.Words.{no_rules, AnswersUnlessMemory};
+ghost use Rattle.vortex_shipped.specs.Words.{type_of, WritesBefore, binary_id, both_bool};
 ghost use Rattle.vortex_shipped.specs.Words.{compared_type, arithmetic_type, operator_type};
 ghost use Rattle.vortex_shipped.specs.Words.{operator_place, shipped_meaning, shipped_lawful};
 ghost use Rattle.vortex_shipped.specs.Words.{AnswersShippedType, IsTypeFound};
-ghost use Rattle.vortex_shipped.specs.Words.{IsCallText, WritesBytes, ReadsOptions};
+ghost use Rattle.vortex_shipped.specs.Words.{shipped_parts, WritesBytes, ReadsOptions};
 ghost use Rattle.vortex_shipped.specs.Words.{operator_bytes, operator_read};
 
 use crate::option_bytes::write_byte;
+use crate::texts::write_spaced;
 use std::alloc::Global;
 use vortex_columns::{
     Arity, Column, DType, ExecutionCtx, MismatchPlace, VortexError, VortexResult,
 };
-use vortex_interface::{
-    ChildName, ExecutionArgs, ScalarFnId, ScalarFnVTable, TextPiece, TextPieces, write_pieces,
-};
+use vortex_interface::{ChildName, ExecutionArgs, ScalarFnId, ScalarFnVTable};
 use vortex_kernels::{Operator, execute_boolean, execute_compare, execute_numeric};
 
 /// And and Or of two Bool, by Kleene's tables; the comparisons of two types that agree apart from
@@ -107,7 +106,7 @@ impl ScalarFnVTable for Binary {
 
     ghost options_read = { λ f bytes. operator_read bytes };
 
-    ghost own_text = { λ f operator. IsCallText (shipped.Binary operator) };
+    ghost own_parts = { λ f operator. shipped_parts (shipped.Binary operator) };
 
     fn id(&self) -> ScalarFnId {
         "vortex.binary"
@@ -164,17 +163,23 @@ impl ScalarFnVTable for Binary {
     }
 
     /// `(a op b)`.
-    fn fmt_sql(
+    fn write_before(
         &self,
         _alloc: Global,
         operator: &Operator,
-        children: &[String],
+        index: usize,
+        _count: usize,
         out: &mut String,
-    ) -> VortexResult<()>
+    ) -> VortexResult<usize>
         ensures { AnswersUnlessMemory result
-            (λ _. AppendsCall (shipped.Binary operator.now) children.now out.old out.new) }
+            (WritesBefore (shipped.Binary operator.now) index out.old out.new) }
     {
-        write_pieces(out, self, operator, children)
+        match index {
+            0 => out.push_str("(")?,
+            1 => write_spaced(out, operator.text())?,
+            _ => out.push_str(")")?,
+        }
+        Ok(index)
     }
 
     fn is_strict(&self, operator: &Operator) -> bool {
@@ -194,25 +199,4 @@ impl ScalarFnVTable for Binary {
     }
 
     ghost lawful = { shipped_lawful binary_id shipped.Binary };
-}
-
-/// `(a op b)`.
-impl TextPieces<Operator> for Binary {
-    ghost pieces = { λ operator. shipped_pieces (shipped.Binary operator) };
-
-    fn piece_count(&self, _operator: &Operator) -> usize {
-        7
-    }
-
-    fn text_piece(&self, operator: &Operator, index: usize) -> TextPiece {
-        match index {
-            0 => TextPiece::Said("("),
-            1 => TextPiece::Argument(0),
-            2 => TextPiece::Said(" "),
-            3 => TextPiece::Said(operator.text()),
-            4 => TextPiece::Said(" "),
-            5 => TextPiece::Argument(1),
-            _ => TextPiece::Said(")"),
-        }
-    }
 }

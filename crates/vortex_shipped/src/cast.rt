@@ -1,20 +1,18 @@
 //! Cast of Bool to the nullable one.
 ghost use Rattle.std.specs.Prelude.{[], Some};
 ghost use Rattle.vortex_meaning.specs.Shipped as shipped;
-ghost use Rattle.vortex_shipped.specs.Words.{no_rules, shipped_pieces, AnswersUnlessMemory};
-ghost use Rattle.vortex_shipped.specs.Words.{AppendsCall, cast_id};
+ghost use Rattle.vortex_shipped.specs.Words.{no_rules, AnswersUnlessMemory};
+ghost use Rattle.vortex_shipped.specs.Words.{WritesBefore, cast_id};
 ghost use Rattle.vortex_shipped.specs.Words.{shipped_meaning, shipped_lawful, AnswersShippedType};
-ghost use Rattle.vortex_shipped.specs.Words.{IsCallText, WritesBytes, ReadsOptions};
+ghost use Rattle.vortex_shipped.specs.Words.{shipped_parts, WritesBytes, ReadsOptions};
 
+use crate::texts::write_unary;
 use std::alloc::Global;
 use std::fmt;
 use vortex_columns::{
     Arity, Column, DType, ExecutionCtx, MismatchPlace, Nullability, VortexError, VortexResult,
 };
-use vortex_interface::{
-    ChildName, ExecutionArgs, ScalarFnId, ScalarFnVTable, TextPiece, TextPieces, unary_piece,
-    write_pieces,
-};
+use vortex_interface::{ChildName, ExecutionArgs, ScalarFnId, ScalarFnVTable};
 use vortex_kernels::execute_cast;
 
 /// The options of Cast: none but the type that it answers, by which they print.
@@ -59,7 +57,7 @@ impl ScalarFnVTable for Cast {
 
     ghost options_read = { λ f bytes. Some (record {}) };
 
-    ghost own_text = { λ f o. IsCallText shipped.Cast };
+    ghost own_parts = { λ f o. shipped_parts shipped.Cast };
 
     fn id(&self) -> ScalarFnId {
         "vortex.cast"
@@ -112,17 +110,18 @@ impl ScalarFnVTable for Cast {
     }
 
     /// `vortex.cast(a, opts=bool?)`.
-    fn fmt_sql(
+    fn write_before(
         &self,
         _alloc: Global,
-        options: &CastOptions,
-        children: &[String],
+        _options: &CastOptions,
+        index: usize,
+        _count: usize,
         out: &mut String,
-    ) -> VortexResult<()>
+    ) -> VortexResult<usize>
         ensures { AnswersUnlessMemory result
-            (λ _. AppendsCall shipped.Cast children.now out.old out.new) }
+            (WritesBefore shipped.Cast index out.old out.new) }
     {
-        write_pieces(out, self, options, children)
+        write_unary(out, "vortex.cast", ", opts=bool?)", index)
     }
 
     fn is_strict(&self, _options: &CastOptions) -> bool {
@@ -142,17 +141,4 @@ impl ScalarFnVTable for Cast {
     }
 
     ghost lawful = { shipped_lawful cast_id (λ _. shipped.Cast) };
-}
-
-/// `vortex.cast(a, opts=bool?)`.
-impl TextPieces<CastOptions> for Cast {
-    ghost pieces = { λ _. shipped_pieces shipped.Cast };
-
-    fn piece_count(&self, _options: &CastOptions) -> usize {
-        4
-    }
-
-    fn text_piece(&self, _options: &CastOptions, index: usize) -> TextPiece {
-        unary_piece("vortex.cast", ", opts=bool?)", index)
-    }
 }

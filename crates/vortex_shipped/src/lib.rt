@@ -10,6 +10,7 @@ pub mod like;
 pub mod not;
 pub mod null_tests;
 mod option_bytes;
+mod texts;
 
 pub use between::Between;
 pub use binary::Binary;

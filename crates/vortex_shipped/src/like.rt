@@ -1,20 +1,18 @@
 //! LIKE and ILIKE of a text and a pattern.
-ghost use Rattle.std.specs.Prelude.{◌≡◌, ◌<◌, Some, length, slice_get};
+ghost use Rattle.std.specs.Prelude.{◌≡◌, Some};
 ghost use Rattle.vortex_meaning.specs.Shipped as shipped;
-ghost use Rattle.vortex_shipped.specs.Words.{no_rules, shipped_pieces, AnswersUnlessMemory};
-ghost use Rattle.vortex_shipped.specs.Words.{AppendsCall, like_id, like_words};
-ghost use Rattle.vortex_shipped.specs.Words.{escape_pieces, piece_of};
+ghost use Rattle.vortex_shipped.specs.Words.{no_rules, AnswersUnlessMemory};
+ghost use Rattle.vortex_shipped.specs.Words.{WritesBefore, like_id, like_words};
+ghost use Rattle.vortex_shipped.specs.Words.{escape_text, Appends};
 ghost use Rattle.vortex_shipped.specs.Words.{shipped_meaning, shipped_lawful, AnswersShippedType};
-ghost use Rattle.vortex_shipped.specs.Words.{IsCallText, WritesBytes, ReadsOptions, like_bytes};
-ghost use Rattle.vortex_shipped.specs.Words.{like_read};
+ghost use Rattle.vortex_shipped.specs.Words.{shipped_parts, WritesBytes, ReadsOptions};
+ghost use Rattle.vortex_shipped.specs.Words.{like_bytes, like_read};
 
 use std::alloc::Global;
 use vortex_columns::{
     Arity, Column, DType, ExecutionCtx, MismatchPlace, VortexError, VortexResult,
 };
-use vortex_interface::{
-    ChildName, ExecutionArgs, ScalarFnId, ScalarFnVTable, TextPiece, TextPieces, write_pieces,
-};
+use vortex_interface::{ChildName, ExecutionArgs, ScalarFnId, ScalarFnVTable};
 use vortex_like::{LikeOptions, execute_like};
 
 /// Whether a text matches a pattern of SQL's LIKE, whose `escape` is the backslash by default,
@@ -36,18 +34,21 @@ fn words(options: &LikeOptions) -> &'static str
     }
 }
 
-/// What stands behind the two arguments: nothing where the escape is the backslash, and else the
-/// escape between quotes.
-fn escape_piece(escape: Option<char>, index: usize) -> TextPiece
-    requires { index < length (escape_pieces escape) }
-    ensures { slice_get (escape_pieces escape) index ≡ Some (piece_of result) }
+/// Writes what stands behind the two arguments: nothing where the escape is the backslash, and else
+/// the escape between quotes, as it stands.
+fn write_escape(out: &mut String, escape: Option<char>) -> VortexResult<()>
+    ensures { AnswersUnlessMemory result (λ _. Appends out.old (escape_text escape) out.new) }
 {
-    match (escape, index) {
-        (None, _) => TextPiece::Said(" escape ''"),
-        (Some(_), 0) => TextPiece::Said(" escape '"),
-        (Some(c), 1) => TextPiece::Character(c),
-        (Some(_), _) => TextPiece::Said("'"),
+    match escape {
+        Some('\\') => {}
+        Some(c) => {
+            out.push_str(" escape '")?;
+            out.push(c)?;
+            out.push_str("'")?;
+        }
+        None => out.push_str(" escape ''")?,
     }
+    Ok(())
 }
 
 impl ScalarFnVTable for Like {
@@ -61,7 +62,7 @@ impl ScalarFnVTable for Like {
 
     ghost options_read = { λ f bytes. like_read bytes };
 
-    ghost own_text = { λ f options. IsCallText (shipped.Like options) };
+    ghost own_parts = { λ f options. shipped_parts (shipped.Like options) };
 
     fn id(&self) -> ScalarFnId {
         "vortex.like"
@@ -119,17 +120,23 @@ impl ScalarFnVTable for Like {
 
     /// `a like p`, `a not like p`, `a ilike p` or `a not ilike p`, with ` escape '!'` or ` escape
     /// ''` behind it where the escape is not the backslash.
-    fn fmt_sql(
+    fn write_before(
         &self,
         _alloc: Global,
         options: &LikeOptions,
-        children: &[String],
+        index: usize,
+        _count: usize,
         out: &mut String,
-    ) -> VortexResult<()>
+    ) -> VortexResult<usize>
         ensures { AnswersUnlessMemory result
-            (λ _. AppendsCall (shipped.Like options.now) children.now out.old out.new) }
+            (WritesBefore (shipped.Like options.now) index out.old out.new) }
     {
-        write_pieces(out, self, options, children)
+        match index {
+            0 => {}
+            1 => out.push_str(words(options))?,
+            _ => write_escape(out, options.escape)?,
+        }
+        Ok(index)
     }
 
     fn is_strict(&self, _options: &LikeOptions) -> bool {
@@ -149,28 +156,4 @@ impl ScalarFnVTable for Like {
     }
 
     ghost lawful = { shipped_lawful like_id shipped.Like };
-}
-
-/// `a like p`, `a not like p`, `a ilike p` or `a not ilike p`, and where another escape than the
-/// backslash is chosen ` escape '!'` behind it, with that character as it stands, or ` escape ''`
-/// where there is none.
-impl TextPieces<LikeOptions> for Like {
-    ghost pieces = { λ options. shipped_pieces (shipped.Like options) };
-
-    fn piece_count(&self, options: &LikeOptions) -> usize {
-        match options.escape {
-            Some('\\') => 3,
-            Some(_) => 6,
-            None => 4,
-        }
-    }
-
-    fn text_piece(&self, options: &LikeOptions, index: usize) -> TextPiece {
-        match index {
-            0 => TextPiece::Argument(0),
-            1 => TextPiece::Said(words(options)),
-            2 => TextPiece::Argument(1),
-            _ => escape_piece(options.escape, index - 3),
-        }
-    }
 }

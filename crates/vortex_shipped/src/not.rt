@@ -1,19 +1,17 @@
 //! Kleene's Not.
 ghost use Rattle.std.specs.Prelude.{[], Some};
 ghost use Rattle.vortex_meaning.specs.Shipped as shipped;
-ghost use Rattle.vortex_shipped.specs.Words.{no_rules, shipped_pieces, AnswersUnlessMemory};
-ghost use Rattle.vortex_shipped.specs.Words.{AppendsCall, not_id, shipped_meaning, shipped_lawful};
+ghost use Rattle.vortex_shipped.specs.Words.{no_rules, AnswersUnlessMemory};
+ghost use Rattle.vortex_shipped.specs.Words.{WritesBefore, not_id, shipped_meaning, shipped_lawful};
 ghost use Rattle.vortex_shipped.specs.Words.{AnswersShippedType};
-ghost use Rattle.vortex_shipped.specs.Words.{IsCallText, WritesBytes, ReadsOptions};
+ghost use Rattle.vortex_shipped.specs.Words.{shipped_parts, WritesBytes, ReadsOptions};
 
+use crate::texts::write_unary;
 use std::alloc::Global;
 use vortex_columns::{
     Arity, Column, DType, ExecutionCtx, MismatchPlace, VortexError, VortexResult,
 };
-use vortex_interface::{
-    ChildName, EmptyOptions, ExecutionArgs, ScalarFnId, ScalarFnVTable, TextPiece, TextPieces,
-    unary_piece, write_pieces,
-};
+use vortex_interface::{ChildName, EmptyOptions, ExecutionArgs, ScalarFnId, ScalarFnVTable};
 use vortex_kernels::execute_not;
 
 /// Not of a Bool; a null stays null, and the type is its input's.
@@ -31,7 +29,7 @@ impl ScalarFnVTable for Not {
 
     ghost options_read = { λ f bytes. Some (record {}) };
 
-    ghost own_text = { λ f o. IsCallText shipped.Not };
+    ghost own_parts = { λ f o. shipped_parts shipped.Not };
 
     fn id(&self) -> ScalarFnId {
         "vortex.not"
@@ -84,17 +82,18 @@ impl ScalarFnVTable for Not {
     }
 
     /// `vortex.not(a)`.
-    fn fmt_sql(
+    fn write_before(
         &self,
         _alloc: Global,
-        options: &EmptyOptions,
-        children: &[String],
+        _options: &EmptyOptions,
+        index: usize,
+        _count: usize,
         out: &mut String,
-    ) -> VortexResult<()>
+    ) -> VortexResult<usize>
         ensures { AnswersUnlessMemory result
-            (λ _. AppendsCall shipped.Not children.now out.old out.new) }
+            (WritesBefore shipped.Not index out.old out.new) }
     {
-        write_pieces(out, self, options, children)
+        write_unary(out, "vortex.not", ")", index)
     }
 
     fn is_strict(&self, _options: &EmptyOptions) -> bool {
@@ -114,17 +113,4 @@ impl ScalarFnVTable for Not {
     }
 
     ghost lawful = { shipped_lawful not_id (λ _. shipped.Not) };
-}
-
-/// `vortex.not(a)`.
-impl TextPieces<EmptyOptions> for Not {
-    ghost pieces = { λ _. shipped_pieces shipped.Not };
-
-    fn piece_count(&self, _options: &EmptyOptions) -> usize {
-        4
-    }
-
-    fn text_piece(&self, _options: &EmptyOptions, index: usize) -> TextPiece {
-        unary_piece("vortex.not", ")", index)
-    }
 }

@@ -1,18 +1,16 @@
 //! The null tests: whether a row of any type is null, and whether it is not.
-ghost use Rattle.std.specs.Prelude.{◌≡◌, [], Some, length};
+ghost use Rattle.std.specs.Prelude.{◌≡◌, [], Some, true, false, length};
 ghost use Rattle.vortex_meaning.specs.Shipped as shipped;
-ghost use Rattle.vortex_shipped.specs.Words.{no_rules, shipped_pieces, AnswersUnlessMemory};
-ghost use Rattle.vortex_shipped.specs.Words.{AppendsCall, AnswersShippedType};
-ghost use Rattle.vortex_shipped.specs.Words.{is_null_id, is_not_null_id, shipped_meaning};
+ghost use Rattle.vortex_shipped.specs.Words.{no_rules, AnswersUnlessMemory};
+ghost use Rattle.vortex_shipped.specs.Words.{WritesBefore, AnswersShippedType};
+ghost use Rattle.vortex_shipped.specs.Words.{null_test_id, shipped_meaning};
 ghost use Rattle.vortex_shipped.specs.Words.{shipped_lawful};
-ghost use Rattle.vortex_shipped.specs.Words.{IsCallText, WritesBytes, ReadsOptions};
+ghost use Rattle.vortex_shipped.specs.Words.{shipped_parts, WritesBytes, ReadsOptions};
 
+use crate::texts::write_unary;
 use std::alloc::Global;
 use vortex_columns::{Arity, Column, DType, ExecutionCtx, Nullability, VortexResult};
-use vortex_interface::{
-    ChildName, EmptyOptions, ExecutionArgs, ScalarFnId, ScalarFnVTable, TextPiece, TextPieces,
-    unary_piece, write_pieces,
-};
+use vortex_interface::{ChildName, EmptyOptions, ExecutionArgs, ScalarFnId, ScalarFnVTable};
 use vortex_kernels::{execute_is_not_null, execute_is_null};
 
 /// Whether each row is null: non-nullable Bool, of any type. No row is read.
@@ -22,7 +20,7 @@ pub struct IsNull;
 impl ScalarFnVTable for IsNull {
     type Options = EmptyOptions;
 
-    ghost meaning = { shipped_meaning is_null_id (λ _. shipped.IsNull) };
+    ghost meaning = { shipped_meaning (null_test_id false) (λ _. shipped.IsNull) };
 
     ghost rules = { no_rules };
 
@@ -30,7 +28,7 @@ impl ScalarFnVTable for IsNull {
 
     ghost options_read = { λ f bytes. Some (record {}) };
 
-    ghost own_text = { λ f o. IsCallText shipped.IsNull };
+    ghost own_parts = { λ f o. shipped_parts shipped.IsNull };
 
     fn id(&self) -> ScalarFnId {
         "vortex.is_null"
@@ -81,17 +79,18 @@ impl ScalarFnVTable for IsNull {
     }
 
     /// `vortex.is_null(a)`.
-    fn fmt_sql(
+    fn write_before(
         &self,
         _alloc: Global,
-        options: &EmptyOptions,
-        children: &[String],
+        _options: &EmptyOptions,
+        index: usize,
+        _count: usize,
         out: &mut String,
-    ) -> VortexResult<()>
+    ) -> VortexResult<usize>
         ensures { AnswersUnlessMemory result
-            (λ _. AppendsCall shipped.IsNull children.now out.old out.new) }
+            (WritesBefore shipped.IsNull index out.old out.new) }
     {
-        write_pieces(out, self, options, children)
+        write_unary(out, "vortex.is_null", ")", index)
     }
 
     fn is_strict(&self, _options: &EmptyOptions) -> bool {
@@ -110,20 +109,7 @@ impl ScalarFnVTable for IsNull {
         Ok(EmptyOptions)
     }
 
-    ghost lawful = { shipped_lawful is_null_id (λ _. shipped.IsNull) };
-}
-
-/// `vortex.is_null(a)`.
-impl TextPieces<EmptyOptions> for IsNull {
-    ghost pieces = { λ _. shipped_pieces shipped.IsNull };
-
-    fn piece_count(&self, _options: &EmptyOptions) -> usize {
-        4
-    }
-
-    fn text_piece(&self, _options: &EmptyOptions, index: usize) -> TextPiece {
-        unary_piece("vortex.is_null", ")", index)
-    }
+    ghost lawful = { shipped_lawful (null_test_id false) (λ _. shipped.IsNull) };
 }
 
 /// Whether each row is not null: non-nullable Bool, of any type. No row is read.
@@ -133,7 +119,7 @@ pub struct IsNotNull;
 impl ScalarFnVTable for IsNotNull {
     type Options = EmptyOptions;
 
-    ghost meaning = { shipped_meaning is_not_null_id (λ _. shipped.IsNotNull) };
+    ghost meaning = { shipped_meaning (null_test_id true) (λ _. shipped.IsNotNull) };
 
     ghost rules = { no_rules };
 
@@ -141,7 +127,7 @@ impl ScalarFnVTable for IsNotNull {
 
     ghost options_read = { λ f bytes. Some (record {}) };
 
-    ghost own_text = { λ f o. IsCallText shipped.IsNotNull };
+    ghost own_parts = { λ f o. shipped_parts shipped.IsNotNull };
 
     fn id(&self) -> ScalarFnId {
         "vortex.is_not_null"
@@ -192,17 +178,18 @@ impl ScalarFnVTable for IsNotNull {
     }
 
     /// `is_not_null(a)`.
-    fn fmt_sql(
+    fn write_before(
         &self,
         _alloc: Global,
-        options: &EmptyOptions,
-        children: &[String],
+        _options: &EmptyOptions,
+        index: usize,
+        _count: usize,
         out: &mut String,
-    ) -> VortexResult<()>
+    ) -> VortexResult<usize>
         ensures { AnswersUnlessMemory result
-            (λ _. AppendsCall shipped.IsNotNull children.now out.old out.new) }
+            (WritesBefore shipped.IsNotNull index out.old out.new) }
     {
-        write_pieces(out, self, options, children)
+        write_unary(out, "is_not_null", ")", index)
     }
 
     fn is_strict(&self, _options: &EmptyOptions) -> bool {
@@ -221,18 +208,5 @@ impl ScalarFnVTable for IsNotNull {
         Ok(EmptyOptions)
     }
 
-    ghost lawful = { shipped_lawful is_not_null_id (λ _. shipped.IsNotNull) };
-}
-
-/// `is_not_null(a)`.
-impl TextPieces<EmptyOptions> for IsNotNull {
-    ghost pieces = { λ _. shipped_pieces shipped.IsNotNull };
-
-    fn piece_count(&self, _options: &EmptyOptions) -> usize {
-        4
-    }
-
-    fn text_piece(&self, _options: &EmptyOptions, index: usize) -> TextPiece {
-        unary_piece("is_not_null", ")", index)
-    }
+    ghost lawful = { shipped_lawful (null_test_id true) (λ _. shipped.IsNotNull) };
 }

@@ -1,20 +1,16 @@
 //! The text of a tree.
-ghost use Rattle.std.specs.Prelude.{◌≡◌, ◌<◌, Some, length, slice_get};
 ghost use Rattle.std.specs.Option.{option_copied};
-ghost use Rattle.vortex_functions.specs.Words.{children_of, AllMean, AnswersUnlessMemory, IsTextOf};
-ghost use Rattle.vortex_functions.specs.Words.{Appends};
-ghost use Rattle.vortex_functions.specs.Words.{leaf_text, tree_pieces, piece_of, BeginsText};
-ghost use Rattle.vortex_functions.specs.Words.{WritesPiece};
+ghost use Rattle.vortex_functions.specs.Words.{AnswersUnlessMemory, Appends, IsTextOf, leaf_text};
+ghost use Rattle.vortex_functions.specs.Words.{WritesPart};
 
 use super::{BoundExpression, ExpressionLeaf};
 use crate::tree::Node;
-use crate::walk;
 use std::alloc::Global;
 use std::fmt;
 use vortex_columns::VortexResult;
-use vortex_interface::{ScalarFnVTable, TextPiece};
+use vortex_interface::ScalarFnVTable;
 
-/// A node that is being written, and the piece of its text that comes next.
+/// A node that is being written, and the part of its text that comes next.
 #[derive(Drop)]
 struct Writing<'t, C: ScalarFnVTable> {
     node: &'t BoundExpression<C>,
@@ -37,96 +33,27 @@ impl<C: ScalarFnVTable> BoundExpression<C> {
         }
     }
 
-    /// The text of the node, over those of its children.
-    fn text_over(&self, texts: Vec<String>, alloc: Global) -> VortexResult<String>
-        requires { AllMean IsTextOf (children_of self.now) texts.items }
-        ensures { AnswersUnlessMemory result (IsTextOf self.now) }
-    {
-        let mut text = String::new(alloc);
-        match &self.node {
-            Node::Call(parts) => {
-                parts.function.fmt_sql(alloc, &texts, &mut text)?;
-                Ok(text)
-            }
-            Node::Leaf(_) => {
-                self.write_leaf(&mut text)?;
-                Ok(text)
-            }
-        }
-    }
-
-    /// The text of the tree, each call's made of its children's. A caller's function writes a call
-    /// so, since it is handed those texts.
-    fn text_by_calls(&self, alloc: Global) -> VortexResult<String>
-        ensures { AnswersUnlessMemory result (IsTextOf self.now) }
-    {
-        walk!(self, alloc, node, texts => node.text_over(texts, alloc))
-    }
-
-    /// Writes what stands before the pieces of the node: a leaf, a literal, or the whole call of a
-    /// caller's function, which have no pieces; of a call of a shipped function nothing.
-    fn begin(&self, alloc: Global, out: &mut String) -> VortexResult<()>
-        ensures { AnswersUnlessMemory result (λ _. BeginsText self.now out.old out.new) }
-    {
-        if let Some(function) = self.as_scalar() {
-            if function.as_custom().is_some() {
-                let text = self.text_by_calls(alloc)?;
-                out.push_str(text.as_str())?;
-            }
-            return Ok(());
-        }
-        self.write_leaf(out)
-    }
-
-    /// How many pieces the node's text has.
-    fn piece_count(&self) -> usize
-        ensures { result ≡ length (tree_pieces self.now) }
-    {
-        match self.as_scalar() {
-            Some(function) => function.piece_count(),
-            None => 0,
-        }
-    }
-
-    /// The piece of that place.
-    fn text_piece(&self, index: usize) -> TextPiece
-        requires { index < length (tree_pieces self.now) }
-        ensures { slice_get (tree_pieces self.now) index ≡ Some (piece_of result) }
-    {
-        match self.as_scalar() {
-            Some(function) => function.text_piece(index),
-            None => unreachable!(),
-        }
-    }
-
-    /// Writes a piece of the node's text. Where a child stands there, it is begun and borrowed, and its
-    /// pieces come next.
-    fn write_piece(
+    /// Appends what stands before the `k`-th child of the text, or at its end; of a node that is no
+    /// call all of it. Answers the child that stands there.
+    fn write_part(
         &self,
-        index: usize,
+        k: usize,
         alloc: Global,
         out: &mut String,
     ) -> VortexResult<Option<&BoundExpression<C>>>
-        requires { index < length (tree_pieces self.now) }
         ensures { AnswersUnlessMemory result
-            (λ child. WritesPiece self.now index out.old out.new (option_copied child)) }
+            (λ child. WritesPart self.now k out.old out.new (option_copied child)) }
     {
-        match self.text_piece(index) {
-            TextPiece::Said(text) => {
-                out.push_str(text)?;
+        match self.as_scalar() {
+            Some(function) => {
+                let children = self.children();
+                let place = function.write_before(alloc, k, children.len(), out)?;
+                Ok(children.get(place))
+            }
+            None => {
+                self.write_leaf(out)?;
                 Ok(None)
             }
-            TextPiece::Character(c) => {
-                out.push(c)?;
-                Ok(None)
-            }
-            TextPiece::Argument(place) => match self.children().get(place) {
-                Some(child) => {
-                    child.begin(alloc, out)?;
-                    Ok(Some(child))
-                }
-                None => Ok(None),
-            },
         }
     }
 
@@ -136,14 +63,12 @@ impl<C: ScalarFnVTable> BoundExpression<C> {
     /// parentheses, and every other call is `id(a, b)`. What a caller's function writes of a call
     /// is its own.
     ///
-    /// It is written from left to right by the pieces of the calls, each byte once, with a frame on
-    /// the heap for each call above; a call of a caller's function is made of its arguments' texts,
-    /// which it is handed.
+    /// It is written from left to right, each byte once, with a frame on the heap for each call
+    /// above.
     pub fn sql_text(&self, alloc: Global) -> VortexResult<String>
         ensures { AnswersUnlessMemory result (IsTextOf self.now) }
     {
         let mut out = String::new(alloc);
-        self.begin(alloc, &mut out)?;
         let mut above = Vec::new(alloc);
         above.push(Writing {
             node: self,
@@ -151,12 +76,12 @@ impl<C: ScalarFnVTable> BoundExpression<C> {
         })?;
         while let Some(last) = above.pop() {
             let node = last.node;
-            if last.next < node.piece_count() {
+            if last.next <= node.children().len() {
                 above.push(Writing {
                     node,
                     next: last.next + 1,
                 })?;
-                if let Some(child) = node.write_piece(last.next, alloc, &mut out)? {
+                if let Some(child) = node.write_part(last.next, alloc, &mut out)? {
                     above.push(Writing {
                         node: child,
                         next: 0,

@@ -86,18 +86,18 @@ pub trait Leaf<C, O>: Sized + Drop {
 }
 
 /// Never made: its values are trees.
-pub struct Shown<C: ScalarFnVTable> {
+pub struct Placeholder<C: ScalarFnVTable> {
     of: PhantomData<C>,
 }
 
-impl<C: ScalarFnVTable> Model for Shown<C> {
+impl<C: ScalarFnVTable> Model for Placeholder<C> {
     ghost use Rattle.vortex_meaning.specs.Trees.{Tree};
     ghost use Rattle.vortex_meaning.specs.TreeCodes.{coded_tree};
-    ghost use Rattle.vortex_functions.specs.Nodes.{shown};
+    ghost use Rattle.vortex_functions.specs.Nodes.{placeholder};
 
     ghost Value = { Tree C C.Options };
 
     ghost coded = { coded_tree C.code C.Options.code };
 
-    ghost view = { λ _. shown };
+    ghost view = { λ _. placeholder };
 }

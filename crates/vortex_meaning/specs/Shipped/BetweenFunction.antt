@@ -1,6 +1,6 @@
 -- Between: whether a value lies between two bounds, by Kleene's And of two comparisons.
 use Rattle.std.specs.Prelude.{◌≡◌, ◌||◌, ◌&&◌, ℕ, zero, suc, List, [], ◌∷◌, Option, Some, None}
-use Rattle.std.specs.Prelude.{Bool, true, false, codes, if◌then◌else◌, refl}
+use Rattle.std.specs.Prelude.{◌++◌, Bool, true, false, codes, if◌then◌else◌, refl}
 use Rattle.std.specs.Str.{bytes_eq}
 use Rattle.std.proofs.Common.{subst, cond}
 use Rattle.vortex_errors.specs.declared.error.MismatchPlace.{MismatchPlace}
@@ -20,7 +20,6 @@ use Rattle.vortex_operators.proofs.KleeneNulls.{allowed, kleene_allowed}
 use Rattle.vortex_meaning.specs.Outcomes.{gives}
 use Rattle.vortex_meaning.specs.Meaning.{HaveTypes}
 use Rattle.vortex_meaning.specs.Arguments.{of_three, has_bool}
-use Rattle.vortex_meaning.specs.CallTexts.{Piece, said, argument}
 use Rattle.vortex_meaning.specs.RowFunction.{RowFunction, LawfulRow}
 use Rattle.vortex_meaning.specs.Shipped.BinaryFunction.{comparison_has_bool}
 
@@ -46,11 +45,17 @@ between_place (t ∷ lower ∷ ts) =
 between_place ts = place.BetweenLower
 
 -- `(lower < array <= upper)`, each operator as chosen
-abbrev pub between_pieces : BetweenOptions → List Piece
-between_pieces options =
-    said (codes "(") ∷ argument 1 ∷ said (codes " ") ∷ said (bound_text options.lower_strict)
-    ∷ said (codes " ") ∷ argument 0 ∷ said (codes " ") ∷ said (bound_text options.upper_strict)
-    ∷ said (codes " ") ∷ argument 2 ∷ said (codes ")") ∷ []
+abbrev pub between_before : BetweenOptions → ℕ → List ℕ
+between_before options zero = codes "("
+between_before options (suc zero) = codes " " ++ bound_text options.lower_strict ++ codes " "
+between_before options (suc (suc zero)) = codes " " ++ bound_text options.upper_strict ++ codes " "
+between_before options (suc (suc (suc k))) = codes ")"
+
+-- the lower bound is printed before what lies between
+abbrev pub between_printed : ℕ → ℕ
+between_printed zero = 1
+between_printed (suc zero) = 0
+between_printed (suc (suc k)) = suc (suc k)
 
 abbrev pub between_function : BetweenOptions → RowFunction
 between_function options = record {
@@ -62,7 +67,8 @@ between_function options = record {
   means = λ ts vs. gives (of_three (λ x lower upper. between_value options lower x upper) vs);
   strict = false;
   infallible = true;
-  pieces = between_pieces options;
+  before = between_before options;
+  printed = between_printed;
   added = λ nullable. 1;
 }
 

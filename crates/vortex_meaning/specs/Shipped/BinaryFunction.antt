@@ -1,7 +1,7 @@
 -- The operators of two operands: Kleene's And and Or, the comparisons by the order of values, and
 -- exact arithmetic.
 use Rattle.std.specs.Prelude.{◌≡◌, ◌⊎◌, ℕ, zero, suc, List, [], ◌∷◌, Option, Some, None, Bool, true}
-use Rattle.std.specs.Prelude.{false, ◌||◌, not, codes, Any, if◌then◌else◌, refl}
+use Rattle.std.specs.Prelude.{◌++◌, false, ◌||◌, not, codes, Any, if◌then◌else◌, refl}
 use Rattle.std.proofs.Common.{sym, ap, ◌∙◌, subst, cond, inl, inr}
 use Rattle.vortex_errors.specs.declared.error.MismatchPlace.{MismatchPlace}
 use Rattle.vortex_errors.specs.declared.error.MismatchPlace.TheVariants as place
@@ -33,7 +33,6 @@ use Rattle.vortex_meaning.specs.Arithmetic.{arithmetic_type, arithmetic_means, a
 use Rattle.vortex_meaning.specs.Arithmetic.{arithmetic_alike, arithmetic_nullable, arithmetic_null}
 use Rattle.vortex_meaning.specs.Arithmetic.{arithmetic_fault}
 use Rattle.vortex_meaning.specs.Arguments.{of_two, either_of, or_either, has_bool}
-use Rattle.vortex_meaning.specs.CallTexts.{Piece, said, argument}
 use Rattle.vortex_meaning.specs.RowFunction.{RowFunction, LawfulRow}
 
 abbrev pub binary_id : List ℕ
@@ -73,10 +72,10 @@ operator_place Div = place.Arithmetic
 operator_place o = place.Compare
 
 -- the operator between its two operands
-abbrev pub operator_pieces : List ℕ → List Piece
-operator_pieces operator =
-    said (codes "(") ∷ argument 0 ∷ said (codes " ") ∷ said operator ∷ said (codes " ")
-    ∷ argument 1 ∷ said (codes ")") ∷ []
+abbrev pub operator_before : List ℕ → ℕ → List ℕ
+operator_before operator zero = codes "("
+operator_before operator (suc zero) = codes " " ++ operator ++ codes " "
+operator_before operator (suc (suc k)) = codes ")"
 
 -- And and Or weigh more where they are nullable, since rules turn them into more than one call
 abbrev pub operator_added : Operator → Bool → ℕ
@@ -102,7 +101,8 @@ operator_function o = record {
   means = operator_means o;
   strict = not (is_boolean o);
   infallible = not (is_arithmetic o);
-  pieces = operator_pieces (text_of o);
+  before = operator_before (text_of o);
+  printed = λ k. k;
   added = operator_added o;
 }
 

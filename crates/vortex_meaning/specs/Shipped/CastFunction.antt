@@ -10,7 +10,7 @@ use Rattle.vortex_types.specs.Typing.{HasType}
 use Rattle.vortex_meaning.specs.Outcomes.{gives}
 use Rattle.vortex_meaning.specs.Meaning.{HaveTypes}
 use Rattle.vortex_meaning.specs.Arguments.{of_one, only}
-use Rattle.vortex_meaning.specs.CallTexts.{unary_pieces, call_end}
+use Rattle.vortex_meaning.specs.CallTexts.{unary_before, call_end}
 use Rattle.vortex_meaning.specs.RowFunction.{RowFunction, LawfulRow}
 
 abbrev pub cast_id : List ℕ
@@ -35,7 +35,8 @@ cast_function = record {
   means = λ ts vs. gives (of_one (λ v. v) vs);
   strict = true;
   infallible = true;
-  pieces = unary_pieces cast_id (call_end cast_options_text);
+  before = unary_before cast_id (call_end cast_options_text);
+  printed = λ k. k;
   added = λ nullable. 1;
 }
 

@@ -1,6 +1,7 @@
 -- SQL's LIKE of a text and a pattern, and ILIKE past case; either turned over where negated.
 use Rattle.std.specs.Prelude.{◌≡◌, ◌⊎◌, ℕ, zero, suc, List, [], ◌∷◌, Option, Some, None, Bool, true}
-use Rattle.std.specs.Prelude.{false, ◌||◌, ◌==◌, codes, Any, if◌then◌else◌, refl, encode_utf8}
+use Rattle.std.specs.Prelude.{◌++◌, false, ◌||◌, ◌==◌, codes, Any, if◌then◌else◌, refl}
+use Rattle.std.specs.Prelude.{encode_utf8}
 use Rattle.std.specs.Str.{bytes_eq}
 use Rattle.std.proofs.Common.{sym, ap, ◌∙◌, subst, inl, inr}
 use Rattle.vortex_errors.specs.declared.error.MismatchPlace.{MismatchPlace}
@@ -14,7 +15,6 @@ use Rattle.vortex_like.specs.Patterns.{like_value}
 use Rattle.vortex_meaning.specs.Outcomes.{gives}
 use Rattle.vortex_meaning.specs.Meaning.{HaveTypes}
 use Rattle.vortex_meaning.specs.Arguments.{of_two, either_of, or_either}
-use Rattle.vortex_meaning.specs.CallTexts.{Piece, said, argument}
 use Rattle.vortex_meaning.specs.RowFunction.{RowFunction, LawfulRow}
 
 abbrev pub like_id : List ℕ
@@ -45,16 +45,16 @@ abbrev pub like_words : LikeOptions → List ℕ
 like_words options = words_by options.negated options.case_insensitive
 
 -- the escape behind them, between quotes as it stands, or none there; the backslash is not told
-abbrev pub escape_pieces : Option ℕ → List Piece
-escape_pieces None = said (codes " escape ''") ∷ []
-escape_pieces (Some e) =
-    if e == backslash then []
-    else said (codes " escape '") ∷ said (encode_utf8 e) ∷ said (codes "'") ∷ []
+abbrev pub escape_text : Option ℕ → List ℕ
+escape_text None = codes " escape ''"
+escape_text (Some e) =
+    if e == backslash then [] else codes " escape '" ++ encode_utf8 e ++ codes "'"
 
 -- the words between the two arguments, and what is told of the escape
-abbrev pub like_pieces : LikeOptions → List Piece
-like_pieces options =
-    argument 0 ∷ said (like_words options) ∷ argument 1 ∷ escape_pieces options.escape
+abbrev pub like_before : LikeOptions → ℕ → List ℕ
+like_before options zero = []
+like_before options (suc zero) = like_words options
+like_before options (suc (suc k)) = escape_text options.escape
 
 abbrev pub like_function : LikeOptions → RowFunction
 like_function options = record {
@@ -66,7 +66,8 @@ like_function options = record {
   means = λ ts vs. gives (of_two (like_value options) vs);
   strict = true;
   infallible = true;
-  pieces = like_pieces options;
+  before = like_before options;
+  printed = λ k. k;
   added = λ nullable. 5;
 }
 

@@ -13,7 +13,7 @@ use Rattle.vortex_operators.proofs.KleeneNulls.{allowed, not_allowed}
 use Rattle.vortex_meaning.specs.Outcomes.{gives}
 use Rattle.vortex_meaning.specs.Meaning.{HaveTypes}
 use Rattle.vortex_meaning.specs.Arguments.{of_one, only, has_bool}
-use Rattle.vortex_meaning.specs.CallTexts.{unary_pieces, call_end}
+use Rattle.vortex_meaning.specs.CallTexts.{unary_before, call_end}
 use Rattle.vortex_meaning.specs.RowFunction.{RowFunction, LawfulRow}
 
 abbrev pub not_id : List ℕ
@@ -34,7 +34,8 @@ not_function = record {
   means = λ ts vs. gives (of_one not_value vs);
   strict = true;
   infallible = true;
-  pieces = unary_pieces not_id (call_end []);
+  before = unary_before not_id (call_end []);
+  printed = λ k. k;
   added = λ nullable. if nullable then 2 else 1;
 }
 

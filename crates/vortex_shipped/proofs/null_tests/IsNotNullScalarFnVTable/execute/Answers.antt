@@ -1,6 +1,4 @@
-use Rattle.std.specs.Prelude.{codes, not}
-use Rattle.vortex_types.specs.Values.{is_null}
-use Rattle.vortex_meaning.specs.Shipped.NullTestFunctions.{is_not_null_id}
+use Rattle.std.specs.Prelude.{true}
 use Rattle.vortex_shipped.proofs.NullTestCalls.{null_test_call}
 use Rattle.vortex_shipped.proofs.null_tests.IsNotNullScalarFnVTable.execute.Goals as goal
 
@@ -10,6 +8,5 @@ returns g c =
     let n = g.A.ExecutionArgs.rows c.args.args.now in
     let input = c.in_ok-input.input.now in
     let here = c.in_ok-input.ensures in
-    null_test_call is_not_null_id (codes "is_not_null") (λ v. not (is_null v)) cs input n
-    c.execute_is_not_null.result c.requires.accepted here.input here.count
+    null_test_call true cs input n c.execute_is_not_null.result c.requires.accepted here.input here.count
     c.execute_is_not_null.ensures.rows

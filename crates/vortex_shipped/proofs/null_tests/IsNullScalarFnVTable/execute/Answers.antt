@@ -1,5 +1,4 @@
-use Rattle.vortex_types.specs.Values.{is_null}
-use Rattle.vortex_meaning.specs.Shipped.NullTestFunctions.{is_null_id}
+use Rattle.std.specs.Prelude.{false}
 use Rattle.vortex_shipped.proofs.NullTestCalls.{null_test_call}
 use Rattle.vortex_shipped.proofs.null_tests.IsNullScalarFnVTable.execute.Goals as goal
 
@@ -9,6 +8,5 @@ returns g c =
     let n = g.A.ExecutionArgs.rows c.args.args.now in
     let input = c.in_ok-input.input.now in
     let here = c.in_ok-input.ensures in
-    null_test_call is_null_id is_null_id is_null cs input n
-    c.execute_is_null.result c.requires.accepted here.input here.count
+    null_test_call false cs input n c.execute_is_null.result c.requires.accepted here.input here.count
     c.execute_is_null.ensures.rows

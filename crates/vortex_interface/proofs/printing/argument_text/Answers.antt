@@ -2,8 +2,8 @@ use Rattle.std.proofs.Common.{◌≡◌, length, refl, map, slice_get, string_by
 use Rattle.std.proofs.Common.{◌∙◌}
 use Rattle.std.specs.Option.{option_map}
 use Rattle.std.proofs.lemmas.Option.{slice_get-map, slice_get_read, slice_get_past}
-use Rattle.vortex_interface.proofs.PieceTexts.{text_got, text_past}
-use Rattle.vortex_interface.proofs.pieces.argument_text.Goals as goal
+use Rattle.vortex_interface.proofs.PartTexts.{text_got, text_past}
+use Rattle.vortex_interface.proofs.printing.argument_text.Goals as goal
 
 pub returns-in-Some : goal.returns-in-Some
 returns-in-Some c =
