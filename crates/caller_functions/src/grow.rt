@@ -79,7 +79,7 @@ impl ScalarFnVTable for Grow {
     ghost lawful = { grow_lawful };
 }
 
-/// The call of a function on one operand that it accepts. E9 alone.
+/// The call of a function on one operand that it accepts. E9 where memory is refused.
 fn call_on<T: ReduceTree<Grow>>(
     alloc: Global,
     node: &T,

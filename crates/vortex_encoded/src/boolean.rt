@@ -17,7 +17,8 @@ pub trait BooleanKernel: EncodedColumn {
     ghost answers_boolean: { Self → ColumnView → Operator → Bool };
 
     /// The operator over its rows, on the left, and those of `rhs`, as `execute_boolean` answers it
-    /// over the decoded column; exactly where `answers_boolean` says so, and else None. E9 alone.
+    /// over the decoded column; exactly where `answers_boolean` says so, and else None. E9 where
+    /// memory is refused.
     ///
     /// Any operator may be asked; for And and Or both columns are of Bool.
     fn boolean(
@@ -99,7 +100,7 @@ impl<V: BooleanKernel> BooleanExecuteAdaptor<V> {
     ///
     /// None for any other operator and for an index above 1. Beside a constant that is not null the
     /// answer comes without the kernel, and where that decides nothing is decoded; beside any other
-    /// column, and a null constant, it is the kernel's. E9 alone.
+    /// column, and a null constant, it is the kernel's. E9 where memory is refused.
     pub fn execute_parent(
         &self,
         array: &V,

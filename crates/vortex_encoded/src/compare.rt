@@ -18,8 +18,8 @@ pub trait CompareKernel: EncodedColumn {
     ghost answers_compare: { Self → ColumnView → CompareOperator → Bool };
 
     /// The comparison of its rows, on the left, with those of `rhs`, as `execute_compare` answers
-    /// it over the decoded column; exactly where `answers_compare` says so, and else None. E9
-    /// alone.
+    /// it over the decoded column; exactly where `answers_compare` says so, and else None. E9 where
+    /// memory is refused.
     fn compare(
         &self,
         rhs: &Column,
@@ -89,7 +89,8 @@ impl<V: CompareKernel> CompareExecuteAdaptor<V> {
     ///
     /// None for any other operator and for an index above 1. Over no rows, and beside a null
     /// constant, the answer comes without the kernel, whatever the types; else it is the kernel's,
-    /// asked with the swapped comparison where the encoded column is on the right. E9 alone.
+    /// asked with the swapped comparison where the encoded column is on the right. E9 where memory
+    /// is refused.
     pub fn execute_parent(
         &self,
         array: &V,

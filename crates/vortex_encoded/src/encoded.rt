@@ -18,8 +18,8 @@ pub trait EncodedColumn {
     fn len(&self) -> usize
         ensures { result ≡ length (column self.now).rows };
 
-    /// Its rows as a column of its type. E9 alone. Whether that is a constant one, and which form
-    /// its validity has, is not promised.
+    /// Its rows as a column of its type. E9 where memory is refused. Whether that is a constant
+    /// one, and which form its validity has, is not promised.
     fn decode(&self, ctx: &mut ExecutionCtx) -> VortexResult<Column>
         ensures { AnswersUnlessMemory result (IsDecoded (column self.now)) };
 }

@@ -97,7 +97,7 @@ impl ArrayLeaf {
 
 impl<C: ScalarFnVTable> ArrayRef<C> {
     /// The array of a column, of the column's rows, which are not copied, neither here nor where
-    /// the array is copied. E9 alone.
+    /// the array is copied. E9 where memory is refused.
     pub fn column(alloc: Global, column: Column) -> VortexResult<ArrayRef<C>>
         ensures { AnswersUnlessMemory result (λ a. a ≡ column_array column) }
     {

@@ -110,7 +110,8 @@ impl<C: ScalarFnVTable> BoundExpression<C> {
         }
     }
 
-    /// The leaf of the field at that place of the scope, with its name and its type. E9 alone.
+    /// The leaf of the field at that place of the scope, with its name and its type. E9 where
+    /// memory is refused.
     pub fn column_at(
         alloc: Global,
         scope: &StructFields,
