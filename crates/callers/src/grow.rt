@@ -13,7 +13,7 @@ use vortex_functions::{
     BoundExpression, ChildName, EmptyOptions, ExecutionArgs, ScalarFnId, ScalarFnRef,
     ScalarFnVTable,
 };
-use vortex_rules::{ReduceNodeValidity, ReduceTree, ScalarFnRules};
+use vortex_rewriting::{ReduceNodeValidity, ReduceTree, ScalarFnRules};
 
 /// Over Bool: its argument. Its rule puts two Nots round the argument, so that the tree grows by
 /// two nodes a step, and the rule applies again.

@@ -9,7 +9,7 @@ use vortex_arrays::*;
 use vortex_columns::*;
 use vortex_functions::*;
 use vortex_operators::*;
-use vortex_rules::*;
+use vortex_rewriting::*;
 
 /// True, true, false.
 fn z(alloc: Global) -> Made {

@@ -9,7 +9,7 @@ use vortex_arrays::*;
 use vortex_columns::*;
 use vortex_functions::*;
 use vortex_operators::*;
-use vortex_rules::*;
+use vortex_rewriting::*;
 
 /// And over three columns of Bool.
 fn and_of_three<C: ScalarFnVTable>(alloc: Global) -> Held<C> {

@@ -12,7 +12,7 @@ use vortex_arrays::{NullTestCall, UnaryCall};
 use vortex_columns::*;
 use vortex_functions::*;
 use vortex_operators::*;
-use vortex_rules::*;
+use vortex_rewriting::*;
 
 /// What the call of a shipped function's own makes of a node by Reduce.
 fn reduced_by<C: ScalarFnRules, T: ReduceNode<C>>(

@@ -13,7 +13,6 @@ use vortex_columns::*;
 use vortex_functions::*;
 use vortex_operators::*;
 use vortex_rewriting::*;
-use vortex_rules::*;
 
 /// What the rules make of `is_null((a + b) = c)`.
 const SPLIT: &str = "vortex.not(((is_not_null($.a) and is_not_null($.b)) and is_not_null($.c)))";

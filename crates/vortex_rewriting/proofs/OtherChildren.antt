@@ -11,7 +11,7 @@ use Rattle.vortex_meaning.specs.Trees.{Tree, leaf, constant, call, trees_of, cal
 use Rattle.vortex_meaning.specs.Eval.{tree_type, tree_types}
 use Rattle.vortex_meaning.proofs.StepPlaces.{same_trees}
 use Rattle.vortex_functions.specs.Binding.{IsCall, RefusesCall}
-use Rattle.vortex_rules.proofs.NotRefused.{not_refused}
+use Rattle.vortex_rewriting.proofs.NotRefused.{not_refused}
 use Rattle.vortex_rewriting.specs.Places.{with_children}
 use Rattle.vortex_rewriting.proofs.FrameWalks.{some_of}
 

@@ -4,7 +4,7 @@ ghost use Rattle.std.specs.Prelude.{slice_set};
 ghost use Rattle.vortex_meaning.specs.Places.{with_child};
 ghost use Rattle.vortex_functions.specs.Words.{children_of, tree_type, AnswersUnlessMemory};
 ghost use Rattle.vortex_rewriting.specs.Places.{with_children};
-ghost use Rattle.vortex_rules.specs.Beside.{AnswersBeside};
+ghost use Rattle.vortex_rewriting.specs.Beside.{AnswersBeside};
 
 use std::alloc::Global;
 use vortex_columns::VortexResult;

@@ -5,15 +5,15 @@ ghost use Rattle.vortex_meaning.specs.Driver.{step, Runs};
 ghost use Rattle.vortex_functions.specs.Words.{tree_type, AnswersUnlessMemory};
 ghost use Rattle.vortex_rewriting.specs.Frames.{plug, frames_in, AreFrames, HaveRows};
 ghost use Rattle.vortex_rewriting.specs.Found.{IsFound, FoundHasRows};
-ghost use Rattle.vortex_rules.specs.Beside.{AnswersIfAny};
+ghost use Rattle.vortex_rewriting.specs.Beside.{AnswersIfAny};
 
 use crate::frames::{Frame, next_child, over_children, whole_tree};
 use crate::leaf::RewriteLeaf;
 use crate::rule::Rule;
+use crate::rules::ScalarFnRules;
 use std::alloc::Global;
 use vortex_columns::VortexResult;
 use vortex_functions::Tree;
-use vortex_rules::ScalarFnRules;
 
 /// What Simplify makes of the tree at its root, or else what Reduce makes of it.
 fn apply_first<C: ScalarFnRules, L: RewriteLeaf<C>>(

@@ -4,7 +4,7 @@ ghost use Rattle.std.specs.Option.{option_map};
 ghost use Rattle.vortex_functions.specs.Words.{children_of, tree_type, AnswersUnlessMemory};
 ghost use Rattle.vortex_rewriting.specs.Frames.{partly, plug, frames_in, AreFrames, HaveRows};
 ghost use Rattle.vortex_rewriting.specs.Frames.{IsNext};
-ghost use Rattle.vortex_rules.specs.Beside.{AnswersBeside};
+ghost use Rattle.vortex_rewriting.specs.Beside.{AnswersBeside};
 
 use crate::children::with_children;
 use std::alloc::Global;

@@ -1,18 +1,43 @@
-//! What rewriting asks of a kind of leaf.
+//! What rules and rewriting ask of a kind of leaf.
 ghost use Rattle.std.specs.Prelude.{◌≡◌, Option};
-ghost use Rattle.std.specs.Option.{option_map};
+ghost use Rattle.std.specs.Option.{option_copied, option_map};
 ghost use Rattle.vortex_meaning.specs.Trees.{Tree};
 ghost use Rattle.vortex_meaning.specs.Weights.{Lightens};
 ghost use Rattle.vortex_meaning.specs.Rewrites.{IsSound};
+ghost use Rattle.vortex_functions.specs.Words.{constant, literal};
+ghost use Rattle.vortex_rewriting.specs.LeafValidity.{IsLeafValidity};
+ghost use Rattle.vortex_rewriting.specs.Beside.{AnswersBeside, AnswersIfAny};
 ghost use Rattle.vortex_rewriting.specs.Driving.{first_rule};
 ghost use Rattle.vortex_rewriting.specs.declared.rule.Rule.{Rule};
-ghost use Rattle.vortex_rules.specs.Beside.{AnswersIfAny};
 
 use crate::rule::Rule;
+use crate::rules::ScalarFnRules;
 use std::alloc::Global;
-use vortex_columns::VortexResult;
-use vortex_functions::Tree;
-use vortex_rules::{RuleLeaf, ScalarFnRules};
+use vortex_columns::{Scalar, VortexResult};
+use vortex_functions::tree::{Leaf, Tree};
+use vortex_interface::ScalarFnVTable;
+
+/// A kind of leaf over whose trees rules run: of an expression, or of an array tree.
+pub trait RuleLeaf<C: ScalarFnVTable>: Leaf<C, C::Options> {
+    /// The scalar of a constant; none of any other tree.
+    fn as_constant(tree: &Tree<C, Self>) -> Option<&Scalar>
+        ensures { option_copied result ≡ literal (Self.tree_of tree.now) };
+
+    /// The constant of that scalar, beside which that stands. E9 alone.
+    fn new_constant(
+        alloc: Global,
+        scalar: Scalar,
+        beside: Self::Beside,
+    ) -> VortexResult<Tree<C, Self>>
+        ensures { AnswersBeside Self.beside_of beside (λ made. Self.tree_of made ≡ constant scalar)
+            result };
+
+    /// Where a leaf that is no constant is not null, if a tree beside which the same stands says
+    /// it. E9 alone.
+    fn leaf_validity(alloc: Global, tree: &Tree<C, Self>) -> VortexResult<Option<Tree<C, Self>>>
+        ensures { AnswersIfAny Self.beside_of (Self.beside_of tree.now)
+            (IsLeafValidity C.meaning Self.tree_of (Self.tree_of tree.now)) result };
+}
 
 /// A kind of leaf whose trees are rewritten: what rules make of one at its root.
 pub trait RewriteLeaf<C: ScalarFnRules>: RuleLeaf<C> {

@@ -7,11 +7,11 @@ ghost use Rattle.vortex_rewriting.specs.Rewriting.{AnswersRewritten, steps_of};
 
 use crate::leaf::RewriteLeaf;
 use crate::rule::Rule;
+use crate::rules::ScalarFnRules;
 use crate::ways::{way_down, way_up};
 use std::alloc::Global;
 use vortex_columns::VortexResult;
 use vortex_functions::Tree;
-use vortex_rules::ScalarFnRules;
 
 /// What the rule makes of the tree at the place that the path leads to, all else as it was. E13
 /// where the path leaves the tree, and else E9 alone.

@@ -17,10 +17,10 @@ use crate::driver::{Optimized, take_steps};
 use crate::leaf::RewriteLeaf;
 use crate::places::{Rewritten, made_at, made_by};
 use crate::rule::Rule;
+use crate::rules::ScalarFnRules;
 use std::alloc::Global;
 use vortex_columns::VortexResult;
 use vortex_functions::Tree;
-use vortex_rules::ScalarFnRules;
 
 /// Rewriting, as methods of every tree that is rewritten.
 pub trait Rewrite<C: ScalarFnRules>: Sized + Drop {

@@ -4,7 +4,7 @@ ghost use Rattle.vortex_errors.specs.Answers.{Answers};
 ghost use Rattle.vortex_errors.specs.declared.error.VortexError.TheVariants.{NoSuchPlace};
 ghost use Rattle.vortex_functions.specs.Words.{tree_type};
 ghost use Rattle.vortex_rewriting.specs.Ways.{IsWay, with_parents, LeadsOn, Leaves};
-ghost use Rattle.vortex_rules.specs.Beside.{AnswersBeside};
+ghost use Rattle.vortex_rewriting.specs.Beside.{AnswersBeside};
 
 use crate::children::with_child;
 use std::alloc::Global;

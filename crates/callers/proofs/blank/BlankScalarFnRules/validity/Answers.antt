@@ -1,5 +1,5 @@
 use Rattle.callers.specs.Blank.{blank_meaning}
-use Rattle.vortex_rules.proofs.Listed.{own_answer}
+use Rattle.vortex_rewriting.proofs.Listed.{own_answer}
 use Rattle.callers.proofs.blank.BlankScalarFnRules.validity.Goals as goal
 
 pub returns : goal.returns
