@@ -3,12 +3,12 @@
 
 pub mod laws;
 
-pub use vortex_arrays::BetweenCall;
-pub use vortex_arrays::BinaryCall;
-pub use vortex_arrays::LikeCall;
-pub use vortex_arrays::NullTestCall;
-pub use vortex_arrays::ScalarFnArray;
-pub use vortex_arrays::UnaryCall;
+pub use vortex_array_calls::BetweenCall;
+pub use vortex_array_calls::BinaryCall;
+pub use vortex_array_calls::LikeCall;
+pub use vortex_array_calls::NullTestCall;
+pub use vortex_array_calls::ScalarFnArray;
+pub use vortex_array_calls::UnaryCall;
 pub use vortex_checked::CheckedAdd;
 pub use vortex_checked::CheckedArithmetic;
 pub use vortex_checked::CheckedDiv;
