@@ -2,7 +2,6 @@
 use Rattle.std.proofs.Common.{◌≡◌, Bool, true, length, Option, Some, refl, sym, ap, ◌∙◌, arith}
 use Rattle.std.specs.Prelude.{slice_get, Result}
 use borrow.Author.Tests.{eqb-true}
-use Rattle.std.specs.Option.{option_map}
 use Rattle.vortex_errors.specs.declared.error.VortexError.{VortexError}
 use Rattle.vortex_errors.specs.Answers.{AnswersUnlessMemory}
 use Rattle.vortex_errors.proofs.Answering.{AnswersUnlessMemory-weaker}
@@ -22,8 +21,10 @@ use Rattle.vortex_meaning.specs.Rules.{is_nullable_tree}
 use Rattle.vortex_meaning.specs.ReduceRules.{of_constants, reduce}
 use Rattle.vortex_meaning.proofs.TypedCalls.{type_of_one}
 use Rattle.vortex_meaning.proofs.BooleanCalls.{bool_call}
+use Rattle.vortex_rewriting.specs.Contexts.{InContext, IsMade}
 use Rattle.vortex_rewriting.specs.Reduced.{IsReduced}
 use Rattle.vortex_rewriting.proofs.Calls.{children_fit}
+use Rattle.vortex_rewriting.proofs.Made.{made_as}
 
 module _ {V O : Type 0} (m : Meaning V O) where
   pub two_operands : (t : Tree V O) (op : Operator) (k : LogicalType)
@@ -76,20 +77,20 @@ module _ {V O : Type 0} (m : Meaning V O) where
   table r op x y b = cc
 
   -- what Reduce makes of the node, by the constants among its operands
-  pub reduced : {N : Type 0} (of_node : N → Tree V O) {t x y : Tree V O} {op : Operator}
-      {k : LogicalType} {n : Bool} (answer : Result (Option N) VortexError)
-      → is_boolean op ≡ true → t ≡ operated op x y → tree_type m t ≡ Some k → n ≡ is_nullable k
+  pub reduced : {N B : Type 0} (seen : N → InContext V O B) (s l : InContext V O B) {x y : Tree V O}
+      {op : Operator} {k : LogicalType} {n : Bool} (answer : Result (Option N) VortexError)
+      → l.context ≡ s.context → is_boolean op ≡ true → s.tree ≡ operated op x y
+      → tree_type m s.tree ≡ Some k → n ≡ is_nullable k
       → AnswersUnlessMemory answer
-      (λ a. option_map of_node a ≡ of_constants m op n x y (constant_truth x) (constant_truth y))
-      → AnswersUnlessMemory answer (IsReduced m of_node t)
-  reduced of_node {t} {x} {y} {op} {k} {n} answer b is h null e =
+      (IsMade l seen (of_constants m op n x y (constant_truth x) (constant_truth y)))
+      → AnswersUnlessMemory answer (IsReduced m seen s)
+  reduced seen s l {x} {y} {op} {k} {n} answer here b is h null e =
       let same : n ≡ is_nullable_tree m (operated op x y) =
       null ∙ sym (ap may_be_null (sym (ap (tree_type m) is) ∙ h)) in
-      AnswersUnlessMemory-weaker answer
-      (λ a. option_map of_node a ≡ of_constants m op n x y (constant_truth x) (constant_truth y))
-      (IsReduced m of_node t)
-      (λ a e r. e
-      ∙ ap (λ q. of_constants m op q x y (constant_truth x) (constant_truth y)) same
+      let made = of_constants m op n x y (constant_truth x) (constant_truth y) in
+      AnswersUnlessMemory-weaker answer (IsMade l seen made) (IsReduced m seen s)
+      (λ a e r. made_as seen s l here made (reduce m r s.tree)
+      (ap (λ q. of_constants m op q x y (constant_truth x) (constant_truth y)) same
       ∙ table r op x y b
-      ∙ sym (ap (reduce m r) is))
+      ∙ sym (ap (reduce m r) is)) a e)
       e

@@ -9,29 +9,38 @@ use Rattle.vortex_meaning.specs.Meaning.{Meaning, Lawful}
 use Rattle.vortex_meaning.specs.Trees.{Tree}
 use Rattle.vortex_meaning.specs.Eval.{tree_type}
 use Rattle.vortex_meaning.specs.Rules.{Rules}
+use Rattle.vortex_meaning.specs.ReduceRules.{reduce}
 use Rattle.vortex_meaning.specs.Rewrites.{Rewrites, LawfulRules}
 use Rattle.vortex_meaning.proofs.Reducing.{reduce_sound}
 use Rattle.vortex_meaning.proofs.Simplifying.{simplify_sound}
+use Rattle.vortex_rewriting.specs.Contexts.{InContext}
 use Rattle.vortex_rewriting.specs.Reduced.{IsReducedBy, IsSimplifiedBy}
+use Rattle.vortex_rewriting.proofs.Made.{made_tree}
 
-module _ {V O N : Type 0} {m : Meaning V O} {r : Rules V O} (lawful : Lawful m)
-    (rules : LawfulRules m r) (of_node : N → Tree V O) (t : Tree V O) (k : LogicalType)
-    (typed : tree_type m t ≡ Some k) (answer : Result (Option N) VortexError) where
-  abbrev Keeps : Option N → Type 0
-  Keeps made = IfSome made (λ node. Rewrites m t (of_node node))
+module _ {V O : Type 0} {m : Meaning V O} {r : Rules V O} (lawful : Lawful m)
+    (rules : LawfulRules m r) where
+  module _ {N B : Type 0} (seen : N → InContext V O B) (s : InContext V O B) where
+    abbrev Keeps : Option N → Type 0
+    Keeps made = IfSome made (λ node. Rewrites m s.tree (seen node).tree)
 
-  pub reduced_kept : AnswersUnlessMemory answer (IsReducedBy m r of_node t)
-      → AnswersUnlessMemory answer Keeps
-  reduced_kept = AnswersUnlessMemory-weaker answer (IsReducedBy m r of_node t) Keeps by
+    pub reduced_kept : (k : LogicalType) → tree_type m s.tree ≡ Some k
+        → (answer : Result (Option N) VortexError)
+        → AnswersUnlessMemory answer (IsReducedBy m r seen s) → AnswersUnlessMemory answer Keeps
+    reduced_kept k typed answer = AnswersUnlessMemory-weaker answer (IsReducedBy m r seen s) Keeps by
+      where
+        by : (made : Option N) → IsReducedBy m r seen s made → Keeps made
+        by None e = tt
+        by (Some node) e =
+            reduce_sound m lawful r rules s.tree (seen node).tree k typed
+            (sym (made_tree seen s (reduce m r s.tree) (Some node) e))
+
+  pub simplified_kept : (t : Tree V O) (k : LogicalType) → tree_type m t ≡ Some k
+      → (answer : Result (Option (Tree V O)) VortexError)
+      → AnswersUnlessMemory answer (IsSimplifiedBy m r t)
+      → AnswersUnlessMemory answer (λ made. IfSome made (Rewrites m t))
+  simplified_kept t k typed answer =
+      AnswersUnlessMemory-weaker answer (IsSimplifiedBy m r t) (λ made. IfSome made (Rewrites m t)) by
     where
-      by : (made : Option N) → IsReducedBy m r of_node t made → Keeps made
+      by : (made : Option (Tree V O)) → IsSimplifiedBy m r t made → IfSome made (Rewrites m t)
       by None e = tt
-      by (Some node) e = reduce_sound m lawful r rules t (of_node node) k typed (sym e)
-
-  pub simplified_kept : AnswersUnlessMemory answer (IsSimplifiedBy m r of_node t)
-      → AnswersUnlessMemory answer Keeps
-  simplified_kept = AnswersUnlessMemory-weaker answer (IsSimplifiedBy m r of_node t) Keeps by
-    where
-      by : (made : Option N) → IsSimplifiedBy m r of_node t made → Keeps made
-      by None e = tt
-      by (Some node) e = simplify_sound m lawful r rules t (of_node node) k typed (sym e)
+      by (Some u) e = simplify_sound m lawful r rules t u k typed (sym e)

@@ -22,3 +22,4 @@ pub mod ArrayTrees
 pub mod ValidBits
 pub mod ValuesKept
 pub mod NodeLists
+pub mod Made

@@ -1,6 +1,7 @@
 -- What the table of rules has for the call of a function, by the list of functions.
 use Rattle.std.proofs.Common.{◌≡◌, false, Option, Some, None, refl, sym, ap, ◌∙◌}
 use Rattle.std.specs.Prelude.{ℕ, MatchOption, Result}
+use Rattle.std.specs.Option.{option_map}
 use Rattle.vortex_errors.specs.declared.error.VortexError.{VortexError}
 use Rattle.vortex_errors.specs.Answers.{AnswersUnlessMemory}
 use Rattle.vortex_errors.proofs.Answering.{AnswersUnlessMemory-weaker}
@@ -23,6 +24,7 @@ use Rattle.vortex_functions.specs.declared.typed.TypedScalarFnInstance.{TypedSca
 use Rattle.vortex_functions.specs.Binding.{IsLeaf, IsLeafAt}
 use Rattle.vortex_functions.specs.FunctionOf.{function_of, instance_in}
 use Rattle.vortex_rewriting.specs.declared.node.ReduceNodeValidity.{ReduceNodeValidity}
+use Rattle.vortex_rewriting.specs.Contexts.{InContext, with_tree}
 use Rattle.vortex_rewriting.specs.Told.{IsTold}
 use Rattle.vortex_rewriting.specs.Reduced.{IsValidityBy}
 
@@ -75,20 +77,21 @@ module _ {V O : Type 0} (m : Meaning V O) where
       ∙ ap (λ h. validity m (default_rules m) (call h ts)) (sym is)
 
   -- so what the default validity answers of a reference to a copy of it is an answer of its own
-  pub own_answer : {N : Type 0} (of_node : N → Tree V O) (t : Tree V O) (f : ScalarFnRef V O)
-      (v w : V) (o p : O) (answer : Result (ReduceNodeValidity N) VortexError)
+  pub own_answer : {N B : Type 0} (seen : N → InContext V O B) (s : InContext V O B)
+      (f : ScalarFnRef V O) (v w : V) (o p : O) (answer : Result (ReduceNodeValidity N) VortexError)
       → f ≡ ref.Custom (record { vtable = v; options = o }) → v ≡ w → o ≡ p
-      → called t ≡ Some (custom w p)
+      → called s.tree ≡ Some (custom w p)
       → AnswersUnlessMemory answer
-      (IsTold of_node (default_validity m (function_of f) (trees_of (children_of t))))
-      → AnswersUnlessMemory answer (IsValidityBy m (default_rules m) of_node t)
-  own_answer of_node t f v w o p answer is a b c h =
+      (IsTold s seen (default_validity m (function_of f) (trees_of (children_of s.tree))))
+      → AnswersUnlessMemory answer (IsValidityBy m (default_rules m) seen s)
+  own_answer seen s f v w o p answer is a b c h =
       let same : function_of f ≡ custom w p = ap function_of is ∙ (λ j. custom (a j) (b j)) in
       AnswersUnlessMemory-weaker answer
-      (IsTold of_node (default_validity m (function_of f) (trees_of (children_of t))))
-      (IsValidityBy m (default_rules m) of_node t)
+      (IsTold s seen (default_validity m (function_of f) (trees_of (children_of s.tree))))
+      (IsValidityBy m (default_rules m) seen s)
       (λ told e. e
-      ∙ ap (λ g. default_validity m g (trees_of (children_of t))) same ∙ own_validity t w p c) h
+      ∙ ap (λ g. option_map (with_tree s) (default_validity m g (trees_of (children_of s.tree)))) same
+      ∙ ap (option_map (with_tree s)) (own_validity s.tree w p c)) h
 
   pub no_instance : (f : ScalarFnRef V O)
       → ((i : TypedScalarFnInstance V O) → f ≡ ref.Custom i → ⊥) → instance_in f ≡ None

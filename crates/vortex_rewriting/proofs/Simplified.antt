@@ -1,7 +1,7 @@
 -- What Simplify makes of a node of an operator, by its operands.
 use Rattle.std.proofs.Common.{◌≡◌, Bool, true, Option, Some, refl, sym, ap, ◌∙◌}
 use Rattle.std.specs.Prelude.{Result}
-use Rattle.std.specs.Option.{option_map, is_some}
+use Rattle.std.specs.Option.{is_some}
 use Rattle.vortex_errors.specs.declared.error.VortexError.{VortexError}
 use Rattle.vortex_errors.specs.Answers.{AnswersUnlessMemory}
 use Rattle.vortex_errors.proofs.Answering.{AnswersUnlessMemory-weaker}
@@ -16,7 +16,9 @@ use Rattle.vortex_meaning.specs.Eval.{tree_type}
 use Rattle.vortex_meaning.specs.ComparisonTrees.{operated}
 use Rattle.vortex_meaning.specs.Rules.{Rules, may_be_null, is_nullable_tree}
 use Rattle.vortex_meaning.specs.SimplifyRules.{simplify_comparison, simplify_operands, simplify}
-use Rattle.vortex_rewriting.specs.Simplified.{IsSimplified}
+use Rattle.vortex_rewriting.specs.Contexts.{InContext, IsMade}
+use Rattle.vortex_rewriting.specs.Reduced.{IsSimplified}
+use Rattle.vortex_rewriting.proofs.Made.{made_as}
 
 module _ {V O : Type 0} (m : Meaning V O) where
   boolean : (r : Rules V O) (op : Operator) (x y : Tree V O) → is_boolean op ≡ true
@@ -38,26 +40,28 @@ module _ {V O : Type 0} (m : Meaning V O) where
   comparison r op x y b = cc
 
   -- what Simplify makes of the node, by its operator
-  module _ {N : Type 0} (of_node : N → Tree V O) {t x y : Tree V O} {op : Operator}
-      (is : t ≡ operated op x y) (answer : Result (Option N) VortexError) where
+  module _ {N B : Type 0} (seen : N → InContext V O B) (s l : InContext V O B)
+      (here : l.context ≡ s.context) {x y : Tree V O} {op : Operator}
+      (is : s.tree ≡ operated op x y) (answer : Result (Option N) VortexError) where
     pub simplified_boolean : {k : LogicalType} {n : Bool} → is_boolean op ≡ true
-        → tree_type m t ≡ Some k → n ≡ is_nullable k
-        → AnswersUnlessMemory answer (λ a. option_map of_node a ≡ simplify_operands m op n x y)
-        → AnswersUnlessMemory answer (IsSimplified m of_node t)
+        → tree_type m s.tree ≡ Some k → n ≡ is_nullable k
+        → AnswersUnlessMemory answer (IsMade l seen (simplify_operands m op n x y))
+        → AnswersUnlessMemory answer (IsSimplified m seen s)
     simplified_boolean {k} {n} b h null =
         let same : n ≡ is_nullable_tree m (operated op x y) =
         null ∙ sym (ap may_be_null (sym (ap (tree_type m) is) ∙ h)) in
-        AnswersUnlessMemory-weaker answer
-        (λ a. option_map of_node a ≡ simplify_operands m op n x y) (IsSimplified m of_node t)
-        (λ a e r. e
-        ∙ ap (λ q. simplify_operands m op q x y) same
+        let made = simplify_operands m op n x y in
+        AnswersUnlessMemory-weaker answer (IsMade l seen made) (IsSimplified m seen s)
+        (λ a e r. made_as seen s l here made (simplify m r s.tree)
+        (ap (λ q. simplify_operands m op q x y) same
         ∙ boolean r op x y b
-        ∙ sym (ap (simplify m r) is))
+        ∙ sym (ap (simplify m r) is)) a e)
 
     pub simplified_comparison : is_some (compare_operator_of op) ≡ true
-        → AnswersUnlessMemory answer (λ a. option_map of_node a ≡ simplify_comparison x y)
-        → AnswersUnlessMemory answer (IsSimplified m of_node t)
+        → AnswersUnlessMemory answer (IsMade l seen (simplify_comparison x y))
+        → AnswersUnlessMemory answer (IsSimplified m seen s)
     simplified_comparison c =
-        AnswersUnlessMemory-weaker answer (λ a. option_map of_node a ≡ simplify_comparison x y)
-        (IsSimplified m of_node t)
-        (λ a e r. e ∙ comparison r op x y c ∙ sym (ap (simplify m r) is))
+        let made = simplify_comparison x y in
+        AnswersUnlessMemory-weaker answer (IsMade l seen made) (IsSimplified m seen s)
+        (λ a e r. made_as seen s l here made (simplify m r s.tree)
+        (comparison r op x y c ∙ sym (ap (simplify m r) is)) a e)

@@ -18,6 +18,7 @@ use Rattle.vortex_meaning.specs.ComparisonTrees.{operated}
 use Rattle.vortex_meaning.specs.Rules.{is_not_null_of, may_be_null, is_nullable_tree}
 use Rattle.vortex_meaning.specs.ValidityRules.{null_tests, one_round}
 use Rattle.vortex_meaning.proofs.TypedCalls.{type_of_one, type_of_two}
+use Rattle.vortex_rewriting.specs.Contexts.{InContext, tree_by}
 use Rattle.vortex_rewriting.specs.Union.{AreTruths, pairs_of, joined_last}
 
 module _ {V O : Type 0} where
@@ -177,18 +178,24 @@ module _ {V O : Type 0} (m : Meaning V O) where
       → tree_type m (operated And t u) ≡ Some (bool_type false)
   and_typed t u h k = type_of_two m (ours (Binary And)) t u (bool_type false) (bool_type false) h k
 
-  pub pair_typed : {N B : Type 0} (of_node : N → Tree V O) (rows : N → B) (n : B) (pair : List N)
-      → length pair ≡ 2 → AreTruths m of_node rows n pair
-      → tree_type m (call (ours (Binary And)) (trees_of (map of_node pair)))
+  pub pair_typed : {N B : Type 0} (seen : N → InContext V O B) (n : B) (pair : List N)
+      → length pair ≡ 2 → AreTruths m seen n pair
+      → tree_type m (call (ours (Binary And)) (trees_of (map (tree_by seen) pair)))
       ≡ Some (bool_type false)
-  pair_typed of_node rows n [] e h = absurd (omega arith)
-  pair_typed of_node rows n (a ∷ []) e h = absurd (omega arith)
-  pair_typed {N} {B} of_node rows n (a ∷ b ∷ []) e h =
-      and_typed (of_node a) (of_node b) (h 0 a (omega arith)).0 (h 1 a (omega arith)).0
-  pair_typed of_node rows n (a ∷ b ∷ c ∷ ns) e h = absurd (omega arith)
+  pair_typed seen n [] e h = absurd (omega arith)
+  pair_typed seen n (a ∷ []) e h = absurd (omega arith)
+  pair_typed {N} {B} seen n (a ∷ b ∷ []) e h =
+      and_typed (seen a).tree (seen b).tree (h 0 a (omega arith)).0 (h 1 a (omega arith)).0
+  pair_typed seen n (a ∷ b ∷ c ∷ ns) e h = absurd (omega arith)
 
-  -- nodes that stand for trees, beside each of which that stands
-  module _ {N B : Type 0} (of_node : N → Tree V O) (rows : N → B) (n : B) where
+  -- nodes that stand for trees in that context
+  module _ {N B : Type 0} (seen : N → InContext V O B) (n : B) where
+    abbrev of_node : N → Tree V O
+    of_node = tree_by seen
+
+    abbrev rows : N → B
+    rows node = (seen node).context
+
     abbrev IsTruth : N → Type 0
     IsTruth node = (tree_type m (of_node node) ≡ Some (bool_type false)) × (rows node ≡ n)
 
@@ -196,7 +203,7 @@ module _ {V O : Type 0} (m : Meaning V O) where
     abbrev pub TestsUpTo : List (Tree V O) → ℕ → List N → Type 0
     TestsUpTo ts i nodes =
         (map of_node nodes ≡ null_tests m (trees_of (take i ts)))
-        × AreTruths m of_node rows n nodes
+        × AreTruths m seen n nodes
 
     pub one_more_test : (ts : List (Tree V O)) (i : ℕ) (t : Tree V O) (k : LogicalType)
         (nodes : List N) (node : N) (pushed after : List N) → slice_get ts i ≡ Some t
@@ -236,22 +243,22 @@ module _ {V O : Type 0} (m : Meaning V O) where
     abbrev pub PairsUpTo : List N → ℕ → List N → Type 0
     PairsUpTo nodes i joined =
         (map of_node joined ≡ pairs_of (take (i + i) (map of_node nodes)))
-        × AreTruths m of_node rows n joined
+        × AreTruths m seen n joined
 
     pub next_typed : (nodes : List N) (i : ℕ) (pair : List N) → i + i + 2 ≤ length nodes
-        → pair ≡ take 2 (drop (i + i) nodes) → AreTruths m of_node rows n nodes
+        → pair ≡ take 2 (drop (i + i) nodes) → AreTruths m seen n nodes
         → tree_type m (call (ours (Binary And)) (trees_of (map of_node pair)))
         ≡ Some (bool_type false)
     next_typed nodes i pair within is truths =
         let two : length (take 2 (drop (i + i) nodes)) ≡ 2 =
         length-take-le 2 (drop (i + i) nodes) (omega (arith, length-drop (i + i) nodes)) in
-        pair_typed of_node rows n pair (ap length is ∙ two)
+        pair_typed seen n pair (ap length is ∙ two)
         (All-same IsTruth pair (take 2 (drop (i + i) nodes)) is
         (All-take IsTruth 2 (drop (i + i) nodes) (All-drop IsTruth (i + i) nodes truths)))
 
     pub one_more_pair : (nodes joined : List N) (i : ℕ) (pair : List N) (node : N) (after : List N)
         → i + i + 2 ≤ length nodes → pair ≡ take 2 (drop (i + i) nodes)
-        → AreTruths m of_node rows n nodes → PairsUpTo nodes i joined
+        → AreTruths m seen n nodes → PairsUpTo nodes i joined
         → after ≡ joined ++ node ∷ []
         → of_node node ≡ call (ours (Binary And)) (trees_of (map of_node pair)) → rows node ≡ n
         → PairsUpTo nodes (i + 1) after
@@ -277,24 +284,24 @@ module _ {V O : Type 0} (m : Meaning V O) where
 
     -- the last node, taken off
     pub last_truth : (nodes rest : List N) (last : N) → nodes ≡ rest ++ last ∷ []
-        → AreTruths m of_node rows n nodes → IsTruth last
+        → AreTruths m seen n nodes → IsTruth last
     last_truth nodes rest last e truths = (All-pop IsTruth nodes rest (Some last) e truths).1
 
     pub rest_truths : (nodes rest : List N) (last : N) → nodes ≡ rest ++ last ∷ []
-        → AreTruths m of_node rows n nodes → AreTruths m of_node rows n rest
+        → AreTruths m seen n nodes → AreTruths m seen n rest
     rest_truths nodes rest last e truths = (All-pop IsTruth nodes rest (Some last) e truths).0
 
     -- nodes that one more was joined to
     abbrev pub JoinsLast : List N → N → List N → Type 0
     JoinsLast nodes last after =
         (map of_node after ≡ joined_last (map of_node nodes) (of_node last))
-        × AreTruths m of_node rows n after
+        × AreTruths m seen n after
 
     -- beside the last
     pub joined_beside : (nodes rest after : List N) (left right pushed last : N)
         → nodes ≡ rest ++ left ∷ [] → after ≡ rest ++ pushed ∷ [] → pushed ≡ right
         → of_node right ≡ operated And (of_node left) (of_node last)
-        → AreTruths m of_node rows n nodes
+        → AreTruths m seen n nodes
         → tree_type m (of_node last) ≡ Some (bool_type false) → rows right ≡ n
         → JoinsLast nodes last after
     joined_beside nodes rest after left right pushed last e push same is truths typed here =

@@ -7,15 +7,13 @@ pub mod Frames
 pub mod Found
 pub mod Runs
 pub mod Keeping
-pub mod Beside
+pub mod Contexts
 pub mod NodeTrees
 pub mod LeafValidity
 pub mod ColumnValidity
 pub mod FixedRules
 pub mod Identities
-pub mod Making
 pub mod NullTests
 pub mod Reduced
-pub mod Simplified
 pub mod Told
 pub mod Union

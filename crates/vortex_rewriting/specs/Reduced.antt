@@ -8,23 +8,28 @@ use Rattle.vortex_meaning.specs.ReduceRules.{reduce}
 use Rattle.vortex_meaning.specs.SimplifyRules.{simplify}
 use Rattle.vortex_meaning.specs.ValidityRules.{validity}
 use Rattle.vortex_rewriting.specs.declared.node.ReduceNodeValidity.{ReduceNodeValidity}
+use Rattle.vortex_rewriting.specs.Contexts.{InContext, IsMade}
 use Rattle.vortex_rewriting.specs.Told.{IsTold}
 
-module _ {V O N : Type 0} (m : Meaning V O) where
-  module _ (r : Rules V O) (tree : N → Tree V O) (t : Tree V O) where
-    -- the node stands for what Reduce makes of the tree, and there is none exactly where no rule
-    -- applies
+module _ {V O B N : Type 0} (m : Meaning V O) where
+  module _ (r : Rules V O) (seen : N → InContext V O B) (s : InContext V O B) where
+    -- the node stands for what Reduce makes of the tree, in the same context, and there is none
+    -- exactly where no rule applies
     abbrev pub IsReducedBy : Option N → Type 0
-    IsReducedBy answer = option_map tree answer ≡ reduce m r t
-
-    -- the same of Simplify
-    abbrev pub IsSimplifiedBy : Option N → Type 0
-    IsSimplifiedBy answer = option_map tree answer ≡ simplify m r t
+    IsReducedBy answer = IsMade s seen (reduce m r s.tree) answer
 
     -- the same of the tree's validity
     abbrev pub IsValidityBy : ReduceNodeValidity N → Type 0
-    IsValidityBy answer = IsTold tree (validity m r t) answer
+    IsValidityBy told = IsTold s seen (validity m r s.tree) told
 
-  -- the same of Reduce, whatever a caller's rules are
-  abbrev pub IsReduced : (N → Tree V O) → Tree V O → Option N → Type 0
-  IsReduced tree t answer = (r : Rules V O) → IsReducedBy r tree t answer
+  -- the same of Reduce, and of Simplify, whatever a caller's rules are
+  abbrev pub IsReduced : (N → InContext V O B) → InContext V O B → Option N → Type 0
+  IsReduced seen s answer = (r : Rules V O) → IsReducedBy r seen s answer
+
+  abbrev pub IsSimplified : (N → InContext V O B) → InContext V O B → Option N → Type 0
+  IsSimplified seen s answer = (r : Rules V O) → IsMade s seen (simplify m r s.tree) answer
+
+-- an expression is what Simplify makes of another, and there is none exactly where no rule applies
+abbrev pub IsSimplifiedBy : {V O : Type 0} → Meaning V O → Rules V O → Tree V O → Option (Tree V O)
+    → Type 0
+IsSimplifiedBy m r t answer = option_map (λ u. u) answer ≡ simplify m r t

@@ -7,12 +7,13 @@ use Rattle.vortex_meaning.specs.Meaning.{Meaning}
 use Rattle.vortex_meaning.specs.Trees.{Tree}
 use Rattle.vortex_meaning.specs.Eval.{tree_type}
 use Rattle.vortex_meaning.specs.ComparisonTrees.{operated}
+use Rattle.vortex_rewriting.specs.Contexts.{InContext}
 
--- nodes of Bool without null, beside each of which that stands
-abbrev pub AreTruths : {V O N B : Type 0} → Meaning V O → (N → Tree V O) → (N → B) → B → List N
-    → Type 0
-AreTruths m tree rows n nodes =
-    All (λ node. (tree_type m (tree node) ≡ Some (bool_type false)) × (rows node ≡ n)) nodes
+-- nodes of Bool without null, in that context
+abbrev pub AreTruths : {V O B N : Type 0} → Meaning V O → (N → InContext V O B) → B → List N → Type 0
+AreTruths m seen n nodes =
+    All (λ node. (tree_type m (seen node).tree ≡ Some (bool_type false))
+    × ((seen node).context ≡ n)) nodes
 
 -- neighbours joined, paired from the left; an odd last one is left out
 abbrev pub pairs_of : {V O : Type 0} → List (Tree V O) → List (Tree V O)

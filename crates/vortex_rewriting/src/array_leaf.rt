@@ -5,12 +5,9 @@ ghost use Rattle.vortex_rewriting.specs.ColumnValidity.{validity_as_column};
 ghost use Rattle.vortex_rewriting.specs.Rules.{array_rule, array_sound, array_lightens};
 
 use crate::leaf::{RewriteLeaf, RuleLeaf};
-use crate::reduce_array::ReduceArray;
-use crate::rule::Rule;
+use crate::rule::{Rule, reduce_tree};
 use crate::rules::ScalarFnRules;
-use crate::tree_node::ArrayReduceNode;
 use std::alloc::Global;
-use std::borrow::Cow;
 use vortex_columns::{Column, Nullability, Scalar, Validity, VortexResult};
 use vortex_functions::ArrayRef;
 use vortex_functions::array::ArrayLeaf;
@@ -37,8 +34,8 @@ impl<C: ScalarFnVTable> RuleLeaf<C> for ArrayLeaf {
         tree.as_constant()
     }
 
-    fn new_constant(alloc: Global, scalar: Scalar, beside: usize) -> VortexResult<ArrayRef<C>> {
-        let column = Column::constant(alloc, scalar, beside)?;
+    fn new_constant(alloc: Global, scalar: Scalar, rows: usize) -> VortexResult<ArrayRef<C>> {
+        let column = Column::constant(alloc, scalar, rows)?;
         let array = ArrayRef::column(alloc, column)?;
         Ok(array)
     }
@@ -64,13 +61,7 @@ impl<C: ScalarFnRules> RewriteLeaf<C> for ArrayLeaf {
         };
         match rule {
             Rule::Simplify => Ok(None),
-            Rule::Reduce => {
-                let node = ArrayReduceNode::new(Cow::Borrowed(tree));
-                match function.reduce_array(alloc, &node)? {
-                    Some(made) => Ok(Some(made.into_array(alloc)?)),
-                    None => Ok(None),
-                }
-            }
+            Rule::Reduce => reduce_tree(alloc, function, tree),
         }
     }
 

@@ -1,6 +1,5 @@
 //! The rule of And and of Or beside a constant.
 ghost use Rattle.std.specs.Prelude.{◌≡◌, IsTrue, Some, true};
-ghost use Rattle.std.specs.Option.{option_map};
 ghost use Rattle.vortex_types.specs.TypeOf.{allows_null};
 ghost use Rattle.vortex_types.specs.LogicalTypes.{bool_type};
 ghost use Rattle.vortex_operators.specs.Kleene.{kleene};
@@ -9,9 +8,9 @@ ghost use Rattle.vortex_meaning.specs.Shipped.{Binary};
 ghost use Rattle.vortex_meaning.specs.Rules.{truth_constant, cast_of, constant_truth, decides};
 ghost use Rattle.vortex_meaning.specs.Rules.{widened};
 ghost use Rattle.vortex_meaning.specs.ReduceRules.{beside_constant, of_constants};
-ghost use Rattle.vortex_functions.specs.Words.{ours, called, tree_type};
+ghost use Rattle.vortex_functions.specs.Words.{ours, called, tree_type, AnswersUnlessMemory};
+ghost use Rattle.vortex_rewriting.specs.Contexts.{with_tree, IsMade};
 ghost use Rattle.vortex_rewriting.specs.Reduced.{IsReduced};
-ghost use Rattle.vortex_rewriting.specs.Beside.{AnswersBeside, AnswersIfAny};
 
 use crate::making::call_on_one;
 use crate::node::ReduceTree;
@@ -23,7 +22,7 @@ use vortex_operators::Operator;
 
 /// The truth value of a constant that has one: of Bool, and not null.
 pub(crate) fn constant_truth<C: ScalarFnVTable, T: ReduceTree<C>>(node: &T) -> Option<bool>
-    ensures { result ≡ constant_truth (T.tree node.now) }
+    ensures { result ≡ constant_truth (T.seen node.now).tree }
 {
     match node.as_constant() {
         Some(scalar) => scalar.as_bool_opt(),
@@ -54,15 +53,15 @@ fn of_both(operator: Operator, left: bool, right: bool) -> bool
     }
 }
 
-/// The constant of a truth value.
+/// The constant of a truth value, in the context of the node.
 pub(crate) fn truth_node<C: ScalarFnVTable, T: ReduceTree<C>>(
     alloc: Global,
     node: &T,
     nullability: Nullability,
     value: bool,
 ) -> VortexResult<T>
-    ensures { AnswersBeside T.rows (T.rows node.now) (λ made. T.tree made
-        ≡ truth_constant (allows_null nullability) value) result }
+    ensures { AnswersUnlessMemory result (λ made. T.seen made
+        ≡ with_tree (T.seen node.now) (truth_constant (allows_null nullability) value)) }
 {
     node.new_constant(alloc, Scalar::bool(value, nullability))
 }
@@ -70,14 +69,12 @@ pub(crate) fn truth_node<C: ScalarFnVTable, T: ReduceTree<C>>(
 /// An operand in place of the node, cast where only the node is nullable.
 fn widened<C: ScalarFnVTable, T: ReduceTree<C>>(
     alloc: Global,
-    node: &T,
     nullability: Nullability,
     operand: T,
 ) -> VortexResult<T>
-    requires casts { tree_type C.meaning (cast_of (T.tree operand)) ≡ Some (bool_type true) }
-    requires same_rows { T.rows operand ≡ T.rows node.now }
-    ensures { AnswersBeside T.rows (T.rows node.now) (λ made. T.tree made
-        ≡ widened C.meaning (allows_null nullability) (T.tree operand)) result }
+    requires { tree_type C.meaning (cast_of (T.seen operand).tree) ≡ Some (bool_type true) }
+    ensures { AnswersUnlessMemory result (λ made. T.seen made ≡ with_tree (T.seen operand)
+        (widened C.meaning (allows_null nullability) (T.seen operand).tree)) }
 {
     if !nullability.is_nullable() {
         return Ok(operand);
@@ -85,62 +82,61 @@ fn widened<C: ScalarFnVTable, T: ReduceTree<C>>(
     if operand.node_dtype().is_nullable() {
         return Ok(operand);
     }
-    call_on_one(alloc, node, ScalarFnRef::Cast, operand)
+    call_on_one(alloc, ScalarFnRef::Cast, operand)
 }
 
 /// The node where one operand is a constant of that value: it decides, or the other operand stays.
 pub(crate) fn beside_constant<C: ScalarFnVTable, T: ReduceTree<C>>(
     alloc: Global,
-    node: &T,
     operator: Operator,
     nullability: Nullability,
     value: bool,
     other: T,
 ) -> VortexResult<T>
-    requires casts { tree_type C.meaning (cast_of (T.tree other)) ≡ Some (bool_type true) }
-    requires same_rows { T.rows other ≡ T.rows node.now }
-    ensures { AnswersBeside T.rows (T.rows node.now) (λ made. T.tree made
-        ≡ beside_constant C.meaning operator (allows_null nullability) value (T.tree other))
-        result }
+    requires { tree_type C.meaning (cast_of (T.seen other).tree) ≡ Some (bool_type true) }
+    ensures { AnswersUnlessMemory result (λ made. T.seen made ≡ with_tree (T.seen other)
+        (beside_constant C.meaning operator (allows_null nullability) value
+        (T.seen other).tree)) }
 {
     if decides(operator, value) {
-        truth_node(alloc, node, nullability, value)
+        truth_node(alloc, &other, nullability, value)
     } else {
-        widened(alloc, node, nullability, other)
+        widened(alloc, nullability, other)
     }
 }
 
-/// The node by the constants among its operands.
+/// The node by the constants among its operands, which have one context.
 fn of_constants<C: ScalarFnVTable, T: ReduceTree<C>>(
     alloc: Global,
-    node: &T,
     operator: Operator,
     nullability: Nullability,
     left: T,
     right: T,
 ) -> VortexResult<Option<T>>
     requires boolean { IsTrue (is_boolean operator) }
-    requires casts_left { tree_type C.meaning (cast_of (T.tree left)) ≡ Some (bool_type true) }
-    requires casts_right { tree_type C.meaning (cast_of (T.tree right)) ≡ Some (bool_type true) }
-    requires left_rows { T.rows left ≡ T.rows node.now }
-    requires right_rows { T.rows right ≡ T.rows node.now }
-    ensures { AnswersIfAny T.rows (T.rows node.now) (λ answer. option_map T.tree answer
-        ≡ of_constants C.meaning operator (allows_null nullability) (T.tree left) (T.tree right)
-        (constant_truth (T.tree left)) (constant_truth (T.tree right))) result }
+    requires casts_left { tree_type C.meaning (cast_of (T.seen left).tree)
+        ≡ Some (bool_type true) }
+    requires casts_right { tree_type C.meaning (cast_of (T.seen right).tree)
+        ≡ Some (bool_type true) }
+    requires same_context { (T.seen left).context ≡ (T.seen right).context }
+    ensures { AnswersUnlessMemory result (IsMade (T.seen left) T.seen
+        (of_constants C.meaning operator (allows_null nullability) (T.seen left).tree
+        (T.seen right).tree (constant_truth (T.seen left).tree)
+        (constant_truth (T.seen right).tree))) }
 {
     let value_left = constant_truth(&left);
     let value_right = constant_truth(&right);
     match (value_left, value_right) {
         (Some(a), Some(b)) => {
-            let made = truth_node(alloc, node, nullability, of_both(operator, a, b))?;
+            let made = truth_node(alloc, &left, nullability, of_both(operator, a, b))?;
             Ok(Some(made))
         }
         (Some(a), None) => {
-            let made = beside_constant(alloc, node, operator, nullability, a, right)?;
+            let made = beside_constant(alloc, operator, nullability, a, right)?;
             Ok(Some(made))
         }
         (None, Some(b)) => {
-            let made = beside_constant(alloc, node, operator, nullability, b, left)?;
+            let made = beside_constant(alloc, operator, nullability, b, left)?;
             Ok(Some(made))
         }
         (None, None) => Ok(None),
@@ -149,19 +145,18 @@ fn of_constants<C: ScalarFnVTable, T: ReduceTree<C>>(
 
 /// Reduce of a call of And or Or: two constants give the table's value, one that decides gives its
 /// own, and beside one that does not the other operand stays, cast where only the node is nullable.
-/// None where neither operand is a constant of a truth value. E9 alone.
+/// None where neither operand is a constant of a truth value. E9 where memory is refused.
 pub fn reduce_boolean<C: ScalarFnVTable, T: ReduceTree<C>>(
     alloc: Global,
     operator: Operator,
     node: &T,
 ) -> VortexResult<Option<T>>
     requires boolean { IsTrue (is_boolean operator) }
-    requires call { called (T.tree node.now) ≡ Some (ours (Binary operator)) }
-    ensures { AnswersIfAny T.rows (T.rows node.now) (IsReduced C.meaning T.tree (T.tree node.now))
-        result }
+    requires call { called (T.seen node.now).tree ≡ Some (ours (Binary operator)) }
+    ensures { AnswersUnlessMemory result (IsReduced C.meaning T.seen (T.seen node.now)) }
 {
     let nullability = node.node_dtype().nullability();
     let left = node.child(alloc, 0)?;
     let right = node.child(alloc, 1)?;
-    of_constants(alloc, node, operator, nullability, left, right)
+    of_constants(alloc, operator, nullability, left, right)
 }

@@ -3,7 +3,6 @@ ghost use Rattle.std.specs.Prelude.{◌≡◌, Some};
 ghost use Rattle.vortex_meaning.specs.Shipped.{Binary};
 ghost use Rattle.vortex_functions.specs.Words.{ours, called, function_of, AnswersUnlessMemory};
 ghost use Rattle.vortex_rewriting.specs.Reduced.{IsReducedBy, IsSimplifiedBy, IsValidityBy};
-ghost use Rattle.vortex_rewriting.specs.Beside.{AnswersIfAny, AnswersValidity};
 
 use crate::boolean::reduce_boolean;
 use crate::node::{ReduceNodeValidity, ReduceTree};
@@ -24,9 +23,9 @@ fn reduce_operator<C: ScalarFnRules, T: ReduceTree<C>>(
     operator: Operator,
     node: &T,
 ) -> VortexResult<Option<T>>
-    requires { called (T.tree node.now) ≡ Some (ours (Binary operator)) }
-    ensures { AnswersIfAny T.rows (T.rows node.now) (IsReducedBy C.meaning C.rules T.tree
-        (T.tree node.now)) result }
+    requires { called (T.seen node.now).tree ≡ Some (ours (Binary operator)) }
+    ensures { AnswersUnlessMemory result
+        (IsReducedBy C.meaning C.rules T.seen (T.seen node.now)) }
 {
     if operator.is_boolean() {
         reduce_boolean(alloc, operator, node)
@@ -36,15 +35,15 @@ fn reduce_operator<C: ScalarFnRules, T: ReduceTree<C>>(
 }
 
 /// Reduce of a call of that function: the node that a rule makes of it, or none where none applies.
-/// E9 alone.
+/// E9 where memory is refused.
 pub fn reduce_call<C: ScalarFnRules, T: ReduceNode<C>>(
     alloc: Global,
     function: &ScalarFnRef<C>,
     node: &T,
 ) -> VortexResult<Option<T>>
-    requires { called (T.tree node.now) ≡ Some (function_of function.now) }
-    ensures { AnswersIfAny T.rows (T.rows node.now) (IsReducedBy C.meaning C.rules T.tree
-        (T.tree node.now)) result }
+    requires { called (T.seen node.now).tree ≡ Some (function_of function.now) }
+    ensures { AnswersUnlessMemory result
+        (IsReducedBy C.meaning C.rules T.seen (T.seen node.now)) }
 {
     match function {
         ScalarFnRef::Binary(operator) => reduce_operator(alloc, *operator, node),
@@ -56,15 +55,15 @@ pub fn reduce_call<C: ScalarFnRules, T: ReduceNode<C>>(
 }
 
 /// Validity of a call of that function: a node that says where the call is not null, if a tree says
-/// it. E9 alone.
+/// it. E9 where memory is refused.
 pub fn validity_call<C: ScalarFnRules, T: ReduceTree<C>>(
     alloc: Global,
     function: &ScalarFnRef<C>,
     node: &T,
 ) -> VortexResult<ReduceNodeValidity<T>>
-    requires { called (T.tree node.now) ≡ Some (function_of function.now) }
-    ensures { AnswersValidity T.rows (T.rows node.now) (IsValidityBy C.meaning C.rules T.tree
-        (T.tree node.now)) result }
+    requires { called (T.seen node.now).tree ≡ Some (function_of function.now) }
+    ensures { AnswersUnlessMemory result
+        (IsValidityBy C.meaning C.rules T.seen (T.seen node.now)) }
 {
     match function {
         ScalarFnRef::Custom(custom) => custom.vtable().validity(alloc, custom.options(), node),
@@ -80,7 +79,7 @@ fn simplify_binary<C: ScalarFnRules>(
 ) -> VortexResult<Option<BoundExpression<C>>>
     requires { called expression.now ≡ Some (ours (Binary operator)) }
     ensures { AnswersUnlessMemory result
-        (IsSimplifiedBy C.meaning C.rules (λ t. t) expression.now) }
+        (IsSimplifiedBy C.meaning C.rules expression.now) }
 {
     let node = ExpressionReduceNode::new(Cow::Borrowed(expression));
     match simplify_operator(alloc, operator, &node)? {
@@ -93,7 +92,7 @@ fn simplify_binary<C: ScalarFnRules>(
 }
 
 /// Simplify of a call of that function in an expression: what a rule makes of it, or none where
-/// none applies. E9 alone.
+/// none applies. E9 where memory is refused.
 pub fn simplify_call<C: ScalarFnRules>(
     alloc: Global,
     function: &ScalarFnRef<C>,
@@ -101,7 +100,7 @@ pub fn simplify_call<C: ScalarFnRules>(
 ) -> VortexResult<Option<BoundExpression<C>>>
     requires { called expression.now ≡ Some (function_of function.now) }
     ensures { AnswersUnlessMemory result
-        (IsSimplifiedBy C.meaning C.rules (λ t. t) expression.now) }
+        (IsSimplifiedBy C.meaning C.rules expression.now) }
 {
     match function {
         ScalarFnRef::Binary(operator) => simplify_binary(alloc, *operator, expression),

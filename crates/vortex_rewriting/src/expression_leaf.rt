@@ -6,11 +6,9 @@ ghost use Rattle.vortex_rewriting.specs.Rules.{expression_lightens};
 
 use crate::leaf::{RewriteLeaf, RuleLeaf};
 use crate::reduce::ReduceExpression;
-use crate::rule::Rule;
+use crate::rule::{Rule, reduce_tree};
 use crate::rules::ScalarFnRules;
-use crate::tree_node::ExpressionReduceNode;
 use std::alloc::Global;
-use std::borrow::Cow;
 use vortex_columns::{Scalar, VortexResult};
 use vortex_functions::BoundExpression;
 use vortex_functions::expression::ExpressionLeaf;
@@ -24,7 +22,7 @@ impl<C: ScalarFnVTable> RuleLeaf<C> for ExpressionLeaf {
     fn new_constant(
         alloc: Global,
         scalar: Scalar,
-        _beside: (),
+        _context: (),
     ) -> VortexResult<BoundExpression<C>> {
         Ok(BoundExpression::lit(alloc, scalar))
     }
@@ -52,13 +50,7 @@ impl<C: ScalarFnRules> RewriteLeaf<C> for ExpressionLeaf {
         };
         match rule {
             Rule::Simplify => function.simplify_expression(alloc, tree),
-            Rule::Reduce => {
-                let node = ExpressionReduceNode::new(Cow::Borrowed(tree));
-                match function.reduce_expression(alloc, &node)? {
-                    Some(made) => Ok(Some(made.into_expression(alloc)?)),
-                    None => Ok(None),
-                }
-            }
+            Rule::Reduce => reduce_tree(alloc, function, tree),
         }
     }
 

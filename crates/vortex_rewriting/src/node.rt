@@ -1,12 +1,11 @@
 //! Nodes that rules run over: each stands for a tree.
-ghost use Rattle.std.specs.Prelude.{◌≡◌, ◌<◌, All, IfOk, IsOkAnd, MatchOption, None, Some};
+ghost use Rattle.std.specs.Prelude.{◌≡◌, ◌<◌, All, IsOkAnd, MatchOption, None, Some};
 ghost use Rattle.std.specs.Prelude.{length, slice_get};
 ghost use Rattle.std.specs.Option.{option_copied};
-ghost use Rattle.vortex_meaning.specs.Trees.{Tree};
 ghost use Rattle.vortex_functions.specs.Words.{type_of, constant, children_of, called, literal};
 ghost use Rattle.vortex_functions.specs.Words.{tree_type, function_of, AnswersUnlessMemory};
-ghost use Rattle.vortex_rewriting.specs.Making.{AnswersCall};
-ghost use Rattle.vortex_rewriting.specs.Beside.{AnswersBeside};
+ghost use Rattle.vortex_functions.specs.Words.{AnswersTreeCall};
+ghost use Rattle.vortex_rewriting.specs.Contexts.{InContext, with_tree};
 
 use std::alloc::Global;
 use vortex_columns::{DType, Scalar, VortexResult};
@@ -27,40 +26,37 @@ pub enum ReduceNodeValidity<T> {
 /// A rule that is written over it serves every kind of tree, and gives what it makes as a node of
 /// the same kind.
 pub trait ReduceTree<C: ScalarFnVTable>: Sized + Drop {
-    /// The tree that the node stands for.
-    ghost tree: { Self → Tree C C.Options };
+    /// The context of a tree: how many rows an array tree has, and nothing for an expression.
+    type Context;
 
-    /// What stands beside a tree: its row count, or nothing.
-    type Beside;
-
-    /// What stands beside the tree: how many rows an array tree has, and nothing for an expression.
-    ghost rows: { Self → Self.Beside };
+    /// The tree that the node stands for, in its context.
+    ghost seen: { Self → InContext C C.Options Self.Context };
 
     /// That the tree is borrowed, so that walking down takes no memory.
     ghost lent: { Self → Type 0 };
 
     /// The type of the tree's values.
     fn node_dtype(&self) -> &DType
-        ensures { tree_type C.meaning (tree self.now) ≡ Some (type_of result.now) };
+        ensures { tree_type C.meaning (seen self.now).tree ≡ Some (type_of result.now) };
 
     /// The function of a call; none of any other tree.
     fn scalar_fn(&self) -> Option<&ScalarFnRef<C>>
         ensures { MatchOption result
-            (called (tree self.now) ≡ None)
-            (λ f. called (tree self.now) ≡ Some (function_of f.now)) };
+            (called (seen self.now).tree ≡ None)
+            (λ f. called (seen self.now).tree ≡ Some (function_of f.now)) };
 
     /// How many children a call has; 0 for any other tree.
     fn child_count(&self) -> usize
-        ensures { result ≡ length (children_of (tree self.now)) };
+        ensures { result ≡ length (children_of (seen self.now).tree) };
 
-    /// The child of that index, in the same context. E9 alone, and only where the node is no borrowed
-    /// tree.
+    /// The child of that index, in the same context. E9 where memory is refused, and only where the
+    /// node is no borrowed tree.
     fn child(&self, alloc: Global, index: usize) -> VortexResult<Self>
-        requires { index < length (children_of (tree self.now)) }
+        requires { index < length (children_of (seen self.now).tree) }
         ensures answer { AnswersUnlessMemory result
-            (λ node. slice_get (children_of (tree self.now)) index ≡ Some (tree node)) }
-        ensures lent { lent self.now → IsOkAnd result lent }
-        ensures same_rows { IfOk result (λ node. rows node ≡ rows self.now) };
+            (λ node. (slice_get (children_of (seen self.now).tree) index ≡ Some (seen node).tree)
+            × ((seen node).context ≡ (seen self.now).context)) }
+        ensures lent { lent self.now → IsOkAnd result lent };
 
     /// The call of a function on nodes of the same context. E6 exactly where their count does not
     /// fit its arity, and then E3 exactly where their types are not accepted.
@@ -70,15 +66,16 @@ pub trait ReduceTree<C: ScalarFnVTable>: Sized + Drop {
         function: ScalarFnRef<C>,
         children: &[Self],
     ) -> VortexResult<Self>
-        requires { All (λ child. rows child ≡ rows self.now) children.now }
-        ensures answer { AnswersCall C.meaning tree (function_of function) children.now result }
-        ensures same_rows { IfOk result (λ node. rows node ≡ rows self.now) };
+        requires { All (λ child. (seen child).context ≡ (seen self.now).context) children.now }
+        ensures { AnswersTreeCall (λ n. (seen n).tree) (λ n. (seen n).context) C.meaning
+            (function_of function) children.now (seen self.now).context result };
 
     /// The scalar of a constant; none of any other tree.
     fn as_constant(&self) -> Option<&Scalar>
-        ensures { option_copied result ≡ literal (tree self.now) };
+        ensures { option_copied result ≡ literal (seen self.now).tree };
 
-    /// The constant of that scalar, in the same context. E9 alone.
+    /// The constant of that scalar, in the same context. E9 where memory is refused.
     fn new_constant(&self, alloc: Global, scalar: Scalar) -> VortexResult<Self>
-        ensures { AnswersBeside rows (rows self.now) (λ node. tree node ≡ constant scalar) result };
+        ensures { AnswersUnlessMemory result
+            (λ node. seen node ≡ with_tree (seen self.now) (constant scalar)) };
 }

@@ -1,6 +1,6 @@
 //! The rules of the null tests: the child need not be computed where it is never null, where a
 //! tree says its validity, and where it is And or Or with one operand that can be null.
-ghost use Rattle.std.specs.Prelude.{◌≡◌, IfOk, IfSome, IsSome, IsTrue, Some, false};
+ghost use Rattle.std.specs.Prelude.{◌≡◌, IfOk, IsSome, IsTrue, Some, false};
 ghost use Rattle.std.specs.Option.{option_map};
 ghost use Rattle.vortex_types.specs.LogicalTypes.{bool_type};
 ghost use Rattle.vortex_operators.specs.Operators.{is_boolean};
@@ -10,8 +10,8 @@ ghost use Rattle.vortex_functions.specs.Words.{ours, called, tree_type, AnswersU
 ghost use Rattle.vortex_rewriting.specs.NullTests.{test_function, of_no_null, joined_by};
 ghost use Rattle.vortex_rewriting.specs.NullTests.{boolean_called, tested, by_validity, beside_test};
 ghost use Rattle.vortex_rewriting.specs.NullTests.{within, within_operands};
+ghost use Rattle.vortex_rewriting.specs.Contexts.{of_two, with_tree, IsMade};
 ghost use Rattle.vortex_rewriting.specs.Reduced.{IsReducedBy};
-ghost use Rattle.vortex_rewriting.specs.Beside.{AnswersBeside, AnswersIfAny};
 
 use crate::making::{call_on_one, call_on_two};
 use crate::node::{ReduceNodeValidity, ReduceTree};
@@ -52,30 +52,27 @@ impl NullTest {
     }
 }
 
-/// The test of an operand, in the context of a node.
+/// The test of an operand, in its context.
 pub(crate) fn tested<C: ScalarFnVTable, T: ReduceTree<C>>(
     alloc: Global,
     test: NullTest,
-    node: &T,
     operand: T,
 ) -> VortexResult<T>
-    requires { T.rows operand ≡ T.rows node.now }
     ensures answer { AnswersUnlessMemory result
-        (λ made. T.tree made ≡ tested test (T.tree operand)) }
+        (λ made. T.seen made ≡ with_tree (T.seen operand) (tested test (T.seen operand).tree)) }
     ensures truth { IfOk result
-        (λ made. tree_type C.meaning (T.tree made) ≡ Some (bool_type false)) }
-    ensures same_rows { IfOk result (λ made. T.rows made ≡ T.rows node.now) }
+        (λ made. tree_type C.meaning (T.seen made).tree ≡ Some (bool_type false)) }
 {
     let _typed = operand.node_dtype();
     match test {
-        NullTest::IsNull => call_on_one(alloc, node, ScalarFnRef::IsNull, operand),
-        NullTest::IsNotNull => call_on_one(alloc, node, ScalarFnRef::IsNotNull, operand),
+        NullTest::IsNull => call_on_one(alloc, ScalarFnRef::IsNull, operand),
+        NullTest::IsNotNull => call_on_one(alloc, ScalarFnRef::IsNotNull, operand),
     }
 }
 
 /// The operator of a call of And or Or.
 fn boolean_called<C: ScalarFnVTable, T: ReduceTree<C>>(node: &T) -> Option<Operator>
-    ensures { result ≡ boolean_called (T.tree node.now) }
+    ensures { result ≡ boolean_called (T.seen node.now).tree }
 {
     match node.scalar_fn() {
         Some(ScalarFnRef::Binary(Operator::And)) => Some(Operator::And),
@@ -86,11 +83,9 @@ fn boolean_called<C: ScalarFnVTable, T: ReduceTree<C>>(node: &T) -> Option<Opera
 
 /// The operand that can be null, and then the other one, where one of the two can and one cannot.
 fn nullable_first<C: ScalarFnVTable, T: ReduceTree<C>>(left: T, right: T) -> Option<(T, T)>
-    requires { T.rows left ≡ T.rows right }
-    ensures operands { option_map (λ p. (T.tree p.0, T.tree p.1)) result
-        ≡ by_nullability C.meaning (T.tree left) (T.tree right) }
-    ensures same_rows { IfSome result
-        (λ p. (T.rows p.0 ≡ T.rows left) × (T.rows p.1 ≡ T.rows left)) }
+    requires { (T.seen left).context ≡ (T.seen right).context }
+    ensures { option_map (of_two T.seen) result ≡ option_map (of_two (with_tree (T.seen left)))
+        (by_nullability C.meaning (T.seen left).tree (T.seen right).tree) }
 {
     let left_nullable = left.node_dtype().is_nullable();
     let right_nullable = right.node_dtype().is_nullable();
@@ -106,22 +101,19 @@ fn beside_test<C: ScalarFnVTable, T: ReduceTree<C>>(
     alloc: Global,
     test: NullTest,
     operator: Operator,
-    node: &T,
     other: T,
 ) -> VortexResult<T>
     requires boolean { IsTrue (is_boolean operator) }
-    requires truth { tree_type C.meaning (T.tree other) ≡ Some (bool_type false) }
-    requires same_rows { T.rows other ≡ T.rows node.now }
-    ensures answer { AnswersUnlessMemory result
-        (λ made. T.tree made ≡ beside_test test operator (T.tree other)) }
+    requires truth { tree_type C.meaning (T.seen other).tree ≡ Some (bool_type false) }
+    ensures answer { AnswersUnlessMemory result (λ made. T.seen made
+        ≡ with_tree (T.seen other) (beside_test test operator (T.seen other).tree)) }
     ensures truth { IfOk result
-        (λ made. tree_type C.meaning (T.tree made) ≡ Some (bool_type false)) }
-    ensures same_rows { IfOk result (λ made. T.rows made ≡ T.rows node.now) }
+        (λ made. tree_type C.meaning (T.seen made).tree ≡ Some (bool_type false)) }
 {
     match (test, operator) {
         (NullTest::IsNull, Operator::And) => Ok(other),
         (NullTest::IsNotNull, Operator::Or) => Ok(other),
-        _ => call_on_one(alloc, node, ScalarFnRef::Not, other),
+        _ => call_on_one(alloc, ScalarFnRef::Not, other),
     }
 }
 
@@ -130,25 +122,23 @@ fn within_operands<C: ScalarFnVTable, T: ReduceTree<C>>(
     alloc: Global,
     test: NullTest,
     operator: Operator,
-    node: &T,
     left: T,
     right: T,
 ) -> VortexResult<Option<T>>
     requires boolean { IsTrue (is_boolean operator) }
     requires typed { IsSome
-        (tree_type C.meaning (operated operator (T.tree left) (T.tree right))) }
-    requires left_rows { T.rows left ≡ T.rows node.now }
-    requires right_rows { T.rows right ≡ T.rows node.now }
-    ensures { AnswersIfAny T.rows (T.rows node.now) (λ answer. option_map T.tree answer
-        ≡ within_operands C.meaning test operator (T.tree left) (T.tree right)) result }
+        (tree_type C.meaning (operated operator (T.seen left).tree (T.seen right).tree)) }
+    requires same_context { (T.seen left).context ≡ (T.seen right).context }
+    ensures { AnswersUnlessMemory result (IsMade (T.seen left) T.seen
+        (within_operands C.meaning test operator (T.seen left).tree (T.seen right).tree)) }
 {
     let Some((nullable, other)) = nullable_first(left, right) else {
         return Ok(None);
     };
-    let tested = tested(alloc, test, node, nullable)?;
-    let other = beside_test(alloc, test, operator, node, other)?;
+    let tested = tested(alloc, test, nullable)?;
+    let other = beside_test(alloc, test, operator, other)?;
     let function = ScalarFnRef::Binary(test.joined_by());
-    let made = call_on_two(alloc, node, function, tested, other)?;
+    let made = call_on_two(alloc, function, tested, other)?;
     Ok(Some(made))
 }
 
@@ -158,8 +148,8 @@ fn within<C: ScalarFnVTable, T: ReduceTree<C>>(
     test: NullTest,
     node: &T,
 ) -> VortexResult<Option<T>>
-    ensures { AnswersIfAny T.rows (T.rows node.now) (λ answer. option_map T.tree answer
-        ≡ within C.meaning test (T.tree node.now)) result }
+    ensures { AnswersUnlessMemory result
+        (IsMade (T.seen node.now) T.seen (within C.meaning test (T.seen node.now).tree)) }
 {
     let _typed = node.node_dtype();
     let Some(operator) = boolean_called(node) else {
@@ -167,23 +157,21 @@ fn within<C: ScalarFnVTable, T: ReduceTree<C>>(
     };
     let left = node.child(alloc, 0)?;
     let right = node.child(alloc, 1)?;
-    within_operands(alloc, test, operator, node, left, right)
+    within_operands(alloc, test, operator, left, right)
 }
 
 /// The test, by a tree that says where its operand is not null.
 fn by_validity<C: ScalarFnVTable, T: ReduceTree<C>>(
     alloc: Global,
     test: NullTest,
-    node: &T,
     valid: T,
 ) -> VortexResult<T>
-    requires truth { tree_type C.meaning (T.tree valid) ≡ Some (bool_type false) }
-    requires same_rows { T.rows valid ≡ T.rows node.now }
-    ensures { AnswersBeside T.rows (T.rows node.now) (λ made. T.tree made
-        ≡ by_validity test (T.tree valid)) result }
+    requires { tree_type C.meaning (T.seen valid).tree ≡ Some (bool_type false) }
+    ensures { AnswersUnlessMemory result (λ made. T.seen made
+        ≡ with_tree (T.seen valid) (by_validity test (T.seen valid).tree)) }
 {
     match test {
-        NullTest::IsNull => call_on_one(alloc, node, ScalarFnRef::Not, valid),
+        NullTest::IsNull => call_on_one(alloc, ScalarFnRef::Not, valid),
         NullTest::IsNotNull => Ok(valid),
     }
 }
@@ -191,15 +179,15 @@ fn by_validity<C: ScalarFnVTable, T: ReduceTree<C>>(
 /// Reduce of a null test. In order: a constant where its operand's type has no null; the operand's
 /// validity, negated for `is_null`, where a tree says it; where the operand is And or Or of `x`,
 /// which can be null, and `y`, which cannot, the test of `x` joined to `y` or `not(y)`, whichever
-/// side `x` stood on. None otherwise. E9 alone.
+/// side `x` stood on. None otherwise. E9 where memory is refused.
 pub fn reduce_null_test<C: ScalarFnRules, T: ReduceNode<C>>(
     alloc: Global,
     test: NullTest,
     node: &T,
 ) -> VortexResult<Option<T>>
-    requires { called (T.tree node.now) ≡ Some (ours (test_function test)) }
-    ensures { AnswersIfAny T.rows (T.rows node.now) (IsReducedBy C.meaning C.rules T.tree
-        (T.tree node.now)) result }
+    requires { called (T.seen node.now).tree ≡ Some (ours (test_function test)) }
+    ensures { AnswersUnlessMemory result
+        (IsReducedBy C.meaning C.rules T.seen (T.seen node.now)) }
 {
     let _typed = node.node_dtype();
     let operand = node.child(alloc, 0)?;
@@ -210,7 +198,7 @@ pub fn reduce_null_test<C: ScalarFnRules, T: ReduceNode<C>>(
     }
     match operand.validity(alloc)? {
         ReduceNodeValidity::Reduced(valid) => {
-            let made = by_validity(alloc, test, node, valid)?;
+            let made = by_validity(alloc, test, valid)?;
             Ok(Some(made))
         }
         ReduceNodeValidity::Irreducible => within(alloc, test, &operand),

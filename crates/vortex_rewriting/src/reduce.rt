@@ -4,7 +4,7 @@ ghost use Rattle.vortex_meaning.specs.Functions.{Function};
 ghost use Rattle.vortex_meaning.specs.Rewrites.{Rewrites};
 ghost use Rattle.vortex_functions.specs.Words.{called, function_of, AnswersUnlessMemory};
 ghost use Rattle.vortex_rewriting.specs.Reduced.{IsReducedBy, IsSimplifiedBy};
-ghost use Rattle.vortex_rewriting.specs.NodeTrees.{expression_of};
+ghost use Rattle.vortex_rewriting.specs.NodeTrees.{expression_of, expression_seen};
 
 use crate::dispatch::{reduce_call, simplify_call};
 use crate::rules::ScalarFnRules;
@@ -18,7 +18,7 @@ pub trait ReduceExpression<C: ScalarFnRules> {
     ghost function: { Self → Function C C.Options };
 
     /// What Reduce makes of the call: of its type, and of its value in each row in which it has
-    /// one. None where no rule applies. E9 alone.
+    /// one. None where no rule applies. E9 where memory is refused.
     fn reduce_expression<'a>(
         &self,
         alloc: Global,
@@ -26,7 +26,7 @@ pub trait ReduceExpression<C: ScalarFnRules> {
     ) -> VortexResult<Option<ExpressionReduceNode<'a, C>>>
         requires { called (expression_of node.now) ≡ Some (function self.now) }
         ensures answer { AnswersUnlessMemory result
-            (IsReducedBy C.meaning C.rules expression_of (expression_of node.now)) }
+            (IsReducedBy C.meaning C.rules expression_seen (expression_seen node.now)) }
         ensures kept { AnswersUnlessMemory result (λ answer. IfSome answer
             (λ made. Rewrites C.meaning (expression_of node.now) (expression_of made))) };
 
@@ -38,7 +38,7 @@ pub trait ReduceExpression<C: ScalarFnRules> {
     ) -> VortexResult<Option<BoundExpression<C>>>
         requires { called expression.now ≡ Some (function self.now) }
         ensures answer { AnswersUnlessMemory result
-            (IsSimplifiedBy C.meaning C.rules (λ t. t) expression.now) }
+            (IsSimplifiedBy C.meaning C.rules expression.now) }
         ensures kept { AnswersUnlessMemory result
             (λ answer. IfSome answer (Rewrites C.meaning expression.now)) };
 }

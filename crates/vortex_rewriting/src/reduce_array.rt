@@ -1,11 +1,11 @@
 //! Rules at the root of an array tree.
-ghost use Rattle.std.specs.Prelude.{◌≡◌, IfOk, IfSome, Some};
+ghost use Rattle.std.specs.Prelude.{◌≡◌, IfSome, Some};
 ghost use Rattle.vortex_meaning.specs.Functions.{Function};
 ghost use Rattle.vortex_meaning.specs.Rewrites.{Rewrites};
 ghost use Rattle.vortex_functions.specs.Words.{called, function_of, AnswersUnlessMemory};
-ghost use Rattle.vortex_rewriting.specs.Reduced.{IsReducedBy};
 ghost use Rattle.vortex_functions.specs.ArrayExecuting.{KeepsValues};
-ghost use Rattle.vortex_rewriting.specs.NodeTrees.{array_of, tree_of, rows_of};
+ghost use Rattle.vortex_rewriting.specs.NodeTrees.{array_of, array_seen, tree_of};
+ghost use Rattle.vortex_rewriting.specs.Reduced.{IsReducedBy};
 
 use crate::dispatch::reduce_call;
 use crate::rules::ScalarFnRules;
@@ -19,7 +19,7 @@ pub trait ReduceArray<C: ScalarFnRules> {
     ghost function: { Self → Function C C.Options };
 
     /// What Reduce makes of the call: of its type and its row count, and of its value in each row
-    /// in which it has one. None where no rule applies. E9 alone.
+    /// in which it has one. None where no rule applies. E9 where memory is refused.
     fn reduce_array<'a>(
         &self,
         alloc: Global,
@@ -27,13 +27,11 @@ pub trait ReduceArray<C: ScalarFnRules> {
     ) -> VortexResult<Option<ArrayReduceNode<'a, C>>>
         requires { called (tree_of node.now) ≡ Some (function self.now) }
         ensures answer { AnswersUnlessMemory result
-            (IsReducedBy C.meaning C.rules tree_of (tree_of node.now)) }
+            (IsReducedBy C.meaning C.rules array_seen (array_seen node.now)) }
         ensures kept { AnswersUnlessMemory result (λ answer. IfSome answer
             (λ made. Rewrites C.meaning (tree_of node.now) (tree_of made))) }
         ensures values { AnswersUnlessMemory result (λ answer. IfSome answer
-            (λ made. KeepsValues C.meaning (array_of node.now) (array_of made))) }
-        ensures same_rows { IfOk result
-            (λ answer. IfSome answer (λ made. rows_of made ≡ rows_of node.now)) };
+            (λ made. KeepsValues C.meaning (array_of node.now) (array_of made))) };
 }
 
 impl<C: ScalarFnRules> ReduceArray<C> for ScalarFnRef<C> {

@@ -5,7 +5,6 @@ ghost use Rattle.vortex_meaning.specs.Rewrites.{LawfulRules};
 ghost use Rattle.vortex_functions.specs.Words.{called, AnswersUnlessMemory};
 ghost use Rattle.vortex_rewriting.specs.Identities.{IsOwnIdentity};
 ghost use Rattle.vortex_rewriting.specs.Reduced.{IsReducedBy, IsSimplifiedBy, IsValidityBy};
-ghost use Rattle.vortex_rewriting.specs.Beside.{AnswersIfAny, AnswersValidity};
 
 use crate::node::{ReduceNodeValidity, ReduceTree};
 use std::alloc::Global;
@@ -27,9 +26,9 @@ pub trait ScalarFnRules: ScalarFnVTable {
         options: &Self::Options,
         node: &T,
     ) -> VortexResult<Option<T>>
-        requires { called (T.tree node.now) ≡ Some (custom self.now options.now) }
-        ensures { AnswersIfAny T.rows (T.rows node.now) (IsReducedBy Self.meaning Self.rules T.tree
-            (T.tree node.now)) result };
+        requires { called (T.seen node.now).tree ≡ Some (custom self.now options.now) }
+        ensures { AnswersUnlessMemory result
+            (IsReducedBy Self.meaning Self.rules T.seen (T.seen node.now)) };
 
     /// Where such a call is not null, if a tree says it.
     fn validity<T: ReduceTree<Self>>(
@@ -38,9 +37,9 @@ pub trait ScalarFnRules: ScalarFnVTable {
         options: &Self::Options,
         node: &T,
     ) -> VortexResult<ReduceNodeValidity<T>>
-        requires { called (T.tree node.now) ≡ Some (custom self.now options.now) }
-        ensures { AnswersValidity T.rows (T.rows node.now) (IsValidityBy Self.meaning Self.rules
-            T.tree (T.tree node.now)) result };
+        requires { called (T.seen node.now).tree ≡ Some (custom self.now options.now) }
+        ensures { AnswersUnlessMemory result
+            (IsValidityBy Self.meaning Self.rules T.seen (T.seen node.now)) };
 
     /// What such a call of an expression is simplified to, if a rule applies.
     fn simplify(
@@ -51,7 +50,7 @@ pub trait ScalarFnRules: ScalarFnVTable {
     ) -> VortexResult<Option<BoundExpression<Self>>>
         requires { called expression.now ≡ Some (custom self.now options.now) }
         ensures { AnswersUnlessMemory result
-            (IsSimplifiedBy Self.meaning Self.rules (λ t. t) expression.now) };
+            (IsSimplifiedBy Self.meaning Self.rules expression.now) };
 
     ghost rules_lawful: { LawfulRules Self.meaning Self.rules };
 
@@ -60,8 +59,8 @@ pub trait ScalarFnRules: ScalarFnVTable {
 
 /// A node that tells its validity too.
 pub trait ReduceNode<C: ScalarFnRules>: ReduceTree<C> {
-    /// Where the node is not null, if a tree says it. E9 alone.
+    /// Where the node is not null, if a tree says it. E9 where memory is refused.
     fn validity(&self, alloc: Global) -> VortexResult<ReduceNodeValidity<Self>>
-        ensures { AnswersValidity Self.rows (Self.rows self.now)
-            (IsValidityBy C.meaning C.rules Self.tree (Self.tree self.now)) result };
+        ensures { AnswersUnlessMemory result
+            (IsValidityBy C.meaning C.rules Self.seen (Self.seen self.now)) };
 }

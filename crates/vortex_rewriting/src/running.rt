@@ -36,7 +36,7 @@ pub fn run<'a, C: ScalarFnRules>(
     optimized.tree.execute(columns, row_count, ctx)
 }
 
-/// The column itself, copied where it is borrowed. E9 alone.
+/// The column itself, copied where it is borrowed. E9 where memory is refused.
 fn own_column(alloc: Global, column: Cow<'_, Column>) -> VortexResult<Column>
     ensures { AnswersUnlessMemory result (λ own. own ≡ cow_value column.entry) }
 {

@@ -2,7 +2,6 @@
 ghost use Rattle.std.specs.Prelude.{◌≡◌, Some};
 ghost use Rattle.vortex_functions.specs.Words.{ours, called, AnswersUnlessMemory};
 ghost use Rattle.vortex_rewriting.specs.Reduced.{IsReducedBy, IsSimplifiedBy, IsValidityBy};
-ghost use Rattle.vortex_rewriting.specs.Beside.{AnswersIfAny, AnswersValidity};
 
 use crate::dispatch::{reduce_call, simplify_call, validity_call};
 use crate::node::{ReduceNodeValidity, ReduceTree};
@@ -12,7 +11,7 @@ use vortex_columns::VortexResult;
 use vortex_functions::{BoundExpression, ScalarFnVTableExt};
 
 /// The rules of a shipped function, in trees over every caller's functions: what the table of rules
-/// has for a call of it with these options. E9 alone.
+/// has for a call of it with these options. E9 where memory is refused.
 pub trait ShippedRules: ScalarFnVTableExt {
     /// What a node is reduced to, if a rule applies.
     final fn reduce<C: ScalarFnRules, T: ReduceNode<C>>(
@@ -21,9 +20,9 @@ pub trait ShippedRules: ScalarFnVTableExt {
         options: &Self::Options,
         node: &T,
     ) -> VortexResult<Option<T>>
-        requires { called (T.tree node.now) ≡ Some (ours (Self.ships options.now)) }
-        ensures { AnswersIfAny T.rows (T.rows node.now) (IsReducedBy C.meaning C.rules T.tree
-            (T.tree node.now)) result }
+        requires { called (T.seen node.now).tree ≡ Some (ours (Self.ships options.now)) }
+        ensures { AnswersUnlessMemory result
+            (IsReducedBy C.meaning C.rules T.seen (T.seen node.now)) }
     {
         let options = self.clone_options(alloc, options)?;
         reduce_call(alloc, &self.bind(options), node)
@@ -36,9 +35,9 @@ pub trait ShippedRules: ScalarFnVTableExt {
         options: &Self::Options,
         node: &T,
     ) -> VortexResult<ReduceNodeValidity<T>>
-        requires { called (T.tree node.now) ≡ Some (ours (Self.ships options.now)) }
-        ensures { AnswersValidity T.rows (T.rows node.now) (IsValidityBy C.meaning C.rules T.tree
-            (T.tree node.now)) result }
+        requires { called (T.seen node.now).tree ≡ Some (ours (Self.ships options.now)) }
+        ensures { AnswersUnlessMemory result
+            (IsValidityBy C.meaning C.rules T.seen (T.seen node.now)) }
     {
         let options = self.clone_options(alloc, options)?;
         validity_call(alloc, &self.bind(options), node)
@@ -53,7 +52,7 @@ pub trait ShippedRules: ScalarFnVTableExt {
     ) -> VortexResult<Option<BoundExpression<C>>>
         requires { called expression.now ≡ Some (ours (Self.ships options.now)) }
         ensures { AnswersUnlessMemory result
-            (IsSimplifiedBy C.meaning C.rules (λ t. t) expression.now) }
+            (IsSimplifiedBy C.meaning C.rules expression.now) }
     {
         let options = self.clone_options(alloc, options)?;
         simplify_call(alloc, &self.bind(options), expression)

@@ -1,8 +1,9 @@
 //! Nodes over trees of either kind.
-ghost use Rattle.std.specs.Prelude.{◌≡◌, All, IfOk, IsOk, map};
+ghost use Rattle.std.specs.Prelude.{◌≡◌, All, IsOk, map};
 ghost use Rattle.std.specs.Cow.{cow_value, IsBorrowed, IsOwned};
 ghost use Rattle.vortex_functions.specs.Words.{function_of, AnswersUnlessMemory};
-ghost use Rattle.vortex_rewriting.specs.Making.{AnswersCall};
+ghost use Rattle.vortex_functions.specs.Words.{AnswersTreeCall};
+ghost use Rattle.vortex_rewriting.specs.Contexts.{in_context};
 
 use crate::dispatch::validity_call;
 use crate::leaf::RuleLeaf;
@@ -102,7 +103,7 @@ impl<'a, C: ScalarFnVTable> TreeReduceNode<'a, ArrayRef<C>> {
 }
 
 /// The tree that a node stood for, copied where it is borrowed.
-fn into_tree<'a, C: ScalarFnVTable, L: Leaf<C, C::Options>>(
+pub(crate) fn into_tree<'a, C: ScalarFnVTable, L: Leaf<C, C::Options>>(
     alloc: Global,
     node: TreeReduceNode<'a, Tree<C, L>>,
 ) -> VortexResult<Tree<C, L>>
@@ -131,11 +132,9 @@ fn copies_of<'a, C: ScalarFnVTable, L: Leaf<C, C::Options>>(
 }
 
 impl<'a, C: ScalarFnVTable, L: RuleLeaf<C>> ReduceTree<C> for TreeReduceNode<'a, Tree<C, L>> {
-    type Beside = L::Beside;
+    type Context = L::Beside;
 
-    ghost tree = { λ n. L.tree_of (cow_value n.tree) };
-
-    ghost rows = { λ n. L.beside_of (cow_value n.tree) };
+    ghost seen = { λ n. in_context L.tree_of L.beside_of (cow_value n.tree) };
 
     ghost lent = { λ n. IsBorrowed n.tree };
 
@@ -173,10 +172,9 @@ impl<'a, C: ScalarFnVTable, L: RuleLeaf<C>> ReduceTree<C> for TreeReduceNode<'a,
     ) -> VortexResult<Self>
         requires { All (λ child. L.beside_of (cow_value child.tree)
             ≡ L.beside_of (cow_value self.now.tree)) children.now }
-        ensures answer { AnswersCall C.meaning (λ n. L.tree_of (cow_value n.tree))
-            (function_of function) children.now result }
-        ensures same_rows { IfOk result
-            (λ node. L.beside_of (cow_value node.tree) ≡ L.beside_of (cow_value self.now.tree)) }
+        ensures { AnswersTreeCall (λ n. L.tree_of (cow_value n.tree))
+            (λ n. L.beside_of (cow_value n.tree)) C.meaning (function_of function) children.now
+            (L.beside_of (cow_value self.now.tree)) result }
     {
         let copies = copies_of(alloc, children)?;
         let call = Tree::try_call(alloc, function, copies, self.tree().beside())?;

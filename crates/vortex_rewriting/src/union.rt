@@ -8,7 +8,7 @@ ghost use Rattle.vortex_meaning.specs.ValidityRules.{union_child_validities};
 ghost use Rattle.vortex_functions.specs.Words.{trees_of, children_of, tree_type};
 ghost use Rattle.vortex_functions.specs.Words.{AnswersUnlessMemory};
 ghost use Rattle.vortex_rewriting.specs.Union.{AreTruths, pairs_of, joined_last};
-ghost use Rattle.vortex_rewriting.specs.Beside.{AnswersBeside};
+ghost use Rattle.vortex_rewriting.specs.Contexts.{tree_by, with_tree};
 
 use crate::boolean::truth_node;
 use crate::making::call_on_two;
@@ -22,16 +22,16 @@ use vortex_operators::Operator;
 
 /// The null tests of the nullable children, in order.
 fn null_tests<C: ScalarFnVTable, T: ReduceTree<C>>(alloc: Global, node: &T) -> VortexResult<Vec<T>>
-    ensures answer { AnswersUnlessMemory result (λ tests. map T.tree tests.items
-        ≡ null_tests C.meaning (trees_of (children_of (T.tree node.now)))) }
+    ensures answer { AnswersUnlessMemory result (λ tests. map (tree_by T.seen) tests.items
+        ≡ null_tests C.meaning (trees_of (children_of (T.seen node.now).tree))) }
     ensures truths { IfOk result
-        (λ tests. AreTruths C.meaning T.tree T.rows (T.rows node.now) tests.items) }
+        (λ tests. AreTruths C.meaning T.seen (T.seen node.now).context tests.items) }
 {
     let mut tests = Vec::new(alloc);
     for index in 0..node.child_count() {
         let child = node.child(alloc, index)?;
         if child.node_dtype().is_nullable() {
-            tests.push(tested(alloc, NullTest::IsNotNull, node, child)?)?;
+            tests.push(tested(alloc, NullTest::IsNotNull, child)?)?;
         }
     }
     Ok(tests)
@@ -43,11 +43,11 @@ fn pairs_of<C: ScalarFnVTable, T: ReduceTree<C>>(
     node: &T,
     tests: &[T],
 ) -> VortexResult<Vec<T>>
-    requires { AreTruths C.meaning T.tree T.rows (T.rows node.now) tests.now }
-    ensures answer { AnswersUnlessMemory result
-        (λ joined. map T.tree joined.items ≡ pairs_of (map T.tree tests.now)) }
+    requires { AreTruths C.meaning T.seen (T.seen node.now).context tests.now }
+    ensures answer { AnswersUnlessMemory result (λ joined. map (tree_by T.seen) joined.items
+        ≡ pairs_of (map (tree_by T.seen) tests.now)) }
     ensures truths { IfOk result
-        (λ joined. AreTruths C.meaning T.tree T.rows (T.rows node.now) joined.items) }
+        (λ joined. AreTruths C.meaning T.seen (T.seen node.now).context joined.items) }
 {
     let mut joined = Vec::new(alloc);
     for pair in 0..tests.len() / 2 {
@@ -59,20 +59,14 @@ fn pairs_of<C: ScalarFnVTable, T: ReduceTree<C>>(
 }
 
 /// Two tests joined by And.
-fn both<C: ScalarFnVTable, T: ReduceTree<C>>(
-    alloc: Global,
-    node: &T,
-    left: T,
-    right: T,
-) -> VortexResult<T>
-    requires left_truth { tree_type C.meaning (T.tree left) ≡ Some (bool_type false) }
-    requires right_truth { tree_type C.meaning (T.tree right) ≡ Some (bool_type false) }
-    requires left_rows { T.rows left ≡ T.rows node.now }
-    requires right_rows { T.rows right ≡ T.rows node.now }
-    ensures { AnswersBeside T.rows (T.rows node.now) (λ made. T.tree made
-        ≡ operated And (T.tree left) (T.tree right)) result }
+fn both<C: ScalarFnVTable, T: ReduceTree<C>>(alloc: Global, left: T, right: T) -> VortexResult<T>
+    requires left_truth { tree_type C.meaning (T.seen left).tree ≡ Some (bool_type false) }
+    requires right_truth { tree_type C.meaning (T.seen right).tree ≡ Some (bool_type false) }
+    requires same_context { (T.seen left).context ≡ (T.seen right).context }
+    ensures { AnswersUnlessMemory result (λ made. T.seen made
+        ≡ with_tree (T.seen left) (operated And (T.seen left).tree (T.seen right).tree)) }
 {
-    call_on_two(alloc, node, ScalarFnRef::Binary(Operator::And), left, right)
+    call_on_two(alloc, ScalarFnRef::Binary(Operator::And), left, right)
 }
 
 /// One more test, as the right operand beside the last of those joined; alone where there is none.
@@ -82,16 +76,16 @@ fn join_last<C: ScalarFnVTable, T: ReduceTree<C>>(
     mut joined: Vec<T>,
     last: T,
 ) -> VortexResult<Vec<T>>
-    requires truths { AreTruths C.meaning T.tree T.rows (T.rows node.now) joined.items }
-    requires truth { tree_type C.meaning (T.tree last) ≡ Some (bool_type false) }
-    requires same_rows { T.rows last ≡ T.rows node.now }
-    ensures answer { AnswersUnlessMemory result
-        (λ all. map T.tree all.items ≡ joined_last (map T.tree joined.items) (T.tree last)) }
+    requires truths { AreTruths C.meaning T.seen (T.seen node.now).context joined.items }
+    requires truth { tree_type C.meaning (T.seen last).tree ≡ Some (bool_type false) }
+    requires same_context { (T.seen last).context ≡ (T.seen node.now).context }
+    ensures answer { AnswersUnlessMemory result (λ all. map (tree_by T.seen) all.items
+        ≡ joined_last (map (tree_by T.seen) joined.items) (T.seen last).tree) }
     ensures truths { IfOk result
-        (λ all. AreTruths C.meaning T.tree T.rows (T.rows node.now) all.items) }
+        (λ all. AreTruths C.meaning T.seen (T.seen node.now).context all.items) }
 {
     let right = match joined.pop() {
-        Some(left) => both(alloc, node, left, last)?,
+        Some(left) => both(alloc, left, last)?,
         None => last,
     };
     joined.push(right)?;
@@ -105,11 +99,11 @@ fn one_round<C: ScalarFnVTable, T: ReduceTree<C>>(
     node: &T,
     mut tests: Vec<T>,
 ) -> VortexResult<Vec<T>>
-    requires { AreTruths C.meaning T.tree T.rows (T.rows node.now) tests.items }
-    ensures answer { AnswersUnlessMemory result
-        (λ joined. map T.tree joined.items ≡ one_round (map T.tree tests.items)) }
+    requires { AreTruths C.meaning T.seen (T.seen node.now).context tests.items }
+    ensures answer { AnswersUnlessMemory result (λ joined. map (tree_by T.seen) joined.items
+        ≡ one_round (map (tree_by T.seen) tests.items)) }
     ensures truths { IfOk result
-        (λ joined. AreTruths C.meaning T.tree T.rows (T.rows node.now) joined.items) }
+        (λ joined. AreTruths C.meaning T.seen (T.seen node.now).context joined.items) }
 {
     if tests.len() % 2 == 0 {
         return pairs_of(alloc, node, &tests);
@@ -129,9 +123,9 @@ fn all_of<C: ScalarFnVTable, T: ReduceTree<C>>(
     node: &T,
     mut tests: Vec<T>,
 ) -> VortexResult<T>
-    requires { AreTruths C.meaning T.tree T.rows (T.rows node.now) tests.items }
-    ensures { AnswersBeside T.rows (T.rows node.now) (λ made. T.tree made
-        ≡ all_of (map T.tree tests.items)) result }
+    requires { AreTruths C.meaning T.seen (T.seen node.now).context tests.items }
+    ensures { AnswersUnlessMemory result (λ made. T.seen made
+        ≡ with_tree (T.seen node.now) (all_of (map (tree_by T.seen) tests.items))) }
 {
     while tests.len() > 1 {
         tests = one_round(alloc, node, tests)?;
@@ -143,13 +137,14 @@ fn all_of<C: ScalarFnVTable, T: ReduceTree<C>>(
 }
 
 /// A node that says of each row whether no child of the node is null there: the null tests of the
-/// nullable children, joined by And. The constant true where no child is nullable. E9 alone.
+/// nullable children, joined by And. The constant true where no child is nullable. E9 where memory
+/// is refused.
 pub fn union_child_validities<C: ScalarFnVTable, T: ReduceTree<C>>(
     alloc: Global,
     node: &T,
 ) -> VortexResult<T>
-    ensures { AnswersBeside T.rows (T.rows node.now) (λ made. T.tree made
-        ≡ union_child_validities C.meaning (trees_of (children_of (T.tree node.now)))) result }
+    ensures { AnswersUnlessMemory result (λ made. T.seen made ≡ with_tree (T.seen node.now)
+        (union_child_validities C.meaning (trees_of (children_of (T.seen node.now).tree)))) }
 {
     let tests = null_tests(alloc, node)?;
     all_of(alloc, node, tests)

@@ -9,7 +9,6 @@ ghost use Rattle.vortex_functions.specs.Words.{function_of};
 ghost use Rattle.vortex_functions.specs.Words.{called, trees_of, children_of, tree_types};
 ghost use Rattle.vortex_functions.specs.Words.{AnswersUnlessMemory};
 ghost use Rattle.vortex_rewriting.specs.Told.{IsTold};
-ghost use Rattle.vortex_rewriting.specs.Beside.{AnswersValidity};
 
 use crate::node::{ReduceNodeValidity, ReduceTree};
 use crate::union::union_child_validities;
@@ -24,7 +23,7 @@ fn child_dtypes<C: ScalarFnVTable, T: ReduceTree<C>>(
     node: &T,
 ) -> VortexResult<Vec<DType>>
     ensures { AnswersUnlessMemory result (λ dtypes.
-        option_map without_null (tree_types C.meaning (trees_of (children_of (T.tree node.now))))
+        option_map without_null (tree_types C.meaning (trees_of (children_of (T.seen node.now).tree)))
         ≡ Some (map type_of dtypes.items)) }
 {
     let mut dtypes = Vec::new(alloc);
@@ -79,15 +78,15 @@ fn may_be_null<C: ScalarFnVTable>(
 
 /// The validity of a call of a strict function: the union of its children's, unless a child's type
 /// is Null, or the call may be null though no child is. That is asked of the function by the
-/// children's types made non-nullable. Irreducible for any other call. E9 alone.
+/// children's types made non-nullable. Irreducible for any other call. E9 where memory is refused.
 pub fn default_validity<C: ScalarFnVTable, T: ReduceTree<C>>(
     alloc: Global,
     function: &ScalarFnRef<C>,
     node: &T,
 ) -> VortexResult<ReduceNodeValidity<T>>
-    requires { called (T.tree node.now) ≡ Some (function_of function.now) }
-    ensures { AnswersValidity T.rows (T.rows node.now) (IsTold T.tree (default_validity C.meaning
-        (function_of function.now) (trees_of (children_of (T.tree node.now))))) result }
+    requires { called (T.seen node.now).tree ≡ Some (function_of function.now) }
+    ensures { AnswersUnlessMemory result (IsTold (T.seen node.now) T.seen (default_validity
+        C.meaning (function_of function.now) (trees_of (children_of (T.seen node.now).tree)))) }
 {
     let _typed = node.node_dtype();
     if !function.signature().is_strict {

@@ -10,27 +10,28 @@ use Rattle.vortex_rewriting.proofs.boolean.reduce_boolean.Goals as goal
 pub child-requires : goal.child-requires
 child-requires g c =
     let two =
-    two_operands g.C.ScalarFnVTable.meaning (g.T.ReduceTree.tree c.args.node.now) c.args.operator
+    two_operands g.C.ScalarFnVTable.meaning (g.T.ReduceTree.seen c.args.node.now).tree c.args.operator
     (type_of c.node_dtype.result.now) c.requires.call c.node_dtype.ensures in
     omega arith
 
 pub child-requires-2 : goal.child-requires-2
 child-requires-2 g c =
     let two =
-    two_operands g.C.ScalarFnVTable.meaning (g.T.ReduceTree.tree c.args.node.now) c.args.operator
+    two_operands g.C.ScalarFnVTable.meaning (g.T.ReduceTree.seen c.args.node.now).tree c.args.operator
     (type_of c.node_dtype.result.now) c.requires.call c.node_dtype.ensures in
     omega arith
 
 -- the node, by its operands
 operands : (g : Over) (c : In_ok-right g)
-    → g.T.ReduceTree.tree c.args.node.now
-    ≡ operated c.args.operator (g.T.ReduceTree.tree c.in_ok-left.left)
-    (g.T.ReduceTree.tree c.in_ok-right.right)
+    → (g.T.ReduceTree.seen c.args.node.now).tree
+    ≡ operated c.args.operator (g.T.ReduceTree.seen c.in_ok-left.left).tree
+    (g.T.ReduceTree.seen c.in_ok-right.right).tree
 operands g c =
-    let tree = g.T.ReduceTree.tree in
-    is_operated g.C.ScalarFnVTable.meaning (tree c.args.node.now) c.args.operator
-    (tree c.in_ok-left.left) (tree c.in_ok-right.right) (type_of c.node_dtype.result.now)
-    c.requires.call c.node_dtype.ensures c.in_ok-left.ensures.answer c.in_ok-right.ensures.answer
+    let seen = g.T.ReduceTree.seen in
+    is_operated g.C.ScalarFnVTable.meaning (seen c.args.node.now).tree c.args.operator
+    (seen c.in_ok-left.left).tree (seen c.in_ok-right.right).tree
+    (type_of c.node_dtype.result.now) c.requires.call c.node_dtype.ensures
+    c.in_ok-left.ensures.answer.0 c.in_ok-right.ensures.answer.0
 
 pub of_constants-requires-clause-casts_left : goal.of_constants-requires-clause-casts_left
 of_constants-requires-clause-casts_left g c =
@@ -45,10 +46,9 @@ of_constants-requires-clause-casts_right g c =
     c.node_dtype.ensures
 
 pub returns : goal.returns
-returns g c = record {
-  answer =
-      reduced g.C.ScalarFnVTable.meaning g.T.ReduceTree.tree c.of_constants.result
-      c.requires.boolean (operands g (goal.at.returns g c).In_ok-right) c.node_dtype.ensures
-      c.nullability-nullability.ensures c.of_constants.ensures.answer;
-  same_rows = c.of_constants.ensures.same_rows;
-}
+returns g c =
+    let seen = g.T.ReduceTree.seen in
+    reduced g.C.ScalarFnVTable.meaning seen (seen c.args.node.now) (seen c.in_ok-left.left)
+    c.of_constants.result c.in_ok-left.ensures.answer.1 c.requires.boolean
+    (operands g (goal.at.returns g c).In_ok-right) c.node_dtype.ensures
+    c.nullability-nullability.ensures c.of_constants.ensures

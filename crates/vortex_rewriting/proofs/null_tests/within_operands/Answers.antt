@@ -8,8 +8,8 @@ use Rattle.vortex_rewriting.proofs.null_tests.within_operands.Goals as goal
 pub call_on_two-requires-clause-accepts : goal.call_on_two-requires-clause-accepts
 call_on_two-requires-clause-accepts g c =
     let m = g.C.ScalarFnVTable.meaning in
-    let x = g.T.ReduceTree.tree c.in_ok-tested.tested in
-    let y = g.T.ReduceTree.tree c.in_ok-other.other in
+    let x = (g.T.ReduceTree.seen c.in_ok-tested.tested).tree in
+    let y = (g.T.ReduceTree.seen c.in_ok-other.other).tree in
     let typed =
     type_of_split m c.args.test x y c.in_ok-tested.ensures.truth c.in_ok-other.ensures.truth in
     subst (λ op. IsSome (tree_type m (operated op x y))) (sym c.joined_by.ensures)

@@ -10,27 +10,28 @@ use Rattle.vortex_rewriting.proofs.simplify.simplify_operator.Goals as goal
 pub child-requires : goal.child-requires
 child-requires g c =
     let two =
-    two_operands g.C.ScalarFnVTable.meaning (g.T.ReduceTree.tree c.args.node.now) c.args.operator
+    two_operands g.C.ScalarFnVTable.meaning (g.T.ReduceTree.seen c.args.node.now).tree c.args.operator
     (type_of c.node_dtype.result.now) c.requires c.node_dtype.ensures in
     omega arith
 
 pub child-requires-2 : goal.child-requires-2
 child-requires-2 g c =
     let two =
-    two_operands g.C.ScalarFnVTable.meaning (g.T.ReduceTree.tree c.args.node.now) c.args.operator
+    two_operands g.C.ScalarFnVTable.meaning (g.T.ReduceTree.seen c.args.node.now).tree c.args.operator
     (type_of c.node_dtype.result.now) c.requires c.node_dtype.ensures in
     omega arith
 
 -- the node, by its operands
 operands : (g : Over) (c : In_ok-right g)
-    → g.T.ReduceTree.tree c.args.node.now
-    ≡ operated c.args.operator (g.T.ReduceTree.tree c.in_ok-left.left)
-    (g.T.ReduceTree.tree c.in_ok-right.right)
+    → (g.T.ReduceTree.seen c.args.node.now).tree
+    ≡ operated c.args.operator ((g.T.ReduceTree.seen c.in_ok-left.left).tree)
+    ((g.T.ReduceTree.seen c.in_ok-right.right).tree)
 operands g c =
-    let tree = g.T.ReduceTree.tree in
-    is_operated g.C.ScalarFnVTable.meaning (tree c.args.node.now) c.args.operator
-    (tree c.in_ok-left.left) (tree c.in_ok-right.right) (type_of c.node_dtype.result.now)
-    c.requires c.node_dtype.ensures c.in_ok-left.ensures.answer c.in_ok-right.ensures.answer
+    let seen = g.T.ReduceTree.seen in
+    is_operated g.C.ScalarFnVTable.meaning (seen c.args.node.now).tree c.args.operator
+    (seen c.in_ok-left.left).tree (seen c.in_ok-right.right).tree
+    (type_of c.node_dtype.result.now) c.requires c.node_dtype.ensures
+    c.in_ok-left.ensures.answer.0 c.in_ok-right.ensures.answer.0
 
 pub simplify_operands-requires-clause-casts_left : goal.simplify_operands-requires-clause-casts_left
 simplify_operands-requires-clause-casts_left g c =
@@ -46,21 +47,19 @@ simplify_operands-requires-clause-casts_right g c =
     c.node_dtype.ensures
 
 pub returns-then-is_boolean : goal.returns-then-is_boolean
-returns-then-is_boolean g c = record {
-  answer =
-      simplified_boolean g.C.ScalarFnVTable.meaning g.T.ReduceTree.tree
-      (operands g (goal.at.returns-then-is_boolean g c).In_ok-right)
-      c.simplify_operands.result (sym c.is_boolean.ensures ∙ c.if-is_boolean.true)
-      c.node_dtype.ensures c.nullability-nullability.ensures c.simplify_operands.ensures.answer;
-  same_rows = c.simplify_operands.ensures.same_rows;
-}
+returns-then-is_boolean g c =
+    let seen = g.T.ReduceTree.seen in
+    simplified_boolean g.C.ScalarFnVTable.meaning seen (seen c.args.node.now)
+    (seen c.in_ok-left.left) c.in_ok-left.ensures.answer.1
+    (operands g (goal.at.returns-then-is_boolean g c).In_ok-right) c.simplify_operands.result
+    (sym c.is_boolean.ensures ∙ c.if-is_boolean.true) c.node_dtype.ensures
+    c.nullability-nullability.ensures c.simplify_operands.ensures
 
 pub returns-then-is_comparison : goal.returns-then-is_comparison
-returns-then-is_comparison g c = record {
-  answer =
-      simplified_comparison g.C.ScalarFnVTable.meaning g.T.ReduceTree.tree
-      (operands g (goal.at.returns-then-is_comparison g c).In_ok-right)
-      c.simplify_comparison.result (sym c.is_comparison.ensures ∙ c.if-is_comparison.true)
-      c.simplify_comparison.ensures.answer;
-  same_rows = c.simplify_comparison.ensures.same_rows;
-}
+returns-then-is_comparison g c =
+    let seen = g.T.ReduceTree.seen in
+    simplified_comparison g.C.ScalarFnVTable.meaning seen (seen c.args.node.now)
+    (seen c.in_ok-left.left) c.in_ok-left.ensures.answer.1
+    (operands g (goal.at.returns-then-is_comparison g c).In_ok-right)
+    c.simplify_comparison.result (sym c.is_comparison.ensures ∙ c.if-is_comparison.true)
+    c.simplify_comparison.ensures

@@ -9,24 +9,24 @@ use Rattle.vortex_rewriting.proofs.union.null_tests.Goals.{else-is_nullable}
 pub loop-index-preserved : goal.loop-index-preserved
 loop-index-preserved g c =
     let m = g.C.ScalarFnVTable.meaning in
-    let tree = g.T.ReduceTree.tree in
-    let rows = g.T.ReduceTree.rows in
-    let n = rows c.args.node.now in
-    let ts = children_of (tree c.args.node.now) in
+    let seen = g.T.ReduceTree.seen in
+    let n = (seen c.args.node.now).context in
+    let ts = children_of (seen c.args.node.now).tree in
     let i = c.loop-index.index in
-    let t = tree c.in_ok-child.child in
+    let t = (seen c.in_ok-child.child).tree in
     let k = type_of c.node_dtype.result.now in
     let tests = c.loop-index.tests.items in
     let after = c.if-is_nullable.tests.items in
     elim c.if-is_nullable.branch [
       | then-is_nullable+in_ok-tested+in_ok-push w ↦
-          one_more_test m tree rows n ts i t k tests w.in_ok-tested.field-0 w.push.new.self.items
-          after c.in_ok-child.ensures.answer c.node_dtype.ensures
+          one_more_test m seen n ts i t k tests w.in_ok-tested.field-0 w.push.new.self.items
+          after c.in_ok-child.ensures.answer.0 c.node_dtype.ensures
           (sym c.is_nullable.ensures ∙ w.if-is_nullable.true) c.loop-index.invariant
           w.in_ok-push.ensures.items (ap (λ v. v.items) w.tests-is)
-          w.in_ok-tested.ensures.answer w.in_ok-tested.ensures.same_rows
+          (ap (λ s. s.tree) w.in_ok-tested.ensures.answer)
+          (ap (λ s. s.context) w.in_ok-tested.ensures.answer ∙ c.in_ok-child.ensures.answer.1)
       | else-is_nullable w ↦
-          no_more_test m tree rows n ts i t k tests after c.in_ok-child.ensures.answer
+          no_more_test m seen n ts i t k tests after c.in_ok-child.ensures.answer.0
           c.node_dtype.ensures (sym c.is_nullable.ensures ∙ w.if-is_nullable.false)
           c.loop-index.invariant (ap (λ v. v.items) w.tests-is)
     ]

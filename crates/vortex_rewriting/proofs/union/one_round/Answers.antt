@@ -1,13 +1,14 @@
 use Rattle.std.proofs.Common.{◌≡◌, ◌/◌, map, ap, ◌∙◌, arith}
 use Rattle.vortex_errors.proofs.Answering.{AnswersUnlessMemory-weaker}
 use Rattle.vortex_meaning.specs.ValidityRules.{one_round}
+use Rattle.vortex_rewriting.specs.Contexts.{tree_by}
 use Rattle.vortex_rewriting.specs.Union.{pairs_of, joined_last}
 use Rattle.vortex_rewriting.proofs.Unions.{last_truth, even_round, odd_round}
 use Rattle.vortex_rewriting.proofs.union.one_round.Goals as goal
 
 pub returns-then-len-eq0-clause-answer : goal.returns-then-len-eq0-clause-answer
 returns-then-len-eq0-clause-answer g c =
-    let tree = g.T.ReduceTree.tree in
+    let tree = tree_by g.T.ReduceTree.seen in
     let tests = c.args.tests.items in
     AnswersUnlessMemory-weaker c.pairs_of.result
     (λ joined. map tree joined.items ≡ pairs_of (map tree c.deref.result.now))
@@ -17,19 +18,19 @@ returns-then-len-eq0-clause-answer g c =
 
 pub join_last-requires-clause-truth : goal.join_last-requires-clause-truth
 join_last-requires-clause-truth g c =
-    let rows = g.T.ReduceTree.rows in
-    (last_truth g.C.ScalarFnVTable.meaning g.T.ReduceTree.tree rows (rows c.args.node.now)
-    c.args.tests.items c.pop.new.self.items c.in-Some.last c.in-Some.ensures.items c.requires).0
+    let seen = g.T.ReduceTree.seen in
+    (last_truth g.C.ScalarFnVTable.meaning seen (seen c.args.node.now).context c.args.tests.items
+    c.pop.new.self.items c.in-Some.last c.in-Some.ensures.items c.requires).0
 
-pub join_last-requires-clause-same_rows : goal.join_last-requires-clause-same_rows
-join_last-requires-clause-same_rows g c =
-    let rows = g.T.ReduceTree.rows in
-    (last_truth g.C.ScalarFnVTable.meaning g.T.ReduceTree.tree rows (rows c.args.node.now)
-    c.args.tests.items c.pop.new.self.items c.in-Some.last c.in-Some.ensures.items c.requires).1
+pub join_last-requires-clause-same_context : goal.join_last-requires-clause-same_context
+join_last-requires-clause-same_context g c =
+    let seen = g.T.ReduceTree.seen in
+    (last_truth g.C.ScalarFnVTable.meaning seen (seen c.args.node.now).context c.args.tests.items
+    c.pop.new.self.items c.in-Some.last c.in-Some.ensures.items c.requires).1
 
 pub returns-in_ok-joined-in-Some-clause-answer : goal.returns-in_ok-joined-in-Some-clause-answer
 returns-in_ok-joined-in-Some-clause-answer g c =
-    let tree = g.T.ReduceTree.tree in
+    let tree = tree_by g.T.ReduceTree.seen in
     let tests = c.args.tests.items in
     let rest = c.pop.new.self.items in
     let pairs = c.in_ok-joined-in-Some.joined.items in

@@ -9,7 +9,7 @@ use Rattle.vortex_rewriting.proofs.validity.child_dtypes.Given as goal
 -- the types so far
 abbrev pub invariant-loop-index : goal.invariant-loop-index
 invariant-loop-index g l =
-    let children = children_of (g.T.ReduceTree.tree l.node) in
+    let children = children_of (g.T.ReduceTree.seen l.node).tree in
     option_map without_null
     (tree_types g.C.ScalarFnVTable.meaning (trees_of (take l.index children)))
     ≡ Some (map type_of l.dtypes.items)

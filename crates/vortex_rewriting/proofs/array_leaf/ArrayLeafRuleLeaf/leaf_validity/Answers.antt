@@ -5,12 +5,10 @@ use Rattle.vortex_rewriting.proofs.array_leaf.ArrayLeafRuleLeaf.leaf_validity.Go
 
 pub returns-in_ok-column-in-Some : goal.returns-in_ok-column-in-Some
 returns-in_ok-column-in-Some g c =
-    let column = c.in-Some.column.now in
-    record {
-      answer = search rules;
-      same_rows =
-          ap rows_in c.in_ok-column-in-Some.ensures
+    let column = c.in-Some.column.now in (
+      search rules,
+      ap rows_in c.in_ok-column-in-Some.ensures
           ∙ ap (λ d. length d.rows) c.in_ok-valid-in-Some.ensures
           ∙ rows_by_form column.form column
-          ∙ c.in-Some.ensures.rows;
-    }
+          ∙ c.in-Some.ensures.rows,
+    )

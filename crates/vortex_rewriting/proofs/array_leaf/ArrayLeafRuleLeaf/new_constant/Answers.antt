@@ -4,10 +4,9 @@ use Rattle.vortex_rewriting.proofs.ArrayTrees.{rows_of_constant}
 use Rattle.vortex_rewriting.proofs.array_leaf.ArrayLeafRuleLeaf.new_constant.Goals as goal
 
 pub returns : goal.returns
-returns g c = record {
-  answer = search rules;
-  same_rows =
-      ap rows_in c.in_ok-array.ensures
+returns g c = (
+  search rules,
+  ap rows_in c.in_ok-array.ensures
       ∙ ap (λ d. length d.rows) c.in_ok-column.ensures
-      ∙ rows_of_constant c.args.scalar c.args.beside;
-}
+      ∙ rows_of_constant c.args.scalar c.args.rows,
+)

@@ -15,8 +15,8 @@ try_call-requires g c =
     (All-map (λ t. beside t ≡ c.beside.result) (λ n. cow_value n.tree) c.args.children.now
     (λ k d lt. c.requires k d lt ∙ ap beside (sym c.tree.ensures) ∙ sym c.beside.ensures))
 
-pub returns-in_err-call-clause-answer : goal.returns-in_err-call-clause-answer
-returns-in_err-call-clause-answer g c =
+pub returns-in_err-call : goal.returns-in_err-call
+returns-in_err-call g c =
     let m = g.C.ScalarFnVTable.meaning in
     let f = function_of c.args.function in
     let p =
@@ -25,10 +25,13 @@ returns-in_err-call-clause-answer g c =
     (refused_as_copies m f g.L.Leaf.tree_of c.args.children.now c.in_ok-copies.copies.items
     c.in_err-call.field-0.0 c.in_ok-copies.ensures c.in_err-call.ensures)
 
-pub returns-clause-answer : goal.returns-clause-answer
-returns-clause-answer g c =
+pub returns : goal.returns
+returns g c =
     let m = g.C.ScalarFnVTable.meaning in
     let f = function_of c.args.function in
-    subst (λ ts. IsCall m f ts (g.L.Leaf.tree_of c.in_ok-call.call))
-    (trees_of_copies g.L.Leaf.tree_of c.args.children.now c.in_ok-copies.copies.items
-    c.in_ok-copies.ensures) c.in_ok-call.ensures.0
+    let beside = g.L.Leaf.beside_of in (
+      subst (λ ts. IsCall m f ts (g.L.Leaf.tree_of c.in_ok-call.call))
+          (trees_of_copies g.L.Leaf.tree_of c.args.children.now c.in_ok-copies.copies.items
+          c.in_ok-copies.ensures) c.in_ok-call.ensures.0,
+      c.in_ok-call.ensures.1 ∙ c.beside.ensures ∙ ap beside c.tree.ensures,
+    )
