@@ -15,7 +15,7 @@ use Rattle.vortex_meaning.specs.Trees.{Tree, leaf, constant, call, no_trees, tre
 use Rattle.vortex_meaning.specs.Trees.{called}
 use Rattle.vortex_meaning.specs.Eval.{tree_type}
 use Rattle.vortex_meaning.specs.ReduceRules.{reduce}
-use Rattle.vortex_rules.proofs.Calls.{children_fit}
+use Rattle.vortex_rewriting.proofs.Calls.{children_fit}
 use Rattle.caller_functions.specs.First.{first_type, first_value, first_meaning, first_rules}
 
 at_least_one : (n : ℕ) → fits (Variadic 1 None) n ≡ true → 0 < n

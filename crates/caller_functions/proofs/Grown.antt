@@ -20,7 +20,7 @@ use Rattle.vortex_meaning.specs.Trees.{called}
 use Rattle.vortex_meaning.specs.Eval.{tree_type, tree_types}
 use Rattle.vortex_meaning.specs.ReduceRules.{reduce}
 use Rattle.vortex_meaning.proofs.TypedCalls.{typed_call, types_parts, one_type, type_of_one}
-use Rattle.vortex_rules.proofs.Calls.{children_fit}
+use Rattle.vortex_rewriting.proofs.Calls.{children_fit}
 use Rattle.caller_functions.specs.Grow.{grow_meaning, grow_rules, not_of}
 use Rattle.caller_functions.specs.GrowRules.{is_bool}
 

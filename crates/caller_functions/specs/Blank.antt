@@ -10,7 +10,7 @@ use Rattle.vortex_meaning.specs.Meaning.{Meaning, Lawful}
 use Rattle.vortex_meaning.specs.Rewrites.{LawfulRules}
 use Rattle.vortex_meaning.specs.ValidityRules.{default_rules}
 use Rattle.vortex_meaning.proofs.Validities.{default_rules_lawful}
-use Rattle.vortex_rules.specs.Identities.{IsOwnIdentity, first_letter}
+use Rattle.vortex_rewriting.specs.Identities.{IsOwnIdentity, first_letter}
 
 abbrev pub blank_meaning : {V O : Type 0} → Meaning V O
 blank_meaning = record {

@@ -16,7 +16,7 @@ use Rattle.vortex_meaning.proofs.TypedCalls.{typed_call, one_type, type_of_one, 
 use Rattle.vortex_meaning.proofs.TypedValues.{value_typed}
 use Rattle.vortex_meaning.proofs.Leaves.{in_one}
 use Rattle.vortex_meaning.proofs.Rewriting.{child_rewrites}
-use Rattle.vortex_rules.specs.Identities.{IsOwnIdentity, first_letter}
+use Rattle.vortex_rewriting.specs.Identities.{IsOwnIdentity, first_letter}
 use Rattle.caller_functions.specs.Grow.{grow_meaning, grow_lawful, grow_rules, grown, not_of}
 
 -- Not of Not of a value of Bool is that value

@@ -6,7 +6,7 @@ use Rattle.vortex_meaning.specs.Meaning.{Meaning}
 use Rattle.vortex_meaning.specs.Rewrites.{LawfulRules}
 use Rattle.vortex_meaning.specs.ValidityRules.{default_rules}
 use Rattle.vortex_meaning.proofs.Validities.{default_rules_lawful}
-use Rattle.vortex_rules.specs.Identities.{IsOwnIdentity, first_letter}
+use Rattle.vortex_rewriting.specs.Identities.{IsOwnIdentity, first_letter}
 
 abbrev pub levelled_meaning : {V O : Type 0} → Meaning V O
 levelled_meaning = shipped_meaning (codes "test.levelled") (λ o. Not)

@@ -9,7 +9,7 @@ use vortex_functions::{
     BoundExpression, ChildName, EmptyOptions, ExecutionArgs, ScalarFnId, ScalarFnRef,
     ScalarFnVTable,
 };
-use vortex_rules::{ReduceNodeValidity, ReduceTree, ScalarFnRules, default_validity};
+use vortex_rewriting::{ReduceNodeValidity, ReduceTree, ScalarFnRules, default_validity};
 
 /// A Bool that is null in each row, whatever its arguments are: a constant column.
 #[derive(Clone, Drop)]

@@ -9,7 +9,7 @@ use vortex_columns::{
 use vortex_functions::{
     BoundExpression, ChildName, EmptyOptions, ExecutionArgs, ScalarFnId, ScalarFnVTable,
 };
-use vortex_rules::{ReduceNodeValidity, ReduceTree, ScalarFnRules};
+use vortex_rewriting::{ReduceNodeValidity, ReduceTree, ScalarFnRules};
 
 /// The first of one argument or more, of any types. Both rules put the first argument in the place
 /// of the call.

@@ -1,7 +1,8 @@
 //! A caller's function whose rule never comes to an end.
-ghost use Rattle.std.specs.Prelude.{◌≡◌, IfOk, IsSome};
+ghost use Rattle.std.specs.Prelude.{◌≡◌, IsSome};
 ghost use Rattle.vortex_meaning.specs.Trees.{call, no_trees, tree};
 ghost use Rattle.vortex_functions.specs.Words.{tree_type, function_of, AnswersUnlessMemory};
+ghost use Rattle.vortex_rewriting.specs.Contexts.{with_tree};
 ghost use Rattle.caller_functions.specs.Grow.{grow_meaning, grow_lawful, grow_rules};
 ghost use Rattle.caller_functions.specs.GrowRules.{grow_rules_lawful, grow_identity};
 
@@ -13,7 +14,7 @@ use vortex_functions::{
     BoundExpression, ChildName, EmptyOptions, ExecutionArgs, ScalarFnId, ScalarFnRef,
     ScalarFnVTable,
 };
-use vortex_rules::{ReduceNodeValidity, ReduceTree, ScalarFnRules};
+use vortex_rewriting::{ReduceNodeValidity, ReduceTree, ScalarFnRules};
 
 /// Over Bool: its argument. Its rule puts two Nots round the argument, so that the tree grows by
 /// two nodes a step, and the rule applies again.
@@ -82,20 +83,17 @@ impl ScalarFnVTable for Grow {
 /// The call of a function on one operand that it accepts. E9 where memory is refused.
 fn call_on<T: ReduceTree<Grow>>(
     alloc: Global,
-    node: &T,
     function: ScalarFnRef<Grow>,
     operand: T,
 ) -> VortexResult<T>
-    requires accepts { IsSome
-        (tree_type grow_meaning (call (function_of function) (tree (T.tree operand) no_trees))) }
-    requires same_rows { T.rows operand ≡ T.rows node.now }
-    ensures answer { AnswersUnlessMemory result
-        (λ made. T.tree made ≡ call (function_of function) (tree (T.tree operand) no_trees)) }
-    ensures same_rows { IfOk result (λ made. T.rows made ≡ T.rows node.now) }
+    requires { IsSome
+        (tree_type grow_meaning (call (function_of function) (tree (T.seen operand).tree no_trees))) }
+    ensures { AnswersUnlessMemory result (λ made. T.seen made ≡ with_tree (T.seen operand)
+        (call (function_of function) (tree (T.seen operand).tree no_trees))) }
 {
     let mut operands = Vec::new(alloc);
     operands.push(operand)?;
-    node.new_node(alloc, function, &operands)
+    operands[0].new_node(alloc, function, &operands)
 }
 
 impl ScalarFnRules for Grow {
@@ -107,9 +105,9 @@ impl ScalarFnRules for Grow {
     ) -> VortexResult<Option<T>> {
         let _typed = node.node_dtype();
         let input = node.child(alloc, 0)?;
-        let once = call_on(alloc, node, ScalarFnRef::Not, input)?;
-        let twice = call_on(alloc, node, ScalarFnRef::Not, once)?;
-        let grown = call_on(alloc, node, ScalarFnRef::custom(Grow, EmptyOptions), twice)?;
+        let once = call_on(alloc, ScalarFnRef::Not, input)?;
+        let twice = call_on(alloc, ScalarFnRef::Not, once)?;
+        let grown = call_on(alloc, ScalarFnRef::custom(Grow, EmptyOptions), twice)?;
         Ok(Some(grown))
     }
 

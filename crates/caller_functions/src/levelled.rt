@@ -16,7 +16,7 @@ use vortex_functions::{
     BoundExpression, ChildName, EmptyOptions, ExecutionArgs, Not, ScalarFnId, ScalarFnRef,
     ScalarFnVTable,
 };
-use vortex_rules::{ReduceNodeValidity, ReduceTree, ScalarFnRules, default_validity};
+use vortex_rewriting::{ReduceNodeValidity, ReduceTree, ScalarFnRules, default_validity};
 
 /// Options that have a text and are one byte.
 #[derive(Clone, Debug, PartialEq, Eq, Hash, Drop)]

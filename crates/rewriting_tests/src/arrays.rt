@@ -5,11 +5,11 @@ use std::alloc::Global;
 use std::borrow::Cow;
 use tree_fixtures::array_makers::*;
 use tree_fixtures::makers::*;
-use vortex_arrays::*;
+use vortex_array_calls::*;
 use vortex_columns::*;
 use vortex_functions::*;
 use vortex_operators::*;
-use vortex_rules::*;
+use vortex_rewriting::*;
 
 /// And over three columns of Bool.
 fn and_of_three<C: ScalarFnVTable>(alloc: Global) -> Held<C> {

@@ -4,8 +4,7 @@ use fixtures::{are_rows, same};
 use tree_fixtures::array_makers::Held;
 use tree_fixtures::makers::{Bound, has_text};
 use vortex_columns::*;
-use vortex_rewriting::{Rewrite, run, run_array};
-use vortex_rules::ScalarFnRules;
+use vortex_rewriting::{Rewrite, ScalarFnRules, run, run_array};
 
 /// Whether a run of at most so many steps takes that many, comes to its end or not, and makes a
 /// tree of that text.

@@ -7,7 +7,7 @@ use tree_fixtures::rewritten::*;
 use vortex_columns::*;
 use vortex_functions::*;
 use vortex_operators::*;
-use vortex_rules::*;
+use vortex_rewriting::*;
 
 /// An operator between columns `a` of nullable Bool and `b` of Bool.
 fn a_and_b<C: ScalarFnVTable>(alloc: Global, operator: Operator) -> Bound<C> {

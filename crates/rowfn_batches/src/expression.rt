@@ -21,7 +21,7 @@ use std::alloc::{AllocError, Global};
 use thiserror::Error;
 use vortex_columns::{VortexError, VortexResult};
 use vortex_functions::{BoundExpression, NoCustom, ScalarFnVTable};
-use vortex_rules::ScalarFnRules;
+use vortex_rewriting::ScalarFnRules;
 
 /// A tree that the lines left, and its name in a header.
 #[derive(Drop)]

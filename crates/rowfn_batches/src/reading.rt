@@ -19,7 +19,7 @@ use std::alloc::Global;
 use std::str;
 use vortex_columns::{Column, DType, Nullability, VortexResult};
 use vortex_functions::{BoundExpression, ScalarFnVTable};
-use vortex_rules::ScalarFnRules;
+use vortex_rewriting::ScalarFnRules;
 
 /// The session of the lines over no rows, the columns that they declare, and for each tree, the
 /// last one at the end, the name that a line gave it.

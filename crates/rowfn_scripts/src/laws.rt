@@ -5,7 +5,7 @@ ghost use Rattle.rowfn_scripts.specs.Fitting.{TreesHaveTexts};
 ghost use Rattle.rowfn_scripts.specs.Telling.{EachHasFullOutcome, FullOutcomesAreOne};
 ghost use Rattle.rowfn_scripts.specs.Telling.{PrintsABeginning};
 
-use vortex_rules::ScalarFnRules;
+use vortex_rewriting::ScalarFnRules;
 
 /// After lines that go on, `run` is refused only with a row's fault: the trees fit the columns, and
 /// these have one length.

@@ -13,7 +13,7 @@ use rowfn_lines::lines;
 use std::alloc::Global;
 use vortex_columns::VortexError;
 use vortex_functions::NoCustom;
-use vortex_rules::ScalarFnRules;
+use vortex_rewriting::ScalarFnRules;
 
 /// What a script prints, and how it ends.
 #[derive(Drop)]

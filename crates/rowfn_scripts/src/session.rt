@@ -18,8 +18,7 @@ use vortex_columns::{
     Arity, Column, ExecutionCtx, Scalar, StructFields, VortexError, VortexResult,
 };
 use vortex_functions::{BoundExpression, ScalarFnRef, ScalarFnVTable};
-use vortex_rewriting::{Optimized, Rewrite, run};
-use vortex_rules::ScalarFnRules;
+use vortex_rewriting::{Optimized, Rewrite, ScalarFnRules, run};
 
 /// The row count, the columns and the fields that name them, the trees that lines have pushed, and
 /// what was printed.

@@ -8,12 +8,11 @@ use std::alloc::Global;
 use std::borrow::Cow;
 use tree_fixtures::array_makers::{Held, over_columns};
 use tree_fixtures::makers::*;
-use vortex_arrays::*;
+use vortex_array_calls::*;
 use vortex_columns::*;
 use vortex_functions::*;
 use vortex_operators::*;
 use vortex_rewriting::*;
-use vortex_rules::*;
 
 /// What the rules make of `is_null((a + b) = c)`.
 const SPLIT: &str = "vortex.not(((is_not_null($.a) and is_not_null($.b)) and is_not_null($.c)))";

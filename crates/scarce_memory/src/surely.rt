@@ -12,7 +12,7 @@ use tree_fixtures::makers::*;
 use vortex_columns::*;
 use vortex_functions::*;
 use vortex_kernels::*;
-use vortex_rules::*;
+use vortex_rewriting::*;
 
 /// Whether a lone leaf lends the column, which is its own.
 fn lends<C: ScalarFnVTable>(alloc: Global, tree: Bound<C>, column: Made) -> VortexResult<bool> {

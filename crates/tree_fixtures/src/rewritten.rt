@@ -6,7 +6,7 @@ use std::alloc::Global;
 use std::borrow::Cow;
 use vortex_columns::*;
 use vortex_functions::*;
-use vortex_rules::*;
+use vortex_rewriting::*;
 
 /// What a rule made of a tree, if one applied.
 pub type Rewritten<C> = VortexResult<Option<Box<BoundExpression<C>>>>;

@@ -9,3 +9,17 @@ pub mod Walking
 pub mod Optimizing
 pub mod RunAnswers
 pub mod KeptRows
+pub mod Calls
+pub mod BooleanNodes
+pub mod Kept
+pub mod Listed
+pub mod NullTestNodes
+pub mod DefaultValidities
+pub mod NotRefused
+pub mod Simplified
+pub mod Unions
+pub mod ArrayTrees
+pub mod ValidBits
+pub mod ValuesKept
+pub mod NodeLists
+pub mod Made

@@ -1,6 +1,6 @@
 -- The same call on other children, on which it is well typed, is not refused.
 use Rattle.std.proofs.Common.{◌≡◌, List, Some, None, refl, ap, ◌∙◌}
-use Rattle.std.specs.Prelude.{Result, Ok, Err, IsSome, IfOk}
+use Rattle.std.specs.Prelude.{Result, IsSome}
 use Rattle.std.specs.Option.{option_and_then}
 use Rattle.vortex_errors.specs.declared.error.VortexError.{VortexError}
 use Rattle.vortex_errors.specs.Answers.{Answers, AnswersUnlessMemory}
@@ -11,7 +11,7 @@ use Rattle.vortex_meaning.specs.Trees.{Tree, leaf, constant, call, trees_of, cal
 use Rattle.vortex_meaning.specs.Eval.{tree_type, tree_types}
 use Rattle.vortex_meaning.proofs.StepPlaces.{same_trees}
 use Rattle.vortex_functions.specs.Binding.{IsCall, RefusesCall}
-use Rattle.vortex_rules.proofs.NotRefused.{not_refused}
+use Rattle.vortex_rewriting.proofs.NotRefused.{not_refused}
 use Rattle.vortex_rewriting.specs.Places.{with_children}
 use Rattle.vortex_rewriting.proofs.FrameWalks.{some_of}
 
@@ -41,18 +41,11 @@ module _ {V O : Type 0} where
         not_refused m f us is_typed.0
         (ap (tree_type m) (with_children_call t f us is) ∙ is_typed.1)
 
-    pub call_on_others : {S B : Type 0} (tree : S → Tree V O) (beside : S → B) (b : B)
-        (r : Result S VortexError)
-        → Answers r (λ made. IsCall m f us (tree made) × (beside made ≡ b)) (RefusesCall m f us)
-        → AnswersUnlessMemory r (λ made. tree made ≡ with_children t us)
-    call_on_others tree beside b r h =
-        Answers-weaker r (λ made. IsCall m f us (tree made) × (beside made ≡ b))
-        (λ made. tree made ≡ with_children t us) (RefusesCall m f us) (λ e. ⊥)
-        (λ made p. p.0.is ∙ with_children_call t f us is) others_refused h
-
--- what stands beside what was made
-pub stands_beside : {S B : Type 0} (P : S → Type 0) (R : VortexError → Type 0) (beside : S → B)
-    (b d : B) (r : Result S VortexError) → Answers r (λ made. P made × (beside made ≡ b)) R
-    → b ≡ d → IfOk r (λ made. beside made ≡ d)
-stands_beside P R beside b d (Ok made) h is = h.1 ∙ is
-stands_beside P R beside b d (Err e) h is = tt
+    pub call_on_others : {S B : Type 0} (tree : S → Tree V O) (context : S → B) (b d : B)
+        → b ≡ d → (r : Result S VortexError)
+        → Answers r (λ made. IsCall m f us (tree made) × (context made ≡ b)) (RefusesCall m f us)
+        → AnswersUnlessMemory r (λ made. (tree made ≡ with_children t us) × (context made ≡ d))
+    call_on_others tree context b d same r h =
+        Answers-weaker r (λ made. IsCall m f us (tree made) × (context made ≡ b))
+        (λ made. (tree made ≡ with_children t us) × (context made ≡ d)) (RefusesCall m f us)
+        (λ e. ⊥) (λ made p. (p.0.is ∙ with_children_call t f us is, p.1 ∙ same)) others_refused h

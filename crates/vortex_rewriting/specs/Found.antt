@@ -15,7 +15,7 @@ IsFound rule tree t (Place above old made) =
     × (t ≡ plug (frames_in tree above.items) (tree old))
     × (step rule (tree old) ≡ Some (tree made))
 
--- the same stands beside each tree in it
+-- each tree in it has that context
 abbrev pub FoundHasRows : {T B : Type 0} → (T → B) → B → Found T → Type 0
 FoundHasRows rows n (Settled whole) = rows whole ≡ n
 FoundHasRows rows n (Place above old made) =

@@ -39,6 +39,6 @@ module _ {T : Type 0} where
       → List (Tree V O × List (Tree V O))
   frames_in tree fs = map (λ f. (tree f.node, map tree f.done.items)) fs
 
-  -- the same stands beside each tree in them: its row count, or nothing
+  -- each tree in them has that context: a row count, or none
   abbrev pub HaveRows : {B : Type 0} → (T → B) → B → List (Frame T) → Type 0
   HaveRows rows n fs = All (λ f. (rows f.node ≡ n) × All (λ t. rows t ≡ n) f.done.items) fs

@@ -7,3 +7,13 @@ pub mod Frames
 pub mod Found
 pub mod Runs
 pub mod Keeping
+pub mod Contexts
+pub mod NodeTrees
+pub mod LeafValidity
+pub mod ColumnValidity
+pub mod FixedRules
+pub mod Identities
+pub mod NullTests
+pub mod Reduced
+pub mod Told
+pub mod Union

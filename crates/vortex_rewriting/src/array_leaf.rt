@@ -1,15 +1,56 @@
-//! Array trees are rewritten by Reduce alone.
-ghost use Rattle.std.specs.Prelude.{refl};
+//! The leaves of array trees, as rules ask of them. Array trees are rewritten by Reduce alone.
+ghost use Rattle.std.specs.Prelude.{◌≡◌, refl};
+ghost use Rattle.vortex_functions.specs.Words.{AnswersUnlessMemory};
+ghost use Rattle.vortex_rewriting.specs.ColumnValidity.{validity_as_column};
 ghost use Rattle.vortex_rewriting.specs.Rules.{array_rule, array_sound, array_lightens};
 
-use crate::leaf::RewriteLeaf;
-use crate::rule::Rule;
+use crate::leaf::{RewriteLeaf, RuleLeaf};
+use crate::rule::{Rule, reduce_tree};
+use crate::rules::ScalarFnRules;
 use std::alloc::Global;
-use std::borrow::Cow;
-use vortex_columns::VortexResult;
+use vortex_columns::{Column, Nullability, Scalar, Validity, VortexResult};
 use vortex_functions::ArrayRef;
 use vortex_functions::array::ArrayLeaf;
-use vortex_rules::{ArrayReduceNode, ReduceArray, ScalarFnRules};
+use vortex_interface::ScalarFnVTable;
+
+/// Whether each row of a column is not null: a constant column where the form of the validity tells
+/// it of all rows, and the bits themselves where it lists them.
+fn column_validity(alloc: Global, column: &Column) -> VortexResult<Column>
+    ensures { AnswersUnlessMemory result (λ valid. valid ≡ validity_as_column column.now) }
+{
+    if let Some(bits) = column.valid_bits() {
+        return Column::try_bool(alloc, bits.try_clone(alloc)?, Validity::NonNullable);
+    }
+    let every = match column.validity(alloc)? {
+        Validity::AllInvalid => false,
+        _ => true,
+    };
+    let every = Scalar::bool(every, Nullability::NonNullable);
+    Column::constant(alloc, every, column.len())
+}
+
+impl<C: ScalarFnVTable> RuleLeaf<C> for ArrayLeaf {
+    fn as_constant(tree: &ArrayRef<C>) -> Option<&Scalar> {
+        tree.as_constant()
+    }
+
+    fn new_constant(alloc: Global, scalar: Scalar, rows: usize) -> VortexResult<ArrayRef<C>> {
+        let column = Column::constant(alloc, scalar, rows)?;
+        let array = ArrayRef::column(alloc, column)?;
+        Ok(array)
+    }
+
+    /// A column stands for its own rows, so a column says it.
+    fn leaf_validity(alloc: Global, tree: &ArrayRef<C>) -> VortexResult<Option<ArrayRef<C>>> {
+        match tree.as_column() {
+            Some(column) => {
+                let valid = column_validity(alloc, column)?;
+                Ok(Some(ArrayRef::column(alloc, valid)?))
+            }
+            None => Ok(None),
+        }
+    }
+}
 
 impl<C: ScalarFnRules> RewriteLeaf<C> for ArrayLeaf {
     ghost applied = { array_rule C.meaning C.rules };
@@ -20,13 +61,7 @@ impl<C: ScalarFnRules> RewriteLeaf<C> for ArrayLeaf {
         };
         match rule {
             Rule::Simplify => Ok(None),
-            Rule::Reduce => {
-                let node = ArrayReduceNode::new(Cow::Borrowed(tree));
-                match function.reduce_array(alloc, &node)? {
-                    Some(made) => Ok(Some(made.into_array(alloc)?)),
-                    None => Ok(None),
-                }
-            }
+            Rule::Reduce => reduce_tree(alloc, function, tree),
         }
     }
 

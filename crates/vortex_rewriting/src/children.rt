@@ -4,15 +4,14 @@ ghost use Rattle.std.specs.Prelude.{slice_set};
 ghost use Rattle.vortex_meaning.specs.Places.{with_child};
 ghost use Rattle.vortex_functions.specs.Words.{children_of, tree_type, AnswersUnlessMemory};
 ghost use Rattle.vortex_rewriting.specs.Places.{with_children};
-ghost use Rattle.vortex_rules.specs.Beside.{AnswersBeside};
 
 use std::alloc::Global;
 use vortex_columns::VortexResult;
 use vortex_functions::{Leaf, Tree};
 use vortex_interface::ScalarFnVTable;
 
-/// The same call on other children, beside which the same stands, on which it is well typed. E9
-/// alone.
+/// The same call on other children of its context, on which it is well typed. E9 where memory is
+/// refused.
 pub(crate) fn with_children<C: ScalarFnVTable, L: Leaf<C, C::Options>>(
     alloc: Global,
     tree: &Tree<C, L>,
@@ -21,9 +20,9 @@ pub(crate) fn with_children<C: ScalarFnVTable, L: Leaf<C, C::Options>>(
     requires typed { IsSome (tree_type C.meaning
         (with_children (L.tree_of tree.now) (map L.tree_of children.items))) }
     requires same_rows { All (λ child. L.beside_of child ≡ L.beside_of tree.now) children.items }
-    ensures { AnswersBeside L.beside_of (L.beside_of tree.now)
-        (λ made. L.tree_of made ≡ with_children (L.tree_of tree.now) (map L.tree_of children.items))
-        result }
+    ensures { AnswersUnlessMemory result (λ made.
+        (L.tree_of made ≡ with_children (L.tree_of tree.now) (map L.tree_of children.items))
+        × (L.beside_of made ≡ L.beside_of tree.now)) }
 {
     match tree.as_scalar() {
         Some(function) => {
@@ -33,7 +32,7 @@ pub(crate) fn with_children<C: ScalarFnVTable, L: Leaf<C, C::Options>>(
     }
 }
 
-/// Copies of the children, with another one in the place of that index. E9 alone.
+/// Copies of the children, with another one in the place of that index. E9 where memory is refused.
 fn children_with<C: ScalarFnVTable, L: Leaf<C, C::Options>>(
     alloc: Global,
     parent: &Tree<C, L>,
@@ -56,7 +55,7 @@ fn children_with<C: ScalarFnVTable, L: Leaf<C, C::Options>>(
 }
 
 /// A copy of a call with another child, of the old one's type and the call's row count, in the
-/// place of that index. E9 alone.
+/// place of that index. E9 where memory is refused.
 pub(crate) fn with_child<C: ScalarFnVTable, L: Leaf<C, C::Options>>(
     alloc: Global,
     parent: &Tree<C, L>,
@@ -67,9 +66,9 @@ pub(crate) fn with_child<C: ScalarFnVTable, L: Leaf<C, C::Options>>(
     requires same_type { (x : _) → slice_get (children_of (L.tree_of parent.now)) index ≡ Some x
         → tree_type C.meaning (L.tree_of child) ≡ tree_type C.meaning x }
     requires same_rows { L.beside_of child ≡ L.beside_of parent.now }
-    ensures { AnswersBeside L.beside_of (L.beside_of parent.now)
-        (λ made. L.tree_of made ≡ with_child (L.tree_of parent.now) index (L.tree_of child))
-        result }
+    ensures { AnswersUnlessMemory result (λ made.
+        (L.tree_of made ≡ with_child (L.tree_of parent.now) index (L.tree_of child))
+        × (L.beside_of made ≡ L.beside_of parent.now)) }
 {
     let _typed = parent.dtype();
     let copies = children_with(alloc, parent, index, child)?;

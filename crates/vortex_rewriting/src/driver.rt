@@ -1,27 +1,27 @@
 //! The driver: rules at the first place at which one applies, again and again.
-ghost use Rattle.std.specs.Prelude.{◌≡◌, ◌≤◌, ◌↔◌, IfOk, IsSome, IsTrue, None, false};
+ghost use Rattle.std.specs.Prelude.{◌≡◌, ◌≤◌, ◌↔◌, IfOk, IfSome, IsSome, IsTrue, None, false};
 ghost use Rattle.std.specs.Option.{option_map};
 ghost use Rattle.vortex_meaning.specs.Driver.{step, Runs};
 ghost use Rattle.vortex_functions.specs.Words.{tree_type, AnswersUnlessMemory};
 ghost use Rattle.vortex_rewriting.specs.Frames.{plug, frames_in, AreFrames, HaveRows};
 ghost use Rattle.vortex_rewriting.specs.Found.{IsFound, FoundHasRows};
-ghost use Rattle.vortex_rules.specs.Beside.{AnswersIfAny};
 
 use crate::frames::{Frame, next_child, over_children, whole_tree};
 use crate::leaf::RewriteLeaf;
 use crate::rule::Rule;
+use crate::rules::ScalarFnRules;
 use std::alloc::Global;
 use vortex_columns::VortexResult;
 use vortex_functions::Tree;
-use vortex_rules::ScalarFnRules;
 
 /// What Simplify makes of the tree at its root, or else what Reduce makes of it.
 fn apply_first<C: ScalarFnRules, L: RewriteLeaf<C>>(
     alloc: Global,
     tree: &Tree<C, L>,
 ) -> VortexResult<Option<Tree<C, L>>>
-    ensures { AnswersIfAny L.beside_of (L.beside_of tree.now)
-        (λ answer. option_map L.tree_of answer ≡ L.rule (L.tree_of tree.now)) result }
+    ensures { AnswersUnlessMemory result (λ answer.
+        (option_map L.tree_of answer ≡ L.rule (L.tree_of tree.now))
+        × IfSome answer (λ made. L.beside_of made ≡ L.beside_of tree.now)) }
 {
     match L::apply(alloc, tree, Rule::Simplify)? {
         Some(made) => Ok(Some(made)),
@@ -96,7 +96,7 @@ pub struct Optimized<T: Drop> {
 }
 
 /// At most `limit` steps from a tree. After one it goes on within what the rule made there. E9
-/// alone.
+/// where memory is refused.
 pub(crate) fn take_steps<C: ScalarFnRules, L: RewriteLeaf<C>>(
     alloc: Global,
     tree: &Tree<C, L>,

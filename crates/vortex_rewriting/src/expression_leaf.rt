@@ -1,16 +1,41 @@
-//! Expressions are rewritten by Simplify and by Reduce.
+//! The leaves of expressions, as rules ask of them. Expressions are rewritten by Simplify and by
+//! Reduce.
 ghost use Rattle.std.specs.Prelude.{refl};
 ghost use Rattle.vortex_rewriting.specs.Rules.{expression_rule, expression_sound};
 ghost use Rattle.vortex_rewriting.specs.Rules.{expression_lightens};
 
-use crate::leaf::RewriteLeaf;
-use crate::rule::Rule;
+use crate::leaf::{RewriteLeaf, RuleLeaf};
+use crate::reduce::ReduceExpression;
+use crate::rule::{Rule, reduce_tree};
+use crate::rules::ScalarFnRules;
 use std::alloc::Global;
-use std::borrow::Cow;
-use vortex_columns::VortexResult;
+use vortex_columns::{Scalar, VortexResult};
 use vortex_functions::BoundExpression;
 use vortex_functions::expression::ExpressionLeaf;
-use vortex_rules::{ExpressionReduceNode, ReduceExpression, ScalarFnRules};
+use vortex_interface::ScalarFnVTable;
+
+impl<C: ScalarFnVTable> RuleLeaf<C> for ExpressionLeaf {
+    fn as_constant(tree: &BoundExpression<C>) -> Option<&Scalar> {
+        tree.as_literal()
+    }
+
+    fn new_constant(
+        alloc: Global,
+        scalar: Scalar,
+        _context: (),
+    ) -> VortexResult<BoundExpression<C>> {
+        Ok(BoundExpression::lit(alloc, scalar))
+    }
+
+    /// A place in a scope holds no column, so no tree says it.
+    fn leaf_validity(
+        _alloc: Global,
+        tree: &BoundExpression<C>,
+    ) -> VortexResult<Option<BoundExpression<C>>> {
+        let _leaf = tree.as_column();
+        Ok(None)
+    }
+}
 
 impl<C: ScalarFnRules> RewriteLeaf<C> for ExpressionLeaf {
     ghost applied = { expression_rule C.meaning C.rules };
@@ -25,13 +50,7 @@ impl<C: ScalarFnRules> RewriteLeaf<C> for ExpressionLeaf {
         };
         match rule {
             Rule::Simplify => function.simplify_expression(alloc, tree),
-            Rule::Reduce => {
-                let node = ExpressionReduceNode::new(Cow::Borrowed(tree));
-                match function.reduce_expression(alloc, &node)? {
-                    Some(made) => Ok(Some(made.into_expression(alloc)?)),
-                    None => Ok(None),
-                }
-            }
+            Rule::Reduce => reduce_tree(alloc, function, tree),
         }
     }
 

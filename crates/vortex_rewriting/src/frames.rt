@@ -4,7 +4,6 @@ ghost use Rattle.std.specs.Option.{option_map};
 ghost use Rattle.vortex_functions.specs.Words.{children_of, tree_type, AnswersUnlessMemory};
 ghost use Rattle.vortex_rewriting.specs.Frames.{partly, plug, frames_in, AreFrames, HaveRows};
 ghost use Rattle.vortex_rewriting.specs.Frames.{IsNext};
-ghost use Rattle.vortex_rules.specs.Beside.{AnswersBeside};
 
 use crate::children::with_children;
 use std::alloc::Global;
@@ -48,8 +47,9 @@ pub(crate) fn over_children<C: ScalarFnVTable, L: Leaf<C, C::Options>>(
     requires typed { IsSome (tree_type C.meaning
         (partly (L.tree_of node) (map L.tree_of done.items))) }
     requires same_rows { All (λ child. L.beside_of child ≡ L.beside_of node) done.items }
-    ensures { AnswersBeside L.beside_of (L.beside_of node) (λ made. L.tree_of made
-        ≡ partly (L.tree_of node) (map L.tree_of done.items)) result }
+    ensures { AnswersUnlessMemory result (λ made.
+        (L.tree_of made ≡ partly (L.tree_of node) (map L.tree_of done.items))
+        × (L.beside_of made ≡ L.beside_of node)) }
 {
     if done.is_empty() {
         return Ok(node);
@@ -66,9 +66,9 @@ fn closed<C: ScalarFnVTable, L: Leaf<C, C::Options>>(
         (partly (L.tree_of frame.node) (map L.tree_of frame.done.items))) }
     requires same_rows { All (λ child. L.beside_of child ≡ L.beside_of frame.node)
         frame.done.items }
-    ensures { AnswersBeside L.beside_of (L.beside_of frame.node)
-        (λ made. L.tree_of made ≡ partly (L.tree_of frame.node) (map L.tree_of frame.done.items))
-        result }
+    ensures { AnswersUnlessMemory result (λ made.
+        (L.tree_of made ≡ partly (L.tree_of frame.node) (map L.tree_of frame.done.items))
+        × (L.beside_of made ≡ L.beside_of frame.node)) }
 {
     let Frame { node, mut done } = frame;
     while let Some(child) = next_child(alloc, &node, &done)? {
@@ -87,9 +87,9 @@ pub(crate) fn whole_tree<C: ScalarFnVTable, L: Leaf<C, C::Options>>(
     requires typed { IsSome (tree_type C.meaning
         (plug (frames_in L.tree_of above.items) (L.tree_of place))) }
     requires same_rows { HaveRows L.beside_of (L.beside_of place) above.items }
-    ensures { AnswersBeside L.beside_of (L.beside_of place)
-        (λ whole. L.tree_of whole ≡ plug (frames_in L.tree_of above.items) (L.tree_of place))
-        result }
+    ensures { AnswersUnlessMemory result (λ whole.
+        (L.tree_of whole ≡ plug (frames_in L.tree_of above.items) (L.tree_of place))
+        × (L.beside_of whole ≡ L.beside_of place)) }
 {
     let mut above = above;
     let mut whole = place;

@@ -1,29 +1,55 @@
-//! What rewriting asks of a kind of leaf.
-ghost use Rattle.std.specs.Prelude.{◌≡◌, Option};
-ghost use Rattle.std.specs.Option.{option_map};
+//! What rules and rewriting ask of a kind of leaf.
+ghost use Rattle.std.specs.Prelude.{◌≡◌, IfSome, Option};
+ghost use Rattle.std.specs.Option.{option_copied, option_map};
 ghost use Rattle.vortex_meaning.specs.Trees.{Tree};
 ghost use Rattle.vortex_meaning.specs.Weights.{Lightens};
 ghost use Rattle.vortex_meaning.specs.Rewrites.{IsSound};
+ghost use Rattle.vortex_functions.specs.Words.{constant, literal, AnswersUnlessMemory};
+ghost use Rattle.vortex_rewriting.specs.LeafValidity.{IsLeafValidity};
 ghost use Rattle.vortex_rewriting.specs.Driving.{first_rule};
 ghost use Rattle.vortex_rewriting.specs.declared.rule.Rule.{Rule};
-ghost use Rattle.vortex_rules.specs.Beside.{AnswersIfAny};
 
 use crate::rule::Rule;
+use crate::rules::ScalarFnRules;
 use std::alloc::Global;
-use vortex_columns::VortexResult;
-use vortex_functions::Tree;
-use vortex_rules::{RuleLeaf, ScalarFnRules};
+use vortex_columns::{Scalar, VortexResult};
+use vortex_functions::tree::{Leaf, Tree};
+use vortex_interface::ScalarFnVTable;
+
+/// A kind of leaf over whose trees rules run: of an expression, or of an array tree.
+pub trait RuleLeaf<C: ScalarFnVTable>: Leaf<C, C::Options> {
+    /// The scalar of a constant; none of any other tree.
+    fn as_constant(tree: &Tree<C, Self>) -> Option<&Scalar>
+        ensures { option_copied result ≡ literal (Self.tree_of tree.now) };
+
+    /// The constant of that scalar, in that context. E9 where memory is refused.
+    fn new_constant(
+        alloc: Global,
+        scalar: Scalar,
+        context: Self::Beside,
+    ) -> VortexResult<Tree<C, Self>>
+        ensures { AnswersUnlessMemory result (λ made.
+            (Self.tree_of made ≡ constant scalar) × (Self.beside_of made ≡ context)) };
+
+    /// Where a leaf that is no constant is not null, if a tree of its context says it. E9 where
+    /// memory is refused.
+    fn leaf_validity(alloc: Global, tree: &Tree<C, Self>) -> VortexResult<Option<Tree<C, Self>>>
+        ensures { AnswersUnlessMemory result (λ answer.
+            IsLeafValidity C.meaning Self.tree_of (Self.tree_of tree.now) answer
+            × IfSome answer (λ made. Self.beside_of made ≡ Self.beside_of tree.now)) };
+}
 
 /// A kind of leaf whose trees are rewritten: what rules make of one at its root.
 pub trait RewriteLeaf<C: ScalarFnRules>: RuleLeaf<C> {
     /// What a rule makes of a tree of this kind at its root.
     ghost applied: { Rule → Tree C C.Options → Option (Tree C C.Options) };
 
-    /// What a rule makes of the tree at its root; None where it does not apply. E9 alone.
+    /// What a rule makes of the tree at its root; None where it does not apply. E9 where memory is
+    /// refused.
     fn apply(alloc: Global, tree: &Tree<C, Self>, rule: Rule) -> VortexResult<Option<Tree<C, Self>>>
-        ensures { AnswersIfAny Self.beside_of (Self.beside_of tree.now)
-            (λ answer. option_map Self.tree_of answer ≡ applied rule (Self.tree_of tree.now))
-            result };
+        ensures { AnswersUnlessMemory result (λ answer.
+            (option_map Self.tree_of answer ≡ applied rule (Self.tree_of tree.now))
+            × IfSome answer (λ made. Self.beside_of made ≡ Self.beside_of tree.now)) };
 
     /// The rule that marks speak of is the driver's.
     ghost rule_is: { Self.Leaf.rule ≡ first_rule applied };

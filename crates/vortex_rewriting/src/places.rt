@@ -7,14 +7,14 @@ ghost use Rattle.vortex_rewriting.specs.Rewriting.{AnswersRewritten, steps_of};
 
 use crate::leaf::RewriteLeaf;
 use crate::rule::Rule;
+use crate::rules::ScalarFnRules;
 use crate::ways::{way_down, way_up};
 use std::alloc::Global;
 use vortex_columns::VortexResult;
 use vortex_functions::Tree;
-use vortex_rules::ScalarFnRules;
 
 /// What the rule makes of the tree at the place that the path leads to, all else as it was. E13
-/// where the path leaves the tree, and else E9 alone.
+/// where the path leaves the tree, and else E9 where memory is refused.
 pub(crate) fn made_at<C: ScalarFnRules, L: RewriteLeaf<C>>(
     alloc: Global,
     tree: &Tree<C, L>,
@@ -46,7 +46,7 @@ pub struct Rewritten<T> {
 }
 
 /// What rules at places make of a tree, one after another, and how many of them applied. E13 where
-/// the path of a step leaves the tree, and else E9 alone.
+/// the path of a step leaves the tree, and else E9 where memory is refused.
 pub(crate) fn made_by<C: ScalarFnRules, L: RewriteLeaf<C>>(
     alloc: Global,
     tree: &Tree<C, L>,

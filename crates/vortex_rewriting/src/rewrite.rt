@@ -17,28 +17,28 @@ use crate::driver::{Optimized, take_steps};
 use crate::leaf::RewriteLeaf;
 use crate::places::{Rewritten, made_at, made_by};
 use crate::rule::Rule;
+use crate::rules::ScalarFnRules;
 use std::alloc::Global;
 use vortex_columns::VortexResult;
 use vortex_functions::Tree;
-use vortex_rules::ScalarFnRules;
 
 /// Rewriting, as methods of every tree that is rewritten.
 pub trait Rewrite<C: ScalarFnRules>: Sized + Drop {
-    /// What stands beside a tree: its row count, or nothing.
-    type Beside;
+    /// The context of a tree: its row count, or nothing.
+    type Context;
 
     /// The tree.
     ghost tree: { Self → Tree C C.Options };
 
-    /// What stands beside it.
-    ghost rows: { Self → Self.Beside };
+    /// Its context.
+    ghost rows: { Self → Self.Context };
 
     /// What a rule makes of a tree of this kind at its root.
     ghost applied: { Rule → Tree C C.Options → Option (Tree C C.Options) };
 
     /// What a rule makes of the tree at the place that the path of child numbers leads to, all else
     /// as it was; None where the rule does not apply there. E13 where the path leaves the tree, and
-    /// else E9 alone.
+    /// else E9 where memory is refused.
     fn rewrite_at(&self, alloc: Global, path: &[usize], rule: Rule) -> VortexResult<Option<Self>>
         ensures answer { AnswersRewritten tree (applied rule) path.now
             (tree self.now) result }
@@ -56,7 +56,7 @@ pub trait Rewrite<C: ScalarFnRules>: Sized + Drop {
     /// What rules at places make of the tree, one after another: each step, a path of child numbers
     /// and a rule, is taken on the tree that those before it left. A step whose rule does not apply
     /// at its place changes nothing, and is not counted. E13 where the path of a step leaves the
-    /// tree, and else E9 alone.
+    /// tree, and else E9 where memory is refused.
     fn rewrite_list(
         &self,
         alloc: Global,
@@ -78,7 +78,7 @@ pub trait Rewrite<C: ScalarFnRules>: Sized + Drop {
     /// A run of steps: each rewrites the first place, children from left to right before their
     /// parent, at which a rule applies, by Simplify before Reduce. It stops where no rule applies
     /// anywhere, or after `limit` steps; a tree of shipped functions alone needs fewer than it
-    /// weighs. E9 alone.
+    /// weighs. E9 where memory is refused.
     fn optimize_recursive(&self, alloc: Global, limit: u64) -> VortexResult<Optimized<Self>>
         ensures run { AnswersUnlessMemory result (λ o.
             Runs (first_rule applied) o.steps (tree self.now) (tree o.tree)) }
@@ -98,7 +98,7 @@ pub trait Rewrite<C: ScalarFnRules>: Sized + Drop {
 }
 
 impl<C: ScalarFnRules, L: RewriteLeaf<C>> Rewrite<C> for Tree<C, L> {
-    type Beside = L::Beside;
+    type Context = L::Beside;
 
     ghost tree = { L.tree_of };
 

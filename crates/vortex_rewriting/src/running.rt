@@ -5,11 +5,11 @@ ghost use Rattle.vortex_functions.specs.Words.{AnswersUnlessMemory};
 ghost use Rattle.vortex_rewriting.specs.Runs.{AnswersRun, AnswersRunOfArray};
 
 use crate::driver::take_steps;
+use crate::rules::ScalarFnRules;
 use std::alloc::Global;
 use std::borrow::Cow;
 use vortex_columns::{Column, ExecutionCtx, VortexResult};
 use vortex_functions::{ArrayRef, BoundExpression};
-use vortex_rules::ScalarFnRules;
 
 /// The rows, over columns, of the tree that a run of at most `limit` steps leads to: in each row in
 /// which the tree itself has a value they are that value. Where the run leads to a lone leaf, its
@@ -36,7 +36,7 @@ pub fn run<'a, C: ScalarFnRules>(
     optimized.tree.execute(columns, row_count, ctx)
 }
 
-/// The column itself, copied where it is borrowed. E9 alone.
+/// The column itself, copied where it is borrowed. E9 where memory is refused.
 fn own_column(alloc: Global, column: Cow<'_, Column>) -> VortexResult<Column>
     ensures { AnswersUnlessMemory result (λ own. own ≡ cow_value column.entry) }
 {

@@ -2,9 +2,8 @@
 ghost use Rattle.std.specs.Prelude.{◌≡◌, All, IfOk, [], map};
 ghost use Rattle.vortex_errors.specs.Answers.{Answers};
 ghost use Rattle.vortex_errors.specs.declared.error.VortexError.TheVariants.{NoSuchPlace};
-ghost use Rattle.vortex_functions.specs.Words.{tree_type};
+ghost use Rattle.vortex_functions.specs.Words.{tree_type, AnswersUnlessMemory};
 ghost use Rattle.vortex_rewriting.specs.Ways.{IsWay, with_parents, LeadsOn, Leaves};
-ghost use Rattle.vortex_rules.specs.Beside.{AnswersBeside};
 
 use crate::children::with_child;
 use std::alloc::Global;
@@ -27,7 +26,7 @@ pub(crate) struct Way<'t, T> {
 }
 
 /// The way that the path leads, whose depth takes memory and no stack. E13 where it leaves the
-/// tree, and else E9 alone.
+/// tree, and else E9 where memory is refused.
 pub(crate) fn way_down<'t, C: ScalarFnVTable, L: Leaf<C, C::Options>>(
     alloc: Global,
     tree: &'t Tree<C, L>,
@@ -58,7 +57,8 @@ pub(crate) fn way_down<'t, C: ScalarFnVTable, L: Leaf<C, C::Options>>(
     Ok(Way { parents, place })
 }
 
-/// The tree with another one, of the old one's type and row count, at the end of the way. E9 alone.
+/// The tree with another one, of the old one's type and row count, at the end of the way. E9 where
+/// memory is refused.
 pub(crate) fn way_up<'t, C: ScalarFnVTable, L: Leaf<C, C::Options>>(
     alloc: Global,
     tree: &Tree<C, L>,
@@ -72,9 +72,10 @@ pub(crate) fn way_up<'t, C: ScalarFnVTable, L: Leaf<C, C::Options>>(
     requires parent_rows { All (λ p. L.beside_of p.node.now ≡ L.beside_of tree.now)
         way.parents.items }
     requires same_rows { L.beside_of new ≡ L.beside_of tree.now }
-    ensures { AnswersBeside L.beside_of (L.beside_of tree.now)
-        (λ made. L.tree_of made ≡ with_parents (map (λ p. (L.tree_of p.node.now, p.index))
-        way.entry.parents.items) (L.tree_of new)) result }
+    ensures { AnswersUnlessMemory result (λ made.
+        (L.tree_of made ≡ with_parents (map (λ p. (L.tree_of p.node.now, p.index))
+        way.entry.parents.items) (L.tree_of new))
+        × (L.beside_of made ≡ L.beside_of tree.now)) }
 {
     let mut parents = way.parents;
     let mut made = new;

@@ -2,7 +2,7 @@
 //! functions do
 //! nothing: their contracts are proved.
 
-pub use vortex_arrays::laws::arrays_err_where_arithmetic_does;
+pub use vortex_array_calls::laws::arrays_err_where_arithmetic_does;
 pub use vortex_encoded::laws::{errs_where_rows_fault, rows_are_of_rows};
 pub use vortex_functions::value_laws::{
     equal_functions_are_the_same, equal_functions_hash_equally,

@@ -1,7 +1,6 @@
 use Rattle.std.proofs.Common.{map, Some, sym, ap, ◌∙◌}
 use Rattle.vortex_functions.specs.FunctionOf.{function_of}
-use Rattle.vortex_functions.specs.Binding.{IsCall, RefusesCall}
-use Rattle.vortex_rewriting.proofs.OtherChildren.{call_on_others, stands_beside}
+use Rattle.vortex_rewriting.proofs.OtherChildren.{call_on_others}
 use Rattle.vortex_rewriting.proofs.children.with_children.Goals as goal
 
 pub returns-in_ok-try_clone-in-Some : goal.returns-in_ok-try_clone-in-Some
@@ -12,12 +11,6 @@ returns-in_ok-try_clone-in-Some g c =
     let f = function_of c.in_ok-try_clone-in-Some.field-0 in
     let called =
     c.in-Some.ensures ∙ ap (λ f. Some (function_of f)) (sym c.in_ok-try_clone-in-Some.ensures) in
-    record {
-      answer =
-          call_on_others m (l.tree_of c.args.tree.now) f called us c.requires.typed l.tree_of
-          l.beside_of c.beside.result c.try_call.result c.try_call.ensures;
-      same_rows =
-          stands_beside (λ made. IsCall m f us (l.tree_of made)) (RefusesCall m f us) l.beside_of
-          c.beside.result (l.beside_of c.args.tree.now) c.try_call.result c.try_call.ensures
-          c.beside.ensures;
-    }
+    call_on_others m (l.tree_of c.args.tree.now) f called us c.requires.typed l.tree_of
+    l.beside_of c.beside.result (l.beside_of c.args.tree.now) c.beside.ensures c.try_call.result
+    c.try_call.ensures

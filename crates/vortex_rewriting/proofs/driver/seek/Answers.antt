@@ -81,11 +81,11 @@ returns-in-Some-2-clause-answer g c =
     c.deref.ensures.value c.in_ok-child.ensures.answer c.in-None.is in (
       l.invariant.frames,
       sym l.invariant.same
-          ∙ ap (plug (frames_in tree l.above.items)) (sym c.in_ok-whole-in-None.ensures.answer),
+          ∙ ap (plug (frames_in tree l.above.items)) (sym c.in_ok-whole-in-None.ensures.0),
       step_made tree g.L.Leaf.rule rows c.args.above.items c.args.node
           l.above.items l.node whole l.done.items c.in_ok-made-in-None.field-0
-          (Some c.in-Some-2.made) l.invariant c.in_ok-whole-in-None.ensures.answer all
-          c.in_ok-made-in-None.ensures.answer c.in-Some-2.is,
+          (Some c.in-Some-2.made) l.invariant c.in_ok-whole-in-None.ensures.0 all
+          c.in_ok-made-in-None.ensures.0 c.in-Some-2.is,
     )
 
 pub mark_settled-requires : goal.mark_settled-requires
@@ -97,8 +97,8 @@ mark_settled-requires g c =
     c.deref.ensures.value c.in_ok-child.ensures.answer c.in-None.is in
     step_made tree g.L.Leaf.rule rows c.args.above.items
     c.args.node l.above.items l.node c.in_ok-whole-in-None.whole l.done.items
-    c.in_ok-made-in-None.field-0 None l.invariant c.in_ok-whole-in-None.ensures.answer all
-    c.in_ok-made-in-None.ensures.answer c.in_default.is
+    c.in_ok-made-in-None.field-0 None l.invariant c.in_ok-whole-in-None.ensures.0 all
+    c.in_ok-made-in-None.ensures.0 c.in_default.is
 
 pub returns-in_default-pop-clause-answer : goal.returns-in_default-pop-clause-answer
 returns-in_default-pop-clause-answer g c =
@@ -110,12 +110,12 @@ returns-in_default-pop-clause-answer g c =
     c.deref.ensures.value c.in_ok-child.ensures.answer c.in-None.is in
     let settled = step_made tree rule rows c.args.above.items c.args.node
     l.above.items l.node c.in_ok-whole-in-None.whole l.done.items c.in_ok-made-in-None.field-0 None
-    l.invariant c.in_ok-whole-in-None.ensures.answer all c.in_ok-made-in-None.ensures.answer
+    l.invariant c.in_ok-whole-in-None.ensures.0 all c.in_ok-made-in-None.ensures.0
     c.in_default.is in
     ends tree rule rows c.args.above.items c.args.node l.above.items l.node
     c.mark_settled.new.self l.done.items l.invariant
     (omega (arith, c.in_default-pop.ensures.cases.0))
-    (ap tree c.mark_settled.ensures ∙ c.in_ok-whole-in-None.ensures.answer)
+    (ap tree c.mark_settled.ensures ∙ c.in_ok-whole-in-None.ensures.0)
     (ap (λ t. step rule (tree t)) c.mark_settled.ensures ∙ settled)
 
 pub loop-done-smaller : goal.loop-done-smaller
@@ -135,11 +135,11 @@ loop-done-preserved g c =
     c.deref.ensures.value c.in_ok-child.ensures.answer c.in-None.is in
     let settled = step_made tree rule rows c.args.above.items c.args.node
     l.above.items l.node c.in_ok-whole-in-None.whole l.done.items c.in_ok-made-in-None.field-0 None
-    l.invariant c.in_ok-whole-in-None.ensures.answer all c.in_ok-made-in-None.ensures.answer
+    l.invariant c.in_ok-whole-in-None.ensures.0 all c.in_ok-made-in-None.ensures.0
     c.in_default.is in
     rises tree rule rows c.args.above.items c.args.node l.above.items c.pop.new.self.items
     c.in-Some-pop.parent l.node c.mark_settled.new.self l.done.items c.push-in-None.new.self.items
-    l.invariant (ap tree c.mark_settled.ensures ∙ c.in_ok-whole-in-None.ensures.answer)
+    l.invariant (ap tree c.mark_settled.ensures ∙ c.in_ok-whole-in-None.ensures.0)
     (ap (λ t. step rule (tree t)) c.mark_settled.ensures ∙ settled)
-    (ap rows c.mark_settled.ensures ∙ c.in_ok-whole-in-None.ensures.same_rows)
+    (ap rows c.mark_settled.ensures ∙ c.in_ok-whole-in-None.ensures.1)
     c.in-Some-pop.ensures.items c.in_ok-push-in-None.ensures.items

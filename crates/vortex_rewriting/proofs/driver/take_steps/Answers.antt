@@ -48,7 +48,7 @@ returns-then-steps-limit-clause-done g c =
     let frames = frames_in tree c.in-Place.frames.items in
     let found = subst (IsFound rule tree (plug (frames_in tree l.above.items) (tree l.place)))
     c.in-Place.is c.in_ok-tree.ensures.answer in
-    let goes = ap (step rule) c.in_ok-whole_tree-in-Place.ensures.answer
+    let goes = ap (step rule) c.in_ok-whole_tree-in-Place.ensures.0
     ∙ step_plug rule frames (tree c.in-Place.old) (tree c.in-Place.made) found.0 found.2 in (
       false_is (step rule whole),
       some_is_none (plug frames (tree c.in-Place.made)) (step rule whole) goes,

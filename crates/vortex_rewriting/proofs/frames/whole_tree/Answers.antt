@@ -40,10 +40,10 @@ loop-frame-preserved g c =
           (frames_above tree g.L.Leaf.rule l.above.items rest f
           c.in-Some.ensures.items l.invariant.frames).0;
       same =
-          ap (plug (frames_in tree rest)) c.in_ok-whole.ensures.answer
+          ap (plug (frames_in tree rest)) c.in_ok-whole.ensures.0
           ∙ goes_up tree l.above.items rest f l.whole c.push.new.self.items
           c.in-Some.ensures.items c.in_ok-push.ensures.items
           ∙ l.invariant.same;
       rows_above = here.0;
-      same_rows = c.in_ok-whole.ensures.same_rows ∙ here.1;
+      same_rows = c.in_ok-whole.ensures.1 ∙ here.1;
     }

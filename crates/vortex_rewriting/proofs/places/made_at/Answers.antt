@@ -8,6 +8,6 @@ way_up-requires-clause-same_type g c =
     let l = g.L.Leaf in
     let place = l.tree_of c.in_ok-way.way.place.now in
     let made : g.L.RewriteLeaf.applied c.args.rule place ≡ Some (l.tree_of c.in-Some.new) =
-    sym c.in_ok-apply.ensures.answer ∙ ap (option_map l.tree_of) c.in-Some.is in
+    sym c.in_ok-apply.ensures.0 ∙ ap (option_map l.tree_of) c.in-Some.is in
     (g.met.L.RewriteLeaf.sound c.args.rule place (l.tree_of c.in-Some.new)
     (type_of c.dtype-typed.result.now) c.dtype-typed.ensures.dtype made).dtype

@@ -49,12 +49,12 @@ loop-parent-preserved g c =
     all rest (Some p) c.in-Some.ensures.items i.4 in (
       tree p.node.now,
       at.0,
-      ap (tree_type m) c.in_ok-made.ensures.answer
+      ap (tree_type m) c.in_ok-made.ensures.0
           ∙ with_child_typed m (tree p.node.now) i.0 made p.index at.1 i.2,
-      ap (with_parents (map f rest)) c.in_ok-made.ensures.answer
+      ap (with_parents (map f rest)) c.in_ok-made.ensures.0
           ∙ sym (with_last (map f rest) (f p) made)
           ∙ ap (λ z. with_parents z made) (sym (popped f all rest p c.in-Some.ensures.items))
           ∙ i.3,
       here.0,
-      c.in_ok-made.ensures.same_rows ∙ here.1,
+      c.in_ok-made.ensures.1 ∙ here.1,
     )

@@ -10,39 +10,39 @@ use Rattle.caller_functions.proofs.grow.GrowScalarFnRules.reduce.Goals as goal
 
 pub child-requires : goal.child-requires
 child-requires g c =
-    has_input (g.T.ReduceTree.tree c.args.node.now) c.args.self.now c.args._options.now
+    has_input (g.T.ReduceTree.seen c.args.node.now).tree c.args.self.now c.args._options.now
     (type_of c.node_dtype-typed.result.now) c.requires c.node_dtype-typed.ensures
 
-pub call_on-requires-clause-accepts : goal.call_on-requires-clause-accepts
-call_on-requires-clause-accepts g c =
-    let t = g.T.ReduceTree.tree c.args.node.now in
-    let x = g.T.ReduceTree.tree c.in_ok-input.input in
+pub call_on-requires : goal.call_on-requires
+call_on-requires g c =
+    let t = (g.T.ReduceTree.seen c.args.node.now).tree in
+    let x = (g.T.ReduceTree.seen c.in_ok-input.input).tree in
     let is = growing t x c.args.self.now c.args._options.now (type_of c.node_dtype-typed.result.now)
-    c.requires c.node_dtype-typed.ensures c.in_ok-input.ensures.answer in
+    c.requires c.node_dtype-typed.ensures c.in_ok-input.ensures.answer.0 in
     some_is _ (bool_type is.nullable) (not_typed x is.nullable is.typed)
 
-pub call_on-requires-2-clause-accepts : goal.call_on-requires-2-clause-accepts
-call_on-requires-2-clause-accepts g c =
-    let t = g.T.ReduceTree.tree c.args.node.now in
-    let x = g.T.ReduceTree.tree c.in_ok-input.input in
+pub call_on-requires-2 : goal.call_on-requires-2
+call_on-requires-2 g c =
+    let t = (g.T.ReduceTree.seen c.args.node.now).tree in
+    let x = (g.T.ReduceTree.seen c.in_ok-input.input).tree in
     let is = growing t x c.args.self.now c.args._options.now (type_of c.node_dtype-typed.result.now)
-    c.requires c.node_dtype-typed.ensures c.in_ok-input.ensures.answer in
-    let once = ap (tree_type grow_meaning) c.in_ok-once.ensures.answer
+    c.requires c.node_dtype-typed.ensures c.in_ok-input.ensures.answer.0 in
+    let once = ap (λ s. tree_type grow_meaning s.tree) c.in_ok-once.ensures
     ∙ not_typed x is.nullable is.typed in
     some_is _ (bool_type is.nullable)
-    (not_typed (g.T.ReduceTree.tree c.in_ok-once.once) is.nullable once)
+    (not_typed (g.T.ReduceTree.seen c.in_ok-once.once).tree is.nullable once)
 
-pub call_on-requires-3-clause-accepts : goal.call_on-requires-3-clause-accepts
-call_on-requires-3-clause-accepts g c =
-    let t = g.T.ReduceTree.tree c.args.node.now in
-    let x = g.T.ReduceTree.tree c.in_ok-input.input in
+pub call_on-requires-3 : goal.call_on-requires-3
+call_on-requires-3 g c =
+    let t = (g.T.ReduceTree.seen c.args.node.now).tree in
+    let x = (g.T.ReduceTree.seen c.in_ok-input.input).tree in
     let is = growing t x c.args.self.now c.args._options.now (type_of c.node_dtype-typed.result.now)
-    c.requires c.node_dtype-typed.ensures c.in_ok-input.ensures.answer in
-    let once = ap (tree_type grow_meaning) c.in_ok-once.ensures.answer
+    c.requires c.node_dtype-typed.ensures c.in_ok-input.ensures.answer.0 in
+    let once = ap (λ s. tree_type grow_meaning s.tree) c.in_ok-once.ensures
     ∙ not_typed x is.nullable is.typed in
-    let twice = ap (tree_type grow_meaning) c.in_ok-twice.ensures.answer
-    ∙ not_typed (g.T.ReduceTree.tree c.in_ok-once.once) is.nullable once in
-    let operand = g.T.ReduceTree.tree c.in_ok-twice.twice in
+    let twice = ap (λ s. tree_type grow_meaning s.tree) c.in_ok-twice.ensures
+    ∙ not_typed (g.T.ReduceTree.seen c.in_ok-once.once).tree is.nullable once in
+    let operand = (g.T.ReduceTree.seen c.in_ok-twice.twice).tree in
     some_is _ (bool_type is.nullable)
     (ap (λ f. tree_type grow_meaning (call (function_of f) (tree operand no_trees)))
     c.custom.ensures

@@ -1,15 +1,10 @@
 use Rattle.caller_functions.specs.LevelledRules.{levelled_meaning}
-use Rattle.vortex_rules.proofs.Listed.{own_answer}
+use Rattle.vortex_rewriting.proofs.Listed.{own_answer}
 use Rattle.caller_functions.proofs.levelled.LevelledScalarFnRules.validity.Goals as goal
 
 pub returns : goal.returns
 returns g c =
-    let of_node = g.T.ReduceTree.tree in
-    record {
-      answer =
-          own_answer levelled_meaning of_node (of_node c.args.node.now) c.custom-function.result _
-          c.args.self.now _ c.args.level.now c.default_validity.result c.custom-function.ensures
-          c.in_ok-try_clone.ensures c.in_ok-options.ensures c.requires
-          c.default_validity.ensures.answer;
-      same_rows = c.default_validity.ensures.same_rows;
-    }
+    let seen = g.T.ReduceTree.seen in
+    own_answer levelled_meaning seen (seen c.args.node.now) c.custom-function.result _
+    c.args.self.now _ c.args.level.now c.default_validity.result c.custom-function.ensures
+    c.in_ok-try_clone.ensures c.in_ok-options.ensures c.requires c.default_validity.ensures
