@@ -395,12 +395,14 @@ fn deep_literals_are_written(rt: HostRuntime) {
 fn deep_values_are_compared(rt: HostRuntime) {
     let alloc = rt.alloc();
     let same = stand(
+        rt,
         first_values(alloc, 1),
         Ordering::Equal,
         first_values(alloc, 1),
     );
     assert!(rt; rt.yes(same));
     let less = stand(
+        rt,
         first_values(alloc, 1),
         Ordering::Less,
         first_values(alloc, 2),
