@@ -1,7 +1,7 @@
 //! What is told of an expression.
 
-use rowfn_batches::read_expression;
-use rowfn_rows::explain;
+use rowfn_batches::explain;
+use rowfn_scripts::read_expression;
 use std::alloc::Global;
 
 fn explains(alloc: Global, expression: &str, wanted: &str) -> bool {

@@ -5,7 +5,7 @@ use Rattle.rowfn_scripts.specs.Words.{StepsTo, MakesStep}
 use Rattle.rowfn_scripts.proofs.session.Session.step.Goals as goal
 
 pub returns-in-Call : goal.returns-in-Call
-returns-in-Call g c =
+returns-in-Call c =
     let C = g.C.ScalarFnVTable in
     let said : List (Bor (List ℕ)) → Command =
     λ ws. call (map (λ w. w.now) ws) c.in-Call.escape in
