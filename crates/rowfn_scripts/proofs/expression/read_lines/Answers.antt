@@ -56,6 +56,6 @@ loop-place-preserved c =
     ) in
     let step =
     subst (λ (l : List ℕ). ReadsLine script_meaning script_rules l s (goes_on t))
-    (line_is items n d c.loop-place-test.true) c.in_default-read_line.ensures in
+    (line_is items n d c.loop-place-test.true) c.in_default.ensures in
     subst (λ (k : ℕ). Reaches script_meaning script_rules lines k t) (sym (add-one n))
     (one_more n s t c.loop-place.invariant below step)

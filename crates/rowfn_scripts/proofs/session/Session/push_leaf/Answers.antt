@@ -3,7 +3,7 @@ use Rattle.vortex_types.specs.LogicalTypes.{find_field}
 use Rattle.vortex_meaning.specs.Trees.{leaf, place}
 use Rattle.vortex_functions.proofs.FoundFields.{field_found}
 use Rattle.rowfn_scripts.proofs.Places.{field_there, no_field}
-use Rattle.rowfn_scripts.proofs.SessionSteps.{unsaid, fields_of, stack_of, same_pushed}
+use Rattle.rowfn_scripts.proofs.SessionSteps.{unsaid, fields_of, same_pushed}
 use Rattle.rowfn_scripts.proofs.SessionSteps.{leaf_pushed, leaf_refused}
 use Rattle.rowfn_scripts.proofs.session.Session.push_leaf.Goals as goal
 
@@ -30,7 +30,7 @@ returns c =
     let at = field_found name c.self.inside.fields _ there.1 in
     let found = ap (find_field name) (sym (fields_of c.self.view_is)) ∙ there.1 in
     let is = rw c.fields.ensures at c.in_ok-leaf.ensures in
-    same_pushed _ _ s c.in_ok-leaf.leaf _ _ _ c.self.view_is
-    (is ∙ (λ i. leaf (place c.in-Some.place (at.named i) (at.typed i)))) (stack_of c.self.view_is)
+    same_pushed _ s s c.in_ok-leaf.leaf _ s.stack s.stack refl
+    (is ∙ (λ i. leaf (place c.in-Some.place (at.named i) (at.typed i)))) refl
     c.in_ok-push.ensures.pushed
     ∙ leaf_pushed name s s.fields (c.in-Some.place, there.0) known found

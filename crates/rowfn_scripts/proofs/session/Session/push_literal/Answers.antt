@@ -1,6 +1,6 @@
 use Rattle.std.proofs.Common.{refl, ◌∙◌}
 use Rattle.rowfn_scripts.specs.Sessions.{with_literal}
-use Rattle.rowfn_scripts.proofs.SessionSteps.{unsaid, before_rows, stack_of, same_pushed}
+use Rattle.rowfn_scripts.proofs.SessionSteps.{unsaid, before_rows, same_pushed}
 use Rattle.rowfn_scripts.proofs.SessionSteps.{literal_pushed}
 use Rattle.rowfn_scripts.proofs.session.Session.push_literal.Goals as goal
 
@@ -14,6 +14,6 @@ pub returns : goal.returns
 returns c =
     let s = c.args.self.now in
     let known = unsaid c.self.view_is c.is_none.ensures c.if-is_none.false in
-    same_pushed _ _ s c.lit.result _ _ _ c.self.view_is c.lit.ensures (stack_of c.self.view_is)
+    same_pushed _ s s c.lit.result _ s.stack s.stack refl c.lit.ensures refl
     c.in_ok-push.ensures.pushed
     ∙ literal_pushed c.args.scalar s known
