@@ -3,14 +3,14 @@ use Rattle.std.proofs.Common.{◌≡◌, ◌==◌, ℕ, suc, ◌+◌, ◌-◌, �
 use Rattle.std.proofs.Common.{None, Result, List, [], ◌∷◌, ◌++◌, length, take, drop, get_or}
 use Rattle.std.proofs.Common.{reverse, refl, sym, ap, subst, ◌∙◌, arith, ◌&&◌, if◌then◌else◌, map}
 use Rattle.std.proofs.Common.{◌≤◌, ◌⊎◌, inl, inr, ◌↔◌, IsTrue}
-use Rattle.std.specs.Prelude.{IfSome, MatchOption, nat_le, nat_lt, not, String, string_bytes}
+use Rattle.std.specs.Prelude.{IfSome, nat_le, nat_lt, not, String, string_bytes}
 use Rattle.std.specs.declared.alloc.Global.{Global}
 use Rattle.std.specs.Cmp.{unsigned_Decides}
 use Rattle.std.specs.Option.{is_some, is_none, option_and_then, option_map}
 use Rattle.std.specs.Result.{IsErrAnd}
 use Rattle.std.proofs.lemmas.Result.{err_from_is_err_and}
 use Rattle.std.proofs.Math.Seq.{take-suc, take-append_seam, drop-append_seam}
-use Rattle.std.proofs.lemmas.Bool.{eqb-true, false_from_ne_true, le-leb, lt-leb, lt-ltb}
+use Rattle.std.proofs.lemmas.Bool.{le-leb, lt-leb, lt-ltb}
 use Rattle.std.proofs.lemmas.List.{reverse-append, reverse-reverse, take-append-drop, take_all}
 use Rattle.std.proofs.lemmas.List.{length-drop, length-append, length-reverse, map-append}
 use Rattle.std.proofs.lemmas.List.{take-map, length-map}
@@ -34,7 +34,7 @@ use Rattle.vortex_meaning.specs.Functions.{Function, ours, function_arity, funct
 use Rattle.vortex_meaning.specs.Functions.{IsMismatchAt}
 use Rattle.vortex_types.specs.ScalarView.{ScalarView}
 use Rattle.vortex_meaning.specs.Trees.{Tree, call, trees_of, leaf, place, constant}
-use Rattle.vortex_meaning.specs.Eval.{tree_type, tree_types, with_type, types_or_none}
+use Rattle.vortex_meaning.specs.Eval.{tree_type, tree_types, types_or_none}
 use Rattle.vortex_meaning.specs.Execution.{Executes, RefusesExecution}
 use Rattle.vortex_meaning.specs.Printing.{tree_text}
 use Rattle.vortex_functions.specs.Binding.{IsCall, RefusesCall, count, types}

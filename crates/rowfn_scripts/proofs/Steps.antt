@@ -1,6 +1,6 @@
 -- What holds of the steps of the lines whose step is a function of the session, by cases.
 use Rattle.std.proofs.Common.{◌≡◌, ◌≢◌, ◌==◌, ◌&&◌, ℕ, Bool, true, false, Option, Some, None, List}
-use Rattle.std.proofs.Common.{◌∷◌, length, refl, if◌then◌else◌}
+use Rattle.std.proofs.Common.{length, refl, if◌then◌else◌}
 use Rattle.std.specs.Option.{is_some, is_none}
 use Rattle.vortex_errors.specs.declared.error.MismatchPlace.{MismatchPlace}
 use Rattle.vortex_errors.specs.declared.error.VortexError.{VortexError}
