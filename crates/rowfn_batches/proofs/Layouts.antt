@@ -1,7 +1,7 @@
 -- One more column that stands in a header.
 use Rattle.std.proofs.Common.{◌≡◌, ◌≢◌, ℕ, ◌<◌, ◌≤◌, ◌+◌, suc, List, [], ◌∷◌, ◌++◌, length}
-use Rattle.std.proofs.Common.{ap, sym, ◌∙◌, get_or, add-one, zero, Some, string_bytes, arith, take}
-use Rattle.std.proofs.Common.{refl, subst}
+use Rattle.std.proofs.Common.{ap, sym, get_or, zero, Some, arith}
+use Rattle.std.proofs.Common.{subst}
 use Rattle.csv.specs.Records.{field_at}
 use Rattle.std.proofs.lemmas.List.{length-append}
 use Rattle.vortex_types.specs.FieldNames.{field_name}

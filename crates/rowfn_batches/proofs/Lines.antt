@@ -64,20 +64,20 @@ no_bytes old = (sym (append-nil old.bytes.items), refl)
 
 -- the line of a row, where the column is true in it
 abbrev pub picked_line : {R : Type 0} → Records R → List Span → ColumnView → ℕ → List ℕ
-picked_line rows spans top i =
-    if is_true (row top.rows i) then get_or (map (line_of rows) spans) i [] else []
+picked_line records spans top i =
+    if is_true (row top.rows i) then get_or (map (line_of records) spans) i [] else []
 
-pub next_picked : {R : Type 0} (rows : Records R) (spans : List Span) (top : ColumnView)
+pub next_picked : {R : Type 0} (records : Records R) (spans : List Span) (top : ColumnView)
     (old now last : Output) (i : ℕ) (s : Span) (line : List ℕ) → i < length spans
-    → line ≡ line_of rows (get_or spans i s)
-    → Adds old now (flat_map (picked_line rows spans top) (range_with_len 0 i))
+    → line ≡ line_of records (get_or spans i s)
+    → Adds old now (flat_map (picked_line records spans top) (range_with_len 0 i))
     → Adds now last (if is_true (row top.rows i) then line else [])
-    → Adds old last (flat_map (picked_line rows spans top) (range_with_len 0 (i + 1)))
-next_picked rows spans top old now last i s line h is before added =
-    next_bytes old now last (picked_line rows spans top) i before (
+    → Adds old last (flat_map (picked_line records spans top) (range_with_len 0 (i + 1)))
+next_picked records spans top old now last i s line h is before added =
+    next_bytes old now last (picked_line records spans top) i before (
       added.0
           ∙ ap (λ (t : List ℕ). now.bytes.items ++ (if is_true (row top.rows i) then t else []))
-          (is ∙ sym (get_or-map (line_of rows) spans i s [] h)),
+          (is ∙ sym (get_or-map (line_of records) spans i s [] h)),
       added.1,
     )
 

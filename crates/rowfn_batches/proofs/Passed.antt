@@ -40,7 +40,7 @@ module _ {R : Type 0} (s : Stream R) (behind : Option StreamError) (n : ℕ)
   pub have : HaveRows n lent
   have =
       subst (λ (cs : List ColumnView). HaveRows n cs) (sym same)
-      (have_rows s.expression.now s.batch.fields n answers is.records)
+      (have_rows s.expression.now s.batch.fields n answers is.rows)
 
   pub within : n ≤ length s.batch.spans
   within =

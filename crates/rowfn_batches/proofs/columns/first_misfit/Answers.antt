@@ -1,8 +1,9 @@
 use Rattle.std.proofs.Common.{below_more, map, sym, ap, ◌∙◌, ◌%◌, arith}
 use Rattle.std.proofs.lemmas.List.{length-map}
 use Rattle.vortex_types.specs.LogicalTypes.{field_type}
-use Rattle.vortex_types.specs.TypeOf.{struct_fields}
+use Rattle.vortex_types.specs.TypeOf.{struct_fields, type_of}
 use Rattle.rowfn_batches.specs.Fields.{field_in, field_fits}
+use Rattle.rowfn_batches.specs.Batches.{field_at}
 use Rattle.rowfn_batches.proofs.FieldPlaces.{field_is}
 use Rattle.rowfn_batches.proofs.columns.first_misfit.Goals as goal
 
@@ -14,7 +15,9 @@ returns-then-not-field_fits c =
     let typed = c.dtype.ensures ∙ ap (λ n. field_type (k % n) ds) c.len.ensures in
     record {
       below = omega (arith, c.loop-place-test.true, length-map fields field_in);
-      misfit = sym (λ i. field_fits (typed i) (field_is fields k _ c.loop-place-test.true i))
+      misfit = sym (ap (λ t. field_fits t (field_at (map field_in fields) k)) typed)
+          ∙ ap (field_fits (type_of c.dtype.result.now))
+          (sym (field_is fields k _ c.loop-place-test.true))
           ∙ sym c.field_fits.ensures ∙ c.if-not-field_fits.true;
       before = c.loop-place.invariant;
     }
@@ -26,5 +29,7 @@ loop-place-preserved c =
     let k = c.loop-place.place in
     let typed = c.dtype.ensures ∙ ap (λ n. field_type (k % n) ds) c.len.ensures in
     below_more _ _ c.loop-place.invariant
-    (sym (λ i. field_fits (typed i) (field_is fields k _ c.loop-place-test.true i))
+    (sym (ap (λ t. field_fits t (field_at (map field_in fields) k)) typed)
+    ∙ ap (field_fits (type_of c.dtype.result.now))
+    (sym (field_is fields k _ c.loop-place-test.true))
     ∙ sym c.field_fits.ensures ∙ c.if-not-field_fits.false)

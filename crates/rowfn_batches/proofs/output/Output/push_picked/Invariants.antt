@@ -8,7 +8,7 @@ use Rattle.rowfn_batches.proofs.output.Output.push_picked.Given as goal
 abbrev pub invariant-loop-i : goal.invariant-loop-i
 invariant-loop-i g l = record {
   lines : Adds l.initial.self l.self
-      (flat_map (picked_line l.rows l.spans l.top) (range_with_len 0 l.i));
+      (flat_map (picked_line l.records l.spans l.top) (range_with_len 0 l.i));
   count : l.count ≡ picked_count l.top l.i;
   few : l.count ≤ l.i;
 }
