@@ -9,20 +9,13 @@ use Rattle.std.proofs.lemmas.Nat.{div-add-mod'}
 use Rattle.std.proofs.Math.Nat.{mul-le-mul_left, mod-lt}
 use Rattle.std.proofs.Common.{get_or, Bor, Option, None}
 use Rattle.std.proofs.lemmas.List.{get_or-map}
-use Rattle.std.proofs.Common.{refl, Some, option_map}
-use Rattle.std.specs.Prelude.{is_some}
-use Rattle.std.proofs.lemmas.Option.{slice_get_read}
-use Rattle.vortex_types.specs.LogicalTypes.{LogicalType}
-use Rattle.vortex_types.specs.ScalarView.{ScalarView}
-use Rattle.vortex_types.specs.Values.{Value}
-use Rattle.rowfn_lines.specs.Lines.{Word}
-use Rattle.rowfn_lines.specs.Commands.{cell_of, literal_said}
-use Rattle.rowfn_batches.specs.declared.columns.Declared.{Declared}
-use Rattle.rowfn_batches.specs.Fields.{Field, field_in, field_fits}
-use Rattle.rowfn_batches.specs.Batches.{field_at, fits_in, fits_at, IsFirstMisfit, IsMisfit}
-
-abbrev said : LogicalType → Value → ScalarView
-said t v = record { dtype = t; value = v }
+use Rattle.std.proofs.Common.{Some}
+use Rattle.std.proofs.lemmas.List.FromFn.{get_or-map-range_with_len, length-map-range_with_len}
+use Rattle.vortex_types.specs.LogicalTypes.{Fields, field_count}
+use Rattle.rowfn_lines.specs.Commands.{all_some}
+use Rattle.rowfn_lines.proofs.AllSome.{some_more, one_missing}
+use Rattle.rowfn_batches.specs.Fields.{Field, field_in}
+use Rattle.rowfn_batches.specs.Batches.{field_at, IsFirstMisfit, IsMisfit}
 
 -- a field that is borrowed
 pub field_is : (fs : List (Option (Bor (List ℕ)))) (k : ℕ) (d : Option (Bor (List ℕ)))
@@ -57,28 +50,25 @@ made_more g f xs x i h e =
     ∙ (λ j. h j ++ e j ∷ [])
     ∙ sym (map-range_with_len_more f 0 i i (omega arith))
 
--- a literal is said where a cell says a value
-pub said_or_not : (t : LogicalType) (w : Word) → is_some (literal_said t w) ≡ is_some (cell_of t w)
-said_or_not t w = go (cell_of t w)
-  where
-    go : (o : Option Value)
-        → is_some (option_map (λ (v : Value). said t v) o) ≡ is_some o
-    go None = refl
-    go (Some v) = refl
+-- the elements that a function of the place makes, where none is missing
+pub cell_more : {A : Type 0} (f : ℕ → Option A) (i : ℕ) (xs : List A) (x : A)
+    → all_some (map f (range_with_len 0 i)) ≡ Some xs → f i ≡ Some x
+    → all_some (map f (range_with_len 0 (i + 1))) ≡ Some (xs ++ x ∷ [])
+cell_more f i xs x h e =
+    ap all_some (map-range_with_len_more f 0 i i (omega arith))
+    ∙ some_more (map f (range_with_len 0 i)) xs (f i) x h e
 
--- whether a field fits that stands in a column's place
-pub fits_here : (ds : List Declared) (fs : List Field) (k : ℕ) (d : Declared)
-    → 0 < length ds → d ≡ get_or ds (k % length ds) d
-    → fits_at ds fs k ≡ field_fits d (field_at fs k)
-fits_here ds fs k d some at =
-    ap (λ o. fits_in o (field_at fs k))
-    (slice_get_read ds (length ds) (k % length ds) d refl (mod-lt k some) at)
+pub cell_missing : {A : Type 0} (f : ℕ → Option A) (n i : ℕ) → i < n → f i ≡ None
+    → all_some (map f (range_with_len 0 n)) ≡ None
+cell_missing f n i lt e =
+    one_missing (map f (range_with_len 0 n)) i (omega (arith, lt, length-map-range_with_len f 0 n))
+    (get_or-map-range_with_len f 0 n i i None lt (omega arith) ∙ e)
 
 -- a row and a column of a place
-pub misfit_there : (ds : List Declared) (fs : List Field) (k : ℕ) → 0 < length ds
-    → IsFirstMisfit ds fs k → IsMisfit ds fs (k / length ds) (k % length ds)
+pub misfit_there : (ds : Fields) (fs : List Field) (k : ℕ) → 0 < field_count ds
+    → IsFirstMisfit ds fs k → IsMisfit ds fs (k / field_count ds) (k % field_count ds)
 misfit_there ds fs k some h =
     record {
       below = mod-lt k some;
-      first = subst (IsFirstMisfit ds fs) (sym (div-add-mod' k (length ds))) h;
+      first = subst (IsFirstMisfit ds fs) (sym (div-add-mod' k (field_count ds))) h;
     }

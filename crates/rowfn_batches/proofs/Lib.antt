@@ -1,5 +1,11 @@
 pub mod FieldPlaces
 pub mod Answered
 pub mod OneRow
-pub mod Lifting
-pub mod Headers
+pub mod FirstRows
+pub mod Flowing
+pub mod LastAlone
+pub mod Layouts
+pub mod Lines
+pub mod Outputs
+pub mod Passed
+pub mod Within

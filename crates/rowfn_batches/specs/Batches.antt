@@ -1,39 +1,30 @@
 -- What the fields of a batch, which stand row by row, make of the columns that are declared.
 use Rattle.std.specs.Prelude.{◌≡◌, ◌+◌, ◌*◌, ◌%◌, ◌<◌, ℕ, List, length, map, Bool, true, false}
-use Rattle.std.specs.Prelude.{Option, Some, None, Result, MatchResult, slice_get, slice_index_or, ⊤}
+use Rattle.std.specs.Prelude.{Option, Some, None, Result, MatchResult, slice_index_or, ⊤}
 use Rattle.std.specs.declared.alloc.Global.{Global}
 use Rattle.std.specs.Prelude.{Vec}
 use Rattle.std.specs.List.{range_with_len}
+use Rattle.std.specs.Option.{option_and_then}
+use Rattle.vortex_types.specs.LogicalTypes.{Fields, field_count, field_type}
 use Rattle.vortex_columns.specs.ColumnView.{ColumnView}
-use Rattle.rowfn_lines.specs.declared.types.Kind.{Kind}
-use Rattle.rowfn_lines.specs.Lines.{Word}
-use Rattle.rowfn_lines.specs.Commands.{column_said}
-use Rattle.rowfn_batches.specs.declared.columns.Declared.{Declared}
+use Rattle.rowfn_lines.specs.Commands.{all_some, column_of_cells}
 use Rattle.rowfn_batches.specs.declared.columns.BatchError.{BatchError}
 use Rattle.rowfn_batches.specs.declared.columns.BatchError.TheVariants.{Misfit, TextsTooLong}
 use Rattle.rowfn_batches.specs.declared.columns.BatchError.TheVariants.{Uneven, OutOfMemory}
-use Rattle.rowfn_batches.specs.Fields.{Field, field_word, field_fits, declared_type}
+use Rattle.rowfn_batches.specs.Fields.{Field, field_cell, field_fits}
 
 abbrev pub field_at : List Field → ℕ → Field
 field_at fs k = slice_index_or fs k None
 
--- the words of column j, of n rows of w fields
-abbrev pub words_at : Kind → List Field → ℕ → ℕ → ℕ → List Word
-words_at k fs w n j = map (λ i. field_word k (field_at fs (i * w + j))) (range_with_len 0 n)
+-- the cells of column j, of n rows of w fields; none where a field is no cell
+abbrev pub cells_at : List Field → ℕ → ℕ → ℕ → Option (List (Option (List ℕ)))
+cells_at fs w n j =
+    all_some (map (λ i. field_cell (field_at fs (i * w + j))) (range_with_len 0 n))
 
-abbrev pub said_of : List Field → ℕ → ℕ → ℕ → Option Declared → Option ColumnView
-said_of fs w n j None = None
-said_of fs w n j (Some d) = column_said (declared_type d) (words_at d.kind fs w n j)
-
--- whether column k's type holds the field
-abbrev pub fits_in : Option Declared → Field → Bool
-fits_in None f = false
-fits_in (Some d) f = field_fits d f
-
-module _ (ds : List Declared) (fs : List Field) where
-  -- the k-th field, which stands in the column of that place in its row
+module _ (ds : Fields) (fs : List Field) where
+  -- the type of the column in which the k-th field stands holds the field
   abbrev pub fits_at : ℕ → Bool
-  fits_at k = fits_in (slice_get ds (k % length ds)) (field_at fs k)
+  fits_at k = field_fits (field_type (k % field_count ds) ds) (field_at fs k)
 
   abbrev pub AllFit : Type 0
   AllFit = (k : ℕ) → k < length fs → fits_at k ≡ true
@@ -45,13 +36,14 @@ module _ (ds : List Declared) (fs : List Field) where
 
   -- the field of that row and column is
   pub record IsMisfit (row column : ℕ) : Type 0 where
-    pub below : column < length ds
-    pub first : IsFirstMisfit (row * length ds + column)
+    pub below : column < field_count ds
+    pub first : IsFirstMisfit (row * field_count ds + column)
 
   module _ (n : ℕ) where
     -- the column that the fields of column j say
     abbrev pub column_at : ℕ → Option ColumnView
-    column_at j = said_of fs (length ds) n j (slice_get ds j)
+    column_at j =
+        option_and_then (column_of_cells (field_type j ds)) (cells_at fs (field_count ds) n j)
 
     -- the columns of the first k
     abbrev pub AreColumns : ℕ → List ColumnView → Type 0
@@ -59,11 +51,12 @@ module _ (ds : List Declared) (fs : List Field) where
 
     -- as many fields as n rows have
     abbrev pub AreEven : Type 0
-    AreEven = length fs ≡ length ds * n
+    AreEven = length fs ≡ field_count ds * n
 
-    -- each field fits, but not the texts of column j, the first such column
+    -- each field fits, but column j has no room for its texts, or a type that no cells have; it is
+    -- the first such column
     pub record IsTooLong (j : ℕ) : Type 0 where
-      pub below : j < length ds
+      pub below : j < field_count ds
       pub fit : AllFit
       pub said : column_at j ≡ None
       pub columns : List ColumnView
@@ -78,4 +71,4 @@ module _ (ds : List Declared) (fs : List Field) where
     -- the columns of the fields; or why there are none
     abbrev pub ReadsColumns : Result (Vec ColumnView Global) BatchError → Type 0
     ReadsColumns result =
-        MatchResult result (λ cs. AreEven × AreColumns (length ds) cs.items) RefusesBatch
+        MatchResult result (λ cs. AreEven × AreColumns (field_count ds) cs.items) RefusesBatch

@@ -1,7 +1,10 @@
 pub mod Fields
 pub mod Batches
-pub mod Expecting
-pub mod Lines
-pub mod Expressions
 pub mod Executing
 pub mod Printing
+pub mod BatchAnswers
+pub mod Endings
+pub mod Layouts
+pub mod Outputs
+pub mod Passing
+pub mod Tops

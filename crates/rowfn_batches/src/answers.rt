@@ -3,41 +3,42 @@ ghost use Rattle.std.specs.Prelude.{◌≡◌, ◌≢◌, ◌<◌, ℕ, All, IfO
 ghost use Rattle.vortex_errors.specs.declared.error.VortexError.TheVariants.{OutOfMemory};
 ghost use Rattle.vortex_errors.specs.Answers.{Answers, AnswersUnlessMemory};
 ghost use Rattle.vortex_meaning.specs.Bound.{IsBound};
+ghost use Rattle.vortex_functions.specs.Fixed.{fixed_meaning};
 ghost use Rattle.rowfn_batches.specs.Executing.{AnswersAll, AnswersFirstFault, AllFit};
 ghost use Rattle.rowfn_batches.specs.Executing.{RefusesColumnsFirst, FaultsFirst, AllGive};
 ghost use Rattle.rowfn_batches.specs.Executing.{row_column};
 
-use crate::expression::{Answer, Expression};
+use rowfn_scripts::{Answer, Expression};
 use std::alloc::Global;
 use vortex_columns::{Column, ExecutionCtx, VortexError, VortexResult};
-use vortex_functions::ScalarFnVTable;
 
 /// The columns of the answers, in their order.
 ///
 /// Refused with the refusal of the first answer that is refused: E11 where a leaf's column is
 /// missing or of another type, E2 where a column has not `row_count` rows, else the fault of the
 /// first call that faults in some row.
-pub fn execute_answers<C: ScalarFnVTable>(
+pub fn execute_answers(
     alloc: Global,
-    expression: &Expression<C>,
+    expression: &Expression,
     columns: &[Column],
     row_count: usize,
 ) -> VortexResult<Vec<Column>>
-    ensures { AnswersAll C.meaning columns.now row_count
+    ensures { AnswersAll fixed_meaning columns.now row_count
         (map (λ a. a.tree) expression.now.answers.items) result }
 {
     let mut ctx = ExecutionCtx::new(alloc);
     execute_all(alloc, &expression.answers, columns, row_count, &mut ctx)
 }
 
-fn execute_all<C: ScalarFnVTable>(
+fn execute_all(
     alloc: Global,
-    answers: &[Answer<C>],
+    answers: &[Answer],
     columns: &[Column],
     row_count: usize,
     ctx: &mut ExecutionCtx,
 ) -> VortexResult<Vec<Column>>
-    ensures { AnswersAll C.meaning columns.now row_count (map (λ a. a.tree) answers.now) result }
+    ensures { AnswersAll fixed_meaning columns.now row_count (map (λ a. a.tree) answers.now)
+        result }
 {
     let mut executed = Vec::new(alloc);
     for answer in answers {
@@ -49,8 +50,8 @@ fn execute_all<C: ScalarFnVTable>(
 
 /// Whether the columns serve each tree and have the row count. It says too that each tree's leaves
 /// are places in a scope.
-fn check_columns<C: ScalarFnVTable>(
-    answers: &[Answer<C>],
+fn check_columns(
+    answers: &[Answer],
     columns: &[Column],
     row_count: usize,
     ctx: &mut ExecutionCtx,
@@ -91,10 +92,11 @@ fn but_for_memory(error: VortexError) -> VortexResult<VortexError>
     }
 }
 
-/// The fault of the first answer that faults in that row; nothing where none does. E9 alone.
-fn fault_in<C: ScalarFnVTable>(
+/// The fault of the first answer that faults in that row; nothing where none does. E9 where
+/// memory is refused.
+fn fault_in(
     alloc: Global,
-    answers: &[Answer<C>],
+    answers: &[Answer],
     columns: &[Column],
     row_count: usize,
     row: usize,
@@ -105,8 +107,8 @@ fn fault_in<C: ScalarFnVTable>(
     requires bound { All IsBound (map (λ a. a.tree) answers.now) }
     requires fit { AllFit columns.now row_count (map (λ a. a.tree) answers.now) }
     ensures { AnswersUnlessMemory result (λ fault. MatchOption fault
-        (AllGive C.meaning columns.now row (map (λ a. a.tree) answers.now))
-        (FaultsFirst C.meaning columns.now row (map (λ a. a.tree) answers.now))) }
+        (AllGive fixed_meaning columns.now row (map (λ a. a.tree) answers.now))
+        (FaultsFirst fixed_meaning columns.now row (map (λ a. a.tree) answers.now))) }
 {
     let of_row = row_of(alloc, columns, row)?;
     match execute_all(alloc, answers, &of_row, 1, ctx) {
@@ -119,13 +121,13 @@ fn fault_in<C: ScalarFnVTable>(
 /// where no row faults. Goes over the batch row by row.
 ///
 /// Refused where the columns do not serve an answer, as `execute_answers` is.
-pub fn first_fault<C: ScalarFnVTable>(
+pub fn first_fault(
     alloc: Global,
-    expression: &Expression<C>,
+    expression: &Expression,
     columns: &[Column],
     row_count: usize,
 ) -> VortexResult<Option<(usize, VortexError)>>
-    ensures { AnswersFirstFault C.meaning columns.now row_count
+    ensures { AnswersFirstFault fixed_meaning columns.now row_count
         (map (λ a. a.tree) expression.now.answers.items) result }
 {
     let mut ctx = ExecutionCtx::new(alloc);

@@ -1,17 +1,24 @@
-//! Expressions over rows that flow by: the columns and trees that their lines name, fields as
-//! columns, and what the trees answer over a batch of rows.
+//! Records that flow as CSV from a reader through an expression to a writer: read in batches, whose
+//! fields become columns, and answered batch by batch.
 #![tactic(auto)]
 
+mod answering;
 pub mod answers;
 pub mod columns;
-pub mod expected;
-pub mod expression;
+pub mod errors;
+pub mod explained;
 mod fields;
+mod header;
+mod output;
 pub mod printing;
-mod reading;
+pub mod settings;
+pub mod stream;
 
 pub use answers::{execute_answers, first_fault};
-pub use columns::{BatchError, Declared, read_columns};
-pub use expected::Expected;
-pub use expression::{Answer, Expression, ExpressionError, read_expression};
+pub use columns::{BatchError, read_columns};
+pub use errors::StreamError;
+pub use explained::explain;
 pub use printing::push_field;
+pub use rowfn_csv::Format;
+pub use settings::Settings;
+pub use stream::{Summary, flow, top_alone};

@@ -2,7 +2,7 @@
 use Rattle.std.specs.Prelude.{◌≡◌, Bool, Option, Some, None, ℕ, List, [], ◌∷◌, length}
 use Rattle.std.specs.Prelude.{if◌then◌else◌}
 use Rattle.csv.specs.Records.{fields_of, partial_of}
-use Rattle.rowfn_csv.specs.declared.rows.Span.{Span}
+use Rattle.rowfn_csv.specs.declared.records.Span.{Span}
 use Rattle.rowfn_csv.specs.declared.batch.Batch.TheInside.{Inside}
 
 -- what a clause sees of a batch: its fields, nothing for each null, and where its rows lie

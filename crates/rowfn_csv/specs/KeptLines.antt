@@ -3,8 +3,8 @@ use Rattle.std.specs.Prelude.{ℕ, List, [], Bool, ◌-◌, ◌&&◌, length, na
 use Rattle.std.specs.Prelude.{if◌then◌else◌}
 use Rattle.csv.specs.Reading.{reader_source}
 use Rattle.rowfn_csv.specs.declared.tee.Tee.{Tee}
-use Rattle.rowfn_csv.specs.declared.rows.Rows.{Rows}
-use Rattle.rowfn_csv.specs.declared.rows.Span.{Span}
+use Rattle.rowfn_csv.specs.declared.records.Records.{Records}
+use Rattle.rowfn_csv.specs.declared.records.Span.{Span}
 use Rattle.rowfn_csv.specs.Records.{without_line_end}
 
 -- bytes from one place up to another; none where they do not reach so far
@@ -17,13 +17,13 @@ abbrev pub bytes_between : {R : Type 0} → Tee R → ℕ → ℕ → List ℕ
 bytes_between tee start end = part tee.kept.items (start - tee.first) (end - tee.first)
 
 -- the bytes of a line that is still kept
-abbrev pub line_of : {R : Type 0} → Rows R → Span → List ℕ
+abbrev pub line_of : {R : Type 0} → Records R → Span → List ℕ
 line_of rows span = bytes_between (reader_source rows.reader) span.start span.end
 
 -- those of the last record, without the end of its line
-abbrev pub last_bytes : {R : Type 0} → Rows R → List ℕ
+abbrev pub last_bytes : {R : Type 0} → Records R → List ℕ
 last_bytes rows = without_line_end (line_of rows rows.span)
 
 -- whether the reader below has told its end
-abbrev pub is_ended : {R : Type 0} → Rows R → Bool
+abbrev pub is_ended : {R : Type 0} → Records R → Bool
 is_ended rows = (reader_source rows.reader).ended

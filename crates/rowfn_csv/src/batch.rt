@@ -4,7 +4,7 @@ ghost use Rattle.std.specs.Prelude.{option_map, None, OnOk, IfOk};
 ghost use Rattle.csv.specs.Records.{fields_of, partial_of};
 ghost use Rattle.rowfn_csv.specs.Batches.{field_said};
 
-use crate::rows::Span;
+use crate::records::Span;
 use csv::ByteRecord;
 use std::alloc::{AllocError, Global};
 use std::marker::Model;
@@ -28,7 +28,7 @@ impl Model for Batch {
     ghost invariant = { IsBatch };
 }
 
-/// Takes all fields, marks and places away.
+/// Clears the fields, the marks and the places.
 fn clear_all(fields: &mut ByteRecord, nulls: &mut Vec<bool>, spans: &mut Vec<Span>)
     ensures fields { (fields_of fields.new ≡ []) × (partial_of fields.new ≡ []) }
     ensures nulls { nulls.new.items ≡ [] }
@@ -52,7 +52,7 @@ impl Batch {
         }
     }
 
-    /// Takes the rows away, and keeps the buffers.
+    /// Clears the rows, and keeps the buffers.
     #[tactic(auto, using(crate::proofs::Marking::marked_none))]
     pub fn clear(&mut self)
         ensures { (self.new.fields ≡ []) × (self.new.spans ≡ []) }

@@ -6,11 +6,11 @@ pub mod format;
 pub mod laws;
 pub mod quoting;
 mod raw;
-pub mod rows;
+pub mod records;
 mod tee;
 
 pub use batch::Batch;
 pub use csv::ByteRecord;
 pub use format::Format;
 pub use quoting::{push_quoted, quote_from};
-pub use rows::{ReadError, Rows, Span};
+pub use records::{ReadError, Records, Span};

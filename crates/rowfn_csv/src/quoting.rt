@@ -59,8 +59,8 @@ pub fn push_quoted(bytes: &mut Vec<u8>, field: &[u8]) -> Result<(), AllocError>
     Ok(())
 }
 
-/// Puts a text that was added behind a place into quotes, where it needs them; `spare` serves as
-/// room. Refused only for want of memory.
+/// Puts a text that was added behind a place into quotes, where it needs them; `spare` is a buffer
+/// for that. Refused only for want of memory.
 pub fn quote_from(
     bytes: &mut Vec<u8>,
     start: usize,

@@ -39,7 +39,7 @@ impl<R: Read> Tee<R> {
         self.wanted.set(place);
     }
 
-    /// Whether the reader below has told its end.
+    /// Whether the reader below is at its end.
     pub fn is_ended(&self) -> bool
         ensures { result ≡ self.now.ended }
     {
@@ -76,8 +76,8 @@ impl<R: Read> Tee<R> {
 }
 
 impl<R: Read> Tee<R> {
-    /// Puts a carriage return that was held back before what is read next, and tells how many bytes
-    /// that are.
+    /// Writes a carriage return that was held back before what is read next; answers how many bytes
+    /// that is.
     fn give_held(&mut self, buf: &mut [u8]) -> usize {
         match buf.first_mut() {
             Some(first) if self.held => {
@@ -89,7 +89,7 @@ impl<R: Read> Tee<R> {
         }
     }
 
-    /// Reads behind the first bytes of a buffer, and tells how many bytes it then holds.
+    /// Reads behind the first bytes of a buffer; answers how many bytes it then holds.
     fn read_behind(&mut self, buf: &mut [u8], count: usize) -> io::Result<usize>
         ensures { ReadsAtMost result buf.new }
     {

@@ -1,13 +1,12 @@
 -- Cells that are read one by one, and the column that is made of them.
-use Rattle.std.proofs.Common.{tests, ◌≡◌, ℕ, zero, suc, ◌+◌, add-one, drop, ◌<◌, ◌≤◌, Bool, true}
+use Rattle.std.proofs.Common.{tests, ◌≡◌, ℕ, zero, suc, ◌+◌, take, Bor, ◌<◌, ◌≤◌, Bool, true}
 use Rattle.std.proofs.Common.{false, Option, Some, None, Result, List, [], ◌∷◌, ◌++◌, ℤ, pos, map}
 use Rattle.std.proofs.Common.{length, get_or, refl, sym, ap, subst, ◌∙◌, arith, length-append}
-use Rattle.std.proofs.Common.{append_assoc, option_map, ◌&&◌, if◌then◌else◌, All}
+use Rattle.std.proofs.Common.{◌&&◌, if◌then◌else◌, All}
 use Rattle.std.specs.Prelude.{slice_index_or, is_some, unwrap_or, nat_le}
 use Rattle.vortex_views.specs.Placing.{Placed, none_placed, placed_from, most_bytes, most_buffers}
 use Rattle.vortex_views.specs.Placing.{buffers_needed}
 use Rattle.vortex_views.specs.Collected.{HaveRoom}
-use Rattle.std.proofs.Math.Seq.{drop-cons}
 use Rattle.std.specs.List.{list_all}
 use Rattle.std.specs.Option.{option_and_then}
 use Rattle.std.proofs.lemmas.Bool.{and_from, and_parts, le-leb, leb-true}
@@ -24,13 +23,13 @@ use Rattle.vortex_columns.specs.ValidityView.{form_allows_null}
 use Rattle.vortex_columns.specs.ValidityView.{array, non_nullable}
 use Rattle.vortex_columns.specs.ColumnView.{ColumnView, row}
 use Rattle.vortex_columns.specs.Stored.{made_of}
-use Rattle.rowfn_lines.specs.Lines.{Word, plain, quoted}
 use Rattle.rowfn_lines.specs.Ranges.{in_range}
-use Rattle.rowfn_lines.specs.Commands.{integer_of, number_where, cell_of, cells_of, with_cell}
-use Rattle.rowfn_lines.specs.Commands.{value_said, says_null, text_bytes, texts_fit, fit_column}
+use Rattle.rowfn_lines.specs.Commands.{integer_of, number_where, value_of_text, cell_value}
+use Rattle.rowfn_lines.specs.Commands.{cell_values, text_bytes, texts_fit, fit_column}
 use Rattle.rowfn_lines.specs.Commands.{column_of, column_where}
-use Rattle.rowfn_lines.specs.Cells.{cells_from, item_or_null, IsMade, AreItems, AreCells}
+use Rattle.rowfn_lines.specs.Cells.{cell_in, cells_from, item_or_null, IsMade, AreItems, AreCells}
 use Rattle.rowfn_lines.specs.Cells.{cells_validity}
+use Rattle.rowfn_lines.proofs.AllSome.{next_some}
 
 pub answers_same : {A : Type 0} (r : Result A VortexError) (C D : Type 0) (P Q : A → Type 0)
     (refusal : VortexError)
@@ -177,25 +176,6 @@ items_more n vs valid v b h p f = record {
       ∙ sym (map_push text_bytes vs v);
 }
 
-one_more_after : (xs : List Value) (v : Value) (rest : Option (List Value))
-    → option_map (λ ys. xs ++ ys) (with_cell (Some v) rest)
-    ≡ option_map (λ ys. (xs ++ v ∷ []) ++ ys) rest
-one_more_after xs v None = refl
-one_more_after xs v (Some ys) = ap Some (sym (append_assoc xs (v ∷ []) ys))
-
--- one more cell
-pub one_more : (t : LogicalType) (vs : List Value) (valid : List Bool) (v x : Value) (b : Bool)
-    (w : Word) (ws : List Word) (all : Option (List Value))
-    → length valid ≡ length vs → cell_of t w ≡ Some x → x ≡ (if b then v else null)
-    → option_map (λ ys. cells_from vs valid ++ ys) (cells_of t (w ∷ ws)) ≡ all
-    → option_map (λ ys. cells_from (vs ++ v ∷ []) (valid ++ b ∷ []) ++ ys) (cells_of t ws) ≡ all
-one_more t vs valid v x b w ws all count e is h =
-    ap (λ (zs : List Value). option_map (λ ys. zs ++ ys) (cells_of t ws))
-    (cells_more vs valid v b count ∙ ap (λ y. cells_from vs valid ++ y ∷ []) (sym is))
-    ∙ sym (one_more_after (cells_from vs valid) x (cells_of t ws))
-    ∙ sym (ap (λ o. option_map (λ ys. cells_from vs valid ++ ys) (with_cell o (cells_of t ws))) e)
-    ∙ h
-
 null_truth : (a b : Bool)
     → (if a then Some (truth true) else (if b then Some (truth false) else None)) ≡ Some null → ⊥
 null_truth true b e = cc
@@ -211,22 +191,22 @@ null_number (Some z) f e = by (f z) e
     by true g = cc
     by false g = cc
 
-said_not_null : (t : LogicalType) (w : Word) → value_said t w ≡ Some null → ⊥
-said_not_null (bool_type n) (plain w) e = null_truth _ _ e
-said_not_null (integer_type p n) (plain w) e = null_number (integer_of w) (in_range p) e
-said_not_null (text_type n) (quoted w) e = cc
+said_not_null : (t : LogicalType) (w : List ℕ) → value_of_text t w ≡ Some null → ⊥
+said_not_null (bool_type n) w e = null_truth _ _ e
+said_not_null (integer_type p n) w e = null_number (integer_of w) (in_range p) e
+said_not_null (text_type n) w e = cc
 said_not_null t w e = cc
 
 -- a cell says null only where the type has it
-pub null_allowed : (t : LogicalType) (w : Word) → cell_of t w ≡ Some null → is_nullable t ≡ true
-null_allowed t w e = by (says_null w) (is_nullable t) refl e
+pub null_allowed : (t : LogicalType) (c : Option (List ℕ)) → cell_value t c ≡ Some null
+    → is_nullable t ≡ true
+null_allowed t (Some w) e = absurd (said_not_null t w e)
+null_allowed t None e = by (is_nullable t) refl e
   where
-    by : (a b : Bool) → is_nullable t ≡ b
-        → (if a then (if b then Some null else None) else value_said t w) ≡ Some null
+    by : (b : Bool) → is_nullable t ≡ b → (if b then Some null else None) ≡ Some null
         → is_nullable t ≡ true
-    by true true g h = g
-    by true false g h = cc
-    by false b g h = absurd (said_not_null t w h)
+    by true g h = g
+    by false g h = cc
 
 cell_at : (vs : List Value) (valid : List Bool) (i : ℕ) → i < length vs → length valid ≡ length vs
     → slice_index_or (cells_from vs valid) i null
@@ -340,55 +320,43 @@ blank_fits : {X : Type 0} (f : X → Value) (o : Option X) (d : X) → text_byte
 blank_fits f None d h e = h
 blank_fits f (Some x) d h e = cc
 
-is_there : {X : Type 0} (f : X → Value) (o : Option X) (t : LogicalType) (n : Bool) (w : Word)
-    → is_nullable t ≡ n → cell_of t w ≡ Some (item_or_null f o) → n ≡ false → is_some o ≡ true
-is_there f (Some x) t n w k e h = refl
-is_there f None t n w k e h = let allowed = null_allowed t w e in cc
+is_there : {X : Type 0} (f : X → Value) (o : Option X) (t : LogicalType) (n : Bool)
+    (c : Option (List ℕ))
+    → is_nullable t ≡ n → cell_value t c ≡ Some (item_or_null f o) → n ≡ false → is_some o ≡ true
+is_there f (Some x) t n c k e h = refl
+is_there f None t n c k e h = let allowed = null_allowed t c e in cc
 
--- one more cell of the words
-pub cell_read : {W X : Type 0} (t : LogicalType) (n : Bool) (word : W → Word) (value : X → Value)
-    (words : List W) (i : ℕ) (d : W) (items : List X) (valid : List Bool) (cell : Option X)
-    (blank : X) (all : Option (List Value))
-    → is_nullable t ≡ n → i < length words → AreItems n (map value items) valid
-    → option_map (λ ys. cells_from (map value items) valid ++ ys)
-    (cells_of t (map word (drop i words)))
-    ≡ all
-    → cell_of t (word (get_or words i d)) ≡ Some (item_or_null value cell)
+-- one more cell
+pub cell_read : {X : Type 0} (t : LogicalType) (n : Bool) (value : X → Value)
+    (cells : List (Option (Bor (List ℕ)))) (i : ℕ) (d : Option (Bor (List ℕ))) (items : List X)
+    (valid : List Bool) (item : Option X) (blank : X)
+    → is_nullable t ≡ n → i < length cells
+    → AreCells n (map value items) valid (cell_values t (map cell_in (take i cells)))
+    → cell_value t (cell_in (get_or cells i d)) ≡ Some (item_or_null value item)
     → text_bytes (value blank) ≡ []
-    → AreItems n (map value (items ++ unwrap_or cell blank ∷ [])) (valid ++ is_some cell ∷ [])
-    × (option_map
-    (λ ys.
-    cells_from (map value (items ++ unwrap_or cell blank ∷ []))
-    (valid ++ is_some cell ∷ []) ++ ys)
-    (cells_of t (map word (drop (i + 1) words)))
-    ≡ all)
-cell_read t n word value words i d items valid cell blank all nullable lt h said e fit = (
-  subst (λ (vs : List Value). AreItems n vs (valid ++ is_some cell ∷ [])) (sym more)
-      (items_more n (map value items) valid v b h (is_there value cell t n w nullable e)
-      (blank_fits value cell blank fit)),
-  (λ j.
-      option_map (λ ys. cells_from (more j) (valid ++ b ∷ []) ++ ys)
-      (cells_of t (map word (drop (add-one i j) words))))
-      ∙ one_more t (map value items) valid v (item_or_null value cell) b w
-      (map word (drop (suc i) words)) all h.count e (item_is value cell blank)
+    → AreCells n (map value (items ++ unwrap_or item blank ∷ [])) (valid ++ is_some item ∷ [])
+    (cell_values t (map cell_in (take (i + 1) cells)))
+cell_read t n value cells i d items valid item blank nullable lt h e fit = record {
+  says =
+      next_some (cell_value t) cell_in cells i d (cells_from (map value items) valid)
+      (item_or_null value item) lt h.says e
+      ∙ ap (λ (vs : List Value). Some vs)
       (sym
-      (ap
-      (λ ws.
-      option_map (λ ys. cells_from (map value items) valid ++ ys)
-      (cells_of t (map word ws)))
-      (drop-cons words i d lt))
-      ∙ said),
-)
+      (ap (λ (vs : List Value). cells_from vs (valid ++ b ∷ [])) more
+      ∙ cells_more (map value items) valid v b h.items.count
+      ∙ ap (λ (y : Value). cells_from (map value items) valid ++ y ∷ [])
+      (sym (item_is value item blank))));
+  items = subst (λ (vs : List Value). AreItems n vs (valid ++ b ∷ [])) (sym more)
+      (items_more n (map value items) valid v b h.items
+      (is_there value item t n (cell_in (get_or cells i d)) nullable e)
+      (blank_fits value item blank fit));
+}
   where
-    w : Word
-    w = word (get_or words i d)
-
     v : Value
-    v = value (unwrap_or cell blank)
+    v = value (unwrap_or item blank)
 
     b : Bool
-    b = is_some cell
+    b = is_some item
 
-    more : map value (items ++ unwrap_or cell blank ∷ [])
-        ≡ map value items ++ value (unwrap_or cell blank) ∷ []
-    more = map-append value items (unwrap_or cell blank ∷ [])
+    more : map value (items ++ unwrap_or item blank ∷ []) ≡ map value items ++ v ∷ []
+    more = map-append value items (unwrap_or item blank ∷ [])

@@ -1,3 +1,4 @@
+pub mod AllSome
 pub mod CellRows
 pub mod Numbers
 pub mod ShortNumbers

@@ -12,6 +12,7 @@ use Rattle.vortex_types.specs.declared.dtype.PType.{PType}
 use Rattle.vortex_types.specs.LogicalTypes.{LogicalType, null_type, bool_type, integer_type}
 use Rattle.vortex_types.specs.LogicalTypes.{text_type, bytes_type, struct_type, list_type}
 use Rattle.vortex_types.specs.LogicalTypes.{fixed_size_list_type, map_type, is_nullable}
+use Rattle.vortex_types.specs.LogicalTypes.{is_text_type}
 use Rattle.vortex_types.specs.Values.{Value, null, truth, number, text}
 use Rattle.vortex_types.specs.Typing.{HasType}
 use Rattle.vortex_types.specs.ScalarView.{ScalarView}
@@ -21,8 +22,9 @@ use Rattle.rowfn_lines.specs.Lines.{Word, plain, quoted, with_word, words_of, in
 use Rattle.rowfn_lines.specs.Lines.{after_quotes, after_spaces}
 use Rattle.rowfn_lines.specs.Commands.{Command, nothing, malformed, rows, column, get, literal}
 use Rattle.rowfn_lines.specs.Commands.{call, show, optimize, run_after, begins_comment, escape_of}
-use Rattle.rowfn_lines.specs.Commands.{is_name, number_where, integer_of, value_said, says_null}
-use Rattle.rowfn_lines.specs.Commands.{cell_of, with_cell, cells_of, fit_column, column_of}
+use Rattle.rowfn_lines.specs.Commands.{is_name, number_where, integer_of, value_of_text, cell_value}
+use Rattle.rowfn_lines.specs.Commands.{cell_values, if_cells, with_first, cell_of, cells_of}
+use Rattle.rowfn_lines.specs.Commands.{fit_column, column_of, column_of_cells, literal_of_cell}
 use Rattle.rowfn_lines.specs.Commands.{column_where, column_said, literal_said, only_word}
 use Rattle.rowfn_lines.specs.Commands.{or_malformed, rows_command, count_of, limit_of, name_of}
 use Rattle.rowfn_lines.specs.Commands.{type_of_word, column_command, literal_command, get_command}
@@ -175,47 +177,83 @@ number_typed : (p : PType) (n : Bool) (o : Option ℤ) (v : Value)
 number_typed p n None v e = cc
 number_typed p n (Some z) v e = number_by p n z v (in_range p z) refl e
 
-value_typed : (t : LogicalType) (w : Word) (v : Value) → IsTextIn w → value_said t w ≡ Some v
-    → HasType t v
-value_typed (bool_type n) (plain w) v h e =
+-- the text of a cell of texts is one
+abbrev IsTextOf : LogicalType → Option (List ℕ) → Type 0
+IsTextOf t None = ⊤
+IsTextOf t (Some w) = is_text_type t ≡ true → IsUtf8 w
+
+abbrev AreTextsOf : LogicalType → List (Option (List ℕ)) → Type 0
+AreTextsOf t [] = ⊤
+AreTextsOf t (c ∷ cs) = IsTextOf t c × AreTextsOf t cs
+
+cell_said : (t : LogicalType) (w : Word) (c : Option (List ℕ)) → IsTextIn w
+    → cell_of t w ≡ Some c → IsTextOf t c
+cell_said t (quoted w) c h e = by (is_text_type t) e
+  where
+    by : (b : Bool) → (if b then Some (Some w) else None) ≡ Some c → IsTextOf t c
+    by true g = let is : Some w ≡ c = cc in subst (IsTextOf t) is (λ x. h)
+    by false g = cc
+cell_said t (plain w) c h e = by (bytes_eq w (codes "null")) (is_text_type t) refl e
+  where
+    by : (a b : Bool) → is_text_type t ≡ b
+        → (if a then Some None else (if b then None else Some (Some w))) ≡ Some c → IsTextOf t c
+    by true b k g = let is : None ≡ c = cc in subst (IsTextOf t) is tt
+    by false true k g = cc
+    by false false k g =
+        let is : Some w ≡ c = cc in subst (IsTextOf t) is (λ x. absurd (cc (sym x ∙ k)))
+
+value_typed : (t : LogicalType) (w : List ℕ) (v : Value) → (is_text_type t ≡ true → IsUtf8 w)
+    → value_of_text t w ≡ Some v → HasType t v
+value_typed (bool_type n) w v h e =
     truth_by n (bytes_eq w (codes "true")) (bytes_eq w (codes "false")) v e
-value_typed (integer_type p n) (plain w) v h e = number_typed p n (integer_of w) v e
-value_typed (text_type n) (quoted w) v h e =
-    let is : text w ≡ v = cc in subst (HasType (text_type n)) is h
+value_typed (integer_type p n) w v h e = number_typed p n (integer_of w) v e
+value_typed (text_type n) w v h e =
+    let is : text w ≡ v = cc in subst (HasType (text_type n)) is (h refl)
 value_typed t w v h e = cc
 
-cell_by : (t : LogicalType) (w : Word) (v : Value) (a b : Bool) → is_nullable t ≡ b → IsTextIn w
-    → (if a then (if b then Some null else None) else value_said t w) ≡ Some v → HasType t v
-cell_by t w v false b g h e = value_typed t w v h e
-cell_by t w v true true g h e =
-    let is : null ≡ v = cc in subst (HasType t) is (null_typed t g)
-cell_by t w v true false g h e = cc
-
-cell_typed : (t : LogicalType) (w : Word) (v : Value) → IsTextIn w → cell_of t w ≡ Some v
-    → HasType t v
-cell_typed t w v h e = cell_by t w v (says_null w) (is_nullable t) refl h e
+cell_typed : (t : LogicalType) (c : Option (List ℕ)) (v : Value) → IsTextOf t c
+    → cell_value t c ≡ Some v → HasType t v
+cell_typed t (Some w) v h e = value_typed t w v h e
+cell_typed t None v h e = by (is_nullable t) refl e
+  where
+    by : (b : Bool) → is_nullable t ≡ b → (if b then Some null else None) ≡ Some v → HasType t v
+    by true g k = let is : null ≡ v = cc in subst (HasType t) is (null_typed t g)
+    by false g k = cc
 
 one_more : (t : LogicalType) (v : Value) (vs : List Value) → HasType t v → AreTyped t vs
     → AreTyped t (v ∷ vs)
 one_more t v vs h k zero d lt = h
 one_more t v vs h k (suc i) d lt = k i d (omega arith)
 
-cells_by : (t : LogicalType) (a : Option Value) (b : Option (List Value)) (vs : List Value)
-    → with_cell a b ≡ Some vs → ((v : Value) → a ≡ Some v → HasType t v)
-    → ((us : List Value) → b ≡ Some us → AreTyped t us) → AreTyped t vs
-cells_by t None b vs e h k = cc
-cells_by t (Some v) None vs e h k = cc
-cells_by t (Some v) (Some us) vs e h k =
-    let is : v ∷ us ≡ vs = cc in
-    subst (AreTyped t) is (one_more t v us (h v refl) (k us refl))
+first_parts : {A : Type 0} (a : Option A) (b : Option (List A)) (ys : List A)
+    → with_first a b ≡ Some ys
+    → (x : A) × (xs : List A) × (a ≡ Some x) × (b ≡ Some xs) × (x ∷ xs ≡ ys)
+first_parts None b ys e = cc
+first_parts (Some x) None ys e = cc
+first_parts (Some x) (Some xs) ys e = (x, xs, refl, refl, cc)
 
-cells_typed : (t : LogicalType) (ws : List Word) → AreTexts ws → (vs : List Value)
-    → cells_of t ws ≡ Some vs → AreTyped t vs
+cells_said : (t : LogicalType) (ws : List Word) → AreTexts ws → (cs : List (Option (List ℕ)))
+    → cells_of t ws ≡ Some cs → AreTextsOf t cs
+cells_said t [] h cs e = let is : [] ≡ cs = cc in subst (AreTextsOf t) is tt
+cells_said t (w ∷ ws) h cs e =
+    let p = first_parts (cell_of t w) (cells_of t ws) cs e in
+    subst (AreTextsOf t) p.4 (cell_said t w p.0 h.0 p.2, cells_said t ws h.1 p.1 p.3)
+
+cells_typed : (t : LogicalType) (cs : List (Option (List ℕ))) → AreTextsOf t cs
+    → (vs : List Value) → cell_values t cs ≡ Some vs → AreTyped t vs
 cells_typed t [] h vs e =
     let is : [] ≡ vs = cc in subst (AreTyped t) is (λ i d lt. absurd (omega arith))
-cells_typed t (w ∷ ws) h vs e =
-    cells_by t (cell_of t w) (cells_of t ws) vs e (λ v. cell_typed t w v h.0)
-    (cells_typed t ws h.1)
+cells_typed t (c ∷ cs) h vs e =
+    let p = first_parts (cell_value t c) (cell_values t cs) vs e in
+    subst (AreTyped t) p.4
+    (one_more t p.0 p.1 (cell_typed t c p.0 h.0 p.2) (cells_typed t cs h.1 p.1 p.3))
+
+in_cells : {A : Type 0} (t : LogicalType) (o : Option A) (x : A) → if_cells t o ≡ Some x
+    → o ≡ Some x
+in_cells (bool_type n) o x e = e
+in_cells (integer_type p n) o x e = e
+in_cells (text_type n) o x e = e
+in_cells t o x e = cc
 
 -- what is in a command of a column or of a literal has the type beside it
 abbrev pub IsTyped : Command → Type 0
@@ -245,10 +283,18 @@ column_in : (t : LogicalType) (o : Option (List Value)) (c : ColumnView)
 column_in t None c h e = cc
 column_in t (Some vs) c h e = column_by t vs c (fit_column vs) (h vs refl) e
 
+column_from : (t : LogicalType) (o : Option (List (Option (List ℕ)))) (c : ColumnView)
+    → ((cs : List (Option (List ℕ))) → o ≡ Some cs → AreTextsOf t cs)
+    → option_and_then (column_of_cells t) o ≡ Some c → AreTyped c.dtype c.rows
+column_from t None c h e = cc
+column_from t (Some cs) c h e =
+    column_in t (cell_values t cs) c (cells_typed t cs (h cs refl))
+    (in_cells t (option_and_then (column_where t) (cell_values t cs)) c e)
+
 column_typed : (ws : List Word) → AreTexts ws → (o : Option LogicalType) (c : ColumnView)
     → option_and_then (λ t. column_said t ws) o ≡ Some c → AreTyped c.dtype c.rows
 column_typed ws h None c e = cc
-column_typed ws h (Some t) c e = column_in t (cells_of t ws) c (cells_typed t ws h) e
+column_typed ws h (Some t) c e = column_from t (cells_of t ws) c (cells_said t ws h) e
 
 scalar_in : (t : LogicalType) (o : Option Value) (s : ScalarView)
     → ((v : Value) → o ≡ Some v → HasType t v)
@@ -259,10 +305,17 @@ scalar_in t (Some v) s h e =
     let is : it ≡ s = cc in
     subst (λ (x : ScalarView). HasType x.dtype x.value) is (h v refl)
 
+literal_from : (t : LogicalType) (o : Option (Option (List ℕ))) (s : ScalarView)
+    → ((c : Option (List ℕ)) → o ≡ Some c → IsTextOf t c)
+    → option_and_then (literal_of_cell t) o ≡ Some s → HasType s.dtype s.value
+literal_from t None s h e = cc
+literal_from t (Some c) s h e =
+    scalar_in t (cell_value t c) s (λ v. cell_typed t c v (h c refl)) (in_cells t _ s e)
+
 literal_typed : (w : Word) → IsTextIn w → (o : Option LogicalType) (s : ScalarView)
     → option_and_then (λ t. literal_said t w) o ≡ Some s → HasType s.dtype s.value
 literal_typed w h None s e = cc
-literal_typed w h (Some t) s e = scalar_in t (cell_of t w) s (λ v. cell_typed t w v h) e
+literal_typed w h (Some t) s e = literal_from t (cell_of t w) s (λ c. cell_said t w c h) e
 
 columns_typed : (ws : List Word) → AreTexts ws → IsTyped (column_command ws)
 columns_typed [] h = tt

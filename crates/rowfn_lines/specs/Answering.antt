@@ -12,7 +12,8 @@ use Rattle.vortex_columns.specs.ColumnView.{ColumnView}
 use Rattle.rowfn_lines.specs.declared.command.Line.{Line}
 use Rattle.rowfn_lines.specs.declared.text.Word as read
 use Rattle.rowfn_lines.specs.Lines.{Word, with_word, words_of, word_in}
-use Rattle.rowfn_lines.specs.Commands.{Command, command_in, value_said, cell_of, fit_column}
+use Rattle.rowfn_lines.specs.Commands.{Command, command_in, value_of_text, cell_value}
+use Rattle.rowfn_lines.specs.Commands.{fit_column}
 use Rattle.rowfn_lines.specs.Cells.{item_or_null, IsMade}
 
 -- a first word and what follows it, of a text that says these words; nothing where it says none
@@ -26,13 +27,13 @@ abbrev pub AnswersCommand : Command → Result Line VortexError → Type 0
 AnswersCommand k result = AnswersUnlessMemory result (λ l. command_in l ≡ k)
 
 module _ {X : Type 0} (value : X → Value) where
-  -- the item that has the value that the word says, of nullable types and of others
-  abbrev pub ReadsItem : (Bool → LogicalType) → Word → Option X → Type 0
-  ReadsItem kind w item = (n : Bool) → option_map value item ≡ value_said (kind n) w
+  -- the item that has the value that the text says, of nullable types and of others
+  abbrev pub ReadsItem : (Bool → LogicalType) → List ℕ → Option X → Type 0
+  ReadsItem kind w item = (n : Bool) → option_map value item ≡ value_of_text (kind n) w
 
   -- the same of a cell, which may say null
-  abbrev pub ReadsCell : LogicalType → Word → Option (Option X) → Type 0
-  ReadsCell t w cell = option_map (item_or_null value) cell ≡ cell_of t w
+  abbrev pub ReadsCell : LogicalType → Option (List ℕ) → Option (Option X) → Type 0
+  ReadsCell t c item = option_map (item_or_null value) item ≡ cell_value t c
 
   -- the column of the items' values, where the validity fits them and each text fits a column
   abbrev pub MakesColumn : (Bool → LogicalType) → ValidityView → List X

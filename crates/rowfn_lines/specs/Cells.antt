@@ -1,13 +1,19 @@
 -- Items that were read, with a blank under each null, and the column that is made of them.
 use Rattle.std.specs.Int.{w128}
 use Rattle.std.specs.Prelude.{◌≡◌, ℤ, MatchOption, FitsSigned, ℕ, ◌<◌, Bool, true, false, Option}
-use Rattle.std.specs.Prelude.{Some, None, List, [], ◌∷◌, length, map, slice_index_or, if◌then◌else◌}
+use Rattle.std.specs.Prelude.{Some, None, List, [], ◌∷◌, length, map, slice_index_or}
+use Rattle.std.specs.Prelude.{option_map, if◌then◌else◌}
+use Rattle.std.specs.Borrow.{Bor}
 use Rattle.vortex_types.specs.LogicalTypes.{LogicalType}
 use Rattle.vortex_types.specs.Values.{Value, null}
 use Rattle.vortex_columns.specs.ValidityView.{ValidityView, is_valid_row, form_allows_null}
 use Rattle.vortex_columns.specs.ValidityView.{non_nullable, array}
 use Rattle.vortex_columns.specs.ColumnView.{ColumnView, row}
 use Rattle.rowfn_lines.specs.Commands.{text_bytes}
+
+-- the cell that is borrowed
+abbrev pub cell_in : Option (Bor (List ℕ)) → Option (List ℕ)
+cell_in = option_map (λ b. b.now)
 
 -- the value of an item, and null where there is none
 abbrev pub item_or_null : {X : Type 0} → (X → Value) → Option X → Value

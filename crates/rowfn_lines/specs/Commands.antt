@@ -1,25 +1,24 @@
 -- What a line of a script says.
 use Rattle.std.specs.Prelude.{◌==◌, ℕ, zero, suc, ℤ, pos, negsuc, ◌+◌, ◌-◌, ◌*◌, ◌&&◌, ◌||◌, nat_le}
 use Rattle.std.specs.Prelude.{nat_lt, map, List, [], ◌∷◌, length, Bool, true, false, Option, Some}
-use Rattle.std.specs.Prelude.{None}
+use Rattle.std.specs.Prelude.{None, is_some}
 use Rattle.std.specs.Prelude.{codes, if◌then◌else◌}
 use Rattle.std.specs.List.{list_all}
 use Rattle.std.specs.Option.{option_and_then, option_map}
 use Rattle.std.specs.Char.{is_ascii_alphanumeric, is_ascii_digit}
 use Rattle.std.specs.Str.{chars, is_utf8, bytes_eq}
 use Rattle.vortex_types.specs.LogicalTypes.{LogicalType, bool_type, integer_type, text_type}
-use Rattle.vortex_types.specs.LogicalTypes.{is_nullable}
+use Rattle.vortex_types.specs.LogicalTypes.{is_nullable, is_text_type}
 use Rattle.vortex_types.specs.declared.dtype.PType.{PType}
 use Rattle.vortex_types.specs.declared.dtype.PType.TheVariants.{I8, I16, I32, I64, U8, U16, U32}
 use Rattle.vortex_types.specs.declared.dtype.PType.TheVariants.{U64}
+use Rattle.vortex_types.specs.TypeTexts.{ptype_text}
 use Rattle.vortex_types.specs.ScalarView.{ScalarView}
 use Rattle.rowfn_lines.specs.Ranges.{in_range}
 use Rattle.vortex_types.specs.Values.{Value, null, truth, number, text}
 use Rattle.vortex_columns.specs.ColumnView.{ColumnView}
 use Rattle.vortex_views.specs.Placing.{most_bytes, most_buffers, buffers_needed}
 use Rattle.vortex_columns.specs.ValidityView.{array, non_nullable}
-use Rattle.rowfn_lines.specs.declared.types.Kind.{Kind}
-use Rattle.rowfn_lines.specs.declared.types.Kind.TheVariants as kind
 use Rattle.rowfn_lines.specs.declared.command.Line.{Line}
 use Rattle.rowfn_lines.specs.declared.command.Line.TheVariants as line
 use Rattle.rowfn_lines.specs.Lines.{Word, plain, quoted, words_of, after_spaces}
@@ -74,30 +73,26 @@ without_mark (b ∷ c ∷ bs) = option_map (λ w. b ∷ w) (without_mark (c ∷ 
 
 abbrev pub ptype_of_word : List ℕ → Option PType
 ptype_of_word w =
-    if bytes_eq w (codes "i8") then Some I8
-    else (if bytes_eq w (codes "i16") then Some I16
-    else (if bytes_eq w (codes "i32") then Some I32
-    else (if bytes_eq w (codes "i64") then Some I64
-    else (if bytes_eq w (codes "u8") then Some U8
-    else (if bytes_eq w (codes "u16") then Some U16
-    else (if bytes_eq w (codes "u32") then Some U32
-    else (if bytes_eq w (codes "u64") then Some U64
+    if bytes_eq w (ptype_text I8) then Some I8
+    else (if bytes_eq w (ptype_text I16) then Some I16
+    else (if bytes_eq w (ptype_text I32) then Some I32
+    else (if bytes_eq w (ptype_text I64) then Some I64
+    else (if bytes_eq w (ptype_text U8) then Some U8
+    else (if bytes_eq w (ptype_text U16) then Some U16
+    else (if bytes_eq w (ptype_text U32) then Some U32
+    else (if bytes_eq w (ptype_text U64) then Some U64
     else None)))))))
 
-abbrev pub kind_of_word : List ℕ → Option Kind
-kind_of_word w =
-    if bytes_eq w (codes "bool") then Some kind.Bool
-    else (if bytes_eq w (codes "utf8") then Some kind.Utf8
-    else option_map kind.Integer (ptype_of_word w))
-
-abbrev pub kind_type : Kind → Bool → LogicalType
-kind_type kind.Bool = bool_type
-kind_type (kind.Integer p) = integer_type p
-kind_type kind.Utf8 = text_type
+-- the type of that name, with null or without
+abbrev pub type_named : Bool → List ℕ → Option LogicalType
+type_named n w =
+    if bytes_eq w (codes "bool") then Some (bool_type n)
+    else (if bytes_eq w (codes "utf8") then Some (text_type n)
+    else option_map (λ p. integer_type p n) (ptype_of_word w))
 
 abbrev pub marked_type : List ℕ → Option (List ℕ) → Option LogicalType
-marked_type w None = option_map (λ k. kind_type k false) (kind_of_word w)
-marked_type w (Some name) = option_map (λ k. kind_type k true) (kind_of_word name)
+marked_type w None = type_named false w
+marked_type w (Some name) = type_named true name
 
 abbrev pub type_of_word : List ℕ → Option LogicalType
 type_of_word w = marked_type w (without_mark w)
@@ -130,29 +125,47 @@ truth_of_word w =
     else (if bytes_eq w (codes "false") then Some (truth false)
     else None)
 
--- the value that a word says, where it is one of the type's and not null
-abbrev pub value_said : LogicalType → Word → Option Value
-value_said (bool_type n) (plain w) = truth_of_word w
-value_said (integer_type p n) (plain w) = number_of p w
-value_said (text_type n) (quoted w) = Some (text w)
-value_said t w = None
+-- the value that a text says, where it is one of the type's
+abbrev pub value_of_text : LogicalType → List ℕ → Option Value
+value_of_text (bool_type n) w = truth_of_word w
+value_of_text (integer_type p n) w = number_of p w
+value_of_text (text_type n) w = Some (text w)
+value_of_text t w = None
 
-abbrev pub says_null : Word → Bool
-says_null (plain w) = bytes_eq w (codes "null")
-says_null (quoted w) = false
+-- a cell is a text, or none for null: the value that it says
+abbrev pub cell_value : LogicalType → Option (List ℕ) → Option Value
+cell_value t None = if is_nullable t then Some null else None
+cell_value t (Some w) = value_of_text t w
 
-abbrev pub cell_of : LogicalType → Word → Option Value
-cell_of t w = if says_null w then (if is_nullable t then Some null else None) else value_said t w
+-- what is made of cells, where the type is one that cells have
+abbrev pub if_cells : {A : Type 0} → LogicalType → Option A → Option A
+if_cells (bool_type n) o = o
+if_cells (integer_type p n) o = o
+if_cells (text_type n) o = o
+if_cells t o = None
 
-abbrev pub with_cell : Option Value → Option (List Value) → Option (List Value)
-with_cell None vs = None
-with_cell (Some v) None = None
-with_cell (Some v) (Some vs) = Some (v ∷ vs)
+abbrev pub with_first : {A : Type 0} → Option A → Option (List A) → Option (List A)
+with_first None xs = None
+with_first (Some x) None = None
+with_first (Some x) (Some xs) = Some (x ∷ xs)
 
--- the values that the cells say, where each says one
-abbrev pub cells_of : LogicalType → List Word → Option (List Value)
-cells_of t [] = Some []
-cells_of t (w ∷ ws) = with_cell (cell_of t w) (cells_of t ws)
+-- all elements, where none is missing
+abbrev pub all_some : {A : Type 0} → List (Option A) → Option (List A)
+all_some [] = Some []
+all_some (o ∷ os) = with_first o (all_some os)
+
+abbrev pub cell_values : LogicalType → List (Option (List ℕ)) → Option (List Value)
+cell_values t cs = all_some (map (cell_value t) cs)
+
+-- the cell that a word of a script is: texts stand in quotes and all else without, null as `null`
+abbrev pub cell_of : LogicalType → Word → Option (Option (List ℕ))
+cell_of t (quoted w) = if is_text_type t then Some (Some w) else None
+cell_of t (plain w) =
+    if bytes_eq w (codes "null") then Some None
+    else (if is_text_type t then None else Some (Some w))
+
+abbrev pub cells_of : LogicalType → List Word → Option (List (Option (List ℕ)))
+cells_of t ws = all_some (map (cell_of t) ws)
 
 -- the bytes of a text, and none of what is no text
 abbrev pub text_bytes : Value → List ℕ
@@ -180,12 +193,27 @@ column_of t vs =
 abbrev pub column_where : LogicalType → List Value → Option ColumnView
 column_where t vs = if fit_column vs then Some (column_of t vs) else None
 
--- the column that the cells say
+-- the column and the literal of cells
+abbrev pub column_from : LogicalType → List (Option (List ℕ)) → Option ColumnView
+column_from t cs = option_and_then (column_where t) (cell_values t cs)
+
+abbrev pub column_of_cells : LogicalType → List (Option (List ℕ)) → Option ColumnView
+column_of_cells t cs = if_cells t (column_from t cs)
+
+abbrev pub literal_of_cell : LogicalType → Option (List ℕ) → Option ScalarView
+literal_of_cell t c =
+    if_cells t (option_map (λ v. record { dtype = t; value = v }) (cell_value t c))
+
+-- whether the cell says a value of the type
+abbrev pub cell_fits : LogicalType → Option (List ℕ) → Bool
+cell_fits t c = is_some (if_cells t (cell_value t c))
+
+-- those that words say
 abbrev pub column_said : LogicalType → List Word → Option ColumnView
-column_said t ws = option_and_then (column_where t) (cells_of t ws)
+column_said t ws = option_and_then (column_of_cells t) (cells_of t ws)
 
 abbrev pub literal_said : LogicalType → Word → Option ScalarView
-literal_said t w = option_map (λ v. record { dtype = t; value = v }) (cell_of t w)
+literal_said t w = option_and_then (literal_of_cell t) (cell_of t w)
 
 -- a number that 64 bits hold
 abbrev pub held_by_64_bits : ℕ → Option ℕ

@@ -1,5 +1,6 @@
-//! Columns and values that are read from words.
-ghost use Rattle.std.specs.Prelude.{◌≡◌, refl, [], Bool, None, map, MatchOption};
+//! Columns and values that are read from cells, each a text or null.
+ghost use Rattle.std.specs.Prelude.{◌≡◌, refl, [], Bool, None, map, option_map, is_some};
+ghost use Rattle.std.specs.Prelude.{MatchOption};
 ghost use Rattle.vortex_errors.specs.Answers.{AnswersUnlessMemory};
 ghost use Rattle.vortex_types.specs.LogicalTypes.{LogicalType, bool_type, integer_type, text_type};
 ghost use Rattle.vortex_types.specs.LogicalTypes.{is_nullable};
@@ -8,15 +9,12 @@ ghost use Rattle.vortex_types.specs.Values.{Value, truth, number, text};
 ghost use Rattle.vortex_types.specs.ValueOf.{value_of};
 ghost use Rattle.vortex_types.specs.Typing.{HasType};
 ghost use Rattle.vortex_columns.specs.ValidityView.{validity_of};
-ghost use Rattle.rowfn_lines.specs.Lines.{word_in};
-ghost use Rattle.rowfn_lines.specs.Commands.{says_null, cells_of};
-ghost use Rattle.rowfn_lines.specs.Commands.{text_bytes, column_said, literal_said, kind_type};
-ghost use Rattle.rowfn_lines.specs.Cells.{AreCells, cells_validity};
+ghost use Rattle.rowfn_lines.specs.Commands.{text_bytes, cell_value, cell_values, column_from};
+ghost use Rattle.rowfn_lines.specs.Commands.{column_of_cells, literal_of_cell, cell_fits};
+ghost use Rattle.rowfn_lines.specs.Cells.{cell_in, AreCells, cells_validity};
 ghost use Rattle.rowfn_lines.specs.Answering.{ReadsItem, ReadsCell, MakesColumn};
 
 use crate::digits::read_integer;
-use crate::text::Word;
-use crate::types::Kind;
 use std::alloc::Global;
 use std::marker::PhantomData;
 use vortex_columns::{
@@ -31,21 +29,21 @@ trait CellTypes {
     ghost nullable: { (n : Bool) → is_nullable (kind n) ≡ n };
 }
 
-/// Values of one kind, as scripts write them; texts lie in the line.
+/// Values of one kind, as texts say them; texts are borrowed.
 trait CellKind<'a>: CellTypes {
     type Item: Copy + Drop;
 
     ghost value: { Self.Item → Value };
 
-    /// The value that a word says, null aside; nothing where it says none of this kind.
-    fn read(word: &Word<'a>) -> Option<Self::Item>
-        ensures { ReadsItem value Self.kind (word_in word.now) result };
+    /// The value that a text says; nothing where it says none of this kind.
+    fn read(text: &'a str) -> Option<Self::Item>
+        ensures { ReadsItem value Self.kind text.now result };
 
     /// What stands under a null.
     fn blank() -> Self::Item
         ensures { text_bytes (value result) ≡ [] };
 
-    /// The value for a scalar, of the kind's types. E9 alone.
+    /// The value for a scalar, of the kind's types. E9 where memory is refused.
     fn scalar_value(alloc: Global, item: Self::Item) -> VortexResult<ScalarValue>
         ensures value { AnswersUnlessMemory result (λ v. value_of v ≡ value item) }
         ensures typed { (n : Bool) → HasType (Self.kind n) (value item) };
@@ -85,18 +83,13 @@ impl<'a> CellKind<'a> for BoolCells {
 
     ghost value = { truth };
 
-    fn read(word: &Word<'a>) -> Option<bool> {
-        match word {
-            Word::Plain(text) => {
-                if *text == "true" {
-                    Some(true)
-                } else if *text == "false" {
-                    Some(false)
-                } else {
-                    None
-                }
-            }
-            Word::Quoted(_) => None,
+    fn read(text: &'a str) -> Option<bool> {
+        if text == "true" {
+            Some(true)
+        } else if text == "false" {
+            Some(false)
+        } else {
+            None
         }
     }
 
@@ -121,13 +114,10 @@ impl<'a, T: NativePType> CellKind<'a> for IntCells<T> {
 
     ghost value = { λ x. number (T.number x) };
 
-    fn read(word: &Word<'a>) -> Option<T> {
-        match word {
-            Word::Plain(text) => match read_integer(text) {
-                Some(number) => T::from_i128(number),
-                None => None,
-            },
-            Word::Quoted(_) => None,
+    fn read(text: &'a str) -> Option<T> {
+        match read_integer(text) {
+            Some(number) => T::from_i128(number),
+            None => None,
         }
     }
 
@@ -152,11 +142,8 @@ impl<'a> CellKind<'a> for TextCells {
 
     ghost value = { λ s. text s.now };
 
-    fn read(word: &Word<'a>) -> Option<&'a str> {
-        match word {
-            Word::Plain(_) => None,
-            Word::Quoted(text) => Some(*text),
-        }
+    fn read(text: &'a str) -> Option<&'a str> {
+        Some(text)
     }
 
     fn blank() -> &'a str {
@@ -175,30 +162,18 @@ impl<'a> CellKind<'a> for TextCells {
     }
 }
 
-fn says_null(word: &Word<'_>) -> bool
-    ensures { result ≡ says_null (word_in word.now) }
-{
-    match word {
-        Word::Plain(text) => *text == "null",
-        Word::Quoted(_) => false,
-    }
-}
-
 /// What a cell says, a null among it; nothing where it says no value of the type.
 fn read_cell<'a, K: CellKind<'a>>(
     nullability: Nullability,
-    word: &Word<'a>,
+    cell: Option<&'a str>,
 ) -> Option<Option<K::Item>>
-    ensures { ReadsCell K.value (K.kind (allows_null nullability)) (word_in word.now) result }
+    ensures { ReadsCell K.value (K.kind (allows_null nullability)) (cell_in cell.entry) result }
 {
-    if says_null(word) {
-        return if nullability.is_nullable() {
-            Some(None)
-        } else {
-            None
-        };
+    match cell {
+        Some(text) => Some(Some(K::read(text)?)),
+        None if nullability.is_nullable() => Some(None),
+        None => None,
     }
-    Some(Some(K::read(word)?))
 }
 
 /// What cells say: an item for each, with a blank under each null, and which are not null.
@@ -208,25 +183,25 @@ struct Cells<T> {
     valid: Vec<bool>,
 }
 
-/// What each cell says; nothing where one says no value of the type. E9 alone.
+/// What each cell says; nothing where one says no value of the type. E9 where memory is refused.
 fn read_cells<'a, K: CellKind<'a>>(
     alloc: Global,
     nullability: Nullability,
-    words: &[Word<'a>],
+    cells: &[Option<&'a str>],
 ) -> VortexResult<Option<Cells<K::Item>>>
-    ensures { AnswersUnlessMemory result (λ cells. MatchOption cells
-        (cells_of (K.kind (allows_null nullability)) (map word_in words.now) ≡ None)
+    ensures { AnswersUnlessMemory result (λ read. MatchOption read
+        (cell_values (K.kind (allows_null nullability)) (map cell_in cells.now) ≡ None)
         (λ c. AreCells (allows_null nullability) (map K.value c.items.items) c.valid.items
-        (cells_of (K.kind (allows_null nullability)) (map word_in words.now)))) }
+        (cell_values (K.kind (allows_null nullability)) (map cell_in cells.now)))) }
 {
     let mut items = Vec::new(alloc);
     let mut valid = Vec::new(alloc);
-    for word in words {
-        let Some(cell) = read_cell::<K>(nullability, word) else {
+    for cell in cells {
+        let Some(item) = read_cell::<K>(nullability, *cell) else {
             return Ok(None);
         };
-        valid.push(cell.is_some())?;
-        items.push(cell.unwrap_or(K::blank()))?;
+        valid.push(item.is_some())?;
+        items.push(item.unwrap_or(K::blank()))?;
     }
     Ok(Some(Cells { items, valid }))
 }
@@ -243,16 +218,16 @@ fn cells_validity(alloc: Global, nullability: Nullability, valid: &[bool]) -> Vo
 }
 
 /// The column of the cells; nothing where one says no value of the type, or a text is too long for
-/// a column. E9 alone.
+/// a column. E9 where memory is refused.
 fn read_column<'a, K: CellKind<'a>>(
     alloc: Global,
     nullability: Nullability,
-    words: &[Word<'a>],
+    cells: &[Option<&'a str>],
 ) -> VortexResult<Option<Column>>
     ensures { AnswersUnlessMemory result
-        (λ c. c ≡ column_said (K.kind (allows_null nullability)) (map word_in words.now)) }
+        (λ c. c ≡ column_from (K.kind (allows_null nullability)) (map cell_in cells.now)) }
 {
-    let Some(Cells { items, valid }) = read_cells::<K>(alloc, nullability, words)? else {
+    let Some(Cells { items, valid }) = read_cells::<K>(alloc, nullability, cells)? else {
         return Ok(None);
     };
     let validity = cells_validity(alloc, nullability, &valid)?;
@@ -263,17 +238,19 @@ fn read_column<'a, K: CellKind<'a>>(
     }
 }
 
-/// The value of the cell, with its type; nothing where it says no value of the type. E9 alone.
+/// The value of the cell, with its type; nothing where it says no value of the type. E9 where
+/// memory is refused.
 fn read_value<'a, K: CellKind<'a>>(
     alloc: Global,
     dtype: DType,
-    word: &Word<'a>,
+    cell: Option<&'a str>,
 ) -> VortexResult<Option<Scalar>>
     requires { type_of dtype ≡ K.kind (is_nullable (type_of dtype)) }
-    ensures { AnswersUnlessMemory result
-        (λ s. s ≡ literal_said (type_of dtype) (word_in word.now)) }
+    ensures { AnswersUnlessMemory result (λ s. s ≡ option_map
+        (λ v. record { dtype = type_of dtype; value = v })
+        (cell_value (type_of dtype) (cell_in cell.entry))) }
 {
-    match read_cell::<K>(dtype.nullability(), word) {
+    match read_cell::<K>(dtype.nullability(), cell) {
         Some(Some(item)) => {
             let value = K::scalar_value(alloc, item)?;
             Ok(Some(Scalar::try_new(dtype, Some(value))?))
@@ -281,6 +258,14 @@ fn read_value<'a, K: CellKind<'a>>(
         Some(None) => Ok(Some(Scalar::try_new(dtype, None)?)),
         None => Ok(None),
     }
+}
+
+/// Whether the cell says a value of the type.
+fn says_value<'a, K: CellKind<'a>>(nullability: Nullability, cell: Option<&'a str>) -> bool
+    ensures { result
+        ≡ is_some (cell_value (K.kind (allows_null nullability)) (cell_in cell.entry)) }
+{
+    read_cell::<K>(nullability, cell).is_some()
 }
 
 /// The call over the cells of an integer type: the one place where it is chosen.
@@ -299,41 +284,76 @@ macro_rules! with_int_cells {
     };
 }
 
-/// The column that the cells of a `col` line say; nothing where one says no value of the type, or a
-/// text is longer than 4,294,967,295 bytes. E9 alone.
-pub fn column_said(
+/// The column of the cells of an integer type; nothing where one says no value of it. E9 where
+/// memory is refused.
+fn read_int_column(
     alloc: Global,
-    kind: Kind,
+    ptype: PType,
     nullability: Nullability,
-    words: &[Word<'_>],
+    cells: &[Option<&str>],
 ) -> VortexResult<Option<Column>>
     ensures { AnswersUnlessMemory result
-        (λ c. c ≡ column_said (kind_type kind (allows_null nullability)) (map word_in words.now)) }
+        (λ c. c ≡ column_from (integer_type ptype (allows_null nullability))
+        (map cell_in cells.now)) }
 {
-    match kind {
-        Kind::Bool => read_column::<BoolCells>(alloc, nullability, words),
-        Kind::Utf8 => read_column::<TextCells>(alloc, nullability, words),
-        Kind::Integer(ptype) => with_int_cells!(ptype, read_column(alloc, nullability, words)),
+    with_int_cells!(ptype, read_column(alloc, nullability, cells))
+}
+
+/// The column of cells, each a text or null; nothing where one says no value of the type, where no
+/// cells have the type, or a text is longer than 4,294,967,295 bytes. E9 where memory is refused.
+pub fn column_of_cells(
+    alloc: Global,
+    dtype: &DType,
+    cells: &[Option<&str>],
+) -> VortexResult<Option<Column>>
+    ensures { AnswersUnlessMemory result
+        (λ c. c ≡ column_of_cells (type_of dtype.now) (map cell_in cells.now)) }
+{
+    match dtype {
+        DType::Bool(nullability) => read_column::<BoolCells>(alloc, *nullability, cells),
+        DType::Utf8(nullability) => read_column::<TextCells>(alloc, *nullability, cells),
+        DType::Primitive(ptype, nullability) => {
+            read_int_column(alloc, *ptype, *nullability, cells)
+        }
+        _ => Ok(None),
     }
 }
 
-/// The value that the cell of a `lit` line says; nothing where it says no value of the type. E9
-/// alone.
-pub fn literal_said(
+/// The value of a cell with that type; nothing where it says none, or no cells have the type. E9
+/// where memory is refused.
+pub fn literal_of_cell(
     alloc: Global,
-    kind: Kind,
-    nullability: Nullability,
-    word: &Word<'_>,
+    dtype: &DType,
+    cell: Option<&str>,
 ) -> VortexResult<Option<Scalar>>
     ensures { AnswersUnlessMemory result
-        (λ s. s ≡ literal_said (kind_type kind (allows_null nullability)) (word_in word.now)) }
+        (λ s. s ≡ literal_of_cell (type_of dtype.now) (cell_in cell.entry)) }
 {
-    match kind {
-        Kind::Bool => read_value::<BoolCells>(alloc, DType::Bool(nullability), word),
-        Kind::Utf8 => read_value::<TextCells>(alloc, DType::Utf8(nullability), word),
-        Kind::Integer(ptype) => {
-            let dtype = DType::Primitive(ptype, nullability);
-            with_int_cells!(ptype, read_value(alloc, dtype, word))
+    match dtype {
+        DType::Bool(nullability) => {
+            read_value::<BoolCells>(alloc, DType::Bool(*nullability), cell)
         }
+        DType::Utf8(nullability) => {
+            read_value::<TextCells>(alloc, DType::Utf8(*nullability), cell)
+        }
+        DType::Primitive(ptype, nullability) => {
+            let dtype = DType::Primitive(*ptype, *nullability);
+            with_int_cells!(*ptype, read_value(alloc, dtype, cell))
+        }
+        _ => Ok(None),
+    }
+}
+
+/// Whether the cell says a value of the type.
+pub fn cell_fits(dtype: &DType, cell: Option<&str>) -> bool
+    ensures { result ≡ cell_fits (type_of dtype.now) (cell_in cell.entry) }
+{
+    match dtype {
+        DType::Bool(nullability) => says_value::<BoolCells>(*nullability, cell),
+        DType::Utf8(nullability) => says_value::<TextCells>(*nullability, cell),
+        DType::Primitive(ptype, nullability) => {
+            with_int_cells!(*ptype, says_value(*nullability, cell))
+        }
+        _ => false,
     }
 }

@@ -6,8 +6,9 @@ pub mod command;
 mod digits;
 pub mod laws;
 pub mod parse;
+mod said;
 pub mod text;
-pub mod types;
+mod types;
 
 pub use command::Line;
 pub use text::lines;

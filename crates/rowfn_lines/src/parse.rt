@@ -14,9 +14,9 @@ ghost use Rattle.rowfn_lines.specs.Commands.{command_of_words, command_of_text, 
 ghost use Rattle.rowfn_lines.specs.Commands.{command_in};
 ghost use Rattle.rowfn_lines.specs.Answering.{AnswersCommand};
 
-use crate::cells::{column_said, literal_said};
 use crate::command::Line;
 use crate::digits::are_digits;
+use crate::said::{column_said, literal_said};
 use crate::text::{Word, without_spaces, words};
 use crate::types::read_type;
 use std::alloc::Global;
@@ -89,10 +89,10 @@ fn column_line<'a>(alloc: Global, words: &[Word<'a>]) -> VortexResult<Line<'a>>
     if !is_name(name) {
         return Ok(Line::Malformed);
     }
-    let Some((kind, nullability)) = read_type(dtype) else {
+    let Some(dtype) = read_type(dtype) else {
         return Ok(Line::Malformed);
     };
-    match column_said(alloc, kind, nullability, cells)? {
+    match column_said(alloc, &dtype, cells)? {
         Some(column) => Ok(Line::Column(name, column)),
         None => Ok(Line::Malformed),
     }
@@ -104,10 +104,10 @@ fn literal_line<'a>(alloc: Global, words: &[Word<'a>]) -> VortexResult<Line<'a>>
     let [Word::Plain(dtype), cell] = words else {
         return Ok(Line::Malformed);
     };
-    let Some((kind, nullability)) = read_type(dtype) else {
+    let Some(dtype) = read_type(dtype) else {
         return Ok(Line::Malformed);
     };
-    match literal_said(alloc, kind, nullability, cell)? {
+    match literal_said(alloc, &dtype, cell)? {
         Some(scalar) => Ok(Line::Literal(scalar)),
         None => Ok(Line::Malformed),
     }
@@ -261,7 +261,8 @@ fn text_line<'a>(alloc: Global, text: &'a str) -> VortexResult<Line<'a>>
     }
 }
 
-/// What the line says. E9 alone: a line that says nothing of a script is `Malformed`.
+/// What the line says; a line that says nothing of a script is `Malformed`. E9 where memory is
+/// refused.
 pub fn parse(alloc: Global, line: &[u8]) -> VortexResult<Line<'_>>
     ensures { AnswersCommand (command_of line.now) result }
 {

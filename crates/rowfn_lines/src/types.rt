@@ -1,70 +1,53 @@
 //! The types that scripts name.
 ghost use Rattle.std.specs.Prelude.{◌≡◌, option_map};
-ghost use Rattle.vortex_types.specs.TypeOf.{allows_null};
-ghost use Rattle.rowfn_lines.specs.Commands.{ptype_of_word, kind_of_word, kind_type, type_of_word};
+ghost use Rattle.vortex_types.specs.TypeOf.{allows_null, type_of};
+ghost use Rattle.rowfn_lines.specs.Commands.{ptype_of_word, type_named, type_of_word};
 
-use vortex_columns::{Nullability, PType};
-
-/// The kinds of values that scripts have.
-#[derive(Clone, Copy, Debug, PartialEq, Eq)]
-pub enum Kind {
-    Bool,
-    Integer(PType),
-    Utf8,
-}
+use vortex_columns::{DType, Nullability, PType};
 
 fn read_ptype(word: &str) -> Option<PType>
     ensures { result ≡ ptype_of_word word.now }
 {
-    if word == "i8" {
+    if word == PType::I8.text() {
         Some(PType::I8)
-    } else if word == "i16" {
+    } else if word == PType::I16.text() {
         Some(PType::I16)
-    } else if word == "i32" {
+    } else if word == PType::I32.text() {
         Some(PType::I32)
-    } else if word == "i64" {
+    } else if word == PType::I64.text() {
         Some(PType::I64)
-    } else if word == "u8" {
+    } else if word == PType::U8.text() {
         Some(PType::U8)
-    } else if word == "u16" {
+    } else if word == PType::U16.text() {
         Some(PType::U16)
-    } else if word == "u32" {
+    } else if word == PType::U32.text() {
         Some(PType::U32)
-    } else if word == "u64" {
+    } else if word == PType::U64.text() {
         Some(PType::U64)
     } else {
         None
     }
 }
 
-fn read_kind(word: &str) -> Option<Kind>
-    ensures { result ≡ kind_of_word word.now }
+fn type_named(name: &str, nullability: Nullability) -> Option<DType>
+    ensures { option_map (λ t. type_of t) result ≡ type_named (allows_null nullability) name.now }
 {
-    if word == "bool" {
-        Some(Kind::Bool)
-    } else if word == "utf8" {
-        Some(Kind::Utf8)
+    if name == "bool" {
+        Some(DType::Bool(nullability))
+    } else if name == "utf8" {
+        Some(DType::Utf8(nullability))
     } else {
-        Some(Kind::Integer(read_ptype(word)?))
+        Some(DType::Primitive(read_ptype(name)?, nullability))
     }
 }
 
-fn with_nullability(word: &str, nullability: Nullability) -> Option<(Kind, Nullability)>
-    ensures { option_map (λ p. kind_type p.0 (allows_null p.1)) result
-        ≡ option_map (λ k. kind_type k (allows_null nullability)) (kind_of_word word.now) }
-{
-    match read_kind(word) {
-        Some(kind) => Some((kind, nullability)),
-        None => None,
-    }
-}
-
-/// The type that a word names, nullable where a question mark ends it.
-pub fn read_type(word: &str) -> Option<(Kind, Nullability)>
-    ensures { option_map (λ p. kind_type p.0 (allows_null p.1)) result ≡ type_of_word word.now }
+/// The type that a word names, as types are written: `bool`, `utf8` or an integer type, nullable
+/// where a question mark ends it.
+pub fn read_type(word: &str) -> Option<DType>
+    ensures { option_map (λ t. type_of t) result ≡ type_of_word word.now }
 {
     match word.strip_suffix('?') {
-        Some(name) => with_nullability(name, Nullability::Nullable),
-        None => with_nullability(word, Nullability::NonNullable),
+        Some(name) => type_named(name, Nullability::Nullable),
+        None => type_named(word, Nullability::NonNullable),
     }
 }

@@ -1,9 +1,9 @@
-//! The options, as the help tells them.
+//! The options, as `--help` prints them.
 
 use clap::{Arg, ArgAction, Command, Error, value_parser};
 use std::alloc::Global;
 
-/// What the help tells below the options.
+/// What `--help` prints below the options.
 const AFTER_HELP: &str = "Rows are CSV. An expression is lines: `col NAME TYPE` declares a column, \
 `get`, `lit` and `call` make trees,\n`as NAME` names the last one. The trees that are left at the \
 end are the answers.\n\nStatus: 1 a call faults in a row, 2 input that does not fit or wrong \
@@ -30,7 +30,7 @@ fn header<'a>(alloc: Global) -> Result<Arg<'a>, Error> {
             .long("header")
             .action(ArgAction::SetTrue)
             .conflicts_with("no-header")?
-            .help("The first record names the columns, as is taken where nothing is said"),
+            .help("The first record names the columns (default)"),
     )
 }
 
@@ -79,7 +79,7 @@ fn explain<'a>(alloc: Global) -> Result<Arg<'a>, Error> {
             .long("explain")
             .action(ArgAction::SetTrue)
             .conflicts_with("where")?
-            .help("Tell what is answered, and read no rows"),
+            .help("Print what is answered, and read no rows"),
     )
 }
 
@@ -88,7 +88,7 @@ fn summary<'a>(alloc: Global) -> Result<Arg<'a>, Error> {
         Arg::new(alloc, "summary")
             .long("summary")
             .action(ArgAction::SetTrue)
-            .help("Tell at the end how many rows were read and written"),
+            .help("Print at the end how many rows were read and written"),
     )
 }
 

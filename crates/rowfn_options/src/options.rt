@@ -12,7 +12,7 @@ pub enum Action {
     Answer,
     /// The rows are written in which the last answer is true.
     Pick,
-    /// The expression is told, and no rows are read.
+    /// The expression is printed, and no rows are read.
     Explain,
 }
 
@@ -74,7 +74,7 @@ fn asked_source<'a>(alloc: Global, matches: &ArgMatches<'a>) -> Result<Source<'a
     Ok(Source::Lines(lines))
 }
 
-/// What is told of a delimiter that is none.
+/// Why a word is no delimiter.
 fn delimiter_error(command: &mut Command<'_>) -> Result<Error, Error> {
     let message = "the delimiter is one byte of ASCII, no quote and no end of a line";
     Ok(command.error(ErrorKind::InvalidValue, message)?)
@@ -99,7 +99,7 @@ fn options_of<'a>(
 }
 
 /// What the words after the program's name ask for; the first word is that name. Refused for wrong
-/// words, with the text that tells of them; help and version are told so as well.
+/// words, with the text to print; so are `--help` and `--version`.
 pub fn read_options<'a>(alloc: Global, words: &'a [String]) -> Result<Options<'a>, Error> {
     let mut command = command(alloc)?;
     let matches = command.try_get_matches_from_mut(words)?;

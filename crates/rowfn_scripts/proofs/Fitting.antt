@@ -40,7 +40,7 @@ use Rattle.rowfn_lines.proofs.SaidTyped.{IsTyped, said_typed}
 use Rattle.rowfn_scripts.specs.Sessions.{SessionView, Step, goes_on, refuses, is_malformed}
 use Rattle.rowfn_scripts.specs.Sessions.{least_count}
 use Rattle.rowfn_scripts.specs.Sessions.{taken, after_rows, added, with_column}
-use Rattle.rowfn_scripts.specs.Sessions.{with_leaf, with_literal, call_of}
+use Rattle.rowfn_scripts.specs.Sessions.{pushed, with_leaf, with_literal, call_of}
 use Rattle.rowfn_scripts.specs.Sessions.{with_call, ShowsTop, Runs, prints, refused}
 use Rattle.rowfn_scripts.specs.Sessions.{RunsTop, OptimizesTop, RunsAfter, prints_after}
 use Rattle.rowfn_scripts.specs.Sessions.{refused_after, RunsAfterTop, StepsTo}
@@ -268,11 +268,12 @@ module _ {V O : Type 0} (m : Meaning V O) (s : SessionView V O) (fits : Fits m s
           shown = fits.shown;
         }
 
-    -- other trees, and what was printed
-    with_stack : (stack : List (Tree V O)) (printed : List ℕ) → StackHasRows s.columns n stack
-        → AllFit s.columns stack → AllHaveTypes m stack → AllShown stack
-        → Fits m (record s { stack = stack; printed = printed })
-    with_stack stack printed typed fit types shown = record {
+    -- other trees and names, and what was printed
+    with_stack : (stack : List (Tree V O)) (names : List (Option (List ℕ))) (printed : List ℕ)
+        → StackHasRows s.columns n stack → AllFit s.columns stack → AllHaveTypes m stack
+        → AllShown stack
+        → Fits m (record s { stack = stack; names = names; printed = printed })
+    with_stack stack names printed typed fit types shown = record {
       counted = fits.counted;
       typed = fits.typed;
       typed_rows = fits.typed_rows;
@@ -282,31 +283,31 @@ module _ {V O : Type 0} (m : Meaning V O) (s : SessionView V O) (fits : Fits m s
       shown = shown;
     }
 
-    pushed : (t : Tree V O) → ((i : ℕ) → i < n → HasRow s.columns i t) → LeavesFit s.columns t
+    pushed_fits : (t : Tree V O) → ((i : ℕ) → i < n → HasRow s.columns i t) → LeavesFit s.columns t
         → is_some (tree_type m t) ≡ true → HasText t
-        → Fits m (record s { stack = t ∷ s.stack })
-    pushed t typed fit type shown =
-        with_stack (t ∷ s.stack) s.printed (typed, rows_at) (fit, fits.fit) (type, fits.with_types)
-        (shown, fits.shown)
+        → Fits m (pushed t s.stack s)
+    pushed_fits t typed fit type shown =
+        with_stack (t ∷ s.stack) _ s.printed (typed, rows_at) (fit, fits.fit)
+        (type, fits.with_types) (shown, fits.shown)
 
     leaf_fits : (name : List ℕ) (p : ℕ × LogicalType) → find_field name s.fields ≡ Some p
-        → Fits m (record s { stack = leaf (place p.0 name p.1) ∷ s.stack })
+        → Fits m (pushed (leaf (place p.0 name p.1)) s.stack s)
     leaf_fits name p h =
         let fit = found_fits name s.fields s.columns p fits.typed h in
         let new : Tree V O = leaf (place p.0 name p.1) in
-        pushed new
+        pushed_fits new
         (λ i lt. fitting_row s.columns n counted_at fits.typed_rows new i lt fit tt) fit refl
         (codes "$." ++ name, refl)
 
     literal_fits : (l : ScalarView) → HasType l.dtype l.value
-        → Fits m (record s { stack = constant l ∷ s.stack })
+        → Fits m (pushed (constant l) s.stack s)
     literal_fits l said =
-        pushed (constant l) (λ i lt. said) tt refl (literal_text l.dtype l.value, refl)
+        pushed_fits (constant l) (λ i lt. said) tt refl (literal_text l.dtype l.value, refl)
 
     call_fits : (f : Shipped) (p : List (Tree V O) × List (Tree V O))
         → taken (least_count (shipped_arity f)) s.stack ≡ Some p
         → is_some (tree_type m (call_of m f p.0)) ≡ true
-        → Fits m (record s { stack = call_of m f p.0 ∷ p.1 })
+        → Fits m (pushed (call_of m f p.0) p.1 s)
     call_fits f p h type =
         let all =
         of_taken
@@ -317,7 +318,7 @@ module _ {V O : Type 0} (m : Meaning V O) (s : SessionView V O) (fits : Fits m s
         (((a.0.0, tt), (a.1.0, tt), (a.2.0, tt), (a.3.0, tt)), (a.0.1, a.1.1, a.2.1, a.3.1)))
         (least_count (shipped_arity f)) s.stack p h
         (rows_at, fits.fit, fits.with_types, fits.shown) in
-        with_stack (call_of m f p.0 ∷ p.1) s.printed
+        with_stack (call_of m f p.0 ∷ p.1) _ s.printed
         (all_rows s.columns n p.0 all.0.0, all.1.0) (all_fit s.columns p.0 all.0.1, all.1.1)
         (type, all.1.2) (call_shown f p.0 all.0.3, all.1.3)
 
@@ -374,7 +375,7 @@ module _ {V O : Type 0} (m : Meaning V O) (rs : Rules V O) (laws : AreSound m rs
       let limit = weight_told m u in
       let asks = (rewritten m rs laws limit u o.last o.run all.2.0).asks in
       as_step a _ o.is
-      (with_stack m s fits n known (o.last ∷ stack) _
+      (with_stack m s fits n known (o.last ∷ stack) s.names _
       ((λ i lt. asks.rows s.columns i (all.0.0 i lt)), all.0.1)
       (leaves_still_fit s.columns u o.last asks all.1.0, all.1.1)
       (rewritten_typed m rs laws limit u o.last o.run all.2.0, all.2.1)

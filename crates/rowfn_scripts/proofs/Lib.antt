@@ -10,3 +10,4 @@ pub mod OneStep
 pub mod Telling
 pub mod EachOutcome
 pub mod OneOutcome
+pub mod Headers

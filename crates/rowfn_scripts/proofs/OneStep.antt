@@ -1,5 +1,5 @@
 -- A line makes one step of a session whose trees fit its columns.
-use Rattle.std.proofs.Common.{◌≡◌, ℕ, ◌<◌, true, Option, Some, None, List, [], ◌∷◌, ◌++◌, refl, sym}
+use Rattle.std.proofs.Common.{◌≡◌, ℕ, ◌<◌, true, Option, Some, None, List, [], ◌∷◌, ◌++◌, sym}
 use Rattle.std.proofs.Common.{ap, subst, ◌∙◌, inl, inr, arith}
 use Rattle.std.specs.Prelude.{codes}
 use Rattle.std.specs.Option.{is_some}
@@ -20,8 +20,8 @@ use Rattle.vortex_meaning.specs.Functions.{ours, custom}
 use Rattle.vortex_meaning.specs.Trees.{Tree, leaf, constant, call as call_tree, Trees, no_trees}
 use Rattle.vortex_meaning.specs.Trees.{tree}
 use Rattle.vortex_meaning.specs.Printing.{tree_text, tree_texts, function_text}
-use Rattle.vortex_meaning.specs.Eval.{Inputs, all_give, one_faults, with_first, then_means}
-use Rattle.vortex_meaning.specs.Eval.{tree_type, tree_types, types_or_none, eval, eval_all, Settled}
+use Rattle.vortex_meaning.specs.Eval.{then_means}
+use Rattle.vortex_meaning.specs.Eval.{tree_type, tree_types, types_or_none, eval, Settled}
 use Rattle.vortex_meaning.specs.Eval.{AllSettled, IsFirstFault, IsFirstFaultIn, HasTreeRows}
 use Rattle.vortex_meaning.specs.Execution.{Executes, RefusesExecution, LeavesFit, other_length}
 use Rattle.vortex_meaning.proofs.ArithmeticErrs.{refuses_first}

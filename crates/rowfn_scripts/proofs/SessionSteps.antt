@@ -1,18 +1,19 @@
 -- What each kind of line makes of a session.
 use Rattle.std.proofs.Common.{◌≡◌, ◌==◌, ℕ, suc, ◌+◌, ◌-◌, ◌<◌, Bool, true, false, Option, Some}
 use Rattle.std.proofs.Common.{None, Result, List, [], ◌∷◌, ◌++◌, length, take, drop, get_or}
-use Rattle.std.proofs.Common.{reverse, refl, sym, ap, subst, ◌∙◌, arith, ◌&&◌, if◌then◌else◌}
+use Rattle.std.proofs.Common.{reverse, refl, sym, ap, subst, ◌∙◌, arith, ◌&&◌, if◌then◌else◌, map}
 use Rattle.std.proofs.Common.{◌≤◌, ◌⊎◌, inl, inr, ◌↔◌, IsTrue}
-use Rattle.std.specs.Prelude.{IfSome, MatchOption, nat_le, not, String}
+use Rattle.std.specs.Prelude.{IfSome, nat_le, nat_lt, not, String, string_bytes}
 use Rattle.std.specs.declared.alloc.Global.{Global}
 use Rattle.std.specs.Cmp.{unsigned_Decides}
 use Rattle.std.specs.Option.{is_some, is_none, option_and_then, option_map}
 use Rattle.std.specs.Result.{IsErrAnd}
 use Rattle.std.proofs.lemmas.Result.{err_from_is_err_and}
 use Rattle.std.proofs.Math.Seq.{take-suc, take-append_seam, drop-append_seam}
-use Rattle.std.proofs.lemmas.Bool.{eqb-true, false_from_ne_true, le-leb, lt-leb}
+use Rattle.std.proofs.lemmas.Bool.{le-leb, lt-leb, lt-ltb}
 use Rattle.std.proofs.lemmas.List.{reverse-append, reverse-reverse, take-append-drop, take_all}
-use Rattle.std.proofs.lemmas.List.{length-drop, length-append, length-reverse}
+use Rattle.std.proofs.lemmas.List.{length-drop, length-append, length-reverse, map-append}
+use Rattle.std.proofs.lemmas.List.{take-map, length-map}
 use Rattle.vortex_errors.specs.declared.error.MismatchPlace.{MismatchPlace}
 use Rattle.vortex_errors.specs.declared.error.VortexError.{VortexError}
 use Rattle.vortex_errors.specs.declared.error.VortexError.TheVariants.{ScopeMismatch}
@@ -31,8 +32,9 @@ use Rattle.vortex_meaning.specs.Shipped.{Shipped, row_function, shipped_arity, s
 use Rattle.vortex_meaning.specs.Shipped.{shipped_place}
 use Rattle.vortex_meaning.specs.Functions.{Function, ours, function_arity, function_type, call_type}
 use Rattle.vortex_meaning.specs.Functions.{IsMismatchAt}
-use Rattle.vortex_meaning.specs.Trees.{Tree, call, trees_of, leaf, place}
-use Rattle.vortex_meaning.specs.Eval.{tree_type, tree_types, with_type, types_or_none}
+use Rattle.vortex_types.specs.ScalarView.{ScalarView}
+use Rattle.vortex_meaning.specs.Trees.{Tree, call, trees_of, leaf, place, constant}
+use Rattle.vortex_meaning.specs.Eval.{tree_type, tree_types, types_or_none}
 use Rattle.vortex_meaning.specs.Execution.{Executes, RefusesExecution}
 use Rattle.vortex_meaning.specs.Printing.{tree_text}
 use Rattle.vortex_functions.specs.Binding.{IsCall, RefusesCall, count, types}
@@ -42,11 +44,13 @@ use Rattle.rowfn_scripts.specs.declared.stop.Stop.{Stop}
 use Rattle.rowfn_scripts.specs.declared.stop.Stop.TheVariants.{Refused}
 use Rattle.rowfn_scripts.specs.Sessions.{SessionView, Step, goes_on, refuses, is_malformed}
 use Rattle.rowfn_scripts.specs.Sessions.{least_count, taken, after_rows, added, with_column}
-use Rattle.rowfn_scripts.specs.Sessions.{with_leaf, call_of, refused_at, with_taken, with_call}
+use Rattle.rowfn_scripts.specs.Sessions.{pushed, with_leaf, with_literal, call_of, refused_at}
+use Rattle.rowfn_scripts.specs.Sessions.{with_taken, with_call}
 use Rattle.rowfn_scripts.specs.Sessions.{shown_by, ShowsTop, prints, refused, RunsTop, steps_text}
 use Rattle.rowfn_scripts.specs.Sessions.{Optimizes, OptimizesTop, prints_after, refused_after}
 use Rattle.rowfn_scripts.specs.Sessions.{RunsAfterTop}
-use Rattle.rowfn_scripts.specs.Stepping.{MakesStep, after_text}
+use Rattle.rowfn_scripts.specs.Stepping.{MakesStep, after_text, given_in}
+use Rattle.rowfn_scripts.specs.Expressions.{named}
 
 module _ {V O : Type 0} where
   pub row_count_of : {s t : SessionView V O} → s ≡ t → s.row_count ≡ t.row_count
@@ -78,16 +82,62 @@ module _ {V O : Type 0} where
       (λ i. goes_on (record v { fields = a i; columns = b i }))
       ∙ ap (λ (u : SessionView V O). goes_on (added name c u)) e
 
-  -- one more tree
-  pub same_stacked : (v s : SessionView V O) (t : Tree V O) (kept after : List (Tree V O)) → v ≡ s
-      → after ≡ kept ++ t ∷ []
-      → goes_on (record v { stack = reverse after })
-      ≡ goes_on (record s { stack = t ∷ reverse kept })
-  same_stacked v s t kept after e a =
-      ap (λ (st : List (Tree V O)). goes_on (record v { stack = reverse st })) a
-      ∙ ap (λ (st : List (Tree V O)). goes_on (record v { stack = st }))
-      (reverse-append kept (t ∷ []))
-      ∙ ap (λ (u : SessionView V O). goes_on (record u { stack = t ∷ reverse kept })) e
+  -- a tree is pushed: the names are cut to so many, and one is added that is none
+  pub tree_pushed : (v s : SessionView V O) (t : Tree V O) (items after : List (Tree V O))
+      (names cut now : List (Option (String Global))) (n : ℕ) → v ≡ s → v.stack ≡ reverse items
+      → v.names ≡ map given_in names → n ≡ length items → cut ≡ take n names
+      → now ≡ cut ++ None ∷ [] → after ≡ items ++ t ∷ []
+      → record v { stack = reverse after; names = map given_in now } ≡ pushed t s.stack s
+  tree_pushed v s t items after names cut now n e st nm many first added made =
+      let stack : reverse after ≡ t ∷ v.stack =
+      ap reverse made ∙ reverse-append items (t ∷ [])
+      ∙ ap (λ (xs : List (Tree V O)). t ∷ xs) (sym st) in
+      let count : n ≡ length v.stack = many ∙ sym (length-reverse items) ∙ ap length (sym st) in
+      let given : map given_in now ≡ take (length v.stack) v.names ++ None ∷ [] =
+      ap (map given_in) (added ∙ ap (λ (xs : List (Option (String Global))). xs ++ None ∷ []) first)
+      ∙ map-append given_in (take n names) (None ∷ [])
+      ∙ ap (λ (xs : List (Option (List ℕ))). xs ++ None ∷ [])
+      (sym (take-map given_in n names) ∙ (λ i. take (count i) (sym nm i))) in
+      (λ i. record v { stack = stack i; names = given i })
+      ∙ ap (λ (u : SessionView V O). pushed t u.stack u) e
+
+  pub same_pushed : (r v s : SessionView V O) (t u : Tree V O) (kept below : List (Tree V O))
+      → v ≡ s → t ≡ u → kept ≡ below → r ≡ pushed t kept v
+      → goes_on r ≡ goes_on (pushed u below s)
+  same_pushed r v s t u kept below e f k h =
+      ap goes_on h ∙ (λ i. goes_on (pushed (f i) (k i) (e i)))
+
+  -- the last tree is named
+  pub named_last : (v s : SessionView V O) (names kept now : List (Option (String Global)))
+      (given : String Global) (name : List ℕ) → v ≡ s → v.names ≡ map given_in names
+      → 0 < length names → kept ≡ take (length names - 1) names → now ≡ kept ++ Some given ∷ []
+      → string_bytes given ≡ name
+      → goes_on (record v { names = map given_in now }) ≡ named name s
+  named_last v s names kept now given name e st some first added is =
+      let all : List (Option (List ℕ)) = map given_in names in
+      let l : length all ≡ length names = length-map names given_in in
+      let less : nat_lt 0 (length all) ≡ true = lt-ltb 0 _ (omega (arith, l, some)) in
+      let made : map given_in now ≡ take (length all - 1) all ++ Some name ∷ [] =
+      ap (map given_in)
+      (added ∙ ap (λ (xs : List (Option (String Global))). xs ++ Some given ∷ []) first)
+      ∙ map-append given_in (take (length names - 1) names) (Some given ∷ [])
+      ∙ (λ i. sym (take-map given_in (length names - 1) names) i ++ Some (is i) ∷ [])
+      ∙ ap (λ (n : ℕ). take (n - 1) all ++ Some name ∷ []) (sym l) in
+      let r : Step V O =
+      goes_on (record v { names = take (length all - 1) all ++ Some name ∷ [] }) in
+      (λ i. goes_on (record v { names = made i }))
+      ∙ sym (ap (λ (b : Bool). if b then r else is_malformed) less)
+      ∙ (λ i. named name (record v { names = sym st i }))
+      ∙ ap (named name) e
+
+  pub none_named : (v s : SessionView V O) (names : List (Option (String Global)))
+      (name : List ℕ) → v ≡ s → v.names ≡ map given_in names → names ≡ []
+      → is_malformed ≡ named name s
+  none_named v s names name e st none =
+      sym
+      (ap (λ (xs : List (Option (List ℕ))). named name (record v { names = xs }))
+      (st ∙ ap (map given_in) none))
+      ∙ ap (named name) e
 
   -- one more tree, and a text that was printed
   pub same_optimized : (v s : SessionView V O) (t : Tree V O) (kept after : List (Tree V O))
@@ -108,11 +158,6 @@ module _ {V O : Type 0} where
   pub popped : (items kept : List (Tree V O)) (t : Tree V O) → items ≡ kept ++ t ∷ []
       → reverse items ≡ t ∷ reverse kept
   popped items kept t e = ap reverse e ∙ reverse-append kept (t ∷ [])
-
-  pub same_leaf : (s : SessionView V O) (t u : Tree V O) (below : List (Tree V O)) → below ≡ s.stack
-      → t ≡ u
-      → goes_on (record s { stack = t ∷ below }) ≡ goes_on (record s { stack = u ∷ s.stack })
-  same_leaf s t u below e f = λ i. goes_on (record s { stack = f i ∷ e i })
 
   -- before the row count is said
   pub before_rows : (r : Option ℕ) (f : ℕ → Step V O) → is_none r ≡ true
@@ -151,10 +196,14 @@ module _ {V O : Type 0} where
 
   pub leaf_pushed : (name : List ℕ) (s : SessionView V O) (scope : Fields) (p : ℕ × LogicalType)
       → is_none s.row_count ≡ false → find_field name scope ≡ Some p
-      → goes_on (record s { stack = leaf (place p.0 name p.1) ∷ s.stack })
+      → goes_on (pushed (leaf (place p.0 name p.1)) s.stack s)
       ≡ after_rows s.row_count (λ n. with_leaf name s (find_field name scope))
   leaf_pushed name s scope p h e =
       ap (with_leaf name s) (sym e) ∙ after_some s.row_count _ h
+
+  pub literal_pushed : (l : ScalarView) (s : SessionView V O) → is_none s.row_count ≡ false
+      → goes_on (pushed (constant l) s.stack s) ≡ after_rows s.row_count (λ n. with_literal l s)
+  literal_pushed l s h = after_some s.row_count _ h
 
   pub leaf_refused : (name : List ℕ) (s : SessionView V O) (scope : Fields)
       → is_none s.row_count ≡ false → find_field name scope ≡ None
@@ -256,17 +305,17 @@ module _ {V O : Type 0} where
       module _ (x : Function V O) (n : ℕ) (items : List (Tree V O))
           (is : Some x ≡ as_function (shipped_called words chosen))
           (least : n ≡ least_count (function_arity m x)) (top : reverse items ≡ s.stack) where
-        named : (f : Shipped) × (shipped_called words chosen ≡ Some f) × (x ≡ ours f)
-        named = named_is x (shipped_called words chosen) is
+        shipped : (f : Shipped) × (shipped_called words chosen ≡ Some f) × (x ≡ ours f)
+        shipped = named_is x (shipped_called words chosen) is
 
-        count_is : n ≡ least_count (shipped_arity named.0)
-        count_is = least ∙ ap (λ (g : Function V O). least_count (function_arity m g)) named.2
+        count_is : n ≡ least_count (shipped_arity shipped.0)
+        count_is = least ∙ ap (λ (g : Function V O). least_count (function_arity m g)) shipped.2
 
         with_taken_is : (o : Option (List (Tree V O) × List (Tree V O)))
-            → taken n (reverse items) ≡ o → with_taken m named.0 s o ≡ Call
+            → taken n (reverse items) ≡ o → with_taken m shipped.0 s o ≡ Call
         with_taken_is o e =
-            ap (with_taken m named.0 s) (sym e ∙ (λ i. taken (count_is i) (top i)))
-            ∙ called (Some named.0) named.1
+            ap (with_taken m shipped.0 s) (sym e ∙ (λ i. taken (count_is i) (top i)))
+            ∙ called (Some shipped.0) shipped.1
 
         pub no_arguments : length items < n → is_malformed ≡ Call
         no_arguments h = with_taken_is None (too_few n items h)
@@ -274,12 +323,12 @@ module _ {V O : Type 0} where
         module _ (k : ℕ) (ts kept : List (Tree V O)) (counted : k + n ≡ length items)
             (last : ts ≡ drop k items) (first : kept ≡ take k items) where
           abbrev Made : Step V O
-          Made = goes_on (record s { stack = call_of m named.0 ts ∷ reverse kept })
+          Made = goes_on (pushed (call_of m shipped.0 ts) (reverse kept) s)
 
           abbrev Refuse : List LogicalType → Step V O
-          Refuse ks = refused_at m (shipped_place named.0 ks)
+          Refuse ks = refused_at m (shipped_place shipped.0 ks)
 
-          by_type : (b : Bool) → is_some (tree_type m (call_of m named.0 ts)) ≡ b
+          by_type : (b : Bool) → is_some (tree_type m (call_of m shipped.0 ts)) ≡ b
               → (if b then Made else Refuse (types_or_none (tree_types m (trees_of ts)))) ≡ Call
           by_type b h =
               (λ i. if sym h i then Made else Refuse (types_or_none (tree_types m (trees_of ts))))
@@ -287,32 +336,32 @@ module _ {V O : Type 0} where
               (last_taken n items k counted ∙ (λ i. Some (sym last i, reverse (sym first i))))
 
           pub call_made : (t : Tree V O) → IsCall m x ts t
-              → goes_on (record s { stack = t ∷ reverse kept }) ≡ Call
+              → goes_on (pushed t (reverse kept) s) ≡ Call
           call_made t h =
-              let made = subst (λ (g : Function V O). IsCall m g ts t) named.2 h in
-              ap (λ (u : Tree V O). goes_on (record s { stack = u ∷ reverse kept })) made.is
-              ∙ by_type true (call_typed (ours named.0) ts t made)
+              let made = subst (λ (g : Function V O). IsCall m g ts t) shipped.2 h in
+              ap (λ (u : Tree V O). goes_on (pushed u (reverse kept) s)) made.is
+              ∙ by_type true (call_typed (ours shipped.0) ts t made)
 
           placed : (o : Option MismatchPlace) (d : VortexError) → IsMismatchAt o d
               → refuses d ≡ refused_at m o
           placed None d h = absurd h
           placed (Some p) d h = ap refuses h
 
-          refused_ours : (d : VortexError) → RefusesCall m (ours named.0) ts d → refuses d ≡ Call
+          refused_ours : (d : VortexError) → RefusesCall m (ours shipped.0) ts d → refuses d ≡ Call
           refused_ours d (count h is) =
-              let many : length ts ≡ (row_function named.0).count =
+              let many : length ts ≡ (row_function shipped.0).count =
               ap length last ∙ omega (arith, length-drop k items, counted, count_is) in
-              let fit : fits (function_arity m (ours named.0)) (length ts) ≡ true =
-              (unsigned_Decides (length ts) (row_function named.0).count).1 many in
+              let fit : fits (function_arity m (ours shipped.0)) (length ts) ≡ true =
+              (unsigned_Decides (length ts) (row_function shipped.0).count).1 many in
               cc
           refused_ours d (types ks h typed none is) =
-              placed (shipped_place named.0 ks) d is
+              placed (shipped_place shipped.0 ks) d is
               ∙ ap Refuse (sym (ap types_or_none typed))
-              ∙ by_type false (call_untyped (ours named.0) ts ks typed none)
+              ∙ by_type false (call_untyped (ours shipped.0) ts ks typed none)
 
           pub call_refused : (d : VortexError) → RefusesCall m x ts d → refuses d ≡ Call
           call_refused d h =
-              refused_ours d (subst (λ (g : Function V O). RefusesCall m g ts d) named.2 h)
+              refused_ours d (subst (λ (g : Function V O). RefusesCall m g ts d) shipped.2 h)
 
     module _ (n : ℕ) (s : SessionView V O) (t : Tree V O) (rest : List (Tree V O))
         (top : s.stack ≡ t ∷ rest) where

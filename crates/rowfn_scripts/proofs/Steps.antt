@@ -1,6 +1,6 @@
 -- What holds of the steps of the lines whose step is a function of the session, by cases.
 use Rattle.std.proofs.Common.{◌≡◌, ◌≢◌, ◌==◌, ◌&&◌, ℕ, Bool, true, false, Option, Some, None, List}
-use Rattle.std.proofs.Common.{◌∷◌, length, refl, if◌then◌else◌}
+use Rattle.std.proofs.Common.{length, refl, if◌then◌else◌}
 use Rattle.std.specs.Option.{is_some, is_none}
 use Rattle.vortex_errors.specs.declared.error.MismatchPlace.{MismatchPlace}
 use Rattle.vortex_errors.specs.declared.error.VortexError.{VortexError}
@@ -14,7 +14,7 @@ use Rattle.vortex_meaning.specs.Trees.{Tree, leaf, place, trees_of}
 use Rattle.vortex_meaning.specs.Eval.{tree_type, tree_types, types_or_none}
 use Rattle.rowfn_scripts.specs.Sessions.{SessionView, Step, goes_on, refuses, is_malformed}
 use Rattle.rowfn_scripts.specs.Sessions.{least_count, taken, with_rows, after_rows, added}
-use Rattle.rowfn_scripts.specs.Sessions.{with_column, with_leaf, call_of, refused_at, with_taken}
+use Rattle.rowfn_scripts.specs.Sessions.{with_column, pushed, with_leaf, call_of, refused_at, with_taken}
 use Rattle.rowfn_scripts.specs.Sessions.{with_call}
 
 -- no line refuses for want of memory
@@ -46,7 +46,7 @@ module _ {V O : Type 0} (m : Meaning V O) (s : SessionView V O) (P : Step V O �
 
   pub of_leaf : (name : List ℕ) (o : Option (ℕ × LogicalType))
       → ((p : ℕ × LogicalType) → o ≡ Some p
-      → P (goes_on (record s { stack = leaf (place p.0 name p.1) ∷ s.stack })))
+      → P (goes_on (pushed (leaf (place p.0 name p.1)) s.stack s)))
       → P (with_leaf name s o)
   of_leaf name None h = refused ScopeMismatch (λ e. cc)
   of_leaf name (Some p) h = h p refl
@@ -59,7 +59,7 @@ module _ {V O : Type 0} (m : Meaning V O) (s : SessionView V O) (P : Step V O �
   abbrev pub GoesOnCalled : Shipped → List (Tree V O) × List (Tree V O) → Type 0
   GoesOnCalled f p =
       is_some (tree_type m (call_of m f p.0)) ≡ true
-      → P (goes_on (record s { stack = call_of m f p.0 ∷ p.1 }))
+      → P (goes_on (pushed (call_of m f p.0) p.1 s))
 
   of_taken : (f : Shipped) (o : Option (List (Tree V O) × List (Tree V O)))
       → ((p : List (Tree V O) × List (Tree V O)) → o ≡ Some p → GoesOnCalled f p)

@@ -28,12 +28,14 @@ use Rattle.rowfn_lines.specs.Commands.{Command, nothing, malformed, rows, column
 use Rattle.rowfn_lines.specs.Commands.{call, show, optimize, run, run_after}
 
 -- the row count once it is said, the columns and the fields that name them in the order of their
--- lines, the trees with the last one first, and what was printed
+-- lines, the trees with the last one first, the name that an `as` line gave each tree with the last
+-- one at the end, and what was printed
 pub record SessionView (V O : Type 0) : Type 0 where
   pub row_count : Option ℕ
   pub fields : Fields
   pub columns : List ColumnView
   pub stack : List (Tree V O)
+  pub names : List (Option (List ℕ))
   pub printed : List ℕ
 
 pub data Step (V O : Type 0) : Type 0 where
@@ -42,7 +44,14 @@ pub data Step (V O : Type 0) : Type 0 where
   is_malformed : Step V O
 
 abbrev pub fresh : {V O : Type 0} → SessionView V O
-fresh = record { row_count = None; fields = no_fields; columns = []; stack = []; printed = [] }
+fresh = record {
+  row_count = None;
+  fields = no_fields;
+  columns = [];
+  stack = [];
+  names = [];
+  printed = [];
+}
 
 -- how many trees a function takes: the least count that fits its arity
 abbrev pub least_count : Arity → ℕ
@@ -83,12 +92,17 @@ module _ {V O : Type 0} where
       if (length c.rows == n) && is_none (find_field name s.fields) then goes_on (added name c s)
       else is_malformed
 
+  -- a tree on those that stay: it has no name yet, and those that it took lose theirs
+  abbrev pub pushed : Tree V O → List (Tree V O) → SessionView V O → SessionView V O
+  pushed t kept s =
+      record s { stack = t ∷ kept; names = take (length kept) s.names ++ None ∷ [] }
+
   abbrev pub with_leaf : List ℕ → SessionView V O → Option (ℕ × LogicalType) → Step V O
   with_leaf name s None = refuses ScopeMismatch
-  with_leaf name s (Some p) = goes_on (record s { stack = leaf (place p.0 name p.1) ∷ s.stack })
+  with_leaf name s (Some p) = goes_on (pushed (leaf (place p.0 name p.1)) s.stack s)
 
   abbrev pub with_literal : ScalarView → SessionView V O → Step V O
-  with_literal l s = goes_on (record s { stack = constant l ∷ s.stack })
+  with_literal l s = goes_on (pushed (constant l) s.stack s)
 
   -- a text with a newline is printed
   abbrev pub shown_by : List ℕ → SessionView V O → Step V O
@@ -113,7 +127,7 @@ module _ {V O : Type 0} where
     abbrev pub with_tree : Shipped → SessionView V O → List (Tree V O) → List (Tree V O) → Step V O
     with_tree f s ts stack =
         if is_some (tree_type m (call_of f ts))
-        then goes_on (record s { stack = call_of f ts ∷ stack })
+        then goes_on (pushed (call_of f ts) stack s)
         else refused_at (shipped_place f (types_or_none (tree_types m (trees_of ts))))
 
     abbrev pub with_taken : Shipped → SessionView V O → Option (List (Tree V O) × List (Tree V O))

@@ -1,17 +1,39 @@
 -- When a call makes a step.
-use Rattle.std.specs.Prelude.{◌≡◌, ◌++◌, ℕ, Result, MatchResult, Option, Some, None, String}
-use Rattle.std.specs.Prelude.{string_bytes}
+use Rattle.std.specs.Prelude.{◌≡◌, ◌++◌, ℕ, List, Result, MatchResult, Option, Some, None, String}
+use Rattle.std.specs.Prelude.{string_bytes, option_map}
 use Rattle.std.specs.declared.alloc.Global.{Global}
 use Rattle.vortex_errors.specs.Answers.{UnlessMemory}
 use Rattle.rowfn_scripts.specs.declared.stop.Stop.{Stop}
 use Rattle.rowfn_scripts.specs.declared.stop.Stop.TheVariants.{Refused, Malformed}
 use Rattle.rowfn_scripts.specs.declared.ending.End.{End}
 use Rattle.rowfn_scripts.specs.declared.ending.End.TheVariants as end
-use Rattle.rowfn_scripts.specs.Sessions.{SessionView, Step, goes_on, refuses, is_malformed}
+use Rattle.vortex_meaning.specs.Meaning.{Meaning}
+use Rattle.vortex_meaning.specs.Rules.{Rules}
+use Rattle.vortex_meaning.specs.ValidityRules.{default_rules}
+use Rattle.vortex_functions.specs.Fixed.{fixed_meaning}
+use Rattle.vortex_functions.specs.declared.custom.NoCustom.{NoCustom}
+use Rattle.vortex_interface.specs.declared.options.EmptyOptions.{EmptyOptions}
+use Rattle.rowfn_lines.specs.Commands.{Command}
+use Rattle.rowfn_scripts.specs.Sessions.{SessionView, Step, goes_on, refuses, is_malformed, StepsTo}
 
 abbrev pub end_of : Stop → ℕ → End
 end_of (Refused e) line = end.Refused e
 end_of Malformed line = end.Malformed line
+
+-- no function of a caller's stands in a script
+abbrev pub script_meaning : Meaning NoCustom EmptyOptions
+script_meaning = fixed_meaning
+
+abbrev pub script_rules : Rules NoCustom EmptyOptions
+script_rules = default_rules script_meaning
+
+-- the step of a script's session
+abbrev pub Steps : Command → SessionView NoCustom EmptyOptions → Step NoCustom EmptyOptions → Type 0
+Steps = StepsTo script_meaning script_rules
+
+-- the name that a line gave a tree, if any
+abbrev pub given_in : Option (String Global) → Option (List ℕ)
+given_in = option_map string_bytes
 
 module _ {V O : Type 0} where
   abbrev pub StopsBy : (Step V O → Type 0) → Stop → Type 0

@@ -28,8 +28,8 @@ pub fn status(ending: &End) -> u8
     }
 }
 
-/// The line that tells the ending: the refusal by its name, or the malformed line by its number;
-/// nothing for `Done`. E9 alone.
+/// The line that a program prints of the ending: the refusal by its name, or the malformed line by
+/// its number; nothing for `Done`. E9 where memory is refused.
 pub fn fault_line(alloc: Global, ending: &End) -> VortexResult<String>
     ensures { AnswersUnlessMemory result (λ text. string_bytes text ≡ fault_line_of ending.now) }
 {

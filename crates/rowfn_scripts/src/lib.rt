@@ -1,7 +1,10 @@
-//! Scripts over columns: what they print, and how they end.
+//! Scripts over columns: what they print, and how they end; and expressions, whose lines are lines
+//! of scripts.
 #![tactic(auto)]
 
 pub mod ending;
+pub mod expected;
+pub mod expression;
 pub mod laws;
 mod scope;
 pub mod script;
@@ -9,6 +12,8 @@ pub mod session;
 pub mod stop;
 
 pub use ending::{End, fault_line, status};
+pub use expected::Expected;
+pub use expression::{Answer, Expression, ExpressionError, read_expression};
 pub use script::{Outcome, interpret};
 pub use session::Session;
 pub use stop::Stop;

@@ -55,8 +55,8 @@ impl Scope {
         self.places.get(name).copied()
     }
 
-    /// One field more, behind the others; that its name is new is a condition. Refuses for memory
-    /// alone, and then nothing changes.
+    /// One field more, behind the others; that its name is new is a condition. Refuses only
+    /// where memory is refused, and then nothing changes.
     pub(crate) fn add(&mut self, alloc: Global, name: &str, dtype: DType) -> VortexResult<()>
         requires { place_of name.now self.old ≡ None }
         ensures added { AnswersUnlessMemory result

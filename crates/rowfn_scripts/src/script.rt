@@ -6,14 +6,13 @@ ghost use Rattle.vortex_functions.specs.declared.custom.NoCustom.{NoCustom};
 ghost use Rattle.vortex_interface.specs.declared.options.EmptyOptions.{EmptyOptions};
 ghost use Rattle.rowfn_scripts.specs.Sessions.{fresh};
 ghost use Rattle.rowfn_scripts.specs.Scripts.{IsOutcome};
+ghost use Rattle.rowfn_scripts.specs.Stepping.{script_meaning, script_rules};
 
 use crate::ending::End;
 use crate::session::Session;
 use rowfn_lines::lines;
 use std::alloc::Global;
 use vortex_columns::VortexError;
-use vortex_functions::NoCustom;
-use vortex_rewriting::ScalarFnRules;
 
 /// What a script prints, and how it ends.
 #[derive(Drop)]
@@ -25,9 +24,9 @@ pub struct Outcome {
 }
 
 /// Reads the lines one by one, up to the first that does not go on.
-fn read_lines<C: ScalarFnRules>(alloc: Global, script: &[u8], session: &mut Session<C>) -> End
+fn read_lines(alloc: Global, script: &[u8], session: &mut Session) -> End
     requires { session.old ≡ fresh }
-    ensures { IsOutcome C.meaning C.rules script.now session.new.printed result }
+    ensures { IsOutcome script_meaning script_rules script.now session.new.printed result }
 {
     let Ok(lines) = lines(alloc, script) else {
         return End::Refused(VortexError::OutOfMemory);
@@ -38,17 +37,6 @@ fn read_lines<C: ScalarFnRules>(alloc: Global, script: &[u8], session: &mut Sess
         }
     }
     End::Done
-}
-
-fn run_script<C: ScalarFnRules>(alloc: Global, script: &[u8]) -> Outcome
-    ensures { IsOutcome C.meaning C.rules script.now result.out.items result.ending }
-{
-    let mut session = Session::<C>::new(alloc);
-    let ending = read_lines(alloc, script, &mut session);
-    Outcome {
-        out: session.into_out(),
-        ending,
-    }
 }
 
 /// Runs a script.
@@ -85,5 +73,10 @@ pub fn interpret(alloc: Global, script: &[u8]) -> Outcome
     ensures { IsOutcome {V = NoCustom} {O = EmptyOptions} fixed_meaning
         (default_rules fixed_meaning) script.now result.out.items result.ending }
 {
-    run_script::<NoCustom>(alloc, script)
+    let mut session = Session::new(alloc);
+    let ending = read_lines(alloc, script, &mut session);
+    Outcome {
+        out: session.into_out(),
+        ending,
+    }
 }

@@ -1,63 +1,69 @@
 //! What a script has made so far.
-ghost use Rattle.std.specs.Prelude.{◌≡◌, Some, length, map, reverse, string_bytes};
+ghost use Rattle.std.specs.Prelude.{◌≡◌, OnOk, Some, map, reverse, string_bytes};
 ghost use Rattle.vortex_types.specs.TypeOf.{struct_fields};
 ghost use Rattle.rowfn_scripts.specs.Words.{Answers, AnswersUnlessMemory, rows, column, get};
 ghost use Rattle.rowfn_scripts.specs.Words.{literal, call, show, optimize, run, run_after};
 ghost use Rattle.rowfn_scripts.specs.Words.{command_in, command_of};
 ghost use Rattle.rowfn_scripts.specs.Words.{refuses, fresh, least_count, steps_text, ShowsTop};
-ghost use Rattle.rowfn_scripts.specs.Words.{RunsTop, RunsAfterTop, StepsTo, MakesStep, after_text};
-ghost use Rattle.rowfn_scripts.specs.Words.{column_line};
+ghost use Rattle.rowfn_scripts.specs.Words.{RunsTop, RunsAfterTop, Steps, MakesStep, after_text};
+ghost use Rattle.rowfn_scripts.specs.Words.{column_line, pushed, opened, named, given_in};
+ghost use Rattle.rowfn_scripts.specs.Words.{script_meaning, script_rules};
 
 use crate::scope::Scope;
 use crate::stop::Stop;
 use rowfn_lines::Line;
 use rowfn_lines::parse::parse;
-use std::alloc::Global;
+use std::alloc::{AllocError, Global};
 use std::marker::Model;
 use vortex_columns::{
     Arity, Column, ExecutionCtx, Scalar, StructFields, VortexError, VortexResult,
 };
-use vortex_functions::{BoundExpression, ScalarFnRef, ScalarFnVTable};
-use vortex_rewriting::{Optimized, Rewrite, ScalarFnRules, run};
+use vortex_functions::{BoundExpression, NoCustom, ScalarFnRef};
+use vortex_rewriting::{Optimized, Rewrite, run};
 
-/// The row count, the columns and the fields that name them, the trees that lines have pushed, and
-/// what was printed.
+/// The row count, the columns and the fields that name them, the trees that lines have pushed, the
+/// names that lines gave these, and what was printed.
 #[derive(Drop)]
-pub struct Session<C: ScalarFnVTable> {
+pub struct Session {
     row_count: Option<usize>,
     fields: Scope,
     columns: Vec<Column>,
-    stack: Vec<BoundExpression<C>>,
+    stack: Vec<BoundExpression<NoCustom>>,
+    names: Vec<Option<String>>,
     out: Vec<u8>,
 }
 
-impl<C: ScalarFnVTable> Model for Session<C> {
+impl Model for Session {
+    ghost use Rattle.vortex_functions.specs.declared.custom.NoCustom.{NoCustom};
+    ghost use Rattle.vortex_interface.specs.declared.options.EmptyOptions.{EmptyOptions};
     ghost use Rattle.rowfn_scripts.specs.Sessions.{SessionView};
-    ghost use Rattle.rowfn_scripts.specs.SessionCodes.{coded_session};
+    ghost use Rattle.rowfn_scripts.specs.SessionCodes.{coded_script};
 
-    ghost Value = { SessionView C C.Options };
+    ghost Value = { SessionView NoCustom EmptyOptions };
 
-    ghost coded = { coded_session C.code C.Options.code };
+    ghost coded = { coded_script };
 
-    ghost use Rattle.std.specs.Prelude.{reverse};
+    ghost use Rattle.std.specs.Prelude.{map, reverse};
+    ghost use Rattle.rowfn_scripts.specs.Stepping.{given_in};
 
     ghost view = { λ a. record {
       row_count = a.row_count;
       fields = a.fields;
       columns = a.columns.items;
       stack = reverse a.stack.items;
+      names = map given_in a.names.items;
       printed = a.out.items;
     } };
 }
 
-/// How many steps a run took, and whether no rule is left, as a line. E9 alone.
+/// How many steps a run took, and whether no rule is left, as a line. E9 where memory is refused.
 fn steps_text(alloc: Global, steps: u64, done: bool) -> VortexResult<String>
     ensures { AnswersUnlessMemory result (λ text. string_bytes text ≡ steps_text steps done) }
 {
     Ok(format!(in alloc; "steps {steps} done {done}\n")?)
 }
 
-/// The text of a column, as a line. E9 alone.
+/// The text of a column, as a line. E9 where memory is refused.
 fn column_line(alloc: Global, column: &Column) -> VortexResult<String>
     ensures { AnswersUnlessMemory result (λ text. string_bytes text ≡ column_line column.now) }
 {
@@ -76,9 +82,9 @@ fn least_count(arity: Arity) -> usize
     }
 }
 
-impl<C: ScalarFnRules> Session<C> {
+impl Session {
     /// Nothing yet; takes no memory.
-    pub fn new(alloc: Global) -> Session<C>
+    pub fn new(alloc: Global) -> Session
         ensures { result ≡ fresh }
     {
         Session {
@@ -86,24 +92,40 @@ impl<C: ScalarFnRules> Session<C> {
             fields: Scope::new(alloc),
             columns: Vec::new(alloc),
             stack: Vec::new(alloc),
+            names: Vec::new(alloc),
             out: Vec::new(alloc),
         }
     }
 
-    /// How many trees lines have pushed that no call has taken.
-    pub fn tree_count(&self) -> usize
-        ensures { result ≡ length self.now.stack }
+    /// A session of no rows, whose columns have no cells; takes no memory.
+    pub fn of_no_rows(alloc: Global) -> Session
+        ensures { result ≡ opened }
     {
-        self.stack.len()
+        let mut session = Session::new(alloc);
+        session.row_count = Some(0);
+        session
     }
 
-    /// The fields that name the columns, and the trees, the last one at the end.
-    pub fn into_parts(self) -> (StructFields, Vec<BoundExpression<C>>)
+    /// The fields that name the columns, the trees, the last one at the end, and the names that
+    /// lines gave them.
+    pub fn into_parts(
+        self,
+    ) -> (
+        StructFields,
+        Vec<BoundExpression<NoCustom>>,
+        Vec<Option<String>>,
+    )
         ensures fields { struct_fields result.0 ≡ self.fields }
         ensures trees { reverse result.1.items ≡ self.stack }
+        ensures names { map given_in result.2.items ≡ self.names }
     {
-        let Session { fields, stack, .. } = self;
-        (fields.into_fields(), stack)
+        let Session {
+            fields,
+            stack,
+            names,
+            ..
+        } = self;
+        (fields.into_fields(), stack, names)
     }
 
     /// What was printed.
@@ -114,8 +136,20 @@ impl<C: ScalarFnRules> Session<C> {
         out
     }
 
+    /// Pushes a tree, without a name; those that it took lose theirs. Refuses only where memory is
+    /// refused.
+    fn push(&mut self, tree: BoundExpression<NoCustom>) -> Result<(), AllocError>
+        ensures pushed { OnOk result (self.new ≡ pushed tree self.old.stack self.old) }
+        ensures printed { self.new.printed ≡ self.old.printed }
+    {
+        self.names.truncate(self.stack.len());
+        self.names.push(None)?;
+        self.stack.push(tree)?;
+        Ok(())
+    }
+
     fn begin(&mut self, count: usize) -> Result<(), Stop>
-        ensures { MakesStep (StepsTo C.meaning C.rules (rows count)) self.old result self.new }
+        ensures { MakesStep (Steps (rows count)) self.old result self.new }
     {
         if self.row_count.is_some() {
             return Err(Stop::Malformed);
@@ -125,7 +159,7 @@ impl<C: ScalarFnRules> Session<C> {
     }
 
     fn add_column(&mut self, alloc: Global, name: &str, added: Column) -> Result<(), Stop>
-        ensures { MakesStep (StepsTo C.meaning C.rules (column name.now added))
+        ensures { MakesStep (Steps (column name.now added))
             self.old result self.new }
     {
         let Some(count) = self.row_count else {
@@ -144,7 +178,7 @@ impl<C: ScalarFnRules> Session<C> {
     }
 
     fn push_leaf(&mut self, alloc: Global, name: &str) -> Result<(), Stop>
-        ensures { MakesStep (StepsTo C.meaning C.rules (get name.now)) self.old result self.new }
+        ensures { MakesStep (Steps (get name.now)) self.old result self.new }
     {
         if self.row_count.is_none() {
             return Err(Stop::Malformed);
@@ -153,17 +187,17 @@ impl<C: ScalarFnRules> Session<C> {
             return Err(Stop::Refused(VortexError::ScopeMismatch));
         };
         let leaf = BoundExpression::column_at(alloc, self.fields.fields(), place)?;
-        self.stack.push(leaf)?;
+        self.push(leaf)?;
         Ok(())
     }
 
     fn push_literal(&mut self, alloc: Global, scalar: Scalar) -> Result<(), Stop>
-        ensures { MakesStep (StepsTo C.meaning C.rules (literal scalar)) self.old result self.new }
+        ensures { MakesStep (Steps (literal scalar)) self.old result self.new }
     {
         if self.row_count.is_none() {
             return Err(Stop::Malformed);
         }
-        self.stack.push(BoundExpression::lit(alloc, scalar))?;
+        self.push(BoundExpression::lit(alloc, scalar))?;
         Ok(())
     }
 
@@ -173,13 +207,13 @@ impl<C: ScalarFnRules> Session<C> {
         words: &[&str],
         escape: Option<Option<char>>,
     ) -> Result<(), Stop>
-        ensures { MakesStep (StepsTo C.meaning C.rules (call (map (λ w. w.now) words.now) escape))
+        ensures { MakesStep (Steps (call (map (λ w. w.now) words.now) escape))
             self.old result self.new }
     {
         if self.row_count.is_none() {
             return Err(Stop::Malformed);
         }
-        let Some(function) = ScalarFnRef::<C>::called(words, escape) else {
+        let Some(function) = ScalarFnRef::<NoCustom>::called(words, escape) else {
             return Err(Stop::Malformed);
         };
         let count = least_count(function.signature().arity);
@@ -188,16 +222,16 @@ impl<C: ScalarFnRules> Session<C> {
         }
         let children = self.stack.split_off(self.stack.len() - count)?;
         let tree = BoundExpression::try_new(alloc, function, children)?;
-        self.stack.push(tree)?;
+        self.push(tree)?;
         Ok(())
     }
 
     /// The text of the last tree's column; nothing where there is no tree.
     fn top_text(&self, alloc: Global, count: usize) -> VortexResult<Option<String>>
         ensures { Answers result
-            (λ text. RunsTop C.meaning (Some count) self.now.stack self.now
+            (λ text. RunsTop script_meaning (Some count) self.now.stack self.now
             (after_text self.now text))
-            (λ e. RunsTop C.meaning (Some count) self.now.stack self.now (refuses e)) }
+            (λ e. RunsTop script_meaning (Some count) self.now.stack self.now (refuses e)) }
     {
         let Some(tree) = self.stack.last() else {
             return Ok(None);
@@ -208,7 +242,7 @@ impl<C: ScalarFnRules> Session<C> {
     }
 
     fn run(&mut self, alloc: Global) -> Result<(), Stop>
-        ensures { MakesStep (StepsTo C.meaning C.rules run) self.old result self.new }
+        ensures { MakesStep (Steps run) self.old result self.new }
     {
         let Some(count) = self.row_count else {
             return Err(Stop::Malformed);
@@ -224,10 +258,10 @@ impl<C: ScalarFnRules> Session<C> {
     /// last one; nothing where there is no tree.
     fn text_after(&self, alloc: Global, count: usize, limit: u64) -> VortexResult<Option<String>>
         ensures { Answers result
-            (λ text. RunsAfterTop C.meaning C.rules limit (Some count) self.now.stack self.now
-            (after_text self.now text))
-            (λ e. RunsAfterTop C.meaning C.rules limit (Some count) self.now.stack self.now
-            (refuses e)) }
+            (λ text. RunsAfterTop script_meaning script_rules limit (Some count) self.now.stack
+            self.now (after_text self.now text))
+            (λ e. RunsAfterTop script_meaning script_rules limit (Some count) self.now.stack
+            self.now (refuses e)) }
     {
         let Some(old) = self.stack.last() else {
             return Ok(None);
@@ -238,7 +272,7 @@ impl<C: ScalarFnRules> Session<C> {
     }
 
     fn run_after(&mut self, alloc: Global, limit: u64) -> Result<(), Stop>
-        ensures { MakesStep (StepsTo C.meaning C.rules (run_after limit)) self.old result self.new }
+        ensures { MakesStep (Steps (run_after limit)) self.old result self.new }
     {
         let Some(count) = self.row_count else {
             return Err(Stop::Malformed);
@@ -253,7 +287,7 @@ impl<C: ScalarFnRules> Session<C> {
     /// A run of rules from the last tree, of at most as many steps as it weighs: what it leads to
     /// takes the tree's place.
     fn optimize(&mut self, alloc: Global) -> Result<(), Stop>
-        ensures { MakesStep (StepsTo C.meaning C.rules optimize) self.old result self.new }
+        ensures { MakesStep (Steps optimize) self.old result self.new }
     {
         if self.row_count.is_none() {
             return Err(Stop::Malformed);
@@ -282,7 +316,7 @@ impl<C: ScalarFnRules> Session<C> {
     }
 
     fn show(&mut self, alloc: Global) -> Result<(), Stop>
-        ensures { MakesStep (StepsTo C.meaning C.rules show) self.old result self.new }
+        ensures { MakesStep (Steps show) self.old result self.new }
     {
         let Some(count) = self.row_count else {
             return Err(Stop::Malformed);
@@ -294,9 +328,22 @@ impl<C: ScalarFnRules> Session<C> {
         Ok(())
     }
 
+    /// Gives the last tree a name, until a call takes it. Stops where there is no tree, and where
+    /// memory is refused.
+    pub fn name_last(&mut self, alloc: Global, name: &str) -> Result<(), Stop>
+        ensures { MakesStep (λ s r. r ≡ named name.now s) self.old result self.new }
+    {
+        let name = String::from_str(alloc, name)?;
+        if self.names.pop().is_none() {
+            return Err(Stop::Malformed);
+        }
+        self.names.push(Some(name))?;
+        Ok(())
+    }
+
     /// Does what the line says, or stops, as `read_line` does.
     pub fn step(&mut self, alloc: Global, line: Line<'_>) -> Result<(), Stop>
-        ensures { MakesStep (StepsTo C.meaning C.rules (command_in line.entry))
+        ensures { MakesStep (Steps (command_in line.entry))
             self.old result self.new }
     {
         match line {
@@ -317,7 +364,7 @@ impl<C: ScalarFnRules> Session<C> {
     /// Does what the line says, or stops: where the line is malformed, where its call is refused,
     /// or where memory runs out. What was printed stays.
     pub fn read_line(&mut self, alloc: Global, line: &[u8]) -> Result<(), Stop>
-        ensures { MakesStep (StepsTo C.meaning C.rules (command_of line.now))
+        ensures { MakesStep (Steps (command_of line.now))
             self.old result self.new }
     {
         let line = parse(alloc, line)?;

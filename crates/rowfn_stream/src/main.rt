@@ -1,14 +1,13 @@
 //! Rows of CSV that flow from standard input through an expression to standard output.
 #![tactic(auto)]
 
-use rowfn_batches::{Expression, read_expression};
+use rowfn_batches::{Format, Settings, StreamError, Summary, explain, flow, top_alone};
 use rowfn_options::{Action, Options, Source, read_options};
-use rowfn_rows::{Format, Settings, StreamError, Summary, explain, flow, top_alone};
+use rowfn_scripts::{Expression, read_expression};
 use std::alloc::Global;
 use std::process::ExitCode;
 use std::rt::{Env, Files};
 use std::{env, fs, io};
-use vortex_functions::NoCustom;
 
 /// The lines of an expression, one behind the other.
 fn joined(alloc: Global, lines: &[&str]) -> Result<Vec<u8>, StreamError> {
@@ -37,10 +36,10 @@ fn expression_text(
     }
 }
 
-/// Tells the expression on standard output.
-fn tell(
+/// Prints the expression on standard output.
+fn print_expression(
     rt: &(impl Print + AllocGlobal),
-    expression: &Expression<NoCustom>,
+    expression: &Expression,
 ) -> Result<(), StreamError> {
     match explain(rt.alloc(), expression) {
         Ok(text) => match print!(rt; "{text}") {
@@ -51,11 +50,11 @@ fn tell(
     }
 }
 
-/// Lets the rows flow, and tells how many they were where that is asked for.
+/// Lets the rows flow, and prints how many they were where that is asked for.
 fn pass_rows(
     rt: &(impl Input + Print + Eprint + AllocGlobal),
     options: &Options<'_>,
-    expression: &Expression<NoCustom>,
+    expression: &Expression,
 ) -> Result<(), StreamError> {
     let settings = Settings {
         format: Format {
@@ -85,13 +84,13 @@ fn perform(
     let text = expression_text(rt, &options.source)?;
     let expression = read_expression(rt.alloc(), &text)?;
     match options.action {
-        Action::Explain => tell(rt, &expression),
+        Action::Explain => print_expression(rt, &expression),
         Action::Answer => pass_rows(rt, options, &expression),
         Action::Pick => pass_rows(rt, options, &top_alone(rt.alloc(), expression)?),
     }
 }
 
-/// Reads the options and does what they ask for; tells on standard error what went wrong. The
+/// Reads the options and does what they ask for; prints what went wrong on standard error. The
 /// status is 0 where nothing did.
 fn run(rt: &(impl Input + Print + Eprint + Env + Files + AllocGlobal)) -> io::Result<u8> {
     let words: Vec<String> = env::args(rt)?.collect(rt.alloc())?;

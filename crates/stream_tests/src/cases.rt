@@ -2,8 +2,8 @@
 
 use crate::pipes::{Drips, Sink};
 use fixtures::{same, same_text};
-use rowfn_batches::read_expression;
-use rowfn_rows::{Format, Settings, StreamError, Summary, flow, top_alone};
+use rowfn_batches::{Format, Settings, StreamError, Summary, flow, top_alone};
+use rowfn_scripts::read_expression;
 use std::alloc::Global;
 
 /// An expression, an input, and how it is read.

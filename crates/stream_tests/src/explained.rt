@@ -1,8 +1,8 @@
 //! What is told of an expression.
 
 use fixtures::same;
-use rowfn_batches::read_expression;
-use rowfn_rows::explain;
+use rowfn_batches::explain;
+use rowfn_scripts::read_expression;
 
 fn explains(rt: HostRuntime, expression: &str, wanted: &str) -> bool {
     let alloc = rt.alloc();

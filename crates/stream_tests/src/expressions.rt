@@ -82,9 +82,9 @@ fn names_are_given_to_trees(rt: HostRuntime) {
 
 #[test]
 fn calls_are_refused_by_name(rt: HostRuntime) {
-    let unknown = "line 1: column unknown, missing or of another type";
+    let unknown = "line 1: E11 ScopeMismatch";
     assert!(rt; is_refused(rt, b"get a", unknown));
-    assert!(rt; is_refused(rt, b"lit i8 1\ncall not", "line 2: types refused"));
+    assert!(rt; is_refused(rt, b"lit i8 1\ncall not", "line 2: E3 TypeMismatch.Not"));
 }
 
 #[test]

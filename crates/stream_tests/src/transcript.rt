@@ -1,13 +1,11 @@
 //! What an expression prints over the rows of a batch.
 
 use fixtures::same_text;
-use rowfn_batches::{
-    BatchError, Expression, execute_answers, first_fault, push_field, read_columns, read_expression,
-};
+use rowfn_batches::{BatchError, execute_answers, first_fault, push_field, read_columns};
+use rowfn_scripts::{Expression, read_expression};
 use std::alloc::{AllocError, Global};
 use std::fmt::Write;
 use vortex_columns::{Column, VortexError, VortexResult};
-use vortex_functions::NoCustom;
 
 /// The fields of a text, which stand between commas; `~` is a null field, and an empty text has
 /// none.
@@ -27,7 +25,7 @@ fn fields_of(alloc: Global, text: &[u8]) -> Result<Vec<Option<&[u8]>>, AllocErro
 }
 
 /// The names of the answers, between commas.
-fn push_header(out: &mut Vec<u8>, expression: &Expression<NoCustom>) -> VortexResult<()> {
+fn push_header(out: &mut Vec<u8>, expression: &Expression) -> VortexResult<()> {
     for answer in &expression.answers {
         out.extend_from_slice(answer.name.as_bytes())?;
         out.push(b',')?;
@@ -52,7 +50,7 @@ fn push_row(out: &mut Vec<u8>, columns: &[Column], row: usize) -> VortexResult<(
 fn push_fault(
     alloc: Global,
     out: &mut Vec<u8>,
-    expression: &Expression<NoCustom>,
+    expression: &Expression,
     columns: &[Column],
     row_count: usize,
 ) -> VortexResult<()> {
@@ -68,7 +66,7 @@ fn push_fault(
 fn push_answers(
     alloc: Global,
     out: &mut Vec<u8>,
-    expression: &Expression<NoCustom>,
+    expression: &Expression,
     columns: &[Column],
     row_count: usize,
 ) -> VortexResult<()> {

@@ -5,11 +5,12 @@ use Rattle.vortex_meaning.specs.Execution.{RefusesColumns}
 use Rattle.rowfn_batches.specs.Executing.{AllFit, RefusesColumnsFirst}
 use Rattle.rowfn_batches.proofs.Answered.{placed_more, answers_refusal, fit_more}
 use Rattle.rowfn_batches.proofs.Answered.{refuses_columns_at}
+use Rattle.rowfn_scripts.specs.Stepping.{script_meaning}
 use Rattle.rowfn_batches.proofs.answers.check_columns.Goals as goal
 
 pub returns-in_err-check_columns-clause-answer : goal.returns-in_err-check_columns-clause-answer
-returns-in_err-check_columns-clause-answer g c =
-    let m = g.C.ScalarFnVTable.meaning in
+returns-in_err-check_columns-clause-answer c =
+    let m = script_meaning in
     let cs = c.args.columns.now in
     let n = c.args.row_count in
     let answers = c.args.answers.now in
@@ -24,13 +25,13 @@ returns-in_err-check_columns-clause-answer g c =
     c.in_err-check_columns.field-0.0 c.in_err-check_columns.ensures.answer)
 
 pub loop-answer-preserved : goal.loop-answer-preserved
-loop-answer-preserved g c =
+loop-answer-preserved c =
     let k = c.loop-answer.answer-index in
     let answers = c.args.answers.now in
     let answer = c.answer-item.result in (
       placed_more IsBound (λ a. a.tree) answers k _ answer (add-one k) c.loop-answer-test.true
           c.answer-item.is c.loop-answer.invariant.0 c.dtype-typed.ensures.typed,
-      fit_more g.C.ScalarFnVTable.meaning c.args.columns.now c.args.row_count (λ a. a.tree) answers
+      fit_more script_meaning c.args.columns.now c.args.row_count (λ a. a.tree) answers
           k
           _ answer (add-one k) c.loop-answer-test.true c.answer-item.is c.loop-answer.invariant.1
           c.in_ok-check_columns.ensures.answer,

@@ -6,6 +6,6 @@ use Rattle.rowfn_batches.proofs.answers.check_columns.Given as goal
 
 -- the columns serve the trees so far, whose leaves are places
 abbrev pub invariant-loop-answer : goal.invariant-loop-answer
-invariant-loop-answer g l =
+invariant-loop-answer l =
     All IsBound (map (λ a. a.tree) (take l.answer-index l.answers))
     × AllFit l.columns l.row_count (map (λ a. a.tree) (take l.answer-index l.answers))

@@ -6,11 +6,12 @@ use Rattle.vortex_meaning.specs.Execution.{Executes, RefusesExecution}
 use Rattle.vortex_functions.specs.Walks.{AllMean}
 use Rattle.rowfn_batches.specs.Executing.{RefusesFirst}
 use Rattle.rowfn_batches.proofs.Answered.{all_more, answers_refusal, owned_is, refuses_at}
+use Rattle.rowfn_scripts.specs.Stepping.{script_meaning}
 use Rattle.rowfn_batches.proofs.answers.execute_all.Goals as goal
 
 pub returns-in_err-column : goal.returns-in_err-column
-returns-in_err-column g c =
-    let m = g.C.ScalarFnVTable.meaning in
+returns-in_err-column c =
+    let m = script_meaning in
     let cs = c.args.columns.now in
     let n = c.args.row_count in
     let answers = c.args.answers.now in
@@ -27,8 +28,8 @@ returns-in_err-column g c =
     c.in_err-column.field-0.0 c.in_err-column.ensures.answer)
 
 pub loop-answer-preserved : goal.loop-answer-preserved
-loop-answer-preserved g c =
-    let m = g.C.ScalarFnVTable.meaning in
+loop-answer-preserved c =
+    let m = script_meaning in
     let cs = c.args.columns.now in
     let n = c.args.row_count in
     let k = c.loop-answer.answer-index in

@@ -9,10 +9,11 @@ use Rattle.rowfn_batches.specs.Executing.{RefusesFirst}
 use Rattle.rowfn_batches.proofs.Answered.{unless_not}
 use Rattle.rowfn_batches.proofs.OneRow.{of_row, rows_within, all_counted, all_give_there}
 use Rattle.rowfn_batches.proofs.OneRow.{faults_first_there}
+use Rattle.rowfn_scripts.specs.Stepping.{script_meaning}
 use Rattle.rowfn_batches.proofs.answers.fault_in.Goals as goal
 
 pub row_of-requires : goal.row_of-requires
-row_of-requires g c =
+row_of-requires c =
     let cs = c.args.columns.now in
     let n = c.args.row_count in
     let answers = c.args.answers.now in
@@ -25,8 +26,8 @@ row_of-requires g c =
     rows_within cs n c.args.row c.requires.below (all_counted cs n trees some c.requires.fit)
 
 pub returns-in-Ok : goal.returns-in-Ok
-returns-in-Ok g c =
-    let m = g.C.ScalarFnVTable.meaning in
+returns-in-Ok c =
+    let m = script_meaning in
     let cs = c.args.columns.now in
     let trees = map (λ a. a.tree) c.args.answers.now in
     let ds = c.in-Ok.field-0.items in
@@ -35,8 +36,8 @@ returns-in-Ok g c =
     (c.deref.ensures.value ∙ c.in_ok-of_row.ensures) c.in-Ok.ensures)
 
 pub returns : goal.returns
-returns g c =
-    let m = g.C.ScalarFnVTable.meaning in
+returns c =
+    let m = script_meaning in
     let cs = c.args.columns.now in
     let trees = map (λ a. a.tree) c.args.answers.now in
     let e = c.in_ok-but_for_memory-in-Err.field-0 in

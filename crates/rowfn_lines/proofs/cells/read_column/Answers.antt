@@ -1,9 +1,8 @@
 use Rattle.std.proofs.Common.{◌∙◌, ap, map}
 use Rattle.vortex_types.specs.TypeOf.{allows_null}
 use Rattle.vortex_columns.specs.ValidityView.{validity_of}
-use Rattle.rowfn_lines.specs.Lines.{word_in}
-use Rattle.rowfn_lines.specs.Commands.{cells_of}
-use Rattle.rowfn_lines.specs.Cells.{cells_validity}
+use Rattle.rowfn_lines.specs.Commands.{cell_values}
+use Rattle.rowfn_lines.specs.Cells.{cell_in, cells_validity}
 use Rattle.rowfn_lines.proofs.CellRows.{column_made}
 use Rattle.rowfn_lines.proofs.cells.read_column.Goals as goal
 
@@ -14,6 +13,6 @@ returns-in-Ok g c =
     let vs = map g.K.CellKind.value c.in-Some.field-0.items.items in
     let valid = c.in-Some.field-0.valid.items in
     let validity = c.in_ok-validity.ensures ∙ ap (cells_validity n) c.deref.ensures.value in
-    column_made kind n vs valid (cells_of (kind n) (map word_in c.args.words.now))
+    column_made kind n vs valid (cell_values (kind n) (map cell_in c.args.cells.now))
     (validity_of c.in_ok-validity.validity) c.in-Ok.column (g.K.CellTypes.nullable n)
     (rw c.in-Some.is at c.in_ok-items.ensures) validity c.in-Ok.ensures.0.1 c.in-Ok.ensures.1

@@ -7,7 +7,7 @@ use Rattle.rowfn_lines.proofs.types.read_type.Goals as goal
 pub returns-in-Some : goal.returns-in-Some
 returns-in-Some c =
     let w = c.args.word.now in
-    c.with_nullability.ensures
+    c.type_named.ensures
     ∙ sym
     (ap (marked_type w)
     (marked w c.in-Some.name.now
@@ -16,7 +16,7 @@ returns-in-Some c =
 pub returns-in-None : goal.returns-in-None
 returns-in-None c =
     let w = c.args.word.now in
-    c.with_nullability-in-None.ensures
+    c.type_named-in-None.ensures
     ∙ sym
     (ap (marked_type w)
     (unmarked w (strip_suffix_char 63 w None c.in-None.ensures.cases (lit< tt))))

@@ -5,10 +5,11 @@ use Rattle.rowfn_scripts.specs.Scripts.{Reaches, begins, EndsAt}
 use Rattle.rowfn_scripts.specs.Sessions.{SessionView, fresh}
 use Rattle.rowfn_scripts.proofs.SessionSteps.{printed_of}
 use Rattle.rowfn_scripts.proofs.Reading.{reaches_more, ends_here}
+use Rattle.rowfn_scripts.specs.Stepping.{script_meaning, script_rules}
 use Rattle.rowfn_scripts.proofs.script.read_lines.Goals as goal
 
 pub returns-in_default : goal.returns-in_default
-returns-in_default g c =
+returns-in_default c =
     record {
       read = 0;
       session = fresh;
@@ -18,16 +19,16 @@ returns-in_default g c =
     }
 
 pub loop-i-init : goal.loop-i-init
-loop-i-init g c =
+loop-i-init c =
     subst
     (λ (s : SessionView _ _).
-    Reaches g.C.ScalarFnVTable.meaning g.C.ScalarFnVTable.rules (lines_of c.args.script.now) 0 s)
+    Reaches script_meaning script_rules (lines_of c.args.script.now) 0 s)
     (sym c.requires) begins
 
 pub returns-in-Err : goal.returns-in-Err
-returns-in-Err g c =
-    let m = g.C.ScalarFnVTable.meaning in
-    let rs = g.C.ScalarFnVTable.rules in
+returns-in-Err c =
+    let m = script_meaning in
+    let rs = script_rules in
     let items = c.deref-line-items.result.now in
     let lines = lines_of c.args.script.now in
     let d : Bor (List ℕ) = record { ref_ptr = (0, 0); now = [] } in
@@ -47,9 +48,9 @@ returns-in-Err g c =
     }
 
 pub loop-i-preserved : goal.loop-i-preserved
-loop-i-preserved g c =
-    let m = g.C.ScalarFnVTable.meaning in
-    let rs = g.C.ScalarFnVTable.rules in
+loop-i-preserved c =
+    let m = script_meaning in
+    let rs = script_rules in
     let items = c.deref-line-items.result.now in
     let lines = lines_of c.args.script.now in
     let d : Bor (List ℕ) = record { ref_ptr = (0, 0); now = [] } in

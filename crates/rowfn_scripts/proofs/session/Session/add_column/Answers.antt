@@ -9,15 +9,16 @@ use Rattle.rowfn_scripts.specs.Sessions.{StepsTo}
 use Rattle.rowfn_scripts.proofs.SessionSteps.{row_count_of, fields_of, printed_of}
 use Rattle.rowfn_scripts.proofs.SessionSteps.{name_twice, column_added, same_added, stops}
 use Rattle.rowfn_scripts.proofs.Places.{place_or_not, no_place}
+use Rattle.rowfn_scripts.specs.Stepping.{script_meaning, script_rules}
 use Rattle.rowfn_scripts.proofs.session.Session.add_column.Goals as goal
 
 pub add-requires : goal.add-requires
-add-requires g c =
+add-requires c =
     let here = place_or_not c.find.result _ c.is_some.result c.find.ensures c.is_some.ensures in
     no_place _ (here ∙ ap not c.if-is_some.false)
 
 pub returns-then-is_some : goal.returns-then-is_some
-returns-then-is_some g c =
+returns-then-is_some c =
     let s = c.args.self.now in
     let name = c.args.name.now in
     let counted = sym (row_count_of c.self.view_is) ∙ c.in-Some.is in
@@ -27,28 +28,28 @@ returns-then-is_some g c =
     (name_twice name c.args.added s c.in-Some.count counted old, refl)
 
 pub returns-in_err-dtype : goal.returns-in_err-dtype
-returns-in_err-dtype g c =
+returns-in_err-dtype c =
     let s = c.args.self.now in
-    stops (StepsTo g.C.ScalarFnVTable.meaning g.C.ScalarFnVTable.rules
+    stops (StepsTo script_meaning script_rules
     (column c.args.name.now c.args.added)) (λ e. ⊥) s s c.from_residual.result
     c.in_err-dtype.field-0.0 (λ d h. absurd h) c.from_residual.ensures.1 c.in_err-dtype.ensures refl
 
 pub returns-in_err-push : goal.returns-in_err-push
-returns-in_err-push g c =
-    stops (StepsTo g.C.ScalarFnVTable.meaning g.C.ScalarFnVTable.rules
+returns-in_err-push c =
+    stops (StepsTo script_meaning script_rules
     (column c.args.name.now c.args.added)) (λ e. ⊥) c.args.self.now _
     c.from_residual-in_err-push.result OutOfMemory (λ d h. absurd h)
     c.from_residual-in_err-push.ensures.1 tt (printed_of c.self.view_is)
 
 pub returns-in_err-add : goal.returns-in_err-add
-returns-in_err-add g c =
-    stops (StepsTo g.C.ScalarFnVTable.meaning g.C.ScalarFnVTable.rules
+returns-in_err-add c =
+    stops (StepsTo script_meaning script_rules
     (column c.args.name.now c.args.added)) (λ e. ⊥) c.args.self.now _
     c.from_residual-in_err-add.result c.in_err-add.field-0.0 (λ d h. absurd h)
     c.from_residual-in_err-add.ensures.1 c.in_err-add.ensures.added (printed_of c.self.view_is)
 
 pub returns : goal.returns
-returns g c =
+returns c =
     let s = c.args.self.now in
     let name = c.args.name.now in
     let added = c.args.added in

@@ -5,12 +5,13 @@ use Rattle.vortex_meaning.specs.Weights.{weight_told}
 use Rattle.rowfn_scripts.specs.Sessions.{Step, OptimizesTop}
 use Rattle.rowfn_scripts.proofs.SessionSteps.{unsaid, stack_of, popped, same_optimized}
 use Rattle.rowfn_scripts.proofs.SessionSteps.{top_optimized}
+use Rattle.rowfn_scripts.specs.Stepping.{script_meaning, script_rules}
 use Rattle.rowfn_scripts.proofs.session.Session.optimize.Goals as goal
 
 pub returns : goal.returns
-returns g c =
-    let m = g.C.ScalarFnVTable.meaning in
-    let rs = g.C.ScalarFnVTable.rules in
+returns c =
+    let m = script_meaning in
+    let rs = script_rules in
     let s = c.args.self.now in
     let old = c.in-Some.old in
     let o = c.in_ok-tree.field-0 in

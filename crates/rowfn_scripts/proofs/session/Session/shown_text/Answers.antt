@@ -3,7 +3,7 @@ use Rattle.rowfn_scripts.proofs.SessionSteps.{stack_of, last_is_top, top_shown}
 use Rattle.rowfn_scripts.proofs.session.Session.shown_text.Goals as goal
 
 pub returns : goal.returns
-returns g c =
+returns c =
     let top =
     sym (stack_of c.self.view_is) ∙ ap reverse (sym c.deref.ensures.value)
     ∙ last_is_top c.deref.result.now c.in-Some.shown.now c.in-Some.ensures.item.3.0

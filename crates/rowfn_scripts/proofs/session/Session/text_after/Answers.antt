@@ -6,12 +6,13 @@ use Rattle.vortex_rewriting.specs.Runs.{expression_step}
 use Rattle.rowfn_scripts.specs.Sessions.{RunsAfterTop, column_line}
 use Rattle.rowfn_scripts.proofs.SessionSteps.{columns_of, stack_of, last_is_top, answers_refusal}
 use Rattle.rowfn_scripts.proofs.SessionSteps.{top_printed_after, top_refused_after}
+use Rattle.rowfn_scripts.specs.Stepping.{script_meaning, script_rules}
 use Rattle.rowfn_scripts.proofs.session.Session.text_after.Goals as goal
 
 pub returns-in_err-column : goal.returns-in_err-column
-returns-in_err-column g c =
-    let m = g.C.ScalarFnVTable.meaning in
-    let rs = g.C.ScalarFnVTable.rules in
+returns-in_err-column c =
+    let m = script_meaning in
+    let rs = script_rules in
     let s = c.args.self.now in
     let n = c.args.count in
     let limit = c.args.limit in
@@ -30,9 +31,9 @@ returns-in_err-column g c =
     c.from_residual.ensures.1 c.in_err-column.ensures
 
 pub returns : goal.returns
-returns g c =
-    let m = g.C.ScalarFnVTable.meaning in
-    let rs = g.C.ScalarFnVTable.rules in
+returns c =
+    let m = script_meaning in
+    let rs = script_rules in
     let n = c.args.count in
     let limit = c.args.limit in
     let tree = c.in-Some.old.now in
@@ -48,10 +49,10 @@ returns g c =
     (c.in_ok-column_line.ensures ∙ ap column_line c.deref-3.ensures)
 
 pub returns-in_err-column_line : goal.returns-in_err-column_line
-returns-in_err-column_line g c =
+returns-in_err-column_line c =
     let s = c.args.self.now in
     answers_refusal
-    (RunsAfterTop g.C.ScalarFnVTable.meaning g.C.ScalarFnVTable.rules c.args.limit
+    (RunsAfterTop script_meaning script_rules c.args.limit
     (Some c.args.count) s.stack s) (λ e. ⊥) s c.from_residual-in_err-column_line.result
     c.in_err-column_line.field-0.0 (λ e h. absurd h)
     c.from_residual-in_err-column_line.ensures.1 c.in_err-column_line.ensures

@@ -5,11 +5,12 @@ use Rattle.std.specs.Cow.{cow_value}
 use Rattle.rowfn_scripts.specs.Sessions.{RunsTop, column_line}
 use Rattle.rowfn_scripts.proofs.SessionSteps.{columns_of, stack_of, last_is_top, top_printed}
 use Rattle.rowfn_scripts.proofs.SessionSteps.{top_refused, answers_refusal}
+use Rattle.rowfn_scripts.specs.Stepping.{script_meaning}
 use Rattle.rowfn_scripts.proofs.session.Session.top_text.Goals as goal
 
 pub returns-in_err-column : goal.returns-in_err-column
-returns-in_err-column g c =
-    let m = g.C.ScalarFnVTable.meaning in
+returns-in_err-column c =
+    let m = script_meaning in
     let s = c.args.self.now in
     let n = c.args.count in
     let tree = c.in-Some.tree.now in
@@ -25,8 +26,8 @@ returns-in_err-column g c =
     c.from_residual.ensures.1 c.in_err-column.ensures.answer
 
 pub returns : goal.returns
-returns g c =
-    let m = g.C.ScalarFnVTable.meaning in
+returns c =
+    let m = script_meaning in
     let top =
     sym (stack_of c.self.view_is) ∙ ap reverse (sym c.deref.ensures.value)
     ∙ last_is_top c.deref.result.now c.in-Some.tree.now c.in-Some.ensures.item.3.0
@@ -41,8 +42,8 @@ returns g c =
     (c.in_ok-column_line.ensures ∙ ap column_line c.deref-3.ensures)
 
 pub returns-in_err-column_line : goal.returns-in_err-column_line
-returns-in_err-column_line g c =
+returns-in_err-column_line c =
     let s = c.args.self.now in
-    answers_refusal (RunsTop g.C.ScalarFnVTable.meaning (Some c.args.count) s.stack s) (λ e. ⊥) s
+    answers_refusal (RunsTop script_meaning (Some c.args.count) s.stack s) (λ e. ⊥) s
     c.from_residual-in_err-column_line.result c.in_err-column_line.field-0.0 (λ e h. absurd h)
     c.from_residual-in_err-column_line.ensures.1 c.in_err-column_line.ensures

@@ -1,0 +1,37 @@
+-- What the fields of the first rows make, as fields that are borrowed say it.
+use Rattle.std.proofs.Common.{◌≡◌, ◌∙◌, ◌*◌, ℕ, List, Option, Result, Ok, Err, map, take}
+use Rattle.std.proofs.Common.{ap, sym, subst}
+use Rattle.std.specs.Prelude.{IfOk}
+use Rattle.std.specs.Borrow.{Bor}
+use Rattle.std.proofs.lemmas.List.{take-map}
+use Rattle.vortex_columns.specs.ColumnView.{ColumnView}
+use Rattle.vortex_types.specs.TypeOf.{struct_fields}
+use Rattle.rowfn_scripts.specs.declared.expression.Expression.{Expression}
+use Rattle.rowfn_batches.specs.Fields.{Field, field_in}
+use Rattle.rowfn_batches.specs.Batches.{AreEven, AreColumns}
+use Rattle.rowfn_batches.specs.BatchAnswers.{width_of, first_fields, AreFirst}
+
+pub if_ok-weaker : {A E : Type 0} (r : Result A E) (P Q : A → Type 0) → ((a : A) → P a → Q a)
+    → IfOk r P → IfOk r Q
+if_ok-weaker (Ok a) P Q f h = f a h
+if_ok-weaker (Err e) P Q f h = tt
+
+module _ (x : Expression) (fs : List (Option (Bor (List ℕ)))) (n w : ℕ) (counted : w ≡ width_of x)
+    (whole : List (Option (Bor (List ℕ)))) (taken : whole ≡ take (w * n) fs) where
+  -- what holds of the borrowed fields holds of the first fields
+  pub of_first : (P : List Field → Type 0) → P (map field_in whole)
+      → P (first_fields x (map field_in fs) n)
+  of_first P h =
+      let same : map field_in whole ≡ first_fields x (map field_in fs) n =
+      ap (map field_in) (taken ∙ ap (λ k. take (k * n) fs) counted)
+      ∙ sym (take-map field_in (width_of x * n) fs) in
+      subst P same h
+
+  pub are_first : (cs : List ColumnView)
+      → AreEven (struct_fields x.columns) (map field_in whole) n
+      × AreColumns (struct_fields x.columns) (map field_in whole) n (width_of x) cs
+      → AreFirst x (map field_in fs) n cs
+  are_first cs h =
+      let ds = struct_fields x.columns in
+      let here = of_first (λ f. AreEven ds f n × AreColumns ds f n (width_of x) cs) h in
+      record { even = here.0; said = here.1 }

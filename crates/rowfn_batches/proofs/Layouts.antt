@@ -1,0 +1,62 @@
+-- One more column that stands in a header.
+use Rattle.std.proofs.Common.{◌≡◌, ◌≢◌, ℕ, ◌<◌, ◌≤◌, ◌+◌, suc, List, [], ◌∷◌, ◌++◌, length}
+use Rattle.std.proofs.Common.{ap, sym, get_or, zero, Some, arith}
+use Rattle.std.proofs.Common.{subst}
+use Rattle.csv.specs.Records.{field_at}
+use Rattle.std.proofs.lemmas.List.{length-append}
+use Rattle.vortex_types.specs.FieldNames.{field_name}
+use Rattle.vortex_types.specs.LogicalTypes.{Fields}
+use Rattle.rowfn_batches.specs.Layouts.{LacksFrom, IsFirstFrom, StandsOnce, FirstStandAt}
+
+-- a field that is there lies among the fields
+within : (fields : List (List ℕ)) (q : ℕ) (x : List ℕ) → field_at fields q ≡ Some x
+    → q < length fields
+unfolding field_at
+within [] q x e = cc e
+within (f ∷ fs) zero x e = omega arith
+within (f ∷ fs) (suc q) x e = omega (arith, within fs q x e)
+
+-- a name that no field is up to the end is none from there on
+pub nowhere : (fields : List (List ℕ)) (name : List ℕ) (start end : ℕ) → length fields ≤ end
+    → ((q : ℕ) → start ≤ q → q < end → field_at fields q ≢ Some name)
+    → LacksFrom fields name start
+nowhere fields name start end past before q h e =
+    before q h (omega (arith, past, within fields q name e)) e
+
+pub stands_once : (fields : List (List ℕ)) (name : List ℕ) (place : ℕ)
+    → IsFirstFrom fields name 0 place → LacksFrom fields name (place + 1)
+    → StandsOnce fields name place
+stands_once fields name place first none = (first.2, only)
+  where
+    only : (q : ℕ) → field_at fields q ≡ Some name → q ≡ place
+    only q e = grind (arith, first.3 q, none q)
+
+-- what holds of each place and of one more
+one_place_more : (P : ℕ → ℕ → Type 0) (ps : List ℕ) (p : ℕ)
+    → ((i : ℕ) → i < length ps → P i (get_or ps i 0)) → P (length ps) p
+    → (i : ℕ) → i < length (ps ++ p ∷ []) → P i (get_or (ps ++ p ∷ []) i 0)
+one_place_more P [] p h q zero lt = q
+one_place_more P [] p h q (suc i) lt = absurd (omega arith)
+one_place_more P (x ∷ ps) p h q zero lt = h 0 (omega arith)
+one_place_more P (x ∷ ps) p h q (suc i) lt =
+    one_place_more (λ j y. P (suc j) y) ps p (λ j l. h (suc j) (omega arith)) q i (omega arith)
+
+pub no_columns : (fields : List (List ℕ)) (ds : Fields) (ps : List ℕ) → ps ≡ []
+    → FirstStandAt fields ds 0 ps
+no_columns fields ds ps e =
+    record { count = ap length e; each = λ k lt. absurd (omega (arith, lt)) }
+
+-- a turn of a loop over declared columns
+pub next_column : (fields : List (List ℕ)) (ds : Fields) (k : ℕ) (ps now : List ℕ) (p : ℕ)
+    → FirstStandAt fields ds k ps → StandsOnce fields (field_name k ds) p
+    → now ≡ ps ++ (p ∷ []) → FirstStandAt fields ds (k + 1) now
+next_column fields ds k ps now p before once pushed =
+    subst (λ (all : List ℕ). FirstStandAt fields ds (k + 1) all) (sym pushed)
+    (record {
+      count = omega (arith, before.count, length-append ps (p ∷ []));
+      each = λ i lt.
+          one_place_more (λ j y. StandsOnce fields (field_name j ds) y) ps p
+          (λ j l. before.each j (omega (arith, l, before.count)))
+          (subst (λ (n : ℕ). StandsOnce fields (field_name n ds) p) (sym before.count) once) i
+          (omega (arith, lt, before.count, length-append ps (p ∷ [])));
+    })

@@ -1,0 +1,45 @@
+-- One more value of a row that is put down.
+use Rattle.std.proofs.Common.{◌≡◌, ℕ, ◌+◌, ◌<◌, List, [], ◌∷◌, ◌++◌, length, take, get_or}
+use Rattle.std.proofs.Common.{ap, sym, ◌∙◌, arith}
+use Rattle.std.proofs.lemmas.List.{get_or-map, length-map}
+use Rattle.vortex_columns.specs.ColumnView.{ColumnView, row}
+use Rattle.vortex_meaning.specs.CallTexts.{joined, separator_before}
+use Rattle.vortex_types.proofs.JoinedTexts.{joined_more}
+use Rattle.rowfn_csv.specs.declared.format.Format.{Format}
+use Rattle.rowfn_batches.specs.declared.output.Output.{Output}
+use Rattle.rowfn_batches.specs.Outputs.{Adds, value_field, row_fields}
+
+-- the first values of a row stand behind what stood there before, in the same format
+abbrev pub HasFirst : Output → Output → List ColumnView → ℕ → ℕ → Type 0
+HasFirst old now answers place k =
+    (now.format ≡ old.format)
+    × (now.bytes.items ≡ old.bytes.items ++ joined (old.format.delimiter ∷ [])
+    (take k (row_fields old.format.delimiter old.format.null.now answers place)))
+
+-- a turn of a loop over answers
+pub next_value : (old now more last : Output) (answers : List ColumnView) (place k : ℕ)
+    (c : ColumnView) → k < length answers → c ≡ get_or answers k c
+    → HasFirst old now answers place k
+    → Adds now more (separator_before (now.format.delimiter ∷ []) k)
+    → Adds more last
+    (value_field more.format.delimiter more.format.null.now (row c.rows place))
+    → HasFirst old last answers place (k + 1)
+next_value old now more last answers place k c h is before parted added = (
+  added.1 ∙ same,
+  joined_more (old.format.delimiter ∷ [])
+      (row_fields old.format.delimiter old.format.null.now answers place) k (field c)
+      old.bytes.items now.bytes.items more.bytes.items last.bytes.items
+      (omega (arith, h, length-map answers field))
+      (sym (get_or-map field answers k c (field c) h ∙ ap field (sym is))) before.1
+      (parted.0
+      ∙ ap (λ (f : Format). now.bytes.items ++ separator_before (f.delimiter ∷ []) k) before.0)
+      (added.0
+      ∙ ap (λ (f : Format). more.bytes.items
+      ++ value_field f.delimiter f.null.now (row c.rows place)) same),
+)
+  where
+    same : more.format ≡ old.format
+    same = parted.1 ∙ before.0
+
+    field : ColumnView → List ℕ
+    field v = value_field old.format.delimiter old.format.null.now (row v.rows place)

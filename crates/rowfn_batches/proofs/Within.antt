@@ -1,0 +1,62 @@
+-- A batch's answers have a row for each row that is answered, and those are no more than it has.
+use Rattle.std.proofs.Common.{◌≡◌, ℕ, zero, suc, ◌+◌, ◌*◌, ◌<◌, ◌≤◌, List, [], ◌∷◌, Option, length}
+use Rattle.std.proofs.Common.{take, arith}
+use Rattle.std.proofs.Common.{mul-le-mul_left, mul_comm, lt_of_not-le}
+use Rattle.std.proofs.lemmas.List.{length-take}
+use Rattle.vortex_columns.specs.ColumnView.{ColumnView}
+use Rattle.vortex_meaning.specs.Meaning.{Meaning}
+use Rattle.vortex_meaning.specs.Trees.{Tree}
+use Rattle.vortex_meaning.specs.Execution.{Executes}
+use Rattle.vortex_functions.specs.Fixed.{fixed_meaning}
+use Rattle.vortex_functions.specs.Walks.{AllMean}
+use Rattle.rowfn_scripts.specs.declared.expression.Expression.{Expression}
+use Rattle.rowfn_batches.specs.Fields.{Field}
+use Rattle.rowfn_batches.specs.declared.errors.StreamError.{StreamError}
+use Rattle.rowfn_batches.specs.BatchAnswers.{AreAnswers, EndsAnswers, with_them, at_fault, trees_of, width_of}
+use Rattle.rowfn_batches.specs.BatchAnswers.{EndsFitting, with_batch, at_misfit, EndsBatch}
+use Rattle.rowfn_batches.specs.Outputs.{HaveRows}
+
+all_have : {V O : Type 0} (m : Meaning V O) (cs : List ColumnView) (n : ℕ) (ts : List (Tree V O))
+    (answers : List ColumnView) → AllMean (Executes m cs n) ts answers → HaveRows n answers
+all_have m cs n [] [] h k d lt = absurd (omega (arith, lt))
+all_have m cs n [] (c ∷ answers) h k d lt = absurd h
+all_have m cs n (t ∷ ts) [] h k d lt = absurd h
+all_have m cs n (t ∷ ts) (c ∷ answers) h zero d lt = omega (arith, h.0.rows.count)
+all_have m cs n (t ∷ ts) (c ∷ answers) h (suc k) d lt =
+    all_have m cs n ts answers h.1 k d (omega (arith, lt))
+
+-- a field of a row among those of so many rows
+below_row : (w count n column l : ℕ) → n * w + column < l → l ≤ w * count → n < count
+below_row w count n column l h most =
+    let same : n * w ≡ w * n = mul_comm n w in
+    lt_of_not-le (λ le. let up : w * count ≤ w * n = mul-le-mul_left w le in omega arith)
+
+module _ (x : Expression) (fs : List Field) where
+  pub have_rows : (n : ℕ) (answers : List ColumnView) → AreAnswers x fs n answers
+      → HaveRows n answers
+  have_rows n answers a =
+      all_have fixed_meaning a.columns n (trees_of x) answers a.mean
+
+  within_answers : (before fit : ℕ) (other : Option StreamError) (n : ℕ) (e : Option StreamError)
+      → EndsAnswers x fs before fit other n e → n ≤ fit
+  within_answers before fit other n e (with_them is ended) = omega (arith, is)
+  within_answers before fit other n e (at_fault columns fault told is first faulty tells) =
+      omega (arith, faulty.below)
+
+  within_fitting : (before count : ℕ) (behind : Option StreamError) (n : ℕ)
+      (e : Option StreamError) → EndsFitting x fs before count behind n e → n ≤ count
+  within_fitting before count behind n e (with_batch is ended) = omega (arith, is)
+  within_fitting before count behind n e (at_misfit column told is misfit tells) =
+      let width = width_of x in
+      let below = below_row width count n column (length (take (width * count) fs))
+      misfit.first.below (omega (arith, length-take (width * count) fs)) in
+      omega (arith, below)
+
+  pub within_batch : (before count : ℕ) (behind : Option StreamError) (n : ℕ)
+      (e : Option StreamError) → EndsBatch x fs before count behind n e → n ≤ count
+  within_batch before count behind n e (fit, other, fitting, ends) =
+      omega (
+        arith,
+        within_fitting before count behind fit other fitting,
+        within_answers before fit other n e ends,
+      )

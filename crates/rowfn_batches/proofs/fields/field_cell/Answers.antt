@@ -1,0 +1,23 @@
+use Rattle.std.proofs.Common.{Some, None, sym, ap, ◌∙◌, if◌then◌else◌}
+use Rattle.std.specs.Str.{is_utf8}
+use Rattle.std.proofs.lemmas.Str.{IsUtf8-from_is_utf8, is_utf8-from_IsUtf8}
+use Rattle.std.proofs.lemmas.Bool.{false_from_ne_true}
+use Rattle.rowfn_batches.specs.Fields.{field_in, field_cell}
+use Rattle.rowfn_batches.proofs.fields.field_cell.Goals as goal
+
+pub returns-in-Ok : goal.returns-in-Ok
+returns-in-Ok c =
+    let bytes = c.in-Some.bytes.now in
+    let readable = is_utf8-from_IsUtf8 bytes c.in-Ok.ensures.cases.1 in
+    ap (λ t. Some (Some t)) c.in-Ok.ensures.cases.0
+    ∙ sym (ap (λ b. if b then Some (Some bytes) else None) readable)
+    ∙ ap (λ f. field_cell (field_in f)) (sym c.in-Some.is)
+
+pub returns-in-Err : goal.returns-in-Err
+returns-in-Err c =
+    let bytes = c.in-Some.bytes.now in
+    let unreadable =
+    false_from_ne_true (is_utf8 bytes)
+    (λ e. c.in-Err.ensures.cases.0 (IsUtf8-from_is_utf8 bytes e)) in
+    sym (ap (λ b. if b then Some (Some bytes) else None) unreadable)
+    ∙ ap (λ f. field_cell (field_in f)) (sym c.in-Some.is)

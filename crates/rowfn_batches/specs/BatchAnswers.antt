@@ -1,0 +1,117 @@
+-- What the rows of a batch answer, up to the first that ends the stream, and what ends it there.
+use Rattle.std.specs.Prelude.{◌≡◌, ◌+◌, ◌*◌, ◌-◌, ◌^◌, min, ℕ, List, map, take, Option}
+use Rattle.std.specs.Prelude.{Some, None, string_bytes, Vec, ⊤}
+use Rattle.std.specs.declared.alloc.Global.{Global}
+use Rattle.vortex_errors.specs.declared.error.VortexError.{VortexError}
+use Rattle.vortex_errors.specs.Answers.{UnlessMemory}
+use Rattle.vortex_types.specs.FieldNames.{field_name}
+use Rattle.vortex_types.specs.LogicalTypes.{Fields, field_count, field_type}
+use Rattle.vortex_types.specs.TypeOf.{struct_fields, type_of}
+use Rattle.vortex_columns.specs.ColumnView.{ColumnView}
+use Rattle.vortex_interface.specs.declared.options.EmptyOptions.{EmptyOptions}
+use Rattle.vortex_meaning.specs.Trees.{Tree}
+use Rattle.vortex_meaning.specs.Execution.{Executes}
+use Rattle.vortex_functions.specs.Fixed.{fixed_meaning}
+use Rattle.vortex_functions.specs.Walks.{AllMean}
+use Rattle.vortex_functions.specs.declared.custom.NoCustom.{NoCustom}
+use Rattle.rowfn_scripts.specs.declared.expression.Expression.{Expression}
+use Rattle.rowfn_batches.specs.Fields.{Field}
+use Rattle.rowfn_batches.specs.Batches.{field_at, AreEven, AreColumns, IsMisfit, IsTooLong}
+use Rattle.rowfn_batches.specs.Executing.{RefusesColumnsFirst, IsFirstFaultyRow}
+use Rattle.rowfn_batches.specs.declared.errors.StreamError.{StreamError}
+use Rattle.rowfn_batches.specs.declared.errors.StreamError.TheVariants as end
+
+-- the number of a row, counted from 1 behind the rows before the batch; it stays at the greatest
+abbrev pub row_number : ℕ → ℕ → ℕ
+row_number before row = min (before + row + 1) (2 ^ 64 - 1)
+
+-- the bytes of a field, and none of a null field
+abbrev pub field_told : Option (Vec ℕ Global) → Field
+field_told None = None
+field_told (Some bytes) = Some bytes.items
+
+module _ (before : ℕ) (row : ℕ) where
+  -- the field of that row that its column does not hold, with the column's name and type
+  abbrev pub TellsMisfit : Fields → ℕ → Field → StreamError → Type 0
+  TellsMisfit ds j f (end.Misfit number column dtype field) =
+      (number ≡ row_number before row) × (string_bytes column ≡ field_name j ds)
+      × (type_of dtype ≡ field_type j ds) × (field_told field ≡ f)
+  TellsMisfit ds j f e = ⊥
+
+  -- the fault of that row
+  abbrev pub TellsFault : VortexError → StreamError → Type 0
+  TellsFault fault (end.Fault number told) = (number ≡ row_number before row) × (told ≡ fault)
+  TellsFault fault e = ⊥
+
+-- a column whose texts are too long, by its name
+abbrev pub TellsName : Fields → ℕ → StreamError → Type 0
+TellsName ds j (end.TextsTooLong name) = string_bytes name ≡ field_name j ds
+TellsName ds j e = ⊥
+
+abbrev pub trees_of : Expression → List (Tree NoCustom EmptyOptions)
+trees_of x = map (λ a. a.tree) x.answers.items
+
+-- how many columns are declared
+abbrev pub width_of : Expression → ℕ
+width_of x = field_count (struct_fields x.columns)
+
+module _ (x : Expression) (fs : List Field) where
+  -- the fields of the first n rows
+  abbrev pub first_fields : ℕ → List Field
+  first_fields n = take (width_of x * n) fs
+
+  -- the columns of the first n rows
+  pub record AreFirst (n : ℕ) (cs : List ColumnView) : Type 0 where
+    pub even : AreEven (struct_fields x.columns) (first_fields n) n
+    pub said : AreColumns (struct_fields x.columns) (first_fields n) n (width_of x) cs
+
+  -- each answer has the values of its tree in the first n rows
+  pub record AreAnswers (n : ℕ) (answers : List ColumnView) : Type 0 where
+    pub columns : List ColumnView
+    pub first : AreFirst n columns
+    pub mean : AllMean (Executes fixed_meaning columns n) (trees_of x) answers
+
+  -- of so many rows whose fields fit all are answered, and what ends them does; or those before the
+  -- first that faults, which is told
+  pub data EndsAnswers (before fit : ℕ) (other : Option StreamError) (n : ℕ)
+      (e : Option StreamError) : Type 0 where
+    with_them : n ≡ fit → e ≡ other → EndsAnswers before fit other n e
+    at_fault : (columns : List ColumnView) (fault : VortexError) (told : StreamError)
+        → e ≡ Some told → AreFirst fit columns
+        → IsFirstFaultyRow fixed_meaning columns fit (trees_of x) n fault
+        → TellsFault before n fault told
+        → EndsAnswers before fit other n e
+
+  -- the columns of first rows do not serve a tree, or memory ran out
+  abbrev pub IsUnserved : StreamError → Type 0
+  IsUnserved (end.Refused e) =
+      UnlessMemory
+      (λ e. (n : ℕ) × (columns : List ColumnView) × AreFirst n columns
+      × RefusesColumnsFirst columns n (trees_of x) e)
+      e
+  IsUnserved end.OutOfMemory = ⊤
+  IsUnserved e = ⊥
+
+  -- why nothing is answered of a batch of so many rows: the texts of a column are too long, the
+  -- columns do not serve a tree, or memory ran out
+  pub data IsUnanswered (count : ℕ) (e : StreamError) : Type 0 where
+    too_long : (column : ℕ) → IsTooLong (struct_fields x.columns) (first_fields count) count column
+        → TellsName (struct_fields x.columns) column e → IsUnanswered count e
+    unserved : IsUnserved e → IsUnanswered count e
+
+  module _ (before : ℕ) (count : ℕ) (behind : Option StreamError) where
+    -- so many rows have fields that fit: all of them, and the error behind the batch ends it; or
+    -- those before the first misfit, which is told
+    pub data EndsFitting (n : ℕ) (e : Option StreamError) : Type 0 where
+      with_batch : n ≡ count → e ≡ behind → EndsFitting n e
+      at_misfit : (column : ℕ) (told : StreamError) → e ≡ Some told
+          → IsMisfit (struct_fields x.columns) (first_fields count) n column
+          → TellsMisfit before n (struct_fields x.columns) column
+          (field_at fs (n * width_of x + column)) told
+          → EndsFitting n e
+
+    -- the rows of the answers, and what ends them there
+    abbrev pub EndsBatch : ℕ → Option StreamError → Type 0
+    EndsBatch n e =
+        (fit : ℕ) × (other : Option StreamError) × EndsFitting fit other
+        × EndsAnswers before fit other n e

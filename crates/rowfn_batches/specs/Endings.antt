@@ -1,0 +1,36 @@
+-- What a read that failed ends, and the status with which a program tells what ended a stream.
+use Rattle.std.specs.Prelude.{ℕ}
+use Rattle.rowfn_csv.specs.declared.records.ReadError.{ReadError}
+use Rattle.rowfn_csv.specs.declared.records.ReadError.TheVariants as read
+use Rattle.rowfn_scripts.specs.declared.expression.ExpressionError.{ExpressionError}
+use Rattle.rowfn_scripts.specs.declared.expression.ExpressionError.TheVariants as line
+use Rattle.rowfn_batches.specs.declared.errors.StreamError.{StreamError}
+use Rattle.rowfn_batches.specs.declared.errors.StreamError.TheVariants as end
+
+abbrev pub read_ending : ReadError → StreamError
+read_ending (read.Io e) = end.Reading e
+read_ending read.OutOfMemory = end.OutOfMemory
+
+-- 4 for an expression that is wrong, but for want of memory
+abbrev pub expression_status : ExpressionError → ℕ
+expression_status (line.Refused n e) = 4
+expression_status (line.Malformed n expected) = 4
+expression_status line.OutOfMemory = 3
+
+-- 1 for a fault of the expression, 2 for input that does not fit, 3 for reading, writing and memory
+abbrev pub status_of : StreamError → ℕ
+status_of (end.Fault row e) = 1
+status_of (end.Refused e) = 1
+status_of (end.Misfit row column dtype field) = 2
+status_of (end.TextsTooLong column) = 2
+status_of (end.ColumnMissing name) = 2
+status_of (end.ColumnTwice name) = 2
+status_of (end.Width row wanted found) = 2
+status_of (end.OpenQuote row) = 2
+status_of end.OpenHeader = 2
+status_of (end.Reading e) = 3
+status_of (end.Writing e) = 3
+status_of (end.ReadingExpression name e) = 3
+status_of (end.Expression e) = expression_status e
+status_of (end.NoTruth name) = 4
+status_of end.OutOfMemory = 3

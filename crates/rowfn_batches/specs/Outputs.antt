@@ -1,0 +1,54 @@
+-- What is put down to be written, and what of a row.
+use Rattle.std.specs.Prelude.{◌≡◌, ℕ, ◌≤◌, List, [], ◌∷◌, ◌++◌, map, if◌then◌else◌}
+use Rattle.std.specs.Prelude.{Bool, false, All, length, slice_index_or, count_by}
+use Rattle.std.specs.List.{flat_map, range_with_len}
+use Rattle.vortex_types.specs.Values.{Value, is_null, truth}
+use Rattle.vortex_columns.specs.ColumnView.{ColumnView, row}
+use Rattle.vortex_meaning.specs.CallTexts.{joined, separator_before}
+use Rattle.rowfn_csv.specs.Fields.{text_field}
+use Rattle.rowfn_batches.specs.Printing.{field_text}
+use Rattle.rowfn_batches.specs.declared.output.Output.{Output}
+
+-- bytes that are put down behind the others
+abbrev pub Adds : Output → Output → List ℕ → Type 0
+Adds old new bytes =
+    (new.bytes.items ≡ old.bytes.items ++ bytes) × (new.format ≡ old.format)
+
+module _ (delimiter : ℕ) (null : List ℕ) where
+  -- the name of an answer in the header, behind those before it
+  abbrev pub name_field : ℕ → List ℕ → List ℕ
+  name_field index name = separator_before (delimiter ∷ []) index ++ text_field delimiter null name
+
+  -- a value as a field: null as what stands for it, any other in quotes where it needs them
+  abbrev pub value_field : Value → List ℕ
+  value_field v = if is_null v then null else text_field delimiter null (field_text v)
+
+  -- the fields of a row
+  abbrev pub row_fields : List ColumnView → ℕ → List (List ℕ)
+  row_fields answers i = map (λ c. value_field (row c.rows i)) answers
+
+  -- a row of the answers as a line
+  abbrev pub row_line : List ColumnView → ℕ → List ℕ
+  row_line answers i = joined (delimiter ∷ []) (row_fields answers i) ++ (10 ∷ [])
+
+  -- the first rows of the answers, a line each
+  abbrev pub row_lines : List ColumnView → ℕ → List ℕ
+  row_lines answers n = flat_map (row_line answers) (range_with_len 0 n)
+
+-- each column has so many rows, or more
+abbrev pub HaveRows : ℕ → List ColumnView → Type 0
+HaveRows n = All (λ c. n ≤ length c.rows)
+
+abbrev pub is_true : Value → Bool
+is_true (truth b) = b
+is_true v = false
+
+-- of texts, one for each row, those of the rows in which a column is true
+abbrev pub picked_texts : ColumnView → List (List ℕ) → List ℕ
+picked_texts top texts =
+    flat_map (λ i. if is_true (row top.rows i) then slice_index_or texts i [] else [])
+    (range_with_len 0 (length texts))
+
+-- how many of the first rows those are
+abbrev pub picked_count : ColumnView → ℕ → ℕ
+picked_count top n = count_by (λ i. is_true (row top.rows i)) (range_with_len 0 n)

@@ -1,0 +1,133 @@
+-- What is written of a batch, and what passing it on ends.
+use Rattle.std.specs.Prelude.{◌≡◌, ◌-◌, ℕ, List, [], Option, Some, None, Result, Ok, Err, ⊤, length}
+use Rattle.std.specs.Prelude.{◌++◌, ◌+◌, ◌^◌, map, take, slice_get, if◌then◌else◌, min, Bool}
+use Rattle.std.specs.Io.KnownBytes.{Appends, Keeps}
+use Rattle.vortex_columns.specs.ColumnView.{ColumnView}
+use Rattle.rowfn_scripts.specs.declared.expression.Expression.{Expression}
+use Rattle.rowfn_csv.specs.KeptLines.{line_of}
+use Rattle.rowfn_batches.specs.declared.errors.StreamError.{StreamError}
+use Rattle.rowfn_batches.specs.declared.errors.StreamError.TheVariants as end
+use Rattle.rowfn_batches.specs.declared.output.Output.{Output}
+use Rattle.rowfn_batches.specs.declared.stream.Stream.{Stream}
+use Rattle.rowfn_batches.specs.declared.stream.Summary.{Summary}
+use Rattle.rowfn_batches.specs.BatchAnswers.{AreAnswers, EndsBatch, IsUnanswered}
+use Rattle.rowfn_batches.specs.Outputs.{row_lines, picked_texts}
+
+-- the lines of the input of those of the first rows in which the answer is true
+abbrev pub picked_lines : {R : Type 0} → Stream R → Option ColumnView → ℕ → List ℕ
+picked_lines s None n = []
+picked_lines s (Some top) n = picked_texts top (map (line_of s.records) (take n s.batch.spans))
+
+-- what is written of the first rows of the batch: a line of the answers for each, or those lines
+abbrev pub batch_text : {R : Type 0} → Stream R → List ColumnView → ℕ → List ℕ
+batch_text s answers n =
+    if s.settings.picks_rows then picked_lines s (slice_get answers (length answers - 1)) n
+    else row_lines s.output.format.delimiter s.output.format.null.now answers n
+
+-- the first rows of the batch have those answers, and what ends them there does
+pub record IsAnswered {R : Type 0} (s : Stream R) (behind : Option StreamError) (n : ℕ)
+    (answers : List ColumnView) (e : Option StreamError) : Type 0 where
+  pub rows : AreAnswers s.expression.now s.batch.fields n answers
+  pub ends : EndsBatch s.expression.now s.batch.fields s.summary.rows_read (length s.batch.spans)
+      behind n e
+
+-- what is read, and how, stays
+pub record KeepsReading {R : Type 0} (old new : Stream R) : Type 0 where
+  pub alloc : new.alloc ≡ old.alloc
+  pub settings : new.settings ≡ old.settings
+  pub expression : new.expression ≡ old.expression
+  pub records : new.records ≡ old.records
+  pub layout : new.layout ≡ old.layout
+  pub batch : new.batch ≡ old.batch
+
+abbrev pub IsCleared : Output → Output → Type 0
+IsCleared old new = (new.bytes.items ≡ []) × (new.format ≡ old.format)
+
+abbrev pub IsWriting : StreamError → Type 0
+IsWriting (end.Writing e) = ⊤
+IsWriting e = ⊥
+
+abbrev pub ended : Option StreamError → Result (Unit {0}) StreamError
+ended None = Ok tt
+ended (Some e) = Err e
+
+-- A batch is passed on, behind what was put down before it: what is written of its first rows, and
+-- what ends them is told. Or nothing is written: the batch is not answered, or memory ran out. Or
+-- the writer refused.
+pub data PassesOn {R : Type 0} (s : Stream R) (behind : Option StreamError)
+    (before after : Option (List ℕ)) (result : Result (Unit {0}) StreamError) : Type 0 where
+  answered : (n : ℕ) (answers : List ColumnView) (e : Option StreamError)
+      → IsAnswered s behind n answers e
+      → Appends before after (s.output.bytes.items ++ batch_text s answers n)
+      → result ≡ ended e → PassesOn s behind before after result
+  unanswered : (e : StreamError)
+      → IsUnanswered s.expression.now s.batch.fields (length s.batch.spans) e
+      → Keeps before after → result ≡ Err e → PassesOn s behind before after result
+  without_memory : Keeps before after → result ≡ Err end.OutOfMemory
+      → PassesOn s behind before after result
+  unwritten : (e : StreamError) → IsWriting e → result ≡ Err e
+      → PassesOn s behind before after result
+
+-- what was counted: the rows of the batch are read too
+abbrev pub rows_read_behind : {R : Type 0} → Stream R → ℕ
+rows_read_behind s = min (s.summary.rows_read + length s.batch.spans) (2 ^ 64 - 1)
+
+-- another batch of the stream was read; all but what reads it stays
+pub record IsRefilled {R : Type 0} (old new : Stream R) : Type 0 where
+  pub settings : new.settings ≡ old.settings
+  pub expression : new.expression ≡ old.expression
+  pub layout : new.layout ≡ old.layout
+  pub output : new.output ≡ old.output
+  pub summary : new.summary ≡ old.summary
+
+-- the stream behind a batch that was passed on
+pub record IsBehind {R : Type 0} (s now : Stream R) : Type 0 where
+  pub kept : KeepsReading s now
+  pub cleared : IsCleared s.output now.output
+  pub rows_read : now.summary.rows_read ≡ rows_read_behind s
+
+-- the next batch is read and passed on, and whether the input goes on is told; or what ends the
+-- stream there
+pub data PassesNext {R : Type 0} (old new : Stream R) (before after : Option (List ℕ))
+    (result : Result Bool StreamError) : Type 0 where
+  passed_on : (s : Stream R) (behind : Option StreamError) (goes_on : Bool) → IsRefilled old s
+      → PassesOn s behind before after (Ok tt) → IsBehind s new → result ≡ Ok goes_on
+      → PassesNext old new before after result
+  ended_there : (s : Stream R) (behind : Option StreamError) (e : StreamError) → IsRefilled old s
+      → PassesOn s behind before after (Err e) → result ≡ Err e
+      → PassesNext old new before after result
+
+-- batches of a stream that were passed on one behind the other, and what the writer then holds
+pub data Passed {R : Type 0} (first : Stream R) (begun : Option (List ℕ))
+    : Stream R → Option (List ℕ) → Type 0 where
+  none_yet : Passed first begun first begun
+  one_more : (was s now : Stream R) (behind : Option StreamError) (before after : Option (List ℕ))
+      → Passed first begun was before → IsRefilled was s → PassesOn s behind before after (Ok tt)
+      → IsBehind s now → Passed first begun now after
+
+-- a stream of that expression behind its header, of whose rows none is read
+pub record HasBegun {R : Type 0} (x : Expression)
+    (before begun : Option (List ℕ)) (first : Stream R) : Type 0 where
+  pub headed : Stream R
+  pub expression : headed.expression.now ≡ x
+  pub none_read : headed.summary.rows_read ≡ 0
+  pub header : Appends before begun headed.output.bytes.items
+  pub kept : KeepsReading headed first
+  pub cleared : IsCleared headed.output first.output
+  pub summary : first.summary ≡ headed.summary
+
+-- A stream of that reader flows: its header is written, and then batch by batch what is written of
+-- each, in their order and each once, up to the one that ends it, if any; that error is told, and
+-- nothing is written behind it.
+pub data Flows {R : Type 0} (reader : R) (x : Expression)
+    (before after : Option (List ℕ)) (result : Result Summary StreamError) : Type 0 where
+  at_end : (first now : Stream R) (begun : Option (List ℕ)) → HasBegun x before begun first
+      → Passed first begun now after → result ≡ Ok now.summary → Flows reader x before after result
+  at_error : (first was s : Stream R) (begun held : Option (List ℕ)) (behind : Option StreamError)
+      (e : StreamError) → HasBegun x before begun first → Passed first begun was held
+      → IsRefilled was s → PassesOn s behind held after (Err e) → result ≡ Err e
+      → Flows reader x before after result
+  without_header : (e : StreamError) → IsWriting e → result ≡ Err e
+      → Flows reader x before after result
+  not_begun : (e : StreamError) → after ≡ before → result ≡ Err e
+      → Flows reader x before after result

@@ -1,0 +1,218 @@
+//! What a batch answers, up to the first row that ends the stream.
+ghost use Rattle.std.specs.Prelude.{◌≡◌, ◌<◌, ◌+◌, ◌*◌, length, map, take, IfOk, IfErr};
+ghost use Rattle.std.specs.Prelude.{MatchResult};
+ghost use Rattle.vortex_types.specs.TypeOf.{struct_fields};
+ghost use Rattle.rowfn_batches.specs.Fields.{field_in};
+ghost use Rattle.rowfn_batches.specs.Batches.{field_at};
+ghost use Rattle.rowfn_batches.specs.declared.errors.StreamError.TheVariants.{OutOfMemory};
+ghost use Rattle.rowfn_batches.specs.BatchAnswers.{row_number, TellsMisfit, TellsName, AreFirst};
+ghost use Rattle.rowfn_batches.specs.BatchAnswers.{AreAnswers, EndsAnswers, EndsBatch};
+ghost use Rattle.rowfn_batches.specs.BatchAnswers.{IsUnserved, IsUnanswered, width_of};
+
+use crate::answers::{execute_answers, first_fault};
+use crate::columns::{BatchError, read_columns};
+use crate::errors::StreamError;
+use rowfn_scripts::Expression;
+use std::alloc::Global;
+use vortex_columns::Column;
+
+/// What the first rows of a batch answer, and what ends the stream behind them, if anything does.
+#[derive(Drop)]
+pub struct Answered {
+    pub answers: Vec<Column>,
+    pub row_count: usize,
+    pub error: Option<StreamError>,
+}
+
+/// What a batch is asked.
+#[derive(Clone, Copy)]
+pub struct Task<'a> {
+    pub alloc: Global,
+    pub expression: &'a Expression,
+    /// How many rows were read before the batch.
+    pub rows_before: u64,
+}
+
+/// The number of a row of a batch, counted from 1 over the whole input; 18,446,744,073,709,551,615
+/// where it is larger.
+pub fn row_number(rows_before: u64, row: usize) -> u64
+    ensures { result ≡ row_number rows_before row }
+{
+    rows_before.saturating_add(row as u64).saturating_add(1)
+}
+
+/// The fields of the first rows that have so many each; all where there are fewer.
+fn first_rows<'f, 'b>(
+    fields: &'f [Option<&'b [u8]>],
+    width: usize,
+    row_count: usize,
+) -> &'f [Option<&'b [u8]>]
+    ensures { result.now ≡ take (width * row_count) fields.now }
+{
+    let len = fields.len();
+    let Some(count) = width.checked_mul(row_count) else {
+        return fields;
+    };
+    if count < len {
+        &fields[..count]
+    } else {
+        fields
+    }
+}
+
+impl Task<'_> {
+    /// The columns of the first rows, which are whole and none of which has a misfit. E9 where
+    /// memory is refused.
+    fn columns(
+        &self,
+        fields: &[Option<&[u8]>],
+        row_count: usize,
+    ) -> Result<Vec<Column>, StreamError>
+        ensures { MatchResult result
+            (λ columns. AreFirst self.now.expression.now (map field_in fields.now) row_count
+            columns.items)
+            (λ e. e ≡ OutOfMemory) }
+    {
+        let declared = &self.expression.columns;
+        let fields = first_rows(fields, declared.len(), row_count);
+        match read_columns(self.alloc, declared, fields, row_count) {
+            Ok(columns) => Ok(columns),
+            Err(_) => Err(StreamError::OutOfMemory),
+        }
+    }
+
+    /// The error for a field that its column does not hold. E9 where memory is refused.
+    fn misfit(
+        &self,
+        fields: &[Option<&[u8]>],
+        row: usize,
+        column: usize,
+    ) -> Result<StreamError, StreamError>
+        requires column { column < width_of self.now.expression.now }
+        requires place { row * width_of self.now.expression.now + column < length fields.now }
+        ensures { let width = width_of self.now.expression.now in
+            MatchResult result
+            (TellsMisfit self.now.rows_before row
+            (struct_fields self.now.expression.now.columns) column
+            (field_at (map field_in fields.now) (row * width + column)))
+            (λ e. e ≡ OutOfMemory) }
+    {
+        let declared = &self.expression.columns;
+        let field = match fields[row * declared.len() + column] {
+            Some(bytes) => Some(bytes.to_vec(self.alloc)?),
+            None => None,
+        };
+        Ok(StreamError::Misfit {
+            row: row_number(self.rows_before, row),
+            column: String::from_str(self.alloc, declared.name(column))?,
+            dtype: declared.dtype(column).clone()?,
+            field,
+        })
+    }
+
+    /// The error for a column whose texts are too long. E9 where memory is refused.
+    fn too_long(&self, column: usize) -> Result<StreamError, StreamError>
+        requires { column < width_of self.now.expression.now }
+        ensures { MatchResult result
+            (TellsName (struct_fields self.now.expression.now.columns) column)
+            (λ e. e ≡ OutOfMemory) }
+    {
+        let name = self.expression.columns.name(column);
+        Ok(StreamError::TextsTooLong(String::from_str(self.alloc, name)?))
+    }
+
+    /// What the first rows answer, which have neither a misfit nor a fault. E9 where memory is
+    /// refused.
+    fn answer_faultless(
+        &self,
+        fields: &[Option<&[u8]>],
+        row_count: usize,
+        error: Option<StreamError>,
+    ) -> Result<Answered, StreamError>
+        ensures rows { IfOk result (λ a. AreAnswers self.now.expression.now
+            (map field_in fields.now) a.row_count a.answers.items) }
+        ensures ends { IfOk result (λ a. (a.row_count ≡ row_count) × (a.error ≡ error)) }
+        ensures refused { IfErr result (λ e. e ≡ OutOfMemory) }
+    {
+        let columns = self.columns(fields, row_count)?;
+        match execute_answers(self.alloc, self.expression, &columns, row_count) {
+            Ok(answers) => Ok(Answered {
+                answers,
+                row_count,
+                error,
+            }),
+            // the columns serve the trees, and no row faults
+            Err(_) => Err(StreamError::OutOfMemory),
+        }
+    }
+
+    /// What the first rows answer, which have no misfit: up to the first that faults.
+    fn answer_fitting(
+        &self,
+        fields: &[Option<&[u8]>],
+        columns: &[Column],
+        row_count: usize,
+        error: Option<StreamError>,
+    ) -> Result<Answered, StreamError>
+        requires { AreFirst self.now.expression.now (map field_in fields.now) row_count
+            columns.now }
+        ensures rows { IfOk result (λ a. AreAnswers self.now.expression.now
+            (map field_in fields.now) a.row_count a.answers.items) }
+        ensures ends { IfOk result (λ a. EndsAnswers self.now.expression.now
+            (map field_in fields.now) self.now.rows_before row_count error a.row_count a.error) }
+        ensures refused { IfErr result
+            (IsUnserved self.now.expression.now (map field_in fields.now)) }
+    {
+        if let Ok(answers) = execute_answers(self.alloc, self.expression, columns, row_count) {
+            return Ok(Answered {
+                answers,
+                row_count,
+                error,
+            });
+        }
+        match first_fault(self.alloc, self.expression, columns, row_count) {
+            Ok(Some((row, fault))) => {
+                let told = StreamError::Fault {
+                    row: row_number(self.rows_before, row),
+                    error: fault,
+                };
+                self.answer_faultless(fields, row, Some(told))
+            }
+            // the columns serve the trees and no row faults, so memory ran out
+            Ok(None) => Err(StreamError::OutOfMemory),
+            Err(refusal) => Err(StreamError::Refused(refusal)),
+        }
+    }
+
+    /// What the rows of a batch answer: up to the first that has a misfit or a fault, or all of
+    /// them and the error behind the batch, if there is one.
+    ///
+    /// Refused where the texts of a column are too long for a batch, where the columns do not serve
+    /// a tree, and where memory runs out; never with a row's fault.
+    pub fn answer_batch(
+        &self,
+        fields: &[Option<&[u8]>],
+        row_count: usize,
+        error: Option<StreamError>,
+    ) -> Result<Answered, StreamError>
+        ensures rows { IfOk result (λ a. AreAnswers self.now.expression.now
+            (map field_in fields.now) a.row_count a.answers.items) }
+        ensures ends { IfOk result (λ a. EndsBatch self.now.expression.now
+            (map field_in fields.now) self.now.rows_before row_count error a.row_count a.error) }
+        ensures refused { IfErr result (IsUnanswered self.now.expression.now
+            (map field_in fields.now) row_count) }
+    {
+        let declared = &self.expression.columns;
+        let whole = first_rows(fields, declared.len(), row_count);
+        match read_columns(self.alloc, declared, whole, row_count) {
+            Ok(columns) => self.answer_fitting(fields, &columns, row_count, error),
+            Err(BatchError::Misfit { row, column }) => {
+                let misfit = self.misfit(fields, row, column)?;
+                let columns = self.columns(fields, row)?;
+                self.answer_fitting(fields, &columns, row, Some(misfit))
+            }
+            Err(BatchError::TextsTooLong { column }) => Err(self.too_long(column)?),
+            Err(BatchError::Uneven | BatchError::OutOfMemory) => Err(StreamError::OutOfMemory),
+        }
+    }
+}

@@ -1,0 +1,219 @@
+//! What ends a stream, with its status and its text.
+
+use rowfn_csv::ReadError;
+use rowfn_scripts::ExpressionError;
+use std::alloc::{AllocError, AllocFailed};
+use std::fmt::{self, Write};
+use std::{io, str};
+use vortex_columns::{DType, VortexError};
+
+/// What ends a stream before the end of its input. Records are counted from 1, without the header.
+#[derive(Drop)]
+pub enum StreamError {
+    /// A call of the expression faults in a row.
+    Fault {
+        row: u64,
+        error: VortexError,
+    },
+    /// A call of the expression is refused, whatever the row.
+    Refused(VortexError),
+    /// A field that its column does not hold; nothing where it is a null.
+    Misfit {
+        row: u64,
+        column: String,
+        dtype: DType,
+        field: Option<Vec<u8>>,
+    },
+    /// The texts of a column, by its name, take more bytes in a batch than a column holds.
+    TextsTooLong(String),
+    /// A declared column that the header does not name.
+    ColumnMissing(String),
+    /// A declared column that the header names twice.
+    ColumnTwice(String),
+    /// A row of more or fewer fields than the header, or than declared columns where there is none.
+    Width {
+        row: u64,
+        wanted: usize,
+        found: usize,
+    },
+    /// The last row ends within quotes.
+    OpenQuote {
+        row: u64,
+    },
+    /// The header ends within quotes.
+    OpenHeader,
+    /// The input could not be read.
+    Reading(io::Error),
+    /// The output could not be written.
+    Writing(io::Error),
+    /// The file of the expression, by its name, could not be read.
+    ReadingExpression(String, io::Error),
+    /// A line of the expression is refused or malformed.
+    Expression(ExpressionError),
+    /// Records are to be picked by an answer that is no truth value.
+    NoTruth(String),
+    /// Memory ran out, but in a call of the expression.
+    OutOfMemory,
+}
+
+impl From<ReadError> for StreamError {
+    ghost use Rattle.rowfn_batches.specs.Endings.{read_ending};
+    ghost use Rattle.std.specs.Prelude.{◌≡◌};
+
+    ghost from_gives = { λ error e. e ≡ read_ending error };
+
+    fn from(error: ReadError) -> StreamError {
+        match error {
+            ReadError::Io(error) => StreamError::Reading(error),
+            ReadError::OutOfMemory => StreamError::OutOfMemory,
+        }
+    }
+}
+
+impl From<ExpressionError> for StreamError {
+    ghost use Rattle.rowfn_batches.specs.declared.errors.StreamError.TheVariants.{Expression};
+    ghost use Rattle.std.specs.Prelude.{◌≡◌};
+
+    ghost from_gives = { λ error e. e ≡ Expression error };
+
+    fn from(error: ExpressionError) -> StreamError {
+        StreamError::Expression(error)
+    }
+}
+
+impl From<AllocError> for StreamError {
+    ghost use Rattle.rowfn_batches.specs.declared.errors.StreamError.TheVariants.{OutOfMemory};
+    ghost use Rattle.std.specs.Prelude.{◌≡◌};
+
+    ghost from_gives = { λ _ e. e ≡ OutOfMemory };
+
+    fn from(_error: AllocError) -> StreamError {
+        StreamError::OutOfMemory
+    }
+}
+
+impl<T: Drop> From<AllocFailed<T>> for StreamError {
+    ghost use Rattle.rowfn_batches.specs.declared.errors.StreamError.TheVariants.{OutOfMemory};
+    ghost use Rattle.std.specs.Prelude.{◌≡◌};
+
+    ghost from_gives = { λ _ e. e ≡ OutOfMemory };
+
+    fn from(_error: AllocFailed<T>) -> StreamError {
+        StreamError::OutOfMemory
+    }
+}
+
+impl StreamError {
+    ghost use Rattle.rowfn_batches.specs.Endings.{status_of};
+    ghost use Rattle.std.specs.Prelude.{◌≡◌};
+
+    /// 1 for a fault of the expression, 2 for input that does not fit, 3 for reading, writing and
+    /// memory, 4 for an expression that is wrong.
+    pub fn status(&self) -> u8
+        ensures { result ≡ status_of self.now }
+    {
+        match self {
+            StreamError::Fault { .. } | StreamError::Refused(_) => 1,
+            StreamError::Misfit { .. }
+            | StreamError::TextsTooLong(_)
+            | StreamError::ColumnMissing(_)
+            | StreamError::ColumnTwice(_)
+            | StreamError::Width { .. }
+            | StreamError::OpenQuote { .. }
+            | StreamError::OpenHeader => 2,
+            StreamError::Reading(_)
+            | StreamError::Writing(_)
+            | StreamError::ReadingExpression(_, _)
+            | StreamError::Expression(ExpressionError::OutOfMemory)
+            | StreamError::OutOfMemory => 3,
+            StreamError::Expression(_) | StreamError::NoTruth(_) => 4,
+        }
+    }
+}
+
+/// Writes bytes that are no UTF-8 in quotes, those beyond plain ASCII by their numbers.
+fn write_bytes<W: fmt::Write>(f: &mut fmt::Formatter<W>, bytes: &[u8]) -> fmt::Result {
+    f.write_str("\"")?;
+    for byte in bytes {
+        if byte.is_ascii_graphic() && *byte != b'"' && *byte != b'\\' || *byte == b' ' {
+            f.write_char(char::from(*byte))?;
+        } else {
+            write!(f, "\\x{byte:02x}")?;
+        }
+    }
+    f.write_str("\"")
+}
+
+/// Writes a field in quotes, or that it is a null.
+fn write_field<W: fmt::Write>(f: &mut fmt::Formatter<W>, field: Option<&[u8]>) -> fmt::Result {
+    match field {
+        None => f.write_str("null"),
+        Some(bytes) => match str::from_utf8(bytes) {
+            Ok(text) => write!(f, "{text:?}"),
+            Err(_) => write_bytes(f, bytes),
+        },
+    }
+}
+
+/// Writes what the input has that does not fit.
+fn write_input<W: fmt::Write>(f: &mut fmt::Formatter<W>, error: &StreamError) -> fmt::Result {
+    match error {
+        StreamError::Misfit {
+            row,
+            column,
+            dtype,
+            field,
+        } => {
+            let column = column.as_str();
+            write!(f, "row {row}, column {column}: ")?;
+            write_field(f, field.as_ref().map(|bytes| bytes.as_slice()))?;
+            write!(f, " is no {dtype:?}")
+        }
+        StreamError::TextsTooLong(name) => {
+            let name = name.as_str();
+            write!(f, "column {name}: texts too long for a batch")
+        }
+        StreamError::ColumnMissing(name) => {
+            let name = name.as_str();
+            write!(f, "header: column {name} is missing")
+        }
+        StreamError::ColumnTwice(name) => {
+            let name = name.as_str();
+            write!(f, "header: column {name} stands twice")
+        }
+        StreamError::Width { row, wanted, found } => {
+            write!(f, "row {row}: {found} fields where {wanted} are wanted")
+        }
+        StreamError::OpenQuote { row } => write!(f, "row {row}: a quote is not closed"),
+        _ => f.write_str("header: a quote is not closed"),
+    }
+}
+
+/// The place, and what is wrong there.
+impl fmt::Display for StreamError {
+    fn fmt<W: fmt::Write>(&self, f: &mut fmt::Formatter<W>) -> fmt::Result {
+        match self {
+            StreamError::Fault { row, error } => {
+                let (number, name) = (error.number(), error.name());
+                write!(f, "row {row}: E{number} {name}")
+            }
+            StreamError::Refused(error) => {
+                let (number, name) = (error.number(), error.name());
+                write!(f, "E{number} {name}")
+            }
+            StreamError::Reading(error) => write!(f, "reading: {error}"),
+            StreamError::Writing(error) => write!(f, "writing: {error}"),
+            StreamError::ReadingExpression(path, error) => {
+                let path = path.as_str();
+                write!(f, "reading {path}: {error}")
+            }
+            StreamError::Expression(error) => write!(f, "{error}"),
+            StreamError::NoTruth(name) => {
+                let name = name.as_str();
+                write!(f, "--where: {name} is no truth value")
+            }
+            StreamError::OutOfMemory => f.write_str("out of memory"),
+            error => write_input(f, error),
+        }
+    }
+}

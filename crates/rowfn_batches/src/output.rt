@@ -1,0 +1,193 @@
+//! What is written: answers as fields of CSV, or rows of the input as they stand.
+ghost use Rattle.std.specs.Prelude.{◌≡◌, ◌<◌, ◌≤◌, ◌+◌, ◌∷◌, [], OnOk, IfOk, length, map};
+ghost use Rattle.std.specs.Prelude.{if◌then◌else◌};
+ghost use Rattle.vortex_columns.specs.ColumnView.{row};
+ghost use Rattle.vortex_meaning.specs.CallTexts.{joined, separator_before};
+ghost use Rattle.rowfn_csv.specs.Fields.{text_field};
+ghost use Rattle.rowfn_csv.specs.KeptLines.{line_of};
+ghost use Rattle.rowfn_batches.specs.Outputs.{Adds, name_field, value_field, row_fields, row_line};
+ghost use Rattle.rowfn_batches.specs.Outputs.{HaveRows, row_lines, is_true, picked_texts};
+ghost use Rattle.rowfn_batches.specs.Outputs.{picked_count};
+
+use crate::printing::push_field;
+use rowfn_csv::{Format, Records, Span, quote_from};
+use std::alloc::{AllocError, Global};
+use std::io::Read;
+use vortex_columns::{Cell, Column};
+
+/// What is to be written next. Its buffers serve from batch to batch.
+#[derive(Drop)]
+pub struct Output<'a> {
+    format: Format<'a>,
+    bytes: Vec<u8>,
+    spare: Vec<u8>,
+}
+
+impl<'a> Output<'a> {
+    /// Nothing to write; takes no memory.
+    pub fn new(alloc: Global, format: Format<'a>) -> Output<'a>
+        ensures { (result.bytes.items ≡ []) × (result.format ≡ format.entry) }
+    {
+        Output {
+            format,
+            bytes: Vec::new(alloc),
+            spare: Vec::new(alloc),
+        }
+    }
+
+    /// Clears what was written, and keeps the buffers.
+    pub fn clear(&mut self)
+        ensures { (self.new.bytes.items ≡ []) × (self.new.format ≡ self.old.format) }
+    {
+        self.bytes.clear();
+    }
+
+    /// What is to be written.
+    pub fn bytes(&self) -> &[u8]
+        ensures { result.now ≡ self.now.bytes.items }
+    {
+        self.bytes.as_slice()
+    }
+
+    /// Adds bytes as they stand. Refused only for want of memory.
+    pub fn push_bytes(&mut self, bytes: &[u8]) -> Result<(), AllocError>
+        ensures { OnOk result (Adds self.old self.new bytes.now) }
+    {
+        self.bytes.extend_from_slice(bytes)
+    }
+
+    /// Adds a delimiter before each field but the first.
+    fn begin_field(&mut self, index: usize) -> Result<(), AllocError>
+        ensures { OnOk result (Adds self.old self.new
+            (separator_before (self.old.format.delimiter ∷ []) index)) }
+    {
+        if index != 0 {
+            self.bytes.push(self.format.delimiter)?;
+        }
+        Ok(())
+    }
+
+    /// Adds a text as a field, in quotes where it needs them. Refused only for want of memory.
+    fn push_text(&mut self, text: &str) -> Result<(), AllocError>
+        ensures { OnOk result (Adds self.old self.new
+            (text_field self.old.format.delimiter self.old.format.null.now text.now)) }
+    {
+        let start = self.bytes.len();
+        self.bytes.extend_from_slice(text.as_bytes())?;
+        quote_from(&mut self.bytes, start, &self.format, &mut self.spare)
+    }
+
+    /// Adds a name of the header. Refused only for want of memory.
+    pub fn push_name(&mut self, index: usize, name: &str) -> Result<(), AllocError>
+        ensures { OnOk result (Adds self.old self.new (name_field self.old.format.delimiter
+            self.old.format.null.now index name.now)) }
+    {
+        self.begin_field(index)?;
+        self.push_text(name)
+    }
+
+    /// Adds the value of a row as a field. Refused only for want of memory.
+    fn push_value(&mut self, column: &Column, place: usize) -> Result<(), AllocError>
+        requires { place < length column.now.rows }
+        ensures { OnOk result (Adds self.old self.new
+            (value_field self.old.format.delimiter self.old.format.null.now
+            (row column.now.rows place))) }
+    {
+        let start = self.bytes.len();
+        if push_field(&mut self.bytes, column, place)? {
+            quote_from(&mut self.bytes, start, &self.format, &mut self.spare)?;
+        } else {
+            self.bytes.extend_from_slice(self.format.null)?;
+        }
+        Ok(())
+    }
+
+    /// Ends a line. Refused only for want of memory.
+    pub fn end_line(&mut self) -> Result<(), AllocError>
+        ensures { OnOk result (Adds self.old self.new (10 ∷ [])) }
+    {
+        self.bytes.push(b'\n')?;
+        Ok(())
+    }
+
+    /// Adds the values of a row as fields. Refused only for want of memory.
+    fn push_values(&mut self, answers: &[Column], place: usize) -> Result<(), AllocError>
+        requires { HaveRows (place + 1) answers.now }
+        ensures { OnOk result (Adds self.old self.new
+            (joined (self.old.format.delimiter ∷ []) (row_fields self.old.format.delimiter
+            self.old.format.null.now answers.now place))) }
+    {
+        for k in 0..answers.len() {
+            self.begin_field(k)?;
+            self.push_value(&answers[k], place)?;
+        }
+        Ok(())
+    }
+
+    /// Adds a row of the answers as a line. Refused only for want of memory.
+    fn push_row(&mut self, answers: &[Column], place: usize) -> Result<(), AllocError>
+        requires { HaveRows (place + 1) answers.now }
+        ensures { OnOk result (Adds self.old self.new
+            (row_line self.old.format.delimiter self.old.format.null.now answers.now place)) }
+    {
+        self.push_values(answers, place)?;
+        self.end_line()
+    }
+
+    /// Adds the first rows of the answers, a line each. Refused only for want of memory.
+    pub fn push_rows(&mut self, answers: &[Column], row_count: usize) -> Result<(), AllocError>
+        requires { HaveRows row_count answers.now }
+        ensures { OnOk result (Adds self.old self.new
+            (row_lines self.old.format.delimiter self.old.format.null.now answers.now row_count)) }
+    {
+        for row in 0..row_count {
+            self.push_row(answers, row)?;
+        }
+        Ok(())
+    }
+
+    /// Adds the line of a row where a column is true in it, and answers whether it is. Refused only
+    /// for want of memory.
+    fn push_if_true(&mut self, top: &Column, i: usize, line: &[u8]) -> Result<bool, AllocError>
+        requires { i < length top.now.rows }
+        ensures { IfOk result (λ picked. (picked ≡ is_true (row top.now.rows i))
+            × Adds self.old self.new (if is_true (row top.now.rows i) then line.now else [])) }
+    {
+        if !is_true(top, i) {
+            return Ok(false);
+        }
+        self.push_bytes(line)?;
+        Ok(true)
+    }
+
+    /// Adds the lines of those rows in which a column is true, and answers how many those are; each
+    /// of `spans` lies in a row of the column. Refused only for want of memory.
+    pub fn push_picked<R: Read>(
+        &mut self,
+        top: &Column,
+        records: &Records<'_, R>,
+        spans: &[Span],
+    ) -> Result<u64, AllocError>
+        requires { length spans.now ≤ length top.now.rows }
+        ensures lines { OnOk result (Adds self.old self.new
+            (picked_texts top.now (map (line_of records.now) spans.now))) }
+        ensures count { IfOk result (λ count. count ≡ picked_count top.now (length spans.now)) }
+    {
+        let mut count = 0;
+        for (i, span) in spans.iter().enumerate() {
+            count += u64::from(self.push_if_true(top, i, records.bytes(*span))?);
+        }
+        Ok(count)
+    }
+}
+
+/// Whether a column is true in a row; it is not where it is null there.
+fn is_true(column: &Column, i: usize) -> bool
+    requires { i < length column.now.rows }
+    ensures { result ≡ is_true (row column.now.rows i) }
+{
+    match column.cell(i) {
+        Cell::Bool(true) => true,
+        _ => false,
+    }
+}

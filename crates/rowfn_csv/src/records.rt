@@ -1,0 +1,238 @@
+//! The records of the input, one at a time, each with its bytes.
+ghost use Rattle.std.specs.Prelude.{◌≡◌, ◌≢◌, ◌∷◌, [], ◌++◌, ◌&&◌, Bool, not, List, map, OnOk};
+ghost use Rattle.std.specs.Prelude.{IfOk};
+ghost use Rattle.std.specs.Str.{bytes_eq};
+ghost use Rattle.csv.specs.Records.{fields_of, field_at};
+ghost use Rattle.rowfn_csv.specs.KeptLines.{line_of, last_bytes, is_ended};
+ghost use Rattle.rowfn_csv.specs.Records.{Field, SaysFields, quoted_at, reads_null, field_taken};
+ghost use Rattle.rowfn_csv.specs.Records.{without_line_end};
+ghost use Rattle.rowfn_csv.specs.Scanning.{Knows};
+
+use crate::batch::Batch;
+use crate::format::Format;
+use crate::raw::{Quotes, is_closed, without_blank_lines, without_line_end};
+use crate::tee::Tee;
+use csv::{ByteRecord, Error, ErrorKind, Reader, ReaderBuilder};
+use std::alloc::{AllocError, Global};
+use std::io::{self, Read};
+
+/// Where a record lies in the input, counted in bytes: from its first field up to the end of its
+/// line.
+#[derive(Clone, Copy)]
+pub struct Span {
+    pub start: u64,
+    pub end: u64,
+}
+
+/// Why no record could be read.
+#[derive(Drop)]
+pub enum ReadError {
+    /// The reader failed.
+    Io(io::Error),
+    /// Memory ran out.
+    OutOfMemory,
+}
+
+/// The records of the input. The last one that was read stands here.
+#[derive(Drop)]
+pub struct Records<'a, R> {
+    reader: Reader<Tee<R>>,
+    last: ByteRecord,
+    span: Span,
+    format: Format<'a>,
+    quotes: Quotes,
+}
+
+/// Why a read failed. A call of its own, so that the call that reads a row keeps no stack for
+/// errors.
+#[cold]
+#[inline(never)]
+fn read_error(error: Error) -> ReadError {
+    match error.into_kind() {
+        ErrorKind::Io(error) => ReadError::Io(error),
+        _ => ReadError::OutOfMemory,
+    }
+}
+
+/// The bytes without a byte order mark before them.
+fn without_mark(bytes: &[u8]) -> &[u8] {
+    bytes.strip_prefix(b"\xEF\xBB\xBF").unwrap_or(bytes)
+}
+
+/// Whether a field is that text.
+#[inline(always)]
+fn is_text(field: &[u8], text: &[u8]) -> bool
+    ensures { result ≡ bytes_eq field.now text.now }
+{
+    field.len() == text.len() && field == text
+}
+
+/// Whether a field of a record is the text that stands for null.
+#[inline(always)]
+fn reads_null(fields: &ByteRecord, null: &[u8], index: usize) -> bool
+    ensures { result ≡ reads_null null.now (field_at (fields_of fields.now) index) }
+{
+    match fields.get(index) {
+        Some(field) => is_text(field, null),
+        None => false,
+    }
+}
+
+/// Whether a field of a record says null: the text that stands for null, in no quotes. `line` has
+/// the record's bytes.
+#[inline(always)]
+fn is_null(
+    fields: &ByteRecord,
+    line: &[u8],
+    format: &Format<'_>,
+    quotes: &mut Quotes,
+    index: usize,
+) -> Result<bool, AllocError>
+    requires { Knows format.now.delimiter line.now quotes.old }
+    ensures knows { Knows format.now.delimiter line.now quotes.new }
+    ensures null { (closed : Bool) → (said : List Field) → format.now.delimiter ≢ 34
+        → SaysFields format.now.delimiter closed (without_line_end line.now) said
+        → IfOk result (λ is_null. is_null ≡ (reads_null format.now.null.now
+        (field_at (fields_of fields.now) index) && not (quoted_at said index))) }
+{
+    Ok(reads_null(fields, format.null, index) && !quotes.is_quoted(line, format.delimiter, index)?)
+}
+
+/// Adds the fields of a record at those places to the batch; an empty one where the record has
+/// none. `line` has the record's bytes. Refused only for want of memory.
+fn add_fields(
+    fields: &ByteRecord,
+    line: &[u8],
+    format: &Format<'_>,
+    quotes: &mut Quotes,
+    batch: &mut Batch,
+    places: &[usize],
+) -> Result<(), AllocError>
+    requires { Knows format.now.delimiter line.now quotes.old }
+    ensures fields { (closed : Bool) → (said : List Field) → format.now.delimiter ≢ 34
+        → SaysFields format.now.delimiter closed (without_line_end line.now) said
+        → OnOk result (batch.new.fields ≡ batch.old.fields
+        ++ map (field_taken format.now.null.now (fields_of fields.now) said) places.now) }
+    ensures spans { OnOk result (batch.new.spans ≡ batch.old.spans) }
+{
+    for place in places {
+        let is_null = is_null(fields, line, format, quotes, *place)?;
+        let field = fields.get(*place).unwrap_or(&[]);
+        batch.push_field(field, is_null)?;
+    }
+    Ok(())
+}
+
+impl<'a, R: Read> Records<'a, R> {
+    /// The records of a reader. Nothing is read yet.
+    pub fn new(alloc: Global, format: Format<'a>, reader: R) -> Records<'a, R> {
+        let reader = ReaderBuilder::new()
+            .delimiter(format.delimiter)
+            .has_headers(false)
+            .flexible(true)
+            .from_reader(alloc, Tee::new(alloc, reader));
+        Records {
+            reader,
+            last: ByteRecord::new(alloc),
+            span: Span { start: 0, end: 0 },
+            format,
+            quotes: Quotes::new(alloc),
+        }
+    }
+
+    /// Reads the next record; answers whether there was one.
+    pub fn read(&mut self) -> Result<bool, ReadError> {
+        let start = self.reader.position().byte;
+        let found = match self.reader.read_byte_record(&mut self.last) {
+            Ok(found) => found,
+            Err(error) => return Err(read_error(error)),
+        };
+        if found {
+            self.span = self.span_of(start, self.reader.position().byte);
+        }
+        Ok(found)
+    }
+
+    /// Where a record lies that was read between two places: behind a byte order mark and the ends
+    /// of lines before it, and with a line feed behind its carriage return.
+    fn span_of(&self, start: u64, end: u64) -> Span {
+        let bytes = self.bytes(Span { start, end });
+        let bytes = if start == 0 {
+            without_mark(bytes)
+        } else {
+            bytes
+        };
+        let record = without_blank_lines(bytes);
+        let start = end.saturating_sub(record.len() as u64);
+        let tee = self.reader.get_ref();
+        if record.last() == Some(&b'\r') && tee.byte_at(end) == Some(b'\n') {
+            return Span {
+                start,
+                end: end.saturating_add(1),
+            };
+        }
+        Span { start, end }
+    }
+
+    /// The fields of the last record.
+    pub fn record(&self) -> &ByteRecord
+        ensures { result.now ≡ self.now.last }
+    {
+        &self.last
+    }
+
+    /// Where the last record lies.
+    pub fn span(&self) -> Span {
+        self.span
+    }
+
+    /// The bytes of a record that is still kept.
+    pub fn bytes(&self, span: Span) -> &[u8]
+        ensures { result.now ≡ line_of self.now span }
+    {
+        self.reader.get_ref().between(span.start, span.end)
+    }
+
+    /// The records that are read from here on are kept, and none before them.
+    pub fn keep_from_here(&self) {
+        self.reader.get_ref().keep_from(self.reader.position().byte);
+    }
+
+    /// Whether the last record ends within quotes: it then is the input's last, and no read behind
+    /// it tells so.
+    pub fn is_open(&self) -> bool
+        ensures { (closed : Bool) → (said : List Field) → self.now.format.delimiter ≢ 34
+            → SaysFields self.now.format.delimiter closed (last_bytes self.now) said
+            → result ≡ (is_ended self.now && not closed) }
+    {
+        if !self.reader.get_ref().is_ended() {
+            return false;
+        }
+        let raw = without_line_end(self.bytes(self.span));
+        !is_closed(raw, self.format.delimiter)
+    }
+
+    /// Adds the fields of the last record at those places to the batch, as a row; an empty one
+    /// where the record has none. Refused only for want of memory.
+    pub fn add_to(&mut self, batch: &mut Batch, places: &[usize]) -> Result<(), AllocError>
+        ensures fields { (closed : Bool) → (said : List Field) → self.old.format.delimiter ≢ 34
+            → SaysFields self.old.format.delimiter closed (last_bytes self.old) said
+            → OnOk result (batch.new.fields ≡ batch.old.fields
+            ++ map (field_taken self.old.format.null.now (fields_of self.old.last) said)
+            places.now) }
+        ensures spans { OnOk result (batch.new.spans ≡ batch.old.spans ++ (self.old.span ∷ [])) }
+    {
+        let Span { start, end } = self.span;
+        let line = self.reader.get_ref().between(start, end);
+        self.quotes.forget();
+        add_fields(
+            &self.last,
+            line,
+            &self.format,
+            &mut self.quotes,
+            batch,
+            places,
+        )?;
+        batch.end_row(self.span)
+    }
+}

@@ -1,8 +1,0 @@
-use Rattle.rowfn_rows.specs.Outputs.{Adds, row_lines}
-use Rattle.rowfn_rows.proofs.output.Output.push_rows.Given as goal
-
--- the lines so far
-abbrev pub invariant-loop-row : goal.invariant-loop-row
-invariant-loop-row l =
-    Adds l.initial.self l.self
-    (row_lines l.initial.self.format.delimiter l.initial.self.format.null.now l.answers l.row)

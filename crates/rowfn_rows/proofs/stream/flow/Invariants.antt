@@ -1,8 +1,0 @@
-use Rattle.rowfn_rows.specs.Passing.{Passed}
-use Rattle.rowfn_rows.proofs.stream.flow.Given as goal
-
--- the batches so far were passed on
-abbrev pub invariant-batches : goal.invariant-batches
-invariant-batches g l =
-    Passed l.initial.stream (g.W.Write.contents l.initial.writer) l.stream
-    (g.W.Write.contents l.writer)
