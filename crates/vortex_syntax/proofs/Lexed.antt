@@ -1,5 +1,6 @@
 -- A text is read piece by piece.
-use Rattle.std.proofs.Common.{◌≡◌, ℕ, ◌<◌, ◌≤◌, rules, arith, List, [], ◌∷◌, ◌++◌, length, map, Option, Some, None, refl, ap, sym, subst, ◌∙◌, append_assoc}
+use Rattle.std.proofs.Common.{◌≡◌, ℕ, ◌<◌, ◌≤◌, rules, arith, true, ◌==◌, List, [], ◌∷◌, ◌++◌, length, map, Option, Some, None, refl, ap, sym, subst, ◌∙◌, append_assoc}
+use Rattle.std.proofs.lemmas.Bool.{eqb-true}
 use Rattle.std.proofs.lemmas.List.{append-nil}
 use Rattle.vortex_syntax.specs.Tokens.{Token}
 use Rattle.vortex_syntax.specs.Pieces.{Piece, gap, token, Cut, first_piece}
@@ -75,3 +76,10 @@ to_token text ts now rest t h lt s = record {
 
 pub at_end : (text : List ℕ) (ts : List Token) → SoFar text ts [] → Lexes text ts
 at_end text ts s = subst (λ (vs : List Token). Lexes text vs) (append-nil ts) (s.whole [] none)
+
+no_items : (xs : List ℕ) → true ≡ (length xs == 0) → xs ≡ []
+no_items [] h = refl
+no_items (x ∷ xs) h = absurd (let k : length (x ∷ xs) ≡ 0 = eqb-true (length (x ∷ xs)) 0 (sym h) in let j : ⊥ = omega (arith, k) in j)
+
+pub ended : (text : List ℕ) (ts : List Token) (rest : List ℕ) → true ≡ (length rest == 0) → SoFar text ts rest → Lexes text ts
+ended text ts rest h s = at_end text ts (subst (λ (xs : List ℕ). SoFar text ts xs) (no_items rest h) s)
