@@ -37,11 +37,11 @@ pub so_far_other : (q : ℕ) (xs : List ℕ) (i : ℕ) → i < length xs → (ge
 so_far_other q xs i lt h s = record {
   within = omega (arith, lt);
   same =
-    s.same
-    ∙ ap (λ ys. with_front (take i xs) (closed q ys)) (drop-cons xs i 0 lt)
-    ∙ ap (with_front (take i xs)) (closed_other q (get_or xs i 0) (drop (suc i) xs) h)
-    ∙ with_front-append (take i xs) (get_or xs i 0 ∷ []) (closed q (drop (suc i) xs))
-    ∙ ap (λ ys. with_front ys (closed q (drop (suc i) xs))) (sym (take-suc xs i 0 lt));
+      s.same
+      ∙ ap (λ ys. with_front (take i xs) (closed q ys)) (drop-cons xs i 0 lt)
+      ∙ ap (with_front (take i xs)) (closed_other q (get_or xs i 0) (drop (suc i) xs) h)
+      ∙ with_front-append (take i xs) (get_or xs i 0 ∷ []) (closed q (drop (suc i) xs))
+      ∙ ap (λ ys. with_front ys (closed q (drop (suc i) xs))) (sym (take-suc xs i 0 lt));
 }
 
 pub so_far_twice : (q : ℕ) (xs : List ℕ) (i : ℕ) → suc i < length xs → (get_or xs i 0 == q) ≡ true → (get_or xs (suc i) 0 == q) ≡ true → SoFar q xs i → SoFar q xs (suc (suc i))
@@ -52,12 +52,12 @@ so_far_twice q xs i lt h k s =
     record {
       within = omega (arith, lt);
       same =
-        s.same
-        ∙ ap (λ ys. with_front (take i xs) (closed q ys)) (drop-cons xs i 0 first ∙ ap (λ ys. b ∷ ys) (drop-cons xs (suc i) 0 lt))
-        ∙ ap (with_front (take i xs)) (closed_twice q b c (drop (suc (suc i)) xs) h k)
-        ∙ with_front-append (take i xs) (b ∷ c ∷ []) (closed q (drop (suc (suc i)) xs))
-        ∙ ap (λ ys. with_front ys (closed q (drop (suc (suc i)) xs)))
-        (sym (take-suc xs (suc i) 0 lt ∙ ap (λ ys. ys ++ c ∷ []) (take-suc xs i 0 first) ∙ append_assoc (take i xs) (b ∷ []) (c ∷ [])));
+          s.same
+          ∙ ap (λ ys. with_front (take i xs) (closed q ys)) (drop-cons xs i 0 first ∙ ap (λ ys. b ∷ ys) (drop-cons xs (suc i) 0 lt))
+          ∙ ap (with_front (take i xs)) (closed_twice q b c (drop (suc (suc i)) xs) h k)
+          ∙ with_front-append (take i xs) (b ∷ c ∷ []) (closed q (drop (suc (suc i)) xs))
+          ∙ ap (λ ys. with_front ys (closed q (drop (suc (suc i)) xs)))
+          (sym (take-suc xs (suc i) 0 lt ∙ ap (λ ys. ys ++ c ∷ []) (take-suc xs i 0 first) ∙ append_assoc (take i xs) (b ∷ []) (c ∷ [])));
     }
 
 pub so_far_last : (q : ℕ) (xs : List ℕ) (i : ℕ) → i < length xs → (get_or xs i 0 == q) ≡ true → (suc i < length xs → (get_or xs (suc i) 0 == q) ≡ false) → SoFar q xs i
@@ -65,7 +65,7 @@ pub so_far_last : (q : ℕ) (xs : List ℕ) (i : ℕ) → i < length xs → (get
 so_far_last q xs i lt h k s =
     let b = get_or xs i 0 in
     let last : 0 < length (drop (suc i) xs) → (get_or (drop (suc i) xs) 0 0 == q) ≡ false = λ more.
-        rw (get_or-drop, add-zero) (k (omega (arith, more, length-drop (suc i) xs))) in
+    rw (get_or-drop, add-zero) (k (omega (arith, more, length-drop (suc i) xs))) in
     s.same
     ∙ ap (λ ys. with_front (take i xs) (closed q ys)) (drop-cons xs i 0 lt)
     ∙ ap (with_front (take i xs)) (closed_last q b (drop (suc i) xs) h last)

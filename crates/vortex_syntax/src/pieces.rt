@@ -45,13 +45,7 @@ fn is_in(run: Run, byte: u8) -> bool
     match run {
         Run::Word => byte.is_ascii_alphanumeric() || byte == b'_',
         Run::Digits => byte.is_ascii_digit(),
-        Run::Line => {
-            if byte == b'\n' {
-                false
-            } else {
-                byte != b'\r'
-            }
-        }
+        Run::Line => { if byte == b'\n' { false } else { byte != b'\r' } }
     }
 }
 

@@ -8,7 +8,7 @@ use Rattle.vortex_syntax.proofs.lexing.read_tokens.Goals as goal
 pub loop-rest-preserved : goal.loop-rest-preserved
 loop-rest-preserved c =
     let e : map token_in c.push.new.self.tokens.items ≡ map token_in c.loop-rest.read.tokens.items ++ token_in c.in-Token.token ∷ [] =
-        ap (map token_in) c.in_ok-push-in-Token.ensures ∙ map-append token_in c.loop-rest.read.tokens.items (c.in-Token.token ∷ []) in
+    ap (map token_in) c.in_ok-push-in-Token.ensures ∙ map-append token_in c.loop-rest.read.tokens.items (c.in-Token.token ∷ []) in
     rw e (to_token c.args.text.now _ c.loop-rest.rest.now c.in-Some.behind.now (token_in c.in-Token.token)
     (sym c.in-Some.ensures.piece ∙ ap (λ p. Some (piece_in p, c.in-Some.behind.now)) c.in-Token.is) c.in-Some.ensures.shorter c.loop-rest.invariant)
 
