@@ -1,3 +1,10 @@
 pub mod Runs
 pub mod Quotes
 pub mod Lexed
+pub mod Tables
+pub mod Complete
+pub mod Held
+pub mod Sound
+pub mod Whole
+pub mod Stacks
+pub mod Settling

@@ -6,3 +6,8 @@ use Rattle.vortex_syntax.specs.declared.error.SyntaxError.TheVariants.{OutOfMemo
 -- P of what is answered; or memory ran out
 abbrev pub AnswersUnlessMemory : {A : Type 0} → Result A SyntaxError → (A → Type 0) → Type 0
 AnswersUnlessMemory r P = MatchResult r P (λ e. e ≡ OutOfMemory)
+
+-- P of a refusal; or memory ran out
+abbrev pub UnlessMemory : Type 0 → SyntaxError → Type 0
+UnlessMemory P OutOfMemory = Unit {0}
+UnlessMemory P e = P

@@ -9,9 +9,9 @@ use std::alloc::{AllocError, AllocFailed};
 pub enum SyntaxError {
     /// No token begins at that byte.
     NoToken(usize),
-    /// No expression goes on with the token of that number, or none ends where the tokens end.
+    /// No expression goes on with the token at that byte, or none ends where the text ends.
     Unexpected(usize),
-    /// Brackets nest too deep at the token of that number.
+    /// Brackets nest too deep at that byte.
     TooDeep(usize),
     OutOfMemory,
 }

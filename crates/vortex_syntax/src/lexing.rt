@@ -10,11 +10,12 @@ use crate::pieces::{Piece, first_piece};
 use crate::token::Token;
 use std::alloc::{AllocError, Global};
 
-/// The tokens of a text, and the byte at which each begins.
+/// The tokens of a text, the byte at which each begins, and that at which the text ends.
 #[derive(Drop)]
 pub struct Tokens<'a> {
     pub tokens: Vec<Token<'a>>,
     pub places: Vec<usize>,
+    pub end: usize,
 }
 
 impl<'a> Tokens<'a> {
@@ -24,6 +25,14 @@ impl<'a> Tokens<'a> {
         self.places.push(place)?;
         self.tokens.push(token)?;
         Ok(())
+    }
+
+    /// The byte at which the token of that number begins, or the text ends.
+    pub fn byte(&self, number: usize) -> usize {
+        match self.places.get(number) {
+            Some(place) => *place,
+            None => self.end,
+        }
     }
 }
 
@@ -38,6 +47,7 @@ pub fn read_tokens(alloc: Global, text: &[u8]) -> Result<Tokens<'_>, SyntaxError
     let mut read = Tokens {
         tokens: Vec::new(alloc),
         places: Vec::new(alloc),
+        end: text.len(),
     };
     let mut rest = text;
     while !rest.is_empty() {

@@ -2,10 +2,19 @@
 #![tactic(auto)]
 
 mod error;
+mod frame;
+pub mod laws;
 mod lexing;
+pub mod nesting;
 mod pieces;
+mod reading;
+mod step;
+pub mod syntax;
 mod token;
 
 pub use error::SyntaxError;
 pub use lexing::{Tokens, read_tokens};
+pub use nesting::DEPTH;
+pub use step::{Call, LikeKind, Operator, Step};
+pub use syntax::read_syntax;
 pub use token::{Sign, Token};

@@ -236,7 +236,7 @@ fn minus_or_comment(rest: &[u8]) -> Option<(Piece<'_>, &[u8])>
 
 /// The first piece of the text, and what stands behind it; nothing where none begins.
 #[tactic(auto, unfolding(crate::specs::Pieces::first_piece))]
-pub fn first_piece(text: &[u8]) -> Option<(Piece<'_>, &[u8])>
+pub(crate) fn first_piece(text: &[u8]) -> Option<(Piece<'_>, &[u8])>
     ensures piece { option_map (λ x. (piece_in x.0, x.1.now)) result ≡ first_piece text.now }
     ensures shorter { IfSome result (λ x. length x.1.now < length text.now) }
 {
