@@ -134,12 +134,12 @@ closes l f fs out (text w ∷ ts) h = refl
 and_joins : (l : ℕ) (fs : List Frame) (out : List Step) → 1 ≤ l → top_hole fs ≤ 1 → and_behind l fs out ≡ Some (state mode.Want (frame.Join operator.And ∷ fs) out)
 and_joins l [] out h k = rw (at_most 1 l h) refl
 and_joins l (frame.Between n ∷ fs) out h k = absurd (let j : ⊥ = omega (arith, k) in j)
-and_joins l (frame.Open ∷ fs) out h k = rw (at_most 1 l h, at_most (hole (frame.Open)) 1 k) refl
-and_joins l (frame.Cast ∷ fs) out h k = rw (at_most 1 l h, at_most (hole (frame.Cast)) 1 k) refl
-and_joins l (frame.Not ∷ fs) out h k = rw (at_most 1 l h, at_most (hole (frame.Not)) 1 k) refl
+and_joins l (frame.Open ∷ fs) out h k = rw (at_most 1 l h) refl
+and_joins l (frame.Cast ∷ fs) out h k = rw (at_most 1 l h) refl
+and_joins l (frame.Not ∷ fs) out h k = absurd (let j : ⊥ = omega (arith, k) in j)
 and_joins l (frame.Join o ∷ fs) out h k = rw (at_most 1 l h, at_most (hole (frame.Join o)) 1 k) refl
-and_joins l (frame.Bounded n ∷ fs) out h k = rw (at_most 1 l h, at_most (hole (frame.Bounded n)) 1 k) refl
-and_joins l (frame.Like n ∷ fs) out h k = rw (at_most 1 l h, at_most (hole (frame.Like n)) 1 k) refl
+and_joins l (frame.Bounded n ∷ fs) out h k = absurd (let j : ⊥ = omega (arith, k) in j)
+and_joins l (frame.Like n ∷ fs) out h k = absurd (let j : ⊥ = omega (arith, k) in j)
 
 step_join : (o : Operator) (l : ℕ) (fs : List Frame) (out : List Step) (ts : List Token) → left o ≤ l → top_hole fs ≤ own o
     → have l fs out (sign (operator_sign o) ∷ ts) ≡ want (frame.Join o ∷ fs) out ts

@@ -8,3 +8,4 @@ pub mod Sound
 pub mod Whole
 pub mod Stacks
 pub mod Settling
+pub mod Steps

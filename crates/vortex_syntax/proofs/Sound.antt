@@ -20,7 +20,7 @@ use Rattle.vortex_syntax.specs.Levels.{own, left, right, level, Fits, is_operand
 use Rattle.vortex_syntax.specs.Spelling.{spelling, operator_sign, type_token, with_not, null_test, like_sign}
 use Rattle.vortex_syntax.specs.Postfix.{Step, operand, negative, typed, cast, escaped, called, null_call, postfix}
 use Rattle.vortex_syntax.specs.Reading as specs
-use Rattle.vortex_syntax.specs.Reading.{State, state, hole, top_hole, guard, whole, closing, Operand, operand_of, settled, waiting, shifted, joining, operator_of, and_behind, is_behind, close_behind, as_behind, escape_behind, end_behind, predicate, word_behind, behind, next, finish, run, steps_of}
+use Rattle.vortex_syntax.specs.Reading.{State, state, hole, top_hole, guard, whole, closing, Operand, operand_of, settled, waiting, shifted, operator_of, and_behind, is_behind, close_behind, as_behind, escape_behind, end_behind, predicate, word_behind, behind, next, finish, run, steps_of}
 use Rattle.vortex_syntax.proofs.Tables.{own_left, top_atom}
 use Rattle.vortex_syntax.proofs.Held.{Held, opened, casting, negating, joining, lower, upper, matching, frame_of, written, held, IsSound, frames_of, all_written, all_held, Nested, Settles, settled_sound}
 

@@ -1,5 +1,9 @@
 -- A whole text.
-use Rattle.std.proofs.Common.{◌≡◌, ℕ, true, List, Option, Some, None, ap, sym, subst, ◌∙◌}
+use Rattle.std.proofs.Common.{◌≡◌, ℕ, true, List, Option, Some, None, Result, Ok, Err, refl, ap, sym, subst, ◌∙◌}
+use Rattle.std.specs.Prelude.{MatchResult, IfOk}
+use Rattle.vortex_syntax.specs.declared.error.SyntaxError.{SyntaxError}
+use Rattle.vortex_syntax.specs.declared.error.SyntaxError.TheVariants.{NoToken, Unexpected, TooDeep, OutOfMemory}
+use Rattle.vortex_syntax.specs.Errors.{AnswersUnlessMemory, UnlessMemory}
 use Rattle.vortex_syntax.specs.Tokens.{Token}
 use Rattle.vortex_syntax.specs.Lexing.{Lexes}
 use Rattle.vortex_syntax.specs.Syntax.{Syntax}
@@ -29,3 +33,18 @@ pub found_in : (text : List ℕ) (ts : List Token) (xs : List Step) → Lexes te
 found_in text ts xs l n e =
     let f = whole_found ts xs e in
     (f.tree, record { ts = ts; lexed = l; spelled = record { levels = f.fits; tokens = f.tokens }; nested = n }, f.steps)
+
+-- what a reader of the tokens answers
+module _ {X : Type 0} (items : X → List Step) (text : List ℕ) (ts : List Token) where
+  pub found_of : (r : Result X SyntaxError) → Lexes text ts → nests ts ≡ true → MatchResult r (λ v. steps_of ts ≡ Some (items v)) (UnlessMemory (steps_of ts ≡ None))
+      → IfOk r (λ v. (t : Syntax) × Reads text t × (items v ≡ postfix t))
+  found_of (Ok v) l n h = found_in text ts (items v) l n h
+  found_of (Err e) l n h = tt
+
+  pub only_of : (r : Result X SyntaxError) → Lexes text ts → MatchResult r (λ v. steps_of ts ≡ Some (items v)) (UnlessMemory (steps_of ts ≡ None)) → (t : Syntax) → Reads text t
+      → AnswersUnlessMemory r (λ v. items v ≡ postfix t)
+  only_of (Ok v) l h t s = steps_is (items v) (postfix t) (sym h ∙ steps_read text ts t l s)
+  only_of (Err OutOfMemory) l h t s = refl
+  only_of (Err (NoToken b)) l h t s = let k = sym h ∙ steps_read text ts t l s in absurd cc
+  only_of (Err (Unexpected b)) l h t s = let k = sym h ∙ steps_read text ts t l s in absurd cc
+  only_of (Err (TooDeep b)) l h t s = let k = sym h ∙ steps_read text ts t l s in absurd cc
