@@ -1,5 +1,5 @@
 -- Frames with the operands that they hold.
-use Rattle.std.proofs.Common.{◌≡◌, ℕ, suc, ◌<◌, ◌≤◌, Bool, true, false, nat_lt, cond, List, [], ◌∷◌, ◌++◌, Option, Some, None, refl, ap, sym, subst, ◌∙◌, append_assoc, arith, lit<, lit≤}
+use Rattle.std.proofs.Common.{◌≡◌, ℕ, ◌<◌, ◌≤◌, Bool, true, false, nat_lt, cond, List, [], ◌∷◌, ◌++◌, None, refl, ap, sym, subst, ◌∙◌, append_assoc, arith}
 use Rattle.std.proofs.lemmas.List.{append-nil}
 use Rattle.std.proofs.lemmas.Bool.Decides.{nat_tests}
 use Rattle.vortex_syntax.specs.declared.step.Operator.{Operator}
@@ -11,9 +11,9 @@ use Rattle.vortex_syntax.specs.declared.frame.Frame.TheVariants as frame
 use Rattle.vortex_syntax.specs.Tokens.{Token, sign}
 use Rattle.vortex_syntax.specs.Syntax as tree
 use Rattle.vortex_syntax.specs.Syntax.{Syntax}
-use Rattle.vortex_syntax.specs.Levels.{own, left, right, level, Fits}
+use Rattle.vortex_syntax.specs.Levels.{left, level, Fits}
 use Rattle.vortex_syntax.specs.Spelling.{spelling, operator_sign, with_not, like_sign}
-use Rattle.vortex_syntax.specs.Postfix.{Step, called, like_step, postfix}
+use Rattle.vortex_syntax.specs.Postfix.{Step, called, postfix}
 use Rattle.vortex_syntax.specs.Reading.{hole, top_hole, guard, whole, closing, Operand, operand_of, settled}
 
 pub data Held : Type 0 where
@@ -103,9 +103,9 @@ plugged (upper n a b) e g s f le = record {
   level = refl;
   steps = append_assoc (postfix a) (postfix b) (postfix e ++ (called (call.Between n) ∷ []));
   tokens =
-    append_assoc (spelling a) (with_not n sign.Between ++ (spelling b ++ (sign sign.And ∷ []))) (spelling e)
-    ∙ ap (λ ts. spelling a ++ ts) (append_assoc (with_not n sign.Between) (spelling b ++ (sign sign.And ∷ [])) (spelling e))
-    ∙ ap (λ ts. spelling a ++ (with_not n sign.Between ++ ts)) (append_assoc (spelling b) (sign sign.And ∷ []) (spelling e));
+      append_assoc (spelling a) (with_not n sign.Between ++ (spelling b ++ (sign sign.And ∷ []))) (spelling e)
+      ∙ ap (λ ts. spelling a ++ ts) (append_assoc (with_not n sign.Between) (spelling b ++ (sign sign.And ∷ [])) (spelling e))
+      ∙ ap (λ ts. spelling a ++ (with_not n sign.Between ++ ts)) (append_assoc (spelling b) (sign sign.And ∷ []) (spelling e));
 }
 plugged (matching k a) e g s f le = record {
   tree = tree.matched k a e None;
@@ -139,11 +139,11 @@ closed_sound : (p : ℕ) (h : Held) (hs : List Held) (e : Syntax) (r : Plugged h
     → Settles (settled p (whole (frame_of h)) (frames_of hs) ((all_held (h ∷ hs) ++ postfix e) ++ (closing (frame_of h) ∷ []))) (all_written (h ∷ hs) ++ spelling e)
 closed_sound p h hs e r s =
     let steps : all_held hs ++ postfix r.tree ≡ (all_held (h ∷ hs) ++ postfix e) ++ (closing (frame_of h) ∷ []) =
-        ap (λ xs. all_held hs ++ xs) (sym r.steps)
-        ∙ sym (append_assoc (all_held hs) (held h) (postfix e ++ (closing (frame_of h) ∷ [])))
-        ∙ sym (append_assoc (all_held hs ++ held h) (postfix e) (closing (frame_of h) ∷ [])) in
+    ap (λ xs. all_held hs ++ xs) (sym r.steps)
+    ∙ sym (append_assoc (all_held hs) (held h) (postfix e ++ (closing (frame_of h) ∷ [])))
+    ∙ sym (append_assoc (all_held hs ++ held h) (postfix e) (closing (frame_of h) ∷ [])) in
     let tokens : all_written hs ++ spelling r.tree ≡ all_written (h ∷ hs) ++ spelling e =
-        ap (λ ts. all_written hs ++ ts) (sym r.tokens) ∙ sym (append_assoc (all_written hs) (written h) (spelling e)) in
+    ap (λ ts. all_written hs ++ ts) (sym r.tokens) ∙ sym (append_assoc (all_written hs) (written h) (spelling e)) in
     subst (λ (ts : List Token). Settles (settled p (whole (frame_of h)) (frames_of hs) ((all_held (h ∷ hs) ++ postfix e) ++ (closing (frame_of h) ∷ []))) ts) tokens
     (subst (λ (xs : List Step). Settles (settled p (whole (frame_of h)) (frames_of hs) xs) (all_written hs ++ spelling r.tree)) steps
     (subst (λ (l : ℕ). Settles (settled p l (frames_of hs) (all_held hs ++ postfix r.tree)) (all_written hs ++ spelling r.tree)) r.level s))

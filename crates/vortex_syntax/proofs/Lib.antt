@@ -6,6 +6,5 @@ pub mod Complete
 pub mod Held
 pub mod Sound
 pub mod Whole
-pub mod Stacks
 pub mod Settling
 pub mod Steps

@@ -1,5 +1,5 @@
 -- What closes before a sign, and what stays.
-use Rattle.std.proofs.Common.{◌≡◌, ℕ, ◌<◌, ◌≤◌, List, [], ◌∷◌, ◌++◌, refl, ap, ◌∙◌}
+use Rattle.std.proofs.Common.{◌≡◌, ℕ, ◌<◌, ◌≤◌, List, [], ◌∷◌, ◌++◌, refl}
 use Rattle.vortex_syntax.specs.declared.frame.Frame.{Frame}
 use Rattle.vortex_syntax.specs.Postfix.{Step}
 use Rattle.vortex_syntax.specs.Reading.{guard, whole, closing, operand_of, settled}

@@ -1,5 +1,5 @@
 -- What is read is spelled so.
-use Rattle.std.proofs.Common.{◌≡◌, ℕ, suc, ◌<◌, ◌≤◌, Bool, true, false, nat_lt, nat_le, ◌&&◌, cond, List, [], ◌∷◌, ◌++◌, Option, Some, None, refl, ap, sym, subst, ◌∙◌, append_assoc, arith, lit<, lit≤}
+use Rattle.std.proofs.Common.{◌≡◌, ℕ, ◌≤◌, Bool, true, false, nat_le, ◌&&◌, cond, List, [], ◌∷◌, ◌++◌, Option, Some, None, refl, ap, sym, subst, ◌∙◌, append_assoc, arith, lit≤}
 use Rattle.std.specs.Option.{option_and_then}
 use Rattle.std.proofs.lemmas.List.{append-nil}
 use Rattle.std.proofs.lemmas.Bool.Decides.{nat_tests}
@@ -16,12 +16,12 @@ use Rattle.vortex_syntax.specs.declared.frame.Mode.TheVariants as mode
 use Rattle.vortex_syntax.specs.Tokens.{Token, name, nullable, quoted, number, text, sign}
 use Rattle.vortex_syntax.specs.Syntax as tree
 use Rattle.vortex_syntax.specs.Syntax.{Syntax}
-use Rattle.vortex_syntax.specs.Levels.{own, left, right, level, Fits, is_operand, operand_level}
+use Rattle.vortex_syntax.specs.Levels.{own, left, level, Fits, is_operand, operand_level}
 use Rattle.vortex_syntax.specs.Spelling.{spelling, operator_sign, type_token, with_not, null_test, like_sign}
 use Rattle.vortex_syntax.specs.Postfix.{Step, operand, negative, typed, cast, escaped, called, null_call, postfix}
 use Rattle.vortex_syntax.specs.Reading as specs
 use Rattle.vortex_syntax.specs.Reading.{State, state, hole, top_hole, guard, whole, closing, Operand, operand_of, settled, waiting, shifted, operator_of, and_behind, is_behind, close_behind, as_behind, escape_behind, end_behind, predicate, word_behind, behind, next, finish, run, steps_of}
-use Rattle.vortex_syntax.proofs.Tables.{own_left, top_atom}
+use Rattle.vortex_syntax.proofs.Tables.{top_atom}
 use Rattle.vortex_syntax.proofs.Held.{Held, opened, casting, negating, joining, lower, upper, matching, frame_of, written, held, IsSound, frames_of, all_written, all_held, Nested, Settles, settled_sound}
 
 -- what was read before: what waits, and these steps and tokens behind it
@@ -162,10 +162,10 @@ settled_operand : (p l : ℕ) (fs : List Frame) (out : List Step) (before ts : L
 settled_operand p l fs out before ts a =
     let b = a.behind in
     let canonical : settled p l fs out ≡ settled p (level a.tree) (frames_of b.hs) (all_held b.hs ++ postfix a.tree) =
-        ap (λ m. settled p m fs out) a.level ∙ ap (λ gs. settled p (level a.tree) gs out) b.frames ∙ ap (λ xs. settled p (level a.tree) (frames_of b.hs) xs) b.steps in
+    ap (λ m. settled p m fs out) a.level ∙ ap (λ gs. settled p (level a.tree) gs out) b.frames ∙ ap (λ xs. settled p (level a.tree) (frames_of b.hs) xs) b.steps in
     let s : Settles (settled p l fs out) (all_written b.hs ++ spelling a.tree) =
-        subst (λ (v : Operand). Settles v (all_written b.hs ++ spelling a.tree)) (sym canonical)
-        (settled_sound p b.hs a.tree b.nested a.fits (subst (λ (m : ℕ). top_hole (frames_of b.hs) ≤ m) a.level (subst (λ (gs : List Frame). top_hole gs ≤ l) b.frames a.place))) in
+    subst (λ (v : Operand). Settles v (all_written b.hs ++ spelling a.tree)) (sym canonical)
+    (settled_sound p b.hs a.tree b.nested a.fits (subst (λ (m : ℕ). top_hole (frames_of b.hs) ≤ m) a.level (subst (λ (gs : List Frame). top_hole gs ≤ l) b.frames a.place))) in
     record {
       tree = s.tree;
       fits = s.fits;
@@ -176,7 +176,7 @@ settled_operand p l fs out before ts a =
         frames = s.frames;
         steps = s.steps;
         tokens =
-          b.tokens ∙ sym (append_assoc (all_written b.hs) (spelling a.tree) ts) ∙ ap (λ us. us ++ ts) s.tokens ∙ append_assoc (all_written s.hs) (spelling s.tree) ts;
+            b.tokens ∙ sym (append_assoc (all_written b.hs) (spelling a.tree) ts) ∙ ap (λ us. us ++ ts) s.tokens ∙ append_assoc (all_written s.hs) (spelling s.tree) ts;
         nested = s.nested;
       };
     }
@@ -316,7 +316,7 @@ operand_more l fs out before ts us a = record {
   level = a.level;
   place = a.place;
   behind = as_tokens fs out (before ++ us) (postfix a.tree) ((spelling a.tree ++ ts) ++ us) (spelling a.tree ++ (ts ++ us)) (append_assoc (spelling a.tree) ts us)
-    (more_tokens fs out before (postfix a.tree) (spelling a.tree ++ ts) us a.behind);
+      (more_tokens fs out before (postfix a.tree) (spelling a.tree ++ ts) us a.behind);
 }
 
 and_joined : (l : ℕ) (fs : List Frame) (out : List Step) (s : State) (before : List Token) → waiting 1 1 (frame.Join operator.And) (operand_of l fs out) ≡ Some s
@@ -334,7 +334,7 @@ bound_held : (n : Bool) (l : ℕ) (fs : List Frame) (out : List Step) (before : 
 bound_held n l fs out before b f k h a e s place r =
     let sound : IsSound (lower n a) = subst (λ (v : Held). IsSound v) e s in
     let behind : Behind fs out before (held (lower n a) ++ postfix b) (written (lower n a) ++ (spelling b ++ [])) =
-        subst (λ (v : Held). Behind fs out before (held v ++ postfix b) (written v ++ (spelling b ++ []))) e r in
+    subst (λ (v : Held). Behind fs out before (held v ++ postfix b) (written v ++ (spelling b ++ []))) e r in
     pushed (upper n a b) fs out (before ++ (sign sign.And ∷ []))
     (as_tokens fs out (before ++ (sign sign.And ∷ [])) (postfix a ++ postfix b) ((written (lower n a) ++ (spelling b ++ [])) ++ (sign sign.And ∷ [])) (written (upper n a b)) (upper_written n a b)
     (more_tokens fs out before (postfix a ++ postfix b) (written (lower n a) ++ (spelling b ++ [])) (sign sign.And ∷ []) behind)) (sound.0, k, sound.1, f) place
@@ -380,7 +380,7 @@ grouped_is : (a : Syntax) (h : Held) (fs : List Frame) (out : List Step) (before
     → HasOperand 8 fs out (before ++ (sign sign.Close ∷ [])) []
 grouped_is a h fs out before f e r =
     let b : Behind fs out before (postfix a) (sign sign.Open ∷ (spelling a ++ [])) =
-        subst (λ (v : Held). Behind fs out before (held v ++ postfix a) (written v ++ (spelling a ++ []))) e r in
+    subst (λ (v : Held). Behind fs out before (held v ++ postfix a) (written v ++ (spelling a ++ []))) e r in
     operand_is (tree.grouped a) fs out (before ++ (sign sign.Close ∷ [])) f (top_atom fs)
     (as_tokens fs out (before ++ (sign sign.Close ∷ [])) (postfix a) (sign sign.Open ∷ ((spelling a ++ []) ++ (sign sign.Close ∷ []))) (spelling (tree.grouped a))
     (ap (λ ts. sign sign.Open ∷ (ts ++ (sign sign.Close ∷ []))) (append-nil (spelling a)))
@@ -403,7 +403,7 @@ cast_begun : (a : Syntax) (h : Held) (fs : List Frame) (out : List Step) (before
     → Behind fs out (before ++ (sign sign.As ∷ [])) (postfix a) (sign sign.Cast ∷ sign sign.Open ∷ (spelling a ++ (sign sign.As ∷ [])))
 cast_begun a h fs out before e r =
     let b : Behind fs out before (postfix a) (sign sign.Cast ∷ sign sign.Open ∷ (spelling a ++ [])) =
-        subst (λ (v : Held). Behind fs out before (held v ++ postfix a) (written v ++ (spelling a ++ []))) e r in
+    subst (λ (v : Held). Behind fs out before (held v ++ postfix a) (written v ++ (spelling a ++ []))) e r in
     as_tokens fs out (before ++ (sign sign.As ∷ [])) (postfix a) (sign sign.Cast ∷ sign sign.Open ∷ ((spelling a ++ []) ++ (sign sign.As ∷ [])))
     (sign sign.Cast ∷ sign sign.Open ∷ (spelling a ++ (sign sign.As ∷ []))) (ap (λ ts. sign sign.Cast ∷ sign sign.Open ∷ (ts ++ (sign sign.As ∷ []))) (append-nil (spelling a)))
     (more_tokens fs out before (postfix a) (sign sign.Cast ∷ sign sign.Open ∷ (spelling a ++ [])) (sign sign.As ∷ []) b)
@@ -433,8 +433,7 @@ escape_begun : (k : LikeKind) (p : Syntax) (h : Held) (a : Syntax) (fs : List Fr
 escape_begun k p h a fs out before e s f j place r =
     let sound : IsSound (matching k a) = subst (λ (v : Held). IsSound v) e s in
     let b : Behind fs out before (held (matching k a) ++ postfix p) (written (matching k a) ++ (spelling p ++ [])) =
-        subst (λ (v : Held). Behind fs out before (held v ++ postfix p) (written v ++ (spelling p ++ []))) e r in
-    (
+    subst (λ (v : Held). Behind fs out before (held v ++ postfix p) (written v ++ (spelling p ++ []))) e r in (
       a,
       p,
       sound.0,
@@ -443,8 +442,8 @@ escape_begun k p h a fs out before e s f j place r =
       f,
       place,
       as_tokens fs out (before ++ (sign sign.Escape ∷ [])) (postfix a ++ postfix p) ((written (matching k a) ++ (spelling p ++ [])) ++ (sign sign.Escape ∷ []))
-      (spelling a ++ (like_sign k ++ (spelling p ++ (sign sign.Escape ∷ [])))) (pattern_written k a p)
-      (more_tokens fs out before (postfix a ++ postfix p) (written (matching k a) ++ (spelling p ++ [])) (sign sign.Escape ∷ []) b),
+          (spelling a ++ (like_sign k ++ (spelling p ++ (sign sign.Escape ∷ [])))) (pattern_written k a p)
+          (more_tokens fs out before (postfix a ++ postfix p) (written (matching k a) ++ (spelling p ++ [])) (sign sign.Escape ∷ []) b),
     )
 
 escape_sound : (l : ℕ) (fs : List Frame) (out : List Step) (s : State) (before : List Token) → escape_behind fs out ≡ Some s → HasOperand l fs out before []

@@ -1,5 +1,5 @@
 -- A whole text.
-use Rattle.std.proofs.Common.{◌≡◌, ℕ, true, List, Option, Some, None, Result, Ok, Err, refl, ap, sym, subst, ◌∙◌}
+use Rattle.std.proofs.Common.{◌≡◌, ℕ, true, List, Some, None, Result, Ok, Err, refl, ap, sym, ◌∙◌}
 use Rattle.std.specs.Prelude.{MatchResult, IfOk}
 use Rattle.vortex_syntax.specs.declared.error.SyntaxError.{SyntaxError}
 use Rattle.vortex_syntax.specs.declared.error.SyntaxError.TheVariants.{NoToken, Unexpected, TooDeep, OutOfMemory}
@@ -7,10 +7,9 @@ use Rattle.vortex_syntax.specs.Errors.{AnswersUnlessMemory, UnlessMemory}
 use Rattle.vortex_syntax.specs.Tokens.{Token}
 use Rattle.vortex_syntax.specs.Lexing.{Lexes}
 use Rattle.vortex_syntax.specs.Syntax.{Syntax}
-use Rattle.vortex_syntax.specs.Spelling.{spelling}
 use Rattle.vortex_syntax.specs.Postfix.{Step, postfix}
 use Rattle.vortex_syntax.specs.Nesting.{nests}
-use Rattle.vortex_syntax.specs.Grammar.{Spells, Reads}
+use Rattle.vortex_syntax.specs.Grammar.{Reads}
 use Rattle.vortex_syntax.specs.Reading.{steps_of}
 use Rattle.vortex_syntax.proofs.Lexed.{one_list}
 use Rattle.vortex_syntax.proofs.Complete.{whole_read}

@@ -1,5 +1,5 @@
 -- The levels of SQL, as PostgreSQL has them: what binds tighter stands at a higher one.
-use Rattle.std.specs.Prelude.{◌≡◌, ℕ, ◌≤◌, Bool, true, false, if◌then◌else◌}
+use Rattle.std.specs.Prelude.{◌≡◌, ℕ, ◌≤◌, Bool, true, false}
 use Rattle.vortex_syntax.specs.declared.step.Operator.{Operator}
 use Rattle.vortex_syntax.specs.declared.step.Operator.TheVariants as operator
 use Rattle.vortex_syntax.specs.declared.token.Sign.{Sign}

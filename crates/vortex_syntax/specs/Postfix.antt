@@ -1,5 +1,5 @@
 -- A tree's steps in postfix order: its operands' first, and no brackets.
-use Rattle.std.specs.Prelude.{ℕ, List, [], ◌∷◌, ◌++◌, Bool, true, false, Option, Some, None}
+use Rattle.std.specs.Prelude.{ℕ, List, [], ◌∷◌, ◌++◌, Bool, Option, Some, None}
 use Rattle.std.specs.Prelude.{if◌then◌else◌}
 use Rattle.vortex_syntax.specs.declared.step.LikeKind.{LikeKind}
 use Rattle.vortex_syntax.specs.declared.step.Call.{Call}

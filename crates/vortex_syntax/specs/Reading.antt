@@ -14,7 +14,7 @@ use Rattle.vortex_syntax.specs.declared.frame.Frame.{Frame}
 use Rattle.vortex_syntax.specs.declared.frame.Frame.TheVariants as frame
 use Rattle.vortex_syntax.specs.declared.frame.Mode.{Mode}
 use Rattle.vortex_syntax.specs.declared.frame.Mode.TheVariants as mode
-use Rattle.vortex_syntax.specs.Tokens.{Token, name, nullable, quoted, number, text, sign}
+use Rattle.vortex_syntax.specs.Tokens.{Token, name, nullable, number, text, sign}
 use Rattle.vortex_syntax.specs.Levels.{own, left, right, or_level, and_level, not_level, is_level, predicate_level, sum_level, atom_level, literal_level, is_operand, operand_level}
 use Rattle.vortex_syntax.specs.declared.reading.Reading.{Reading}
 use Rattle.vortex_syntax.specs.Postfix.{Step, step_in, operand, negative, typed, cast, escaped, called, null_call}

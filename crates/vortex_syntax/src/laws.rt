@@ -9,12 +9,10 @@ ghost use Rattle.vortex_syntax.specs.Grammar.{Reads};
 /// A text is at most one list of tokens.
 pub fn one_list()
     ensures { (text : List ℕ) (ts vs : List seen.Token) → Lexes text ts → Lexes text vs → ts ≡ vs }
-{
-}
+{}
 
 /// A text is read as at most one tree, brackets apart.
 pub fn one_tree()
     ensures { (text : List ℕ) (t u : Syntax) → Reads text t → Reads text u
         → postfix t ≡ postfix u }
-{
-}
+{}

@@ -19,14 +19,23 @@ use crate::token::{Sign, Token};
 use std::alloc::{AllocError, Global};
 
 const OR: u8 = 0;
+
 const AND: u8 = 1;
+
 const NOT: u8 = 2;
+
 const IS: u8 = 3;
+
 const COMPARISON: u8 = 4;
+
 const PREDICATE: u8 = 5;
+
 const SUM: u8 = 6;
+
 const PRODUCT: u8 = 7;
+
 const ATOM: u8 = 8;
+
 const LITERAL: u8 = 9;
 
 fn own(operator: Operator) -> u8

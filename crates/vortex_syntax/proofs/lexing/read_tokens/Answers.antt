@@ -1,8 +1,8 @@
-use Rattle.std.proofs.Common.{◌≡◌, ◌++◌, ◌∷◌, [], List, Some, map, length, sym, ap, ◌∙◌}
+use Rattle.std.proofs.Common.{◌≡◌, ◌++◌, ◌∷◌, [], Some, map, sym, ap, ◌∙◌}
 use Rattle.std.proofs.lemmas.List.{map-append}
 use Rattle.vortex_syntax.specs.Tokens.{token_in}
 use Rattle.vortex_syntax.specs.Pieces.{piece_in}
-use Rattle.vortex_syntax.proofs.Lexed.{to_gap, to_token, ended, one_list, no_piece}
+use Rattle.vortex_syntax.proofs.Lexed.{to_gap, to_token, ended, one_list}
 use Rattle.vortex_syntax.proofs.lexing.read_tokens.Goals as goal
 
 pub loop-rest-preserved : goal.loop-rest-preserved

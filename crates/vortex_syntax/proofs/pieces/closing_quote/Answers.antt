@@ -1,4 +1,4 @@
-use Rattle.std.proofs.Common.{◌≡◌, ℕ, ◌+◌, ◌<◌, length, sym, arith}
+use Rattle.std.proofs.Common.{sym, arith}
 use Rattle.vortex_syntax.proofs.Quotes.{next_other, next_twice, at_last}
 use Rattle.vortex_syntax.proofs.pieces.closing_quote.Goals as goal
 use Rattle.vortex_syntax.proofs.pieces.closing_quote.Goals.{else-i-text-via-then-i-text+else-text-i-2, else-i-text-via-else-i-text}

@@ -1,5 +1,4 @@
-use Rattle.std.proofs.Common.{◌≡◌, ◌<◌, ◌≤◌, length, sym, ap, subst, ◌∙◌, Option, arith, rules}
-use Rattle.std.specs.Prelude.{IfSome}
+use Rattle.std.proofs.Common.{◌<◌, length, sym, ap, arith}
 use Rattle.vortex_syntax.specs.declared.pieces.Run.TheVariants.{Word, Digits}
 use Rattle.vortex_syntax.specs.Pieces.{behind}
 use Rattle.vortex_syntax.proofs.Runs.{behind_lt, word_begun, some_below}

@@ -1,4 +1,4 @@
-use Rattle.std.proofs.Common.{◌≡◌, ℕ, ◌<◌, length, arith, rules}
+use Rattle.std.proofs.Common.{length, arith, rules}
 use Rattle.vortex_syntax.proofs.Runs.{ends_at}
 use Rattle.vortex_syntax.proofs.pieces.run_len.Goals as goal
 

@@ -1,4 +1,4 @@
-use Rattle.std.proofs.Common.{◌≡◌, ◌∙◌, ap, take, Some}
+use Rattle.std.proofs.Common.{◌∙◌, ap, take, Some}
 use Rattle.vortex_syntax.proofs.Quotes.{cut_rest}
 use Rattle.vortex_syntax.proofs.pieces.split_quoted.Goals as goal
 

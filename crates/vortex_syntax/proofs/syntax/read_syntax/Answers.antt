@@ -1,4 +1,4 @@
-use Rattle.std.proofs.Common.{◌≡◌, map, ap, sym, ◌∙◌}
+use Rattle.std.proofs.Common.{map, ap, sym, ◌∙◌}
 use Rattle.vortex_syntax.specs.Tokens.{token_in}
 use Rattle.vortex_syntax.specs.Postfix.{step_in}
 use Rattle.vortex_syntax.specs.Nesting.{nests}

@@ -1,5 +1,5 @@
-use Rattle.std.proofs.Common.{◌≡◌, ◌<◌, ◌≤◌, ◌++◌, ◌∷◌, [], ℕ, ap, sym, ◌∙◌, arith}
-use Rattle.vortex_syntax.specs.Reading.{guard, frames_in, steps_in, settled}
+use Rattle.std.proofs.Common.{◌++◌, ◌∷◌, [], ap, sym, ◌∙◌, arith}
+use Rattle.vortex_syntax.specs.Reading.{frames_in, steps_in, settled}
 use Rattle.vortex_syntax.proofs.Settling.{none_stays, stays, closes}
 use Rattle.vortex_syntax.proofs.reading.Reading.close_one.Goals as goal
 
