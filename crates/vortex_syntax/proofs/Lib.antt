@@ -2,9 +2,12 @@ pub mod Runs
 pub mod Quotes
 pub mod Lexed
 pub mod Tables
-pub mod Complete
-pub mod Held
-pub mod Sound
-pub mod Whole
 pub mod Settling
 pub mod Steps
+pub mod Complete
+pub mod Held
+pub mod Before
+pub mod SignsSound
+pub mod OperandsSound
+pub mod Sound
+pub mod Whole

@@ -1,5 +1,10 @@
 //! What waits for an operand while a text is read.
-use crate::step::{LikeKind, Operator};
+ghost use Rattle.std.specs.Prelude.{◌≡◌};
+ghost use Rattle.vortex_syntax.specs.Postfix.{called};
+ghost use Rattle.vortex_syntax.specs.Reading as specs;
+
+use crate::levels::{ATOM, NOT, OR, PREDICATE, SUM, own, right};
+use crate::step::{Call, LikeKind, Operator};
 
 /// What waits for its last operand.
 #[derive(Clone, Copy, Debug, PartialEq, Eq)]
@@ -42,4 +47,49 @@ pub enum Mode {
     CastEnd,
     /// The text behind `escape`.
     Escaping(LikeKind),
+}
+
+/// The level that an operand has at least which the frame waits for.
+pub fn hole(frame: Frame) -> u8
+    ensures { result ≡ specs.hole frame }
+{
+    match frame {
+        Frame::Open | Frame::Cast => OR,
+        Frame::Not => NOT,
+        Frame::Join(operator) => right(operator),
+        Frame::Between(_) | Frame::Bounded(_) | Frame::Like(_) => SUM,
+    }
+}
+
+/// The frame is closed before a sign of a lower level than this.
+pub fn guard(frame: Frame) -> u8
+    ensures { result ≡ specs.guard frame }
+{
+    match frame {
+        Frame::Between(_) => OR,
+        _ => hole(frame),
+    }
+}
+
+/// The level of what the frame becomes with its operand.
+pub fn whole(frame: Frame) -> u8
+    ensures { result ≡ specs.whole frame }
+{
+    match frame {
+        Frame::Open | Frame::Cast => ATOM,
+        Frame::Not => NOT,
+        Frame::Join(operator) => own(operator),
+        Frame::Between(_) | Frame::Bounded(_) | Frame::Like(_) => PREDICATE,
+    }
+}
+
+pub fn closing(frame: Frame) -> Call
+    ensures { called result ≡ specs.closing frame }
+{
+    match frame {
+        Frame::Open | Frame::Cast | Frame::Not => Call::Not,
+        Frame::Join(operator) => Call::Join(operator),
+        Frame::Between(negated) | Frame::Bounded(negated) => Call::Between(negated),
+        Frame::Like(kind) => Call::Like(kind),
+    }
 }

@@ -1,16 +1,20 @@
 //! Expressions as people write them: texts, tokens, and trees in postfix order.
 #![tactic(auto)]
 
+mod behind;
 mod error;
 mod frame;
 pub mod laws;
+mod levels;
 mod lexing;
 pub mod nesting;
 mod pieces;
+mod reader;
 mod reading;
 mod step;
 pub mod syntax;
 mod token;
+mod wanted;
 
 pub use error::SyntaxError;
 pub use lexing::{Tokens, read_tokens};

@@ -8,7 +8,7 @@ ghost use Rattle.vortex_syntax.specs.Errors.{AnswersUnlessMemory};
 use crate::error::SyntaxError;
 use crate::lexing::read_tokens;
 use crate::nesting::too_deep;
-use crate::reading::read_steps;
+use crate::reader::read_steps;
 use crate::step::Step;
 use std::alloc::Global;
 

@@ -4,7 +4,7 @@ use Rattle.vortex_syntax.specs.Tokens.{token_in}
 use Rattle.vortex_syntax.specs.Postfix.{step_in}
 use Rattle.vortex_syntax.specs.Reading.{seen}
 use Rattle.vortex_syntax.proofs.Steps.{starts, goes_on, stops, finishes}
-use Rattle.vortex_syntax.proofs.reading.read_steps.Goals as goal
+use Rattle.vortex_syntax.proofs.reader.read_steps.Goals as goal
 
 pub loop-i-init : goal.loop-i-init
 loop-i-init c = starts _ _ _ c.new-reading.ensures.frames c.new-reading.ensures.steps
