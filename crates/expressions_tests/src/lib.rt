@@ -1,0 +1,12 @@
+//! Tests of expressions as people write them.
+#![tactic(auto)]
+
+#[cfg(test)]
+mod levels;
+#[cfg(test)]
+mod refusals;
+pub mod shown;
+#[cfg(test)]
+mod words;
+
+pub use shown::{is_refused, reads_as};

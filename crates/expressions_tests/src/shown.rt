@@ -1,0 +1,126 @@
+//! Trees as texts in postfix order.
+use std::alloc::{AllocError, Global};
+use std::str;
+use vortex_syntax::{Call, LikeKind, Operator, Sign, Step, SyntaxError, Token, read_syntax};
+
+fn push_bytes(out: &mut String, bytes: &[u8]) -> Result<(), AllocError> {
+    match str::from_utf8(bytes) {
+        Ok(text) => out.push_str(text),
+        Err(_) => out.push_str("no text"),
+    }
+}
+
+fn operator_text(operator: Operator) -> &'static str {
+    match operator {
+        Operator::Or => "or",
+        Operator::And => "and",
+        Operator::Equal => "=",
+        Operator::NotEqual => "<>",
+        Operator::Less => "<",
+        Operator::LessOrEqual => "<=",
+        Operator::Greater => ">",
+        Operator::GreaterOrEqual => ">=",
+        Operator::Add => "+",
+        Operator::Sub => "-",
+        Operator::Mul => "*",
+        Operator::Div => "/",
+    }
+}
+
+fn like_text(kind: LikeKind) -> &'static str {
+    match (kind.negated, kind.case_insensitive) {
+        (false, false) => "like",
+        (false, true) => "ilike",
+        (true, false) => "not_like",
+        (true, true) => "not_ilike",
+    }
+}
+
+fn call_text(call: Call) -> &'static str {
+    match call {
+        Call::Not => "not",
+        Call::Join(operator) => operator_text(operator),
+        Call::IsNull => "is_null",
+        Call::IsNotNull => "is_not_null",
+        Call::Between(false) => "between",
+        Call::Between(true) => "not_between",
+        Call::Like(kind) => like_text(kind),
+    }
+}
+
+fn push_token(out: &mut String, token: Token<'_>) -> Result<(), AllocError> {
+    match token {
+        Token::Name(bytes) | Token::Nullable(bytes) | Token::Number(bytes) => {
+            push_bytes(out, bytes)
+        }
+        Token::Quoted(bytes) => {
+            out.push_str("\"")?;
+            push_bytes(out, bytes)
+        }
+        Token::Text(bytes) => {
+            out.push_str("'")?;
+            push_bytes(out, bytes)
+        }
+        Token::Sign(Sign::True) => out.push_str("true"),
+        Token::Sign(Sign::False) => out.push_str("false"),
+        Token::Sign(Sign::Null) => out.push_str("null"),
+        Token::Sign(_) => out.push_str("a sign"),
+    }
+}
+
+fn push_type(out: &mut String, word: &[u8], nullable: bool) -> Result<(), AllocError> {
+    push_bytes(out, word)?;
+    if nullable { out.push_str("?") } else { Ok(()) }
+}
+
+fn push_step(out: &mut String, step: Step<'_>) -> Result<(), AllocError> {
+    match step {
+        Step::Operand(token) => push_token(out, token),
+        Step::Negative(digits) => {
+            out.push_str("-")?;
+            push_bytes(out, digits)
+        }
+        Step::Typed(word, nullable) => {
+            out.push_str("::")?;
+            push_type(out, word, nullable)
+        }
+        Step::Cast(word, nullable) => {
+            out.push_str("cast:")?;
+            push_type(out, word, nullable)
+        }
+        Step::Escaped(kind, text) => {
+            out.push_str(like_text(kind))?;
+            out.push_str(":")?;
+            push_bytes(out, text)
+        }
+        Step::Call(call) => out.push_str(call_text(call)),
+    }
+}
+
+fn postfix(alloc: Global, text: &str) -> Result<String, SyntaxError> {
+    let steps = read_syntax(alloc, text.as_bytes())?;
+    let mut out = String::new(alloc);
+    for step in &steps {
+        if !out.is_empty() {
+            out.push_str(" ")?;
+        }
+        push_step(&mut out, *step)?;
+    }
+    Ok(out)
+}
+
+/// Whether the text is read as the tree of these steps.
+pub fn reads_as(alloc: Global, text: &str, steps: &str) -> bool {
+    match postfix(alloc, text) {
+        Ok(out) => out.as_str() == steps,
+        Err(_) => false,
+    }
+}
+
+/// Whether the text is refused so.
+pub fn is_refused(alloc: Global, text: &str, error: SyntaxError) -> bool {
+    match postfix(alloc, text) {
+        Ok(_) => false,
+        Err(found) => found == error,
+    }
+}

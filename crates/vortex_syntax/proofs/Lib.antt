@@ -1,0 +1,13 @@
+pub mod Runs
+pub mod Quotes
+pub mod Lexed
+pub mod Tables
+pub mod Settling
+pub mod Steps
+pub mod Complete
+pub mod Held
+pub mod Before
+pub mod SignsSound
+pub mod OperandsSound
+pub mod Sound
+pub mod Whole

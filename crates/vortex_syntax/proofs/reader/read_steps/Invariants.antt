@@ -1,0 +1,7 @@
+use Rattle.std.proofs.Common.{◌≡◌, map, drop}
+use Rattle.vortex_syntax.specs.Tokens.{token_in}
+use Rattle.vortex_syntax.specs.Reading.{seen, run, steps_of}
+use Rattle.vortex_syntax.proofs.reader.read_steps.Given as goal
+
+abbrev pub invariant-loop-i : goal.invariant-loop-i
+invariant-loop-i l = steps_of (map token_in l.read.tokens.items) ≡ run (seen l.reading l.mode) (map token_in (drop l.i l.read.tokens.items))

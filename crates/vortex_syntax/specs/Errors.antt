@@ -1,0 +1,13 @@
+-- What the calls of this crate answer that take memory.
+use Rattle.std.specs.Prelude.{◌≡◌, Result, MatchResult}
+use Rattle.vortex_syntax.specs.declared.error.SyntaxError.{SyntaxError}
+use Rattle.vortex_syntax.specs.declared.error.SyntaxError.TheVariants.{OutOfMemory}
+
+-- P of what is answered; or memory ran out
+abbrev pub AnswersUnlessMemory : {A : Type 0} → Result A SyntaxError → (A → Type 0) → Type 0
+AnswersUnlessMemory r P = MatchResult r P (λ e. e ≡ OutOfMemory)
+
+-- P of a refusal; or memory ran out
+abbrev pub UnlessMemory : Type 0 → SyntaxError → Type 0
+UnlessMemory P OutOfMemory = Unit {0}
+UnlessMemory P e = P

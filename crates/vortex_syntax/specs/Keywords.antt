@@ -1,0 +1,27 @@
+-- The words that are keywords, in either case.
+use Rattle.std.specs.Prelude.{ℕ, List, map, Bool, Option, Some, None, codes, if◌then◌else◌}
+use Rattle.std.specs.Char.{to_ascii_lowercase}
+use Rattle.std.specs.Str.{bytes_eq}
+use Rattle.vortex_syntax.specs.declared.token.Sign.{Sign}
+use Rattle.vortex_syntax.specs.declared.token.Sign.TheVariants as sign
+
+-- the same word, but for the case of letters
+abbrev pub same_word : List ℕ → List ℕ → Bool
+same_word w v = bytes_eq (map to_ascii_lowercase w) (map to_ascii_lowercase v)
+
+unfoldable pub keyword_of : List ℕ → Option Sign
+keyword_of w =
+    if same_word w (codes "and") then Some sign.And
+    else (if same_word w (codes "or") then Some sign.Or
+    else (if same_word w (codes "not") then Some sign.Not
+    else (if same_word w (codes "is") then Some sign.Is
+    else (if same_word w (codes "null") then Some sign.Null
+    else (if same_word w (codes "between") then Some sign.Between
+    else (if same_word w (codes "like") then Some sign.Like
+    else (if same_word w (codes "ilike") then Some sign.Ilike
+    else (if same_word w (codes "escape") then Some sign.Escape
+    else (if same_word w (codes "true") then Some sign.True
+    else (if same_word w (codes "false") then Some sign.False
+    else (if same_word w (codes "cast") then Some sign.Cast
+    else (if same_word w (codes "as") then Some sign.As
+    else None))))))))))))

@@ -1,0 +1,116 @@
+-- The levels of SQL, as PostgreSQL has them: what binds tighter stands at a higher one.
+use Rattle.std.specs.Prelude.{◌≡◌, ℕ, ◌≤◌, Bool, true, false}
+use Rattle.vortex_syntax.specs.declared.step.Operator.{Operator}
+use Rattle.vortex_syntax.specs.declared.step.Operator.TheVariants as operator
+use Rattle.vortex_syntax.specs.declared.token.Sign.{Sign}
+use Rattle.vortex_syntax.specs.declared.token.Sign.TheVariants as sign
+use Rattle.vortex_syntax.specs.Tokens.{Token, name, nullable, quoted, number, text, sign}
+use Rattle.vortex_syntax.specs.Syntax.{Syntax, operand, negative, typed, grouped, negated, joined, tested, between, matched, cast}
+
+abbrev pub or_level : ℕ
+or_level = 0
+
+abbrev pub and_level : ℕ
+and_level = 1
+
+abbrev pub not_level : ℕ
+not_level = 2
+
+abbrev pub is_level : ℕ
+is_level = 3
+
+abbrev pub comparison_level : ℕ
+comparison_level = 4
+
+-- BETWEEN and LIKE
+abbrev pub predicate_level : ℕ
+predicate_level = 5
+
+abbrev pub sum_level : ℕ
+sum_level = 6
+
+abbrev pub product_level : ℕ
+product_level = 7
+
+-- columns, brackets, casts, and literals with a type
+abbrev pub atom_level : ℕ
+atom_level = 8
+
+-- literals without a type, which alone may have one behind them
+abbrev pub literal_level : ℕ
+literal_level = 9
+
+-- the level of an operator's tree, and those that its operands have at least: Or, And, sums and
+-- products go from left to right, and comparisons stand in no chains
+abbrev pub own : Operator → ℕ
+own operator.Or = or_level
+own operator.And = and_level
+own operator.Add = sum_level
+own operator.Sub = sum_level
+own operator.Mul = product_level
+own operator.Div = product_level
+own _ = comparison_level
+
+abbrev pub left : Operator → ℕ
+left operator.Or = or_level
+left operator.And = and_level
+left operator.Add = sum_level
+left operator.Sub = sum_level
+left operator.Mul = product_level
+left operator.Div = product_level
+left _ = predicate_level
+
+abbrev pub right : Operator → ℕ
+right operator.Or = and_level
+right operator.And = not_level
+right operator.Add = product_level
+right operator.Sub = product_level
+right operator.Mul = atom_level
+right operator.Div = atom_level
+right _ = predicate_level
+
+-- columns and literals, by their tokens
+abbrev pub is_literal_sign : Sign → Bool
+is_literal_sign sign.True = true
+is_literal_sign sign.False = true
+is_literal_sign sign.Null = true
+is_literal_sign _ = false
+
+abbrev pub is_operand : Token → Bool
+is_operand (name w) = true
+is_operand (nullable w) = false
+is_operand (quoted w) = true
+is_operand (number ds) = true
+is_operand (text bs) = true
+is_operand (sign s) = is_literal_sign s
+
+abbrev pub operand_level : Token → ℕ
+operand_level (name w) = atom_level
+operand_level (quoted w) = atom_level
+operand_level _ = literal_level
+
+abbrev pub level : Syntax → ℕ
+level (operand t) = operand_level t
+level (negative ds) = literal_level
+level (typed a w n) = atom_level
+level (grouped a) = atom_level
+level (negated a) = not_level
+level (joined o a b) = own o
+level (tested n a) = is_level
+level (between n a low high) = predicate_level
+level (matched k a p e) = predicate_level
+level (cast a w n) = atom_level
+
+-- each operand binds at least as tightly as its place asks
+abbrev pub Fits : Syntax → Type 0
+Fits (operand t) = is_operand t ≡ true
+Fits (negative ds) = Unit {0}
+Fits (typed a w n) = (literal_level ≤ level a) × Fits a
+Fits (grouped a) = Fits a
+Fits (negated a) = (not_level ≤ level a) × Fits a
+Fits (joined o a b) = (left o ≤ level a) × (right o ≤ level b) × Fits a × Fits b
+Fits (tested n a) = (is_level ≤ level a) × Fits a
+Fits (between n a low high) =
+    (sum_level ≤ level a) × (sum_level ≤ level low) × (sum_level ≤ level high) × Fits a × Fits low × Fits high
+Fits (matched k a p e) = (sum_level ≤ level a) × (sum_level ≤ level p) × Fits a × Fits p
+Fits (cast a w n) = Fits a

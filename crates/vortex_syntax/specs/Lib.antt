@@ -1,0 +1,12 @@
+pub mod Tokens
+pub mod Keywords
+pub mod Pieces
+pub mod Lexing
+pub mod Errors
+pub mod Syntax
+pub mod Levels
+pub mod Spelling
+pub mod Postfix
+pub mod Nesting
+pub mod Grammar
+pub mod Reading

@@ -1,0 +1,131 @@
+-- The first piece of a text, which is a gap or a token, and what stands behind it.
+use Rattle.std.specs.Prelude.{◌==◌, ◌||◌, ℕ, Bool, true, false, List, [], ◌∷◌, Option, Some, None}
+use Rattle.std.specs.Prelude.{◌++◌, if◌then◌else◌}
+use Rattle.std.specs.Char.{is_ascii_alphabetic, is_ascii_alphanumeric, is_ascii_digit}
+use Rattle.vortex_syntax.specs.declared.token.Sign.{Sign}
+use Rattle.vortex_syntax.specs.declared.token.Sign.TheVariants as sign
+use Rattle.vortex_syntax.specs.declared.pieces.Run.{Run}
+use Rattle.vortex_syntax.specs.declared.pieces.Run.TheVariants.{Word, Digits, Line}
+use Rattle.vortex_syntax.specs.declared.pieces.Piece as read
+use Rattle.vortex_syntax.specs.declared.pieces.Piece.TheVariants as variant
+use Rattle.vortex_syntax.specs.Tokens.{Token, name, nullable, quoted, number, text, sign, token_in}
+use Rattle.vortex_syntax.specs.Keywords.{keyword_of}
+
+-- white space or a comment, or a token
+pub data Piece : Type 0 where
+  gap : Piece
+  token : Token → Piece
+
+abbrev pub piece_in : read.Piece → Piece
+piece_in variant.Gap = gap
+piece_in (variant.Token t) = token (token_in t)
+
+-- a piece and what stands behind it, or no piece begins there
+abbrev pub Cut : Type 0
+Cut = Option (Piece × List ℕ)
+
+abbrev pub is_blank : ℕ → Bool
+is_blank b = (b == 32) || (b == 9) || (b == 10) || (b == 13)
+
+abbrev pub begins_word : ℕ → Bool
+begins_word b = is_ascii_alphabetic b || (b == 95)
+
+-- bytes of words, of numbers, and of lines
+abbrev pub is_in : Run → ℕ → Bool
+is_in Word b = is_ascii_alphanumeric b || (b == 95)
+is_in Digits b = is_ascii_digit b
+is_in Line b = if b == 10 then false else (if b == 13 then false else true)
+
+-- the bytes of that run that a text begins with, and those behind them
+abbrev pub front : Run → List ℕ → List ℕ
+front r [] = []
+front r (b ∷ bs) = if is_in r b then b ∷ front r bs else []
+
+abbrev pub behind : Run → List ℕ → List ℕ
+behind r [] = []
+behind r (b ∷ bs) = if is_in r b then behind r bs else b ∷ bs
+
+-- a word is a keyword, or else a name
+abbrev pub keyword_or_name : List ℕ → Option Sign → Token
+keyword_or_name w None = name w
+keyword_or_name w (Some s) = sign s
+
+abbrev pub word_before : List ℕ → List ℕ → Piece × List ℕ
+word_before w [] = (token (keyword_or_name w (keyword_of w)), [])
+word_before w (b ∷ bs) =
+    if b == 63 then (token (nullable w), bs)
+    else (token (keyword_or_name w (keyword_of w)), b ∷ bs)
+
+-- no word begins right behind a number
+abbrev pub number_before : List ℕ → List ℕ → Cut
+number_before ds [] = Some (token (number ds), [])
+number_before ds (b ∷ bs) =
+    if is_in Word b then None else Some (token (number ds), b ∷ bs)
+
+-- the text up to the first quote that is not written twice, and what stands behind that quote
+abbrev pub with_front : List ℕ → Option (List ℕ × List ℕ) → Option (List ℕ × List ℕ)
+with_front bs None = None
+with_front bs (Some x) = Some (bs ++ x.0, x.1)
+
+abbrev pub closed : ℕ → List ℕ → Option (List ℕ × List ℕ)
+closed q [] = None
+closed q (b ∷ []) = if b == q then Some ([], []) else None
+closed q (b ∷ c ∷ bs) =
+    if b == q
+    then (if c == q then with_front (b ∷ c ∷ []) (closed q bs) else Some ([], c ∷ bs))
+    else with_front (b ∷ []) (closed q (c ∷ bs))
+
+abbrev pub quoted_by : (List ℕ → Token) → Option (List ℕ × List ℕ) → Cut
+quoted_by make None = None
+quoted_by make (Some x) = Some (token (make x.0), x.1)
+
+-- the signs of two characters, and those of one
+abbrev pub sign_of_two : ℕ → ℕ → Option Sign
+sign_of_two b c =
+    if b == 60 then (if c == 61 then Some sign.LessOrEqual
+    else (if c == 62 then Some sign.NotEqual else None))
+    else (if b == 62 then (if c == 61 then Some sign.GreaterOrEqual else None)
+    else (if b == 33 then (if c == 61 then Some sign.NotEqual else None)
+    else (if b == 58 then (if c == 58 then Some sign.Typed else None) else None)))
+
+abbrev pub sign_of_one : ℕ → Option Sign
+sign_of_one b =
+    if b == 61 then Some sign.Equal
+    else (if b == 60 then Some sign.Less
+    else (if b == 62 then Some sign.Greater
+    else (if b == 43 then Some sign.Plus
+    else (if b == 42 then Some sign.Times
+    else (if b == 47 then Some sign.Divide
+    else (if b == 40 then Some sign.Open
+    else (if b == 41 then Some sign.Close
+    else (if b == 44 then Some sign.Comma else None))))))))
+
+abbrev pub sign_before : List ℕ → Option Sign → Cut
+sign_before rest None = None
+sign_before rest (Some s) = Some (token (sign s), rest)
+
+abbrev pub or_else : Cut → Cut → Cut
+or_else None other = other
+or_else (Some x) other = Some x
+
+abbrev pub longest_sign : ℕ → List ℕ → Cut
+longest_sign b [] = sign_before [] (sign_of_one b)
+longest_sign b (c ∷ bs) =
+    or_else (sign_before bs (sign_of_two b c)) (sign_before (c ∷ bs) (sign_of_one b))
+
+-- two minus signs begin a comment, which ends with its line
+abbrev pub minus_or_comment : List ℕ → Cut
+minus_or_comment [] = Some (token (sign sign.Minus), [])
+minus_or_comment (c ∷ bs) =
+    if c == 45 then Some (gap, behind Line bs) else Some (token (sign sign.Minus), c ∷ bs)
+
+unfoldable pub first_piece : List ℕ → Cut
+first_piece [] = None
+first_piece (b ∷ bs) =
+    if is_blank b then Some (gap, bs)
+    else (if b == 45 then minus_or_comment bs
+    else (if begins_word b then Some (word_before (front Word (b ∷ bs)) (behind Word (b ∷ bs)))
+    else (if is_ascii_digit b then number_before (front Digits (b ∷ bs)) (behind Digits (b ∷ bs))
+    else (if b == 39 then quoted_by text (closed 39 bs)
+    else (if b == 34 then quoted_by quoted (closed 34 bs)
+    else longest_sign b bs)))))

@@ -1,0 +1,292 @@
+-- Reading from left to right: one token after another, with what waits for its last operand.
+use Rattle.std.specs.Prelude.{map, reverse, ℕ, ◌&&◌, nat_lt, nat_le, List, [], ◌∷◌, ◌++◌, Bool, true, false}
+use Rattle.std.specs.Prelude.{Option, Some, None, if◌then◌else◌}
+use Rattle.std.specs.Prelude.{Result, IfOk, ◌≡◌}
+use Rattle.std.specs.declared.alloc.AllocError.{AllocError}
+use Rattle.std.specs.Option.{option_and_then, option_map}
+use Rattle.vortex_syntax.specs.declared.step.Operator.{Operator}
+use Rattle.vortex_syntax.specs.declared.step.Operator.TheVariants as operator
+use Rattle.vortex_syntax.specs.declared.step.LikeKind.{LikeKind}
+use Rattle.vortex_syntax.specs.declared.step.Call.TheVariants as call
+use Rattle.vortex_syntax.specs.declared.token.Sign.{Sign}
+use Rattle.vortex_syntax.specs.declared.token.Sign.TheVariants as sign
+use Rattle.vortex_syntax.specs.declared.frame.Frame.{Frame}
+use Rattle.vortex_syntax.specs.declared.frame.Frame.TheVariants as frame
+use Rattle.vortex_syntax.specs.declared.frame.Mode.{Mode}
+use Rattle.vortex_syntax.specs.declared.frame.Mode.TheVariants as mode
+use Rattle.vortex_syntax.specs.Tokens.{Token, name, nullable, number, text, sign}
+use Rattle.vortex_syntax.specs.Levels.{own, left, right, or_level, and_level, not_level, is_level, predicate_level, sum_level, atom_level, literal_level, is_operand, operand_level}
+use Rattle.vortex_syntax.specs.declared.reading.Reading.{Reading}
+use Rattle.vortex_syntax.specs.Postfix.{Step, step_in, operand, negative, typed, cast, escaped, called, null_call}
+
+-- the last frame stands first
+pub record State : Type 0 where
+  pub mode : Mode
+  pub frames : List Frame
+  pub steps : List Step
+
+abbrev pub state : Mode → List Frame → List Step → State
+state m fs out = record { mode = m; frames = fs; steps = out }
+
+-- what is seen of a reading
+abbrev pub frames_in : Reading → List Frame
+frames_in r = reverse r.frames.items
+
+abbrev pub steps_in : Reading → List Step
+steps_in r = map step_in r.steps.items
+
+abbrev pub seen : Reading → Mode → State
+seen r m = state m (frames_in r) (steps_in r)
+
+-- the level that an operand has at least which a frame waits for
+abbrev pub hole : Frame → ℕ
+hole frame.Open = 0
+hole frame.Cast = 0
+hole frame.Not = not_level
+hole (frame.Join o) = right o
+hole (frame.Between n) = sum_level
+hole (frame.Bounded n) = sum_level
+hole (frame.Like k) = sum_level
+
+abbrev pub top_hole : List Frame → ℕ
+top_hole [] = 0
+top_hole (f ∷ fs) = hole f
+
+-- a frame is closed before a sign of a lower level than this: never where more than an operand is
+-- missing
+abbrev pub guard : Frame → ℕ
+guard frame.Open = 0
+guard frame.Cast = 0
+guard frame.Not = not_level
+guard (frame.Join o) = right o
+guard (frame.Between n) = 0
+guard (frame.Bounded n) = sum_level
+guard (frame.Like k) = sum_level
+
+-- the level of what a frame becomes with its operand, and its step
+abbrev pub whole : Frame → ℕ
+whole frame.Open = atom_level
+whole frame.Cast = atom_level
+whole frame.Not = not_level
+whole (frame.Join o) = own o
+whole (frame.Between n) = predicate_level
+whole (frame.Bounded n) = predicate_level
+whole (frame.Like k) = predicate_level
+
+abbrev pub closing : Frame → Step
+closing frame.Open = called call.Not
+closing frame.Cast = called call.Not
+closing frame.Not = called call.Not
+closing (frame.Join o) = called (call.Join o)
+closing (frame.Between n) = called (call.Between n)
+closing (frame.Bounded n) = called (call.Between n)
+closing (frame.Like k) = called (call.Like k)
+
+-- an operand of a level, behind what waits for it
+pub record Operand : Type 0 where
+  pub level : ℕ
+  pub frames : List Frame
+  pub steps : List Step
+
+abbrev pub operand_of : ℕ → List Frame → List Step → Operand
+operand_of level fs out = record { level = level; frames = fs; steps = out }
+
+-- closes what binds tighter than a sign of level p
+unfoldable pub settled : ℕ → ℕ → List Frame → List Step → Operand
+settled p level [] out = operand_of level [] out
+settled p level (f ∷ fs) out =
+    if nat_lt p (guard f) then settled p (whole f) fs (out ++ (closing f ∷ []))
+    else operand_of level (f ∷ fs) out
+
+-- what a frame that was closed, or none, leaves to settle
+abbrev pub closed_once : Option ℕ → ℕ → ℕ → List Frame → List Step → Operand
+closed_once None p level fs out = operand_of level fs out
+closed_once (Some l) p level fs out = settled p l fs out
+
+-- what a call answers is the next state, unless memory ran out
+abbrev pub Gives : Result (Option Mode) AllocError → Reading → Option State → Type 0
+Gives r new s = IfOk r (λ m. option_map (seen new) m ≡ s)
+
+-- a sign of level p whose left operand has level l at least, behind which f waits
+abbrev pub waiting : ℕ → ℕ → Frame → Operand → Option State
+waiting p l f a =
+    if nat_le l a.level && nat_le (top_hole a.frames) p
+    then Some (state mode.Want (f ∷ a.frames) a.steps) else None
+
+abbrev pub shifted : ℕ → ℕ → Frame → ℕ → List Frame → List Step → Option State
+shifted p l f level fs out = waiting p l f (settled p level fs out)
+
+abbrev pub joining : Operator → ℕ → List Frame → List Step → Option State
+joining o = shifted (own o) (left o) (frame.Join o)
+
+-- the operators but And, by their signs
+abbrev pub operator_of : Sign → Option Operator
+operator_of sign.Or = Some operator.Or
+operator_of sign.Equal = Some operator.Equal
+operator_of sign.NotEqual = Some operator.NotEqual
+operator_of sign.Less = Some operator.Less
+operator_of sign.LessOrEqual = Some operator.LessOrEqual
+operator_of sign.Greater = Some operator.Greater
+operator_of sign.GreaterOrEqual = Some operator.GreaterOrEqual
+operator_of sign.Plus = Some operator.Add
+operator_of sign.Minus = Some operator.Sub
+operator_of sign.Times = Some operator.Mul
+operator_of sign.Divide = Some operator.Div
+operator_of _ = None
+
+-- `and` ends the lower bound of a BETWEEN that waits, or else joins
+abbrev pub and_behind : ℕ → List Frame → List Step → Option State
+and_behind l [] out = waiting and_level and_level (frame.Join operator.And) (operand_of l [] out)
+and_behind l (frame.Between n ∷ fs) out = Some (state mode.Want (frame.Bounded n ∷ fs) out)
+and_behind l (f ∷ fs) out =
+    waiting and_level and_level (frame.Join operator.And) (operand_of l (f ∷ fs) out)
+
+abbrev pub is_behind : ℕ → List Frame → List Step → Option State
+is_behind l fs out =
+    if nat_le is_level l && nat_le (top_hole fs) is_level then Some (state mode.Is fs out) else None
+
+abbrev pub close_behind : List Frame → List Step → Option State
+close_behind [] out = None
+close_behind (frame.Open ∷ fs) out = Some (state (mode.Have atom_level) fs out)
+close_behind (f ∷ fs) out = None
+
+abbrev pub as_behind : List Frame → List Step → Option State
+as_behind [] out = None
+as_behind (frame.Cast ∷ fs) out = Some (state mode.CastType fs out)
+as_behind (f ∷ fs) out = None
+
+abbrev pub escape_behind : List Frame → List Step → Option State
+escape_behind [] out = None
+escape_behind (frame.Like k ∷ fs) out = Some (state (mode.Escaping k) fs out)
+escape_behind (f ∷ fs) out = None
+
+abbrev pub end_behind : List Frame → List Step → Option (List Step)
+end_behind [] out = Some out
+end_behind (f ∷ fs) out = None
+
+-- a sign behind an operand, plain or behind `not`
+abbrev pub like_kind : Bool → Bool → LikeKind
+like_kind n i = record { negated = n; case_insensitive = i }
+
+unfoldable pub predicate : Bool → ℕ → List Frame → List Step → Sign → Option State
+predicate n level fs out sign.Between =
+    shifted predicate_level sum_level (frame.Between n) level fs out
+predicate n level fs out sign.Like =
+    shifted predicate_level sum_level (frame.Like (like_kind n false)) level fs out
+predicate n level fs out sign.Ilike =
+    shifted predicate_level sum_level (frame.Like (like_kind n true)) level fs out
+predicate n level fs out s = None
+
+unfoldable pub word_behind : ℕ → List Frame → List Step → Sign → Option State
+word_behind level fs out sign.And =
+    let a = settled and_level level fs out in and_behind a.level a.frames a.steps
+word_behind level fs out sign.Is =
+    let a = settled is_level level fs out in is_behind a.level a.frames a.steps
+word_behind level fs out sign.Not = Some (state (mode.Negating level) fs out)
+word_behind level fs out sign.Close =
+    let a = settled or_level level fs out in close_behind a.frames a.steps
+word_behind level fs out sign.As =
+    let a = settled or_level level fs out in as_behind a.frames a.steps
+word_behind level fs out sign.Escape =
+    let a = settled sum_level level fs out in escape_behind a.frames a.steps
+word_behind level fs out sign.Typed =
+    if nat_le literal_level level then Some (state mode.Typing fs out) else None
+word_behind level fs out s = predicate false level fs out s
+
+abbrev pub operator_or_word : ℕ → List Frame → List Step → Sign → Option Operator → Option State
+operator_or_word level fs out s None = word_behind level fs out s
+operator_or_word level fs out s (Some o) = joining o level fs out
+
+abbrev pub behind : ℕ → List Frame → List Step → Token → Option State
+behind level fs out (sign s) = operator_or_word level fs out s (operator_of s)
+behind level fs out t = None
+
+abbrev pub negating : ℕ → List Frame → List Step → Token → Option State
+negating level fs out (sign s) = predicate true level fs out s
+negating level fs out t = None
+
+-- an operand's first token
+abbrev pub sign_wanted : List Frame → List Step → Sign → Option State
+sign_wanted fs out sign.Minus = Some (state mode.Signed fs out)
+sign_wanted fs out sign.Not =
+    if nat_le (top_hole fs) not_level then Some (state mode.Want (frame.Not ∷ fs) out) else None
+sign_wanted fs out sign.Open = Some (state mode.Want (frame.Open ∷ fs) out)
+sign_wanted fs out sign.Cast = Some (state mode.Casting fs out)
+sign_wanted fs out s = None
+
+abbrev pub other_wanted : List Frame → List Step → Token → Option State
+other_wanted fs out (sign s) = sign_wanted fs out s
+other_wanted fs out t = None
+
+abbrev pub wanted : List Frame → List Step → Token → Option State
+wanted fs out t =
+    if is_operand t then Some (state (mode.Have (operand_level t)) fs (out ++ (operand t ∷ [])))
+    else other_wanted fs out t
+
+abbrev pub digits_wanted : List Frame → List Step → Token → Option State
+digits_wanted fs out (number ds) =
+    Some (state (mode.Have literal_level) fs (out ++ (negative ds ∷ [])))
+digits_wanted fs out t = None
+
+abbrev pub type_wanted : List Frame → List Step → Token → Option State
+type_wanted fs out (name w) = Some (state (mode.Have atom_level) fs (out ++ (typed w false ∷ [])))
+type_wanted fs out (nullable w) = Some (state (mode.Have atom_level) fs (out ++ (typed w true ∷ [])))
+type_wanted fs out t = None
+
+abbrev pub cast_wanted : List Frame → List Step → Token → Option State
+cast_wanted fs out (name w) = Some (state mode.CastEnd fs (out ++ (cast w false ∷ [])))
+cast_wanted fs out (nullable w) = Some (state mode.CastEnd fs (out ++ (cast w true ∷ [])))
+cast_wanted fs out t = None
+
+-- the words and signs that only one thing may follow
+abbrev pub null_test : Bool → List Frame → List Step → Option State
+null_test n fs out = Some (state (mode.Have is_level) fs (out ++ (called (null_call n) ∷ [])))
+
+abbrev pub behind_is : List Frame → List Step → Token → Option State
+behind_is fs out (sign sign.Null) = null_test false fs out
+behind_is fs out (sign sign.Not) = Some (state mode.IsNot fs out)
+behind_is fs out t = None
+
+abbrev pub behind_is_not : List Frame → List Step → Token → Option State
+behind_is_not fs out (sign sign.Null) = null_test true fs out
+behind_is_not fs out t = None
+
+abbrev pub behind_cast : List Frame → List Step → Token → Option State
+behind_cast fs out (sign sign.Open) = Some (state mode.Want (frame.Cast ∷ fs) out)
+behind_cast fs out t = None
+
+abbrev pub behind_cast_type : List Frame → List Step → Token → Option State
+behind_cast_type fs out (sign sign.Close) = Some (state (mode.Have atom_level) fs out)
+behind_cast_type fs out t = None
+
+abbrev pub behind_escape : LikeKind → List Frame → List Step → Token → Option State
+behind_escape k fs out (text e) =
+    Some (state (mode.Have predicate_level) fs (out ++ (escaped k e ∷ [])))
+behind_escape k fs out t = None
+
+unfoldable pub next : Mode → List Frame → List Step → Token → Option State
+next mode.Want fs out t = wanted fs out t
+next mode.Signed fs out t = digits_wanted fs out t
+next (mode.Have level) fs out t = behind level fs out t
+next mode.Typing fs out t = type_wanted fs out t
+next mode.Is fs out t = behind_is fs out t
+next mode.IsNot fs out t = behind_is_not fs out t
+next (mode.Negating level) fs out t = negating level fs out t
+next mode.Casting fs out t = behind_cast fs out t
+next mode.CastType fs out t = cast_wanted fs out t
+next mode.CastEnd fs out t = behind_cast_type fs out t
+next (mode.Escaping k) fs out t = behind_escape k fs out t
+
+-- where the tokens end
+unfoldable pub finish : Mode → List Frame → List Step → Option (List Step)
+finish (mode.Have level) fs out =
+    let a = settled or_level level fs out in end_behind a.frames a.steps
+finish m fs out = None
+
+-- the steps of what the tokens go on to
+unfoldable pub run : State → List Token → Option (List Step)
+run s [] = finish s.mode s.frames s.steps
+run s (t ∷ ts) = option_and_then (λ r. run r ts) (next s.mode s.frames s.steps t)
+
+unfoldable pub steps_of : List Token → Option (List Step)
+steps_of ts = run (state mode.Want [] []) ts

@@ -1,0 +1,25 @@
+-- Trees of syntax, with the brackets that are written.
+use Rattle.std.specs.Prelude.{ℕ, List, Bool, Option}
+use Rattle.vortex_syntax.specs.declared.step.Operator.{Operator}
+use Rattle.vortex_syntax.specs.declared.step.LikeKind.{LikeKind}
+use Rattle.vortex_syntax.specs.Tokens.{Token}
+
+-- operand: a column or a literal, by its token
+-- negative: the literal of these digits with a minus sign before them
+-- typed: a literal of the type of that name, which is nullable where that is true
+-- grouped: a tree in brackets
+-- tested: IS NOT NULL, or where the mark is false IS NULL
+-- between: NOT BETWEEN, or where the mark is false BETWEEN, of an operand and its two bounds
+-- matched: LIKE of an operand and a pattern, and the escape as written, where one is chosen
+-- cast: a tree, cast to the type of that name, which is nullable where that is true
+pub data Syntax : Type 0 where
+  operand : Token → Syntax
+  negative : List ℕ → Syntax
+  typed : Syntax → List ℕ → Bool → Syntax
+  grouped : Syntax → Syntax
+  negated : Syntax → Syntax
+  joined : Operator → Syntax → Syntax → Syntax
+  tested : Bool → Syntax → Syntax
+  between : Bool → Syntax → Syntax → Syntax → Syntax
+  matched : LikeKind → Syntax → Syntax → Option (List ℕ) → Syntax
+  cast : Syntax → List ℕ → Bool → Syntax

@@ -1,0 +1,33 @@
+//! What is refused.
+ghost use Rattle.std.specs.Prelude.{◌≡◌};
+ghost use Rattle.vortex_syntax.specs.declared.error.SyntaxError.TheVariants.{OutOfMemory};
+
+use std::alloc::{AllocError, AllocFailed};
+
+/// Why a text is no expression.
+#[derive(Clone, Copy, Debug, PartialEq, Eq)]
+pub enum SyntaxError {
+    /// No token begins at that byte.
+    NoToken(usize),
+    /// No expression goes on with the token at that byte, or none ends where the text ends.
+    Unexpected(usize),
+    /// Brackets nest too deep at that byte.
+    TooDeep(usize),
+    OutOfMemory,
+}
+
+impl From<AllocError> for SyntaxError {
+    ghost from_gives = { λ _ e. e ≡ OutOfMemory };
+
+    fn from(_error: AllocError) -> SyntaxError {
+        SyntaxError::OutOfMemory
+    }
+}
+
+impl<T: Drop> From<AllocFailed<T>> for SyntaxError {
+    ghost from_gives = { λ _ e. e ≡ OutOfMemory };
+
+    fn from(_error: AllocFailed<T>) -> SyntaxError {
+        SyntaxError::OutOfMemory
+    }
+}

@@ -1,0 +1,95 @@
+//! What waits for an operand while a text is read.
+ghost use Rattle.std.specs.Prelude.{◌≡◌};
+ghost use Rattle.vortex_syntax.specs.Postfix.{called};
+ghost use Rattle.vortex_syntax.specs.Reading as specs;
+
+use crate::levels::{ATOM, NOT, OR, PREDICATE, SUM, own, right};
+use crate::step::{Call, LikeKind, Operator};
+
+/// What waits for its last operand.
+#[derive(Clone, Copy, Debug, PartialEq, Eq)]
+pub enum Frame {
+    /// An opening bracket.
+    Open,
+    /// The bracket behind `cast`.
+    Cast,
+    Not,
+    Join(Operator),
+    /// BETWEEN before its `and`, or NOT BETWEEN.
+    Between(bool),
+    /// BETWEEN behind its `and`, or NOT BETWEEN.
+    Bounded(bool),
+    Like(LikeKind),
+}
+
+/// What may come next.
+#[derive(Clone, Copy, Debug, PartialEq, Eq)]
+pub enum Mode {
+    /// An operand.
+    Want,
+    /// The digits behind a minus sign.
+    Signed,
+    /// What follows an operand of that level.
+    Have(u8),
+    /// The type behind two colons.
+    Typing,
+    /// What follows `is`.
+    Is,
+    /// What follows `is not`.
+    IsNot,
+    /// What follows a `not` behind an operand of that level.
+    Negating(u8),
+    /// The bracket behind `cast`.
+    Casting,
+    /// The type behind `as`.
+    CastType,
+    /// The bracket behind that type.
+    CastEnd,
+    /// The text behind `escape`.
+    Escaping(LikeKind),
+}
+
+/// The level that an operand has at least which the frame waits for.
+pub fn hole(frame: Frame) -> u8
+    ensures { result ≡ specs.hole frame }
+{
+    match frame {
+        Frame::Open | Frame::Cast => OR,
+        Frame::Not => NOT,
+        Frame::Join(operator) => right(operator),
+        Frame::Between(_) | Frame::Bounded(_) | Frame::Like(_) => SUM,
+    }
+}
+
+/// The frame is closed before a sign of a lower level than this.
+pub fn guard(frame: Frame) -> u8
+    ensures { result ≡ specs.guard frame }
+{
+    match frame {
+        Frame::Between(_) => OR,
+        _ => hole(frame),
+    }
+}
+
+/// The level of what the frame becomes with its operand.
+pub fn whole(frame: Frame) -> u8
+    ensures { result ≡ specs.whole frame }
+{
+    match frame {
+        Frame::Open | Frame::Cast => ATOM,
+        Frame::Not => NOT,
+        Frame::Join(operator) => own(operator),
+        Frame::Between(_) | Frame::Bounded(_) | Frame::Like(_) => PREDICATE,
+    }
+}
+
+pub fn closing(frame: Frame) -> Call
+    ensures { called result ≡ specs.closing frame }
+{
+    match frame {
+        Frame::Open | Frame::Cast | Frame::Not => Call::Not,
+        Frame::Join(operator) => Call::Join(operator),
+        Frame::Between(negated) | Frame::Bounded(negated) => Call::Between(negated),
+        Frame::Like(kind) => Call::Like(kind),
+    }
+}

@@ -1,0 +1,24 @@
+//! Expressions as people write them: texts, tokens, and trees in postfix order.
+#![tactic(auto)]
+
+mod behind;
+mod error;
+mod frame;
+pub mod laws;
+mod levels;
+mod lexing;
+pub mod nesting;
+mod pieces;
+mod reader;
+mod reading;
+mod step;
+pub mod syntax;
+mod token;
+mod wanted;
+
+pub use error::SyntaxError;
+pub use lexing::{Tokens, read_tokens};
+pub use nesting::DEPTH;
+pub use step::{Call, LikeKind, Operator, Step};
+pub use syntax::read_syntax;
+pub use token::{Sign, Token};

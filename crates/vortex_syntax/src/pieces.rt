@@ -1,0 +1,263 @@
+//! The pieces of a text: gaps and tokens.
+ghost use Rattle.std.specs.Prelude.{◌≡◌, ◌<◌, ◌≤◌, suc, length, option_map, IfSome, take, drop};
+ghost use Rattle.vortex_syntax.specs.Keywords.{same_word, keyword_of};
+ghost use Rattle.vortex_syntax.specs.Tokens.{token_in};
+ghost use Rattle.vortex_syntax.specs.Pieces.{piece_in, is_blank, begins_word, is_in, front, behind};
+ghost use Rattle.vortex_syntax.specs.Pieces.{keyword_or_name, word_before, number_before, closed};
+ghost use Rattle.vortex_syntax.specs.Pieces.{quoted_by, sign_of_two, sign_of_one, longest_sign};
+ghost use Rattle.vortex_syntax.specs.Pieces.{minus_or_comment, first_piece};
+
+use crate::token::{Sign, Token};
+
+/// Bytes that go on.
+#[derive(Clone, Copy, Debug, PartialEq, Eq)]
+pub enum Run {
+    /// Letters, digits and `_`.
+    Word,
+    Digits,
+    /// All but the ends of lines.
+    Line,
+}
+
+/// A piece of a text.
+#[derive(Clone, Copy, Debug, PartialEq, Eq)]
+pub enum Piece<'a> {
+    /// White space or a comment.
+    Gap,
+    Token(Token<'a>),
+}
+
+fn is_blank(byte: u8) -> bool
+    ensures { result ≡ is_blank byte }
+{
+    byte == b' ' || byte == b'\t' || byte == b'\n' || byte == b'\r'
+}
+
+fn begins_word(byte: u8) -> bool
+    ensures { result ≡ begins_word byte }
+{
+    byte.is_ascii_alphabetic() || byte == b'_'
+}
+
+fn is_in(run: Run, byte: u8) -> bool
+    ensures { result ≡ is_in run byte }
+{
+    match run {
+        Run::Word => byte.is_ascii_alphanumeric() || byte == b'_',
+        Run::Digits => byte.is_ascii_digit(),
+        Run::Line => { if byte == b'\n' { false } else { byte != b'\r' } }
+    }
+}
+
+/// How many bytes of the run the text begins with.
+fn run_len(run: Run, text: &[u8]) -> usize
+    ensures within { result ≤ length text.now }
+    ensures front { take result text.now ≡ front run text.now }
+    ensures behind { drop result text.now ≡ behind run text.now }
+{
+    for (i, byte) in text.iter().enumerate() {
+        if !is_in(run, *byte) {
+            return i;
+        }
+    }
+    text.len()
+}
+
+/// The bytes of the run that the text begins with, and those behind them.
+fn split_run(run: Run, text: &[u8]) -> (&[u8], &[u8])
+    ensures front { result.0.now ≡ front run text.now }
+    ensures behind { result.1.now ≡ behind run text.now }
+    ensures shorter { length result.1.now ≤ length text.now }
+{
+    text.split_at(run_len(run, text))
+}
+
+/// Whether it is that word, but for the case of letters.
+fn is_same_word(word: &[u8], other: &[u8]) -> bool
+    ensures { result ≡ same_word word.now other.now }
+{
+    word.eq_ignore_ascii_case(other)
+}
+
+#[tactic(auto, unfolding(crate::specs::Keywords::keyword_of))]
+fn keyword_of(word: &[u8]) -> Option<Sign>
+    ensures { result ≡ keyword_of word.now }
+{
+    if is_same_word(word, b"and") {
+        Some(Sign::And)
+    } else if is_same_word(word, b"or") {
+        Some(Sign::Or)
+    } else if is_same_word(word, b"not") {
+        Some(Sign::Not)
+    } else if is_same_word(word, b"is") {
+        Some(Sign::Is)
+    } else if is_same_word(word, b"null") {
+        Some(Sign::Null)
+    } else if is_same_word(word, b"between") {
+        Some(Sign::Between)
+    } else if is_same_word(word, b"like") {
+        Some(Sign::Like)
+    } else if is_same_word(word, b"ilike") {
+        Some(Sign::Ilike)
+    } else if is_same_word(word, b"escape") {
+        Some(Sign::Escape)
+    } else if is_same_word(word, b"true") {
+        Some(Sign::True)
+    } else if is_same_word(word, b"false") {
+        Some(Sign::False)
+    } else if is_same_word(word, b"cast") {
+        Some(Sign::Cast)
+    } else if is_same_word(word, b"as") {
+        Some(Sign::As)
+    } else {
+        None
+    }
+}
+
+fn keyword_or_name(word: &[u8]) -> Token<'_>
+    ensures { token_in result ≡ keyword_or_name word.now (keyword_of word.now) }
+{
+    match keyword_of(word) {
+        Some(sign) => Token::Sign(sign),
+        None => Token::Name(word),
+    }
+}
+
+/// The piece of a word, by what stands behind the word, and what stands behind the piece.
+fn word_before<'a>(word: &'a [u8], rest: &'a [u8]) -> (Piece<'a>, &'a [u8])
+    ensures piece { (piece_in result.0, result.1.now) ≡ word_before word.now rest.now }
+    ensures shorter { length result.1.now ≤ length rest.now }
+{
+    match rest {
+        [b'?', rest @ ..] => (Piece::Token(Token::Nullable(word)), rest),
+        _ => (Piece::Token(keyword_or_name(word)), rest),
+    }
+}
+
+/// The piece of a number, by what stands behind its digits.
+fn number_before<'a>(digits: &'a [u8], rest: &'a [u8]) -> Option<(Piece<'a>, &'a [u8])>
+    ensures piece { option_map (λ x. (piece_in x.0, x.1.now)) result
+        ≡ number_before digits.now rest.now }
+    ensures shorter { IfSome result (λ x. length x.1.now ≤ length rest.now) }
+{
+    if let Some(byte) = rest.first()
+        && is_in(Run::Word, *byte)
+    {
+        return None;
+    }
+    Some((Piece::Token(Token::Number(digits)), rest))
+}
+
+/// How many bytes stand before the first quote that is not written twice.
+fn closing_quote(quote: u8, text: &[u8]) -> Option<usize>
+    ensures closed { option_map (λ n. (take n text.now, drop (suc n) text.now)) result
+        ≡ closed quote text.now }
+    ensures within { IfSome result (λ n. n < length text.now) }
+{
+    let mut i = 0;
+    while i < text.len() {
+        if text[i] != quote {
+            i += 1;
+        } else if i + 1 < text.len() && text[i + 1] == quote {
+            i += 2;
+        } else {
+            return Some(i);
+        }
+    }
+    None
+}
+
+/// The text up to its closing quote, and what stands behind that.
+fn split_quoted(quote: u8, text: &[u8]) -> Option<(&[u8], &[u8])>
+    ensures closed { option_map (λ x. (x.0.now, x.1.now)) result ≡ closed quote text.now }
+    ensures shorter { IfSome result (λ x. length x.1.now < length text.now) }
+{
+    let n = closing_quote(quote, text)?;
+    Some((&text[..n], &text[n + 1..]))
+}
+
+fn sign_of_two(first: u8, second: u8) -> Option<Sign>
+    ensures { result ≡ sign_of_two first second }
+{
+    match (first, second) {
+        (b'<', b'=') => Some(Sign::LessOrEqual),
+        (b'<', b'>') => Some(Sign::NotEqual),
+        (b'>', b'=') => Some(Sign::GreaterOrEqual),
+        (b'!', b'=') => Some(Sign::NotEqual),
+        (b':', b':') => Some(Sign::Typed),
+        _ => None,
+    }
+}
+
+fn sign_of_one(byte: u8) -> Option<Sign>
+    ensures { result ≡ sign_of_one byte }
+{
+    match byte {
+        b'=' => Some(Sign::Equal),
+        b'<' => Some(Sign::Less),
+        b'>' => Some(Sign::Greater),
+        b'+' => Some(Sign::Plus),
+        b'*' => Some(Sign::Times),
+        b'/' => Some(Sign::Divide),
+        b'(' => Some(Sign::Open),
+        b')' => Some(Sign::Close),
+        b',' => Some(Sign::Comma),
+        _ => None,
+    }
+}
+
+/// The sign that begins with the byte, of two characters where there is one.
+fn longest_sign(first: u8, rest: &[u8]) -> Option<(Piece<'_>, &[u8])>
+    ensures piece { option_map (λ x. (piece_in x.0, x.1.now)) result ≡ longest_sign first rest.now }
+    ensures shorter { IfSome result (λ x. length x.1.now ≤ length rest.now) }
+{
+    if let [second, behind @ ..] = rest
+        && let Some(sign) = sign_of_two(first, *second)
+    {
+        return Some((Piece::Token(Token::Sign(sign)), behind));
+    }
+    let sign = sign_of_one(first)?;
+    Some((Piece::Token(Token::Sign(sign)), rest))
+}
+
+/// Minus, or a comment that a second minus begins.
+fn minus_or_comment(rest: &[u8]) -> Option<(Piece<'_>, &[u8])>
+    ensures piece { option_map (λ x. (piece_in x.0, x.1.now)) result ≡ minus_or_comment rest.now }
+    ensures shorter { IfSome result (λ x. length x.1.now ≤ length rest.now) }
+{
+    match rest {
+        [b'-', comment @ ..] => {
+            let (_, behind) = split_run(Run::Line, comment);
+            Some((Piece::Gap, behind))
+        }
+        _ => Some((Piece::Token(Token::Sign(Sign::Minus)), rest)),
+    }
+}
+
+/// The first piece of the text, and what stands behind it; nothing where none begins.
+#[tactic(auto, unfolding(crate::specs::Pieces::first_piece))]
+pub(crate) fn first_piece(text: &[u8]) -> Option<(Piece<'_>, &[u8])>
+    ensures piece { option_map (λ x. (piece_in x.0, x.1.now)) result ≡ first_piece text.now }
+    ensures shorter { IfSome result (λ x. length x.1.now < length text.now) }
+{
+    let (first, rest) = text.split_first()?;
+    if is_blank(*first) {
+        Some((Piece::Gap, rest))
+    } else if *first == b'-' {
+        minus_or_comment(rest)
+    } else if begins_word(*first) {
+        let (word, behind) = split_run(Run::Word, text);
+        Some(word_before(word, behind))
+    } else if first.is_ascii_digit() {
+        let (digits, behind) = split_run(Run::Digits, text);
+        number_before(digits, behind)
+    } else if *first == b'\'' {
+        let (text, behind) = split_quoted(b'\'', rest)?;
+        Some((Piece::Token(Token::Text(text)), behind))
+    } else if *first == b'"' {
+        let (name, behind) = split_quoted(b'"', rest)?;
+        Some((Piece::Token(Token::Quoted(name)), behind))
+    } else {
+        longest_sign(*first, rest)
+    }
+}

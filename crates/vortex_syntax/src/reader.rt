@@ -1,0 +1,76 @@
+//! Reading tokens from left to right.
+ghost use Rattle.std.specs.Prelude.{◌≡◌, map, option_map, IfOk, MatchResult, Some, None};
+ghost use Rattle.vortex_syntax.specs.Tokens.{token_in};
+ghost use Rattle.vortex_syntax.specs.Postfix.{step_in};
+ghost use Rattle.vortex_syntax.specs.Reading as specs;
+ghost use Rattle.vortex_syntax.specs.Reading.{frames_in, steps_in, Gives, steps_of};
+ghost use Rattle.vortex_syntax.specs.Errors.{UnlessMemory};
+
+use crate::error::SyntaxError;
+use crate::frame::Mode;
+use crate::levels::OR;
+use crate::lexing::Tokens;
+use crate::reading::Reading;
+use crate::step::Step;
+use crate::token::Token;
+use std::alloc::{AllocError, Global};
+
+impl<'a> Reading<'a> {
+    /// What the next token makes of what is read.
+    #[tactic(auto, unfolding(crate::specs::Reading::next))]
+    fn next(&mut self, mode: Mode, token: Token<'a>) -> Result<Option<Mode>, AllocError>
+        ensures { Gives result self.new
+            (specs.next mode (frames_in self.old) (steps_in self.old) (token_in token.entry)) }
+    {
+        match mode {
+            Mode::Want => self.wanted(token),
+            Mode::Signed => self.digits_wanted(token),
+            Mode::Have(level) => self.behind(level, token),
+            Mode::Typing => self.type_wanted(token),
+            Mode::Is => self.behind_is(token),
+            Mode::IsNot => self.behind_is_not(token),
+            Mode::Negating(level) => self.negating(level, token),
+            Mode::Casting => self.behind_cast(token),
+            Mode::CastType => self.cast_wanted(token),
+            Mode::CastEnd => self.behind_cast_type(token),
+            Mode::Escaping(kind) => self.behind_escape(kind, token),
+        }
+    }
+
+    /// The steps, where the tokens end.
+    #[tactic(auto, unfolding(crate::specs::Reading::finish))]
+    fn finish(mut self, mode: Mode) -> Result<Option<Vec<Step<'a>>>, AllocError>
+        ensures { IfOk result (λ r. option_map (λ v. map step_in v.items) r
+            ≡ specs.finish mode (frames_in self.entry) (steps_in self.entry)) }
+    {
+        let Mode::Have(level) = mode else {
+            return Ok(None);
+        };
+        let _level = self.settle(OR, level)?;
+        if self.frames.is_empty() {
+            Ok(Some(self.steps))
+        } else {
+            Ok(None)
+        }
+    }
+}
+
+/// The steps of what the tokens spell; else the first token with which none goes on, by its byte.
+pub(crate) fn read_steps<'a>(alloc: Global, read: &Tokens<'a>) -> Result<Vec<Step<'a>>, SyntaxError>
+    ensures { MatchResult result
+        (λ v. steps_of (map token_in read.now.tokens.items) ≡ Some (map step_in v.items))
+        (UnlessMemory (steps_of (map token_in read.now.tokens.items) ≡ None)) }
+{
+    let mut reading = Reading::new(alloc);
+    let mut mode = Mode::Want;
+    for (i, token) in read.tokens.iter().enumerate() {
+        let Some(next) = reading.next(mode, *token)? else {
+            return Err(SyntaxError::Unexpected(read.byte(i)));
+        };
+        mode = next;
+    }
+    match reading.finish(mode)? {
+        Some(steps) => Ok(steps),
+        None => Err(SyntaxError::Unexpected(read.end)),
+    }
+}

@@ -1,0 +1,141 @@
+//! What is read so far, and what a sign closes of it.
+ghost use Rattle.std.specs.Prelude.{◌≡◌, ◌++◌, ◌∷◌, [], ◌<◌, List, ℕ, map, vec_len};
+ghost use Rattle.std.specs.Prelude.{IfOk, OnOk, IfSome, MatchOption};
+ghost use Rattle.vortex_syntax.specs.Postfix.{step_in};
+ghost use Rattle.vortex_syntax.specs.Reading as specs;
+ghost use Rattle.vortex_syntax.specs.Reading.{frames_in, steps_in, operand_of, settled};
+ghost use Rattle.vortex_syntax.specs.Reading.{closed_once, Gives, waiting, shifted};
+
+use crate::frame::{Frame, Mode, closing, guard, hole, whole};
+use crate::levels::OR;
+use crate::step::Step;
+use std::alloc::{AllocError, Global};
+
+/// What is read so far: what waits for its last operand, and the steps.
+#[derive(Drop)]
+pub struct Reading<'a> {
+    pub frames: Vec<Frame>,
+    pub steps: Vec<Step<'a>>,
+}
+
+impl<'a> Reading<'a> {
+    pub fn new(alloc: Global) -> Reading<'a>
+        ensures frames { frames_in result ≡ [] }
+        ensures steps { steps_in result ≡ [] }
+    {
+        Reading {
+            frames: Vec::new(alloc),
+            steps: Vec::new(alloc),
+        }
+    }
+
+    pub fn wait(&mut self, frame: Frame) -> Result<(), AllocError>
+        ensures frames { OnOk result (frames_in self.new ≡ frame ∷ frames_in self.old) }
+        ensures steps { steps_in self.new ≡ steps_in self.old }
+    {
+        self.frames.push(frame)?;
+        Ok(())
+    }
+
+    pub fn emit(&mut self, step: Step<'a>) -> Result<(), AllocError>
+        ensures steps { OnOk result
+            (steps_in self.new ≡ steps_in self.old ++ (step_in step.entry ∷ [])) }
+        ensures frames { frames_in self.new ≡ frames_in self.old }
+    {
+        self.steps.push(step)?;
+        Ok(())
+    }
+
+    /// The last frame, which stays.
+    pub fn top(&self) -> Option<Frame>
+        ensures { MatchOption result (frames_in self.now ≡ [])
+            (λ f. (fs : List Frame) × (frames_in self.now ≡ f ∷ fs)) }
+    {
+        self.frames.last().copied()
+    }
+
+    /// Takes the last frame, where there is one.
+    pub fn drop_top(&mut self)
+        ensures frames { (f : Frame) (fs : List Frame) → frames_in self.old ≡ f ∷ fs
+            → frames_in self.new ≡ fs }
+        ensures steps { steps_in self.new ≡ steps_in self.old }
+        ensures fewer { (f : Frame) (fs : List Frame) → frames_in self.old ≡ f ∷ fs
+            → vec_len self.new.frames < vec_len self.old.frames }
+    {
+        let _taken = self.frames.pop();
+    }
+
+    /// The level that an operand has at least which the last frame waits for.
+    pub fn top_hole(&self) -> u8
+        ensures { result ≡ specs.top_hole (frames_in self.now) }
+    {
+        match self.top() {
+            Some(frame) => hole(frame),
+            None => OR,
+        }
+    }
+
+    /// Closes the last frame where it binds tighter than a sign of that level, and answers the
+    /// level of what it becomes.
+    pub fn close_one(&mut self, reach: u8) -> Result<Option<u8>, AllocError>
+        ensures closes { IfOk result (λ r. (l : ℕ)
+            → settled reach l (frames_in self.old) (steps_in self.old)
+            ≡ closed_once r reach l (frames_in self.new) (steps_in self.new)) }
+        ensures fewer { IfOk result
+            (λ r. IfSome r (λ l. vec_len self.new.frames < vec_len self.old.frames)) }
+    {
+        let Some(frame) = self.top() else {
+            return Ok(None);
+        };
+        if reach >= guard(frame) {
+            return Ok(None);
+        }
+        self.emit(Step::Call(closing(frame)))?;
+        self.drop_top();
+        Ok(Some(whole(frame)))
+    }
+
+    /// Closes what binds tighter than a sign of that level, and answers the operand's level.
+    pub fn settle(&mut self, reach: u8, level: u8) -> Result<u8, AllocError>
+        ensures { IfOk result (λ l. settled reach level (frames_in self.old) (steps_in self.old)
+            ≡ operand_of l (frames_in self.new) (steps_in self.new)) }
+    {
+        let mut level = level;
+        while let Some(closed) = self.close_one(reach)? {
+            level = closed;
+        }
+        Ok(level)
+    }
+
+    /// A sign of a level whose left operand has at least another, behind which a frame waits.
+    pub fn wait_if(
+        &mut self,
+        reach: u8,
+        least: u8,
+        frame: Frame,
+        level: u8,
+    ) -> Result<Option<Mode>, AllocError>
+        ensures { Gives result self.new
+            (waiting reach least frame (operand_of level (frames_in self.old) (steps_in self.old))) }
+    {
+        if level < least || reach < self.top_hole() {
+            return Ok(None);
+        }
+        self.wait(frame)?;
+        Ok(Some(Mode::Want))
+    }
+
+    pub fn shift(
+        &mut self,
+        reach: u8,
+        least: u8,
+        frame: Frame,
+        level: u8,
+    ) -> Result<Option<Mode>, AllocError>
+        ensures { Gives result self.new
+            (shifted reach least frame level (frames_in self.old) (steps_in self.old)) }
+    {
+        let level = self.settle(reach, level)?;
+        self.wait_if(reach, least, frame, level)
+    }
+}

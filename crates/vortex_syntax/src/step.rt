@@ -1,0 +1,55 @@
+//! Trees in postfix order.
+use crate::token::Token;
+
+/// What stands between two operands.
+#[derive(Clone, Copy, Debug, PartialEq, Eq)]
+pub enum Operator {
+    Or,
+    And,
+    Equal,
+    NotEqual,
+    Less,
+    LessOrEqual,
+    Greater,
+    GreaterOrEqual,
+    Add,
+    Sub,
+    Mul,
+    Div,
+}
+
+/// Which LIKE is meant.
+#[derive(Clone, Copy, Debug, PartialEq, Eq)]
+pub struct LikeKind {
+    pub negated: bool,
+    pub case_insensitive: bool,
+}
+
+/// A call of the trees before it.
+#[derive(Clone, Copy, Debug, PartialEq, Eq)]
+pub enum Call {
+    Not,
+    Join(Operator),
+    IsNull,
+    IsNotNull,
+    /// BETWEEN of three trees, or NOT BETWEEN.
+    Between(bool),
+    /// LIKE without a chosen escape.
+    Like(LikeKind),
+}
+
+/// A step of a tree in postfix order.
+#[derive(Clone, Copy, Debug, PartialEq, Eq)]
+pub enum Step<'a> {
+    /// A column or a literal, by its token.
+    Operand(Token<'a>),
+    /// The literal of these digits with a minus sign before them.
+    Negative(&'a [u8]),
+    /// The literal before it is of the type of that name, of the nullable one where that is said.
+    Typed(&'a [u8], bool),
+    /// The tree before it, cast to a type.
+    Cast(&'a [u8], bool),
+    /// LIKE of the two trees before it, with the escape as written.
+    Escaped(LikeKind, &'a [u8]),
+    Call(Call),
+}

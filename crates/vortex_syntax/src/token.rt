@@ -1,0 +1,51 @@
+//! Tokens of expressions.
+
+/// A keyword or a sign.
+#[derive(Clone, Copy, Debug, PartialEq, Eq)]
+pub enum Sign {
+    And,
+    Or,
+    Not,
+    Is,
+    Null,
+    Between,
+    Like,
+    Ilike,
+    Escape,
+    True,
+    False,
+    Cast,
+    As,
+    Equal,
+    NotEqual,
+    Less,
+    LessOrEqual,
+    Greater,
+    GreaterOrEqual,
+    Plus,
+    Minus,
+    Times,
+    Divide,
+    Open,
+    Close,
+    Comma,
+    /// Two colons.
+    Typed,
+}
+
+/// A token, by its bytes in the text.
+#[derive(Clone, Copy, Debug, PartialEq, Eq)]
+pub enum Token<'a> {
+    /// A word that is no keyword.
+    Name(&'a [u8]),
+    /// A word with a question mark behind it, which is not in the bytes.
+    Nullable(&'a [u8]),
+    /// What stands between double quotes, as written.
+    Quoted(&'a [u8]),
+    /// Digits.
+    Number(&'a [u8]),
+    /// What stands between single quotes, as written.
+    Text(&'a [u8]),
+    /// A keyword or a sign.
+    Sign(Sign),
+}
