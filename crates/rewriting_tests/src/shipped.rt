@@ -20,7 +20,7 @@ fn reduced_by<C: ScalarFnRules, T: ReduceNode<C>>(
     function: &ScalarFnRef<C>,
     node: &T,
 ) -> VortexResult<Option<T>>
-    requires { called (T.tree node.now) ≡ Some (function_of function.now) }
+    requires { called (T.seen node.now).tree ≡ Some (function_of function.now) }
 {
     match function {
         ScalarFnRef::Binary(operator) => Binary.reduce::<C, T>(alloc, operator, node),
@@ -40,7 +40,7 @@ fn validity_by<C: ScalarFnRules, T: ReduceTree<C>>(
     function: &ScalarFnRef<C>,
     node: &T,
 ) -> VortexResult<ReduceNodeValidity<T>>
-    requires { called (T.tree node.now) ≡ Some (function_of function.now) }
+    requires { called (T.seen node.now).tree ≡ Some (function_of function.now) }
 {
     match function {
         ScalarFnRef::Binary(operator) => Binary.validity::<C, T>(alloc, operator, node),
