@@ -10,7 +10,7 @@ use Rattle.vortex_columns.specs.ColumnView.{ColumnView, row, AreTyped}
 use Rattle.vortex_errors.specs.Answers.{Answers, AnswersUnlessMemory}
 use Rattle.vortex_errors.proofs.Answering.{Answers-weaker}
 use Rattle.vortex_kernels.proofs.RowLemmas.{bool_dtype}
-use Rattle.vortex_meaning.specs.Outcomes.{gives, faults, custom, HasCallRows, IsCallFault, types_in}
+use Rattle.vortex_interface.specs.Outcomes.{gives, faults, custom, HasCallRows, IsCallFault, types_in}
 use Rattle.caller_functions.specs.MustBeTrue.{must_be_true, same_bool}
 
 pub record OneBool (cs : List ColumnView) (c : ColumnView) : Type 0 where

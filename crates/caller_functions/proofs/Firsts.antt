@@ -8,13 +8,13 @@ use Rattle.vortex_errors.specs.Answers.{Answers, AnswersUnlessMemory}
 use Rattle.vortex_errors.proofs.Answering.{Answers-weaker}
 use Rattle.vortex_types.specs.LogicalTypes.{LogicalType}
 use Rattle.vortex_columns.specs.ColumnView.{ColumnView, row}
-use Rattle.vortex_meaning.specs.Outcomes.{gives, types_in, HasCallRows, IsCallFault}
-use Rattle.vortex_meaning.specs.Meaning.{fits}
-use Rattle.vortex_meaning.specs.Functions.{custom}
-use Rattle.vortex_meaning.specs.Trees.{Tree, leaf, constant, call, no_trees, tree, children_of}
-use Rattle.vortex_meaning.specs.Trees.{called}
-use Rattle.vortex_meaning.specs.Eval.{tree_type}
-use Rattle.vortex_meaning.specs.ReduceRules.{reduce}
+use Rattle.vortex_interface.specs.Outcomes.{gives, types_in, HasCallRows, IsCallFault}
+use Rattle.vortex_interface.specs.Meaning.{fits}
+use Rattle.vortex_interface.specs.Functions.{custom}
+use Rattle.vortex_interface.specs.Trees.{Tree, leaf, constant, call, no_trees, tree, children_of}
+use Rattle.vortex_interface.specs.Trees.{called}
+use Rattle.vortex_interface.specs.Eval.{tree_type}
+use Rattle.vortex_interface.specs.ReduceRules.{reduce}
 use Rattle.vortex_rewriting.proofs.Calls.{children_fit}
 use Rattle.caller_functions.specs.First.{first_type, first_value, first_meaning, first_rules}
 

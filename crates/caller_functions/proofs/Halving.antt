@@ -19,8 +19,8 @@ use Rattle.vortex_operators.specs.Arithmetic.{arithmetic_value, integer_of_both}
 use Rattle.vortex_kernels.specs.Numeric.{AnswersNumeric, RefusesNumeric, unlike, uneven, faulty}
 use Rattle.vortex_kernels.proofs.Calculating.{within_not}
 use Rattle.vortex_kernels.proofs.Comparing.{constant_has_rows}
-use Rattle.vortex_meaning.specs.Outcomes.{gives, faults, custom, HasCallRows, IsCallFault, types_in}
-use Rattle.vortex_meaning.specs.Outcomes.{values_at}
+use Rattle.vortex_interface.specs.Outcomes.{gives, faults, custom, HasCallRows, IsCallFault, types_in}
+use Rattle.vortex_interface.specs.Outcomes.{values_at}
 use Rattle.caller_functions.specs.Half.{is_odd, half_of, half, same_i32, half_fits}
 
 pub record OneI32 (cs : List ColumnView) (c : ColumnView) : Type 0 where

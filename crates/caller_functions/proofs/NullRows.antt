@@ -12,7 +12,7 @@ use Rattle.vortex_types.specs.TypeOf.{type_of}
 use Rattle.vortex_types.specs.Values.{null}
 use Rattle.vortex_types.specs.ScalarView.{ScalarView}
 use Rattle.vortex_columns.specs.ColumnView.{ColumnView, row, constant_column}
-use Rattle.vortex_meaning.specs.Outcomes.{gives, HasCallRows, IsCallFault}
+use Rattle.vortex_interface.specs.Outcomes.{gives, HasCallRows, IsCallFault}
 
 -- so many nulls of nullable Bool
 abbrev pub nulls : ℕ → ColumnView

@@ -7,7 +7,7 @@ use Rattle.vortex_errors.specs.Answers.{Answers, AnswersUnlessMemory}
 use Rattle.vortex_errors.proofs.Answering.{Answers-weaker}
 use Rattle.vortex_types.specs.Values.{Value, null, is_null}
 use Rattle.vortex_columns.specs.ColumnView.{ColumnView, row}
-use Rattle.vortex_meaning.specs.Outcomes.{gives, faults, custom, HasCallRows, IsCallFault, types_in}
+use Rattle.vortex_interface.specs.Outcomes.{gives, faults, custom, HasCallRows, IsCallFault, types_in}
 use Rattle.caller_functions.specs.Required.{required, same_type}
 
 pub only : (cs : List ColumnView) (c : ColumnView) → IsSome (same_type (types_in cs))

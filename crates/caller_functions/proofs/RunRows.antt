@@ -30,7 +30,7 @@ use Rattle.vortex_operators.specs.declared.operators.CompareOperator.{CompareOpe
 use Rattle.vortex_types.specs.TypeEquality.{alike_types}
 use Rattle.vortex_kernels.proofs.Comparing.{constant_row}
 use Rattle.vortex_kernels.proofs.RowLemmas.{bool_answers, bool_dtype, get_or-last, get_or-before}
-use Rattle.vortex_encoded.specs.Encoded.{IsDecoded}
+use Rattle.vortex_arrays.specs.Encoded.{IsDecoded}
 use Rattle.caller_functions.specs.RunLength.{run_at, run_column, HasRunRows, IsRunValidity}
 use Rattle.caller_functions.specs.RunLength.{AreRunInts, is_true, is_i32, are_kept}
 use Rattle.vortex_types.specs.declared.dtype.PType.TheVariants.{I32}

@@ -5,11 +5,11 @@ use Rattle.std.proofs.Common.{ap, ◌∙◌, arith, sym}
 use Rattle.vortex_errors.specs.declared.arity.Arity.TheVariants.{Variadic}
 use Rattle.vortex_types.specs.LogicalTypes.{LogicalType, bool_type, is_nullable}
 use Rattle.vortex_types.specs.Values.{null}
-use Rattle.vortex_meaning.specs.Outcomes.{gives, GivesType}
-use Rattle.vortex_meaning.specs.Meaning.{Meaning, Lawful}
-use Rattle.vortex_meaning.specs.Rewrites.{LawfulRules}
-use Rattle.vortex_meaning.specs.ValidityRules.{default_rules}
-use Rattle.vortex_meaning.proofs.Validities.{default_rules_lawful}
+use Rattle.vortex_interface.specs.Outcomes.{gives, GivesType}
+use Rattle.vortex_interface.specs.Meaning.{Meaning, Lawful}
+use Rattle.vortex_interface.specs.Rewrites.{LawfulRules}
+use Rattle.vortex_interface.specs.ValidityRules.{default_rules}
+use Rattle.vortex_interface.proofs.Validities.{default_rules_lawful}
 use Rattle.vortex_rewriting.specs.Identities.{IsOwnIdentity, first_letter}
 
 abbrev pub blank_meaning : {V O : Type 0} → Meaning V O

@@ -5,10 +5,10 @@ use Rattle.vortex_errors.specs.declared.arity.Arity.TheVariants.{Variadic}
 use Rattle.vortex_types.specs.LogicalTypes.{LogicalType}
 use Rattle.vortex_types.specs.Values.{Value, null}
 use Rattle.vortex_types.specs.Typing.{HasType}
-use Rattle.vortex_meaning.specs.Outcomes.{Outcome, gives, GivesType, GivesValue}
-use Rattle.vortex_meaning.specs.Meaning.{Meaning, Lawful, HaveTypes}
-use Rattle.vortex_meaning.specs.Trees.{Tree, Trees, no_trees, tree}
-use Rattle.vortex_meaning.specs.Rules.{Rules}
+use Rattle.vortex_interface.specs.Outcomes.{Outcome, gives, GivesType, GivesValue}
+use Rattle.vortex_interface.specs.Meaning.{Meaning, Lawful, HaveTypes}
+use Rattle.vortex_interface.specs.Trees.{Tree, Trees, no_trees, tree}
+use Rattle.vortex_interface.specs.Rules.{Rules}
 
 abbrev pub first_value : List Value → Outcome
 first_value [] = gives null

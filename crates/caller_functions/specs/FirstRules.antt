@@ -2,11 +2,11 @@
 use Rattle.std.specs.Prelude.{◌≡◌, codes, get_or, Some}
 use Rattle.std.proofs.Common.{sym, ap, ◌∙◌, subst, arith, inl}
 use Rattle.vortex_types.specs.LogicalTypes.{LogicalType}
-use Rattle.vortex_meaning.specs.Functions.{custom}
-use Rattle.vortex_meaning.specs.Trees.{Tree, call, Trees, no_trees, tree}
-use Rattle.vortex_meaning.specs.Eval.{tree_type, tree_types, eval, eval_all}
-use Rattle.vortex_meaning.specs.Rewrites.{Rewrites, LawfulRules}
-use Rattle.vortex_meaning.proofs.TypedCalls.{typed_call, types_parts, means_parts, values_parts}
+use Rattle.vortex_interface.specs.Functions.{custom}
+use Rattle.vortex_interface.specs.Trees.{Tree, call, Trees, no_trees, tree}
+use Rattle.vortex_interface.specs.Eval.{tree_type, tree_types, eval, eval_all}
+use Rattle.vortex_interface.specs.Rewrites.{Rewrites, LawfulRules}
+use Rattle.vortex_interface.proofs.TypedCalls.{typed_call, types_parts, means_parts, values_parts}
 use Rattle.vortex_rewriting.specs.Identities.{IsOwnIdentity, first_letter}
 use Rattle.caller_functions.specs.First.{first_value, first_type, first_tree, first_meaning}
 use Rattle.caller_functions.specs.First.{first_rules}

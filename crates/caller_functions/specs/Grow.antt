@@ -6,14 +6,14 @@ use Rattle.vortex_errors.specs.declared.arity.Arity.TheVariants.{Exact}
 use Rattle.vortex_types.specs.LogicalTypes.{LogicalType, bool_type}
 use Rattle.vortex_types.specs.Values.{Value, null}
 use Rattle.vortex_types.specs.Typing.{HasType}
-use Rattle.vortex_meaning.specs.Outcomes.{GivesType, GivesNull, GivesValue}
-use Rattle.vortex_meaning.specs.Meaning.{Meaning, Lawful, HaveTypes}
-use Rattle.vortex_meaning.specs.Arguments.{only}
-use Rattle.vortex_meaning.specs.Shipped.{Not}
-use Rattle.vortex_meaning.specs.Shipped.NotFunction.{not_type, not_lawful}
-use Rattle.vortex_meaning.specs.Functions.{ours, custom}
-use Rattle.vortex_meaning.specs.Trees.{Tree, call, Trees, no_trees, tree}
-use Rattle.vortex_meaning.specs.Rules.{Rules}
+use Rattle.vortex_interface.specs.Outcomes.{GivesType, GivesNull, GivesValue}
+use Rattle.vortex_interface.specs.Meaning.{Meaning, Lawful, HaveTypes}
+use Rattle.vortex_interface.specs.Arguments.{only}
+use Rattle.vortex_interface.specs.Shipped.{Not}
+use Rattle.vortex_interface.specs.Shipped.NotFunction.{not_type, not_lawful}
+use Rattle.vortex_interface.specs.Functions.{ours, custom}
+use Rattle.vortex_interface.specs.Trees.{Tree, call, Trees, no_trees, tree}
+use Rattle.vortex_interface.specs.Rules.{Rules}
 use Rattle.caller_functions.specs.First.{first_value}
 
 abbrev pub grow_meaning : {V O : Type 0} → Meaning V O

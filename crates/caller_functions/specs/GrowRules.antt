@@ -5,17 +5,17 @@ use Rattle.vortex_types.specs.LogicalTypes.{LogicalType, bool_type}
 use Rattle.vortex_types.specs.Values.{Value, null, truth, number, text, bytes, list}
 use Rattle.vortex_types.specs.Typing.{HasType}
 use Rattle.vortex_operators.specs.OperatorValues.{not_value}
-use Rattle.vortex_meaning.specs.Outcomes.{gives}
-use Rattle.vortex_meaning.specs.Shipped.{Not}
-use Rattle.vortex_meaning.specs.Shipped.NotFunction.{not_type}
-use Rattle.vortex_meaning.specs.Functions.{ours, custom}
-use Rattle.vortex_meaning.specs.Trees.{Tree, call, Trees, no_trees, tree}
-use Rattle.vortex_meaning.specs.Eval.{tree_type}
-use Rattle.vortex_meaning.specs.Rewrites.{Rewrites, LawfulRules}
-use Rattle.vortex_meaning.proofs.TypedCalls.{typed_call, one_type, type_of_one, eval_one}
-use Rattle.vortex_meaning.proofs.TypedValues.{value_typed}
-use Rattle.vortex_meaning.proofs.Leaves.{in_one}
-use Rattle.vortex_meaning.proofs.Rewriting.{child_rewrites}
+use Rattle.vortex_interface.specs.Outcomes.{gives}
+use Rattle.vortex_interface.specs.Shipped.{Not}
+use Rattle.vortex_interface.specs.Shipped.NotFunction.{not_type}
+use Rattle.vortex_interface.specs.Functions.{ours, custom}
+use Rattle.vortex_interface.specs.Trees.{Tree, call, Trees, no_trees, tree}
+use Rattle.vortex_interface.specs.Eval.{tree_type}
+use Rattle.vortex_interface.specs.Rewrites.{Rewrites, LawfulRules}
+use Rattle.vortex_interface.proofs.TypedCalls.{typed_call, one_type, type_of_one, eval_one}
+use Rattle.vortex_interface.proofs.TypedValues.{value_typed}
+use Rattle.vortex_interface.proofs.Leaves.{in_one}
+use Rattle.vortex_interface.proofs.Rewriting.{child_rewrites}
 use Rattle.vortex_rewriting.specs.Identities.{IsOwnIdentity, first_letter}
 use Rattle.caller_functions.specs.Grow.{grow_meaning, grow_lawful, grow_rules, grown, not_of}
 

@@ -11,8 +11,8 @@ use Rattle.vortex_types.specs.declared.dtype.PType.TheVariants.{I32}
 use Rattle.vortex_types.specs.LogicalTypes.{LogicalType, integer_type, is_nullable}
 use Rattle.vortex_types.specs.Values.{Value, null, number}
 use Rattle.vortex_types.specs.Typing.{HasType, FitsPType}
-use Rattle.vortex_meaning.specs.Outcomes.{Outcome, gives, faults, custom, GivesType, GivesNull}
-use Rattle.vortex_meaning.specs.Meaning.{Meaning, Lawful, HaveTypes}
+use Rattle.vortex_interface.specs.Outcomes.{Outcome, gives, faults, custom, GivesType, GivesNull}
+use Rattle.vortex_interface.specs.Meaning.{Meaning, Lawful, HaveTypes}
 use Rattle.caller_functions.specs.MustBeTrue.{only}
 
 abbrev pub is_odd : ℤ → Bool

@@ -1,11 +1,11 @@
 -- A caller's Not has the default validity and no rules.
 use Rattle.std.specs.Prelude.{◌≡◌, codes, get_or}
 use Rattle.std.proofs.Common.{ap, ◌∙◌, arith}
-use Rattle.vortex_meaning.specs.Shipped.{Not, shipped_meaning, shipped_lawful}
-use Rattle.vortex_meaning.specs.Meaning.{Meaning}
-use Rattle.vortex_meaning.specs.Rewrites.{LawfulRules}
-use Rattle.vortex_meaning.specs.ValidityRules.{default_rules}
-use Rattle.vortex_meaning.proofs.Validities.{default_rules_lawful}
+use Rattle.vortex_interface.specs.Shipped.{Not, shipped_meaning, shipped_lawful}
+use Rattle.vortex_interface.specs.Meaning.{Meaning}
+use Rattle.vortex_interface.specs.Rewrites.{LawfulRules}
+use Rattle.vortex_interface.specs.ValidityRules.{default_rules}
+use Rattle.vortex_interface.proofs.Validities.{default_rules_lawful}
 use Rattle.vortex_rewriting.specs.Identities.{IsOwnIdentity, first_letter}
 
 abbrev pub levelled_meaning : {V O : Type 0} → Meaning V O

@@ -7,8 +7,8 @@ use Rattle.vortex_errors.specs.declared.arity.Arity.TheVariants.{Exact}
 use Rattle.vortex_types.specs.LogicalTypes.{LogicalType, bool_type, is_nullable}
 use Rattle.vortex_types.specs.Values.{Value, null, truth}
 use Rattle.vortex_types.specs.Typing.{HasType}
-use Rattle.vortex_meaning.specs.Outcomes.{Outcome, gives, faults, custom, GivesType, GivesNull}
-use Rattle.vortex_meaning.specs.Meaning.{Meaning, Lawful, HaveTypes}
+use Rattle.vortex_interface.specs.Outcomes.{Outcome, gives, faults, custom, GivesType, GivesNull}
+use Rattle.vortex_interface.specs.Meaning.{Meaning, Lawful, HaveTypes}
 
 abbrev pub must_be_true : List Value → Outcome
 must_be_true (truth false ∷ []) = faults (custom 1)

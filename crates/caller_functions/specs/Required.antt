@@ -6,8 +6,8 @@ use Rattle.vortex_errors.specs.declared.arity.Arity.TheVariants.{Exact}
 use Rattle.vortex_types.specs.LogicalTypes.{LogicalType}
 use Rattle.vortex_types.specs.Values.{Value, null}
 use Rattle.vortex_types.specs.Typing.{HasType}
-use Rattle.vortex_meaning.specs.Outcomes.{Outcome, gives, faults, custom, GivesType}
-use Rattle.vortex_meaning.specs.Meaning.{Meaning, Lawful, HaveTypes}
+use Rattle.vortex_interface.specs.Outcomes.{Outcome, gives, faults, custom, GivesType}
+use Rattle.vortex_interface.specs.Meaning.{Meaning, Lawful, HaveTypes}
 
 abbrev pub required : List Value → Outcome
 required (null ∷ []) = faults (custom 2)

@@ -10,6 +10,6 @@ pub use Rattle.vortex_columns.specs.ValidityView.{validity_of}
 pub use Rattle.vortex_operators.specs.Operators.{is_boolean}
 pub use Rattle.vortex_kernels.specs.Boolean.{HasBooleanRows, are_bools}
 pub use Rattle.vortex_kernels.specs.Comparison.{HasComparisonRows, is_null_constant}
-pub use Rattle.vortex_encoded.specs.Encoded.{is_value_constant}
+pub use Rattle.vortex_arrays.specs.Encoded.{is_value_constant}
 pub use Rattle.caller_functions.specs.RunLength.{run_at, run_column, HasRunRows, IsRunValidity}
 pub use Rattle.caller_functions.specs.RunLength.{AreRunInts, is_true, IsConstantOfScalar, are_kept}

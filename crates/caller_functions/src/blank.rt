@@ -1,5 +1,5 @@
 //! A caller's function of any number of arguments that is null in each row.
-ghost use Rattle.vortex_meaning.specs.ValidityRules.{default_rules};
+ghost use Rattle.vortex_interface.specs.ValidityRules.{default_rules};
 ghost use Rattle.caller_functions.specs.Blank.{blank_meaning, blank_lawful, blank_rules_lawful};
 ghost use Rattle.caller_functions.specs.Blank.{blank_identity};
 

@@ -1,6 +1,6 @@
 //! A caller's function whose rule never comes to an end.
 ghost use Rattle.std.specs.Prelude.{◌≡◌, IsSome};
-ghost use Rattle.vortex_meaning.specs.Trees.{call, no_trees, tree};
+ghost use Rattle.vortex_interface.specs.Trees.{call, no_trees, tree};
 ghost use Rattle.vortex_functions.specs.Words.{tree_type, function_of, AnswersUnlessMemory};
 ghost use Rattle.vortex_rewriting.specs.Contexts.{with_tree};
 ghost use Rattle.caller_functions.specs.Grow.{grow_meaning, grow_lawful, grow_rules};

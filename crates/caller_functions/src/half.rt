@@ -1,5 +1,5 @@
 //! A caller's function that stands on arithmetic, with a fault of its own.
-ghost use Rattle.vortex_meaning.specs.Rules.{no_rules};
+ghost use Rattle.vortex_interface.specs.Rules.{no_rules};
 ghost use Rattle.caller_functions.specs.Half.{half_meaning, half_lawful};
 
 use std::alloc::Global;

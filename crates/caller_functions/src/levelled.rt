@@ -1,13 +1,13 @@
 //! A caller's function with options that have a text, and are written as bytes.
 ghost use Rattle.std.specs.Prelude.{Some, codes};
-ghost use Rattle.vortex_meaning.specs.Shipped.{shipped_lawful};
-ghost use Rattle.vortex_meaning.specs.Shipped as shipped;
-ghost use Rattle.vortex_meaning.specs.ValidityRules.{default_rules};
+ghost use Rattle.vortex_interface.specs.Shipped.{shipped_lawful};
+ghost use Rattle.vortex_interface.specs.Shipped as shipped;
+ghost use Rattle.vortex_interface.specs.ValidityRules.{default_rules};
 ghost use Rattle.caller_functions.specs.LevelledRules.{levelled_meaning, levelled_rules_lawful};
 ghost use Rattle.caller_functions.specs.LevelledRules.{levelled_identity};
 ghost use Rattle.caller_functions.specs.LevelBytes.{level_bytes, level_read};
 ghost use Rattle.vortex_errors.specs.Answers.{AnswersUnlessMemory};
-ghost use Rattle.vortex_meaning.specs.OptionBytes.{WritesBytes, ReadsOptions};
+ghost use Rattle.vortex_interface.specs.OptionBytes.{WritesBytes, ReadsOptions};
 
 use std::alloc::Global;
 use std::fmt;

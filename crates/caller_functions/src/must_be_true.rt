@@ -3,7 +3,7 @@ ghost use Rattle.std.specs.Prelude.{◌≡◌, ◌<◌, length, true};
 ghost use Rattle.vortex_errors.specs.Answers.{Answers};
 ghost use Rattle.vortex_types.specs.LogicalTypes.{is_bool_type};
 ghost use Rattle.vortex_columns.specs.ColumnView.{row};
-ghost use Rattle.vortex_meaning.specs.Rules.{no_rules};
+ghost use Rattle.vortex_interface.specs.Rules.{no_rules};
 ghost use Rattle.caller_functions.specs.MustBeTrue.{must_be_true_meaning, must_be_true_lawful};
 
 use std::alloc::Global;

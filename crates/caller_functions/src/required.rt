@@ -1,5 +1,5 @@
 //! A caller's function with a fault of its own.
-ghost use Rattle.vortex_meaning.specs.Rules.{no_rules};
+ghost use Rattle.vortex_interface.specs.Rules.{no_rules};
 ghost use Rattle.caller_functions.specs.Required.{required_meaning, required_lawful};
 
 use std::alloc::Global;

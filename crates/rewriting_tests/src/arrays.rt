@@ -5,7 +5,7 @@ use std::alloc::Global;
 use std::borrow::Cow;
 use tree_fixtures::array_makers::*;
 use tree_fixtures::makers::*;
-use vortex_array_calls::*;
+use vortex_arrays::*;
 use vortex_columns::*;
 use vortex_functions::*;
 use vortex_operators::*;

@@ -7,7 +7,7 @@ use std::alloc::Global;
 use tree_fixtures::array_makers::{Held, array_answers, held, made, x};
 use tree_fixtures::makers::*;
 use tree_fixtures::rewritten::{is_not_null, is_null, reduced, stays};
-use vortex_array_calls::*;
+use vortex_arrays::*;
 use vortex_columns::*;
 use vortex_functions::*;
 use vortex_operators::*;

@@ -8,7 +8,7 @@ use std::borrow::Cow;
 use tree_fixtures::array_makers::{Held, array_answers, held, made, over_columns, x, y};
 use tree_fixtures::makers::*;
 use tree_fixtures::rewritten::{Rewritten, becomes, is_not_null, is_null, mixed, stays};
-use vortex_array_calls::{NullTestCall, UnaryCall};
+use vortex_arrays::{NullTestCall, UnaryCall};
 use vortex_columns::*;
 use vortex_functions::*;
 use vortex_operators::*;

@@ -7,20 +7,20 @@ use borrow.Author.Tests.{eqb-true}
 use Rattle.std.proofs.lemmas.Option.{slice_get-map}
 use Rattle.vortex_errors.specs.declared.error.VortexError.{VortexError}
 use Rattle.vortex_columns.specs.ColumnView.{ColumnView, row}
-use Rattle.vortex_meaning.specs.Outcomes.{Outcome, gives, faults, Fault, error_of, GivesValue}
-use Rattle.vortex_meaning.specs.Meaning.{Meaning}
-use Rattle.vortex_meaning.specs.Functions.{function_means}
-use Rattle.vortex_meaning.specs.Trees.{Leaf, place, held, Tree, leaf, constant, call, Trees}
-use Rattle.vortex_meaning.specs.Trees.{no_trees}
-use Rattle.vortex_meaning.specs.Trees.{tree}
-use Rattle.vortex_meaning.specs.Eval.{Inputs, one_faults, with_first, then_means, tree_types}
-use Rattle.vortex_meaning.specs.Eval.{types_or_none, rows_or_none, leaf_value, eval, eval_all}
-use Rattle.vortex_meaning.specs.Eval.{IsFirstFault, IsFirstFaultIn}
-use Rattle.vortex_meaning.specs.Execution.{LeafFits, LeavesFit, AllLeavesFit, other_length}
-use Rattle.vortex_meaning.specs.Execution.{Executes}
-use Rattle.vortex_meaning.specs.Execution.{RefusesExecution, misfit, faulty, unfit}
-use Rattle.vortex_meaning.specs.Execution.{uneven}
-use Rattle.vortex_meaning.specs.Bound.{IsPlace, IsBound, AllBound}
+use Rattle.vortex_interface.specs.Outcomes.{Outcome, gives, faults, Fault, error_of, GivesValue}
+use Rattle.vortex_interface.specs.Meaning.{Meaning}
+use Rattle.vortex_interface.specs.Functions.{function_means}
+use Rattle.vortex_interface.specs.Trees.{Leaf, place, held, Tree, leaf, constant, call, Trees}
+use Rattle.vortex_interface.specs.Trees.{no_trees}
+use Rattle.vortex_interface.specs.Trees.{tree}
+use Rattle.vortex_interface.specs.Eval.{Inputs, one_faults, with_first, then_means, tree_types}
+use Rattle.vortex_interface.specs.Eval.{types_or_none, rows_or_none, leaf_value, eval, eval_all}
+use Rattle.vortex_interface.specs.Eval.{IsFirstFault, IsFirstFaultIn}
+use Rattle.vortex_interface.specs.Execution.{LeafFits, LeavesFit, AllLeavesFit, other_length}
+use Rattle.vortex_interface.specs.Execution.{Executes}
+use Rattle.vortex_interface.specs.Execution.{RefusesExecution, misfit, faulty, unfit}
+use Rattle.vortex_interface.specs.Execution.{uneven}
+use Rattle.vortex_interface.specs.Bound.{IsPlace, IsBound, AllBound}
 use Rattle.vortex_functions.specs.Walks.{AllMean}
 use Rattle.rowfn_batches.specs.Executing.{row_column, FaultsAt, FaultsFirst, AllGive, AllFit}
 use Rattle.rowfn_batches.specs.Executing.{RefusesFirst}

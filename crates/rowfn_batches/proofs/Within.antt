@@ -4,9 +4,9 @@ use Rattle.std.proofs.Common.{take, arith}
 use Rattle.std.proofs.Common.{mul-le-mul_left, mul_comm, lt_of_not-le}
 use Rattle.std.proofs.lemmas.List.{length-take}
 use Rattle.vortex_columns.specs.ColumnView.{ColumnView}
-use Rattle.vortex_meaning.specs.Meaning.{Meaning}
-use Rattle.vortex_meaning.specs.Trees.{Tree}
-use Rattle.vortex_meaning.specs.Execution.{Executes}
+use Rattle.vortex_interface.specs.Meaning.{Meaning}
+use Rattle.vortex_interface.specs.Trees.{Tree}
+use Rattle.vortex_interface.specs.Execution.{Executes}
 use Rattle.vortex_functions.specs.Fixed.{fixed_meaning}
 use Rattle.vortex_functions.specs.Walks.{AllMean}
 use Rattle.rowfn_scripts.specs.declared.expression.Expression.{Expression}

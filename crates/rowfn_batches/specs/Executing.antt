@@ -5,11 +5,11 @@ use Rattle.std.specs.Prelude.{Vec}
 use Rattle.vortex_errors.specs.declared.error.VortexError.{VortexError}
 use Rattle.vortex_errors.specs.Answers.{Answers}
 use Rattle.vortex_columns.specs.ColumnView.{ColumnView, constant_column, scalar_in}
-use Rattle.vortex_meaning.specs.Meaning.{Meaning}
-use Rattle.vortex_meaning.specs.Outcomes.{Fault, faults, error_of, GivesValue}
-use Rattle.vortex_meaning.specs.Trees.{Tree}
-use Rattle.vortex_meaning.specs.Eval.{eval}
-use Rattle.vortex_meaning.specs.Execution.{Executes, RefusesColumns, RefusesExecution}
+use Rattle.vortex_interface.specs.Meaning.{Meaning}
+use Rattle.vortex_interface.specs.Outcomes.{Fault, faults, error_of, GivesValue}
+use Rattle.vortex_interface.specs.Trees.{Tree}
+use Rattle.vortex_interface.specs.Eval.{eval}
+use Rattle.vortex_interface.specs.Execution.{Executes, RefusesColumns, RefusesExecution}
 use Rattle.vortex_functions.specs.Executing.{Fits}
 use Rattle.vortex_functions.specs.Walks.{AllMean}
 

@@ -4,7 +4,7 @@ use Rattle.std.specs.Prelude.{Bool, false, All, length, slice_index_or, count_by
 use Rattle.std.specs.List.{flat_map, range_with_len}
 use Rattle.vortex_types.specs.Values.{Value, is_null, truth}
 use Rattle.vortex_columns.specs.ColumnView.{ColumnView, row}
-use Rattle.vortex_meaning.specs.CallTexts.{joined, separator_before}
+use Rattle.vortex_interface.specs.CallTexts.{joined, separator_before}
 use Rattle.rowfn_csv.specs.Fields.{text_field}
 use Rattle.rowfn_batches.specs.Printing.{field_text}
 use Rattle.rowfn_batches.specs.declared.output.Output.{Output}

@@ -2,8 +2,8 @@
 use Rattle.std.specs.Prelude.{◌≡◌, List, [], ◌∷◌, IfSome, All, true, ⊤}
 use Rattle.vortex_types.specs.LogicalTypes.{is_bool_type}
 use Rattle.vortex_interface.specs.declared.options.EmptyOptions.{EmptyOptions}
-use Rattle.vortex_meaning.specs.Trees.{Tree}
-use Rattle.vortex_meaning.specs.Eval.{tree_type}
+use Rattle.vortex_interface.specs.Trees.{Tree}
+use Rattle.vortex_interface.specs.Eval.{tree_type}
 use Rattle.vortex_functions.specs.Fixed.{fixed_meaning}
 use Rattle.vortex_functions.specs.declared.custom.NoCustom.{NoCustom}
 use Rattle.rowfn_scripts.specs.declared.expression.Answer.{Answer}

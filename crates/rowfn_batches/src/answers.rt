@@ -2,7 +2,7 @@
 ghost use Rattle.std.specs.Prelude.{◌≡◌, ◌≢◌, ◌<◌, ℕ, All, IfOk, length, map, MatchOption};
 ghost use Rattle.vortex_errors.specs.declared.error.VortexError.TheVariants.{OutOfMemory};
 ghost use Rattle.vortex_errors.specs.Answers.{Answers, AnswersUnlessMemory};
-ghost use Rattle.vortex_meaning.specs.Bound.{IsBound};
+ghost use Rattle.vortex_interface.specs.Bound.{IsBound};
 ghost use Rattle.vortex_functions.specs.Fixed.{fixed_meaning};
 ghost use Rattle.rowfn_batches.specs.Executing.{AnswersAll, AnswersFirstFault, AllFit};
 ghost use Rattle.rowfn_batches.specs.Executing.{RefusesColumnsFirst, FaultsFirst, AllGive};

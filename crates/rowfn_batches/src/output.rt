@@ -2,7 +2,7 @@
 ghost use Rattle.std.specs.Prelude.{◌≡◌, ◌<◌, ◌≤◌, ◌+◌, ◌∷◌, [], OnOk, IfOk, length, map};
 ghost use Rattle.std.specs.Prelude.{if◌then◌else◌};
 ghost use Rattle.vortex_columns.specs.ColumnView.{row};
-ghost use Rattle.vortex_meaning.specs.CallTexts.{joined, separator_before};
+ghost use Rattle.vortex_interface.specs.CallTexts.{joined, separator_before};
 ghost use Rattle.rowfn_csv.specs.Fields.{text_field};
 ghost use Rattle.rowfn_csv.specs.KeptLines.{line_of};
 ghost use Rattle.rowfn_batches.specs.Outputs.{Adds, name_field, value_field, row_fields, row_line};

@@ -4,17 +4,17 @@ use Rattle.std.specs.Option.{is_some}
 use Rattle.vortex_errors.specs.declared.error.VortexError.{VortexError}
 use Rattle.vortex_types.specs.LogicalTypes.{LogicalType}
 use Rattle.vortex_columns.specs.ColumnView.{ColumnView}
-use Rattle.vortex_meaning.specs.Meaning.{Meaning, Lawful}
-use Rattle.vortex_meaning.specs.Rules.{Rules}
-use Rattle.vortex_meaning.specs.Trees.{Tree}
-use Rattle.vortex_meaning.specs.Eval.{tree_type}
-use Rattle.vortex_meaning.specs.Execution.{LeavesFit, other_length, unfit, uneven}
-use Rattle.vortex_meaning.specs.Rewrites.{Rewrites, IsSound, LawfulRules}
-use Rattle.vortex_meaning.specs.Weights.{Lightens}
-use Rattle.vortex_meaning.specs.Driver.{RunsTo}
-use Rattle.vortex_meaning.specs.Running.{IsFaultAfter, RefusesAfter, misfit, faulty}
-use Rattle.vortex_meaning.proofs.Driving.{runs_sound}
-use Rattle.vortex_meaning.proofs.Lightening.{runs_lighter}
+use Rattle.vortex_interface.specs.Meaning.{Meaning, Lawful}
+use Rattle.vortex_interface.specs.Rules.{Rules}
+use Rattle.vortex_interface.specs.Trees.{Tree}
+use Rattle.vortex_interface.specs.Eval.{tree_type}
+use Rattle.vortex_interface.specs.Execution.{LeavesFit, other_length, unfit, uneven}
+use Rattle.vortex_interface.specs.Rewrites.{Rewrites, IsSound, LawfulRules}
+use Rattle.vortex_interface.specs.Weights.{Lightens}
+use Rattle.vortex_interface.specs.Driver.{RunsTo}
+use Rattle.vortex_interface.specs.Running.{IsFaultAfter, RefusesAfter, misfit, faulty}
+use Rattle.vortex_interface.proofs.Driving.{runs_sound}
+use Rattle.vortex_interface.proofs.Lightening.{runs_lighter}
 use Rattle.vortex_rewriting.specs.Rules.{expression_rule, expression_sound, expression_lightens}
 use Rattle.vortex_rewriting.specs.Runs.{expression_step}
 use Rattle.vortex_rewriting.proofs.Optimizing.{first_rule_sound, first_rule_lightens}

@@ -12,25 +12,25 @@ use Rattle.vortex_types.specs.LogicalTypes.{find_field}
 use Rattle.vortex_columns.specs.ValidityView.{array}
 use Rattle.vortex_types.specs.Values.{Value}
 use Rattle.vortex_columns.specs.ColumnView.{ColumnView, row}
-use Rattle.vortex_meaning.specs.Outcomes.{Fault, arithmetic, custom, Outcome, gives, faults}
-use Rattle.vortex_meaning.specs.Outcomes.{error_of, GivesValue}
-use Rattle.vortex_meaning.specs.Meaning.{Meaning}
-use Rattle.vortex_meaning.specs.Rules.{Rules}
-use Rattle.vortex_meaning.specs.Weights.{weight_told}
-use Rattle.vortex_meaning.specs.Driver.{RunsTo}
-use Rattle.vortex_meaning.specs.Rewrites.{HasRow}
-use Rattle.vortex_meaning.specs.Running.{faulty as faulty_after}
-use Rattle.vortex_meaning.proofs.AfterRun.{rows_after, fault_after}
-use Rattle.vortex_meaning.proofs.FaultyRows.{value_in}
-use Rattle.vortex_meaning.proofs.Leaves.{leaves_still_fit}
-use Rattle.vortex_meaning.proofs.FirstFaults.{first_fault_of}
+use Rattle.vortex_interface.specs.Outcomes.{Fault, arithmetic, custom, Outcome, gives, faults}
+use Rattle.vortex_interface.specs.Outcomes.{error_of, GivesValue}
+use Rattle.vortex_interface.specs.Meaning.{Meaning}
+use Rattle.vortex_interface.specs.Rules.{Rules}
+use Rattle.vortex_interface.specs.Weights.{weight_told}
+use Rattle.vortex_interface.specs.Driver.{RunsTo}
+use Rattle.vortex_interface.specs.Rewrites.{HasRow}
+use Rattle.vortex_interface.specs.Running.{faulty as faulty_after}
+use Rattle.vortex_interface.proofs.AfterRun.{rows_after, fault_after}
+use Rattle.vortex_interface.proofs.FaultyRows.{value_in}
+use Rattle.vortex_interface.proofs.Leaves.{leaves_still_fit}
+use Rattle.vortex_interface.proofs.FirstFaults.{first_fault_of}
 use Rattle.vortex_rewriting.specs.Runs.{expression_step}
-use Rattle.vortex_meaning.specs.Shipped.{shipped_called}
-use Rattle.vortex_meaning.specs.Trees.{Tree, leaf, constant, call as call_tree, Trees, no_trees}
-use Rattle.vortex_meaning.specs.Trees.{tree}
-use Rattle.vortex_meaning.specs.Eval.{tree_type, eval, Settled}
-use Rattle.vortex_meaning.specs.Eval.{IsFirstFault, IsFirstFaultIn}
-use Rattle.vortex_meaning.specs.Execution.{Executes, LeavesFit, other_length, faulty}
+use Rattle.vortex_interface.specs.Shipped.{shipped_called}
+use Rattle.vortex_interface.specs.Trees.{Tree, leaf, constant, call as call_tree, Trees, no_trees}
+use Rattle.vortex_interface.specs.Trees.{tree}
+use Rattle.vortex_interface.specs.Eval.{tree_type, eval, Settled}
+use Rattle.vortex_interface.specs.Eval.{IsFirstFault, IsFirstFaultIn}
+use Rattle.vortex_interface.specs.Execution.{Executes, LeavesFit, other_length, faulty}
 use Rattle.rowfn_lines.specs.Commands.{Command, nothing, malformed, rows, column, get, literal}
 use Rattle.rowfn_lines.specs.Commands.{call, show, optimize, run, run_after}
 use Rattle.rowfn_lines.specs.Lines.{lines_of}

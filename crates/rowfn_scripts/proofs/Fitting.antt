@@ -11,28 +11,28 @@ use Rattle.vortex_columns.specs.ColumnView.{ColumnView, row, AreTyped}
 use Rattle.vortex_types.specs.Typing.{HasType}
 use Rattle.vortex_types.specs.LogicalTypes.{LogicalType, Fields, no_fields, field, with_field}
 use Rattle.vortex_types.specs.LogicalTypes.{find_field, after_one}
-use Rattle.vortex_meaning.specs.Meaning.{Meaning}
-use Rattle.vortex_meaning.specs.Shipped.{Shipped, shipped_arity, shipped_called}
-use Rattle.vortex_meaning.specs.Shipped.{shipped_text}
-use Rattle.vortex_meaning.specs.Functions.{ours}
-use Rattle.vortex_meaning.specs.Trees.{Leaf, place, held, Tree, leaf, constant, call as call_tree}
-use Rattle.vortex_meaning.specs.Trees.{Trees, no_trees, tree, trees_of}
+use Rattle.vortex_interface.specs.Meaning.{Meaning}
+use Rattle.vortex_interface.specs.Shipped.{Shipped, shipped_arity, shipped_called}
+use Rattle.vortex_interface.specs.Shipped.{shipped_text}
+use Rattle.vortex_interface.specs.Functions.{ours}
+use Rattle.vortex_interface.specs.Trees.{Leaf, place, held, Tree, leaf, constant, call as call_tree}
+use Rattle.vortex_interface.specs.Trees.{Trees, no_trees, tree, trees_of}
 use Rattle.vortex_types.specs.ScalarView.{ScalarView}
 use Rattle.std.specs.Option.{is_some, is_none, option_and_then}
 use Rattle.std.specs.Prelude.{⊤}
 use Rattle.std.proofs.lemmas.Bool.{and_parts}
 use Rattle.std.specs.Prelude.{codes, slice_index_or}
-use Rattle.vortex_meaning.specs.Printing.{literal_text, function_text, tree_texts, with_text}
-use Rattle.vortex_meaning.specs.Eval.{IsFirstFault, tree_type}
-use Rattle.vortex_meaning.specs.Eval.{rows_or_none}
-use Rattle.vortex_meaning.specs.Rules.{Rules}
-use Rattle.vortex_meaning.specs.Rewrites.{LeafHasRow, HasRow, AllHaveRow}
-use Rattle.vortex_meaning.specs.Running.{IsFaultAfter}
-use Rattle.vortex_meaning.specs.Weights.{weight_told}
-use Rattle.vortex_meaning.specs.Execution.{LeafFits, LeavesFit, AllLeavesFit, other_length}
-use Rattle.vortex_meaning.proofs.ArithmeticErrs.{refuses_first}
-use Rattle.vortex_meaning.proofs.Leaves.{leaves_still_fit}
-use Rattle.vortex_meaning.proofs.RewrittenRows.{fitting_row}
+use Rattle.vortex_interface.specs.Printing.{literal_text, function_text, tree_texts, with_text}
+use Rattle.vortex_interface.specs.Eval.{IsFirstFault, tree_type}
+use Rattle.vortex_interface.specs.Eval.{rows_or_none}
+use Rattle.vortex_interface.specs.Rules.{Rules}
+use Rattle.vortex_interface.specs.Rewrites.{LeafHasRow, HasRow, AllHaveRow}
+use Rattle.vortex_interface.specs.Running.{IsFaultAfter}
+use Rattle.vortex_interface.specs.Weights.{weight_told}
+use Rattle.vortex_interface.specs.Execution.{LeafFits, LeavesFit, AllLeavesFit, other_length}
+use Rattle.vortex_interface.proofs.ArithmeticErrs.{refuses_first}
+use Rattle.vortex_interface.proofs.Leaves.{leaves_still_fit}
+use Rattle.vortex_interface.proofs.RewrittenRows.{fitting_row}
 use Rattle.vortex_rewriting.specs.Runs.{expression_step}
 use Rattle.rowfn_lines.specs.Commands.{Command, nothing, malformed, rows, column, get, literal}
 use Rattle.rowfn_lines.specs.Commands.{call, show, optimize, run, run_after}

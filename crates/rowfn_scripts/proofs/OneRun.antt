@@ -1,8 +1,8 @@
 -- Within a limit some run of steps leads from a tree, to one tree and by one number of steps.
 use Rattle.std.proofs.Common.{◌≡◌, ◌⊎◌, inl, inr, ℕ, zero, suc, ◌<◌, Option, Some, None}
 use Rattle.std.proofs.Common.{refl, sym, ap, subst, ◌∙◌, arith}
-use Rattle.vortex_meaning.specs.Trees.{Tree}
-use Rattle.vortex_meaning.specs.Driver.{step, Runs, RunsTo}
+use Rattle.vortex_interface.specs.Trees.{Tree}
+use Rattle.vortex_interface.specs.Driver.{step, Runs, RunsTo}
 
 pub up_to : (i n : ℕ) → i < suc n → (i < n) ⊎ (i ≡ n)
 up_to i n h = grind arith

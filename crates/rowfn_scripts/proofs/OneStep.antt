@@ -9,23 +9,23 @@ use Rattle.vortex_types.specs.DTypeTexts.{type_text}
 use Rattle.vortex_types.specs.Values.{Value, null}
 use Rattle.vortex_columns.specs.ColumnView.{ColumnView}
 use Rattle.vortex_columns.specs.Printing.{cells_text}
-use Rattle.vortex_meaning.specs.Outcomes.{Fault, Outcome, gives, faults, error_of, GivesValue}
-use Rattle.vortex_meaning.specs.Outcomes.{IsRowFault}
-use Rattle.vortex_meaning.specs.Meaning.{Meaning}
-use Rattle.vortex_meaning.specs.Rules.{Rules}
-use Rattle.vortex_meaning.specs.Weights.{weight_told}
-use Rattle.vortex_meaning.specs.Running.{HasRowsAfter, ExecutesAfter, RefusesAfter}
-use Rattle.vortex_meaning.specs.Shipped.{Shipped, shipped_means, row_lawful}
-use Rattle.vortex_meaning.specs.Functions.{ours, custom}
-use Rattle.vortex_meaning.specs.Trees.{Tree, leaf, constant, call as call_tree, Trees, no_trees}
-use Rattle.vortex_meaning.specs.Trees.{tree}
-use Rattle.vortex_meaning.specs.Printing.{tree_text, tree_texts, function_text}
-use Rattle.vortex_meaning.specs.Eval.{then_means}
-use Rattle.vortex_meaning.specs.Eval.{tree_type, tree_types, types_or_none, eval, Settled}
-use Rattle.vortex_meaning.specs.Eval.{AllSettled, IsFirstFault, IsFirstFaultIn, HasTreeRows}
-use Rattle.vortex_meaning.specs.Execution.{Executes, RefusesExecution, LeavesFit, other_length}
-use Rattle.vortex_meaning.proofs.ArithmeticErrs.{refuses_first}
-use Rattle.vortex_meaning.proofs.FaultyRows.{fault_row, values_in}
+use Rattle.vortex_interface.specs.Outcomes.{Fault, Outcome, gives, faults, error_of, GivesValue}
+use Rattle.vortex_interface.specs.Outcomes.{IsRowFault}
+use Rattle.vortex_interface.specs.Meaning.{Meaning}
+use Rattle.vortex_interface.specs.Rules.{Rules}
+use Rattle.vortex_interface.specs.Weights.{weight_told}
+use Rattle.vortex_interface.specs.Running.{HasRowsAfter, ExecutesAfter, RefusesAfter}
+use Rattle.vortex_interface.specs.Shipped.{Shipped, shipped_means, row_lawful}
+use Rattle.vortex_interface.specs.Functions.{ours, custom}
+use Rattle.vortex_interface.specs.Trees.{Tree, leaf, constant, call as call_tree, Trees, no_trees}
+use Rattle.vortex_interface.specs.Trees.{tree}
+use Rattle.vortex_interface.specs.Printing.{tree_text, tree_texts, function_text}
+use Rattle.vortex_interface.specs.Eval.{then_means}
+use Rattle.vortex_interface.specs.Eval.{tree_type, tree_types, types_or_none, eval, Settled}
+use Rattle.vortex_interface.specs.Eval.{AllSettled, IsFirstFault, IsFirstFaultIn, HasTreeRows}
+use Rattle.vortex_interface.specs.Execution.{Executes, RefusesExecution, LeavesFit, other_length}
+use Rattle.vortex_interface.proofs.ArithmeticErrs.{refuses_first}
+use Rattle.vortex_interface.proofs.FaultyRows.{fault_row, values_in}
 use Rattle.vortex_rewriting.specs.Runs.{expression_step}
 use Rattle.rowfn_lines.specs.Commands.{Command, show, optimize, run, run_after}
 use Rattle.rowfn_scripts.specs.Sessions.{SessionView, Step, goes_on, refuses, column_line}

@@ -21,22 +21,22 @@ use Rattle.vortex_errors.specs.Answers.{Answers, UnlessMemory}
 use Rattle.vortex_errors.proofs.Answering.{UnlessMemory-weaker}
 use Rattle.vortex_types.specs.LogicalTypes.{LogicalType, Fields, with_field, find_field}
 use Rattle.vortex_columns.specs.ColumnView.{ColumnView}
-use Rattle.vortex_meaning.specs.Meaning.{Meaning, fits}
-use Rattle.vortex_meaning.specs.Rules.{Rules}
-use Rattle.vortex_meaning.specs.Weights.{weight_told}
-use Rattle.vortex_meaning.specs.Driver.{step, Runs}
-use Rattle.vortex_meaning.specs.Running.{ExecutesAfter, RefusesAfter}
-use Rattle.vortex_meaning.proofs.RuleAnswers.{not_not}
+use Rattle.vortex_interface.specs.Meaning.{Meaning, fits}
+use Rattle.vortex_interface.specs.Rules.{Rules}
+use Rattle.vortex_interface.specs.Weights.{weight_told}
+use Rattle.vortex_interface.specs.Driver.{step, Runs}
+use Rattle.vortex_interface.specs.Running.{ExecutesAfter, RefusesAfter}
+use Rattle.vortex_interface.proofs.RuleAnswers.{not_not}
 use Rattle.vortex_rewriting.specs.Runs.{expression_step}
-use Rattle.vortex_meaning.specs.Shipped.{Shipped, row_function, shipped_arity, shipped_called}
-use Rattle.vortex_meaning.specs.Shipped.{shipped_place}
-use Rattle.vortex_meaning.specs.Functions.{Function, ours, function_arity, function_type, call_type}
-use Rattle.vortex_meaning.specs.Functions.{IsMismatchAt}
+use Rattle.vortex_interface.specs.Shipped.{Shipped, row_function, shipped_arity, shipped_called}
+use Rattle.vortex_interface.specs.Shipped.{shipped_place}
+use Rattle.vortex_interface.specs.Functions.{Function, ours, function_arity, function_type, call_type}
+use Rattle.vortex_interface.specs.Functions.{IsMismatchAt}
 use Rattle.vortex_types.specs.ScalarView.{ScalarView}
-use Rattle.vortex_meaning.specs.Trees.{Tree, call, trees_of, leaf, place, constant}
-use Rattle.vortex_meaning.specs.Eval.{tree_type, tree_types, types_or_none}
-use Rattle.vortex_meaning.specs.Execution.{Executes, RefusesExecution}
-use Rattle.vortex_meaning.specs.Printing.{tree_text}
+use Rattle.vortex_interface.specs.Trees.{Tree, call, trees_of, leaf, place, constant}
+use Rattle.vortex_interface.specs.Eval.{tree_type, tree_types, types_or_none}
+use Rattle.vortex_interface.specs.Execution.{Executes, RefusesExecution}
+use Rattle.vortex_interface.specs.Printing.{tree_text}
 use Rattle.vortex_functions.specs.Binding.{IsCall, RefusesCall, count, types}
 use Rattle.vortex_functions.proofs.Bound.{type_count}
 use Rattle.rowfn_scripts.specs.Sessions.{column_line}

@@ -2,14 +2,14 @@
 use Rattle.std.proofs.Common.{◌≡◌, Option, Some, None, List, [], ◌∷◌, ◌++◌, ℕ, refl, ap, subst}
 use Rattle.std.specs.Prelude.{codes, IfSome}
 use Rattle.std.specs.Option.{option_and_then}
-use Rattle.vortex_meaning.specs.Bound.{OnlyPlaces, AllOnlyPlaces}
-use Rattle.vortex_meaning.specs.Weights.{OnlyShipped, AllShipped}
-use Rattle.vortex_meaning.specs.Shipped.{shipped_text}
-use Rattle.vortex_meaning.specs.Functions.{ours, custom}
-use Rattle.vortex_meaning.specs.Trees.{place, held, Tree, leaf, constant, call as call_tree, Trees}
-use Rattle.vortex_meaning.specs.Trees.{no_trees, tree}
-use Rattle.vortex_meaning.specs.Printing.{tree_text, tree_texts, with_text, function_text}
-use Rattle.vortex_meaning.specs.Printing.{literal_text}
+use Rattle.vortex_interface.specs.Bound.{OnlyPlaces, AllOnlyPlaces}
+use Rattle.vortex_interface.specs.Weights.{OnlyShipped, AllShipped}
+use Rattle.vortex_interface.specs.Shipped.{shipped_text}
+use Rattle.vortex_interface.specs.Functions.{ours, custom}
+use Rattle.vortex_interface.specs.Trees.{place, held, Tree, leaf, constant, call as call_tree, Trees}
+use Rattle.vortex_interface.specs.Trees.{no_trees, tree}
+use Rattle.vortex_interface.specs.Printing.{tree_text, tree_texts, with_text, function_text}
+use Rattle.vortex_interface.specs.Printing.{literal_text}
 use Rattle.rowfn_scripts.specs.Sessions.{SessionView, Step, shown_by}
 use Rattle.rowfn_scripts.specs.Fitting.{HasText}
 

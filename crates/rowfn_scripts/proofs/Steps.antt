@@ -8,10 +8,10 @@ use Rattle.vortex_errors.specs.declared.error.VortexError.TheVariants.{OutOfMemo
 use Rattle.vortex_errors.specs.declared.error.VortexError.TheVariants.{TypeMismatch}
 use Rattle.vortex_types.specs.LogicalTypes.{LogicalType, find_field}
 use Rattle.vortex_columns.specs.ColumnView.{ColumnView}
-use Rattle.vortex_meaning.specs.Meaning.{Meaning}
-use Rattle.vortex_meaning.specs.Shipped.{Shipped, shipped_arity, shipped_place}
-use Rattle.vortex_meaning.specs.Trees.{Tree, leaf, place, trees_of}
-use Rattle.vortex_meaning.specs.Eval.{tree_type, tree_types, types_or_none}
+use Rattle.vortex_interface.specs.Meaning.{Meaning}
+use Rattle.vortex_interface.specs.Shipped.{Shipped, shipped_arity, shipped_place}
+use Rattle.vortex_interface.specs.Trees.{Tree, leaf, place, trees_of}
+use Rattle.vortex_interface.specs.Eval.{tree_type, tree_types, types_or_none}
 use Rattle.rowfn_scripts.specs.Sessions.{SessionView, Step, goes_on, refuses, is_malformed}
 use Rattle.rowfn_scripts.specs.Sessions.{least_count, taken, with_rows, after_rows, added}
 use Rattle.rowfn_scripts.specs.Sessions.{with_column, pushed, with_leaf, call_of, refused_at, with_taken}

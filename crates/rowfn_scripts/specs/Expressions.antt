@@ -8,10 +8,10 @@ use Rattle.std.specs.Option.{option_and_then}
 use Rattle.std.specs.Str.{is_utf8, bytes_eq}
 use Rattle.vortex_errors.specs.declared.error.VortexError.TheVariants.{OutOfMemory}
 use Rattle.vortex_types.specs.LogicalTypes.{Fields}
-use Rattle.vortex_meaning.specs.Meaning.{Meaning}
-use Rattle.vortex_meaning.specs.Rules.{Rules}
-use Rattle.vortex_meaning.specs.Trees.{Tree}
-use Rattle.vortex_meaning.specs.Printing.{tree_text}
+use Rattle.vortex_interface.specs.Meaning.{Meaning}
+use Rattle.vortex_interface.specs.Rules.{Rules}
+use Rattle.vortex_interface.specs.Trees.{Tree}
+use Rattle.vortex_interface.specs.Printing.{tree_text}
 use Rattle.rowfn_lines.specs.Lines.{Word, plain, words_of}
 use Rattle.rowfn_lines.specs.Commands.{Command, rows, show, run, run_after, command_of, is_name}
 use Rattle.rowfn_scripts.specs.declared.stop.Stop.{Stop}

@@ -5,14 +5,14 @@ use Rattle.std.specs.Prelude.{All}
 use Rattle.vortex_errors.specs.declared.error.VortexError.{VortexError}
 use Rattle.vortex_types.specs.LogicalTypes.{Fields, no_fields, field}
 use Rattle.vortex_columns.specs.ColumnView.{ColumnView, AreTyped}
-use Rattle.vortex_meaning.specs.Meaning.{Meaning}
-use Rattle.vortex_meaning.specs.Rules.{Rules}
-use Rattle.vortex_meaning.specs.Trees.{Tree}
-use Rattle.vortex_meaning.specs.Printing.{tree_text}
-use Rattle.vortex_meaning.specs.Eval.{tree_type, IsFirstFault}
-use Rattle.vortex_meaning.specs.Execution.{LeavesFit, other_length}
-use Rattle.vortex_meaning.specs.Rewrites.{HasRow}
-use Rattle.vortex_meaning.specs.Running.{IsFaultAfter}
+use Rattle.vortex_interface.specs.Meaning.{Meaning}
+use Rattle.vortex_interface.specs.Rules.{Rules}
+use Rattle.vortex_interface.specs.Trees.{Tree}
+use Rattle.vortex_interface.specs.Printing.{tree_text}
+use Rattle.vortex_interface.specs.Eval.{tree_type, IsFirstFault}
+use Rattle.vortex_interface.specs.Execution.{LeavesFit, other_length}
+use Rattle.vortex_interface.specs.Rewrites.{HasRow}
+use Rattle.vortex_interface.specs.Running.{IsFaultAfter}
 use Rattle.vortex_rewriting.specs.Runs.{expression_step}
 use Rattle.rowfn_lines.specs.Commands.{run, run_after}
 use Rattle.rowfn_scripts.specs.Sessions.{SessionView, refuses, StepsTo}

@@ -1,8 +1,8 @@
 -- What a script means: the lines that go on, what they print, and how it ends.
 use Rattle.std.specs.Prelude.{◌≡◌, ◌+◌, ◌<◌, ℕ, suc, List, [], length, slice_index_or}
 use Rattle.vortex_errors.specs.Answers.{UnlessMemory}
-use Rattle.vortex_meaning.specs.Meaning.{Meaning}
-use Rattle.vortex_meaning.specs.Rules.{Rules}
+use Rattle.vortex_interface.specs.Meaning.{Meaning}
+use Rattle.vortex_interface.specs.Rules.{Rules}
 use Rattle.rowfn_scripts.specs.declared.ending.End.{End}
 use Rattle.rowfn_scripts.specs.declared.ending.End.TheVariants.{Done, Refused, Malformed}
 use Rattle.rowfn_lines.specs.Lines.{lines_of}

@@ -4,8 +4,8 @@ use Rattle.std.specs.Coded.{Coded, code_by, coded×, coded_ℕ, coded_list, code
 use Rattle.vortex_types.specs.Codes.{coded_fields}
 use Rattle.vortex_types.specs.LogicalTypes.{Fields}
 use Rattle.vortex_columns.specs.ColumnView.{ColumnView, coded_column}
-use Rattle.vortex_meaning.specs.Trees.{Tree}
-use Rattle.vortex_meaning.specs.TreeCodes.{coded_tree}
+use Rattle.vortex_interface.specs.Trees.{Tree}
+use Rattle.vortex_interface.specs.TreeCodes.{coded_tree}
 use Rattle.vortex_functions.specs.declared.custom.NoCustom.{NoCustom}
 use Rattle.vortex_interface.specs.declared.options.EmptyOptions.{EmptyOptions}
 use Rattle.rowfn_scripts.specs.Sessions.{SessionView}

@@ -12,17 +12,17 @@ use Rattle.vortex_types.specs.LogicalTypes.{LogicalType, Fields, no_fields, with
 use Rattle.vortex_types.specs.ScalarView.{ScalarView}
 use Rattle.vortex_columns.specs.ColumnView.{ColumnView}
 use Rattle.vortex_columns.specs.Printing.{truth_text, column_text}
-use Rattle.vortex_meaning.specs.Meaning.{Meaning}
-use Rattle.vortex_meaning.specs.Shipped.{Shipped, shipped_arity, shipped_called, shipped_place}
-use Rattle.vortex_meaning.specs.Functions.{ours}
-use Rattle.vortex_meaning.specs.Trees.{Tree, leaf, place, constant, call as call_tree, trees_of}
-use Rattle.vortex_meaning.specs.Eval.{tree_type, tree_types, types_or_none}
-use Rattle.vortex_meaning.specs.Printing.{tree_text}
-use Rattle.vortex_meaning.specs.Execution.{Executes, RefusesExecution}
-use Rattle.vortex_meaning.specs.Rules.{Rules}
-use Rattle.vortex_meaning.specs.Weights.{weight_told}
-use Rattle.vortex_meaning.specs.Driver.{step, RunsTo}
-use Rattle.vortex_meaning.specs.Running.{ExecutesAfter, RefusesAfter}
+use Rattle.vortex_interface.specs.Meaning.{Meaning}
+use Rattle.vortex_interface.specs.Shipped.{Shipped, shipped_arity, shipped_called, shipped_place}
+use Rattle.vortex_interface.specs.Functions.{ours}
+use Rattle.vortex_interface.specs.Trees.{Tree, leaf, place, constant, call as call_tree, trees_of}
+use Rattle.vortex_interface.specs.Eval.{tree_type, tree_types, types_or_none}
+use Rattle.vortex_interface.specs.Printing.{tree_text}
+use Rattle.vortex_interface.specs.Execution.{Executes, RefusesExecution}
+use Rattle.vortex_interface.specs.Rules.{Rules}
+use Rattle.vortex_interface.specs.Weights.{weight_told}
+use Rattle.vortex_interface.specs.Driver.{step, RunsTo}
+use Rattle.vortex_interface.specs.Running.{ExecutesAfter, RefusesAfter}
 use Rattle.vortex_rewriting.specs.Runs.{expression_step}
 use Rattle.rowfn_lines.specs.Commands.{Command, nothing, malformed, rows, column, get, literal}
 use Rattle.rowfn_lines.specs.Commands.{call, show, optimize, run, run_after}

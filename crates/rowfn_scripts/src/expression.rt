@@ -4,7 +4,7 @@ ghost use Rattle.std.specs.Prelude.{string_bytes, MatchResult, option_map};
 ghost use Rattle.std.specs.Option.{option_and_then};
 ghost use Rattle.vortex_errors.specs.Answers.{AnswersUnlessMemory};
 ghost use Rattle.vortex_types.specs.TypeOf.{struct_fields};
-ghost use Rattle.vortex_meaning.specs.ValidityRules.{default_rules};
+ghost use Rattle.vortex_interface.specs.ValidityRules.{default_rules};
 ghost use Rattle.vortex_functions.specs.Fixed.{fixed_meaning};
 ghost use Rattle.vortex_functions.specs.declared.custom.NoCustom.{NoCustom};
 ghost use Rattle.vortex_interface.specs.declared.options.EmptyOptions.{EmptyOptions};

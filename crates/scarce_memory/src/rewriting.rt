@@ -8,7 +8,7 @@ use std::alloc::Global;
 use std::borrow::Cow;
 use tree_fixtures::array_makers::{Held, over_columns};
 use tree_fixtures::makers::*;
-use vortex_array_calls::*;
+use vortex_arrays::*;
 use vortex_columns::*;
 use vortex_functions::*;
 use vortex_operators::*;

@@ -7,7 +7,7 @@ use std::alloc::Global;
 use tree_fixtures::array_makers::{Held, array_rows, held, made};
 use tree_fixtures::makers::*;
 use tree_fixtures::rewritten::{call_of_names, scope_of};
-use vortex_array_calls::*;
+use vortex_arrays::*;
 use vortex_columns::*;
 use vortex_functions::*;
 use vortex_operators::*;

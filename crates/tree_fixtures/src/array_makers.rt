@@ -2,7 +2,7 @@
 
 use fixtures::{Made, bools, nullable_bools, rows_of, same};
 use std::alloc::Global;
-use vortex_array_calls::*;
+use vortex_arrays::*;
 use vortex_columns::*;
 use vortex_functions::*;
 use vortex_operators::*;

@@ -7,10 +7,10 @@ use Rattle.std.specs.declared.borrow.Cow.{Cow}
 use Rattle.vortex_errors.specs.declared.error.VortexError.{VortexError}
 use Rattle.vortex_errors.specs.Answers.{UnlessMemory}
 use Rattle.vortex_columns.specs.ColumnView.{ColumnView}
-use Rattle.vortex_meaning.specs.Meaning.{Meaning}
-use Rattle.vortex_meaning.specs.Functions.{Function}
-use Rattle.vortex_meaning.specs.Trees.{Tree, call, trees_of, children_of, node_count}
-use Rattle.vortex_meaning.specs.Eval.{IsFirstFault}
+use Rattle.vortex_interface.specs.Meaning.{Meaning}
+use Rattle.vortex_interface.specs.Functions.{Function}
+use Rattle.vortex_interface.specs.Trees.{Tree, call, trees_of, children_of, node_count}
+use Rattle.vortex_interface.specs.Eval.{IsFirstFault}
 use Rattle.vortex_functions.specs.Walks.{AllMean}
 use Rattle.vortex_functions.specs.Executing.{HasRows}
 use Rattle.vortex_functions.proofs.Chains.{nodes}

@@ -10,9 +10,9 @@ use Rattle.vortex_types.specs.Values.{Value, null, is_null}
 use Rattle.vortex_types.specs.LogicalTypes.{null_type}
 use Rattle.vortex_types.specs.Typing.{HasType}
 use Rattle.std.proofs.lemmas.List.FromFn.{get_or-map-range_with_len, length-map-range_with_len}
-use Rattle.vortex_meaning.specs.Meaning.{Meaning}
-use Rattle.vortex_meaning.specs.Eval.{HasTreeRows, tree_type}
-use Rattle.vortex_meaning.specs.Rewrites.{HasTypedRow}
+use Rattle.vortex_interface.specs.Meaning.{Meaning}
+use Rattle.vortex_interface.specs.Eval.{HasTreeRows, tree_type}
+use Rattle.vortex_interface.specs.Rewrites.{HasTypedRow}
 use Rattle.vortex_functions.specs.Arrays.{Array, held_or_constant, column_tree, tree_in, rows_in}
 use Rattle.vortex_functions.specs.Arrays.{AreRowsTyped}
 use Rattle.vortex_functions.specs.ArrayLeaves.{TellsConstant}

@@ -11,12 +11,12 @@ use Rattle.vortex_errors.specs.Answers.{UnlessMemory}
 use Rattle.vortex_types.specs.LogicalTypes.{LogicalType}
 use Rattle.vortex_types.specs.TypeOf.{type_of}
 use Rattle.vortex_errors.proofs.Answering.{UnlessMemory-weaker}
-use Rattle.vortex_meaning.specs.Meaning.{Meaning, fits}
-use Rattle.vortex_meaning.specs.Functions.{Function, function_arity, ours, custom, function_type}
-use Rattle.vortex_meaning.specs.Functions.{call_type, IsMismatchOf, IsMismatchAt, RefusesTypes}
-use Rattle.vortex_meaning.specs.Shipped.{shipped_place}
-use Rattle.vortex_meaning.specs.Trees.{Tree, trees_of, call}
-use Rattle.vortex_meaning.specs.Eval.{tree_type, tree_types, with_type}
+use Rattle.vortex_interface.specs.Meaning.{Meaning, fits}
+use Rattle.vortex_interface.specs.Functions.{Function, function_arity, ours, custom, function_type}
+use Rattle.vortex_interface.specs.Functions.{call_type, IsMismatchOf, IsMismatchAt, RefusesTypes}
+use Rattle.vortex_interface.specs.Shipped.{shipped_place}
+use Rattle.vortex_interface.specs.Trees.{Tree, trees_of, call}
+use Rattle.vortex_interface.specs.Eval.{tree_type, tree_types, with_type}
 use Rattle.vortex_functions.specs.Binding.{RefusesCall, types}
 
 module _ {V O : Type 0} (m : Meaning V O) where

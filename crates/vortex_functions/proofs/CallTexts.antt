@@ -4,10 +4,10 @@ use Rattle.std.proofs.Common.{◌∙◌, arith, string_bytes}
 use Rattle.std.specs.Prelude.{⊤, IfSome, String}
 use Rattle.std.specs.declared.alloc.Global.{Global}
 use Rattle.std.proofs.lemmas.List.{append_assoc, append-nil}
-use Rattle.vortex_meaning.specs.CallTexts.{text_at, told}
-use Rattle.vortex_meaning.specs.Shipped.{shipped_before, shipped_printed, shipped_text}
-use Rattle.vortex_meaning.specs.Functions.{Function, ours, custom}
-use Rattle.vortex_meaning.specs.Printing.{function_text}
+use Rattle.vortex_interface.specs.CallTexts.{text_at, told}
+use Rattle.vortex_interface.specs.Shipped.{shipped_before, shipped_printed, shipped_text}
+use Rattle.vortex_interface.specs.Functions.{Function, ours, custom}
+use Rattle.vortex_interface.specs.Printing.{function_text}
 use Rattle.vortex_interface.proofs.PartTexts.{told_next, told_past}
 use Rattle.vortex_functions.specs.WrittenTexts.{WritesBeforeOf}
 

@@ -3,12 +3,12 @@ use Rattle.std.proofs.Common.{◌≡◌, ℕ, zero, suc, ◌+◌, ◌<◌, sym, 
 use Rattle.std.proofs.Common.{take, get_or, Bool, Some, arith}
 use Rattle.std.specs.Prelude.{min}
 use Rattle.vortex_types.specs.LogicalTypes.{LogicalType, is_nullable}
-use Rattle.vortex_meaning.specs.Meaning.{Meaning}
-use Rattle.vortex_meaning.specs.Functions.{Function}
-use Rattle.vortex_meaning.specs.Trees.{Tree, call, trees_of}
-use Rattle.vortex_meaning.specs.Eval.{tree_type}
-use Rattle.vortex_meaning.specs.Rules.{may_be_null}
-use Rattle.vortex_meaning.specs.Weights.{added, weight, weights, weight_told}
+use Rattle.vortex_interface.specs.Meaning.{Meaning}
+use Rattle.vortex_interface.specs.Functions.{Function}
+use Rattle.vortex_interface.specs.Trees.{Tree, call, trees_of}
+use Rattle.vortex_interface.specs.Eval.{tree_type}
+use Rattle.vortex_interface.specs.Rules.{may_be_null}
+use Rattle.vortex_interface.specs.Weights.{added, weight, weights, weight_told}
 
 -- as 64 bits tell a sum
 abbrev pub told : ℕ → ℕ

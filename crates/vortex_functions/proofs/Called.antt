@@ -1,8 +1,8 @@
 -- What a script calls, from what it names.
 use Rattle.std.proofs.Common.{◌≡◌, ℕ, Option, Some, None, ap}
 use Rattle.std.specs.Option.{option_map, option_and_then}
-use Rattle.vortex_meaning.specs.Shipped.{Shipped, escaped}
-use Rattle.vortex_meaning.specs.Functions.{Function, ours}
+use Rattle.vortex_interface.specs.Shipped.{Shipped, escaped}
+use Rattle.vortex_interface.specs.Functions.{Function, ours}
 use Rattle.vortex_functions.specs.FunctionOf.{escaped_function}
 
 module _ {V O : Type 0} where

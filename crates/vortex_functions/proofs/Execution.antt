@@ -15,17 +15,17 @@ use Rattle.vortex_columns.specs.ColumnView.{ColumnView, row, constant_column}
 use Rattle.vortex_types.specs.ScalarView.{ScalarView}
 use Rattle.vortex_errors.specs.Answers.{Answers}
 use Rattle.vortex_errors.proofs.Answering.{Answers-weaker}
-use Rattle.vortex_meaning.specs.Outcomes.{gives, GivesValue, HasCallRows, IsCallFault, call_row}
-use Rattle.vortex_meaning.specs.Outcomes.{types_in, values_at}
-use Rattle.vortex_meaning.specs.Meaning.{Meaning, fits}
-use Rattle.vortex_meaning.specs.Functions.{Function, function_arity, function_type, function_means}
-use Rattle.vortex_meaning.specs.Functions.{call_type}
-use Rattle.vortex_meaning.specs.Trees.{place, Tree, leaf, constant, call, trees_of}
-use Rattle.vortex_meaning.specs.Eval.{tree_type, tree_types, with_type, types_or_none, eval}
-use Rattle.vortex_meaning.specs.Eval.{eval_all, then_means, all_give, Settled, AllSettled}
-use Rattle.vortex_meaning.specs.Eval.{IsFirstFault, HasTreeRows}
-use Rattle.vortex_meaning.specs.Execution.{LeavesFit, other_length}
-use Rattle.vortex_meaning.proofs.RewrittenRows.{same_length}
+use Rattle.vortex_interface.specs.Outcomes.{gives, GivesValue, HasCallRows, IsCallFault, call_row}
+use Rattle.vortex_interface.specs.Outcomes.{types_in, values_at}
+use Rattle.vortex_interface.specs.Meaning.{Meaning, fits}
+use Rattle.vortex_interface.specs.Functions.{Function, function_arity, function_type, function_means}
+use Rattle.vortex_interface.specs.Functions.{call_type}
+use Rattle.vortex_interface.specs.Trees.{place, Tree, leaf, constant, call, trees_of}
+use Rattle.vortex_interface.specs.Eval.{tree_type, tree_types, with_type, types_or_none, eval}
+use Rattle.vortex_interface.specs.Eval.{eval_all, then_means, all_give, Settled, AllSettled}
+use Rattle.vortex_interface.specs.Eval.{IsFirstFault, HasTreeRows}
+use Rattle.vortex_interface.specs.Execution.{LeavesFit, other_length}
+use Rattle.vortex_interface.proofs.RewrittenRows.{same_length}
 
 -- each tree's rows stand in the column beside it
 abbrev pub AllHaveRows : {V O : Type 0} → Meaning V O → List ColumnView → ℕ → List (Tree V O)

@@ -4,9 +4,9 @@ use Rattle.std.specs.Prelude.{Result, Ok, Err}
 use Rattle.std.proofs.lemmas.List.{map-id}
 use Rattle.vortex_errors.specs.declared.error.VortexError.{VortexError}
 use Rattle.vortex_errors.specs.Answers.{UnlessMemory}
-use Rattle.vortex_meaning.specs.Meaning.{Meaning}
-use Rattle.vortex_meaning.specs.Functions.{Function}
-use Rattle.vortex_meaning.specs.Trees.{Tree}
+use Rattle.vortex_interface.specs.Meaning.{Meaning}
+use Rattle.vortex_interface.specs.Functions.{Function}
+use Rattle.vortex_interface.specs.Trees.{Tree}
 use Rattle.vortex_functions.specs.Binding.{IsCall, RefusesCall, AnswersBinding, AnswersTreeCall}
 
 module _ {V O : Type 0} (m : Meaning V O) (f : Function V O) (ts : List (Tree V O)) where

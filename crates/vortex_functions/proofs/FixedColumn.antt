@@ -13,7 +13,7 @@ use Rattle.vortex_columns.specs.ValidityView.{non_nullable, ValidityView, FitsRo
 use Rattle.vortex_columns.specs.Stored.{bool_column}
 use Rattle.vortex_errors.specs.Answers.{Answers, AnswersWhere}
 use Rattle.vortex_errors.proofs.Answering.{Answers-weaker}
-use Rattle.vortex_meaning.specs.Outcomes.{gives, HasCallRows, IsCallFault, types_in}
+use Rattle.vortex_interface.specs.Outcomes.{gives, HasCallRows, IsCallFault, types_in}
 use Rattle.vortex_functions.specs.Fixed.{fixed_type}
 
 abbrev pub plain : ValidityView

@@ -10,7 +10,7 @@ use Rattle.vortex_errors.specs.Answers.{AnswersUnlessMemory}
 use Rattle.vortex_errors.specs.declared.error.VortexError.{VortexError}
 use Rattle.vortex_errors.specs.declared.error.VortexError.TheVariants.{ScopeMismatch}
 use Rattle.vortex_errors.proofs.Answering.{Answers-weaker}
-use Rattle.vortex_meaning.specs.Trees.{place, Tree, leaf}
+use Rattle.vortex_interface.specs.Trees.{place, Tree, leaf}
 use Rattle.vortex_functions.specs.Binding.{IsColumnLeaf, AnswersLeaf, field_leaf}
 
 -- the place is one of the fields', which has that name and that type

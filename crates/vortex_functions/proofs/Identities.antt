@@ -1,10 +1,10 @@
 -- Identities and options tell functions.
 use Rattle.std.proofs.Common.{◌≡◌, Bool, true, false, refl, ap, sym}
 use Rattle.std.proofs.lemmas.Slice.Eq.{bytes_eq-Decides}
-use Rattle.vortex_meaning.specs.Meaning.{Meaning}
-use Rattle.vortex_meaning.specs.Shipped as shipped
-use Rattle.vortex_meaning.specs.Shipped.{Shipped, shipped_id}
-use Rattle.vortex_meaning.specs.Functions.{ours, custom}
+use Rattle.vortex_interface.specs.Meaning.{Meaning}
+use Rattle.vortex_interface.specs.Shipped as shipped
+use Rattle.vortex_interface.specs.Shipped.{Shipped, shipped_id}
+use Rattle.vortex_interface.specs.Functions.{ours, custom}
 use Rattle.vortex_functions.specs.SameFunctions.{held_by}
 use Rattle.vortex_functions.specs.SameFunctions.{SameByIdentityAndOptions}
 

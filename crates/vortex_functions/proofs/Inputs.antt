@@ -3,9 +3,9 @@ use Rattle.std.proofs.Common.{◌≡◌, ℕ, refl, ap, subst, ◌∙◌, List, 
 use Rattle.std.specs.declared.borrow.Cow.{Cow}
 use Rattle.std.specs.Cow.{cow_value}
 use Rattle.vortex_columns.specs.ColumnView.{ColumnView}
-use Rattle.vortex_meaning.specs.Meaning.{Meaning}
-use Rattle.vortex_meaning.specs.Functions.{Function}
-use Rattle.vortex_meaning.specs.Trees.{Tree, call, trees_of, children_of}
+use Rattle.vortex_interface.specs.Meaning.{Meaning}
+use Rattle.vortex_interface.specs.Functions.{Function}
+use Rattle.vortex_interface.specs.Trees.{Tree, call, trees_of, children_of}
 use Rattle.vortex_functions.specs.Walks.{AllMean, IsCopy}
 use Rattle.vortex_functions.proofs.Execution.{AllHaveRows}
 use Rattle.vortex_functions.proofs.TreeLists.{list_of-trees_of}

@@ -3,11 +3,11 @@ use Rattle.std.proofs.Common.{◌≡◌, ℕ, zero, suc, List, [], ◌∷◌, ma
 use Rattle.std.proofs.Common.{subst, ◌∙◌, arith}
 use Rattle.std.specs.Prelude.{All, slice_get}
 use Rattle.std.proofs.lemmas.List.Elements.{All-nil, All-cons}
-use Rattle.vortex_meaning.specs.Functions.{Function}
-use Rattle.vortex_meaning.specs.Meaning.{Meaning}
-use Rattle.vortex_meaning.specs.Trees.{Tree, leaf, constant, call, trees_of, children_of, called}
-use Rattle.vortex_meaning.specs.Trees.{node_count}
-use Rattle.vortex_meaning.specs.Weights.{weight_told}
+use Rattle.vortex_interface.specs.Functions.{Function}
+use Rattle.vortex_interface.specs.Meaning.{Meaning}
+use Rattle.vortex_interface.specs.Trees.{Tree, leaf, constant, call, trees_of, children_of, called}
+use Rattle.vortex_interface.specs.Trees.{node_count}
+use Rattle.vortex_interface.specs.Weights.{weight_told}
 use Rattle.vortex_functions.specs.declared.tree.leaf.Leaf.{Ghosts}
 use Rattle.vortex_functions.proofs.TreeLists.{list_of-trees_of}
 

@@ -4,10 +4,10 @@ use Rattle.std.proofs.Common.{◌≤◌, Bool, IsTrue, refl, sym, ap, subst, ◌
 use Rattle.std.specs.Borrow.{Bor}
 use Rattle.std.proofs.lemmas.List.{map-append}
 use Rattle.vortex_columns.specs.ColumnView.{ColumnView}
-use Rattle.vortex_meaning.specs.Trees.{Leaf, Tree, leaf, constant, call, Trees, no_trees, tree}
-use Rattle.vortex_meaning.specs.Trees.{trees_of, list_of, children_of, node_count, nodes_count}
-use Rattle.vortex_meaning.specs.Execution.{LeavesFit, AllLeavesFit}
-use Rattle.vortex_meaning.proofs.StepPlaces.{same_trees}
+use Rattle.vortex_interface.specs.Trees.{Leaf, Tree, leaf, constant, call, Trees, no_trees, tree}
+use Rattle.vortex_interface.specs.Trees.{trees_of, list_of, children_of, node_count, nodes_count}
+use Rattle.vortex_interface.specs.Execution.{LeavesFit, AllLeavesFit}
+use Rattle.vortex_interface.proofs.StepPlaces.{same_trees}
 use Rattle.vortex_functions.specs.Executing.{NodeFits}
 
 pub none_left : {A : Type 0} (xs : List A) → (0 < length xs → ⊥) → xs ≡ []

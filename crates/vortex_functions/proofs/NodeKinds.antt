@@ -7,14 +7,14 @@ use Rattle.std.specs.declared.borrow.Cow.TheVariants as cow
 use Rattle.std.proofs.lemmas.Option.{get_or_from_slice_get}
 use Rattle.vortex_types.specs.declared.dtype.DType.{DType}
 use Rattle.vortex_columns.specs.ColumnView.{ColumnView}
-use Rattle.vortex_meaning.specs.Meaning.{Meaning}
-use Rattle.vortex_meaning.specs.Trees.{Tree}
-use Rattle.vortex_meaning.specs.Rules.{Rules}
-use Rattle.vortex_meaning.specs.ReduceRules.{reduce}
-use Rattle.vortex_meaning.specs.Driver.{simplify_or_reduce}
+use Rattle.vortex_interface.specs.Meaning.{Meaning}
+use Rattle.vortex_interface.specs.Trees.{Tree}
+use Rattle.vortex_interface.specs.Rules.{Rules}
+use Rattle.vortex_interface.specs.ReduceRules.{reduce}
+use Rattle.vortex_interface.specs.Driver.{simplify_or_reduce}
 use Rattle.vortex_functions.specs.Arrays.{Array, tree_in, rows_in}
 use Rattle.vortex_functions.specs.Nodes.{IsNode, call_of, node_tree}
-use Rattle.vortex_meaning.specs.Execution.{LeavesFit}
+use Rattle.vortex_interface.specs.Execution.{LeavesFit}
 use Rattle.vortex_functions.specs.Executing.{NodeFits, LendsLeaf}
 use Rattle.vortex_functions.specs.ExpressionLeaves.{expression_leaf, HasColumn}
 use Rattle.vortex_functions.specs.ArrayLeaves.{StandsAmong}

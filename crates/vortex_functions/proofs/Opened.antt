@@ -5,8 +5,8 @@ use Rattle.std.specs.Prelude.{List, slice_get}
 use Rattle.vortex_types.specs.LogicalTypes.{LogicalType}
 use Rattle.vortex_types.specs.TypeEquality.{type_eq, type_eq-decides}
 use Rattle.vortex_columns.specs.ColumnView.{ColumnView}
-use Rattle.vortex_meaning.specs.Trees.{place}
-use Rattle.vortex_meaning.specs.Execution.{LeafFits}
+use Rattle.vortex_interface.specs.Trees.{place}
+use Rattle.vortex_interface.specs.Execution.{LeafFits}
 
 -- an answer no, by what a yes would need
 pub refuted : (b : Bool) (P Q : Type 0) → b ≡ false → (IsTrue b ↔ P) → (Q → P) → IsTrue false ↔ Q

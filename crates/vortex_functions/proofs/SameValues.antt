@@ -14,8 +14,8 @@ use Rattle.vortex_operators.specs.declared.between.StrictComparison.{StrictCompa
 use Rattle.vortex_operators.specs.contracts.between.StrictComparison as strict
 use Rattle.vortex_operators.specs.declared.between.BetweenOptions.{BetweenOptions}
 use Rattle.vortex_like.specs.declared.options.LikeOptions.{LikeOptions}
-use Rattle.vortex_meaning.specs.Shipped.{Shipped}
-use Rattle.vortex_meaning.specs.Functions.{Function, ours, custom}
+use Rattle.vortex_interface.specs.Shipped.{Shipped}
+use Rattle.vortex_interface.specs.Functions.{Function, ours, custom}
 use Rattle.vortex_functions.specs.SameFunctions.{AreSame}
 
 -- a test, and what it tells

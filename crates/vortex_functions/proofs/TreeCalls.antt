@@ -9,11 +9,11 @@ use Rattle.vortex_types.specs.LogicalTypes.{LogicalType}
 use Rattle.vortex_types.specs.TypeOf.{type_of}
 use Rattle.vortex_errors.specs.declared.error.VortexError.{VortexError}
 use Rattle.vortex_errors.specs.Answers.{UnlessMemory}
-use Rattle.vortex_meaning.specs.Meaning.{Meaning, fits}
-use Rattle.vortex_meaning.specs.Functions.{Function, function_arity, function_type, RefusesTypes}
-use Rattle.vortex_meaning.specs.Trees.{Tree, trees_of, call}
-use Rattle.vortex_meaning.specs.Eval.{tree_type, tree_types}
-use Rattle.vortex_meaning.specs.Weights.{weights, weight_told}
+use Rattle.vortex_interface.specs.Meaning.{Meaning, fits}
+use Rattle.vortex_interface.specs.Functions.{Function, function_arity, function_type, RefusesTypes}
+use Rattle.vortex_interface.specs.Trees.{Tree, trees_of, call}
+use Rattle.vortex_interface.specs.Eval.{tree_type, tree_types}
+use Rattle.vortex_interface.specs.Weights.{weights, weight_told}
 use Rattle.vortex_functions.specs.Binding.{IsCall, RefusesCall}
 use Rattle.vortex_functions.proofs.Bound.{count_fits, call_is_typed, types_refused}
 use Rattle.vortex_functions.proofs.CallWeights.{told, sum_more}

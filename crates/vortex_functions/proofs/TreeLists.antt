@@ -1,6 +1,6 @@
 -- A row of trees and a list of them.
 use Rattle.std.proofs.Common.{◌≡◌, refl, ap, List, [], ◌∷◌}
-use Rattle.vortex_meaning.specs.Trees.{Tree, trees_of, list_of}
+use Rattle.vortex_interface.specs.Trees.{Tree, trees_of, list_of}
 
 pub list_of-trees_of : {V O : Type 0} (ts : List (Tree V O)) → list_of (trees_of ts) ≡ ts
 list_of-trees_of [] = refl

@@ -7,11 +7,11 @@ use Rattle.vortex_errors.specs.declared.error.VortexError.{VortexError}
 use Rattle.vortex_errors.specs.Answers.{UnlessMemory}
 use Rattle.vortex_errors.proofs.Answering.{UnlessMemory-weaker}
 use Rattle.vortex_columns.specs.ColumnView.{ColumnView}
-use Rattle.vortex_meaning.specs.Meaning.{Meaning}
-use Rattle.vortex_meaning.specs.Trees.{Tree, leaf, constant, call, Trees, no_trees, tree}
-use Rattle.vortex_meaning.specs.Trees.{children_of, list_of}
-use Rattle.vortex_meaning.specs.Eval.{IsFirstFault, IsFirstFaultIn}
-use Rattle.vortex_meaning.specs.Execution.{LeavesFit, AllLeavesFit}
+use Rattle.vortex_interface.specs.Meaning.{Meaning}
+use Rattle.vortex_interface.specs.Trees.{Tree, leaf, constant, call, Trees, no_trees, tree}
+use Rattle.vortex_interface.specs.Trees.{children_of, list_of}
+use Rattle.vortex_interface.specs.Eval.{IsFirstFault, IsFirstFaultIn}
+use Rattle.vortex_interface.specs.Execution.{LeavesFit, AllLeavesFit}
 use Rattle.vortex_functions.specs.Walks.{AllMean}
 use Rattle.vortex_functions.specs.Executing.{HasRows}
 use Rattle.vortex_functions.proofs.Execution.{settled}

@@ -5,9 +5,9 @@ use Rattle.std.specs.declared.borrow.Cow.TheVariants.{Borrowed, Owned}
 use Rattle.vortex_errors.specs.declared.error.VortexError.{VortexError}
 use Rattle.vortex_columns.specs.ColumnView.{ColumnView}
 use Rattle.vortex_types.specs.Values.{Value}
-use Rattle.vortex_meaning.specs.Outcomes.{gives}
-use Rattle.vortex_meaning.specs.Meaning.{Meaning}
-use Rattle.vortex_meaning.specs.Eval.{eval}
+use Rattle.vortex_interface.specs.Outcomes.{gives}
+use Rattle.vortex_interface.specs.Meaning.{Meaning}
+use Rattle.vortex_interface.specs.Eval.{eval}
 use Rattle.vortex_functions.specs.Executing.{HasRows, AnswersTree}
 use Rattle.vortex_functions.specs.Arrays.{Array, tree_in, rows_in, column_in}
 

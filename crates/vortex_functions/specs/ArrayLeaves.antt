@@ -4,13 +4,13 @@ use Rattle.std.specs.Prelude.{length, refl, zero, suc}
 use Rattle.std.proofs.Common.{arith, subst, sym}
 use Rattle.vortex_types.specs.ScalarView.{ScalarView}
 use Rattle.vortex_columns.specs.ColumnView.{ColumnView, constant_column}
-use Rattle.vortex_meaning.specs.Functions.{Function}
-use Rattle.vortex_meaning.specs.Meaning.{Meaning}
-use Rattle.vortex_meaning.specs.Trees.{Tree, call, trees_of, called}
-use Rattle.vortex_meaning.specs.Rules.{Rules}
-use Rattle.vortex_meaning.specs.ReduceRules.{reduce}
-use Rattle.vortex_meaning.specs.Driver.{step}
-use Rattle.vortex_meaning.specs.Rewrites.{AllHaveRow}
+use Rattle.vortex_interface.specs.Functions.{Function}
+use Rattle.vortex_interface.specs.Meaning.{Meaning}
+use Rattle.vortex_interface.specs.Trees.{Tree, call, trees_of, called}
+use Rattle.vortex_interface.specs.Rules.{Rules}
+use Rattle.vortex_interface.specs.ReduceRules.{reduce}
+use Rattle.vortex_interface.specs.Driver.{step}
+use Rattle.vortex_interface.specs.Rewrites.{AllHaveRow}
 use Rattle.vortex_functions.specs.Arrays.{Array, held_or_constant, column_tree, tree_in, rows_in}
 use Rattle.vortex_functions.specs.Arrays.{IsTyped}
 use Rattle.vortex_functions.specs.declared.array.ArrayLeaf.{ArrayLeaf}

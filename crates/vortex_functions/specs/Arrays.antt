@@ -3,8 +3,8 @@ use Rattle.std.specs.Prelude.{ℕ, ◌<◌, List, [], ◌∷◌, Option, Some, N
 use Rattle.std.specs.Prelude.{if◌then◌else◌}
 use Rattle.vortex_columns.specs.ColumnView.{ColumnView, constant_column}
 use Rattle.vortex_types.specs.ScalarView.{ScalarView}
-use Rattle.vortex_meaning.specs.Trees.{held, Tree, leaf, constant, children_of}
-use Rattle.vortex_meaning.specs.Rewrites.{HasRow}
+use Rattle.vortex_interface.specs.Trees.{held, Tree, leaf, constant, children_of}
+use Rattle.vortex_interface.specs.Rewrites.{HasRow}
 
 abbrev pub Array : Type 0 → Type 0 → Type 0
 Array V O = Tree V O × ℕ

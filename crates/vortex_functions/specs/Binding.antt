@@ -9,10 +9,10 @@ use Rattle.vortex_errors.specs.Answers.{Answers}
 use Rattle.vortex_types.specs.LogicalTypes.{LogicalType, Fields, field_type, find_field}
 use Rattle.vortex_types.specs.FieldNames.{field_name}
 use Rattle.vortex_columns.specs.ColumnView.{ColumnView}
-use Rattle.vortex_meaning.specs.Meaning.{Meaning, fits}
-use Rattle.vortex_meaning.specs.Functions.{Function, function_arity, function_type, IsMismatchOf}
-use Rattle.vortex_meaning.specs.Trees.{place, Tree, leaf, call, trees_of}
-use Rattle.vortex_meaning.specs.Eval.{tree_types}
+use Rattle.vortex_interface.specs.Meaning.{Meaning, fits}
+use Rattle.vortex_interface.specs.Functions.{Function, function_arity, function_type, IsMismatchOf}
+use Rattle.vortex_interface.specs.Trees.{place, Tree, leaf, call, trees_of}
+use Rattle.vortex_interface.specs.Eval.{tree_types}
 
 -- the leaf of the first field of that name
 pub record IsColumnLeaf {V O : Type 0} (scope : Fields) (name : List ℕ) (t : Tree V O) : Type 0

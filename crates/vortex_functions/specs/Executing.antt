@@ -5,11 +5,11 @@ use Rattle.std.specs.declared.borrow.Cow.{Cow}
 use Rattle.vortex_errors.specs.declared.error.VortexError.{VortexError}
 use Rattle.vortex_errors.specs.Answers.{Answers}
 use Rattle.vortex_columns.specs.ColumnView.{ColumnView}
-use Rattle.vortex_meaning.specs.Meaning.{Meaning}
-use Rattle.vortex_meaning.specs.Trees.{Tree, leaf}
-use Rattle.vortex_meaning.specs.Eval.{HasTreeRows, IsFirstFault}
-use Rattle.vortex_meaning.specs.Execution.{LeafFits, LeavesFit, other_length, Executes}
-use Rattle.vortex_meaning.specs.Execution.{RefusesColumns, RefusesExecution}
+use Rattle.vortex_interface.specs.Meaning.{Meaning}
+use Rattle.vortex_interface.specs.Trees.{Tree, leaf}
+use Rattle.vortex_interface.specs.Eval.{HasTreeRows, IsFirstFault}
+use Rattle.vortex_interface.specs.Execution.{LeafFits, LeavesFit, other_length, Executes}
+use Rattle.vortex_interface.specs.Execution.{RefusesColumns, RefusesExecution}
 use Rattle.vortex_functions.specs.Binding.{IsLeaf, IsLentLeaf}
 
 abbrev Answer : Type 0

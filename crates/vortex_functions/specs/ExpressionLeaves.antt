@@ -4,14 +4,14 @@ use Rattle.std.proofs.Common.{arith, sym}
 use Rattle.std.proofs.lemmas.List.{map-id}
 use Rattle.vortex_types.specs.TypeOf.{type_of}
 use Rattle.vortex_columns.specs.ColumnView.{ColumnView}
-use Rattle.vortex_meaning.specs.Functions.{Function}
-use Rattle.vortex_meaning.specs.Meaning.{Meaning}
-use Rattle.vortex_meaning.specs.Trees.{place, Tree, leaf, constant, call, trees_of, children_of}
-use Rattle.vortex_meaning.specs.Trees.{called}
-use Rattle.vortex_meaning.specs.Rules.{Rules}
-use Rattle.vortex_meaning.specs.Driver.{simplify_or_reduce, step}
-use Rattle.vortex_meaning.specs.Made.{IsBound}
-use Rattle.vortex_meaning.specs.Execution.{LeafFits}
+use Rattle.vortex_interface.specs.Functions.{Function}
+use Rattle.vortex_interface.specs.Meaning.{Meaning}
+use Rattle.vortex_interface.specs.Trees.{place, Tree, leaf, constant, call, trees_of, children_of}
+use Rattle.vortex_interface.specs.Trees.{called}
+use Rattle.vortex_interface.specs.Rules.{Rules}
+use Rattle.vortex_interface.specs.Driver.{simplify_or_reduce, step}
+use Rattle.vortex_interface.specs.Made.{IsBound}
+use Rattle.vortex_interface.specs.Execution.{LeafFits}
 use Rattle.vortex_functions.specs.declared.expression.ExpressionLeaf.{ExpressionLeaf}
 use Rattle.vortex_functions.specs.declared.expression.ExpressionLeaf.TheVariants.{Column, Literal}
 

@@ -4,8 +4,8 @@ use Rattle.std.proofs.Common.{arith}
 use Rattle.vortex_errors.specs.declared.arity.Arity.TheVariants.{Exact}
 use Rattle.vortex_types.specs.LogicalTypes.{LogicalType, bool_type, is_nullable}
 use Rattle.vortex_types.specs.Values.{Value, null, truth}
-use Rattle.vortex_meaning.specs.Outcomes.{gives, GivesType, GivesNull}
-use Rattle.vortex_meaning.specs.Meaning.{Meaning, Lawful, HaveTypes}
+use Rattle.vortex_interface.specs.Outcomes.{gives, GivesType, GivesNull}
+use Rattle.vortex_interface.specs.Meaning.{Meaning, Lawful, HaveTypes}
 
 abbrev pub fixed_type : List LogicalType → Option LogicalType
 fixed_type [] = Some (bool_type false)

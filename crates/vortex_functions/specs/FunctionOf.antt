@@ -7,9 +7,9 @@ use Rattle.vortex_functions.specs.declared.typed.TypedScalarFnInstance.{TypedSca
 use Rattle.vortex_operators.specs.declared.operators.Operator.{Operator}
 use Rattle.vortex_operators.specs.declared.between.BetweenOptions.{BetweenOptions}
 use Rattle.vortex_like.specs.declared.options.LikeOptions.{LikeOptions}
-use Rattle.vortex_meaning.specs.Shipped.{escaped, Binary, Not, IsNull, IsNotNull, Cast, Between}
-use Rattle.vortex_meaning.specs.Shipped.{Like}
-use Rattle.vortex_meaning.specs.Functions.{Function, ours, custom}
+use Rattle.vortex_interface.specs.Shipped.{escaped, Binary, Not, IsNull, IsNotNull, Cast, Between}
+use Rattle.vortex_interface.specs.Shipped.{Like}
+use Rattle.vortex_interface.specs.Functions.{Function, ours, custom}
 
 module _ {V O : Type 0} where
   abbrev pub function_of : ScalarFnRef V O → Function V O

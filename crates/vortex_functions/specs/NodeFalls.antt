@@ -5,7 +5,7 @@ use Rattle.vortex_functions.specs.declared.tree.Node.{Node}
 use Rattle.vortex_functions.specs.declared.tree.Node.TheVariants.{Leaf, Call}
 use Rattle.vortex_functions.specs.declared.tree.Tree.TheDeep.{deep-Node}
 use Rattle.vortex_functions.specs.declared.tree.leaf.Leaf.{Ghosts}
-use Rattle.vortex_meaning.specs.Trees.{Tree, node_count}
+use Rattle.vortex_interface.specs.Trees.{Tree, node_count}
 use Rattle.vortex_functions.specs.Nodes.{node_tree, most_le-nodes_count}
 
 pub deep_le-node_count : (V L O B S : Type 0) (a : _) (b : _) (c : _) (d : _) (e : _) (f : _)

@@ -7,13 +7,13 @@ use Rattle.vortex_functions.specs.declared.tree.Node.{Node}
 use Rattle.vortex_functions.specs.declared.tree.Node.TheVariants.{Leaf, Call}
 use Rattle.vortex_functions.specs.declared.tree.Tree.TheInside.{Inside}
 use Rattle.vortex_types.specs.TypeOf.{type_of}
-use Rattle.vortex_meaning.specs.Meaning.{Meaning}
+use Rattle.vortex_interface.specs.Meaning.{Meaning}
 use Rattle.vortex_types.specs.LogicalTypes.{null_type}
-use Rattle.vortex_meaning.specs.Trees.{place, Tree, leaf, call, trees_of, node_count}
-use Rattle.vortex_meaning.specs.Trees.{nodes_count}
-use Rattle.vortex_meaning.specs.Eval.{tree_type}
-use Rattle.vortex_meaning.specs.Driver.{step}
-use Rattle.vortex_meaning.specs.Weights.{weight_told}
+use Rattle.vortex_interface.specs.Trees.{place, Tree, leaf, call, trees_of, node_count}
+use Rattle.vortex_interface.specs.Trees.{nodes_count}
+use Rattle.vortex_interface.specs.Eval.{tree_type}
+use Rattle.vortex_interface.specs.Driver.{step}
+use Rattle.vortex_interface.specs.Weights.{weight_told}
 use Rattle.vortex_functions.specs.FunctionOf.{function_of}
 
 pub most_le-nodes_count : {V O S : Type 0} (tree_of : S → Tree V O) (xs : List S)

@@ -3,9 +3,9 @@ use Rattle.std.specs.Prelude.{◌≡◌, ◌≢◌, ◌↔◌, ℕ, List, Bool, 
 use Rattle.vortex_operators.specs.declared.operators.Operator.{Operator}
 use Rattle.vortex_operators.specs.declared.between.BetweenOptions.{BetweenOptions}
 use Rattle.vortex_like.specs.declared.options.LikeOptions.{LikeOptions}
-use Rattle.vortex_meaning.specs.Meaning.{Meaning}
-use Rattle.vortex_meaning.specs.Shipped.{Shipped, Binary, Cast, Between, Like, shipped_id}
-use Rattle.vortex_meaning.specs.Functions.{Function, ours, custom, function_id}
+use Rattle.vortex_interface.specs.Meaning.{Meaning}
+use Rattle.vortex_interface.specs.Shipped.{Shipped, Binary, Cast, Between, Like, shipped_id}
+use Rattle.vortex_interface.specs.Functions.{Function, ours, custom, function_id}
 
 -- one shipped function with the same options; or two of a caller's of one identity, whose options
 -- are equal by the equality E of their own. No shipped function is the same as a caller's

@@ -1,10 +1,10 @@
 -- When the text of a call is written behind what a text holds already, and that of a tree.
 use Rattle.std.specs.Prelude.{◌≡◌, List, IfSome, map, string_bytes, String}
 use Rattle.std.specs.declared.alloc.Global.{Global}
-use Rattle.vortex_meaning.specs.CallTexts.{Appends}
-use Rattle.vortex_meaning.specs.Functions.{Function}
-use Rattle.vortex_meaning.specs.Printing.{function_text, tree_text}
-use Rattle.vortex_meaning.specs.Trees.{Tree}
+use Rattle.vortex_interface.specs.CallTexts.{Appends}
+use Rattle.vortex_interface.specs.Functions.{Function}
+use Rattle.vortex_interface.specs.Printing.{function_text, tree_text}
+use Rattle.vortex_interface.specs.Trees.{Tree}
 
 -- where the function has a text, by those of its arguments
 abbrev pub AppendsText : {V O : Type 0} → Function V O

@@ -4,11 +4,11 @@ use Rattle.std.specs.Prelude.{◌≡◌, ◌-◌, ℕ, suc, ◌++◌, ⊤, List,
 use Rattle.std.specs.Prelude.{slice_get, String}
 use Rattle.std.specs.declared.alloc.Global.{Global}
 use Rattle.std.specs.Option.{unwrap_or}
-use Rattle.vortex_meaning.specs.CallTexts.{Appends, told}
-use Rattle.vortex_meaning.specs.Shipped.{shipped_before, shipped_printed}
-use Rattle.vortex_meaning.specs.Functions.{Function, ours, custom}
-use Rattle.vortex_meaning.specs.Printing.{literal_text, tree_text}
-use Rattle.vortex_meaning.specs.Trees.{Tree, leaf, place, held, constant, call, children_of}
+use Rattle.vortex_interface.specs.CallTexts.{Appends, told}
+use Rattle.vortex_interface.specs.Shipped.{shipped_before, shipped_printed}
+use Rattle.vortex_interface.specs.Functions.{Function, ours, custom}
+use Rattle.vortex_interface.specs.Printing.{literal_text, tree_text}
+use Rattle.vortex_interface.specs.Trees.{Tree, leaf, place, held, constant, call, children_of}
 
 -- what a call writes before the argument that is printed k-th, and which that is; of a caller's
 -- function nothing is promised

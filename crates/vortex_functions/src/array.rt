@@ -28,7 +28,7 @@ pub type ArrayRef<C> = Tree<C, ArrayLeaf>;
 
 impl<C: ScalarFnVTable> Leaf<C, C::Options> for ArrayLeaf {
     ghost use Rattle.std.specs.Prelude.{refl};
-    ghost use Rattle.vortex_meaning.specs.ReduceRules.{reduce};
+    ghost use Rattle.vortex_interface.specs.ReduceRules.{reduce};
     ghost use Rattle.vortex_functions.specs.Arrays.{tree_in, rows_in, children_in, IsTyped};
     ghost use Rattle.vortex_functions.specs.ArrayLeaves as laws;
     ghost use Rattle.vortex_functions.specs.ArrayLeaves.{array_leaf, StandsAmong};

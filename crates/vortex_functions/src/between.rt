@@ -37,7 +37,7 @@ fn between_named(words: &[&str]) -> Option<BetweenOptions>
 
 impl ScalarFnVTableExt for Between {
     ghost use Rattle.std.specs.Option.{option_map};
-    ghost use Rattle.vortex_meaning.specs.Shipped as shipped;
+    ghost use Rattle.vortex_interface.specs.Shipped as shipped;
     ghost use Rattle.vortex_functions.specs.Words.{between_named};
 
     ghost ships = { shipped.Between };

@@ -7,7 +7,7 @@ use vortex_shipped::Binary;
 
 impl ScalarFnVTableExt for Binary {
     ghost use Rattle.std.specs.Option.{option_map};
-    ghost use Rattle.vortex_meaning.specs.Shipped as shipped;
+    ghost use Rattle.vortex_interface.specs.Shipped as shipped;
     ghost use Rattle.vortex_functions.specs.Words.{operator_called};
 
     ghost ships = { shipped.Binary };

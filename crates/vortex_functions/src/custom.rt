@@ -1,6 +1,6 @@
 //! The function that stands where a caller has none.
 ghost use Rattle.std.specs.Prelude.{◌≡◌, IfOk, false, replicate};
-ghost use Rattle.vortex_meaning.specs.ValidityRules.{default_rules};
+ghost use Rattle.vortex_interface.specs.ValidityRules.{default_rules};
 ghost use Rattle.vortex_functions.specs.Fixed.{fixed_meaning, fixed_lawful};
 
 use std::alloc::{AllocError, Global};

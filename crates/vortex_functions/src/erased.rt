@@ -92,8 +92,8 @@ pub struct ScalarFnSignature {
 
 impl<C: ScalarFnVTable> ScalarFnRef<C> {
     ghost use Rattle.std.specs.Option.{option_copied, option_map};
-    ghost use Rattle.vortex_meaning.specs.Functions.{ours};
-    ghost use Rattle.vortex_meaning.specs.Shipped.{shipped_named, shipped_called};
+    ghost use Rattle.vortex_interface.specs.Functions.{ours};
+    ghost use Rattle.vortex_interface.specs.Shipped.{shipped_named, shipped_called};
     ghost use Rattle.vortex_functions.specs.FunctionOf.{escaped_function};
     ghost use Rattle.vortex_functions.specs.FunctionOf.{operator_in, between_in, like_in};
     ghost use Rattle.vortex_functions.specs.FunctionOf.{instance_in};

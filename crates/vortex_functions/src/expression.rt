@@ -30,9 +30,9 @@ pub type BoundExpression<C> = Tree<C, ExpressionLeaf>;
 
 impl<C: ScalarFnVTable> Leaf<C, C::Options> for ExpressionLeaf {
     ghost use Rattle.std.specs.Prelude.{refl, ⊤};
-    ghost use Rattle.vortex_meaning.specs.Trees.{children_of};
-    ghost use Rattle.vortex_meaning.specs.Driver.{simplify_or_reduce};
-    ghost use Rattle.vortex_meaning.specs.Made.{IsBound};
+    ghost use Rattle.vortex_interface.specs.Trees.{children_of};
+    ghost use Rattle.vortex_interface.specs.Driver.{simplify_or_reduce};
+    ghost use Rattle.vortex_interface.specs.Made.{IsBound};
     ghost use Rattle.vortex_functions.specs.ExpressionLeaves as laws;
     ghost use Rattle.vortex_functions.specs.ExpressionLeaves.{expression_leaf};
 

@@ -33,7 +33,7 @@ fn like_word(word: &str) -> Option<LikeOptions>
 
 impl ScalarFnVTableExt for Like {
     ghost use Rattle.std.specs.Option.{option_map};
-    ghost use Rattle.vortex_meaning.specs.Shipped as shipped;
+    ghost use Rattle.vortex_interface.specs.Shipped as shipped;
     ghost use Rattle.vortex_functions.specs.Words.{like_named};
 
     ghost ships = { shipped.Like };

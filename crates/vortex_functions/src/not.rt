@@ -8,7 +8,7 @@ use vortex_shipped::Not;
 
 impl ScalarFnVTableExt for Not {
     ghost use Rattle.std.specs.Prelude.{Some, None, if◌then◌else◌};
-    ghost use Rattle.vortex_meaning.specs.Shipped as shipped;
+    ghost use Rattle.vortex_interface.specs.Shipped as shipped;
     ghost use Rattle.vortex_functions.specs.Words.{is_not_word};
 
     ghost ships = { λ _. shipped.Not };

@@ -8,7 +8,7 @@ use vortex_shipped::{IsNotNull, IsNull};
 
 impl ScalarFnVTableExt for IsNull {
     ghost use Rattle.std.specs.Prelude.{true, false, Some, None, if◌then◌else◌};
-    ghost use Rattle.vortex_meaning.specs.Shipped as shipped;
+    ghost use Rattle.vortex_interface.specs.Shipped as shipped;
     ghost use Rattle.vortex_functions.specs.Words.{null_test_word};
 
     ghost ships = { λ _. shipped.IsNull };
@@ -29,7 +29,7 @@ impl ScalarFnVTableExt for IsNull {
 
 impl ScalarFnVTableExt for IsNotNull {
     ghost use Rattle.std.specs.Prelude.{true, false, Some, None, if◌then◌else◌};
-    ghost use Rattle.vortex_meaning.specs.Shipped as shipped;
+    ghost use Rattle.vortex_interface.specs.Shipped as shipped;
     ghost use Rattle.vortex_functions.specs.Words.{null_test_word};
 
     ghost ships = { λ _. shipped.IsNotNull };

@@ -50,7 +50,7 @@ pub struct Tree<C: ScalarFnVTable, L: Leaf<C, C::Options>> {
 }
 
 impl<C: ScalarFnVTable, L: Leaf<C, C::Options>> Model for Tree<C, L> {
-    ghost use Rattle.vortex_meaning.specs.Trees.{node_count};
+    ghost use Rattle.vortex_interface.specs.Trees.{node_count};
 
     ghost Value = { L.Seen };
 

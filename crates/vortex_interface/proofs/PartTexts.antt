@@ -3,7 +3,7 @@ use Rattle.std.proofs.Common.{◌≡◌, ℕ, zero, suc, ◌-◌, ◌<◌, ◌�
 use Rattle.std.proofs.Common.{None, refl, sym, ap, ◌∙◌, arith, subst}
 use Rattle.std.proofs.lemmas.List.{append_assoc, append-nil}
 use Rattle.std.specs.Prelude.{slice_get}
-use Rattle.vortex_meaning.specs.CallTexts.{text_at, told}
+use Rattle.vortex_interface.specs.CallTexts.{text_at, told}
 use Rattle.vortex_interface.specs.Texts.{AreTold}
 
 -- the text of an argument that is there, and of one that is not

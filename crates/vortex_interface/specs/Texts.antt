@@ -2,7 +2,7 @@
 use Rattle.std.specs.Prelude.{◌≡◌, ◌⊎◌, ◌++◌, ℕ, zero, suc, List, [], Option, IfSome, length, map}
 use Rattle.std.specs.Prelude.{string_bytes, String}
 use Rattle.std.specs.declared.alloc.Global.{Global}
-use Rattle.vortex_meaning.specs.CallTexts.{Appends, text_at, default_before}
+use Rattle.vortex_interface.specs.CallTexts.{Appends, text_at, default_before}
 
 -- what may stand in the text of a call of so many arguments before the one that is printed k-th, and
 -- which argument that is

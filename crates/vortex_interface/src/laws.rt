@@ -1,7 +1,7 @@
 //! What follows from the meaning of trees. These functions do nothing: their contracts are proved.
-ghost use Rattle.vortex_meaning.specs.ComparisonTrees.{InverseNegates, SwapTurns};
-ghost use Rattle.vortex_meaning.specs.ArithmeticFaults.{ErrsWhereArithmeticDoes};
-ghost use Rattle.vortex_meaning.specs.Batches.{BatchesAnswerAsOne};
+ghost use Rattle.vortex_interface.specs.ComparisonTrees.{InverseNegates, SwapTurns};
+ghost use Rattle.vortex_interface.specs.ArithmeticFaults.{ErrsWhereArithmeticDoes};
+ghost use Rattle.vortex_interface.specs.Batches.{BatchesAnswerAsOne};
 
 use crate::vtable::ScalarFnVTable;
 

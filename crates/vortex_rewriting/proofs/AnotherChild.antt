@@ -1,9 +1,9 @@
 -- Children with another one among them.
 use Rattle.std.proofs.Common.{◌≡◌, ◌<◌, ℕ, zero, suc, List, [], ◌∷◌, Some, refl, ap, length, arith}
 use Rattle.std.specs.Prelude.{slice_get, slice_set}
-use Rattle.vortex_meaning.specs.Meaning.{Meaning}
-use Rattle.vortex_meaning.specs.Trees.{Tree, trees_of}
-use Rattle.vortex_meaning.specs.Eval.{tree_type, tree_types, with_type}
+use Rattle.vortex_interface.specs.Meaning.{Meaning}
+use Rattle.vortex_interface.specs.Trees.{Tree, trees_of}
+use Rattle.vortex_interface.specs.Eval.{tree_type, tree_types, with_type}
 
 module _ {V O : Type 0} where
   -- another child of the old one's type keeps the types

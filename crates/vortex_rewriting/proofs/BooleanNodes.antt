@@ -9,18 +9,18 @@ use Rattle.vortex_types.specs.LogicalTypes.{LogicalType, bool_type, is_nullable}
 use Rattle.vortex_operators.specs.declared.operators.Operator.{Operator}
 use Rattle.vortex_operators.specs.declared.operators.Operator.TheVariants.{And, Or}
 use Rattle.vortex_operators.specs.Operators.{is_boolean}
-use Rattle.vortex_meaning.specs.Meaning.{Meaning}
-use Rattle.vortex_meaning.specs.Shipped.{Binary, Cast}
-use Rattle.vortex_meaning.specs.Functions.{ours}
-use Rattle.vortex_meaning.specs.Trees.{Tree, leaf, constant, call, no_trees, tree, children_of}
-use Rattle.vortex_meaning.specs.Trees.{called}
-use Rattle.vortex_meaning.specs.Eval.{tree_type}
-use Rattle.vortex_meaning.specs.ComparisonTrees.{operated}
-use Rattle.vortex_meaning.specs.Rules.{Rules, cast_of, constant_truth, may_be_null}
-use Rattle.vortex_meaning.specs.Rules.{is_nullable_tree}
-use Rattle.vortex_meaning.specs.ReduceRules.{of_constants, reduce}
-use Rattle.vortex_meaning.proofs.TypedCalls.{type_of_one}
-use Rattle.vortex_meaning.proofs.BooleanCalls.{bool_call}
+use Rattle.vortex_interface.specs.Meaning.{Meaning}
+use Rattle.vortex_interface.specs.Shipped.{Binary, Cast}
+use Rattle.vortex_interface.specs.Functions.{ours}
+use Rattle.vortex_interface.specs.Trees.{Tree, leaf, constant, call, no_trees, tree, children_of}
+use Rattle.vortex_interface.specs.Trees.{called}
+use Rattle.vortex_interface.specs.Eval.{tree_type}
+use Rattle.vortex_interface.specs.ComparisonTrees.{operated}
+use Rattle.vortex_interface.specs.Rules.{Rules, cast_of, constant_truth, may_be_null}
+use Rattle.vortex_interface.specs.Rules.{is_nullable_tree}
+use Rattle.vortex_interface.specs.ReduceRules.{of_constants, reduce}
+use Rattle.vortex_interface.proofs.TypedCalls.{type_of_one}
+use Rattle.vortex_interface.proofs.BooleanCalls.{bool_call}
 use Rattle.vortex_rewriting.specs.Contexts.{InContext, IsMade}
 use Rattle.vortex_rewriting.specs.Reduced.{IsReduced}
 use Rattle.vortex_rewriting.proofs.Calls.{children_fit}

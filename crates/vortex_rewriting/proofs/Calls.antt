@@ -1,12 +1,12 @@
 -- Calls that are well typed: how many children they have.
 use Rattle.std.proofs.Common.{◌≡◌, suc, true, List, [], length, Some, ap, ◌∙◌}
 use Rattle.vortex_types.specs.LogicalTypes.{LogicalType}
-use Rattle.vortex_meaning.specs.Meaning.{Meaning, fits}
-use Rattle.vortex_meaning.specs.Functions.{Function, function_arity}
-use Rattle.vortex_meaning.specs.Trees.{Tree, leaf, constant, call, Trees, no_trees, tree, list_of}
-use Rattle.vortex_meaning.specs.Trees.{children_of, called}
-use Rattle.vortex_meaning.specs.Eval.{tree_type, tree_types}
-use Rattle.vortex_meaning.proofs.TypedCalls.{types_parts, typed_call}
+use Rattle.vortex_interface.specs.Meaning.{Meaning, fits}
+use Rattle.vortex_interface.specs.Functions.{Function, function_arity}
+use Rattle.vortex_interface.specs.Trees.{Tree, leaf, constant, call, Trees, no_trees, tree, list_of}
+use Rattle.vortex_interface.specs.Trees.{children_of, called}
+use Rattle.vortex_interface.specs.Eval.{tree_type, tree_types}
+use Rattle.vortex_interface.proofs.TypedCalls.{types_parts, typed_call}
 
 module _ {V O : Type 0} (m : Meaning V O) where
   -- each tree of a typed row has a type

@@ -10,14 +10,14 @@ use Rattle.vortex_types.specs.LogicalTypes.{LogicalType, null_type, bool_type, i
 use Rattle.vortex_types.specs.LogicalTypes.{text_type, bytes_type, struct_type, list_type}
 use Rattle.vortex_types.specs.LogicalTypes.{fixed_size_list_type, map_type, with_nullability}
 use Rattle.vortex_types.specs.TypeOf.{type_of}
-use Rattle.vortex_meaning.specs.Meaning.{Meaning, fits}
-use Rattle.vortex_meaning.specs.Functions.{Function, function_arity, function_type, function_strict}
-use Rattle.vortex_meaning.specs.Trees.{Tree, Trees, trees_of, children_of, called}
-use Rattle.vortex_meaning.specs.Eval.{tree_type, tree_types, with_type}
-use Rattle.vortex_meaning.specs.Rules.{may_be_null}
-use Rattle.vortex_meaning.specs.ValidityRules.{is_null_type, without_null}
-use Rattle.vortex_meaning.specs.ValidityRules.{union_child_validities, validity_of_typed}
-use Rattle.vortex_meaning.specs.ValidityRules.{default_validity}
+use Rattle.vortex_interface.specs.Meaning.{Meaning, fits}
+use Rattle.vortex_interface.specs.Functions.{Function, function_arity, function_type, function_strict}
+use Rattle.vortex_interface.specs.Trees.{Tree, Trees, trees_of, children_of, called}
+use Rattle.vortex_interface.specs.Eval.{tree_type, tree_types, with_type}
+use Rattle.vortex_interface.specs.Rules.{may_be_null}
+use Rattle.vortex_interface.specs.ValidityRules.{is_null_type, without_null}
+use Rattle.vortex_interface.specs.ValidityRules.{union_child_validities, validity_of_typed}
+use Rattle.vortex_interface.specs.ValidityRules.{default_validity}
 use Rattle.vortex_functions.proofs.Bound.{type_count}
 use Rattle.vortex_rewriting.proofs.Calls.{children_fit}
 

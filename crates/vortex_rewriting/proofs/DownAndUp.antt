@@ -4,14 +4,14 @@ use Rattle.std.proofs.Common.{Option, Some, None, refl, sym, ap, ◌∙◌, subs
 use Rattle.std.proofs.lemmas.List.{map-append}
 use Rattle.std.specs.Prelude.{slice_get}
 use Rattle.std.specs.Option.{option_map, option_and_then}
-use Rattle.vortex_meaning.specs.Meaning.{Meaning}
-use Rattle.vortex_meaning.specs.Functions.{call_type}
-use Rattle.vortex_meaning.specs.Trees.{Tree, leaf, constant, call, children_of, list_of}
-use Rattle.vortex_meaning.specs.Eval.{tree_type, tree_types}
-use Rattle.vortex_meaning.specs.Places.{with_child, rewritten}
-use Rattle.vortex_meaning.proofs.DriverSteps.{child_at}
-use Rattle.vortex_meaning.proofs.StepPlaces.{same_trees}
-use Rattle.vortex_meaning.proofs.TypedCalls.{types_with}
+use Rattle.vortex_interface.specs.Meaning.{Meaning}
+use Rattle.vortex_interface.specs.Functions.{call_type}
+use Rattle.vortex_interface.specs.Trees.{Tree, leaf, constant, call, children_of, list_of}
+use Rattle.vortex_interface.specs.Eval.{tree_type, tree_types}
+use Rattle.vortex_interface.specs.Places.{with_child, rewritten}
+use Rattle.vortex_interface.proofs.DriverSteps.{child_at}
+use Rattle.vortex_interface.proofs.StepPlaces.{same_trees}
+use Rattle.vortex_interface.proofs.TypedCalls.{types_with}
 use Rattle.vortex_rewriting.specs.Ways.{IsWay, with_parents, LeadsOn}
 
 pub popped : {A B : Type 0} (f : A → B) (items rest : List A) (p : A) → items ≡ rest ++ p ∷ []

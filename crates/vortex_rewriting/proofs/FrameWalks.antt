@@ -3,15 +3,15 @@ use Rattle.std.proofs.Common.{◌≡◌, ℕ, zero, suc, ◌+◌, ◌*◌, ◌<�
 use Rattle.std.proofs.Common.{drop, Option, Some, None, refl, sym, ap, subst, ◌∙◌, arith}
 use Rattle.std.specs.Prelude.{slice_get, IsSome}
 use Rattle.std.proofs.lemmas.List.{append-nil, drop_all}
-use Rattle.vortex_meaning.specs.Trees.{Tree, leaf, constant, call, trees_of, list_of, children_of}
-use Rattle.vortex_meaning.specs.Trees.{node_count, nodes_count}
-use Rattle.vortex_meaning.specs.Driver.{step}
-use Rattle.vortex_meaning.specs.Meaning.{Meaning}
-use Rattle.vortex_meaning.specs.Eval.{tree_type}
+use Rattle.vortex_interface.specs.Trees.{Tree, leaf, constant, call, trees_of, list_of, children_of}
+use Rattle.vortex_interface.specs.Trees.{node_count, nodes_count}
+use Rattle.vortex_interface.specs.Driver.{step}
+use Rattle.vortex_interface.specs.Meaning.{Meaning}
+use Rattle.vortex_interface.specs.Eval.{tree_type}
 use Rattle.vortex_rewriting.specs.Places.{with_children}
 use Rattle.vortex_rewriting.specs.Frames.{partly, plug, AreSettled, AreFrames}
-use Rattle.vortex_meaning.proofs.StepPlaces.{same_trees}
-use Rattle.vortex_meaning.proofs.Driving.{child_typed}
+use Rattle.vortex_interface.proofs.StepPlaces.{same_trees}
+use Rattle.vortex_interface.proofs.Driving.{child_typed}
 use Rattle.vortex_functions.proofs.TreeLists.{list_of-trees_of}
 use Rattle.vortex_rewriting.proofs.StepsBelow.{partly_more, step_at_root}
 

@@ -5,14 +5,14 @@ use Rattle.vortex_errors.specs.declared.error.VortexError.{VortexError}
 use Rattle.vortex_errors.specs.Answers.{AnswersUnlessMemory}
 use Rattle.vortex_errors.proofs.Answering.{AnswersUnlessMemory-weaker}
 use Rattle.vortex_types.specs.LogicalTypes.{LogicalType}
-use Rattle.vortex_meaning.specs.Meaning.{Meaning, Lawful}
-use Rattle.vortex_meaning.specs.Trees.{Tree}
-use Rattle.vortex_meaning.specs.Eval.{tree_type}
-use Rattle.vortex_meaning.specs.Rules.{Rules}
-use Rattle.vortex_meaning.specs.ReduceRules.{reduce}
-use Rattle.vortex_meaning.specs.Rewrites.{Rewrites, LawfulRules}
-use Rattle.vortex_meaning.proofs.Reducing.{reduce_sound}
-use Rattle.vortex_meaning.proofs.Simplifying.{simplify_sound}
+use Rattle.vortex_interface.specs.Meaning.{Meaning, Lawful}
+use Rattle.vortex_interface.specs.Trees.{Tree}
+use Rattle.vortex_interface.specs.Eval.{tree_type}
+use Rattle.vortex_interface.specs.Rules.{Rules}
+use Rattle.vortex_interface.specs.ReduceRules.{reduce}
+use Rattle.vortex_interface.specs.Rewrites.{Rewrites, LawfulRules}
+use Rattle.vortex_interface.proofs.Reducing.{reduce_sound}
+use Rattle.vortex_interface.proofs.Simplifying.{simplify_sound}
 use Rattle.vortex_rewriting.specs.Contexts.{InContext}
 use Rattle.vortex_rewriting.specs.Reduced.{IsReducedBy, IsSimplifiedBy}
 use Rattle.vortex_rewriting.proofs.Made.{made_tree}

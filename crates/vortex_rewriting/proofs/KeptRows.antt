@@ -2,13 +2,13 @@
 use Rattle.std.proofs.Common.{ℕ, List, [], refl}
 use Rattle.std.specs.Prelude.{All}
 use Rattle.vortex_columns.specs.ColumnView.{ColumnView, AreTyped}
-use Rattle.vortex_meaning.specs.Meaning.{Meaning}
-use Rattle.vortex_meaning.specs.Trees.{Tree}
-use Rattle.vortex_meaning.specs.Eval.{eval}
-use Rattle.vortex_meaning.specs.Made.{IsBound}
-use Rattle.vortex_meaning.specs.Rewrites.{Rewrites}
-use Rattle.vortex_meaning.proofs.AfterRun.{bound_made, old_fault}
-use Rattle.vortex_meaning.proofs.RewrittenRows.{HasRows, fitting_row}
+use Rattle.vortex_interface.specs.Meaning.{Meaning}
+use Rattle.vortex_interface.specs.Trees.{Tree}
+use Rattle.vortex_interface.specs.Eval.{eval}
+use Rattle.vortex_interface.specs.Made.{IsBound}
+use Rattle.vortex_interface.specs.Rewrites.{Rewrites}
+use Rattle.vortex_interface.proofs.AfterRun.{bound_made, old_fault}
+use Rattle.vortex_interface.proofs.RewrittenRows.{HasRows, fitting_row}
 use Rattle.vortex_functions.specs.Arrays.{Array, tree_in, rows_in, IsTyped}
 use Rattle.vortex_rewriting.specs.Keeping.{KeepsRows, RewritesKeepRows, RewritesKeepRowsOfArray}
 

@@ -8,16 +8,16 @@ use Rattle.vortex_errors.proofs.Answering.{AnswersUnlessMemory-weaker}
 use Rattle.vortex_operators.specs.declared.operators.Operator.{Operator}
 use Rattle.vortex_operators.specs.declared.operators.Operator.TheVariants.{And, Or}
 use Rattle.vortex_operators.specs.Operators.{is_boolean}
-use Rattle.vortex_meaning.specs.Meaning.{Meaning}
-use Rattle.vortex_meaning.specs.Shipped.{Shipped, Binary}
-use Rattle.vortex_meaning.specs.Functions.{Function, ours, custom}
-use Rattle.vortex_meaning.specs.Trees.{place, held, Tree, leaf, constant, call, Trees, no_trees}
-use Rattle.vortex_meaning.specs.Trees.{tree, trees_of, list_of, children_of, called, literal}
-use Rattle.vortex_meaning.specs.Rules.{Rules}
-use Rattle.vortex_meaning.specs.ReduceRules.{reduce_operator, reduce_shipped, reduce}
-use Rattle.vortex_meaning.specs.SimplifyRules.{simplify_shipped, simplify}
-use Rattle.vortex_meaning.specs.ValidityRules.{default_validity, default_rules, validity}
-use Rattle.vortex_meaning.proofs.StepPlaces.{same_trees}
+use Rattle.vortex_interface.specs.Meaning.{Meaning}
+use Rattle.vortex_interface.specs.Shipped.{Shipped, Binary}
+use Rattle.vortex_interface.specs.Functions.{Function, ours, custom}
+use Rattle.vortex_interface.specs.Trees.{place, held, Tree, leaf, constant, call, Trees, no_trees}
+use Rattle.vortex_interface.specs.Trees.{tree, trees_of, list_of, children_of, called, literal}
+use Rattle.vortex_interface.specs.Rules.{Rules}
+use Rattle.vortex_interface.specs.ReduceRules.{reduce_operator, reduce_shipped, reduce}
+use Rattle.vortex_interface.specs.SimplifyRules.{simplify_shipped, simplify}
+use Rattle.vortex_interface.specs.ValidityRules.{default_validity, default_rules, validity}
+use Rattle.vortex_interface.proofs.StepPlaces.{same_trees}
 use Rattle.vortex_functions.specs.declared.erased.ScalarFnRef.{ScalarFnRef}
 use Rattle.vortex_functions.specs.declared.erased.ScalarFnRef.TheVariants as ref
 use Rattle.vortex_functions.specs.declared.typed.TypedScalarFnInstance.{TypedScalarFnInstance}

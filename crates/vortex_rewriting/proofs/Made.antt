@@ -2,7 +2,7 @@
 use Rattle.std.proofs.Common.{◌≡◌, Option, Some, None, refl, ap, ◌∙◌}
 use Rattle.std.specs.Prelude.{IfSome}
 use Rattle.std.specs.Option.{option_map}
-use Rattle.vortex_meaning.specs.Trees.{Tree}
+use Rattle.vortex_interface.specs.Trees.{Tree}
 use Rattle.vortex_rewriting.specs.Contexts.{InContext, tree_by, with_tree, IsMade}
 
 module _ {V O B N : Type 0} (seen : N → InContext V O B) (s : InContext V O B) where

@@ -4,9 +4,9 @@ use Rattle.std.specs.Cow.{cow_value}
 use Rattle.std.proofs.lemmas.Simd.{map-map}
 use Rattle.vortex_errors.specs.Answers.{UnlessMemory}
 use Rattle.vortex_errors.specs.declared.error.VortexError.{VortexError}
-use Rattle.vortex_meaning.specs.Meaning.{Meaning}
-use Rattle.vortex_meaning.specs.Functions.{Function}
-use Rattle.vortex_meaning.specs.Trees.{Tree}
+use Rattle.vortex_interface.specs.Meaning.{Meaning}
+use Rattle.vortex_interface.specs.Functions.{Function}
+use Rattle.vortex_interface.specs.Trees.{Tree}
 use Rattle.vortex_functions.specs.Binding.{RefusesCall}
 use Rattle.vortex_rewriting.specs.declared.tree_node.TreeReduceNode.{TreeReduceNode}
 

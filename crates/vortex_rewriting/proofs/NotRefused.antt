@@ -2,11 +2,11 @@
 use Rattle.std.proofs.Common.{◌≡◌, true, List, length, Some, sym, ap, ◌∙◌}
 use Rattle.vortex_errors.specs.declared.error.VortexError.{VortexError}
 use Rattle.vortex_types.specs.LogicalTypes.{LogicalType}
-use Rattle.vortex_meaning.specs.Meaning.{Meaning, fits}
-use Rattle.vortex_meaning.specs.Functions.{Function, function_arity, function_type}
-use Rattle.vortex_meaning.specs.Trees.{Tree, call, trees_of}
-use Rattle.vortex_meaning.specs.Eval.{tree_type}
-use Rattle.vortex_meaning.proofs.TypedCalls.{typed_call}
+use Rattle.vortex_interface.specs.Meaning.{Meaning, fits}
+use Rattle.vortex_interface.specs.Functions.{Function, function_arity, function_type}
+use Rattle.vortex_interface.specs.Trees.{Tree, call, trees_of}
+use Rattle.vortex_interface.specs.Eval.{tree_type}
+use Rattle.vortex_interface.proofs.TypedCalls.{typed_call}
 use Rattle.vortex_functions.specs.Binding.{RefusesCall, count, types}
 use Rattle.vortex_functions.proofs.Bound.{type_count}
 

@@ -3,14 +3,14 @@
 use Rattle.std.proofs.Common.{◌≡◌, ℕ, ◌<◌, Option, Some, ◌∙◌, subst, sym}
 use Rattle.std.specs.Prelude.{IsSome}
 use Rattle.vortex_types.specs.LogicalTypes.{LogicalType}
-use Rattle.vortex_meaning.specs.Meaning.{Meaning}
-use Rattle.vortex_meaning.specs.Trees.{Tree}
-use Rattle.vortex_meaning.specs.Eval.{tree_type}
-use Rattle.vortex_meaning.specs.Rewrites.{IsSound, Rewrites}
-use Rattle.vortex_meaning.specs.Weights.{weight, OnlyShipped, IsLighter, Lightens}
-use Rattle.vortex_meaning.specs.Driver.{Runs}
-use Rattle.vortex_meaning.proofs.Driving.{first_sound, runs_sound}
-use Rattle.vortex_meaning.proofs.Lightening.{first_lightens, runs_lighter, runs_bound}
+use Rattle.vortex_interface.specs.Meaning.{Meaning}
+use Rattle.vortex_interface.specs.Trees.{Tree}
+use Rattle.vortex_interface.specs.Eval.{tree_type}
+use Rattle.vortex_interface.specs.Rewrites.{IsSound, Rewrites}
+use Rattle.vortex_interface.specs.Weights.{weight, OnlyShipped, IsLighter, Lightens}
+use Rattle.vortex_interface.specs.Driver.{Runs}
+use Rattle.vortex_interface.proofs.Driving.{first_sound, runs_sound}
+use Rattle.vortex_interface.proofs.Lightening.{first_lightens, runs_lighter, runs_bound}
 use Rattle.vortex_rewriting.specs.declared.rule.Rule.{Rule}
 use Rattle.vortex_rewriting.specs.declared.rule.Rule.TheVariants.{Simplify, Reduce}
 use Rattle.vortex_rewriting.specs.Driving.{first_rule}

@@ -5,11 +5,11 @@ use Rattle.std.specs.Option.{option_and_then}
 use Rattle.vortex_errors.specs.declared.error.VortexError.{VortexError}
 use Rattle.vortex_errors.specs.Answers.{Answers, AnswersUnlessMemory}
 use Rattle.vortex_errors.proofs.Answering.{Answers-weaker}
-use Rattle.vortex_meaning.specs.Meaning.{Meaning}
-use Rattle.vortex_meaning.specs.Functions.{Function, call_type}
-use Rattle.vortex_meaning.specs.Trees.{Tree, leaf, constant, call, trees_of, called, children_of}
-use Rattle.vortex_meaning.specs.Eval.{tree_type, tree_types}
-use Rattle.vortex_meaning.proofs.StepPlaces.{same_trees}
+use Rattle.vortex_interface.specs.Meaning.{Meaning}
+use Rattle.vortex_interface.specs.Functions.{Function, call_type}
+use Rattle.vortex_interface.specs.Trees.{Tree, leaf, constant, call, trees_of, called, children_of}
+use Rattle.vortex_interface.specs.Eval.{tree_type, tree_types}
+use Rattle.vortex_interface.proofs.StepPlaces.{same_trees}
 use Rattle.vortex_functions.specs.Binding.{IsCall, RefusesCall}
 use Rattle.vortex_rewriting.proofs.NotRefused.{not_refused}
 use Rattle.vortex_rewriting.specs.Places.{with_children}

@@ -3,13 +3,13 @@ use Rattle.std.proofs.Common.{◌≡◌, ℕ, ◌<◌, List, Option, Some, None,
 use Rattle.std.specs.Prelude.{Result, IfSome}
 use Rattle.vortex_errors.specs.declared.error.VortexError.{VortexError}
 use Rattle.vortex_types.specs.LogicalTypes.{LogicalType}
-use Rattle.vortex_meaning.specs.Meaning.{Meaning}
-use Rattle.vortex_meaning.specs.Trees.{Tree}
-use Rattle.vortex_meaning.specs.Eval.{tree_type}
-use Rattle.vortex_meaning.specs.Rewrites.{Rewrites, IsSound}
-use Rattle.vortex_meaning.specs.Weights.{weight, OnlyShipped, IsLighter, Lightens}
-use Rattle.vortex_meaning.proofs.Driving.{rewritten_sound}
-use Rattle.vortex_meaning.proofs.Lightening.{rewritten_lighter, fewer}
+use Rattle.vortex_interface.specs.Meaning.{Meaning}
+use Rattle.vortex_interface.specs.Trees.{Tree}
+use Rattle.vortex_interface.specs.Eval.{tree_type}
+use Rattle.vortex_interface.specs.Rewrites.{Rewrites, IsSound}
+use Rattle.vortex_interface.specs.Weights.{weight, OnlyShipped, IsLighter, Lightens}
+use Rattle.vortex_interface.proofs.Driving.{rewritten_sound}
+use Rattle.vortex_interface.proofs.Lightening.{rewritten_lighter, fewer}
 use Rattle.vortex_rewriting.specs.Rewriting.{AnswersRewritten}
 
 module _ {V O T : Type 0} (m : Meaning V O) (tree_in : T → Tree V O)

@@ -9,9 +9,9 @@ use Rattle.vortex_errors.specs.Answers.{UnlessMemory}
 use Rattle.vortex_errors.specs.declared.error.VortexError.{VortexError}
 use Rattle.vortex_errors.specs.declared.error.VortexError.TheVariants.{NoSuchPlace}
 use Rattle.vortex_errors.proofs.Answering.{UnlessMemory-weaker}
-use Rattle.vortex_meaning.specs.Trees.{Tree}
-use Rattle.vortex_meaning.specs.Places.{rewritten, rewritten_list}
-use Rattle.vortex_meaning.proofs.DriverLists.{list_ends, list_leaves, list_passes, list_counts}
+use Rattle.vortex_interface.specs.Trees.{Tree}
+use Rattle.vortex_interface.specs.Places.{rewritten, rewritten_list}
+use Rattle.vortex_interface.proofs.DriverLists.{list_ends, list_leaves, list_passes, list_counts}
 use Rattle.vortex_rewriting.specs.Rewriting.{rule_at, steps_of}
 
 module _ {V O A : Type 0} (apply : A → Tree V O → Option (Tree V O))

@@ -8,16 +8,16 @@ use Rattle.vortex_errors.specs.declared.error.VortexError.{VortexError}
 use Rattle.vortex_errors.proofs.Answering.{UnlessMemory-weaker}
 use Rattle.vortex_types.specs.LogicalTypes.{LogicalType}
 use Rattle.vortex_columns.specs.ColumnView.{ColumnView, AreTyped}
-use Rattle.vortex_meaning.specs.Meaning.{Meaning, Lawful}
-use Rattle.vortex_meaning.specs.Trees.{Tree}
-use Rattle.vortex_meaning.specs.Eval.{tree_type, HasTreeRows, IsFirstFault}
-use Rattle.vortex_meaning.specs.Execution.{RefusesExecution}
-use Rattle.vortex_meaning.specs.Made.{IsBound}
-use Rattle.vortex_meaning.specs.Rules.{Rules}
-use Rattle.vortex_meaning.specs.Rewrites.{IsSound, LawfulRules}
-use Rattle.vortex_meaning.specs.Driver.{step, Runs, RunsTo}
-use Rattle.vortex_meaning.specs.Running.{RefusesAfter, HasRowsAfter, IsFaultAfter}
-use Rattle.vortex_meaning.proofs.AfterRun.{executes_after, refuses_after, rows_after, fault_after}
+use Rattle.vortex_interface.specs.Meaning.{Meaning, Lawful}
+use Rattle.vortex_interface.specs.Trees.{Tree}
+use Rattle.vortex_interface.specs.Eval.{tree_type, HasTreeRows, IsFirstFault}
+use Rattle.vortex_interface.specs.Execution.{RefusesExecution}
+use Rattle.vortex_interface.specs.Made.{IsBound}
+use Rattle.vortex_interface.specs.Rules.{Rules}
+use Rattle.vortex_interface.specs.Rewrites.{IsSound, LawfulRules}
+use Rattle.vortex_interface.specs.Driver.{step, Runs, RunsTo}
+use Rattle.vortex_interface.specs.Running.{RefusesAfter, HasRowsAfter, IsFaultAfter}
+use Rattle.vortex_interface.proofs.AfterRun.{executes_after, refuses_after, rows_after, fault_after}
 use Rattle.vortex_functions.specs.Executing.{Fits, AnswersExecution, LendsLeaf}
 use Rattle.vortex_functions.specs.Arrays.{Array, tree_in, rows_in, IsTyped}
 use Rattle.vortex_rewriting.specs.Rules.{expression_rule, expression_sound, array_rule, array_sound}

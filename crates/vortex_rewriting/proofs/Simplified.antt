@@ -10,12 +10,12 @@ use Rattle.vortex_operators.specs.declared.operators.Operator.{Operator}
 use Rattle.vortex_operators.specs.declared.operators.Operator.TheVariants.{Eq, NotEq, Gt, Gte, Lt}
 use Rattle.vortex_operators.specs.declared.operators.Operator.TheVariants.{Lte, And, Or}
 use Rattle.vortex_operators.specs.Operators.{is_boolean, compare_operator_of}
-use Rattle.vortex_meaning.specs.Meaning.{Meaning}
-use Rattle.vortex_meaning.specs.Trees.{Tree}
-use Rattle.vortex_meaning.specs.Eval.{tree_type}
-use Rattle.vortex_meaning.specs.ComparisonTrees.{operated}
-use Rattle.vortex_meaning.specs.Rules.{Rules, may_be_null, is_nullable_tree}
-use Rattle.vortex_meaning.specs.SimplifyRules.{simplify_comparison, simplify_operands, simplify}
+use Rattle.vortex_interface.specs.Meaning.{Meaning}
+use Rattle.vortex_interface.specs.Trees.{Tree}
+use Rattle.vortex_interface.specs.Eval.{tree_type}
+use Rattle.vortex_interface.specs.ComparisonTrees.{operated}
+use Rattle.vortex_interface.specs.Rules.{Rules, may_be_null, is_nullable_tree}
+use Rattle.vortex_interface.specs.SimplifyRules.{simplify_comparison, simplify_operands, simplify}
 use Rattle.vortex_rewriting.specs.Contexts.{InContext, IsMade}
 use Rattle.vortex_rewriting.specs.Reduced.{IsSimplified}
 use Rattle.vortex_rewriting.proofs.Made.{made_as}

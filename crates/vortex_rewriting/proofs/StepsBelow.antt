@@ -2,10 +2,10 @@
 use Rattle.std.proofs.Common.{◌≡◌, ℕ, suc, ◌<◌, List, [], ◌∷◌, ◌++◌, length, drop, Option, Some}
 use Rattle.std.proofs.Common.{None, refl, sym, ap, ◌∙◌, arith}
 use Rattle.std.specs.Option.{option_map, option_or}
-use Rattle.vortex_meaning.specs.Trees.{Tree, leaf, constant, call, tree, trees_of, list_of}
-use Rattle.vortex_meaning.specs.Trees.{children_of}
-use Rattle.vortex_meaning.specs.Driver.{step, step_in, Runs}
-use Rattle.vortex_meaning.proofs.StepPlaces.{same_trees}
+use Rattle.vortex_interface.specs.Trees.{Tree, leaf, constant, call, tree, trees_of, list_of}
+use Rattle.vortex_interface.specs.Trees.{children_of}
+use Rattle.vortex_interface.specs.Driver.{step, step_in, Runs}
+use Rattle.vortex_interface.proofs.StepPlaces.{same_trees}
 use Rattle.vortex_rewriting.specs.Places.{with_children}
 use Rattle.vortex_rewriting.specs.Frames.{partly, plug, AreSettled, AreFrames}
 

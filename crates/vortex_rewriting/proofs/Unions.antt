@@ -9,15 +9,15 @@ use Rattle.std.proofs.lemmas.List.Elements.{All-cons, All-drop, All-nil, All-pop
 use Rattle.std.proofs.lemmas.List.Elements.{All-same, All-take}
 use Rattle.vortex_types.specs.LogicalTypes.{LogicalType, bool_type, is_nullable}
 use Rattle.vortex_operators.specs.declared.operators.Operator.TheVariants.{And}
-use Rattle.vortex_meaning.specs.Meaning.{Meaning}
-use Rattle.vortex_meaning.specs.Shipped.{Binary, IsNotNull}
-use Rattle.vortex_meaning.specs.Functions.{ours}
-use Rattle.vortex_meaning.specs.Trees.{Tree, call, trees_of}
-use Rattle.vortex_meaning.specs.Eval.{tree_type}
-use Rattle.vortex_meaning.specs.ComparisonTrees.{operated}
-use Rattle.vortex_meaning.specs.Rules.{is_not_null_of, may_be_null, is_nullable_tree}
-use Rattle.vortex_meaning.specs.ValidityRules.{null_tests, one_round}
-use Rattle.vortex_meaning.proofs.TypedCalls.{type_of_one, type_of_two}
+use Rattle.vortex_interface.specs.Meaning.{Meaning}
+use Rattle.vortex_interface.specs.Shipped.{Binary, IsNotNull}
+use Rattle.vortex_interface.specs.Functions.{ours}
+use Rattle.vortex_interface.specs.Trees.{Tree, call, trees_of}
+use Rattle.vortex_interface.specs.Eval.{tree_type}
+use Rattle.vortex_interface.specs.ComparisonTrees.{operated}
+use Rattle.vortex_interface.specs.Rules.{is_not_null_of, may_be_null, is_nullable_tree}
+use Rattle.vortex_interface.specs.ValidityRules.{null_tests, one_round}
+use Rattle.vortex_interface.proofs.TypedCalls.{type_of_one, type_of_two}
 use Rattle.vortex_rewriting.specs.Contexts.{InContext, tree_by}
 use Rattle.vortex_rewriting.specs.Union.{AreTruths, pairs_of, joined_last}
 

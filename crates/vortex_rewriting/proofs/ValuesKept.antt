@@ -3,8 +3,8 @@ use Rattle.std.specs.Prelude.{Option, Some, None, IfSome, [], Result}
 use Rattle.vortex_errors.specs.declared.error.VortexError.{VortexError}
 use Rattle.vortex_errors.specs.Answers.{AnswersUnlessMemory}
 use Rattle.vortex_errors.proofs.Answering.{AnswersUnlessMemory-weaker}
-use Rattle.vortex_meaning.specs.Meaning.{Meaning}
-use Rattle.vortex_meaning.specs.Rewrites.{Rewrites}
+use Rattle.vortex_interface.specs.Meaning.{Meaning}
+use Rattle.vortex_interface.specs.Rewrites.{Rewrites}
 use Rattle.vortex_functions.specs.Arrays.{Array, tree_in, IsTyped}
 use Rattle.vortex_functions.specs.ArrayExecuting.{KeepsValues}
 use Rattle.vortex_rewriting.specs.declared.tree_node.TreeReduceNode.{TreeReduceNode}

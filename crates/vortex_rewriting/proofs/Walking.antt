@@ -6,10 +6,10 @@ use Rattle.std.specs.Option.{option_map}
 use Rattle.std.proofs.lemmas.List.{length-map, map-append}
 use Rattle.std.proofs.lemmas.List.Elements.{All-nil, All-push, All-pop}
 use Rattle.std.proofs.lemmas.Option.{slice_get_within}
-use Rattle.vortex_meaning.specs.Trees.{Tree, children_of}
-use Rattle.vortex_meaning.specs.Driver.{step}
-use Rattle.vortex_meaning.specs.Meaning.{Meaning}
-use Rattle.vortex_meaning.specs.Eval.{tree_type}
+use Rattle.vortex_interface.specs.Trees.{Tree, children_of}
+use Rattle.vortex_interface.specs.Driver.{step}
+use Rattle.vortex_interface.specs.Meaning.{Meaning}
+use Rattle.vortex_interface.specs.Eval.{tree_type}
 use Rattle.vortex_rewriting.specs.declared.frames.Frame.{Frame}
 use Rattle.vortex_rewriting.specs.Frames.{partly, plug, AreSettled, AreFrames, IsNext, frames_in}
 use Rattle.vortex_rewriting.specs.Frames.{HaveRows}

@@ -5,7 +5,7 @@ use Rattle.vortex_types.specs.Values.{truth}
 use Rattle.vortex_types.specs.ScalarView.{ScalarView}
 use Rattle.vortex_columns.specs.ColumnView.{ColumnView, constant_column}
 use Rattle.vortex_columns.specs.ValidityView.{ValidityForm, all_invalid, array}
-use Rattle.vortex_meaning.specs.ValidityRules.{validity_column}
+use Rattle.vortex_interface.specs.ValidityRules.{validity_column}
 
 abbrev pub truth_scalar : Bool → ScalarView
 truth_scalar b = record { dtype = bool_type false; value = truth b }

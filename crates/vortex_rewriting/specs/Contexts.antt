@@ -1,7 +1,7 @@
 -- Trees in their context: a row count, or none.
 use Rattle.std.specs.Prelude.{◌≡◌, Option}
 use Rattle.std.specs.Option.{option_map}
-use Rattle.vortex_meaning.specs.Trees.{Tree}
+use Rattle.vortex_interface.specs.Trees.{Tree}
 
 pub record InContext (V O B : Type 0) : Type 0 where
   pub tree : Tree V O

@@ -1,7 +1,7 @@
 -- The rule of the driver.
 use Rattle.std.specs.Prelude.{Option}
-use Rattle.vortex_meaning.specs.Trees.{Tree}
-use Rattle.vortex_meaning.specs.Driver.{first_of}
+use Rattle.vortex_interface.specs.Trees.{Tree}
+use Rattle.vortex_interface.specs.Driver.{first_of}
 use Rattle.vortex_rewriting.specs.declared.rule.Rule.{Rule}
 use Rattle.vortex_rewriting.specs.declared.rule.Rule.TheVariants.{Simplify, Reduce}
 

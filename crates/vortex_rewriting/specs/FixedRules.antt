@@ -1,9 +1,9 @@
 -- The function without arguments that answers false has the default validity and no rules.
 use Rattle.std.specs.Prelude.{◌≡◌, codes, get_or}
 use Rattle.std.proofs.Common.{ap, ◌∙◌, arith}
-use Rattle.vortex_meaning.specs.Rewrites.{LawfulRules}
-use Rattle.vortex_meaning.specs.ValidityRules.{default_rules}
-use Rattle.vortex_meaning.proofs.Validities.{default_rules_lawful}
+use Rattle.vortex_interface.specs.Rewrites.{LawfulRules}
+use Rattle.vortex_interface.specs.ValidityRules.{default_rules}
+use Rattle.vortex_interface.proofs.Validities.{default_rules_lawful}
 use Rattle.vortex_functions.specs.Fixed.{fixed_meaning, fixed_lawful}
 use Rattle.vortex_rewriting.specs.Identities.{IsOwnIdentity, first_letter}
 

@@ -2,8 +2,8 @@
 use Rattle.std.specs.Prelude.{◌≡◌, Option, Some, None}
 use Rattle.vortex_rewriting.specs.declared.driver.Found.{Found}
 use Rattle.vortex_rewriting.specs.declared.driver.Found.TheVariants.{Settled, Place}
-use Rattle.vortex_meaning.specs.Trees.{Tree}
-use Rattle.vortex_meaning.specs.Driver.{step}
+use Rattle.vortex_interface.specs.Trees.{Tree}
+use Rattle.vortex_interface.specs.Driver.{step}
 use Rattle.vortex_rewriting.specs.Frames.{plug, AreFrames, frames_in, HaveRows}
 
 -- the tree is settled, or its step is that at the place

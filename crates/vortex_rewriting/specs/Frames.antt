@@ -3,8 +3,8 @@
 use Rattle.std.specs.Prelude.{◌≡◌, ◌<◌, ◌≤◌, List, [], ◌∷◌, ◌++◌, Option, Some, None, ⊤, All}
 use Rattle.std.specs.Prelude.{map, length, drop, slice_get}
 use Rattle.vortex_rewriting.specs.declared.frames.Frame.{Frame}
-use Rattle.vortex_meaning.specs.Trees.{Tree, children_of}
-use Rattle.vortex_meaning.specs.Driver.{step}
+use Rattle.vortex_interface.specs.Trees.{Tree, children_of}
+use Rattle.vortex_interface.specs.Driver.{step}
 use Rattle.vortex_rewriting.specs.Places.{with_children}
 
 module _ {V O : Type 0} where

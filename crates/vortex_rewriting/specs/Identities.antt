@@ -1,6 +1,6 @@
 -- Identities of callers' functions.
 use Rattle.std.specs.Prelude.{◌≡◌, ◌≢◌, ℕ, List, get_or, refl, true, false}
-use Rattle.vortex_meaning.specs.Shipped.{Shipped, Binary, NullTest, shipped_id}
+use Rattle.vortex_interface.specs.Shipped.{Shipped, Binary, NullTest, shipped_id}
 
 -- the identity of no shipped function
 abbrev pub IsOwnIdentity : List ℕ → Type 0

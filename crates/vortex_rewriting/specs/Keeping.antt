@@ -2,12 +2,12 @@
 use Rattle.std.specs.Prelude.{◌≡◌, ℕ, ◌<◌, List, [], None}
 use Rattle.vortex_types.specs.Values.{Value}
 use Rattle.vortex_columns.specs.ColumnView.{ColumnView}
-use Rattle.vortex_meaning.specs.Outcomes.{gives, Fault, faults}
-use Rattle.vortex_meaning.specs.Meaning.{Meaning}
-use Rattle.vortex_meaning.specs.Trees.{Tree}
-use Rattle.vortex_meaning.specs.Eval.{eval}
-use Rattle.vortex_meaning.specs.Execution.{LeavesFit, other_length}
-use Rattle.vortex_meaning.specs.Rewrites.{Rewrites}
+use Rattle.vortex_interface.specs.Outcomes.{gives, Fault, faults}
+use Rattle.vortex_interface.specs.Meaning.{Meaning}
+use Rattle.vortex_interface.specs.Trees.{Tree}
+use Rattle.vortex_interface.specs.Eval.{eval}
+use Rattle.vortex_interface.specs.Execution.{LeavesFit, other_length}
+use Rattle.vortex_interface.specs.Rewrites.{Rewrites}
 use Rattle.vortex_functions.specs.Arrays.{Array, tree_in, rows_in}
 
 module _ {V O : Type 0} (m : Meaning V O) where

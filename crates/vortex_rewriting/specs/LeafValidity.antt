@@ -1,10 +1,10 @@
 -- Where a leaf is not null.
 use Rattle.std.specs.Prelude.{◌≡◌, Option, None}
 use Rattle.std.specs.Option.{option_map}
-use Rattle.vortex_meaning.specs.Meaning.{Meaning}
-use Rattle.vortex_meaning.specs.Trees.{Tree, called, literal}
-use Rattle.vortex_meaning.specs.Rules.{Rules}
-use Rattle.vortex_meaning.specs.ValidityRules.{validity}
+use Rattle.vortex_interface.specs.Meaning.{Meaning}
+use Rattle.vortex_interface.specs.Trees.{Tree, called, literal}
+use Rattle.vortex_interface.specs.Rules.{Rules}
+use Rattle.vortex_interface.specs.ValidityRules.{validity}
 
 -- of a leaf that is no constant the answer is its validity, whatever a caller's rules are
 abbrev pub IsLeafValidity : {V O N : Type 0} → Meaning V O → (N → Tree V O) → Tree V O → Option N

@@ -1,7 +1,7 @@
 -- What a node stands for, borrowed or its own.
 use Rattle.std.specs.Prelude.{ℕ, ⊤}
 use Rattle.std.specs.Cow.{cow_value}
-use Rattle.vortex_meaning.specs.Trees.{Tree}
+use Rattle.vortex_interface.specs.Trees.{Tree}
 use Rattle.vortex_functions.specs.Arrays.{Array, tree_in, rows_in}
 use Rattle.vortex_rewriting.specs.Contexts.{InContext, in_context}
 use Rattle.vortex_rewriting.specs.declared.tree_node.TreeReduceNode.{TreeReduceNode}

@@ -5,12 +5,12 @@ use Rattle.vortex_operators.specs.declared.operators.Operator.{Operator}
 use Rattle.vortex_operators.specs.declared.operators.Operator.TheVariants.{And, Or}
 use Rattle.vortex_rewriting.specs.declared.null_tests.NullTest.{NullTest}
 use Rattle.vortex_rewriting.specs.declared.null_tests.NullTest.TheVariants as test
-use Rattle.vortex_meaning.specs.Meaning.{Meaning}
-use Rattle.vortex_meaning.specs.Shipped.{Shipped, Binary, IsNull, IsNotNull}
-use Rattle.vortex_meaning.specs.Functions.{Function, ours}
-use Rattle.vortex_meaning.specs.Trees.{Tree, call, no_trees, tree, called}
-use Rattle.vortex_meaning.specs.ComparisonTrees.{negated, operated}
-use Rattle.vortex_meaning.specs.ReduceRules.{by_nullability, is_null_within, is_not_null_within}
+use Rattle.vortex_interface.specs.Meaning.{Meaning}
+use Rattle.vortex_interface.specs.Shipped.{Shipped, Binary, IsNull, IsNotNull}
+use Rattle.vortex_interface.specs.Functions.{Function, ours}
+use Rattle.vortex_interface.specs.Trees.{Tree, call, no_trees, tree, called}
+use Rattle.vortex_interface.specs.ComparisonTrees.{negated, operated}
+use Rattle.vortex_interface.specs.ReduceRules.{by_nullability, is_null_within, is_not_null_within}
 
 abbrev pub test_function : NullTest → Shipped
 test_function test.IsNull = IsNull

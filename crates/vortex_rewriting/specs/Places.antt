@@ -1,6 +1,6 @@
 -- The same call on other children.
 use Rattle.std.specs.Prelude.{List}
-use Rattle.vortex_meaning.specs.Trees.{Tree, leaf, constant, call, trees_of}
+use Rattle.vortex_interface.specs.Trees.{Tree, leaf, constant, call, trees_of}
 
 abbrev pub with_children : {V O : Type 0} → Tree V O → List (Tree V O) → Tree V O
 with_children (leaf l) us = leaf l

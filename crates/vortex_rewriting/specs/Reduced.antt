@@ -1,12 +1,12 @@
 -- What rules answer of nodes, in terms of the table of rules.
 use Rattle.std.specs.Prelude.{◌≡◌, Option}
 use Rattle.std.specs.Option.{option_map}
-use Rattle.vortex_meaning.specs.Meaning.{Meaning}
-use Rattle.vortex_meaning.specs.Trees.{Tree}
-use Rattle.vortex_meaning.specs.Rules.{Rules}
-use Rattle.vortex_meaning.specs.ReduceRules.{reduce}
-use Rattle.vortex_meaning.specs.SimplifyRules.{simplify}
-use Rattle.vortex_meaning.specs.ValidityRules.{validity}
+use Rattle.vortex_interface.specs.Meaning.{Meaning}
+use Rattle.vortex_interface.specs.Trees.{Tree}
+use Rattle.vortex_interface.specs.Rules.{Rules}
+use Rattle.vortex_interface.specs.ReduceRules.{reduce}
+use Rattle.vortex_interface.specs.SimplifyRules.{simplify}
+use Rattle.vortex_interface.specs.ValidityRules.{validity}
 use Rattle.vortex_rewriting.specs.declared.node.ReduceNodeValidity.{ReduceNodeValidity}
 use Rattle.vortex_rewriting.specs.Contexts.{InContext, IsMade}
 use Rattle.vortex_rewriting.specs.Told.{IsTold}

@@ -5,8 +5,8 @@ use Rattle.std.specs.Option.{option_map}
 use Rattle.vortex_errors.specs.Answers.{Answers}
 use Rattle.vortex_errors.specs.declared.error.VortexError.{VortexError}
 use Rattle.vortex_errors.specs.declared.error.VortexError.TheVariants.{NoSuchPlace}
-use Rattle.vortex_meaning.specs.Trees.{Tree}
-use Rattle.vortex_meaning.specs.Places.{rewritten}
+use Rattle.vortex_interface.specs.Trees.{Tree}
+use Rattle.vortex_interface.specs.Places.{rewritten}
 
 -- what the rule makes of the tree at the place that the path leads to, refused where the path
 -- leaves the tree; or memory ran out

@@ -1,15 +1,15 @@
 -- What a rule makes of a tree of either kind at its root, and what that keeps.
 use Rattle.std.specs.Prelude.{Option, None}
-use Rattle.vortex_meaning.specs.Meaning.{Meaning, Lawful}
-use Rattle.vortex_meaning.specs.Trees.{Tree}
-use Rattle.vortex_meaning.specs.Rules.{Rules}
-use Rattle.vortex_meaning.specs.ReduceRules.{reduce}
-use Rattle.vortex_meaning.specs.SimplifyRules.{simplify}
-use Rattle.vortex_meaning.specs.Rewrites.{IsSound, LawfulRules}
-use Rattle.vortex_meaning.specs.Weights.{Lightens}
-use Rattle.vortex_meaning.proofs.Driving.{simplify_is_sound, reduce_is_sound}
-use Rattle.vortex_meaning.proofs.LighterReduced.{reduce_lightens}
-use Rattle.vortex_meaning.proofs.LighterSimplified.{simplify_lightens}
+use Rattle.vortex_interface.specs.Meaning.{Meaning, Lawful}
+use Rattle.vortex_interface.specs.Trees.{Tree}
+use Rattle.vortex_interface.specs.Rules.{Rules}
+use Rattle.vortex_interface.specs.ReduceRules.{reduce}
+use Rattle.vortex_interface.specs.SimplifyRules.{simplify}
+use Rattle.vortex_interface.specs.Rewrites.{IsSound, LawfulRules}
+use Rattle.vortex_interface.specs.Weights.{Lightens}
+use Rattle.vortex_interface.proofs.Driving.{simplify_is_sound, reduce_is_sound}
+use Rattle.vortex_interface.proofs.LighterReduced.{reduce_lightens}
+use Rattle.vortex_interface.proofs.LighterSimplified.{simplify_lightens}
 use Rattle.vortex_rewriting.specs.declared.rule.Rule.{Rule}
 use Rattle.vortex_rewriting.specs.declared.rule.Rule.TheVariants.{Simplify, Reduce}
 

@@ -5,10 +5,10 @@ use Rattle.std.specs.declared.borrow.Cow.{Cow}
 use Rattle.vortex_errors.specs.declared.error.VortexError.{VortexError}
 use Rattle.vortex_errors.specs.Answers.{Answers}
 use Rattle.vortex_columns.specs.ColumnView.{ColumnView}
-use Rattle.vortex_meaning.specs.Meaning.{Meaning}
-use Rattle.vortex_meaning.specs.Trees.{Tree}
-use Rattle.vortex_meaning.specs.Rules.{Rules}
-use Rattle.vortex_meaning.specs.Running.{ExecutesAfter, RefusesAfter, HasRowsAfter, IsFaultAfter}
+use Rattle.vortex_interface.specs.Meaning.{Meaning}
+use Rattle.vortex_interface.specs.Trees.{Tree}
+use Rattle.vortex_interface.specs.Rules.{Rules}
+use Rattle.vortex_interface.specs.Running.{ExecutesAfter, RefusesAfter, HasRowsAfter, IsFaultAfter}
 use Rattle.vortex_functions.specs.Binding.{IsLeaf, IsLentLeaf}
 use Rattle.vortex_functions.specs.Arrays.{Array, tree_in, rows_in}
 use Rattle.vortex_rewriting.specs.Rules.{expression_rule, array_rule}

@@ -1,8 +1,9 @@
 -- What is told of a node's validity, in terms of the table of rules.
 use Rattle.std.specs.Prelude.{Option, Some, None}
-use Rattle.vortex_meaning.specs.Trees.{Tree}
+use Rattle.vortex_interface.specs.Trees.{Tree}
 use Rattle.vortex_rewriting.specs.declared.node.ReduceNodeValidity.{ReduceNodeValidity}
-use Rattle.vortex_rewriting.specs.declared.node.ReduceNodeValidity.TheVariants.{Reduced, Irreducible}
+use Rattle.vortex_rewriting.specs.declared.node.ReduceNodeValidity.TheVariants.{Reduced}
+use Rattle.vortex_rewriting.specs.declared.node.ReduceNodeValidity.TheVariants.{Irreducible}
 use Rattle.vortex_rewriting.specs.Contexts.{InContext, IsMade}
 
 -- the node that is told, if one is

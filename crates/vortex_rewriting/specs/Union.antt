@@ -3,10 +3,10 @@ use Rattle.std.specs.Prelude.{◌≡◌, List, [], ◌∷◌, Some, false}
 use Rattle.std.specs.List.{All}
 use Rattle.vortex_types.specs.LogicalTypes.{bool_type}
 use Rattle.vortex_operators.specs.declared.operators.Operator.TheVariants.{And}
-use Rattle.vortex_meaning.specs.Meaning.{Meaning}
-use Rattle.vortex_meaning.specs.Trees.{Tree}
-use Rattle.vortex_meaning.specs.Eval.{tree_type}
-use Rattle.vortex_meaning.specs.ComparisonTrees.{operated}
+use Rattle.vortex_interface.specs.Meaning.{Meaning}
+use Rattle.vortex_interface.specs.Trees.{Tree}
+use Rattle.vortex_interface.specs.Eval.{tree_type}
+use Rattle.vortex_interface.specs.ComparisonTrees.{operated}
 use Rattle.vortex_rewriting.specs.Contexts.{InContext}
 
 -- nodes of Bool without null, in that context

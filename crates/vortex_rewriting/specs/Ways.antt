@@ -1,8 +1,8 @@
 -- The way from a tree down to a place in it, as the parents with the number of the next child.
 use Rattle.std.specs.Prelude.{◌≡◌, ℕ, List, [], ◌∷◌, Option, Some, None, slice_get}
 use Rattle.std.specs.Option.{option_map}
-use Rattle.vortex_meaning.specs.Trees.{Tree, children_of}
-use Rattle.vortex_meaning.specs.Places.{with_child, rewritten}
+use Rattle.vortex_interface.specs.Trees.{Tree, children_of}
+use Rattle.vortex_interface.specs.Places.{with_child, rewritten}
 
 module _ {V O : Type 0} where
   -- the parents lead from the first tree to the second

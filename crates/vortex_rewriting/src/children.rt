@@ -1,7 +1,7 @@
 //! Calls with other children.
 ghost use Rattle.std.specs.Prelude.{◌≡◌, ◌<◌, All, IfOk, IsSome, Some, length, map, slice_get};
 ghost use Rattle.std.specs.Prelude.{slice_set};
-ghost use Rattle.vortex_meaning.specs.Places.{with_child};
+ghost use Rattle.vortex_interface.specs.Places.{with_child};
 ghost use Rattle.vortex_functions.specs.Words.{children_of, tree_type, AnswersUnlessMemory};
 ghost use Rattle.vortex_rewriting.specs.Places.{with_children};
 

@@ -1,6 +1,6 @@
 //! The list of functions by their rules.
 ghost use Rattle.std.specs.Prelude.{◌≡◌, Some};
-ghost use Rattle.vortex_meaning.specs.Shipped.{Binary};
+ghost use Rattle.vortex_interface.specs.Shipped.{Binary};
 ghost use Rattle.vortex_functions.specs.Words.{ours, called, function_of, AnswersUnlessMemory};
 ghost use Rattle.vortex_rewriting.specs.Reduced.{IsReducedBy, IsSimplifiedBy, IsValidityBy};
 

@@ -1,7 +1,7 @@
 //! The driver: rules at the first place at which one applies, again and again.
 ghost use Rattle.std.specs.Prelude.{◌≡◌, ◌≤◌, ◌↔◌, IfOk, IfSome, IsSome, IsTrue, None, false};
 ghost use Rattle.std.specs.Option.{option_map};
-ghost use Rattle.vortex_meaning.specs.Driver.{step, Runs};
+ghost use Rattle.vortex_interface.specs.Driver.{step, Runs};
 ghost use Rattle.vortex_functions.specs.Words.{tree_type, AnswersUnlessMemory};
 ghost use Rattle.vortex_rewriting.specs.Frames.{plug, frames_in, AreFrames, HaveRows};
 ghost use Rattle.vortex_rewriting.specs.Found.{IsFound, FoundHasRows};

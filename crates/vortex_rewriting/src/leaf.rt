@@ -1,9 +1,9 @@
 //! What rules and rewriting ask of a kind of leaf.
 ghost use Rattle.std.specs.Prelude.{◌≡◌, IfSome, Option};
 ghost use Rattle.std.specs.Option.{option_copied, option_map};
-ghost use Rattle.vortex_meaning.specs.Trees.{Tree};
-ghost use Rattle.vortex_meaning.specs.Weights.{Lightens};
-ghost use Rattle.vortex_meaning.specs.Rewrites.{IsSound};
+ghost use Rattle.vortex_interface.specs.Trees.{Tree};
+ghost use Rattle.vortex_interface.specs.Weights.{Lightens};
+ghost use Rattle.vortex_interface.specs.Rewrites.{IsSound};
 ghost use Rattle.vortex_functions.specs.Words.{constant, literal, AnswersUnlessMemory};
 ghost use Rattle.vortex_rewriting.specs.LeafValidity.{IsLeafValidity};
 ghost use Rattle.vortex_rewriting.specs.Driving.{first_rule};

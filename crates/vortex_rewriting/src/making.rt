@@ -1,6 +1,6 @@
 //! Calls that rules make: of functions that accept their operands, so that only memory can fail.
 ghost use Rattle.std.specs.Prelude.{◌≡◌, IsSome};
-ghost use Rattle.vortex_meaning.specs.Trees.{call, no_trees, tree};
+ghost use Rattle.vortex_interface.specs.Trees.{call, no_trees, tree};
 ghost use Rattle.vortex_functions.specs.Words.{tree_type, function_of, AnswersUnlessMemory};
 ghost use Rattle.vortex_rewriting.specs.Contexts.{with_tree};
 

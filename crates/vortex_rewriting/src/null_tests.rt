@@ -4,12 +4,12 @@ ghost use Rattle.std.specs.Prelude.{◌≡◌, IfOk, IsSome, IsTrue, Some, false
 ghost use Rattle.std.specs.Option.{option_map};
 ghost use Rattle.vortex_types.specs.LogicalTypes.{bool_type};
 ghost use Rattle.vortex_operators.specs.Operators.{is_boolean};
-ghost use Rattle.vortex_meaning.specs.ComparisonTrees.{operated};
-ghost use Rattle.vortex_meaning.specs.ReduceRules.{by_nullability};
+ghost use Rattle.vortex_interface.specs.ComparisonTrees.{operated};
+ghost use Rattle.vortex_interface.specs.ReduceRules.{by_nullability};
 ghost use Rattle.vortex_functions.specs.Words.{ours, called, tree_type, AnswersUnlessMemory};
 ghost use Rattle.vortex_rewriting.specs.NullTests.{test_function, of_no_null, joined_by};
-ghost use Rattle.vortex_rewriting.specs.NullTests.{boolean_called, tested, by_validity, beside_test};
-ghost use Rattle.vortex_rewriting.specs.NullTests.{within, within_operands};
+ghost use Rattle.vortex_rewriting.specs.NullTests.{boolean_called, tested, by_validity};
+ghost use Rattle.vortex_rewriting.specs.NullTests.{beside_test, within, within_operands};
 ghost use Rattle.vortex_rewriting.specs.Contexts.{of_two, with_tree, IsMade};
 ghost use Rattle.vortex_rewriting.specs.Reduced.{IsReducedBy};
 

@@ -2,7 +2,7 @@
 ghost use Rattle.std.specs.Prelude.{◌≡◌, IfOk, IfSome, None, Some};
 ghost use Rattle.vortex_errors.specs.Answers.{Answers};
 ghost use Rattle.vortex_errors.specs.declared.error.VortexError.TheVariants.{NoSuchPlace};
-ghost use Rattle.vortex_meaning.specs.Places.{rewritten_list};
+ghost use Rattle.vortex_interface.specs.Places.{rewritten_list};
 ghost use Rattle.vortex_rewriting.specs.Rewriting.{AnswersRewritten, steps_of};
 
 use crate::leaf::RewriteLeaf;

@@ -1,7 +1,7 @@
 //! Rules at the root of an expression.
 ghost use Rattle.std.specs.Prelude.{◌≡◌, IfSome, Some};
-ghost use Rattle.vortex_meaning.specs.Functions.{Function};
-ghost use Rattle.vortex_meaning.specs.Rewrites.{Rewrites};
+ghost use Rattle.vortex_interface.specs.Functions.{Function};
+ghost use Rattle.vortex_interface.specs.Rewrites.{Rewrites};
 ghost use Rattle.vortex_functions.specs.Words.{called, function_of, AnswersUnlessMemory};
 ghost use Rattle.vortex_rewriting.specs.Reduced.{IsReducedBy, IsSimplifiedBy};
 ghost use Rattle.vortex_rewriting.specs.NodeTrees.{expression_of, expression_seen};

@@ -1,7 +1,7 @@
 //! Rules at the root of an array tree.
 ghost use Rattle.std.specs.Prelude.{◌≡◌, IfSome, Some};
-ghost use Rattle.vortex_meaning.specs.Functions.{Function};
-ghost use Rattle.vortex_meaning.specs.Rewrites.{Rewrites};
+ghost use Rattle.vortex_interface.specs.Functions.{Function};
+ghost use Rattle.vortex_interface.specs.Rewrites.{Rewrites};
 ghost use Rattle.vortex_functions.specs.Words.{called, function_of, AnswersUnlessMemory};
 ghost use Rattle.vortex_functions.specs.ArrayExecuting.{KeepsValues};
 ghost use Rattle.vortex_rewriting.specs.NodeTrees.{array_of, array_seen, tree_of};

@@ -1,14 +1,14 @@
 //! Rewriting, as methods of trees of either kind.
 ghost use Rattle.std.specs.Prelude.{◌≡◌, ◌<◌, ◌≤◌, ◌↔◌, IfOk, IfSome, IsTrue, None, Option, Some};
 ghost use Rattle.std.specs.Prelude.{false};
-ghost use Rattle.vortex_meaning.specs.Trees.{Tree};
+ghost use Rattle.vortex_interface.specs.Trees.{Tree};
 ghost use Rattle.vortex_rewriting.specs.declared.rule.Rule.{Rule};
 ghost use Rattle.vortex_errors.specs.Answers.{Answers};
 ghost use Rattle.vortex_errors.specs.declared.error.VortexError.TheVariants.{NoSuchPlace};
-ghost use Rattle.vortex_meaning.specs.Places.{rewritten_list};
-ghost use Rattle.vortex_meaning.specs.Rewrites.{Rewrites};
-ghost use Rattle.vortex_meaning.specs.Weights.{weight, OnlyShipped, IsLighter};
-ghost use Rattle.vortex_meaning.specs.Driver.{step, Runs};
+ghost use Rattle.vortex_interface.specs.Places.{rewritten_list};
+ghost use Rattle.vortex_interface.specs.Rewrites.{Rewrites};
+ghost use Rattle.vortex_interface.specs.Weights.{weight, OnlyShipped, IsLighter};
+ghost use Rattle.vortex_interface.specs.Driver.{step, Runs};
 ghost use Rattle.vortex_functions.specs.Words.{AnswersUnlessMemory};
 ghost use Rattle.vortex_rewriting.specs.Driving.{first_rule};
 ghost use Rattle.vortex_rewriting.specs.Rewriting.{AnswersRewritten, steps_of};

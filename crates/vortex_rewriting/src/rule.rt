@@ -2,7 +2,7 @@
 ghost use Rattle.std.specs.Prelude.{◌≡◌, IfSome, Some};
 ghost use Rattle.std.specs.Option.{option_map};
 ghost use Rattle.vortex_functions.specs.Words.{called, function_of, AnswersUnlessMemory};
-ghost use Rattle.vortex_meaning.specs.ReduceRules.{reduce};
+ghost use Rattle.vortex_interface.specs.ReduceRules.{reduce};
 
 use crate::dispatch::reduce_call;
 use crate::leaf::RuleLeaf;

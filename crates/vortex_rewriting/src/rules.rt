@@ -1,7 +1,7 @@
 //! The rules of callers' functions, and nodes that tell their validity.
 ghost use Rattle.std.specs.Prelude.{◌≡◌, Some};
-ghost use Rattle.vortex_meaning.specs.Functions.{custom};
-ghost use Rattle.vortex_meaning.specs.Rewrites.{LawfulRules};
+ghost use Rattle.vortex_interface.specs.Functions.{custom};
+ghost use Rattle.vortex_interface.specs.Rewrites.{LawfulRules};
 ghost use Rattle.vortex_functions.specs.Words.{called, AnswersUnlessMemory};
 ghost use Rattle.vortex_rewriting.specs.Identities.{IsOwnIdentity};
 ghost use Rattle.vortex_rewriting.specs.Reduced.{IsReducedBy, IsSimplifiedBy, IsValidityBy};

@@ -2,10 +2,10 @@
 ghost use Rattle.std.specs.Prelude.{◌≡◌, Some, true};
 ghost use Rattle.vortex_types.specs.TypeOf.{allows_null};
 ghost use Rattle.vortex_types.specs.LogicalTypes.{bool_type};
-ghost use Rattle.vortex_meaning.specs.Shipped.{Binary};
-ghost use Rattle.vortex_meaning.specs.Rules.{cast_of};
-ghost use Rattle.vortex_meaning.specs.SimplifyRules.{is_null_literal, simplify_comparison};
-ghost use Rattle.vortex_meaning.specs.SimplifyRules.{simplify_operands, left_of_nulls};
+ghost use Rattle.vortex_interface.specs.Shipped.{Binary};
+ghost use Rattle.vortex_interface.specs.Rules.{cast_of};
+ghost use Rattle.vortex_interface.specs.SimplifyRules.{is_null_literal, simplify_comparison};
+ghost use Rattle.vortex_interface.specs.SimplifyRules.{simplify_operands, left_of_nulls};
 ghost use Rattle.vortex_functions.specs.Words.{ours, called, tree_type, AnswersUnlessMemory};
 ghost use Rattle.vortex_rewriting.specs.Contexts.{IsMade};
 ghost use Rattle.vortex_rewriting.specs.Reduced.{IsSimplified};

@@ -2,9 +2,9 @@
 ghost use Rattle.std.specs.Prelude.{◌≡◌, IfOk, Some, false, map, true};
 ghost use Rattle.vortex_types.specs.LogicalTypes.{bool_type};
 ghost use Rattle.vortex_operators.specs.declared.operators.Operator.TheVariants.{And};
-ghost use Rattle.vortex_meaning.specs.ComparisonTrees.{operated};
-ghost use Rattle.vortex_meaning.specs.ValidityRules.{null_tests, one_round, all_of};
-ghost use Rattle.vortex_meaning.specs.ValidityRules.{union_child_validities};
+ghost use Rattle.vortex_interface.specs.ComparisonTrees.{operated};
+ghost use Rattle.vortex_interface.specs.ValidityRules.{null_tests, one_round, all_of};
+ghost use Rattle.vortex_interface.specs.ValidityRules.{union_child_validities};
 ghost use Rattle.vortex_functions.specs.Words.{trees_of, children_of, tree_type};
 ghost use Rattle.vortex_functions.specs.Words.{AnswersUnlessMemory};
 ghost use Rattle.vortex_rewriting.specs.Union.{AreTruths, pairs_of, joined_last};

@@ -2,8 +2,9 @@
 ghost use Rattle.std.specs.Prelude.{◌≡◌, IsTrue, Some, length, map};
 ghost use Rattle.std.specs.List.{list_any};
 ghost use Rattle.std.specs.Option.{option_map};
-ghost use Rattle.vortex_meaning.specs.Rules.{may_be_null};
-ghost use Rattle.vortex_meaning.specs.ValidityRules.{is_null_type, without_null, default_validity};
+ghost use Rattle.vortex_interface.specs.Rules.{may_be_null};
+ghost use Rattle.vortex_interface.specs.ValidityRules.{is_null_type, without_null};
+ghost use Rattle.vortex_interface.specs.ValidityRules.{default_validity};
 ghost use Rattle.vortex_functions.specs.Words.{type_of, fits, function_arity, function_type};
 ghost use Rattle.vortex_functions.specs.Words.{function_of};
 ghost use Rattle.vortex_functions.specs.Words.{called, trees_of, children_of, tree_types};

@@ -1,9 +1,9 @@
 //! What follows from the meaning of values, operators, patterns, functions and trees. These
-//! functions do
-//! nothing: their contracts are proved.
+//! functions do nothing: their contracts are proved.
 
-pub use vortex_array_calls::laws::arrays_err_where_arithmetic_does;
-pub use vortex_encoded::laws::{errs_where_rows_fault, rows_are_of_rows};
+pub use vortex_arrays::laws::{
+    arrays_err_where_arithmetic_does, errs_where_rows_fault, rows_are_of_rows,
+};
 pub use vortex_functions::value_laws::{
     equal_functions_are_the_same, equal_functions_hash_equally,
     equal_shipped_functions_mean_the_same, identities_and_options_tell_functions,

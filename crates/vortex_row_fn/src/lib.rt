@@ -3,12 +3,18 @@
 
 pub mod laws;
 
-pub use vortex_array_calls::BetweenCall;
-pub use vortex_array_calls::BinaryCall;
-pub use vortex_array_calls::LikeCall;
-pub use vortex_array_calls::NullTestCall;
-pub use vortex_array_calls::ScalarFnArray;
-pub use vortex_array_calls::UnaryCall;
+pub use vortex_arrays::BetweenCall;
+pub use vortex_arrays::BinaryCall;
+pub use vortex_arrays::BooleanExecuteAdaptor;
+pub use vortex_arrays::BooleanKernel;
+pub use vortex_arrays::CompareExecuteAdaptor;
+pub use vortex_arrays::CompareKernel;
+pub use vortex_arrays::DictColumn;
+pub use vortex_arrays::EncodedColumn;
+pub use vortex_arrays::LikeCall;
+pub use vortex_arrays::NullTestCall;
+pub use vortex_arrays::ScalarFnArray;
+pub use vortex_arrays::UnaryCall;
 pub use vortex_checked::CheckedAdd;
 pub use vortex_checked::CheckedArithmetic;
 pub use vortex_checked::CheckedDiv;
@@ -45,12 +51,6 @@ pub use vortex_columns::ViewsBuilder;
 pub use vortex_columns::VortexError;
 pub use vortex_columns::VortexResult;
 pub use vortex_columns::cell_of;
-pub use vortex_encoded::BooleanExecuteAdaptor;
-pub use vortex_encoded::BooleanKernel;
-pub use vortex_encoded::CompareExecuteAdaptor;
-pub use vortex_encoded::CompareKernel;
-pub use vortex_encoded::DictColumn;
-pub use vortex_encoded::EncodedColumn;
 pub use vortex_functions::ArrayRef;
 pub use vortex_functions::Between;
 pub use vortex_functions::Binary;

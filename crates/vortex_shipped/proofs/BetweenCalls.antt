@@ -11,10 +11,10 @@ use Rattle.vortex_columns.specs.ColumnView.{ColumnView}
 use Rattle.vortex_operators.specs.declared.between.BetweenOptions.{BetweenOptions}
 use Rattle.vortex_operators.specs.Between.{between_type}
 use Rattle.vortex_kernels.specs.Between.{HasBetweenRows}
-use Rattle.vortex_meaning.specs.Outcomes.{gives, HasCallRows, IsCallFault, types_in, values_at}
-use Rattle.vortex_meaning.specs.Shipped.{Between, shipped_means}
-use Rattle.vortex_meaning.specs.Shipped.BetweenFunction.{bounded_type}
-use Rattle.vortex_meaning.specs.Answering.{AnswersShipped}
+use Rattle.vortex_interface.specs.Outcomes.{gives, HasCallRows, IsCallFault, types_in, values_at}
+use Rattle.vortex_interface.specs.Shipped.{Between, shipped_means}
+use Rattle.vortex_interface.specs.Shipped.BetweenFunction.{bounded_type}
+use Rattle.vortex_interface.specs.Answering.{AnswersShipped}
 
 -- a list of three items
 pub three_items : {A : Type 0} (xs : List A) (a b d : A) → length xs ≡ 3 → a ≡ get_or xs 0 a

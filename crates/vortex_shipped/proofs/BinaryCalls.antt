@@ -18,12 +18,12 @@ use Rattle.vortex_operators.specs.OperatorValues.{boolean_value, comparison_type
 use Rattle.vortex_kernels.specs.Comparison.{AnswersCompare, RefusesCompare, uneven, unlike}
 use Rattle.vortex_kernels.specs.Boolean.{are_bools, AnswersBoolean, RefusesBoolean, no_operator}
 use Rattle.vortex_kernels.specs.Boolean.{no_bools}
-use Rattle.vortex_meaning.specs.Outcomes.{gives, HasCallRows, IsCallFault, types_in, values_at}
-use Rattle.vortex_meaning.specs.Shipped.{Binary, shipped_means}
-use Rattle.vortex_meaning.specs.Shipped.BinaryFunction.{both_bool, compared_type, operator_type}
-use Rattle.vortex_meaning.specs.Shipped.BinaryFunction.{value_by, operator_value, means_by}
+use Rattle.vortex_interface.specs.Outcomes.{gives, HasCallRows, IsCallFault, types_in, values_at}
+use Rattle.vortex_interface.specs.Shipped.{Binary, shipped_means}
+use Rattle.vortex_interface.specs.Shipped.BinaryFunction.{both_bool, compared_type, operator_type}
+use Rattle.vortex_interface.specs.Shipped.BinaryFunction.{value_by, operator_value, means_by}
 use Rattle.vortex_operators.specs.Arithmetic.{numeric_operator_of}
-use Rattle.vortex_meaning.specs.Answering.{AnswersShipped}
+use Rattle.vortex_interface.specs.Answering.{AnswersShipped}
 
 -- the call's column, and its fault
 abbrev Rows : Operator → List ColumnView → ℕ → ColumnView → Type 0

@@ -8,11 +8,11 @@ use Rattle.vortex_errors.proofs.Answering.{Answers-weaker}
 use Rattle.vortex_types.specs.LogicalTypes.{LogicalType, bool_type, is_bool_type}
 use Rattle.vortex_columns.specs.ColumnView.{ColumnView}
 use Rattle.vortex_kernels.specs.Cast.{HasCastRows}
-use Rattle.vortex_meaning.specs.Outcomes.{gives, HasCallRows, IsCallFault, types_in, values_at}
-use Rattle.vortex_meaning.specs.Shipped.{Cast, shipped_means}
-use Rattle.vortex_meaning.specs.Shipped.CastFunction.{cast_type}
-use Rattle.vortex_meaning.specs.Shipped.NotFunction.{not_type}
-use Rattle.vortex_meaning.specs.Answering.{AnswersShipped}
+use Rattle.vortex_interface.specs.Outcomes.{gives, HasCallRows, IsCallFault, types_in, values_at}
+use Rattle.vortex_interface.specs.Shipped.{Cast, shipped_means}
+use Rattle.vortex_interface.specs.Shipped.CastFunction.{cast_type}
+use Rattle.vortex_interface.specs.Shipped.NotFunction.{not_type}
+use Rattle.vortex_interface.specs.Answering.{AnswersShipped}
 use Rattle.vortex_shipped.proofs.NotCalls.{OneBool, one_bool}
 
 -- Cast takes what Not takes

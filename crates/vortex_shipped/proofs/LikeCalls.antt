@@ -10,10 +10,10 @@ use Rattle.vortex_types.specs.LogicalTypes.{is_text_type}
 use Rattle.vortex_columns.specs.ColumnView.{ColumnView}
 use Rattle.vortex_like.specs.declared.options.LikeOptions.{LikeOptions}
 use Rattle.vortex_like.specs.Rows.{HasLikeRows}
-use Rattle.vortex_meaning.specs.Outcomes.{gives, HasCallRows, IsCallFault, types_in, values_at}
-use Rattle.vortex_meaning.specs.Shipped.{Like, shipped_means}
-use Rattle.vortex_meaning.specs.Shipped.LikeFunction.{like_type}
-use Rattle.vortex_meaning.specs.Answering.{AnswersShipped}
+use Rattle.vortex_interface.specs.Outcomes.{gives, HasCallRows, IsCallFault, types_in, values_at}
+use Rattle.vortex_interface.specs.Shipped.{Like, shipped_means}
+use Rattle.vortex_interface.specs.Shipped.LikeFunction.{like_type}
+use Rattle.vortex_interface.specs.Answering.{AnswersShipped}
 
 -- the two inputs of LIKE
 pub record TwoTexts (cs : List ColumnView) (l r : ColumnView) : Type 0 where

@@ -9,10 +9,10 @@ use Rattle.vortex_errors.proofs.Answering.{Answers-weaker}
 use Rattle.vortex_columns.specs.ColumnView.{ColumnView, row}
 use Rattle.vortex_operators.specs.OperatorValues.{not_value}
 use Rattle.vortex_kernels.specs.Rows.{HasRows}
-use Rattle.vortex_meaning.specs.Outcomes.{gives, HasCallRows, IsCallFault, types_in, values_at}
-use Rattle.vortex_meaning.specs.Shipped.{Not, shipped_means}
-use Rattle.vortex_meaning.specs.Shipped.NotFunction.{not_type}
-use Rattle.vortex_meaning.specs.Answering.{AnswersShipped}
+use Rattle.vortex_interface.specs.Outcomes.{gives, HasCallRows, IsCallFault, types_in, values_at}
+use Rattle.vortex_interface.specs.Shipped.{Not, shipped_means}
+use Rattle.vortex_interface.specs.Shipped.NotFunction.{not_type}
+use Rattle.vortex_interface.specs.Answering.{AnswersShipped}
 
 -- the one input of Not
 pub record OneBool (cs : List ColumnView) (c : ColumnView) : Type 0 where

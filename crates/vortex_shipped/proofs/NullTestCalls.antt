@@ -9,9 +9,9 @@ use Rattle.vortex_types.specs.LogicalTypes.{LogicalType}
 use Rattle.vortex_types.specs.Values.{Value}
 use Rattle.vortex_columns.specs.ColumnView.{ColumnView}
 use Rattle.vortex_kernels.specs.NullTests.{HasTests}
-use Rattle.vortex_meaning.specs.Outcomes.{Outcome, gives, HasCallRows, IsCallFault, types_in}
-use Rattle.vortex_meaning.specs.Shipped.NullTestFunctions.{null_test_type, null_test}
-use Rattle.vortex_meaning.specs.Shipped.NullTestFunctions.{null_test_value}
+use Rattle.vortex_interface.specs.Outcomes.{Outcome, gives, HasCallRows, IsCallFault, types_in}
+use Rattle.vortex_interface.specs.Shipped.NullTestFunctions.{null_test_type, null_test}
+use Rattle.vortex_interface.specs.Shipped.NullTestFunctions.{null_test_value}
 
 only_input : (cs : List ColumnView) (c : ColumnView)
     → IsSome (null_test_type (types_in cs)) → slice_get cs 0 ≡ Some c → cs ≡ c ∷ []

@@ -15,11 +15,11 @@ use Rattle.vortex_operators.specs.declared.operators.Operator.TheVariants.{Add, 
 use Rattle.vortex_operators.specs.Arithmetic.{numeric_operator_of, integer_of_both}
 use Rattle.vortex_kernels.specs.Numeric.{AnswersNumeric, RefusesNumeric, unlike, uneven, faulty}
 use Rattle.vortex_kernels.specs.Numeric.{numeric_row}
-use Rattle.vortex_meaning.specs.Outcomes.{arithmetic, HasCallRows, IsCallFault, types_in, values_at}
-use Rattle.vortex_meaning.specs.Arithmetic.{arithmetic_type, arithmetic_of, value_or_fault}
-use Rattle.vortex_meaning.specs.Shipped.{Binary, shipped_means}
-use Rattle.vortex_meaning.specs.Shipped.BinaryFunction.{operator_type, means_by}
-use Rattle.vortex_meaning.specs.Answering.{AnswersShipped}
+use Rattle.vortex_interface.specs.Outcomes.{arithmetic, HasCallRows, IsCallFault, types_in, values_at}
+use Rattle.vortex_interface.specs.Arithmetic.{arithmetic_type, arithmetic_of, value_or_fault}
+use Rattle.vortex_interface.specs.Shipped.{Binary, shipped_means}
+use Rattle.vortex_interface.specs.Shipped.BinaryFunction.{operator_type, means_by}
+use Rattle.vortex_interface.specs.Answering.{AnswersShipped}
 
 -- the two inputs of arithmetic that accepts them
 pub record TwoIntegers (op : Operator) (o : NumericOperator) (cs : List ColumnView)

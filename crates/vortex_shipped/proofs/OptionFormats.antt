@@ -27,9 +27,9 @@ use Rattle.vortex_like.specs.declared.options.LikeOptions.{LikeOptions}
 use Rattle.vortex_like.specs.OptionBytes.{like_bytes, like_read, escape_bytes, escape_read}
 use Rattle.vortex_like.specs.OptionBytes.{with_bits, asked, HasCharacter, IsLikeFormat}
 use Rattle.vortex_like.specs.Tokens.{backslash}
-use Rattle.vortex_meaning.specs.Shipped as shipped
-use Rattle.vortex_meaning.specs.Shipped.{Shipped}
-use Rattle.vortex_meaning.specs.OptionBytes.{shipped_bytes, with_options, HasCharacters}
+use Rattle.vortex_interface.specs.Shipped as shipped
+use Rattle.vortex_interface.specs.Shipped.{Shipped}
+use Rattle.vortex_interface.specs.OptionBytes.{shipped_bytes, with_options, HasCharacters}
 
 operator_back : (o : Operator) → operator_read (operator_bytes o) ≡ Some o
 operator_back Eq = refl

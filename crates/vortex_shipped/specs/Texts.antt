@@ -1,8 +1,8 @@
 -- What a call of a shipped function writes of its text.
 use Rattle.std.specs.Prelude.{◌≡◌, ℕ, String}
 use Rattle.std.specs.declared.alloc.Global.{Global}
-use Rattle.vortex_meaning.specs.CallTexts.{Appends}
-use Rattle.vortex_meaning.specs.Shipped.{Shipped, shipped_before, shipped_printed}
+use Rattle.vortex_interface.specs.CallTexts.{Appends}
+use Rattle.vortex_interface.specs.Shipped.{Shipped, shipped_before, shipped_printed}
 use Rattle.vortex_interface.specs.Texts.{Parts}
 
 -- what stands before the argument that is printed k-th, and which argument that is

@@ -1,6 +1,6 @@
 //! The operators of two operands.
 ghost use Rattle.std.specs.Prelude.{◌≡◌, Some, length, map};
-ghost use Rattle.vortex_meaning.specs.Shipped as shipped;
+ghost use Rattle.vortex_interface.specs.Shipped as shipped;
 ghost use Rattle.vortex_shipped.specs.Words.{no_rules, AnswersUnlessMemory};
 ghost use Rattle.vortex_shipped.specs.Words.{type_of, WritesBefore, binary_id, both_bool};
 ghost use Rattle.vortex_shipped.specs.Words.{compared_type, arithmetic_type, operator_type};

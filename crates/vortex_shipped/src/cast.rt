@@ -1,6 +1,6 @@
 //! Cast of Bool to the nullable one.
 ghost use Rattle.std.specs.Prelude.{[], Some};
-ghost use Rattle.vortex_meaning.specs.Shipped as shipped;
+ghost use Rattle.vortex_interface.specs.Shipped as shipped;
 ghost use Rattle.vortex_shipped.specs.Words.{no_rules, AnswersUnlessMemory};
 ghost use Rattle.vortex_shipped.specs.Words.{WritesBefore, cast_id};
 ghost use Rattle.vortex_shipped.specs.Words.{shipped_meaning, shipped_lawful, AnswersShippedType};

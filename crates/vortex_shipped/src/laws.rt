@@ -1,6 +1,6 @@
 //! What follows from the bytes of options. These functions do nothing: their contracts are proved.
 ghost use Rattle.std.specs.Prelude.{◌≡◌, Some};
-ghost use Rattle.vortex_meaning.specs.Shipped.{Shipped};
+ghost use Rattle.vortex_interface.specs.Shipped.{Shipped};
 ghost use Rattle.vortex_shipped.specs.Words.{IsFormat, operator_bytes, operator_read};
 ghost use Rattle.vortex_shipped.specs.Words.{between_bytes, between_read};
 ghost use Rattle.vortex_shipped.specs.Words.{IsLikeFormat, HasCharacters, shipped_bytes};

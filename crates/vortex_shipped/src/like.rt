@@ -1,6 +1,6 @@
 //! LIKE and ILIKE of a text and a pattern.
 ghost use Rattle.std.specs.Prelude.{◌≡◌, Some};
-ghost use Rattle.vortex_meaning.specs.Shipped as shipped;
+ghost use Rattle.vortex_interface.specs.Shipped as shipped;
 ghost use Rattle.vortex_shipped.specs.Words.{no_rules, AnswersUnlessMemory};
 ghost use Rattle.vortex_shipped.specs.Words.{WritesBefore, like_id, like_words};
 ghost use Rattle.vortex_shipped.specs.Words.{escape_text, Appends};

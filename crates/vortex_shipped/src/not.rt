@@ -1,6 +1,6 @@
 //! Kleene's Not.
 ghost use Rattle.std.specs.Prelude.{[], Some};
-ghost use Rattle.vortex_meaning.specs.Shipped as shipped;
+ghost use Rattle.vortex_interface.specs.Shipped as shipped;
 ghost use Rattle.vortex_shipped.specs.Words.{no_rules, AnswersUnlessMemory};
 ghost use Rattle.vortex_shipped.specs.Words.{WritesBefore, not_id, shipped_meaning, shipped_lawful};
 ghost use Rattle.vortex_shipped.specs.Words.{AnswersShippedType};

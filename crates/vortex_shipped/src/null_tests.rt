@@ -1,6 +1,6 @@
 //! The null tests: whether a row of any type is null, and whether it is not.
 ghost use Rattle.std.specs.Prelude.{◌≡◌, [], Some, true, false, length};
-ghost use Rattle.vortex_meaning.specs.Shipped as shipped;
+ghost use Rattle.vortex_interface.specs.Shipped as shipped;
 ghost use Rattle.vortex_shipped.specs.Words.{no_rules, AnswersUnlessMemory};
 ghost use Rattle.vortex_shipped.specs.Words.{WritesBefore, AnswersShippedType};
 ghost use Rattle.vortex_shipped.specs.Words.{null_test_id, shipped_meaning};

@@ -5,7 +5,8 @@ use Rattle.vortex_syntax.specs.declared.step.Operator.TheVariants as operator
 use Rattle.vortex_syntax.specs.declared.token.Sign.{Sign}
 use Rattle.vortex_syntax.specs.declared.token.Sign.TheVariants as sign
 use Rattle.vortex_syntax.specs.Tokens.{Token, name, nullable, quoted, number, text, sign}
-use Rattle.vortex_syntax.specs.Syntax.{Syntax, operand, negative, typed, grouped, negated, joined, tested, between, matched, cast}
+use Rattle.vortex_syntax.specs.Syntax.{Syntax, operand, negative, typed, grouped, negated, joined}
+use Rattle.vortex_syntax.specs.Syntax.{tested, between, matched, cast}
 
 abbrev pub or_level : ℕ
 or_level = 0

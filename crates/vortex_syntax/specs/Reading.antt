@@ -1,7 +1,6 @@
 -- Reading from left to right: one token after another, with what waits for its last operand.
-use Rattle.std.specs.Prelude.{map, reverse, ℕ, ◌&&◌, nat_lt, nat_le, List, [], ◌∷◌, ◌++◌, Bool, true, false}
-use Rattle.std.specs.Prelude.{Option, Some, None, if◌then◌else◌}
-use Rattle.std.specs.Prelude.{Result, IfOk, ◌≡◌}
+use Rattle.std.specs.Prelude.{map, reverse, ℕ, ◌&&◌, nat_lt, nat_le, List, [], ◌∷◌, ◌++◌, Bool}
+use Rattle.std.specs.Prelude.{true, false, Option, Some, None, if◌then◌else◌, Result, IfOk, ◌≡◌}
 use Rattle.std.specs.declared.alloc.AllocError.{AllocError}
 use Rattle.std.specs.Option.{option_and_then, option_map}
 use Rattle.vortex_syntax.specs.declared.step.Operator.{Operator}
@@ -15,9 +14,12 @@ use Rattle.vortex_syntax.specs.declared.frame.Frame.TheVariants as frame
 use Rattle.vortex_syntax.specs.declared.frame.Mode.{Mode}
 use Rattle.vortex_syntax.specs.declared.frame.Mode.TheVariants as mode
 use Rattle.vortex_syntax.specs.Tokens.{Token, name, nullable, number, text, sign}
-use Rattle.vortex_syntax.specs.Levels.{own, left, right, or_level, and_level, not_level, is_level, predicate_level, sum_level, atom_level, literal_level, is_operand, operand_level}
+use Rattle.vortex_syntax.specs.Levels.{own, left, right, or_level, and_level, not_level, is_level}
+use Rattle.vortex_syntax.specs.Levels.{predicate_level, sum_level, atom_level, literal_level}
+use Rattle.vortex_syntax.specs.Levels.{is_operand, operand_level}
 use Rattle.vortex_syntax.specs.declared.reading.Reading.{Reading}
-use Rattle.vortex_syntax.specs.Postfix.{Step, step_in, operand, negative, typed, cast, escaped, called, null_call}
+use Rattle.vortex_syntax.specs.Postfix.{Step, step_in, operand, negative, typed, cast, escaped}
+use Rattle.vortex_syntax.specs.Postfix.{called, null_call}
 
 -- the last frame stands first
 pub record State : Type 0 where

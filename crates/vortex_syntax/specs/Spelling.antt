@@ -7,7 +7,8 @@ use Rattle.vortex_syntax.specs.declared.step.LikeKind.{LikeKind}
 use Rattle.vortex_syntax.specs.declared.token.Sign.{Sign}
 use Rattle.vortex_syntax.specs.declared.token.Sign.TheVariants as sign
 use Rattle.vortex_syntax.specs.Tokens.{Token, name, nullable, number, text, sign}
-use Rattle.vortex_syntax.specs.Syntax.{Syntax, operand, negative, typed, grouped, negated, joined, tested, between, matched, cast}
+use Rattle.vortex_syntax.specs.Syntax.{Syntax, operand, negative, typed, grouped, negated, joined}
+use Rattle.vortex_syntax.specs.Syntax.{tested, between, matched, cast}
 
 abbrev pub operator_sign : Operator → Sign
 operator_sign operator.Or = sign.Or

@@ -6,7 +6,7 @@ use std::alloc::Global;
 use vortex_columns::{
     Column, DType, ExecutionCtx, Nullability, PType, Scalar, VortexError, VortexResult,
 };
-use vortex_encoded::{BooleanExecuteAdaptor, CompareExecuteAdaptor, EncodedColumn};
+use vortex_arrays::{BooleanExecuteAdaptor, CompareExecuteAdaptor, EncodedColumn};
 use vortex_kernels::Operator;
 
 /// A run-length column on the heap.

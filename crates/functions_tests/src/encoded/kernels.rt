@@ -6,7 +6,7 @@ use std::alloc::Global;
 use vortex_columns::{
     Column, DType, ExecutionCtx, Nullability, PType, Scalar, VortexError, VortexResult,
 };
-use vortex_encoded::{
+use vortex_arrays::{
     BooleanKernel, CompareExecuteAdaptor, CompareKernel, DictColumn, EncodedColumn,
 };
 use vortex_kernels::{CompareOperator, Operator};

@@ -3,7 +3,7 @@
 use fixtures::{Made, kept, same};
 use std::alloc::Global;
 use vortex_columns::{Cell, Column, ExecutionCtx, Scalar, VortexError, VortexResult};
-use vortex_encoded::{DictColumn, EncodedColumn};
+use vortex_arrays::{DictColumn, EncodedColumn};
 use vortex_functions::{ScalarFnRef, ScalarFnVTable};
 
 pub(crate) const YES: Option<bool> = Some(true);

@@ -95,7 +95,7 @@ impl<C: ScalarFnVTable> BoundExpression<C> {
 
 /// The bytes of `sql_text`; want of memory is an error.
 impl<C: ScalarFnVTable> fmt::Display for BoundExpression<C> {
-    ghost use Rattle.vortex_meaning.specs.Printing.{tree_text};
+    ghost use Rattle.vortex_interface.specs.Printing.{tree_text};
 
     ghost output = { tree_text };
 

@@ -1,11 +1,11 @@
 //! What a tree is made of besides calls.
 ghost use Rattle.std.specs.Prelude.{◌≡◌, List, Option, None, Some, All, IfOk, map};
 ghost use Rattle.vortex_types.specs.TypeOf.{type_of};
-ghost use Rattle.vortex_meaning.specs.Functions.{Function};
-ghost use Rattle.vortex_meaning.specs.Meaning.{Meaning};
-ghost use Rattle.vortex_meaning.specs.Trees.{Tree, call, trees_of, children_of, called};
-ghost use Rattle.vortex_meaning.specs.Eval.{tree_type};
-ghost use Rattle.vortex_meaning.specs.Driver.{step};
+ghost use Rattle.vortex_interface.specs.Functions.{Function};
+ghost use Rattle.vortex_interface.specs.Meaning.{Meaning};
+ghost use Rattle.vortex_interface.specs.Trees.{Tree, call, trees_of, children_of, called};
+ghost use Rattle.vortex_interface.specs.Eval.{tree_type};
+ghost use Rattle.vortex_interface.specs.Driver.{step};
 
 use std::alloc::{AllocError, Global};
 use std::marker::{Model, PhantomData};
@@ -91,8 +91,8 @@ pub struct Placeholder<C: ScalarFnVTable> {
 }
 
 impl<C: ScalarFnVTable> Model for Placeholder<C> {
-    ghost use Rattle.vortex_meaning.specs.Trees.{Tree};
-    ghost use Rattle.vortex_meaning.specs.TreeCodes.{coded_tree};
+    ghost use Rattle.vortex_interface.specs.Trees.{Tree};
+    ghost use Rattle.vortex_interface.specs.TreeCodes.{coded_tree};
     ghost use Rattle.vortex_functions.specs.Nodes.{placeholder};
 
     ghost Value = { Tree C C.Options };

@@ -1,7 +1,7 @@
 use Rattle.std.proofs.Common.{map, add-one}
 use Rattle.vortex_errors.proofs.Answering.{UnlessMemory-weaker}
-use Rattle.vortex_meaning.specs.Bound.{IsBound}
-use Rattle.vortex_meaning.specs.Execution.{RefusesColumns}
+use Rattle.vortex_interface.specs.Bound.{IsBound}
+use Rattle.vortex_interface.specs.Execution.{RefusesColumns}
 use Rattle.rowfn_batches.specs.Executing.{AllFit, RefusesColumnsFirst}
 use Rattle.rowfn_batches.proofs.Answered.{placed_more, answers_refusal, fit_more}
 use Rattle.rowfn_batches.proofs.Answered.{refuses_columns_at}

@@ -1,6 +1,6 @@
 use Rattle.std.proofs.Common.{map, take}
 use Rattle.std.specs.Prelude.{All}
-use Rattle.vortex_meaning.specs.Bound.{IsBound}
+use Rattle.vortex_interface.specs.Bound.{IsBound}
 use Rattle.rowfn_batches.specs.Executing.{AllFit}
 use Rattle.rowfn_batches.proofs.answers.check_columns.Given as goal
 

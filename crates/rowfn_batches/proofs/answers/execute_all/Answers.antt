@@ -2,7 +2,7 @@ use Rattle.std.proofs.Common.{map, add-one, sym, subst}
 use Rattle.std.specs.Cow.{cow_value}
 use Rattle.vortex_errors.proofs.Answering.{UnlessMemory-weaker}
 use Rattle.vortex_columns.specs.ColumnView.{ColumnView}
-use Rattle.vortex_meaning.specs.Execution.{Executes, RefusesExecution}
+use Rattle.vortex_interface.specs.Execution.{Executes, RefusesExecution}
 use Rattle.vortex_functions.specs.Walks.{AllMean}
 use Rattle.rowfn_batches.specs.Executing.{RefusesFirst}
 use Rattle.rowfn_batches.proofs.Answered.{all_more, answers_refusal, owned_is, refuses_at}

@@ -1,5 +1,5 @@
 use Rattle.std.proofs.Common.{map, take}
-use Rattle.vortex_meaning.specs.Execution.{Executes}
+use Rattle.vortex_interface.specs.Execution.{Executes}
 use Rattle.vortex_functions.specs.Walks.{AllMean}
 use Rattle.rowfn_scripts.specs.Stepping.{script_meaning}
 use Rattle.rowfn_batches.proofs.answers.execute_all.Given as goal

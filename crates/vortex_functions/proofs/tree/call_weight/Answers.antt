@@ -1,5 +1,5 @@
 use Rattle.std.proofs.Common.{add-one, ◌∙◌}
-use Rattle.vortex_meaning.specs.Weights.{added}
+use Rattle.vortex_interface.specs.Weights.{added}
 use Rattle.vortex_functions.specs.FunctionOf.{function_of}
 use Rattle.vortex_functions.proofs.TreeCalls.{sum_one_more}
 use Rattle.vortex_functions.proofs.tree.call_weight.Goals as goal

@@ -1,6 +1,6 @@
 use Rattle.std.proofs.Common.{◌≡◌, ◌+◌, map, take}
-use Rattle.vortex_meaning.specs.Trees.{trees_of}
-use Rattle.vortex_meaning.specs.Weights.{added, weights}
+use Rattle.vortex_interface.specs.Trees.{trees_of}
+use Rattle.vortex_interface.specs.Weights.{added, weights}
 use Rattle.vortex_functions.specs.FunctionOf.{function_of}
 use Rattle.vortex_functions.proofs.CallWeights.{told}
 use Rattle.vortex_functions.proofs.tree.call_weight.Given as goal

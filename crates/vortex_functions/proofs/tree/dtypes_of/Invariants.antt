@@ -1,8 +1,8 @@
 use Rattle.std.proofs.Common.{◌≡◌, map, take, Some}
 use Rattle.std.specs.Prelude.{All}
 use Rattle.vortex_types.specs.TypeOf.{type_of}
-use Rattle.vortex_meaning.specs.Trees.{trees_of}
-use Rattle.vortex_meaning.specs.Eval.{tree_types}
+use Rattle.vortex_interface.specs.Trees.{trees_of}
+use Rattle.vortex_interface.specs.Eval.{tree_types}
 use Rattle.vortex_functions.proofs.tree.dtypes_of.Given as goal
 
 -- the types so far, of trees that are whole

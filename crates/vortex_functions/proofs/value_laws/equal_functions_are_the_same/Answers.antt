@@ -1,5 +1,5 @@
 use Rattle.std.proofs.Common.{ap}
-use Rattle.vortex_meaning.specs.Shipped as shipped
+use Rattle.vortex_interface.specs.Shipped as shipped
 use Rattle.vortex_functions.specs.declared.erased.ScalarFnRef.TheVariants as ref
 use Rattle.vortex_functions.proofs.SameValues.{operators_tell, bounds_tell, likes_tell}
 use Rattle.vortex_functions.proofs.SameValues.{instances_tell}

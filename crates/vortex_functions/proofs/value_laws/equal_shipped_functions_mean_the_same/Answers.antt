@@ -1,5 +1,5 @@
 use Rattle.std.proofs.Common.{ap}
-use Rattle.vortex_meaning.specs.Functions.{function_means}
+use Rattle.vortex_interface.specs.Functions.{function_means}
 use Rattle.vortex_functions.specs.FunctionOf.{function_of}
 use Rattle.vortex_functions.proofs.SameValues.{same_as_shipped}
 use Rattle.vortex_functions.proofs.value_laws.equal_shipped_functions_mean_the_same.Goals as goal

@@ -1,4 +1,4 @@
-use Rattle.vortex_meaning.proofs.CutTables.{batches_answer_as_one}
+use Rattle.vortex_interface.proofs.CutTables.{batches_answer_as_one}
 use Rattle.vortex_interface.proofs.laws.batches_answer_as_one.Goals as goal
 
 pub returns : goal.returns

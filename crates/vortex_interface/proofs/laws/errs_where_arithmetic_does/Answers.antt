@@ -1,4 +1,4 @@
-use Rattle.vortex_meaning.proofs.ArithmeticErrs.{errs_where_arithmetic_does}
+use Rattle.vortex_interface.proofs.ArithmeticErrs.{errs_where_arithmetic_does}
 use Rattle.vortex_interface.proofs.laws.errs_where_arithmetic_does.Goals as goal
 
 pub returns : goal.returns

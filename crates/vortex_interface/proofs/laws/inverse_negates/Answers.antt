@@ -1,4 +1,4 @@
-use Rattle.vortex_meaning.specs.ComparisonTrees.{inverse_negates}
+use Rattle.vortex_interface.specs.ComparisonTrees.{inverse_negates}
 use Rattle.vortex_interface.proofs.laws.inverse_negates.Goals as goal
 
 pub returns : goal.returns

@@ -1,4 +1,4 @@
-use Rattle.vortex_meaning.specs.ComparisonTrees.{swap_turns}
+use Rattle.vortex_interface.specs.ComparisonTrees.{swap_turns}
 use Rattle.vortex_interface.proofs.laws.swap_turns.Goals as goal
 
 pub returns : goal.returns

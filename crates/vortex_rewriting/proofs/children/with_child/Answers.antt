@@ -1,7 +1,7 @@
 use Rattle.std.proofs.Common.{ap, map, ◌∙◌}
 use Rattle.vortex_types.specs.TypeOf.{type_of}
-use Rattle.vortex_meaning.specs.Trees.{trees_of, children_of}
-use Rattle.vortex_meaning.specs.Eval.{tree_type, tree_types}
+use Rattle.vortex_interface.specs.Trees.{trees_of, children_of}
+use Rattle.vortex_interface.specs.Eval.{tree_type, tree_types}
 use Rattle.vortex_rewriting.specs.Places.{with_children}
 use Rattle.vortex_rewriting.proofs.AnotherChild.{other_types}
 use Rattle.vortex_rewriting.proofs.FrameWalks.{some_is}

@@ -1,6 +1,6 @@
 use Rattle.std.proofs.Common.{◌≡◌, Some, sym, ap, ◌∙◌}
 use Rattle.std.specs.Option.{option_map}
-use Rattle.vortex_meaning.specs.SimplifyRules.{simplify}
+use Rattle.vortex_interface.specs.SimplifyRules.{simplify}
 use Rattle.vortex_rewriting.specs.Contexts.{tree_by}
 use Rattle.vortex_rewriting.specs.NodeTrees.{expression_seen}
 use Rattle.vortex_rewriting.proofs.Made.{made_tree}

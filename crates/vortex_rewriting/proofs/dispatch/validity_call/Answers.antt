@@ -1,8 +1,8 @@
 use Rattle.std.proofs.Common.{ap, ◌∙◌}
 use Rattle.std.specs.Option.{option_map}
 use Rattle.vortex_errors.proofs.Answering.{AnswersUnlessMemory-weaker}
-use Rattle.vortex_meaning.specs.Trees.{trees_of, children_of}
-use Rattle.vortex_meaning.specs.ValidityRules.{default_validity}
+use Rattle.vortex_interface.specs.Trees.{trees_of, children_of}
+use Rattle.vortex_interface.specs.ValidityRules.{default_validity}
 use Rattle.vortex_functions.specs.FunctionOf.{function_of}
 use Rattle.vortex_rewriting.specs.Contexts.{with_tree}
 use Rattle.vortex_rewriting.specs.Told.{IsTold}

@@ -1,8 +1,8 @@
 use Rattle.std.proofs.Common.{◌≡◌, add-one, arith, ap, subst, ◌∙◌, Option, Some, None, false}
 use Rattle.std.specs.Prelude.{IsSome, IsTrue}
 use Rattle.vortex_types.specs.TypeOf.{type_of}
-use Rattle.vortex_meaning.specs.Eval.{tree_type}
-use Rattle.vortex_meaning.specs.Driver.{step}
+use Rattle.vortex_interface.specs.Eval.{tree_type}
+use Rattle.vortex_interface.specs.Driver.{step}
 use Rattle.vortex_rewriting.specs.Frames.{plug, frames_in, HaveRows}
 use Rattle.vortex_rewriting.specs.Found.{IsFound, FoundHasRows}
 use Rattle.vortex_rewriting.proofs.Optimizing.{run_typed, rule_sound}

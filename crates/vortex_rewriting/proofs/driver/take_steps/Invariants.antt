@@ -1,5 +1,5 @@
 use Rattle.std.proofs.Common.{◌≡◌, ◌≤◌, ◌-◌}
-use Rattle.vortex_meaning.specs.Driver.{Runs}
+use Rattle.vortex_interface.specs.Driver.{Runs}
 use Rattle.vortex_rewriting.specs.Frames.{plug, frames_in, AreFrames, HaveRows}
 use Rattle.vortex_rewriting.proofs.driver.take_steps.Given as goal
 

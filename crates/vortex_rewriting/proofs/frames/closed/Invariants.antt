@@ -1,5 +1,5 @@
 use Rattle.std.proofs.Common.{◌≡◌, ◌-◌, All, length, map}
-use Rattle.vortex_meaning.specs.Trees.{children_of}
+use Rattle.vortex_interface.specs.Trees.{children_of}
 use Rattle.vortex_rewriting.specs.Frames.{partly}
 use Rattle.vortex_rewriting.proofs.frames.closed.Given as goal
 

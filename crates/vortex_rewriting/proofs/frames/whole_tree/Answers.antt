@@ -1,6 +1,6 @@
 use Rattle.std.proofs.Common.{sym, ap, subst, ◌∙◌}
 use Rattle.std.specs.Prelude.{IsSome}
-use Rattle.vortex_meaning.specs.Eval.{tree_type}
+use Rattle.vortex_interface.specs.Eval.{tree_type}
 use Rattle.vortex_rewriting.specs.Frames.{plug, frames_in}
 use Rattle.vortex_rewriting.proofs.Walking.{goes_up, frames_above, over_typed, rows_above}
 use Rattle.vortex_rewriting.proofs.Walking.{rows_push}

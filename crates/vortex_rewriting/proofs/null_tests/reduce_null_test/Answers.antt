@@ -2,9 +2,9 @@ use Rattle.std.proofs.Common.{◌≡◌, true, Some, None, sym, ap, ◌∙◌, a
 use Rattle.std.specs.Option.{option_map}
 use Rattle.vortex_errors.proofs.Answering.{AnswersUnlessMemory-weaker}
 use Rattle.vortex_types.specs.TypeOf.{type_of}
-use Rattle.vortex_meaning.specs.ReduceRules.{reduce}
-use Rattle.vortex_meaning.specs.ValidityRules.{validity}
-use Rattle.vortex_meaning.proofs.Validities.{validity_sound}
+use Rattle.vortex_interface.specs.ReduceRules.{reduce}
+use Rattle.vortex_interface.specs.ValidityRules.{validity}
+use Rattle.vortex_interface.proofs.Validities.{validity_sound}
 use Rattle.vortex_rewriting.specs.Contexts.{tree_by, IsMade}
 use Rattle.vortex_rewriting.specs.NullTests.{by_validity, within}
 use Rattle.vortex_rewriting.specs.Told.{told_node}

@@ -2,7 +2,7 @@ use Rattle.std.proofs.Common.{◌≡◌, sym, ap, ◌∙◌, arith, subst, refl}
 use Rattle.std.specs.Prelude.{IsSome}
 use Rattle.vortex_errors.proofs.Answering.{AnswersUnlessMemory-weaker}
 use Rattle.vortex_types.specs.TypeOf.{type_of}
-use Rattle.vortex_meaning.specs.Eval.{tree_type}
+use Rattle.vortex_interface.specs.Eval.{tree_type}
 use Rattle.vortex_rewriting.specs.Contexts.{IsMade}
 use Rattle.vortex_rewriting.specs.NullTests.{within, within_operands}
 use Rattle.vortex_rewriting.proofs.BooleanNodes.{two_operands, is_operated}

@@ -1,7 +1,7 @@
 use Rattle.std.proofs.Common.{refl, sym, subst}
 use Rattle.std.specs.Prelude.{IsSome}
-use Rattle.vortex_meaning.specs.ComparisonTrees.{operated}
-use Rattle.vortex_meaning.specs.Eval.{tree_type}
+use Rattle.vortex_interface.specs.ComparisonTrees.{operated}
+use Rattle.vortex_interface.specs.Eval.{tree_type}
 use Rattle.vortex_rewriting.proofs.NullTestNodes.{type_of_split}
 use Rattle.vortex_rewriting.proofs.null_tests.within_operands.Goals as goal
 

@@ -1,5 +1,5 @@
 use Rattle.std.proofs.Common.{◌≡◌, ◌≤◌, Some, take}
-use Rattle.vortex_meaning.specs.Places.{rewritten_list}
+use Rattle.vortex_interface.specs.Places.{rewritten_list}
 use Rattle.vortex_rewriting.specs.Rewriting.{steps_of}
 use Rattle.vortex_rewriting.proofs.places.made_by.Given as goal
 

@@ -1,7 +1,7 @@
 use Rattle.std.proofs.lemmas.Result.{err_from_is_err_and}
 use Rattle.vortex_errors.proofs.Answering.{UnlessMemory-weaker}
-use Rattle.vortex_meaning.specs.Execution.{RefusesColumns}
-use Rattle.vortex_meaning.specs.Running.{RefusesAfter, misfit}
+use Rattle.vortex_interface.specs.Execution.{RefusesColumns}
+use Rattle.vortex_interface.specs.Running.{RefusesAfter, misfit}
 use Rattle.vortex_functions.specs.Words.{type_of}
 use Rattle.vortex_rewriting.specs.Runs.{expression_step}
 use Rattle.vortex_rewriting.proofs.RunAnswers.{runs_to, run_answers}

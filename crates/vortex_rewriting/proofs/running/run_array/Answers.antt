@@ -2,8 +2,8 @@ use Rattle.std.proofs.Common.{◌≡◌, [], subst, sym}
 use Rattle.std.proofs.lemmas.Result.{err_from_is_err_and}
 use Rattle.std.specs.Cow.{cow_value}
 use Rattle.vortex_errors.proofs.Answering.{Answers-weaker, UnlessMemory-weaker}
-use Rattle.vortex_meaning.specs.Eval.{IsFirstFault}
-use Rattle.vortex_meaning.specs.Running.{HasRowsAfter, IsFaultAfter}
+use Rattle.vortex_interface.specs.Eval.{IsFirstFault}
+use Rattle.vortex_interface.specs.Running.{HasRowsAfter, IsFaultAfter}
 use Rattle.vortex_functions.specs.Words.{type_of}
 use Rattle.vortex_functions.specs.Words.{tree_in, rows_in}
 use Rattle.vortex_rewriting.specs.Runs.{array_step}

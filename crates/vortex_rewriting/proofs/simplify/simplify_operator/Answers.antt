@@ -1,6 +1,6 @@
 use Rattle.std.proofs.Common.{◌≡◌, sym, ◌∙◌, arith}
 use Rattle.vortex_types.specs.TypeOf.{type_of}
-use Rattle.vortex_meaning.specs.ComparisonTrees.{operated}
+use Rattle.vortex_interface.specs.ComparisonTrees.{operated}
 use Rattle.vortex_rewriting.proofs.BooleanNodes.{two_operands, is_operated, casts_left, casts_right}
 use Rattle.vortex_rewriting.proofs.Simplified.{simplified_boolean, simplified_comparison}
 use Rattle.vortex_rewriting.proofs.simplify.simplify_operator.Given.{Over}

@@ -1,7 +1,7 @@
 use Rattle.std.proofs.Common.{◌≡◌, map, ap, ◌∙◌, arith}
 use Rattle.std.proofs.lemmas.Grind.{common_steps}
-use Rattle.vortex_meaning.specs.ValidityRules.{all_of}
-use Rattle.vortex_meaning.proofs.JoinedByAnd.{all_of-one_round}
+use Rattle.vortex_interface.specs.ValidityRules.{all_of}
+use Rattle.vortex_interface.proofs.JoinedByAnd.{all_of-one_round}
 use Rattle.vortex_rewriting.specs.Contexts.{tree_by}
 use Rattle.vortex_rewriting.proofs.Unions.{last_truth, fewer_nodes}
 use Rattle.vortex_rewriting.proofs.union.all_of.Goals as goal

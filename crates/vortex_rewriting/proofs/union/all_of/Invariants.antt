@@ -1,5 +1,5 @@
 use Rattle.std.proofs.Common.{◌≡◌, map, vec_len}
-use Rattle.vortex_meaning.specs.ValidityRules.{all_of}
+use Rattle.vortex_interface.specs.ValidityRules.{all_of}
 use Rattle.vortex_rewriting.specs.Contexts.{tree_by}
 use Rattle.vortex_rewriting.specs.Union.{AreTruths}
 use Rattle.vortex_rewriting.proofs.union.all_of.Given as goal

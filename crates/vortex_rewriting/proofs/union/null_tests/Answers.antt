@@ -1,6 +1,6 @@
 use Rattle.std.proofs.Common.{sym, ap, ◌∙◌}
 use Rattle.vortex_types.specs.TypeOf.{type_of}
-use Rattle.vortex_meaning.specs.Trees.{children_of}
+use Rattle.vortex_interface.specs.Trees.{children_of}
 use Rattle.vortex_rewriting.proofs.Unions.{one_more_test, no_more_test}
 use Rattle.vortex_rewriting.proofs.union.null_tests.Goals as goal
 use Rattle.vortex_rewriting.proofs.union.null_tests.Goals.{then-is_nullable+in_ok-tested+in_ok-push}

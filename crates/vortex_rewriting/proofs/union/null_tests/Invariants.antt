@@ -1,6 +1,6 @@
 use Rattle.std.proofs.Common.{◌≡◌, map, take}
-use Rattle.vortex_meaning.specs.Trees.{trees_of, children_of}
-use Rattle.vortex_meaning.specs.ValidityRules.{null_tests}
+use Rattle.vortex_interface.specs.Trees.{trees_of, children_of}
+use Rattle.vortex_interface.specs.ValidityRules.{null_tests}
 use Rattle.vortex_rewriting.specs.Contexts.{tree_by}
 use Rattle.vortex_rewriting.specs.Union.{AreTruths}
 use Rattle.vortex_rewriting.proofs.union.null_tests.Given as goal

@@ -1,6 +1,6 @@
 use Rattle.std.proofs.Common.{◌≡◌, ◌/◌, map, ap, ◌∙◌, arith}
 use Rattle.vortex_errors.proofs.Answering.{AnswersUnlessMemory-weaker}
-use Rattle.vortex_meaning.specs.ValidityRules.{one_round}
+use Rattle.vortex_interface.specs.ValidityRules.{one_round}
 use Rattle.vortex_rewriting.specs.Contexts.{tree_by}
 use Rattle.vortex_rewriting.specs.Union.{pairs_of, joined_last}
 use Rattle.vortex_rewriting.proofs.Unions.{last_truth, even_round, odd_round}

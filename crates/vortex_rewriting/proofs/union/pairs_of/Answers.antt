@@ -3,8 +3,8 @@ use Rattle.std.proofs.lemmas.Result.{err_from_is_err_and}
 use Rattle.vortex_errors.proofs.Answering.{UnlessMemory-weaker}
 use Rattle.vortex_types.specs.LogicalTypes.{bool_type}
 use Rattle.vortex_operators.specs.declared.operators.Operator.TheVariants.{And}
-use Rattle.vortex_meaning.specs.Shipped.{Binary}
-use Rattle.vortex_meaning.specs.Functions.{ours}
+use Rattle.vortex_interface.specs.Shipped.{Binary}
+use Rattle.vortex_interface.specs.Functions.{ours}
 use Rattle.vortex_functions.specs.Binding.{RefusesCall}
 use Rattle.vortex_rewriting.specs.Contexts.{tree_by}
 use Rattle.vortex_rewriting.proofs.NotRefused.{not_refused}

@@ -1,7 +1,7 @@
 use Rattle.std.proofs.Common.{◌≡◌, false, take}
 use Rattle.std.specs.List.{list_any}
 use Rattle.vortex_types.specs.TypeOf.{type_of}
-use Rattle.vortex_meaning.specs.ValidityRules.{is_null_type}
+use Rattle.vortex_interface.specs.ValidityRules.{is_null_type}
 use Rattle.vortex_rewriting.proofs.validity.any_is_null_type.Given as goal
 
 -- none so far

@@ -1,7 +1,7 @@
 use Rattle.std.proofs.Common.{false, ap, ◌∙◌}
 use Rattle.vortex_types.specs.LogicalTypes.{with_nullability}
 use Rattle.vortex_types.specs.TypeOf.{type_of}
-use Rattle.vortex_meaning.specs.Trees.{children_of}
+use Rattle.vortex_interface.specs.Trees.{children_of}
 use Rattle.vortex_rewriting.proofs.DefaultValidities.{one_more_dtype}
 use Rattle.vortex_rewriting.proofs.validity.child_dtypes.Goals as goal
 

@@ -1,9 +1,9 @@
 use Rattle.std.proofs.Common.{◌≡◌, Some, map, take}
 use Rattle.std.specs.Option.{option_map}
 use Rattle.vortex_types.specs.TypeOf.{type_of}
-use Rattle.vortex_meaning.specs.Trees.{trees_of, children_of}
-use Rattle.vortex_meaning.specs.Eval.{tree_types}
-use Rattle.vortex_meaning.specs.ValidityRules.{without_null}
+use Rattle.vortex_interface.specs.Trees.{trees_of, children_of}
+use Rattle.vortex_interface.specs.Eval.{tree_types}
+use Rattle.vortex_interface.specs.ValidityRules.{without_null}
 use Rattle.vortex_rewriting.proofs.validity.child_dtypes.Given as goal
 
 -- the types so far

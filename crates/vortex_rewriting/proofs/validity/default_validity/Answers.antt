@@ -2,11 +2,11 @@ use Rattle.std.proofs.Common.{◌≡◌, true, false, length, map, Some, ap, sym
 use Rattle.std.specs.List.{list_any}
 use Rattle.std.specs.Option.{option_map}
 use Rattle.vortex_types.specs.TypeOf.{type_of}
-use Rattle.vortex_meaning.specs.Meaning.{fits}
-use Rattle.vortex_meaning.specs.Functions.{function_arity, function_strict, function_type}
-use Rattle.vortex_meaning.specs.Trees.{trees_of, children_of}
-use Rattle.vortex_meaning.specs.Rules.{may_be_null}
-use Rattle.vortex_meaning.specs.ValidityRules.{is_null_type}
+use Rattle.vortex_interface.specs.Meaning.{fits}
+use Rattle.vortex_interface.specs.Functions.{function_arity, function_strict, function_type}
+use Rattle.vortex_interface.specs.Trees.{trees_of, children_of}
+use Rattle.vortex_interface.specs.Rules.{may_be_null}
+use Rattle.vortex_interface.specs.ValidityRules.{is_null_type}
 use Rattle.vortex_functions.specs.FunctionOf.{function_of}
 use Rattle.vortex_rewriting.specs.Contexts.{with_tree}
 use Rattle.vortex_rewriting.proofs.DefaultValidities.{holds_where, types_fit, over_null, over_solid}

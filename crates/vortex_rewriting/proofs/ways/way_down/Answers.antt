@@ -1,6 +1,6 @@
 use Rattle.std.proofs.Common.{rules, ◌≡◌, ◌∷◌, ◌∙◌, ℕ, map, subst, sym}
 use Rattle.std.proofs.lemmas.List.Elements.{All-push, All-same}
-use Rattle.vortex_meaning.specs.Trees.{Tree}
+use Rattle.vortex_interface.specs.Trees.{Tree}
 use Rattle.vortex_rewriting.specs.Ways.{IsWay, LeadsOn}
 use Rattle.vortex_rewriting.specs.declared.ways.Parent.{Parent}
 use Rattle.vortex_rewriting.proofs.DownAndUp.{popped, way_push, way_goes_on}

@@ -1,8 +1,8 @@
 use Rattle.std.proofs.Common.{◌≡◌, ℕ, ap, sym, ◌∙◌, map, Some}
 use Rattle.std.proofs.lemmas.List.Elements.{All-pop}
 use Rattle.std.proofs.lemmas.Option.{slice_get_within}
-use Rattle.vortex_meaning.specs.Trees.{Tree, children_of}
-use Rattle.vortex_meaning.specs.Eval.{tree_type}
+use Rattle.vortex_interface.specs.Trees.{Tree, children_of}
+use Rattle.vortex_interface.specs.Eval.{tree_type}
 use Rattle.vortex_rewriting.specs.Ways.{with_parents}
 use Rattle.vortex_rewriting.specs.declared.ways.Parent.{Parent}
 use Rattle.vortex_rewriting.proofs.DownAndUp.{popped, way_above, with_last}

@@ -1,5 +1,5 @@
 use Rattle.vortex_types.specs.TypeOf.{type_of}
-use Rattle.vortex_meaning.specs.ReduceRules.{reduce}
+use Rattle.vortex_interface.specs.ReduceRules.{reduce}
 use Rattle.vortex_rewriting.proofs.Made.{is_made}
 use Rattle.caller_functions.specs.First.{first_meaning, first_rules}
 use Rattle.caller_functions.proofs.Firsts.{has_first, first_reduced}

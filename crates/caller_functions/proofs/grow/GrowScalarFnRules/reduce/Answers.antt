@@ -1,8 +1,8 @@
 use Rattle.std.proofs.Common.{ap, ◌∙◌}
 use Rattle.vortex_types.specs.TypeOf.{type_of}
 use Rattle.vortex_types.specs.LogicalTypes.{bool_type}
-use Rattle.vortex_meaning.specs.Trees.{call, tree, no_trees}
-use Rattle.vortex_meaning.specs.Eval.{tree_type}
+use Rattle.vortex_interface.specs.Trees.{call, tree, no_trees}
+use Rattle.vortex_interface.specs.Eval.{tree_type}
 use Rattle.vortex_functions.specs.FunctionOf.{function_of}
 use Rattle.caller_functions.specs.Grow.{grow_meaning}
 use Rattle.caller_functions.proofs.Grown.{some_is, has_input, growing, not_typed, grow_typed}

@@ -1,4 +1,4 @@
-use Rattle.vortex_meaning.specs.Shipped.NotFunction.{not_type}
+use Rattle.vortex_interface.specs.Shipped.NotFunction.{not_type}
 use Rattle.caller_functions.proofs.Firsts.{copy_answers}
 use Rattle.caller_functions.proofs.Grown.{only_input}
 use Rattle.caller_functions.proofs.grow.GrowScalarFnVTable.execute.Goals as goal

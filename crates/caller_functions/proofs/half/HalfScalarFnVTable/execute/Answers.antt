@@ -1,5 +1,5 @@
 use Rattle.std.proofs.Common.{rules, ◌≡◌, true, sym, ap, ◌∙◌, arith, refl}
-use Rattle.vortex_meaning.specs.Outcomes.{custom}
+use Rattle.vortex_interface.specs.Outcomes.{custom}
 use Rattle.vortex_columns.specs.Cells.{cell_value}
 use Rattle.caller_functions.specs.Half.{is_odd}
 use Rattle.caller_functions.proofs.Halving.{OneI32, one_i32, fault_here, halved_answers}

@@ -1,7 +1,7 @@
 use Rattle.std.proofs.Common.{◌<◌, sym, ap, ◌∙◌, arith, refl, Some}
 use Rattle.vortex_types.specs.ScalarView.{ScalarView}
 use Rattle.vortex_types.specs.Values.{truth_of}
-use Rattle.vortex_meaning.specs.Outcomes.{custom}
+use Rattle.vortex_interface.specs.Outcomes.{custom}
 use Rattle.caller_functions.proofs.Faults.{OneBool, one_bool, fault_here, copy_answers}
 use Rattle.caller_functions.proofs.must_be_true.MustBeTrueScalarFnVTable.execute.Goals as goal
 

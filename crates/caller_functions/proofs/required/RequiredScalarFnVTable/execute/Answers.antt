@@ -1,6 +1,6 @@
 use Rattle.std.proofs.Common.{◌≡◌, ◌∷◌, [], arith, refl}
 use Rattle.vortex_columns.specs.ColumnView.{row}
-use Rattle.vortex_meaning.specs.Outcomes.{custom}
+use Rattle.vortex_interface.specs.Outcomes.{custom}
 use Rattle.caller_functions.proofs.Present.{only, fault_here, copy_answers, not_valid}
 use Rattle.caller_functions.proofs.required.RequiredScalarFnVTable.execute.Goals as goal
 

@@ -2,7 +2,7 @@ use Rattle.std.proofs.Common.{subst}
 use Rattle.vortex_errors.specs.Answers.{AnswersUnlessMemory}
 use Rattle.vortex_errors.proofs.Answering.{AnswersUnlessMemory-weaker}
 use Rattle.vortex_columns.specs.ColumnView.{ColumnView}
-use Rattle.vortex_encoded.specs.Encoded.{IsDecoded}
+use Rattle.vortex_arrays.specs.Encoded.{IsDecoded}
 use Rattle.caller_functions.specs.RunLength.{HasRunRows, run_column}
 use Rattle.caller_functions.proofs.RunRows.{runs_decoded}
 use Rattle.caller_functions.proofs.run_length.RunLengthEncodedColumn.decode.Goals as goal

@@ -1,7 +1,7 @@
 use Rattle.std.proofs.Common.{◌≡◌, ◌∙◌, ap, sym, subst, ℕ, ◌≤◌, List, ◌∷◌, ◌++◌}
 use Rattle.std.proofs.Common.{reverse}
 use Rattle.std.proofs.Common.{string_bytes}
-use Rattle.vortex_meaning.specs.Weights.{weight_told}
+use Rattle.vortex_interface.specs.Weights.{weight_told}
 use Rattle.rowfn_scripts.specs.Sessions.{Step, OptimizesTop}
 use Rattle.rowfn_scripts.proofs.SessionSteps.{unsaid, stack_of, popped, same_optimized}
 use Rattle.rowfn_scripts.proofs.SessionSteps.{top_optimized}

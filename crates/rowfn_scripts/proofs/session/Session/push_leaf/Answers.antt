@@ -1,6 +1,6 @@
 use Rattle.std.proofs.Common.{◌∙◌, refl, ap, sym}
 use Rattle.vortex_types.specs.LogicalTypes.{find_field}
-use Rattle.vortex_meaning.specs.Trees.{leaf, place}
+use Rattle.vortex_interface.specs.Trees.{leaf, place}
 use Rattle.vortex_functions.proofs.FoundFields.{field_found}
 use Rattle.rowfn_scripts.proofs.Places.{field_there, no_field}
 use Rattle.rowfn_scripts.proofs.SessionSteps.{unsaid, fields_of, same_pushed}

@@ -1,6 +1,6 @@
 use Rattle.std.proofs.Common.{◌∙◌, ap, sym, subst, List, reverse, Some}
 use Rattle.vortex_columns.specs.ColumnView.{ColumnView}
-use Rattle.vortex_meaning.specs.Running.{ExecutesAfter, RefusesAfter}
+use Rattle.vortex_interface.specs.Running.{ExecutesAfter, RefusesAfter}
 use Rattle.std.specs.Cow.{cow_value}
 use Rattle.vortex_rewriting.specs.Runs.{expression_step}
 use Rattle.rowfn_scripts.specs.Sessions.{RunsAfterTop, column_line}

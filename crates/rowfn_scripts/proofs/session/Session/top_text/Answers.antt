@@ -1,6 +1,6 @@
 use Rattle.std.proofs.Common.{◌∙◌, ap, sym, subst, List, reverse, Some}
 use Rattle.vortex_columns.specs.ColumnView.{ColumnView}
-use Rattle.vortex_meaning.specs.Execution.{Executes, RefusesExecution}
+use Rattle.vortex_interface.specs.Execution.{Executes, RefusesExecution}
 use Rattle.std.specs.Cow.{cow_value}
 use Rattle.rowfn_scripts.specs.Sessions.{RunsTop, column_line}
 use Rattle.rowfn_scripts.proofs.SessionSteps.{columns_of, stack_of, last_is_top, top_printed}

@@ -1,7 +1,7 @@
 use Rattle.std.proofs.Common.{◌∙◌, sym, ap, map}
 use Rattle.std.specs.Option.{option_map}
-use Rattle.vortex_meaning.specs.Functions.{ours}
-use Rattle.vortex_meaning.specs.Shipped.{shipped_named, shipped_called}
+use Rattle.vortex_interface.specs.Functions.{ours}
+use Rattle.vortex_interface.specs.Shipped.{shipped_named, shipped_called}
 use Rattle.vortex_functions.specs.FunctionOf.{function_of}
 use Rattle.vortex_functions.proofs.Called.{as_named, with_said}
 use Rattle.vortex_functions.proofs.erased.ScalarFnRef.called.Goals as goal

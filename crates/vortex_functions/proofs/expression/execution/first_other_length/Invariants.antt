@@ -1,7 +1,7 @@
 use Rattle.std.proofs.Common.{◌≡◌, drop, take}
 use Rattle.std.specs.Prelude.{All}
 use Rattle.vortex_columns.specs.ColumnView.{AreTyped}
-use Rattle.vortex_meaning.specs.Execution.{other_length}
+use Rattle.vortex_interface.specs.Execution.{other_length}
 use Rattle.vortex_functions.proofs.expression.execution.first_other_length.Given as goal
 
 -- those that were passed have the row count, and rows of their types

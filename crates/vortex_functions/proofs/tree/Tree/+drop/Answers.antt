@@ -1,5 +1,5 @@
 use Rattle.std.proofs.Common.{rules, refl, ◌<◌, arith, sym, ap, ◌∙◌}
-use Rattle.vortex_meaning.specs.Trees.{node_count}
+use Rattle.vortex_interface.specs.Trees.{node_count}
 use Rattle.vortex_functions.specs.declared.tree.Parts.{Parts}
 use Rattle.vortex_functions.specs.declared.tree.Tree.TheInside.{Inside}
 use Rattle.vortex_functions.specs.Nodes.{tree_view}

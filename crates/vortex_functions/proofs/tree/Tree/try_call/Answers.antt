@@ -2,11 +2,11 @@ use Rattle.std.proofs.Common.{◌≡◌, ◌+◌, ap, sym, subst, ◌∙◌, len
 use Rattle.std.specs.Prelude.{All, Some}
 use Rattle.std.proofs.lemmas.Result.{err_from_is_err_and}
 use Rattle.vortex_types.specs.TypeOf.{type_of}
-use Rattle.vortex_meaning.specs.Meaning.{fits}
-use Rattle.vortex_meaning.specs.Functions.{function_arity}
-use Rattle.vortex_meaning.specs.Trees.{trees_of}
-use Rattle.vortex_meaning.specs.Eval.{tree_types}
-use Rattle.vortex_meaning.specs.Weights.{added, weights}
+use Rattle.vortex_interface.specs.Meaning.{fits}
+use Rattle.vortex_interface.specs.Functions.{function_arity}
+use Rattle.vortex_interface.specs.Trees.{trees_of}
+use Rattle.vortex_interface.specs.Eval.{tree_types}
+use Rattle.vortex_interface.specs.Weights.{added, weights}
 use Rattle.vortex_functions.specs.FunctionOf.{function_of}
 use Rattle.vortex_functions.proofs.CallWeights.{told, call_is_weighed}
 use Rattle.vortex_functions.proofs.TreeCalls.{dtypes_fit, is_typed, is_call, refused}

@@ -1,6 +1,6 @@
 use Rattle.std.proofs.Common.{sym, ap, ◌∙◌}
-use Rattle.vortex_meaning.specs.Weights.{weight_told}
-use Rattle.vortex_meaning.proofs.Weighed.{weight_bound}
+use Rattle.vortex_interface.specs.Weights.{weight_told}
+use Rattle.vortex_interface.proofs.Weighed.{weight_bound}
 use Rattle.vortex_functions.proofs.Counts.{opened}
 use Rattle.vortex_functions.proofs.Leaves.{weighs_one}
 use Rattle.vortex_functions.proofs.tree.Tree.weight.Goals as goal

@@ -1,6 +1,6 @@
 use Rattle.std.proofs.Common.{sym, ap, ◌∙◌}
 use Rattle.vortex_types.specs.TypeOf.{type_of}
-use Rattle.vortex_meaning.specs.Eval.{tree_type}
+use Rattle.vortex_interface.specs.Eval.{tree_type}
 use Rattle.vortex_rewriting.specs.NodeTrees.{expression_seen}
 use Rattle.vortex_rewriting.proofs.Kept.{reduced_kept}
 use Rattle.vortex_rewriting.proofs.reduce.ScalarFnRefReduceExpression.reduce_expression.Goals as goal

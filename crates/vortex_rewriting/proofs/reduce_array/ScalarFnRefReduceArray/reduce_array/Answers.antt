@@ -1,6 +1,6 @@
 use Rattle.std.proofs.Common.{sym, ap, subst, ◌∙◌}
 use Rattle.vortex_types.specs.TypeOf.{type_of}
-use Rattle.vortex_meaning.specs.Eval.{tree_type}
+use Rattle.vortex_interface.specs.Eval.{tree_type}
 use Rattle.vortex_functions.specs.Arrays.{tree_in, IsTyped}
 use Rattle.vortex_rewriting.specs.NodeTrees.{array_of, array_seen}
 use Rattle.vortex_rewriting.proofs.ValuesKept.{values_kept}

@@ -1,7 +1,7 @@
 use Rattle.std.proofs.Common.{◌≡◌, ℕ, ◌<◌, ◌↔◌, Bool, true, false, None, refl, subst, arith}
 use Rattle.std.specs.Prelude.{IsTrue}
 use Rattle.vortex_types.specs.TypeOf.{type_of}
-use Rattle.vortex_meaning.specs.Driver.{step, Runs}
+use Rattle.vortex_interface.specs.Driver.{step, Runs}
 use Rattle.vortex_rewriting.proofs.Optimizing.{rule_sound, rule_lightens, run_rewrites, run_lighter, run_fewer}
 use Rattle.vortex_rewriting.proofs.rewrite.TreeRewrite.optimize_recursive.Goals as goal
 

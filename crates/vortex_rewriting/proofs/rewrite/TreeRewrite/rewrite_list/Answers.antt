@@ -1,6 +1,6 @@
 use Rattle.vortex_types.specs.TypeOf.{type_of}
-use Rattle.vortex_meaning.proofs.Driving.{rewritten_list_sound}
-use Rattle.vortex_meaning.proofs.Lightening.{rewritten_list_lighter, rewritten_list_bound}
+use Rattle.vortex_interface.proofs.Driving.{rewritten_list_sound}
+use Rattle.vortex_interface.proofs.Lightening.{rewritten_list_lighter, rewritten_list_bound}
 use Rattle.vortex_rewriting.specs.Rewriting.{steps_of}
 use Rattle.vortex_rewriting.proofs.rewrite.TreeRewrite.rewrite_list.Goals as goal
 

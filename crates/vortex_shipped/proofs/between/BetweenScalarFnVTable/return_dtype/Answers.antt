@@ -4,7 +4,7 @@ use Rattle.vortex_types.specs.LogicalTypes.{bool_type}
 use Rattle.vortex_types.specs.TypeOf.{type_of, allows_null}
 use Rattle.vortex_types.specs.declared.dtype.DType.{DType}
 use Rattle.vortex_types.specs.declared.dtype.DType.{Bool, the_lemmas}
-use Rattle.vortex_meaning.specs.Shipped.BetweenFunction.{bounded_type}
+use Rattle.vortex_interface.specs.Shipped.BetweenFunction.{bounded_type}
 use Rattle.vortex_shipped.proofs.BetweenCalls.{three_items, bounded_is}
 use Rattle.vortex_shipped.proofs.between.BetweenScalarFnVTable.return_dtype.Goals as goal
 

@@ -2,7 +2,7 @@ use Rattle.std.proofs.Common.{◌≡◌, length, arith}
 use Rattle.std.specs.Prelude.{⊤, []}
 use Rattle.std.proofs.lemmas.Result.{err_from_is_err_and}
 use Rattle.vortex_errors.specs.Answers.{UnlessMemory}
-use Rattle.vortex_meaning.specs.Eval.{IsFirstFault}
+use Rattle.vortex_interface.specs.Eval.{IsFirstFault}
 use Rattle.vortex_functions.specs.Arrays.{children_in, rows_in, tree_in}
 use Rattle.vortex_functions.specs.ArrayExecuting.{HasArrayRows}
 use Rattle.vortex_functions.proofs.Chains.{chain_refuses, descended, descended_fewer, risen}

@@ -3,7 +3,7 @@ use Rattle.std.specs.Prelude.{[]}
 use Rattle.std.proofs.lemmas.Result.{err_from_is_err_and}
 use Rattle.vortex_errors.specs.Answers.{UnlessMemory}
 use Rattle.vortex_types.specs.TypeOf.{type_of}
-use Rattle.vortex_meaning.specs.Eval.{tree_type, HasTreeRows, IsFirstFault}
+use Rattle.vortex_interface.specs.Eval.{tree_type, HasTreeRows, IsFirstFault}
 use Rattle.vortex_functions.specs.FunctionOf.{function_of}
 use Rattle.vortex_functions.specs.Arrays.{tree_in, rows_in}
 use Rattle.vortex_functions.specs.ArrayLeaves.{leaf_column}

@@ -1,5 +1,5 @@
 use Rattle.std.proofs.Common.{sym}
-use Rattle.vortex_meaning.specs.Execution.{uneven}
+use Rattle.vortex_interface.specs.Execution.{uneven}
 use Rattle.vortex_functions.proofs.expression.execution.BoundExpression+C.check_columns.Goals as goal
 
 pub returns-in-Some-clause-answer : goal.returns-in-Some-clause-answer

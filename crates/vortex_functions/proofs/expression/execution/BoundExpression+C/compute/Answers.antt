@@ -1,10 +1,10 @@
 use Rattle.std.proofs.Common.{◌≡◌, length, arith}
 use Rattle.std.proofs.lemmas.Result.{err_from_is_err_and}
 use Rattle.vortex_errors.specs.Answers.{UnlessMemory}
-use Rattle.vortex_meaning.specs.Eval.{IsFirstFault}
+use Rattle.vortex_interface.specs.Eval.{IsFirstFault}
 use Rattle.vortex_functions.specs.Executing.{Fits, HasRows}
 use Rattle.vortex_functions.proofs.Upward.{fit_downward, fault_upward}
-use Rattle.vortex_meaning.specs.Trees.{children_of, node_count}
+use Rattle.vortex_interface.specs.Trees.{children_of, node_count}
 use Rattle.vortex_functions.proofs.Counts.{node_and_children}
 use Rattle.vortex_functions.proofs.Chains.{chain_refuses, descended, descended_fewer, risen}
 use Rattle.vortex_functions.proofs.Chains.{risen_fewer}

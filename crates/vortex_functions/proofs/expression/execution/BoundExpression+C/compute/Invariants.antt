@@ -1,6 +1,6 @@
 use Rattle.std.proofs.Common.{◌+◌, length}
 use Rattle.vortex_functions.specs.Executing.{Fits, HasRows}
-use Rattle.vortex_meaning.specs.Trees.{children_of, node_count}
+use Rattle.vortex_interface.specs.Trees.{children_of, node_count}
 use Rattle.vortex_functions.proofs.Chains.{Walking, steps_from, steps_above}
 use Rattle.vortex_functions.proofs.expression.execution.BoundExpression+C.compute.Given as goal
 

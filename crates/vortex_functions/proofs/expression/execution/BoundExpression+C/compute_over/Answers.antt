@@ -2,7 +2,7 @@ use Rattle.std.proofs.Common.{◌≡◌, sym, ap, ◌∙◌, subst, map, Some}
 use Rattle.std.proofs.lemmas.Result.{err_from_is_err_and}
 use Rattle.vortex_errors.specs.Answers.{UnlessMemory}
 use Rattle.vortex_types.specs.TypeOf.{type_of}
-use Rattle.vortex_meaning.specs.Eval.{tree_type, HasTreeRows, IsFirstFault}
+use Rattle.vortex_interface.specs.Eval.{tree_type, HasTreeRows, IsFirstFault}
 use Rattle.vortex_functions.specs.FunctionOf.{function_of}
 use Rattle.vortex_functions.specs.Executing.{Fits, HasRows, AnswersTree}
 use Rattle.vortex_functions.proofs.NodeKinds.{IsExpressionNode, expression_call}

@@ -1,6 +1,6 @@
 use Rattle.std.proofs.lemmas.Result.{err_from_is_err_and}
 use Rattle.vortex_errors.proofs.Answering.{UnlessMemory-weaker}
-use Rattle.vortex_meaning.specs.Execution.{RefusesColumns, RefusesExecution, misfit}
+use Rattle.vortex_interface.specs.Execution.{RefusesColumns, RefusesExecution, misfit}
 use Rattle.vortex_functions.proofs.expression.execution.BoundExpression+C.execute.Goals as goal
 
 -- columns that do not serve

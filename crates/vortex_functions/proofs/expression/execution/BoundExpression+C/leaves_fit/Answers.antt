@@ -1,5 +1,5 @@
 use Rattle.std.proofs.Common.{sym, ap, ◌∙◌, subst, IsTrue, ◌↔◌}
-use Rattle.vortex_meaning.specs.Execution.{LeavesFit}
+use Rattle.vortex_interface.specs.Execution.{LeavesFit}
 use Rattle.vortex_functions.proofs.NodeKinds.{expression_node, leaf_tree_fits}
 use Rattle.vortex_functions.proofs.expression.execution.BoundExpression+C.leaves_fit.Goals as goal
 

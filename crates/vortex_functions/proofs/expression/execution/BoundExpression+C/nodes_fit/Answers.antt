@@ -1,5 +1,5 @@
 use Rattle.std.proofs.Common.{arith, true≢false, sym, refl}
-use Rattle.vortex_meaning.specs.Trees.{children_of}
+use Rattle.vortex_interface.specs.Trees.{children_of}
 use Rattle.vortex_functions.specs.Executing.{NodeFits}
 use Rattle.vortex_functions.proofs.Opened.{refuted}
 use Rattle.vortex_functions.proofs.Listed.{now_of, relisted, nothing_listed, all_listed, none_left}

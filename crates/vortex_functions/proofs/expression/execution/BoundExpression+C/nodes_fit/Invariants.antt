@@ -1,6 +1,6 @@
 use Rattle.std.proofs.Common.{◌≡◌, ◌↔◌, ◌+◌, ◌++◌, take}
-use Rattle.vortex_meaning.specs.Trees.{trees_of, node_count, nodes_count}
-use Rattle.vortex_meaning.specs.Execution.{LeavesFit}
+use Rattle.vortex_interface.specs.Trees.{trees_of, node_count, nodes_count}
+use Rattle.vortex_interface.specs.Execution.{LeavesFit}
 use Rattle.vortex_functions.proofs.Listed.{now_of, AllFit}
 use Rattle.vortex_functions.proofs.expression.execution.BoundExpression+C.nodes_fit.Given as goal
 

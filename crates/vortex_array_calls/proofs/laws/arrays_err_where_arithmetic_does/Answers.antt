@@ -1,8 +1,0 @@
-use Rattle.std.proofs.Common.{[]}
-use Rattle.vortex_meaning.proofs.ArithmeticErrs.{faults_exactly}
-use Rattle.vortex_functions.specs.Arrays.{tree_in, rows_in}
-use Rattle.vortex_array_calls.proofs.laws.arrays_err_where_arithmetic_does.Goals as goal
-
-pub returns : goal.returns
-returns g c = λ a own.
-    faults_exactly g.C.ScalarFnVTable.meaning [] (rows_in a) (tree_in a) own

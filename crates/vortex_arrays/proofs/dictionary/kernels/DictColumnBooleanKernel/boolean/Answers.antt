@@ -1,0 +1,23 @@
+use Rattle.std.proofs.Common.{◌≡◌, true, sym, subst, ◌∙◌}
+use Rattle.vortex_columns.specs.ColumnView.{ColumnView}
+use Rattle.vortex_columns.specs.Taken.{IsTaken}
+use Rattle.vortex_operators.specs.Operators.{is_boolean}
+use Rattle.vortex_arrays.proofs.CodedRows.{is_constant, both_true, boolean_of_values}
+use Rattle.vortex_arrays.proofs.dictionary.kernels.DictColumnBooleanKernel.boolean.Goals as goal
+
+pub returns-in_ok-take-in-Some : goal.returns-in_ok-take-in-Some
+returns-in_ok-take-in-Some c =
+    let d = c.args.self.now in
+    let s = c.in-Some.scalar.now in
+    let answer = c.in_ok-take-in-Some in
+    let told = c.in_ok-values-in-Some.values.value in
+    let is : is_boolean c.args.operator ≡ true = sym c.is_boolean.ensures ∙ cc in
+    let taken =
+    subst (λ (x : ColumnView). IsTaken x c.codes.result.now answer.field-0) c.deref.ensures
+    answer.ensures in (
+      both_true _ _ is (is_constant s c.args.rhs.now c.in-Some.ensures),
+      boolean_of_values c.args.operator d c.values.result.now c.args.rhs.now told
+          answer.field-0 s c.codes.result.now c.values.ensures c.codes.ensures.codes
+          c.codes.ensures.below c.in-Some.ensures c.requires.lengths is (c.requires.bools is)
+          c.in_ok-values-in-Some.ensures taken,
+    )

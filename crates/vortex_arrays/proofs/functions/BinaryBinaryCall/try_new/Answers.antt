@@ -1,0 +1,12 @@
+use Rattle.std.proofs.Common.{[], ◌∷◌, refl}
+use Rattle.vortex_interface.specs.Shipped.{Binary}
+use Rattle.vortex_interface.specs.Functions.{ours}
+use Rattle.vortex_functions.specs.Arrays.{rows_in}
+use Rattle.vortex_arrays.proofs.Calls.{on_operands}
+use Rattle.vortex_arrays.proofs.functions.BinaryBinaryCall.try_new.Goals as goal
+
+pub returns : goal.returns
+returns g c =
+    on_operands g.C.ScalarFnVTable.meaning (ours (Binary c.args.operator))
+    (c.args.lhs ∷ c.args.rhs ∷ [])
+    (rows_in c.args.lhs) refl c.call_of_two.result c.call_of_two.ensures

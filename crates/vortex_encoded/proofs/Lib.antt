@@ -1,9 +1,0 @@
-pub mod Answering
-pub mod BooleanSides
-pub mod CallInputs
-pub mod CodedRows
-pub mod ComparedSides
-pub mod KeptCodes
-pub mod Marks
-pub mod PushedDown
-pub mod PushedRows

@@ -1,9 +1,0 @@
-use Rattle.std.proofs.Common.{◌≡◌, ◌++◌, map, take}
-use Rattle.std.specs.Cow.{cow_value}
-use Rattle.vortex_encoded.specs.PushDown.{constants}
-use Rattle.vortex_encoded.proofs.dictionary.inputs.push_constants.Given as goal
-
-abbrev pub invariant-loop-scalar : goal.invariant-loop-scalar
-invariant-loop-scalar l =
-    map cow_value l.inputs.items
-    ≡ map cow_value l.initial.inputs.items ++ constants l.rows (take l.scalar-index l.scalars)

@@ -1,6 +1,0 @@
-use Rattle.vortex_encoded.proofs.PushedRows.{errs_where_rows_fault}
-use Rattle.vortex_encoded.proofs.laws.errs_where_rows_fault.Goals as goal
-
-pub returns : goal.returns
-returns g c =
-    errs_where_rows_fault g.C.ScalarFnVTable.meaning g.met.C.ScalarFnVTable.lawful

@@ -1,6 +1,0 @@
-pub mod Dictionary
-pub mod Encoded
-pub mod Kept
-pub mod Laws
-pub mod PushDown
-pub mod Words

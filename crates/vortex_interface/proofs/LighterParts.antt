@@ -1,0 +1,75 @@
+-- What rules for shipped functions make of a call weighs less than it: a constant, or an operand,
+-- cast where need be.
+use Rattle.std.proofs.Common.{◌+◌, ◌<◌, ◌≤◌, Bool, true, false, arith}
+use Rattle.std.specs.Prelude.{if◌then◌else◌}
+use Rattle.vortex_operators.specs.declared.operators.Operator.{Operator}
+use Rattle.vortex_interface.specs.Meaning.{Meaning}
+use Rattle.vortex_interface.specs.Shipped.{Binary}
+use Rattle.vortex_interface.specs.Functions.{Function, ours}
+use Rattle.vortex_interface.specs.Trees.{Tree, call, Trees, tree}
+use Rattle.vortex_interface.specs.ComparisonTrees.{operated}
+use Rattle.vortex_interface.specs.Rules.{cast_of, is_nullable_tree, widened}
+use Rattle.vortex_interface.specs.Weights.{weight, OnlyShipped}
+use Rattle.vortex_interface.proofs.Weighed.{added_positive, weight_positive}
+
+module _ {V O : Type 0} (m : Meaning V O) where
+  -- of shipped functions alone, and lighter than the node
+  abbrev pub IsLess : Tree V O → Tree V O → Type 0
+  IsLess node u = OnlyShipped u × (weight m u < weight m node)
+
+  -- a call weighs more than a child
+  pub child_less : (f : Function V O) (x : Tree V O) (ts : Trees V O) → OnlyShipped x
+      → IsLess (call f (tree x ts)) x
+  child_less f x ts s =
+      let more = added_positive f (is_nullable_tree m (call f (tree x ts))) in
+      (s, omega (arith, more))
+
+  -- and more than a constant
+  pub above_one : (f : Function V O) (x : Tree V O) (ts : Trees V O)
+      → 1 < weight m (call f (tree x ts))
+  above_one f x ts =
+      let more = added_positive f (is_nullable_tree m (call f (tree x ts))) in
+      let some = weight_positive m x in
+      omega (arith, more, some)
+
+  -- a cast adds one at most
+  widened_weight : (n : Bool) (x : Tree V O) → weight m (widened m n x) ≤ 1 + weight m x
+  widened_weight false x = omega arith
+  widened_weight true x = by (is_nullable_tree m x)
+    where
+      by : (b : Bool) → weight m (if b then x else cast_of x) ≤ 1 + weight m x
+      by true = omega arith
+      by false = omega arith
+
+  widened_shipped : (n : Bool) (x : Tree V O) → OnlyShipped x → OnlyShipped (widened m n x)
+  widened_shipped false x s = s
+  widened_shipped true x s = by (is_nullable_tree m x)
+    where
+      by : (b : Bool) → OnlyShipped (if b then x else cast_of x)
+      by true = s
+      by false = (tt, (s, tt))
+
+  -- a call of two weighs more than both
+  operated_weight : (op : Operator) (x y : Tree V O)
+      → weight m x + weight m y < weight m (operated op x y)
+  operated_weight op x y =
+      let f : Function V O = ours (Binary op) in
+      let more = added_positive f (is_nullable_tree m (operated op x y)) in
+      omega (arith, more)
+
+  -- and so more than one, though that be cast
+  pub left_less : (op : Operator) (n : Bool) (x y : Tree V O) → OnlyShipped x
+      → IsLess (operated op x y) (widened m n x)
+  left_less op n x y s =
+      let both = operated_weight op x y in
+      let other = weight_positive m y in
+      let wide = widened_weight n x in
+      (widened_shipped n x s, omega (arith, both, other, wide))
+
+  pub right_less : (op : Operator) (n : Bool) (x y : Tree V O) → OnlyShipped y
+      → IsLess (operated op x y) (widened m n y)
+  right_less op n x y s =
+      let both = operated_weight op x y in
+      let other = weight_positive m x in
+      let wide = widened_weight n y in
+      (widened_shipped n y s, omega (arith, both, other, wide))

@@ -1,0 +1,327 @@
+-- The operators of two operands: Kleene's And and Or, the comparisons by the order of values, and
+-- exact arithmetic.
+use Rattle.std.specs.Prelude.{◌≡◌, ◌⊎◌, ℕ, zero, suc, List, [], ◌∷◌, Option, Some, None, Bool, true}
+use Rattle.std.specs.Prelude.{◌++◌, false, ◌||◌, not, codes, Any, if◌then◌else◌, refl}
+use Rattle.std.proofs.Common.{sym, ap, ◌∙◌, subst, cond, inl, inr}
+use Rattle.vortex_errors.specs.declared.error.MismatchPlace.{MismatchPlace}
+use Rattle.vortex_errors.specs.declared.error.MismatchPlace.TheVariants as place
+use Rattle.vortex_errors.specs.declared.error.NumericOperator.{NumericOperator}
+use Rattle.vortex_errors.specs.declared.error.NumericOperator.TheVariants as numeric
+use Rattle.vortex_types.specs.LogicalTypes.{LogicalType, bool_type, is_nullable}
+use Rattle.vortex_types.specs.Order.{compare_values}
+use Rattle.vortex_types.specs.TypeEquality.{alike_types}
+use Rattle.vortex_types.specs.Values.{Value, null, truth, truth_of, is_null}
+use Rattle.vortex_types.specs.Typing.{HasType}
+use Rattle.vortex_types.proofs.NullValues.{not_null}
+use Rattle.vortex_operators.specs.declared.operators.Operator.{Operator}
+use Rattle.vortex_operators.specs.declared.operators.Operator.TheVariants.{Eq, NotEq, Gt, Gte, Lt}
+use Rattle.vortex_operators.specs.declared.operators.Operator.TheVariants.{Lte, And, Or, Add, Sub}
+use Rattle.vortex_operators.specs.declared.operators.Operator.TheVariants.{Mul, Div}
+use Rattle.vortex_operators.specs.declared.operators.CompareOperator.{CompareOperator}
+use Rattle.vortex_operators.specs.declared.operators.CompareOperator.TheVariants as compare
+use Rattle.vortex_operators.specs.Operators.{is_arithmetic, is_boolean, text_of, operator_named}
+use Rattle.vortex_operators.specs.Kleene.{kleene}
+use Rattle.vortex_operators.specs.OperatorValues.{boolean_value, comparison_value, comparison_type}
+use Rattle.vortex_operators.specs.OperatorValues.{holds}
+pub use Rattle.vortex_operators.specs.OperatorValues.{value_by, operator_value}
+use Rattle.vortex_operators.proofs.KleeneNulls.{allowed, kleene_allowed}
+use Rattle.vortex_operators.specs.Arithmetic.{numeric_operator_of}
+use Rattle.vortex_interface.specs.Outcomes.{Outcome, gives, faults, Fault, GivesValue, GivesType}
+use Rattle.vortex_interface.specs.Outcomes.{GivesNull}
+use Rattle.vortex_interface.specs.Meaning.{HaveTypes, AreAlike}
+use Rattle.vortex_interface.specs.Arithmetic.{arithmetic_type, arithmetic_means, arithmetic_typed}
+use Rattle.vortex_interface.specs.Arithmetic.{arithmetic_alike, arithmetic_nullable}
+use Rattle.vortex_interface.specs.Arithmetic.{arithmetic_null, arithmetic_fault}
+use Rattle.vortex_interface.specs.Arguments.{of_two, either_of, or_either, has_bool}
+use Rattle.vortex_interface.specs.RowFunction.{RowFunction, LawfulRow}
+
+abbrev pub binary_id : List ℕ
+binary_id = codes "vortex.binary"
+
+abbrev pub operand_name : ℕ → List ℕ
+operand_name zero = codes "lhs"
+operand_name (suc i) = codes "rhs"
+
+-- two Bool, nullable if either is
+abbrev pub both_bool : List LogicalType → Option LogicalType
+both_bool (bool_type n ∷ bool_type m ∷ []) = Some (bool_type (n || m))
+both_bool ts = None
+
+-- two types that agree apart from nullability: Bool, nullable if either is
+abbrev pub compared_type : List LogicalType → Option LogicalType
+compared_type (t ∷ u ∷ []) = if alike_types t u then Some (comparison_type t u) else None
+compared_type ts = None
+
+abbrev pub operator_type : Operator → List LogicalType → Option LogicalType
+operator_type And ts = both_bool ts
+operator_type Or ts = both_bool ts
+operator_type Add ts = arithmetic_type ts
+operator_type Sub ts = arithmetic_type ts
+operator_type Mul ts = arithmetic_type ts
+operator_type Div ts = arithmetic_type ts
+operator_type o ts = compared_type ts
+
+-- where the types of an operator are refused
+abbrev pub operator_place : Operator → MismatchPlace
+operator_place And = place.Boolean
+operator_place Or = place.Boolean
+operator_place Add = place.Arithmetic
+operator_place Sub = place.Arithmetic
+operator_place Mul = place.Arithmetic
+operator_place Div = place.Arithmetic
+operator_place o = place.Compare
+
+-- the operator between its two operands
+abbrev pub operator_before : List ℕ → ℕ → List ℕ
+operator_before operator zero = codes "("
+operator_before operator (suc zero) = codes " " ++ operator ++ codes " "
+operator_before operator (suc (suc k)) = codes ")"
+
+-- And and Or weigh more where they are nullable, since rules turn them into more than one call
+abbrev pub operator_added : Operator → Bool → ℕ
+operator_added And nullable = if nullable then 3 else 1
+operator_added Or nullable = if nullable then 3 else 1
+operator_added o nullable = 5
+
+-- arithmetic by the type of its operands, the others by their values alone
+abbrev pub means_by : Option NumericOperator → Operator → List LogicalType → List Value → Outcome
+means_by None op ts vs = gives (of_two (operator_value op) vs)
+means_by (Some o) op ts vs = arithmetic_means o ts vs
+
+abbrev pub operator_means : Operator → List LogicalType → List Value → Outcome
+operator_means op = means_by (numeric_operator_of op) op
+
+abbrev pub operator_function : Operator → RowFunction
+operator_function o = record {
+  id = binary_id;
+  count = 2;
+  child_name = operand_name;
+  return_type = operator_type o;
+  place = λ ts. Some (operator_place o);
+  means = operator_means o;
+  strict = not (is_boolean o);
+  infallible = not (is_arithmetic o);
+  before = operator_before (text_of o);
+  printed = λ k. k;
+  added = operator_added o;
+}
+
+both_typed : (op : Operator) → is_boolean op ≡ true
+    → (ts : List LogicalType) (t : LogicalType) (vs : List Value)
+    → both_bool ts ≡ Some t → HaveTypes ts vs → HasType t (of_two (boolean_value op) vs)
+both_typed op b (bool_type n ∷ bool_type m ∷ []) t (v ∷ w ∷ []) e h =
+    let is : bool_type (n || m) ≡ t = cc in
+    let a = truth_of v in
+    let c = truth_of w in
+    let here = kleene_allowed op n m a c b (allowed n v h.0) (allowed m w h.1.0) in
+    let bool = has_bool (n || m) (kleene op a c) here in
+    subst (λ (u : LogicalType). HasType u (boolean_value op v w)) is bool
+both_typed op b (bool_type n ∷ bool_type m ∷ []) t [] e h = absurd h
+both_typed op b (bool_type n ∷ bool_type m ∷ []) t (v ∷ []) e h = absurd h.1
+both_typed op b (bool_type n ∷ bool_type m ∷ []) t (v ∷ w ∷ x ∷ vs) e h = absurd h.1.1
+both_typed op b ts t vs e h = cc
+
+typed_unless_null : (n p b : Bool) → (n ≡ false → p ≡ false)
+    → HasType (bool_type n) (cond p null (truth b))
+typed_unless_null n false b h = tt
+typed_unless_null true true b h = refl
+typed_unless_null false true b h = let none : true ≡ false = h refl in cc
+
+neither_null : (t u : LogicalType) (v w : Value) → HasType t v → HasType u w
+    → (is_nullable t || is_nullable u) ≡ false → (is_null v || is_null w) ≡ false
+neither_null t u v w h k e = by (is_nullable t) (is_nullable u) refl refl e
+  where
+    by : (n m : Bool) → is_nullable t ≡ n → is_nullable u ≡ m
+        → (n || m) ≡ false → (is_null v || is_null w) ≡ false
+    by true m p q f = cc
+    by false true p q f = cc
+    by false false p q f = λ i. not_null t v h p i || not_null u w k q i
+
+-- the comparison of two values is a value of Bool, nullable if either type is
+pub comparison_has_bool : (op : CompareOperator) (t u : LogicalType) (v w : Value)
+    → HasType t v → HasType u w → HasType (comparison_type t u) (comparison_value op v w)
+comparison_has_bool op t u v w h k =
+    typed_unless_null (is_nullable t || is_nullable u) (is_null v || is_null w)
+    (holds op (compare_values v w)) (neither_null t u v w h k)
+
+comparison_typed : (op : CompareOperator) (ts : List LogicalType) (t : LogicalType)
+    (vs : List Value)
+    → compared_type ts ≡ Some t → HaveTypes ts vs → HasType t (of_two (comparison_value op) vs)
+comparison_typed op (t ∷ u ∷ []) a (v ∷ w ∷ []) e h = by (alike_types t u) e
+  where
+    by : (b : Bool) → cond b (Some (comparison_type t u)) None ≡ Some a
+        → HasType a (comparison_value op v w)
+    by true g =
+        let is : comparison_type t u ≡ a = cc in
+        let bool = comparison_has_bool op t u v w h.0 h.1.0 in
+        subst (λ (x : LogicalType). HasType x (comparison_value op v w)) is bool
+    by false g = cc
+comparison_typed op (t ∷ u ∷ []) a [] e h = absurd h
+comparison_typed op (t ∷ u ∷ []) a (v ∷ []) e h = absurd h.1
+comparison_typed op (t ∷ u ∷ []) a (v ∷ w ∷ x ∷ vs) e h = absurd h.1.1
+comparison_typed op [] a vs e h = cc
+comparison_typed op (t ∷ []) a vs e h = cc
+comparison_typed op (t ∷ u ∷ x ∷ ts) a vs e h = cc
+
+operator_typed : (op : Operator) (ts : List LogicalType) (t : LogicalType) (vs : List Value)
+    → operator_type op ts ≡ Some t → HaveTypes ts vs → GivesType t (operator_means op ts vs)
+operator_typed And ts t vs e h = both_typed And refl ts t vs e h
+operator_typed Or ts t vs e h = both_typed Or refl ts t vs e h
+operator_typed Eq ts t vs e h = comparison_typed compare.Eq ts t vs e h
+operator_typed NotEq ts t vs e h = comparison_typed compare.NotEq ts t vs e h
+operator_typed Gt ts t vs e h = comparison_typed compare.Gt ts t vs e h
+operator_typed Gte ts t vs e h = comparison_typed compare.Gte ts t vs e h
+operator_typed Lt ts t vs e h = comparison_typed compare.Lt ts t vs e h
+operator_typed Lte ts t vs e h = comparison_typed compare.Lte ts t vs e h
+operator_typed Add ts t vs e h = arithmetic_typed numeric.Add ts t vs e h
+operator_typed Sub ts t vs e h = arithmetic_typed numeric.Sub ts t vs e h
+operator_typed Mul ts t vs e h = arithmetic_typed numeric.Mul ts t vs e h
+operator_typed Div ts t vs e h = arithmetic_typed numeric.Div ts t vs e h
+
+comparison_nullable : (ts : List LogicalType) (t : LogicalType)
+    → compared_type ts ≡ Some t → Any (λ a. is_nullable a ≡ true) ts → is_nullable t ≡ true
+comparison_nullable (t ∷ u ∷ []) a e h = by (alike_types t u) e
+  where
+    by : (b : Bool) → cond b (Some (comparison_type t u)) None ≡ Some a → is_nullable a ≡ true
+    by true g =
+        let is : comparison_type t u ≡ a = cc in
+        let one = either_of (λ x. is_nullable x ≡ true) t u h in
+        ap is_nullable (sym is) ∙ or_either (is_nullable t) (is_nullable u) one
+    by false g = cc
+comparison_nullable [] a e h = cc
+comparison_nullable (t ∷ []) a e h = cc
+comparison_nullable (t ∷ u ∷ x ∷ ts) a e h = cc
+
+comparison_null : (op : CompareOperator) (ts : List LogicalType) (t : LogicalType) (vs : List Value)
+    → compared_type ts ≡ Some t → HaveTypes ts vs → Any (λ v. v ≡ null) vs
+    → of_two (comparison_value op) vs ≡ null
+comparison_null op (t ∷ u ∷ []) a (v ∷ w ∷ []) e h n = by (either_of (λ x. x ≡ null) v w n)
+  where
+    by : (v ≡ null) ⊎ (w ≡ null) → comparison_value op v w ≡ null
+    by (inl p) = λ i. comparison_value op (p i) w
+    by (inr q) =
+        let null_here = or_either (is_null v) (is_null w) (inr (ap is_null q)) in
+        ap (λ b. cond b null (truth (holds op (compare_values v w)))) null_here
+comparison_null op (t ∷ u ∷ []) a [] e h n = absurd h
+comparison_null op (t ∷ u ∷ []) a (v ∷ []) e h n = absurd h.1
+comparison_null op (t ∷ u ∷ []) a (v ∷ w ∷ x ∷ vs) e h n = absurd h.1.1
+comparison_null op [] a vs e h n = cc
+comparison_null op (t ∷ []) a vs e h n = cc
+comparison_null op (t ∷ u ∷ x ∷ ts) a vs e h n = cc
+
+operator_nullable : (op : Operator) (ts : List LogicalType) (t : LogicalType)
+    → not (is_boolean op) ≡ true → operator_type op ts ≡ Some t
+    → Any (λ a. is_nullable a ≡ true) ts → is_nullable t ≡ true
+operator_nullable Eq ts t s e a = comparison_nullable ts t e a
+operator_nullable NotEq ts t s e a = comparison_nullable ts t e a
+operator_nullable Gt ts t s e a = comparison_nullable ts t e a
+operator_nullable Gte ts t s e a = comparison_nullable ts t e a
+operator_nullable Lt ts t s e a = comparison_nullable ts t e a
+operator_nullable Lte ts t s e a = comparison_nullable ts t e a
+operator_nullable Add ts t s e a = arithmetic_nullable ts t e a
+operator_nullable Sub ts t s e a = arithmetic_nullable ts t e a
+operator_nullable Mul ts t s e a = arithmetic_nullable ts t e a
+operator_nullable Div ts t s e a = arithmetic_nullable ts t e a
+operator_nullable And ts t s e a = cc
+operator_nullable Or ts t s e a = cc
+
+operator_null : (op : Operator) (ts : List LogicalType) (t : LogicalType) (vs : List Value)
+    → not (is_boolean op) ≡ true → operator_type op ts ≡ Some t → HaveTypes ts vs
+    → Any (λ v. v ≡ null) vs → GivesNull (operator_means op ts vs)
+operator_null Eq ts t vs s e h a = comparison_null compare.Eq ts t vs e h a
+operator_null NotEq ts t vs s e h a = comparison_null compare.NotEq ts t vs e h a
+operator_null Gt ts t vs s e h a = comparison_null compare.Gt ts t vs e h a
+operator_null Gte ts t vs s e h a = comparison_null compare.Gte ts t vs e h a
+operator_null Lt ts t vs s e h a = comparison_null compare.Lt ts t vs e h a
+operator_null Lte ts t vs s e h a = comparison_null compare.Lte ts t vs e h a
+operator_null Add ts t vs s e h a = arithmetic_null numeric.Add ts vs a
+operator_null Sub ts t vs s e h a = arithmetic_null numeric.Sub ts vs a
+operator_null Mul ts t vs s e h a = arithmetic_null numeric.Mul ts vs a
+operator_null Div ts t vs s e h a = arithmetic_null numeric.Div ts vs a
+operator_null And ts t vs s e h a = cc
+operator_null Or ts t vs s e h a = cc
+
+alike_by : (o : Option NumericOperator) (op : Operator) (ts us : List LogicalType) (vs : List Value)
+    → AreAlike ts us → means_by o op ts vs ≡ means_by o op us vs
+alike_by None op ts us vs same = refl
+alike_by (Some o) op ts us vs same = arithmetic_alike o ts us vs same
+
+fault_by : (o : Option NumericOperator) (op : Operator) (ts us : List LogicalType)
+    (vs ws : List Value)
+    (x y : Fault) → means_by o op ts vs ≡ faults x → means_by o op us ws ≡ faults y → x ≡ y
+fault_by None op ts us vs ws x y e g = cc
+fault_by (Some o) op ts us vs ws x y e g =
+    arithmetic_fault o ts vs x e ∙ sym (arithmetic_fault o us ws y g)
+
+operator_gives : (op : Operator) (ts : List LogicalType) (vs : List Value)
+    → not (is_arithmetic op) ≡ true → GivesValue (operator_means op ts vs)
+operator_gives Add ts vs h = cc
+operator_gives Sub ts vs h = cc
+operator_gives Mul ts vs h = cc
+operator_gives Div ts vs h = cc
+operator_gives Eq ts vs h = tt
+operator_gives NotEq ts vs h = tt
+operator_gives Gt ts vs h = tt
+operator_gives Gte ts vs h = tt
+operator_gives Lt ts vs h = tt
+operator_gives Lte ts vs h = tt
+operator_gives And ts vs h = tt
+operator_gives Or ts vs h = tt
+
+pub operator_lawful : (op : Operator) → LawfulRow (operator_function op)
+operator_lawful op = record {
+  typed = operator_typed op;
+  alike = λ ts us t u vs e g a h k. alike_by (numeric_operator_of op) op ts us vs a;
+  strict_type = λ ts t s e a. operator_nullable op ts t s e a;
+  strict_value = λ ts t vs s e h a. operator_null op ts t vs s e h a;
+  never_faults = λ ts t vs s e h. operator_gives op ts vs s;
+  one_fault = λ ts us vs ws x y e g. fault_by (numeric_operator_of op) op ts us vs ws x y e g;
+}
+
+-- the words of scripts: the operator's text
+abbrev pub operator_called : List (List ℕ) → Option Operator
+operator_called (w ∷ []) = operator_named w
+operator_called ws = None
+
+-- the number of an operator, in the code of trees
+abbrev pub operator_number : Operator → ℕ
+operator_number Eq = 0
+operator_number NotEq = 1
+operator_number Gt = 2
+operator_number Gte = 3
+operator_number Lt = 4
+operator_number Lte = 5
+operator_number And = 6
+operator_number Or = 7
+operator_number Add = 8
+operator_number Sub = 9
+operator_number Mul = 10
+operator_number Div = 11
+
+abbrev pub operator_numbered : ℕ → Operator
+operator_numbered zero = Eq
+operator_numbered (suc zero) = NotEq
+operator_numbered (suc (suc zero)) = Gt
+operator_numbered (suc (suc (suc zero))) = Gte
+operator_numbered (suc (suc (suc (suc zero)))) = Lt
+operator_numbered (suc (suc (suc (suc (suc zero))))) = Lte
+operator_numbered (suc (suc (suc (suc (suc (suc zero)))))) = And
+operator_numbered (suc (suc (suc (suc (suc (suc (suc zero))))))) = Or
+operator_numbered (suc (suc (suc (suc (suc (suc (suc (suc zero)))))))) = Add
+operator_numbered (suc (suc (suc (suc (suc (suc (suc (suc (suc zero))))))))) = Sub
+operator_numbered (suc (suc (suc (suc (suc (suc (suc (suc (suc (suc zero)))))))))) = Mul
+operator_numbered n = Div
+
+pub operator_back : (o : Operator) → operator_numbered (operator_number o) ≡ o
+operator_back Eq = refl
+operator_back NotEq = refl
+operator_back Gt = refl
+operator_back Gte = refl
+operator_back Lt = refl
+operator_back Lte = refl
+operator_back And = refl
+operator_back Or = refl
+operator_back Add = refl
+operator_back Sub = refl
+operator_back Mul = refl
+operator_back Div = refl
