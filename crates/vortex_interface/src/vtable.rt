@@ -151,8 +151,9 @@ pub trait ScalarFnVTable: Sized + Clone + Drop {
     }
 
     /// Appends the text of a call, by the texts of its arguments, whose count fits: for each what
-    /// `write_before` says and then its own. Refuses for memory alone.
-    final fn fmt_sql(
+    /// stands before it, the default or the function's own, and then its own. Refuses for memory
+    /// alone. The default goes by `write_before`; the shipped functions have an exact clause.
+    fn fmt_sql(
         &self,
         alloc: Global,
         options: &Self::Options,

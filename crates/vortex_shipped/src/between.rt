@@ -2,13 +2,13 @@
 ghost use Rattle.std.specs.Prelude.{◌≡◌, Some, length, map};
 ghost use Rattle.vortex_interface.specs.Shipped as shipped;
 ghost use Rattle.vortex_shipped.specs.Words.{no_rules, AnswersUnlessMemory};
-ghost use Rattle.vortex_shipped.specs.Words.{WritesBefore, AnswersShippedType};
+ghost use Rattle.vortex_shipped.specs.Words.{WritesBefore, AppendsCall, AnswersShippedType};
 ghost use Rattle.vortex_shipped.specs.Words.{between_id, shipped_meaning, shipped_lawful};
 ghost use Rattle.vortex_shipped.specs.Words.{shipped_parts, WritesBytes, ReadsOptions};
 ghost use Rattle.vortex_shipped.specs.Words.{between_bytes, between_read};
 
 use crate::option_bytes::write_byte;
-use crate::texts::write_spaced;
+use crate::texts::{CallText, write_spaced};
 use std::alloc::Global;
 use vortex_columns::{
     Arity, Column, DType, ExecutionCtx, MismatchPlace, VortexError, VortexResult,
@@ -112,24 +112,21 @@ impl ScalarFnVTable for Between {
         ensures { AnswersUnlessMemory result
             (WritesBefore (shipped.Between options.now) index out.old out.new) }
     {
-        match index {
-            0 => {
-                out.push_str("(")?;
-                Ok(1)
-            }
-            1 => {
-                write_spaced(out, options.lower_strict.to_operator().text())?;
-                Ok(0)
-            }
-            2 => {
-                write_spaced(out, options.upper_strict.to_operator().text())?;
-                Ok(2)
-            }
-            _ => {
-                out.push_str(")")?;
-                Ok(index)
-            }
-        }
+        self.write_part(options, index, out)
+    }
+
+    /// `(lower < array <= upper)`.
+    fn fmt_sql(
+        &self,
+        _alloc: Global,
+        options: &BetweenOptions,
+        children: &[String],
+        out: &mut String,
+    ) -> VortexResult<()>
+        ensures { AnswersUnlessMemory result
+            (λ _. AppendsCall (shipped.Between options.now) children.now out.old out.new) }
+    {
+        self.write_call(options, children, out)
     }
 
     fn is_strict(&self, _options: &BetweenOptions) -> bool {
@@ -156,4 +153,35 @@ impl ScalarFnVTable for Between {
     }
 
     ghost lawful = { shipped_lawful between_id shipped.Between };
+}
+
+/// `(lower < array <= upper)`.
+impl CallText<BetweenOptions> for Between {
+    ghost call = { shipped.Between };
+
+    fn write_part(
+        &self,
+        options: &BetweenOptions,
+        index: usize,
+        out: &mut String,
+    ) -> VortexResult<usize> {
+        match index {
+            0 => {
+                out.push_str("(")?;
+                Ok(1)
+            }
+            1 => {
+                write_spaced(out, options.lower_strict.to_operator().text())?;
+                Ok(0)
+            }
+            2 => {
+                write_spaced(out, options.upper_strict.to_operator().text())?;
+                Ok(2)
+            }
+            _ => {
+                out.push_str(")")?;
+                Ok(index)
+            }
+        }
+    }
 }

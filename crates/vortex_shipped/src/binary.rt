@@ -2,7 +2,7 @@
 ghost use Rattle.std.specs.Prelude.{◌≡◌, Some, length, map};
 ghost use Rattle.vortex_interface.specs.Shipped as shipped;
 ghost use Rattle.vortex_shipped.specs.Words.{no_rules, AnswersUnlessMemory};
-ghost use Rattle.vortex_shipped.specs.Words.{type_of, WritesBefore, binary_id, both_bool};
+ghost use Rattle.vortex_shipped.specs.Words.{type_of, WritesBefore, AppendsCall, binary_id, both_bool};
 ghost use Rattle.vortex_shipped.specs.Words.{compared_type, arithmetic_type, operator_type};
 ghost use Rattle.vortex_shipped.specs.Words.{operator_place, shipped_meaning, shipped_lawful};
 ghost use Rattle.vortex_shipped.specs.Words.{AnswersShippedType, IsTypeFound};
@@ -10,7 +10,7 @@ ghost use Rattle.vortex_shipped.specs.Words.{shipped_parts, WritesBytes, ReadsOp
 ghost use Rattle.vortex_shipped.specs.Words.{operator_bytes, operator_read};
 
 use crate::option_bytes::write_byte;
-use crate::texts::write_spaced;
+use crate::texts::{CallText, write_spaced};
 use std::alloc::Global;
 use vortex_columns::{
     Arity, Column, DType, ExecutionCtx, MismatchPlace, VortexError, VortexResult,
@@ -174,12 +174,21 @@ impl ScalarFnVTable for Binary {
         ensures { AnswersUnlessMemory result
             (WritesBefore (shipped.Binary operator.now) index out.old out.new) }
     {
-        match index {
-            0 => out.push_str("(")?,
-            1 => write_spaced(out, operator.text())?,
-            _ => out.push_str(")")?,
-        }
-        Ok(index)
+        self.write_part(operator, index, out)
+    }
+
+    /// `(a op b)`.
+    fn fmt_sql(
+        &self,
+        _alloc: Global,
+        operator: &Operator,
+        children: &[String],
+        out: &mut String,
+    ) -> VortexResult<()>
+        ensures { AnswersUnlessMemory result
+            (λ _. AppendsCall (shipped.Binary operator.now) children.now out.old out.new) }
+    {
+        self.write_call(operator, children, out)
     }
 
     fn is_strict(&self, operator: &Operator) -> bool {
@@ -199,4 +208,23 @@ impl ScalarFnVTable for Binary {
     }
 
     ghost lawful = { shipped_lawful binary_id shipped.Binary };
+}
+
+/// `(a op b)`.
+impl CallText<Operator> for Binary {
+    ghost call = { shipped.Binary };
+
+    fn write_part(
+        &self,
+        operator: &Operator,
+        index: usize,
+        out: &mut String,
+    ) -> VortexResult<usize> {
+        match index {
+            0 => out.push_str("(")?,
+            1 => write_spaced(out, operator.text())?,
+            _ => out.push_str(")")?,
+        }
+        Ok(index)
+    }
 }

@@ -2,11 +2,11 @@
 ghost use Rattle.std.specs.Prelude.{[], Some};
 ghost use Rattle.vortex_interface.specs.Shipped as shipped;
 ghost use Rattle.vortex_shipped.specs.Words.{no_rules, AnswersUnlessMemory};
-ghost use Rattle.vortex_shipped.specs.Words.{WritesBefore, cast_id};
+ghost use Rattle.vortex_shipped.specs.Words.{WritesBefore, AppendsCall, cast_id};
 ghost use Rattle.vortex_shipped.specs.Words.{shipped_meaning, shipped_lawful, AnswersShippedType};
 ghost use Rattle.vortex_shipped.specs.Words.{shipped_parts, WritesBytes, ReadsOptions};
 
-use crate::texts::write_unary;
+use crate::texts::{CallText, write_unary};
 use std::alloc::Global;
 use std::fmt;
 use vortex_columns::{
@@ -113,7 +113,7 @@ impl ScalarFnVTable for Cast {
     fn write_before(
         &self,
         _alloc: Global,
-        _options: &CastOptions,
+        options: &CastOptions,
         index: usize,
         _count: usize,
         out: &mut String,
@@ -121,7 +121,21 @@ impl ScalarFnVTable for Cast {
         ensures { AnswersUnlessMemory result
             (WritesBefore shipped.Cast index out.old out.new) }
     {
-        write_unary(out, "vortex.cast", ", opts=bool?)", index)
+        self.write_part(options, index, out)
+    }
+
+    /// `vortex.cast(a, opts=bool?)`.
+    fn fmt_sql(
+        &self,
+        _alloc: Global,
+        options: &CastOptions,
+        children: &[String],
+        out: &mut String,
+    ) -> VortexResult<()>
+        ensures { AnswersUnlessMemory result
+            (λ _. AppendsCall shipped.Cast children.now out.old out.new) }
+    {
+        self.write_call(options, children, out)
     }
 
     fn is_strict(&self, _options: &CastOptions) -> bool {
@@ -141,4 +155,18 @@ impl ScalarFnVTable for Cast {
     }
 
     ghost lawful = { shipped_lawful cast_id (λ _. shipped.Cast) };
+}
+
+/// `vortex.cast(a, opts=bool?)`.
+impl CallText<CastOptions> for Cast {
+    ghost call = { λ _. shipped.Cast };
+
+    fn write_part(
+        &self,
+        _options: &CastOptions,
+        index: usize,
+        out: &mut String,
+    ) -> VortexResult<usize> {
+        write_unary(out, "vortex.cast", ", opts=bool?)", index)
+    }
 }

@@ -17,4 +17,4 @@ pub use binary::Binary;
 pub use cast::{Cast, CastOptions};
 pub use like::Like;
 pub use not::Not;
-pub use null_tests::{IsNotNull, IsNull};
+pub use null_tests::{IsNotNull, IsNull, NullTestOf};

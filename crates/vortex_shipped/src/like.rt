@@ -2,12 +2,13 @@
 ghost use Rattle.std.specs.Prelude.{◌≡◌, Some};
 ghost use Rattle.vortex_interface.specs.Shipped as shipped;
 ghost use Rattle.vortex_shipped.specs.Words.{no_rules, AnswersUnlessMemory};
-ghost use Rattle.vortex_shipped.specs.Words.{WritesBefore, like_id, like_words};
+ghost use Rattle.vortex_shipped.specs.Words.{WritesBefore, AppendsCall, like_id, like_words};
 ghost use Rattle.vortex_shipped.specs.Words.{escape_text, Appends};
 ghost use Rattle.vortex_shipped.specs.Words.{shipped_meaning, shipped_lawful, AnswersShippedType};
 ghost use Rattle.vortex_shipped.specs.Words.{shipped_parts, WritesBytes, ReadsOptions};
 ghost use Rattle.vortex_shipped.specs.Words.{like_bytes, like_read};
 
+use crate::texts::CallText;
 use std::alloc::Global;
 use vortex_columns::{
     Arity, Column, DType, ExecutionCtx, MismatchPlace, VortexError, VortexResult,
@@ -131,12 +132,22 @@ impl ScalarFnVTable for Like {
         ensures { AnswersUnlessMemory result
             (WritesBefore (shipped.Like options.now) index out.old out.new) }
     {
-        match index {
-            0 => {}
-            1 => out.push_str(words(options))?,
-            _ => write_escape(out, options.escape)?,
-        }
-        Ok(index)
+        self.write_part(options, index, out)
+    }
+
+    /// `a like p`, `a not like p`, `a ilike p` or `a not ilike p`, with ` escape '!'` or ` escape
+    /// ''` behind it where the escape is not the backslash.
+    fn fmt_sql(
+        &self,
+        _alloc: Global,
+        options: &LikeOptions,
+        children: &[String],
+        out: &mut String,
+    ) -> VortexResult<()>
+        ensures { AnswersUnlessMemory result
+            (λ _. AppendsCall (shipped.Like options.now) children.now out.old out.new) }
+    {
+        self.write_call(options, children, out)
     }
 
     fn is_strict(&self, _options: &LikeOptions) -> bool {
@@ -156,4 +167,24 @@ impl ScalarFnVTable for Like {
     }
 
     ghost lawful = { shipped_lawful like_id shipped.Like };
+}
+
+/// `a like p`, `a not like p`, `a ilike p` or `a not ilike p`, with ` escape '!'` or ` escape
+/// ''` behind it where the escape is not the backslash.
+impl CallText<LikeOptions> for Like {
+    ghost call = { shipped.Like };
+
+    fn write_part(
+        &self,
+        options: &LikeOptions,
+        index: usize,
+        out: &mut String,
+    ) -> VortexResult<usize> {
+        match index {
+            0 => {}
+            1 => out.push_str(words(options))?,
+            _ => write_escape(out, options.escape)?,
+        }
+        Ok(index)
+    }
 }

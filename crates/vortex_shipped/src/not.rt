@@ -2,11 +2,12 @@
 ghost use Rattle.std.specs.Prelude.{[], Some};
 ghost use Rattle.vortex_interface.specs.Shipped as shipped;
 ghost use Rattle.vortex_shipped.specs.Words.{no_rules, AnswersUnlessMemory};
-ghost use Rattle.vortex_shipped.specs.Words.{WritesBefore, not_id, shipped_meaning, shipped_lawful};
+ghost use Rattle.vortex_shipped.specs.Words.{WritesBefore, AppendsCall, not_id, shipped_meaning};
+ghost use Rattle.vortex_shipped.specs.Words.{shipped_lawful};
 ghost use Rattle.vortex_shipped.specs.Words.{AnswersShippedType};
 ghost use Rattle.vortex_shipped.specs.Words.{shipped_parts, WritesBytes, ReadsOptions};
 
-use crate::texts::write_unary;
+use crate::texts::{CallText, write_unary};
 use std::alloc::Global;
 use vortex_columns::{
     Arity, Column, DType, ExecutionCtx, MismatchPlace, VortexError, VortexResult,
@@ -85,7 +86,7 @@ impl ScalarFnVTable for Not {
     fn write_before(
         &self,
         _alloc: Global,
-        _options: &EmptyOptions,
+        options: &EmptyOptions,
         index: usize,
         _count: usize,
         out: &mut String,
@@ -93,7 +94,21 @@ impl ScalarFnVTable for Not {
         ensures { AnswersUnlessMemory result
             (WritesBefore shipped.Not index out.old out.new) }
     {
-        write_unary(out, "vortex.not", ")", index)
+        self.write_part(options, index, out)
+    }
+
+    /// `vortex.not(a)`.
+    fn fmt_sql(
+        &self,
+        _alloc: Global,
+        options: &EmptyOptions,
+        children: &[String],
+        out: &mut String,
+    ) -> VortexResult<()>
+        ensures { AnswersUnlessMemory result
+            (λ _. AppendsCall shipped.Not children.now out.old out.new) }
+    {
+        self.write_call(options, children, out)
     }
 
     fn is_strict(&self, _options: &EmptyOptions) -> bool {
@@ -113,4 +128,18 @@ impl ScalarFnVTable for Not {
     }
 
     ghost lawful = { shipped_lawful not_id (λ _. shipped.Not) };
+}
+
+/// `vortex.not(a)`.
+impl CallText<EmptyOptions> for Not {
+    ghost call = { λ _. shipped.Not };
+
+    fn write_part(
+        &self,
+        _options: &EmptyOptions,
+        index: usize,
+        out: &mut String,
+    ) -> VortexResult<usize> {
+        write_unary(out, "vortex.not", ")", index)
+    }
 }

@@ -1,8 +1,38 @@
-//! What several functions write of a call. Each refuses for memory alone (E9).
+//! The texts of calls. Each refuses for memory alone (E9).
 ghost use Rattle.std.specs.Prelude.{◌≡◌, ◌++◌, codes};
-ghost use Rattle.vortex_shipped.specs.Words.{AnswersUnlessMemory, Appends, unary_before};
+ghost use Rattle.vortex_shipped.specs.Words.{Shipped, AnswersUnlessMemory, Appends, unary_before};
+ghost use Rattle.vortex_shipped.specs.Words.{WritesBefore, AppendsCall};
 
 use vortex_columns::VortexResult;
+use vortex_interface::argument_text;
+
+/// What the calls of a function with such options are written as, part by part.
+pub(crate) trait CallText<Options> {
+    ghost call: { Options → Shipped };
+
+    /// What stands before the argument that is printed `index`-th, or at the end; answers which
+    /// argument that is.
+    fn write_part(&self, options: &Options, index: usize, out: &mut String) -> VortexResult<usize>
+        ensures { AnswersUnlessMemory result
+            (WritesBefore (call options.now) index out.old out.new) };
+
+    /// The text of a call, by the texts of its arguments.
+    final fn write_call(
+        &self,
+        options: &Options,
+        children: &[String],
+        out: &mut String,
+    ) -> VortexResult<()>
+        ensures { AnswersUnlessMemory result
+            (λ _. AppendsCall (call options.now) children.now out.old out.new) }
+    {
+        for index in 0..children.len() + 1 {
+            let place = self.write_part(options, index, out)?;
+            out.push_str(argument_text(place, children))?;
+        }
+        Ok(())
+    }
+}
 
 /// What stands before the argument of a call of one, and at the end: `name(` and what ends it.
 pub(crate) fn write_unary(

@@ -1,6 +1,5 @@
-use Rattle.std.specs.Prelude.{false}
 use Rattle.vortex_shipped.proofs.NullTestCalls.{null_test_call}
-use Rattle.vortex_shipped.proofs.null_tests.IsNullScalarFnVTable.execute.Goals as goal
+use Rattle.vortex_shipped.proofs.null_tests.NullTestOfScalarFnVTable.execute.Goals as goal
 
 pub returns : goal.returns
 returns g c =
@@ -8,5 +7,5 @@ returns g c =
     let n = g.A.ExecutionArgs.rows c.args.args.now in
     let input = c.in_ok-input.input.now in
     let here = c.in_ok-input.ensures in
-    null_test_call false cs input n c.execute_is_null.result c.requires.accepted here.input here.count
-    c.execute_is_null.ensures.rows
+    null_test_call _ cs input n c.execute_null_test.result c.requires.accepted here.input here.count
+    c.execute_null_test.ensures
