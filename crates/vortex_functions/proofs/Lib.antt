@@ -3,7 +3,6 @@ pub mod TreeLists
 pub mod Execution
 pub mod Opened
 pub mod Bound
-pub mod CallTexts
 pub mod WrittenTexts
 pub mod Counts
 pub mod Chains

@@ -26,7 +26,7 @@ pub use Rattle.vortex_interface.specs.Made.{IsBound}
 pub use Rattle.vortex_interface.specs.Weights.{added, weight, weights, weight_told}
 pub use Rattle.vortex_interface.specs.Printing.{tree_text}
 pub use Rattle.vortex_functions.specs.FunctionOf.{function_of, operator_in, is_not, instance_in}
-pub use Rattle.vortex_functions.specs.Texts.{AppendsText, IsTextOf}
+pub use Rattle.vortex_functions.specs.Texts.{IsTextOf}
 pub use Rattle.vortex_functions.specs.WrittenTexts.{leaf_text, WritesBeforeOf, WritesPart}
 pub use Rattle.vortex_functions.specs.Binding.{AnswersLeaf, AnswersBinding, IsLeaf, IsLeafAt}
 pub use Rattle.vortex_functions.specs.Binding.{field_leaf, AnswersTreeCall}

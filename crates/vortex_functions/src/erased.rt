@@ -4,13 +4,13 @@ ghost use Rattle.vortex_functions.specs.Words.{types_in, fits, function_of, func
 ghost use Rattle.vortex_functions.specs.Words.{function_arity, function_child_name, function_type};
 ghost use Rattle.vortex_functions.specs.Words.{function_strict, function_infallible};
 ghost use Rattle.vortex_functions.specs.Words.{AnswersUnlessMemory, AnswersFunctionType};
-ghost use Rattle.vortex_functions.specs.Words.{AnswersFunction, AppendsText, added, WritesBeforeOf};
+ghost use Rattle.vortex_functions.specs.Words.{AnswersFunction, added, WritesBeforeOf};
 
 use crate::ext::ScalarFnVTableExt;
 use crate::typed::TypedScalarFnInstance;
 use std::alloc::Global;
 use vortex_columns::{Arity, Column, DType, ExecutionCtx, VortexResult};
-use vortex_interface::{ChildName, ExecutionArgs, ScalarFnId, ScalarFnVTable, argument_text};
+use vortex_interface::{ChildName, ExecutionArgs, ScalarFnId, ScalarFnVTable};
 use vortex_kernels::{BetweenOptions, Operator};
 use vortex_like::LikeOptions;
 use vortex_shipped::{Between, Binary, Cast, IsNotNull, IsNull, Like, Not};
@@ -286,19 +286,6 @@ impl<C: ScalarFnVTable> ScalarFnRef<C> {
             (WritesBeforeOf (function_of self.now) index out.old out.new) }
     {
         with_function!(self, f, options => f.write_before(alloc, options, index, count, out))
-    }
-
-    /// Appends the text of a call, by the texts of its arguments; what a caller's function writes
-    /// stays open. Refuses for memory alone.
-    pub fn fmt_sql(&self, alloc: Global, children: &[String], out: &mut String) -> VortexResult<()>
-        ensures { AnswersUnlessMemory result
-            (λ _. AppendsText (function_of self.now) children.now out.old out.new) }
-    {
-        for index in 0..children.len() + 1 {
-            let place = self.write_before(alloc, index, children.len(), out)?;
-            out.push_str(argument_text(place, children))?;
-        }
-        Ok(())
     }
 
     /// The shipped function that words of a script name, as `and`, or `between`, `<` and `<=`.

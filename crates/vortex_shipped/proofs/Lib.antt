@@ -1,8 +1,9 @@
+pub mod BetweenCalls
 pub mod BinaryCalls
+pub mod CallTexts
+pub mod CastCalls
+pub mod LikeCalls
 pub mod NotCalls
 pub mod NullTestCalls
-pub mod CastCalls
-pub mod BetweenCalls
 pub mod NumericCalls
-pub mod LikeCalls
 pub mod OptionFormats

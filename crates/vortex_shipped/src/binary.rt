@@ -2,8 +2,9 @@
 ghost use Rattle.std.specs.Prelude.{◌≡◌, Some, length, map};
 ghost use Rattle.vortex_interface.specs.Shipped as shipped;
 ghost use Rattle.vortex_shipped.specs.Words.{no_rules, AnswersUnlessMemory};
-ghost use Rattle.vortex_shipped.specs.Words.{type_of, WritesBefore, AppendsCall, binary_id, both_bool};
-ghost use Rattle.vortex_shipped.specs.Words.{compared_type, arithmetic_type, operator_type};
+ghost use Rattle.vortex_shipped.specs.Words.{type_of, WritesBefore, AppendsCall, binary_id};
+ghost use Rattle.vortex_shipped.specs.Words.{both_bool, compared_type, arithmetic_type};
+ghost use Rattle.vortex_shipped.specs.Words.{operator_type};
 ghost use Rattle.vortex_shipped.specs.Words.{operator_place, shipped_meaning, shipped_lawful};
 ghost use Rattle.vortex_shipped.specs.Words.{AnswersShippedType, IsTypeFound};
 ghost use Rattle.vortex_shipped.specs.Words.{shipped_parts, WritesBytes, ReadsOptions};
