@@ -1,20 +1,20 @@
 -- From the answer of Between over its inputs to that of its call.
-use Rattle.std.proofs.Common.{◌≡◌, ℕ, ◌<◌, Bool, true, false, List, [], ◌∷◌, length, get_or, Some}
+use Rattle.std.proofs.Common.{◌≡◌, ℕ, Bool, true, false, List, [], ◌∷◌, length, get_or, Some}
 use Rattle.std.proofs.Common.{None, refl, sym, ap, ◌∙◌, arith, cond}
 use Rattle.std.specs.Prelude.{IsSome, slice_get, ◌&&◌, Result}
 use Rattle.vortex_errors.specs.declared.error.VortexError.{VortexError}
 use Rattle.vortex_errors.specs.Answers.{AnswersUnlessMemory}
-use Rattle.vortex_errors.proofs.Answering.{Answers-weaker}
 use Rattle.vortex_types.specs.LogicalTypes.{LogicalType}
 use Rattle.vortex_types.specs.TypeEquality.{alike_types}
-use Rattle.vortex_columns.specs.ColumnView.{ColumnView}
+use Rattle.vortex_columns.specs.ColumnView.{ColumnView, row}
 use Rattle.vortex_operators.specs.declared.between.BetweenOptions.{BetweenOptions}
-use Rattle.vortex_operators.specs.Between.{between_type}
+use Rattle.vortex_operators.specs.Between.{between_type, between_value}
 use Rattle.vortex_kernels.specs.Between.{HasBetweenRows}
-use Rattle.vortex_interface.specs.Outcomes.{gives, HasCallRows, IsCallFault, types_in, values_at}
-use Rattle.vortex_interface.specs.Shipped.{Between, shipped_means}
+use Rattle.vortex_interface.specs.Outcomes.{types_in}
+use Rattle.vortex_interface.specs.Shipped.{Between}
 use Rattle.vortex_interface.specs.Shipped.BetweenFunction.{bounded_type}
 use Rattle.vortex_interface.specs.Answering.{AnswersShipped}
+use Rattle.vortex_shipped.proofs.CallRows.{call_answered}
 
 -- a list of three items
 pub three_items : {A : Type 0} (xs : List A) (a b d : A) → length xs ≡ 3 → a ≡ get_or xs 0 a
@@ -62,33 +62,13 @@ three_alike (a ∷ b ∷ d ∷ []) x lower upper h p q r =
     }
 three_alike (a ∷ b ∷ d ∷ k ∷ cs) x lower upper h p q r = cc
 
-module _ (options : BetweenOptions) (cs : List ColumnView) (x lower upper : ColumnView) (n : ℕ)
-    (three : ThreeAlike cs x lower upper) where
-  abbrev Rows : ColumnView → Type 0
-  Rows = HasCallRows bounded_type (shipped_means (Between options)) cs n
-
-  between_rows : (c : ColumnView) → length x.rows ≡ n → HasBetweenRows options x lower upper c
-      → Rows c
-  between_rows c e h = record {
-    dtype =
-        ap (λ ds. bounded_type (types_in ds)) three.all
-        ∙ ap (λ b. cond b (Some (between_type x.dtype lower.dtype upper.dtype)) None) three.alike
-        ∙ ap Some (sym h.dtype);
-    count = h.count ∙ e;
-    each = λ i lt.
-        let within : i < length x.rows = omega (arith, e) in
-        ap (λ (ds : List ColumnView). shipped_means (Between options) (types_in ds)
-        (values_at ds i))
-        three.all
-        ∙ ap gives (sym (h.each i within));
-  }
-
-  pub between_call : (answer : Result ColumnView VortexError) → length x.rows ≡ n
-      → AnswersUnlessMemory answer (HasBetweenRows options x lower upper)
-      → AnswersShipped (Between options) cs n answer
-  between_call answer e h =
-      Answers-weaker answer (HasBetweenRows options x lower upper) Rows (λ f. ⊥)
-      (IsCallFault (shipped_means (Between options)) cs n)
-      (λ c p. between_rows c e p)
-      (λ f p. absurd p)
-      h
+pub between_call : (options : BetweenOptions) (cs : List ColumnView)
+    (x lower upper : ColumnView) (n : ℕ)
+    → ThreeAlike cs x lower upper → (answer : Result ColumnView VortexError) → length x.rows ≡ n
+    → AnswersUnlessMemory answer (HasBetweenRows options x lower upper)
+    → AnswersShipped (Between options) cs n answer
+between_call options cs x lower upper n three answer e h =
+    let t = between_type x.dtype lower.dtype upper.dtype in
+    call_answered (Between options) cs (x ∷ lower ∷ upper ∷ []) three.all n (length x.rows) e t
+    (λ i. between_value options (row lower.rows i) (row x.rows i) (row upper.rows i))
+    (ap (λ b. cond b (Some t) None) three.alike) (λ i. refl) answer h

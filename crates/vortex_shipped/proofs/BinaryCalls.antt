@@ -1,6 +1,6 @@
 -- From the answer of a kernel over two operands to that of the operator's call.
-use Rattle.std.proofs.Common.{◌≡◌, ℕ, ◌<◌, Bool, true, false, List, [], ◌∷◌, length, Some, None}
-use Rattle.std.proofs.Common.{refl, sym, ap, ◌∙◌, subst, arith, cond}
+use Rattle.std.proofs.Common.{◌≡◌, ℕ, Bool, true, false, List, [], ◌∷◌, length, Some, None, refl, sym}
+use Rattle.std.proofs.Common.{ap, ◌∙◌, subst, cond}
 use Rattle.std.specs.Prelude.{IsSome, slice_get, ◌||◌, ◌&&◌, Result}
 use Rattle.vortex_errors.specs.declared.error.VortexError.{VortexError}
 use Rattle.vortex_types.specs.LogicalTypes.{LogicalType, bool_type, is_nullable, is_bool_type}
@@ -14,7 +14,7 @@ use Rattle.vortex_operators.specs.declared.operators.Operator.TheVariants.{Lte, 
 use Rattle.vortex_operators.specs.declared.operators.Operator.TheVariants.{Mul, Div}
 use Rattle.vortex_operators.specs.declared.operators.CompareOperator.{CompareOperator}
 use Rattle.vortex_operators.specs.Operators.{is_boolean, compare_operator_of}
-use Rattle.vortex_operators.specs.OperatorValues.{boolean_value, comparison_type}
+use Rattle.vortex_operators.specs.OperatorValues.{boolean_value, comparison_type, comparison_value}
 use Rattle.vortex_kernels.specs.Comparison.{AnswersCompare, RefusesCompare, uneven, unlike}
 use Rattle.vortex_kernels.specs.Boolean.{are_bools, AnswersBoolean, RefusesBoolean, no_operator}
 use Rattle.vortex_kernels.specs.Boolean.{no_bools}
@@ -24,6 +24,7 @@ use Rattle.vortex_interface.specs.Shipped.BinaryFunction.{both_bool, compared_ty
 use Rattle.vortex_interface.specs.Shipped.BinaryFunction.{value_by, operator_value, means_by}
 use Rattle.vortex_operators.specs.Arithmetic.{numeric_operator_of}
 use Rattle.vortex_interface.specs.Answering.{AnswersShipped}
+use Rattle.vortex_shipped.proofs.CallRows.{call_rows}
 
 -- the call's column, and its fault
 abbrev Rows : Operator → List ColumnView → ℕ → ColumnView → Type 0
@@ -104,22 +105,16 @@ both_type a b h k = cc
 
 boolean_rows : (op : Operator) (cs : List ColumnView) (l r c : ColumnView) (n : ℕ)
     → TwoBools op cs l r → length l.rows ≡ n → AnswersBoolean op l r c → Rows op cs n c
-boolean_rows op cs l r c n two e h = record {
-  dtype =
-      ap (λ ds. operator_type op (types_in ds)) two.both
-      ∙ operator_type-boolean op (l.dtype ∷ r.dtype ∷ []) two.operator
-      ∙ both_type l.dtype r.dtype two.left two.right
-      ∙ ap Some (sym h.rows.dtype);
-  count = h.rows.count ∙ e;
-  each = λ i lt.
-      let within : i < length l.rows = omega (arith, e) in
-      ap (λ (ds : List ColumnView). shipped_means (Binary op) (types_in ds) (values_at ds i))
-      two.both
-      ∙ ap (λ o. means_by o op (types_in (l ∷ r ∷ [])) (values_at (l ∷ r ∷ []) i))
-      (no_numeric op two.operator)
-      ∙ (λ j. gives (operator_value-boolean op two.operator j (row l.rows i) (row r.rows i)))
-      ∙ ap gives (sym (h.rows.each i within));
-}
+boolean_rows op cs l r c n two e h =
+    call_rows (Binary op) cs (l ∷ r ∷ []) two.both n (length l.rows) e
+    (bool_type (is_nullable l.dtype || is_nullable r.dtype))
+    (λ i. boolean_value op (row l.rows i) (row r.rows i))
+    (operator_type-boolean op (l.dtype ∷ r.dtype ∷ []) two.operator
+    ∙ both_type l.dtype r.dtype two.left two.right)
+    (λ i. ap (λ o. means_by o op (types_in (l ∷ r ∷ [])) (values_at (l ∷ r ∷ []) i))
+    (no_numeric op two.operator)
+    ∙ (λ j. gives (operator_value-boolean op two.operator j (row l.rows i) (row r.rows i))))
+    c h.rows
 
 never_refused : (op : Operator) (cs : List ColumnView) (l r : ColumnView) (e : VortexError)
     → TwoBools op cs l r → RefusesBoolean op l r e → ⊥
@@ -197,22 +192,16 @@ compared_is t u e = ap (λ b. cond b (Some (comparison_type t u)) None) e
 comparison_rows : (op : Operator) (compare : CompareOperator) (cs : List ColumnView)
     (l r c : ColumnView) (n : ℕ)
     → TwoAlike op compare cs l r → length l.rows ≡ n → AnswersCompare compare l r c → Rows op cs n c
-comparison_rows op compare cs l r c n two e h = record {
-  dtype =
-      ap (λ ds. operator_type op (types_in ds)) two.both
-      ∙ operator_type-comparison op compare (l.dtype ∷ r.dtype ∷ []) two.comparison
-      ∙ compared_is l.dtype r.dtype two.alike
-      ∙ ap Some (sym h.rows.dtype);
-  count = h.rows.count ∙ e;
-  each = λ i lt.
-      let within : i < length l.rows = omega (arith, e) in
-      ap (λ (ds : List ColumnView). shipped_means (Binary op) (types_in ds) (values_at ds i))
-      two.both
-      ∙ ap (λ o. means_by o op (types_in (l ∷ r ∷ [])) (values_at (l ∷ r ∷ []) i))
-      (not_numeric op compare two.comparison)
-      ∙ ap (λ o. gives (value_by o op (row l.rows i) (row r.rows i))) two.comparison
-      ∙ ap gives (sym (h.rows.each i within));
-}
+comparison_rows op compare cs l r c n two e h =
+    call_rows (Binary op) cs (l ∷ r ∷ []) two.both n (length l.rows) e
+    (comparison_type l.dtype r.dtype)
+    (λ i. comparison_value compare (row l.rows i) (row r.rows i))
+    (operator_type-comparison op compare (l.dtype ∷ r.dtype ∷ []) two.comparison
+    ∙ compared_is l.dtype r.dtype two.alike)
+    (λ i. ap (λ o. means_by o op (types_in (l ∷ r ∷ [])) (values_at (l ∷ r ∷ []) i))
+    (not_numeric op compare two.comparison)
+    ∙ ap (λ o. gives (value_by o op (row l.rows i) (row r.rows i))) two.comparison)
+    c h.rows
 
 never_unlike : (op : Operator) (compare : CompareOperator) (cs : List ColumnView)
     (l r : ColumnView) (e : VortexError)

@@ -1,5 +1,6 @@
 pub mod BetweenCalls
 pub mod BinaryCalls
+pub mod CallRows
 pub mod CallTexts
 pub mod CastCalls
 pub mod LikeCalls

@@ -1,19 +1,21 @@
 -- From LIKE's answer over its two inputs to that of its call.
-use Rattle.std.proofs.Common.{◌≡◌, ℕ, ◌<◌, true, List, [], ◌∷◌, length, Some, refl, sym, ap, ◌∙◌}
-use Rattle.std.proofs.Common.{subst, arith}
+use Rattle.std.proofs.Common.{◌≡◌, ℕ, true, List, [], ◌∷◌, length, Some, refl, subst}
 use Rattle.std.specs.Prelude.{IsSome, slice_get, ◌||◌, Result}
 use Rattle.vortex_errors.specs.declared.error.VortexError.{VortexError}
 use Rattle.vortex_errors.specs.Answers.{AnswersUnlessMemory}
 use Rattle.vortex_errors.proofs.Answering.{Answers-weaker}
 use Rattle.vortex_types.specs.LogicalTypes.{LogicalType, bool_type, text_type, is_nullable}
 use Rattle.vortex_types.specs.LogicalTypes.{is_text_type}
-use Rattle.vortex_columns.specs.ColumnView.{ColumnView}
+use Rattle.vortex_columns.specs.ColumnView.{ColumnView, row}
 use Rattle.vortex_like.specs.declared.options.LikeOptions.{LikeOptions}
+use Rattle.vortex_like.specs.Patterns.{like_value}
 use Rattle.vortex_like.specs.Rows.{HasLikeRows}
-use Rattle.vortex_interface.specs.Outcomes.{gives, HasCallRows, IsCallFault, types_in, values_at}
-use Rattle.vortex_interface.specs.Shipped.{Like, shipped_means}
+use Rattle.vortex_kernels.specs.Rows.{HasRows}
+use Rattle.vortex_interface.specs.Outcomes.{types_in}
+use Rattle.vortex_interface.specs.Shipped.{Like}
 use Rattle.vortex_interface.specs.Shipped.LikeFunction.{like_type}
 use Rattle.vortex_interface.specs.Answering.{AnswersShipped}
+use Rattle.vortex_shipped.proofs.CallRows.{call_answered}
 
 -- the two inputs of LIKE
 pub record TwoTexts (cs : List ColumnView) (l r : ColumnView) : Type 0 where
@@ -56,32 +58,15 @@ like_type_is : (a b : LogicalType) → is_text_type a ≡ true → is_text_type 
 like_type_is (text_type n) (text_type m) h k = refl
 like_type_is a b h k = cc
 
-module _ (options : LikeOptions) (cs : List ColumnView) (l r : ColumnView) (n : ℕ)
-    (two : TwoTexts cs l r) where
-  abbrev Rows : ColumnView → Type 0
-  Rows = HasCallRows like_type (shipped_means (Like options)) cs n
-
-  like_rows : (c : ColumnView) → length l.rows ≡ n → HasLikeRows options l r c → Rows c
-  like_rows c e h = record {
-    dtype =
-        ap (λ ds. like_type (types_in ds)) two.both
-        ∙ like_type_is l.dtype r.dtype two.input two.pattern
-        ∙ ap Some (sym h.dtype);
-    count = h.count ∙ e;
-    each = λ i lt.
-        let within : i < length l.rows = omega (arith, e) in
-        ap (λ (ds : List ColumnView). shipped_means (Like options) (types_in ds) (values_at ds i))
-        two.both
-        ∙ ap gives (sym (h.each i within));
-  }
-
-  -- LIKE of a call's inputs answers the call
-  pub like_call : (answer : Result ColumnView VortexError) → length l.rows ≡ n
-      → AnswersUnlessMemory answer (HasLikeRows options l r)
-      → AnswersShipped (Like options) cs n answer
-  like_call answer e h =
-      Answers-weaker answer (HasLikeRows options l r) Rows (λ f. ⊥)
-      (IsCallFault (shipped_means (Like options)) cs n)
-      (λ c p. like_rows c e p)
-      (λ f p. absurd p)
-      h
+-- LIKE of a call's inputs answers the call
+pub like_call : (options : LikeOptions) (cs : List ColumnView) (l r : ColumnView) (n : ℕ)
+    → TwoTexts cs l r → (answer : Result ColumnView VortexError) → length l.rows ≡ n
+    → AnswersUnlessMemory answer (HasLikeRows options l r)
+    → AnswersShipped (Like options) cs n answer
+like_call options cs l r n two answer e h =
+    let t = bool_type (is_nullable l.dtype || is_nullable r.dtype) in
+    let value = λ i. like_value options (row l.rows i) (row r.rows i) in
+    call_answered (Like options) cs (l ∷ r ∷ []) two.both n (length l.rows) e t value
+    (like_type_is l.dtype r.dtype two.input two.pattern) (λ i. refl) answer
+    (Answers-weaker answer (HasLikeRows options l r) (HasRows t (length l.rows) value) (λ f. ⊥)
+    (λ f. ⊥) (λ c p. record { dtype = p.dtype; count = p.count; each = p.each }) (λ f p. absurd p) h)

@@ -1,18 +1,17 @@
 -- From Not's answer over its input to that of its call.
-use Rattle.std.proofs.Common.{◌≡◌, ℕ, ◌<◌, true, List, [], ◌∷◌, length, Some, refl, sym, ap, ◌∙◌}
-use Rattle.std.proofs.Common.{subst, arith}
+use Rattle.std.proofs.Common.{◌≡◌, ℕ, true, List, [], ◌∷◌, length, Some, refl, subst}
 use Rattle.std.specs.Prelude.{IsSome, slice_get, Result}
 use Rattle.vortex_errors.specs.declared.error.VortexError.{VortexError}
 use Rattle.vortex_types.specs.LogicalTypes.{LogicalType, bool_type, is_bool_type}
 use Rattle.vortex_errors.specs.Answers.{AnswersUnlessMemory}
-use Rattle.vortex_errors.proofs.Answering.{Answers-weaker}
 use Rattle.vortex_columns.specs.ColumnView.{ColumnView, row}
 use Rattle.vortex_operators.specs.OperatorValues.{not_value}
-use Rattle.vortex_kernels.specs.Rows.{HasRows}
-use Rattle.vortex_interface.specs.Outcomes.{gives, HasCallRows, IsCallFault, types_in, values_at}
-use Rattle.vortex_interface.specs.Shipped.{Not, shipped_means}
+use Rattle.vortex_kernels.specs.Boolean.{HasNotRows}
+use Rattle.vortex_interface.specs.Outcomes.{types_in}
+use Rattle.vortex_interface.specs.Shipped.{Not}
 use Rattle.vortex_interface.specs.Shipped.NotFunction.{not_type}
 use Rattle.vortex_interface.specs.Answering.{AnswersShipped}
+use Rattle.vortex_shipped.proofs.CallRows.{call_answered}
 
 -- the one input of Not
 pub record OneBool (cs : List ColumnView) (c : ColumnView) : Type 0 where
@@ -40,33 +39,10 @@ not_type_is : (t : LogicalType) → is_bool_type t ≡ true → not_type (t ∷ 
 not_type_is (bool_type n) h = refl
 not_type_is t h = cc
 
--- Not of each row of the input
-abbrev Negated : ColumnView → ColumnView → Type 0
-Negated c = HasRows c.dtype (length c.rows) (λ i. not_value (row c.rows i))
-
-abbrev Rows : List ColumnView → ℕ → ColumnView → Type 0
-Rows = HasCallRows not_type (shipped_means Not)
-
-not_rows : (cs : List ColumnView) (c d : ColumnView) (n : ℕ)
-    → OneBool cs c → length c.rows ≡ n → Negated c d → Rows cs n d
-not_rows cs c d n one e h = record {
-  dtype =
-      ap (λ ds. not_type (types_in ds)) one.only
-      ∙ not_type_is c.dtype one.bool
-      ∙ ap Some (sym h.dtype);
-  count = h.count ∙ e;
-  each = λ i lt.
-      let within : i < length c.rows = omega (arith, e) in
-      ap (λ (ds : List ColumnView). shipped_means Not (types_in ds) (values_at ds i)) one.only
-      ∙ ap gives (sym (h.each i within));
-}
-
 pub not_call : (cs : List ColumnView) (c : ColumnView) (n : ℕ)
     (answer : Result ColumnView VortexError)
     → OneBool cs c → length c.rows ≡ n
-    → AnswersUnlessMemory answer (Negated c) → AnswersShipped Not cs n answer
+    → AnswersUnlessMemory answer (HasNotRows c) → AnswersShipped Not cs n answer
 not_call cs c n answer one e h =
-    Answers-weaker answer (Negated c) (Rows cs n) (λ f. ⊥) (IsCallFault (shipped_means Not) cs n)
-    (λ d p. not_rows cs c d n one e p)
-    (λ f p. absurd p)
-    h
+    call_answered Not cs (c ∷ []) one.only n (length c.rows) e c.dtype
+    (λ i. not_value (row c.rows i)) (not_type_is c.dtype one.bool) (λ i. refl) answer h

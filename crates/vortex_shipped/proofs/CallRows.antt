@@ -1,0 +1,36 @@
+-- From rows that a kernel tells one by one to those of a call.
+use Rattle.std.proofs.Common.{◌≡◌, ℕ, ◌<◌, List, length, Some, sym, ap, ◌∙◌, arith}
+use Rattle.std.specs.Prelude.{Result}
+use Rattle.vortex_errors.specs.declared.error.VortexError.{VortexError}
+use Rattle.vortex_errors.specs.Answers.{AnswersUnlessMemory}
+use Rattle.vortex_errors.proofs.Answering.{Answers-weaker}
+use Rattle.vortex_types.specs.LogicalTypes.{LogicalType}
+use Rattle.vortex_types.specs.Values.{Value}
+use Rattle.vortex_columns.specs.ColumnView.{ColumnView}
+use Rattle.vortex_kernels.specs.Rows.{HasRows}
+use Rattle.vortex_interface.specs.Outcomes.{gives, HasCallRows, IsCallFault, types_in, call_row}
+use Rattle.vortex_interface.specs.Shipped.{Shipped, shipped_type, shipped_means}
+use Rattle.vortex_interface.specs.Answering.{AnswersShipped}
+
+-- of a function over inputs of n rows, in each of which it gives a value
+module _ (s : Shipped) (cs ds : List ColumnView) (given : cs ≡ ds) (n k : ℕ) (e : k ≡ n)
+    (t : LogicalType) (value : ℕ → Value) (typed : shipped_type s (types_in ds) ≡ Some t)
+    (means : (i : ℕ) → call_row (shipped_means s) ds i ≡ gives (value i)) where
+  abbrev Rows : ColumnView → Type 0
+  Rows = HasCallRows (shipped_type s) (shipped_means s) cs n
+
+  pub call_rows : (c : ColumnView) → HasRows t k value c → Rows c
+  call_rows c h = record {
+    dtype = ap (λ as. shipped_type s (types_in as)) given ∙ typed ∙ ap Some (sym h.dtype);
+    count = h.count ∙ e;
+    each = λ i lt.
+        let within : i < k = omega (arith, e) in
+        ap (λ as. call_row (shipped_means s) as i) given ∙ means i ∙ ap gives (sym (h.each i within));
+  }
+
+  -- of an answer that is refused for memory alone
+  pub call_answered : (answer : Result ColumnView VortexError)
+      → AnswersUnlessMemory answer (HasRows t k value) → AnswersShipped s cs n answer
+  call_answered answer h =
+      Answers-weaker answer (HasRows t k value) Rows (λ f. ⊥) (IsCallFault (shipped_means s) cs n)
+      call_rows (λ f p. absurd p) h
