@@ -33,8 +33,8 @@ module _ {V O : Type 0} where
   pub seen : (self : Array V O) (a : Inside V ArrayLeaf O ℕ (Array V O))
       (n : Node V ArrayLeaf O ℕ (Array V O))
       → tree_view tree_in (λ t k. (t, k)) array_leaf a ≡ self → a.node ≡ n
-      → self ≡ (node_tree tree_in array_leaf n, a.beside)
-  seen self a n is e = sym is ∙ ap (λ x. (node_tree tree_in array_leaf x, a.beside)) e
+      → self ≡ (node_tree tree_in array_leaf n, a.context)
+  seen self a n is e = sym is ∙ ap (λ x. (node_tree tree_in array_leaf x, a.context)) e
 
   same_nodes : (n : ℕ) (ts : List (Tree V O))
       → nodes node_count ts ≡ nodes array_nodes (map (λ t. (t, n)) ts)

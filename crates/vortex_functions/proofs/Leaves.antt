@@ -34,14 +34,14 @@ module _ {V L O B S : Type 0} (l : Ghosts L V O B S) where
       → l.children (l.see t b) ≡ map (λ x. l.see x b) (children_of t)
   children_beside t b =
       l.children_are (l.see t b)
-      ∙ (λ j. map (λ x. l.see x (l.beside_of_see t b j)) (children_of (l.tree_of_see t b j)))
+      ∙ (λ j. map (λ x. l.see x (l.context_of_see t b j)) (children_of (l.tree_of_see t b j)))
 
   pub leaf_has_none : (x : L) (b : B) → l.children (l.see (l.seen x) b) ≡ []
   leaf_has_none x b =
       children_beside (l.seen x) b
       ∙ ap (map (λ t. l.see t b)) (childless (l.seen x) (l.not_called x))
 
-  seen_again : (b : B) (xs : List S) → All (λ a. l.beside_of a ≡ b) xs
+  seen_again : (b : B) (xs : List S) → All (λ a. l.context_of a ≡ b) xs
       → map (λ t. l.see t b) (map l.tree_of xs) ≡ xs
   seen_again b [] even = refl
   seen_again b (a ∷ xs) even =
@@ -49,7 +49,7 @@ module _ {V L O B S : Type 0} (l : Ghosts L V O B S) where
       λ j. same j ∷ seen_again b xs (λ i d lt. even (suc i) d (omega (arith, lt))) j
 
   -- what stands below a call are its children
-  pub call_has : (f : Function V O) (b : B) (xs : List S) → All (λ a. l.beside_of a ≡ b) xs
+  pub call_has : (f : Function V O) (b : B) (xs : List S) → All (λ a. l.context_of a ≡ b) xs
       → xs ≡ l.children (l.see (call f (trees_of (map l.tree_of xs))) b)
   call_has f b xs even =
       sym
@@ -59,21 +59,21 @@ module _ {V L O B S : Type 0} (l : Ghosts L V O B S) where
 
   trees_below : (b : B) (ts : List (Tree V O)) (i : ℕ) (x : S)
       → slice_get (map (λ t. l.see t b) ts) i ≡ Some x
-      → (slice_get ts i ≡ Some (l.tree_of x)) × (l.beside_of x ≡ b)
+      → (slice_get ts i ≡ Some (l.tree_of x)) × (l.context_of x ≡ b)
   trees_below b [] i x h = cc
   trees_below b (t ∷ ts) zero x h =
       let is : l.see t b ≡ x = cc in (
         ap Some (sym (l.tree_of_see t b) ∙ ap l.tree_of is),
-        ap l.beside_of (sym is) ∙ l.beside_of_see t b,
+        ap l.context_of (sym is) ∙ l.context_of_see t b,
       )
   trees_below b (t ∷ ts) (suc i) x h = trees_below b ts i x h
 
   -- a child, and what stands beside it
   pub child_at : (a : S) (i : ℕ) (x : S) → slice_get (l.children a) i ≡ Some x
       → (slice_get (children_of (l.tree_of a)) i ≡ Some (l.tree_of x))
-      × (l.beside_of x ≡ l.beside_of a)
+      × (l.context_of x ≡ l.context_of a)
   child_at a i x h =
-      trees_below (l.beside_of a) (children_of (l.tree_of a)) i x
+      trees_below (l.context_of a) (children_of (l.tree_of a)) i x
       (ap (λ xs. slice_get xs i) (sym (l.children_are a)) ∙ h)
 
   trees_again : (b : B) (ts : List (Tree V O)) → map l.tree_of (map (λ t. l.see t b) ts) ≡ ts
@@ -83,15 +83,15 @@ module _ {V L O B S : Type 0} (l : Ghosts L V O B S) where
   pub children_as_trees : (a : S) → map l.tree_of (l.children a) ≡ children_of (l.tree_of a)
   children_as_trees a =
       ap (map l.tree_of) (l.children_are a)
-      ∙ trees_again (l.beside_of a) (children_of (l.tree_of a))
+      ∙ trees_again (l.context_of a) (children_of (l.tree_of a))
 
   all_beside : (b : B) (ts : List (Tree V O))
-      → All (λ x. l.beside_of x ≡ b) (map (λ t. l.see t b) ts)
+      → All (λ x. l.context_of x ≡ b) (map (λ t. l.see t b) ts)
   all_beside b [] = All-nil _
   all_beside b (t ∷ ts) =
-      All-cons (λ x. l.beside_of x ≡ b) (l.see t b) _ (l.beside_of_see t b) (all_beside b ts)
+      All-cons (λ x. l.context_of x ≡ b) (l.see t b) _ (l.context_of_see t b) (all_beside b ts)
 
-  pub children_beside_it : (a : S) → All (λ x. l.beside_of x ≡ l.beside_of a) (l.children a)
+  pub children_beside_it : (a : S) → All (λ x. l.context_of x ≡ l.context_of a) (l.children a)
   children_beside_it a =
-      subst (All (λ x. l.beside_of x ≡ l.beside_of a)) (sym (l.children_are a))
-      (all_beside (l.beside_of a) (children_of (l.tree_of a)))
+      subst (All (λ x. l.context_of x ≡ l.context_of a)) (sym (l.children_are a))
+      (all_beside (l.context_of a) (children_of (l.tree_of a)))

@@ -57,8 +57,8 @@ AnswersBinding m f ts result = Answers result (IsCall m f ts) (RefusesCall m f t
 -- of a tree of any kind, with what stands beside it
 abbrev pub AnswersTreeCall : {V O S B : Type 0} → (S → Tree V O) → (S → B) → Meaning V O
     → Function V O → List S → B → Result S VortexError → Type 0
-AnswersTreeCall tree_of beside_of m f xs b result =
-    Answers result (λ a. IsCall m f (map tree_of xs) (tree_of a) × (beside_of a ≡ b))
+AnswersTreeCall tree_of context_of m f xs b result =
+    Answers result (λ a. IsCall m f (map tree_of xs) (tree_of a) × (context_of a ≡ b))
     (RefusesCall m f (map tree_of xs))
 
 abbrev pub IsLeaf : {V O : Type 0} → Tree V O → Type 0

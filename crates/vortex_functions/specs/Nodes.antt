@@ -32,24 +32,24 @@ module _ {V L O B S : Type 0} (tree_of : S → Tree V O) where
   node_tree seen (Call parts) = call_of parts.value
 
   abbrev pub tree_view : (Tree V O → B → S) → (L → Tree V O) → Inside V L O B S → S
-  tree_view see seen a = see (node_tree seen a.node) a.beside
+  tree_view see seen a = see (node_tree seen a.node) a.context
 
   -- a leaf may stand there; a call is well typed, and has the type and the weight beside it, the
   -- same stands beside its children, and where it is marked, the rule applies at no place of it
   abbrev pub IsNode : (S → B) → Meaning V O → (Tree V O → Option (Tree V O)) → (B → L → Type 0)
       → B → Node V L O B S → Type 0
-  IsNode beside_of m rule fits b (Leaf l) = fits b l
-  IsNode beside_of m rule fits b (Call parts) =
+  IsNode context_of m rule fits b (Leaf l) = fits b l
+  IsNode context_of m rule fits b (Call parts) =
       (tree_type m (call_of parts.value) ≡ Some (type_of parts.value.dtype))
-      × All (λ child. beside_of child ≡ b) parts.value.children.items
+      × All (λ child. context_of child ≡ b) parts.value.children.items
       × (parts.value.weight ≡ weight_told m (call_of parts.value))
       × (IsTrue parts.value.settled → step rule (call_of parts.value) ≡ None)
 
   abbrev pub IsTree : (S → B) → (Tree V O → B → S) → Meaning V O
       → (Tree V O → Option (Tree V O)) → (L → Tree V O) → (B → L → Type 0) → (S → Type 0)
       → Inside V L O B S → Type 0
-  IsTree beside_of see m rule seen fits whole a =
-      IsNode beside_of m rule fits a.beside a.node × whole (tree_view see seen a)
+  IsTree context_of see m rule seen fits whole a =
+      IsNode context_of m rule fits a.context a.node × whole (tree_view see seen a)
 
 -- what stands for a tree of a kind that is never made
 abbrev pub placeholder : {V O : Type 0} → Tree V O

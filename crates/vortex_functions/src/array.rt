@@ -33,19 +33,19 @@ impl<C: ScalarFnVTable> Leaf<C, C::Options> for ArrayLeaf {
     ghost use Rattle.vortex_functions.specs.ArrayLeaves as laws;
     ghost use Rattle.vortex_functions.specs.ArrayLeaves.{array_leaf, StandsAmong};
 
-    type Beside = usize;
+    type Context = usize;
 
     type Seen = (Placeholder<C>, usize);
 
     ghost tree_of = { tree_in };
 
-    ghost beside_of = { rows_in };
+    ghost context_of = { rows_in };
 
     ghost see = { λ t n. (t, n) };
 
     ghost tree_of_see = { λ t n. refl };
 
-    ghost beside_of_see = { λ t n. refl };
+    ghost context_of_see = { λ t n. refl };
 
     ghost see_of = { λ a. refl };
 
@@ -67,8 +67,8 @@ impl<C: ScalarFnVTable> Leaf<C, C::Options> for ArrayLeaf {
 
     ghost leaf_settles = { laws.settles C.meaning C.rules };
 
-    fn blank(alloc: Global, beside: usize) -> ArrayLeaf {
-        ArrayLeaf::Nulls(Column::null(beside))
+    fn blank(alloc: Global, context: usize) -> ArrayLeaf {
+        ArrayLeaf::Nulls(Column::null(context))
     }
 
     fn share(&self) -> Result<ArrayLeaf, AllocError> {
@@ -109,7 +109,7 @@ impl<C: ScalarFnVTable> ArrayRef<C> {
         let len = column.len();
         Ok(Tree {
             node: Node::Leaf(ArrayLeaf::Column(Rc::new(alloc, column)?)),
-            beside: len,
+            context: len,
         })
     }
 
@@ -117,14 +117,14 @@ impl<C: ScalarFnVTable> ArrayRef<C> {
     pub fn len(&self) -> usize
         ensures { result ≡ rows_in self.now }
     {
-        self.beside
+        self.context
     }
 
     /// Whether it has no row.
     pub fn is_empty(&self) -> bool
         ensures { IsTrue result ↔ (rows_in self.now ≡ 0) }
     {
-        self.beside == 0
+        self.context == 0
     }
 
     /// The scalar of a constant column; none of any other array.

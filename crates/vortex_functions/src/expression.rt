@@ -36,19 +36,19 @@ impl<C: ScalarFnVTable> Leaf<C, C::Options> for ExpressionLeaf {
     ghost use Rattle.vortex_functions.specs.ExpressionLeaves as laws;
     ghost use Rattle.vortex_functions.specs.ExpressionLeaves.{expression_leaf};
 
-    type Beside = ();
+    type Context = ();
 
     type Seen = Placeholder<C>;
 
     ghost tree_of = { λ t. t };
 
-    ghost beside_of = { λ t. tt };
+    ghost context_of = { λ t. tt };
 
     ghost see = { λ t b. t };
 
     ghost tree_of_see = { λ t b. refl };
 
-    ghost beside_of_see = { λ t b. refl };
+    ghost context_of_see = { λ t b. refl };
 
     ghost see_of = { λ t. refl };
 
@@ -70,7 +70,7 @@ impl<C: ScalarFnVTable> Leaf<C, C::Options> for ExpressionLeaf {
 
     ghost leaf_settles = { laws.settles C.meaning C.rules };
 
-    fn blank(alloc: Global, beside: ()) -> ExpressionLeaf {
+    fn blank(alloc: Global, context: ()) -> ExpressionLeaf {
         ExpressionLeaf::Literal(Scalar::bool(false, Nullability::NonNullable), alloc)
     }
 
@@ -125,7 +125,7 @@ impl<C: ScalarFnVTable> BoundExpression<C> {
         let dtype = scope.dtype(place).try_clone(alloc)?;
         Ok(Tree {
             node: Node::Leaf(ExpressionLeaf::Column(place, name, dtype)),
-            beside: (),
+            context: (),
         })
     }
 
@@ -138,7 +138,7 @@ impl<C: ScalarFnVTable> BoundExpression<C> {
         let _typed = scalar.dtype();
         Tree {
             node: Node::Leaf(ExpressionLeaf::Literal(scalar, alloc)),
-            beside: (),
+            context: (),
         }
     }
 

@@ -46,7 +46,7 @@ pub(crate) enum Node<C: ScalarFnVTable, L: Leaf<C, C::Options>> {
 #[cycle(tree)]
 pub struct Tree<C: ScalarFnVTable, L: Leaf<C, C::Options>> {
     pub(crate) node: Node<C, L>,
-    pub(crate) beside: L::Beside,
+    pub(crate) context: L::Context,
 }
 
 impl<C: ScalarFnVTable, L: Leaf<C, C::Options>> Model for Tree<C, L> {
@@ -60,18 +60,18 @@ impl<C: ScalarFnVTable, L: Leaf<C, C::Options>> Model for Tree<C, L> {
 
     ghost view = { tree_view L.tree_of L.see L.seen };
 
-    ghost invariant = { λ a. IsTree L.tree_of L.beside_of L.see C.meaning L.rule L.seen L.fits
+    ghost invariant = { λ a. IsTree L.tree_of L.context_of L.see C.meaning L.rule L.seen L.fits
         L.whole a };
 
     ghost size = { λ a. node_count (L.tree_of a) };
 
     ghost use Rattle.vortex_functions.specs.NodeFalls.{deep_le-node_count};
 
-    ghost size_decreases = { λ a h. deep_le-node_count C L C.Options L.Beside L.Seen
+    ghost size_decreases = { λ a h. deep_le-node_count C L C.Options L.Context L.Seen
         C.ScalarFnVTable C.Clone C.Options.Clone C.Options.Debug C.Options.Display
         C.Options.PartialEq C.Options.Hash L.Leaf a.node
         (L.tree_of (tree_view L.tree_of L.see L.seen a))
-        (L.tree_of_see (node_tree L.tree_of L.seen a.node) a.beside) };
+        (L.tree_of_see (node_tree L.tree_of L.seen a.node) a.context) };
 }
 
 /// The last handle of a call takes it down, by a work list, and the list is the children's own
@@ -80,7 +80,7 @@ impl<C: ScalarFnVTable, L: Leaf<C, C::Options>> Model for Tree<C, L> {
 impl<C: ScalarFnVTable, L: Leaf<C, C::Options>> Drop for Tree<C, L> {
     #[tactic(auto, using(crate::proofs::Counts::nodes_count_push))]
     fn drop(self) {
-        let Tree { node, beside: _ } = self;
+        let Tree { node, context: _ } = self;
         let mut list = match node {
             // the leaf is named, and so dropped by itself, and not by dropping a node
             Node::Leaf(_leaf) => return,
@@ -92,7 +92,7 @@ impl<C: ScalarFnVTable, L: Leaf<C, C::Options>> Drop for Tree<C, L> {
         let alloc = *list.allocator();
         while let Some(tree) = list.pop() {
             let mut tree = tree;
-            let nothing = L::blank(alloc, tree.beside);
+            let nothing = L::blank(alloc, tree.context);
             match mem::replace(&mut tree.node, Node::Leaf(nothing)) {
                 Node::Leaf(_leaf) => {}
                 Node::Call(parts) => {
@@ -150,11 +150,11 @@ impl<C: ScalarFnVTable, L: Leaf<C, C::Options>> Tree<C, L> {
         alloc: Global,
         function: ScalarFnRef<C>,
         children: Vec<Tree<C, L>>,
-        beside: L::Beside,
+        context: L::Context,
     ) -> VortexResult<Tree<C, L>>
-        requires { All (λ child. L.beside_of child ≡ beside) children.items }
-        ensures { AnswersTreeCall L.tree_of L.beside_of C.meaning (function_of function)
-            children.items beside result }
+        requires { All (λ child. L.context_of child ≡ context) children.items }
+        ensures { AnswersTreeCall L.tree_of L.context_of C.meaning (function_of function)
+            children.items context result }
     {
         let arity = function.signature().arity;
         let given = children.len();
@@ -173,7 +173,7 @@ impl<C: ScalarFnVTable, L: Leaf<C, C::Options>> Tree<C, L> {
         };
         Ok(Tree {
             node: Node::Call(Rc::new(alloc, parts)?),
-            beside,
+            context,
         })
     }
 
@@ -225,10 +225,10 @@ impl<C: ScalarFnVTable, L: Leaf<C, C::Options>> Tree<C, L> {
     }
 
     /// What stands beside the tree: its row count, or nothing.
-    pub fn beside(&self) -> L::Beside
-        ensures { result ≡ L.beside_of self.now }
+    pub fn context(&self) -> L::Context
+        ensures { result ≡ L.context_of self.now }
     {
-        self.beside
+        self.context
     }
 
     /// What stands below the root.
@@ -253,7 +253,7 @@ impl<C: ScalarFnVTable, L: Leaf<C, C::Options>> Tree<C, L> {
     pub fn children(&self) -> &[Tree<C, L>]
         ensures children { result.now ≡ L.children self.now }
         ensures trees { map L.tree_of result.now ≡ children_of (L.tree_of self.now) }
-        ensures same_rows { All (λ child. L.beside_of child ≡ L.beside_of self.now) result.now }
+        ensures same_rows { All (λ child. L.context_of child ≡ L.context_of self.now) result.now }
     {
         self.below()
     }
@@ -264,7 +264,7 @@ impl<C: ScalarFnVTable, L: Leaf<C, C::Options>> Tree<C, L> {
         ensures child { slice_get (L.children self.now) index ≡ Some result.now }
         ensures tree { slice_get (children_of (L.tree_of self.now)) index
             ≡ Some (L.tree_of result.now) }
-        ensures same_rows { L.beside_of result.now ≡ L.beside_of self.now }
+        ensures same_rows { L.context_of result.now ≡ L.context_of self.now }
     {
         self.below_at(index)
     }
@@ -300,7 +300,7 @@ impl<C: ScalarFnVTable, L: Leaf<C, C::Options>> Clone for Tree<C, L> {
         };
         Ok(Tree {
             node,
-            beside: self.beside,
+            context: self.context,
         })
     }
 }

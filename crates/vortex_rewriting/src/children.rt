@@ -19,14 +19,14 @@ pub(crate) fn with_children<C: ScalarFnVTable, L: Leaf<C, C::Options>>(
 ) -> VortexResult<Tree<C, L>>
     requires typed { IsSome (tree_type C.meaning
         (with_children (L.tree_of tree.now) (map L.tree_of children.items))) }
-    requires same_rows { All (λ child. L.beside_of child ≡ L.beside_of tree.now) children.items }
+    requires same_rows { All (λ child. L.context_of child ≡ L.context_of tree.now) children.items }
     ensures { AnswersUnlessMemory result (λ made.
         (L.tree_of made ≡ with_children (L.tree_of tree.now) (map L.tree_of children.items))
-        × (L.beside_of made ≡ L.beside_of tree.now)) }
+        × (L.context_of made ≡ L.context_of tree.now)) }
 {
     match tree.as_scalar() {
         Some(function) => {
-            Tree::try_call(alloc, function.try_clone(alloc)?, children, tree.beside())
+            Tree::try_call(alloc, function.try_clone(alloc)?, children, tree.context())
         }
         None => tree.try_clone(alloc),
     }
@@ -40,11 +40,11 @@ fn children_with<C: ScalarFnVTable, L: Leaf<C, C::Options>>(
     child: Tree<C, L>,
 ) -> VortexResult<Vec<Tree<C, L>>>
     requires is_child { index < length (children_of (L.tree_of parent.now)) }
-    requires same_rows { L.beside_of child ≡ L.beside_of parent.now }
+    requires same_rows { L.context_of child ≡ L.context_of parent.now }
     ensures answer { AnswersUnlessMemory result (λ copies. map L.tree_of copies.items
         ≡ slice_set (children_of (L.tree_of parent.now)) index (L.tree_of child)) }
     ensures same_rows { IfOk result
-        (λ copies. All (λ copy. L.beside_of copy ≡ L.beside_of parent.now) copies.items) }
+        (λ copies. All (λ copy. L.context_of copy ≡ L.context_of parent.now) copies.items) }
 {
     let mut copies = Vec::new(alloc);
     for old in parent.children() {
@@ -65,10 +65,10 @@ pub(crate) fn with_child<C: ScalarFnVTable, L: Leaf<C, C::Options>>(
     requires is_child { index < length (children_of (L.tree_of parent.now)) }
     requires same_type { (x : _) → slice_get (children_of (L.tree_of parent.now)) index ≡ Some x
         → tree_type C.meaning (L.tree_of child) ≡ tree_type C.meaning x }
-    requires same_rows { L.beside_of child ≡ L.beside_of parent.now }
+    requires same_rows { L.context_of child ≡ L.context_of parent.now }
     ensures { AnswersUnlessMemory result (λ made.
         (L.tree_of made ≡ with_child (L.tree_of parent.now) index (L.tree_of child))
-        × (L.beside_of made ≡ L.beside_of parent.now)) }
+        × (L.context_of made ≡ L.context_of parent.now)) }
 {
     let _typed = parent.dtype();
     let copies = children_with(alloc, parent, index, child)?;

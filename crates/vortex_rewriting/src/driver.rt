@@ -21,7 +21,7 @@ fn apply_first<C: ScalarFnRules, L: RewriteLeaf<C>>(
 ) -> VortexResult<Option<Tree<C, L>>>
     ensures { AnswersUnlessMemory result (λ answer.
         (option_map L.tree_of answer ≡ L.rule (L.tree_of tree.now))
-        × IfSome answer (λ made. L.beside_of made ≡ L.beside_of tree.now)) }
+        × IfSome answer (λ made. L.context_of made ≡ L.context_of tree.now)) }
 {
     match L::apply(alloc, tree, Rule::Simplify)? {
         Some(made) => Ok(Some(made)),
@@ -48,10 +48,10 @@ fn seek<C: ScalarFnRules, L: RewriteLeaf<C>>(
     requires frames { AreFrames L.rule (frames_in L.tree_of above.items) }
     requires typed { IsSome (tree_type C.meaning
         (plug (frames_in L.tree_of above.items) (L.tree_of node))) }
-    requires same_rows { HaveRows L.beside_of (L.beside_of node) above.items }
+    requires same_rows { HaveRows L.context_of (L.context_of node) above.items }
     ensures answer { AnswersUnlessMemory result (IsFound L.rule L.tree_of
         (plug (frames_in L.tree_of above.items) (L.tree_of node))) }
-    ensures same_rows { IfOk result (FoundHasRows L.beside_of (L.beside_of node)) }
+    ensures same_rows { IfOk result (FoundHasRows L.context_of (L.context_of node)) }
 {
     let mut above = above;
     let mut node = node;
@@ -108,7 +108,7 @@ pub(crate) fn take_steps<C: ScalarFnRules, L: RewriteLeaf<C>>(
     ensures done { IfOk result
         (λ o. IsTrue o.done ↔ (step L.rule (L.tree_of o.tree) ≡ None)) }
     ensures stopped { IfOk result (λ o. o.done ≡ false → o.steps ≡ limit) }
-    ensures same_rows { IfOk result (λ o. L.beside_of o.tree ≡ L.beside_of tree.now) }
+    ensures same_rows { IfOk result (λ o. L.context_of o.tree ≡ L.context_of tree.now) }
 {
     let _typed = tree.dtype();
     let mut above = Vec::new(alloc);

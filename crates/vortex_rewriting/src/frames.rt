@@ -27,7 +27,7 @@ pub(crate) fn next_child<C: ScalarFnVTable, L: Leaf<C, C::Options>>(
     ensures answer { AnswersUnlessMemory result
         (λ next. IsNext (L.tree_of node.now) (map L.tree_of done.now) (option_map L.tree_of next)) }
     ensures same_rows { IfOk result
-        (λ next. IfSome next (λ child. L.beside_of child ≡ L.beside_of node.now)) }
+        (λ next. IfSome next (λ child. L.context_of child ≡ L.context_of node.now)) }
 {
     if done.len() < node.children().len() {
         Ok(Some(node.child(done.len()).try_clone(alloc)?))
@@ -46,10 +46,10 @@ pub(crate) fn over_children<C: ScalarFnVTable, L: Leaf<C, C::Options>>(
     requires all { length (children_of (L.tree_of node)) ≤ length done.items }
     requires typed { IsSome (tree_type C.meaning
         (partly (L.tree_of node) (map L.tree_of done.items))) }
-    requires same_rows { All (λ child. L.beside_of child ≡ L.beside_of node) done.items }
+    requires same_rows { All (λ child. L.context_of child ≡ L.context_of node) done.items }
     ensures { AnswersUnlessMemory result (λ made.
         (L.tree_of made ≡ partly (L.tree_of node) (map L.tree_of done.items))
-        × (L.beside_of made ≡ L.beside_of node)) }
+        × (L.context_of made ≡ L.context_of node)) }
 {
     if done.is_empty() {
         return Ok(node);
@@ -64,11 +64,11 @@ fn closed<C: ScalarFnVTable, L: Leaf<C, C::Options>>(
 ) -> VortexResult<Tree<C, L>>
     requires typed { IsSome (tree_type C.meaning
         (partly (L.tree_of frame.node) (map L.tree_of frame.done.items))) }
-    requires same_rows { All (λ child. L.beside_of child ≡ L.beside_of frame.node)
+    requires same_rows { All (λ child. L.context_of child ≡ L.context_of frame.node)
         frame.done.items }
     ensures { AnswersUnlessMemory result (λ made.
         (L.tree_of made ≡ partly (L.tree_of frame.node) (map L.tree_of frame.done.items))
-        × (L.beside_of made ≡ L.beside_of frame.node)) }
+        × (L.context_of made ≡ L.context_of frame.node)) }
 {
     let Frame { node, mut done } = frame;
     while let Some(child) = next_child(alloc, &node, &done)? {
@@ -86,10 +86,10 @@ pub(crate) fn whole_tree<C: ScalarFnVTable, L: Leaf<C, C::Options>>(
     requires frames { AreFrames L.rule (frames_in L.tree_of above.items) }
     requires typed { IsSome (tree_type C.meaning
         (plug (frames_in L.tree_of above.items) (L.tree_of place))) }
-    requires same_rows { HaveRows L.beside_of (L.beside_of place) above.items }
+    requires same_rows { HaveRows L.context_of (L.context_of place) above.items }
     ensures { AnswersUnlessMemory result (λ whole.
         (L.tree_of whole ≡ plug (frames_in L.tree_of above.items) (L.tree_of place))
-        × (L.beside_of whole ≡ L.beside_of place)) }
+        × (L.context_of whole ≡ L.context_of place)) }
 {
     let mut above = above;
     let mut whole = place;

@@ -26,17 +26,17 @@ pub trait RuleLeaf<C: ScalarFnVTable>: Leaf<C, C::Options> {
     fn new_constant(
         alloc: Global,
         scalar: Scalar,
-        context: Self::Beside,
+        context: Self::Context,
     ) -> VortexResult<Tree<C, Self>>
         ensures { AnswersUnlessMemory result (λ made.
-            (Self.tree_of made ≡ constant scalar) × (Self.beside_of made ≡ context)) };
+            (Self.tree_of made ≡ constant scalar) × (Self.context_of made ≡ context)) };
 
     /// Where a leaf that is no constant is not null, if a tree of its context says it. E9 where
     /// memory is refused.
     fn leaf_validity(alloc: Global, tree: &Tree<C, Self>) -> VortexResult<Option<Tree<C, Self>>>
         ensures { AnswersUnlessMemory result (λ answer.
             IsLeafValidity C.meaning Self.tree_of (Self.tree_of tree.now) answer
-            × IfSome answer (λ made. Self.beside_of made ≡ Self.beside_of tree.now)) };
+            × IfSome answer (λ made. Self.context_of made ≡ Self.context_of tree.now)) };
 }
 
 /// A kind of leaf whose trees are rewritten: what rules make of one at its root.
@@ -49,7 +49,7 @@ pub trait RewriteLeaf<C: ScalarFnRules>: RuleLeaf<C> {
     fn apply(alloc: Global, tree: &Tree<C, Self>, rule: Rule) -> VortexResult<Option<Tree<C, Self>>>
         ensures { AnswersUnlessMemory result (λ answer.
             (option_map Self.tree_of answer ≡ applied rule (Self.tree_of tree.now))
-            × IfSome answer (λ made. Self.beside_of made ≡ Self.beside_of tree.now)) };
+            × IfSome answer (λ made. Self.context_of made ≡ Self.context_of tree.now)) };
 
     /// The rule that marks speak of is the driver's.
     ghost rule_is: { Self.Leaf.rule ≡ first_rule applied };

@@ -24,7 +24,7 @@ pub(crate) fn made_at<C: ScalarFnRules, L: RewriteLeaf<C>>(
     ensures answer { AnswersRewritten L.tree_of (L.applied rule) path.now (L.tree_of tree.now)
         result }
     ensures same_rows { IfOk result
-        (λ answer. IfSome answer (λ made. L.beside_of made ≡ L.beside_of tree.now)) }
+        (λ answer. IfSome answer (λ made. L.context_of made ≡ L.context_of tree.now)) }
 {
     let way = way_down(alloc, tree, path)?;
     // what the rule makes there has the old type, since the tree there is well typed
@@ -57,7 +57,7 @@ pub(crate) fn made_by<C: ScalarFnRules, L: RewriteLeaf<C>>(
         ≡ Some (L.tree_of made.tree, made.applied))
         (λ e. (e ≡ NoSuchPlace)
         × (rewritten_list L.applied (steps_of steps.now) (L.tree_of tree.now) ≡ None)) }
-    ensures same_rows { IfOk result (λ made. L.beside_of made.tree ≡ L.beside_of tree.now) }
+    ensures same_rows { IfOk result (λ made. L.context_of made.tree ≡ L.context_of tree.now) }
 {
     let mut last = tree.try_clone(alloc)?;
     let mut applied = 0;

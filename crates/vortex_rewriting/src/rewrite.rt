@@ -98,11 +98,11 @@ pub trait Rewrite<C: ScalarFnRules>: Sized + Drop {
 }
 
 impl<C: ScalarFnRules, L: RewriteLeaf<C>> Rewrite<C> for Tree<C, L> {
-    type Context = L::Beside;
+    type Context = L::Context;
 
     ghost tree = { L.tree_of };
 
-    ghost rows = { L.beside_of };
+    ghost rows = { L.context_of };
 
     ghost applied = { L.applied };
 

@@ -31,7 +31,7 @@ pub(crate) fn reduce_tree<C: ScalarFnRules, L: RuleLeaf<C>>(
     requires { called (L.tree_of tree.now) ≡ Some (function_of function.now) }
     ensures { AnswersUnlessMemory result (λ answer. (option_map L.tree_of answer
         ≡ reduce C.meaning C.rules (L.tree_of tree.now))
-        × IfSome answer (λ made. L.beside_of made ≡ L.beside_of tree.now)) }
+        × IfSome answer (λ made. L.context_of made ≡ L.context_of tree.now)) }
 {
     let node = TreeReduceNode::new(Cow::Borrowed(tree));
     match reduce_call(alloc, function, &node)? {

@@ -132,9 +132,9 @@ fn copies_of<'a, C: ScalarFnVTable, L: Leaf<C, C::Options>>(
 }
 
 impl<'a, C: ScalarFnVTable, L: RuleLeaf<C>> ReduceTree<C> for TreeReduceNode<'a, Tree<C, L>> {
-    type Context = L::Beside;
+    type Context = L::Context;
 
-    ghost seen = { λ n. in_context L.tree_of L.beside_of (cow_value n.tree) };
+    ghost seen = { λ n. in_context L.tree_of L.context_of (cow_value n.tree) };
 
     ghost lent = { λ n. IsBorrowed n.tree };
 
@@ -170,14 +170,14 @@ impl<'a, C: ScalarFnVTable, L: RuleLeaf<C>> ReduceTree<C> for TreeReduceNode<'a,
         function: ScalarFnRef<C>,
         children: &[Self],
     ) -> VortexResult<Self>
-        requires { All (λ child. L.beside_of (cow_value child.tree)
-            ≡ L.beside_of (cow_value self.now.tree)) children.now }
+        requires { All (λ child. L.context_of (cow_value child.tree)
+            ≡ L.context_of (cow_value self.now.tree)) children.now }
         ensures { AnswersTreeCall (λ n. L.tree_of (cow_value n.tree))
-            (λ n. L.beside_of (cow_value n.tree)) C.meaning (function_of function) children.now
-            (L.beside_of (cow_value self.now.tree)) result }
+            (λ n. L.context_of (cow_value n.tree)) C.meaning (function_of function) children.now
+            (L.context_of (cow_value self.now.tree)) result }
     {
         let copies = copies_of(alloc, children)?;
-        let call = Tree::try_call(alloc, function, copies, self.tree().beside())?;
+        let call = Tree::try_call(alloc, function, copies, self.tree().context())?;
         Ok(TreeReduceNode {
             tree: Cow::Owned(call),
         })
@@ -188,7 +188,7 @@ impl<'a, C: ScalarFnVTable, L: RuleLeaf<C>> ReduceTree<C> for TreeReduceNode<'a,
     }
 
     fn new_constant(&self, alloc: Global, scalar: Scalar) -> VortexResult<Self> {
-        let constant = L::new_constant(alloc, scalar, self.tree().beside())?;
+        let constant = L::new_constant(alloc, scalar, self.tree().context())?;
         Ok(TreeReduceNode {
             tree: Cow::Owned(constant),
         })

@@ -39,8 +39,8 @@ pub(crate) fn way_down<'t, C: ScalarFnVTable, L: Leaf<C, C::Options>>(
         (map (λ p. (L.tree_of p.node.now, p.index)) way.parents.items) [] (L.tree_of way.place.now))
         (λ e. (e ≡ NoSuchPlace) × Leaves path.now (L.tree_of tree.now)) }
     ensures same_rows { IfOk result
-        (λ way. All (λ p. L.beside_of p.node.now ≡ L.beside_of tree.now) way.parents.items
-        × (L.beside_of way.place.now ≡ L.beside_of tree.now)) }
+        (λ way. All (λ p. L.context_of p.node.now ≡ L.context_of tree.now) way.parents.items
+        × (L.context_of way.place.now ≡ L.context_of tree.now)) }
 {
     let mut parents = Vec::new(alloc);
     let mut place = tree;
@@ -69,13 +69,13 @@ pub(crate) fn way_up<'t, C: ScalarFnVTable, L: Leaf<C, C::Options>>(
         (L.tree_of tree.now) (L.tree_of way.place.now) }
     requires same_type { tree_type C.meaning (L.tree_of new)
         ≡ tree_type C.meaning (L.tree_of way.place.now) }
-    requires parent_rows { All (λ p. L.beside_of p.node.now ≡ L.beside_of tree.now)
+    requires parent_rows { All (λ p. L.context_of p.node.now ≡ L.context_of tree.now)
         way.parents.items }
-    requires same_rows { L.beside_of new ≡ L.beside_of tree.now }
+    requires same_rows { L.context_of new ≡ L.context_of tree.now }
     ensures { AnswersUnlessMemory result (λ made.
         (L.tree_of made ≡ with_parents (map (λ p. (L.tree_of p.node.now, p.index))
         way.entry.parents.items) (L.tree_of new))
-        × (L.beside_of made ≡ L.beside_of tree.now)) }
+        × (L.context_of made ≡ L.context_of tree.now)) }
 {
     let mut parents = way.parents;
     let mut made = new;

@@ -53,6 +53,11 @@ module _ (s : Shipped) where
       → AreTold (interface.IsDefaultOrOwn id printed (shipped_parts s) count) k left texts
       (left_from k left texts)
   parts_told id printed count k zero texts = refl
-  parts_told id printed count k (suc left) texts =
-      (shipped_before s k, shipped_printed s k, left_from (suc k) left texts, inr (refl, refl),
-      parts_told id printed count (suc k) left texts, refl)
+  parts_told id printed count k (suc left) texts = (
+    shipped_before s k,
+    shipped_printed s k,
+    left_from (suc k) left texts,
+    inr (refl, refl),
+    parts_told id printed count (suc k) left texts,
+    refl,
+  )

@@ -21,7 +21,7 @@ impl<C: ScalarFnVTable> ArrayRef<C> {
     {
         match &self.node {
             Node::Leaf(leaf) => Ok(Cow::Borrowed(leaf.column())),
-            Node::Call(parts) => Ok(Cow::Owned(parts.call_rows(inputs, self.beside, ctx)?)),
+            Node::Call(parts) => Ok(Cow::Owned(parts.call_rows(inputs, self.context, ctx)?)),
         }
     }
 

@@ -19,22 +19,22 @@ use vortex_interface::ScalarFnVTable;
 /// children stand beside the same, and that a leaf is no call.
 pub trait Leaf<C, O>: Sized + Drop {
     /// What stands beside a tree.
-    type Beside: Copy + Drop;
+    type Context: Copy + Drop;
 
     /// What a tree is seen as.
     type Seen;
 
     ghost tree_of: { Self.Seen → Tree C O };
 
-    ghost beside_of: { Self.Seen → Self.Beside };
+    ghost context_of: { Self.Seen → Self.Context };
 
-    ghost see: { Tree C O → Self.Beside → Self.Seen };
+    ghost see: { Tree C O → Self.Context → Self.Seen };
 
-    ghost tree_of_see: { (t : Tree C O) (b : Self.Beside) → tree_of (see t b) ≡ t };
+    ghost tree_of_see: { (t : Tree C O) (b : Self.Context) → tree_of (see t b) ≡ t };
 
-    ghost beside_of_see: { (t : Tree C O) (b : Self.Beside) → beside_of (see t b) ≡ b };
+    ghost context_of_see: { (t : Tree C O) (b : Self.Context) → context_of (see t b) ≡ b };
 
-    ghost see_of: { (a : Self.Seen) → see (tree_of a) (beside_of a) ≡ a };
+    ghost see_of: { (a : Self.Seen) → see (tree_of a) (context_of a) ≡ a };
 
     /// The rule that a mark speaks of.
     ghost rule: { Tree C O → Option (Tree C O) };
@@ -43,7 +43,7 @@ pub trait Leaf<C, O>: Sized + Drop {
     ghost seen: { Self → Tree C O };
 
     /// Whether a leaf may stand there.
-    ghost fits: { Self.Beside → Self → Type 0 };
+    ghost fits: { Self.Context → Self → Type 0 };
 
     /// What is known of each tree: that what it holds has values of its types.
     ghost whole: { Self.Seen → Type 0 };
@@ -52,11 +52,11 @@ pub trait Leaf<C, O>: Sized + Drop {
     ghost children: { Self.Seen → List Self.Seen };
 
     ghost children_are: { (a : Self.Seen)
-        → children a ≡ map (λ t. see t (beside_of a)) (children_of (tree_of a)) };
+        → children a ≡ map (λ t. see t (context_of a)) (children_of (tree_of a)) };
 
     /// A call is whole where what stands below it is.
-    ghost whole_call: { (f : Function C O) (b : Self.Beside) (xs : List Self.Seen)
-        → All whole xs → All (λ a. beside_of a ≡ b) xs
+    ghost whole_call: { (f : Function C O) (b : Self.Context) (xs : List Self.Seen)
+        → All whole xs → All (λ a. context_of a ≡ b) xs
         → whole (see (call f (trees_of (map tree_of xs))) b) };
 
     ghost not_called: { (l : Self) → called (seen l) ≡ None };
@@ -64,25 +64,25 @@ pub trait Leaf<C, O>: Sized + Drop {
     ghost leaf_settles: { (l : Self) → step rule (seen l) ≡ None };
 
     /// A leaf that stands where a call was taken out.
-    fn blank(alloc: Global, beside: Self::Beside) -> Self
-        ensures fits { Self.fits beside result }
-        ensures whole { Self.whole (Self.see (Self.seen result) beside) };
+    fn blank(alloc: Global, context: Self::Context) -> Self
+        ensures fits { Self.fits context result }
+        ensures whole { Self.whole (Self.see (Self.seen result) context) };
 
     /// A copy, which may stand where the leaf does.
     fn share(&self) -> Result<Self, AllocError>
         ensures seen { IfOk result (λ l. Self.seen l ≡ Self.seen self.now) }
         ensures fits { IfOk result
-            (λ l. (b : Self.Beside) → Self.fits b self.now → Self.fits b l) };
+            (λ l. (b : Self.Context) → Self.fits b self.now → Self.fits b l) };
 
     /// The type of its values, of a leaf that may stand somewhere.
     fn dtype(&self) -> &DType
-        ensures { (m : Meaning C O) (b : Self.Beside) → Self.fits b self.now
+        ensures { (m : Meaning C O) (b : Self.Context) → Self.fits b self.now
             → tree_type m (Self.seen self.now) ≡ Some (type_of result.now) };
 
     // the same laws a second time, where a proof finds them: a Model can name those above alone
-    ghost sees_tree: { (t : Tree C O) (b : Self.Beside) → tree_of (see t b) ≡ t } = { tree_of_see };
+    ghost sees_tree: { (t : Tree C O) (b : Self.Context) → tree_of (see t b) ≡ t } = { tree_of_see };
 
-    ghost sees_beside: { (t : Tree C O) (b : Self.Beside) → beside_of (see t b) ≡ b } = { beside_of_see };
+    ghost sees_context: { (t : Tree C O) (b : Self.Context) → context_of (see t b) ≡ b } = { context_of_see };
 }
 
 /// Never made: its values are trees.

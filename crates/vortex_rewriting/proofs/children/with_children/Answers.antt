@@ -12,5 +12,5 @@ returns-in_ok-try_clone-in-Some g c =
     let called =
     c.in-Some.ensures ∙ ap (λ f. Some (function_of f)) (sym c.in_ok-try_clone-in-Some.ensures) in
     call_on_others m (l.tree_of c.args.tree.now) f called us c.requires.typed l.tree_of
-    l.beside_of c.beside.result (l.beside_of c.args.tree.now) c.beside.ensures c.try_call.result
+    l.context_of c.context.result (l.context_of c.args.tree.now) c.context.ensures c.try_call.result
     c.try_call.ensures

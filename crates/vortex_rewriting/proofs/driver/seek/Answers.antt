@@ -9,7 +9,7 @@ use Rattle.vortex_rewriting.proofs.driver.seek.Goals as goal
 pub loop-done-init : goal.loop-done-init
 loop-done-init g c =
     let tree = g.L.Leaf.tree_of in
-    let rows = g.L.Leaf.beside_of in
+    let rows = g.L.Leaf.context_of in
     begins tree g.L.Leaf.rule rows c.args.above.items c.args.node
     c.new-done.result.items c.requires.frames c.requires.same_rows c.new-done.ensures.items
 
@@ -25,7 +25,7 @@ loop-done-smaller-in-Continue-branch-3 g c =
 pub loop-done-preserved-in-Continue-branch-3 : goal.loop-done-preserved-in-Continue-branch-3
 loop-done-preserved-in-Continue-branch-3 g c =
     let tree = g.L.Leaf.tree_of in
-    let rows = g.L.Leaf.beside_of in
+    let rows = g.L.Leaf.context_of in
     let l = c.loop-done in
     let at = next_is tree (tree l.node) l.done.items c.deref.result.now c.in_ok-child.field-0
     c.in-Some.child c.deref.ensures.value c.in_ok-child.ensures.answer c.in-Some.is in
@@ -50,7 +50,7 @@ loop-done-smaller-else-is_settled g c =
 pub loop-done-preserved-else-is_settled : goal.loop-done-preserved-else-is_settled
 loop-done-preserved-else-is_settled g c =
     let tree = g.L.Leaf.tree_of in
-    let rows = g.L.Leaf.beside_of in
+    let rows = g.L.Leaf.context_of in
     let l = c.loop-done in
     let at = next_is tree (tree l.node) l.done.items c.deref.result.now c.in_ok-child.field-0
     c.in-Some.child c.deref.ensures.value c.in_ok-child.ensures.answer c.in-Some.is in
@@ -66,7 +66,7 @@ loop-done-preserved-else-is_settled g c =
 pub over_children-requires-clause-typed : goal.over_children-requires-clause-typed
 over_children-requires-clause-typed g c =
     let tree = g.L.Leaf.tree_of in
-    let rows = g.L.Leaf.beside_of in
+    let rows = g.L.Leaf.context_of in
     let l = c.loop-done in
     node_typed tree g.L.Leaf.rule rows c.args.above.items c.args.node
     g.C.ScalarFnVTable.meaning l.above.items l.node l.done.items l.invariant c.requires.typed
@@ -74,7 +74,7 @@ over_children-requires-clause-typed g c =
 pub returns-in-Some-2-clause-answer : goal.returns-in-Some-2-clause-answer
 returns-in-Some-2-clause-answer g c =
     let tree = g.L.Leaf.tree_of in
-    let rows = g.L.Leaf.beside_of in
+    let rows = g.L.Leaf.context_of in
     let l = c.loop-done in
     let whole = c.in_ok-whole-in-None.whole in
     let all = all_done tree (tree l.node) l.done.items c.deref.result.now c.in_ok-child.field-0
@@ -91,7 +91,7 @@ returns-in-Some-2-clause-answer g c =
 pub mark_settled-requires : goal.mark_settled-requires
 mark_settled-requires g c =
     let tree = g.L.Leaf.tree_of in
-    let rows = g.L.Leaf.beside_of in
+    let rows = g.L.Leaf.context_of in
     let l = c.loop-done in
     let all = all_done tree (tree l.node) l.done.items c.deref.result.now c.in_ok-child.field-0
     c.deref.ensures.value c.in_ok-child.ensures.answer c.in-None.is in
@@ -103,7 +103,7 @@ mark_settled-requires g c =
 pub returns-in_default-pop-clause-answer : goal.returns-in_default-pop-clause-answer
 returns-in_default-pop-clause-answer g c =
     let tree = g.L.Leaf.tree_of in
-    let rows = g.L.Leaf.beside_of in
+    let rows = g.L.Leaf.context_of in
     let rule = g.L.Leaf.rule in
     let l = c.loop-done in
     let all = all_done tree (tree l.node) l.done.items c.deref.result.now c.in_ok-child.field-0
@@ -128,7 +128,7 @@ loop-done-smaller g c =
 pub loop-done-preserved : goal.loop-done-preserved
 loop-done-preserved g c =
     let tree = g.L.Leaf.tree_of in
-    let rows = g.L.Leaf.beside_of in
+    let rows = g.L.Leaf.context_of in
     let rule = g.L.Leaf.rule in
     let l = c.loop-done in
     let all = all_done tree (tree l.node) l.done.items c.deref.result.now c.in_ok-child.field-0

@@ -6,7 +6,7 @@ use Rattle.vortex_rewriting.proofs.driver.seek.Given as goal
 abbrev pub invariant-loop-done : goal.invariant-loop-done
 invariant-loop-done g l =
     let B = g.L.Leaf in
-    IsWalk B.tree_of g.L.Leaf.rule B.beside_of l.fn.above.items l.fn.node
+    IsWalk B.tree_of g.L.Leaf.rule B.context_of l.fn.above.items l.fn.node
     l.above.items l.node l.done.items
 
 abbrev pub decreases-loop-done : goal.decreases-loop-done

@@ -57,7 +57,7 @@ returns-then-steps-limit-clause-done g c =
 pub loop-tree-preserved : goal.loop-tree-preserved
 loop-tree-preserved g c =
     let tree = g.L.Leaf.tree_of in
-    let rows = g.L.Leaf.beside_of in
+    let rows = g.L.Leaf.context_of in
     let rule = g.L.Leaf.rule in
     let l = c.loop-tree in
     let root = plug (frames_in tree l.above.items) (tree l.place) in

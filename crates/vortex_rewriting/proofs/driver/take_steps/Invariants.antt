@@ -7,7 +7,7 @@ use Rattle.vortex_rewriting.proofs.driver.take_steps.Given as goal
 abbrev pub invariant-loop-tree : goal.invariant-loop-tree
 invariant-loop-tree g l =
     let tree = g.L.Leaf.tree_of in
-    let rows = g.L.Leaf.beside_of in
+    let rows = g.L.Leaf.context_of in
     let rule = g.L.Leaf.rule in
     record {
       run : Runs rule l.steps (tree l.tree) (plug (frames_in tree l.above.items) (tree l.place));

@@ -7,7 +7,7 @@ use Rattle.vortex_rewriting.proofs.frames.closed.Goals as goal
 pub loop-done-preserved : goal.loop-done-preserved
 loop-done-preserved g c =
     let tree = g.L.Leaf.tree_of in
-    let rows = g.L.Leaf.beside_of in
+    let rows = g.L.Leaf.context_of in
     let node = c.args.frame.node in
     let done = c.loop-done.done.items in
     let more = c.push.new.self.items in

@@ -7,7 +7,7 @@ use Rattle.vortex_rewriting.proofs.frames.closed.Given as goal
 abbrev pub invariant-loop-done : goal.invariant-loop-done
 invariant-loop-done g l =
     let tree = g.L.Leaf.tree_of in
-    let rows = g.L.Leaf.beside_of in
+    let rows = g.L.Leaf.context_of in
     record {
       same : partly (tree l.node) (map tree l.done.items)
           ≡ partly (tree l.node) (map tree l.initial.done.items);

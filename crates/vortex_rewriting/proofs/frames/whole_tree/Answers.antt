@@ -17,7 +17,7 @@ closed-requires-clause-typed g c =
 
 pub closed-requires-clause-same_rows : goal.closed-requires-clause-same_rows
 closed-requires-clause-same_rows g c =
-    let rows = g.L.Leaf.beside_of in
+    let rows = g.L.Leaf.context_of in
     let l = c.loop-frame in
     let f = c.in-Some.frame in
     let here = rows_above rows (rows c.args.place) l.above.items c.pop.new.self.items f
@@ -29,7 +29,7 @@ closed-requires-clause-same_rows g c =
 pub loop-frame-preserved : goal.loop-frame-preserved
 loop-frame-preserved g c =
     let tree = g.L.Leaf.tree_of in
-    let rows = g.L.Leaf.beside_of in
+    let rows = g.L.Leaf.context_of in
     let l = c.loop-frame in
     let rest = c.pop.new.self.items in
     let f = c.in-Some.frame in

@@ -6,7 +6,7 @@ use Rattle.vortex_rewriting.proofs.frames.whole_tree.Given as goal
 abbrev pub invariant-loop-frame : goal.invariant-loop-frame
 invariant-loop-frame g l =
     let tree = g.L.Leaf.tree_of in
-    let rows = g.L.Leaf.beside_of in
+    let rows = g.L.Leaf.context_of in
     record {
       frames : AreFrames g.L.Leaf.rule (frames_in tree l.above.items);
       same : plug (frames_in tree l.above.items) (tree l.whole)

@@ -12,7 +12,7 @@ returns-in-Some g c =
     let m = g.C.ScalarFnVTable.meaning in
     let r = g.C.ScalarFnVTable.rules in
     let tree = g.L.Leaf.tree_of in
-    let rows = g.L.Leaf.beside_of in
+    let rows = g.L.Leaf.context_of in
     let seen = node_seen tree rows in
     let s = seen c.new-node.result in
     let table = reduce m r s.tree in
@@ -34,7 +34,7 @@ returns g c =
     let m = g.C.ScalarFnVTable.meaning in
     let r = g.C.ScalarFnVTable.rules in
     let tree = g.L.Leaf.tree_of in
-    let seen = node_seen tree g.L.Leaf.beside_of in
+    let seen = node_seen tree g.L.Leaf.context_of in
     let s = seen c.new-node.result in (
       ap (option_map (tree_by seen)) (sym c.in-None.is)
           ∙ made_tree seen s (reduce m r s.tree) c.in_ok-made.field-0 c.in_ok-made.ensures

@@ -9,7 +9,7 @@ use Rattle.vortex_rewriting.proofs.ways.way_down.Goals as goal
 pub loop-first-preserved : goal.loop-first-preserved
 loop-first-preserved g c =
     let tree = g.L.Leaf.tree_of in
-    let rows = g.L.Leaf.beside_of in
+    let rows = g.L.Leaf.context_of in
     let f : Parent g.row.L-Seen.Denot → Tree g.row.C.Denot g.row.C-Options.Denot × ℕ =
     λ p. (tree p.node.now, p.index) in
     let i = c.loop-first.invariant in

@@ -5,7 +5,7 @@ use Rattle.vortex_rewriting.proofs.ways.way_down.Given as goal
 abbrev pub invariant-loop-first : goal.invariant-loop-first
 invariant-loop-first g l =
     let tree = g.L.Leaf.tree_of in
-    let rows = g.L.Leaf.beside_of in
+    let rows = g.L.Leaf.context_of in
     IsWay (map (λ p. (tree p.node.now, p.index)) l.parents.items) (tree l.tree) (tree l.place)
     × LeadsOn l.path (tree l.tree) (map (λ p. (tree p.node.now, p.index)) l.parents.items)
     l.left (tree l.place)

@@ -36,7 +36,7 @@ pub loop-parent-preserved : goal.loop-parent-preserved
 loop-parent-preserved g c =
     let m = g.C.ScalarFnVTable.meaning in
     let tree = g.L.Leaf.tree_of in
-    let rows = g.L.Leaf.beside_of in
+    let rows = g.L.Leaf.context_of in
     let f : Parent g.row.L-Seen.Denot → Tree g.row.C.Denot g.row.C-Options.Denot × ℕ =
     λ p. (tree p.node.now, p.index) in
     let i = c.loop-parent.invariant in

@@ -8,7 +8,7 @@ abbrev pub invariant-loop-parent : goal.invariant-loop-parent
 invariant-loop-parent g l =
     let m = g.C.ScalarFnVTable.meaning in
     let tree = g.L.Leaf.tree_of in
-    let rows = g.L.Leaf.beside_of in
+    let rows = g.L.Leaf.context_of in
     (x : Tree g.row.C.Denot g.row.C-Options.Denot)
     × IsWay (map (λ p. (tree p.node.now, p.index)) l.parents.items) (tree l.tree) x
     × (tree_type m (tree l.made) ≡ tree_type m x)

@@ -49,7 +49,7 @@ drop-tree-requires g t c κs within =
     ap N c.in-Some-pop.ensures.items
     ∙ nodes_count_push l.tree_of c.pop.new.self.items c.in-Some-pop.tree in
     let emptied : Inside _ _ _ _ _ =
-    record { node = c.replace.new.dest; beside = c.tree.inside.beside } in
+    record { node = c.replace.new.dest; context = c.tree.inside.context } in
     let blank = opened l (tree_view l.tree_of l.see l.seen emptied) emptied _ refl
     c.replace.ensures.after in
     let one = ap node_count blank ∙ one_node _ (l.not_called c.blank-nothing.result) in

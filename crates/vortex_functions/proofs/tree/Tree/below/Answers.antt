@@ -10,16 +10,16 @@ pub returns-in-Leaf : goal.returns-in-Leaf
 returns-in-Leaf g c =
     let l = g.L.Leaf in
     let is = seen_as l c.args.self.now c.self.inside _ c.self.view_is c.in-Leaf.is in
-    sym (ap l.children is ∙ leaf_has_none l c.in-Leaf.field-0 c.self.inside.beside)
+    sym (ap l.children is ∙ leaf_has_none l c.in-Leaf.field-0 c.self.inside.context)
 
 pub returns-in-Call : goal.returns-in-Call
 returns-in-Call g c =
     let l = g.L.Leaf in
     let m = g.C.ScalarFnVTable.meaning in
-    let b = c.self.inside.beside in
+    let b = c.self.inside.context in
     let is = seen_as l c.args.self.now c.self.inside _ c.self.view_is c.in-Call.is in
     let node =
-    subst (λ x. IsNode l.tree_of l.beside_of m l.rule l.fits b x) c.in-Call.is
+    subst (λ x. IsNode l.tree_of l.context_of m l.rule l.fits b x) c.in-Call.is
     c.self.invariant.0 in
     let parts = c.in-Call.parts.value in
     c.deref-in-Call.ensures.value

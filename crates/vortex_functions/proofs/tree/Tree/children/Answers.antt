@@ -11,5 +11,5 @@ returns-clause-trees g c =
 pub returns-clause-same_rows : goal.returns-clause-same_rows
 returns-clause-same_rows g c =
     let l = g.L.Leaf in
-    subst (All (λ x. l.beside_of x ≡ l.beside_of c.args.self.now)) (sym c.below.ensures)
+    subst (All (λ x. l.context_of x ≡ l.context_of c.args.self.now)) (sym c.below.ensures)
     (children_beside_it l c.args.self.now)

@@ -77,7 +77,7 @@ invariant_of-result g c =
             c.deref-3.ensures.value),
         λ marked. absurd (true≢false (sym marked)),
       ),
-      g.L.Leaf.whole_call f c.args.beside xs whole c.requires,
+      g.L.Leaf.whole_call f c.args.context xs whole c.requires,
     )
 
 -- the call, and what stands beside it
@@ -91,5 +91,5 @@ returns g c =
     rw c.in_ok-new.ensures.ok (
       is_call tree_of m f xs c.deref-2.result.now fit.1 fit.0 (type_of c.in_ok-dtype.dtype) _
           c.in_ok-dtype.ensures (g.L.Leaf.tree_of_see _ _),
-      g.L.Leaf.beside_of_see _ _,
+      g.L.Leaf.context_of_see _ _,
     )

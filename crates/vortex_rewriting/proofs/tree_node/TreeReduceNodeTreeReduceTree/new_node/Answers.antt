@@ -10,10 +10,10 @@ use Rattle.vortex_rewriting.proofs.tree_node.TreeReduceNodeTreeReduceTree.new_no
 
 pub try_call-requires : goal.try_call-requires
 try_call-requires g c =
-    let beside = g.L.Leaf.beside_of in
-    subst (All (λ t. beside t ≡ c.beside.result)) (sym c.in_ok-copies.ensures)
-    (All-map (λ t. beside t ≡ c.beside.result) (λ n. cow_value n.tree) c.args.children.now
-    (λ k d lt. c.requires k d lt ∙ ap beside (sym c.tree.ensures) ∙ sym c.beside.ensures))
+    let context = g.L.Leaf.context_of in
+    subst (All (λ t. context t ≡ c.context.result)) (sym c.in_ok-copies.ensures)
+    (All-map (λ t. context t ≡ c.context.result) (λ n. cow_value n.tree) c.args.children.now
+    (λ k d lt. c.requires k d lt ∙ ap context (sym c.tree.ensures) ∙ sym c.context.ensures))
 
 pub returns-in_err-call : goal.returns-in_err-call
 returns-in_err-call g c =
@@ -29,9 +29,9 @@ pub returns : goal.returns
 returns g c =
     let m = g.C.ScalarFnVTable.meaning in
     let f = function_of c.args.function in
-    let beside = g.L.Leaf.beside_of in (
+    let context = g.L.Leaf.context_of in (
       subst (λ ts. IsCall m f ts (g.L.Leaf.tree_of c.in_ok-call.call))
           (trees_of_copies g.L.Leaf.tree_of c.args.children.now c.in_ok-copies.copies.items
           c.in_ok-copies.ensures) c.in_ok-call.ensures.0,
-      c.in_ok-call.ensures.1 ∙ c.beside.ensures ∙ ap beside c.tree.ensures,
+      c.in_ok-call.ensures.1 ∙ c.context.ensures ∙ ap context c.tree.ensures,
     )

@@ -17,14 +17,14 @@ pub call_rows-requires-clause-typed : goal.call_rows-requires-clause-typed
 call_rows-requires-clause-typed g c =
     let m = g.C.ScalarFnVTable.meaning in
     let node =
-    subst (IsArrayNode m g.C.ScalarFnVTable.rules c.self.inside.beside) c.in-Call.is
+    subst (IsArrayNode m g.C.ScalarFnVTable.rules c.self.inside.context) c.in-Call.is
     c.self.invariant.0 in
     subst (λ p. tree_type m (call_of tree_in p) ≡ Some (type_of p.dtype)) (sym c.deref.ensures)
     node.0
 
 pub call_rows-requires-clause-inputs : goal.call_rows-requires-clause-inputs
 call_rows-requires-clause-inputs g c =
-    let n = c.self.inside.beside in
+    let n = c.self.inside.context in
     let parts = c.deref.result.now in
     let is =
     seen c.args.self.now c.self.inside _ c.self.view_is c.in-Call.is
@@ -37,7 +37,7 @@ call_rows-requires-clause-inputs g c =
 pub returns-in_err-call_rows-in-Call : goal.returns-in_err-call_rows-in-Call
 returns-in_err-call_rows-in-Call g c =
     let m = g.C.ScalarFnVTable.meaning in
-    let n = c.self.inside.beside in
+    let n = c.self.inside.context in
     let parts = c.deref.result.now in
     let is =
     seen c.args.self.now c.self.inside _ c.self.view_is c.in-Call.is
@@ -52,7 +52,7 @@ returns-in_err-call_rows-in-Call g c =
 pub returns : goal.returns
 returns g c =
     let m = g.C.ScalarFnVTable.meaning in
-    let n = c.self.inside.beside in
+    let n = c.self.inside.context in
     let parts = c.deref.result.now in
     let is =
     seen c.args.self.now c.self.inside _ c.self.view_is c.in-Call.is
@@ -65,7 +65,7 @@ returns g c =
 pub returns-in-Leaf : goal.returns-in-Leaf
 returns-in-Leaf g c =
     let m = g.C.ScalarFnVTable.meaning in
-    let n = c.self.inside.beside in
+    let n = c.self.inside.context in
     let is = seen c.args.self.now c.self.inside _ c.self.view_is c.in-Leaf.is in
     let node = subst (IsArrayNode m g.C.ScalarFnVTable.rules n) c.in-Leaf.is c.self.invariant.0 in
     rw c.column.ensures

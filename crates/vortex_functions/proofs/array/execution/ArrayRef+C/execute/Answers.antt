@@ -8,7 +8,7 @@ use Rattle.vortex_functions.proofs.array.execution.ArrayRef+C.execute.Goals as g
 pub returns-in-Leaf-clause-answer : goal.returns-in-Leaf-clause-answer
 returns-in-Leaf-clause-answer g c =
     let m = g.C.ScalarFnVTable.meaning in
-    let n = c.self.inside.beside in
+    let n = c.self.inside.context in
     let is = seen c.args.self.now c.self.inside _ c.self.view_is c.in-Leaf.is in
     let node = subst (IsArrayNode m g.C.ScalarFnVTable.rules n) c.in-Leaf.is c.self.invariant.0 in
     rw c.column.ensures
