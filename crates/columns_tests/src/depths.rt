@@ -1,14 +1,10 @@
-//! Types, values and columns of many levels, for which no calls stand within calls.
+//! Types and values of many levels, for which no calls stand within calls.
 
 use crate::order::stand;
-use crate::taken::are_below;
-use fixtures::{Ask, Made, boxed, fields, kept, names, same};
+use fixtures::{Ask, boxed, fields, same};
 use std::alloc::Global;
 use std::cmp::Ordering;
-use vortex_columns::{
-    Column, DType, ExecutionCtx, Nullability, Scalar, ScalarValue, StructFields, Validity,
-    VortexResult,
-};
+use vortex_columns::{DType, Nullability, Scalar, ScalarValue, StructFields, VortexResult};
 
 const NO: Nullability = Nullability::NonNullable;
 
@@ -16,12 +12,6 @@ const YES: Nullability = Nullability::Nullable;
 
 /// More than calls within calls would reach.
 const LEVELS: usize = 200_000;
-
-/// Of columns within columns. Each holds its whole type: their memory goes by the square of this.
-const COLUMNS: usize = 1_000;
-
-/// Of records, whose types hold names too.
-const RECORDS: usize = 500;
 
 /// Lists within lists, around that type.
 fn lists_of(alloc: Global, inner: DType) -> VortexResult<DType> {
@@ -156,47 +146,6 @@ fn keyed(alloc: Global) -> VortexResult<Scalar> {
         value = Some(ScalarValue::List(entries));
     }
     Scalar::try_new(maps_by_key(alloc)?, value)
-}
-
-/// Lists of one element within one another, in one row.
-fn singles(alloc: Global) -> Made {
-    let mut column = kept(alloc, Ok(Column::null(1)))?;
-    for _ in 0..COLUMNS {
-        let elements = Box::into_inner(column);
-        let validity = Validity::NonNullable;
-        column = kept(
-            alloc,
-            Column::try_fixed_size_list(alloc, elements, 1, 1, validity),
-        )?;
-    }
-    Ok(column)
-}
-
-/// Records of one field within one another, in one row.
-fn records(alloc: Global) -> Made {
-    let mut column = kept(alloc, Ok(Column::null(1)))?;
-    for _ in 0..RECORDS {
-        let words = names(alloc, &["a"])?;
-        let mut parts = Vec::new(alloc);
-        parts.push(Box::into_inner(column))?;
-        let validity = Validity::NonNullable;
-        column = kept(alloc, Column::try_struct(alloc, words, parts, 1, validity))?;
-    }
-    Ok(column)
-}
-
-/// How many rows of these numbers are taken.
-fn taken_rows(alloc: Global, column: &Column, codes: &[u32]) -> VortexResult<usize> {
-    if !are_below(codes, column.len()) {
-        return Ok(0);
-    }
-    let taken = kept(alloc, column.take(codes, &mut ExecutionCtx::new(alloc)))?;
-    Ok(taken.len())
-}
-
-/// Whether the one row of a column is taken twice.
-fn is_taken_twice(alloc: Global, column: Made) -> VortexResult<bool> {
-    Ok(taken_rows(alloc, &*column?, &[0, 0])? == 2)
 }
 
 /// Whether two literals are equal where they lie.
@@ -408,13 +357,6 @@ fn deep_values_are_compared(rt: HostRuntime) {
         first_values(alloc, 2),
     );
     assert!(rt; rt.yes(less));
-}
-
-#[test]
-fn rows_of_deep_columns_are_taken(rt: HostRuntime) {
-    let alloc = rt.alloc();
-    assert!(rt; rt.yes(is_taken_twice(alloc, singles(alloc))));
-    assert!(rt; rt.yes(is_taken_twice(alloc, records(alloc))));
 }
 
 #[test]

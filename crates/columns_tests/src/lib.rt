@@ -6,6 +6,8 @@ mod bits;
 #[cfg(test)]
 mod columns;
 #[cfg(test)]
+mod deep_columns;
+#[cfg(test)]
 mod depths;
 #[cfg(test)]
 mod errors;

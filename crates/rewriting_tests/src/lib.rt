@@ -1,17 +1,13 @@
-//! Tests of array trees and of rules: at the root of both kinds of tree, at places, in runs, and of
-//! callers' functions.
+//! Tests of array trees, and of rules at places of either kind of tree, in runs, and of callers'
+//! functions.
 #![tactic(auto)]
 
 #[cfg(test)]
-mod array_rules;
+mod array_places;
 #[cfg(test)]
 mod arrays;
 #[cfg(test)]
 mod blanks;
-#[cfg(test)]
-mod callers_rules;
-#[cfg(test)]
-mod calls;
 #[cfg(test)]
 mod growing;
 #[cfg(test)]
@@ -23,8 +19,4 @@ mod readme;
 #[cfg(test)]
 mod rewriting;
 #[cfg(test)]
-mod rules;
-#[cfg(test)]
 mod running;
-#[cfg(test)]
-mod shipped;

@@ -1,4 +1,4 @@
-//! Tests of scripts: what they print, and how they end.
+//! Tests of scripts: what they print, and how they end; and of expressions as people write them.
 #![tactic(auto)]
 
 #[cfg(test)]
@@ -11,6 +11,7 @@ mod cells;
 mod docs;
 #[cfg(test)]
 mod endings;
+pub mod expressions;
 #[cfg(test)]
 mod hostile;
 #[cfg(test)]

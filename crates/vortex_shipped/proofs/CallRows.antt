@@ -21,11 +21,11 @@ module _ (s : Shipped) (cs ds : List ColumnView) (given : cs ≡ ds) (n k : ℕ)
 
   pub call_rows : (c : ColumnView) → HasRows t k value c → Rows c
   call_rows c h = record {
-    dtype = ap (λ as. shipped_type s (types_in as)) given ∙ typed ∙ ap Some (sym h.dtype);
+    dtype = ap (λ xs. shipped_type s (types_in xs)) given ∙ typed ∙ ap Some (sym h.dtype);
     count = h.count ∙ e;
     each = λ i lt.
         let within : i < k = omega (arith, e) in
-        ap (λ as. call_row (shipped_means s) as i) given ∙ means i ∙ ap gives (sym (h.each i within));
+        ap (λ xs. call_row (shipped_means s) xs i) given ∙ means i ∙ ap gives (sym (h.each i within));
   }
 
   -- of an answer that is refused for memory alone

@@ -1,5 +1,5 @@
 //! Levels beside one another, as PostgreSQL reads them.
-use crate::reads_as;
+use crate::expressions::reads_as;
 
 #[test]
 fn neighbours(rt: HostRuntime) {

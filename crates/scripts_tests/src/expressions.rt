@@ -1,5 +1,4 @@
 //! Tests of expressions as people write them.
-#![tactic(auto)]
 
 #[cfg(test)]
 mod levels;

@@ -1,5 +1,5 @@
 //! Texts that are refused, with the byte.
-use crate::is_refused;
+use crate::expressions::is_refused;
 use std::alloc::{AllocError, Global};
 use vortex_syntax::SyntaxError;
 

@@ -1,5 +1,5 @@
 //! Words, literals, gaps and quotes.
-use crate::reads_as;
+use crate::expressions::reads_as;
 
 #[test]
 fn literals(rt: HostRuntime) {

@@ -1,0 +1,140 @@
+//! Rules at places of an array tree.
+
+use fixtures::{Ask, are_rows, nullable_bools};
+use std::alloc::Global;
+use tree_fixtures::array_makers::*;
+use vortex_row_fn::*;
+
+/// Whether the array of a column without rules at its root is left as it is, with its rows.
+fn column_stays(alloc: Global, rows: &[Option<bool>]) -> VortexResult<bool> {
+    let column = nullable_bools(alloc, rows)?;
+    let array = ArrayRef::<NoCustom>::column(alloc, Box::into_inner(column))?;
+    let array = Box::new(alloc, array)?;
+    let made = Box::new(alloc, array.optimize_recursive(alloc, 3)?)?;
+    let is_same = made.done && made.steps == 0 && made.tree.len() == rows.len();
+    Ok(is_same && made.tree.as_column().is_some())
+}
+
+/// Whether an array tests for null, optimized, answers these rows after so many steps.
+fn null_test_answers(
+    rt: HostRuntime,
+    rows: &[Option<bool>],
+    wanted: &[Option<bool>],
+) -> VortexResult<bool> {
+    let alloc = rt.alloc();
+    let column = nullable_bools(alloc, rows)?;
+    let array = ArrayRef::<NoCustom>::column(alloc, Box::into_inner(column))?;
+    let test = Box::new(alloc, IsNull::new(alloc, array)?.into_array())?;
+    let made = Box::new(alloc, test.optimize_recursive(alloc, 5)?)?;
+    let mut ctx = ExecutionCtx::new(alloc);
+    let answer = Box::new(alloc, made.tree.execute(&mut ctx)?)?;
+    Ok(are_rows(rt, &**answer, wanted)? && made.done && made.steps == 1)
+}
+
+#[test]
+fn array_trees_are_rewritten(rt: HostRuntime) {
+    let alloc = rt.alloc();
+    let rows = [Some(true), Some(true), None];
+    assert!(rt; rt.yes(column_stays(alloc, &rows)));
+    let missing = [Some(false), Some(false), Some(true)];
+    assert!(rt; rt.yes(null_test_answers(rt, &rows, &missing)));
+}
+
+/// Whether And of `x` and `y` is null, as an array tree.
+fn missing_both<C: ScalarFnVTable>(alloc: Global) -> Held<C> {
+    let both = Box::into_inner(over_columns(alloc, x(alloc), Operator::And, y(alloc))?);
+    made(alloc, IsNull::new(alloc, both))
+}
+
+/// What a rule makes of an array at a place.
+fn array_at<C: ScalarFnRules>(
+    alloc: Global,
+    array: Held<C>,
+    path: &[usize],
+    rule: Rule,
+) -> VortexResult<Option<Box<ArrayRef<C>>>> {
+    match array?.rewrite_at(alloc, path, rule)? {
+        Some(made) => Ok(Some(Box::new(alloc, made)?)),
+        None => Ok(None),
+    }
+}
+
+/// Whether a rule at a place of an array makes one of these rows.
+fn array_becomes<C: ScalarFnRules>(
+    rt: HostRuntime,
+    array: Held<C>,
+    path: &[usize],
+    rule: Rule,
+    wanted: &[Option<bool>],
+) -> VortexResult<bool> {
+    let alloc = rt.alloc();
+    match array_at(alloc, array, path, rule)? {
+        Some(made) => array_answers(rt, Ok(made), wanted),
+        None => Ok(false),
+    }
+}
+
+/// Whether a rule does not apply at a place of an array.
+fn array_stays<C: ScalarFnRules>(
+    alloc: Global,
+    array: Held<C>,
+    path: &[usize],
+    rule: Rule,
+) -> VortexResult<bool> {
+    Ok(array_at(alloc, array, path, rule)?.is_none())
+}
+
+/// Where `x` is null.
+const MISSING: [Option<bool>; 3] = [Some(false), Some(false), Some(true)];
+
+#[test]
+fn a_rule_applies_at_a_place_of_an_array(rt: HostRuntime) {
+    let alloc = rt.alloc();
+    let missing = missing_both::<NoCustom>(alloc);
+    assert!(rt; rt.yes(array_becomes(rt, missing, &[], Rule::Reduce, &MISSING)));
+    let missing = missing_both::<NoCustom>(alloc);
+    assert!(rt; rt.yes(array_stays(alloc, missing, &[0], Rule::Reduce)));
+    let missing = missing_both::<NoCustom>(alloc);
+    assert!(rt; rt.yes(array_stays(alloc, missing, &[], Rule::Simplify)));
+    let nowhere = array_at(alloc, missing_both::<NoCustom>(alloc), &[1], Rule::Reduce);
+    assert!(rt; rt.is_refused(nowhere, "NoSuchPlace"));
+}
+
+/// What a list of steps makes of an array.
+fn array_listed<C: ScalarFnRules>(
+    alloc: Global,
+    array: Held<C>,
+    steps: &[(&[usize], Rule)],
+) -> VortexResult<Box<Rewritten<ArrayRef<C>>>> {
+    Ok(Box::new(alloc, array?.rewrite_list(alloc, steps)?)?)
+}
+
+/// Whether a list of steps makes an array of these rows, so many of them applied.
+fn array_lists_to<C: ScalarFnRules>(
+    rt: HostRuntime,
+    array: Held<C>,
+    steps: &[(&[usize], Rule)],
+    wanted: &[Option<bool>],
+    applied: usize,
+) -> VortexResult<bool> {
+    let alloc = rt.alloc();
+    let made = array_listed(alloc, array, steps)?;
+    let mut ctx = ExecutionCtx::new(alloc);
+    let answer = Box::new(alloc, made.tree.execute(&mut ctx)?)?;
+    Ok(are_rows(rt, &**answer, wanted)? && made.applied == applied)
+}
+
+#[test]
+fn rules_apply_to_an_array_one_after_another(rt: HostRuntime) {
+    let alloc = rt.alloc();
+    let steps: [(&[usize], Rule); 3] = [
+        (&[], Rule::Reduce),
+        (&[0], Rule::Reduce),
+        (&[0], Rule::Simplify),
+    ];
+    let missing = missing_both::<NoCustom>(alloc);
+    assert!(rt; rt.yes(array_lists_to(rt, missing, &steps, &MISSING, 2)));
+    let outside: [(&[usize], Rule); 2] = [(&[], Rule::Reduce), (&[0, 5], Rule::Reduce)];
+    let refused = array_listed(alloc, missing_both::<NoCustom>(alloc), &outside);
+    assert!(rt; rt.is_refused(refused, "NoSuchPlace"));
+}
