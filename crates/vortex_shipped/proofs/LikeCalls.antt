@@ -65,7 +65,7 @@ pub like_call : (options : LikeOptions) (cs : List ColumnView) (l r : ColumnView
     → AnswersShipped (Like options) cs n answer
 like_call options cs l r n two answer e h =
     let t = bool_type (is_nullable l.dtype || is_nullable r.dtype) in
-    let value = λ i. like_value options (row l.rows i) (row r.rows i) in
+    let value = λ (i : ℕ). like_value options (row l.rows i) (row r.rows i) in
     call_answered (Like options) cs (l ∷ r ∷ []) two.both n (length l.rows) e t value
     (like_type_is l.dtype r.dtype two.input two.pattern) (λ i. refl) answer
     (Answers-weaker answer (HasLikeRows options l r) (HasRows t (length l.rows) value) (λ f. ⊥)
