@@ -1,6 +1,6 @@
 -- From the answer of Between over its inputs to that of its call.
 use Rattle.std.proofs.Common.{◌≡◌, ℕ, Bool, true, false, List, [], ◌∷◌, length, get_or, Some}
-use Rattle.std.proofs.Common.{None, refl, sym, ap, ◌∙◌, arith, cond}
+use Rattle.std.proofs.Common.{None, refl, ap, arith, cond, subst}
 use Rattle.std.specs.Prelude.{IsSome, slice_get, ◌&&◌, Result}
 use Rattle.vortex_errors.specs.declared.error.VortexError.{VortexError}
 use Rattle.vortex_errors.specs.Answers.{AnswersUnlessMemory}
@@ -15,6 +15,7 @@ use Rattle.vortex_interface.specs.Shipped.{Between}
 use Rattle.vortex_interface.specs.Shipped.BetweenFunction.{bounded_type}
 use Rattle.vortex_interface.specs.Answering.{AnswersShipped}
 use Rattle.vortex_shipped.proofs.CallRows.{call_answered}
+use Rattle.vortex_shipped.proofs.Inputs.{three_inputs}
 
 -- a list of three items
 pub three_items : {A : Type 0} (xs : List A) (a b d : A) → length xs ≡ 3 → a ≡ get_or xs 0 a
@@ -43,24 +44,14 @@ three_of a b d h = by (alike_types a.dtype b.dtype && alike_types a.dtype d.dtyp
     by true k = refl
     by false k = cc
 
-pub three_alike : (cs : List ColumnView) (x lower upper : ColumnView)
+pub three_alike : (cs : List ColumnView) (x lower upper : ColumnView) → length cs ≡ 3
     → IsSome (bounded_type (types_in cs))
     → slice_get cs 0 ≡ Some x → slice_get cs 1 ≡ Some lower → slice_get cs 2 ≡ Some upper
     → ThreeAlike cs x lower upper
-three_alike [] x lower upper h p q r = cc
-three_alike (a ∷ []) x lower upper h p q r = cc
-three_alike (a ∷ b ∷ []) x lower upper h p q r = cc
-three_alike (a ∷ b ∷ d ∷ []) x lower upper h p q r =
-    let e : a ≡ x = cc in
-    let f : b ≡ lower = cc in
-    let g : d ≡ upper = cc in
-    record {
-      all = cc;
-      alike =
-          sym (λ i. alike_types (e i).dtype (f i).dtype && alike_types (e i).dtype (g i).dtype)
-          ∙ three_of a b d h;
-    }
-three_alike (a ∷ b ∷ d ∷ k ∷ cs) x lower upper h p q r = cc
+three_alike cs x lower upper n h p q r =
+    let all = three_inputs cs x lower upper n p q r in
+    let accepted = subst (λ xs. IsSome (bounded_type (types_in xs))) all h in
+    record { all = all; alike = three_of x lower upper accepted }
 
 pub between_call : (options : BetweenOptions) (cs : List ColumnView)
     (x lower upper : ColumnView) (n : ℕ)

@@ -25,6 +25,7 @@ use Rattle.vortex_interface.specs.Shipped.BinaryFunction.{value_by, operator_val
 use Rattle.vortex_operators.specs.Arithmetic.{numeric_operator_of}
 use Rattle.vortex_interface.specs.Answering.{AnswersShipped}
 use Rattle.vortex_shipped.proofs.CallRows.{call_rows}
+use Rattle.vortex_shipped.proofs.Inputs.{two_inputs}
 
 -- the call's column, and its fault
 abbrev Rows : Operator → List ColumnView → ℕ → ColumnView → Type 0
@@ -32,9 +33,6 @@ Rows op = HasCallRows (operator_type op) (shipped_means (Binary op))
 
 abbrev Fault : Operator → List ColumnView → ℕ → VortexError → Type 0
 Fault op = IsCallFault (shipped_means (Binary op))
-
-abbrev IsBool : ColumnView → Type 0
-IsBool c = is_bool_type c.dtype ≡ true
 
 -- the two inputs of an operator that accepts them
 pub record TwoBools (op : Operator) (cs : List ColumnView) (l r : ColumnView) : Type 0 where
@@ -71,32 +69,17 @@ both_of : (a b : LogicalType) → IsSome (both_bool (a ∷ b ∷ []))
 both_of (bool_type n) (bool_type m) h = (refl, refl)
 both_of a b h = cc
 
-not_three : (a b d : LogicalType) (ts : List LogicalType) → IsSome (both_bool (a ∷ b ∷ d ∷ ts)) → ⊥
-not_three (bool_type n) (bool_type m) d ts h = cc
-not_three a b d ts h = cc
-
 pub two_bools : (op : Operator) (cs : List ColumnView) (l r : ColumnView)
-    → compare_operator_of op ≡ None → numeric_operator_of op ≡ None
+    → compare_operator_of op ≡ None → numeric_operator_of op ≡ None → length cs ≡ 2
     → IsSome (operator_type op (types_in cs))
     → slice_get cs 0 ≡ Some l → slice_get cs 1 ≡ Some r → TwoBools op cs l r
-two_bools op [] l r n m h p q = cc
-two_bools op (x ∷ []) l r n m h p q = cc
-two_bools op (x ∷ y ∷ []) l r n m h p q =
-    let a : x ≡ l = cc in
-    let b : y ≡ r = cc in
-    let o = accepted_operator op n m in
-    let both = subst IsSome (operator_type-boolean op (x.dtype ∷ y.dtype ∷ []) o) h in
-    let k = both_of x.dtype y.dtype both in
-    record {
-      operator = o;
-      both = cc;
-      left = subst IsBool a k.0;
-      right = subst IsBool b k.1;
-    }
-two_bools op (x ∷ y ∷ z ∷ cs) l r n m h p q =
-    let ts = x.dtype ∷ y.dtype ∷ z.dtype ∷ types_in cs in
-    let both = subst IsSome (operator_type-boolean op ts (accepted_operator op n m)) h in
-    absurd (not_three x.dtype y.dtype z.dtype (types_in cs) both)
+two_bools op cs l r none other n h p q =
+    let both = two_inputs cs l r n p q in
+    let o = accepted_operator op none other in
+    let typed = subst (λ xs. IsSome (operator_type op (types_in xs))) both h in
+    let bools = both_of l.dtype r.dtype
+    (subst IsSome (operator_type-boolean op (l.dtype ∷ r.dtype ∷ []) o) typed) in
+    record { operator = o; both = both; left = bools.0; right = bools.1 }
 
 both_type : (a b : LogicalType) → is_bool_type a ≡ true → is_bool_type b ≡ true
     → both_bool (a ∷ b ∷ []) ≡ Some (bool_type (is_nullable a || is_nullable b))
@@ -171,19 +154,13 @@ alike_of t u = by (alike_types t u)
 
 pub two_alike : (op : Operator) (compare : CompareOperator) (cs : List ColumnView)
     (l r : ColumnView)
-    → compare_operator_of op ≡ Some compare → IsSome (operator_type op (types_in cs))
+    → compare_operator_of op ≡ Some compare → length cs ≡ 2 → IsSome (operator_type op (types_in cs))
     → slice_get cs 0 ≡ Some l → slice_get cs 1 ≡ Some r → TwoAlike op compare cs l r
-two_alike op compare [] l r o h p q = cc
-two_alike op compare (x ∷ []) l r o h p q = cc
-two_alike op compare (x ∷ y ∷ []) l r o h p q =
-    let a : x ≡ l = cc in
-    let b : y ≡ r = cc in
-    let some = subst IsSome (operator_type-comparison op compare (x.dtype ∷ y.dtype ∷ []) o) h in
-    let k = alike_of x.dtype y.dtype some in
-    record { comparison = o; both = cc; alike = sym (λ i. alike_types (a i).dtype (b i).dtype) ∙ k }
-two_alike op compare (x ∷ y ∷ z ∷ cs) l r o h p q =
-    let ts = x.dtype ∷ y.dtype ∷ z.dtype ∷ types_in cs in
-    let none = subst IsSome (operator_type-comparison op compare ts o) h in cc
+two_alike op compare cs l r o n h p q =
+    let both = two_inputs cs l r n p q in
+    let typed = subst (λ xs. IsSome (operator_type op (types_in xs))) both h in
+    let some = subst IsSome (operator_type-comparison op compare (l.dtype ∷ r.dtype ∷ []) o) typed in
+    record { comparison = o; both = both; alike = alike_of l.dtype r.dtype some }
 
 compared_is : (t u : LogicalType) → alike_types t u ≡ true
     → compared_type (t ∷ u ∷ []) ≡ Some (comparison_type t u)

@@ -1,5 +1,5 @@
 -- The text of a call that is written part by part, over the texts of its arguments.
-use Rattle.std.proofs.Common.{◌≡◌, ℕ, zero, suc, ◌-◌, ◌<◌, ◌≤◌, length, map, List, [], ◌++◌, refl, sym}
+use Rattle.std.proofs.Common.{◌≡◌, ℕ, zero, suc, ◌-◌, ◌<◌, ◌≤◌, length, map, List, ◌++◌, refl, sym}
 use Rattle.std.proofs.Common.{ap, ◌∙◌, arith, string_bytes, subst, inr}
 use Rattle.std.specs.Prelude.{Some, Result, String}
 use Rattle.std.specs.declared.alloc.Global.{Global}

@@ -19,9 +19,9 @@ taken_by_not : (ts : List LogicalType) → IsSome (cast_type ts) → IsSome (not
 taken_by_not (bool_type n ∷ []) h = refl
 taken_by_not ts h = cc
 
-pub one_input : (cs : List ColumnView) (c : ColumnView)
+pub one_cast : (cs : List ColumnView) (c : ColumnView) → length cs ≡ 1
     → IsSome (cast_type (types_in cs)) → slice_get cs 0 ≡ Some c → OneBool cs c
-one_input cs c h p = one_bool cs c (taken_by_not (types_in cs) h) p
+one_cast cs c n h p = one_bool cs c n (taken_by_not (types_in cs) h) p
 
 cast_type_is : (t : LogicalType) → is_bool_type t ≡ true
     → cast_type (t ∷ []) ≡ Some (bool_type true)

@@ -3,6 +3,7 @@ pub mod BinaryCalls
 pub mod CallRows
 pub mod CallTexts
 pub mod CastCalls
+pub mod Inputs
 pub mod LikeCalls
 pub mod NotCalls
 pub mod NullTestCalls

@@ -16,6 +16,7 @@ use Rattle.vortex_interface.specs.Shipped.{Like}
 use Rattle.vortex_interface.specs.Shipped.LikeFunction.{like_type}
 use Rattle.vortex_interface.specs.Answering.{AnswersShipped}
 use Rattle.vortex_shipped.proofs.CallRows.{call_answered}
+use Rattle.vortex_shipped.proofs.Inputs.{two_inputs}
 
 -- the two inputs of LIKE
 pub record TwoTexts (cs : List ColumnView) (l r : ColumnView) : Type 0 where
@@ -28,30 +29,13 @@ both_of : (a b : LogicalType) → IsSome (like_type (a ∷ b ∷ []))
 both_of (text_type n) (text_type m) h = (refl, refl)
 both_of a b h = cc
 
-not_three : (a b d : LogicalType) (ts : List LogicalType) → IsSome (like_type (a ∷ b ∷ d ∷ ts)) → ⊥
-not_three (text_type n) (text_type m) d ts h = cc
-not_three a b d ts h = cc
-
-not_one : (a : LogicalType) → IsSome (like_type (a ∷ [])) → ⊥
-not_one (text_type n) h = cc
-not_one a h = cc
-
-pub two_texts : (cs : List ColumnView) (l r : ColumnView)
+pub two_texts : (cs : List ColumnView) (l r : ColumnView) → length cs ≡ 2
     → IsSome (like_type (types_in cs)) → slice_get cs 0 ≡ Some l → slice_get cs 1 ≡ Some r
     → TwoTexts cs l r
-two_texts [] l r h p q = cc
-two_texts (x ∷ []) l r h p q = absurd (not_one x.dtype h)
-two_texts (x ∷ y ∷ []) l r h p q =
-    let a : x ≡ l = cc in
-    let b : y ≡ r = cc in
-    let k = both_of x.dtype y.dtype h in
-    record {
-      both = cc;
-      input = subst (λ (c : ColumnView). is_text_type c.dtype ≡ true) a k.0;
-      pattern = subst (λ (c : ColumnView). is_text_type c.dtype ≡ true) b k.1;
-    }
-two_texts (x ∷ y ∷ z ∷ cs) l r h p q =
-    absurd (not_three x.dtype y.dtype z.dtype (types_in cs) h)
+two_texts cs l r n h p q =
+    let both = two_inputs cs l r n p q in
+    let texts = both_of l.dtype r.dtype (subst (λ xs. IsSome (like_type (types_in xs))) both h) in
+    record { both = both; input = texts.0; pattern = texts.1 }
 
 like_type_is : (a b : LogicalType) → is_text_type a ≡ true → is_text_type b ≡ true
     → like_type (a ∷ b ∷ []) ≡ Some (bool_type (is_nullable a || is_nullable b))

@@ -12,6 +12,7 @@ use Rattle.vortex_interface.specs.Shipped.{Not}
 use Rattle.vortex_interface.specs.Shipped.NotFunction.{not_type}
 use Rattle.vortex_interface.specs.Answering.{AnswersShipped}
 use Rattle.vortex_shipped.proofs.CallRows.{call_answered}
+use Rattle.vortex_shipped.proofs.Inputs.{one_input}
 
 -- the one input of Not
 pub record OneBool (cs : List ColumnView) (c : ColumnView) : Type 0 where
@@ -22,18 +23,11 @@ one_of : (a : LogicalType) → IsSome (not_type (a ∷ [])) → is_bool_type a �
 one_of (bool_type n) h = refl
 one_of a h = cc
 
-not_two : (a b : LogicalType) (ts : List LogicalType) → IsSome (not_type (a ∷ b ∷ ts)) → ⊥
-not_two (bool_type n) b ts h = cc
-not_two a b ts h = cc
-
-pub one_bool : (cs : List ColumnView) (c : ColumnView)
+pub one_bool : (cs : List ColumnView) (c : ColumnView) → length cs ≡ 1
     → IsSome (not_type (types_in cs)) → slice_get cs 0 ≡ Some c → OneBool cs c
-one_bool [] c h p = cc
-one_bool (x ∷ []) c h p =
-    let a : x ≡ c = cc in
-    let bool = subst (λ (d : ColumnView). is_bool_type d.dtype ≡ true) a (one_of x.dtype h) in
-    record { only = cc; bool = bool }
-one_bool (x ∷ y ∷ cs) c h p = absurd (not_two x.dtype y.dtype (types_in cs) h)
+one_bool cs c n h p =
+    let only = one_input cs c n p in
+    record { only = only; bool = one_of c.dtype (subst (λ xs. IsSome (not_type (types_in xs))) only h) }
 
 not_type_is : (t : LogicalType) → is_bool_type t ≡ true → not_type (t ∷ []) ≡ Some t
 not_type_is (bool_type n) h = refl

@@ -1,7 +1,7 @@
 -- From the answer of a null test over its input to that of its call.
 use Rattle.std.proofs.Common.{◌≡◌, ℕ, Bool, false, List, [], ◌∷◌, length, map, Option, Some, None}
 use Rattle.std.proofs.Common.{Ok, Err, refl, sym, subst}
-use Rattle.std.specs.Prelude.{IsSome, slice_get, Result}
+use Rattle.std.specs.Prelude.{slice_get, Result}
 use Rattle.vortex_errors.specs.declared.error.VortexError.{VortexError}
 use Rattle.vortex_errors.specs.declared.error.VortexError.TheVariants.{BadOptions}
 use Rattle.vortex_errors.specs.Answers.{UnlessMemory, Answers, AnswersUnlessMemory}
@@ -11,28 +11,22 @@ use Rattle.vortex_types.specs.LogicalTypes.{bool_type}
 use Rattle.vortex_types.specs.Values.{truth}
 use Rattle.vortex_columns.specs.ColumnView.{ColumnView, row}
 use Rattle.vortex_kernels.specs.NullTests.{HasTests}
-use Rattle.vortex_interface.specs.Outcomes.{types_in}
 use Rattle.vortex_interface.specs.Functions.{IsTypeMismatch}
 use Rattle.vortex_interface.specs.Shipped.{NullTest, IsNull}
 use Rattle.vortex_interface.specs.Shipped.NullTestFunctions.{null_test_type, null_test_value}
 use Rattle.vortex_interface.specs.Answering.{AnswersShipped, AnswersShippedType}
 use Rattle.vortex_interface.specs.OptionBytes.{ReadsOptions, MayReadOptions}
 use Rattle.vortex_shipped.proofs.CallRows.{call_answered}
-
-only_input : (cs : List ColumnView) (c : ColumnView)
-    → IsSome (null_test_type (types_in cs)) → slice_get cs 0 ≡ Some c → cs ≡ c ∷ []
-only_input [] c h p = cc
-only_input (x ∷ []) c h p = cc
-only_input (x ∷ y ∷ cs) c h p = cc
+use Rattle.vortex_shipped.proofs.Inputs.{one_input}
 
 -- of either null test
 pub null_test_call : (negated : Bool) (cs : List ColumnView) (c : ColumnView) (n : ℕ)
     (answer : Result ColumnView VortexError)
-    → IsSome (null_test_type (types_in cs)) → slice_get cs 0 ≡ Some c → length c.rows ≡ n
+    → length cs ≡ 1 → slice_get cs 0 ≡ Some c → length c.rows ≡ n
     → AnswersUnlessMemory answer (HasTests (null_test_value negated) c)
     → AnswersShipped (NullTest negated) cs n answer
-null_test_call negated cs c n answer accepted input e h =
-    call_answered (NullTest negated) cs (c ∷ []) (only_input cs c accepted input) n (length c.rows)
+null_test_call negated cs c n answer one input e h =
+    call_answered (NullTest negated) cs (c ∷ []) (one_input cs c one input) n (length c.rows)
     e (bool_type false) (λ i. truth (null_test_value negated (row c.rows i))) refl (λ i. refl)
     answer h
 

@@ -20,6 +20,7 @@ use Rattle.vortex_interface.specs.Arithmetic.{arithmetic_type, arithmetic_of, va
 use Rattle.vortex_interface.specs.Shipped.{Binary, shipped_means}
 use Rattle.vortex_interface.specs.Shipped.BinaryFunction.{operator_type, means_by}
 use Rattle.vortex_interface.specs.Answering.{AnswersShipped}
+use Rattle.vortex_shipped.proofs.Inputs.{two_inputs}
 
 -- the two inputs of arithmetic that accepts them
 pub record TwoIntegers (op : Operator) (o : NumericOperator) (cs : List ColumnView)
@@ -44,24 +45,14 @@ integers_by t u None h = cc
 integers_by t u (Some p) h = (p, refl)
 
 pub two_integers : (op : Operator) (o : NumericOperator) (cs : List ColumnView) (l r : ColumnView)
-    → numeric_operator_of op ≡ Some o → IsSome (operator_type op (types_in cs))
+    → numeric_operator_of op ≡ Some o → length cs ≡ 2 → IsSome (operator_type op (types_in cs))
     → slice_get cs 0 ≡ Some l → slice_get cs 1 ≡ Some r → TwoIntegers op o cs l r
-two_integers op o [] l r n h p q = cc
-two_integers op o (x ∷ []) l r n h p q = cc
-two_integers op o (x ∷ y ∷ []) l r n h p q =
-    let a : x ≡ l = cc in
-    let b : y ≡ r = cc in
-    let some = subst IsSome (operator_type-numeric op o (x.dtype ∷ y.dtype ∷ []) n) h in
-    let k = integers_by x.dtype y.dtype (integer_of_both x.dtype y.dtype) some in
-    record {
-      numeric = n;
-      both = cc;
-      ptype = k.0;
-      integers = sym (λ i. integer_of_both (a i).dtype (b i).dtype) ∙ k.1;
-    }
-two_integers op o (x ∷ y ∷ z ∷ cs) l r n h p q =
-    let ts = x.dtype ∷ y.dtype ∷ z.dtype ∷ types_in cs in
-    let none = subst IsSome (operator_type-numeric op o ts n) h in cc
+two_integers op o cs l r numeric n h p q =
+    let both = two_inputs cs l r n p q in
+    let typed = subst (λ xs. IsSome (operator_type op (types_in xs))) both h in
+    let some = subst IsSome (operator_type-numeric op o (l.dtype ∷ r.dtype ∷ []) numeric) typed in
+    let integers = integers_by l.dtype r.dtype (integer_of_both l.dtype r.dtype) some in
+    record { numeric = numeric; both = both; ptype = integers.0; integers = integers.1 }
 
 module _ (op : Operator) (o : NumericOperator) (cs : List ColumnView) (l r : ColumnView) (n : ℕ)
     (two : TwoIntegers op o cs l r) where

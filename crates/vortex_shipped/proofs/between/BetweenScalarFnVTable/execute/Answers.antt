@@ -1,3 +1,4 @@
+use Rattle.std.proofs.lemmas.Bool.{eqb-true}
 use Rattle.vortex_shipped.proofs.BetweenCalls.{three_alike, between_call}
 use Rattle.vortex_shipped.proofs.between.BetweenScalarFnVTable.execute.Goals as goal
 
@@ -11,7 +12,7 @@ returns g c =
     let upper = c.in_ok-upper.upper.now in
     let here = c.in_ok-array.ensures in
     let three =
-    three_alike cs x lower upper c.requires.accepted here.input c.in_ok-lower.ensures.input
+    three_alike cs x lower upper (eqb-true _ _ c.requires.arity) c.requires.accepted here.input c.in_ok-lower.ensures.input
     c.in_ok-upper.ensures.input in
     between_call options cs x lower upper n three c.execute_between.result here.count
     c.execute_between.ensures.rows

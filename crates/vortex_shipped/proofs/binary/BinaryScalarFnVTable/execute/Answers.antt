@@ -1,4 +1,5 @@
 use Rattle.std.proofs.Common.{◌∙◌, sym}
+use Rattle.std.proofs.lemmas.Bool.{eqb-true}
 use Rattle.vortex_shipped.proofs.BinaryCalls.{TwoBools, two_bools, boolean_call, TwoAlike}
 use Rattle.vortex_shipped.proofs.BinaryCalls.{two_alike, comparison_call}
 use Rattle.vortex_shipped.proofs.NumericCalls.{TwoIntegers, two_integers, numeric_call}
@@ -17,7 +18,7 @@ returns-in-Some g c =
     let right = c.in_ok-rhs.ensures in
     let compare = c.in-Some.compare in
     let two : TwoAlike op compare cs l r =
-    two_alike op compare cs l r is c.requires.accepted left.input right.input in
+    two_alike op compare cs l r is (eqb-true _ _ c.requires.arity) c.requires.accepted left.input right.input in
     comparison_call op compare cs l r n answer two left.count right.count c.execute_compare.ensures
 
 pub returns-in-Some-to_numeric_operator : goal.returns-in-Some-to_numeric_operator
@@ -33,7 +34,7 @@ returns-in-Some-to_numeric_operator g c =
     let left = c.in_ok-lhs.ensures in
     let right = c.in_ok-rhs.ensures in
     let two : TwoIntegers op o cs l r =
-    two_integers op o cs l r is c.requires.accepted left.input right.input in
+    two_integers op o cs l r is (eqb-true _ _ c.requires.arity) c.requires.accepted left.input right.input in
     numeric_call op o cs l r n two answer left.count right.count c.execute_numeric.ensures.rows
 
 pub returns-in-None : goal.returns-in-None
@@ -49,5 +50,5 @@ returns-in-None g c =
     let left = c.in_ok-lhs.ensures in
     let right = c.in_ok-rhs.ensures in
     let two : TwoBools op cs l r =
-    two_bools op cs l r is no c.requires.accepted left.input right.input in
+    two_bools op cs l r is no (eqb-true _ _ c.requires.arity) c.requires.accepted left.input right.input in
     boolean_call op cs l r n answer two left.count c.execute_boolean.ensures

@@ -1,3 +1,4 @@
+use Rattle.std.proofs.lemmas.Bool.{eqb-true}
 use Rattle.vortex_shipped.proofs.LikeCalls.{TwoTexts, two_texts, like_call}
 use Rattle.vortex_shipped.proofs.like.LikeScalarFnVTable.execute.Goals as goal
 
@@ -8,7 +9,7 @@ execute_like-requires-clause-input g c =
     let pattern = c.in_ok-pattern.pattern.now in
     let one = c.in_ok-input.ensures in
     let other = c.in_ok-pattern.ensures in
-    (two_texts cs input pattern c.requires.accepted one.input other.input).input
+    (two_texts cs input pattern (eqb-true _ _ c.requires.arity) c.requires.accepted one.input other.input).input
 
 pub execute_like-requires-clause-pattern : goal.execute_like-requires-clause-pattern
 execute_like-requires-clause-pattern g c =
@@ -17,7 +18,7 @@ execute_like-requires-clause-pattern g c =
     let pattern = c.in_ok-pattern.pattern.now in
     let one = c.in_ok-input.ensures in
     let other = c.in_ok-pattern.ensures in
-    (two_texts cs input pattern c.requires.accepted one.input other.input).pattern
+    (two_texts cs input pattern (eqb-true _ _ c.requires.arity) c.requires.accepted one.input other.input).pattern
 
 pub returns : goal.returns
 returns g c =
@@ -29,5 +30,5 @@ returns g c =
     let one = c.in_ok-input.ensures in
     let other = c.in_ok-pattern.ensures in
     let two : TwoTexts cs input pattern =
-    two_texts cs input pattern c.requires.accepted one.input other.input in
+    two_texts cs input pattern (eqb-true _ _ c.requires.arity) c.requires.accepted one.input other.input in
     like_call options cs input pattern n two c.execute_like.result one.count c.execute_like.ensures
