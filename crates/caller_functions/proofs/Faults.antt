@@ -1,7 +1,7 @@
 -- A column without a false row answers the function that faults at false.
 use Rattle.std.proofs.Common.{◌≡◌, ◌≢◌, ℕ, zero, suc, ◌<◌, Bool, true, false, List, [], ◌∷◌, length}
 use Rattle.std.proofs.Common.{map, Some, refl, sym, ap, ◌∙◌, subst, arith}
-use Rattle.std.specs.Prelude.{All, IsSome, slice_get, Result}
+use Rattle.std.specs.Prelude.{All, Result}
 use Rattle.vortex_errors.specs.declared.error.VortexError.{VortexError}
 use Rattle.vortex_types.specs.LogicalTypes.{LogicalType, bool_type, is_bool_type, is_nullable}
 use Rattle.vortex_types.specs.Values.{Value, null, truth, truth_of}
@@ -11,35 +11,9 @@ use Rattle.vortex_errors.specs.Answers.{Answers, AnswersUnlessMemory}
 use Rattle.vortex_errors.proofs.Answering.{Answers-weaker}
 use Rattle.vortex_kernels.proofs.RowLemmas.{bool_dtype}
 use Rattle.vortex_interface.specs.Outcomes.{gives, faults, custom, HasCallRows, IsCallFault, types_in}
-use Rattle.caller_functions.specs.MustBeTrue.{must_be_true, same_bool}
-
-pub record OneBool (cs : List ColumnView) (c : ColumnView) : Type 0 where
-  pub only : cs ≡ c ∷ []
-  pub bool : is_bool_type c.dtype ≡ true
-
-one_of : (a : LogicalType) → IsSome (same_bool (a ∷ [])) → is_bool_type a ≡ true
-one_of (bool_type n) h = refl
-one_of a h = cc
-
-not_two : (a b : LogicalType) (ts : List LogicalType) → IsSome (same_bool (a ∷ b ∷ ts)) → ⊥
-not_two (bool_type n) b ts h = cc
-not_two a b ts h = cc
-
-pub one_bool : (cs : List ColumnView) (c : ColumnView) → IsSome (same_bool (types_in cs))
-    → slice_get cs 0 ≡ Some c → OneBool cs c
-one_bool [] c h p = cc
-one_bool (x ∷ []) c h p =
-    let a : x ≡ c = cc in
-    record {
-      only = cc;
-      bool = subst (λ (d : ColumnView). is_bool_type d.dtype ≡ true) a
-          (one_of x.dtype h);
-    }
-one_bool (x ∷ y ∷ cs) c h p = absurd (not_two x.dtype y.dtype (types_in cs) h)
-
-same_is : (t : LogicalType) → is_bool_type t ≡ true → same_bool (t ∷ []) ≡ Some t
-same_is (bool_type n) h = refl
-same_is t h = cc
+use Rattle.vortex_interface.specs.Shipped.NotFunction.{not_type}
+use Rattle.vortex_shipped.proofs.NotCalls.{OneBool, not_type_is}
+use Rattle.caller_functions.specs.MustBeTrue.{must_be_true}
 
 true_or_null : (n : Bool) (v : Value) → HasType (bool_type n) v → truth_of v ≢ Some false
     → must_be_true (v ∷ []) ≡ gives v
@@ -64,11 +38,11 @@ fault_here cs c n i one h e =
 rows_are : (cs : List ColumnView) (c d : ColumnView) (n : ℕ) → OneBool cs c
     → AreTyped c.dtype c.rows → length c.rows ≡ n
     → ((i : ℕ) → i < n → truth_of (row c.rows i) ≢ Some false) → d ≡ c
-    → HasCallRows same_bool (λ ts. must_be_true) cs n d
+    → HasCallRows not_type (λ ts. must_be_true) cs n d
 rows_are cs c d n one typed e none is = record {
   dtype =
-      ap (λ ds. same_bool (types_in ds)) one.only
-      ∙ same_is c.dtype one.bool
+      ap (λ ds. not_type (types_in ds)) one.only
+      ∙ not_type_is c.dtype one.bool
       ∙ ap (λ (x : ColumnView). Some x.dtype) (sym is);
   count = ap (λ (x : ColumnView). length x.rows) is ∙ e;
   each = λ i lt.
@@ -84,9 +58,9 @@ pub copy_answers : (cs : List ColumnView) (c : ColumnView) (n : ℕ)
     → OneBool cs c → AreTyped c.dtype c.rows → length c.rows ≡ n
     → ((i : ℕ) → i < n → truth_of (row c.rows i) ≢ Some false)
     → AnswersUnlessMemory answer (λ d. d ≡ c)
-    → Answers answer (HasCallRows same_bool (λ ts. must_be_true) cs n)
+    → Answers answer (HasCallRows not_type (λ ts. must_be_true) cs n)
     (IsCallFault (λ ts. must_be_true) cs n)
 copy_answers cs c n answer one typed e none h =
-    Answers-weaker answer (λ d. d ≡ c) (HasCallRows same_bool (λ ts. must_be_true) cs n) (λ f. ⊥)
+    Answers-weaker answer (λ d. d ≡ c) (HasCallRows not_type (λ ts. must_be_true) cs n) (λ f. ⊥)
     (IsCallFault (λ ts. must_be_true) cs n) (λ d p. rows_are cs c d n one typed e none p)
     (λ f p. absurd p) h

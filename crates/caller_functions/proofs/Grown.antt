@@ -1,6 +1,6 @@
 -- The function that grows: its argument, and what its rule makes of a call.
 use Rattle.std.proofs.Common.{◌≡◌, ℕ, zero, suc, ◌<◌, List, [], ◌∷◌, length, Bool, Option, Some}
-use Rattle.std.proofs.Common.{None, true, sym, refl, ap, ◌∙◌, arith}
+use Rattle.std.proofs.Common.{None, true, sym, refl, ap, ◌∙◌, arith, subst}
 use Rattle.std.specs.Prelude.{slice_get, IsSome}
 use borrow.Author.Tests.{eqb-true}
 use Rattle.vortex_errors.specs.declared.error.VortexError.{VortexError}
@@ -20,6 +20,7 @@ use Rattle.vortex_interface.specs.Trees.{called}
 use Rattle.vortex_interface.specs.Eval.{tree_type, tree_types}
 use Rattle.vortex_interface.specs.ReduceRules.{reduce}
 use Rattle.vortex_interface.proofs.TypedCalls.{typed_call, types_parts, one_type, type_of_one}
+use Rattle.vortex_shipped.proofs.Inputs.{one_input}
 use Rattle.vortex_rewriting.proofs.Calls.{children_fit}
 use Rattle.caller_functions.specs.Grow.{grow_meaning, grow_rules, not_of}
 use Rattle.caller_functions.specs.GrowRules.{is_bool}
@@ -32,27 +33,25 @@ one_accepted : (t : LogicalType) → IsSome (not_type (t ∷ [])) → not_type (
 one_accepted (bool_type n) h = refl
 one_accepted t h = cc
 
-two_accepted : (a b : LogicalType) (rest : List LogicalType) → IsSome (not_type (a ∷ b ∷ rest)) → ⊥
-two_accepted (bool_type n) b rest h = cc
-two_accepted a b rest h = cc
-
-pub only_input : (cs : List ColumnView) (c : ColumnView) → IsSome (not_type (types_in cs))
-    → slice_get cs 0 ≡ Some c → not_type (types_in cs) ≡ Some c.dtype
-only_input [] c h e = cc
-only_input (x ∷ []) c h e =
-    let is : x ≡ c = cc in one_accepted x.dtype h ∙ ap (λ (z : ColumnView). Some z.dtype) is
-only_input (x ∷ y ∷ cs) c h e = absurd (two_accepted x.dtype y.dtype (types_in cs) h)
+pub only_input : (cs : List ColumnView) (c : ColumnView) → length cs ≡ 1
+    → IsSome (not_type (types_in cs)) → slice_get cs 0 ≡ Some c
+    → not_type (types_in cs) ≡ Some c.dtype
+only_input cs c n h e =
+    let accepted = λ (xs : List ColumnView). IsSome (not_type (types_in xs)) in
+    let only = one_input cs c n e in
+    ap (λ (xs : List ColumnView). not_type (types_in xs)) only
+    ∙ one_accepted c.dtype (subst accepted only h)
 
 module _ {V O : Type 0} where
   -- a well-typed call has one argument
-  one_input : (t : Tree V O) (f : V) (o : O) (k : LogicalType) → called t ≡ Some (custom f o)
+  one_argument : (t : Tree V O) (f : V) (o : O) (k : LogicalType) → called t ≡ Some (custom f o)
       → tree_type grow_meaning t ≡ Some k → length (children_of t) ≡ 1
-  one_input t f o k c h =
+  one_argument t f o k c h =
       eqb-true (length (children_of t)) 1 (children_fit grow_meaning t (custom f o) k c h)
 
   pub has_input : (t : Tree V O) (f : V) (o : O) (k : LogicalType) → called t ≡ Some (custom f o)
       → tree_type grow_meaning t ≡ Some k → 0 < length (children_of t)
-  has_input t f o k c h = omega (arith, one_input t f o k c h)
+  has_input t f o k c h = omega (arith, one_argument t f o k c h)
 
   -- which is of Bool
   pub record IsGrowing (f : V) (o : O) (t x : Tree V O) : Type 0 where
@@ -67,7 +66,7 @@ module _ {V O : Type 0} where
   growing (constant s) x f o k c h e = cc
   growing (call g no_trees) x f o k c h e = cc
   growing (call g (tree y (tree z ts))) x f o k c h e =
-      absurd (omega (arith, one_input (call g (tree y (tree z ts))) f o k c h))
+      absurd (omega (arith, one_argument (call g (tree y (tree z ts))) f o k c h))
   growing (call g (tree y no_trees)) x f o k c h e =
       let is : g ≡ custom f o = cc in
       let same : y ≡ x = cc in

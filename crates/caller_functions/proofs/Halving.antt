@@ -21,6 +21,7 @@ use Rattle.vortex_kernels.proofs.Calculating.{within_not}
 use Rattle.vortex_kernels.proofs.Comparing.{constant_has_rows}
 use Rattle.vortex_interface.specs.Outcomes.{gives, faults, custom, HasCallRows, IsCallFault, types_in}
 use Rattle.vortex_interface.specs.Outcomes.{values_at}
+use Rattle.vortex_shipped.proofs.Inputs.{one_input}
 use Rattle.caller_functions.specs.Half.{is_odd, half_of, half, same_i32, half_fits}
 
 pub record OneI32 (cs : List ColumnView) (c : ColumnView) : Type 0 where
@@ -31,22 +32,14 @@ one_of : (t : LogicalType) → IsSome (same_i32 (t ∷ [])) → t ≡ integer_ty
 one_of (integer_type I32 n) h = refl
 one_of t h = cc
 
-not_two : (t u : LogicalType) (ts : List LogicalType) → IsSome (same_i32 (t ∷ u ∷ ts)) → ⊥
-not_two (integer_type I32 n) u ts h = cc
-not_two t u ts h = cc
-
-pub one_i32 : (cs : List ColumnView) (c : ColumnView) → IsSome (same_i32 (types_in cs))
-    → slice_get cs 0 ≡ Some c → OneI32 cs c
-one_i32 [] c h p = cc
-one_i32 (x ∷ []) c h p =
-    let is : x ≡ c = cc in
+pub one_i32 : (cs : List ColumnView) (c : ColumnView) → length cs ≡ 1
+    → IsSome (same_i32 (types_in cs)) → slice_get cs 0 ≡ Some c → OneI32 cs c
+one_i32 cs c n h p =
+    let only = one_input cs c n p in
     record {
-      only = cc;
-      dtype =
-          subst (λ (d : ColumnView). d.dtype ≡ integer_type I32 (is_nullable d.dtype)) is
-          (one_of x.dtype h);
+      only = only;
+      dtype = one_of c.dtype (subst (λ xs. IsSome (same_i32 (types_in xs))) only h);
     }
-one_i32 (x ∷ y ∷ cs) c h p = absurd (not_two x.dtype y.dtype (types_in cs) h)
 
 -- an odd number is a fault
 pub fault_here : (cs : List ColumnView) (c : ColumnView) (i : ℕ) (z : ℤ) → OneI32 cs c

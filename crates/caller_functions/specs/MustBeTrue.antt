@@ -9,15 +9,12 @@ use Rattle.vortex_types.specs.Values.{Value, null, truth}
 use Rattle.vortex_types.specs.Typing.{HasType}
 use Rattle.vortex_interface.specs.Outcomes.{Outcome, gives, faults, custom, GivesType, GivesNull}
 use Rattle.vortex_interface.specs.Meaning.{Meaning, Lawful, HaveTypes}
+use Rattle.vortex_interface.specs.Shipped.NotFunction.{not_type}
 
 abbrev pub must_be_true : List Value → Outcome
 must_be_true (truth false ∷ []) = faults (custom 1)
 must_be_true (v ∷ []) = gives v
 must_be_true vs = gives null
-
-abbrev pub same_bool : List LogicalType → Option LogicalType
-same_bool (bool_type n ∷ []) = Some (bool_type n)
-same_bool ts = None
 
 abbrev pub must_be_true_meaning : {V O : Type 0} → Meaning V O
 must_be_true_meaning = record {
@@ -25,12 +22,12 @@ must_be_true_meaning = record {
   arity = λ f o. Exact 1;
   child_name = λ f o i. codes "input";
   means = λ f o ts vs. must_be_true vs;
-  return_type = λ f o ts. same_bool ts;
+  return_type = λ f o ts. not_type ts;
   strict = λ f o. true;
   infallible = λ f o. false;
 }
 
-typed : (ts : List LogicalType) (t : LogicalType) (vs : List Value) → same_bool ts ≡ Some t
+typed : (ts : List LogicalType) (t : LogicalType) (vs : List Value) → not_type ts ≡ Some t
     → HaveTypes ts vs → GivesType t (must_be_true vs)
 typed (bool_type n ∷ []) t (truth false ∷ []) e h = tt
 typed (bool_type n ∷ []) t (truth true ∷ []) e h = let is : bool_type n ≡ t = cc in rw (← is) tt
@@ -48,7 +45,7 @@ only {A} P x a = by a.0 a.1 a.2 a.3 a.4
     by zero y h e p = subst P (sym e) p
     by (suc k) y h e p = absurd (omega arith)
 
-nullable : (ts : List LogicalType) (t : LogicalType) → same_bool ts ≡ Some t
+nullable : (ts : List LogicalType) (t : LogicalType) → not_type ts ≡ Some t
     → Any (λ a. is_nullable a ≡ true) ts → is_nullable t ≡ true
 nullable (bool_type n ∷ []) t e a =
     let is : bool_type n ≡ t = cc in ap is_nullable (sym is)
@@ -58,7 +55,7 @@ nullable ts t e a = cc
 of_null : (v : Value) → v ≡ null → GivesNull (must_be_true (v ∷ []))
 of_null v e = subst (λ (w : Value). GivesNull (must_be_true (w ∷ []))) (sym e) refl
 
-nulls : (ts : List LogicalType) (t : LogicalType) (vs : List Value) → same_bool ts ≡ Some t
+nulls : (ts : List LogicalType) (t : LogicalType) (vs : List Value) → not_type ts ≡ Some t
     → HaveTypes ts vs → Any (λ v. v ≡ null) vs → GivesNull (must_be_true vs)
 nulls (bool_type n ∷ []) t (v ∷ []) e h a = of_null v (only (λ w. w ≡ null) v a)
 nulls (bool_type n ∷ []) t [] e h a = absurd h

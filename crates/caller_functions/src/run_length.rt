@@ -7,8 +7,8 @@ ghost use Rattle.caller_functions.specs.Words.{is_bool_type, is_boolean, is_null
 ghost use Rattle.caller_functions.specs.Words.{is_value_constant, run_column};
 
 use crate::runs::{bool_runs, int_runs};
-use vortex_columns::{Column, DType, ExecutionCtx, Scalar, VortexError, VortexResult};
 use vortex_arrays::{BooleanKernel, CompareKernel, EncodedColumn};
+use vortex_columns::{Column, DType, ExecutionCtx, Scalar, VortexError, VortexResult};
 use vortex_kernels::{CompareOperator, Operator, execute_boolean, execute_compare};
 
 /// A column of Bool or i32 by its runs: the value of each, the row in which each but the first

@@ -29,7 +29,7 @@ one_bool cs c n h p =
     let only = one_input cs c n p in
     record { only = only; bool = one_of c.dtype (subst (λ xs. IsSome (not_type (types_in xs))) only h) }
 
-not_type_is : (t : LogicalType) → is_bool_type t ≡ true → not_type (t ∷ []) ≡ Some t
+pub not_type_is : (t : LogicalType) → is_bool_type t ≡ true → not_type (t ∷ []) ≡ Some t
 not_type_is (bool_type n) h = refl
 not_type_is t h = cc
 

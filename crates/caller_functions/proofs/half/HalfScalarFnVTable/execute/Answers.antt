@@ -1,3 +1,4 @@
+use Rattle.std.proofs.lemmas.Bool.{eqb-true}
 use Rattle.std.proofs.Common.{rules, ◌≡◌, true, sym, ap, ◌∙◌, arith, refl}
 use Rattle.vortex_interface.specs.Outcomes.{custom}
 use Rattle.vortex_columns.specs.Cells.{cell_value}
@@ -10,7 +11,7 @@ returns-then-number-ne0 g c =
     let cs = g.A.ExecutionArgs.inputs c.args.args.now in
     let input = c.in_ok-input.input.now in
     let one : OneI32 cs input =
-    one_i32 cs input c.requires.accepted c.in_ok-input.ensures.input in
+    one_i32 cs input (eqb-true _ _ c.requires.arity) c.requires.accepted c.in_ok-input.ensures.input in
     let odd : is_odd c.in-Int.number ≡ true = search rules in
     record {
       at = c.loop-i.i;
@@ -29,7 +30,7 @@ returns g c =
     let n = g.A.ExecutionArgs.rows c.args.args.now in
     let count = c.in_ok-input.ensures.count in
     let one : OneI32 cs input =
-    one_i32 cs input c.requires.accepted c.in_ok-input.ensures.input in
+    one_i32 cs input (eqb-true _ _ c.requires.arity) c.requires.accepted c.in_ok-input.ensures.input in
     halved_answers cs input c.in_ok-two.two n one c.dtype-typed.ensures.typed count
     (rw (c.from.ensures, c.len.ensures, count) at c.in_ok-two.ensures)
     (λ k z h. c.loop-i.invariant k z (omega (arith, c.len-i-end.ensures, count)))
