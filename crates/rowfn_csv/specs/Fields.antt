@@ -1,7 +1,7 @@
 -- Fields as they are written: what asks for quotes, and how a field stands in them.
-use Rattle.std.specs.Prelude.{Bool, ◌==◌, ◌||◌, ℕ, List, [], ◌∷◌, ◌++◌, length}
+use Rattle.std.specs.Prelude.{Bool, ◌==◌, ◌||◌, ℕ, List, [], ◌∷◌, ◌++◌, length, codes, nat_eq}
 use Rattle.std.specs.Prelude.{if◌then◌else◌}
-use Rattle.std.specs.List.{list_any, flat_map}
+use Rattle.std.specs.List.{list_any, flat_map, starts_with}
 use Rattle.std.specs.Str.{bytes_eq}
 
 -- a byte that asks for quotes around the field: a quote, the delimiter, or one that ends a line
@@ -9,10 +9,18 @@ abbrev pub is_special : ℕ → ℕ → Bool
 is_special delimiter byte =
     (byte == 34) || ((byte == delimiter) || ((byte == 10) || (byte == 13)))
 
--- a text stands in quotes where it is empty, holds such a byte, or would read as null without
+-- what other programs take for something else: `\.` ends PostgreSQL's COPY, and a byte order mark
+-- at the start of an input is passed over
+abbrev pub is_mistaken : List ℕ → Bool
+is_mistaken field =
+    bytes_eq field (codes "\\.") || starts_with nat_eq field (239 ∷ 187 ∷ 191 ∷ [])
+
+-- a text stands in quotes where it is empty, holds such a byte, or would read as null or be mistaken
+-- without
 abbrev pub needs_quotes : ℕ → List ℕ → List ℕ → Bool
 needs_quotes delimiter null field =
-    (length field == 0) || (list_any (is_special delimiter) field || bytes_eq field null)
+    (length field == 0) || (list_any (is_special delimiter) field
+    || (bytes_eq field null || is_mistaken field))
 
 -- a byte between the quotes: a quote stands twice
 abbrev pub doubled : ℕ → List ℕ

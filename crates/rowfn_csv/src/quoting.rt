@@ -1,6 +1,7 @@
 //! Fields in quotes.
 ghost use Rattle.std.specs.Prelude.{◌≡◌, ◌++◌, ◌≤◌, length, take, drop, OnOk};
-ghost use Rattle.rowfn_csv.specs.Fields.{is_special, needs_quotes, doubled, quoted, text_field};
+ghost use Rattle.rowfn_csv.specs.Fields.{is_special, is_mistaken, needs_quotes, doubled, quoted};
+ghost use Rattle.rowfn_csv.specs.Fields.{text_field};
 ghost use Rattle.std.specs.List.{list_any, flat_map};
 
 use crate::format::Format;
@@ -20,12 +21,24 @@ fn holds_special(field: &[u8], delimiter: u8) -> bool
     field.iter().any(|byte| is_special(*byte, delimiter))
 }
 
+/// Whether other programs take a field in no quotes for what it is not: PostgreSQL's COPY ends at
+/// `\.`, and a byte order mark at the start of an input is passed over.
+fn is_mistaken(field: &[u8]) -> bool
+    ensures { result ≡ is_mistaken field.now }
+{
+    field == b"\\.".as_slice() || field.starts_with(b"\xef\xbb\xbf".as_slice())
+}
+
 /// Whether a text that is not null is written in quotes: an empty one, one that holds a quote, a
-/// delimiter or the end of a line, and one that says null where it stands in no quotes.
+/// delimiter or the end of a line, one that says null where it stands in no quotes, and one that is
+/// mistaken there.
 fn needs_quotes(field: &[u8], format: &Format<'_>) -> bool
     ensures { result ≡ needs_quotes format.now.delimiter format.now.null.now field.now }
 {
-    field.is_empty() || holds_special(field, format.delimiter) || field == format.null
+    field.is_empty()
+        || holds_special(field, format.delimiter)
+        || field == format.null
+        || is_mistaken(field)
 }
 
 /// Adds a byte that stands between quotes.

@@ -66,6 +66,14 @@ fn texts_are_quoted_where_needed(rt: HostRuntime) {
 }
 
 #[test]
+fn texts_that_others_mistake_are_quoted(rt: HostRuntime) {
+    let input = "t\n\\.\n\u{feff}a\n\\.a\n";
+    let output = "t\n\"\\.\"\n\"\u{feff}a\"\n\\.a\n";
+    assert!(rt; gives(rt, plain(TEXT, input), output));
+    assert!(rt; gives(rt, plain(TEXT, output), output));
+}
+
+#[test]
 fn null_is_the_empty_field_without_quotes(rt: HostRuntime) {
     let two = "col t utf8?\ncol n i32?\nget t\nget n\n";
     let rows = "a,1\n\"\",2\n,3\nb,\n,\n";
