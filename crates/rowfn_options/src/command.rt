@@ -6,8 +6,8 @@ use std::alloc::Global;
 /// What `--help` prints below the options.
 const AFTER_HELP: &str = "Rows are CSV. An expression is lines: `col NAME TYPE` declares a column, \
 `get`, `lit` and `call` make trees,\n`as NAME` names the last one. The trees that are left at the \
-end are the answers.\n\nStatus: 1 a call faults in a row, 2 input that does not fit or wrong \
-options, 3 reading, writing or memory,\n4 a wrong expression.";
+end are the answers.\n\nStatus: 1 a call faults in a row, 2 input that does not fit, 3 reading, \
+writing or memory, 4 a wrong\nexpression, 64 wrong options.";
 
 /// The command with an option more.
 fn with<'a>(command: Command<'a>, option: Result<Arg<'a>, Error>) -> Result<Command<'a>, Error> {

@@ -4,4 +4,4 @@
 mod command;
 pub mod options;
 
-pub use options::{Action, Options, Source, read_options};
+pub use options::{Action, Options, Source, read_options, status};

@@ -53,6 +53,14 @@ fn read_delimiter(word: &str) -> Option<u8> {
     }
 }
 
+/// Whether a text can stand for null: in no quotes it is read back as one field.
+fn is_bare(text: &str, delimiter: u8) -> bool {
+    !text
+        .as_bytes()
+        .iter()
+        .any(|byte| *byte == delimiter || b"\"\r\n".contains(byte))
+}
+
 fn asked_action(matches: &ArgMatches<'_>) -> Action {
     if matches.get_flag("explain") {
         Action::Explain
@@ -80,17 +88,24 @@ fn delimiter_error(command: &mut Command<'_>) -> Result<Error, Error> {
     Ok(command.error(ErrorKind::InvalidValue, message)?)
 }
 
+/// Why a text does not stand for null.
+fn null_error(command: &mut Command<'_>) -> Result<Error, Error> {
+    let message = "the text for null has no delimiter, no quote and no end of a line in it";
+    Ok(command.error(ErrorKind::InvalidValue, message)?)
+}
+
 /// What the words that matched ask for.
 fn options_of<'a>(
     alloc: Global,
     matches: &ArgMatches<'a>,
     delimiter: u8,
+    null: &'a str,
 ) -> Result<Options<'a>, Error> {
     let source = asked_source(alloc, matches)?;
     Ok(Options {
         delimiter,
         header: !matches.get_flag("no-header"),
-        null: matches.get_str("null").unwrap_or(""),
+        null,
         batch: matches.get_one::<u32>("batch").unwrap_or(8192),
         action: asked_action(matches),
         summary: matches.get_flag("summary"),
@@ -103,8 +118,22 @@ fn options_of<'a>(
 pub fn read_options<'a>(alloc: Global, words: &'a [String]) -> Result<Options<'a>, Error> {
     let mut command = command(alloc)?;
     let matches = command.try_get_matches_from_mut(words)?;
-    match read_delimiter(matches.get_str("delimiter").unwrap_or(",")) {
-        Some(delimiter) => options_of(alloc, &matches, delimiter),
-        None => Err(delimiter_error(&mut command)?),
+    let Some(delimiter) = read_delimiter(matches.get_str("delimiter").unwrap_or(",")) else {
+        return Err(delimiter_error(&mut command)?);
+    };
+    let null = matches.get_str("null").unwrap_or("");
+    if !is_bare(null, delimiter) {
+        return Err(null_error(&mut command)?);
+    }
+    options_of(alloc, &matches, delimiter, null)
+}
+
+/// What the program ends with where its words give no options: 0 where help or the version was asked
+/// for, 3 where memory is refused, and 64 for wrong words.
+pub fn status(error: &Error) -> u8 {
+    match error.kind() {
+        ErrorKind::DisplayHelp | ErrorKind::DisplayVersion => 0,
+        ErrorKind::OutOfMemory => 3,
+        _ => 64,
     }
 }

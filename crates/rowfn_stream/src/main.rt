@@ -2,7 +2,7 @@
 #![tactic(auto)]
 
 use rowfn_batches::{Format, Settings, StreamError, Summary, explain, flow, top_alone};
-use rowfn_options::{Action, Options, Source, read_options};
+use rowfn_options::{Action, Options, Source, read_options, status};
 use rowfn_scripts::{Expression, read_expression};
 use std::alloc::Global;
 use std::process::ExitCode;
@@ -90,29 +90,53 @@ fn perform(
     }
 }
 
+/// The words that the program is called with.
+fn words_of(rt: &(impl Env + AllocGlobal)) -> io::Result<Vec<String>> {
+    Ok(env::args(rt)?.collect(rt.alloc())?)
+}
+
+/// Prints why there are no options: help, the version, or what is wrong with the words. Answers the
+/// status.
+fn print_no_options(rt: &(impl Print + Eprint), error: &clap::Error) -> u8 {
+    match error.print(rt) {
+        Ok(()) => status(error),
+        Err(failed) => {
+            let _ = eprintln!(rt; "rowfn_stream: writing: {failed}");
+            3
+        }
+    }
+}
+
+/// Prints why the words cannot be read. Answers the status.
+fn print_no_words(rt: &impl Eprint, error: &io::Error) -> u8 {
+    if error.kind() == io::ErrorKind::InvalidData {
+        let _ = eprintln!(rt; "rowfn_stream: an argument is not UTF-8");
+        return 64;
+    }
+    let _ = eprintln!(rt; "rowfn_stream: reading the arguments: {error}");
+    3
+}
+
 /// Reads the options and does what they ask for; prints what went wrong on standard error. The
 /// status is 0 where nothing did.
-fn run(rt: &(impl Input + Print + Eprint + Env + Files + AllocGlobal)) -> io::Result<u8> {
-    let words: Vec<String> = env::args(rt)?.collect(rt.alloc())?;
+fn run(rt: &(impl Input + Print + Eprint + Env + Files + AllocGlobal)) -> u8 {
+    let words = match words_of(rt) {
+        Ok(words) => words,
+        Err(error) => return print_no_words(rt, &error),
+    };
     let options = match read_options(rt.alloc(), &words) {
         Ok(options) => options,
-        Err(error) => {
-            error.print(rt)?;
-            return Ok(error.exit_code() as u8);
-        }
+        Err(error) => return print_no_options(rt, &error),
     };
     match perform(rt, &options) {
-        Ok(()) => Ok(0),
+        Ok(()) => 0,
         Err(error) => {
             let _ = eprintln!(rt; "rowfn_stream: {error}");
-            Ok(error.status())
+            error.status()
         }
     }
 }
 
 fn main(rt: HostRuntime) -> ExitCode {
-    match run(&rt) {
-        Ok(status) => ExitCode::from(status),
-        Err(_) => ExitCode::from(3),
-    }
+    ExitCode::from(run(&rt))
 }

@@ -2,7 +2,7 @@
 
 use clap::error::ErrorKind;
 use fixtures::same;
-use rowfn_options::{Options, Source, read_options};
+use rowfn_options::{Options, Source, read_options, status};
 use std::alloc::{AllocError, Global};
 
 /// A line's words; a bar stands for a space within a word.
@@ -113,6 +113,37 @@ fn fields_are_told(rt: HostRuntime) {
     assert!(rt; is_refused(rt, "p --delimiter \" f", ErrorKind::InvalidValue));
     assert!(rt; is_refused(rt, "p --delimiter π f", ErrorKind::InvalidValue));
     assert!(rt; is_refused(rt, "p --header --no-header f", ErrorKind::ArgumentConflict));
+}
+
+#[test]
+fn a_text_for_null_stands_bare(rt: HostRuntime) {
+    assert!(rt; is_refused(rt, "p --null a,b f", ErrorKind::InvalidValue));
+    assert!(rt; is_refused(rt, "p --null a;b --delimiter ; f", ErrorKind::InvalidValue));
+    assert!(rt; is_refused(rt, "p --null \" f", ErrorKind::InvalidValue));
+    assert!(rt; is_refused(rt, "p --null a\nb f", ErrorKind::InvalidValue));
+    let told = "59 true 'a,b' 8192 Answer false file f";
+    assert!(rt; says(rt, "p --null a,b --delimiter ; f", told));
+}
+
+/// The status with which such words end the program; 0 where they give options.
+fn ends_with(rt: HostRuntime, line: &str, wanted: u8) -> bool {
+    let alloc = rt.alloc();
+    let Ok(words) = words_of(alloc, line) else {
+        return false;
+    };
+    match read_options(alloc, &words) {
+        Ok(_) => same(rt, 0, wanted),
+        Err(error) => same(rt, status(&error), wanted),
+    }
+}
+
+#[test]
+fn wrong_words_have_a_status_of_their_own(rt: HostRuntime) {
+    assert!(rt; ends_with(rt, "p --other f", 64));
+    assert!(rt; ends_with(rt, "p --delimiter ;; f", 64));
+    assert!(rt; ends_with(rt, "p", 64));
+    assert!(rt; ends_with(rt, "p --help", 0));
+    assert!(rt; ends_with(rt, "p --version", 0));
 }
 
 #[test]
