@@ -49,30 +49,14 @@ compared_is : (t u r : LogicalType) → compared_type (t ∷ u ∷ []) ≡ Some 
     → bool_type (is_nullable t || is_nullable u) ≡ r
 compared_is t u r h = (answer_if (alike_types t u) (comparison_type t u) r h).1
 
-comparison_means : (op : CompareOperator) (ts : List LogicalType) (v w : Value)
-    → operator_means (operator_of op) ts (v ∷ w ∷ []) ≡ gives (comparison_value op v w)
-comparison_means compare.Eq ts v w = refl
-comparison_means compare.NotEq ts v w = refl
-comparison_means compare.Gt ts v w = refl
-comparison_means compare.Gte ts v w = refl
-comparison_means compare.Lt ts v w = refl
-comparison_means compare.Lte ts v w = refl
-
 comparison_accepts : (op : CompareOperator) (ts : List LogicalType)
     → operator_type (operator_of op) ts ≡ compared_type ts
 comparison_accepts compare.Eq ts = refl
-comparison_accepts compare.NotEq ts = refl
-comparison_accepts compare.Gt ts = refl
-comparison_accepts compare.Gte ts = refl
-comparison_accepts compare.Lt ts = refl
-comparison_accepts compare.Lte ts = refl
+comparison_accepts op ts = refl
 
 null_beside : (op : CompareOperator) (v w : Value) → (v ≡ null) ⊎ (w ≡ null)
     → comparison_value op v w ≡ null
-null_beside op v w (inl p) = ap (λ x. comparison_value op x w) p
-null_beside op v w (inr q) =
-    let null_here = or_either (is_null v) (is_null w) (inr (ap is_null q)) in
-    ap (λ b. cond b null (truth (holds op (compare_values v w)))) null_here
+null_beside op = null_of_either (comparison_value op) (λ w. refl) (null_compared op)
 
 -- of a scalar whose value has its type the test of the value says all
 pub null_scalar : (s : ScalarView) → HasType s.dtype s.value
@@ -130,7 +114,7 @@ module _ {V O : Type 0} (m : Meaning V O) where
         let q = two_values m cs i (ours (Binary (operator_of op))) x y w e in
         let ts = types_or_none (tree_types m (tree x (tree y no_trees))) in
         let none = null_beside op q.0 q.1 (values cs i q.0 q.1 q.2 q.3 nulls) in
-        sym (ap gives none) ∙ sym (comparison_means op ts q.0 q.1) ∙ q.4;
+        sym (ap gives none) ∙ sym (compared_means op ts q.0 q.1) ∙ q.4;
   }
     where
       types : (k l : LogicalType) → tree_type m x ≡ Some k → tree_type m y ≡ Some l
@@ -241,18 +225,12 @@ module _ {V O : Type 0} (m : Meaning V O) where
     operator_sound Gte x y u t h e = comparison_sound compare.Gte x y u t h e
     operator_sound Lt x y u t h e = comparison_sound compare.Lt x y u t h e
     operator_sound Lte x y u t h e = comparison_sound compare.Lte x y u t h e
-    operator_sound Add x y u t h e = cc
-    operator_sound Sub x y u t h e = cc
-    operator_sound Mul x y u t h e = cc
-    operator_sound Div x y u t h e = cc
+    operator_sound op x y u t h e = cc
 
     shipped_sound : (s : Shipped) (ts : Trees V O) (u : Tree V O) (t : LogicalType)
         → tree_type m (call (ours s) ts) ≡ Some t → simplify_shipped m s ts ≡ Some u
         → Rewrites m (call (ours s) ts) u
-    shipped_sound (Binary op) no_trees u t h e = cc
-    shipped_sound (Binary op) (tree x no_trees) u t h e = cc
     shipped_sound (Binary op) (tree x (tree y no_trees)) u t h e = operator_sound op x y u t h e
-    shipped_sound (Binary op) (tree x (tree y (tree z ts))) u t h e = cc
     shipped_sound s ts u t h e = cc
 
     -- what Simplify answers for a well-typed tree keeps its type and its values
