@@ -2,9 +2,7 @@
 use Rattle.std.proofs.Common.{◌≡◌, ℕ, Bool, true, false, List, [], ◌∷◌, Some, refl, sym, ap, ◌∙◌}
 use Rattle.std.proofs.Common.{inl, inr}
 use Rattle.std.specs.Prelude.{◌||◌, if◌then◌else◌}
-use Rattle.vortex_types.specs.LogicalTypes.{LogicalType, null_type, bool_type, integer_type}
-use Rattle.vortex_types.specs.LogicalTypes.{text_type, bytes_type, struct_type, list_type}
-use Rattle.vortex_types.specs.LogicalTypes.{fixed_size_list_type, map_type}
+use Rattle.vortex_types.specs.LogicalTypes.{LogicalType, bool_type}
 use Rattle.vortex_types.specs.Values.{Value, truth, truth_of, truth_or_null}
 use Rattle.vortex_columns.specs.ColumnView.{ColumnView}
 use Rattle.vortex_operators.specs.Kleene.{decides}
@@ -37,14 +35,6 @@ use Rattle.vortex_interface.proofs.RuleAnswers.{gives_is}
 bools_in : (t u r : LogicalType) → both_bool (t ∷ u ∷ []) ≡ Some r
     → (n : Bool) × (p : Bool) × (t ≡ bool_type n) × (u ≡ bool_type p) × (bool_type (n || p) ≡ r)
 bools_in (bool_type n) (bool_type p) r h = (n, p, refl, refl, cc)
-bools_in (bool_type n) null_type r h = cc
-bools_in (bool_type n) (integer_type q p) r h = cc
-bools_in (bool_type n) (text_type p) r h = cc
-bools_in (bool_type n) (bytes_type p) r h = cc
-bools_in (bool_type n) (struct_type fs p) r h = cc
-bools_in (bool_type n) (list_type a p) r h = cc
-bools_in (bool_type n) (fixed_size_list_type a s p) r h = cc
-bools_in (bool_type n) (map_type k a p) r h = cc
 bools_in t u r h = cc
 
 boolean_type : (op : Operator) (ts : List LogicalType) → is_boolean op ≡ true

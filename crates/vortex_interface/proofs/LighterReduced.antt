@@ -269,36 +269,29 @@ module _ {V O : Type 0} (m : Meaning V O) where
 
     -- no rule of another function is asked
     validity_alone : (x : Tree V O) → OnlyShipped x → validity m no_rules x ≡ validity m r x
-    validity_alone (leaf l) s = refl
-    validity_alone (constant c) s = refl
-    validity_alone (call (ours f) ts) s = refl
     validity_alone (call (custom f o) ts) s = absurd s.0
+    validity_alone x s = refl
 
     is_null_alone : (ts : Trees V O) → AllShipped ts
         → reduce_is_null m no_rules ts ≡ reduce_is_null m r ts
-    is_null_alone no_trees s = refl
-    is_null_alone (tree x (tree y ts)) s = refl
     is_null_alone (tree x no_trees) s =
         ap (λ v. if is_nullable_tree m x
         then option_or (option_map negated v) (is_null_within m x)
         else Some (truth_constant false false)) (validity_alone x s.0)
+    is_null_alone ts s = refl
 
     is_not_null_alone : (ts : Trees V O) → AllShipped ts
         → reduce_is_not_null m no_rules ts ≡ reduce_is_not_null m r ts
-    is_not_null_alone no_trees s = refl
-    is_not_null_alone (tree x (tree y ts)) s = refl
     is_not_null_alone (tree x no_trees) s =
         ap (λ v. if is_nullable_tree m x then option_or v (is_not_null_within m x)
         else Some (truth_constant false true)) (validity_alone x s.0)
+    is_not_null_alone ts s = refl
 
     reduce_alone : (t : Tree V O) → OnlyShipped t → reduce m no_rules t ≡ reduce m r t
-    reduce_alone (leaf l) s = refl
-    reduce_alone (constant c) s = refl
-    reduce_alone (call (ours (Binary op)) ts) s = refl
     reduce_alone (call (ours (NullTest false)) ts) s = is_null_alone ts s.1
     reduce_alone (call (ours (NullTest true)) ts) s = is_not_null_alone ts s.1
-    reduce_alone (call (ours f) ts) s = refl
     reduce_alone (call (custom f o) ts) s = absurd s.0
+    reduce_alone t s = refl
 
     pub reduce_lightens : Lawful m → Lightens m (reduce m r)
     reduce_lightens lawful t u k h s e =

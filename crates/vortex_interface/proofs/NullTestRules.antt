@@ -1,7 +1,7 @@
 -- Null tests that need not compute their child: of a child that is never null, one whose validity
 -- is a tree, and And or Or with one nullable operand.
 use Rattle.std.proofs.Common.{◌≡◌, ℕ, Bool, true, false, not, List, [], ◌∷◌, Option, Some, None}
-use Rattle.std.proofs.Common.{refl, sym, ap, ◌∙◌, subst, inl, ⊎_elim}
+use Rattle.std.proofs.Common.{refl, sym, ap, ◌∙◌, subst, inl, ⊎_elim, arith}
 use Rattle.vortex_types.specs.LogicalTypes.{LogicalType, bool_type, is_nullable}
 use Rattle.vortex_types.specs.Values.{Value, truth, is_null, truth_of, truth_or_null}
 use Rattle.vortex_columns.specs.ColumnView.{ColumnView}
@@ -49,36 +49,16 @@ abbrev is_not_null : Value → Bool
 is_not_null v = not (is_null v)
 
 and_is_null : SaidBy And is_null And (λ c. c)
-and_is_null None true = refl
-and_is_null None false = refl
-and_is_null (Some true) true = refl
-and_is_null (Some true) false = refl
-and_is_null (Some false) true = refl
-and_is_null (Some false) false = refl
+and_is_null a c = grind arith
 
 or_is_null : SaidBy Or is_null And not
-or_is_null None true = refl
-or_is_null None false = refl
-or_is_null (Some true) true = refl
-or_is_null (Some true) false = refl
-or_is_null (Some false) true = refl
-or_is_null (Some false) false = refl
+or_is_null a c = grind arith
 
 and_is_not_null : SaidBy And is_not_null Or not
-and_is_not_null None true = refl
-and_is_not_null None false = refl
-and_is_not_null (Some true) true = refl
-and_is_not_null (Some true) false = refl
-and_is_not_null (Some false) true = refl
-and_is_not_null (Some false) false = refl
+and_is_not_null a c = grind arith
 
 or_is_not_null : SaidBy Or is_not_null Or (λ c. c)
-or_is_not_null None true = refl
-or_is_not_null None false = refl
-or_is_not_null (Some true) true = refl
-or_is_not_null (Some true) false = refl
-or_is_not_null (Some false) true = refl
-or_is_not_null (Some false) false = refl
+or_is_not_null a c = grind arith
 
 module _ {V O : Type 0} (m : Meaning V O) where
   -- And or Or of a nullable operand x and another, y, that is not, whichever stands first

@@ -10,8 +10,10 @@ use Rattle.vortex_operators.specs.declared.operators.Operator.TheVariants.{And, 
 use Rattle.vortex_operators.specs.Operators.{is_boolean}
 use Rattle.vortex_operators.specs.OperatorValues.{boolean_value}
 use Rattle.vortex_operators.specs.Kleene.{kleene, decides}
+use Rattle.vortex_operators.proofs.KleeneNulls.{kleene_allowed}
 use Rattle.vortex_interface.specs.Outcomes.{gives}
 use Rattle.vortex_interface.specs.Meaning.{Meaning, Lawful}
+use Rattle.vortex_interface.specs.Arguments.{has_bool}
 use Rattle.vortex_interface.specs.Shipped.{Shipped, Binary, NullTest, IsNull, IsNotNull}
 use Rattle.vortex_interface.specs.Functions.{ours, custom}
 use Rattle.vortex_interface.specs.Trees.{Tree, leaf, constant, call, Trees, no_trees, tree}
@@ -38,13 +40,8 @@ use Rattle.vortex_interface.proofs.RuleAnswers.{some_is, gives_is, first_there, 
 
 table_typed : (op : Operator) (n a b : Bool) → is_boolean op ≡ true
     → HasType (bool_type n) (truth_or_null (kleene op (Some a) (Some b)))
-table_typed And n true true h = tt
-table_typed And n true false h = tt
-table_typed And n false b h = tt
-table_typed Or n true b h = tt
-table_typed Or n false true h = tt
-table_typed Or n false false h = tt
-table_typed op n a b h = cc
+table_typed op n a b h =
+    has_bool n (kleene op (Some a) (Some b)) (kleene_allowed op false n (Some a) (Some b) h tt tt)
 
 module _ {V O : Type 0} (m : Meaning V O) where
   -- two constants
@@ -95,12 +92,10 @@ module _ {V O : Type 0} (m : Meaning V O) where
     boolean_sound : (op : Operator) (ts : Trees V O) (u : Tree V O) (t : LogicalType)
         → is_boolean op ≡ true → tree_type m (call (ours (Binary op)) ts) ≡ Some t
         → reduce_boolean m op ts ≡ Some u → Rewrites m (call (ours (Binary op)) ts) u
-    boolean_sound op no_trees u t b h e = cc
-    boolean_sound op (tree x no_trees) u t b h e = cc
     boolean_sound op (tree x (tree y no_trees)) u t b h e =
         constants_sound op b x y (is_nullable_tree m (operated op x y)) (bool_call m op x y t b h)
         (constant_truth x) (constant_truth y) u refl refl e
-    boolean_sound op (tree x (tree y (tree z ts))) u t b h e = cc
+    boolean_sound op ts u t b h e = cc
 
     operator_sound : (op : Operator) (ts : Trees V O) (u : Tree V O) (t : LogicalType)
         → tree_type m (call (ours (Binary op)) ts) ≡ Some t → reduce_operator m op ts ≡ Some u

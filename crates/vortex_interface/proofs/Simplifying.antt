@@ -20,14 +20,14 @@ use Rattle.vortex_operators.specs.OperatorValues.{boolean_value, comparison_valu
 use Rattle.vortex_operators.specs.OperatorValues.{holds}
 use Rattle.vortex_interface.specs.Outcomes.{gives}
 use Rattle.vortex_interface.specs.Meaning.{Meaning, Lawful}
-use Rattle.vortex_interface.specs.Arguments.{or_either}
+use Rattle.vortex_interface.specs.Arguments.{or_either, null_of_either}
 use Rattle.vortex_interface.specs.Shipped.{Shipped, Binary}
 use Rattle.vortex_interface.specs.Shipped.BinaryFunction.{compared_type, operator_type}
-use Rattle.vortex_interface.specs.Shipped.BinaryFunction.{operator_means}
+use Rattle.vortex_interface.specs.Shipped.BinaryFunction.{null_compared}
 use Rattle.vortex_interface.specs.Functions.{ours, custom}
 use Rattle.vortex_interface.specs.Trees.{Tree, leaf, constant, call, Trees, no_trees, tree}
 use Rattle.vortex_interface.specs.Eval.{types_or_none, tree_type, tree_types, eval}
-use Rattle.vortex_interface.specs.ComparisonTrees.{operated, compared}
+use Rattle.vortex_interface.specs.ComparisonTrees.{operated, compared, compared_means}
 use Rattle.vortex_interface.specs.Rules.{Rules, constant_truth, is_nullable_tree}
 use Rattle.vortex_interface.specs.SimplifyRules.{is_null_scalar, is_null_literal, simplify_comparison}
 use Rattle.vortex_interface.specs.SimplifyRules.{decided, left_of_nulls, undecided, simplify_operands}
@@ -40,9 +40,6 @@ use Rattle.vortex_interface.proofs.BooleanCalls.{left_decided, right_decided, le
 use Rattle.vortex_interface.proofs.BooleanCalls.{right_undecided}
 use Rattle.vortex_interface.proofs.RuleAnswers.{first_there, answer_if, answer_unless, both_true}
 use Rattle.vortex_interface.proofs.RuleAnswers.{either_true}
-use Rattle.vortex_types.specs.ScalarView.{ScalarView}
-use Rattle.vortex_types.specs.Typing.{HasType}
-use Rattle.vortex_types.proofs.NullValues.{not_null}
 
 -- the type of a comparison of accepted types
 compared_is : (t u r : LogicalType) → compared_type (t ∷ u ∷ []) ≡ Some r
@@ -57,16 +54,6 @@ comparison_accepts op ts = refl
 null_beside : (op : CompareOperator) (v w : Value) → (v ≡ null) ⊎ (w ≡ null)
     → comparison_value op v w ≡ null
 null_beside op = null_of_either (comparison_value op) (λ w. refl) (null_compared op)
-
--- of a scalar whose value has its type the test of the value says all
-pub null_scalar : (s : ScalarView) → HasType s.dtype s.value
-    → is_null_scalar (Some s) ≡ is_null s.value
-null_scalar s h = by (is_null s.value) (is_nullable s.dtype) refl refl
-  where
-    by : (b n : Bool) → is_null s.value ≡ b → is_nullable s.dtype ≡ n → (b && n) ≡ b
-    by false n e g = refl
-    by true true e g = refl
-    by true false e g = let solid = not_null s.dtype s.value h g in cc
 
 module _ {V O : Type 0} (m : Meaning V O) where
   null_literal_type : (x : Tree V O) (t : LogicalType) → is_null_literal x ≡ true
