@@ -10,7 +10,7 @@ use Rattle.vortex_operators.specs.Operators.{is_boolean}
 use Rattle.vortex_operators.specs.Kleene.{kleene, decides}
 
 -- the order of the operands is free
-pub kleene_turned : (op : Operator) (c : Bool) (a : Option Bool) → is_boolean op ≡ true
+kleene_turned : (op : Operator) (c : Bool) (a : Option Bool) → is_boolean op ≡ true
     → kleene op a (Some c) ≡ kleene op (Some c) a
 kleene_turned And c a h = grind arith
 kleene_turned Or c a h = grind arith
@@ -36,10 +36,6 @@ pub left_leaves : (op : Operator) (b : Bool) (a : Option Bool) → is_boolean op
 left_leaves And true a o h = grind arith
 left_leaves Or false a o h = grind arith
 left_leaves op b a o h = cc
-
-pub right_leaves : (op : Operator) (b : Bool) (a : Option Bool) → is_boolean op ≡ true
-    → decides op b ≡ false → kleene op a (Some b) ≡ a
-right_leaves op b a o h = kleene_turned op b a o ∙ left_leaves op b a o h
 
 -- a value of Bool is what its truth value or nothing stands for
 pub truth_back : (n : Bool) (v : Value) → HasType (bool_type n) v → truth_or_null (truth_of v) ≡ v

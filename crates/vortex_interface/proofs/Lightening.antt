@@ -18,7 +18,7 @@ use Rattle.vortex_interface.proofs.RuleAnswers.{first_there}
 use Rattle.vortex_interface.proofs.TypedCalls.{types_with}
 use Rattle.vortex_interface.proofs.Weighed.{weight_positive}
 use Rattle.vortex_interface.proofs.Stepwise.{GoesOver, Keeps, rewritten_keeps, rewritten_list_keeps}
-use Rattle.vortex_interface.proofs.Stepwise.{step_keeps, runs_keep}
+use Rattle.vortex_interface.proofs.Stepwise.{runs_keep}
 use Rattle.vortex_interface.proofs.Driving.{IsWellTyped, child_typed}
 
 module _ {V O : Type 0} (m : Meaning V O) where
@@ -100,12 +100,6 @@ module _ {V O : Type 0} (m : Meaning V O) where
   rewritten_list_lighter apply lightens steps t u n k h s e =
       rewritten_list_keeps IsTypedShipped (IsLighter m) lighter_over apply
       (λ a. lightens_keeps (apply a) (lightens a)) steps t u n ((k, h), s) e
-
-  pub step_lighter : (rule : Tree V O → Option (Tree V O)) → Lightens m rule
-      → Lightens m (step rule)
-  step_lighter rule lightens t u k h s e =
-      step_keeps IsTypedShipped (IsLighter m) lighter_over rule (lightens_keeps rule lightens) t u
-      ((k, h), s) e
 
   -- n steps make it lighter by n
   pub runs_lighter : (rule : Tree V O → Option (Tree V O)) → Lightens m rule → (n : ℕ)

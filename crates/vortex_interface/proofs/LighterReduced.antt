@@ -26,7 +26,7 @@ use Rattle.vortex_interface.specs.ReduceRules.{of_constants, reduce_boolean, red
 use Rattle.vortex_interface.specs.ReduceRules.{reduce_shipped, reduce}
 use Rattle.vortex_interface.specs.Weights.{operator_added, shipped_added, weight, OnlyShipped}
 use Rattle.vortex_interface.specs.Weights.{AllShipped, Lightens}
-use Rattle.vortex_interface.proofs.RuleAnswers.{some_is, first_there, mapped}
+use Rattle.vortex_interface.proofs.RuleAnswers.{some_is, either_answer, mapped}
 use Rattle.vortex_interface.proofs.TypedCalls.{only_child_type, type_of_one}
 use Rattle.vortex_interface.proofs.BooleanCalls.{bool_call}
 use Rattle.vortex_interface.proofs.Validities.{no_rules_lawful}
@@ -69,12 +69,10 @@ module _ {V O : Type 0} (m : Meaning V O) where
 
   boolean_less : (op : Operator) (ts : Trees V O) (u : Tree V O) → AllShipped ts
       → reduce_boolean m op ts ≡ Some u → IsLess m (call (ours (Binary op)) ts) u
-  boolean_less op no_trees u s e = cc
-  boolean_less op (tree x no_trees) u s e = cc
   boolean_less op (tree x (tree y no_trees)) u s e =
       constants_less op x y s.0 s.1.0 (is_nullable_tree m (operated op x y)) (constant_truth x)
       (constant_truth y) u e
-  boolean_less op (tree x (tree y (tree z ts))) u s e = cc
+  boolean_less op ts u s e = cc
 
   operator_less : (op : Operator) (ts : Trees V O) (u : Tree V O) → AllShipped ts
       → reduce_operator m op ts ≡ Some u → IsLess m (call (ours (Binary op)) ts) u
@@ -201,55 +199,36 @@ module _ {V O : Type 0} (m : Meaning V O) where
         → tree_type m (call (ours IsNull) ts) ≡ Some t → AllShipped ts
         → tree_type m u ≡ tree_type m (call (ours IsNull) ts) → reduce_is_null m r ts ≡ Some u
         → IsLess m (call (ours IsNull) ts) u
-    is_null_less no_trees u t h s k e = cc
-    is_null_less (tree x (tree y ts)) u t h s k e = cc
-    is_null_less (tree x no_trees) u t h s k e = by (is_nullable_tree m x) e
-      where
-        by : (n : Bool)
-            → (if n then option_or (option_map negated (validity m r x)) (is_null_within m x)
-            else Some (truth_constant false false)) ≡ Some u
-            → IsLess m (is_null_of x) u
-        by false q =
-            subst (IsLess m (is_null_of x)) (some_is _ u q)
-            (tt, above_one m (ours IsNull) x no_trees)
-        by true q =
-            let c = only_child_type m (ours IsNull) x t h in
-            let typed = k ∙ type_of_one m (ours IsNull) x c.0 c.1 in
-            first_there _ _ u (IsLess m (is_null_of x) u) q
-            (λ g.
-            let a = mapped negated (validity m r x) u g in
-            let valid = validity_no_heavier m r x a.0 c.0 c.1 s.0 a.1 in
-            let one = ap (λ o. shipped_added Not (may_be_null o))
-            (ap (tree_type m) a.2 ∙ typed) in
-            let no_heavier = valid.1 in
-            subst (IsLess m (is_null_of x)) a.2
-            ((tt, (valid.0, tt)), omega (arith, one, no_heavier)))
-            (is_null_within_less x u c.0 c.1 s.0 typed)
+    is_null_less (tree x no_trees) u t h s k e =
+        let c = only_child_type m (ours IsNull) x t h in
+        let typed = k ∙ type_of_one m (ours IsNull) x c.0 c.1 in
+        either_answer (is_nullable_tree m x) _ u _ _ (IsLess m (is_null_of x)) e
+        (λ solid. (tt, above_one m (ours IsNull) x no_trees))
+        (λ g.
+        let a = mapped negated (validity m r x) u g in
+        let valid = validity_no_heavier m r x a.0 c.0 c.1 s.0 a.1 in
+        let one = ap (λ o. shipped_added Not (may_be_null o)) (ap (tree_type m) a.2 ∙ typed) in
+        let no_heavier = valid.1 in
+        subst (IsLess m (is_null_of x)) a.2
+        ((tt, (valid.0, tt)), omega (arith, one, no_heavier)))
+        (is_null_within_less x u c.0 c.1 s.0 typed)
+    is_null_less ts u t h s k e = cc
 
     is_not_null_less : (ts : Trees V O) (u : Tree V O) (t : LogicalType)
         → tree_type m (call (ours IsNotNull) ts) ≡ Some t → AllShipped ts
         → tree_type m u ≡ tree_type m (call (ours IsNotNull) ts)
         → reduce_is_not_null m r ts ≡ Some u → IsLess m (call (ours IsNotNull) ts) u
-    is_not_null_less no_trees u t h s k e = cc
-    is_not_null_less (tree x (tree y ts)) u t h s k e = cc
-    is_not_null_less (tree x no_trees) u t h s k e = by (is_nullable_tree m x) e
-      where
-        by : (n : Bool)
-            → (if n then option_or (validity m r x) (is_not_null_within m x)
-            else Some (truth_constant false true)) ≡ Some u
-            → IsLess m (is_not_null_of x) u
-        by false q =
-            subst (IsLess m (is_not_null_of x)) (some_is _ u q)
-            (tt, above_one m (ours IsNotNull) x no_trees)
-        by true q =
-            let c = only_child_type m (ours IsNotNull) x t h in
-            let typed = k ∙ type_of_one m (ours IsNotNull) x c.0 c.1 in
-            first_there _ _ u (IsLess m (is_not_null_of x) u) q
-            (λ g.
-            let valid = validity_no_heavier m r x u c.0 c.1 s.0 g in
-            let no_heavier = valid.1 in
-            (valid.0, omega (arith, no_heavier)))
-            (is_not_null_within_less x u c.0 c.1 s.0 typed)
+    is_not_null_less (tree x no_trees) u t h s k e =
+        let c = only_child_type m (ours IsNotNull) x t h in
+        let typed = k ∙ type_of_one m (ours IsNotNull) x c.0 c.1 in
+        either_answer (is_nullable_tree m x) _ u _ _ (IsLess m (is_not_null_of x)) e
+        (λ solid. (tt, above_one m (ours IsNotNull) x no_trees))
+        (λ g.
+        let valid = validity_no_heavier m r x u c.0 c.1 s.0 g in
+        let no_heavier = valid.1 in
+        (valid.0, omega (arith, no_heavier)))
+        (is_not_null_within_less x u c.0 c.1 s.0 typed)
+    is_not_null_less ts u t h s k e = cc
 
     shipped_less : (f : Shipped) (ts : Trees V O) (u : Tree V O) (t : LogicalType)
         → tree_type m (call (ours f) ts) ≡ Some t → AllShipped ts

@@ -26,9 +26,9 @@ use Rattle.vortex_interface.proofs.TypedCalls.{type_of_one, type_of_two, one_val
 use Rattle.vortex_interface.proofs.TypedValues.{value_typed, never_null}
 use Rattle.vortex_interface.proofs.Leaves.{in_one, in_two}
 use Rattle.vortex_interface.proofs.Rewriting.{asks_same, asks_nothing}
-use Rattle.vortex_interface.proofs.KleeneConstants.{truth_back, truth_in, kleene_turned}
-use Rattle.vortex_interface.proofs.BooleanCalls.{bool_call, bool_values, eval_bool, asks_left}
-use Rattle.vortex_interface.proofs.BooleanCalls.{asks_right}
+use Rattle.vortex_interface.proofs.KleeneConstants.{truth_back, truth_in}
+use Rattle.vortex_interface.proofs.BooleanCalls.{bool_call, AreOperands, left_first, right_first}
+use Rattle.vortex_interface.proofs.BooleanCalls.{eval_bool}
 use Rattle.vortex_interface.proofs.RuleAnswers.{mapped, not_not}
 
 -- a null test by what it says of a value
@@ -71,6 +71,56 @@ module _ {V O : Type 0} (m : Meaning V O) where
         → eval m cs node i ≡ gives w
         → (a : Option Bool) × (c : Bool) × (eval m cs x i ≡ gives (truth_or_null a))
         × (eval m cs y i ≡ gives (truth c)) × (truth_or_null (kleene op a (Some c)) ≡ w)
+
+  module _ (lawful : Lawful m) where
+    split_by : (op : Operator) (node : Tree V O) (n : Bool) (x y : Tree V O)
+        → AreOperands m op node n x y → tree_type m x ≡ Some (bool_type true)
+        → tree_type m y ≡ Some (bool_type false) → IsSplit op node x y
+    split_by op node n x y c h k = record {
+      nullable = h;
+      other = k;
+      asks_nullable = c.asks_one;
+      asks_other = c.asks_other;
+      values = λ cs i w p e.
+          let q = c.values cs i w e in
+          let typed = value_typed m lawful cs i x (bool_type true) q.0 h (c.asks_one.rows cs i p) q.2 in
+          let back = truth_back true q.0 typed in
+          let other = value_typed m lawful cs i y (bool_type false) q.1 k (c.asks_other.rows cs i p) q.3 in
+          let z = truth_in q.1 other in (
+            truth_of q.0,
+            z.0,
+            q.2 ∙ ap gives (sym back),
+            q.3 ∙ ap gives z.1,
+            ap (boolean_value op q.0) (sym z.1) ∙ q.4,
+          );
+    }
+
+    -- the operands that the rules take apart
+    split_of : (op : Operator) (x y : Tree V O) (t : LogicalType) (p : Tree V O × Tree V O)
+        → is_boolean op ≡ true → tree_type m (operated op x y) ≡ Some t
+        → by_nullability m x y ≡ Some p → IsSplit op (operated op x y) p.0 p.1
+    split_of op x y t p b h e =
+        let c = bool_call m op x y t b h in
+        let right = ap (λ z. nullable_first c.left_null (may_be_null z) x y) (sym c.right) in
+        let left = ap (λ z. nullable_first (may_be_null z) (is_nullable_tree m y) x y) (sym c.left)
+        in
+        by c.left_null c.right_null c.left c.right (right ∙ left ∙ e)
+      where
+        Split : Tree V O × Tree V O → Type 0
+        Split z = IsSplit op (operated op x y) z.0 z.1
+
+        by : (n k : Bool) → tree_type m x ≡ Some (bool_type n) → tree_type m y ≡ Some (bool_type k)
+            → nullable_first n k x y ≡ Some p → Split p
+        by true false f g q =
+            let is : (x, y) ≡ p = cc in
+            let c = left_first m op b x y _ (bool_call m op x y t b h) in
+            subst Split is (split_by op (operated op x y) _ x y c f g)
+        by false true f g q =
+            let is : (y, x) ≡ p = cc in
+            let c = right_first m op b x y _ (bool_call m op x y t b h) in
+            subst Split is (split_by op (operated op x y) _ y x c g f)
+        by true true f g q = cc
+        by false false f g q = cc
 
   -- the type of a null test, which accepts every type, and its value in a row
   abbrev AcceptsAll : Shipped → Type 0
@@ -156,142 +206,43 @@ module _ {V O : Type 0} (m : Meaning V O) where
         joined_type op k = cc
 
     -- the other operand as it is, and negated
-    split_as_is : (op join : Operator) (node x y : Tree V O) (t : LogicalType)
-        → is_boolean join ≡ true → tree_type m node ≡ Some t → IsSplit op node x y
-        → SaidBy op says join (λ c. c) → Rewrites m (tested node) (operated join (tested x) y)
-    split_as_is op join node x y t b h s said =
-        split_test op join (λ c. c) node x y y t b h s s.other (asks_same y) (λ cs i c e. e) said
+    module _ (lawful : Lawful m) (op join : Operator) (b : is_boolean op ≡ true)
+        (j : is_boolean join ≡ true) (x y : Tree V O) (t : LogicalType)
+        (h : tree_type m (operated op x y) ≡ Some t) (p : Tree V O × Tree V O)
+        (e : by_nullability m x y ≡ Some p) where
+      within : SaidBy op says join (λ c. c)
+          → Rewrites m (tested (operated op x y)) (operated join (tested p.0) p.1)
+      within said =
+          let s = split_of lawful op x y t p b h e in
+          split_test op join (λ c. c) (operated op x y) p.0 p.1 p.1 t j h s s.other
+          (asks_same p.1) (λ cs i c k. k) said
 
-    split_negated : (op join : Operator) (node x y : Tree V O) (t : LogicalType)
-        → is_boolean join ≡ true → tree_type m node ≡ Some t → IsSplit op node x y
-        → SaidBy op says join not
-        → Rewrites m (tested node) (operated join (tested x) (negated y))
-    split_negated op join node x y t b h s said =
-        split_test op join not node x y (negated y) t b h s
-        (type_of_one m (ours Not) y (bool_type false) s.other)
-        (record {
-          leaves = λ p name k h. in_one h;
-          rows = λ cs i k. (k, tt);
-          places = λ k. (k, tt);
-        })
-        (λ cs i c e. eval_one m cs i (ours Not) y (truth c) e) said
+      within_negated : SaidBy op says join not
+          → Rewrites m (tested (operated op x y)) (operated join (tested p.0) (negated p.1))
+      within_negated said =
+          let s = split_of lawful op x y t p b h e in
+          split_test op join not (operated op x y) p.0 p.1 (negated p.1) t j h s
+          (type_of_one m (ours Not) p.1 (bool_type false) s.other)
+          (record {
+            leaves = λ q name k a. in_one a;
+            rows = λ cs i k. (k, tt);
+            places = λ k. (k, tt);
+          })
+          (λ cs i c k. eval_one m cs i (ours Not) p.1 (truth c) k) said
 
   module _ (lawful : Lawful m) where
-    split_left : (op : Operator) (x y : Tree V O) → is_boolean op ≡ true
-        → tree_type m x ≡ Some (bool_type true) → tree_type m y ≡ Some (bool_type false)
-        → IsSplit op (operated op x y) x y
-    split_left op x y b h k = record {
-      nullable = h;
-      other = k;
-      asks_nullable = asks_left m op x y;
-      asks_other = asks_right m op x y;
-      values = λ cs i w p e.
-          let q = bool_values m cs i op x y w b e in
-          let typed = value_typed m lawful cs i x (bool_type true) q.0 h p.0 q.2 in
-          let back = truth_back true q.0 typed in
-          let c = truth_in q.1 (value_typed m lawful cs i y (bool_type false) q.1 k p.1.0 q.3) in (
-            truth_of q.0,
-            c.0,
-            q.2 ∙ ap gives (sym back),
-            q.3 ∙ ap gives c.1,
-            ap (boolean_value op q.0) (sym c.1) ∙ q.4,
-          );
-    }
-
-    split_right : (op : Operator) (x y : Tree V O) → is_boolean op ≡ true
-        → tree_type m x ≡ Some (bool_type false) → tree_type m y ≡ Some (bool_type true)
-        → IsSplit op (operated op x y) y x
-    split_right op x y b h k = record {
-      nullable = k;
-      other = h;
-      asks_nullable = asks_right m op x y;
-      asks_other = asks_left m op x y;
-      values = λ cs i w p e.
-          let q = bool_values m cs i op x y w b e in
-          let typed = value_typed m lawful cs i y (bool_type true) q.1 k p.1.0 q.3 in
-          let back = truth_back true q.1 typed in
-          let c = truth_in q.0 (value_typed m lawful cs i x (bool_type false) q.0 h p.0 q.2) in (
-            truth_of q.1,
-            c.0,
-            q.3 ∙ ap gives (sym back),
-            q.2 ∙ ap gives c.1,
-            ap truth_or_null (kleene_turned op c.0 (truth_of q.1) b)
-                ∙ ap (λ v. boolean_value op v q.1) (sym c.1) ∙ q.4,
-          );
-    }
-
-    -- the operands that the rules take apart
-    split_of : (op : Operator) (x y : Tree V O) (t : LogicalType) (p : Tree V O × Tree V O)
-        → is_boolean op ≡ true → tree_type m (operated op x y) ≡ Some t
-        → by_nullability m x y ≡ Some p → IsSplit op (operated op x y) p.0 p.1
-    split_of op x y t p b h e =
-        let c = bool_call m op x y t b h in
-        let right = ap (λ z. nullable_first c.left_null (may_be_null z) x y) (sym c.right) in
-        let left = ap (λ z. nullable_first (may_be_null z) (is_nullable_tree m y) x y) (sym c.left)
-        in
-        by c.left_null c.right_null c.left c.right (right ∙ left ∙ e)
-      where
-        by : (n k : Bool) → tree_type m x ≡ Some (bool_type n) → tree_type m y ≡ Some (bool_type k)
-            → nullable_first n k x y ≡ Some p → IsSplit op (operated op x y) p.0 p.1
-        by true false f g q =
-            let is : (x, y) ≡ p = cc in
-            subst (λ (z : Tree V O × Tree V O). IsSplit op (operated op x y) z.0 z.1) is
-            (split_left op x y b f g)
-        by false true f g q =
-            let is : (y, x) ≡ p = cc in
-            subst (λ (z : Tree V O × Tree V O). IsSplit op (operated op x y) z.0 z.1) is
-            (split_right op x y b f g)
-        by true true f g q = cc
-        by false false f g q = cc
-
-    -- null tests of And and Or with one nullable operand
-    null_within : (op : Operator) (x y : Tree V O) (t : LogicalType) (p : Tree V O × Tree V O)
-        → is_boolean op ≡ true → tree_type m (operated op x y) ≡ Some t
-        → by_nullability m x y ≡ Some p → SaidBy op is_null And (λ c. c)
-        → Rewrites m (is_null_of (operated op x y)) (operated And (is_null_of p.0) p.1)
-    null_within op x y t p b h e said =
-        let split = split_of op x y t p b h e in
-        split_as_is IsNull is_null (λ ts v. refl) (λ k. refl) op And (operated op x y)
-        p.0 p.1 t refl h split said
-
-    null_within_negated : (op : Operator) (x y : Tree V O) (t : LogicalType)
-        (p : Tree V O × Tree V O) → is_boolean op ≡ true → tree_type m (operated op x y) ≡ Some t
-        → by_nullability m x y ≡ Some p → SaidBy op is_null And not
-        → Rewrites m (is_null_of (operated op x y)) (operated And (is_null_of p.0) (negated p.1))
-    null_within_negated op x y t p b h e said =
-        let split = split_of op x y t p b h e in
-        split_negated IsNull is_null (λ ts v. refl) (λ k. refl) op And (operated op x y)
-        p.0 p.1 t refl h split said
-
-    not_null_within : (op : Operator) (x y : Tree V O) (t : LogicalType) (p : Tree V O × Tree V O)
-        → is_boolean op ≡ true → tree_type m (operated op x y) ≡ Some t
-        → by_nullability m x y ≡ Some p → SaidBy op is_not_null Or (λ c. c)
-        → Rewrites m (is_not_null_of (operated op x y)) (operated Or (is_not_null_of p.0) p.1)
-    not_null_within op x y t p b h e said =
-        let split = split_of op x y t p b h e in
-        split_as_is IsNotNull is_not_null (λ ts v. refl) (λ k. refl) op Or (operated op x y)
-        p.0 p.1 t refl h split said
-
-    not_null_within_negated : (op : Operator) (x y : Tree V O) (t : LogicalType)
-        (p : Tree V O × Tree V O) → is_boolean op ≡ true → tree_type m (operated op x y) ≡ Some t
-        → by_nullability m x y ≡ Some p → SaidBy op is_not_null Or not
-        → Rewrites m (is_not_null_of (operated op x y))
-        (operated Or (is_not_null_of p.0) (negated p.1))
-    not_null_within_negated op x y t p b h e said =
-        let split = split_of op x y t p b h e in
-        split_negated IsNotNull is_not_null (λ ts v. refl) (λ k. refl) op Or (operated op x y)
-        p.0 p.1 t refl h split said
-
     pub is_null_within_sound : (x u : Tree V O) (t : LogicalType) → tree_type m x ≡ Some t
         → is_null_within m x ≡ Some u → Rewrites m (is_null_of x) u
     is_null_within_sound (call (ours (Binary And)) (tree x (tree y no_trees))) u t h e =
         let a = mapped _ (by_nullability m x y) u e in
         subst (Rewrites m (is_null_of (operated And x y))) a.2
-        (null_within And x y t a.0 refl h a.1 and_is_null)
+        (within IsNull is_null (λ ts v. refl) (λ k. refl) lawful And And refl refl x y t h a.0 a.1
+        and_is_null)
     is_null_within_sound (call (ours (Binary Or)) (tree x (tree y no_trees))) u t h e =
         let a = mapped _ (by_nullability m x y) u e in
         subst (Rewrites m (is_null_of (operated Or x y))) a.2
-        (null_within_negated Or x y t a.0 refl h a.1 or_is_null)
+        (within_negated IsNull is_null (λ ts v. refl) (λ k. refl) lawful Or And refl refl x y t h
+        a.0 a.1 or_is_null)
     is_null_within_sound x u t h e = cc
 
     pub is_not_null_within_sound : (x u : Tree V O) (t : LogicalType) → tree_type m x ≡ Some t
@@ -299,11 +250,13 @@ module _ {V O : Type 0} (m : Meaning V O) where
     is_not_null_within_sound (call (ours (Binary And)) (tree x (tree y no_trees))) u t h e =
         let a = mapped _ (by_nullability m x y) u e in
         subst (Rewrites m (is_not_null_of (operated And x y))) a.2
-        (not_null_within_negated And x y t a.0 refl h a.1 and_is_not_null)
+        (within_negated IsNotNull is_not_null (λ ts v. refl) (λ k. refl) lawful And Or refl refl
+        x y t h a.0 a.1 and_is_not_null)
     is_not_null_within_sound (call (ours (Binary Or)) (tree x (tree y no_trees))) u t h e =
         let a = mapped _ (by_nullability m x y) u e in
         subst (Rewrites m (is_not_null_of (operated Or x y))) a.2
-        (not_null_within Or x y t a.0 refl h a.1 or_is_not_null)
+        (within IsNotNull is_not_null (λ ts v. refl) (λ k. refl) lawful Or Or refl refl x y t h
+        a.0 a.1 or_is_not_null)
     is_not_null_within_sound x u t h e = cc
 
     -- of a child that is never null

@@ -36,8 +36,8 @@ use Rattle.vortex_interface.specs.SimplifyRules.{simplify_shipped, simplify}
 use Rattle.vortex_interface.specs.Rewrites.{Rewrites, LawfulRules}
 use Rattle.vortex_interface.proofs.TypedCalls.{two_types, typed_call, two_values}
 use Rattle.vortex_interface.proofs.BooleanCalls.{IsBoolCall, bool_call, bool_values, asks_left}
-use Rattle.vortex_interface.proofs.BooleanCalls.{left_decided, right_decided, left_undecided}
-use Rattle.vortex_interface.proofs.BooleanCalls.{right_undecided}
+use Rattle.vortex_interface.proofs.BooleanCalls.{AreOperands, left_first, right_first}
+use Rattle.vortex_interface.proofs.BooleanCalls.{decided_sound, undecided_sound}
 use Rattle.vortex_interface.proofs.RuleAnswers.{first_there, answer_if, answer_unless, both_true}
 use Rattle.vortex_interface.proofs.RuleAnswers.{either_true}
 
@@ -129,69 +129,58 @@ module _ {V O : Type 0} (m : Meaning V O) where
   null_kleene Or h = refl
   null_kleene op h = cc
 
-  module _ (lawful : Lawful m) (op : Operator) (b : is_boolean op ≡ true) (x y : Tree V O)
-      (n : Bool) (c : IsBoolCall m op x y n) where
-    -- two null literals
-    nulls_left : is_null_literal x ≡ true → is_null_literal y ≡ true
-        → Rewrites m (operated op x y) x
-    nulls_left h k = record {
-      dtype =
-          let wide = null_literal_type x (bool_type c.left_null) h c.left in
-          let either = sym (or_either c.left_null c.right_null (inl wide)) ∙ c.either in
-          c.left ∙ ap (λ a. Some (bool_type a)) (wide ∙ either) ∙ sym c.node;
-      asks = asks_left m op x y;
-      value = λ cs i w p e.
-          let q = bool_values m cs i op x y w b e in
-          let left = null_value cs i x q.0 h q.2 in
-          let right = null_value cs i y q.1 k q.3 in
-          let value = (λ j. boolean_value op (left j) (right j)) ∙ null_kleene op b in
-          q.2 ∙ ap gives (left ∙ sym value ∙ q.4);
-    }
+  module _ (lawful : Lawful m) (op : Operator) (b : is_boolean op ≡ true) where
+    module _ (node x y : Tree V O) (n : Bool) (c : AreOperands m op node n x y) where
+      decided_by : (o : Option Bool) (u : Tree V O) → constant_truth x ≡ o
+          → decided op n o ≡ Some u → Rewrites m node u
+      decided_by None u h e = cc
+      decided_by (Some a) u h e =
+          let d = answer_if (decides op a) _ u e in
+          subst (Rewrites m node) d.1 (decided_sound m op b node x y n a c h d.0)
 
-    -- a rewrite of the node
-    abbrev Sound : Tree V O → Type 0
-    Sound u = Rewrites m (operated op x y) u
+      undecided_by : (o : Option Bool) (u : Tree V O) → constant_truth x ≡ o
+          → undecided m op n o y ≡ Some u → Rewrites m node u
+      undecided_by None u h e = cc
+      undecided_by (Some a) u h e =
+          let d = answer_unless (decides op a) _ u e in
+          subst (Rewrites m node) d.1 (undecided_sound m op b node x y n a c h lawful d.0)
 
-    left_by : (o : Option Bool) (u : Tree V O) → constant_truth x ≡ o → decided op n o ≡ Some u
-        → Sound u
-    left_by None u h e = cc
-    left_by (Some a) u h e =
-        let d = answer_if (decides op a) _ u e in
-        subst Sound d.1 (left_decided m op b x y n a c h d.0)
+    module _ (x y : Tree V O) (n : Bool) (c : IsBoolCall m op x y n) where
+      -- two null literals
+      nulls_left : is_null_literal x ≡ true → is_null_literal y ≡ true
+          → Rewrites m (operated op x y) x
+      nulls_left h k = record {
+        dtype =
+            let wide = null_literal_type x (bool_type c.left_null) h c.left in
+            let either = sym (or_either c.left_null c.right_null (inl wide)) ∙ c.either in
+            c.left ∙ ap (λ a. Some (bool_type a)) (wide ∙ either) ∙ sym c.node;
+        asks = asks_left m op x y;
+        value = λ cs i w p e.
+            let q = bool_values m cs i op x y w b e in
+            let left = null_value cs i x q.0 h q.2 in
+            let right = null_value cs i y q.1 k q.3 in
+            let value = (λ j. boolean_value op (left j) (right j)) ∙ null_kleene op b in
+            q.2 ∙ ap gives (left ∙ sym value ∙ q.4);
+      }
 
-    right_by : (o : Option Bool) (u : Tree V O) → constant_truth y ≡ o → decided op n o ≡ Some u
-        → Sound u
-    right_by None u h e = cc
-    right_by (Some a) u h e =
-        let d = answer_if (decides op a) _ u e in
-        subst Sound d.1 (right_decided m op b x y n a c h d.0)
+      nulls_by : (u : Tree V O) → left_of_nulls x y ≡ Some u → Rewrites m (operated op x y) u
+      nulls_by u e =
+          let d = answer_if (is_null_literal x && is_null_literal y) x u e in
+          let both = both_true (is_null_literal x) (is_null_literal y) d.0 in
+          subst (Rewrites m (operated op x y)) d.1 (nulls_left both.0 both.1)
 
-    left_out_by : (o : Option Bool) (u : Tree V O) → constant_truth x ≡ o
-        → undecided m op n o y ≡ Some u → Sound u
-    left_out_by None u h e = cc
-    left_out_by (Some a) u h e =
-        let d = answer_unless (decides op a) _ u e in
-        subst Sound d.1 (left_undecided m op b x y n a c lawful h d.0)
-
-    right_out_by : (o : Option Bool) (u : Tree V O) → constant_truth y ≡ o
-        → undecided m op n o x ≡ Some u → Sound u
-    right_out_by None u h e = cc
-    right_out_by (Some a) u h e =
-        let d = answer_unless (decides op a) _ u e in
-        subst Sound d.1 (right_undecided m op b x y n a c lawful h d.0)
-
-    nulls_by : (u : Tree V O) → left_of_nulls x y ≡ Some u → Sound u
-    nulls_by u e =
-        let d = answer_if (is_null_literal x && is_null_literal y) x u e in
-        let both = both_true (is_null_literal x) (is_null_literal y) d.0 in
-        subst Sound d.1 (nulls_left both.0 both.1)
-
-    operands_sound : (u : Tree V O) → simplify_operands m op n x y ≡ Some u → Sound u
-    operands_sound u e =
-        first_there _ _ u (Sound u) e (left_by (constant_truth x) u refl)
-        (λ e. first_there _ _ u (Sound u) e (right_by (constant_truth y) u refl)
-        (λ e. first_there _ _ u (Sound u) e (left_out_by (constant_truth x) u refl)
-        (λ e. first_there _ _ u (Sound u) e (right_out_by (constant_truth y) u refl) (nulls_by u))))
+      operands_sound : (u : Tree V O) → simplify_operands m op n x y ≡ Some u
+          → Rewrites m (operated op x y) u
+      operands_sound u e =
+          let node = operated op x y in
+          let sound = Rewrites m node u in
+          let l = left_first m op b x y n c in
+          let r = right_first m op b x y n c in
+          first_there _ _ u sound e (decided_by node x y n l (constant_truth x) u refl)
+          (λ e. first_there _ _ u sound e (decided_by node y x n r (constant_truth y) u refl)
+          (λ e. first_there _ _ u sound e (undecided_by node x y n l (constant_truth x) u refl)
+          (λ e. first_there _ _ u sound e (undecided_by node y x n r (constant_truth y) u refl)
+          (nulls_by u))))
 
   module _ (lawful : Lawful m) where
     boolean_sound : (op : Operator) (x y u : Tree V O) (t : LogicalType) → is_boolean op ≡ true

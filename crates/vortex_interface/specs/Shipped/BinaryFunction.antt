@@ -159,16 +159,16 @@ operator_typed : (op : Operator) (ts : List LogicalType) (t : LogicalType) (vs :
     → operator_type op ts ≡ Some t → HaveTypes ts vs → GivesType t (operator_means op ts vs)
 operator_typed And ts t vs e h = both_typed And refl ts t vs e h
 operator_typed Or ts t vs e h = both_typed Or refl ts t vs e h
+operator_typed Add ts t vs e h = arithmetic_typed numeric.Add ts t vs e h
+operator_typed Sub ts t vs e h = arithmetic_typed numeric.Sub ts t vs e h
+operator_typed Mul ts t vs e h = arithmetic_typed numeric.Mul ts t vs e h
+operator_typed Div ts t vs e h = arithmetic_typed numeric.Div ts t vs e h
 operator_typed Eq ts t vs e h = comparison_typed compare.Eq ts t vs e h
 operator_typed NotEq ts t vs e h = comparison_typed compare.NotEq ts t vs e h
 operator_typed Gt ts t vs e h = comparison_typed compare.Gt ts t vs e h
 operator_typed Gte ts t vs e h = comparison_typed compare.Gte ts t vs e h
 operator_typed Lt ts t vs e h = comparison_typed compare.Lt ts t vs e h
 operator_typed Lte ts t vs e h = comparison_typed compare.Lte ts t vs e h
-operator_typed Add ts t vs e h = arithmetic_typed numeric.Add ts t vs e h
-operator_typed Sub ts t vs e h = arithmetic_typed numeric.Sub ts t vs e h
-operator_typed Mul ts t vs e h = arithmetic_typed numeric.Mul ts t vs e h
-operator_typed Div ts t vs e h = arithmetic_typed numeric.Div ts t vs e h
 
 comparison_nullable : (ts : List LogicalType) (t : LogicalType)
     → compared_type ts ≡ Some t → Any (λ a. is_nullable a ≡ true) ts → is_nullable t ≡ true
@@ -203,17 +203,18 @@ operator_nullable op ts t s e a = comparison_nullable ts t e a
 
 operator_null : (op : Operator) (ts : List LogicalType) (vs : List Value)
     → not (is_boolean op) ≡ true → Any (λ v. v ≡ null) vs → GivesNull (operator_means op ts vs)
+operator_null And ts vs s a = cc
+operator_null Or ts vs s a = cc
+operator_null Add ts vs s a = arithmetic_null numeric.Add ts vs a
+operator_null Sub ts vs s a = arithmetic_null numeric.Sub ts vs a
+operator_null Mul ts vs s a = arithmetic_null numeric.Mul ts vs a
+operator_null Div ts vs s a = arithmetic_null numeric.Div ts vs a
 operator_null Eq ts vs s a = comparison_null compare.Eq vs a
 operator_null NotEq ts vs s a = comparison_null compare.NotEq vs a
 operator_null Gt ts vs s a = comparison_null compare.Gt vs a
 operator_null Gte ts vs s a = comparison_null compare.Gte vs a
 operator_null Lt ts vs s a = comparison_null compare.Lt vs a
 operator_null Lte ts vs s a = comparison_null compare.Lte vs a
-operator_null Add ts vs s a = arithmetic_null numeric.Add ts vs a
-operator_null Sub ts vs s a = arithmetic_null numeric.Sub ts vs a
-operator_null Mul ts vs s a = arithmetic_null numeric.Mul ts vs a
-operator_null Div ts vs s a = arithmetic_null numeric.Div ts vs a
-operator_null op ts vs s a = cc
 
 alike_by : (o : Option NumericOperator) (op : Operator) (ts us : List LogicalType) (vs : List Value)
     → AreAlike ts us → means_by o op ts vs ≡ means_by o op us vs
