@@ -1,6 +1,6 @@
 -- Null tests that need not compute their child: of a child that is never null, one whose validity
 -- is a tree, and And or Or with one nullable operand.
-use Rattle.std.proofs.Common.{◌≡◌, ℕ, Bool, true, false, not, List, [], ◌∷◌, Option, Some, None}
+use Rattle.std.proofs.Common.{◌≡◌, ℕ, Bool, true, false, not, List, [], ◌∷◌, Option, Some}
 use Rattle.std.proofs.Common.{refl, sym, ap, ◌∙◌, subst, inl, ⊎_elim, arith}
 use Rattle.vortex_types.specs.LogicalTypes.{LogicalType, bool_type, is_nullable}
 use Rattle.vortex_types.specs.Values.{Value, truth, is_null, truth_of, truth_or_null}

@@ -1,7 +1,6 @@
 -- What Reduce answers is a rewrite.
 use Rattle.std.proofs.Common.{◌≡◌, Bool, true, false, Option, Some, None, refl, sym, ap, ◌∙◌, subst}
 use Rattle.std.specs.Prelude.{if◌then◌else◌}
-use Rattle.std.specs.Option.{option_map, option_or}
 use Rattle.vortex_types.specs.LogicalTypes.{LogicalType, bool_type}
 use Rattle.vortex_types.specs.Values.{truth, truth_or_null}
 use Rattle.vortex_types.specs.Typing.{HasType}
@@ -23,7 +22,7 @@ use Rattle.vortex_interface.specs.Rules.{Rules, truth_constant, is_null_of, is_n
 use Rattle.vortex_interface.specs.Rules.{constant_truth, may_be_null, is_nullable_tree}
 use Rattle.vortex_interface.specs.Rules.{widened}
 use Rattle.vortex_interface.specs.ValidityRules.{validity}
-use Rattle.vortex_interface.specs.ReduceRules.{table_constant, is_null_within, is_not_null_within}
+use Rattle.vortex_interface.specs.ReduceRules.{table_constant}
 use Rattle.vortex_interface.specs.ReduceRules.{reduce_is_null, reduce_is_not_null, of_constants}
 use Rattle.vortex_interface.specs.ReduceRules.{reduce_boolean, reduce_operator, reduce_shipped}
 use Rattle.vortex_interface.specs.ReduceRules.{reduce}

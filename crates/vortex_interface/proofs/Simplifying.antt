@@ -1,23 +1,20 @@
 -- What Simplify answers is a rewrite.
-use Rattle.std.proofs.Common.{◌≡◌, ℕ, Bool, true, false, List, [], ◌∷◌, Option, Some, None, refl}
-use Rattle.std.proofs.Common.{sym, ap, ◌∙◌, subst, inl, inr, cond}
+use Rattle.std.proofs.Common.{◌≡◌, ℕ, Bool, true, List, [], ◌∷◌, Option, Some, None, refl}
+use Rattle.std.proofs.Common.{sym, ap, ◌∙◌, subst, inl, inr}
 use Rattle.std.specs.Prelude.{◌||◌, ◌&&◌, ◌⊎◌}
 use Rattle.vortex_types.specs.LogicalTypes.{LogicalType, bool_type, is_nullable}
 use Rattle.vortex_types.specs.TypeEquality.{alike_types}
-use Rattle.vortex_types.specs.Values.{Value, null, truth, is_null}
-use Rattle.vortex_types.specs.Order.{compare_values}
+use Rattle.vortex_types.specs.Values.{Value, null, is_null}
 use Rattle.vortex_types.proofs.NullValues.{null_is}
 use Rattle.vortex_columns.specs.ColumnView.{ColumnView}
 use Rattle.vortex_operators.specs.Kleene.{decides}
 use Rattle.vortex_operators.specs.declared.operators.Operator.{Operator}
 use Rattle.vortex_operators.specs.declared.operators.Operator.TheVariants.{Eq, NotEq, Gt, Gte, Lt}
-use Rattle.vortex_operators.specs.declared.operators.Operator.TheVariants.{Lte, And, Or, Add, Sub}
-use Rattle.vortex_operators.specs.declared.operators.Operator.TheVariants.{Mul, Div}
+use Rattle.vortex_operators.specs.declared.operators.Operator.TheVariants.{Lte, And, Or}
 use Rattle.vortex_operators.specs.declared.operators.CompareOperator.{CompareOperator}
 use Rattle.vortex_operators.specs.declared.operators.CompareOperator.TheVariants as compare
 use Rattle.vortex_operators.specs.Operators.{is_boolean, operator_of}
 use Rattle.vortex_operators.specs.OperatorValues.{boolean_value, comparison_value, comparison_type}
-use Rattle.vortex_operators.specs.OperatorValues.{holds}
 use Rattle.vortex_interface.specs.Outcomes.{gives}
 use Rattle.vortex_interface.specs.Meaning.{Meaning, Lawful}
 use Rattle.vortex_interface.specs.Arguments.{or_either, null_of_either}
@@ -29,7 +26,7 @@ use Rattle.vortex_interface.specs.Trees.{Tree, leaf, constant, call, Trees, no_t
 use Rattle.vortex_interface.specs.Eval.{types_or_none, tree_type, tree_types, eval}
 use Rattle.vortex_interface.specs.ComparisonTrees.{operated, compared, compared_means}
 use Rattle.vortex_interface.specs.Rules.{Rules, constant_truth, is_nullable_tree}
-use Rattle.vortex_interface.specs.SimplifyRules.{is_null_scalar, is_null_literal, simplify_comparison}
+use Rattle.vortex_interface.specs.SimplifyRules.{is_null_literal, simplify_comparison}
 use Rattle.vortex_interface.specs.SimplifyRules.{decided, left_of_nulls, undecided, simplify_operands}
 use Rattle.vortex_interface.specs.SimplifyRules.{simplify_boolean, simplify_operator}
 use Rattle.vortex_interface.specs.SimplifyRules.{simplify_shipped, simplify}

@@ -9,7 +9,7 @@ use Rattle.vortex_types.specs.LogicalTypes.{LogicalType, null_type, bool_type, i
 use Rattle.vortex_types.specs.LogicalTypes.{text_type, bytes_type, struct_type, list_type}
 use Rattle.vortex_types.specs.LogicalTypes.{fixed_size_list_type, map_type, is_nullable}
 use Rattle.vortex_types.specs.LogicalTypes.{with_nullability, without_nullability}
-use Rattle.vortex_types.specs.Values.{Value, null, truth, number, text, bytes, list, value_count}
+use Rattle.vortex_types.specs.Values.{Value, null, truth, value_count}
 use Rattle.vortex_types.specs.Values.{is_null}
 use Rattle.vortex_types.specs.Typing.{HasType, OrNull, IsTruth, IsNumber, FitsPType, IsText}
 use Rattle.vortex_types.specs.Typing.{IsBytes, IsList, HaveFields, Each, IsPair}
