@@ -131,17 +131,6 @@ module _ {V O : Type 0} (m : Meaning V O) where
 
   module _ (rule : Tree V O → Option (Tree V O)) (lightens : Lightens m rule) (t : Tree V O)
       (k : LogicalType) (h : tree_type m t ≡ Some k) (s : OnlyShipped t) where
-    -- a run of so many steps is over
-    pub run_is_over : (n : ℕ) (u : Tree V O) → Runs rule n t u → weight m t ≤ n + 1
-        → step rule u ≡ None
-    run_is_over n u run enough = by (step rule u) refl
-      where
-        by : (o : Option (Tree V O)) → step rule u ≡ o → o ≡ None
-        by None e = refl
-        by (Some v) e =
-            let more = runs_bound rule lightens (suc n) t v k h s (u, run, e) in
-            absurd (omega (arith, more, enough))
-
     -- some run is over
     abbrev pub Ends : Type 0
     Ends = (n : ℕ) × (u : Tree V O) × Runs rule n t u × (step rule u ≡ None)

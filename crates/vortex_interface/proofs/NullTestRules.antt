@@ -2,6 +2,7 @@
 -- is a tree, and And or Or with one nullable operand.
 use Rattle.std.proofs.Common.{◌≡◌, ℕ, Bool, true, false, not, List, [], ◌∷◌, Option, Some}
 use Rattle.std.proofs.Common.{refl, sym, ap, ◌∙◌, subst, inl, ⊎_elim, arith}
+use Rattle.std.specs.Option.{option_map}
 use Rattle.vortex_types.specs.LogicalTypes.{LogicalType, bool_type, is_nullable}
 use Rattle.vortex_types.specs.Values.{Value, truth, is_null, truth_of, truth_or_null}
 use Rattle.vortex_columns.specs.ColumnView.{ColumnView}
@@ -12,7 +13,8 @@ use Rattle.vortex_operators.specs.OperatorValues.{boolean_value}
 use Rattle.vortex_operators.specs.Kleene.{kleene}
 use Rattle.vortex_interface.specs.Outcomes.{gives}
 use Rattle.vortex_interface.specs.Meaning.{Meaning, Lawful}
-use Rattle.vortex_interface.specs.Shipped.{Shipped, Binary, Not, IsNull, IsNotNull, shipped_means}
+use Rattle.vortex_interface.specs.Shipped.{Binary, Not, NullTest}
+use Rattle.vortex_interface.specs.Shipped.NullTestFunctions.{null_test_value}
 use Rattle.vortex_interface.specs.Functions.{ours, call_type}
 use Rattle.vortex_interface.specs.Trees.{Tree, call, no_trees, tree}
 use Rattle.vortex_interface.specs.Eval.{types_or_none, tree_type, tree_types, eval}
@@ -31,33 +33,24 @@ use Rattle.vortex_interface.proofs.BooleanCalls.{bool_call, AreOperands, left_fi
 use Rattle.vortex_interface.proofs.BooleanCalls.{eval_bool}
 use Rattle.vortex_interface.proofs.RuleAnswers.{mapped, not_not}
 
--- a null test by what it says of a value
-abbrev pub Tests : Shipped → (Value → Bool) → Type 0
-Tests test says = (ts : List LogicalType) (v : Value)
-    → shipped_means test ts (v ∷ []) ≡ gives (truth (says v))
-
--- what a test says of And or Or is what `join` says of the test of the nullable operand and of the
--- other one, turned
-abbrev SaidBy : Operator → (Value → Bool) → Operator → (Bool → Bool) → Type 0
-SaidBy op says join turn =
+-- what a null test says of And or Or is what `join` says of the test of the nullable operand and of
+-- the other one, turned
+abbrev SaidBy : Operator → Bool → Operator → (Bool → Bool) → Type 0
+SaidBy op test join turn =
     (a : Option Bool) (c : Bool)
-    → boolean_value join (truth (says (truth_or_null a))) (truth (turn c))
-    ≡ truth (says (truth_or_null (kleene op a (Some c))))
+    → boolean_value join (truth (null_test_value test (truth_or_null a))) (truth (turn c))
+    ≡ truth (null_test_value test (truth_or_null (kleene op a (Some c))))
 
--- what the other null test says
-abbrev is_not_null : Value → Bool
-is_not_null v = not (is_null v)
-
-and_is_null : SaidBy And is_null And (λ c. c)
+and_is_null : SaidBy And false And (λ c. c)
 and_is_null a c = grind arith
 
-or_is_null : SaidBy Or is_null And not
+or_is_null : SaidBy Or false And not
 or_is_null a c = grind arith
 
-and_is_not_null : SaidBy And is_not_null Or not
+and_is_not_null : SaidBy And true Or not
 and_is_not_null a c = grind arith
 
-or_is_not_null : SaidBy Or is_not_null Or (λ c. c)
+or_is_not_null : SaidBy Or true Or (λ c. c)
 or_is_not_null a c = grind arith
 
 module _ {V O : Type 0} (m : Meaning V O) where
@@ -83,10 +76,11 @@ module _ {V O : Type 0} (m : Meaning V O) where
       asks_other = c.asks_other;
       values = λ cs i w p e.
           let q = c.values cs i w e in
-          let typed = value_typed m lawful cs i x (bool_type true) q.0 h (c.asks_one.rows cs i p) q.2 in
+          let rows = c.asks_one.rows cs i p in
+          let others = c.asks_other.rows cs i p in
+          let typed = value_typed m lawful cs i x (bool_type true) q.0 h rows q.2 in
           let back = truth_back true q.0 typed in
-          let other = value_typed m lawful cs i y (bool_type false) q.1 k (c.asks_other.rows cs i p) q.3 in
-          let z = truth_in q.1 other in (
+          let z = truth_in q.1 (value_typed m lawful cs i y (bool_type false) q.1 k others q.3) in (
             truth_of q.0,
             z.0,
             q.2 ∙ ap gives (sym back),
@@ -122,33 +116,22 @@ module _ {V O : Type 0} (m : Meaning V O) where
         by true true f g q = cc
         by false false f g q = cc
 
-  -- the type of a null test, which accepts every type, and its value in a row
-  abbrev AcceptsAll : Shipped → Type 0
-  AcceptsAll test = (t : LogicalType) → call_type m (ours test) (t ∷ []) ≡ Some (bool_type false)
-
-  module _ (test : Shipped) (says : Value → Bool) (tests : Tests test says)
-      (accepts : AcceptsAll test) where
-    -- the test of a tree
+  -- whether a tree is null, or, where `test` is true, whether it is not
+  module _ (test : Bool) where
     abbrev tested : Tree V O → Tree V O
-    tested x = call (ours test) (tree x no_trees)
+    tested x = call (ours (NullTest test)) (tree x no_trees)
+
+    abbrev says : Value → Bool
+    says = null_test_value test
 
     test_type : (x : Tree V O) (t : LogicalType) → tree_type m x ≡ Some t
         → tree_type m (tested x) ≡ Some (bool_type false)
-    test_type x t h = type_of_one m (ours test) x t h ∙ accepts t
-
-    eval_test : (cs : List ColumnView) (i : ℕ) (x : Tree V O) (v : Value) → eval m cs x i ≡ gives v
-        → eval m cs (tested x) i ≡ gives (truth (says v))
-    eval_test cs i x v h =
-        eval_one m cs i (ours test) x v h
-        ∙ tests (types_or_none (tree_types m (tree x no_trees))) v
+    test_type x t h = type_of_one m (ours (NullTest test)) x t h
 
     test_value : (cs : List ColumnView) (i : ℕ) (x : Tree V O) (w : Value)
         → eval m cs (tested x) i ≡ gives w
         → (v : Value) × (eval m cs x i ≡ gives v) × (gives (truth (says v)) ≡ gives w)
-    test_value cs i x w e =
-        let a = one_value m cs i (ours test) x w e in
-        let said = sym (tests (types_or_none (tree_types m (tree x no_trees))) a.0) ∙ a.2 in
-        (a.0, a.1, said)
+    test_value cs i x w e = one_value m cs i (ours (NullTest test)) x w e
 
     -- a child of whose values the test says one thing
     constant_test : (x : Tree V O) (t : LogicalType) (b : Bool) → tree_type m x ≡ Some t
@@ -169,7 +152,7 @@ module _ {V O : Type 0} (m : Meaning V O) where
         → IsSplit op node x y → tree_type m other ≡ Some (bool_type false) → AsksNoMore y other
         → ((cs : List ColumnView) (i : ℕ) (c : Bool) → eval m cs y i ≡ gives (truth c)
         → eval m cs other i ≡ gives (truth (turn c)))
-        → SaidBy op says join turn
+        → SaidBy op test join turn
         → Rewrites m (tested node) (operated join (tested x) other)
     split_test op join turn node x y other t b h s typed asks turned said = record {
       dtype =
@@ -192,7 +175,7 @@ module _ {V O : Type 0} (m : Meaning V O) where
       value = λ cs i w p e.
           let a = test_value cs i node w e in
           let q = s.values cs i a.0 p.0 a.1 in
-          let left = eval_test cs i x (truth_or_null q.0) q.2 in
+          let left = eval_one m cs i (ours (NullTest test)) x (truth_or_null q.0) q.2 in
           let right = turned cs i q.1 q.3 in
           eval_bool m cs i join (tested x) other _ _ b left right
           ∙ ap gives (said q.0 q.1) ∙ ap (λ v. gives (truth (says v))) q.4 ∙ a.2;
@@ -208,69 +191,61 @@ module _ {V O : Type 0} (m : Meaning V O) where
     -- the other operand as it is, and negated
     module _ (lawful : Lawful m) (op join : Operator) (b : is_boolean op ≡ true)
         (j : is_boolean join ≡ true) (x y : Tree V O) (t : LogicalType)
-        (h : tree_type m (operated op x y) ≡ Some t) (p : Tree V O × Tree V O)
-        (e : by_nullability m x y ≡ Some p) where
-      within : SaidBy op says join (λ c. c)
-          → Rewrites m (tested (operated op x y)) (operated join (tested p.0) p.1)
-      within said =
-          let s = split_of lawful op x y t p b h e in
-          split_test op join (λ c. c) (operated op x y) p.0 p.1 p.1 t j h s s.other
-          (asks_same p.1) (λ cs i c k. k) said
+        (h : tree_type m (operated op x y) ≡ Some t) (u : Tree V O) where
+      within : SaidBy op test join (λ c. c)
+          → option_map (λ p. operated join (tested p.0) p.1) (by_nullability m x y) ≡ Some u
+          → Rewrites m (tested (operated op x y)) u
+      within said e =
+          let a = mapped _ (by_nullability m x y) u e in
+          let s = split_of lawful op x y t a.0 b h a.1 in
+          subst (Rewrites m (tested (operated op x y))) a.2
+          (split_test op join (λ c. c) (operated op x y) a.0.0 a.0.1 a.0.1 t j h s s.other
+          (asks_same a.0.1) (λ cs i c k. k) said)
 
-      within_negated : SaidBy op says join not
-          → Rewrites m (tested (operated op x y)) (operated join (tested p.0) (negated p.1))
-      within_negated said =
-          let s = split_of lawful op x y t p b h e in
-          split_test op join not (operated op x y) p.0 p.1 (negated p.1) t j h s
-          (type_of_one m (ours Not) p.1 (bool_type false) s.other)
+      within_negated : SaidBy op test join not
+          → option_map (λ p. operated join (tested p.0) (negated p.1)) (by_nullability m x y)
+          ≡ Some u
+          → Rewrites m (tested (operated op x y)) u
+      within_negated said e =
+          let a = mapped _ (by_nullability m x y) u e in
+          let s = split_of lawful op x y t a.0 b h a.1 in
+          subst (Rewrites m (tested (operated op x y))) a.2
+          (split_test op join not (operated op x y) a.0.0 a.0.1 (negated a.0.1) t j h s
+          (type_of_one m (ours Not) a.0.1 (bool_type false) s.other)
           (record {
             leaves = λ q name k a. in_one a;
             rows = λ cs i k. (k, tt);
             places = λ k. (k, tt);
           })
-          (λ cs i c k. eval_one m cs i (ours Not) p.1 (truth c) k) said
+          (λ cs i c k. eval_one m cs i (ours Not) a.0.1 (truth c) k) said)
+
+    -- of a child that is never null
+    pub never_null_test : Lawful m → (x : Tree V O) (t : LogicalType) → tree_type m x ≡ Some t
+        → is_nullable t ≡ false → Rewrites m (tested x) (truth_constant false test)
+    never_null_test lawful x t h n =
+        constant_test x t test h
+        (λ cs i v p e. by test v (never_null m lawful cs i x t v h n p e))
+      where
+        by : (b : Bool) (v : Value) → is_null v ≡ false → null_test_value b v ≡ b
+        by false v e = e
+        by true v e = ap not e
 
   module _ (lawful : Lawful m) where
     pub is_null_within_sound : (x u : Tree V O) (t : LogicalType) → tree_type m x ≡ Some t
         → is_null_within m x ≡ Some u → Rewrites m (is_null_of x) u
     is_null_within_sound (call (ours (Binary And)) (tree x (tree y no_trees))) u t h e =
-        let a = mapped _ (by_nullability m x y) u e in
-        subst (Rewrites m (is_null_of (operated And x y))) a.2
-        (within IsNull is_null (λ ts v. refl) (λ k. refl) lawful And And refl refl x y t h a.0 a.1
-        and_is_null)
+        within false lawful And And refl refl x y t h u and_is_null e
     is_null_within_sound (call (ours (Binary Or)) (tree x (tree y no_trees))) u t h e =
-        let a = mapped _ (by_nullability m x y) u e in
-        subst (Rewrites m (is_null_of (operated Or x y))) a.2
-        (within_negated IsNull is_null (λ ts v. refl) (λ k. refl) lawful Or And refl refl x y t h
-        a.0 a.1 or_is_null)
+        within_negated false lawful Or And refl refl x y t h u or_is_null e
     is_null_within_sound x u t h e = cc
 
     pub is_not_null_within_sound : (x u : Tree V O) (t : LogicalType) → tree_type m x ≡ Some t
         → is_not_null_within m x ≡ Some u → Rewrites m (is_not_null_of x) u
     is_not_null_within_sound (call (ours (Binary And)) (tree x (tree y no_trees))) u t h e =
-        let a = mapped _ (by_nullability m x y) u e in
-        subst (Rewrites m (is_not_null_of (operated And x y))) a.2
-        (within_negated IsNotNull is_not_null (λ ts v. refl) (λ k. refl) lawful And Or refl refl
-        x y t h a.0 a.1 and_is_not_null)
+        within_negated true lawful And Or refl refl x y t h u and_is_not_null e
     is_not_null_within_sound (call (ours (Binary Or)) (tree x (tree y no_trees))) u t h e =
-        let a = mapped _ (by_nullability m x y) u e in
-        subst (Rewrites m (is_not_null_of (operated Or x y))) a.2
-        (within IsNotNull is_not_null (λ ts v. refl) (λ k. refl) lawful Or Or refl refl x y t h
-        a.0 a.1 or_is_not_null)
+        within true lawful Or Or refl refl x y t h u or_is_not_null e
     is_not_null_within_sound x u t h e = cc
-
-    -- of a child that is never null
-    pub never_null_is_null : (x : Tree V O) (t : LogicalType) → tree_type m x ≡ Some t
-        → is_nullable t ≡ false → Rewrites m (is_null_of x) (truth_constant false false)
-    never_null_is_null x t h n =
-        constant_test IsNull is_null (λ ts v. refl) (λ k. refl) x t false h
-        (λ cs i v p e. never_null m lawful cs i x t v h n p e)
-
-    pub never_null_is_not_null : (x : Tree V O) (t : LogicalType) → tree_type m x ≡ Some t
-        → is_nullable t ≡ false → Rewrites m (is_not_null_of x) (truth_constant false true)
-    never_null_is_not_null x t h n =
-        constant_test IsNotNull is_not_null (λ ts v. refl) (λ k. refl) x t true h
-        (λ cs i v p e. ap not (never_null m lawful cs i x t v h n p e))
 
   -- of a child whose validity is a tree
   pub is_null_by_validity : (x v : Tree V O) (t : LogicalType) → tree_type m x ≡ Some t
@@ -278,14 +253,14 @@ module _ {V O : Type 0} (m : Meaning V O) where
   is_null_by_validity x v t h valid = record {
     dtype =
         type_of_one m (ours Not) v (bool_type false) valid.dtype
-        ∙ sym (test_type IsNull is_null (λ ts w. refl) (λ k. refl) x t h);
+        ∙ sym (test_type false x t h);
     asks = record {
       leaves = λ p name k h. inl (valid.asks.leaves p name k (in_one h));
       rows = λ cs i k. (valid.asks.rows cs i k.0, tt);
       places = λ k. (valid.asks.places k.0, tt);
     };
     value = λ cs i w p e.
-        let a = test_value IsNull is_null (λ ts z. refl) (λ k. refl) cs i x w e in
+        let a = test_value false cs i x w e in
         let said = valid.value cs i a.0 p.0 a.1 in
         eval_one m cs i (ours Not) v (truth (not (is_null a.0))) said
         ∙ ap (λ b. gives (truth b)) (not_not (is_null a.0)) ∙ a.2;
@@ -294,13 +269,13 @@ module _ {V O : Type 0} (m : Meaning V O) where
   pub is_not_null_by_validity : (x v : Tree V O) (t : LogicalType) → tree_type m x ≡ Some t
       → IsValidityOf m x v → Rewrites m (is_not_null_of x) v
   is_not_null_by_validity x v t h valid = record {
-    dtype = valid.dtype ∙ sym (test_type IsNotNull is_not_null (λ ts w. refl) (λ k. refl) x t h);
+    dtype = valid.dtype ∙ sym (test_type true x t h);
     asks = record {
       leaves = λ p name k h. inl (valid.asks.leaves p name k h);
       rows = λ cs i k. valid.asks.rows cs i k.0;
       places = λ k. valid.asks.places k.0;
     };
     value = λ cs i w p e.
-        let a = test_value IsNotNull is_not_null (λ ts z. refl) (λ k. refl) cs i x w e in
+        let a = test_value true cs i x w e in
         valid.value cs i a.0 p.0 a.1 ∙ a.2;
   }

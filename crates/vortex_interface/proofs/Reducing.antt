@@ -33,7 +33,7 @@ use Rattle.vortex_interface.proofs.BooleanCalls.{AreOperands, left_first, right_
 use Rattle.vortex_interface.proofs.BooleanCalls.{decided_sound, undecided_sound}
 use Rattle.vortex_interface.proofs.Validities.{validity_sound}
 use Rattle.vortex_interface.proofs.NullTestRules.{is_null_within_sound, is_not_null_within_sound}
-use Rattle.vortex_interface.proofs.NullTestRules.{never_null_is_null, never_null_is_not_null}
+use Rattle.vortex_interface.proofs.NullTestRules.{never_null_test}
 use Rattle.vortex_interface.proofs.NullTestRules.{is_null_by_validity, is_not_null_by_validity}
 use Rattle.vortex_interface.proofs.RuleAnswers.{some_is, gives_is, either_answer, mapped}
 
@@ -106,7 +106,7 @@ module _ {V O : Type 0} (m : Meaning V O) where
       is_null_sound (tree x no_trees) u t h e =
           let k = only_child_type m (ours IsNull) x t h in
           either_answer (is_nullable_tree m x) _ u _ _ (Rewrites m (is_null_of x)) e
-          (λ p. never_null_is_null m lawful x k.0 k.1 (sym (ap may_be_null k.1) ∙ p))
+          (λ p. never_null_test m false lawful x k.0 k.1 (sym (ap may_be_null k.1) ∙ p))
           (λ g.
           let a = mapped negated (validity m r x) u g in
           subst (Rewrites m (is_null_of x)) a.2
@@ -121,7 +121,7 @@ module _ {V O : Type 0} (m : Meaning V O) where
       is_not_null_sound (tree x no_trees) u t h e =
           let k = only_child_type m (ours IsNotNull) x t h in
           either_answer (is_nullable_tree m x) _ u _ _ (Rewrites m (is_not_null_of x)) e
-          (λ p. never_null_is_not_null m lawful x k.0 k.1 (sym (ap may_be_null k.1) ∙ p))
+          (λ p. never_null_test m true lawful x k.0 k.1 (sym (ap may_be_null k.1) ∙ p))
           (λ g.
           is_not_null_by_validity m x u k.0 k.1
           (validity_sound m lawful r rules x u k.0 k.1 g))

@@ -23,15 +23,6 @@ pub mapped : {A B : Type 0} (f : A → B) (o : Option A) (u : B) → option_map 
 mapped f None u h = cc
 mapped f (Some x) u h = (x, refl, cc)
 
--- no answer, of two and of a part
-pub neither : {A : Type 0} (a b : Option A) → option_or a b ≡ None → (a ≡ None) × (b ≡ None)
-neither None b h = (refl, h)
-neither (Some x) b h = cc
-
-pub map_none : {A B : Type 0} (f : A → B) (o : Option A) → option_map f o ≡ None → o ≡ None
-map_none f None h = refl
-map_none f (Some x) h = cc
-
 -- of a node that may be null the first of two answers that is there, and of another the only one
 pub either_answer : {A : Type 0} (n : Bool) (only u : A) (a b : Option A) (P : A → Type 0)
     → (if n then option_or a b else Some only) ≡ Some u → (n ≡ false → P only)

@@ -1,7 +1,7 @@
 -- The operators of two operands: Kleene's And and Or, the comparisons by the order of values, and
 -- exact arithmetic.
 use Rattle.std.specs.Prelude.{◌≡◌, ℕ, zero, suc, List, [], ◌∷◌, Option, Some, None, Bool, true}
-use Rattle.std.specs.Prelude.{◌++◌, false, ◌||◌, not, codes, Any, if◌then◌else◌, refl}
+use Rattle.std.specs.Prelude.{◌++◌, false, ◌||◌, not, codes, Any, if◌then◌else◌, slice_index_or, refl}
 use Rattle.std.proofs.Common.{sym, ap, ◌∙◌, subst, cond, arith}
 use Rattle.vortex_errors.specs.declared.error.MismatchPlace.{MismatchPlace}
 use Rattle.vortex_errors.specs.declared.error.MismatchPlace.TheVariants as place
@@ -20,6 +20,7 @@ use Rattle.vortex_operators.specs.declared.operators.Operator.TheVariants.{Mul, 
 use Rattle.vortex_operators.specs.declared.operators.CompareOperator.{CompareOperator}
 use Rattle.vortex_operators.specs.declared.operators.CompareOperator.TheVariants as compare
 use Rattle.vortex_operators.specs.Operators.{is_arithmetic, is_boolean, text_of, operator_named}
+use Rattle.vortex_operators.specs.Operators.{all_operators}
 use Rattle.vortex_operators.specs.Kleene.{kleene}
 use Rattle.vortex_operators.specs.OperatorValues.{boolean_value, comparison_value, comparison_type}
 use Rattle.vortex_operators.specs.OperatorValues.{holds}
@@ -267,18 +268,7 @@ operator_number Mul = 10
 operator_number Div = 11
 
 abbrev pub operator_numbered : ℕ → Operator
-operator_numbered zero = Eq
-operator_numbered (suc zero) = NotEq
-operator_numbered (suc (suc zero)) = Gt
-operator_numbered (suc (suc (suc zero))) = Gte
-operator_numbered (suc (suc (suc (suc zero)))) = Lt
-operator_numbered (suc (suc (suc (suc (suc zero))))) = Lte
-operator_numbered (suc (suc (suc (suc (suc (suc zero)))))) = And
-operator_numbered (suc (suc (suc (suc (suc (suc (suc zero))))))) = Or
-operator_numbered (suc (suc (suc (suc (suc (suc (suc (suc zero)))))))) = Add
-operator_numbered (suc (suc (suc (suc (suc (suc (suc (suc (suc zero))))))))) = Sub
-operator_numbered (suc (suc (suc (suc (suc (suc (suc (suc (suc (suc zero)))))))))) = Mul
-operator_numbered n = Div
+operator_numbered n = slice_index_or all_operators n Div
 
 pub operator_back : (o : Operator) → operator_numbered (operator_number o) ≡ o
 operator_back Eq = refl
