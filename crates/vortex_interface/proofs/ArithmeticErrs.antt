@@ -7,7 +7,7 @@ use Rattle.vortex_errors.specs.declared.error.NumericOperator.{NumericOperator}
 use Rattle.vortex_errors.specs.declared.error.VortexError.{VortexError}
 use Rattle.vortex_errors.specs.declared.error.VortexError.TheVariants.{Arithmetic}
 use Rattle.vortex_types.specs.LogicalTypes.{LogicalType}
-use Rattle.vortex_types.specs.Values.{Value, null, truth, number, text, bytes, list}
+use Rattle.vortex_types.specs.Values.{Value, number}
 use Rattle.vortex_columns.specs.ColumnView.{ColumnView}
 use Rattle.vortex_operators.specs.declared.operators.Operator.{Operator}
 use Rattle.vortex_operators.specs.Arithmetic.{exact_result, held, arithmetic_value}
@@ -75,16 +75,7 @@ module _ (o : NumericOperator) (x : Fault) where
       → arithmetic_value o p v w ≡ None → IsUnheld o ts (v ∷ w ∷ [])
   unheld_pair ts p known (number a) (number b) e =
       record { ptype = p; integers = known; left = a; right = b; operands = refl; unheld = e }
-  unheld_pair ts p known (number a) null e = cc
-  unheld_pair ts p known (number a) (truth b) e = cc
-  unheld_pair ts p known (number a) (text b) e = cc
-  unheld_pair ts p known (number a) (bytes b) e = cc
-  unheld_pair ts p known (number a) (list b) e = cc
-  unheld_pair ts p known null w e = cc
-  unheld_pair ts p known (truth a) w e = cc
-  unheld_pair ts p known (text a) w e = cc
-  unheld_pair ts p known (bytes a) w e = cc
-  unheld_pair ts p known (list a) w e = cc
+  unheld_pair ts p known v w e = cc
 
   unheld_by : (ts : List LogicalType) (k : Option PType) → integer_of ts ≡ k → (v w : Value)
       → arithmetic_of o k v w ≡ faults x → IsUnheld o ts (v ∷ w ∷ [])
@@ -95,9 +86,7 @@ module _ (o : NumericOperator) (x : Fault) where
   unheld_of : (ts : List LogicalType) (vs : List Value) → arithmetic_means o ts vs ≡ faults x
       → IsUnheld o ts vs
   unheld_of ts (v ∷ w ∷ []) e = unheld_by ts (integer_of ts) refl v w e
-  unheld_of ts [] e = cc
-  unheld_of ts (v ∷ []) e = cc
-  unheld_of ts (v ∷ w ∷ y ∷ vs) e = cc
+  unheld_of ts vs e = cc
 
 module _ {V O : Type 0} (m : Meaning V O) (cs : List ColumnView) (n : ℕ) where
   -- the refusal tells of arithmetic, and some call overflows

@@ -2,9 +2,7 @@
 use Rattle.std.proofs.Common.{◌≡◌, ℕ, Bool, true, false, List, [], ◌∷◌, Some, refl, sym, ap, ◌∙◌}
 use Rattle.std.proofs.Common.{inl, inr}
 use Rattle.std.specs.Prelude.{◌||◌, if◌then◌else◌}
-use Rattle.vortex_types.specs.LogicalTypes.{LogicalType, null_type, bool_type, integer_type}
-use Rattle.vortex_types.specs.LogicalTypes.{text_type, bytes_type, struct_type, list_type}
-use Rattle.vortex_types.specs.LogicalTypes.{fixed_size_list_type, map_type}
+use Rattle.vortex_types.specs.LogicalTypes.{LogicalType, bool_type}
 use Rattle.vortex_types.specs.Values.{Value, truth, truth_of, truth_or_null}
 use Rattle.vortex_columns.specs.ColumnView.{ColumnView}
 use Rattle.vortex_operators.specs.Kleene.{decides}
@@ -12,6 +10,7 @@ use Rattle.vortex_operators.specs.declared.operators.Operator.{Operator}
 use Rattle.vortex_operators.specs.declared.operators.Operator.TheVariants.{And, Or}
 use Rattle.vortex_operators.specs.Operators.{is_boolean}
 use Rattle.vortex_operators.specs.OperatorValues.{boolean_value}
+use Rattle.vortex_operators.specs.SwapLaws.{turned}
 use Rattle.vortex_interface.specs.Outcomes.{gives}
 use Rattle.vortex_interface.specs.Meaning.{Meaning, Lawful}
 use Rattle.vortex_interface.specs.Arguments.{or_either}
@@ -29,22 +28,13 @@ use Rattle.vortex_interface.proofs.TypedCalls.{eval_one, eval_two}
 use Rattle.vortex_interface.proofs.TypedValues.{value_typed}
 use Rattle.vortex_interface.proofs.Leaves.{in_one}
 use Rattle.vortex_interface.proofs.Rewriting.{asks_nothing}
-use Rattle.vortex_interface.proofs.KleeneConstants.{left_decides, right_decides, left_leaves}
-use Rattle.vortex_interface.proofs.KleeneConstants.{right_leaves, truth_back, truth_is}
+use Rattle.vortex_interface.proofs.KleeneConstants.{left_decides, left_leaves, truth_back, truth_is}
 use Rattle.vortex_interface.proofs.RuleAnswers.{gives_is}
 
 -- the operands' types, where And or Or accepts them
 bools_in : (t u r : LogicalType) → both_bool (t ∷ u ∷ []) ≡ Some r
     → (n : Bool) × (p : Bool) × (t ≡ bool_type n) × (u ≡ bool_type p) × (bool_type (n || p) ≡ r)
 bools_in (bool_type n) (bool_type p) r h = (n, p, refl, refl, cc)
-bools_in (bool_type n) null_type r h = cc
-bools_in (bool_type n) (integer_type q p) r h = cc
-bools_in (bool_type n) (text_type p) r h = cc
-bools_in (bool_type n) (bytes_type p) r h = cc
-bools_in (bool_type n) (struct_type fs p) r h = cc
-bools_in (bool_type n) (list_type a p) r h = cc
-bools_in (bool_type n) (fixed_size_list_type a s p) r h = cc
-bools_in (bool_type n) (map_type k a p) r h = cc
 bools_in t u r h = cc
 
 boolean_type : (op : Operator) (ts : List LogicalType) → is_boolean op ≡ true
@@ -64,6 +54,13 @@ boolean_means : (op : Operator) (ts : List LogicalType) (v w : Value) → is_boo
 boolean_means And ts v w h = refl
 boolean_means Or ts v w h = refl
 boolean_means op ts v w h = cc
+
+-- the order of the operands is free
+boolean_turned : (op : Operator) (v w : Value) → is_boolean op ≡ true
+    → boolean_value op v w ≡ boolean_value op w v
+boolean_turned And v w h = (turned And And refl).values v w
+boolean_turned Or v w h = (turned Or Or refl).values v w
+boolean_turned op v w h = cc
 
 module _ {V O : Type 0} (m : Meaning V O) where
   -- the node is a Bool, nullable by n wherever an operand is
@@ -165,69 +162,77 @@ module _ {V O : Type 0} (m : Meaning V O) where
   asks_right op x y =
       record { leaves = λ p name k h. inr (inl h); rows = λ cs i h. h.1.0; places = λ h. h.1.0 }
 
-  module _ (op : Operator) (b : is_boolean op ≡ true) (x y : Tree V O) (n a : Bool)
-      (c : IsBoolCall op x y n) where
-    -- a constant that decides, on either side
-    pub left_decided : constant_truth x ≡ Some a → decides op a ≡ true
-        → Rewrites m (operated op x y) (truth_constant n a)
-    left_decided h d = record {
-      dtype = sym c.node;
-      asks = asks_nothing (operated op x y) n a;
-      value = λ cs i w p e.
-          let q = bool_values cs i op x y w b e in
+  -- one operand, x, of And or Or and the other, y, whichever stands first: the node is a Bool,
+  -- nullable by n wherever the other is
+  pub record AreOperands (op : Operator) (node : Tree V O) (n : Bool) (x y : Tree V O)
+      : Type 0 where
+    pub node_type : tree_type m node ≡ Some (bool_type n)
+    pub other_null : Bool
+    pub other_type : tree_type m y ≡ Some (bool_type other_null)
+    pub wide : other_null ≡ true → n ≡ true
+    pub asks_one : AsksNoMore node x
+    pub asks_other : AsksNoMore node y
+    pub values : (cs : List ColumnView) (i : ℕ) (w : Value) → eval m cs node i ≡ gives w
+        → (v : Value) × (z : Value) × (eval m cs x i ≡ gives v) × (eval m cs y i ≡ gives z)
+        × (boolean_value op v z ≡ w)
+
+  module _ (op : Operator) (b : is_boolean op ≡ true) where
+    module _ (x y : Tree V O) (n : Bool) (c : IsBoolCall op x y n) where
+      pub left_first : AreOperands op (operated op x y) n x y
+      left_first = record {
+        node_type = c.node;
+        other_null = c.right_null;
+        other_type = c.right;
+        wide = λ e. sym c.either ∙ or_either c.left_null c.right_null (inr e);
+        asks_one = asks_left op x y;
+        asks_other = asks_right op x y;
+        values = λ cs i w e. bool_values cs i op x y w b e;
+      }
+
+      pub right_first : AreOperands op (operated op x y) n y x
+      right_first = record {
+        node_type = c.node;
+        other_null = c.left_null;
+        other_type = c.left;
+        wide = λ e. sym c.either ∙ or_either c.left_null c.right_null (inl e);
+        asks_one = asks_right op x y;
+        asks_other = asks_left op x y;
+        values = λ cs i w e.
+            let q = bool_values cs i op x y w b e in
+            (q.1, q.0, q.3, q.2, boolean_turned op q.1 q.0 b ∙ q.4);
+      }
+
+    module _ (node x y : Tree V O) (n a : Bool) (c : AreOperands op node n x y)
+        (h : constant_truth x ≡ Some a) where
+      -- the value of the node beside that of the constant
+      value_beside : (cs : List ColumnView) (i : ℕ) (w : Value) → eval m cs node i ≡ gives w
+          → (z : Value) × (eval m cs y i ≡ gives z) × (boolean_value op (truth a) z ≡ w)
+      value_beside cs i w e =
+          let q = c.values cs i w e in
           let is = gives_is q.0 (truth a) (sym q.2 ∙ constant_given cs i x a h) in
-          let value = ap (λ v. boolean_value op v q.1) (sym is) ∙ q.4 in
-          ap gives (ap truth_or_null (sym (left_decides op a (truth_of q.1) d)) ∙ value);
-    }
+          (q.1, q.3, ap (λ v. boolean_value op v q.1) (sym is) ∙ q.4)
 
-    pub right_decided : constant_truth y ≡ Some a → decides op a ≡ true
-        → Rewrites m (operated op x y) (truth_constant n a)
-    right_decided h d = record {
-      dtype = sym c.node;
-      asks = asks_nothing (operated op x y) n a;
-      value = λ cs i w p e.
-          let q = bool_values cs i op x y w b e in
-          let is = gives_is q.1 (truth a) (sym q.3 ∙ constant_given cs i y a h) in
-          let value = ap (boolean_value op q.0) (sym is) ∙ q.4 in
-          ap gives (ap truth_or_null (sym (right_decides op a (truth_of q.0) d)) ∙ value);
-    }
+      -- a constant that decides
+      pub decided_sound : decides op a ≡ true → Rewrites m node (truth_constant n a)
+      decided_sound d = record {
+        dtype = sym c.node_type;
+        asks = asks_nothing node n a;
+        value = λ cs i w p e.
+            let q = value_beside cs i w e in
+            ap gives (ap truth_or_null (sym (left_decides op a (truth_of q.0) d)) ∙ q.2);
+      }
 
-    module _ (lawful : Lawful m) where
       -- a constant that does not, beside the other operand
-      pub left_undecided : constant_truth x ≡ Some a → decides op a ≡ false
-          → Rewrites m (operated op x y) (widened m n y)
-      left_undecided h d = record {
-        dtype = widened_type n c.right_null y c.right wide ∙ sym c.node;
-        asks = widened_asks (operated op x y) y n (asks_right op x y);
+      pub undecided_sound : Lawful m → decides op a ≡ false → Rewrites m node (widened m n y)
+      undecided_sound lawful d = record {
+        dtype = widened_type n c.other_null y c.other_type c.wide ∙ sym c.node_type;
+        asks = widened_asks node y n c.asks_other;
         value = λ cs i w p e.
-            let q = bool_values cs i op x y w b e in
-            let is = gives_is q.0 (truth a) (sym q.2 ∙ constant_given cs i x a h) in
-            let value = ap (λ v. boolean_value op v q.1) (sym is) ∙ q.4 in
-            let t = bool_type c.right_null in
-            let typed = value_typed m lawful cs i y t q.1 c.right p.1.0 q.3 in
-            let back = sym (truth_back c.right_null q.1 typed) in
-            let kleene = ap truth_or_null (sym (left_leaves op a (truth_of q.1) b d)) in
-            widened_value cs i n y q.1 q.3 ∙ ap gives (back ∙ kleene ∙ value);
+            let q = value_beside cs i w e in
+            let row = c.asks_other.rows cs i p in
+            let t = bool_type c.other_null in
+            let typed = value_typed m lawful cs i y t q.0 c.other_type row q.1 in
+            let back = sym (truth_back c.other_null q.0 typed) in
+            let kleene = ap truth_or_null (sym (left_leaves op a (truth_of q.0) b d)) in
+            widened_value cs i n y q.0 q.1 ∙ ap gives (back ∙ kleene ∙ q.2);
       }
-        where
-          wide : c.right_null ≡ true → n ≡ true
-          wide e = sym c.either ∙ or_either c.left_null c.right_null (inr e)
-
-      pub right_undecided : constant_truth y ≡ Some a → decides op a ≡ false
-          → Rewrites m (operated op x y) (widened m n x)
-      right_undecided h d = record {
-        dtype = widened_type n c.left_null x c.left wide ∙ sym c.node;
-        asks = widened_asks (operated op x y) x n (asks_left op x y);
-        value = λ cs i w p e.
-            let q = bool_values cs i op x y w b e in
-            let is = gives_is q.1 (truth a) (sym q.3 ∙ constant_given cs i y a h) in
-            let value = ap (boolean_value op q.0) (sym is) ∙ q.4 in
-            let t = bool_type c.left_null in
-            let typed = value_typed m lawful cs i x t q.0 c.left p.0 q.2 in
-            let back = sym (truth_back c.left_null q.0 typed) in
-            let kleene = ap truth_or_null (sym (right_leaves op a (truth_of q.0) b d)) in
-            widened_value cs i n x q.0 q.2 ∙ ap gives (back ∙ kleene ∙ value);
-      }
-        where
-          wide : c.left_null ≡ true → n ≡ true
-          wide e = sym c.either ∙ or_either c.left_null c.right_null (inl e)

@@ -11,14 +11,14 @@ use Rattle.vortex_interface.specs.ReduceRules.{reduce}
 use Rattle.vortex_interface.specs.SimplifyRules.{simplify}
 use Rattle.vortex_interface.specs.Rewrites.{Rewrites, LawfulRules, IsSound}
 use Rattle.vortex_interface.specs.Places.{rewritten, rewritten_list}
-use Rattle.vortex_interface.specs.Driver.{first_of, step, Runs}
+use Rattle.vortex_interface.specs.Driver.{first_of, Runs}
 use Rattle.vortex_interface.proofs.TypedCalls.{types_parts, typed_call}
 use Rattle.vortex_interface.proofs.Rewriting.{rewrites_same, rewrites_trans, child_rewrites}
 use Rattle.vortex_interface.proofs.Simplifying.{simplify_sound}
 use Rattle.vortex_interface.proofs.Reducing.{reduce_sound}
 use Rattle.vortex_interface.proofs.RuleAnswers.{first_there}
 use Rattle.vortex_interface.proofs.Stepwise.{GoesOver, Keeps, rewritten_keeps, rewritten_list_keeps}
-use Rattle.vortex_interface.proofs.Stepwise.{step_keeps, runs_keep}
+use Rattle.vortex_interface.proofs.Stepwise.{runs_keep}
 
 module _ {V O : Type 0} (m : Meaning V O) where
   -- the tree has a type
@@ -70,10 +70,6 @@ module _ {V O : Type 0} (m : Meaning V O) where
   rewritten_list_sound apply sound steps t u n k h e =
       rewritten_list_keeps IsWellTyped (λ n. Rewrites m) sound_over apply
       (λ a. sound_keeps (apply a) (sound a)) steps t u n (k, h) e
-
-  pub step_sound : (rule : Tree V O → Option (Tree V O)) → IsSound m rule → IsSound m (step rule)
-  step_sound rule sound t u k h e =
-      step_keeps IsWellTyped (λ n. Rewrites m) sound_over rule (sound_keeps rule sound) t u (k, h) e
 
   pub runs_sound : (rule : Tree V O → Option (Tree V O)) → IsSound m rule → (n : ℕ)
       (t u : Tree V O) (k : LogicalType) → tree_type m t ≡ Some k → Runs rule n t u

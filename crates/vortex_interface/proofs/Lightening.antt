@@ -18,7 +18,7 @@ use Rattle.vortex_interface.proofs.RuleAnswers.{first_there}
 use Rattle.vortex_interface.proofs.TypedCalls.{types_with}
 use Rattle.vortex_interface.proofs.Weighed.{weight_positive}
 use Rattle.vortex_interface.proofs.Stepwise.{GoesOver, Keeps, rewritten_keeps, rewritten_list_keeps}
-use Rattle.vortex_interface.proofs.Stepwise.{step_keeps, runs_keep}
+use Rattle.vortex_interface.proofs.Stepwise.{runs_keep}
 use Rattle.vortex_interface.proofs.Driving.{IsWellTyped, child_typed}
 
 module _ {V O : Type 0} (m : Meaning V O) where
@@ -101,12 +101,6 @@ module _ {V O : Type 0} (m : Meaning V O) where
       rewritten_list_keeps IsTypedShipped (IsLighter m) lighter_over apply
       (λ a. lightens_keeps (apply a) (lightens a)) steps t u n ((k, h), s) e
 
-  pub step_lighter : (rule : Tree V O → Option (Tree V O)) → Lightens m rule
-      → Lightens m (step rule)
-  step_lighter rule lightens t u k h s e =
-      step_keeps IsTypedShipped (IsLighter m) lighter_over rule (lightens_keeps rule lightens) t u
-      ((k, h), s) e
-
   -- n steps make it lighter by n
   pub runs_lighter : (rule : Tree V O → Option (Tree V O)) → Lightens m rule → (n : ℕ)
       (t u : Tree V O) (k : LogicalType) → tree_type m t ≡ Some k → OnlyShipped t → Runs rule n t u
@@ -137,17 +131,6 @@ module _ {V O : Type 0} (m : Meaning V O) where
 
   module _ (rule : Tree V O → Option (Tree V O)) (lightens : Lightens m rule) (t : Tree V O)
       (k : LogicalType) (h : tree_type m t ≡ Some k) (s : OnlyShipped t) where
-    -- a run of so many steps is over
-    pub run_is_over : (n : ℕ) (u : Tree V O) → Runs rule n t u → weight m t ≤ n + 1
-        → step rule u ≡ None
-    run_is_over n u run enough = by (step rule u) refl
-      where
-        by : (o : Option (Tree V O)) → step rule u ≡ o → o ≡ None
-        by None e = refl
-        by (Some v) e =
-            let more = runs_bound rule lightens (suc n) t v k h s (u, run, e) in
-            absurd (omega (arith, more, enough))
-
     -- some run is over
     abbrev pub Ends : Type 0
     Ends = (n : ℕ) × (u : Tree V O) × Runs rule n t u × (step rule u ≡ None)

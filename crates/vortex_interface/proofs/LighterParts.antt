@@ -1,6 +1,6 @@
 -- What rules for shipped functions make of a call weighs less than it: a constant, or an operand,
 -- cast where need be.
-use Rattle.std.proofs.Common.{◌+◌, ◌<◌, ◌≤◌, Bool, true, false, arith}
+use Rattle.std.proofs.Common.{◌≡◌, ◌+◌, ◌<◌, ◌≤◌, Bool, true, false, refl, arith}
 use Rattle.std.specs.Prelude.{if◌then◌else◌}
 use Rattle.vortex_operators.specs.declared.operators.Operator.{Operator}
 use Rattle.vortex_interface.specs.Meaning.{Meaning}
@@ -58,18 +58,19 @@ module _ {V O : Type 0} (m : Meaning V O) where
       omega (arith, more)
 
   -- and so more than one, though that be cast
+  operand_less : (op : Operator) (n : Bool) (x y z other : Tree V O) → OnlyShipped z
+      → weight m z + weight m other ≡ weight m x + weight m y
+      → IsLess (operated op x y) (widened m n z)
+  operand_less op n x y z other s same =
+      let both = operated_weight op x y in
+      let some = weight_positive m other in
+      let wide = widened_weight n z in
+      (widened_shipped n z s, omega (arith, both, some, wide, same))
+
   pub left_less : (op : Operator) (n : Bool) (x y : Tree V O) → OnlyShipped x
       → IsLess (operated op x y) (widened m n x)
-  left_less op n x y s =
-      let both = operated_weight op x y in
-      let other = weight_positive m y in
-      let wide = widened_weight n x in
-      (widened_shipped n x s, omega (arith, both, other, wide))
+  left_less op n x y s = operand_less op n x y x y s refl
 
   pub right_less : (op : Operator) (n : Bool) (x y : Tree V O) → OnlyShipped y
       → IsLess (operated op x y) (widened m n y)
-  right_less op n x y s =
-      let both = operated_weight op x y in
-      let other = weight_positive m x in
-      let wide = widened_weight n y in
-      (widened_shipped n y s, omega (arith, both, other, wide))
+  right_less op n x y s = operand_less op n x y y x s (omega arith)

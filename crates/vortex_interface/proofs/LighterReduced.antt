@@ -26,7 +26,7 @@ use Rattle.vortex_interface.specs.ReduceRules.{of_constants, reduce_boolean, red
 use Rattle.vortex_interface.specs.ReduceRules.{reduce_shipped, reduce}
 use Rattle.vortex_interface.specs.Weights.{operator_added, shipped_added, weight, OnlyShipped}
 use Rattle.vortex_interface.specs.Weights.{AllShipped, Lightens}
-use Rattle.vortex_interface.proofs.RuleAnswers.{some_is, first_there, mapped}
+use Rattle.vortex_interface.proofs.RuleAnswers.{some_is, either_answer, mapped}
 use Rattle.vortex_interface.proofs.TypedCalls.{only_child_type, type_of_one}
 use Rattle.vortex_interface.proofs.BooleanCalls.{bool_call}
 use Rattle.vortex_interface.proofs.Validities.{no_rules_lawful}
@@ -69,12 +69,10 @@ module _ {V O : Type 0} (m : Meaning V O) where
 
   boolean_less : (op : Operator) (ts : Trees V O) (u : Tree V O) → AllShipped ts
       → reduce_boolean m op ts ≡ Some u → IsLess m (call (ours (Binary op)) ts) u
-  boolean_less op no_trees u s e = cc
-  boolean_less op (tree x no_trees) u s e = cc
   boolean_less op (tree x (tree y no_trees)) u s e =
       constants_less op x y s.0 s.1.0 (is_nullable_tree m (operated op x y)) (constant_truth x)
       (constant_truth y) u e
-  boolean_less op (tree x (tree y (tree z ts))) u s e = cc
+  boolean_less op ts u s e = cc
 
   operator_less : (op : Operator) (ts : Trees V O) (u : Tree V O) → AllShipped ts
       → reduce_operator m op ts ≡ Some u → IsLess m (call (ours (Binary op)) ts) u
@@ -130,70 +128,63 @@ module _ {V O : Type 0} (m : Meaning V O) where
       )
 
   -- a null test of And or Or by the test of the nullable operand and the other one
-  module _ (test : Shipped) (two : (n : Bool) → shipped_added test n ≡ 2) (op join : Operator)
-      (b : is_boolean op ≡ true) (j : is_boolean join ≡ true) (x y : Tree V O) (t : LogicalType)
-      (h : tree_type m (operated op x y) ≡ Some t) (s : OnlyShipped x) (z : OnlyShipped y)
-      (p : Tree V O × Tree V O) (e : by_nullability m x y ≡ Some p) where
+  module _ (test : Bool) (op join : Operator) (b : is_boolean op ≡ true)
+      (j : is_boolean join ≡ true) (x y : Tree V O) (t : LogicalType)
+      (h : tree_type m (operated op x y) ≡ Some t) (s : OnlyShipped x) (z : OnlyShipped y) where
     abbrev tested : Tree V O → Tree V O
-    tested a = call (ours test) (tree a no_trees)
+    tested a = call (ours (NullTest test)) (tree a no_trees)
 
-    test_less : (right : Tree V O) → OnlyShipped right
-        → tree_type m (operated join (tested p.0) right) ≡ Some (bool_type false)
-        → weight m right ≤ 1 + weight m p.1
-        → IsLess m (tested (operated op x y)) (operated join (tested p.0) right)
-    test_less right shipped typed no_more =
-        let turn = turned (is_nullable_tree m x) (is_nullable_tree m y) x y p s z e in
+    -- the other one as it is, or negated
+    test_less : (right : Tree V O → Tree V O) (u : Tree V O)
+        → ((a : Tree V O) → OnlyShipped a → OnlyShipped (right a))
+        → ((a : Tree V O) → is_nullable_tree m (right a) ≡ false
+        → weight m (right a) ≤ 1 + weight m a)
+        → tree_type m u ≡ Some (bool_type false)
+        → option_map (λ p. operated join (tested p.0) (right p.1)) (by_nullability m x y) ≡ Some u
+        → IsLess m (tested (operated op x y)) u
+    test_less right u shipped no_more typed e =
+        let a = mapped _ (by_nullability m x y) u e in
+        let new = operated join (tested a.0.0) (right a.0.1) in
+        let turn = turned (is_nullable_tree m x) (is_nullable_tree m y) x y a.0 s z a.1 in
         let node = node_adds op x y t b h turn.one in
-        let answer = (never_adds join (tested p.0) right j typed).0 in
-        let old = two (is_nullable_tree m (tested (operated op x y))) in
-        let new = two (is_nullable_tree m (tested p.0)) in
-        let same = turn.weighs in (
-          (tt, ((tt, (turn.shipped.0, tt)), (shipped, tt))),
-          omega (arith, node, answer, old, new, same, no_more),
+        let never = never_adds join (tested a.0.0) (right a.0.1) j (ap (tree_type m) a.2 ∙ typed) in
+        let answer = never.0 in
+        let same = turn.weighs in
+        let one = no_more a.0.1 never.1 in
+        subst (IsLess m (tested (operated op x y))) a.2 (
+          (tt, ((tt, (turn.shipped.0, tt)), (shipped a.0.1 turn.shipped.1, tt))),
+          omega (arith, node, answer, same, one),
         )
 
-    as_is_less : tree_type m (operated join (tested p.0) p.1) ≡ Some (bool_type false)
-        → IsLess m (tested (operated op x y)) (operated join (tested p.0) p.1)
-    as_is_less typed =
-        let turn = turned (is_nullable_tree m x) (is_nullable_tree m y) x y p s z e in
-        test_less p.1 turn.shipped.1 typed (omega arith)
+    as_is_less : (u : Tree V O) → tree_type m u ≡ Some (bool_type false)
+        → option_map (λ p. operated join (tested p.0) p.1) (by_nullability m x y) ≡ Some u
+        → IsLess m (tested (operated op x y)) u
+    as_is_less u typed e = test_less (λ a. a) u (λ a k. k) (λ a k. omega arith) typed e
 
-    negated_less : tree_type m (operated join (tested p.0) (negated p.1)) ≡ Some (bool_type false)
-        → IsLess m (tested (operated op x y)) (operated join (tested p.0) (negated p.1))
-    negated_less typed =
-        let turn = turned (is_nullable_tree m x) (is_nullable_tree m y) x y p s z e in
-        let never = (never_adds join (tested p.0) (negated p.1) j typed).1 in
-        let one = ap (shipped_added Not) never in
-        test_less (negated p.1) (tt, (turn.shipped.1, tt)) typed (omega (arith, one))
+    negated_less : (u : Tree V O) → tree_type m u ≡ Some (bool_type false)
+        → option_map (λ p. operated join (tested p.0) (negated p.1)) (by_nullability m x y)
+        ≡ Some u
+        → IsLess m (tested (operated op x y)) u
+    negated_less u typed e =
+        test_less negated u (λ a k. (tt, (k, tt)))
+        (λ a k. let one = ap (shipped_added Not) k in omega (arith, one)) typed e
 
   is_null_within_less : (x u : Tree V O) (t : LogicalType) → tree_type m x ≡ Some t
       → OnlyShipped x → tree_type m u ≡ Some (bool_type false) → is_null_within m x ≡ Some u
       → IsLess m (is_null_of x) u
   is_null_within_less (call (ours (Binary And)) (tree x (tree y no_trees))) u t h s k e =
-      let a = mapped _ (by_nullability m x y) u e in
-      subst (IsLess m (is_null_of (operated And x y))) a.2
-      (as_is_less IsNull (λ n. refl) And And refl refl x y t h s.1.0 s.1.1.0 a.0 a.1
-      (ap (tree_type m) a.2 ∙ k))
+      as_is_less false And And refl refl x y t h s.1.0 s.1.1.0 u k e
   is_null_within_less (call (ours (Binary Or)) (tree x (tree y no_trees))) u t h s k e =
-      let a = mapped _ (by_nullability m x y) u e in
-      subst (IsLess m (is_null_of (operated Or x y))) a.2
-      (negated_less IsNull (λ n. refl) Or And refl refl x y t h s.1.0 s.1.1.0 a.0 a.1
-      (ap (tree_type m) a.2 ∙ k))
+      negated_less false Or And refl refl x y t h s.1.0 s.1.1.0 u k e
   is_null_within_less x u t h s k e = cc
 
   is_not_null_within_less : (x u : Tree V O) (t : LogicalType) → tree_type m x ≡ Some t
       → OnlyShipped x → tree_type m u ≡ Some (bool_type false) → is_not_null_within m x ≡ Some u
       → IsLess m (is_not_null_of x) u
   is_not_null_within_less (call (ours (Binary And)) (tree x (tree y no_trees))) u t h s k e =
-      let a = mapped _ (by_nullability m x y) u e in
-      subst (IsLess m (is_not_null_of (operated And x y))) a.2
-      (negated_less IsNotNull (λ n. refl) And Or refl refl x y t h s.1.0 s.1.1.0 a.0 a.1
-      (ap (tree_type m) a.2 ∙ k))
+      negated_less true And Or refl refl x y t h s.1.0 s.1.1.0 u k e
   is_not_null_within_less (call (ours (Binary Or)) (tree x (tree y no_trees))) u t h s k e =
-      let a = mapped _ (by_nullability m x y) u e in
-      subst (IsLess m (is_not_null_of (operated Or x y))) a.2
-      (as_is_less IsNotNull (λ n. refl) Or Or refl refl x y t h s.1.0 s.1.1.0 a.0 a.1
-      (ap (tree_type m) a.2 ∙ k))
+      as_is_less true Or Or refl refl x y t h s.1.0 s.1.1.0 u k e
   is_not_null_within_less x u t h s k e = cc
 
   module _ (r : Rules V O) where
@@ -201,55 +192,36 @@ module _ {V O : Type 0} (m : Meaning V O) where
         → tree_type m (call (ours IsNull) ts) ≡ Some t → AllShipped ts
         → tree_type m u ≡ tree_type m (call (ours IsNull) ts) → reduce_is_null m r ts ≡ Some u
         → IsLess m (call (ours IsNull) ts) u
-    is_null_less no_trees u t h s k e = cc
-    is_null_less (tree x (tree y ts)) u t h s k e = cc
-    is_null_less (tree x no_trees) u t h s k e = by (is_nullable_tree m x) e
-      where
-        by : (n : Bool)
-            → (if n then option_or (option_map negated (validity m r x)) (is_null_within m x)
-            else Some (truth_constant false false)) ≡ Some u
-            → IsLess m (is_null_of x) u
-        by false q =
-            subst (IsLess m (is_null_of x)) (some_is _ u q)
-            (tt, above_one m (ours IsNull) x no_trees)
-        by true q =
-            let c = only_child_type m (ours IsNull) x t h in
-            let typed = k ∙ type_of_one m (ours IsNull) x c.0 c.1 in
-            first_there _ _ u (IsLess m (is_null_of x) u) q
-            (λ g.
-            let a = mapped negated (validity m r x) u g in
-            let valid = validity_no_heavier m r x a.0 c.0 c.1 s.0 a.1 in
-            let one = ap (λ o. shipped_added Not (may_be_null o))
-            (ap (tree_type m) a.2 ∙ typed) in
-            let no_heavier = valid.1 in
-            subst (IsLess m (is_null_of x)) a.2
-            ((tt, (valid.0, tt)), omega (arith, one, no_heavier)))
-            (is_null_within_less x u c.0 c.1 s.0 typed)
+    is_null_less (tree x no_trees) u t h s k e =
+        let c = only_child_type m (ours IsNull) x t h in
+        let typed = k ∙ type_of_one m (ours IsNull) x c.0 c.1 in
+        either_answer (is_nullable_tree m x) _ u _ _ (IsLess m (is_null_of x)) e
+        (λ solid. (tt, above_one m (ours IsNull) x no_trees))
+        (λ g.
+        let a = mapped negated (validity m r x) u g in
+        let valid = validity_no_heavier m r x a.0 c.0 c.1 s.0 a.1 in
+        let one = ap (λ o. shipped_added Not (may_be_null o)) (ap (tree_type m) a.2 ∙ typed) in
+        let no_heavier = valid.1 in
+        subst (IsLess m (is_null_of x)) a.2
+        ((tt, (valid.0, tt)), omega (arith, one, no_heavier)))
+        (is_null_within_less x u c.0 c.1 s.0 typed)
+    is_null_less ts u t h s k e = cc
 
     is_not_null_less : (ts : Trees V O) (u : Tree V O) (t : LogicalType)
         → tree_type m (call (ours IsNotNull) ts) ≡ Some t → AllShipped ts
         → tree_type m u ≡ tree_type m (call (ours IsNotNull) ts)
         → reduce_is_not_null m r ts ≡ Some u → IsLess m (call (ours IsNotNull) ts) u
-    is_not_null_less no_trees u t h s k e = cc
-    is_not_null_less (tree x (tree y ts)) u t h s k e = cc
-    is_not_null_less (tree x no_trees) u t h s k e = by (is_nullable_tree m x) e
-      where
-        by : (n : Bool)
-            → (if n then option_or (validity m r x) (is_not_null_within m x)
-            else Some (truth_constant false true)) ≡ Some u
-            → IsLess m (is_not_null_of x) u
-        by false q =
-            subst (IsLess m (is_not_null_of x)) (some_is _ u q)
-            (tt, above_one m (ours IsNotNull) x no_trees)
-        by true q =
-            let c = only_child_type m (ours IsNotNull) x t h in
-            let typed = k ∙ type_of_one m (ours IsNotNull) x c.0 c.1 in
-            first_there _ _ u (IsLess m (is_not_null_of x) u) q
-            (λ g.
-            let valid = validity_no_heavier m r x u c.0 c.1 s.0 g in
-            let no_heavier = valid.1 in
-            (valid.0, omega (arith, no_heavier)))
-            (is_not_null_within_less x u c.0 c.1 s.0 typed)
+    is_not_null_less (tree x no_trees) u t h s k e =
+        let c = only_child_type m (ours IsNotNull) x t h in
+        let typed = k ∙ type_of_one m (ours IsNotNull) x c.0 c.1 in
+        either_answer (is_nullable_tree m x) _ u _ _ (IsLess m (is_not_null_of x)) e
+        (λ solid. (tt, above_one m (ours IsNotNull) x no_trees))
+        (λ g.
+        let valid = validity_no_heavier m r x u c.0 c.1 s.0 g in
+        let no_heavier = valid.1 in
+        (valid.0, omega (arith, no_heavier)))
+        (is_not_null_within_less x u c.0 c.1 s.0 typed)
+    is_not_null_less ts u t h s k e = cc
 
     shipped_less : (f : Shipped) (ts : Trees V O) (u : Tree V O) (t : LogicalType)
         → tree_type m (call (ours f) ts) ≡ Some t → AllShipped ts
@@ -269,36 +241,29 @@ module _ {V O : Type 0} (m : Meaning V O) where
 
     -- no rule of another function is asked
     validity_alone : (x : Tree V O) → OnlyShipped x → validity m no_rules x ≡ validity m r x
-    validity_alone (leaf l) s = refl
-    validity_alone (constant c) s = refl
-    validity_alone (call (ours f) ts) s = refl
     validity_alone (call (custom f o) ts) s = absurd s.0
+    validity_alone x s = refl
 
     is_null_alone : (ts : Trees V O) → AllShipped ts
         → reduce_is_null m no_rules ts ≡ reduce_is_null m r ts
-    is_null_alone no_trees s = refl
-    is_null_alone (tree x (tree y ts)) s = refl
     is_null_alone (tree x no_trees) s =
         ap (λ v. if is_nullable_tree m x
         then option_or (option_map negated v) (is_null_within m x)
         else Some (truth_constant false false)) (validity_alone x s.0)
+    is_null_alone ts s = refl
 
     is_not_null_alone : (ts : Trees V O) → AllShipped ts
         → reduce_is_not_null m no_rules ts ≡ reduce_is_not_null m r ts
-    is_not_null_alone no_trees s = refl
-    is_not_null_alone (tree x (tree y ts)) s = refl
     is_not_null_alone (tree x no_trees) s =
         ap (λ v. if is_nullable_tree m x then option_or v (is_not_null_within m x)
         else Some (truth_constant false true)) (validity_alone x s.0)
+    is_not_null_alone ts s = refl
 
     reduce_alone : (t : Tree V O) → OnlyShipped t → reduce m no_rules t ≡ reduce m r t
-    reduce_alone (leaf l) s = refl
-    reduce_alone (constant c) s = refl
-    reduce_alone (call (ours (Binary op)) ts) s = refl
     reduce_alone (call (ours (NullTest false)) ts) s = is_null_alone ts s.1
     reduce_alone (call (ours (NullTest true)) ts) s = is_not_null_alone ts s.1
-    reduce_alone (call (ours f) ts) s = refl
     reduce_alone (call (custom f o) ts) s = absurd s.0
+    reduce_alone t s = refl
 
     pub reduce_lightens : Lawful m → Lightens m (reduce m r)
     reduce_lightens lawful t u k h s e =

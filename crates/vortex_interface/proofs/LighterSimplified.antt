@@ -4,14 +4,14 @@ use Rattle.std.specs.Prelude.{◌&&◌, ◌||◌}
 use Rattle.vortex_operators.specs.Kleene.{decides}
 use Rattle.vortex_operators.specs.declared.operators.Operator.{Operator}
 use Rattle.vortex_operators.specs.declared.operators.Operator.TheVariants.{Eq, NotEq, Gt, Gte, Lt}
-use Rattle.vortex_operators.specs.declared.operators.Operator.TheVariants.{Lte, And, Or, Add, Sub}
-use Rattle.vortex_operators.specs.declared.operators.Operator.TheVariants.{Mul, Div}
+use Rattle.vortex_operators.specs.declared.operators.Operator.TheVariants.{Lte, And, Or}
 use Rattle.vortex_interface.specs.Meaning.{Meaning, Lawful}
 use Rattle.vortex_interface.specs.Shipped.{Shipped, Binary}
 use Rattle.vortex_interface.specs.Functions.{ours, custom}
 use Rattle.vortex_interface.specs.Trees.{Tree, leaf, constant, call, Trees, no_trees, tree}
 use Rattle.vortex_interface.specs.ComparisonTrees.{operated}
 use Rattle.vortex_interface.specs.Rules.{Rules, no_rules, constant_truth, is_nullable_tree}
+use Rattle.vortex_interface.specs.Rules.{widened}
 use Rattle.vortex_interface.specs.SimplifyRules.{is_null_literal, simplify_comparison, decided}
 use Rattle.vortex_interface.specs.SimplifyRules.{left_of_nulls, undecided, simplify_operands}
 use Rattle.vortex_interface.specs.SimplifyRules.{simplify_operator, simplify_shipped, simplify}
@@ -39,17 +39,12 @@ module _ {V O : Type 0} (m : Meaning V O) where
           let a = answer_if (decides op b) _ u e in
           subst Less a.1 (tt, above_one m (ours (Binary op)) x (tree y no_trees))
 
-      undecided_left : (o : Option Bool) (u : Tree V O) → undecided m op n o x ≡ Some u → Less u
-      undecided_left None u e = cc
-      undecided_left (Some b) u e =
+      undecided_less : (w : Tree V O) → Less (widened m n w) → (o : Option Bool) (u : Tree V O)
+          → undecided m op n o w ≡ Some u → Less u
+      undecided_less w less None u e = cc
+      undecided_less w less (Some b) u e =
           let a = answer_unless (decides op b) _ u e in
-          subst Less a.1 (left_less m op n x y s)
-
-      undecided_right : (o : Option Bool) (u : Tree V O) → undecided m op n o y ≡ Some u → Less u
-      undecided_right None u e = cc
-      undecided_right (Some b) u e =
-          let a = answer_unless (decides op b) _ u e in
-          subst Less a.1 (right_less m op n x y z)
+          subst Less a.1 less
 
       nulls_less : (u : Tree V O) → left_of_nulls x y ≡ Some u → Less u
       nulls_less u e =
@@ -58,10 +53,12 @@ module _ {V O : Type 0} (m : Meaning V O) where
 
       operands_less : (u : Tree V O) → simplify_operands m op n x y ≡ Some u → Less u
       operands_less u e =
+          let left = left_less m op n x y s in
+          let right = right_less m op n x y z in
           first_there _ _ u (Less u) e (decided_less (constant_truth x) u)
           (λ e. first_there _ _ u (Less u) e (decided_less (constant_truth y) u)
-          (λ e. first_there _ _ u (Less u) e (undecided_right (constant_truth x) u)
-          (λ e. first_there _ _ u (Less u) e (undecided_left (constant_truth y) u) (nulls_less u))))
+          (λ e. first_there _ _ u (Less u) e (undecided_less y right (constant_truth x) u)
+          (λ e. first_there _ _ u (Less u) e (undecided_less x left (constant_truth y) u) (nulls_less u))))
 
   operator_less : (op : Operator) (x y u : Tree V O) → OnlyShipped x → OnlyShipped y
       → simplify_operator m op x y ≡ Some u → IsLess m (operated op x y) u
@@ -75,17 +72,11 @@ module _ {V O : Type 0} (m : Meaning V O) where
   operator_less Gte x y u s z e = comparison_less Gte x y s z u e
   operator_less Lt x y u s z e = comparison_less Lt x y s z u e
   operator_less Lte x y u s z e = comparison_less Lte x y s z u e
-  operator_less Add x y u s z e = cc
-  operator_less Sub x y u s z e = cc
-  operator_less Mul x y u s z e = cc
-  operator_less Div x y u s z e = cc
+  operator_less op x y u s z e = cc
 
   shipped_less : (f : Shipped) (ts : Trees V O) (u : Tree V O) → AllShipped ts
       → simplify_shipped m f ts ≡ Some u → IsLess m (call (ours f) ts) u
-  shipped_less (Binary op) no_trees u s e = cc
-  shipped_less (Binary op) (tree x no_trees) u s e = cc
   shipped_less (Binary op) (tree x (tree y no_trees)) u s e = operator_less op x y u s.0 s.1.0 e
-  shipped_less (Binary op) (tree x (tree y (tree z ts))) u s e = cc
   shipped_less f ts u s e = cc
 
   module _ (r : Rules V O) where
@@ -97,10 +88,8 @@ module _ {V O : Type 0} (m : Meaning V O) where
 
     -- no rule of another function is asked
     by_ours_alone : (t : Tree V O) → OnlyShipped t → simplify m no_rules t ≡ simplify m r t
-    by_ours_alone (leaf l) s = refl
-    by_ours_alone (constant c) s = refl
-    by_ours_alone (call (ours f) ts) s = refl
     by_ours_alone (call (custom f o) ts) s = absurd s.0
+    by_ours_alone t s = refl
 
     pub simplify_lightens : Lawful m → Lightens m (simplify m r)
     simplify_lightens lawful t u k h s e =

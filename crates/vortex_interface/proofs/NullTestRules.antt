@@ -1,7 +1,8 @@
 -- Null tests that need not compute their child: of a child that is never null, one whose validity
 -- is a tree, and And or Or with one nullable operand.
-use Rattle.std.proofs.Common.{◌≡◌, ℕ, Bool, true, false, not, List, [], ◌∷◌, Option, Some, None}
-use Rattle.std.proofs.Common.{refl, sym, ap, ◌∙◌, subst, inl, ⊎_elim}
+use Rattle.std.proofs.Common.{◌≡◌, ℕ, Bool, true, false, not, List, [], ◌∷◌, Option, Some}
+use Rattle.std.proofs.Common.{refl, sym, ap, ◌∙◌, subst, inl, ⊎_elim, arith}
+use Rattle.std.specs.Option.{option_map}
 use Rattle.vortex_types.specs.LogicalTypes.{LogicalType, bool_type, is_nullable}
 use Rattle.vortex_types.specs.Values.{Value, truth, is_null, truth_of, truth_or_null}
 use Rattle.vortex_columns.specs.ColumnView.{ColumnView}
@@ -12,7 +13,8 @@ use Rattle.vortex_operators.specs.OperatorValues.{boolean_value}
 use Rattle.vortex_operators.specs.Kleene.{kleene}
 use Rattle.vortex_interface.specs.Outcomes.{gives}
 use Rattle.vortex_interface.specs.Meaning.{Meaning, Lawful}
-use Rattle.vortex_interface.specs.Shipped.{Shipped, Binary, Not, IsNull, IsNotNull, shipped_means}
+use Rattle.vortex_interface.specs.Shipped.{Binary, Not, NullTest}
+use Rattle.vortex_interface.specs.Shipped.NullTestFunctions.{null_test_value}
 use Rattle.vortex_interface.specs.Functions.{ours, call_type}
 use Rattle.vortex_interface.specs.Trees.{Tree, call, no_trees, tree}
 use Rattle.vortex_interface.specs.Eval.{types_or_none, tree_type, tree_types, eval}
@@ -26,59 +28,30 @@ use Rattle.vortex_interface.proofs.TypedCalls.{type_of_one, type_of_two, one_val
 use Rattle.vortex_interface.proofs.TypedValues.{value_typed, never_null}
 use Rattle.vortex_interface.proofs.Leaves.{in_one, in_two}
 use Rattle.vortex_interface.proofs.Rewriting.{asks_same, asks_nothing}
-use Rattle.vortex_interface.proofs.KleeneConstants.{truth_back, truth_in, kleene_turned}
-use Rattle.vortex_interface.proofs.BooleanCalls.{bool_call, bool_values, eval_bool, asks_left}
-use Rattle.vortex_interface.proofs.BooleanCalls.{asks_right}
+use Rattle.vortex_interface.proofs.KleeneConstants.{truth_back, truth_in}
+use Rattle.vortex_interface.proofs.BooleanCalls.{bool_call, AreOperands, left_first, right_first}
+use Rattle.vortex_interface.proofs.BooleanCalls.{eval_bool}
 use Rattle.vortex_interface.proofs.RuleAnswers.{mapped, not_not}
 
--- a null test by what it says of a value
-abbrev pub Tests : Shipped → (Value → Bool) → Type 0
-Tests test says = (ts : List LogicalType) (v : Value)
-    → shipped_means test ts (v ∷ []) ≡ gives (truth (says v))
-
--- what a test says of And or Or is what `join` says of the test of the nullable operand and of the
--- other one, turned
-abbrev SaidBy : Operator → (Value → Bool) → Operator → (Bool → Bool) → Type 0
-SaidBy op says join turn =
+-- what a null test says of And or Or is what `join` says of the test of the nullable operand and of
+-- the other one, turned
+abbrev SaidBy : Operator → Bool → Operator → (Bool → Bool) → Type 0
+SaidBy op test join turn =
     (a : Option Bool) (c : Bool)
-    → boolean_value join (truth (says (truth_or_null a))) (truth (turn c))
-    ≡ truth (says (truth_or_null (kleene op a (Some c))))
+    → boolean_value join (truth (null_test_value test (truth_or_null a))) (truth (turn c))
+    ≡ truth (null_test_value test (truth_or_null (kleene op a (Some c))))
 
--- what the other null test says
-abbrev is_not_null : Value → Bool
-is_not_null v = not (is_null v)
+and_is_null : SaidBy And false And (λ c. c)
+and_is_null a c = grind arith
 
-and_is_null : SaidBy And is_null And (λ c. c)
-and_is_null None true = refl
-and_is_null None false = refl
-and_is_null (Some true) true = refl
-and_is_null (Some true) false = refl
-and_is_null (Some false) true = refl
-and_is_null (Some false) false = refl
+or_is_null : SaidBy Or false And not
+or_is_null a c = grind arith
 
-or_is_null : SaidBy Or is_null And not
-or_is_null None true = refl
-or_is_null None false = refl
-or_is_null (Some true) true = refl
-or_is_null (Some true) false = refl
-or_is_null (Some false) true = refl
-or_is_null (Some false) false = refl
+and_is_not_null : SaidBy And true Or not
+and_is_not_null a c = grind arith
 
-and_is_not_null : SaidBy And is_not_null Or not
-and_is_not_null None true = refl
-and_is_not_null None false = refl
-and_is_not_null (Some true) true = refl
-and_is_not_null (Some true) false = refl
-and_is_not_null (Some false) true = refl
-and_is_not_null (Some false) false = refl
-
-or_is_not_null : SaidBy Or is_not_null Or (λ c. c)
-or_is_not_null None true = refl
-or_is_not_null None false = refl
-or_is_not_null (Some true) true = refl
-or_is_not_null (Some true) false = refl
-or_is_not_null (Some false) true = refl
-or_is_not_null (Some false) false = refl
+or_is_not_null : SaidBy Or true Or (λ c. c)
+or_is_not_null a c = grind arith
 
 module _ {V O : Type 0} (m : Meaning V O) where
   -- And or Or of a nullable operand x and another, y, that is not, whichever stands first
@@ -92,33 +65,73 @@ module _ {V O : Type 0} (m : Meaning V O) where
         → (a : Option Bool) × (c : Bool) × (eval m cs x i ≡ gives (truth_or_null a))
         × (eval m cs y i ≡ gives (truth c)) × (truth_or_null (kleene op a (Some c)) ≡ w)
 
-  -- the type of a null test, which accepts every type, and its value in a row
-  abbrev AcceptsAll : Shipped → Type 0
-  AcceptsAll test = (t : LogicalType) → call_type m (ours test) (t ∷ []) ≡ Some (bool_type false)
+  module _ (lawful : Lawful m) where
+    split_by : (op : Operator) (node : Tree V O) (n : Bool) (x y : Tree V O)
+        → AreOperands m op node n x y → tree_type m x ≡ Some (bool_type true)
+        → tree_type m y ≡ Some (bool_type false) → IsSplit op node x y
+    split_by op node n x y c h k = record {
+      nullable = h;
+      other = k;
+      asks_nullable = c.asks_one;
+      asks_other = c.asks_other;
+      values = λ cs i w p e.
+          let q = c.values cs i w e in
+          let rows = c.asks_one.rows cs i p in
+          let others = c.asks_other.rows cs i p in
+          let typed = value_typed m lawful cs i x (bool_type true) q.0 h rows q.2 in
+          let back = truth_back true q.0 typed in
+          let z = truth_in q.1 (value_typed m lawful cs i y (bool_type false) q.1 k others q.3) in (
+            truth_of q.0,
+            z.0,
+            q.2 ∙ ap gives (sym back),
+            q.3 ∙ ap gives z.1,
+            ap (boolean_value op q.0) (sym z.1) ∙ q.4,
+          );
+    }
 
-  module _ (test : Shipped) (says : Value → Bool) (tests : Tests test says)
-      (accepts : AcceptsAll test) where
-    -- the test of a tree
+    -- the operands that the rules take apart
+    split_of : (op : Operator) (x y : Tree V O) (t : LogicalType) (p : Tree V O × Tree V O)
+        → is_boolean op ≡ true → tree_type m (operated op x y) ≡ Some t
+        → by_nullability m x y ≡ Some p → IsSplit op (operated op x y) p.0 p.1
+    split_of op x y t p b h e =
+        let c = bool_call m op x y t b h in
+        let right = ap (λ z. nullable_first c.left_null (may_be_null z) x y) (sym c.right) in
+        let left = ap (λ z. nullable_first (may_be_null z) (is_nullable_tree m y) x y) (sym c.left)
+        in
+        by c.left_null c.right_null c.left c.right (right ∙ left ∙ e)
+      where
+        Split : Tree V O × Tree V O → Type 0
+        Split z = IsSplit op (operated op x y) z.0 z.1
+
+        by : (n k : Bool) → tree_type m x ≡ Some (bool_type n) → tree_type m y ≡ Some (bool_type k)
+            → nullable_first n k x y ≡ Some p → Split p
+        by true false f g q =
+            let is : (x, y) ≡ p = cc in
+            let c = left_first m op b x y _ (bool_call m op x y t b h) in
+            subst Split is (split_by op (operated op x y) _ x y c f g)
+        by false true f g q =
+            let is : (y, x) ≡ p = cc in
+            let c = right_first m op b x y _ (bool_call m op x y t b h) in
+            subst Split is (split_by op (operated op x y) _ y x c g f)
+        by true true f g q = cc
+        by false false f g q = cc
+
+  -- whether a tree is null, or, where `test` is true, whether it is not
+  module _ (test : Bool) where
     abbrev tested : Tree V O → Tree V O
-    tested x = call (ours test) (tree x no_trees)
+    tested x = call (ours (NullTest test)) (tree x no_trees)
+
+    abbrev says : Value → Bool
+    says = null_test_value test
 
     test_type : (x : Tree V O) (t : LogicalType) → tree_type m x ≡ Some t
         → tree_type m (tested x) ≡ Some (bool_type false)
-    test_type x t h = type_of_one m (ours test) x t h ∙ accepts t
-
-    eval_test : (cs : List ColumnView) (i : ℕ) (x : Tree V O) (v : Value) → eval m cs x i ≡ gives v
-        → eval m cs (tested x) i ≡ gives (truth (says v))
-    eval_test cs i x v h =
-        eval_one m cs i (ours test) x v h
-        ∙ tests (types_or_none (tree_types m (tree x no_trees))) v
+    test_type x t h = type_of_one m (ours (NullTest test)) x t h
 
     test_value : (cs : List ColumnView) (i : ℕ) (x : Tree V O) (w : Value)
         → eval m cs (tested x) i ≡ gives w
         → (v : Value) × (eval m cs x i ≡ gives v) × (gives (truth (says v)) ≡ gives w)
-    test_value cs i x w e =
-        let a = one_value m cs i (ours test) x w e in
-        let said = sym (tests (types_or_none (tree_types m (tree x no_trees))) a.0) ∙ a.2 in
-        (a.0, a.1, said)
+    test_value cs i x w e = one_value m cs i (ours (NullTest test)) x w e
 
     -- a child of whose values the test says one thing
     constant_test : (x : Tree V O) (t : LogicalType) (b : Bool) → tree_type m x ≡ Some t
@@ -139,7 +152,7 @@ module _ {V O : Type 0} (m : Meaning V O) where
         → IsSplit op node x y → tree_type m other ≡ Some (bool_type false) → AsksNoMore y other
         → ((cs : List ColumnView) (i : ℕ) (c : Bool) → eval m cs y i ≡ gives (truth c)
         → eval m cs other i ≡ gives (truth (turn c)))
-        → SaidBy op says join turn
+        → SaidBy op test join turn
         → Rewrites m (tested node) (operated join (tested x) other)
     split_test op join turn node x y other t b h s typed asks turned said = record {
       dtype =
@@ -162,7 +175,7 @@ module _ {V O : Type 0} (m : Meaning V O) where
       value = λ cs i w p e.
           let a = test_value cs i node w e in
           let q = s.values cs i a.0 p.0 a.1 in
-          let left = eval_test cs i x (truth_or_null q.0) q.2 in
+          let left = eval_one m cs i (ours (NullTest test)) x (truth_or_null q.0) q.2 in
           let right = turned cs i q.1 q.3 in
           eval_bool m cs i join (tested x) other _ _ b left right
           ∙ ap gives (said q.0 q.1) ∙ ap (λ v. gives (truth (says v))) q.4 ∙ a.2;
@@ -176,168 +189,63 @@ module _ {V O : Type 0} (m : Meaning V O) where
         joined_type op k = cc
 
     -- the other operand as it is, and negated
-    split_as_is : (op join : Operator) (node x y : Tree V O) (t : LogicalType)
-        → is_boolean join ≡ true → tree_type m node ≡ Some t → IsSplit op node x y
-        → SaidBy op says join (λ c. c) → Rewrites m (tested node) (operated join (tested x) y)
-    split_as_is op join node x y t b h s said =
-        split_test op join (λ c. c) node x y y t b h s s.other (asks_same y) (λ cs i c e. e) said
+    module _ (lawful : Lawful m) (op join : Operator) (b : is_boolean op ≡ true)
+        (j : is_boolean join ≡ true) (x y : Tree V O) (t : LogicalType)
+        (h : tree_type m (operated op x y) ≡ Some t) (u : Tree V O) where
+      within : SaidBy op test join (λ c. c)
+          → option_map (λ p. operated join (tested p.0) p.1) (by_nullability m x y) ≡ Some u
+          → Rewrites m (tested (operated op x y)) u
+      within said e =
+          let a = mapped _ (by_nullability m x y) u e in
+          let s = split_of lawful op x y t a.0 b h a.1 in
+          subst (Rewrites m (tested (operated op x y))) a.2
+          (split_test op join (λ c. c) (operated op x y) a.0.0 a.0.1 a.0.1 t j h s s.other
+          (asks_same a.0.1) (λ cs i c k. k) said)
 
-    split_negated : (op join : Operator) (node x y : Tree V O) (t : LogicalType)
-        → is_boolean join ≡ true → tree_type m node ≡ Some t → IsSplit op node x y
-        → SaidBy op says join not
-        → Rewrites m (tested node) (operated join (tested x) (negated y))
-    split_negated op join node x y t b h s said =
-        split_test op join not node x y (negated y) t b h s
-        (type_of_one m (ours Not) y (bool_type false) s.other)
-        (record {
-          leaves = λ p name k h. in_one h;
-          rows = λ cs i k. (k, tt);
-          places = λ k. (k, tt);
-        })
-        (λ cs i c e. eval_one m cs i (ours Not) y (truth c) e) said
+      within_negated : SaidBy op test join not
+          → option_map (λ p. operated join (tested p.0) (negated p.1)) (by_nullability m x y)
+          ≡ Some u
+          → Rewrites m (tested (operated op x y)) u
+      within_negated said e =
+          let a = mapped _ (by_nullability m x y) u e in
+          let s = split_of lawful op x y t a.0 b h a.1 in
+          subst (Rewrites m (tested (operated op x y))) a.2
+          (split_test op join not (operated op x y) a.0.0 a.0.1 (negated a.0.1) t j h s
+          (type_of_one m (ours Not) a.0.1 (bool_type false) s.other)
+          (record {
+            leaves = λ q name k a. in_one a;
+            rows = λ cs i k. (k, tt);
+            places = λ k. (k, tt);
+          })
+          (λ cs i c k. eval_one m cs i (ours Not) a.0.1 (truth c) k) said)
+
+    -- of a child that is never null
+    pub never_null_test : Lawful m → (x : Tree V O) (t : LogicalType) → tree_type m x ≡ Some t
+        → is_nullable t ≡ false → Rewrites m (tested x) (truth_constant false test)
+    never_null_test lawful x t h n =
+        constant_test x t test h
+        (λ cs i v p e. by test v (never_null m lawful cs i x t v h n p e))
+      where
+        by : (b : Bool) (v : Value) → is_null v ≡ false → null_test_value b v ≡ b
+        by false v e = e
+        by true v e = ap not e
 
   module _ (lawful : Lawful m) where
-    split_left : (op : Operator) (x y : Tree V O) → is_boolean op ≡ true
-        → tree_type m x ≡ Some (bool_type true) → tree_type m y ≡ Some (bool_type false)
-        → IsSplit op (operated op x y) x y
-    split_left op x y b h k = record {
-      nullable = h;
-      other = k;
-      asks_nullable = asks_left m op x y;
-      asks_other = asks_right m op x y;
-      values = λ cs i w p e.
-          let q = bool_values m cs i op x y w b e in
-          let typed = value_typed m lawful cs i x (bool_type true) q.0 h p.0 q.2 in
-          let back = truth_back true q.0 typed in
-          let c = truth_in q.1 (value_typed m lawful cs i y (bool_type false) q.1 k p.1.0 q.3) in (
-            truth_of q.0,
-            c.0,
-            q.2 ∙ ap gives (sym back),
-            q.3 ∙ ap gives c.1,
-            ap (boolean_value op q.0) (sym c.1) ∙ q.4,
-          );
-    }
-
-    split_right : (op : Operator) (x y : Tree V O) → is_boolean op ≡ true
-        → tree_type m x ≡ Some (bool_type false) → tree_type m y ≡ Some (bool_type true)
-        → IsSplit op (operated op x y) y x
-    split_right op x y b h k = record {
-      nullable = k;
-      other = h;
-      asks_nullable = asks_right m op x y;
-      asks_other = asks_left m op x y;
-      values = λ cs i w p e.
-          let q = bool_values m cs i op x y w b e in
-          let typed = value_typed m lawful cs i y (bool_type true) q.1 k p.1.0 q.3 in
-          let back = truth_back true q.1 typed in
-          let c = truth_in q.0 (value_typed m lawful cs i x (bool_type false) q.0 h p.0 q.2) in (
-            truth_of q.1,
-            c.0,
-            q.3 ∙ ap gives (sym back),
-            q.2 ∙ ap gives c.1,
-            ap truth_or_null (kleene_turned op c.0 (truth_of q.1) b)
-                ∙ ap (λ v. boolean_value op v q.1) (sym c.1) ∙ q.4,
-          );
-    }
-
-    -- the operands that the rules take apart
-    split_of : (op : Operator) (x y : Tree V O) (t : LogicalType) (p : Tree V O × Tree V O)
-        → is_boolean op ≡ true → tree_type m (operated op x y) ≡ Some t
-        → by_nullability m x y ≡ Some p → IsSplit op (operated op x y) p.0 p.1
-    split_of op x y t p b h e =
-        let c = bool_call m op x y t b h in
-        let right = ap (λ z. nullable_first c.left_null (may_be_null z) x y) (sym c.right) in
-        let left = ap (λ z. nullable_first (may_be_null z) (is_nullable_tree m y) x y) (sym c.left)
-        in
-        by c.left_null c.right_null c.left c.right (right ∙ left ∙ e)
-      where
-        by : (n k : Bool) → tree_type m x ≡ Some (bool_type n) → tree_type m y ≡ Some (bool_type k)
-            → nullable_first n k x y ≡ Some p → IsSplit op (operated op x y) p.0 p.1
-        by true false f g q =
-            let is : (x, y) ≡ p = cc in
-            subst (λ (z : Tree V O × Tree V O). IsSplit op (operated op x y) z.0 z.1) is
-            (split_left op x y b f g)
-        by false true f g q =
-            let is : (y, x) ≡ p = cc in
-            subst (λ (z : Tree V O × Tree V O). IsSplit op (operated op x y) z.0 z.1) is
-            (split_right op x y b f g)
-        by true true f g q = cc
-        by false false f g q = cc
-
-    -- null tests of And and Or with one nullable operand
-    null_within : (op : Operator) (x y : Tree V O) (t : LogicalType) (p : Tree V O × Tree V O)
-        → is_boolean op ≡ true → tree_type m (operated op x y) ≡ Some t
-        → by_nullability m x y ≡ Some p → SaidBy op is_null And (λ c. c)
-        → Rewrites m (is_null_of (operated op x y)) (operated And (is_null_of p.0) p.1)
-    null_within op x y t p b h e said =
-        let split = split_of op x y t p b h e in
-        split_as_is IsNull is_null (λ ts v. refl) (λ k. refl) op And (operated op x y)
-        p.0 p.1 t refl h split said
-
-    null_within_negated : (op : Operator) (x y : Tree V O) (t : LogicalType)
-        (p : Tree V O × Tree V O) → is_boolean op ≡ true → tree_type m (operated op x y) ≡ Some t
-        → by_nullability m x y ≡ Some p → SaidBy op is_null And not
-        → Rewrites m (is_null_of (operated op x y)) (operated And (is_null_of p.0) (negated p.1))
-    null_within_negated op x y t p b h e said =
-        let split = split_of op x y t p b h e in
-        split_negated IsNull is_null (λ ts v. refl) (λ k. refl) op And (operated op x y)
-        p.0 p.1 t refl h split said
-
-    not_null_within : (op : Operator) (x y : Tree V O) (t : LogicalType) (p : Tree V O × Tree V O)
-        → is_boolean op ≡ true → tree_type m (operated op x y) ≡ Some t
-        → by_nullability m x y ≡ Some p → SaidBy op is_not_null Or (λ c. c)
-        → Rewrites m (is_not_null_of (operated op x y)) (operated Or (is_not_null_of p.0) p.1)
-    not_null_within op x y t p b h e said =
-        let split = split_of op x y t p b h e in
-        split_as_is IsNotNull is_not_null (λ ts v. refl) (λ k. refl) op Or (operated op x y)
-        p.0 p.1 t refl h split said
-
-    not_null_within_negated : (op : Operator) (x y : Tree V O) (t : LogicalType)
-        (p : Tree V O × Tree V O) → is_boolean op ≡ true → tree_type m (operated op x y) ≡ Some t
-        → by_nullability m x y ≡ Some p → SaidBy op is_not_null Or not
-        → Rewrites m (is_not_null_of (operated op x y))
-        (operated Or (is_not_null_of p.0) (negated p.1))
-    not_null_within_negated op x y t p b h e said =
-        let split = split_of op x y t p b h e in
-        split_negated IsNotNull is_not_null (λ ts v. refl) (λ k. refl) op Or (operated op x y)
-        p.0 p.1 t refl h split said
-
     pub is_null_within_sound : (x u : Tree V O) (t : LogicalType) → tree_type m x ≡ Some t
         → is_null_within m x ≡ Some u → Rewrites m (is_null_of x) u
     is_null_within_sound (call (ours (Binary And)) (tree x (tree y no_trees))) u t h e =
-        let a = mapped _ (by_nullability m x y) u e in
-        subst (Rewrites m (is_null_of (operated And x y))) a.2
-        (null_within And x y t a.0 refl h a.1 and_is_null)
+        within false lawful And And refl refl x y t h u and_is_null e
     is_null_within_sound (call (ours (Binary Or)) (tree x (tree y no_trees))) u t h e =
-        let a = mapped _ (by_nullability m x y) u e in
-        subst (Rewrites m (is_null_of (operated Or x y))) a.2
-        (null_within_negated Or x y t a.0 refl h a.1 or_is_null)
+        within_negated false lawful Or And refl refl x y t h u or_is_null e
     is_null_within_sound x u t h e = cc
 
     pub is_not_null_within_sound : (x u : Tree V O) (t : LogicalType) → tree_type m x ≡ Some t
         → is_not_null_within m x ≡ Some u → Rewrites m (is_not_null_of x) u
     is_not_null_within_sound (call (ours (Binary And)) (tree x (tree y no_trees))) u t h e =
-        let a = mapped _ (by_nullability m x y) u e in
-        subst (Rewrites m (is_not_null_of (operated And x y))) a.2
-        (not_null_within_negated And x y t a.0 refl h a.1 and_is_not_null)
+        within_negated true lawful And Or refl refl x y t h u and_is_not_null e
     is_not_null_within_sound (call (ours (Binary Or)) (tree x (tree y no_trees))) u t h e =
-        let a = mapped _ (by_nullability m x y) u e in
-        subst (Rewrites m (is_not_null_of (operated Or x y))) a.2
-        (not_null_within Or x y t a.0 refl h a.1 or_is_not_null)
+        within true lawful Or Or refl refl x y t h u or_is_not_null e
     is_not_null_within_sound x u t h e = cc
-
-    -- of a child that is never null
-    pub never_null_is_null : (x : Tree V O) (t : LogicalType) → tree_type m x ≡ Some t
-        → is_nullable t ≡ false → Rewrites m (is_null_of x) (truth_constant false false)
-    never_null_is_null x t h n =
-        constant_test IsNull is_null (λ ts v. refl) (λ k. refl) x t false h
-        (λ cs i v p e. never_null m lawful cs i x t v h n p e)
-
-    pub never_null_is_not_null : (x : Tree V O) (t : LogicalType) → tree_type m x ≡ Some t
-        → is_nullable t ≡ false → Rewrites m (is_not_null_of x) (truth_constant false true)
-    never_null_is_not_null x t h n =
-        constant_test IsNotNull is_not_null (λ ts v. refl) (λ k. refl) x t true h
-        (λ cs i v p e. ap not (never_null m lawful cs i x t v h n p e))
 
   -- of a child whose validity is a tree
   pub is_null_by_validity : (x v : Tree V O) (t : LogicalType) → tree_type m x ≡ Some t
@@ -345,14 +253,14 @@ module _ {V O : Type 0} (m : Meaning V O) where
   is_null_by_validity x v t h valid = record {
     dtype =
         type_of_one m (ours Not) v (bool_type false) valid.dtype
-        ∙ sym (test_type IsNull is_null (λ ts w. refl) (λ k. refl) x t h);
+        ∙ sym (test_type false x t h);
     asks = record {
       leaves = λ p name k h. inl (valid.asks.leaves p name k (in_one h));
       rows = λ cs i k. (valid.asks.rows cs i k.0, tt);
       places = λ k. (valid.asks.places k.0, tt);
     };
     value = λ cs i w p e.
-        let a = test_value IsNull is_null (λ ts z. refl) (λ k. refl) cs i x w e in
+        let a = test_value false cs i x w e in
         let said = valid.value cs i a.0 p.0 a.1 in
         eval_one m cs i (ours Not) v (truth (not (is_null a.0))) said
         ∙ ap (λ b. gives (truth b)) (not_not (is_null a.0)) ∙ a.2;
@@ -361,13 +269,13 @@ module _ {V O : Type 0} (m : Meaning V O) where
   pub is_not_null_by_validity : (x v : Tree V O) (t : LogicalType) → tree_type m x ≡ Some t
       → IsValidityOf m x v → Rewrites m (is_not_null_of x) v
   is_not_null_by_validity x v t h valid = record {
-    dtype = valid.dtype ∙ sym (test_type IsNotNull is_not_null (λ ts w. refl) (λ k. refl) x t h);
+    dtype = valid.dtype ∙ sym (test_type true x t h);
     asks = record {
       leaves = λ p name k h. inl (valid.asks.leaves p name k h);
       rows = λ cs i k. valid.asks.rows cs i k.0;
       places = λ k. valid.asks.places k.0;
     };
     value = λ cs i w p e.
-        let a = test_value IsNotNull is_not_null (λ ts z. refl) (λ k. refl) cs i x w e in
+        let a = test_value true cs i x w e in
         valid.value cs i a.0 p.0 a.1 ∙ a.2;
   }

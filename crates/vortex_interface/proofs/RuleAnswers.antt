@@ -1,5 +1,5 @@
 -- What a rule answers, taken apart.
-use Rattle.std.proofs.Common.{◌≡◌, Bool, true, false, not, Option, Some, None, refl, inl, inr}
+use Rattle.std.proofs.Common.{◌≡◌, Bool, true, false, not, Option, Some, None, refl, subst, inl, inr}
 use Rattle.std.specs.Prelude.{◌&&◌, ◌||◌, ◌⊎◌, if◌then◌else◌}
 use Rattle.std.specs.Option.{option_map, option_or}
 use Rattle.vortex_types.specs.Values.{Value}
@@ -23,14 +23,12 @@ pub mapped : {A B : Type 0} (f : A → B) (o : Option A) (u : B) → option_map 
 mapped f None u h = cc
 mapped f (Some x) u h = (x, refl, cc)
 
--- no answer, of two and of a part
-pub neither : {A : Type 0} (a b : Option A) → option_or a b ≡ None → (a ≡ None) × (b ≡ None)
-neither None b h = (refl, h)
-neither (Some x) b h = cc
-
-pub map_none : {A B : Type 0} (f : A → B) (o : Option A) → option_map f o ≡ None → o ≡ None
-map_none f None h = refl
-map_none f (Some x) h = cc
+-- of a node that may be null the first of two answers that is there, and of another the only one
+pub either_answer : {A : Type 0} (n : Bool) (only u : A) (a b : Option A) (P : A → Type 0)
+    → (if n then option_or a b else Some only) ≡ Some u → (n ≡ false → P only)
+    → (a ≡ Some u → P u) → (b ≡ Some u → P u) → P u
+either_answer true only u a b P h solid f g = first_there a b u (P u) h f g
+either_answer false only u a b P h solid f g = subst P (some_is only u h) (solid refl)
 
 -- what is answered where a test says yes, and where it says no
 pub guarded : {A : Type 0} (b : Bool) (o : Option A) (u : A) → (if b then o else None) ≡ Some u

@@ -1,88 +1,56 @@
 -- What Simplify answers is a rewrite.
-use Rattle.std.proofs.Common.{◌≡◌, ℕ, Bool, true, false, List, [], ◌∷◌, Option, Some, None, refl}
-use Rattle.std.proofs.Common.{sym, ap, ◌∙◌, subst, inl, inr, cond}
+use Rattle.std.proofs.Common.{◌≡◌, ℕ, Bool, true, List, [], ◌∷◌, Option, Some, None, refl}
+use Rattle.std.proofs.Common.{sym, ap, ◌∙◌, subst, inl, inr}
 use Rattle.std.specs.Prelude.{◌||◌, ◌&&◌, ◌⊎◌}
 use Rattle.vortex_types.specs.LogicalTypes.{LogicalType, bool_type, is_nullable}
 use Rattle.vortex_types.specs.TypeEquality.{alike_types}
-use Rattle.vortex_types.specs.Values.{Value, null, truth, is_null}
-use Rattle.vortex_types.specs.Order.{compare_values}
+use Rattle.vortex_types.specs.Values.{Value, null, is_null}
 use Rattle.vortex_types.proofs.NullValues.{null_is}
 use Rattle.vortex_columns.specs.ColumnView.{ColumnView}
 use Rattle.vortex_operators.specs.Kleene.{decides}
 use Rattle.vortex_operators.specs.declared.operators.Operator.{Operator}
 use Rattle.vortex_operators.specs.declared.operators.Operator.TheVariants.{Eq, NotEq, Gt, Gte, Lt}
-use Rattle.vortex_operators.specs.declared.operators.Operator.TheVariants.{Lte, And, Or, Add, Sub}
-use Rattle.vortex_operators.specs.declared.operators.Operator.TheVariants.{Mul, Div}
+use Rattle.vortex_operators.specs.declared.operators.Operator.TheVariants.{Lte, And, Or}
 use Rattle.vortex_operators.specs.declared.operators.CompareOperator.{CompareOperator}
 use Rattle.vortex_operators.specs.declared.operators.CompareOperator.TheVariants as compare
 use Rattle.vortex_operators.specs.Operators.{is_boolean, operator_of}
 use Rattle.vortex_operators.specs.OperatorValues.{boolean_value, comparison_value, comparison_type}
-use Rattle.vortex_operators.specs.OperatorValues.{holds}
 use Rattle.vortex_interface.specs.Outcomes.{gives}
 use Rattle.vortex_interface.specs.Meaning.{Meaning, Lawful}
-use Rattle.vortex_interface.specs.Arguments.{or_either}
+use Rattle.vortex_interface.specs.Arguments.{or_either, null_of_either}
 use Rattle.vortex_interface.specs.Shipped.{Shipped, Binary}
 use Rattle.vortex_interface.specs.Shipped.BinaryFunction.{compared_type, operator_type}
-use Rattle.vortex_interface.specs.Shipped.BinaryFunction.{operator_means}
+use Rattle.vortex_interface.specs.Shipped.BinaryFunction.{null_compared}
 use Rattle.vortex_interface.specs.Functions.{ours, custom}
 use Rattle.vortex_interface.specs.Trees.{Tree, leaf, constant, call, Trees, no_trees, tree}
 use Rattle.vortex_interface.specs.Eval.{types_or_none, tree_type, tree_types, eval}
-use Rattle.vortex_interface.specs.ComparisonTrees.{operated, compared}
+use Rattle.vortex_interface.specs.ComparisonTrees.{operated, compared, compared_means}
 use Rattle.vortex_interface.specs.Rules.{Rules, constant_truth, is_nullable_tree}
-use Rattle.vortex_interface.specs.SimplifyRules.{is_null_scalar, is_null_literal, simplify_comparison}
+use Rattle.vortex_interface.specs.SimplifyRules.{is_null_literal, simplify_comparison}
 use Rattle.vortex_interface.specs.SimplifyRules.{decided, left_of_nulls, undecided, simplify_operands}
 use Rattle.vortex_interface.specs.SimplifyRules.{simplify_boolean, simplify_operator}
 use Rattle.vortex_interface.specs.SimplifyRules.{simplify_shipped, simplify}
 use Rattle.vortex_interface.specs.Rewrites.{Rewrites, LawfulRules}
 use Rattle.vortex_interface.proofs.TypedCalls.{two_types, typed_call, two_values}
 use Rattle.vortex_interface.proofs.BooleanCalls.{IsBoolCall, bool_call, bool_values, asks_left}
-use Rattle.vortex_interface.proofs.BooleanCalls.{left_decided, right_decided, left_undecided}
-use Rattle.vortex_interface.proofs.BooleanCalls.{right_undecided}
+use Rattle.vortex_interface.proofs.BooleanCalls.{AreOperands, left_first, right_first}
+use Rattle.vortex_interface.proofs.BooleanCalls.{decided_sound, undecided_sound}
 use Rattle.vortex_interface.proofs.RuleAnswers.{first_there, answer_if, answer_unless, both_true}
 use Rattle.vortex_interface.proofs.RuleAnswers.{either_true}
-use Rattle.vortex_types.specs.ScalarView.{ScalarView}
-use Rattle.vortex_types.specs.Typing.{HasType}
-use Rattle.vortex_types.proofs.NullValues.{not_null}
 
 -- the type of a comparison of accepted types
 compared_is : (t u r : LogicalType) → compared_type (t ∷ u ∷ []) ≡ Some r
     → bool_type (is_nullable t || is_nullable u) ≡ r
 compared_is t u r h = (answer_if (alike_types t u) (comparison_type t u) r h).1
 
-comparison_means : (op : CompareOperator) (ts : List LogicalType) (v w : Value)
-    → operator_means (operator_of op) ts (v ∷ w ∷ []) ≡ gives (comparison_value op v w)
-comparison_means compare.Eq ts v w = refl
-comparison_means compare.NotEq ts v w = refl
-comparison_means compare.Gt ts v w = refl
-comparison_means compare.Gte ts v w = refl
-comparison_means compare.Lt ts v w = refl
-comparison_means compare.Lte ts v w = refl
-
 comparison_accepts : (op : CompareOperator) (ts : List LogicalType)
     → operator_type (operator_of op) ts ≡ compared_type ts
 comparison_accepts compare.Eq ts = refl
-comparison_accepts compare.NotEq ts = refl
-comparison_accepts compare.Gt ts = refl
-comparison_accepts compare.Gte ts = refl
-comparison_accepts compare.Lt ts = refl
-comparison_accepts compare.Lte ts = refl
+comparison_accepts op ts = refl
 
 null_beside : (op : CompareOperator) (v w : Value) → (v ≡ null) ⊎ (w ≡ null)
     → comparison_value op v w ≡ null
-null_beside op v w (inl p) = ap (λ x. comparison_value op x w) p
-null_beside op v w (inr q) =
-    let null_here = or_either (is_null v) (is_null w) (inr (ap is_null q)) in
-    ap (λ b. cond b null (truth (holds op (compare_values v w)))) null_here
-
--- of a scalar whose value has its type the test of the value says all
-pub null_scalar : (s : ScalarView) → HasType s.dtype s.value
-    → is_null_scalar (Some s) ≡ is_null s.value
-null_scalar s h = by (is_null s.value) (is_nullable s.dtype) refl refl
-  where
-    by : (b n : Bool) → is_null s.value ≡ b → is_nullable s.dtype ≡ n → (b && n) ≡ b
-    by false n e g = refl
-    by true true e g = refl
-    by true false e g = let solid = not_null s.dtype s.value h g in cc
+null_beside op = null_of_either (comparison_value op) (λ w. refl) (null_compared op)
 
 module _ {V O : Type 0} (m : Meaning V O) where
   null_literal_type : (x : Tree V O) (t : LogicalType) → is_null_literal x ≡ true
@@ -130,7 +98,7 @@ module _ {V O : Type 0} (m : Meaning V O) where
         let q = two_values m cs i (ours (Binary (operator_of op))) x y w e in
         let ts = types_or_none (tree_types m (tree x (tree y no_trees))) in
         let none = null_beside op q.0 q.1 (values cs i q.0 q.1 q.2 q.3 nulls) in
-        sym (ap gives none) ∙ sym (comparison_means op ts q.0 q.1) ∙ q.4;
+        sym (ap gives none) ∙ sym (compared_means op ts q.0 q.1) ∙ q.4;
   }
     where
       types : (k l : LogicalType) → tree_type m x ≡ Some k → tree_type m y ≡ Some l
@@ -158,69 +126,58 @@ module _ {V O : Type 0} (m : Meaning V O) where
   null_kleene Or h = refl
   null_kleene op h = cc
 
-  module _ (lawful : Lawful m) (op : Operator) (b : is_boolean op ≡ true) (x y : Tree V O)
-      (n : Bool) (c : IsBoolCall m op x y n) where
-    -- two null literals
-    nulls_left : is_null_literal x ≡ true → is_null_literal y ≡ true
-        → Rewrites m (operated op x y) x
-    nulls_left h k = record {
-      dtype =
-          let wide = null_literal_type x (bool_type c.left_null) h c.left in
-          let either = sym (or_either c.left_null c.right_null (inl wide)) ∙ c.either in
-          c.left ∙ ap (λ a. Some (bool_type a)) (wide ∙ either) ∙ sym c.node;
-      asks = asks_left m op x y;
-      value = λ cs i w p e.
-          let q = bool_values m cs i op x y w b e in
-          let left = null_value cs i x q.0 h q.2 in
-          let right = null_value cs i y q.1 k q.3 in
-          let value = (λ j. boolean_value op (left j) (right j)) ∙ null_kleene op b in
-          q.2 ∙ ap gives (left ∙ sym value ∙ q.4);
-    }
+  module _ (lawful : Lawful m) (op : Operator) (b : is_boolean op ≡ true) where
+    module _ (node x y : Tree V O) (n : Bool) (c : AreOperands m op node n x y) where
+      decided_by : (o : Option Bool) (u : Tree V O) → constant_truth x ≡ o
+          → decided op n o ≡ Some u → Rewrites m node u
+      decided_by None u h e = cc
+      decided_by (Some a) u h e =
+          let d = answer_if (decides op a) _ u e in
+          subst (Rewrites m node) d.1 (decided_sound m op b node x y n a c h d.0)
 
-    -- a rewrite of the node
-    abbrev Sound : Tree V O → Type 0
-    Sound u = Rewrites m (operated op x y) u
+      undecided_by : (o : Option Bool) (u : Tree V O) → constant_truth x ≡ o
+          → undecided m op n o y ≡ Some u → Rewrites m node u
+      undecided_by None u h e = cc
+      undecided_by (Some a) u h e =
+          let d = answer_unless (decides op a) _ u e in
+          subst (Rewrites m node) d.1 (undecided_sound m op b node x y n a c h lawful d.0)
 
-    left_by : (o : Option Bool) (u : Tree V O) → constant_truth x ≡ o → decided op n o ≡ Some u
-        → Sound u
-    left_by None u h e = cc
-    left_by (Some a) u h e =
-        let d = answer_if (decides op a) _ u e in
-        subst Sound d.1 (left_decided m op b x y n a c h d.0)
+    module _ (x y : Tree V O) (n : Bool) (c : IsBoolCall m op x y n) where
+      -- two null literals
+      nulls_left : is_null_literal x ≡ true → is_null_literal y ≡ true
+          → Rewrites m (operated op x y) x
+      nulls_left h k = record {
+        dtype =
+            let wide = null_literal_type x (bool_type c.left_null) h c.left in
+            let either = sym (or_either c.left_null c.right_null (inl wide)) ∙ c.either in
+            c.left ∙ ap (λ a. Some (bool_type a)) (wide ∙ either) ∙ sym c.node;
+        asks = asks_left m op x y;
+        value = λ cs i w p e.
+            let q = bool_values m cs i op x y w b e in
+            let left = null_value cs i x q.0 h q.2 in
+            let right = null_value cs i y q.1 k q.3 in
+            let value = (λ j. boolean_value op (left j) (right j)) ∙ null_kleene op b in
+            q.2 ∙ ap gives (left ∙ sym value ∙ q.4);
+      }
 
-    right_by : (o : Option Bool) (u : Tree V O) → constant_truth y ≡ o → decided op n o ≡ Some u
-        → Sound u
-    right_by None u h e = cc
-    right_by (Some a) u h e =
-        let d = answer_if (decides op a) _ u e in
-        subst Sound d.1 (right_decided m op b x y n a c h d.0)
+      nulls_by : (u : Tree V O) → left_of_nulls x y ≡ Some u → Rewrites m (operated op x y) u
+      nulls_by u e =
+          let d = answer_if (is_null_literal x && is_null_literal y) x u e in
+          let both = both_true (is_null_literal x) (is_null_literal y) d.0 in
+          subst (Rewrites m (operated op x y)) d.1 (nulls_left both.0 both.1)
 
-    left_out_by : (o : Option Bool) (u : Tree V O) → constant_truth x ≡ o
-        → undecided m op n o y ≡ Some u → Sound u
-    left_out_by None u h e = cc
-    left_out_by (Some a) u h e =
-        let d = answer_unless (decides op a) _ u e in
-        subst Sound d.1 (left_undecided m op b x y n a c lawful h d.0)
-
-    right_out_by : (o : Option Bool) (u : Tree V O) → constant_truth y ≡ o
-        → undecided m op n o x ≡ Some u → Sound u
-    right_out_by None u h e = cc
-    right_out_by (Some a) u h e =
-        let d = answer_unless (decides op a) _ u e in
-        subst Sound d.1 (right_undecided m op b x y n a c lawful h d.0)
-
-    nulls_by : (u : Tree V O) → left_of_nulls x y ≡ Some u → Sound u
-    nulls_by u e =
-        let d = answer_if (is_null_literal x && is_null_literal y) x u e in
-        let both = both_true (is_null_literal x) (is_null_literal y) d.0 in
-        subst Sound d.1 (nulls_left both.0 both.1)
-
-    operands_sound : (u : Tree V O) → simplify_operands m op n x y ≡ Some u → Sound u
-    operands_sound u e =
-        first_there _ _ u (Sound u) e (left_by (constant_truth x) u refl)
-        (λ e. first_there _ _ u (Sound u) e (right_by (constant_truth y) u refl)
-        (λ e. first_there _ _ u (Sound u) e (left_out_by (constant_truth x) u refl)
-        (λ e. first_there _ _ u (Sound u) e (right_out_by (constant_truth y) u refl) (nulls_by u))))
+      operands_sound : (u : Tree V O) → simplify_operands m op n x y ≡ Some u
+          → Rewrites m (operated op x y) u
+      operands_sound u e =
+          let node = operated op x y in
+          let sound = Rewrites m node u in
+          let l = left_first m op b x y n c in
+          let r = right_first m op b x y n c in
+          first_there _ _ u sound e (decided_by node x y n l (constant_truth x) u refl)
+          (λ e. first_there _ _ u sound e (decided_by node y x n r (constant_truth y) u refl)
+          (λ e. first_there _ _ u sound e (undecided_by node x y n l (constant_truth x) u refl)
+          (λ e. first_there _ _ u sound e (undecided_by node y x n r (constant_truth y) u refl)
+          (nulls_by u))))
 
   module _ (lawful : Lawful m) where
     boolean_sound : (op : Operator) (x y u : Tree V O) (t : LogicalType) → is_boolean op ≡ true
@@ -241,18 +198,12 @@ module _ {V O : Type 0} (m : Meaning V O) where
     operator_sound Gte x y u t h e = comparison_sound compare.Gte x y u t h e
     operator_sound Lt x y u t h e = comparison_sound compare.Lt x y u t h e
     operator_sound Lte x y u t h e = comparison_sound compare.Lte x y u t h e
-    operator_sound Add x y u t h e = cc
-    operator_sound Sub x y u t h e = cc
-    operator_sound Mul x y u t h e = cc
-    operator_sound Div x y u t h e = cc
+    operator_sound op x y u t h e = cc
 
     shipped_sound : (s : Shipped) (ts : Trees V O) (u : Tree V O) (t : LogicalType)
         → tree_type m (call (ours s) ts) ≡ Some t → simplify_shipped m s ts ≡ Some u
         → Rewrites m (call (ours s) ts) u
-    shipped_sound (Binary op) no_trees u t h e = cc
-    shipped_sound (Binary op) (tree x no_trees) u t h e = cc
     shipped_sound (Binary op) (tree x (tree y no_trees)) u t h e = operator_sound op x y u t h e
-    shipped_sound (Binary op) (tree x (tree y (tree z ts))) u t h e = cc
     shipped_sound s ts u t h e = cc
 
     -- what Simplify answers for a well-typed tree keeps its type and its values

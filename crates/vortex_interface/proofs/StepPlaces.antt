@@ -1,4 +1,4 @@
--- A step is a rewrite at a place, and where there is no step the rule applies at no place.
+-- A step is a rewrite at a place.
 use Rattle.std.proofs.Common.{◌≡◌, ℕ, zero, suc, List, [], ◌∷◌, Option, Some, None, refl, sym, ap}
 use Rattle.std.proofs.Common.{◌∙◌, subst}
 use Rattle.std.specs.Prelude.{slice_get, slice_set}
@@ -8,8 +8,7 @@ use Rattle.vortex_interface.specs.Trees.{Tree, leaf, constant, call, Trees, no_t
 use Rattle.vortex_interface.specs.Trees.{list_of, children_of}
 use Rattle.vortex_interface.specs.Places.{with_child, rewritten}
 use Rattle.vortex_interface.specs.Driver.{step, step_in}
-use Rattle.vortex_interface.proofs.RuleAnswers.{first_there, mapped, neither, map_none}
-use Rattle.vortex_interface.proofs.TypedCalls.{and_then_some}
+use Rattle.vortex_interface.proofs.RuleAnswers.{first_there, mapped}
 
 module _ {V O : Type 0} where
   pub same_trees : (ts : Trees V O) → trees_of (list_of ts) ≡ ts
@@ -80,40 +79,3 @@ module _ {V O : Type 0} where
             made = s.made;
             others = ap (tree t) s.others ∙ a.2;
           })
-
-    -- where there is no step the rule applies at no place
-    none_here : (t : Tree V O) → step rule t ≡ None → rule t ≡ None
-    none_here (leaf l) h = h
-    none_here (constant s) h = h
-    none_here (call f ts) h =
-        (neither (option_map (call f) (step_in rule ts)) (rule (call f ts)) h).1
-
-    none_in : (ts : Trees V O) (k : ℕ) (x : Tree V O) → step_in rule ts ≡ None
-        → slice_get (list_of ts) k ≡ Some x → step rule x ≡ None
-    none_in no_trees k x n h = cc
-    none_in (tree t ts) zero x n h =
-        let is : t ≡ x = cc in
-        let p = neither (option_map (λ u. tree u ts) (step rule t)) _ n in
-        subst (λ z. step rule z ≡ None) is (map_none (λ u. tree u ts) (step rule t) p.0)
-    none_in (tree t ts) (suc k) x n h =
-        let p = neither _ (option_map (tree t) (step_in rule ts)) n in
-        none_in ts k x (map_none (tree t) (step_in rule ts) p.1) h
-
-    none_below : (t : Tree V O) (k : ℕ) (x : Tree V O) → step rule t ≡ None
-        → slice_get (children_of t) k ≡ Some x → step rule x ≡ None
-    none_below (leaf l) k x n h = cc
-    none_below (constant s) k x n h = cc
-    none_below (call f ts) k x n h =
-        let p = neither (option_map (call f) (step_in rule ts)) (rule (call f ts)) n in
-        none_in ts k x (map_none (call f) (step_in rule ts) p.0) h
-
-    pub nowhere : (path : List ℕ) (t : Tree V O) (made : Option (Tree V O)) → step rule t ≡ None
-        → rewritten rule path t ≡ Some made → made ≡ None
-    nowhere [] t made n e = let is : rule t ≡ made = cc in sym is ∙ none_here t n
-    nowhere (k ∷ path) t made n e =
-        let put = option_map (option_map (with_child t k)) in
-        let a = and_then_some (λ x. put (rewritten rule path x)) (slice_get (children_of t) k)
-        made e in
-        let b = mapped (option_map (with_child t k)) (rewritten rule path a.0) made a.2 in
-        let none = nowhere path a.0 b.0 (none_below t k a.0 n a.1) b.1 in
-        sym b.2 ∙ ap (option_map (with_child t k)) none

@@ -9,7 +9,7 @@ use Rattle.vortex_types.specs.LogicalTypes.{LogicalType, null_type, bool_type, i
 use Rattle.vortex_types.specs.LogicalTypes.{text_type, bytes_type, struct_type, list_type}
 use Rattle.vortex_types.specs.LogicalTypes.{fixed_size_list_type, map_type, is_nullable}
 use Rattle.vortex_types.specs.LogicalTypes.{with_nullability, without_nullability}
-use Rattle.vortex_types.specs.Values.{Value, null, truth, number, text, bytes, list, value_count}
+use Rattle.vortex_types.specs.Values.{Value, null, truth, value_count}
 use Rattle.vortex_types.specs.Values.{is_null}
 use Rattle.vortex_types.specs.Typing.{HasType, OrNull, IsTruth, IsNumber, FitsPType, IsText}
 use Rattle.vortex_types.specs.Typing.{IsBytes, IsList, HaveFields, Each, IsPair}
@@ -71,11 +71,7 @@ some_null (v ∷ vs) h = by (is_null v) refl h (some_null vs)
 or_no_null : (n : Bool) (P : Value → Type 0) (v : Value) → OrNull n P v → is_null v ≡ false
     → OrNull false P v
 or_no_null n P null h e = cc
-or_no_null n P (truth b) h e = h
-or_no_null n P (number z) h e = h
-or_no_null n P (text bs) h e = h
-or_no_null n P (bytes bs) h e = h
-or_no_null n P (list vs) h e = h
+or_no_null n P v h e = h
 
 type_without_null : (t : LogicalType) (v : Value) → HasType t v → is_null v ≡ false
     → HasType (with_nullability t false) v
@@ -108,14 +104,7 @@ have_types_without_null (t ∷ ts) (v ∷ vs) h e =
 same_apart : (t : LogicalType)
     → without_nullability t ≡ without_nullability (with_nullability t false)
 same_apart null_type = refl
-same_apart (bool_type n) = refl
-same_apart (integer_type p n) = refl
-same_apart (text_type n) = refl
-same_apart (bytes_type n) = refl
-same_apart (struct_type fs n) = refl
-same_apart (list_type a n) = refl
-same_apart (fixed_size_list_type a s n) = refl
-same_apart (map_type k a n) = refl
+same_apart t = refl
 
 without_null_alike : (ts : List LogicalType) → AreAlike ts (without_null ts)
 without_null_alike [] = refl
@@ -127,9 +116,7 @@ never_null_type None h = cc
 never_null_type (Some t) h = (t, refl, h)
 
 and_truths : (p q : Bool) → boolean_value And (truth p) (truth q) ≡ truth (p && q)
-and_truths true true = refl
-and_truths true false = refl
-and_truths false q = refl
+and_truths p q = grind arith
 
 -- the column of validity bits, row by row
 validity_at : (c : ColumnView) (i : ℕ) → i < length c.rows

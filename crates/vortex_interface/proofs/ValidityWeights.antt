@@ -6,8 +6,7 @@ use Rattle.std.specs.List.{list_any}
 use Rattle.vortex_types.specs.LogicalTypes.{LogicalType, bool_type}
 use Rattle.vortex_types.specs.Values.{is_null}
 use Rattle.vortex_columns.specs.ColumnView.{ColumnView}
-use Rattle.vortex_columns.specs.ValidityView.{ValidityForm, non_nullable, all_valid, all_invalid}
-use Rattle.vortex_columns.specs.ValidityView.{array}
+use Rattle.vortex_columns.specs.ValidityView.{ValidityForm, non_nullable}
 use Rattle.vortex_operators.specs.declared.operators.Operator.{Operator}
 use Rattle.vortex_operators.specs.declared.operators.Operator.TheVariants.{And, Or}
 use Rattle.vortex_operators.specs.Operators.{is_boolean}
@@ -58,9 +57,7 @@ module _ {V O : Type 0} (m : Meaning V O) where
   column_no_heavier : (c : ColumnView) (form : ValidityForm)
       → NoHeavier (leaf (held c)) (column_validity form c)
   column_no_heavier c non_nullable = (tt, omega arith)
-  column_no_heavier c all_valid = (tt, omega arith)
-  column_no_heavier c all_invalid = (tt, omega arith)
-  column_no_heavier c array = (tt, omega arith)
+  column_no_heavier c form = (tt, omega arith)
 
   -- the null test of one child and those of two, joined where there are two
   one_test : (x : Tree V O) (b : Bool) (v : Tree V O) → OnlyShipped x
@@ -108,14 +105,6 @@ module _ {V O : Type 0} (m : Meaning V O) where
   not_union : (ts : Trees V O) (v : Tree V O) (t : LogicalType)
       → IsTypedCall m (ours Not) ts t → AllShipped ts → union_child_validities m ts ≡ v
       → NoHeavier (call (ours Not) ts) v
-  not_union no_trees v t c s e =
-      let count = count_types no_trees c.types c.children in
-      let one : length c.types ≡ 1 = grind (arith, c.fitting) in
-      absurd (omega (arith, count, one))
-  not_union (tree x (tree y ts)) v t c s e =
-      let count = count_types (tree x (tree y ts)) c.types c.children in
-      let one : length c.types ≡ 1 = grind (arith, c.fitting) in
-      absurd (omega (arith, count, one))
   not_union (tree x no_trees) v t c s e =
       let a = one_type (tree_type m x) c.types c.children in
       let bool = not_is c.types t a.0 c.returns a.2 in
@@ -125,30 +114,26 @@ module _ {V O : Type 0} (m : Meaning V O) where
       let test = one_test x (is_nullable_tree m x) v s.0 e in
       let less = test.1 in
       (test.0, omega (arith, same, less))
+  not_union ts v t c s e =
+      let count = count_types ts c.types c.children in
+      let one : length c.types ≡ 1 = grind (arith, c.fitting) in
+      absurd (omega (arith, count, one))
 
   -- that of a call of two that adds five
   two_union : (f : Shipped) (ts : Trees V O) (v : Tree V O) (types : List LogicalType)
       → shipped_added f (is_nullable_tree m (call (ours f) ts)) ≡ 5
       → tree_types m ts ≡ Some types → nat_eq (length types) 2 ≡ true → AllShipped ts
       → union_child_validities m ts ≡ v → NoHeavier (call (ours f) ts) v
-  two_union f no_trees v types five h n s e =
-      let count = count_types no_trees types h in
-      let two : length types ≡ 2 = grind (arith, n) in
-      absurd (omega (arith, count, two))
-  two_union f (tree x no_trees) v types five h n s e =
-      let count = count_types (tree x no_trees) types h in
-      let two : length types ≡ 2 = grind (arith, n) in
-      absurd (omega (arith, count, two))
-  two_union f (tree x (tree y (tree z ts))) v types five h n s e =
-      let count = count_types (tree x (tree y (tree z ts))) types h in
-      let two : length types ≡ 2 = grind (arith, n) in
-      absurd (omega (arith, count, two))
   two_union f (tree x (tree y no_trees)) v types five h n s e =
       let a = two_types (tree_type m x) (tree_type m y) types h in
       let tests = two_tests x y a.0 a.1 (is_nullable_tree m x) (is_nullable_tree m y) a.2 a.3 s.0
       s.1.0 v e in
       let less = tests.1 in
       (tests.0, omega (arith, five, less))
+  two_union f ts v types five h n s e =
+      let count = count_types ts types h in
+      let two : length types ≡ 2 = grind (arith, n) in
+      absurd (omega (arith, count, two))
 
   union_no_heavier : (f : Shipped) (ts : Trees V O) (v : Tree V O) (t : LogicalType)
       (c : IsTypedCall m (ours f) ts t) → is_strict f ≡ true

@@ -1,5 +1,5 @@
 -- A tree weighs something, and no more than five for each of its nodes.
-use Rattle.std.proofs.Common.{ℕ, ◌*◌, ◌<◌, ◌≤◌, Bool, true, false, arith}
+use Rattle.std.proofs.Common.{ℕ, ◌*◌, ◌<◌, ◌≤◌, Bool, true, arith}
 use Rattle.vortex_operators.specs.declared.operators.Operator.{Operator}
 use Rattle.vortex_operators.specs.declared.operators.Operator.TheVariants.{And, Or}
 use Rattle.vortex_interface.specs.Meaning.{Meaning}
@@ -16,15 +16,12 @@ IsSmall a = (0 < a) × (a ≤ 5)
 
 operator_small : (op : Operator) (n : Bool) → IsSmall (operator_added op n)
 operator_small And true = (omega arith, omega arith)
-operator_small And false = (omega arith, omega arith)
 operator_small Or true = (omega arith, omega arith)
-operator_small Or false = (omega arith, omega arith)
 operator_small op n = (omega arith, omega arith)
 
 shipped_small : (s : Shipped) (n : Bool) → IsSmall (shipped_added s n)
 shipped_small (Binary op) n = operator_small op n
 shipped_small Not true = (omega arith, omega arith)
-shipped_small Not false = (omega arith, omega arith)
 shipped_small s n = (omega arith, omega arith)
 
 added_small : {V O : Type 0} (f : Function V O) (n : Bool) → IsSmall (added f n)

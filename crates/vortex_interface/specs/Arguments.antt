@@ -1,7 +1,7 @@
 -- One argument, two, and three.
 use Rattle.std.specs.Prelude.{◌≡◌, ◌⊎◌, ℕ, zero, suc, ◌<◌, List, [], ◌∷◌, Option, Some, None, Bool}
 use Rattle.std.specs.Prelude.{true, false, ◌||◌, Any, slice_index_or, refl}
-use Rattle.std.proofs.Common.{sym, subst, arith, inl, inr}
+use Rattle.std.proofs.Common.{sym, ap, ◌∙◌, subst, arith, inl, inr}
 use Rattle.vortex_types.specs.LogicalTypes.{bool_type}
 use Rattle.vortex_types.specs.Values.{Value, null, truth_or_null}
 use Rattle.vortex_types.specs.Typing.{HasType}
@@ -39,6 +39,22 @@ pub or_either : (n m : Bool) → (n ≡ true) ⊎ (m ≡ true) → (n || m) ≡ 
 or_either true m h = refl
 or_either false m (inl h) = cc
 or_either false m (inr h) = h
+
+-- so what is null of null is null of arguments of which one is
+pub null_of_one : (f : Value → Value) → f null ≡ null → (vs : List Value) → Any (λ v. v ≡ null) vs
+    → of_one f vs ≡ null
+null_of_one f e (v ∷ []) a = ap f (only (λ w. w ≡ null) v a) ∙ e
+null_of_one f e vs a = refl
+
+module _ (f : Value → Value → Value) (left : (w : Value) → f null w ≡ null)
+    (right : (v : Value) → f v null ≡ null) where
+  pub null_of_either : (v w : Value) → (v ≡ null) ⊎ (w ≡ null) → f v w ≡ null
+  null_of_either v w (inl p) = ap (λ x. f x w) p ∙ left w
+  null_of_either v w (inr q) = ap (f v) q ∙ right v
+
+  pub null_of_two : (vs : List Value) → Any (λ v. v ≡ null) vs → of_two f vs ≡ null
+  null_of_two (v ∷ w ∷ []) a = null_of_either v w (either_of (λ x. x ≡ null) v w a)
+  null_of_two vs a = refl
 
 -- a truth value or null is a value of Bool, nullable where null is allowed
 pub has_bool : (n : Bool) (a : Option Bool) → Allows n a → HasType (bool_type n) (truth_or_null a)

@@ -8,13 +8,11 @@ use Rattle.std.proofs.lemmas.Int.{ints}
 use Rattle.vortex_checked.specs.Exact.{is_outside}
 use Rattle.vortex_types.specs.declared.dtype.PType.{PType}
 use Rattle.vortex_errors.specs.declared.error.NumericOperator.{NumericOperator}
-use Rattle.vortex_types.specs.LogicalTypes.{LogicalType, null_type, bool_type, integer_type}
-use Rattle.vortex_types.specs.LogicalTypes.{text_type, bytes_type, struct_type, list_type}
-use Rattle.vortex_types.specs.LogicalTypes.{fixed_size_list_type, map_type, is_nullable}
+use Rattle.vortex_types.specs.LogicalTypes.{LogicalType, integer_type, is_nullable}
 use Rattle.vortex_types.specs.LogicalTypes.{without_nullability}
 use Rattle.vortex_types.specs.TypeEquality.{ptype_eq, ptype_yes}
 use Rattle.vortex_types.specs.Typing.{HasType, least_of, greatest_of}
-use Rattle.vortex_types.specs.Values.{Value, null, truth, number, text, bytes, list}
+use Rattle.vortex_types.specs.Values.{Value, null, number}
 use Rattle.vortex_operators.specs.Arithmetic.{exact_result, held, arithmetic_value, integer_of_both}
 use Rattle.vortex_interface.specs.Outcomes.{Outcome, gives, faults, Fault, arithmetic, GivesType}
 use Rattle.vortex_interface.specs.Outcomes.{GivesNull}
@@ -69,15 +67,9 @@ pair_typed : (o : NumericOperator) (p : PType) (n m : Bool) (v w : Value)
     → GivesType (integer_type p (n || m)) (value_or_fault o (arithmetic_value o p v w))
 pair_typed o p n m (number a) (number b) h k = held_typed o p (n || m) (exact_result o a b)
 pair_typed o p n m (number a) null h k = or_either n m (inr k)
-pair_typed o p n m (number a) (truth b) h k = absurd k
-pair_typed o p n m (number a) (text b) h k = absurd k
-pair_typed o p n m (number a) (bytes b) h k = absurd k
-pair_typed o p n m (number a) (list b) h k = absurd k
+pair_typed o p n m (number a) w h k = absurd k
 pair_typed o p n m null w h k = or_either n m (inl h)
-pair_typed o p n m (truth a) w h k = absurd h
-pair_typed o p n m (text a) w h k = absurd h
-pair_typed o p n m (bytes a) w h k = absurd h
-pair_typed o p n m (list a) w h k = absurd h
+pair_typed o p n m v w h k = absurd h
 
 module _ (o : NumericOperator) where
   typed_by : (p : PType) (a : LogicalType) (n m : Bool) (v w : Value)
@@ -102,46 +94,21 @@ module _ (o : NumericOperator) where
       → arithmetic_type ts ≡ Some t → HaveTypes ts vs → GivesType t (arithmetic_means o ts vs)
   arithmetic_typed (integer_type p n ∷ integer_type q m ∷ []) a (v ∷ w ∷ []) e h =
       of_integers p q n m (ptype_eq p q) a v w refl e h.0 h.1.0
-  arithmetic_typed (integer_type p n ∷ integer_type q m ∷ []) a [] e h = absurd h
-  arithmetic_typed (integer_type p n ∷ integer_type q m ∷ []) a (v ∷ []) e h = absurd h.1
-  arithmetic_typed (integer_type p n ∷ integer_type q m ∷ []) a (v ∷ w ∷ x ∷ vs) e h = absurd h.1.1
-  arithmetic_typed (t ∷ u ∷ []) a vs e h = cc
-  arithmetic_typed [] a vs e h = cc
-  arithmetic_typed (t ∷ []) a vs e h = cc
-  arithmetic_typed (t ∷ u ∷ x ∷ ts) a vs e h = cc
+  arithmetic_typed ts a vs e h = grind arith
 
 integers_alike : (t u : LogicalType)
     → integer_of_both t u ≡ integer_of_both (without_nullability t) (without_nullability u)
 integers_alike (integer_type p n) (integer_type q m) = refl
-integers_alike (integer_type p n) null_type = refl
-integers_alike (integer_type p n) (bool_type m) = refl
-integers_alike (integer_type p n) (text_type m) = refl
-integers_alike (integer_type p n) (bytes_type m) = refl
-integers_alike (integer_type p n) (struct_type fs m) = refl
-integers_alike (integer_type p n) (list_type u m) = refl
-integers_alike (integer_type p n) (fixed_size_list_type u s m) = refl
-integers_alike (integer_type p n) (map_type k u m) = refl
-integers_alike null_type u = refl
-integers_alike (bool_type n) u = refl
-integers_alike (text_type n) u = refl
-integers_alike (bytes_type n) u = refl
-integers_alike (struct_type fs n) u = refl
-integers_alike (list_type t n) u = refl
-integers_alike (fixed_size_list_type t s n) u = refl
-integers_alike (map_type k t n) u = refl
+integers_alike t u = refl
 
 list_alike : (ts : List LogicalType) → integer_of ts ≡ integer_of (map without_nullability ts)
-list_alike [] = refl
-list_alike (t ∷ []) = refl
 list_alike (t ∷ u ∷ []) = integers_alike t u
-list_alike (t ∷ u ∷ x ∷ ts) = refl
+list_alike ts = refl
 
 means_alike : (o : NumericOperator) (ts us : List LogicalType) (vs : List Value)
     → integer_of ts ≡ integer_of us → arithmetic_means o ts vs ≡ arithmetic_means o us vs
-means_alike o ts us [] e = refl
-means_alike o ts us (v ∷ []) e = refl
 means_alike o ts us (v ∷ w ∷ []) e = ap (λ (p : Option PType). arithmetic_of o p v w) e
-means_alike o ts us (v ∷ w ∷ x ∷ vs) e = refl
+means_alike o ts us vs e = refl
 
 -- it is the same for argument types that differ in nullability alone
 pub arithmetic_alike : (o : NumericOperator) (ts us : List LogicalType) (vs : List Value)
@@ -162,17 +129,11 @@ arithmetic_nullable (t ∷ u ∷ []) a e h = by (integer_of_both t u) e
         let is : integer_type p (is_nullable t || is_nullable u) ≡ a = cc in
         let one = either_of (λ x. is_nullable x ≡ true) t u h in
         ap is_nullable (sym is) ∙ or_either (is_nullable t) (is_nullable u) one
-arithmetic_nullable [] a e h = cc
-arithmetic_nullable (t ∷ []) a e h = cc
-arithmetic_nullable (t ∷ u ∷ x ∷ ts) a e h = cc
+arithmetic_nullable ts a e h = cc
 
 null_right : (o : NumericOperator) (p : PType) (v : Value) → arithmetic_value o p v null ≡ Some null
 null_right o p null = refl
-null_right o p (truth a) = refl
-null_right o p (number a) = refl
-null_right o p (text a) = refl
-null_right o p (bytes a) = refl
-null_right o p (list a) = refl
+null_right o p v = refl
 
 gives_null : (o : NumericOperator) (p : Option PType) (v w : Value) → (v ≡ null) ⊎ (w ≡ null)
     → GivesNull (arithmetic_of o p v w)
@@ -188,9 +149,7 @@ pub arithmetic_null : (o : NumericOperator) (ts : List LogicalType) (vs : List V
     → Any (λ v. v ≡ null) vs → GivesNull (arithmetic_means o ts vs)
 arithmetic_null o ts (v ∷ w ∷ []) n = gives_null o (integer_of ts) v w
     (either_of (λ x. x ≡ null) v w n)
-arithmetic_null o ts [] n = refl
-arithmetic_null o ts (v ∷ []) n = refl
-arithmetic_null o ts (v ∷ w ∷ x ∷ vs) n = refl
+arithmetic_null o ts vs n = refl
 
 own_fault : (o : NumericOperator) (r : Option Value) (x : Fault)
     → value_or_fault o r ≡ faults x → x ≡ arithmetic o
@@ -206,6 +165,4 @@ fault_of o (Some p) v w x e = own_fault o (arithmetic_value o p v w) x e
 pub arithmetic_fault : (o : NumericOperator) (ts : List LogicalType) (vs : List Value) (x : Fault)
     → arithmetic_means o ts vs ≡ faults x → x ≡ arithmetic o
 arithmetic_fault o ts (v ∷ w ∷ []) x e = fault_of o (integer_of ts) v w x e
-arithmetic_fault o ts [] x e = cc
-arithmetic_fault o ts (v ∷ []) x e = cc
-arithmetic_fault o ts (v ∷ w ∷ y ∷ vs) x e = cc
+arithmetic_fault o ts vs x e = cc

@@ -111,12 +111,10 @@ shipped_numbered (suc (suc (suc (suc (suc (suc f)))))) n = Like (like_numbered n
 
 pub shipped_back : (s : Shipped) → shipped_numbered (shipped_number s).0 (shipped_number s).1 ≡ s
 shipped_back (Binary op) = ap Binary (operator_back op)
-shipped_back Not = refl
 shipped_back (NullTest false) = refl
-shipped_back (NullTest true) = refl
-shipped_back Cast = refl
 shipped_back (Between options) = ap Between (between_back options)
 shipped_back (Like options) = ap Like (like_back options)
+shipped_back s = refl
 
 -- What follows is read off the list.
 

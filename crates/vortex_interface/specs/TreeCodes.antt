@@ -82,10 +82,7 @@ module _ {V O : Type 0} where
 
   pub mark_back : (k : Mark V O) → mark_from (mark_to k) ≡ k
   mark_back (leaf_mark l) = refl
-  mark_back (constant_mark s) = refl
-  mark_back (call_mark f) = refl
-  mark_back end_mark = refl
-  mark_back more_mark = refl
+  mark_back k = refl
 
   abbrev pub coded_mark : Coded V → Coded O → Coded (Mark V O)
   coded_mark v o =

@@ -2,7 +2,7 @@
 use Rattle.std.specs.Prelude.{◌≡◌, ◌||◌, ◌&&◌, ℕ, zero, suc, List, [], ◌∷◌, Option, Some, None}
 use Rattle.std.specs.Prelude.{◌++◌, Bool, true, false, codes, if◌then◌else◌, refl}
 use Rattle.std.specs.Str.{bytes_eq}
-use Rattle.std.proofs.Common.{subst, cond}
+use Rattle.std.proofs.Common.{subst, cond, arith}
 use Rattle.vortex_errors.specs.declared.error.MismatchPlace.{MismatchPlace}
 use Rattle.vortex_errors.specs.declared.error.MismatchPlace.TheVariants as place
 use Rattle.vortex_types.specs.LogicalTypes.{LogicalType, bool_type, is_nullable}
@@ -131,14 +131,7 @@ between_typed options (t ∷ lower ∷ upper ∷ []) a (v ∷ low ∷ high ∷ [
         let bool = between_has_bool options t lower upper v low high h.0 h.1.0 h.1.1.0 in
         subst (λ (x : LogicalType). HasType x (between_value options low v high)) is bool
     by false g = cc
-between_typed options (t ∷ lower ∷ upper ∷ []) a [] e h = absurd h
-between_typed options (t ∷ lower ∷ upper ∷ []) a (v ∷ []) e h = absurd h.1
-between_typed options (t ∷ lower ∷ upper ∷ []) a (v ∷ w ∷ []) e h = absurd h.1.1
-between_typed options (t ∷ lower ∷ upper ∷ []) a (v ∷ w ∷ x ∷ y ∷ vs) e h = absurd h.1.1.1
-between_typed options [] a vs e h = cc
-between_typed options (t ∷ []) a vs e h = cc
-between_typed options (t ∷ u ∷ []) a vs e h = cc
-between_typed options (t ∷ u ∷ w ∷ x ∷ ts) a vs e h = cc
+between_typed options ts a vs e h = grind arith
 
 pub between_lawful : (options : BetweenOptions) → LawfulRow (between_function options)
 between_lawful options = record {
@@ -169,9 +162,8 @@ between_numbered n = between_options Strict Strict
 bounds_back : (lower upper : StrictComparison)
     → between_numbered (bounds_number lower upper) ≡ between_options lower upper
 bounds_back NonStrict NonStrict = refl
-bounds_back Strict NonStrict = refl
-bounds_back NonStrict Strict = refl
 bounds_back Strict Strict = refl
+bounds_back lower upper = refl
 
 pub between_back : (options : BetweenOptions) → between_numbered (between_number options) ≡ options
 between_back options = bounds_back options.lower_strict options.upper_strict

@@ -1,8 +1,8 @@
 -- The operators of two operands: Kleene's And and Or, the comparisons by the order of values, and
 -- exact arithmetic.
-use Rattle.std.specs.Prelude.{◌≡◌, ◌⊎◌, ℕ, zero, suc, List, [], ◌∷◌, Option, Some, None, Bool, true}
-use Rattle.std.specs.Prelude.{◌++◌, false, ◌||◌, not, codes, Any, if◌then◌else◌, refl}
-use Rattle.std.proofs.Common.{sym, ap, ◌∙◌, subst, cond, inl, inr}
+use Rattle.std.specs.Prelude.{◌≡◌, ℕ, zero, suc, List, [], ◌∷◌, Option, Some, None, Bool, true}
+use Rattle.std.specs.Prelude.{◌++◌, false, ◌||◌, not, codes, Any, if◌then◌else◌, slice_index_or, refl}
+use Rattle.std.proofs.Common.{sym, ap, ◌∙◌, subst, cond, arith}
 use Rattle.vortex_errors.specs.declared.error.MismatchPlace.{MismatchPlace}
 use Rattle.vortex_errors.specs.declared.error.MismatchPlace.TheVariants as place
 use Rattle.vortex_errors.specs.declared.error.NumericOperator.{NumericOperator}
@@ -20,6 +20,7 @@ use Rattle.vortex_operators.specs.declared.operators.Operator.TheVariants.{Mul, 
 use Rattle.vortex_operators.specs.declared.operators.CompareOperator.{CompareOperator}
 use Rattle.vortex_operators.specs.declared.operators.CompareOperator.TheVariants as compare
 use Rattle.vortex_operators.specs.Operators.{is_arithmetic, is_boolean, text_of, operator_named}
+use Rattle.vortex_operators.specs.Operators.{all_operators}
 use Rattle.vortex_operators.specs.Kleene.{kleene}
 use Rattle.vortex_operators.specs.OperatorValues.{boolean_value, comparison_value, comparison_type}
 use Rattle.vortex_operators.specs.OperatorValues.{holds}
@@ -32,7 +33,7 @@ use Rattle.vortex_interface.specs.Meaning.{HaveTypes, AreAlike}
 use Rattle.vortex_interface.specs.Arithmetic.{arithmetic_type, arithmetic_means, arithmetic_typed}
 use Rattle.vortex_interface.specs.Arithmetic.{arithmetic_alike, arithmetic_nullable}
 use Rattle.vortex_interface.specs.Arithmetic.{arithmetic_null, arithmetic_fault}
-use Rattle.vortex_interface.specs.Arguments.{of_two, either_of, or_either, has_bool}
+use Rattle.vortex_interface.specs.Arguments.{of_two, either_of, or_either, null_of_two, has_bool}
 use Rattle.vortex_interface.specs.RowFunction.{RowFunction, LawfulRow}
 
 abbrev pub binary_id : List ℕ
@@ -116,10 +117,7 @@ both_typed op b (bool_type n ∷ bool_type m ∷ []) t (v ∷ w ∷ []) e h =
     let here = kleene_allowed op n m a c b (allowed n v h.0) (allowed m w h.1.0) in
     let bool = has_bool (n || m) (kleene op a c) here in
     subst (λ (u : LogicalType). HasType u (boolean_value op v w)) is bool
-both_typed op b (bool_type n ∷ bool_type m ∷ []) t [] e h = absurd h
-both_typed op b (bool_type n ∷ bool_type m ∷ []) t (v ∷ []) e h = absurd h.1
-both_typed op b (bool_type n ∷ bool_type m ∷ []) t (v ∷ w ∷ x ∷ vs) e h = absurd h.1.1
-both_typed op b ts t vs e h = cc
+both_typed op b ts t vs e h = grind arith
 
 typed_unless_null : (n p b : Bool) → (n ≡ false → p ≡ false)
     → HasType (bool_type n) (cond p null (truth b))
@@ -156,27 +154,22 @@ comparison_typed op (t ∷ u ∷ []) a (v ∷ w ∷ []) e h = by (alike_types t 
         let bool = comparison_has_bool op t u v w h.0 h.1.0 in
         subst (λ (x : LogicalType). HasType x (comparison_value op v w)) is bool
     by false g = cc
-comparison_typed op (t ∷ u ∷ []) a [] e h = absurd h
-comparison_typed op (t ∷ u ∷ []) a (v ∷ []) e h = absurd h.1
-comparison_typed op (t ∷ u ∷ []) a (v ∷ w ∷ x ∷ vs) e h = absurd h.1.1
-comparison_typed op [] a vs e h = cc
-comparison_typed op (t ∷ []) a vs e h = cc
-comparison_typed op (t ∷ u ∷ x ∷ ts) a vs e h = cc
+comparison_typed op ts a vs e h = grind arith
 
 operator_typed : (op : Operator) (ts : List LogicalType) (t : LogicalType) (vs : List Value)
     → operator_type op ts ≡ Some t → HaveTypes ts vs → GivesType t (operator_means op ts vs)
 operator_typed And ts t vs e h = both_typed And refl ts t vs e h
 operator_typed Or ts t vs e h = both_typed Or refl ts t vs e h
+operator_typed Add ts t vs e h = arithmetic_typed numeric.Add ts t vs e h
+operator_typed Sub ts t vs e h = arithmetic_typed numeric.Sub ts t vs e h
+operator_typed Mul ts t vs e h = arithmetic_typed numeric.Mul ts t vs e h
+operator_typed Div ts t vs e h = arithmetic_typed numeric.Div ts t vs e h
 operator_typed Eq ts t vs e h = comparison_typed compare.Eq ts t vs e h
 operator_typed NotEq ts t vs e h = comparison_typed compare.NotEq ts t vs e h
 operator_typed Gt ts t vs e h = comparison_typed compare.Gt ts t vs e h
 operator_typed Gte ts t vs e h = comparison_typed compare.Gte ts t vs e h
 operator_typed Lt ts t vs e h = comparison_typed compare.Lt ts t vs e h
 operator_typed Lte ts t vs e h = comparison_typed compare.Lte ts t vs e h
-operator_typed Add ts t vs e h = arithmetic_typed numeric.Add ts t vs e h
-operator_typed Sub ts t vs e h = arithmetic_typed numeric.Sub ts t vs e h
-operator_typed Mul ts t vs e h = arithmetic_typed numeric.Mul ts t vs e h
-operator_typed Div ts t vs e h = arithmetic_typed numeric.Div ts t vs e h
 
 comparison_nullable : (ts : List LogicalType) (t : LogicalType)
     → compared_type ts ≡ Some t → Any (λ a. is_nullable a ≡ true) ts → is_nullable t ≡ true
@@ -188,58 +181,41 @@ comparison_nullable (t ∷ u ∷ []) a e h = by (alike_types t u) e
         let one = either_of (λ x. is_nullable x ≡ true) t u h in
         ap is_nullable (sym is) ∙ or_either (is_nullable t) (is_nullable u) one
     by false g = cc
-comparison_nullable [] a e h = cc
-comparison_nullable (t ∷ []) a e h = cc
-comparison_nullable (t ∷ u ∷ x ∷ ts) a e h = cc
+comparison_nullable ts a e h = cc
 
-comparison_null : (op : CompareOperator) (ts : List LogicalType) (t : LogicalType) (vs : List Value)
-    → compared_type ts ≡ Some t → HaveTypes ts vs → Any (λ v. v ≡ null) vs
+pub null_compared : (op : CompareOperator) (v : Value) → comparison_value op v null ≡ null
+null_compared op null = refl
+null_compared op v = refl
+
+comparison_null : (op : CompareOperator) (vs : List Value) → Any (λ v. v ≡ null) vs
     → of_two (comparison_value op) vs ≡ null
-comparison_null op (t ∷ u ∷ []) a (v ∷ w ∷ []) e h n = by (either_of (λ x. x ≡ null) v w n)
-  where
-    by : (v ≡ null) ⊎ (w ≡ null) → comparison_value op v w ≡ null
-    by (inl p) = λ i. comparison_value op (p i) w
-    by (inr q) =
-        let null_here = or_either (is_null v) (is_null w) (inr (ap is_null q)) in
-        ap (λ b. cond b null (truth (holds op (compare_values v w)))) null_here
-comparison_null op (t ∷ u ∷ []) a [] e h n = absurd h
-comparison_null op (t ∷ u ∷ []) a (v ∷ []) e h n = absurd h.1
-comparison_null op (t ∷ u ∷ []) a (v ∷ w ∷ x ∷ vs) e h n = absurd h.1.1
-comparison_null op [] a vs e h n = cc
-comparison_null op (t ∷ []) a vs e h n = cc
-comparison_null op (t ∷ u ∷ x ∷ ts) a vs e h n = cc
+comparison_null op = null_of_two (comparison_value op) (λ w. refl) (null_compared op)
 
 operator_nullable : (op : Operator) (ts : List LogicalType) (t : LogicalType)
     → not (is_boolean op) ≡ true → operator_type op ts ≡ Some t
     → Any (λ a. is_nullable a ≡ true) ts → is_nullable t ≡ true
-operator_nullable Eq ts t s e a = comparison_nullable ts t e a
-operator_nullable NotEq ts t s e a = comparison_nullable ts t e a
-operator_nullable Gt ts t s e a = comparison_nullable ts t e a
-operator_nullable Gte ts t s e a = comparison_nullable ts t e a
-operator_nullable Lt ts t s e a = comparison_nullable ts t e a
-operator_nullable Lte ts t s e a = comparison_nullable ts t e a
+operator_nullable And ts t s e a = cc
+operator_nullable Or ts t s e a = cc
 operator_nullable Add ts t s e a = arithmetic_nullable ts t e a
 operator_nullable Sub ts t s e a = arithmetic_nullable ts t e a
 operator_nullable Mul ts t s e a = arithmetic_nullable ts t e a
 operator_nullable Div ts t s e a = arithmetic_nullable ts t e a
-operator_nullable And ts t s e a = cc
-operator_nullable Or ts t s e a = cc
+operator_nullable op ts t s e a = comparison_nullable ts t e a
 
-operator_null : (op : Operator) (ts : List LogicalType) (t : LogicalType) (vs : List Value)
-    → not (is_boolean op) ≡ true → operator_type op ts ≡ Some t → HaveTypes ts vs
-    → Any (λ v. v ≡ null) vs → GivesNull (operator_means op ts vs)
-operator_null Eq ts t vs s e h a = comparison_null compare.Eq ts t vs e h a
-operator_null NotEq ts t vs s e h a = comparison_null compare.NotEq ts t vs e h a
-operator_null Gt ts t vs s e h a = comparison_null compare.Gt ts t vs e h a
-operator_null Gte ts t vs s e h a = comparison_null compare.Gte ts t vs e h a
-operator_null Lt ts t vs s e h a = comparison_null compare.Lt ts t vs e h a
-operator_null Lte ts t vs s e h a = comparison_null compare.Lte ts t vs e h a
-operator_null Add ts t vs s e h a = arithmetic_null numeric.Add ts vs a
-operator_null Sub ts t vs s e h a = arithmetic_null numeric.Sub ts vs a
-operator_null Mul ts t vs s e h a = arithmetic_null numeric.Mul ts vs a
-operator_null Div ts t vs s e h a = arithmetic_null numeric.Div ts vs a
-operator_null And ts t vs s e h a = cc
-operator_null Or ts t vs s e h a = cc
+operator_null : (op : Operator) (ts : List LogicalType) (vs : List Value)
+    → not (is_boolean op) ≡ true → Any (λ v. v ≡ null) vs → GivesNull (operator_means op ts vs)
+operator_null And ts vs s a = cc
+operator_null Or ts vs s a = cc
+operator_null Add ts vs s a = arithmetic_null numeric.Add ts vs a
+operator_null Sub ts vs s a = arithmetic_null numeric.Sub ts vs a
+operator_null Mul ts vs s a = arithmetic_null numeric.Mul ts vs a
+operator_null Div ts vs s a = arithmetic_null numeric.Div ts vs a
+operator_null Eq ts vs s a = comparison_null compare.Eq vs a
+operator_null NotEq ts vs s a = comparison_null compare.NotEq vs a
+operator_null Gt ts vs s a = comparison_null compare.Gt vs a
+operator_null Gte ts vs s a = comparison_null compare.Gte vs a
+operator_null Lt ts vs s a = comparison_null compare.Lt vs a
+operator_null Lte ts vs s a = comparison_null compare.Lte vs a
 
 alike_by : (o : Option NumericOperator) (op : Operator) (ts us : List LogicalType) (vs : List Value)
     → AreAlike ts us → means_by o op ts vs ≡ means_by o op us vs
@@ -259,21 +235,14 @@ operator_gives Add ts vs h = cc
 operator_gives Sub ts vs h = cc
 operator_gives Mul ts vs h = cc
 operator_gives Div ts vs h = cc
-operator_gives Eq ts vs h = tt
-operator_gives NotEq ts vs h = tt
-operator_gives Gt ts vs h = tt
-operator_gives Gte ts vs h = tt
-operator_gives Lt ts vs h = tt
-operator_gives Lte ts vs h = tt
-operator_gives And ts vs h = tt
-operator_gives Or ts vs h = tt
+operator_gives op ts vs h = tt
 
 pub operator_lawful : (op : Operator) → LawfulRow (operator_function op)
 operator_lawful op = record {
   typed = operator_typed op;
   alike = λ ts us t u vs e g a h k. alike_by (numeric_operator_of op) op ts us vs a;
   strict_type = λ ts t s e a. operator_nullable op ts t s e a;
-  strict_value = λ ts t vs s e h a. operator_null op ts t vs s e h a;
+  strict_value = λ ts t vs s e h a. operator_null op ts vs s a;
   never_faults = λ ts t vs s e h. operator_gives op ts vs s;
   one_fault = λ ts us vs ws x y e g. fault_by (numeric_operator_of op) op ts us vs ws x y e g;
 }
@@ -299,29 +268,8 @@ operator_number Mul = 10
 operator_number Div = 11
 
 abbrev pub operator_numbered : ℕ → Operator
-operator_numbered zero = Eq
-operator_numbered (suc zero) = NotEq
-operator_numbered (suc (suc zero)) = Gt
-operator_numbered (suc (suc (suc zero))) = Gte
-operator_numbered (suc (suc (suc (suc zero)))) = Lt
-operator_numbered (suc (suc (suc (suc (suc zero))))) = Lte
-operator_numbered (suc (suc (suc (suc (suc (suc zero)))))) = And
-operator_numbered (suc (suc (suc (suc (suc (suc (suc zero))))))) = Or
-operator_numbered (suc (suc (suc (suc (suc (suc (suc (suc zero)))))))) = Add
-operator_numbered (suc (suc (suc (suc (suc (suc (suc (suc (suc zero))))))))) = Sub
-operator_numbered (suc (suc (suc (suc (suc (suc (suc (suc (suc (suc zero)))))))))) = Mul
-operator_numbered n = Div
+operator_numbered n = slice_index_or all_operators n Div
 
 pub operator_back : (o : Operator) → operator_numbered (operator_number o) ≡ o
 operator_back Eq = refl
-operator_back NotEq = refl
-operator_back Gt = refl
-operator_back Gte = refl
-operator_back Lt = refl
-operator_back Lte = refl
-operator_back And = refl
-operator_back Or = refl
-operator_back Add = refl
-operator_back Sub = refl
-operator_back Mul = refl
-operator_back Div = refl
+operator_back o = refl

@@ -1,15 +1,15 @@
 -- Cast of a Bool to the nullable one; each value is kept.
 use Rattle.std.specs.Prelude.{◌≡◌, ℕ, List, [], ◌∷◌, Option, Some, None, Bool, true, false}
-use Rattle.std.specs.Prelude.{codes, Any, refl}
+use Rattle.std.specs.Prelude.{codes, refl}
 use Rattle.std.specs.Str.{bytes_eq}
-use Rattle.std.proofs.Common.{sym, ap, subst}
+use Rattle.std.proofs.Common.{sym, ap, subst, arith}
 use Rattle.vortex_errors.specs.declared.error.MismatchPlace.TheVariants as place
 use Rattle.vortex_types.specs.LogicalTypes.{LogicalType, bool_type, is_nullable}
-use Rattle.vortex_types.specs.Values.{Value, null, truth, number, text, bytes, list}
+use Rattle.vortex_types.specs.Values.{Value, null, truth}
 use Rattle.vortex_types.specs.Typing.{HasType}
 use Rattle.vortex_interface.specs.Outcomes.{gives}
 use Rattle.vortex_interface.specs.Meaning.{HaveTypes}
-use Rattle.vortex_interface.specs.Arguments.{of_one, only}
+use Rattle.vortex_interface.specs.Arguments.{of_one, null_of_one}
 use Rattle.vortex_interface.specs.CallTexts.{unary_before, call_end}
 use Rattle.vortex_interface.specs.RowFunction.{RowFunction, LawfulRow}
 
@@ -49,38 +49,26 @@ is_cast_word ws = false
 widened : (n : Bool) (v : Value) → HasType (bool_type n) v → HasType (bool_type true) v
 widened n null h = refl
 widened n (truth b) h = tt
-widened n (number z) h = absurd h
-widened n (text bs) h = absurd h
-widened n (bytes bs) h = absurd h
-widened n (list vs) h = absurd h
+widened n v h = absurd h
 
 cast_typed : (ts : List LogicalType) (t : LogicalType) (vs : List Value)
     → cast_type ts ≡ Some t → HaveTypes ts vs → HasType t (of_one (λ v. v) vs)
 cast_typed (bool_type n ∷ []) t (v ∷ []) e h =
     let is : bool_type true ≡ t = cc in
     subst (λ (u : LogicalType). HasType u v) is (widened n v h.0)
-cast_typed (bool_type n ∷ []) t [] e h = absurd h
-cast_typed (bool_type n ∷ []) t (v ∷ w ∷ vs) e h = absurd h.1
-cast_typed ts t vs e h = cc
+cast_typed ts t vs e h = grind arith
 
 cast_nullable : (ts : List LogicalType) (t : LogicalType) → cast_type ts ≡ Some t
     → is_nullable t ≡ true
 cast_nullable (bool_type n ∷ []) t e = let is : bool_type true ≡ t = cc in ap is_nullable (sym is)
 cast_nullable ts t e = cc
 
-cast_null : (ts : List LogicalType) (t : LogicalType) (vs : List Value)
-    → cast_type ts ≡ Some t → HaveTypes ts vs → Any (λ v. v ≡ null) vs → of_one (λ v. v) vs ≡ null
-cast_null (bool_type n ∷ []) t (v ∷ []) e h a = only (λ w. w ≡ null) v a
-cast_null (bool_type n ∷ []) t [] e h a = absurd h
-cast_null (bool_type n ∷ []) t (v ∷ w ∷ vs) e h a = absurd h.1
-cast_null ts t vs e h a = cc
-
 pub cast_lawful : LawfulRow cast_function
 cast_lawful = record {
   typed = cast_typed;
   alike = λ ts us t u vs e g a h k. refl;
   strict_type = λ ts t s e a. cast_nullable ts t e;
-  strict_value = λ ts t vs s e h a. cast_null ts t vs e h a;
+  strict_value = λ ts t vs s e h a. null_of_one (λ v. v) refl vs a;
   never_faults = λ ts t vs s e h. tt;
   one_fault = λ ts us vs ws x y e g. cc;
 }

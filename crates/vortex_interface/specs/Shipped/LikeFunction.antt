@@ -1,20 +1,20 @@
 -- SQL's LIKE of a text and a pattern, and ILIKE past case; either turned over where negated.
-use Rattle.std.specs.Prelude.{◌≡◌, ◌⊎◌, ℕ, zero, suc, List, [], ◌∷◌, Option, Some, None, Bool, true}
+use Rattle.std.specs.Prelude.{◌≡◌, ℕ, zero, suc, List, [], ◌∷◌, Option, Some, None, Bool, true}
 use Rattle.std.specs.Prelude.{◌++◌, false, ◌||◌, ◌==◌, codes, Any, if◌then◌else◌, refl}
 use Rattle.std.specs.Prelude.{encode_utf8}
 use Rattle.std.specs.Str.{bytes_eq}
-use Rattle.std.proofs.Common.{sym, ap, ◌∙◌, subst, inl, inr}
+use Rattle.std.proofs.Common.{sym, ap, ◌∙◌, subst, arith, inl, inr}
 use Rattle.vortex_errors.specs.declared.error.MismatchPlace.{MismatchPlace}
 use Rattle.vortex_errors.specs.declared.error.MismatchPlace.TheVariants as place
 use Rattle.vortex_types.specs.LogicalTypes.{LogicalType, bool_type, text_type, is_nullable}
-use Rattle.vortex_types.specs.Values.{Value, null, truth, number, text, bytes, list}
+use Rattle.vortex_types.specs.Values.{Value, null, text}
 use Rattle.vortex_types.specs.Typing.{HasType}
 use Rattle.vortex_like.specs.declared.options.LikeOptions.{LikeOptions}
 use Rattle.vortex_like.specs.Tokens.{backslash}
 use Rattle.vortex_like.specs.Patterns.{like_value}
 use Rattle.vortex_interface.specs.Outcomes.{gives}
 use Rattle.vortex_interface.specs.Meaning.{HaveTypes}
-use Rattle.vortex_interface.specs.Arguments.{of_two, either_of, or_either}
+use Rattle.vortex_interface.specs.Arguments.{of_two, either_of, or_either, null_of_two}
 use Rattle.vortex_interface.specs.RowFunction.{RowFunction, LawfulRow}
 
 abbrev pub like_id : List ℕ
@@ -97,15 +97,9 @@ module _ (options : LikeOptions) where
       → HasType (bool_type (n || m)) (like_value options v w)
   pair_typed n m (text bs) (text p) h k = tt
   pair_typed n m (text bs) null h k = or_either n m (inr k)
-  pair_typed n m (text bs) (truth b) h k = absurd k
-  pair_typed n m (text bs) (number z) h k = absurd k
-  pair_typed n m (text bs) (bytes p) h k = absurd k
-  pair_typed n m (text bs) (list vs) h k = absurd k
+  pair_typed n m (text bs) w h k = absurd k
   pair_typed n m null w h k = or_either n m (inl h)
-  pair_typed n m (truth b) w h k = absurd h
-  pair_typed n m (number z) w h k = absurd h
-  pair_typed n m (bytes bs) w h k = absurd h
-  pair_typed n m (list vs) w h k = absurd h
+  pair_typed n m v w h k = absurd h
 
   like_typed : (ts : List LogicalType) (t : LogicalType) (vs : List Value)
       → like_type ts ≡ Some t → HaveTypes ts vs → HasType t (of_two (like_value options) vs)
@@ -113,30 +107,11 @@ module _ (options : LikeOptions) where
       let is : bool_type (n || m) ≡ t = cc in
       subst (λ (u : LogicalType). HasType u (like_value options v w)) is
       (pair_typed n m v w h.0 h.1.0)
-  like_typed (text_type n ∷ text_type m ∷ []) t [] e h = absurd h
-  like_typed (text_type n ∷ text_type m ∷ []) t (v ∷ []) e h = absurd h.1
-  like_typed (text_type n ∷ text_type m ∷ []) t (v ∷ w ∷ x ∷ vs) e h = absurd h.1.1
-  like_typed ts t vs e h = cc
+  like_typed ts t vs e h = grind arith
 
   null_pattern : (v : Value) → like_value options v null ≡ null
   null_pattern null = refl
-  null_pattern (truth b) = refl
-  null_pattern (number z) = refl
-  null_pattern (text bs) = refl
-  null_pattern (bytes bs) = refl
-  null_pattern (list vs) = refl
-
-  pair_null : (v w : Value) → (v ≡ null) ⊎ (w ≡ null) → like_value options v w ≡ null
-  pair_null v w (inl p) = ap (λ x. like_value options x w) p
-  pair_null v w (inr q) = ap (like_value options v) q ∙ null_pattern v
-
-  like_null : (ts : List LogicalType) (t : LogicalType) (vs : List Value)
-      → like_type ts ≡ Some t → HaveTypes ts vs → Any (λ v. v ≡ null) vs
-      → of_two (like_value options) vs ≡ null
-  like_null ts t (v ∷ w ∷ []) e h a = pair_null v w (either_of (λ x. x ≡ null) v w a)
-  like_null ts t [] e h a = refl
-  like_null ts t (v ∷ []) e h a = refl
-  like_null ts t (v ∷ w ∷ x ∷ vs) e h a = refl
+  null_pattern v = refl
 
 like_nullable : (ts : List LogicalType) (t : LogicalType)
     → like_type ts ≡ Some t → Any (λ a. is_nullable a ≡ true) ts → is_nullable t ≡ true
@@ -151,7 +126,8 @@ like_lawful options = record {
   typed = like_typed options;
   alike = λ ts us t u vs e g a h k. refl;
   strict_type = λ ts t s e a. like_nullable ts t e a;
-  strict_value = λ ts t vs s e h a. like_null options ts t vs e h a;
+  strict_value = λ ts t vs s e h a.
+      null_of_two (like_value options) (λ w. refl) (null_pattern options) vs a;
   never_faults = λ ts t vs s e h. tt;
   one_fault = λ ts us vs ws x y e g. cc;
 }
@@ -192,9 +168,8 @@ like_numbered (suc (suc (suc (suc n)))) = with_next_escape (like_numbered n)
 
 none_back : (n c : Bool) → like_numbered (number_by n c) ≡ like_options n c None
 none_back false false = refl
-none_back true false = refl
-none_back false true = refl
 none_back true true = refl
+none_back n c = refl
 
 some_back : (e : ℕ) (n c : Bool)
     → like_numbered (fours (suc e) (number_by n c)) ≡ like_options n c (Some e)

@@ -2,17 +2,17 @@
 use Rattle.std.specs.Prelude.{◌≡◌, ℕ, List, [], ◌∷◌, Option, Some, None, Bool, true, false}
 use Rattle.std.specs.Prelude.{codes, Any, if◌then◌else◌, refl}
 use Rattle.std.specs.Str.{bytes_eq}
-use Rattle.std.proofs.Common.{sym, ap, ◌∙◌, subst}
+use Rattle.std.proofs.Common.{sym, ap, ◌∙◌, subst, arith}
 use Rattle.vortex_errors.specs.declared.error.MismatchPlace.TheVariants as place
 use Rattle.vortex_types.specs.LogicalTypes.{LogicalType, bool_type, is_nullable}
-use Rattle.vortex_types.specs.Values.{Value, null, truth_of}
+use Rattle.vortex_types.specs.Values.{Value, truth_of}
 use Rattle.vortex_types.specs.Typing.{HasType}
 use Rattle.vortex_operators.specs.Kleene.{kleene_not}
 use Rattle.vortex_operators.specs.OperatorValues.{not_value}
 use Rattle.vortex_operators.proofs.KleeneNulls.{allowed, not_allowed}
 use Rattle.vortex_interface.specs.Outcomes.{gives}
 use Rattle.vortex_interface.specs.Meaning.{HaveTypes}
-use Rattle.vortex_interface.specs.Arguments.{of_one, only, has_bool}
+use Rattle.vortex_interface.specs.Arguments.{of_one, only, null_of_one, has_bool}
 use Rattle.vortex_interface.specs.CallTexts.{unary_before, call_end}
 use Rattle.vortex_interface.specs.RowFunction.{RowFunction, LawfulRow}
 
@@ -51,9 +51,7 @@ not_typed (bool_type n ∷ []) t (v ∷ []) e h =
     let bool =
     has_bool n (kleene_not (truth_of v)) (not_allowed n (truth_of v) (allowed n v h.0)) in
     subst (λ (u : LogicalType). HasType u (not_value v)) is bool
-not_typed (bool_type n ∷ []) t [] e h = absurd h
-not_typed (bool_type n ∷ []) t (v ∷ w ∷ vs) e h = absurd h.1
-not_typed ts t vs e h = cc
+not_typed ts t vs e h = grind arith
 
 not_nullable : (ts : List LogicalType) (t : LogicalType)
     → not_type ts ≡ Some t → Any (λ a. is_nullable a ≡ true) ts → is_nullable t ≡ true
@@ -62,19 +60,12 @@ not_nullable (bool_type n ∷ []) t e a =
     ap is_nullable (sym is) ∙ only (λ a. is_nullable a ≡ true) (bool_type n) a
 not_nullable ts t e a = cc
 
-not_null : (ts : List LogicalType) (t : LogicalType) (vs : List Value)
-    → not_type ts ≡ Some t → HaveTypes ts vs → Any (λ v. v ≡ null) vs → of_one not_value vs ≡ null
-not_null (bool_type n ∷ []) t (v ∷ []) e h a = ap not_value (only (λ w. w ≡ null) v a)
-not_null (bool_type n ∷ []) t [] e h a = absurd h
-not_null (bool_type n ∷ []) t (v ∷ w ∷ vs) e h a = absurd h.1
-not_null ts t vs e h a = cc
-
 pub not_lawful : LawfulRow not_function
 not_lawful = record {
   typed = not_typed;
   alike = λ ts us t u vs e g a h k. refl;
   strict_type = λ ts t s e a. not_nullable ts t e a;
-  strict_value = λ ts t vs s e h a. not_null ts t vs e h a;
+  strict_value = λ ts t vs s e h a. null_of_one not_value refl vs a;
   never_faults = λ ts t vs s e h. tt;
   one_fault = λ ts us vs ws x y e g. cc;
 }

@@ -2,7 +2,7 @@
 use Rattle.std.specs.Prelude.{◌≡◌, ℕ, List, [], ◌∷◌, Option, Some, None, Bool, true, false, not}
 use Rattle.std.specs.Prelude.{codes, refl}
 use Rattle.std.specs.Str.{bytes_eq}
-use Rattle.std.proofs.Common.{subst}
+use Rattle.std.proofs.Common.{subst, arith}
 use Rattle.vortex_types.specs.LogicalTypes.{LogicalType, bool_type}
 use Rattle.vortex_types.specs.Values.{Value, truth, is_null}
 use Rattle.vortex_types.specs.Typing.{HasType}
@@ -57,10 +57,7 @@ null_test_typed : (test : Value → Bool) (ts : List LogicalType) (t : LogicalTy
 null_test_typed test (u ∷ []) t (v ∷ []) e h =
     let is : bool_type false ≡ t = cc in
     subst (λ (a : LogicalType). HasType a (truth (test v))) is tt
-null_test_typed test (u ∷ []) t [] e h = absurd h
-null_test_typed test (u ∷ []) t (v ∷ w ∷ vs) e h = absurd h.1
-null_test_typed test [] t vs e h = cc
-null_test_typed test (u ∷ w ∷ ts) t vs e h = cc
+null_test_typed test ts t vs e h = grind arith
 
 pub null_test_lawful : (negated : Bool) → LawfulRow (null_test negated)
 null_test_lawful negated = record {
