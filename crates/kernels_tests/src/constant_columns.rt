@@ -9,15 +9,27 @@ use vortex_columns::{NativePType, NumericOperator, PType, VortexResult};
 /// A constant, and the result of each row by it, where there is one.
 type Case = (i128, [Option<i128>; 4]);
 
-/// The rows by a constant.
+/// The side on which the constant stands.
+#[derive(Clone, Copy)]
+enum Side {
+    Left,
+    Right,
+}
+
+/// The rows and a constant.
 fn by_constant(
     alloc: Global,
     rows: Made,
     operator: NumericOperator,
+    side: Side,
     ptype: PType,
     number: i128,
 ) -> Made {
-    calculated(alloc, rows, operator, constant(alloc, ptype, number, 4))
+    let constant = constant(alloc, ptype, number, 4);
+    match side {
+        Side::Left => calculated(alloc, constant, operator, rows),
+        Side::Right => calculated(alloc, rows, operator, constant),
+    }
 }
 
 /// Whether the rows answer that by a constant, those without a result being null, and are refused
@@ -26,6 +38,7 @@ fn answers<T: NativePType>(
     rt: HostRuntime,
     rows: &[T],
     operator: NumericOperator,
+    side: Side,
     ptype: PType,
     case: Case,
 ) -> VortexResult<bool> {
@@ -38,11 +51,11 @@ fn answers<T: NativePType>(
         wanted[3].is_some(),
     ];
     let nullable = nullable_numbers(alloc, rows, &valid);
-    let answer = by_constant(alloc, nullable, operator, ptype, number);
+    let answer = by_constant(alloc, nullable, operator, side, ptype, number);
     if !has_numbers(rt, answer, NULLABLE, &wanted)? {
         return Ok(false);
     }
-    let answer = by_constant(alloc, numbers(alloc, rows), operator, ptype, number);
+    let answer = by_constant(alloc, numbers(alloc, rows), operator, side, ptype, number);
     if valid == [true; 4] {
         return has_numbers(rt, answer, PLAIN, &wanted);
     }
@@ -57,11 +70,12 @@ fn answers_each<T: NativePType>(
     rt: HostRuntime,
     rows: &[T],
     operator: NumericOperator,
+    side: Side,
     ptype: PType,
     cases: &[Case],
 ) -> VortexResult<bool> {
     for case in cases {
-        if !answers(rt, rows, operator, ptype, *case)? {
+        if !answers(rt, rows, operator, side, ptype, *case)? {
             return Ok(false);
         }
     }
@@ -81,7 +95,8 @@ fn i8_times_constants(rt: HostRuntime) {
         (-3, [None, Some(21), Some(-27), None]),
     ];
     let (operator, ptype) = (NumericOperator::Mul, PType::I8);
-    assert!(rt; rt.yes(answers_each(rt, &rows, operator, ptype, &cases)));
+    assert!(rt; rt.yes(answers_each(rt, &rows, operator, Side::Right, ptype, &cases)));
+    assert!(rt; rt.yes(answers_each(rt, &rows, operator, Side::Left, ptype, &cases)));
 }
 
 #[test]
@@ -97,7 +112,7 @@ fn i8_over_constants(rt: HostRuntime) {
         (-3, [Some(42), Some(2), Some(-3), Some(-42)]),
     ];
     let (operator, ptype) = (NumericOperator::Div, PType::I8);
-    assert!(rt; rt.yes(answers_each(rt, &rows, operator, ptype, &cases)));
+    assert!(rt; rt.yes(answers_each(rt, &rows, operator, Side::Right, ptype, &cases)));
 }
 
 #[test]
@@ -113,7 +128,8 @@ fn i16_times_constants(rt: HostRuntime) {
         (-3, [None, Some(21), Some(-27), None]),
     ];
     let (operator, ptype) = (NumericOperator::Mul, PType::I16);
-    assert!(rt; rt.yes(answers_each(rt, &rows, operator, ptype, &cases)));
+    assert!(rt; rt.yes(answers_each(rt, &rows, operator, Side::Right, ptype, &cases)));
+    assert!(rt; rt.yes(answers_each(rt, &rows, operator, Side::Left, ptype, &cases)));
 }
 
 #[test]
@@ -129,7 +145,7 @@ fn i16_over_constants(rt: HostRuntime) {
         (-3, [Some(10922), Some(2), Some(-3), Some(-10922)]),
     ];
     let (operator, ptype) = (NumericOperator::Div, PType::I16);
-    assert!(rt; rt.yes(answers_each(rt, &rows, operator, ptype, &cases)));
+    assert!(rt; rt.yes(answers_each(rt, &rows, operator, Side::Right, ptype, &cases)));
 }
 
 #[test]
@@ -145,7 +161,8 @@ fn i32_times_constants(rt: HostRuntime) {
         (-3, [None, Some(21), Some(-27), None]),
     ];
     let (operator, ptype) = (NumericOperator::Mul, PType::I32);
-    assert!(rt; rt.yes(answers_each(rt, &rows, operator, ptype, &cases)));
+    assert!(rt; rt.yes(answers_each(rt, &rows, operator, Side::Right, ptype, &cases)));
+    assert!(rt; rt.yes(answers_each(rt, &rows, operator, Side::Left, ptype, &cases)));
 }
 
 #[test]
@@ -161,7 +178,7 @@ fn i32_over_constants(rt: HostRuntime) {
         (-3, [Some(715827882), Some(2), Some(-3), Some(-715827882)]),
     ];
     let (operator, ptype) = (NumericOperator::Div, PType::I32);
-    assert!(rt; rt.yes(answers_each(rt, &rows, operator, ptype, &cases)));
+    assert!(rt; rt.yes(answers_each(rt, &rows, operator, Side::Right, ptype, &cases)));
 }
 
 #[test]
@@ -185,7 +202,8 @@ fn i64_times_constants(rt: HostRuntime) {
         (-3, [None, Some(21), Some(-27), None]),
     ];
     let (operator, ptype) = (NumericOperator::Mul, PType::I64);
-    assert!(rt; rt.yes(answers_each(rt, &rows, operator, ptype, &cases)));
+    assert!(rt; rt.yes(answers_each(rt, &rows, operator, Side::Right, ptype, &cases)));
+    assert!(rt; rt.yes(answers_each(rt, &rows, operator, Side::Left, ptype, &cases)));
 }
 
 #[test]
@@ -225,7 +243,7 @@ fn i64_over_constants(rt: HostRuntime) {
         ),
     ];
     let (operator, ptype) = (NumericOperator::Div, PType::I64);
-    assert!(rt; rt.yes(answers_each(rt, &rows, operator, ptype, &cases)));
+    assert!(rt; rt.yes(answers_each(rt, &rows, operator, Side::Right, ptype, &cases)));
 }
 
 #[test]
@@ -239,7 +257,8 @@ fn u8_times_constants(rt: HostRuntime) {
         (128, [Some(0), None, None, None]),
     ];
     let (operator, ptype) = (NumericOperator::Mul, PType::U8);
-    assert!(rt; rt.yes(answers_each(rt, &rows, operator, ptype, &cases)));
+    assert!(rt; rt.yes(answers_each(rt, &rows, operator, Side::Right, ptype, &cases)));
+    assert!(rt; rt.yes(answers_each(rt, &rows, operator, Side::Left, ptype, &cases)));
 }
 
 #[test]
@@ -253,7 +272,7 @@ fn u8_over_constants(rt: HostRuntime) {
         (128, [Some(0), Some(0), Some(0), Some(1)]),
     ];
     let (operator, ptype) = (NumericOperator::Div, PType::U8);
-    assert!(rt; rt.yes(answers_each(rt, &rows, operator, ptype, &cases)));
+    assert!(rt; rt.yes(answers_each(rt, &rows, operator, Side::Right, ptype, &cases)));
 }
 
 #[test]
@@ -267,7 +286,8 @@ fn u16_times_constants(rt: HostRuntime) {
         (32768, [Some(0), None, None, None]),
     ];
     let (operator, ptype) = (NumericOperator::Mul, PType::U16);
-    assert!(rt; rt.yes(answers_each(rt, &rows, operator, ptype, &cases)));
+    assert!(rt; rt.yes(answers_each(rt, &rows, operator, Side::Right, ptype, &cases)));
+    assert!(rt; rt.yes(answers_each(rt, &rows, operator, Side::Left, ptype, &cases)));
 }
 
 #[test]
@@ -281,7 +301,7 @@ fn u16_over_constants(rt: HostRuntime) {
         (32768, [Some(0), Some(0), Some(0), Some(1)]),
     ];
     let (operator, ptype) = (NumericOperator::Div, PType::U16);
-    assert!(rt; rt.yes(answers_each(rt, &rows, operator, ptype, &cases)));
+    assert!(rt; rt.yes(answers_each(rt, &rows, operator, Side::Right, ptype, &cases)));
 }
 
 #[test]
@@ -295,7 +315,8 @@ fn u32_times_constants(rt: HostRuntime) {
         (2147483648, [Some(0), None, None, None]),
     ];
     let (operator, ptype) = (NumericOperator::Mul, PType::U32);
-    assert!(rt; rt.yes(answers_each(rt, &rows, operator, ptype, &cases)));
+    assert!(rt; rt.yes(answers_each(rt, &rows, operator, Side::Right, ptype, &cases)));
+    assert!(rt; rt.yes(answers_each(rt, &rows, operator, Side::Left, ptype, &cases)));
 }
 
 #[test]
@@ -309,7 +330,7 @@ fn u32_over_constants(rt: HostRuntime) {
         (2147483648, [Some(0), Some(0), Some(0), Some(1)]),
     ];
     let (operator, ptype) = (NumericOperator::Div, PType::U32);
-    assert!(rt; rt.yes(answers_each(rt, &rows, operator, ptype, &cases)));
+    assert!(rt; rt.yes(answers_each(rt, &rows, operator, Side::Right, ptype, &cases)));
 }
 
 #[test]
@@ -323,7 +344,8 @@ fn u64_times_constants(rt: HostRuntime) {
         (9223372036854775808, [Some(0), None, None, None]),
     ];
     let (operator, ptype) = (NumericOperator::Mul, PType::U64);
-    assert!(rt; rt.yes(answers_each(rt, &rows, operator, ptype, &cases)));
+    assert!(rt; rt.yes(answers_each(rt, &rows, operator, Side::Right, ptype, &cases)));
+    assert!(rt; rt.yes(answers_each(rt, &rows, operator, Side::Left, ptype, &cases)));
 }
 
 #[test]
@@ -337,5 +359,5 @@ fn u64_over_constants(rt: HostRuntime) {
         (9223372036854775808, [Some(0), Some(0), Some(0), Some(1)]),
     ];
     let (operator, ptype) = (NumericOperator::Div, PType::U64);
-    assert!(rt; rt.yes(answers_each(rt, &rows, operator, ptype, &cases)));
+    assert!(rt; rt.yes(answers_each(rt, &rows, operator, Side::Right, ptype, &cases)));
 }

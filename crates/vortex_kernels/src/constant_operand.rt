@@ -1,4 +1,4 @@
-//! Products and quotients of a column by one integer, which is looked at before the rows.
+//! Products and quotients of a column and one integer, which is looked at before the rows.
 ghost use Rattle.std.specs.Prelude.{◌≡◌, ◌*ℤ◌, length, map, Some};
 ghost use Rattle.vortex_checked.specs.Exact.{quotient};
 ghost use Rattle.vortex_errors.specs.declared.error.NumericOperator.TheVariants.{Mul, Div};
@@ -79,6 +79,35 @@ pub(crate) fn products_by<T: ArithmeticInteger>(
     let left = ListedNumbers { values };
     let right = OneNumber { value: factor };
     settled_rows::<T, CheckedMul, ListedNumbers<T>, OneNumber<T>>(
+        calculated,
+        &left,
+        &right,
+        lhs,
+        rhs,
+        NumericOperator::Mul,
+        ctx,
+    )
+}
+
+/// The product in each row, of a factor on the left and integers on the right.
+pub(crate) fn products_of<T: ArithmeticInteger>(
+    factor: T,
+    values: &[T],
+    lhs: &Column,
+    rhs: &Column,
+    ctx: &mut ExecutionCtx,
+) -> VortexResult<Column>
+    requires types { integer_of_both lhs.now.dtype rhs.now.dtype ≡ Some T.ptype }
+    requires lengths { length lhs.now.rows ≡ length rhs.now.rows }
+    requires left { IsConstantOf (number (T.NativePType.number factor)) lhs.now }
+    requires right { AreInts rhs.now (map T.NativePType.number values.now) }
+    ensures { Answers result (AnswersNumeric Mul lhs.now rhs.now)
+        (RefusesNumeric Mul lhs.now rhs.now) }
+{
+    let calculated = bounded_products::<T>(ctx.alloc(), values, factor)?;
+    let left = OneNumber { value: factor };
+    let right = ListedNumbers { values };
+    settled_rows::<T, CheckedMul, OneNumber<T>, ListedNumbers<T>>(
         calculated,
         &left,
         &right,

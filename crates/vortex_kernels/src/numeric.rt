@@ -11,7 +11,7 @@ ghost use Rattle.vortex_kernels.specs.Words.{KeepsTwoConstants, AreInts};
 ghost use Rattle.vortex_kernels.specs.Faults.{AreHeldResults};
 
 use crate::arithmetic_integer::{ArithmeticInteger, apply_checked};
-use crate::constant_operand::{products_by, quotients_by};
+use crate::constant_operand::{products_by, products_of, quotients_by};
 use crate::integer_types::with_integer;
 use crate::numbers::{ListedNumbers, Numbers, OneNumber};
 use crate::pairs::constant_int;
@@ -261,10 +261,13 @@ fn numeric_products<T: ArithmeticInteger, O: RowOperation<T>>(
         (RefusesNumeric Mul lhs.now rhs.now) }
     ensures constant { IfOk result (KeepsTwoConstants lhs.now rhs.now) }
 {
-    match (lhs.ints::<T>(), constant_int::<T>(rhs)) {
-        (Some(values), Some(factor)) => products_by::<T>(values, factor, lhs, rhs, ctx),
-        _ => numeric_columns::<T, O>(lhs, rhs, NumericOperator::Mul, ctx),
+    if let (Some(values), Some(factor)) = (lhs.ints::<T>(), constant_int::<T>(rhs)) {
+        return products_by::<T>(values, factor, lhs, rhs, ctx);
     }
+    if let (Some(factor), Some(values)) = (constant_int::<T>(lhs), rhs.ints::<T>()) {
+        return products_of::<T>(factor, values, lhs, rhs, ctx);
+    }
+    numeric_columns::<T, O>(lhs, rhs, NumericOperator::Mul, ctx)
 }
 
 /// The quotient in each row, of columns of equal length. A divisor that is constant is looked at
