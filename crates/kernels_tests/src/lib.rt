@@ -12,6 +12,10 @@ mod boolean;
 #[cfg(test)]
 mod compare;
 #[cfg(test)]
+mod constant_columns;
+#[cfg(test)]
+mod constants;
+#[cfg(test)]
 mod hostile_bits;
 #[cfg(test)]
 mod integers;

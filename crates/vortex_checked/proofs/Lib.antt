@@ -1,1 +1,4 @@
-pub mod WideProduct
+mod Dividing
+mod Ends
+mod Signs
+mod WideProduct

@@ -2,11 +2,16 @@
 #![tactic(auto)]
 
 pub mod arithmetic;
+pub mod constants;
+pub mod division;
+pub mod factor;
 pub mod failure;
 pub mod operations;
 mod signed;
 mod unsigned;
 
 pub use arithmetic::CheckedArithmetic;
+pub use constants::{ConstantArithmetic, Divisor};
+pub use factor::{bounded_product, factor_ends};
 pub use failure::Failure;
 pub use operations::{CheckedAdd, CheckedDiv, CheckedMul, CheckedPrimitiveOp, CheckedSub};

@@ -11,3 +11,4 @@ pub mod ConstantResults
 pub mod BetweenRows
 pub mod BoundedRows
 pub mod EqualBytes
+pub mod ConstantOperands

@@ -54,6 +54,10 @@ IsExactOf op exact = (a b : ℤ) → exact a b ≡ exact_result op a b
 abbrev pub row_results : (ℤ → ℤ → Option ℤ) → (ℕ → ℤ) → (ℕ → ℤ) → ℕ → Option ℤ
 row_results exact left right i = exact (left i) (right i)
 
+-- of the numbers of a list and one number
+abbrev pub results_by : (ℤ → ℤ → Option ℤ) → List ℤ → ℤ → ℕ → Option ℤ
+results_by exact ns z i = exact (slice_index_or ns i (pos 0)) z
+
 -- a number is there for each row, which is the row's where it is not null
 pub record AreNumbers (c : ColumnView) (has_row : ℕ → Type 0) (number_at : ℕ → ℤ) : Type 0 where
   pub there : (i : ℕ) → i < length c.rows → has_row i

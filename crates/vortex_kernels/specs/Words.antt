@@ -19,7 +19,8 @@ pub use Rattle.vortex_kernels.specs.Constants.{KeepsThreeConstants}
 pub use Rattle.vortex_kernels.specs.NullTests.{HasTruths, HasNullTests, HasNotNullTests}
 pub use Rattle.vortex_kernels.specs.NullTests.{IsConstantUnlessListed}
 pub use Rattle.vortex_kernels.specs.Numeric.{AnswersNumeric, RefusesNumeric}
-pub use Rattle.vortex_kernels.specs.Numeric.{IsExactOf, row_results, AreNumbers}
+pub use Rattle.vortex_kernels.specs.Numeric.{IsExactOf, row_results, results_by}
+pub use Rattle.vortex_kernels.specs.Numeric.{AreNumbers}
 pub use Rattle.vortex_kernels.specs.Numeric.{AreResults, TellsFaults, FitWhereValid, FaultsAt}
 pub use Rattle.vortex_kernels.specs.Numeric.{IsNullColumn, null_of}
 pub use Rattle.vortex_kernels.specs.PairOrders.{byte_order, row_orders, int_orders, int_orders_with}

@@ -1,14 +1,16 @@
 //! The integers that columns hold, as checked arithmetic reads them.
-ghost use Rattle.std.specs.Prelude.{◌≡◌};
+ghost use Rattle.std.specs.Prelude.{◌≡◌, ◌*ℤ◌, Some};
 ghost use Rattle.std.specs.Bool.{FalseIff};
+ghost use Rattle.vortex_checked.specs.Exact.{quotient};
+ghost use Rattle.vortex_checked.specs.Factor.{AreEnds};
 ghost use Rattle.vortex_kernels.specs.Words.{FitsResult, AnswersExact};
 
-use vortex_checked::{CheckedArithmetic, CheckedPrimitiveOp};
+use vortex_checked::{CheckedPrimitiveOp, ConstantArithmetic, Divisor, bounded_product};
 use vortex_columns::NativePType;
 
 /// One of the eight integer types. What columns and checked arithmetic see of it is the same: the
 /// number of each value, and the range of the type.
-pub trait ArithmeticInteger: NativePType + CheckedArithmetic {
+pub trait ArithmeticInteger: NativePType + ConstantArithmetic {
     ghost use Rattle.std.specs.Prelude.{◌≡◌};
     ghost use Rattle.vortex_types.specs.Typing.{least_of, greatest_of};
 
@@ -115,4 +117,35 @@ pub fn apply_checked<T: ArithmeticInteger, O: CheckedPrimitiveOp<T>>(
     ensures evidence { O.tells left right result.1 }
 {
     O::apply(left, right)
+}
+
+/// The product of an integer and a factor between whose ends it fits: the value, which is the exact
+/// product where the integer type holds it, and whether it does not.
+#[inline(always)]
+pub(crate) fn multiply_bounded<T: ArithmeticInteger>(
+    number: T,
+    factor: T,
+    least: T,
+    greatest: T,
+) -> (T, bool)
+    requires { AreEnds T.least T.greatest (T.CheckedArithmetic.number factor)
+        (T.CheckedArithmetic.number least) (T.CheckedArithmetic.number greatest) }
+    ensures exact { AnswersExact T.ptype
+        (Some (T.NativePType.number number *ℤ T.NativePType.number factor))
+        (T.NativePType.number result.0) }
+    ensures fault { FalseIff result.1 (FitsResult T.ptype
+        (Some (T.NativePType.number number *ℤ T.NativePType.number factor))) }
+{
+    bounded_product(number, factor, least, greatest)
+}
+
+/// The quotient of an integer, which its type holds.
+#[inline(always)]
+pub(crate) fn divide_by<T: ArithmeticInteger, D: Divisor<T>>(number: T, divisor: &D) -> T
+    ensures exact { Some (T.NativePType.number result)
+        ≡ quotient (T.NativePType.number number) (D.value divisor.now) }
+    ensures fits { FitsResult T.ptype
+        (quotient (T.NativePType.number number) (D.value divisor.now)) }
+{
+    divisor.divide(number)
 }

@@ -8,6 +8,7 @@ mod bounds;
 pub mod cast;
 pub mod compare;
 mod comparisons;
+mod constant_operand;
 mod faults;
 mod integer_types;
 pub mod kleene;
@@ -16,6 +17,7 @@ mod numbers;
 pub mod numeric;
 mod pairs;
 mod row_operation;
+mod settled;
 mod truths;
 mod validity;
 

@@ -1,6 +1,7 @@
 //! Arithmetic of columns of one integer type, exact in each row.
 ghost use Rattle.std.specs.Prelude.{◌≡◌, ◌<◌, ℕ, true, length, map, Some};
 ghost use Rattle.std.specs.Prelude.{IfOk, IfSome, IsSome};
+ghost use Rattle.vortex_errors.specs.declared.error.NumericOperator.TheVariants.{Mul, Div};
 ghost use Rattle.vortex_kernels.specs.Words.{Answers, AnswersUnlessMemory, integer_of_both};
 ghost use Rattle.vortex_kernels.specs.Words.{AnswersNumeric, RefusesNumeric};
 ghost use Rattle.vortex_kernels.specs.Words.{IsExactOf, row_results, AreNumbers};
@@ -10,16 +11,17 @@ ghost use Rattle.vortex_kernels.specs.Words.{KeepsTwoConstants, AreInts};
 ghost use Rattle.vortex_kernels.specs.Faults.{AreHeldResults};
 
 use crate::arithmetic_integer::{ArithmeticInteger, apply_checked};
-use crate::faults::faulty_row;
+use crate::constant_operand::{products_by, products_of, quotients_by};
 use crate::integer_types::with_integer;
 use crate::numbers::{ListedNumbers, Numbers, OneNumber};
 use crate::pairs::constant_int;
 use crate::row_operation::{RowOperation, WideMul};
+use crate::settled::settled_rows;
 use std::alloc::Global;
-use vortex_checked::{CheckedAdd, CheckedDiv, CheckedMul, CheckedSub};
+use vortex_checked::{CheckedAdd, CheckedDiv, CheckedMul, CheckedSub, ConstantArithmetic};
 use vortex_columns::{
     Column, DType, ExecutionCtx, MismatchPlace, Nullability, NumericOperator, PType, Scalar,
-    ScalarValue, VortexError, VortexResult, both_valid,
+    ScalarValue, VortexError, VortexResult,
 };
 
 /// The value of each row, also where it lies under a null, and evidence that is joined over all
@@ -99,7 +101,7 @@ fn checked_rows<T: ArithmeticInteger, O: RowOperation<T>, L: Numbers<T>, R: Numb
 }
 
 /// The operation in each row, of columns of equal length, whose integers are read in the form of
-/// each side. It is asked which rows fault only where any does, be it under a null.
+/// each side.
 fn numeric_rows<T: ArithmeticInteger, O: RowOperation<T>, L: Numbers<T>, R: Numbers<T>>(
     left: &L,
     right: &R,
@@ -116,14 +118,8 @@ fn numeric_rows<T: ArithmeticInteger, O: RowOperation<T>, L: Numbers<T>, R: Numb
     ensures { Answers result (AnswersNumeric operator lhs.now rhs.now)
         (RefusesNumeric operator lhs.now rhs.now) }
 {
-    let (values, may_fault) = checked_rows::<T, O, L, R>(ctx.alloc(), left, right, lhs.len())?;
-    let validity = both_valid(ctx.alloc(), lhs, rhs)?;
-    if may_fault
-        && faulty_row::<T, O, L, R>(ctx.alloc(), left, right, lhs, rhs, &validity)?.is_some()
-    {
-        return Err(VortexError::Arithmetic(operator));
-    }
-    Column::try_primitive(ctx.alloc(), values, validity)
+    let calculated = checked_rows::<T, O, L, R>(ctx.alloc(), left, right, lhs.len())?;
+    settled_rows::<T, O, L, R>(calculated, left, right, lhs, rhs, operator, ctx)
 }
 
 /// Null in each row, of the nullable form of the type: a constant.
@@ -251,6 +247,50 @@ fn numeric_columns<T: ArithmeticInteger, O: RowOperation<T>>(
     }
 }
 
+/// The product in each row, of columns of equal length. A factor that is constant is looked at
+/// before the rows.
+fn numeric_products<T: ArithmeticInteger, O: RowOperation<T>>(
+    lhs: &Column,
+    rhs: &Column,
+    ctx: &mut ExecutionCtx,
+) -> VortexResult<Column>
+    requires types { integer_of_both lhs.now.dtype rhs.now.dtype ≡ Some T.ptype }
+    requires lengths { length lhs.now.rows ≡ length rhs.now.rows }
+    requires exact { IsExactOf Mul O.exact }
+    ensures rows { Answers result (AnswersNumeric Mul lhs.now rhs.now)
+        (RefusesNumeric Mul lhs.now rhs.now) }
+    ensures constant { IfOk result (KeepsTwoConstants lhs.now rhs.now) }
+{
+    if let (Some(values), Some(factor)) = (lhs.ints::<T>(), constant_int::<T>(rhs)) {
+        return products_by::<T>(values, factor, lhs, rhs, ctx);
+    }
+    if let (Some(factor), Some(values)) = (constant_int::<T>(lhs), rhs.ints::<T>()) {
+        return products_of::<T>(factor, values, lhs, rhs, ctx);
+    }
+    numeric_columns::<T, O>(lhs, rhs, NumericOperator::Mul, ctx)
+}
+
+/// The quotient in each row, of columns of equal length. A divisor that is constant is looked at
+/// before the rows.
+fn numeric_quotients<T: ArithmeticInteger>(
+    lhs: &Column,
+    rhs: &Column,
+    ctx: &mut ExecutionCtx,
+) -> VortexResult<Column>
+    requires types { integer_of_both lhs.now.dtype rhs.now.dtype ≡ Some T.ptype }
+    requires lengths { length lhs.now.rows ≡ length rhs.now.rows }
+    ensures rows { Answers result (AnswersNumeric Div lhs.now rhs.now)
+        (RefusesNumeric Div lhs.now rhs.now) }
+    ensures constant { IfOk result (KeepsTwoConstants lhs.now rhs.now) }
+{
+    if let (Some(values), Some(number)) = (lhs.ints::<T>(), constant_int::<T>(rhs))
+        && let Some(divisor) = number.divisor()
+    {
+        return quotients_by::<T>(values, number, divisor, lhs, rhs, ctx);
+    }
+    numeric_columns::<T, CheckedDiv>(lhs, rhs, NumericOperator::Div, ctx)
+}
+
 /// The same, the operator being chosen before the rows, in the form that serves any type.
 fn numeric_in<T: ArithmeticInteger>(
     lhs: &Column,
@@ -267,8 +307,8 @@ fn numeric_in<T: ArithmeticInteger>(
     match operator {
         NumericOperator::Add => numeric_columns::<T, CheckedAdd>(lhs, rhs, operator, ctx),
         NumericOperator::Sub => numeric_columns::<T, CheckedSub>(lhs, rhs, operator, ctx),
-        NumericOperator::Mul => numeric_columns::<T, CheckedMul>(lhs, rhs, operator, ctx),
-        NumericOperator::Div => numeric_columns::<T, CheckedDiv>(lhs, rhs, operator, ctx),
+        NumericOperator::Mul => numeric_products::<T, CheckedMul>(lhs, rhs, ctx),
+        NumericOperator::Div => numeric_quotients::<T>(lhs, rhs, ctx),
     }
 }
 
@@ -287,12 +327,8 @@ fn numeric_typed(
     ensures constant { IfOk result (KeepsTwoConstants lhs.now rhs.now) }
 {
     match (operator, ptype) {
-        (NumericOperator::Mul, PType::I64) => {
-            numeric_columns::<i64, WideMul>(lhs, rhs, operator, ctx)
-        }
-        (NumericOperator::Mul, PType::U64) => {
-            numeric_columns::<u64, WideMul>(lhs, rhs, operator, ctx)
-        }
+        (NumericOperator::Mul, PType::I64) => { numeric_products::<i64, WideMul>(lhs, rhs, ctx) }
+        (NumericOperator::Mul, PType::U64) => { numeric_products::<u64, WideMul>(lhs, rhs, ctx) }
         _ => with_integer!(ptype, numeric_in::<_>(lhs, rhs, operator, ctx)),
     }
 }

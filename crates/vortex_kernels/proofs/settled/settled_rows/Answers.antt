@@ -2,9 +2,9 @@ use Rattle.std.proofs.Common.{length, sym, ◌∙◌, arith}
 use Rattle.vortex_columns.specs.ValidityView.{validity_of}
 use Rattle.vortex_kernels.specs.Numeric.{row_results, FitWhereValid, FaultsAt}
 use Rattle.vortex_kernels.proofs.Calculating.{numeric_answers, found_refuses, none_found}
-use Rattle.vortex_kernels.proofs.numeric.numeric_rows.Goals as goal
-use Rattle.vortex_kernels.proofs.numeric.numeric_rows.Goals.{else-may_fault-via-then-may_fault+in_ok-faulty_row+else-is_some}
-use Rattle.vortex_kernels.proofs.numeric.numeric_rows.Goals.{else-may_fault-via-else-may_fault}
+use Rattle.vortex_kernels.proofs.settled.settled_rows.Goals as goal
+use Rattle.vortex_kernels.proofs.settled.settled_rows.Goals.{else-may_fault-via-then-may_fault+in_ok-faulty_row+else-is_some}
+use Rattle.vortex_kernels.proofs.settled.settled_rows.Goals.{else-may_fault-via-else-may_fault}
 
 pub returns-then-is_some : goal.returns-then-is_some
 returns-then-is_some g c =
@@ -37,11 +37,11 @@ returns g c =
           w.in_ok-faulty_row.ensures
       | else-may_fault-via-else-may_fault w ↦
           λ i lt valid.
-          c.in_ok-values.ensures.fault w.if-may_fault.false i (omega (arith, c.len.ensures, lt))
+          c.requires.fault w.if-may_fault.false i lt
     ] in
     numeric_answers c.args.operator p exact left right l r c.requires.exact c.requires.left.each
     (λ i lt. c.requires.right.each i (omega (arith, c.requires.lengths, lt))) c.requires.types
     c.requires.lengths
-    g.T.NativePType.number c.in_ok-values.values.items (validity_of c.in_ok-validity.validity)
-    c.try_primitive.result (rw c.len.ensures at c.in_ok-values.ensures.values) fits
+    g.T.NativePType.number c.args.calculated.0.items (validity_of c.in_ok-validity.validity)
+    c.try_primitive.result c.requires.values fits
     c.in_ok-validity.ensures c.try_primitive.ensures
