@@ -1,17 +1,15 @@
 -- What an array of a column is.
 use Rattle.std.proofs.Common.{◌≡◌, ℕ, ◌<◌, refl, sym, ap, subst, ◌∙◌, Option, Some, None, length}
 use Rattle.std.proofs.Common.{arith, true}
-use Rattle.std.specs.Prelude.{[], IfSome, MatchOption}
-use Rattle.std.specs.Borrow.{Bor}
+use Rattle.std.specs.Prelude.{[], IfSome}
 use Rattle.vortex_types.specs.ScalarView.{ScalarView}
-use Rattle.vortex_columns.specs.ColumnView.{ColumnView, row, constant_column, null_column, AreTyped}
-use Rattle.vortex_columns.specs.ColumnView.{TellsTruly}
+use Rattle.vortex_columns.specs.ColumnView.{ColumnView, row, constant_column, null_column}
 use Rattle.vortex_types.specs.Values.{Value, null, is_null}
 use Rattle.vortex_types.specs.LogicalTypes.{null_type}
 use Rattle.vortex_types.specs.Typing.{HasType}
 use Rattle.std.proofs.lemmas.List.FromFn.{get_or-map-range_with_len, length-map-range_with_len}
 use Rattle.vortex_interface.specs.Meaning.{Meaning}
-use Rattle.vortex_interface.specs.Eval.{HasTreeRows, tree_type}
+use Rattle.vortex_interface.specs.Eval.{HasTreeRows}
 use Rattle.vortex_interface.specs.Rewrites.{HasTypedRow}
 use Rattle.vortex_functions.specs.Arrays.{Array, held_or_constant, column_tree, tree_in, rows_in}
 use Rattle.vortex_functions.specs.Arrays.{AreRowsTyped}

@@ -1,10 +1,9 @@
 -- From the children's columns to a call's column or its refusal.
 use Rattle.std.proofs.Common.{◌≡◌, ℕ, zero, suc, ◌<◌, refl, sym, ap, subst, ◌∙◌, List, [], ◌∷◌}
 use Rattle.std.proofs.Common.{◌++◌, length, get_or, take, inr, Bool, true, false, Option, Some}
-use Rattle.std.proofs.Common.{None, arith, nat_eq}
+use Rattle.std.proofs.Common.{None, arith}
 use Rattle.std.specs.Prelude.{slice_get, if◌then◌else◌, ⊤, Result}
 use Rattle.std.specs.Option.{option_and_then}
-use borrow.Author.Tests.{eqb-true}
 use Rattle.std.proofs.lemmas.Option.{get_or_from_slice_get}
 use Rattle.std.proofs.lemmas.List.{length-map}
 use Rattle.std.proofs.lemmas.List.FromFn.{get_or-map-range_with_len, length-map-range_with_len}

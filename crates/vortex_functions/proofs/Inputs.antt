@@ -1,12 +1,12 @@
 -- What a walk made of a call's children.
-use Rattle.std.proofs.Common.{◌≡◌, ℕ, refl, ap, subst, ◌∙◌, List, [], ◌∷◌, map}
+use Rattle.std.proofs.Common.{◌≡◌, ℕ, ap, subst, ◌∙◌, List, [], ◌∷◌, map}
 use Rattle.std.specs.declared.borrow.Cow.{Cow}
 use Rattle.std.specs.Cow.{cow_value}
 use Rattle.vortex_columns.specs.ColumnView.{ColumnView}
 use Rattle.vortex_interface.specs.Meaning.{Meaning}
 use Rattle.vortex_interface.specs.Functions.{Function}
 use Rattle.vortex_interface.specs.Trees.{Tree, call, trees_of, children_of}
-use Rattle.vortex_functions.specs.Walks.{AllMean, IsCopy}
+use Rattle.vortex_functions.specs.Walks.{AllMean}
 use Rattle.vortex_functions.proofs.Execution.{AllHaveRows}
 use Rattle.vortex_functions.proofs.TreeLists.{list_of-trees_of}
 use Rattle.vortex_functions.specs.Executing.{HasRows}

@@ -1,11 +1,11 @@
 -- A list of trees that are still to be looked at.
 use Rattle.std.proofs.Common.{◌≡◌, ◌+◌, ◌<◌, List, [], ◌∷◌, ◌++◌, length, take, take_all, map, ℕ}
-use Rattle.std.proofs.Common.{◌≤◌, Bool, IsTrue, refl, sym, ap, subst, ◌∙◌, ◌↔◌, arith}
+use Rattle.std.proofs.Common.{◌≤◌, refl, sym, ap, subst, ◌∙◌, ◌↔◌, arith}
 use Rattle.std.specs.Borrow.{Bor}
 use Rattle.std.proofs.lemmas.List.{map-append}
 use Rattle.vortex_columns.specs.ColumnView.{ColumnView}
-use Rattle.vortex_interface.specs.Trees.{Leaf, Tree, leaf, constant, call, Trees, no_trees, tree}
-use Rattle.vortex_interface.specs.Trees.{trees_of, list_of, children_of, node_count, nodes_count}
+use Rattle.vortex_interface.specs.Trees.{Tree, leaf, constant, call, Trees}
+use Rattle.vortex_interface.specs.Trees.{trees_of, children_of, node_count, nodes_count}
 use Rattle.vortex_interface.specs.Execution.{LeavesFit, AllLeavesFit}
 use Rattle.vortex_interface.proofs.StepPlaces.{same_trees}
 use Rattle.vortex_functions.specs.Executing.{NodeFits}

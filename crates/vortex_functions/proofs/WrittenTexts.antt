@@ -3,20 +3,20 @@
 use Rattle.std.proofs.Common.{◌≡◌, ℕ, zero, suc, ◌+◌, ◌-◌, ◌<◌, ◌≤◌, length, List, [], ◌∷◌, ◌++◌}
 use Rattle.std.proofs.Common.{map, Option, Some, None, refl, sym, ap, ◌∙◌, subst, arith, add-one}
 use Rattle.std.proofs.Common.{Bor, string_bytes}
-use Rattle.std.specs.Prelude.{⊤, codes, slice_get, IfSome, String}
+use Rattle.std.specs.Prelude.{⊤, codes, slice_get, String}
 use Rattle.std.specs.declared.alloc.Global.{Global}
 use Rattle.std.specs.Option.{option_and_then, option_map, option_copied, unwrap_or}
 use Rattle.std.proofs.lemmas.Option.{slice_get-map}
 use Rattle.std.proofs.lemmas.List.{append_assoc, append-nil, length-map}
 use Rattle.vortex_interface.specs.CallTexts.{Appends, text_at, told}
 use Rattle.vortex_interface.specs.Shipped.{shipped_before, shipped_printed, shipped_text}
-use Rattle.vortex_interface.specs.Functions.{Function, ours, custom}
+use Rattle.vortex_interface.specs.Functions.{ours, custom}
 use Rattle.vortex_interface.specs.Printing.{literal_text, tree_text, tree_texts, with_text}
 use Rattle.vortex_interface.specs.Printing.{function_text}
 use Rattle.vortex_interface.specs.Trees.{Tree, leaf, place, held, constant, call, Trees, no_trees}
 use Rattle.vortex_interface.specs.Trees.{tree, children_of, list_of, called}
 use Rattle.vortex_interface.proofs.PartTexts.{told_next, told_past, text_got, text_past}
-use Rattle.vortex_functions.specs.WrittenTexts.{WritesBeforeOf, leaf_text, tree_before}
+use Rattle.vortex_functions.specs.WrittenTexts.{leaf_text, tree_before}
 use Rattle.vortex_functions.specs.WrittenTexts.{tree_printed, HasText, text_in, child_texts}
 use Rattle.vortex_functions.specs.WrittenTexts.{left_of, WritesPart}
 use Rattle.vortex_functions.specs.declared.expression.text.Writing.{Writing}

@@ -3,7 +3,7 @@ use Rattle.std.proofs.Common.{◌≡◌, ℕ, zero, suc, ◌+◌, ◌*◌, ◌<�
 use Rattle.std.proofs.Common.{drop, Option, Some, None, refl, sym, ap, subst, ◌∙◌, arith}
 use Rattle.std.specs.Prelude.{slice_get, IsSome}
 use Rattle.std.proofs.lemmas.List.{append-nil, drop_all}
-use Rattle.vortex_interface.specs.Trees.{Tree, leaf, constant, call, trees_of, list_of, children_of}
+use Rattle.vortex_interface.specs.Trees.{Tree, leaf, constant, call, trees_of, children_of}
 use Rattle.vortex_interface.specs.Trees.{node_count, nodes_count}
 use Rattle.vortex_interface.specs.Driver.{step}
 use Rattle.vortex_interface.specs.Meaning.{Meaning}

@@ -1,21 +1,16 @@
 -- What the table of rules has for the call of a function, by the list of functions.
-use Rattle.std.proofs.Common.{◌≡◌, false, Option, Some, None, refl, sym, ap, ◌∙◌}
+use Rattle.std.proofs.Common.{◌≡◌, Option, Some, None, refl, sym, ap, ◌∙◌}
 use Rattle.std.specs.Prelude.{ℕ, MatchOption, Result}
 use Rattle.std.specs.Option.{option_map}
 use Rattle.vortex_errors.specs.declared.error.VortexError.{VortexError}
 use Rattle.vortex_errors.specs.Answers.{AnswersUnlessMemory}
 use Rattle.vortex_errors.proofs.Answering.{AnswersUnlessMemory-weaker}
-use Rattle.vortex_operators.specs.declared.operators.Operator.{Operator}
-use Rattle.vortex_operators.specs.declared.operators.Operator.TheVariants.{And, Or}
-use Rattle.vortex_operators.specs.Operators.{is_boolean}
 use Rattle.vortex_interface.specs.Meaning.{Meaning}
-use Rattle.vortex_interface.specs.Shipped.{Shipped, Binary}
+use Rattle.vortex_interface.specs.Shipped.{Shipped}
 use Rattle.vortex_interface.specs.Functions.{Function, ours, custom}
-use Rattle.vortex_interface.specs.Trees.{place, held, Tree, leaf, constant, call, Trees, no_trees}
-use Rattle.vortex_interface.specs.Trees.{tree, trees_of, list_of, children_of, called, literal}
+use Rattle.vortex_interface.specs.Trees.{place, held, Tree, leaf, constant, call}
+use Rattle.vortex_interface.specs.Trees.{trees_of, children_of, called, literal}
 use Rattle.vortex_interface.specs.Rules.{Rules}
-use Rattle.vortex_interface.specs.ReduceRules.{reduce_operator, reduce_shipped, reduce}
-use Rattle.vortex_interface.specs.SimplifyRules.{simplify_shipped, simplify}
 use Rattle.vortex_interface.specs.ValidityRules.{default_validity, default_rules, validity}
 use Rattle.vortex_interface.proofs.StepPlaces.{same_trees}
 use Rattle.vortex_functions.specs.declared.erased.ScalarFnRef.{ScalarFnRef}

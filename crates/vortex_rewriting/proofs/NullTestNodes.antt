@@ -9,20 +9,20 @@ use Rattle.vortex_operators.specs.declared.operators.Operator.{Operator}
 use Rattle.vortex_operators.specs.declared.operators.Operator.TheVariants.{And, Or}
 use Rattle.vortex_operators.specs.Operators.{is_boolean}
 use Rattle.vortex_interface.specs.Meaning.{Meaning}
-use Rattle.vortex_interface.specs.Shipped.{Binary, Not, IsNull, IsNotNull}
+use Rattle.vortex_interface.specs.Shipped.{Binary, IsNull, IsNotNull}
 use Rattle.vortex_interface.specs.Functions.{Function, ours}
 use Rattle.vortex_interface.specs.Trees.{Tree, leaf, constant, call, no_trees, tree, children_of}
 use Rattle.vortex_interface.specs.Trees.{called}
 use Rattle.vortex_interface.specs.Eval.{tree_type}
-use Rattle.vortex_interface.specs.ComparisonTrees.{negated, operated}
+use Rattle.vortex_interface.specs.ComparisonTrees.{operated}
 use Rattle.vortex_interface.specs.Rules.{Rules, truth_constant, may_be_null, is_nullable_tree}
 use Rattle.vortex_interface.specs.ValidityRules.{validity}
 use Rattle.vortex_interface.specs.ReduceRules.{is_not_null_within, reduce}
-use Rattle.vortex_interface.proofs.TypedCalls.{type_of_one, type_of_two}
+use Rattle.vortex_interface.proofs.TypedCalls.{type_of_two}
 use Rattle.vortex_rewriting.specs.declared.null_tests.NullTest.{NullTest}
 use Rattle.vortex_rewriting.specs.declared.null_tests.NullTest.TheVariants as test
 use Rattle.vortex_rewriting.specs.NullTests.{test_function, of_no_null, joined_by, boolean_in}
-use Rattle.vortex_rewriting.specs.NullTests.{boolean_called, tested, by_validity, beside_test, within}
+use Rattle.vortex_rewriting.specs.NullTests.{boolean_called, tested, by_validity, within}
 use Rattle.vortex_rewriting.specs.NullTests.{within_operands}
 use Rattle.vortex_rewriting.proofs.Calls.{children_fit}
 

@@ -1,5 +1,5 @@
 -- The same call on other children, on which it is well typed, is not refused.
-use Rattle.std.proofs.Common.{◌≡◌, List, Some, None, refl, ap, ◌∙◌}
+use Rattle.std.proofs.Common.{◌≡◌, List, Some, refl, ap, ◌∙◌}
 use Rattle.std.specs.Prelude.{Result, IsSome}
 use Rattle.std.specs.Option.{option_and_then}
 use Rattle.vortex_errors.specs.declared.error.VortexError.{VortexError}

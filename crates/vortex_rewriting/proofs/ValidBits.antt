@@ -11,8 +11,7 @@ use Rattle.vortex_columns.specs.ColumnView.{ColumnView, valid_rows}
 use Rattle.vortex_columns.specs.ValidityView.{ValidityForm, ValidityView, non_nullable, all_valid}
 use Rattle.vortex_columns.specs.ValidityView.{all_invalid, array}
 use Rattle.vortex_columns.specs.Stored.{bool_column}
-use Rattle.vortex_interface.specs.ValidityRules.{validity_column, column_validity}
-use Rattle.vortex_functions.specs.Arrays.{column_tree}
+use Rattle.vortex_interface.specs.ValidityRules.{validity_column}
 use Rattle.vortex_rewriting.specs.ColumnValidity.{validity_by_form}
 
 abbrev pub plain : ValidityView

@@ -1,4 +1,4 @@
-use Rattle.std.proofs.Common.{◌≡◌, Some, sym, ap, ◌∙◌}
+use Rattle.std.proofs.Common.{Some, sym, ap, ◌∙◌}
 use Rattle.std.specs.Option.{option_map}
 use Rattle.vortex_interface.specs.SimplifyRules.{simplify}
 use Rattle.vortex_rewriting.specs.Contexts.{tree_by}

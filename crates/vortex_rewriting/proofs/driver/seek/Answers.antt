@@ -1,4 +1,4 @@
-use Rattle.std.proofs.Common.{◌≡◌, Some, None, sym, ap, subst, ◌∙◌, length, arith}
+use Rattle.std.proofs.Common.{◌≡◌, Some, None, sym, ap, ◌∙◌, length, arith}
 use Rattle.vortex_interface.specs.Driver.{step}
 use Rattle.vortex_rewriting.specs.Frames.{plug, frames_in}
 use Rattle.vortex_rewriting.proofs.Walking.{of_some, begins, next_is, passes, passes_fewer}

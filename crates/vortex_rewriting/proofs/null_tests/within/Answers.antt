@@ -1,4 +1,4 @@
-use Rattle.std.proofs.Common.{◌≡◌, sym, ap, ◌∙◌, arith, subst, refl}
+use Rattle.std.proofs.Common.{sym, ap, ◌∙◌, arith, subst, refl}
 use Rattle.std.specs.Prelude.{IsSome}
 use Rattle.vortex_errors.proofs.Answering.{AnswersUnlessMemory-weaker}
 use Rattle.vortex_types.specs.TypeOf.{type_of}
