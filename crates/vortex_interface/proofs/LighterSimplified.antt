@@ -81,10 +81,9 @@ module _ {V O : Type 0} (m : Meaning V O) where
 
   module _ (r : Rules V O) where
     simplified_less : (t u : Tree V O) → OnlyShipped t → simplify m r t ≡ Some u → IsLess m t u
-    simplified_less (leaf l) u s e = cc
-    simplified_less (constant c) u s e = cc
     simplified_less (call (ours f) ts) u s e = shipped_less f ts u s.1 e
     simplified_less (call (custom f o) ts) u s e = absurd s.0
+    simplified_less t u s e = cc
 
     -- no rule of another function is asked
     by_ours_alone : (t : Tree V O) → OnlyShipped t → simplify m no_rules t ≡ simplify m r t
