@@ -8,7 +8,7 @@ use Rattle.vortex_operators.specs.declared.operators.Operator.TheVariants.{Lte, 
 use Rattle.vortex_interface.specs.Meaning.{Meaning, Lawful}
 use Rattle.vortex_interface.specs.Shipped.{Shipped, Binary}
 use Rattle.vortex_interface.specs.Functions.{ours, custom}
-use Rattle.vortex_interface.specs.Trees.{Tree, leaf, constant, call, Trees, no_trees, tree}
+use Rattle.vortex_interface.specs.Trees.{Tree, call, Trees, no_trees, tree}
 use Rattle.vortex_interface.specs.ComparisonTrees.{operated}
 use Rattle.vortex_interface.specs.Rules.{Rules, no_rules, constant_truth, is_nullable_tree}
 use Rattle.vortex_interface.specs.Rules.{widened}

@@ -17,7 +17,7 @@ use Rattle.vortex_interface.specs.Shipped.{Binary, Not, NullTest}
 use Rattle.vortex_interface.specs.Shipped.NullTestFunctions.{null_test_value}
 use Rattle.vortex_interface.specs.Functions.{ours, call_type}
 use Rattle.vortex_interface.specs.Trees.{Tree, call, no_trees, tree}
-use Rattle.vortex_interface.specs.Eval.{types_or_none, tree_type, tree_types, eval}
+use Rattle.vortex_interface.specs.Eval.{tree_type, eval}
 use Rattle.vortex_interface.specs.ComparisonTrees.{negated, operated}
 use Rattle.vortex_interface.specs.Rules.{truth_constant, is_null_of, is_not_null_of, may_be_null}
 use Rattle.vortex_interface.specs.Rules.{is_nullable_tree}

@@ -15,7 +15,7 @@ use Rattle.vortex_interface.specs.Meaning.{Meaning, Lawful}
 use Rattle.vortex_interface.specs.Arguments.{has_bool}
 use Rattle.vortex_interface.specs.Shipped.{Shipped, Binary, NullTest, IsNull, IsNotNull}
 use Rattle.vortex_interface.specs.Functions.{ours, custom}
-use Rattle.vortex_interface.specs.Trees.{Tree, leaf, constant, call, Trees, no_trees, tree}
+use Rattle.vortex_interface.specs.Trees.{Tree, call, Trees, no_trees, tree}
 use Rattle.vortex_interface.specs.Eval.{tree_type}
 use Rattle.vortex_interface.specs.ComparisonTrees.{negated, operated}
 use Rattle.vortex_interface.specs.Rules.{Rules, truth_constant, is_null_of, is_not_null_of}

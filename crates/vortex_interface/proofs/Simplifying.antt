@@ -22,7 +22,7 @@ use Rattle.vortex_interface.specs.Shipped.{Shipped, Binary}
 use Rattle.vortex_interface.specs.Shipped.BinaryFunction.{compared_type, operator_type}
 use Rattle.vortex_interface.specs.Shipped.BinaryFunction.{null_compared}
 use Rattle.vortex_interface.specs.Functions.{ours, custom}
-use Rattle.vortex_interface.specs.Trees.{Tree, leaf, constant, call, Trees, no_trees, tree}
+use Rattle.vortex_interface.specs.Trees.{Tree, constant, call, Trees, no_trees, tree}
 use Rattle.vortex_interface.specs.Eval.{types_or_none, tree_type, tree_types, eval}
 use Rattle.vortex_interface.specs.ComparisonTrees.{operated, compared, compared_means}
 use Rattle.vortex_interface.specs.Rules.{Rules, constant_truth, is_nullable_tree}

@@ -25,7 +25,7 @@ use Rattle.vortex_interface.specs.Meaning.{Meaning, Lawful, HaveTypes, AreAlike}
 use Rattle.vortex_interface.specs.Shipped.{Binary, IsNotNull}
 use Rattle.vortex_interface.specs.Functions.{Function, ours, custom, function_type, function_means}
 use Rattle.vortex_interface.specs.Functions.{function_strict}
-use Rattle.vortex_interface.specs.Trees.{Leaf, place, held, Tree, leaf, constant, call, Trees}
+use Rattle.vortex_interface.specs.Trees.{place, held, Tree, leaf, constant, call, Trees}
 use Rattle.vortex_interface.specs.Trees.{no_trees, tree}
 use Rattle.vortex_interface.specs.Leaves.{IsLeafOf, IsLeafIn}
 use Rattle.vortex_interface.specs.Eval.{all_give, tree_type, tree_types, eval, eval_all}
