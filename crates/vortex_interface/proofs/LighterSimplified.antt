@@ -58,7 +58,8 @@ module _ {V O : Type 0} (m : Meaning V O) where
           first_there _ _ u (Less u) e (decided_less (constant_truth x) u)
           (λ e. first_there _ _ u (Less u) e (decided_less (constant_truth y) u)
           (λ e. first_there _ _ u (Less u) e (undecided_less y right (constant_truth x) u)
-          (λ e. first_there _ _ u (Less u) e (undecided_less x left (constant_truth y) u) (nulls_less u))))
+          (λ e. first_there _ _ u (Less u) e (undecided_less x left (constant_truth y) u)
+          (nulls_less u))))
 
   operator_less : (op : Operator) (x y u : Tree V O) → OnlyShipped x → OnlyShipped y
       → simplify_operator m op x y ≡ Some u → IsLess m (operated op x y) u

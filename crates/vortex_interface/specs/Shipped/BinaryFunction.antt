@@ -1,7 +1,8 @@
 -- The operators of two operands: Kleene's And and Or, the comparisons by the order of values, and
 -- exact arithmetic.
 use Rattle.std.specs.Prelude.{◌≡◌, ℕ, zero, suc, List, [], ◌∷◌, Option, Some, None, Bool, true}
-use Rattle.std.specs.Prelude.{◌++◌, false, ◌||◌, not, codes, Any, if◌then◌else◌, slice_index_or, refl}
+use Rattle.std.specs.Prelude.{◌++◌, false, ◌||◌, not, codes, Any, if◌then◌else◌, refl}
+use Rattle.std.specs.Prelude.{slice_index_or}
 use Rattle.std.proofs.Common.{sym, ap, ◌∙◌, subst, cond}
 use Rattle.vortex_errors.specs.declared.error.MismatchPlace.{MismatchPlace}
 use Rattle.vortex_errors.specs.declared.error.MismatchPlace.TheVariants as place
