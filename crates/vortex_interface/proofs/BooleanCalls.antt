@@ -28,7 +28,8 @@ use Rattle.vortex_interface.proofs.TypedCalls.{eval_one, eval_two}
 use Rattle.vortex_interface.proofs.TypedValues.{value_typed}
 use Rattle.vortex_interface.proofs.Leaves.{in_one}
 use Rattle.vortex_interface.proofs.Rewriting.{asks_nothing}
-use Rattle.vortex_interface.proofs.KleeneConstants.{left_decides, left_leaves, truth_back, truth_is}
+use Rattle.vortex_interface.proofs.KleeneConstants.{of_boolean, left_decides, left_leaves}
+use Rattle.vortex_interface.proofs.KleeneConstants.{truth_back, truth_is}
 use Rattle.vortex_interface.proofs.RuleAnswers.{gives_is}
 
 -- the operands' types, where And or Or accepts them
@@ -39,9 +40,7 @@ bools_in t u r h = cc
 
 boolean_type : (op : Operator) (ts : List LogicalType) → is_boolean op ≡ true
     → operator_type op ts ≡ both_bool ts
-boolean_type And ts h = refl
-boolean_type Or ts h = refl
-boolean_type op ts h = cc
+boolean_type op ts h = of_boolean (λ o. operator_type o ts ≡ both_bool ts) refl refl op h
 
 bools_of : (op : Operator) (t u r : LogicalType) (types : List LogicalType) → is_boolean op ≡ true
     → t ∷ u ∷ [] ≡ types → operator_type op types ≡ Some r
@@ -51,9 +50,9 @@ bools_of op t u r types b e h =
 
 boolean_means : (op : Operator) (ts : List LogicalType) (v w : Value) → is_boolean op ≡ true
     → operator_means op ts (v ∷ w ∷ []) ≡ gives (boolean_value op v w)
-boolean_means And ts v w h = refl
-boolean_means Or ts v w h = refl
-boolean_means op ts v w h = cc
+boolean_means op ts v w h =
+    let Means = λ (o : Operator). operator_means o ts (v ∷ w ∷ []) ≡ gives (boolean_value o v w) in
+    of_boolean Means refl refl op h
 
 -- the order of the operands is free
 boolean_turned : (op : Operator) (v w : Value) → is_boolean op ≡ true

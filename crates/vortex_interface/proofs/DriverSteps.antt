@@ -1,4 +1,5 @@
--- A child of a node, as code reaches it: the children up to the next, and a rewrite at a place below.
+-- A child of a node, as code reaches it: the children up to the next, and a rewrite at a place
+-- below.
 use Rattle.std.proofs.Common.{◌≡◌, ℕ, zero, suc, List, [], ◌∷◌, ◌++◌, take, Option, Some, ap, ◌∙◌}
 use Rattle.std.specs.Prelude.{slice_get}
 use Rattle.std.specs.Option.{option_map, option_and_then}

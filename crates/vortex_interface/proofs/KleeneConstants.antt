@@ -9,6 +9,13 @@ use Rattle.vortex_operators.specs.declared.operators.Operator.TheVariants.{And, 
 use Rattle.vortex_operators.specs.Operators.{is_boolean}
 use Rattle.vortex_operators.specs.Kleene.{kleene, decides}
 
+-- what holds of And and of Or holds of an operator of truth values
+pub of_boolean : (P : Operator → Type 0) → P And → P Or → (op : Operator) → is_boolean op ≡ true
+    → P op
+of_boolean P a o And h = a
+of_boolean P a o Or h = o
+of_boolean P a o op h = cc
+
 -- the order of the operands is free
 kleene_turned : (op : Operator) (c : Bool) (a : Option Bool) → is_boolean op ≡ true
     → kleene op a (Some c) ≡ kleene op (Some c) a

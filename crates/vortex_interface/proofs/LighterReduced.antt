@@ -13,7 +13,7 @@ use Rattle.vortex_interface.specs.Meaning.{Meaning, Lawful}
 use Rattle.vortex_interface.specs.Arguments.{or_either}
 use Rattle.vortex_interface.specs.Shipped.{Shipped, Binary, Not, NullTest, IsNull, IsNotNull}
 use Rattle.vortex_interface.specs.Functions.{ours, custom}
-use Rattle.vortex_interface.specs.Trees.{Tree, leaf, constant, call, Trees, no_trees, tree}
+use Rattle.vortex_interface.specs.Trees.{Tree, call, Trees, no_trees, tree}
 use Rattle.vortex_interface.specs.Eval.{tree_type}
 use Rattle.vortex_interface.specs.ComparisonTrees.{negated, operated}
 use Rattle.vortex_interface.specs.Rules.{Rules, no_rules, truth_constant, is_null_of, is_not_null_of}
@@ -28,6 +28,7 @@ use Rattle.vortex_interface.specs.Weights.{operator_added, shipped_added, weight
 use Rattle.vortex_interface.specs.Weights.{AllShipped, Lightens}
 use Rattle.vortex_interface.proofs.RuleAnswers.{some_is, either_answer, mapped}
 use Rattle.vortex_interface.proofs.TypedCalls.{only_child_type, type_of_one}
+use Rattle.vortex_interface.proofs.KleeneConstants.{of_boolean}
 use Rattle.vortex_interface.proofs.BooleanCalls.{bool_call}
 use Rattle.vortex_interface.proofs.Validities.{no_rules_lawful}
 use Rattle.vortex_interface.proofs.Reducing.{reduce_sound}
@@ -36,9 +37,8 @@ use Rattle.vortex_interface.proofs.ValidityWeights.{validity_no_heavier}
 
 boolean_added : (op : Operator) (n : Bool) → is_boolean op ≡ true
     → operator_added op n ≡ (if n then 3 else 1)
-boolean_added And n h = refl
-boolean_added Or n h = refl
-boolean_added op n h = cc
+boolean_added op n h =
+    of_boolean (λ o. operator_added o n ≡ (if n then 3 else 1)) refl refl op h
 
 right_false : (a b : Bool) → (a || b) ≡ false → b ≡ false
 right_false true b h = cc
@@ -234,10 +234,9 @@ module _ {V O : Type 0} (m : Meaning V O) where
 
     reduced_less : (t u : Tree V O) (k : LogicalType) → tree_type m t ≡ Some k → OnlyShipped t
         → tree_type m u ≡ tree_type m t → reduce m r t ≡ Some u → IsLess m t u
-    reduced_less (leaf l) u k h s d e = cc
-    reduced_less (constant c) u k h s d e = cc
     reduced_less (call (ours f) ts) u k h s d e = shipped_less f ts u k h s.1 d e
     reduced_less (call (custom f o) ts) u k h s d e = absurd s.0
+    reduced_less t u k h s d e = cc
 
     -- no rule of another function is asked
     validity_alone : (x : Tree V O) → OnlyShipped x → validity m no_rules x ≡ validity m r x

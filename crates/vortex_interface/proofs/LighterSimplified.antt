@@ -8,7 +8,7 @@ use Rattle.vortex_operators.specs.declared.operators.Operator.TheVariants.{Lte, 
 use Rattle.vortex_interface.specs.Meaning.{Meaning, Lawful}
 use Rattle.vortex_interface.specs.Shipped.{Shipped, Binary}
 use Rattle.vortex_interface.specs.Functions.{ours, custom}
-use Rattle.vortex_interface.specs.Trees.{Tree, leaf, constant, call, Trees, no_trees, tree}
+use Rattle.vortex_interface.specs.Trees.{Tree, call, Trees, no_trees, tree}
 use Rattle.vortex_interface.specs.ComparisonTrees.{operated}
 use Rattle.vortex_interface.specs.Rules.{Rules, no_rules, constant_truth, is_nullable_tree}
 use Rattle.vortex_interface.specs.Rules.{widened}
@@ -58,7 +58,8 @@ module _ {V O : Type 0} (m : Meaning V O) where
           first_there _ _ u (Less u) e (decided_less (constant_truth x) u)
           (λ e. first_there _ _ u (Less u) e (decided_less (constant_truth y) u)
           (λ e. first_there _ _ u (Less u) e (undecided_less y right (constant_truth x) u)
-          (λ e. first_there _ _ u (Less u) e (undecided_less x left (constant_truth y) u) (nulls_less u))))
+          (λ e. first_there _ _ u (Less u) e (undecided_less x left (constant_truth y) u)
+          (nulls_less u))))
 
   operator_less : (op : Operator) (x y u : Tree V O) → OnlyShipped x → OnlyShipped y
       → simplify_operator m op x y ≡ Some u → IsLess m (operated op x y) u
@@ -81,10 +82,9 @@ module _ {V O : Type 0} (m : Meaning V O) where
 
   module _ (r : Rules V O) where
     simplified_less : (t u : Tree V O) → OnlyShipped t → simplify m r t ≡ Some u → IsLess m t u
-    simplified_less (leaf l) u s e = cc
-    simplified_less (constant c) u s e = cc
     simplified_less (call (ours f) ts) u s e = shipped_less f ts u s.1 e
     simplified_less (call (custom f o) ts) u s e = absurd s.0
+    simplified_less t u s e = cc
 
     -- no rule of another function is asked
     by_ours_alone : (t : Tree V O) → OnlyShipped t → simplify m no_rules t ≡ simplify m r t

@@ -17,7 +17,7 @@ use Rattle.vortex_interface.specs.Shipped.{Binary, Not, NullTest}
 use Rattle.vortex_interface.specs.Shipped.NullTestFunctions.{null_test_value}
 use Rattle.vortex_interface.specs.Functions.{ours, call_type}
 use Rattle.vortex_interface.specs.Trees.{Tree, call, no_trees, tree}
-use Rattle.vortex_interface.specs.Eval.{types_or_none, tree_type, tree_types, eval}
+use Rattle.vortex_interface.specs.Eval.{tree_type, eval}
 use Rattle.vortex_interface.specs.ComparisonTrees.{negated, operated}
 use Rattle.vortex_interface.specs.Rules.{truth_constant, is_null_of, is_not_null_of, may_be_null}
 use Rattle.vortex_interface.specs.Rules.{is_nullable_tree}
@@ -28,7 +28,7 @@ use Rattle.vortex_interface.proofs.TypedCalls.{type_of_one, type_of_two, one_val
 use Rattle.vortex_interface.proofs.TypedValues.{value_typed, never_null}
 use Rattle.vortex_interface.proofs.Leaves.{in_one, in_two}
 use Rattle.vortex_interface.proofs.Rewriting.{asks_same, asks_nothing}
-use Rattle.vortex_interface.proofs.KleeneConstants.{truth_back, truth_in}
+use Rattle.vortex_interface.proofs.KleeneConstants.{of_boolean, truth_back, truth_in}
 use Rattle.vortex_interface.proofs.BooleanCalls.{bool_call, AreOperands, left_first, right_first}
 use Rattle.vortex_interface.proofs.BooleanCalls.{eval_bool}
 use Rattle.vortex_interface.proofs.RuleAnswers.{mapped, not_not}
@@ -146,6 +146,12 @@ module _ {V O : Type 0} (m : Meaning V O) where
           ap (λ z. gives (truth z)) (sym (same cs i a.0 p.0 a.1)) ∙ a.2;
     }
 
+    -- And or Or of two Bool without null is one
+    abbrev Joined : Operator → Type 0
+    Joined op =
+        call_type m (ours (Binary op)) (bool_type false ∷ bool_type false ∷ [])
+        ≡ Some (bool_type false)
+
     -- And or Or, by its operands
     split_test : (op join : Operator) (turn : Bool → Bool) (node x y other : Tree V O)
         (t : LogicalType) → is_boolean join ≡ true → tree_type m node ≡ Some t
@@ -158,7 +164,7 @@ module _ {V O : Type 0} (m : Meaning V O) where
       dtype =
           type_of_two m (ours (Binary join)) (tested x) other (bool_type false) (bool_type false)
           (test_type x (bool_type true) s.nullable) typed
-          ∙ joined_type join b ∙ sym (test_type node t h);
+          ∙ of_boolean Joined refl refl join b ∙ sym (test_type node t h);
       asks = record {
         leaves = λ p name k h.
             inl
@@ -180,13 +186,6 @@ module _ {V O : Type 0} (m : Meaning V O) where
           eval_bool m cs i join (tested x) other _ _ b left right
           ∙ ap gives (said q.0 q.1) ∙ ap (λ v. gives (truth (says v))) q.4 ∙ a.2;
     }
-      where
-        joined_type : (op : Operator) → is_boolean op ≡ true
-            → call_type m (ours (Binary op)) (bool_type false ∷ bool_type false ∷ [])
-            ≡ Some (bool_type false)
-        joined_type And k = refl
-        joined_type Or k = refl
-        joined_type op k = cc
 
     -- the other operand as it is, and negated
     module _ (lawful : Lawful m) (op join : Operator) (b : is_boolean op ≡ true)

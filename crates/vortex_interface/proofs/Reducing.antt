@@ -15,7 +15,7 @@ use Rattle.vortex_interface.specs.Meaning.{Meaning, Lawful}
 use Rattle.vortex_interface.specs.Arguments.{has_bool}
 use Rattle.vortex_interface.specs.Shipped.{Shipped, Binary, NullTest, IsNull, IsNotNull}
 use Rattle.vortex_interface.specs.Functions.{ours, custom}
-use Rattle.vortex_interface.specs.Trees.{Tree, leaf, constant, call, Trees, no_trees, tree}
+use Rattle.vortex_interface.specs.Trees.{Tree, call, Trees, no_trees, tree}
 use Rattle.vortex_interface.specs.Eval.{tree_type}
 use Rattle.vortex_interface.specs.ComparisonTrees.{negated, operated}
 use Rattle.vortex_interface.specs.Rules.{Rules, truth_constant, is_null_of, is_not_null_of}
@@ -139,7 +139,6 @@ module _ {V O : Type 0} (m : Meaning V O) where
     -- what Reduce answers for a well-typed tree keeps its type and its values
     pub reduce_sound : (r : Rules V O) → LawfulRules m r → (x u : Tree V O) (t : LogicalType)
         → tree_type m x ≡ Some t → reduce m r x ≡ Some u → Rewrites m x u
-    reduce_sound r rules (leaf l) u t h e = cc
-    reduce_sound r rules (constant s) u t h e = cc
     reduce_sound r rules (call (ours s) ts) u t h e = shipped_sound r rules s ts u t h e
     reduce_sound r rules (call (custom f o) ts) u t h e = rules.reduce f o ts t u h e
+    reduce_sound r rules x u t h e = cc

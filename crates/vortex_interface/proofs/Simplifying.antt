@@ -22,7 +22,7 @@ use Rattle.vortex_interface.specs.Shipped.{Shipped, Binary}
 use Rattle.vortex_interface.specs.Shipped.BinaryFunction.{compared_type, operator_type}
 use Rattle.vortex_interface.specs.Shipped.BinaryFunction.{null_compared}
 use Rattle.vortex_interface.specs.Functions.{ours, custom}
-use Rattle.vortex_interface.specs.Trees.{Tree, leaf, constant, call, Trees, no_trees, tree}
+use Rattle.vortex_interface.specs.Trees.{Tree, constant, call, Trees, no_trees, tree}
 use Rattle.vortex_interface.specs.Eval.{types_or_none, tree_type, tree_types, eval}
 use Rattle.vortex_interface.specs.ComparisonTrees.{operated, compared, compared_means}
 use Rattle.vortex_interface.specs.Rules.{Rules, constant_truth, is_nullable_tree}
@@ -32,6 +32,7 @@ use Rattle.vortex_interface.specs.SimplifyRules.{simplify_boolean, simplify_oper
 use Rattle.vortex_interface.specs.SimplifyRules.{simplify_shipped, simplify}
 use Rattle.vortex_interface.specs.Rewrites.{Rewrites, LawfulRules}
 use Rattle.vortex_interface.proofs.TypedCalls.{two_types, typed_call, two_values}
+use Rattle.vortex_interface.proofs.KleeneConstants.{of_boolean}
 use Rattle.vortex_interface.proofs.BooleanCalls.{IsBoolCall, bool_call, bool_values, asks_left}
 use Rattle.vortex_interface.proofs.BooleanCalls.{AreOperands, left_first, right_first}
 use Rattle.vortex_interface.proofs.BooleanCalls.{decided_sound, undecided_sound}
@@ -55,18 +56,16 @@ null_beside op = null_of_either (comparison_value op) (λ w. refl) (null_compare
 module _ {V O : Type 0} (m : Meaning V O) where
   null_literal_type : (x : Tree V O) (t : LogicalType) → is_null_literal x ≡ true
       → tree_type m x ≡ Some t → is_nullable t ≡ true
-  null_literal_type (leaf l) t h e = cc
-  null_literal_type (call f ts) t h e = cc
   null_literal_type (constant s) t h e =
       let is : s.dtype ≡ t = cc in
       ap is_nullable (sym is) ∙ (both_true (is_null s.value) (is_nullable s.dtype) h).1
+  null_literal_type x t h e = cc
 
   null_literal_value : (cs : List ColumnView) (i : ℕ) (x : Tree V O) → is_null_literal x ≡ true
       → eval m cs x i ≡ gives null
-  null_literal_value cs i (leaf l) h = cc
-  null_literal_value cs i (call f ts) h = cc
   null_literal_value cs i (constant s) h =
       ap gives (null_is s.value (both_true (is_null s.value) (is_nullable s.dtype) h).0)
+  null_literal_value cs i x h = cc
 
   null_value : (cs : List ColumnView) (i : ℕ) (x : Tree V O) (v : Value)
       → is_null_literal x ≡ true → eval m cs x i ≡ gives v → v ≡ null
@@ -122,9 +121,7 @@ module _ {V O : Type 0} (m : Meaning V O) where
       subst (Rewrites m (compared op x y)) a.1 (null_comparison op x y t nulls h)
 
   null_kleene : (op : Operator) → is_boolean op ≡ true → boolean_value op null null ≡ null
-  null_kleene And h = refl
-  null_kleene Or h = refl
-  null_kleene op h = cc
+  null_kleene op h = of_boolean (λ o. boolean_value o null null ≡ null) refl refl op h
 
   module _ (lawful : Lawful m) (op : Operator) (b : is_boolean op ≡ true) where
     module _ (node x y : Tree V O) (n : Bool) (c : AreOperands m op node n x y) where
@@ -209,7 +206,6 @@ module _ {V O : Type 0} (m : Meaning V O) where
     -- what Simplify answers for a well-typed tree keeps its type and its values
     pub simplify_sound : (r : Rules V O) → LawfulRules m r → (x u : Tree V O) (t : LogicalType)
         → tree_type m x ≡ Some t → simplify m r x ≡ Some u → Rewrites m x u
-    simplify_sound r rules (leaf l) u t h e = cc
-    simplify_sound r rules (constant s) u t h e = cc
     simplify_sound r rules (call (ours s) ts) u t h e = shipped_sound s ts u t h e
     simplify_sound r rules (call (custom f o) ts) u t h e = rules.simplify f o ts t u h e
+    simplify_sound r rules x u t h e = cc

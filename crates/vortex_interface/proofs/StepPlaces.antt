@@ -1,11 +1,11 @@
 -- A step is a rewrite at a place.
-use Rattle.std.proofs.Common.{◌≡◌, ℕ, zero, suc, List, [], ◌∷◌, Option, Some, None, refl, sym, ap}
+use Rattle.std.proofs.Common.{◌≡◌, ℕ, suc, List, [], ◌∷◌, Option, Some, refl, ap}
 use Rattle.std.proofs.Common.{◌∙◌, subst}
 use Rattle.std.specs.Prelude.{slice_get, slice_set}
 use Rattle.std.specs.Option.{option_map, option_and_then}
 use Rattle.vortex_interface.specs.Functions.{Function}
 use Rattle.vortex_interface.specs.Trees.{Tree, leaf, constant, call, Trees, no_trees, tree, trees_of}
-use Rattle.vortex_interface.specs.Trees.{list_of, children_of}
+use Rattle.vortex_interface.specs.Trees.{list_of}
 use Rattle.vortex_interface.specs.Places.{with_child, rewritten}
 use Rattle.vortex_interface.specs.Driver.{step, step_in}
 use Rattle.vortex_interface.proofs.RuleAnswers.{first_there, mapped}

@@ -25,7 +25,7 @@ use Rattle.vortex_interface.specs.Meaning.{Meaning, Lawful, HaveTypes, AreAlike}
 use Rattle.vortex_interface.specs.Shipped.{Binary, IsNotNull}
 use Rattle.vortex_interface.specs.Functions.{Function, ours, custom, function_type, function_means}
 use Rattle.vortex_interface.specs.Functions.{function_strict}
-use Rattle.vortex_interface.specs.Trees.{Leaf, place, held, Tree, leaf, constant, call, Trees}
+use Rattle.vortex_interface.specs.Trees.{place, held, Tree, leaf, constant, call, Trees}
 use Rattle.vortex_interface.specs.Trees.{no_trees, tree}
 use Rattle.vortex_interface.specs.Leaves.{IsLeafOf, IsLeafIn}
 use Rattle.vortex_interface.specs.Eval.{all_give, tree_type, tree_types, eval, eval_all}
@@ -140,34 +140,21 @@ module _ {V O : Type 0} (m : Meaning V O) where
   each_test P t rest true h k = (true, true, h, k, refl)
   each_test P t rest false h k = k
 
-  tests_typed : (ts : Trees V O) (types : List LogicalType) → tree_types m ts ≡ Some types
-      → AllSay (λ u p. tree_type m u ≡ Some (bool_type false)) (null_tests m ts) true
-  tests_typed no_trees types h = refl
-  tests_typed (tree t ts) types h =
-      let a = types_parts (tree_type m t) (tree_types m ts) types h in
-      each_test (λ u. tree_type m u ≡ Some (bool_type false)) t (null_tests m ts)
-      (is_nullable_tree m t) (type_of_one m (ours IsNotNull) t a.0 a.2) (tests_typed ts a.1 a.3)
-
-  tests_leaves : (l : Leaf) (Q : Type 0) (ts : Trees V O) → (IsLeafIn l ts → Q)
-      → AllSay (λ u p. IsLeafOf l u → Q) (null_tests m ts) true
-  tests_leaves l Q no_trees h = refl
-  tests_leaves l Q (tree t ts) h =
-      each_test (λ u. IsLeafOf l u → Q) t (null_tests m ts) (is_nullable_tree m t)
-      (λ is. h (inl (in_one is))) (tests_leaves l Q ts (λ is. h (inr is)))
-
-  tests_have_row : (cs : List ColumnView) (i : ℕ) (ts : Trees V O) → AllHaveRow cs i ts
-      → AllSay (λ u p. HasRow cs i u) (null_tests m ts) true
-  tests_have_row cs i no_trees h = refl
-  tests_have_row cs i (tree t ts) h =
-      each_test (HasRow cs i) t (null_tests m ts) (is_nullable_tree m t) (h.0, tt)
-      (tests_have_row cs i ts h.1)
-
-  tests_hold_none : (ts : Trees V O) → AllOnlyPlaces ts
-      → AllSay (λ u p. OnlyPlaces u) (null_tests m ts) true
-  tests_hold_none no_trees h = refl
-  tests_hold_none (tree t ts) h =
-      each_test OnlyPlaces t (null_tests m ts) (is_nullable_tree m t) (h.0, tt)
-      (tests_hold_none ts h.1)
+  -- what goes over from the children to their null tests, and from two trees to their And, holds of
+  -- the union of the children's validities
+  union_each : (P : Tree V O → Type 0) (Q : Trees V O → Type 0) → P (truth_constant false true)
+      → ((t u : Tree V O) → P t → P u → P (operated And t u))
+      → ((t : Tree V O) (ts : Trees V O) → Q (tree t ts) → P (is_not_null_of t) × Q ts)
+      → (ts : Trees V O) → Q ts → P (union_child_validities m ts)
+  union_each P Q none joined first ts h =
+      all_of_says (λ u p. P u) (λ t u p q a b. joined t u a b) none (null_tests m ts) true
+      (each ts h)
+    where
+      each : (us : Trees V O) → Q us → AllSay (λ u p. P u) (null_tests m us) true
+      each no_trees k = refl
+      each (tree t us) k =
+          let a = first t us k in
+          each_test P t (null_tests m us) (is_nullable_tree m t) a.0 (each us a.1)
 
   -- in a row the tests say together that no child is null
   abbrev Says : List ColumnView → ℕ → Tree V O → Bool → Type 0
@@ -198,38 +185,36 @@ module _ {V O : Type 0} (m : Meaning V O) where
       (one_more_test cs i t a.0 (null_tests m ts) q.0 q.1 (is_nullable_tree m t) refl a.2 have.0 q.2
       others)
 
-  and_type : (t u : Tree V O) (p q : Bool) → tree_type m t ≡ Some (bool_type false)
-      → tree_type m u ≡ Some (bool_type false)
-      → tree_type m (operated And t u) ≡ Some (bool_type false)
-  and_type t u p q h k =
-      type_of_two m (ours (Binary And)) t u (bool_type false) (bool_type false) h k
-
   and_says : (cs : List ColumnView) (i : ℕ) (t u : Tree V O) (p q : Bool) → Says cs i t p
       → Says cs i u q → Says cs i (operated And t u) (p && q)
   and_says cs i t u p q h k =
       eval_bool m cs i And t u (truth p) (truth q) refl h k ∙ ap gives (and_truths p q)
 
-  -- the union of the children's validities: its type, what it asks, and what it says
+  -- its type, what it asks, and what it says
   union_type : (ts : Trees V O) (types : List LogicalType) → tree_types m ts ≡ Some types
       → tree_type m (union_child_validities m ts) ≡ Some (bool_type false)
   union_type ts types h =
-      all_of_says (λ u p. tree_type m u ≡ Some (bool_type false)) and_type refl (null_tests m ts)
-      true (tests_typed ts types h)
+      union_each (λ u. tree_type m u ≡ Some (bool_type false))
+      (λ us. (k : List LogicalType) × (tree_types m us ≡ Some k)) refl
+      (λ t u a b. type_of_two m (ours (Binary And)) t u (bool_type false) (bool_type false) a b)
+      (λ t us k.
+      let a = types_parts (tree_type m t) (tree_types m us) k.0 k.1 in
+      (type_of_one m (ours IsNotNull) t a.0 a.2, (a.1, a.3))) ts (types, h)
 
   union_asks : (f : Function V O) (ts : Trees V O)
       → AsksNoMore (call f ts) (union_child_validities m ts)
   union_asks f ts = record {
     leaves = λ p name k h.
         let l = place p name k in
-        all_of_says (λ u b. IsLeafOf l u → IsLeafIn l ts)
-        (λ t u b c one other is. ⊎_elim one other (in_two is)) (λ is. absurd is) (null_tests m ts)
-        true (tests_leaves l (IsLeafIn l ts) ts (λ is. is)) h;
+        union_each (λ u. IsLeafOf l u → IsLeafIn l ts) (λ us. IsLeafIn l us → IsLeafIn l ts)
+        (λ is. absurd is) (λ t u one other is. ⊎_elim one other (in_two is))
+        (λ t us k. ((λ is. k (inl (in_one is))), (λ is. k (inr is)))) ts (λ is. is) h;
     rows = λ cs i h.
-        all_of_says (λ u p. HasRow cs i u) (λ t u p q a b. (a, (b, tt))) tt (null_tests m ts) true
-        (tests_have_row cs i ts h);
+        union_each (HasRow cs i) (AllHaveRow cs i) tt (λ t u a b. (a, (b, tt)))
+        (λ t us k. ((k.0, tt), k.1)) ts h;
     places = λ h.
-        all_of_says (λ u p. OnlyPlaces u) (λ t u p q a b. (a, (b, tt))) tt (null_tests m ts) true
-        (tests_hold_none ts h);
+        union_each OnlyPlaces AllOnlyPlaces tt (λ t u a b. (a, (b, tt)))
+        (λ t us k. ((k.0, tt), k.1)) ts h;
   }
 
   union_says : (cs : List ColumnView) (i : ℕ) (ts : Trees V O) (types : List LogicalType)

@@ -2,10 +2,11 @@
 use Rattle.std.specs.Prelude.{◌≡◌, ◌⊎◌, ℕ, zero, suc, ◌<◌, List, [], ◌∷◌, Option, Some, None, Bool}
 use Rattle.std.specs.Prelude.{true, false, ◌||◌, Any, slice_index_or, refl}
 use Rattle.std.proofs.Common.{sym, ap, ◌∙◌, subst, arith, inl, inr}
-use Rattle.vortex_types.specs.LogicalTypes.{bool_type}
+use Rattle.vortex_types.specs.LogicalTypes.{LogicalType, bool_type}
 use Rattle.vortex_types.specs.Values.{Value, null, truth_or_null}
 use Rattle.vortex_types.specs.Typing.{HasType}
 use Rattle.vortex_operators.specs.Kleene.{Allows}
+use Rattle.vortex_interface.specs.Meaning.{HaveTypes}
 
 abbrev pub of_one : (Value → Value) → List Value → Value
 of_one f (v ∷ []) = f v
@@ -18,6 +19,21 @@ of_two f vs = null
 abbrev pub of_three : (Value → Value → Value → Value) → List Value → Value
 of_three f (v ∷ w ∷ x ∷ []) = f v w x
 of_three f vs = null
+
+-- of the types of one argument, and of two, there are as many values
+pub one_there : (t : LogicalType) (P : List Value → Type 0)
+    → ((v : Value) → HasType t v → P (v ∷ [])) → (vs : List Value) → HaveTypes (t ∷ []) vs → P vs
+one_there t P p (v ∷ []) h = p v h.0
+one_there t P p [] h = absurd h
+one_there t P p (v ∷ w ∷ vs) h = absurd h.1
+
+pub two_there : (t u : LogicalType) (P : List Value → Type 0)
+    → ((v w : Value) → HasType t v → HasType u w → P (v ∷ w ∷ []))
+    → (vs : List Value) → HaveTypes (t ∷ u ∷ []) vs → P vs
+two_there t u P p (v ∷ w ∷ []) h = p v w h.0 h.1.0
+two_there t u P p [] h = absurd h
+two_there t u P p (v ∷ []) h = absurd h.1
+two_there t u P p (v ∷ w ∷ x ∷ vs) h = absurd h.1.1
 
 -- what holds of an argument holds of the only one, and of one of the two
 pub only : {A : Type 0} (P : A → Type 0) (x : A) → Any P (x ∷ []) → P x

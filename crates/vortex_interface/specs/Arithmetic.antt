@@ -17,7 +17,7 @@ use Rattle.vortex_operators.specs.Arithmetic.{exact_result, held, arithmetic_val
 use Rattle.vortex_interface.specs.Outcomes.{Outcome, gives, faults, Fault, arithmetic, GivesType}
 use Rattle.vortex_interface.specs.Outcomes.{GivesNull}
 use Rattle.vortex_interface.specs.Meaning.{HaveTypes, AreAlike}
-use Rattle.vortex_interface.specs.Arguments.{either_of, or_either}
+use Rattle.vortex_interface.specs.Arguments.{two_there, either_of, or_either}
 
 -- the integer type of two arguments, which agree apart from nullability
 abbrev pub integer_of : List LogicalType → Option PType
@@ -92,9 +92,12 @@ module _ (o : NumericOperator) where
   -- an answer has the type that is returned
   pub arithmetic_typed : (ts : List LogicalType) (t : LogicalType) (vs : List Value)
       → arithmetic_type ts ≡ Some t → HaveTypes ts vs → GivesType t (arithmetic_means o ts vs)
-  arithmetic_typed (integer_type p n ∷ integer_type q m ∷ []) a (v ∷ w ∷ []) e h =
-      of_integers p q n m (ptype_eq p q) a v w refl e h.0 h.1.0
-  arithmetic_typed ts a vs e h = grind arith
+  arithmetic_typed (integer_type p n ∷ integer_type q m ∷ []) a vs e h =
+      two_there (integer_type p n) (integer_type q m)
+      (λ us. GivesType a (arithmetic_means o (integer_type p n ∷ integer_type q m ∷ []) us))
+      (λ v w x y. of_integers p q n m (ptype_eq p q) a v w refl e x y) vs h
+  arithmetic_typed (t ∷ u ∷ []) a vs e h = cc
+  arithmetic_typed ts a vs e h = cc
 
 integers_alike : (t u : LogicalType)
     → integer_of_both t u ≡ integer_of_both (without_nullability t) (without_nullability u)

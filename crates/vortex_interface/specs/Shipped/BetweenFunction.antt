@@ -2,7 +2,7 @@
 use Rattle.std.specs.Prelude.{◌≡◌, ◌||◌, ◌&&◌, ℕ, zero, suc, List, [], ◌∷◌, Option, Some, None}
 use Rattle.std.specs.Prelude.{◌++◌, Bool, true, false, codes, if◌then◌else◌, refl}
 use Rattle.std.specs.Str.{bytes_eq}
-use Rattle.std.proofs.Common.{subst, cond, arith}
+use Rattle.std.proofs.Common.{subst, cond}
 use Rattle.vortex_errors.specs.declared.error.MismatchPlace.{MismatchPlace}
 use Rattle.vortex_errors.specs.declared.error.MismatchPlace.TheVariants as place
 use Rattle.vortex_types.specs.LogicalTypes.{LogicalType, bool_type, is_nullable}
@@ -131,7 +131,11 @@ between_typed options (t ∷ lower ∷ upper ∷ []) a (v ∷ low ∷ high ∷ [
         let bool = between_has_bool options t lower upper v low high h.0 h.1.0 h.1.1.0 in
         subst (λ (x : LogicalType). HasType x (between_value options low v high)) is bool
     by false g = cc
-between_typed options ts a vs e h = grind arith
+between_typed options (t ∷ lower ∷ upper ∷ []) a [] e h = absurd h
+between_typed options (t ∷ lower ∷ upper ∷ []) a (v ∷ []) e h = absurd h.1
+between_typed options (t ∷ lower ∷ upper ∷ []) a (v ∷ w ∷ []) e h = absurd h.1.1
+between_typed options (t ∷ lower ∷ upper ∷ []) a (v ∷ w ∷ x ∷ y ∷ vs) e h = absurd h.1.1.1
+between_typed options ts a vs e h = cc
 
 pub between_lawful : (options : BetweenOptions) → LawfulRow (between_function options)
 between_lawful options = record {

@@ -1,8 +1,9 @@
 -- The operators of two operands: Kleene's And and Or, the comparisons by the order of values, and
 -- exact arithmetic.
 use Rattle.std.specs.Prelude.{◌≡◌, ℕ, zero, suc, List, [], ◌∷◌, Option, Some, None, Bool, true}
-use Rattle.std.specs.Prelude.{◌++◌, false, ◌||◌, not, codes, Any, if◌then◌else◌, slice_index_or, refl}
-use Rattle.std.proofs.Common.{sym, ap, ◌∙◌, subst, cond, arith}
+use Rattle.std.specs.Prelude.{◌++◌, false, ◌||◌, not, codes, Any, if◌then◌else◌, refl}
+use Rattle.std.specs.Prelude.{slice_index_or}
+use Rattle.std.proofs.Common.{sym, ap, ◌∙◌, subst, cond}
 use Rattle.vortex_errors.specs.declared.error.MismatchPlace.{MismatchPlace}
 use Rattle.vortex_errors.specs.declared.error.MismatchPlace.TheVariants as place
 use Rattle.vortex_errors.specs.declared.error.NumericOperator.{NumericOperator}
@@ -33,7 +34,8 @@ use Rattle.vortex_interface.specs.Meaning.{HaveTypes, AreAlike}
 use Rattle.vortex_interface.specs.Arithmetic.{arithmetic_type, arithmetic_means, arithmetic_typed}
 use Rattle.vortex_interface.specs.Arithmetic.{arithmetic_alike, arithmetic_nullable}
 use Rattle.vortex_interface.specs.Arithmetic.{arithmetic_null, arithmetic_fault}
-use Rattle.vortex_interface.specs.Arguments.{of_two, either_of, or_either, null_of_two, has_bool}
+use Rattle.vortex_interface.specs.Arguments.{of_two, two_there, either_of, or_either}
+use Rattle.vortex_interface.specs.Arguments.{null_of_two, has_bool}
 use Rattle.vortex_interface.specs.RowFunction.{RowFunction, LawfulRow}
 
 abbrev pub binary_id : List ℕ
@@ -110,14 +112,19 @@ operator_function o = record {
 both_typed : (op : Operator) → is_boolean op ≡ true
     → (ts : List LogicalType) (t : LogicalType) (vs : List Value)
     → both_bool ts ≡ Some t → HaveTypes ts vs → HasType t (of_two (boolean_value op) vs)
-both_typed op b (bool_type n ∷ bool_type m ∷ []) t (v ∷ w ∷ []) e h =
-    let is : bool_type (n || m) ≡ t = cc in
-    let a = truth_of v in
-    let c = truth_of w in
-    let here = kleene_allowed op n m a c b (allowed n v h.0) (allowed m w h.1.0) in
-    let bool = has_bool (n || m) (kleene op a c) here in
-    subst (λ (u : LogicalType). HasType u (boolean_value op v w)) is bool
-both_typed op b ts t vs e h = grind arith
+both_typed op b (bool_type n ∷ bool_type m ∷ []) t vs e h =
+    two_there (bool_type n) (bool_type m) (λ us. HasType t (of_two (boolean_value op) us)) by vs h
+  where
+    by : (v w : Value) → HasType (bool_type n) v → HasType (bool_type m) w
+        → HasType t (boolean_value op v w)
+    by v w p q =
+        let is : bool_type (n || m) ≡ t = cc in
+        let a = truth_of v in
+        let c = truth_of w in
+        let here = kleene_allowed op n m a c b (allowed n v p) (allowed m w q) in
+        let bool = has_bool (n || m) (kleene op a c) here in
+        subst (λ (u : LogicalType). HasType u (boolean_value op v w)) is bool
+both_typed op b ts t vs e h = cc
 
 typed_unless_null : (n p b : Bool) → (n ≡ false → p ≡ false)
     → HasType (bool_type n) (cond p null (truth b))
@@ -145,16 +152,17 @@ comparison_has_bool op t u v w h k =
 comparison_typed : (op : CompareOperator) (ts : List LogicalType) (t : LogicalType)
     (vs : List Value)
     → compared_type ts ≡ Some t → HaveTypes ts vs → HasType t (of_two (comparison_value op) vs)
-comparison_typed op (t ∷ u ∷ []) a (v ∷ w ∷ []) e h = by (alike_types t u) e
+comparison_typed op (t ∷ u ∷ []) a vs e h =
+    two_there t u (λ us. HasType a (of_two (comparison_value op) us)) (by (alike_types t u) e) vs h
   where
     by : (b : Bool) → cond b (Some (comparison_type t u)) None ≡ Some a
-        → HasType a (comparison_value op v w)
-    by true g =
+        → (v w : Value) → HasType t v → HasType u w → HasType a (comparison_value op v w)
+    by true g v w p q =
         let is : comparison_type t u ≡ a = cc in
-        let bool = comparison_has_bool op t u v w h.0 h.1.0 in
+        let bool = comparison_has_bool op t u v w p q in
         subst (λ (x : LogicalType). HasType x (comparison_value op v w)) is bool
-    by false g = cc
-comparison_typed op ts a vs e h = grind arith
+    by false g v w p q = cc
+comparison_typed op ts a vs e h = cc
 
 operator_typed : (op : Operator) (ts : List LogicalType) (t : LogicalType) (vs : List Value)
     → operator_type op ts ≡ Some t → HaveTypes ts vs → GivesType t (operator_means op ts vs)

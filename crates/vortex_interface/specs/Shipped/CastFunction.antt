@@ -2,14 +2,14 @@
 use Rattle.std.specs.Prelude.{◌≡◌, ℕ, List, [], ◌∷◌, Option, Some, None, Bool, true, false}
 use Rattle.std.specs.Prelude.{codes, refl}
 use Rattle.std.specs.Str.{bytes_eq}
-use Rattle.std.proofs.Common.{sym, ap, subst, arith}
+use Rattle.std.proofs.Common.{sym, ap, subst}
 use Rattle.vortex_errors.specs.declared.error.MismatchPlace.TheVariants as place
 use Rattle.vortex_types.specs.LogicalTypes.{LogicalType, bool_type, is_nullable}
 use Rattle.vortex_types.specs.Values.{Value, null, truth}
 use Rattle.vortex_types.specs.Typing.{HasType}
 use Rattle.vortex_interface.specs.Outcomes.{gives}
 use Rattle.vortex_interface.specs.Meaning.{HaveTypes}
-use Rattle.vortex_interface.specs.Arguments.{of_one, null_of_one}
+use Rattle.vortex_interface.specs.Arguments.{of_one, one_there, null_of_one}
 use Rattle.vortex_interface.specs.CallTexts.{unary_before, call_end}
 use Rattle.vortex_interface.specs.RowFunction.{RowFunction, LawfulRow}
 
@@ -53,10 +53,11 @@ widened n v h = absurd h
 
 cast_typed : (ts : List LogicalType) (t : LogicalType) (vs : List Value)
     → cast_type ts ≡ Some t → HaveTypes ts vs → HasType t (of_one (λ v. v) vs)
-cast_typed (bool_type n ∷ []) t (v ∷ []) e h =
+cast_typed (bool_type n ∷ []) t vs e h =
     let is : bool_type true ≡ t = cc in
-    subst (λ (u : LogicalType). HasType u v) is (widened n v h.0)
-cast_typed ts t vs e h = grind arith
+    one_there (bool_type n) (λ us. HasType t (of_one (λ v. v) us))
+    (λ v p. subst (λ (u : LogicalType). HasType u v) is (widened n v p)) vs h
+cast_typed ts t vs e h = cc
 
 cast_nullable : (ts : List LogicalType) (t : LogicalType) → cast_type ts ≡ Some t
     → is_nullable t ≡ true

@@ -3,7 +3,7 @@ use Rattle.std.specs.Prelude.{◌≡◌, ℕ, zero, suc, List, [], ◌∷◌, Op
 use Rattle.std.specs.Prelude.{◌++◌, false, ◌||◌, ◌==◌, codes, Any, if◌then◌else◌, refl}
 use Rattle.std.specs.Prelude.{encode_utf8}
 use Rattle.std.specs.Str.{bytes_eq}
-use Rattle.std.proofs.Common.{sym, ap, ◌∙◌, subst, arith, inl, inr}
+use Rattle.std.proofs.Common.{sym, ap, ◌∙◌, subst, inl, inr}
 use Rattle.vortex_errors.specs.declared.error.MismatchPlace.{MismatchPlace}
 use Rattle.vortex_errors.specs.declared.error.MismatchPlace.TheVariants as place
 use Rattle.vortex_types.specs.LogicalTypes.{LogicalType, bool_type, text_type, is_nullable}
@@ -14,7 +14,8 @@ use Rattle.vortex_like.specs.Tokens.{backslash}
 use Rattle.vortex_like.specs.Patterns.{like_value}
 use Rattle.vortex_interface.specs.Outcomes.{gives}
 use Rattle.vortex_interface.specs.Meaning.{HaveTypes}
-use Rattle.vortex_interface.specs.Arguments.{of_two, either_of, or_either, null_of_two}
+use Rattle.vortex_interface.specs.Arguments.{of_two, two_there, either_of, or_either}
+use Rattle.vortex_interface.specs.Arguments.{null_of_two}
 use Rattle.vortex_interface.specs.RowFunction.{RowFunction, LawfulRow}
 
 abbrev pub like_id : List ℕ
@@ -103,11 +104,12 @@ module _ (options : LikeOptions) where
 
   like_typed : (ts : List LogicalType) (t : LogicalType) (vs : List Value)
       → like_type ts ≡ Some t → HaveTypes ts vs → HasType t (of_two (like_value options) vs)
-  like_typed (text_type n ∷ text_type m ∷ []) t (v ∷ w ∷ []) e h =
+  like_typed (text_type n ∷ text_type m ∷ []) t vs e h =
       let is : bool_type (n || m) ≡ t = cc in
-      subst (λ (u : LogicalType). HasType u (like_value options v w)) is
-      (pair_typed n m v w h.0 h.1.0)
-  like_typed ts t vs e h = grind arith
+      two_there (text_type n) (text_type m) (λ us. HasType t (of_two (like_value options) us))
+      (λ v w p q. subst (λ (u : LogicalType). HasType u (like_value options v w)) is
+      (pair_typed n m v w p q)) vs h
+  like_typed ts t vs e h = cc
 
   null_pattern : (v : Value) → like_value options v null ≡ null
   null_pattern null = refl

@@ -2,7 +2,7 @@
 use Rattle.std.specs.Prelude.{◌≡◌, ℕ, List, [], ◌∷◌, Option, Some, None, Bool, true, false}
 use Rattle.std.specs.Prelude.{codes, Any, if◌then◌else◌, refl}
 use Rattle.std.specs.Str.{bytes_eq}
-use Rattle.std.proofs.Common.{sym, ap, ◌∙◌, subst, arith}
+use Rattle.std.proofs.Common.{sym, ap, ◌∙◌, subst}
 use Rattle.vortex_errors.specs.declared.error.MismatchPlace.TheVariants as place
 use Rattle.vortex_types.specs.LogicalTypes.{LogicalType, bool_type, is_nullable}
 use Rattle.vortex_types.specs.Values.{Value, truth_of}
@@ -12,7 +12,8 @@ use Rattle.vortex_operators.specs.OperatorValues.{not_value}
 use Rattle.vortex_operators.proofs.KleeneNulls.{allowed, not_allowed}
 use Rattle.vortex_interface.specs.Outcomes.{gives}
 use Rattle.vortex_interface.specs.Meaning.{HaveTypes}
-use Rattle.vortex_interface.specs.Arguments.{of_one, only, null_of_one, has_bool}
+use Rattle.vortex_interface.specs.Arguments.{of_one, one_there, only, null_of_one}
+use Rattle.vortex_interface.specs.Arguments.{has_bool}
 use Rattle.vortex_interface.specs.CallTexts.{unary_before, call_end}
 use Rattle.vortex_interface.specs.RowFunction.{RowFunction, LawfulRow}
 
@@ -46,12 +47,12 @@ is_not_word ws = false
 
 not_typed : (ts : List LogicalType) (t : LogicalType) (vs : List Value)
     → not_type ts ≡ Some t → HaveTypes ts vs → HasType t (of_one not_value vs)
-not_typed (bool_type n ∷ []) t (v ∷ []) e h =
+not_typed (bool_type n ∷ []) t vs e h =
     let is : bool_type n ≡ t = cc in
-    let bool =
-    has_bool n (kleene_not (truth_of v)) (not_allowed n (truth_of v) (allowed n v h.0)) in
-    subst (λ (u : LogicalType). HasType u (not_value v)) is bool
-not_typed ts t vs e h = grind arith
+    one_there (bool_type n) (λ us. HasType t (of_one not_value us))
+    (λ v p. subst (λ (u : LogicalType). HasType u (not_value v)) is
+    (has_bool n (kleene_not (truth_of v)) (not_allowed n (truth_of v) (allowed n v p)))) vs h
+not_typed ts t vs e h = cc
 
 not_nullable : (ts : List LogicalType) (t : LogicalType)
     → not_type ts ≡ Some t → Any (λ a. is_nullable a ≡ true) ts → is_nullable t ≡ true

@@ -2,13 +2,13 @@
 use Rattle.std.specs.Prelude.{◌≡◌, ℕ, List, [], ◌∷◌, Option, Some, None, Bool, true, false, not}
 use Rattle.std.specs.Prelude.{codes, refl}
 use Rattle.std.specs.Str.{bytes_eq}
-use Rattle.std.proofs.Common.{subst, arith}
+use Rattle.std.proofs.Common.{subst}
 use Rattle.vortex_types.specs.LogicalTypes.{LogicalType, bool_type}
 use Rattle.vortex_types.specs.Values.{Value, truth, is_null}
 use Rattle.vortex_types.specs.Typing.{HasType}
 use Rattle.vortex_interface.specs.Outcomes.{gives}
 use Rattle.vortex_interface.specs.Meaning.{HaveTypes}
-use Rattle.vortex_interface.specs.Arguments.{of_one}
+use Rattle.vortex_interface.specs.Arguments.{of_one, one_there}
 use Rattle.vortex_interface.specs.CallTexts.{unary_before, call_end}
 use Rattle.vortex_interface.specs.RowFunction.{RowFunction, LawfulRow}
 
@@ -54,10 +54,11 @@ null_test_word negated ws = false
 
 null_test_typed : (test : Value → Bool) (ts : List LogicalType) (t : LogicalType) (vs : List Value)
     → null_test_type ts ≡ Some t → HaveTypes ts vs → HasType t (of_one (λ v. truth (test v)) vs)
-null_test_typed test (u ∷ []) t (v ∷ []) e h =
+null_test_typed test (u ∷ []) t vs e h =
     let is : bool_type false ≡ t = cc in
-    subst (λ (a : LogicalType). HasType a (truth (test v))) is tt
-null_test_typed test ts t vs e h = grind arith
+    one_there u (λ us. HasType t (of_one (λ v. truth (test v)) us))
+    (λ v p. subst (λ (a : LogicalType). HasType a (truth (test v))) is tt) vs h
+null_test_typed test ts t vs e h = cc
 
 pub null_test_lawful : (negated : Bool) → LawfulRow (null_test negated)
 null_test_lawful negated = record {
