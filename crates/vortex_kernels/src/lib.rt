@@ -11,6 +11,7 @@ mod comparisons;
 mod faults;
 mod integer_types;
 pub mod kleene;
+mod kleene_validity;
 pub mod null_tests;
 mod numbers;
 pub mod numeric;
