@@ -1,7 +1,8 @@
 //! And, Or and Not by Kleene's tables, of each form in which a column of Bool lends its rows.
 
 use crate::questions::{
-    NO, NULL, NULLABLE, PLAIN, YES, combined, compared, has_rows, negated, says, says_or_null,
+    NO, NULL, NULLABLE, PLAIN, YES, combined, compared, constant_of, has_rows, negated, says,
+    says_or_null,
 };
 use fixtures::{Ask, Made, bools, kept, nullable_bools};
 use std::alloc::Global;
@@ -227,4 +228,65 @@ fn lists_no_valid_rows_where_none_is_null(rt: HostRuntime) {
         all_valid(alloc),
     );
     assert!(rt; rt.yes(lists_no_valid_rows(equal)));
+}
+
+/// The same truth value or null in each of three rows.
+fn thrice(alloc: Global, truth: Option<bool>) -> Made {
+    let scalar = match truth {
+        Some(value) => Scalar::bool(value, NULLABLE),
+        None => null_truth(),
+    };
+    constant_of(alloc, Ok(scalar), 3)
+}
+
+/// Yes, No and null over a set bit, from bit 3 of a byte on.
+fn three_rows(alloc: Global) -> Made {
+    let values = BitBuffer::new(Vec::from_array(alloc, [0xEFu8])?, 3, 3)?;
+    let valid = BitBuffer::new(Vec::from_array(alloc, [0x18u8])?, 3, 3)?;
+    kept(
+        alloc,
+        Column::try_bool(alloc, values, Validity::Array(valid)),
+    )
+}
+
+/// Whether Yes, No and null answer these rows beside a constant, on either side.
+fn answers_beside(
+    rt: HostRuntime,
+    operator: Operator,
+    truth: Option<bool>,
+    wanted: &[Option<bool>],
+) -> VortexResult<bool> {
+    let alloc = rt.alloc();
+    let right = combined(alloc, three_rows(alloc), operator, thrice(alloc, truth));
+    let left = combined(alloc, thrice(alloc, truth), operator, three_rows(alloc));
+    Ok(says_or_null(rt, right, wanted)? && says_or_null(rt, left, wanted)?)
+}
+
+#[test]
+fn constants_beside_bits_that_begin_within_a_byte(rt: HostRuntime) {
+    let rows = [YES, NO, NULL];
+    assert!(rt; rt.yes(answers_beside(rt, Operator::And, YES, &rows)));
+    assert!(rt; rt.yes(answers_beside(rt, Operator::And, NO, &[NO, NO, NO])));
+    assert!(rt; rt.yes(answers_beside(rt, Operator::And, NULL, &[NULL, NO, NULL])));
+    assert!(rt; rt.yes(answers_beside(rt, Operator::Or, YES, &[YES, YES, YES])));
+    assert!(rt; rt.yes(answers_beside(rt, Operator::Or, NO, &rows)));
+    assert!(rt; rt.yes(answers_beside(rt, Operator::Or, NULL, &[YES, NULL, NULL])));
+}
+
+/// Whether a constant beside bits answers a constant.
+fn decides(rt: HostRuntime, operator: Operator, truth: bool) -> VortexResult<bool> {
+    let alloc = rt.alloc();
+    let answer = combined(
+        alloc,
+        three_rows(alloc),
+        operator,
+        thrice(alloc, Some(truth)),
+    )?;
+    Ok(answer.as_constant().is_some())
+}
+
+#[test]
+fn a_constant_that_decides_answers_a_constant(rt: HostRuntime) {
+    assert!(rt; rt.yes(decides(rt, Operator::And, false)));
+    assert!(rt; rt.yes(decides(rt, Operator::Or, true)));
 }

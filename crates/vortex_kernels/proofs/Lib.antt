@@ -6,7 +6,6 @@ pub mod SameIntegers
 pub mod Calculating
 pub mod FaultRows
 pub mod WordComparisons
-pub mod KleeneAnswers
 pub mod ConstantResults
 pub mod BetweenRows
 pub mod BoundedRows

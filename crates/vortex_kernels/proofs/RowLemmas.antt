@@ -23,6 +23,7 @@ use Rattle.vortex_kernels.specs.Rows.{HasRows}
 use Rattle.vortex_bits.specs.Rows.{AreRows}
 use Rattle.vortex_operators.specs.OperatorValues.{not_value}
 use Rattle.vortex_columns.specs.ValidRows.{IsValidity}
+use Rattle.vortex_kernels.specs.Kleene.{HasTruthRows}
 use Rattle.vortex_kernels.specs.Truths.{IsValueOf}
 
 module _ {A : Type 0} (other : A) where
@@ -95,6 +96,17 @@ bool_answers nullable n valid f bits v r count h rows answered =
     (subst (λ (m : ℕ). FitsRows v m) (sym count) h.fits)
     (λ c e. bool_rows nullable n valid f bits v c count h rows e)
     answered
+
+-- bits that say the truth value where there is one, beside the rows that have one
+pub truth_answers : (nullable : Bool) (n : ℕ) (f : ℕ → Option Bool) (bits : List Bool)
+    (v : ValidityView) (r : Result ColumnView VortexError)
+    → length bits ≡ n → IsValidity nullable n (λ i. is_some (f i)) v
+    → ((i : ℕ) → i < n → IsValueOf (slice_index_or bits i false) (f i))
+    → AnswersWhere r (FitsRows v (length bits)) (λ c. c ≡ bool_column bits v) InvalidColumn
+    → AnswersUnlessMemory r (HasTruthRows nullable n f)
+truth_answers nullable n f bits v r count valid values answered =
+    bool_answers nullable n (λ i. is_some (f i)) (λ i. truth_or_null (f i)) bits v r count valid
+    (λ i lt. value_row (f i) (slice_index_or bits i false) (values i lt)) answered
 
 -- a row that is turned where it is not null
 pub not_row : (c : ColumnView) (xs bits : List Bool) → AreBits c xs

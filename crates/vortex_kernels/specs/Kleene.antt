@@ -19,11 +19,14 @@ abbrev pub value_word : Operator → ℕ → ℕ → ℕ
 value_word And a b = bit_and a b
 value_word op a b = bit_or a b
 
+-- truth values or nulls in n rows of Bool
+abbrev pub HasTruthRows : Bool → ℕ → (ℕ → Option Bool) → ColumnView → Type 0
+HasTruthRows nullable n truth = HasRows (bool_type nullable) n (λ i. truth_or_null (truth i))
+
 -- in each of n rows what the table says of two truth values or nulls
 abbrev pub HasKleeneRows : Operator → Bool → ℕ → (ℕ → Option Bool) → (ℕ → Option Bool) → ColumnView
     → Type 0
-HasKleeneRows op nullable n left right =
-    HasRows (bool_type nullable) n (λ i. truth_or_null (kleene op (left i) (right i)))
+HasKleeneRows op nullable n left right = HasTruthRows nullable n (λ i. kleene op (left i) (right i))
 
 -- there is a truth value in each row of bits
 abbrev pub HaveTruths : List Bool → ValidityView → Type 0

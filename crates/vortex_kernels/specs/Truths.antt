@@ -1,12 +1,12 @@
 -- Truth values that are read as two bits, a value and whether there is one, and the forms in which
 -- a side of And or Or lends them.
-use Rattle.std.specs.Prelude.{◌≡◌, ℕ, ◌<◌, List, Bool, true, false, Option, Some, None, IfSome}
-use Rattle.std.specs.Prelude.{slice_index_or, is_some, if◌then◌else◌, ⊤}
-use Rattle.vortex_bits.specs.Forms.{aligned_there, aligned_bit, shifted_there, shifted_bit}
-use Rattle.vortex_columns.specs.ValidityView.{ValidityView, is_valid_row}
+use Rattle.std.specs.Prelude.{◌≡◌, ℕ, ◌<◌, List, Bool, Option, Some, None, IfSome, length, false}
+use Rattle.std.specs.Prelude.{slice_index_or, if◌then◌else◌, ⊤}
+use Rattle.vortex_columns.specs.ValidityView.{ValidityView, is_valid_row, FitsRows}
+use Rattle.vortex_columns.specs.ValidRows.{valid_view}
+use Rattle.vortex_kernels.specs.declared.truths.TruthRows.{TruthRows}
 use Rattle.vortex_kernels.specs.declared.truths.Operand.{Operand}
-use Rattle.vortex_kernels.specs.declared.truths.Operand.TheVariants.{Aligned, AlignedMasked}
-use Rattle.vortex_kernels.specs.declared.truths.Operand.TheVariants.{Shifted, ShiftedMasked, One}
+use Rattle.vortex_kernels.specs.declared.truths.Operand.TheVariants.{Rows, One}
 
 -- the truth value that two bits stand for
 abbrev pub present : Bool → Bool → Option Bool
@@ -20,28 +20,23 @@ IsValueOf b o = IfSome o (λ v. b ≡ v)
 abbrev pub truth_at : List Bool → ValidityView → ℕ → Option Bool
 truth_at bits v i = present (is_valid_row v i) (slice_index_or bits i false)
 
-abbrev pub operand_there : Operand → ℕ → Type 0
-operand_there (Aligned t) i = aligned_there t.values i
-operand_there (AlignedMasked t) i = aligned_there t.values i × aligned_there t.valid i
-operand_there (Shifted t) i = shifted_there t.values i
-operand_there (ShiftedMasked t) i = shifted_there t.values i × shifted_there t.valid i
-operand_there (One t) i = ⊤
+-- there are so many rows, and what each says
+abbrev pub AreTruthRows : ℕ → TruthRows → Type 0
+AreTruthRows n t = (length t.bits.now ≡ n) × FitsRows (valid_view t.valid) n
+
+abbrev pub rows_truth : TruthRows → ℕ → Option Bool
+rows_truth t = truth_at t.bits.now (valid_view t.valid)
+
+-- the same of either form
+abbrev pub FitsOperand : ℕ → Operand → Type 0
+FitsOperand n (Rows t) = AreTruthRows n t
+FitsOperand n (One truth) = ⊤
 
 abbrev pub operand_truth : Operand → ℕ → Option Bool
-operand_truth (Aligned t) i = present t.valid.bit (aligned_bit t.values i)
-operand_truth (AlignedMasked t) i = present (aligned_bit t.valid i) (aligned_bit t.values i)
-operand_truth (Shifted t) i = present t.valid.bit (shifted_bit t.values i)
-operand_truth (ShiftedMasked t) i = present (shifted_bit t.valid i) (shifted_bit t.values i)
-operand_truth (One t) i = present t.valid.bit t.values.bit
+operand_truth (Rows t) i = rows_truth t i
+operand_truth (One truth) i = truth
 
 -- each of n rows is there, and is this truth value or null
 pub record IsOperandOf (n : ℕ) (truth : ℕ → Option Bool) (o : Operand) : Type 0 where
-  pub there : (i : ℕ) → i < n → operand_there o i
+  pub fits : FitsOperand n o
   pub each : (i : ℕ) → i < n → operand_truth o i ≡ truth i
-
--- there is a truth value in a row, and in each
-abbrev pub HasTruth : Operand → ℕ → Type 0
-HasTruth o i = is_some (operand_truth o i) ≡ true
-
-abbrev pub AreTruths : Operand → Type 0
-AreTruths o = (i : ℕ) → HasTruth o i

@@ -28,9 +28,9 @@ pub use Rattle.vortex_kernels.specs.PairOrders.{bit_orders, bit_orders_with, byt
 pub use Rattle.vortex_kernels.specs.PairOrders.{byte_orders_with}
 pub use Rattle.vortex_kernels.specs.Rows.{HasScalarRows}
 pub use Rattle.vortex_kernels.specs.Kleene.{HasKleeneRows, value_word, HaveTruths, AnswersKleene}
-pub use Rattle.vortex_kernels.specs.Kleene.{RefusesOperator}
-pub use Rattle.vortex_kernels.specs.Truths.{present, IsValueOf, truth_at, operand_there}
-pub use Rattle.vortex_kernels.specs.Truths.{operand_truth, IsOperandOf, HasTruth, AreTruths}
+pub use Rattle.vortex_kernels.specs.Kleene.{RefusesOperator, HasTruthRows}
+pub use Rattle.vortex_kernels.specs.Truths.{present, IsValueOf, truth_at, AreTruthRows}
+pub use Rattle.vortex_kernels.specs.Truths.{rows_truth, FitsOperand, operand_truth, IsOperandOf}
 pub use Rattle.vortex_columns.specs.ValidRows.{valid_view, AreValid, IsValidity, IsValidityOf}
 pub use Rattle.vortex_columns.specs.ValidRows.{IsJointValidity, IsAsValid, IsListed, IsValidityIn}
 pub use Rattle.vortex_columns.specs.ValidRows.{either_nullable}

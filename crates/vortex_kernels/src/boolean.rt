@@ -5,38 +5,18 @@ ghost use Rattle.vortex_kernels.specs.Words.{is_boolean, not_value, HasNotRows, 
 ghost use Rattle.vortex_kernels.specs.Words.{RefusesBoolean};
 ghost use Rattle.vortex_kernels.specs.Words.{allows_null, validity_of, FitsRows, truth_at};
 ghost use Rattle.vortex_kernels.specs.Words.{HaveTruths, HasKleeneRows, AnswersKleene};
-ghost use Rattle.vortex_kernels.specs.Words.{RefusesOperator, operand_there, operand_truth};
-ghost use Rattle.vortex_kernels.specs.Words.{HasTruth, KeepsConstant};
+ghost use Rattle.vortex_kernels.specs.Words.{RefusesOperator, FitsOperand, operand_truth};
+ghost use Rattle.vortex_kernels.specs.Words.{KeepsConstant};
 
-use crate::kleene::{KleeneTable, kleene_table};
+use crate::kleene::kleene_sides;
 use crate::operators::Operator;
-use crate::truths::{Operand, operand_of};
+use crate::truths::{Operand, TruthRows, operand_of};
 use crate::validity::same_valid;
-use vortex_bits::{Both, Either, LeftNegated, zip_bits_with};
+use vortex_bits::{LeftNegated, zip_bits_with};
 use vortex_columns::{
     BitBuffer, Column, DType, ExecutionCtx, MismatchPlace, Nullability, Scalar, ValidRows,
     Validity, VortexError, VortexResult,
 };
-
-/// The table of one operator over two columns: E3 Boolean where they are not both of Bool.
-fn execute_kleene<K: KleeneTable + Copy>(
-    lhs: &Column,
-    rhs: &Column,
-    ctx: &mut ExecutionCtx,
-) -> VortexResult<Column>
-    requires operator { is_boolean K.operator ≡ true }
-    requires lengths { length lhs.now.rows ≡ length rhs.now.rows }
-    ensures { Answers result (AnswersBoolean K.operator lhs.now rhs.now)
-        (RefusesBoolean K.operator lhs.now rhs.now) }
-{
-    if !lhs.dtype().is_boolean() || !rhs.dtype().is_boolean() {
-        return Err(VortexError::TypeMismatch(MismatchPlace::Boolean));
-    }
-    let left = operand_of(lhs);
-    let right = operand_of(rhs);
-    let nullability = lhs.dtype().nullability() | rhs.dtype().nullability();
-    kleene_table::<K>(left, right, lhs.len(), nullability, ctx)
-}
 
 /// And or Or of two Bool columns of equal length, row by row by Kleene's table, nullable if either
 /// is.
@@ -52,11 +32,16 @@ pub fn execute_boolean(
     ensures { Answers result (AnswersBoolean operator lhs.now rhs.now)
         (RefusesBoolean operator lhs.now rhs.now) }
 {
-    match operator {
-        Operator::And => execute_kleene::<Both>(lhs, rhs, ctx),
-        Operator::Or => execute_kleene::<Either>(lhs, rhs, ctx),
-        _ => Err(VortexError::NotBooleanOperator(operator.as_text())),
+    if !operator.is_boolean() {
+        return Err(VortexError::NotBooleanOperator(operator.as_text()));
     }
+    if !lhs.dtype().is_boolean() || !rhs.dtype().is_boolean() {
+        return Err(VortexError::TypeMismatch(MismatchPlace::Boolean));
+    }
+    let left = operand_of(lhs);
+    let right = operand_of(rhs);
+    let nullability = lhs.dtype().nullability() | rhs.dtype().nullability();
+    kleene_sides(left, right, lhs.len(), operator, nullability, ctx)
 }
 
 /// Not of one scalar of Bool.
@@ -89,30 +74,6 @@ pub fn execute_not(input: &Column, ctx: &mut ExecutionCtx) -> VortexResult<Colum
     }
 }
 
-/// The table of the operator over two sides.
-fn kleene_sides(
-    left: Operand<'_>,
-    right: Operand<'_>,
-    len: usize,
-    operator: Operator,
-    nullability: Nullability,
-    ctx: &mut ExecutionCtx,
-) -> VortexResult<Column>
-    requires left { (i : ℕ) → i < len → operand_there left i }
-    requires right { (i : ℕ) → i < len → operand_there right i }
-    requires truths { allows_null nullability ≡ false → (i : ℕ) → i < len
-        → HasTruth left i × HasTruth right i }
-    ensures { Answers result
-        (AnswersKleene operator (allows_null nullability) len (operand_truth left.entry)
-        (operand_truth right.entry)) (RefusesOperator operator) }
-{
-    match operator {
-        Operator::And => kleene_table::<Both>(left, right, len, nullability, ctx),
-        Operator::Or => kleene_table::<Either>(left, right, len, nullability, ctx),
-        _ => Err(VortexError::NotBooleanOperator(operator.as_text())),
-    }
-}
-
 /// And or Or of two lists of truth values row by row: bits, beside the rows that are not null. A
 /// column of Bool of the nullability handed in, which is `Nullable` unless no row on either side is
 /// null.
@@ -137,9 +98,19 @@ pub fn kleene_boolean_buffers(
         (truth_at lhs (validity_of lhs_validity)) (truth_at rhs (validity_of rhs_validity)))
         (RefusesOperator operator) }
 {
-    let left = Operand::of_bits(&lhs, ValidRows::of(&lhs_validity));
-    let right = Operand::of_bits(&rhs, ValidRows::of(&rhs_validity));
-    kleene_sides(left, right, lhs.len(), operator, nullability, ctx)
+    let left = Operand::Rows(TruthRows {
+        bits: &lhs,
+        valid: ValidRows::of(&lhs_validity),
+    });
+    let right = Operand::Rows(TruthRows {
+        bits: &rhs,
+        valid: ValidRows::of(&rhs_validity),
+    });
+    if operator.is_boolean() {
+        kleene_sides(left, right, lhs.len(), operator, nullability, ctx)
+    } else {
+        Err(VortexError::NotBooleanOperator(operator.as_text()))
+    }
 }
 
 /// And or Or of a list of truth values and one truth value or null, row by row. A column of Bool of
@@ -161,7 +132,14 @@ pub fn kleene_boolean_buffer_scalar(
         (AnswersKleene operator (allows_null nullability) (length lhs)
         (truth_at lhs (validity_of lhs_validity)) (λ i. rhs)) (RefusesOperator operator) }
 {
-    let left = Operand::of_bits(&lhs, ValidRows::of(&lhs_validity));
-    let right = Operand::one(rhs);
-    kleene_sides(left, right, lhs.len(), operator, nullability, ctx)
+    let left = Operand::Rows(TruthRows {
+        bits: &lhs,
+        valid: ValidRows::of(&lhs_validity),
+    });
+    let right = Operand::One(rhs);
+    if operator.is_boolean() {
+        kleene_sides(left, right, lhs.len(), operator, nullability, ctx)
+    } else {
+        Err(VortexError::NotBooleanOperator(operator.as_text()))
+    }
 }

@@ -1,27 +1,31 @@
-//! And and Or by Kleene's tables, 64 rows at a time.
-ghost use Rattle.std.specs.Prelude.{◌≡◌, ◌<◌, ℕ, Bool, true, false, length, is_some};
+//! And and Or by Kleene's tables, 64 rows at a time. A constant decides before the rows.
+ghost use Rattle.std.specs.Prelude.{◌≡◌, ◌<◌, ℕ, Bool, Some, true, false, length, is_some};
+ghost use Rattle.vortex_types.specs.Values.{truth_or_null};
+ghost use Rattle.vortex_operators.specs.Kleene.{decides};
 ghost use Rattle.vortex_kernels.specs.Words.{AnswersUnlessMemory, Operator, And, Or, is_boolean};
 ghost use Rattle.vortex_kernels.specs.Words.{kleene, present, IsValueOf, bit, allows_null};
-ghost use Rattle.vortex_kernels.specs.Words.{validity_of, IsValidity, operand_there, operand_truth};
-ghost use Rattle.vortex_kernels.specs.Words.{HasKleeneRows, value_word};
-ghost use Rattle.vortex_kernels.specs.Words.{HasTruth, AreTruths};
+ghost use Rattle.vortex_kernels.specs.Words.{validity_of, IsValidity, operand_truth, rows_truth};
+ghost use Rattle.vortex_kernels.specs.Words.{HasKleeneRows, HasTruthRows, value_word, bool_type};
+ghost use Rattle.vortex_kernels.specs.Words.{AreTruthRows, FitsOperand};
 
+use crate::kleene_validity::kleene_validity;
 use crate::operators::Operator;
-use crate::truths::{Operand, TruthWords};
+use crate::truths::{Operand, TruthRows};
 use std::alloc::Global;
-use std::marker::PhantomData;
-use vortex_bits::{BitWords, Both, Either, WordFormula, collect_words, zip_words};
-use vortex_columns::{Column, ExecutionCtx, Nullability, Validity, VortexResult};
+use vortex_bits::{Both, Either, WordFormula, zip_bits};
+use vortex_columns::{
+    Column, DType, ExecutionCtx, Nullability, Scalar, ValidRows, Validity, VortexResult,
+};
 
 /// The table of one operator in words, chosen before the rows.
 pub(crate) trait KleeneTable: WordFormula {
     ghost operator: { Operator };
 
-    /// Whether there is a truth value, by the values of both sides and which of them there are.
-    fn valid_words(left: u64, left_valid: u64, right: u64, right_valid: u64) -> u64
-        ensures { (j : ℕ) → j < 64 → bit result j
-            ≡ is_some (kleene operator (present (bit left_valid j) (bit left j))
-            (present (bit right_valid j) (bit right j))) };
+    ghost boolean: { is_boolean operator ≡ true };
+
+    /// The truth values that decide, whatever the other side says.
+    fn deciding(values: u64) -> u64
+        ensures { (j : ℕ) → j < 64 → bit result j ≡ decides operator (bit values j) };
 
     /// The formula says the truth value where there is one, whatever lies under nulls.
     ghost table: { (p q a b : Bool)
@@ -29,27 +33,48 @@ pub(crate) trait KleeneTable: WordFormula {
 }
 
 impl KleeneTable for Both {
+    ghost use Rattle.std.specs.Prelude.{refl};
     ghost use Rattle.vortex_kernels.specs.Kleene.{and_says};
 
     ghost operator = { And };
 
+    ghost boolean = { refl };
+
     ghost table = { and_says };
 
-    fn valid_words(left: u64, left_valid: u64, right: u64, right_valid: u64) -> u64 {
-        (left_valid & right_valid) | (left_valid & !left) | (right_valid & !right)
+    fn deciding(values: u64) -> u64 {
+        !values
     }
 }
 
 impl KleeneTable for Either {
+    ghost use Rattle.std.specs.Prelude.{refl};
     ghost use Rattle.vortex_kernels.specs.Kleene.{or_says};
 
     ghost operator = { Or };
 
+    ghost boolean = { refl };
+
     ghost table = { or_says };
 
-    fn valid_words(left: u64, left_valid: u64, right: u64, right_valid: u64) -> u64 {
-        (left_valid & right_valid) | (left_valid & left) | (right_valid & right)
+    fn deciding(values: u64) -> u64 {
+        values
     }
+}
+
+/// Whether there is a truth value, by the values of both sides and which of them there are.
+pub(crate) fn valid_words<K: KleeneTable>(
+    left: u64,
+    left_valid: u64,
+    right: u64,
+    right_valid: u64,
+) -> u64
+    ensures { (j : ℕ) → j < 64 → bit result j
+        ≡ is_some (kleene K.operator (present (bit left_valid j) (bit left j))
+        (present (bit right_valid j) (bit right j))) }
+{
+    let decided = (left_valid & K::deciding(left)) | (right_valid & K::deciding(right));
+    (left_valid & right_valid) | decided
 }
 
 /// And or Or of 64 rows: the values, and which of them there are. Under a null the value is what
@@ -70,199 +95,182 @@ pub fn kleene_words(
     match operator {
         Operator::And => (
             left & right,
-            Both::valid_words(left, left_valid, right, right_valid),
+            valid_words::<Both>(left, left_valid, right, right_valid),
         ),
         _ => (
             left | right,
-            Either::valid_words(left, left_valid, right, right_valid),
+            valid_words::<Either>(left, left_valid, right, right_valid),
         ),
     }
 }
 
-/// The rows that have a truth value.
-#[derive(Clone, Copy)]
-struct KleeneValid<K: KleeneTable + Copy, L: TruthWords + Copy, R: TruthWords + Copy> {
-    left: L,
-    right: R,
-    table: PhantomData<K>,
-}
-
-impl<K: KleeneTable + Copy, L: TruthWords + Copy, R: TruthWords + Copy> BitWords
-    for KleeneValid<K, L, R> {
-    ghost has_row = { λ s i. L.has_row s.left i × R.has_row s.right i };
-
-    ghost row_bit = { λ s i. is_some (kleene K.operator (L.truth s.left i) (R.truth s.right i)) };
-
-    fn word(&self, k: usize) -> u64 {
-        let (left, left_valid) = self.left.words();
-        let (right, right_valid) = self.right.words();
-        K::valid_words(
-            left.word(k),
-            left_valid.word(k),
-            right.word(k),
-            right_valid.word(k),
-        )
-    }
-
-    fn last(&self, k: usize, count: usize) -> u64 {
-        let (left, left_valid) = self.left.words();
-        let (right, right_valid) = self.right.words();
-        K::valid_words(
-            left.last(k, count),
-            left_valid.last(k, count),
-            right.last(k, count),
-            right_valid.last(k, count),
-        )
-    }
-}
-
-/// What is to be answered: how many rows, of which nullability, and whether it is listed which of
-/// them are null.
-#[derive(Clone, Copy)]
-struct Shape {
-    len: usize,
+/// What the table says of two truth values for each row.
+fn table_rows<K: KleeneTable + Copy>(
+    left: TruthRows<'_>,
+    right: TruthRows<'_>,
     nullability: Nullability,
-    listed: bool,
-}
-
-/// Which rows have a truth value, by the table: no list of bits where each has one.
-fn kleene_validity<K: KleeneTable + Copy, L: TruthWords + Copy, R: TruthWords + Copy>(
-    alloc: Global,
-    left: L,
-    right: R,
-    shape: Shape,
-) -> VortexResult<Validity>
-    requires left { (i : ℕ) → i < shape.len → L.has_row left i }
-    requires right { (i : ℕ) → i < shape.len → R.has_row right i }
-    requires nullable { shape.listed ≡ true → allows_null shape.nullability ≡ true }
-    requires truths { shape.listed ≡ false → (i : ℕ) → i < shape.len
-        → is_some (kleene K.operator (L.truth left i) (R.truth right i)) ≡ true }
-    ensures { AnswersUnlessMemory result
-        (λ v. IsValidity (allows_null shape.nullability) shape.len
-        (λ i. is_some (kleene K.operator (L.truth left i) (R.truth right i))) (validity_of v)) }
-{
-    if shape.listed {
-        let rows = KleeneValid::<K, L, R> {
-            left,
-            right,
-            table: PhantomData,
-        };
-        return Ok(Validity::Array(collect_words(alloc, &rows, shape.len)?));
-    }
-    match shape.nullability {
-        Nullability::NonNullable => Ok(Validity::NonNullable),
-        Nullability::Nullable => Ok(Validity::AllValid),
-    }
-}
-
-/// The answer for each row, the form of either side being chosen.
-fn kleene_rows<K: KleeneTable + Copy, L: TruthWords + Copy, R: TruthWords + Copy>(
-    left: L,
-    right: R,
-    shape: Shape,
     ctx: &mut ExecutionCtx,
 ) -> VortexResult<Column>
-    requires left { (i : ℕ) → i < shape.len → L.has_row left i }
-    requires right { (i : ℕ) → i < shape.len → R.has_row right i }
-    requires nullable { shape.listed ≡ true → allows_null shape.nullability ≡ true }
-    requires truths { shape.listed ≡ false → (i : ℕ) → i < shape.len
-        → is_some (kleene K.operator (L.truth left i) (R.truth right i)) ≡ true }
+    requires left { AreTruthRows (length left.bits.now) left }
+    requires right { AreTruthRows (length left.bits.now) right }
+    requires truths { allows_null nullability ≡ false → (i : ℕ) → i < length left.bits.now
+        → is_some (kleene K.operator (rows_truth left i) (rows_truth right i)) ≡ true }
     ensures { AnswersUnlessMemory result
-        (HasKleeneRows K.operator (allows_null shape.nullability) shape.len (L.truth left)
-        (R.truth right)) }
+        (HasKleeneRows K.operator (allows_null nullability) (length left.entry.bits.now)
+        (rows_truth left.entry) (rows_truth right.entry)) }
 {
-    let (left_values, _) = left.words();
-    let (right_values, _) = right.words();
-    let len = shape.len;
-    let values = zip_words::<K, L::Values, R::Values>(ctx.alloc(), left_values, right_values, len)?;
-    let validity = kleene_validity::<K, L, R>(ctx.alloc(), left, right, shape)?;
+    let values = zip_bits::<K>(ctx.alloc(), left.bits, right.bits)?;
+    let validity = kleene_validity::<K>(ctx.alloc(), left, right, nullability)?;
     Column::try_bool(ctx.alloc(), values, validity)
 }
 
-/// The same, the form of the left side alone being chosen.
-fn kleene_beside<K: KleeneTable + Copy, L: TruthWords + Copy>(
-    left: L,
-    right: Operand<'_>,
-    shape: Shape,
+/// The same, by the table of the operator.
+fn kleene_rows(
+    left: TruthRows<'_>,
+    right: TruthRows<'_>,
+    operator: Operator,
+    nullability: Nullability,
     ctx: &mut ExecutionCtx,
 ) -> VortexResult<Column>
-    requires left { (i : ℕ) → i < shape.len → L.has_row left i }
-    requires right { (i : ℕ) → i < shape.len → operand_there right i }
-    requires nullable { shape.listed ≡ true → allows_null shape.nullability ≡ true }
-    requires truths { shape.listed ≡ false → (i : ℕ) → i < shape.len
-        → is_some (kleene K.operator (L.truth left i) (operand_truth right i)) ≡ true }
+    requires operator { is_boolean operator ≡ true }
+    requires left { AreTruthRows (length left.bits.now) left }
+    requires right { AreTruthRows (length left.bits.now) right }
+    requires truths { allows_null nullability ≡ false → (i : ℕ) → i < length left.bits.now
+        → is_some (kleene operator (rows_truth left i) (rows_truth right i)) ≡ true }
     ensures { AnswersUnlessMemory result
-        (HasKleeneRows K.operator (allows_null shape.nullability) shape.len (L.truth left)
-        (operand_truth right.entry)) }
+        (HasKleeneRows operator (allows_null nullability) (length left.entry.bits.now)
+        (rows_truth left.entry) (rows_truth right.entry)) }
 {
-    match right {
-        Operand::Aligned(right) => kleene_rows::<K, L, _>(left, right, shape, ctx),
-        Operand::AlignedMasked(right) => kleene_rows::<K, L, _>(left, right, shape, ctx),
-        Operand::Shifted(right) => kleene_rows::<K, L, _>(left, right, shape, ctx),
-        Operand::ShiftedMasked(right) => kleene_rows::<K, L, _>(left, right, shape, ctx),
-        Operand::One(right) => kleene_rows::<K, L, _>(left, right, shape, ctx),
+    match operator {
+        Operator::And => table_rows::<Both>(left, right, nullability, ctx),
+        _ => table_rows::<Either>(left, right, nullability, ctx),
     }
 }
 
-/// What the table says of each row of two sides.
-fn kleene_operands<K: KleeneTable + Copy>(
-    left: Operand<'_>,
-    right: Operand<'_>,
-    shape: Shape,
-    ctx: &mut ExecutionCtx,
-) -> VortexResult<Column>
-    requires left { (i : ℕ) → i < shape.len → operand_there left i }
-    requires right { (i : ℕ) → i < shape.len → operand_there right i }
-    requires nullable { shape.listed ≡ true → allows_null shape.nullability ≡ true }
-    requires truths { shape.listed ≡ false → (i : ℕ) → i < shape.len
-        → is_some (kleene K.operator (operand_truth left i) (operand_truth right i)) ≡ true }
-    ensures { AnswersUnlessMemory result
-        (HasKleeneRows K.operator (allows_null shape.nullability) shape.len
-        (operand_truth left.entry) (operand_truth right.entry)) }
+/// One truth value or null, in a type of that nullability. Null in a type without null, which no row
+/// is, becomes false.
+fn truth_scalar(truth: Option<bool>, nullability: Nullability) -> Scalar
+    ensures dtype { result.dtype ≡ bool_type (allows_null nullability) }
+    ensures value { (allows_null nullability ≡ false → is_some truth ≡ true)
+        → result.value ≡ truth_or_null truth }
 {
-    match left {
-        Operand::Aligned(left) => kleene_beside::<K, _>(left, right, shape, ctx),
-        Operand::AlignedMasked(left) => kleene_beside::<K, _>(left, right, shape, ctx),
-        Operand::Shifted(left) => kleene_beside::<K, _>(left, right, shape, ctx),
-        Operand::ShiftedMasked(left) => kleene_beside::<K, _>(left, right, shape, ctx),
-        Operand::One(left) => kleene_beside::<K, _>(left, right, shape, ctx),
+    match (truth, nullability) {
+        (Some(value), _) => Scalar::bool(value, nullability),
+        (None, Nullability::Nullable) => Scalar::null(DType::Bool(nullability)),
+        (None, Nullability::NonNullable) => Scalar::bool(false, nullability),
     }
 }
 
-/// Whether it is listed which rows are null: where the type has null, and a row can be null.
-fn lists_nulls(nullability: Nullability, left: &Operand<'_>, right: &Operand<'_>) -> bool
-    ensures nullable { result ≡ true → allows_null nullability ≡ true }
-    ensures truths { result ≡ false → allows_null nullability ≡ true
-        → AreTruths left.now × AreTruths right.now }
+/// One truth value, or null, in each row.
+fn same_truth(
+    truth: Option<bool>,
+    len: usize,
+    nullability: Nullability,
+    ctx: &mut ExecutionCtx,
+) -> VortexResult<Column>
+    requires { allows_null nullability ≡ false → (i : ℕ) → i < len → is_some truth ≡ true }
+    ensures { AnswersUnlessMemory result
+        (HasTruthRows (allows_null nullability) len (λ i. truth)) }
+{
+    Column::constant(ctx.alloc(), truth_scalar(truth, nullability), len)
+}
+
+/// A copy of which rows are valid, for a type of that nullability.
+fn copied_validity(
+    alloc: Global,
+    rows: TruthRows<'_>,
+    nullability: Nullability,
+) -> VortexResult<Validity>
+    requires fits { AreTruthRows (length rows.bits.now) rows }
+    requires truths { allows_null nullability ≡ false → (i : ℕ) → i < length rows.bits.now
+        → is_some (rows_truth rows i) ≡ true }
+    ensures { AnswersUnlessMemory result
+        (λ v. IsValidity (allows_null nullability) (length rows.entry.bits.now)
+        (λ i. is_some (rows_truth rows.entry i)) (validity_of v)) }
 {
     match nullability {
-        Nullability::NonNullable => false,
-        Nullability::Nullable => left.has_nulls() || right.has_nulls(),
+        Nullability::NonNullable => Ok(Validity::NonNullable),
+        Nullability::Nullable => rows.valid.to_validity(alloc),
+    }
+}
+
+/// A copy of the rows, in a column of that nullability.
+fn copied(
+    rows: TruthRows<'_>,
+    nullability: Nullability,
+    ctx: &mut ExecutionCtx,
+) -> VortexResult<Column>
+    requires fits { AreTruthRows (length rows.bits.now) rows }
+    requires truths { allows_null nullability ≡ false → (i : ℕ) → i < length rows.bits.now
+        → is_some (rows_truth rows i) ≡ true }
+    ensures { AnswersUnlessMemory result
+        (HasTruthRows (allows_null nullability) (length rows.entry.bits.now)
+        (rows_truth rows.entry)) }
+{
+    let values = rows.bits.try_clone(ctx.alloc())?;
+    let validity = copied_validity(ctx.alloc(), rows, nullability)?;
+    Column::try_bool(ctx.alloc(), values, validity)
+}
+
+/// What the table says of one truth value beside each of a side: that value where it decides, else
+/// what the side says.
+fn kleene_beside(
+    value: bool,
+    side: Operand<'_>,
+    len: usize,
+    operator: Operator,
+    nullability: Nullability,
+    ctx: &mut ExecutionCtx,
+) -> VortexResult<Column>
+    requires operator { is_boolean operator ≡ true }
+    requires fits { FitsOperand len side }
+    requires truths { allows_null nullability ≡ false → (i : ℕ) → i < len
+        → is_some (operand_truth side i) ≡ true }
+    ensures { AnswersUnlessMemory result
+        (HasKleeneRows operator (allows_null nullability) len (λ i. Some value)
+        (operand_truth side.entry)) }
+{
+    if operator.is_decided_by(value) {
+        return same_truth(Some(value), len, nullability, ctx);
+    }
+    match side {
+        Operand::Rows(rows) => copied(rows, nullability, ctx),
+        Operand::One(truth) => same_truth(truth, len, nullability, ctx),
     }
 }
 
 /// What the table says of each of `len` rows of two sides, in a column of that nullability.
-pub(crate) fn kleene_table<K: KleeneTable + Copy>(
+pub(crate) fn kleene_sides(
     left: Operand<'_>,
     right: Operand<'_>,
     len: usize,
+    operator: Operator,
     nullability: Nullability,
     ctx: &mut ExecutionCtx,
 ) -> VortexResult<Column>
-    requires operator { is_boolean K.operator ≡ true }
-    requires left { (i : ℕ) → i < len → operand_there left i }
-    requires right { (i : ℕ) → i < len → operand_there right i }
+    requires operator { is_boolean operator ≡ true }
+    requires left { FitsOperand len left }
+    requires right { FitsOperand len right }
     requires truths { allows_null nullability ≡ false → (i : ℕ) → i < len
-        → HasTruth left i × HasTruth right i }
+        → (is_some (operand_truth left i) ≡ true) × (is_some (operand_truth right i) ≡ true) }
     ensures { AnswersUnlessMemory result
-        (HasKleeneRows K.operator (allows_null nullability) len (operand_truth left.entry)
+        (HasKleeneRows operator (allows_null nullability) len (operand_truth left.entry)
         (operand_truth right.entry)) }
 {
-    let listed = lists_nulls(nullability, &left, &right);
-    let shape = Shape {
-        len,
-        nullability,
-        listed,
-    };
-    kleene_operands::<K>(left, right, shape, ctx)
+    match (left, right) {
+        (Operand::One(Some(value)), side) | (side, Operand::One(Some(value))) => {
+            kleene_beside(value, side, len, operator, nullability, ctx)
+        }
+        (Operand::Rows(rows), Operand::One(None)) | (Operand::One(None), Operand::Rows(rows)) => {
+            let nulls = TruthRows {
+                valid: ValidRows::No,
+                ..rows
+            };
+            kleene_rows(rows, nulls, operator, nullability, ctx)
+        }
+        (Operand::Rows(left), Operand::Rows(right)) => {
+            kleene_rows(left, right, operator, nullability, ctx)
+        }
+        (Operand::One(None), Operand::One(None)) => same_truth(None, len, nullability, ctx),
+    }
 }

@@ -12,6 +12,7 @@ mod constant_operand;
 mod faults;
 mod integer_types;
 pub mod kleene;
+mod kleene_validity;
 pub mod null_tests;
 mod numbers;
 pub mod numeric;

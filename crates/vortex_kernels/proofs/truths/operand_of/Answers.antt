@@ -1,4 +1,4 @@
-use Rattle.std.proofs.Common.{◌≡◌, ◌∙◌, Some, None, Option, sym, refl, length}
+use Rattle.std.proofs.Common.{◌≡◌, Some, None, Option, sym, refl}
 use Rattle.std.specs.Prelude.{IsSome}
 use Rattle.vortex_types.specs.ScalarView.{ScalarView}
 use Rattle.vortex_kernels.proofs.truths.operand_of.Goals as goal
@@ -13,8 +13,4 @@ returns-in-None c =
     let some =
     some_or_none column.constant
     (λ none. c.in-None.ensures (record { bool = c.requires; computed = none })) in
-    let one = c.one.ensures (length column.rows) in
-    record {
-      there = one.there;
-      each = λ i lt. one.each i lt ∙ sym (c.constant_bool.ensures.rows some i lt);
-    }
+    record { fits = tt; each = λ i lt. sym (c.constant_bool.ensures.rows some i lt) }
