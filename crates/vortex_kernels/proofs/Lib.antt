@@ -11,3 +11,5 @@ pub mod ConstantResults
 pub mod BetweenRows
 pub mod BoundedRows
 pub mod EqualBytes
+pub mod LaneMasks
+pub mod LaneWords

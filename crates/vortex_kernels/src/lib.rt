@@ -11,11 +11,13 @@ mod comparisons;
 mod faults;
 mod integer_types;
 pub mod kleene;
+mod lanes;
 pub mod null_tests;
 mod numbers;
 pub mod numeric;
 mod pairs;
 mod row_operation;
+mod spans;
 mod truths;
 mod validity;
 
