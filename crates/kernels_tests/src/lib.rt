@@ -30,6 +30,8 @@ mod questions;
 #[cfg(test)]
 mod scalars;
 #[cfg(test)]
+mod spans;
+#[cfg(test)]
 mod widths;
 #[cfg(test)]
 mod words;
