@@ -31,7 +31,7 @@ fn bounded(
 }
 
 /// Between of three columns of one length: the lower bound, the array, the upper bound.
-fn between(
+pub(crate) fn between(
     alloc: Global,
     columns: (Made, Made, Made),
     lower_strict: StrictComparison,

@@ -34,6 +34,8 @@ mod questions;
 #[cfg(test)]
 mod scalars;
 #[cfg(test)]
+mod spans;
+#[cfg(test)]
 mod widths;
 #[cfg(test)]
 mod words;

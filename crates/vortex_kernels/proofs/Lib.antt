@@ -11,3 +11,5 @@ pub mod BetweenRows
 pub mod BoundedRows
 pub mod EqualBytes
 pub mod ConstantOperands
+pub mod LaneMasks
+pub mod LaneWords

@@ -5,13 +5,15 @@ ghost use Rattle.vortex_kernels.specs.Words.{AreBeside, AreBounded};
 
 use crate::comparisons::Comparison;
 use crate::integer_types::with_integer;
+use crate::lanes::LaneInteger;
 use crate::pairs::{
-    BytesAndOne, BytesPairs, IntPairs, IntsAndOne, Pairs, constant_bytes, constant_int,
+    BytesAndOne, BytesPairs, IntPairs, IntsAndOne, Pairs, SpanPairs, constant_bytes, constant_int,
 };
+use crate::spans::{SpanBits, collect_spans};
 use std::alloc::Global;
 use std::marker::PhantomData;
 use vortex_bits::{RowBits, collect_rows};
-use vortex_columns::{BitBuffer, Column, DType, NativePType, PType, VortexResult};
+use vortex_columns::{BitBuffer, Column, DType, PType, VortexResult};
 
 /// Whether both comparisons say yes, each to its pair.
 #[derive(Clone, Copy)]
@@ -36,6 +38,12 @@ impl<P: Comparison, Q: Comparison, L: Pairs, U: Pairs> RowBits for HeldBoth<P, Q
     }
 }
 
+impl<P: Comparison, Q: Comparison, L: SpanPairs, U: SpanPairs> SpanBits for HeldBoth<P, Q, L, U> {
+    fn span(&self, at: usize) -> u64 {
+        self.lower.hold_from::<P>(at) & self.upper.hold_from::<Q>(at)
+    }
+}
+
 /// Whether both comparisons say yes in each row.
 fn hold_in_both<P: Comparison, Q: Comparison, L: Pairs, U: Pairs>(
     alloc: Global,
@@ -57,9 +65,30 @@ fn hold_in_both<P: Comparison, Q: Comparison, L: Pairs, U: Pairs>(
     collect_rows(alloc, &rows, len)
 }
 
+/// The same of pairs of which 64 are compared at once.
+fn hold_both_in_spans<P: Comparison, Q: Comparison, L: SpanPairs, U: SpanPairs>(
+    alloc: Global,
+    lower: L,
+    upper: U,
+    len: usize,
+) -> VortexResult<BitBuffer>
+    requires lower { (i : ℕ) → i < len → L.has_pair lower i }
+    requires upper { (i : ℕ) → i < len → U.has_pair upper i }
+    ensures { AnswersUnlessMemory result (AreRows len
+        (λ i. holds P.operator (L.order lower i) && holds Q.operator (U.order upper i))) }
+{
+    let rows = HeldBoth::<P, Q, L, U> {
+        lower,
+        upper,
+        above: PhantomData,
+        below: PhantomData,
+    };
+    collect_spans(alloc, &rows, len)
+}
+
 /// The integers of a column beside lower bounds whose form is chosen, and the upper ones; nothing
 /// where those lend none.
-fn ints_beside<P: Comparison, Q: Comparison, L: Pairs, T: NativePType>(
+fn ints_beside<P: Comparison, Q: Comparison, L: SpanPairs, T: LaneInteger>(
     alloc: Global,
     array: &Column,
     lower: L,
@@ -77,21 +106,18 @@ fn ints_beside<P: Comparison, Q: Comparison, L: Pairs, T: NativePType>(
     };
     if let Some(right) = upper.ints::<T>() {
         let pairs = IntPairs { left, right };
-        let bits = hold_in_both::<P, Q, L, IntPairs<T>>(alloc, lower, pairs, len)?;
+        let bits = hold_both_in_spans::<P, Q, L, IntPairs<T>>(alloc, lower, pairs, len)?;
         return Ok(Some(bits));
     }
     if let Some(right) = constant_int::<T>(upper) {
-        let pairs = IntsAndOne {
-            left,
-            right: &right,
-        };
-        let bits = hold_in_both::<P, Q, L, IntsAndOne<T>>(alloc, lower, pairs, len)?;
+        let pairs = IntsAndOne { left, right };
+        let bits = hold_both_in_spans::<P, Q, L, IntsAndOne<T>>(alloc, lower, pairs, len)?;
         return Ok(Some(bits));
     }
     Ok(None)
 }
 
-fn ints_between<P: Comparison, Q: Comparison, T: NativePType>(
+fn ints_between<P: Comparison, Q: Comparison, T: LaneInteger>(
     alloc: Global,
     array: &Column,
     lower: &Column,
@@ -112,10 +138,7 @@ fn ints_between<P: Comparison, Q: Comparison, T: NativePType>(
         return ints_beside::<P, Q, IntPairs<T>, T>(alloc, array, pairs, upper);
     }
     if let Some(right) = constant_int::<T>(lower) {
-        let pairs = IntsAndOne {
-            left,
-            right: &right,
-        };
+        let pairs = IntsAndOne { left, right };
         return ints_beside::<P, Q, IntsAndOne<T>, T>(alloc, array, pairs, upper);
     }
     Ok(None)

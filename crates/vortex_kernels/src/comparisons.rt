@@ -3,15 +3,17 @@ ghost use Rattle.std.specs.Prelude.{◌≡◌};
 ghost use Rattle.vortex_kernels.specs.Words.{CompareOperator, Eq, NotEq, Gt, Gte, Lt, Lte, holds};
 ghost use Rattle.vortex_kernels.specs.Words.{byte_order};
 
+use crate::lanes::LaneInteger;
 use std::cmp::Ordering;
 use vortex_bits::WordFormula;
 use vortex_views::{WordsOfBytes, compare, equal};
 
 /// A comparison.
 pub(crate) trait Comparison: WordFormula + Copy {
-    ghost use Rattle.std.specs.Prelude.{◌≡◌, Bool};
+    ghost use Rattle.std.specs.Prelude.{◌≡◌, ◌<◌, ℕ, Bool, map, length};
     ghost use Rattle.std.specs.Ordering.{bool_cmp};
-    ghost use Rattle.vortex_kernels.specs.Words.{CompareOperator, holds, byte_order};
+    ghost use Rattle.vortex_kernels.specs.Words.{CompareOperator, holds, byte_order, bit};
+    ghost use Rattle.vortex_kernels.specs.Words.{int_orders, int_orders_with};
 
     ghost operator: { CompareOperator };
 
@@ -25,6 +27,20 @@ pub(crate) trait Comparison: WordFormula + Copy {
     {
         Self::holds(compare(left, right))
     }
+
+    /// Which of 64 integers it says yes to beside those of the other side, the first as the least
+    /// significant bit.
+    fn of_integers<T: LaneInteger>(left: &[T], right: &[T]) -> u64
+        requires left { length left.now ≡ 64 }
+        requires right { length right.now ≡ 64 }
+        ensures { (j : ℕ) → j < 64 → bit result j
+            ≡ holds operator (int_orders (map T.number left.now) (map T.number right.now) j) };
+
+    /// The same beside one integer.
+    fn of_integers_with<T: LaneInteger>(left: &[T], right: T) -> u64
+        requires { length left.now ≡ 64 }
+        ensures { (j : ℕ) → j < 64 → bit result j
+            ≡ holds operator (int_orders_with (map T.number left.now) (T.number right) j) };
 
     /// In words it says of two truth values what it says of their order.
     ghost of_bits: { (l r : Bool) → Self.says l r ≡ holds operator (bool_cmp l r) };
@@ -74,6 +90,16 @@ impl Comparison for IsEqual {
     fn holds_of_bytes<A: WordsOfBytes, B: WordsOfBytes>(left: &A, right: &B) -> bool {
         equal(left, right)
     }
+
+    #[inline(always)]
+    fn of_integers<T: LaneInteger>(left: &[T], right: &[T]) -> u64 {
+        T::equal_word(left, right)
+    }
+
+    #[inline(always)]
+    fn of_integers_with<T: LaneInteger>(left: &[T], right: T) -> u64 {
+        T::equal_word_with(left, right)
+    }
 }
 
 impl WordFormula for IsNotEqual {
@@ -102,6 +128,16 @@ impl Comparison for IsNotEqual {
     fn holds_of_bytes<A: WordsOfBytes, B: WordsOfBytes>(left: &A, right: &B) -> bool {
         !equal(left, right)
     }
+
+    #[inline(always)]
+    fn of_integers<T: LaneInteger>(left: &[T], right: &[T]) -> u64 {
+        !T::equal_word(left, right)
+    }
+
+    #[inline(always)]
+    fn of_integers_with<T: LaneInteger>(left: &[T], right: T) -> u64 {
+        !T::equal_word_with(left, right)
+    }
 }
 
 impl WordFormula for IsGreater {
@@ -125,6 +161,16 @@ impl Comparison for IsGreater {
 
     fn holds(order: Ordering) -> bool {
         order.is_gt()
+    }
+
+    #[inline(always)]
+    fn of_integers<T: LaneInteger>(left: &[T], right: &[T]) -> u64 {
+        T::less_word(right, left)
+    }
+
+    #[inline(always)]
+    fn of_integers_with<T: LaneInteger>(left: &[T], right: T) -> u64 {
+        T::greater_word_with(left, right)
     }
 }
 
@@ -150,6 +196,16 @@ impl Comparison for IsGreaterOrEqual {
     fn holds(order: Ordering) -> bool {
         order.is_ge()
     }
+
+    #[inline(always)]
+    fn of_integers<T: LaneInteger>(left: &[T], right: &[T]) -> u64 {
+        !T::less_word(left, right)
+    }
+
+    #[inline(always)]
+    fn of_integers_with<T: LaneInteger>(left: &[T], right: T) -> u64 {
+        !T::less_word_with(left, right)
+    }
 }
 
 impl WordFormula for IsLess {
@@ -174,6 +230,16 @@ impl Comparison for IsLess {
     fn holds(order: Ordering) -> bool {
         order.is_lt()
     }
+
+    #[inline(always)]
+    fn of_integers<T: LaneInteger>(left: &[T], right: &[T]) -> u64 {
+        T::less_word(left, right)
+    }
+
+    #[inline(always)]
+    fn of_integers_with<T: LaneInteger>(left: &[T], right: T) -> u64 {
+        T::less_word_with(left, right)
+    }
 }
 
 impl WordFormula for IsLessOrEqual {
@@ -197,5 +263,15 @@ impl Comparison for IsLessOrEqual {
 
     fn holds(order: Ordering) -> bool {
         order.is_le()
+    }
+
+    #[inline(always)]
+    fn of_integers<T: LaneInteger>(left: &[T], right: &[T]) -> u64 {
+        !T::less_word(right, left)
+    }
+
+    #[inline(always)]
+    fn of_integers_with<T: LaneInteger>(left: &[T], right: T) -> u64 {
+        !T::greater_word_with(left, right)
     }
 }

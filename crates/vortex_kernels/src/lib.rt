@@ -13,12 +13,14 @@ mod faults;
 mod integer_types;
 pub mod kleene;
 mod kleene_validity;
+mod lanes;
 pub mod null_tests;
 mod numbers;
 pub mod numeric;
 mod pairs;
 mod row_operation;
 mod settled;
+mod spans;
 mod truths;
 mod validity;
 

@@ -1,17 +1,19 @@
 //! The values of two columns side by side, and what a comparison says of each pair.
-ghost use Rattle.std.specs.Prelude.{◌≡◌, ◌<◌, ℕ, true, map, length};
+ghost use Rattle.std.specs.Prelude.{◌≡◌, ◌<◌, ◌+◌, ◌^◌, ℕ, true, map, length};
 ghost use Rattle.std.specs.Prelude.{IsSome, IfSome, IfNone};
 ghost use Rattle.std.specs.declared.cmp.Ordering.{Ordering};
 ghost use Rattle.vortex_kernels.specs.Words.{AnswersUnlessMemory, number, truth, truth_of};
 ghost use Rattle.vortex_kernels.specs.Words.{is_text_type, row, lent_values, holds, row_orders};
 ghost use Rattle.vortex_kernels.specs.Words.{int_orders, int_orders_with, bit_orders};
 ghost use Rattle.vortex_kernels.specs.Words.{bit_orders_with, byte_orders, byte_orders_with};
-ghost use Rattle.vortex_kernels.specs.Words.{constant_value};
+ghost use Rattle.vortex_kernels.specs.Words.{constant_value, bit};
 ghost use Rattle.vortex_kernels.specs.Words.{AreHeld, IsConstantOf, IsConstantBytes};
 ghost use Rattle.vortex_kernels.specs.Words.{AreComparisons, IsIntegerType, IsNullColumn};
 
 use crate::comparisons::Comparison;
 use crate::integer_types::with_integer;
+use crate::lanes::LaneInteger;
+use crate::spans::{SpanBits, collect_spans};
 use std::alloc::Global;
 use std::marker::PhantomData;
 use vortex_bits::{RowBits, collect_rows, zip_bits, zip_bits_with};
@@ -33,6 +35,17 @@ pub(crate) trait Pairs: Copy {
         ensures { result ≡ holds P.operator (order self.now i) };
 }
 
+/// Pairs of which 64 are compared at once.
+pub(crate) trait SpanPairs: Pairs {
+    /// Whether the comparison says yes to pairs `at` to `at + 63`, the first as the least
+    /// significant bit.
+    fn hold_from<P: Comparison>(&self, at: usize) -> u64
+        requires place { at + 64 < 2 ^ 64 }
+        requires pairs { (j : ℕ) → j < 64 → Self.has_pair self.now (at + j) }
+        ensures { (j : ℕ) → j < 64
+            → bit result j ≡ holds P.operator (Self.order self.now (at + j)) };
+}
+
 /// Whether the comparison says yes to each pair.
 #[derive(Clone, Copy)]
 struct Held<P: Comparison, R: Pairs> {
@@ -50,6 +63,12 @@ impl<P: Comparison, R: Pairs> RowBits for Held<P, R> {
     }
 }
 
+impl<P: Comparison, R: SpanPairs> SpanBits for Held<P, R> {
+    fn span(&self, at: usize) -> u64 {
+        self.pairs.hold_from::<P>(at)
+    }
+}
+
 /// Whether the comparison says yes in each row.
 fn hold_in_pairs<P: Comparison, R: Pairs>(
     alloc: Global,
@@ -64,6 +83,22 @@ fn hold_in_pairs<P: Comparison, R: Pairs>(
         comparison: PhantomData,
     };
     collect_rows(alloc, &rows, len)
+}
+
+/// The same of pairs of which 64 are compared at once.
+fn hold_in_spans<P: Comparison, R: SpanPairs>(
+    alloc: Global,
+    pairs: R,
+    len: usize,
+) -> VortexResult<BitBuffer>
+    requires { (i : ℕ) → i < len → R.has_pair pairs i }
+    ensures { AnswersUnlessMemory result (AreHeld P.operator (R.order pairs) len) }
+{
+    let rows = Held::<P, R> {
+        pairs,
+        comparison: PhantomData,
+    };
+    collect_spans(alloc, &rows, len)
 }
 
 /// Rows of any type, read where they lie.
@@ -85,12 +120,12 @@ impl Pairs for CellPairs<'_> {
 
 /// The integers of two columns.
 #[derive(Clone, Copy)]
-pub(crate) struct IntPairs<'a, T: NativePType> {
+pub(crate) struct IntPairs<'a, T: LaneInteger> {
     pub(crate) left: &'a [T],
     pub(crate) right: &'a [T],
 }
 
-impl<T: NativePType> Pairs for IntPairs<'_, T> {
+impl<T: LaneInteger> Pairs for IntPairs<'_, T> {
     ghost has_pair = { λ p i. (i < length p.left.now) × (i < length p.right.now) };
 
     ghost order = { λ p. int_orders (map T.number p.left.now) (map T.number p.right.now) };
@@ -100,20 +135,32 @@ impl<T: NativePType> Pairs for IntPairs<'_, T> {
     }
 }
 
-/// The integers of a column beside one.
-#[derive(Clone, Copy)]
-pub(crate) struct IntsAndOne<'a, T: NativePType> {
-    pub(crate) left: &'a [T],
-    pub(crate) right: &'a T,
+impl<T: LaneInteger> SpanPairs for IntPairs<'_, T> {
+    fn hold_from<P: Comparison>(&self, at: usize) -> u64 {
+        P::of_integers(&self.left[at..at + 64], &self.right[at..at + 64])
+    }
 }
 
-impl<T: NativePType> Pairs for IntsAndOne<'_, T> {
+/// The integers of a column beside one.
+#[derive(Clone, Copy)]
+pub(crate) struct IntsAndOne<'a, T: LaneInteger> {
+    pub(crate) left: &'a [T],
+    pub(crate) right: T,
+}
+
+impl<T: LaneInteger> Pairs for IntsAndOne<'_, T> {
     ghost has_pair = { λ p i. i < length p.left.now };
 
-    ghost order = { λ p. int_orders_with (map T.number p.left.now) (T.number p.right.now) };
+    ghost order = { λ p. int_orders_with (map T.number p.left.now) (T.number p.right) };
 
     fn holds_at<P: Comparison>(&self, i: usize) -> bool {
-        P::holds(self.left[i].total_compare(*self.right))
+        P::holds(self.left[i].total_compare(self.right))
+    }
+}
+
+impl<T: LaneInteger> SpanPairs for IntsAndOne<'_, T> {
+    fn hold_from<P: Comparison>(&self, at: usize) -> u64 {
+        P::of_integers_with(&self.left[at..at + 64], self.right)
     }
 }
 
@@ -192,7 +239,7 @@ pub(crate) fn constant_bool(column: &Column) -> Option<bool>
     column.as_constant()?.as_bool_opt()
 }
 
-fn hold_in_ints<P: Comparison, T: NativePType>(
+fn hold_in_ints<P: Comparison, T: LaneInteger>(
     alloc: Global,
     lhs: &Column,
     rhs: &Column,
@@ -204,17 +251,10 @@ fn hold_in_ints<P: Comparison, T: NativePType>(
     let len = lhs.len();
     match (lhs.ints::<T>(), rhs.ints::<T>(), constant_int::<T>(rhs)) {
         (Some(left), Some(right), _) => {
-            hold_in_pairs::<P, IntPairs<T>>(alloc, IntPairs { left, right }, len)
+            hold_in_spans::<P, IntPairs<T>>(alloc, IntPairs { left, right }, len)
         }
         (Some(left), None, Some(right)) => {
-            hold_in_pairs::<P, IntsAndOne<T>>(
-                alloc,
-                IntsAndOne {
-                    left,
-                    right: &right,
-                },
-                len,
-            )
+            hold_in_spans::<P, IntsAndOne<T>>(alloc, IntsAndOne { left, right }, len)
         }
         _ => hold_in_cells::<P>(alloc, lhs, rhs),
     }

@@ -9,10 +9,10 @@ returns-in-Some-Some-default g c =
     let r = c.args.rhs.now in
     let xs = map g.T.NativePType.number c.in-Some-Some-default.left.now in
     let ys = map g.T.NativePType.number c.in-Some-Some-default.right.now in
-    answers_compare g.P.Comparison.operator (int_orders xs ys) l.rows r.rows c.hold_in_pairs.result
+    answers_compare g.P.Comparison.operator (int_orders xs ys) l.rows r.rows c.hold_in_spans.result
     (ints_order l r c.requires xs ys c.in-Some-Some-default.ensures.1
     c.in-Some-Some-default.ensures'.1)
-    (rw c.len-len.ensures at c.hold_in_pairs.ensures)
+    (rw c.len-len.ensures at c.hold_in_spans.ensures)
 
 pub returns-in-Some-None-Some : goal.returns-in-Some-None-Some
 returns-in-Some-None-Some g c =
@@ -21,7 +21,7 @@ returns-in-Some-None-Some g c =
     let xs = map g.T.NativePType.number c.in-Some-None-Some.left.now in
     let z = g.T.NativePType.number c.in-Some-None-Some.right in
     answers_compare g.P.Comparison.operator (int_orders_with xs z) l.rows r.rows
-    c.hold_in_pairs-in-Some-None-Some.result
+    c.hold_in_spans-in-Some-None-Some.result
     (ints_order_with l r c.requires xs z c.in-Some-None-Some.ensures.1
     c.in-Some-None-Some.ensures''.value)
-    (rw c.len-len.ensures at c.hold_in_pairs-in-Some-None-Some.ensures)
+    (rw c.len-len.ensures at c.hold_in_spans-in-Some-None-Some.ensures)
