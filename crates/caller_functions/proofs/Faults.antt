@@ -1,9 +1,9 @@
 -- A column without a false row answers the function that faults at false.
-use Rattle.std.proofs.Common.{◌≡◌, ◌≢◌, ℕ, zero, suc, ◌<◌, Bool, true, false, List, [], ◌∷◌, length}
+use Rattle.std.proofs.Common.{◌≡◌, ◌≢◌, ℕ, ◌<◌, Bool, true, false, List, [], ◌∷◌, length}
 use Rattle.std.proofs.Common.{map, Some, refl, sym, ap, ◌∙◌, subst, arith}
-use Rattle.std.specs.Prelude.{All, Result}
+use Rattle.std.specs.Prelude.{Result}
 use Rattle.vortex_errors.specs.declared.error.VortexError.{VortexError}
-use Rattle.vortex_types.specs.LogicalTypes.{LogicalType, bool_type, is_bool_type, is_nullable}
+use Rattle.vortex_types.specs.LogicalTypes.{LogicalType, bool_type, is_nullable}
 use Rattle.vortex_types.specs.Values.{Value, null, truth, truth_of}
 use Rattle.vortex_types.specs.Typing.{HasType}
 use Rattle.vortex_columns.specs.ColumnView.{ColumnView, row, AreTyped}

@@ -1,28 +1,21 @@
 -- The function that grows: its argument, and what its rule makes of a call.
-use Rattle.std.proofs.Common.{◌≡◌, ℕ, zero, suc, ◌<◌, List, [], ◌∷◌, length, Bool, Option, Some}
-use Rattle.std.proofs.Common.{None, true, sym, refl, ap, ◌∙◌, arith, subst}
+use Rattle.std.proofs.Common.{◌≡◌, ◌<◌, List, [], ◌∷◌, length, Bool, Option, Some}
+use Rattle.std.proofs.Common.{None, sym, refl, ap, ◌∙◌, arith, subst}
 use Rattle.std.specs.Prelude.{slice_get, IsSome}
 use borrow.Author.Tests.{eqb-true}
-use Rattle.vortex_errors.specs.declared.error.VortexError.{VortexError}
-use Rattle.vortex_errors.specs.Answers.{Answers, AnswersUnlessMemory}
-use Rattle.vortex_errors.proofs.Answering.{Answers-weaker}
-use Rattle.vortex_columns.specs.ColumnView.{ColumnView, row}
-use Rattle.vortex_interface.specs.Outcomes.{gives, types_in, HasCallRows, IsCallFault}
-use Rattle.caller_functions.specs.First.{first_value}
-use Rattle.vortex_errors.specs.declared.arity.Arity.TheVariants.{Exact}
+use Rattle.vortex_columns.specs.ColumnView.{ColumnView}
+use Rattle.vortex_interface.specs.Outcomes.{types_in}
 use Rattle.vortex_types.specs.LogicalTypes.{LogicalType, bool_type}
-use Rattle.vortex_interface.specs.Meaning.{fits}
 use Rattle.vortex_interface.specs.Shipped.{Not}
 use Rattle.vortex_interface.specs.Shipped.NotFunction.{not_type}
 use Rattle.vortex_interface.specs.Functions.{ours, custom}
 use Rattle.vortex_interface.specs.Trees.{Tree, leaf, constant, call, no_trees, tree, children_of}
 use Rattle.vortex_interface.specs.Trees.{called}
-use Rattle.vortex_interface.specs.Eval.{tree_type, tree_types}
-use Rattle.vortex_interface.specs.ReduceRules.{reduce}
-use Rattle.vortex_interface.proofs.TypedCalls.{typed_call, types_parts, one_type, type_of_one}
+use Rattle.vortex_interface.specs.Eval.{tree_type}
+use Rattle.vortex_interface.proofs.TypedCalls.{typed_call, one_type, type_of_one}
 use Rattle.vortex_shipped.proofs.Inputs.{one_input}
 use Rattle.vortex_rewriting.proofs.Calls.{children_fit}
-use Rattle.caller_functions.specs.Grow.{grow_meaning, grow_rules, not_of}
+use Rattle.caller_functions.specs.Grow.{grow_meaning, not_of}
 use Rattle.caller_functions.specs.GrowRules.{is_bool}
 
 pub some_is : {A : Type 0} (o : Option A) (a : A) → o ≡ Some a → IsSome o

@@ -1,8 +1,7 @@
 -- A column of I32 without an odd number, divided by 2, answers the function that halves.
 use Rattle.std.proofs.Common.{◌≡◌, ℕ, ◌<◌, Bool, true, false, List, [], ◌∷◌, length, Some, None}
 use Rattle.std.proofs.Common.{refl, sym, ap, ◌∙◌, subst, cond, arith}
-use Rattle.std.specs.Prelude.{◌||◌, ◌≤ℤ◌, ℤ, pos, int_div, int_lt, IsSome, slice_get, Result}
-use Rattle.std.proofs.lemmas.Int.{ints}
+use Rattle.std.specs.Prelude.{◌||◌, ℤ, pos, int_div, IsSome, slice_get, Result}
 use Rattle.vortex_checked.specs.Exact.{is_outside}
 use Rattle.vortex_types.specs.declared.dtype.PType.{PType}
 use Rattle.vortex_types.specs.declared.dtype.PType.TheVariants.{I32}

@@ -1,6 +1,6 @@
 -- A caller's function over Bool that faults with the number 1 where its argument is false; a null
 -- stays null.
-use Rattle.std.specs.Prelude.{◌≡◌, codes, List, [], ◌∷◌, Option, Some, None, true, false, Any, refl}
+use Rattle.std.specs.Prelude.{◌≡◌, codes, List, [], ◌∷◌, Some, true, false, Any, refl}
 use Rattle.std.specs.Prelude.{ℕ, zero, suc, ◌<◌, slice_index_or}
 use Rattle.std.proofs.Common.{sym, ap, ◌∙◌, subst, arith}
 use Rattle.vortex_errors.specs.declared.arity.Arity.TheVariants.{Exact}
