@@ -117,6 +117,17 @@ fn print_no_words(rt: &impl Eprint, error: &io::Error) -> u8 {
     3
 }
 
+/// The status where nobody reads the output any more, as with `| head`: the one that a shell tells of
+/// a program that this signal ends. Nothing is printed then.
+const PIPE_CLOSED: u8 = 141;
+
+fn is_closed_pipe(error: &StreamError) -> bool {
+    match error {
+        StreamError::Writing(error) => error.kind() == io::ErrorKind::BrokenPipe,
+        _ => false,
+    }
+}
+
 /// Reads the options and does what they ask for; prints what went wrong on standard error. The
 /// status is 0 where nothing did.
 fn run(rt: &(impl Input + Print + Eprint + Env + Files + AllocGlobal)) -> u8 {
@@ -130,6 +141,7 @@ fn run(rt: &(impl Input + Print + Eprint + Env + Files + AllocGlobal)) -> u8 {
     };
     match perform(rt, &options) {
         Ok(()) => 0,
+        Err(error) if is_closed_pipe(&error) => PIPE_CLOSED,
         Err(error) => {
             let _ = eprintln!(rt; "rowfn_stream: {error}");
             error.status()
