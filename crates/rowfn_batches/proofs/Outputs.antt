@@ -1,13 +1,16 @@
--- One more value of a row that is put down.
+-- One more name or value of a row that is put down.
 use Rattle.std.proofs.Common.{◌≡◌, ℕ, ◌+◌, ◌<◌, List, [], ◌∷◌, ◌++◌, length, take, get_or}
-use Rattle.std.proofs.Common.{ap, sym, ◌∙◌, arith}
+use Rattle.std.proofs.Common.{ap, sym, ◌∙◌, arith, append_assoc}
+use Rattle.std.specs.Prelude.{OnOk, Result, Ok, Err}
+use Rattle.std.specs.declared.alloc.AllocError.{AllocError}
 use Rattle.std.proofs.lemmas.List.{get_or-map, length-map}
 use Rattle.vortex_columns.specs.ColumnView.{ColumnView, row}
 use Rattle.vortex_interface.specs.CallTexts.{joined, separator_before}
 use Rattle.vortex_types.proofs.JoinedTexts.{joined_more}
+use Rattle.rowfn_csv.specs.Fields.{text_field}
 use Rattle.rowfn_csv.specs.declared.format.Format.{Format}
 use Rattle.rowfn_batches.specs.declared.output.Output.{Output}
-use Rattle.rowfn_batches.specs.Outputs.{Adds, value_field, row_fields}
+use Rattle.rowfn_batches.specs.Outputs.{Adds, name_field, value_field, row_fields}
 
 -- the first values of a row stand behind what stood there before, in the same format
 abbrev pub HasFirst : Output → Output → List ColumnView → ℕ → ℕ → Type 0
@@ -43,3 +46,19 @@ next_value old now more last answers place k c h is before parted added = (
 
     field : ColumnView → List ℕ
     field v = value_field old.format.delimiter old.format.null.now (row v.rows place)
+
+-- a name behind what parts it from those before it
+pub name_added : (old parted new : Output) (index : ℕ) (name : List ℕ)
+    (r : Result (Unit {0}) AllocError)
+    → Adds old parted (separator_before (old.format.delimiter ∷ []) index)
+    → OnOk r (Adds parted new (text_field parted.format.delimiter parted.format.null.now name))
+    → OnOk r (Adds old new (name_field old.format.delimiter old.format.null.now index name))
+name_added old parted new index name (Err e) before added = added
+name_added old parted new index name (Ok u) before added =
+    let field = text_field old.format.delimiter old.format.null.now name in (
+      added.0
+          ∙ ap (λ (f : Format). parted.bytes.items ++ text_field f.delimiter f.null.now name) before.1
+          ∙ ap (λ bs. bs ++ field) before.0
+          ∙ append_assoc old.bytes.items (separator_before (old.format.delimiter ∷ []) index) field,
+      added.1 ∙ before.1,
+    )
