@@ -3,10 +3,10 @@
 use caller_functions::run_length::RunLength;
 use fixtures::{Ask, Made, are_rows, bools, constant, kept, numbers};
 use std::alloc::Global;
+use vortex_arrays::{BooleanExecuteAdaptor, CompareExecuteAdaptor, EncodedColumn};
 use vortex_columns::{
     Column, DType, ExecutionCtx, Nullability, PType, Scalar, VortexError, VortexResult,
 };
-use vortex_arrays::{BooleanExecuteAdaptor, CompareExecuteAdaptor, EncodedColumn};
 use vortex_kernels::Operator;
 
 /// A run-length column on the heap.

@@ -3,11 +3,11 @@
 use crate::encoded::questions::*;
 use fixtures::{Ask, Made, constant, has_rows, kept, numbers};
 use std::alloc::Global;
-use vortex_columns::{
-    Column, DType, ExecutionCtx, Nullability, PType, Scalar, VortexError, VortexResult,
-};
 use vortex_arrays::{
     BooleanKernel, CompareExecuteAdaptor, CompareKernel, DictColumn, EncodedColumn,
+};
+use vortex_columns::{
+    Column, DType, ExecutionCtx, Nullability, PType, Scalar, VortexError, VortexResult,
 };
 use vortex_kernels::{CompareOperator, Operator};
 

@@ -2,8 +2,8 @@
 
 use fixtures::{Made, kept, same};
 use std::alloc::Global;
-use vortex_columns::{Cell, Column, ExecutionCtx, Scalar, VortexError, VortexResult};
 use vortex_arrays::{DictColumn, EncodedColumn};
+use vortex_columns::{Cell, Column, ExecutionCtx, Scalar, VortexError, VortexResult};
 use vortex_functions::{ScalarFnRef, ScalarFnVTable};
 
 pub(crate) const YES: Option<bool> = Some(true);
