@@ -1,0 +1,7 @@
+pub mod Literals
+pub mod Outcomes
+pub mod Items
+pub mod Calls
+pub mod Binding
+pub mod Stacks
+pub mod Answering
