@@ -45,7 +45,7 @@ fn of_escapes_and_casts(rt: HostRuntime) {
         says(
             rt,
             "name like 'a' escape 'bc'",
-            "line 1, column 22: an escape is one character, or none"
+            "line 1, column 6: an escape is one character, or none"
         )
     );
     assert!(rt;

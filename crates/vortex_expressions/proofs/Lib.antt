@@ -1,6 +1,6 @@
 pub mod Chains
 pub mod Whole
-pub mod Telling
+pub mod Stopping
 pub mod Firsts
 pub mod Settling
 pub mod Quoting

@@ -11,7 +11,7 @@ use Rattle.vortex_expressions.specs.Outcomes.{Outcome, answers, and_then}
 use Rattle.vortex_expressions.specs.Items.{Item, Tree}
 use Rattle.vortex_expressions.specs.Stacks.{run, stepped, left, tree_left}
 use Rattle.vortex_expressions.specs.Answering.{StopsBy}
-use Rattle.vortex_expressions.proofs.Telling.{stops_first}
+use Rattle.vortex_expressions.proofs.Stopping.{stops_first}
 
 module _ (scope : Fields) (steps : List written.Step) where
   abbrev Behind : ℕ → List Item → Outcome Tree

@@ -5,3 +5,4 @@ pub mod Calls
 pub mod Binding
 pub mod Stacks
 pub mod Answering
+pub mod Reading

@@ -28,6 +28,7 @@ struct Stack {
 }
 
 /// Why steps leave no tree, and the number of the step that stops.
+#[derive(Drop)]
 pub(crate) struct Stopped {
     pub(crate) step: usize,
     pub(crate) stop: Stop,

@@ -3,9 +3,16 @@
 
 mod binder;
 mod calls;
+pub mod error;
 mod item;
 mod literal;
 mod quotes;
+pub mod read;
 pub mod refusal;
+mod telling;
+mod words;
 
+pub use error::{ReadError, Reason};
+pub use read::read_expression;
 pub use refusal::Refusal;
+pub use vortex_syntax::Expected;

@@ -3,7 +3,7 @@ use Rattle.vortex_expressions.specs.Outcomes.{and_then}
 use Rattle.vortex_expressions.specs.Items.{Item, item_in}
 use Rattle.vortex_expressions.specs.Calls.{as_item, between_all, negated_if}
 use Rattle.vortex_expressions.specs.Answering.{StopsBy, Gives}
-use Rattle.vortex_expressions.proofs.Telling.{stops_first, handed_on}
+use Rattle.vortex_expressions.proofs.Stopping.{stops_first, handed_on}
 use Rattle.vortex_expressions.proofs.calls.between_item.Goals as goal
 
 pub returns-in_err-tree : goal.returns-in_err-tree
