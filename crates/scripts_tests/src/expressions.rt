@@ -3,9 +3,11 @@
 #[cfg(test)]
 mod levels;
 #[cfg(test)]
+mod places;
+#[cfg(test)]
 mod refusals;
 pub mod shown;
 #[cfg(test)]
 mod words;
 
-pub use shown::{is_refused, reads_as};
+pub use shown::{is_refused, places_are, reads_as};

@@ -1,5 +1,5 @@
 -- One token after another.
-use Rattle.std.proofs.Common.{◌≡◌, ℕ, ◌+◌, ◌<◌, ◌≤◌, List, [], ◌∷◌, length, map, drop, get_or, Option, Some, None, refl, ap, sym, ◌∙◌, add-one}
+use Rattle.std.proofs.Common.{◌≡◌, ℕ, ◌+◌, ◌<◌, ◌≤◌, List, [], ◌∷◌, length, map, drop, get_or, Option, Some, None, refl, ap, ◌∙◌, add-one}
 use Rattle.std.proofs.Math.Seq.{drop-cons}
 use Rattle.std.proofs.lemmas.List.{drop_all}
 use Rattle.vortex_syntax.specs.declared.frame.Frame.{Frame}
@@ -28,17 +28,13 @@ one_more : {A : Type 0} (f : A → Token) (xs : List A) (i : ℕ) (x : A) → i 
 one_more f xs i x lt = rw add-one (ap (map f) (drop-cons xs i x lt))
 
 -- the answer for all tokens, by those from i on
-pub goes_on : {A : Type 0} (f : A → Token) (xs ys : List A) (i : ℕ) (x : A) (s r : State) (all : Option (List Step)) → ys ≡ xs → i < length ys → all ≡ run s (map f (drop i xs))
-    → next s.mode s.frames s.steps (f (get_or ys i x)) ≡ Some r → all ≡ run r (map f (drop (i + 1) xs))
-goes_on f xs ys i x s r all e lt so_far h =
-    so_far ∙ ap (λ zs. run s (map f (drop i zs))) (sym e) ∙ ap (run s) (one_more f ys i x lt) ∙ goes s (f (get_or ys i x)) (map f (drop (i + 1) ys)) r h
-    ∙ ap (λ zs. run r (map f (drop (i + 1) zs))) e
+pub goes_on : {A : Type 0} (f : A → Token) (xs : List A) (i : ℕ) (x : A) (s r : State) (all : Option (List Step)) → i < length xs → all ≡ run s (map f (drop i xs))
+    → next s.mode s.frames s.steps (f (get_or xs i x)) ≡ Some r → all ≡ run r (map f (drop (i + 1) xs))
+goes_on f xs i x s r all lt so_far h = so_far ∙ ap (run s) (one_more f xs i x lt) ∙ goes s (f (get_or xs i x)) (map f (drop (i + 1) xs)) r h
 
-pub stops : {A : Type 0} (f : A → Token) (xs ys : List A) (i : ℕ) (x : A) (s : State) (all : Option (List Step)) → ys ≡ xs → i < length ys → all ≡ run s (map f (drop i xs))
-    → next s.mode s.frames s.steps (f (get_or ys i x)) ≡ None → all ≡ None
-stops f xs ys i x s all e lt so_far h =
-    so_far ∙ ap (λ zs. run s (map f (drop i zs))) (sym e) ∙ ap (run s) (one_more f ys i x lt) ∙ fails s (f (get_or ys i x)) (map f (drop (i + 1) ys)) h
+pub stops : {A : Type 0} (f : A → Token) (xs : List A) (i : ℕ) (x : A) (s : State) (all : Option (List Step)) → i < length xs → all ≡ run s (map f (drop i xs))
+    → next s.mode s.frames s.steps (f (get_or xs i x)) ≡ None → all ≡ None
+stops f xs i x s all lt so_far h = so_far ∙ ap (run s) (one_more f xs i x lt) ∙ fails s (f (get_or xs i x)) (map f (drop (i + 1) xs)) h
 
-pub finishes : {A : Type 0} (f : A → Token) (xs ys : List A) (i : ℕ) (s : State) (all : Option (List Step)) → ys ≡ xs → length ys ≤ i → all ≡ run s (map f (drop i xs))
-    → all ≡ finish s.mode s.frames s.steps
-finishes f xs ys i s all e le so_far = so_far ∙ ap (λ zs. run s (map f (drop i zs))) (sym e) ∙ ap (λ zs. run s (map f zs)) (drop_all i ys le) ∙ ends s
+pub finishes : {A : Type 0} (f : A → Token) (xs : List A) (i : ℕ) (s : State) (all : Option (List Step)) → length xs ≤ i → all ≡ run s (map f (drop i xs)) → all ≡ finish s.mode s.frames s.steps
+finishes f xs i s all le so_far = so_far ∙ ap (λ zs. run s (map f zs)) (drop_all i xs le) ∙ ends s

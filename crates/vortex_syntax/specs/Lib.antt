@@ -3,6 +3,7 @@ pub mod Keywords
 pub mod Pieces
 pub mod Lexing
 pub mod Errors
+pub mod Expected
 pub mod Syntax
 pub mod Levels
 pub mod Spelling

@@ -35,7 +35,7 @@ abbrev pub frames_in : Reading → List Frame
 frames_in r = reverse r.frames.items
 
 abbrev pub steps_in : Reading → List Step
-steps_in r = map step_in r.steps.items
+steps_in r = map step_in r.tree.steps.items
 
 abbrev pub seen : Reading → Mode → State
 seen r m = state m (frames_in r) (steps_in r)

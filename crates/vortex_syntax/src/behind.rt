@@ -38,6 +38,7 @@ impl<'a> Reading<'a> {
             (and_behind level (frames_in self.old) (steps_in self.old)) }
     {
         if let Some(Frame::Between(negated)) = self.top() {
+            self.at = self.top_sign();
             self.drop_top();
             self.wait(Frame::Bounded(negated))?;
             return Ok(Some(Mode::Want));
@@ -88,6 +89,7 @@ impl<'a> Reading<'a> {
     {
         match self.top() {
             Some(Frame::Like(kind)) => {
+                self.at = self.top_sign();
                 self.drop_top();
                 Some(Mode::Escaping(kind))
             }

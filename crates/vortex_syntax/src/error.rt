@@ -2,6 +2,7 @@
 ghost use Rattle.std.specs.Prelude.{◌≡◌};
 ghost use Rattle.vortex_syntax.specs.declared.error.SyntaxError.TheVariants.{OutOfMemory};
 
+use crate::expected::Expected;
 use std::alloc::{AllocError, AllocFailed};
 
 /// Why a text is no expression.
@@ -9,11 +10,28 @@ use std::alloc::{AllocError, AllocFailed};
 pub enum SyntaxError {
     /// No token begins at that byte.
     NoToken(usize),
-    /// No expression goes on with the token at that byte, or none ends where the text ends.
-    Unexpected(usize),
+    /// No expression goes on with the token at that byte, or none ends where the text ends; and
+    /// what could have come there, which is tested, not proved.
+    Unexpected(usize, Expected),
     /// Brackets nest too deep at that byte.
     TooDeep(usize),
     OutOfMemory,
+}
+
+impl SyntaxError {
+    ghost use Rattle.vortex_syntax.specs.Errors.{byte_of};
+
+    /// The byte of the text, but where memory ran out.
+    pub fn byte(&self) -> Option<usize>
+        ensures { result ≡ byte_of self.now }
+    {
+        match self {
+            SyntaxError::NoToken(byte)
+            | SyntaxError::Unexpected(byte, _)
+            | SyntaxError::TooDeep(byte) => Some(*byte),
+            SyntaxError::OutOfMemory => None,
+        }
+    }
 }
 
 impl From<AllocError> for SyntaxError {

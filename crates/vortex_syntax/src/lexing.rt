@@ -6,7 +6,9 @@ ghost use Rattle.vortex_syntax.specs.Lexing.{Lexes};
 ghost use Rattle.vortex_syntax.specs.Errors.{AnswersUnlessMemory};
 
 use crate::error::SyntaxError;
+use crate::expected::Expected;
 use crate::pieces::{Piece, first_piece};
+use crate::places::Places;
 use crate::token::Token;
 use std::alloc::{AllocError, Global};
 
@@ -25,6 +27,15 @@ impl<'a> Tokens<'a> {
         self.places.push(place)?;
         self.tokens.push(token)?;
         Ok(())
+    }
+
+    /// Where the tokens stand, and what may stand behind a tree of them.
+    pub(crate) fn placed(&self, behind: Expected) -> Places<'_> {
+        Places {
+            bytes: self.places.as_slice(),
+            end: self.end,
+            behind,
+        }
     }
 
     /// The byte at which the token of that number begins, or the text ends.

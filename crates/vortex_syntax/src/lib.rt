@@ -3,22 +3,28 @@
 
 mod behind;
 mod error;
+mod expected;
 mod frame;
 pub mod laws;
 mod levels;
 mod lexing;
 pub mod nesting;
 mod pieces;
+mod places;
 mod reader;
 mod reading;
+mod refusing;
 mod step;
 pub mod syntax;
 mod token;
+mod tree;
 mod wanted;
 
 pub use error::SyntaxError;
+pub use expected::Expected;
 pub use lexing::{Tokens, read_tokens};
 pub use nesting::DEPTH;
 pub use step::{Call, LikeKind, Operator, Step};
 pub use syntax::read_syntax;
 pub use token::{Sign, Token};
+pub use tree::SyntaxTree;

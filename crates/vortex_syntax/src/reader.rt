@@ -9,19 +9,33 @@ ghost use Rattle.vortex_syntax.specs.Errors.{UnlessMemory};
 use crate::error::SyntaxError;
 use crate::frame::Mode;
 use crate::levels::OR;
-use crate::lexing::Tokens;
+use crate::places::Places;
 use crate::reading::Reading;
-use crate::step::Step;
 use crate::token::Token;
+use crate::tree::SyntaxTree;
 use std::alloc::{AllocError, Global};
 
+/// Where a token is told: where it stands, unless it belongs to one before it.
+fn told_at(mode: Mode, before: usize, place: usize) -> usize {
+    match mode {
+        Mode::Signed | Mode::Is | Mode::IsNot | Mode::Negating(_) | Mode::Escaping(_) => before,
+        _ => place,
+    }
+}
+
 impl<'a> Reading<'a> {
-    /// What the next token makes of what is read.
+    /// What the next token, which stands at that byte, makes of what is read.
     #[tactic(auto, unfolding(crate::specs::Reading::next))]
-    fn next(&mut self, mode: Mode, token: Token<'a>) -> Result<Option<Mode>, AllocError>
+    fn next(
+        &mut self,
+        mode: Mode,
+        token: Token<'a>,
+        place: usize,
+    ) -> Result<Option<Mode>, AllocError>
         ensures { Gives result self.new
             (specs.next mode (frames_in self.old) (steps_in self.old) (token_in token.entry)) }
     {
+        self.at = told_at(mode, self.at, place);
         match mode {
             Mode::Want => self.wanted(token),
             Mode::Signed => self.digits_wanted(token),
@@ -37,10 +51,10 @@ impl<'a> Reading<'a> {
         }
     }
 
-    /// The steps, where the tokens end.
+    /// The tree, where the tokens end.
     #[tactic(auto, unfolding(crate::specs::Reading::finish))]
-    fn finish(mut self, mode: Mode) -> Result<Option<Vec<Step<'a>>>, AllocError>
-        ensures { IfOk result (λ r. option_map (λ v. map step_in v.items) r
+    fn finish(mut self, mode: Mode) -> Result<Option<SyntaxTree<'a>>, AllocError>
+        ensures { IfOk result (λ r. option_map (λ v. map step_in v.steps.items) r
             ≡ specs.finish mode (frames_in self.entry) (steps_in self.entry)) }
     {
         let Mode::Have(level) = mode else {
@@ -48,29 +62,36 @@ impl<'a> Reading<'a> {
         };
         let _level = self.settle(OR, level)?;
         if self.frames.is_empty() {
-            Ok(Some(self.steps))
+            Ok(Some(self.tree))
         } else {
             Ok(None)
         }
     }
 }
 
-/// The steps of what the tokens spell; else the first token with which none goes on, by its byte.
-pub(crate) fn read_steps<'a>(alloc: Global, read: &Tokens<'a>) -> Result<Vec<Step<'a>>, SyntaxError>
+/// The tree that the tokens spell; else the first token with which none goes on, by its byte.
+pub(crate) fn read_steps<'a>(
+    alloc: Global,
+    tokens: &[Token<'a>],
+    places: Places<'_>,
+) -> Result<SyntaxTree<'a>, SyntaxError>
     ensures { MatchResult result
-        (λ v. steps_of (map token_in read.now.tokens.items) ≡ Some (map step_in v.items))
-        (UnlessMemory (steps_of (map token_in read.now.tokens.items) ≡ None)) }
+        (λ v. steps_of (map token_in tokens.now) ≡ Some (map step_in v.steps.items))
+        (UnlessMemory (steps_of (map token_in tokens.now) ≡ None)) }
 {
     let mut reading = Reading::new(alloc);
     let mut mode = Mode::Want;
-    for (i, token) in read.tokens.iter().enumerate() {
-        let Some(next) = reading.next(mode, *token)? else {
-            return Err(SyntaxError::Unexpected(read.byte(i)));
+    for (i, token) in tokens.iter().enumerate() {
+        let place = places.byte(i);
+        let Some(next) = reading.next(mode, *token, place)? else {
+            let expected = reading.expected(mode, Some(*token), places.behind);
+            return Err(SyntaxError::Unexpected(place, expected));
         };
         mode = next;
     }
+    let expected = reading.expected(mode, None, places.behind);
     match reading.finish(mode)? {
-        Some(steps) => Ok(steps),
-        None => Err(SyntaxError::Unexpected(read.end)),
+        Some(tree) => Ok(tree),
+        None => Err(SyntaxError::Unexpected(places.byte(tokens.len()), expected)),
     }
 }

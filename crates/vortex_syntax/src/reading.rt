@@ -1,5 +1,5 @@
 //! What is read so far, and what a sign closes of it.
-ghost use Rattle.std.specs.Prelude.{◌≡◌, ◌++◌, ◌∷◌, [], ◌<◌, List, ℕ, map, vec_len};
+ghost use Rattle.std.specs.Prelude.{◌≡◌, ◌++◌, ◌∷◌, [], ◌<◌, List, ℕ, vec_len};
 ghost use Rattle.std.specs.Prelude.{IfOk, OnOk, IfSome, MatchOption};
 ghost use Rattle.vortex_syntax.specs.Postfix.{step_in};
 ghost use Rattle.vortex_syntax.specs.Reading as specs;
@@ -9,13 +9,17 @@ ghost use Rattle.vortex_syntax.specs.Reading.{closed_once, Gives, waiting, shift
 use crate::frame::{Frame, Mode, closing, guard, hole, whole};
 use crate::levels::OR;
 use crate::step::Step;
+use crate::tree::SyntaxTree;
 use std::alloc::{AllocError, Global};
 
-/// What is read so far: what waits for its last operand, and the steps.
+/// What is read so far: what waits for its last operand, with the byte of its sign, and the steps.
 #[derive(Drop)]
 pub struct Reading<'a> {
     pub frames: Vec<Frame>,
-    pub steps: Vec<Step<'a>>,
+    pub signs: Vec<usize>,
+    pub tree: SyntaxTree<'a>,
+    /// The byte at which what comes next is told.
+    pub at: usize,
 }
 
 impl<'a> Reading<'a> {
@@ -25,7 +29,9 @@ impl<'a> Reading<'a> {
     {
         Reading {
             frames: Vec::new(alloc),
-            steps: Vec::new(alloc),
+            signs: Vec::new(alloc),
+            tree: SyntaxTree::new(alloc),
+            at: 0,
         }
     }
 
@@ -33,8 +39,18 @@ impl<'a> Reading<'a> {
         ensures frames { OnOk result (frames_in self.new ≡ frame ∷ frames_in self.old) }
         ensures steps { steps_in self.new ≡ steps_in self.old }
     {
+        let sign = self.at;
+        self.signs.push(sign)?;
         self.frames.push(frame)?;
         Ok(())
+    }
+
+    pub fn emit_at(&mut self, step: Step<'a>, place: usize) -> Result<(), AllocError>
+        ensures steps { OnOk result
+            (steps_in self.new ≡ steps_in self.old ++ (step_in step.entry ∷ [])) }
+        ensures frames { frames_in self.new ≡ frames_in self.old }
+    {
+        self.tree.push(step, place)
     }
 
     pub fn emit(&mut self, step: Step<'a>) -> Result<(), AllocError>
@@ -42,8 +58,8 @@ impl<'a> Reading<'a> {
             (steps_in self.new ≡ steps_in self.old ++ (step_in step.entry ∷ [])) }
         ensures frames { frames_in self.new ≡ frames_in self.old }
     {
-        self.steps.push(step)?;
-        Ok(())
+        let place = self.at;
+        self.emit_at(step, place)
     }
 
     /// The last frame, which stays.
@@ -52,6 +68,14 @@ impl<'a> Reading<'a> {
             (λ f. (fs : List Frame) × (frames_in self.now ≡ f ∷ fs)) }
     {
         self.frames.last().copied()
+    }
+
+    /// The byte of the last frame's sign.
+    pub fn top_sign(&self) -> usize {
+        match self.signs.last() {
+            Some(place) => *place,
+            None => self.at,
+        }
     }
 
     /// Takes the last frame, where there is one.
@@ -63,6 +87,7 @@ impl<'a> Reading<'a> {
             → vec_len self.new.frames < vec_len self.old.frames }
     {
         let _taken = self.frames.pop();
+        let _sign = self.signs.pop();
     }
 
     /// The level that an operand has at least which the last frame waits for.
@@ -90,7 +115,8 @@ impl<'a> Reading<'a> {
         if reach >= guard(frame) {
             return Ok(None);
         }
-        self.emit(Step::Call(closing(frame)))?;
+        let sign = self.top_sign();
+        self.emit_at(Step::Call(closing(frame)), sign)?;
         self.drop_top();
         Ok(Some(whole(frame)))
     }

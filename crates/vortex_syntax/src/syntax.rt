@@ -1,30 +1,33 @@
 //! The tree of a text, in postfix order.
-ghost use Rattle.std.specs.Prelude.{◌≡◌, map, IfOk};
+ghost use Rattle.std.specs.Prelude.{◌≡◌, map, length, IfOk};
 ghost use Rattle.vortex_syntax.specs.Syntax.{Syntax};
 ghost use Rattle.vortex_syntax.specs.Postfix.{step_in, postfix};
 ghost use Rattle.vortex_syntax.specs.Grammar.{Reads};
 ghost use Rattle.vortex_syntax.specs.Errors.{AnswersUnlessMemory};
 
 use crate::error::SyntaxError;
+use crate::expected::Expected;
 use crate::lexing::read_tokens;
 use crate::nesting::too_deep;
 use crate::reader::read_steps;
-use crate::step::Step;
+use crate::tree::SyntaxTree;
 use std::alloc::Global;
 
 /// The tree that the text is read as, its steps in postfix order. Refused exactly where it is read
-/// as none: `NoToken`, `TooDeep` or `Unexpected`, with the byte.
-pub fn read_syntax(alloc: Global, text: &[u8]) -> Result<Vec<Step<'_>>, SyntaxError>
+/// as none: `NoToken`, `TooDeep`, or `Unexpected` with what could have come, each with the byte.
+pub fn read_syntax(alloc: Global, text: &[u8]) -> Result<SyntaxTree<'_>, SyntaxError>
     // What is read is a tree of the text.
     ensures found { IfOk result (λ v. (t : Syntax) × Reads text.now t
-        × (map step_in v.items ≡ postfix t)) }
+        × (map step_in v.steps.items ≡ postfix t)) }
     // A tree of the text is read.
     ensures only { (t : Syntax) → Reads text.now t
-        → AnswersUnlessMemory result (λ v. map step_in v.items ≡ postfix t) }
+        → AnswersUnlessMemory result (λ v. map step_in v.steps.items ≡ postfix t) }
+    ensures paired { IfOk result (λ v. length v.places.items ≡ length v.steps.items) }
 {
     let read = read_tokens(alloc, text)?;
-    if let Some(number) = too_deep(&read.tokens) {
+    let tokens = read.tokens.as_slice();
+    if let Some(number) = too_deep(tokens) {
         return Err(SyntaxError::TooDeep(read.byte(number)));
     }
-    read_steps(alloc, &read)
+    read_steps(alloc, tokens, read.placed(Expected::OperatorOrEnd))
 }

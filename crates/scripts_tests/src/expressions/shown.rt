@@ -97,15 +97,20 @@ fn push_step(out: &mut String, step: Step<'_>) -> Result<(), AllocError> {
     }
 }
 
-fn postfix(alloc: Global, text: &str) -> Result<String, SyntaxError> {
-    let steps = read_syntax(alloc, text.as_bytes())?;
-    let mut out = String::new(alloc);
-    for step in &steps {
-        if !out.is_empty() {
+fn push_steps(out: &mut String, steps: &[Step<'_>]) -> Result<(), AllocError> {
+    for (i, step) in steps.iter().enumerate() {
+        if i > 0 {
             out.push_str(" ")?;
         }
-        push_step(&mut out, *step)?;
+        push_step(out, *step)?;
     }
+    Ok(())
+}
+
+fn postfix(alloc: Global, text: &str) -> Result<String, SyntaxError> {
+    let tree = read_syntax(alloc, text.as_bytes())?;
+    let mut out = String::new(alloc);
+    push_steps(&mut out, &tree.steps)?;
     Ok(out)
 }
 
@@ -113,6 +118,14 @@ fn postfix(alloc: Global, text: &str) -> Result<String, SyntaxError> {
 pub fn reads_as(alloc: Global, text: &str, steps: &str) -> bool {
     match postfix(alloc, text) {
         Ok(out) => out.as_str() == steps,
+        Err(_) => false,
+    }
+}
+
+/// Whether the steps of the text's tree are told at these bytes.
+pub fn places_are(alloc: Global, text: &str, places: &[usize]) -> bool {
+    match read_syntax(alloc, text.as_bytes()) {
+        Ok(tree) => tree.places.as_slice() == places,
         Err(_) => false,
     }
 }

@@ -12,6 +12,6 @@ returns-then-reach-guard-clause-closes c = λ l. stays c.args.reach l _ _ c.in-S
 pub returns-clause-closes : goal.returns-clause-closes
 returns-clause-closes c = λ l.
     closes c.args.reach l _ _ c.in-Some.frame c.in-Some.ensures.0 (frames_in c.drop_top.new.self) (steps_in c.drop_top.new.self) c.in-Some.ensures.1 (omega (arith, c.guard.ensures))
-    (c.drop_top.ensures.frames c.in-Some.frame c.in-Some.ensures.0 (c.emit.ensures.frames ∙ c.in-Some.ensures.1))
-    (c.drop_top.ensures.steps ∙ c.in_ok-emit.ensures.steps ∙ ap (λ x. steps_in c.args.self.now ++ (x ∷ [])) c.closing.ensures)
+    (c.drop_top.ensures.frames c.in-Some.frame c.in-Some.ensures.0 (c.emit_at.ensures.frames ∙ c.in-Some.ensures.1))
+    (c.drop_top.ensures.steps ∙ c.in_ok-emit_at.ensures.steps ∙ ap (λ x. steps_in c.args.self.now ++ (x ∷ [])) c.closing.ensures)
     ∙ ap (λ m. settled c.args.reach m (frames_in c.drop_top.new.self) (steps_in c.drop_top.new.self)) (sym c.whole.ensures)

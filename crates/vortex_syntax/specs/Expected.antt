@@ -1,0 +1,24 @@
+-- The words for what could have come where a text is no expression.
+use Rattle.std.specs.Prelude.{ℕ, List, codes}
+use Rattle.vortex_syntax.specs.declared.expected.Expected.{Expected}
+use Rattle.vortex_syntax.specs.declared.expected.Expected.TheVariants as expected
+
+abbrev pub words : Expected → List ℕ
+words expected.Operand = codes "a column, a literal, not, cast or ("
+words expected.TightOperand = codes "a column, a literal, cast or ( (a not needs brackets here)"
+words expected.Digits = codes "digits"
+words expected.OperatorOrEnd = codes "an operator or the end"
+words expected.OperatorOrName = codes "an operator, as and a name, a comma or the end"
+words expected.OperatorOrClose = codes "an operator or )"
+words expected.OperatorOrAs = codes "an operator, or as and a type"
+words expected.OperatorOrAnd = codes "+, -, *, / or the and of between"
+words expected.Brackets = codes "brackets (comparisons, between and like stand in no chains)"
+words expected.LiteralBeforeType = codes "a literal before ::, or else cast(.. as ..)"
+words expected.TypeName = codes "the name of a type"
+words expected.NullOrNot = codes "null or not null"
+words expected.Null = codes "null"
+words expected.PredicateWord = codes "between, like or ilike"
+words expected.OpenBracket = codes "("
+words expected.CloseBracket = codes ")"
+words expected.EscapeText = codes "a text in single quotes"
+words expected.AnswerName = codes "one name behind as, and then a comma or the end"

@@ -1,0 +1,90 @@
+//! What could have come where reading stops.
+use crate::expected::Expected;
+use crate::frame::{Frame, Mode};
+use crate::levels::NOT;
+use crate::reading::Reading;
+use crate::token::{Sign, Token};
+
+/// Comparisons, `between` and `like`.
+fn is_unchained(sign: Sign) -> bool {
+    matches!(
+        sign,
+        Sign::Equal
+            | Sign::NotEqual
+            | Sign::Less
+            | Sign::LessOrEqual
+            | Sign::Greater
+            | Sign::GreaterOrEqual
+            | Sign::Between
+            | Sign::Like
+            | Sign::Ilike
+    )
+}
+
+/// What could have come in place of a sign behind an operand, where else this could have.
+fn in_place_of(sign: Sign, expected: Expected) -> Expected {
+    match (sign, expected) {
+        (_, Expected::OperatorOrAnd) => expected,
+        (Sign::As, Expected::OperatorOrName) => Expected::AnswerName,
+        (Sign::Typed, _) => Expected::LiteralBeforeType,
+        _ => {
+            if is_unchained(sign) {
+                Expected::Brackets
+            } else {
+                expected
+            }
+        }
+    }
+}
+
+/// What could have come in place of a sign behind an operand and `not`.
+fn in_place_behind_not(sign: Sign) -> Expected {
+    match sign {
+        Sign::Between | Sign::Like | Sign::Ilike => Expected::Brackets,
+        _ => Expected::PredicateWord,
+    }
+}
+
+impl<'a> Reading<'a> {
+    /// What may stand behind an operand, by the brackets that are open.
+    fn behind_operand(&self, whole: Expected) -> Expected {
+        for frame in self.frames.iter().rev() {
+            match frame {
+                Frame::Open => return Expected::OperatorOrClose,
+                Frame::Cast => return Expected::OperatorOrAs,
+                Frame::Between(_) => return Expected::OperatorOrAnd,
+                _ => {}
+            }
+        }
+        whole
+    }
+
+    fn operand_expected(&self) -> Expected {
+        if NOT < self.top_hole() {
+            Expected::TightOperand
+        } else {
+            Expected::Operand
+        }
+    }
+
+    /// What could have come in place of that token, or where none stands, of the end. Behind a
+    /// whole tree it is what the caller says.
+    pub fn expected(&self, mode: Mode, found: Option<Token<'_>>, whole: Expected) -> Expected {
+        match (mode, found) {
+            (Mode::Want, _) => self.operand_expected(),
+            (Mode::Signed, _) => Expected::Digits,
+            (Mode::Have(_), Some(Token::Sign(sign))) => {
+                in_place_of(sign, self.behind_operand(whole))
+            }
+            (Mode::Have(_), _) => self.behind_operand(whole),
+            (Mode::Typing | Mode::CastType, _) => Expected::TypeName,
+            (Mode::Is, _) => Expected::NullOrNot,
+            (Mode::IsNot, _) => Expected::Null,
+            (Mode::Negating(_), Some(Token::Sign(sign))) => in_place_behind_not(sign),
+            (Mode::Negating(_), _) => Expected::PredicateWord,
+            (Mode::Casting, _) => Expected::OpenBracket,
+            (Mode::CastEnd, _) => Expected::CloseBracket,
+            (Mode::Escaping(_), _) => Expected::EscapeText,
+        }
+    }
+}

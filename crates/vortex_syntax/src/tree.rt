@@ -1,0 +1,38 @@
+//! A tree in postfix order, and where its steps stand in the text.
+ghost use Rattle.std.specs.Prelude.{◌≡◌, ◌++◌, ◌∷◌, [], length, OnOk};
+
+use crate::step::Step;
+use std::alloc::{AllocError, Global};
+
+/// The steps in postfix order, and for each the byte of the text that it is told at. Operands,
+/// literals and types are told at their first token, a cast at its type, a call at the first token
+/// of its operator (`+`, `not`, `is`, `between`, `like`), with an escape too. Which byte that is is
+/// tested, not proved.
+#[derive(Drop)]
+pub struct SyntaxTree<'a> {
+    pub steps: Vec<Step<'a>>,
+    pub places: Vec<usize>,
+    pub ghost paired: { length places.items ≡ length steps.items },
+}
+
+impl<'a> SyntaxTree<'a> {
+    pub(crate) fn new(alloc: Global) -> SyntaxTree<'a>
+        ensures { result.steps.items ≡ [] }
+    {
+        SyntaxTree {
+            steps: Vec::new(alloc),
+            places: Vec::new(alloc),
+        }
+    }
+
+    /// Adds a step that is told at that byte. Refused for want of memory alone.
+    pub(crate) fn push(&mut self, step: Step<'a>, place: usize) -> Result<(), AllocError>
+        ensures { OnOk result
+            (self.new.steps.items ≡ self.old.steps.items ++ (step.entry ∷ [])) }
+    {
+        self.steps.reserve(1)?;
+        self.places.push(place)?;
+        self.steps.push(step).unwrap();
+        Ok(())
+    }
+}
