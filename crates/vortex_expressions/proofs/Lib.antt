@@ -5,3 +5,4 @@ pub mod Firsts
 pub mod Settling
 pub mod Quoting
 pub mod Walking
+pub mod Saying
