@@ -3,6 +3,8 @@
 #[cfg(test)]
 mod levels;
 #[cfg(test)]
+mod lists;
+#[cfg(test)]
 mod places;
 #[cfg(test)]
 mod refusals;
@@ -10,4 +12,4 @@ pub mod shown;
 #[cfg(test)]
 mod words;
 
-pub use shown::{is_refused, places_are, reads_as};
+pub use shown::{is_refused, list_is_refused, list_reads_as, places_are, reads_as};

@@ -11,3 +11,6 @@ pub mod SignsSound
 pub mod OperandsSound
 pub mod Sound
 pub mod Whole
+pub mod AnswerTokens
+pub mod AnswerNames
+pub mod AnswerSplits

@@ -23,9 +23,6 @@ steps_is xs ys e = cc
 pub steps_read : (text : List ℕ) (ts : List Token) (t : Syntax) → Lexes text ts → Reads text t → steps_of ts ≡ Some (postfix t)
 steps_read text ts t l r = ap steps_of (one_list l r.lexed ∙ r.spelled.tokens) ∙ whole_read t r.spelled.levels
 
-pub nests_read : (text : List ℕ) (ts : List Token) (t : Syntax) → Lexes text ts → Reads text t → nests ts ≡ true
-nests_read text ts t l r = ap nests (one_list l r.lexed) ∙ r.nested
-
 pub one_tree : (text : List ℕ) (t u : Syntax) → Reads text t → Reads text u → postfix t ≡ postfix u
 one_tree text t u r s = steps_is (postfix t) (postfix u) (sym (steps_read text r.ts t r.lexed r) ∙ steps_read text r.ts u r.lexed s)
 

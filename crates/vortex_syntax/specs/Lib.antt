@@ -11,3 +11,5 @@ pub mod Postfix
 pub mod Nesting
 pub mod Grammar
 pub mod Reading
+pub mod AnswerLists
+pub mod AnswerParts

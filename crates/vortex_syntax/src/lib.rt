@@ -1,6 +1,7 @@
 //! Expressions as people write them: texts, tokens, and trees in postfix order.
 #![tactic(auto)]
 
+pub mod answer_list;
 mod behind;
 mod error;
 mod expected;
@@ -20,6 +21,7 @@ mod token;
 mod tree;
 mod wanted;
 
+pub use answer_list::{SyntaxAnswer, read_answer_list};
 pub use error::SyntaxError;
 pub use expected::Expected;
 pub use lexing::{Tokens, read_tokens};

@@ -1,7 +1,10 @@
 //! Trees as texts in postfix order.
 use std::alloc::{AllocError, Global};
 use std::str;
-use vortex_syntax::{Call, LikeKind, Operator, Sign, Step, SyntaxError, Token, read_syntax};
+use vortex_syntax::{
+    Call, LikeKind, Operator, Sign, Step, SyntaxAnswer, SyntaxError, Token, read_answer_list,
+    read_syntax,
+};
 
 fn push_bytes(out: &mut String, bytes: &[u8]) -> Result<(), AllocError> {
     match str::from_utf8(bytes) {
@@ -112,6 +115,43 @@ fn postfix(alloc: Global, text: &str) -> Result<String, SyntaxError> {
     let mut out = String::new(alloc);
     push_steps(&mut out, &tree.steps)?;
     Ok(out)
+}
+
+fn push_answer(out: &mut String, answer: &SyntaxAnswer<'_>) -> Result<(), AllocError> {
+    push_steps(out, &answer.tree.steps)?;
+    if let Some(name) = answer.name {
+        out.push_str(" as ")?;
+        push_token(out, name)?;
+    }
+    Ok(())
+}
+
+fn answers(alloc: Global, text: &str) -> Result<String, SyntaxError> {
+    let list = read_answer_list(alloc, text.as_bytes())?;
+    let mut out = String::new(alloc);
+    for (i, answer) in list.iter().enumerate() {
+        if i > 0 {
+            out.push_str("; ")?;
+        }
+        push_answer(&mut out, answer)?;
+    }
+    Ok(out)
+}
+
+/// Whether the text is read as the list of these answers, each in postfix order and with its name.
+pub fn list_reads_as(alloc: Global, text: &str, list: &str) -> bool {
+    match answers(alloc, text) {
+        Ok(out) => out.as_str() == list,
+        Err(_) => false,
+    }
+}
+
+/// Whether the text is refused so as a list.
+pub fn list_is_refused(alloc: Global, text: &str, error: SyntaxError) -> bool {
+    match answers(alloc, text) {
+        Ok(_) => false,
+        Err(found) => found == error,
+    }
 }
 
 /// Whether the text is read as the tree of these steps.

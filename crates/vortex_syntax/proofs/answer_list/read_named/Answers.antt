@@ -1,0 +1,7 @@
+use Rattle.std.proofs.Common.{ap, option_map}
+use Rattle.vortex_syntax.specs.Tokens.{token_in}
+use Rattle.vortex_syntax.specs.AnswerParts.{told_as}
+use Rattle.vortex_syntax.proofs.answer_list.read_named.Goals as goal
+
+pub returns : goal.returns
+returns c = ap (told_as (option_map token_in c.args.name)) c.in_ok-tree.ensures

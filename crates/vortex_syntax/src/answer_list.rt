@@ -1,0 +1,156 @@
+//! Lists of answers.
+ghost use Rattle.std.specs.Prelude.{◌≡◌, ◌+◌, ◌<◌, ◌&&◌, ◌∷◌, [], map, take, drop, length};
+ghost use Rattle.std.specs.Prelude.{List, option_map, IfOk, IfSome, MatchOption, MatchResult};
+ghost use Rattle.std.specs.List.{slice_split};
+ghost use Rattle.vortex_syntax.specs.Tokens.{token_in};
+ghost use Rattle.vortex_syntax.specs.Errors.{UnlessMemory, AnswersUnlessMemory};
+ghost use Rattle.vortex_syntax.specs.Reading.{steps_of};
+ghost use Rattle.vortex_syntax.specs.AnswerLists.{Answer, is_name, ReadsAnswers, told, answer_in};
+ghost use Rattle.vortex_syntax.specs.AnswerParts as specs;
+ghost use Rattle.vortex_syntax.specs.AnswerParts.{is_comma, is_as, told_as, answer_of};
+ghost use Rattle.vortex_syntax.specs.AnswerParts.{all_answers, Tells};
+
+use crate::error::SyntaxError;
+use crate::expected::Expected;
+use crate::lexing::read_tokens;
+use crate::nesting::too_deep;
+use crate::places::Places;
+use crate::reader::read_steps;
+use crate::token::{Sign, Token};
+use crate::tree::SyntaxTree;
+use std::alloc::Global;
+
+/// An answer of a list: a tree, and the name behind its `as`, a `Name` or a `Quoted`.
+#[derive(Drop)]
+pub struct SyntaxAnswer<'a> {
+    pub tree: SyntaxTree<'a>,
+    pub name: Option<Token<'a>>,
+}
+
+fn is_comma(token: Token<'_>) -> bool
+    ensures { result ≡ is_comma (token_in token.entry) }
+{
+    matches!(token, Token::Sign(Sign::Comma))
+}
+
+fn is_as(token: Token<'_>) -> bool
+    ensures { result ≡ is_as (token_in token.entry) }
+{
+    matches!(token, Token::Sign(Sign::As))
+}
+
+fn is_name(token: Token<'_>) -> bool
+    ensures { result ≡ is_name (token_in token.entry) }
+{
+    matches!(token, Token::Name(_) | Token::Quoted(_))
+}
+
+/// Whether they are `as` and a name.
+fn is_naming(word: Token<'_>, name: Token<'_>) -> bool
+    ensures { result ≡ (is_as (token_in word.entry) && is_name (token_in name.entry)) }
+{
+    is_as(word) && is_name(name)
+}
+
+/// The tokens of a tree and the name behind them, where the last two tokens are `as` and a name.
+fn split_name<'s, 'a>(tokens: &'s [Token<'a>]) -> Option<(&'s [Token<'a>], Token<'a>)>
+    ensures { option_map (λ x. (map token_in x.0.now, token_in x.1)) result
+        ≡ specs.split_name (map token_in tokens.now) }
+{
+    let Some((name, front)) = tokens.split_last() else {
+        return None;
+    };
+    let Some((word, tree)) = front.split_last() else {
+        return None;
+    };
+    if is_naming(*word, *name) {
+        Some((tree, *name))
+    } else {
+        None
+    }
+}
+
+/// The tree that the tokens spell, with that name.
+fn read_named<'a>(
+    alloc: Global,
+    tokens: &[Token<'a>],
+    places: Places<'_>,
+    name: Option<Token<'a>>,
+) -> Result<SyntaxAnswer<'a>, SyntaxError>
+    ensures { Tells result
+        (told_as (option_map token_in name.entry) (steps_of (map token_in tokens.now))) }
+{
+    let tree = read_steps(alloc, tokens, places)?;
+    Ok(SyntaxAnswer { tree, name })
+}
+
+/// The answer that the tokens between two commas spell.
+fn read_answer<'a>(
+    alloc: Global,
+    tokens: &[Token<'a>],
+    places: Places<'_>,
+) -> Result<SyntaxAnswer<'a>, SyntaxError>
+    ensures { Tells result (answer_of (map token_in tokens.now)) }
+{
+    match split_name(tokens) {
+        Some((tree, name)) => read_named(alloc, tree, places, Some(name)),
+        None => read_named(alloc, tokens, places, None),
+    }
+}
+
+/// The number of the first comma.
+fn first_comma(tokens: &[Token<'_>]) -> Option<usize>
+    ensures parts { MatchOption result
+        (slice_split is_comma (map token_in tokens.now) ≡ map token_in tokens.now ∷ [])
+        (λ n. slice_split is_comma (map token_in tokens.now) ≡ map token_in (take n tokens.now)
+        ∷ slice_split is_comma (map token_in (drop (n + 1) tokens.now))) }
+    ensures within { IfSome result (λ n. n < length tokens.now) }
+{
+    for (i, token) in tokens.iter().enumerate() {
+        if is_comma(*token) {
+            return Some(i);
+        }
+    }
+    None
+}
+
+/// The answers that the tokens spell; else the first token with which none goes on, by its byte.
+fn read_parts<'a>(
+    alloc: Global,
+    tokens: &[Token<'a>],
+    places: Places<'_>,
+) -> Result<Vec<SyntaxAnswer<'a>>, SyntaxError>
+    ensures { MatchResult result
+        (λ v. all_answers (map token_in tokens.now) ≡ Some (map answer_in v.items))
+        (UnlessMemory (all_answers (map token_in tokens.now) ≡ None)) }
+{
+    let mut answers = Vec::new(alloc);
+    let mut from = 0;
+    while let Some(count) = first_comma(&tokens[from..]) {
+        let answer = read_answer(alloc, &tokens[from..from + count], places.after(from))?;
+        answers.push(answer)?;
+        from += count + 1;
+    }
+    let answer = read_answer(alloc, &tokens[from..], places.after(from))?;
+    answers.push(answer)?;
+    Ok(answers)
+}
+
+/// The answers that the text is read as, one or more with commas between: each a tree, and its name
+/// behind `as` where it has one. Refused exactly where it is read as none: `NoToken`, `TooDeep`, or
+/// `Unexpected` with what could have come, each with the byte.
+pub fn read_answer_list(alloc: Global, text: &[u8]) -> Result<Vec<SyntaxAnswer<'_>>, SyntaxError>
+    // What is read is a list of the text.
+    ensures found { IfOk result (λ v. (answers : List Answer) × ReadsAnswers text.now answers
+        × (map answer_in v.items ≡ map told answers)) }
+    // A list of the text is read.
+    ensures only { (answers : List Answer) → ReadsAnswers text.now answers
+        → AnswersUnlessMemory result (λ v. map answer_in v.items ≡ map told answers) }
+{
+    let read = read_tokens(alloc, text)?;
+    let tokens = read.tokens.as_slice();
+    if let Some(number) = too_deep(tokens) {
+        return Err(SyntaxError::TooDeep(read.byte(number)));
+    }
+    read_parts(alloc, tokens, read.placed(Expected::OperatorOrName))
+}
