@@ -2,7 +2,7 @@
 use fixtures::answers::same;
 use std::alloc::Global;
 use vortex_columns::{DType, Nullability, PType, StructFields, VortexResult};
-use vortex_expressions::read_expression;
+use vortex_expressions::{Answer, read_answers, read_expression};
 
 const NO: Nullability = Nullability::NonNullable;
 
@@ -41,6 +41,41 @@ fn shown(alloc: Global, text: &str) -> VortexResult<String> {
 /// Whether the text says that. If not, both are printed.
 pub fn says(rt: HostRuntime, text: &str, wanted: &str) -> bool {
     match shown(rt.alloc(), text) {
+        Ok(line) => same(rt, line.as_str(), wanted),
+        Err(error) => same(rt, error.name(), wanted),
+    }
+}
+
+/// Each answer's name, or a dash, and its tree's text.
+fn push_answers(alloc: Global, out: &mut String, answers: &[Answer]) -> VortexResult<()> {
+    for answer in answers {
+        match &answer.name {
+            Some(name) => out.push_str(name.as_str())?,
+            None => out.push_str("-")?,
+        }
+        out.push_str(" = ")?;
+        out.push_str(answer.tree.sql_text(alloc)?.as_str())?;
+        out.push_str("; ")?;
+    }
+    Ok(())
+}
+
+/// The answers of a list, or what is told of the text.
+fn shown_all(alloc: Global, text: &str) -> VortexResult<String> {
+    let scope = scope(alloc)?;
+    match read_answers(alloc, &scope, text) {
+        Ok(answers) => {
+            let mut out = String::new(alloc);
+            push_answers(alloc, &mut out, &answers)?;
+            Ok(out)
+        }
+        Err(error) => Ok(format!(in alloc; "{error}")?),
+    }
+}
+
+/// Whether the text says these answers. If not, both are printed.
+pub fn says_all(rt: HostRuntime, text: &str, wanted: &str) -> bool {
+    match shown_all(rt.alloc(), text) {
         Ok(line) => same(rt, line.as_str(), wanted),
         Err(error) => same(rt, error.name(), wanted),
     }

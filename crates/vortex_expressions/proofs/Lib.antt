@@ -6,3 +6,5 @@ pub mod Settling
 pub mod Quoting
 pub mod Walking
 pub mod Saying
+pub mod Finding
+pub mod Listing

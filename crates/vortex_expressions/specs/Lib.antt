@@ -6,3 +6,4 @@ pub mod Binding
 pub mod Stacks
 pub mod Answering
 pub mod Reading
+pub mod Answers

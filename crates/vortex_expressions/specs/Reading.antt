@@ -46,16 +46,19 @@ RefusedFor r e = (e.reason ≡ reason.Refused r) ⊎ IsTrue (is_want_of_memory e
 abbrev pub RefusesAs : {A : Type 0} → Refusal → Result A ReadError → Type 0
 RefusesAs r result = MatchResult result (λ _. ⊥) (RefusedFor r)
 
--- the tree that steps leave is answered; or they are refused for that reason, or leave none
-abbrev pub ToldBy : Outcome Tree → ReadError → Type 0
-ToldBy (answers t) e = IsTrue (is_want_of_memory e)
+-- what is told of an outcome that is no answer, or of want of memory; nothing where parts are
+-- missing, as in no expression
+abbrev pub ToldBy : {A : Type 0} → Outcome A → ReadError → Type 0
+ToldBy (answers a) e = IsTrue (is_want_of_memory e)
 ToldBy (refuses r) e = RefusedFor r e
 ToldBy missing e = ⊤
 
+-- the outcome is found, by what is seen of it; or its refusal is told
+abbrev pub Finds : {A B : Type 0} → (A → B) → Result A ReadError → Outcome B → Type 0
+Finds view result o = MatchResult result (λ a. o ≡ answers (view a)) (ToldBy o)
+
 abbrev pub Bound : Fields → List Step → Result Tree ReadError → Type 0
-Bound scope ss result =
-    MatchResult result (λ t. tree_left scope (map step_in ss) ≡ answers t)
-    (ToldBy (tree_left scope (map step_in ss)))
+Bound scope ss result = Finds (λ t. t) result (tree_left scope (map step_in ss))
 
 -- the reason is told, unless memory ran out
 abbrev pub ToldOf : Reason → ReadError → Type 0

@@ -1,6 +1,7 @@
 //! Expressions as people write them, over the columns of a scope: `price * stock > 100`.
 #![tactic(auto)]
 
+pub mod answers;
 mod binder;
 mod calls;
 pub mod error;
@@ -12,6 +13,7 @@ pub mod refusal;
 mod telling;
 mod words;
 
+pub use answers::{Answer, read_answers};
 pub use error::{ReadError, Reason};
 pub use read::read_expression;
 pub use refusal::Refusal;

@@ -15,7 +15,7 @@ use vortex_functions::{BoundExpression, NoCustom};
 use vortex_syntax::{SyntaxTree, read_syntax};
 
 /// The tree that the steps of a text leave, or why they leave none.
-fn bind_steps(
+pub(crate) fn bind_steps(
     alloc: Global,
     scope: &StructFields,
     text: &str,

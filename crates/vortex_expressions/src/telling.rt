@@ -15,7 +15,7 @@ use vortex_columns::{DType, MismatchPlace, StructFields, VortexError, VortexResu
 use vortex_syntax::{Call, DEPTH, Expected, Step, SyntaxError, SyntaxTree, Token};
 
 /// Memory was refused.
-fn out_of_memory(alloc: Global) -> ReadError
+pub(crate) fn out_of_memory(alloc: Global) -> ReadError
     ensures { IsTrue (is_want_of_memory result) }
 {
     ReadError {
@@ -311,4 +311,19 @@ impl Stopped {
             }
         }
     }
+}
+
+/// Why an answer has no name.
+pub(crate) fn unnamed(alloc: Global, text: &str, stop: Stop) -> ReadError
+    ensures { ToldStop stop result }
+{
+    let told = match String::from_str(alloc, "a name is not UTF-8") {
+        Ok(told) => Ok(told),
+        Err(_) => Err(VortexError::OutOfMemory),
+    };
+    let reason = match stop {
+        Stop::Refused(refusal) => Reason::Refused(refusal),
+        Stop::Missing => Reason::Unexpected(Expected::AnswerName),
+    };
+    error_at(alloc, text, text.len(), reason, told)
 }

@@ -1,0 +1,31 @@
+//! Lists of answers.
+use crate::shown::says_all;
+
+#[test]
+fn names_and_none(rt: HostRuntime) {
+    assert!(rt;
+        says_all(
+            rt,
+            "price * stock as worth, price > 100 as \"is it \"\"dear\"\"?\", name",
+            "worth = ($.price * $.stock); is it \"dear\"? = ($.price > 100i32); - = $.name; "
+        )
+    );
+}
+
+#[test]
+fn the_first_refusal_is_told(rt: HostRuntime) {
+    assert!(rt;
+        says_all(
+            rt,
+            "price as a, small = 300 as b, weight",
+            "line 1, column 19: 300 is no u8"
+        )
+    );
+    assert!(rt;
+        says_all(
+            rt,
+            "price as a,",
+            "line 1, column 12: found the end, expected a column, a literal, not, cast or ("
+        )
+    );
+}

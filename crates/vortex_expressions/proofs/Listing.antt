@@ -1,0 +1,70 @@
+-- What the steps of a list's trees leave is what the text says.
+use Rattle.std.proofs.Common.{◌≡◌, ℕ, ◌<◌, List, [], ◌∷◌, ◌++◌, length, map, drop, get_or, Result, Ok}
+use Rattle.std.proofs.Common.{Err, refl, ap, sym, ◌∙◌, subst}
+use Rattle.std.proofs.Math.Seq.{drop-cons}
+use Rattle.std.specs.Prelude.{IfOk}
+use Rattle.vortex_types.specs.LogicalTypes.{Fields}
+use Rattle.vortex_syntax.specs.declared.answer_list.SyntaxAnswer as held
+use Rattle.vortex_syntax.specs.AnswerLists as syntax
+use Rattle.vortex_syntax.specs.AnswerLists.{Told, told, ReadsAnswers}
+use Rattle.vortex_syntax.proofs.AnswerSplits.{one_answers}
+use Rattle.vortex_expressions.specs.declared.error.ReadError.{ReadError}
+use Rattle.vortex_expressions.specs.declared.refusal.Refusal.{Refusal}
+use Rattle.vortex_expressions.specs.Outcomes.{Outcome, answers, refuses, and_then}
+use Rattle.vortex_expressions.specs.Answers.{Answer, with_name, with_first, answers_of, answers_left}
+use Rattle.vortex_expressions.specs.Answers.{answer_left}
+use Rattle.vortex_expressions.specs.Answers.{ExpressesAll, IsRefusedAll}
+use Rattle.vortex_expressions.specs.Reading.{Finds, ToldBy, ReadUnlessMemory, RefusesAs}
+use Rattle.vortex_expressions.proofs.Finding.{told_first}
+use Rattle.vortex_expressions.proofs.Whole.{tree_left-is}
+
+module _ (scope : Fields) where
+  answers_left-is : (bs : List syntax.Answer)
+      → answers_left scope (map told bs) ≡ answers_of scope bs
+  answers_left-is [] = refl
+  answers_left-is (a ∷ bs) =
+      (λ i. with_first (and_then (tree_left-is scope a.tree i) (with_name a.name))
+      (answers_left-is bs i))
+
+  module _ {A : Type 0} (view : A → List Answer) (text : List ℕ) (bs : List syntax.Answer)
+      (ts : List Told) (read : ReadsAnswers text bs) (is : ts ≡ map told bs) where
+    left_is : (cs : List syntax.Answer) → ReadsAnswers text cs
+        → answers_left scope ts ≡ answers_of scope cs
+    left_is cs s =
+        ap (answers_left scope) (is ∙ one_answers text bs cs read s) ∙ answers_left-is cs
+
+    pub found : (r : Result A ReadError) → Finds view r (answers_left scope ts)
+        → IfOk r (λ v. ExpressesAll scope text (view v))
+    found (Ok v) h = record { syntax = bs; read = read; bound = sym (left_is bs read) ∙ h }
+    found (Err e) h = tt
+
+    pub only : (r : Result A ReadError) → Finds view r (answers_left scope ts)
+        → (list : List Answer) → ExpressesAll scope text list
+        → ReadUnlessMemory r (λ v. view v ≡ list)
+    only (Ok v) h list s =
+        let e : answers (view v) ≡ answers list = sym h ∙ left_is s.syntax s.read ∙ s.bound in cc
+    only (Err e) h list s = subst (λ o. ToldBy o e) (left_is s.syntax s.read ∙ s.bound) h
+
+    pub refused : (r : Result A ReadError) → Finds view r (answers_left scope ts)
+        → (why : Refusal) → IsRefusedAll scope text why → RefusesAs why r
+    refused (Ok v) h why s =
+        let e : answers (view v) ≡ refuses why = sym h ∙ left_is s.syntax s.read ∙ s.refused in cc
+    refused (Err e) h why s = subst (λ o. ToldBy o e) (left_is s.syntax s.read ∙ s.refused) h
+
+module _ (scope : Fields) (xs : List held.SyntaxAnswer) where
+  abbrev From : ℕ → Outcome (List Answer)
+  From n = answers_left scope (map syntax.answer_in (drop n xs))
+
+  abbrev pub SoFar : ℕ → List Answer → Type 0
+  SoFar n out = From 0 ≡ and_then (From n) (λ bs. answers (out ++ bs))
+
+  pub stops : (n : ℕ) (x : held.SyntaxAnswer) (out : List Answer) (e : ReadError)
+      → n < length xs → x ≡ get_or xs n x → SoFar n out
+      → ToldBy (answer_left scope (syntax.answer_in x)) e → ToldBy (From 0) e
+  stops n x out e lt at so_far h =
+      subst (λ o. ToldBy o e)
+      (sym (so_far ∙ ap (λ ys. and_then (answers_left scope (map syntax.answer_in ys))
+      (λ bs. answers (out ++ bs))) (drop-cons xs n x lt)))
+      (told_first _ _ e
+      (told_first (answer_left scope (syntax.answer_in (get_or xs n x))) _ e
+      (subst (λ y. ToldBy (answer_left scope (syntax.answer_in y)) e) at h)))

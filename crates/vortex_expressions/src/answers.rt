@@ -1,0 +1,111 @@
+//! Lists of answers: `price * stock as worth, price > 100 as dear`.
+ghost use Rattle.std.specs.Prelude.{◌≡◌, map, option_map, MatchResult, IfOk};
+ghost use Rattle.std.specs.Prelude.{string_bytes, List};
+ghost use Rattle.vortex_types.specs.TypeOf.{struct_fields};
+ghost use Rattle.vortex_syntax.specs.Tokens.{token_in};
+ghost use Rattle.vortex_syntax.specs.AnswerLists as syntax;
+ghost use Rattle.vortex_expressions.specs.declared.refusal.Refusal.{Refusal};
+ghost use Rattle.vortex_expressions.specs.Answers as specs;
+ghost use Rattle.vortex_expressions.specs.Answers.{answer_in, name_of, name_said, answer_left};
+ghost use Rattle.vortex_expressions.specs.Answers.{answers_left, ExpressesAll, IsRefusedAll};
+ghost use Rattle.vortex_expressions.specs.Answering.{Gives};
+ghost use Rattle.vortex_expressions.specs.Reading.{ReadUnlessMemory, RefusesAs, Finds};
+
+use crate::error::ReadError;
+use crate::quotes::{between_quotes, text_of};
+use crate::read::bind_steps;
+use crate::refusal::Stop;
+use crate::telling::{out_of_memory, unnamed, unread};
+use std::alloc::Global;
+use vortex_columns::StructFields;
+use vortex_functions::{BoundExpression, NoCustom};
+use vortex_syntax::{SyntaxAnswer, Token, read_answer_list};
+
+/// A tree, and the name behind its `as`, where it has one.
+#[derive(Drop)]
+pub struct Answer {
+    pub tree: BoundExpression<NoCustom>,
+    pub name: Option<String>,
+}
+
+/// The name that stands behind `as`, without its quotes.
+fn name_of(alloc: Global, token: Token<'_>) -> Result<String, Stop>
+    ensures { Gives string_bytes result (name_of (token_in token.entry)) }
+{
+    match token {
+        Token::Name(name) => text_of(alloc, name),
+        Token::Quoted(name) => between_quotes(alloc, b'"', name),
+        _ => Err(Stop::Missing),
+    }
+}
+
+fn name_said(alloc: Global, token: Option<Token<'_>>) -> Result<Option<String>, Stop>
+    ensures { Gives (option_map string_bytes) result
+        (name_said (option_map token_in token.entry)) }
+{
+    match token {
+        Some(token) => Ok(Some(name_of(alloc, token)?)),
+        None => Ok(None),
+    }
+}
+
+/// An answer over the columns of a scope.
+fn bind_answer(
+    alloc: Global,
+    scope: &StructFields,
+    text: &str,
+    answer: &SyntaxAnswer<'_>,
+) -> Result<Answer, ReadError>
+    ensures { Finds answer_in result
+        (answer_left (struct_fields scope.now) (syntax.answer_in answer.now)) }
+{
+    let tree = bind_steps(alloc, scope, text, &answer.tree)?;
+    match name_said(alloc, answer.name) {
+        Ok(name) => Ok(Answer { tree, name }),
+        Err(stop) => Err(unnamed(alloc, text, stop)),
+    }
+}
+
+/// All answers over the columns of a scope, from left to right.
+fn bind_answers(
+    alloc: Global,
+    scope: &StructFields,
+    text: &str,
+    list: &[SyntaxAnswer<'_>],
+) -> Result<Vec<Answer>, ReadError>
+    ensures { Finds (λ v. map answer_in v.items) result
+        (answers_left (struct_fields scope.now) (map syntax.answer_in list.now)) }
+{
+    let mut answers = Vec::new(alloc);
+    for answer in list {
+        let bound = bind_answer(alloc, scope, text, answer)?;
+        if answers.push(bound).is_err() {
+            return Err(out_of_memory(alloc));
+        }
+    }
+    Ok(answers)
+}
+
+/// Reads a list of answers over the columns of a scope, each with a name behind `as` or without
+/// one: `price * stock as worth, price > 100`. Ok exactly where the text is such a list, and then
+/// the trees that it stands for, with their names.
+pub fn read_answers(
+    alloc: Global,
+    scope: &StructFields,
+    text: &str,
+) -> Result<Vec<Answer>, ReadError>
+    // What is answered the text says.
+    ensures found { IfOk result
+        (λ v. ExpressesAll (struct_fields scope.now) text.now (map answer_in v.items)) }
+    // What the text says is answered.
+    ensures only { (list : List specs.Answer) → ExpressesAll (struct_fields scope.now) text.now list
+        → ReadUnlessMemory result (λ v. map answer_in v.items ≡ list) }
+    // A text that is refused is refused so.
+    ensures refused { (r : Refusal) → IsRefusedAll (struct_fields scope.now) text.now r
+        → RefusesAs r result }
+{
+    match read_answer_list(alloc, text.as_bytes()) {
+        Ok(list) => bind_answers(alloc, scope, text, &list),
+        Err(error) => Err(unread(alloc, text, error)),
+    }
+}
