@@ -9,5 +9,7 @@ mod refusals;
 pub mod shown;
 #[cfg(test)]
 mod words;
+#[cfg(test)]
+mod writes;
 
 pub use shown::{is_refused, places_are, reads_as};

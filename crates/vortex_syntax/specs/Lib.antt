@@ -11,3 +11,4 @@ pub mod Postfix
 pub mod Nesting
 pub mod Grammar
 pub mod Reading
+pub mod Writing
