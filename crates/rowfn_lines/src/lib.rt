@@ -8,7 +8,7 @@ pub mod laws;
 pub mod parse;
 mod said;
 pub mod text;
-mod types;
+pub mod types;
 
 pub use command::Line;
 pub use text::lines;

@@ -132,8 +132,9 @@ fn split_first(text: &str) -> Option<(char, &str)>
     Some((first, rest.as_str()))
 }
 
-/// The escape that a text says: its one character, or none where it is empty.
-fn escape_of(text: &str) -> Option<Option<char>>
+/// The escape that a text says: its one character, or none where it is empty; nothing where it has
+/// more.
+pub fn escape_of(text: &str) -> Option<Option<char>>
     ensures { result ≡ escape_of (chars text.now) }
 {
     match split_first(text) {

@@ -29,7 +29,8 @@ fn read_ptype(word: &str) -> Option<PType>
     }
 }
 
-fn type_named(name: &str, nullability: Nullability) -> Option<DType>
+/// The type of that name, `bool`, `utf8` or an integer type, with null or without.
+pub fn type_named(name: &str, nullability: Nullability) -> Option<DType>
     ensures { option_map (λ t. type_of t) result ≡ type_named (allows_null nullability) name.now }
 {
     if name == "bool" {

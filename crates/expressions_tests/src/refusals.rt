@@ -1,0 +1,58 @@
+//! What is told of texts that are refused.
+use crate::shown::says;
+
+#[test]
+fn of_columns(rt: HostRuntime) {
+    assert!(rt; says(rt, "prcie + 1", "line 1, column 1: no column \"prcie\"; is \"price\" meant?"));
+    assert!(rt; says(rt, "1 < \"weight\"", "line 1, column 5: no column \"weight\""));
+}
+
+#[test]
+fn of_types(rt: HostRuntime) {
+    assert!(rt;
+        says(
+            rt,
+            "price + stock and\n  price + name > 1",
+            "line 2, column 9: E3 TypeMismatch.Arithmetic: \"+\" takes two whole numbers of one type, not i32 and utf8?"
+        )
+    );
+    assert!(rt;
+        says(
+            rt,
+            "not price",
+            "line 1, column 1: E3 TypeMismatch.Not: \"not\" takes a truth value, not i32"
+        )
+    );
+}
+
+#[test]
+fn of_literals(rt: HostRuntime) {
+    assert!(rt; says(rt, "small = 300", "line 1, column 7: 300 is no u8"));
+    assert!(rt; says(rt, "128::i8", "line 1, column 6: 128 is no i8"));
+    assert!(rt; says(rt, "null = null", "line 1, column 6: null has no type here; say it, as null::i64?"));
+    assert!(rt;
+        says(
+            rt,
+            "7::int",
+            "line 1, column 4: no type \"int\"; types are bool, utf8, i8, i16, i32, i64, u8, u16, u32 and u64, with ? where they have null"
+        )
+    );
+}
+
+#[test]
+fn of_escapes_and_casts(rt: HostRuntime) {
+    assert!(rt;
+        says(
+            rt,
+            "name like 'a' escape 'bc'",
+            "line 1, column 6: an escape is one character, or none"
+        )
+    );
+    assert!(rt;
+        says(
+            rt,
+            "cast(price as i64)",
+            "line 1, column 15: a cast leads from a truth value to bool? alone"
+        )
+    );
+}

@@ -1,0 +1,6 @@
+-- The first that there is, from a place on.
+use Rattle.std.proofs.Common.{ℕ, List, map, drop, Option}
+use Rattle.vortex_expressions.specs.Items.{first_some}
+
+abbrev pub From : {A B C : Type 0} → (B → Option C) → (A → B) → List A → ℕ → Option C
+From f g xs i = first_some (map f (map g (drop i xs)))

@@ -1,0 +1,34 @@
+-- Why calls stop, told by the calls that they are made of.
+use Rattle.std.proofs.Common.{◌≡◌, ap, Result}
+use Rattle.std.specs.Result.{IsErrAnd}
+use Rattle.std.proofs.lemmas.Result.{err_from_is_err_and}
+use Rattle.vortex_errors.specs.declared.error.VortexError.{VortexError}
+use Rattle.vortex_errors.specs.Answers.{UnlessMemory}
+use Rattle.vortex_errors.proofs.Answering.{UnlessMemory-weaker}
+use Rattle.vortex_expressions.specs.declared.refusal.Refusal.{Refusal}
+use Rattle.vortex_expressions.specs.declared.refusal.Refusal.TheVariants as refusal
+use Rattle.vortex_expressions.specs.declared.refusal.Stop.{Stop}
+use Rattle.vortex_expressions.specs.declared.refusal.Stop.TheVariants.{Refused, Missing}
+use Rattle.vortex_expressions.specs.Outcomes.{Outcome, answers, refuses, missing, and_then}
+use Rattle.vortex_expressions.specs.Answering.{UnlessOutOfMemory, StopsBy, Gives}
+
+unless-weaker : {P Q : Type 0} (r : Refusal) → (P → Q) → UnlessOutOfMemory P r
+    → UnlessOutOfMemory Q r
+unless-weaker (refusal.Binding e) f h = UnlessMemory-weaker _ _ (λ d. f) e h
+unless-weaker refusal.NotUtf8 f h = f h
+unless-weaker refusal.UnknownType f h = f h
+unless-weaker refusal.NotHeld f h = f h
+unless-weaker refusal.UntypedNull f h = f h
+unless-weaker refusal.NoEscape f h = f h
+unless-weaker refusal.NoCast f h = f h
+
+-- where the first call stops, both do
+pub stops_first : {A B : Type 0} (o : Outcome A) (f : A → Outcome B) (s : Stop) → StopsBy o s
+    → StopsBy (and_then o f) s
+stops_first o f (Refused r) h = unless-weaker r (λ e. ap (λ o. and_then o f) e) h
+stops_first o f Missing h = ap (λ o. and_then o f) h
+
+-- a call that hands on why another stopped
+pub handed_on : {A B : Type 0} (view : A → B) (o : Outcome B) (r : Result A Stop) (s : Stop)
+    → IsErrAnd r (λ e. e ≡ s) → StopsBy o s → Gives view r o
+handed_on view o r s h k = let p = err_from_is_err_and r h in rw (p.1, p.2) k

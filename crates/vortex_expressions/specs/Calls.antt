@@ -1,0 +1,170 @@
+-- What each form of syntax makes of its parts.
+use Rattle.std.specs.Prelude.{ℕ, List, [], ◌∷◌, Bool, true, false, Option, Some, None, ◌==◌}
+use Rattle.std.specs.Prelude.{if◌then◌else◌}
+use Rattle.std.specs.Option.{option_map, option_and_then}
+use Rattle.std.specs.Str.{is_utf8, chars}
+use Rattle.vortex_errors.specs.declared.error.VortexError.TheVariants.{ScopeMismatch}
+use Rattle.vortex_types.specs.LogicalTypes.{LogicalType, Fields, bool_type, text_type, find_field}
+use Rattle.vortex_types.specs.LogicalTypes.{is_bool_type, is_nullable}
+use Rattle.vortex_operators.specs.declared.operators.Operator.{Operator}
+use Rattle.vortex_operators.specs.declared.operators.Operator.TheVariants as operator
+use Rattle.vortex_operators.specs.declared.between.BetweenOptions.{BetweenOptions}
+use Rattle.vortex_operators.specs.declared.between.StrictComparison.TheVariants.{NonStrict}
+use Rattle.vortex_like.specs.declared.options.LikeOptions.{LikeOptions}
+use Rattle.vortex_like.specs.Tokens.{backslash}
+use Rattle.vortex_interface.specs.Shipped.{Binary, Not, NullTest, Cast, Between, Like}
+use Rattle.vortex_interface.specs.Functions.{ours}
+use Rattle.vortex_interface.specs.Trees.{leaf, place}
+use Rattle.rowfn_lines.specs.Commands.{type_named, escape_of}
+use Rattle.vortex_syntax.specs.declared.step.Operator as syntax
+use Rattle.vortex_syntax.specs.declared.step.Operator.TheVariants as written
+use Rattle.vortex_syntax.specs.declared.step.LikeKind.{LikeKind}
+use Rattle.vortex_syntax.specs.declared.token.Sign.{Sign}
+use Rattle.vortex_syntax.specs.declared.token.Sign.TheVariants as sign
+use Rattle.vortex_syntax.specs.Tokens.{Token, name, nullable, quoted, number, text, sign}
+use Rattle.vortex_expressions.specs.declared.refusal.Refusal.TheVariants.{NotUtf8, UnknownType}
+use Rattle.vortex_expressions.specs.declared.refusal.Refusal.TheVariants.{NoCast, NoEscape, Binding}
+use Rattle.vortex_expressions.specs.Literals as literal
+use Rattle.vortex_expressions.specs.Literals.{Literal}
+use Rattle.vortex_expressions.specs.Outcomes.{Outcome, answers, refuses, missing, and_then}
+use Rattle.vortex_expressions.specs.Outcomes.{or_refuses}
+use Rattle.vortex_expressions.specs.Items.{Item, literal, bound, Tree, Callable, called, common_type}
+use Rattle.vortex_expressions.specs.Items.{constant_at}
+
+-- Between quotes each quote is written twice, and of two the second is passed over: with the mark
+-- the first was read.
+abbrev pub unquoted_behind : ℕ → Bool → List ℕ → List ℕ
+unquoted_behind q b [] = []
+unquoted_behind q true (b ∷ bs) = unquoted_behind q false bs
+unquoted_behind q false (b ∷ bs) = b ∷ unquoted_behind q (b == q) bs
+
+abbrev pub unquoted : ℕ → List ℕ → List ℕ
+unquoted q bs = unquoted_behind q false bs
+
+abbrev pub text_of : List ℕ → Outcome (List ℕ)
+text_of bs = if is_utf8 bs then answers bs else refuses NotUtf8
+
+abbrev pub between_quotes : ℕ → List ℕ → Outcome (List ℕ)
+between_quotes q bs = text_of (unquoted q bs)
+
+-- what is made becomes an item
+abbrev pub as_item : Outcome Tree → Outcome Item
+as_item o = and_then o (λ t. answers (bound t))
+
+abbrev pub field_found : List ℕ → Option (ℕ × LogicalType) → Outcome Item
+field_found w None = refuses (Binding ScopeMismatch)
+field_found w (Some p) = answers (bound (leaf (place p.0 w p.1)))
+
+-- the column of that name
+abbrev pub column_of : Fields → List ℕ → Outcome Item
+column_of scope w = field_found w (find_field w scope)
+
+abbrev pub sign_item : Sign → Outcome Item
+sign_item sign.True = answers (literal (literal.truth true))
+sign_item sign.False = answers (literal (literal.truth false))
+sign_item sign.Null = answers (literal literal.null)
+sign_item s = missing
+
+abbrev pub text_item : List ℕ → Outcome Item
+text_item bs = answers (literal (literal.text bs))
+
+-- a column, or a literal
+abbrev pub operand_item : Fields → Token → Outcome Item
+operand_item scope (name w) = and_then (text_of w) (column_of scope)
+operand_item scope (nullable w) = missing
+operand_item scope (quoted w) = and_then (between_quotes 34 w) (column_of scope)
+operand_item scope (number ds) = and_then (text_of ds) (λ w. answers (literal (literal.number w)))
+operand_item scope (text bs) = and_then (between_quotes 39 bs) text_item
+operand_item scope (sign s) = sign_item s
+
+abbrev pub negative_item : List ℕ → Outcome Item
+negative_item ds = and_then (text_of (45 ∷ ds)) (λ w. answers (literal (literal.number w)))
+
+-- the type of that name
+abbrev pub type_of_name : List ℕ → Bool → Outcome LogicalType
+type_of_name w n = and_then (text_of w) (λ v. or_refuses UnknownType (type_named n v))
+
+-- a literal of the type of that name
+abbrev pub typed_item : List ℕ → Bool → Item → Outcome Item
+typed_item w n (bound t) = missing
+typed_item w n (literal l) = as_item (and_then (type_of_name w n) (constant_at l))
+
+-- the one cast there is: of a truth value, to the nullable type
+abbrev pub cast_to : Item → LogicalType → Outcome Tree
+cast_to i t =
+    if is_bool_type t then (if is_nullable t then called (ours Cast) (Some t) (i ∷ []) else refuses NoCast)
+    else refuses NoCast
+
+abbrev pub cast_item : List ℕ → Bool → Item → Outcome Item
+cast_item w n i = as_item (and_then (type_of_name w n) (cast_to i))
+
+-- beside And, Or and Not null is a truth value
+abbrev pub truth_type : Option LogicalType
+truth_type = Some (bool_type false)
+
+abbrev pub operator_of : syntax.Operator → Operator
+operator_of written.Or = operator.Or
+operator_of written.And = operator.And
+operator_of written.Equal = operator.Eq
+operator_of written.NotEqual = operator.NotEq
+operator_of written.Less = operator.Lt
+operator_of written.LessOrEqual = operator.Lte
+operator_of written.Greater = operator.Gt
+operator_of written.GreaterOrEqual = operator.Gte
+operator_of written.Add = operator.Add
+operator_of written.Sub = operator.Sub
+operator_of written.Mul = operator.Mul
+operator_of written.Div = operator.Div
+
+abbrev pub joined_type : syntax.Operator → List Item → Option LogicalType
+joined_type written.Or is = truth_type
+joined_type written.And is = truth_type
+joined_type o is = common_type is
+
+-- a tree, or where that is said Not of it
+abbrev pub negated_if : Bool → Tree → Outcome Tree
+negated_if n t = if n then called (ours Not) None (bound t ∷ []) else answers t
+
+abbrev pub not_item : Item → Outcome Item
+not_item a = as_item (called (ours Not) truth_type (a ∷ []))
+
+abbrev pub joined_item : syntax.Operator → Item → Item → Outcome Item
+joined_item o a b =
+    let is = a ∷ b ∷ [] in as_item (called (ours (Binary (operator_of o))) (joined_type o is) is)
+
+abbrev pub tested_item : Bool → Item → Outcome Item
+tested_item n a = as_item (called (ours (NullTest n)) None (a ∷ []))
+
+-- both bounds lie within
+abbrev pub within_bounds : BetweenOptions
+within_bounds = record { lower_strict = NonStrict; upper_strict = NonStrict }
+
+abbrev pub between_all : List Item → Outcome Tree
+between_all is = called (ours (Between within_bounds)) (common_type is) is
+
+abbrev pub between_item : Bool → Item → Item → Item → Outcome Item
+between_item n a low high =
+    as_item (and_then (between_all (a ∷ low ∷ high ∷ [])) (negated_if n))
+
+abbrev pub like_options : LikeKind → Option ℕ → LikeOptions
+like_options k escape = record {
+  negated = k.negated;
+  case_insensitive = k.case_insensitive;
+  escape = escape;
+}
+
+-- the escape that a text says: its one character, or none where it has no character
+abbrev pub escape_said : List ℕ → Outcome (Option ℕ)
+escape_said bs = or_refuses NoEscape (escape_of (chars bs))
+
+abbrev pub escape_in : List ℕ → Outcome (Option ℕ)
+escape_in e = and_then (between_quotes 39 e) escape_said
+
+abbrev pub liked_item : LikeKind → Option ℕ → Item → Item → Outcome Item
+liked_item k escape a p =
+    as_item (called (ours (Like (like_options k escape))) (Some (text_type false)) (a ∷ p ∷ []))
+
+-- the backslash escapes where no other character is chosen
+abbrev pub matched_item : LikeKind → Option (List ℕ) → Item → Item → Outcome Item
+matched_item k None a p = liked_item k (Some backslash) a p
+matched_item k (Some e) a p = and_then (escape_in e) (λ c. liked_item k c a p)

@@ -1,0 +1,97 @@
+-- Literals that have no type yet, and trees; and what calls make of them.
+use Rattle.std.specs.Prelude.{ℕ, List, [], ◌∷◌, length, map, Bool, Option, Some, None, is_some}
+use Rattle.std.specs.Prelude.{if◌then◌else◌}
+use Rattle.std.specs.Option.{option_or}
+use Rattle.vortex_errors.specs.declared.error.MismatchPlace.{MismatchPlace}
+use Rattle.vortex_errors.specs.declared.error.VortexError.TheVariants.{TypeMismatch}
+use Rattle.vortex_types.specs.LogicalTypes.{LogicalType}
+use Rattle.vortex_types.specs.ScalarView.{ScalarView}
+use Rattle.vortex_interface.specs.Meaning.{Meaning, fits}
+use Rattle.vortex_interface.specs.Shipped.{shipped_place}
+use Rattle.vortex_interface.specs.Functions.{Function, ours, custom, function_arity}
+use Rattle.vortex_interface.specs.Trees as trees
+use Rattle.vortex_interface.specs.Trees.{constant, call, trees_of}
+use Rattle.vortex_interface.specs.Eval.{tree_type, tree_types, types_or_none}
+use Rattle.vortex_interface.specs.declared.options.EmptyOptions.{EmptyOptions}
+use Rattle.vortex_functions.specs.Fixed.{fixed_meaning}
+use Rattle.vortex_functions.specs.declared.custom.NoCustom.{NoCustom}
+use Rattle.vortex_expressions.specs.declared.item.Item as held
+use Rattle.vortex_expressions.specs.declared.item.Item.TheVariants as variant
+use Rattle.vortex_expressions.specs.declared.refusal.Refusal.TheVariants.{UntypedNull, NotHeld}
+use Rattle.vortex_expressions.specs.declared.refusal.Refusal.TheVariants.{Binding}
+use Rattle.vortex_expressions.specs.Literals.{Literal, literal_in, own_type, type_beside, value_at}
+use Rattle.vortex_expressions.specs.Outcomes.{Outcome, answers, refuses, missing, and_then}
+use Rattle.vortex_expressions.specs.Outcomes.{or_refuses}
+
+-- trees, and functions, without any of a caller's
+abbrev pub Tree : Type 0
+Tree = trees.Tree NoCustom EmptyOptions
+
+abbrev pub Callable : Type 0
+Callable = Function NoCustom EmptyOptions
+
+abbrev pub meaning : Meaning NoCustom EmptyOptions
+meaning = fixed_meaning
+
+pub data Item : Type 0 where
+  literal : Literal → Item
+  bound : Tree → Item
+
+abbrev pub item_in : held.Item → Item
+item_in (variant.Literal l) = literal (literal_in l)
+item_in (variant.Bound t) = bound t
+
+-- the type of a tree, and the one that a literal has alone
+abbrev pub bound_type : Item → Option LogicalType
+bound_type (literal l) = None
+bound_type (bound t) = tree_type meaning t
+
+abbrev pub literal_type : Item → Option LogicalType
+literal_type (literal l) = own_type l
+literal_type (bound t) = None
+
+abbrev pub first_some : {A : Type 0} → List (Option A) → Option A
+first_some [] = None
+first_some (o ∷ os) = option_or o (first_some os)
+
+-- the type that literals take which stand side by side with trees: the first tree's, or where no
+-- tree stands there, that of the first literal which has one alone
+abbrev pub common_type : List Item → Option LogicalType
+common_type is =
+    option_or (first_some (map bound_type is)) (first_some (map literal_type is))
+
+-- the value of that type which a literal says
+abbrev pub constant_at : Literal → LogicalType → Outcome Tree
+constant_at l t = and_then (or_refuses NotHeld (value_at t l)) (λ s. answers (constant s))
+
+-- a tree as it is, and a literal with the type that it takes beside that one
+abbrev pub settled : Option LogicalType → Item → Outcome Tree
+settled o (bound t) = answers t
+settled o (literal l) = and_then (or_refuses UntypedNull (type_beside o l)) (constant_at l)
+
+-- all of them, from left to right
+abbrev pub all_settled : Option LogicalType → List Item → Outcome (List Tree)
+all_settled o [] = answers []
+all_settled o (i ∷ is) =
+    and_then (settled o i) (λ t. and_then (all_settled o is) (λ ts. answers (t ∷ ts)))
+
+-- E3 at that place; a function without one refuses no types
+abbrev pub refused_at : Option MismatchPlace → Outcome Tree
+refused_at None = missing
+refused_at (Some p) = refuses (Binding (TypeMismatch p))
+
+abbrev pub place_of : Callable → List LogicalType → Option MismatchPlace
+place_of (ours f) ts = shipped_place f ts
+place_of (custom f o) ts = None
+
+-- the call of a function on trees of types that it takes
+abbrev pub call_of : Callable → List Tree → Outcome Tree
+call_of f ts =
+    if fits (function_arity meaning f) (length ts)
+    then (if is_some (tree_type meaning (call f (trees_of ts))) then answers (call f (trees_of ts))
+    else refused_at (place_of f (types_or_none (tree_types meaning (trees_of ts)))))
+    else missing
+
+-- the call on these, whose literals take that type
+abbrev pub called : Callable → Option LogicalType → List Item → Outcome Tree
+called f o is = and_then (all_settled o is) (call_of f)

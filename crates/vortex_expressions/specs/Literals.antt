@@ -1,0 +1,53 @@
+-- Literals as they are written, and the types that they take.
+use Rattle.std.specs.Prelude.{ℕ, List, Bool, true, false, Option, Some, None, codes}
+use Rattle.std.specs.Prelude.{if◌then◌else◌, string_bytes}
+use Rattle.vortex_types.specs.declared.dtype.PType.TheVariants.{I64}
+use Rattle.vortex_types.specs.LogicalTypes.{LogicalType, bool_type, integer_type, text_type}
+use Rattle.vortex_types.specs.LogicalTypes.{with_nullability, is_bool_type, is_integer_type}
+use Rattle.vortex_types.specs.LogicalTypes.{is_text_type}
+use Rattle.vortex_types.specs.ScalarView.{ScalarView}
+use Rattle.vortex_types.specs.Values as value
+use Rattle.rowfn_lines.specs.Commands.{literal_of_cell}
+use Rattle.vortex_expressions.specs.declared.literal.Literal as held
+use Rattle.vortex_expressions.specs.declared.literal.Literal.TheVariants as variant
+
+-- number: digits, with a minus sign before them or without
+-- text: without its quotes
+pub data Literal : Type 0 where
+  number : List ℕ → Literal
+  text : List ℕ → Literal
+  truth : Bool → Literal
+  null : Literal
+
+abbrev pub literal_in : held.Literal → Literal
+literal_in (variant.Number w) = number (string_bytes w)
+literal_in (variant.Text bs) = text (string_bytes bs)
+literal_in (variant.Truth b) = truth b
+literal_in variant.Null = null
+
+-- the type of a literal that stands alone; null has none
+abbrev pub own_type : Literal → Option LogicalType
+own_type (number w) = Some (integer_type I64 false)
+own_type (text bs) = Some (text_type false)
+own_type (truth b) = Some (bool_type false)
+own_type null = None
+
+-- a number takes an integer type, without null
+abbrev pub number_type : LogicalType → LogicalType
+number_type t = if is_integer_type t then with_nullability t false else integer_type I64 false
+
+-- the type of a literal beside a value of a type: a number takes an integer type, and null takes any
+abbrev pub type_beside : Option LogicalType → Literal → Option LogicalType
+type_beside (Some t) (number w) = Some (number_type t)
+type_beside (Some t) null = Some t
+type_beside o l = own_type l
+
+abbrev pub truth_word : Bool → List ℕ
+truth_word b = if b then codes "true" else codes "false"
+
+-- the value of a type that a literal says, where it says one; null makes the type nullable
+abbrev pub value_at : LogicalType → Literal → Option ScalarView
+value_at t (number w) = if is_integer_type t then literal_of_cell t (Some w) else None
+value_at t (text bs) = if is_text_type t then literal_of_cell t (Some bs) else None
+value_at t (truth b) = if is_bool_type t then literal_of_cell t (Some (truth_word b)) else None
+value_at t null = Some (record { dtype = with_nullability t true; value = value.null })

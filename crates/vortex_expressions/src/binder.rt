@@ -1,0 +1,181 @@
+//! Binding: the steps of a tree of syntax, one after another, over a stack of items.
+ghost use Rattle.std.specs.Prelude.{◌≡◌, [], ◌∷◌, map, option_map, MatchResult};
+ghost use Rattle.vortex_types.specs.TypeOf.{struct_fields};
+ghost use Rattle.vortex_syntax.specs.Postfix.{step_in};
+ghost use Rattle.vortex_expressions.specs.declared.refusal.Stop.TheVariants.{Missing};
+ghost use Rattle.vortex_expressions.specs.Items.{item_in};
+ghost use Rattle.vortex_expressions.specs.Stacks.{stack_in, call_made, stepped, tree_left, left};
+ghost use Rattle.vortex_expressions.specs.Stacks.{with_two};
+ghost use Rattle.vortex_expressions.specs.Outcomes.{answers};
+ghost use Rattle.vortex_expressions.specs.Calls.{matched_item};
+ghost use Rattle.vortex_expressions.specs.Answering.{Gives, StopsBy};
+
+use crate::calls::{
+    between_item, cast_item, joined_item, matched_item, negative_item, not_item, operand_item,
+    tested_item, typed_item,
+};
+use crate::item::Item;
+use crate::refusal::Stop;
+use std::alloc::Global;
+use vortex_columns::StructFields;
+use vortex_functions::{BoundExpression, NoCustom};
+use vortex_syntax::{Call, LikeKind, Step};
+
+/// What the steps have left so far, the last item at the end.
+#[derive(Drop)]
+struct Stack {
+    items: Vec<Item>,
+}
+
+/// Why steps leave no tree, and the number of the step that stops.
+#[derive(Drop)]
+pub(crate) struct Stopped {
+    pub(crate) step: usize,
+    pub(crate) stop: Stop,
+}
+
+impl Stack {
+    fn pop(&mut self) -> Result<Item, Stop>
+        ensures { MatchResult result
+            (λ i. stack_in self.old.items.items ≡ item_in i ∷ stack_in self.new.items.items)
+            (λ e. (e ≡ Missing) × (stack_in self.old.items.items ≡ [])) }
+    {
+        match self.items.pop() {
+            Some(item) => Ok(item),
+            None => Err(Stop::Missing),
+        }
+    }
+
+    fn push(&mut self, item: Item) -> Result<(), Stop>
+        ensures { Gives (λ _. stack_in self.new.items.items) result
+            (answers (item_in item ∷ stack_in self.old.items.items)) }
+    {
+        self.items.push(item)?;
+        Ok(())
+    }
+
+    /// LIKE of the last two.
+    fn like(
+        &mut self,
+        alloc: Global,
+        kind: LikeKind,
+        escape: Option<&[u8]>,
+    ) -> Result<(), Stop>
+        ensures { Gives (λ _. stack_in self.new.items.items) result
+            (with_two (matched_item kind (option_map (λ e. e.now) escape.entry))
+            (stack_in self.old.items.items)) }
+    {
+        let pattern = self.pop()?;
+        let item = self.pop()?;
+        self.push(matched_item(alloc, kind, escape, item, pattern)?)
+    }
+
+    fn call(&mut self, alloc: Global, call: Call) -> Result<(), Stop>
+        ensures { Gives (λ _. stack_in self.new.items.items) result
+            (call_made call (stack_in self.old.items.items)) }
+    {
+        match call {
+            Call::Like(kind) => self.like(alloc, kind, None),
+            Call::Not => {
+                let item = self.pop()?;
+                self.push(not_item(alloc, item)?)
+            }
+            Call::IsNull => {
+                let item = self.pop()?;
+                self.push(tested_item(alloc, false, item)?)
+            }
+            Call::IsNotNull => {
+                let item = self.pop()?;
+                self.push(tested_item(alloc, true, item)?)
+            }
+            Call::Join(operator) => {
+                let right = self.pop()?;
+                let left = self.pop()?;
+                self.push(joined_item(alloc, operator, left, right)?)
+            }
+            Call::Between(negated) => {
+                let upper = self.pop()?;
+                let lower = self.pop()?;
+                let item = self.pop()?;
+                self.push(between_item(alloc, negated, item, lower, upper)?)
+            }
+        }
+    }
+
+    fn step(&mut self, alloc: Global, scope: &StructFields, step: Step<'_>) -> Result<(), Stop>
+        ensures { Gives (λ _. stack_in self.new.items.items) result
+            (stepped (struct_fields scope.now) (step_in step.entry)
+            (stack_in self.old.items.items)) }
+    {
+        match step {
+            Step::Operand(token) => self.push(operand_item(alloc, scope, token)?),
+            Step::Negative(digits) => self.push(negative_item(alloc, digits)?),
+            Step::Typed(name, is_nullable) => {
+                let item = self.pop()?;
+                self.push(typed_item(alloc, name, is_nullable, item)?)
+            }
+            Step::Cast(name, is_nullable) => {
+                let item = self.pop()?;
+                self.push(cast_item(alloc, name, is_nullable, item)?)
+            }
+            Step::Escaped(kind, escape) => self.like(alloc, kind, Some(escape)),
+            Step::Call(call) => self.call(alloc, call),
+        }
+    }
+
+    /// The tree that is left alone.
+    fn finish(mut self, alloc: Global) -> Result<BoundExpression<NoCustom>, Stop>
+        ensures { Gives (λ t. t) result (left (stack_in self.items.items)) }
+    {
+        let item = self.pop()?;
+        if !self.items.is_empty() {
+            return Err(Stop::Missing);
+        }
+        item.settle(alloc, None)
+    }
+}
+
+/// The tree that the steps leave over the columns of a scope.
+pub(crate) fn bind(
+    alloc: Global,
+    scope: &StructFields,
+    steps: &[Step<'_>],
+) -> Result<BoundExpression<NoCustom>, Stopped>
+    ensures { MatchResult result
+        (λ t. tree_left (struct_fields scope.now) (map step_in steps.now) ≡ answers t)
+        (λ s. StopsBy (tree_left (struct_fields scope.now) (map step_in steps.now)) s.stop) }
+{
+    let mut stack = Stack {
+        items: Vec::new(alloc),
+    };
+    for (number, step) in steps.iter().enumerate() {
+        if let Err(stop) = stack.step(alloc, scope, *step) {
+            return Err(Stopped { step: number, stop });
+        }
+    }
+    match stack.finish(alloc) {
+        Ok(tree) => Ok(tree),
+        Err(stop) => Err(Stopped {
+            step: steps.len(),
+            stop,
+        }),
+    }
+}
+
+/// What the first steps leave, so many.
+pub(crate) fn operands(
+    alloc: Global,
+    scope: &StructFields,
+    steps: &[Step<'_>],
+    count: usize,
+) -> Vec<Item> {
+    let mut stack = Stack {
+        items: Vec::new(alloc),
+    };
+    for step in steps.iter().take(count) {
+        if stack.step(alloc, scope, *step).is_err() {
+            return stack.items;
+        }
+    }
+    stack.items
+}

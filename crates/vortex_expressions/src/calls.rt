@@ -1,0 +1,292 @@
+//! What each form of syntax makes of its parts.
+ghost use Rattle.std.specs.Prelude.{◌≡◌, map, option_map};
+ghost use Rattle.vortex_errors.specs.Answers.{AnswersUnlessMemory};
+ghost use Rattle.vortex_types.specs.TypeOf.{type_of, struct_fields};
+ghost use Rattle.vortex_syntax.specs.Tokens.{token_in};
+ghost use Rattle.vortex_expressions.specs.Calls as specs;
+ghost use Rattle.vortex_expressions.specs.Items.{item_in};
+ghost use Rattle.vortex_expressions.specs.Literals.{literal_in};
+ghost use Rattle.vortex_expressions.specs.Answering.{Gives};
+
+use crate::item::{Item, called, common_type, constant_at};
+use crate::literal::Literal;
+use crate::quotes::{between_quotes, text_of};
+use crate::refusal::{Refusal, Stop};
+use rowfn_lines::parse;
+use rowfn_lines::types::type_named;
+use std::alloc::Global;
+use vortex_columns::{DType, Nullability, StructFields, VortexResult};
+use vortex_functions::{BoundExpression, LikeOptions, NoCustom, ScalarFnRef};
+use vortex_operators::{BetweenOptions, Operator, StrictComparison};
+use vortex_syntax::{LikeKind, Operator as Written, Sign, Token};
+
+/// The column of that name.
+fn column_of(alloc: Global, scope: &StructFields, name: &str) -> Result<Item, Stop>
+    ensures { Gives item_in result (specs.column_of (struct_fields scope.now) name.now) }
+{
+    Ok(Item::Bound(BoundExpression::column(alloc, scope, name)?))
+}
+
+fn sign_item(sign: Sign) -> Result<Item, Stop>
+    ensures { Gives item_in result (specs.sign_item sign) }
+{
+    match sign {
+        Sign::True => Ok(Item::Literal(Literal::Truth(true))),
+        Sign::False => Ok(Item::Literal(Literal::Truth(false))),
+        Sign::Null => Ok(Item::Literal(Literal::Null)),
+        _ => Err(Stop::Missing),
+    }
+}
+
+/// A column, or a literal.
+pub(crate) fn operand_item(
+    alloc: Global,
+    scope: &StructFields,
+    token: Token<'_>,
+) -> Result<Item, Stop>
+    ensures { Gives item_in result
+        (specs.operand_item (struct_fields scope.now) (token_in token.entry)) }
+{
+    match token {
+        Token::Name(name) => {
+            let name = text_of(alloc, name)?;
+            column_of(alloc, scope, name.as_str())
+        }
+        Token::Quoted(name) => {
+            let name = between_quotes(alloc, b'"', name)?;
+            column_of(alloc, scope, name.as_str())
+        }
+        Token::Number(digits) => {
+            let digits = text_of(alloc, digits)?;
+            Ok(Item::Literal(Literal::Number(digits)))
+        }
+        Token::Text(text) => {
+            let text = between_quotes(alloc, b'\'', text)?;
+            Ok(Item::Literal(Literal::Text(text)))
+        }
+        Token::Sign(sign) => sign_item(sign),
+        Token::Nullable(_) => Err(Stop::Missing),
+    }
+}
+
+/// The number of these digits with a minus sign before them.
+pub(crate) fn negative_item(alloc: Global, digits: &[u8]) -> Result<Item, Stop>
+    ensures { Gives item_in result (specs.negative_item digits.now) }
+{
+    let mut word = vec![in alloc; b'-']?;
+    word.extend_from_slice(digits)?;
+    let word = text_of(alloc, &word)?;
+    Ok(Item::Literal(Literal::Number(word)))
+}
+
+/// The type of that name.
+fn type_of_name(alloc: Global, name: &[u8], is_nullable: bool) -> Result<DType, Stop>
+    ensures { Gives (λ t. type_of t) result (specs.type_of_name name.now is_nullable) }
+{
+    let name = text_of(alloc, name)?;
+    let nullability = if is_nullable {
+        Nullability::Nullable
+    } else {
+        Nullability::NonNullable
+    };
+    match type_named(name.as_str(), nullability) {
+        Some(dtype) => Ok(dtype),
+        None => Err(Stop::Refused(Refusal::UnknownType)),
+    }
+}
+
+/// A literal of the type of that name.
+pub(crate) fn typed_item(
+    alloc: Global,
+    name: &[u8],
+    is_nullable: bool,
+    item: Item,
+) -> Result<Item, Stop>
+    ensures { Gives item_in result (specs.typed_item name.now is_nullable (item_in item)) }
+{
+    match item {
+        Item::Bound(_) => Err(Stop::Missing),
+        Item::Literal(literal) => {
+            let dtype = type_of_name(alloc, name, is_nullable)?;
+            Ok(Item::Bound(constant_at(alloc, &literal, dtype)?))
+        }
+    }
+}
+
+/// The one cast there is: of a truth value, to the nullable type.
+fn cast_to(alloc: Global, item: Item, dtype: &DType) -> Result<BoundExpression<NoCustom>, Stop>
+    ensures { Gives (λ t. t) result (specs.cast_to (item_in item) (type_of dtype.now)) }
+{
+    if dtype.is_boolean() && dtype.is_nullable() {
+        called(alloc, ScalarFnRef::Cast, Some(dtype), vec![in alloc; item]?)
+    } else {
+        Err(Stop::Refused(Refusal::NoCast))
+    }
+}
+
+pub(crate) fn cast_item(
+    alloc: Global,
+    name: &[u8],
+    is_nullable: bool,
+    item: Item,
+) -> Result<Item, Stop>
+    ensures { Gives item_in result (specs.cast_item name.now is_nullable (item_in item)) }
+{
+    let dtype = type_of_name(alloc, name, is_nullable)?;
+    Ok(Item::Bound(cast_to(alloc, item, &dtype)?))
+}
+
+fn operator_of(written: Written) -> Operator
+    ensures { result ≡ specs.operator_of written }
+{
+    match written {
+        Written::Or => Operator::Or,
+        Written::And => Operator::And,
+        Written::Equal => Operator::Eq,
+        Written::NotEqual => Operator::NotEq,
+        Written::Less => Operator::Lt,
+        Written::LessOrEqual => Operator::Lte,
+        Written::Greater => Operator::Gt,
+        Written::GreaterOrEqual => Operator::Gte,
+        Written::Add => Operator::Add,
+        Written::Sub => Operator::Sub,
+        Written::Mul => Operator::Mul,
+        Written::Div => Operator::Div,
+    }
+}
+
+/// The type that literals take which the operator joins.
+fn joined_type(alloc: Global, written: Written, items: &[Item]) -> VortexResult<Option<DType>>
+    ensures { AnswersUnlessMemory result (λ t. option_map (λ t. type_of t) t
+        ≡ specs.joined_type written (map item_in items.now)) }
+{
+    match written {
+        Written::Or | Written::And => Ok(Some(DType::Bool(Nullability::NonNullable))),
+        _ => common_type(alloc, items),
+    }
+}
+
+/// A tree, or where that is said NOT of it.
+fn negated_if(
+    alloc: Global,
+    negated: bool,
+    tree: BoundExpression<NoCustom>,
+) -> Result<BoundExpression<NoCustom>, Stop>
+    ensures { Gives (λ t. t) result (specs.negated_if negated tree) }
+{
+    if negated {
+        called(alloc, ScalarFnRef::Not, None, vec![in alloc; Item::Bound(tree)]?)
+    } else {
+        Ok(tree)
+    }
+}
+
+pub(crate) fn not_item(alloc: Global, item: Item) -> Result<Item, Stop>
+    ensures { Gives item_in result (specs.not_item (item_in item)) }
+{
+    let truth = DType::Bool(Nullability::NonNullable);
+    let tree = called(alloc, ScalarFnRef::Not, Some(&truth), vec![in alloc; item]?)?;
+    Ok(Item::Bound(tree))
+}
+
+pub(crate) fn joined_item(
+    alloc: Global,
+    written: Written,
+    left: Item,
+    right: Item,
+) -> Result<Item, Stop>
+    ensures { Gives item_in result (specs.joined_item written (item_in left) (item_in right)) }
+{
+    let items = vec![in alloc; left, right]?;
+    let dtype = joined_type(alloc, written, &items)?;
+    let function = ScalarFnRef::Binary(operator_of(written));
+    Ok(Item::Bound(called(alloc, function, dtype.as_ref(), items)?))
+}
+
+pub(crate) fn tested_item(alloc: Global, negated: bool, item: Item) -> Result<Item, Stop>
+    ensures { Gives item_in result (specs.tested_item negated (item_in item)) }
+{
+    let function = if negated {
+        ScalarFnRef::IsNotNull
+    } else {
+        ScalarFnRef::IsNull
+    };
+    let tree = called(alloc, function, None, vec![in alloc; item]?)?;
+    Ok(Item::Bound(tree))
+}
+
+/// BETWEEN, whose bounds both lie within.
+fn between(alloc: Global, items: Vec<Item>) -> Result<BoundExpression<NoCustom>, Stop>
+    ensures { Gives (λ t. t) result
+        (specs.between_all (map item_in items.items)) }
+{
+    let dtype = common_type(alloc, &items)?;
+    let function = ScalarFnRef::Between(BetweenOptions {
+        lower_strict: StrictComparison::NonStrict,
+        upper_strict: StrictComparison::NonStrict,
+    });
+    called(alloc, function, dtype.as_ref(), items)
+}
+
+pub(crate) fn between_item(
+    alloc: Global,
+    negated: bool,
+    item: Item,
+    lower: Item,
+    upper: Item,
+) -> Result<Item, Stop>
+    ensures { Gives item_in result
+        (specs.between_item negated (item_in item) (item_in lower) (item_in upper)) }
+{
+    let tree = between(alloc, vec![in alloc; item, lower, upper]?)?;
+    Ok(Item::Bound(negated_if(alloc, negated, tree)?))
+}
+
+/// The escape that a text says: its one character, or none where it has no character.
+fn escape_in(alloc: Global, written: &[u8]) -> Result<Option<char>, Stop>
+    ensures { Gives (λ c. c) result (specs.escape_in written.now) }
+{
+    let text = between_quotes(alloc, b'\'', written)?;
+    match parse::escape_of(text.as_str()) {
+        Some(escape) => Ok(escape),
+        None => Err(Stop::Refused(Refusal::NoEscape)),
+    }
+}
+
+fn liked_item(
+    alloc: Global,
+    kind: LikeKind,
+    escape: Option<char>,
+    item: Item,
+    pattern: Item,
+) -> Result<Item, Stop>
+    ensures { Gives item_in result
+        (specs.liked_item kind escape (item_in item) (item_in pattern)) }
+{
+    let function = ScalarFnRef::Like(LikeOptions {
+        negated: kind.negated,
+        case_insensitive: kind.case_insensitive,
+        escape,
+    });
+    let text = DType::Utf8(Nullability::NonNullable);
+    let tree = called(alloc, function, Some(&text), vec![in alloc; item, pattern]?)?;
+    Ok(Item::Bound(tree))
+}
+
+/// LIKE, whose escape is the backslash where no text says another.
+pub(crate) fn matched_item(
+    alloc: Global,
+    kind: LikeKind,
+    escape: Option<&[u8]>,
+    item: Item,
+    pattern: Item,
+) -> Result<Item, Stop>
+    ensures { Gives item_in result (specs.matched_item kind (option_map (λ e. e.now) escape.entry)
+        (item_in item) (item_in pattern)) }
+{
+    let escape = match escape {
+        Some(escape) => escape_in(alloc, escape)?,
+        None => Some('\\'),
+    };
+    liked_item(alloc, kind, escape, item, pattern)
+}

@@ -1,0 +1,62 @@
+//! Why a text is no expression over a scope, and where.
+use crate::refusal::Refusal;
+use std::fmt;
+use vortex_columns::VortexError;
+use vortex_syntax::Expected;
+
+/// Why a text is no expression over a scope.
+#[derive(Debug, Drop)]
+pub enum Reason {
+    /// No word and no sign begins there.
+    NoToken,
+    /// No expression goes on with what stands there, or none ends where the text ends; what could
+    /// have stood there.
+    Unexpected(Expected),
+    /// Brackets nest too deep there.
+    TooDeep,
+    /// The text is well written, and refused.
+    Refused(Refusal),
+}
+
+/// Why a text is no expression over a scope, and where: at a byte of the text, and by its line and
+/// its character in that line, both counted from 1. Want of memory is at no place.
+#[derive(Drop)]
+pub struct ReadError {
+    pub reason: Reason,
+    pub byte: usize,
+    pub line: usize,
+    pub column: usize,
+    pub(crate) told: String,
+}
+
+impl ReadError {
+    ghost use Rattle.std.specs.Prelude.{◌≡◌};
+    ghost use Rattle.vortex_expressions.specs.Reading.{is_want_of_memory};
+
+    /// Whether memory was refused (E9), and nothing is wrong with the text as far as is known.
+    pub fn is_out_of_memory(&self) -> bool
+        ensures { result ≡ is_want_of_memory self.now }
+    {
+        matches!(
+            &self.reason,
+            Reason::Refused(Refusal::Binding(VortexError::OutOfMemory))
+        )
+    }
+}
+
+/// `line 1, column 9: ..`, and what was found and expected there, in one line.
+impl fmt::Display for ReadError {
+    fn fmt<W: fmt::Write>(&self, f: &mut fmt::Formatter<W>) -> fmt::Result {
+        if self.is_out_of_memory() {
+            return f.write_str("out of memory");
+        }
+        let (line, column, told) = (self.line, self.column, self.told.as_str());
+        write!(f, "line {line}, column {column}: {told}")
+    }
+}
+
+impl fmt::Debug for ReadError {
+    fn fmt<W: fmt::Write>(&self, f: &mut fmt::Formatter<W>) -> fmt::Result {
+        write!(f, "{self}")
+    }
+}

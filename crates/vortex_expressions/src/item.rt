@@ -1,0 +1,162 @@
+//! Literals that have no type yet, and trees; and what calls make of them.
+ghost use Rattle.std.specs.Prelude.{◌≡◌, map, option_map, None};
+ghost use Rattle.vortex_errors.specs.Answers.{AnswersUnlessMemory};
+ghost use Rattle.vortex_types.specs.TypeOf.{type_of};
+ghost use Rattle.vortex_functions.specs.FunctionOf.{function_of, instance_in};
+ghost use Rattle.vortex_expressions.specs.Items.{item_in, bound_type, literal_type, first_some};
+ghost use Rattle.vortex_expressions.specs.Items.{common_type, constant_at, settled, all_settled};
+ghost use Rattle.vortex_expressions.specs.Items.{call_of, called};
+ghost use Rattle.vortex_expressions.specs.Literals.{literal_in};
+ghost use Rattle.vortex_expressions.specs.Answering.{Gives};
+
+use crate::literal::Literal;
+use crate::refusal::{Refusal, Stop};
+use std::alloc::Global;
+use vortex_columns::{DType, VortexError, VortexResult};
+use vortex_functions::{BoundExpression, NoCustom, ScalarFnRef};
+
+/// A literal that has no type yet, or a tree.
+#[derive(Drop)]
+pub(crate) enum Item {
+    Literal(Literal),
+    Bound(BoundExpression<NoCustom>),
+}
+
+/// The literal of that type.
+pub(crate) fn constant_at(
+    alloc: Global,
+    literal: &Literal,
+    dtype: DType,
+) -> Result<BoundExpression<NoCustom>, Stop>
+    ensures { Gives (λ t. t) result (constant_at (literal_in literal.now) (type_of dtype)) }
+{
+    match literal.value_at(alloc, dtype)? {
+        Some(scalar) => Ok(BoundExpression::lit(alloc, scalar)),
+        None => Err(Stop::Refused(Refusal::NotHeld)),
+    }
+}
+
+impl Item {
+    /// The type of a tree.
+    fn bound_type(&self) -> Option<&DType>
+        ensures { option_map (λ t. type_of t.now) result ≡ bound_type (item_in self.now) }
+    {
+        match self {
+            Item::Bound(tree) => Some(tree.dtype()),
+            Item::Literal(_) => None,
+        }
+    }
+
+    /// The type that a literal has alone.
+    fn literal_type(&self) -> Option<DType>
+        ensures { option_map (λ t. type_of t) result ≡ literal_type (item_in self.now) }
+    {
+        match self {
+            Item::Literal(literal) => literal.own_type(),
+            Item::Bound(_) => None,
+        }
+    }
+
+    /// A tree as it is, and a literal with the type that it takes beside that one.
+    pub(crate) fn settle(
+        self,
+        alloc: Global,
+        beside: Option<&DType>,
+    ) -> Result<BoundExpression<NoCustom>, Stop>
+        ensures { Gives (λ t. t) result
+            (settled (option_map (λ t. type_of t.now) beside.entry) (item_in self)) }
+    {
+        let literal = match self {
+            Item::Bound(tree) => return Ok(tree),
+            Item::Literal(literal) => literal,
+        };
+        match literal.type_beside(alloc, beside)? {
+            Some(dtype) => constant_at(alloc, &literal, dtype),
+            None => Err(Stop::Refused(Refusal::UntypedNull)),
+        }
+    }
+}
+
+/// The type of the first tree.
+fn first_bound_type(alloc: Global, items: &[Item]) -> VortexResult<Option<DType>>
+    ensures { AnswersUnlessMemory result (λ t. option_map (λ t. type_of t) t
+        ≡ first_some (map bound_type (map item_in items.now))) }
+{
+    for item in items {
+        if let Some(dtype) = item.bound_type() {
+            return Ok(Some(dtype.try_clone(alloc)?));
+        }
+    }
+    Ok(None)
+}
+
+/// The type of the first literal that has one alone.
+fn first_literal_type(items: &[Item]) -> Option<DType>
+    ensures { option_map (λ t. type_of t) result
+        ≡ first_some (map literal_type (map item_in items.now)) }
+{
+    for item in items {
+        if let Some(dtype) = item.literal_type() {
+            return Some(dtype);
+        }
+    }
+    None
+}
+
+/// The type that literals take which stand side by side with trees. E9 where memory is refused.
+pub(crate) fn common_type(alloc: Global, items: &[Item]) -> VortexResult<Option<DType>>
+    ensures { AnswersUnlessMemory result (λ t. option_map (λ t. type_of t) t
+        ≡ common_type (map item_in items.now)) }
+{
+    match first_bound_type(alloc, items)? {
+        Some(dtype) => Ok(Some(dtype)),
+        None => Ok(first_literal_type(items)),
+    }
+}
+
+/// All of them settled, from left to right.
+fn settle_all(
+    alloc: Global,
+    beside: Option<&DType>,
+    items: Vec<Item>,
+) -> Result<Vec<BoundExpression<NoCustom>>, Stop>
+    ensures { Gives (λ ts. ts.items) result
+        (all_settled (option_map (λ t. type_of t.now) beside.entry) (map item_in items.items)) }
+{
+    let mut trees = Vec::new(alloc);
+    for item in items {
+        trees.push(item.settle(alloc, beside)?)?;
+    }
+    Ok(trees)
+}
+
+/// The call of a function on trees; that it is none of a caller's is a condition.
+fn call_of(
+    alloc: Global,
+    function: ScalarFnRef<NoCustom>,
+    trees: Vec<BoundExpression<NoCustom>>,
+) -> Result<BoundExpression<NoCustom>, Stop>
+    requires { instance_in function ≡ None }
+    ensures { Gives (λ t. t) result (call_of (function_of function) trees.items) }
+{
+    match BoundExpression::try_new(alloc, function, trees) {
+        Ok(tree) => Ok(tree),
+        Err(VortexError::ArityMismatch { .. }) => Err(Stop::Missing),
+        Err(error) => Err(Stop::Refused(Refusal::Binding(error))),
+    }
+}
+
+/// The call of a function on items, whose literals take that type.
+pub(crate) fn called(
+    alloc: Global,
+    function: ScalarFnRef<NoCustom>,
+    beside: Option<&DType>,
+    items: Vec<Item>,
+) -> Result<BoundExpression<NoCustom>, Stop>
+    requires { instance_in function ≡ None }
+    ensures { Gives (λ t. t) result (called (function_of function)
+        (option_map (λ t. type_of t.now) beside.entry) (map item_in items.items)) }
+{
+    let trees = settle_all(alloc, beside, items)?;
+    call_of(alloc, function, trees)
+}

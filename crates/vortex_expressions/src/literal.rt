@@ -1,0 +1,91 @@
+//! Literals, and the types that they take.
+ghost use Rattle.std.specs.Prelude.{◌≡◌, option_map};
+ghost use Rattle.vortex_errors.specs.Answers.{AnswersUnlessMemory};
+ghost use Rattle.vortex_types.specs.TypeOf.{type_of};
+ghost use Rattle.vortex_expressions.specs.Literals.{literal_in, own_type, number_type};
+ghost use Rattle.vortex_expressions.specs.Literals.{type_beside, value_at, truth_word};
+
+use rowfn_lines::cells::literal_of_cell;
+use std::alloc::Global;
+use vortex_columns::{DType, Nullability, PType, Scalar, VortexResult};
+
+/// A literal whose type is not said.
+#[derive(Drop)]
+pub(crate) enum Literal {
+    /// Digits, with a minus sign before them or without.
+    Number(String),
+    Text(String),
+    Truth(bool),
+    Null,
+}
+
+/// The type that a number takes beside a value of that type. E9 where memory is refused.
+fn number_type(alloc: Global, beside: &DType) -> VortexResult<DType>
+    ensures { AnswersUnlessMemory result (λ t. type_of t ≡ number_type (type_of beside.now)) }
+{
+    if beside.is_primitive() {
+        Ok(beside.try_clone(alloc)?.as_nonnullable())
+    } else {
+        Ok(DType::Primitive(PType::I64, Nullability::NonNullable))
+    }
+}
+
+fn truth_word(truth: bool) -> &'static str
+    ensures { result.now ≡ truth_word truth }
+{
+    if truth { "true" } else { "false" }
+}
+
+impl Literal {
+    /// The type that it has alone; null has none.
+    pub(crate) fn own_type(&self) -> Option<DType>
+        ensures { option_map (λ t. type_of t) result ≡ own_type (literal_in self.now) }
+    {
+        match self {
+            Literal::Number(_) => Some(DType::Primitive(PType::I64, Nullability::NonNullable)),
+            Literal::Text(_) => Some(DType::Utf8(Nullability::NonNullable)),
+            Literal::Truth(_) => Some(DType::Bool(Nullability::NonNullable)),
+            Literal::Null => None,
+        }
+    }
+
+    /// The type that it takes beside a value of that type. E9 where memory is refused.
+    pub(crate) fn type_beside(
+        &self,
+        alloc: Global,
+        beside: Option<&DType>,
+    ) -> VortexResult<Option<DType>>
+        ensures { AnswersUnlessMemory result (λ t. option_map (λ t. type_of t) t
+            ≡ type_beside (option_map (λ t. type_of t.now) beside.entry) (literal_in self.now)) }
+    {
+        let Some(beside) = beside else {
+            return Ok(self.own_type());
+        };
+        match self {
+            Literal::Number(_) => Ok(Some(number_type(alloc, beside)?)),
+            Literal::Null => Ok(Some(beside.try_clone(alloc)?)),
+            _ => Ok(self.own_type()),
+        }
+    }
+
+    /// The value of that type which it says; nothing where it says none. E9 where memory is
+    /// refused.
+    pub(crate) fn value_at(&self, alloc: Global, dtype: DType) -> VortexResult<Option<Scalar>>
+        ensures { AnswersUnlessMemory result
+            (λ s. s ≡ value_at (type_of dtype) (literal_in self.now)) }
+    {
+        match self {
+            Literal::Null => Ok(Some(Scalar::null(dtype.with_nullability(Nullability::Nullable)))),
+            Literal::Number(word) if dtype.is_primitive() => {
+                literal_of_cell(alloc, &dtype, Some(word.as_str()))
+            }
+            Literal::Text(text) if dtype.is_utf8() => {
+                literal_of_cell(alloc, &dtype, Some(text.as_str()))
+            }
+            Literal::Truth(truth) if dtype.is_boolean() => {
+                literal_of_cell(alloc, &dtype, Some(truth_word(*truth)))
+            }
+            _ => Ok(None),
+        }
+    }
+}
