@@ -5,3 +5,15 @@ pub mod Firsts
 pub mod Settling
 pub mod Quoting
 pub mod Walking
+pub mod Options
+pub mod SyntaxLevels
+pub mod SyntaxNests
+pub mod SyntaxWritten
+pub mod LiteralsBack
+pub mod Beside
+pub mod TypedCalls
+pub mod CallsBack
+pub mod PartTokens
+pub mod Walked
+pub mod Answered
+pub mod ReadBack

@@ -6,3 +6,5 @@ pub mod Binding
 pub mod Stacks
 pub mod Answering
 pub mod Reading
+pub mod Writing
+pub mod WritingSteps
