@@ -10,3 +10,5 @@ mod refusals;
 mod shown;
 #[cfg(test)]
 mod trees;
+#[cfg(test)]
+mod written;

@@ -14,7 +14,13 @@ fn alone(rt: HostRuntime) {
 fn beside_a_column(rt: HostRuntime) {
     assert!(rt; says(rt, "small < 255", "($.small < 255u8): bool"));
     assert!(rt; says(rt, "1 < total", "(1i64 < $.total): bool"));
-    assert!(rt; says(rt, "5 between small and small", "($.small <= 5u8 <= $.small): bool"));
+    assert!(rt;
+        says(
+            rt,
+            "5 between small and small",
+            "($.small <= 5u8 <= $.small): bool"
+        )
+    );
 }
 
 #[test]

@@ -3,8 +3,20 @@ use crate::shown::says;
 
 #[test]
 fn of_columns(rt: HostRuntime) {
-    assert!(rt; says(rt, "prcie + 1", "line 1, column 1: no column \"prcie\"; is \"price\" meant?"));
-    assert!(rt; says(rt, "1 < \"weight\"", "line 1, column 5: no column \"weight\""));
+    assert!(rt;
+        says(
+            rt,
+            "prcie + 1",
+            "line 1, column 1: no column \"prcie\"; is \"price\" meant?"
+        )
+    );
+    assert!(rt;
+        says(
+            rt,
+            "1 < \"weight\"",
+            "line 1, column 5: no column \"weight\""
+        )
+    );
 }
 
 #[test]
@@ -29,7 +41,13 @@ fn of_types(rt: HostRuntime) {
 fn of_literals(rt: HostRuntime) {
     assert!(rt; says(rt, "small = 300", "line 1, column 7: 300 is no u8"));
     assert!(rt; says(rt, "128::i8", "line 1, column 6: 128 is no i8"));
-    assert!(rt; says(rt, "null = null", "line 1, column 6: null has no type here; say it, as null::i64?"));
+    assert!(rt;
+        says(
+            rt,
+            "null = null",
+            "line 1, column 6: null has no type here; say it, as null::i64?"
+        )
+    );
     assert!(rt;
         says(
             rt,
