@@ -17,3 +17,4 @@ pub mod PartTokens
 pub mod Walked
 pub mod Answered
 pub mod ReadBack
+pub mod ReadOver
