@@ -18,3 +18,4 @@ pub mod Walked
 pub mod Answered
 pub mod ReadBack
 pub mod ReadOver
+pub mod Saying

@@ -2,14 +2,12 @@
 use Rattle.std.proofs.Common.{◌≡◌, ap, Result}
 use Rattle.std.specs.Result.{IsErrAnd}
 use Rattle.std.proofs.lemmas.Result.{err_from_is_err_and}
-use Rattle.vortex_errors.specs.declared.error.VortexError.{VortexError}
-use Rattle.vortex_errors.specs.Answers.{UnlessMemory}
 use Rattle.vortex_errors.proofs.Answering.{UnlessMemory-weaker}
 use Rattle.vortex_expressions.specs.declared.refusal.Refusal.{Refusal}
 use Rattle.vortex_expressions.specs.declared.refusal.Refusal.TheVariants as refusal
 use Rattle.vortex_expressions.specs.declared.refusal.Stop.{Stop}
 use Rattle.vortex_expressions.specs.declared.refusal.Stop.TheVariants.{Refused, Missing}
-use Rattle.vortex_expressions.specs.Outcomes.{Outcome, answers, refuses, missing, and_then}
+use Rattle.vortex_expressions.specs.Outcomes.{Outcome, and_then}
 use Rattle.vortex_expressions.specs.Answering.{UnlessOutOfMemory, StopsBy, Gives}
 
 unless-weaker : {P Q : Type 0} (r : Refusal) → (P → Q) → UnlessOutOfMemory P r

@@ -1,5 +1,5 @@
 -- The steps of a tree of syntax leave what it stands for.
-use Rattle.std.proofs.Common.{◌≡◌, ℕ, List, [], ◌∷◌, ◌++◌, Bool, true, false, Option, Some, None}
+use Rattle.std.proofs.Common.{◌≡◌, List, [], ◌∷◌, ◌++◌, true, false, Some, None}
 use Rattle.std.proofs.Common.{refl, ap, sym, ◌∙◌, append_assoc}
 use Rattle.std.proofs.lemmas.List.{append-nil}
 use Rattle.vortex_types.specs.LogicalTypes.{Fields}
@@ -7,7 +7,7 @@ use Rattle.vortex_syntax.specs.Syntax.{Syntax, operand, negative, typed, grouped
 use Rattle.vortex_syntax.specs.Syntax.{tested, between, matched, cast}
 use Rattle.vortex_syntax.specs.Postfix.{Step, postfix}
 use Rattle.vortex_expressions.specs.Outcomes.{Outcome, answers, and_then}
-use Rattle.vortex_expressions.specs.Items.{Item, settled}
+use Rattle.vortex_expressions.specs.Items.{Item}
 use Rattle.vortex_expressions.specs.Calls.{typed_item, cast_item, not_item, joined_item}
 use Rattle.vortex_expressions.specs.Calls.{tested_item, between_item, matched_item}
 use Rattle.vortex_expressions.specs.Binding.{item_of, tree_of}

@@ -1,7 +1,6 @@
 -- What each form of syntax makes of its parts.
 use Rattle.std.specs.Prelude.{ℕ, List, [], ◌∷◌, Bool, true, false, Option, Some, None, ◌==◌}
 use Rattle.std.specs.Prelude.{if◌then◌else◌}
-use Rattle.std.specs.Option.{option_map, option_and_then}
 use Rattle.std.specs.Str.{is_utf8, chars}
 use Rattle.vortex_errors.specs.declared.error.VortexError.TheVariants.{ScopeMismatch}
 use Rattle.vortex_types.specs.LogicalTypes.{LogicalType, Fields, bool_type, text_type, find_field}
@@ -28,7 +27,7 @@ use Rattle.vortex_expressions.specs.Literals as literal
 use Rattle.vortex_expressions.specs.Literals.{Literal}
 use Rattle.vortex_expressions.specs.Outcomes.{Outcome, answers, refuses, missing, and_then}
 use Rattle.vortex_expressions.specs.Outcomes.{or_refuses}
-use Rattle.vortex_expressions.specs.Items.{Item, literal, bound, Tree, Callable, called, common_type}
+use Rattle.vortex_expressions.specs.Items.{Item, literal, bound, Tree, called, common_type}
 use Rattle.vortex_expressions.specs.Items.{constant_at}
 
 -- Between quotes each quote is written twice, and of two the second is passed over: with the mark

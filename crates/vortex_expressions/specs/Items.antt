@@ -1,11 +1,10 @@
 -- Literals that have no type yet, and trees; and what calls make of them.
-use Rattle.std.specs.Prelude.{ℕ, List, [], ◌∷◌, length, map, Bool, Option, Some, None, is_some}
+use Rattle.std.specs.Prelude.{List, [], ◌∷◌, length, map, Option, Some, None, is_some}
 use Rattle.std.specs.Prelude.{if◌then◌else◌}
 use Rattle.std.specs.Option.{option_or}
 use Rattle.vortex_errors.specs.declared.error.MismatchPlace.{MismatchPlace}
 use Rattle.vortex_errors.specs.declared.error.VortexError.TheVariants.{TypeMismatch}
 use Rattle.vortex_types.specs.LogicalTypes.{LogicalType}
-use Rattle.vortex_types.specs.ScalarView.{ScalarView}
 use Rattle.vortex_interface.specs.Meaning.{Meaning, fits}
 use Rattle.vortex_interface.specs.Shipped.{shipped_place}
 use Rattle.vortex_interface.specs.Functions.{Function, ours, custom, function_arity}

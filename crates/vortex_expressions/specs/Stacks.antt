@@ -1,11 +1,11 @@
 -- Steps in postfix order, each over what those before it left: the last item first.
-use Rattle.std.specs.Prelude.{ℕ, List, [], ◌∷◌, Bool, true, false, None, Some, map, reverse}
+use Rattle.std.specs.Prelude.{List, [], ◌∷◌, true, false, None, Some, map, reverse}
 use Rattle.vortex_types.specs.LogicalTypes.{Fields}
 use Rattle.vortex_syntax.specs.declared.step.Call.{Call}
 use Rattle.vortex_syntax.specs.declared.step.Call.TheVariants as call
 use Rattle.vortex_syntax.specs.Postfix.{Step, operand, negative, typed, cast, escaped, called}
 use Rattle.vortex_expressions.specs.declared.item.Item as held
-use Rattle.vortex_expressions.specs.Outcomes.{Outcome, answers, refuses, missing, and_then}
+use Rattle.vortex_expressions.specs.Outcomes.{Outcome, answers, missing, and_then}
 use Rattle.vortex_expressions.specs.Items.{Item, item_in, Tree, settled}
 use Rattle.vortex_expressions.specs.Calls.{operand_item, negative_item, typed_item, cast_item}
 use Rattle.vortex_expressions.specs.Calls.{not_item, joined_item, tested_item, between_item}

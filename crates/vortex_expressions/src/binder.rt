@@ -55,12 +55,7 @@ impl Stack {
     }
 
     /// LIKE of the last two.
-    fn like(
-        &mut self,
-        alloc: Global,
-        kind: LikeKind,
-        escape: Option<&[u8]>,
-    ) -> Result<(), Stop>
+    fn like(&mut self, alloc: Global, kind: LikeKind, escape: Option<&[u8]>) -> Result<(), Stop>
         ensures { Gives (λ _. stack_in self.new.items.items) result
             (with_two (matched_item kind (option_map (λ e. e.now) escape.entry))
             (stack_in self.old.items.items)) }

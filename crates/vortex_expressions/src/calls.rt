@@ -175,7 +175,12 @@ fn negated_if(
     ensures { Gives (λ t. t) result (specs.negated_if negated tree) }
 {
     if negated {
-        called(alloc, ScalarFnRef::Not, None, vec![in alloc; Item::Bound(tree)]?)
+        called(
+            alloc,
+            ScalarFnRef::Not,
+            None,
+            vec![in alloc; Item::Bound(tree)]?,
+        )
     } else {
         Ok(tree)
     }

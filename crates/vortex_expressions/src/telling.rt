@@ -121,7 +121,11 @@ fn push_type(out: &mut String, item: &Item) -> VortexResult<()> {
 fn push_types(out: &mut String, items: &[Item]) -> VortexResult<()> {
     for (place, item) in items.iter().enumerate() {
         if place > 0 {
-            out.push_str(if place + 1 < items.len() { ", " } else { " and " })?;
+            out.push_str(if place + 1 < items.len() {
+                ", "
+            } else {
+                " and "
+            })?;
         }
         push_type(out, item)?;
     }
@@ -212,7 +216,11 @@ impl<'a> Failure<'a> {
     /// That the call does not take these types.
     fn types_text(&self, place: MismatchPlace) -> VortexResult<String> {
         let alloc = self.alloc;
-        let (found, name, taken) = (found_at(self.text, self.byte), place.name(), taken_at(place));
+        let (found, name, taken) = (
+            found_at(self.text, self.byte),
+            place.name(),
+            taken_at(place),
+        );
         let mut out = format!(in alloc; "E3 {name}: {found} takes {taken}, not ")?;
         push_types(&mut out, &self.items()?)?;
         Ok(out)
@@ -249,7 +257,9 @@ impl<'a> Failure<'a> {
             Refusal::NotHeld => return self.held_text(),
             Refusal::UnknownType => {
                 let found = found_at(self.text, self.byte);
-                return Ok(format!(in alloc; "no type {found}; types are bool, utf8, i8, i16, i32, i64, u8, u16, u32 and u64, with ? where they have null")?);
+                return Ok(format!(in alloc;
+                    "no type {found}; types are bool, utf8, i8, i16, i32, i64, u8, u16, u32 and u64, with ? where they have null"
+                )?);
             }
             Refusal::NotUtf8 => "a text is not UTF-8",
             Refusal::UntypedNull => "null has no type here; say it, as null::i64?",
@@ -291,7 +301,13 @@ impl Stopped {
             }
             Stop::Missing => {
                 let told = Ok(String::new(alloc));
-                error_at(alloc, text, byte, Reason::Unexpected(Expected::OperatorOrEnd), told)
+                error_at(
+                    alloc,
+                    text,
+                    byte,
+                    Reason::Unexpected(Expected::OperatorOrEnd),
+                    told,
+                )
             }
         }
     }

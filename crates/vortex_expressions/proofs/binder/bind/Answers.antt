@@ -1,4 +1,4 @@
-use Rattle.std.proofs.Common.{subst, sym, ◌∙◌, arith}
+use Rattle.std.proofs.Common.{subst, sym, ◌∙◌}
 use Rattle.vortex_types.specs.TypeOf.{struct_fields}
 use Rattle.vortex_expressions.specs.Answering.{StopsBy}
 use Rattle.vortex_expressions.proofs.Walking.{goes_on, stops, ends}

@@ -10,11 +10,11 @@ loop-byte-preserved c =
     let i = c.loop-byte.byte-index in
     let out = c.loop-byte.text.items in
     elim c.if-is_doubled.branch [
-      then-is_doubled w ↦
-      rw (w.text-is, w.is_doubled-is) (passed_over q xs i out c.loop-byte-test.true
-      (subst (λ b. SoFar q xs out b i) w.if-is_doubled.true c.loop-byte.invariant))
+      | then-is_doubled w ↦
+          rw (w.text-is, w.is_doubled-is) (passed_over q xs i out c.loop-byte-test.true
+          (subst (λ b. SoFar q xs out b i) w.if-is_doubled.true c.loop-byte.invariant))
       | else-is_doubled+in_ok-push w ↦
-      rw (w.text-is, w.is_doubled-is, w.in_ok-push.ensures.items)
-      (taken q xs i out c.loop-byte-test.true
-      (subst (λ b. SoFar q xs out b i) w.if-is_doubled.false c.loop-byte.invariant))
+          rw (w.text-is, w.is_doubled-is, w.in_ok-push.ensures.items)
+          (taken q xs i out c.loop-byte-test.true
+          (subst (λ b. SoFar q xs out b i) w.if-is_doubled.false c.loop-byte.invariant))
     ]
