@@ -1,6 +1,6 @@
 -- What the calls that write columns, literals and trees answer.
-use Rattle.std.proofs.Common.{◌≡◌, ◌≢◌, ℕ, suc, ◌<◌, ◌≤◌, Bool, true, false, ◌&&◌, List, [], ◌∷◌, ◌++◌, Option, Some, None, Result, Ok, Err, refl, ap, sym, subst, ◌∙◌, arith, option_map, ℤ, pos, negsuc, string_bytes, lit<}
-use Rattle.std.specs.Prelude.{codes, MatchOption, String, if◌then◌else◌}
+use Rattle.std.proofs.Common.{◌≡◌, ◌≢◌, ℕ, suc, ◌<◌, ◌≤◌, Bool, true, false, List, [], ◌∷◌, Option, Some, None, Result, Ok, Err, refl, ap, sym, subst, ◌∙◌, arith, option_map, ℤ, pos, negsuc, string_bytes, lit<}
+use Rattle.std.specs.Prelude.{MatchOption, String, if◌then◌else◌}
 use Rattle.std.specs.Borrow.{Bor}
 use Rattle.std.specs.declared.alloc.Global.{Global}
 use Rattle.std.specs.Int.RustNames.{unsigned_abs}
@@ -26,8 +26,8 @@ use Rattle.vortex_syntax.specs.Spelling.{spelling}
 use Rattle.vortex_syntax.specs.Writing.{name_token, text_token, Adds}
 use Rattle.vortex_expressions.specs.declared.tasks.TreeWriter.{TreeWriter}
 use Rattle.vortex_expressions.specs.Items.{Tree, Callable}
-use Rattle.vortex_expressions.specs.Writing.{number_syntax, value_syntax, is_own_type, of_type, literal_syntax, leaf_syntax, syntax_of}
-use Rattle.vortex_expressions.specs.WritingSteps.{tree_level, nests_behind, tokens_behind, Part, tree, tasks_in, part_tokens, call_plan, bracket_plan, Plans, Pushes, PushesIf, literal_tokens, column_tokens, Goes, Steps}
+use Rattle.vortex_expressions.specs.Writing.{number_syntax, value_syntax, is_own_type, literal_syntax, leaf_syntax}
+use Rattle.vortex_expressions.specs.WritingSteps.{tree_level, nests_behind, tokens_behind, Part, tree, tasks_in, part_tokens, call_plan, bracket_plan, Plans, PushesIf, literal_tokens, column_tokens, Goes, Steps}
 use Rattle.vortex_expressions.proofs.Options.{some_is}
 use Rattle.vortex_expressions.proofs.SyntaxLevels.{literal_is}
 use Rattle.vortex_expressions.proofs.PartTokens.{zero_tokens}

@@ -15,7 +15,6 @@ use Rattle.vortex_interface.specs.Shipped.BetweenFunction.{bounded_type}
 use Rattle.vortex_operators.specs.OperatorValues.{comparison_type}
 use Rattle.vortex_operators.specs.Between.{between_type}
 use Rattle.vortex_interface.specs.Eval.{tree_type}
-use Rattle.vortex_syntax.specs.Syntax.{typed}
 use Rattle.vortex_expressions.specs.Literals as literal
 use Rattle.vortex_expressions.specs.Literals.{Literal, own_type, number_type, type_beside}
 use Rattle.vortex_expressions.specs.Outcomes.{answers, and_then, or_refuses}

@@ -22,7 +22,7 @@ use Rattle.vortex_interface.specs.Trees.{place, held, leaf, constant, call, no_t
 use Rattle.vortex_interface.specs.declared.options.EmptyOptions.{EmptyOptions}
 use Rattle.vortex_functions.specs.declared.custom.NoCustom.{NoCustom}
 use Rattle.vortex_syntax.specs.declared.step.LikeKind.{LikeKind}
-use Rattle.vortex_syntax.specs.Syntax.{Syntax, operand, typed, negated, tested, cast}
+use Rattle.vortex_syntax.specs.Syntax.{Syntax, operand, negated, tested, cast}
 use Rattle.vortex_syntax.specs.Levels.{left, right, not_level, is_level, sum_level}
 use Rattle.vortex_syntax.specs.Writing.{name_token, doubled}
 use Rattle.vortex_expressions.specs.Outcomes.{answers, and_then, or_refuses}

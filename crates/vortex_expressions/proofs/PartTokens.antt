@@ -1,12 +1,11 @@
 -- The tokens of a tree are those of its parts.
-use Rattle.std.proofs.Common.{◌≡◌, ℕ, zero, suc, ◌<◌, ◌≤◌, Bool, true, false, cond, ◌&&◌, List, [], ◌∷◌, ◌++◌, map, Option, Some, None, refl, ap, sym, ◌∙◌, append_assoc, arith, option_map, nat_lt}
+use Rattle.std.proofs.Common.{◌≡◌, ℕ, zero, suc, Bool, true, false, ◌&&◌, List, [], ◌∷◌, ◌++◌, map, Option, Some, None, refl, ap, sym, ◌∙◌, append_assoc, arith, option_map, nat_lt}
 use Rattle.std.specs.Prelude.{codes, slice_get, nat_le, if◌then◌else◌}
 use Rattle.std.specs.Option.{option_and_then}
 use Rattle.std.proofs.lemmas.List.{append-nil}
 use Rattle.std.proofs.lemmas.Bool.{le-leb}
-use Rattle.vortex_operators.specs.declared.between.BetweenOptions.{BetweenOptions}
 use Rattle.vortex_like.specs.declared.options.LikeOptions.{LikeOptions}
-use Rattle.vortex_interface.specs.Shipped.{Shipped, Binary, Not, NullTest, Cast, Between, Like}
+use Rattle.vortex_interface.specs.Shipped.{Binary, Not, NullTest, Cast, Between, Like}
 use Rattle.vortex_interface.specs.Functions.{ours, custom}
 use Rattle.vortex_interface.specs.Trees as trees
 use Rattle.vortex_interface.specs.Trees.{call, no_trees, list_of}
@@ -16,12 +15,12 @@ use Rattle.vortex_syntax.specs.declared.nesting.TheConstants.{DEPTH}
 use Rattle.vortex_syntax.specs.declared.step.Operator as syntax
 use Rattle.vortex_syntax.specs.declared.token.Sign.TheVariants as sign
 use Rattle.vortex_syntax.specs.Tokens.{Token, nullable, sign}
-use Rattle.vortex_syntax.specs.Syntax.{Syntax, grouped, negated, joined, tested, between, matched, cast}
+use Rattle.vortex_syntax.specs.Syntax.{Syntax, negated, tested, cast}
 use Rattle.vortex_syntax.specs.Levels.{level, left, right, not_level, is_level, sum_level}
 use Rattle.vortex_syntax.specs.Spelling.{spelling, operator_sign, null_test, like_sign, escape_tokens}
 use Rattle.vortex_expressions.specs.Items.{Tree, Callable}
 use Rattle.vortex_expressions.specs.Writing.{at_level, joined_syntax, written_operator, is_within, between_syntax, matched_syntax, like_kind, escape_written, both, all_three, nth, syntax_of, syntaxes_of}
-use Rattle.vortex_expressions.specs.WritingSteps.{nests_behind, tokens_behind, Part, token, tree, joined_tokens, part_tokens, all_tokens, binary_parts, between_parts, like_parts, bracket_parts, cast_parts, binary_plan, not_plan, test_plan, cast_plan, between_plan, like_plan, call_plan, bracket_plan}
+use Rattle.vortex_expressions.specs.WritingSteps.{nests_behind, tokens_behind, Part, token, tree, joined_tokens, part_tokens, all_tokens, binary_parts, between_parts, like_parts, cast_parts, call_plan, bracket_plan}
 
 abbrev Trees : Type 0
 Trees = trees.Trees NoCustom EmptyOptions

@@ -1,6 +1,6 @@
 -- What an expression says stands over the scope that it is read over.
-use Rattle.std.proofs.Common.{◌≡◌, ℕ, Bool, true, false, cond, ◌&&◌, List, [], ◌∷◌, length, Option, Some, None, refl, ap, sym, subst, ◌∙◌, option_map, ℤ}
-use Rattle.std.specs.Prelude.{codes, if◌then◌else◌, is_some, IsUtf8, ⊤, MatchOption}
+use Rattle.std.proofs.Common.{◌≡◌, ℕ, Bool, true, false, List, [], ◌∷◌, length, Option, Some, None, refl, ap, subst, option_map, ℤ}
+use Rattle.std.specs.Prelude.{if◌then◌else◌, is_some, IsUtf8, ⊤, MatchOption}
 use Rattle.std.specs.Option.{option_and_then}
 use Rattle.std.specs.Char.{IsScalar}
 use Rattle.std.specs.Str.{is_utf8, chars}
@@ -10,20 +10,18 @@ use lib.Utf8.{scalar, scalars}
 use Rattle.vortex_types.specs.declared.dtype.PType.{PType}
 use Rattle.vortex_types.specs.LogicalTypes.{Fields, LogicalType, null_type, bool_type, integer_type, text_type, bytes_type, struct_type, list_type, fixed_size_list_type, map_type, find_field, is_bool_type, is_nullable, with_nullability}
 use Rattle.vortex_types.specs.ScalarView.{ScalarView}
-use Rattle.vortex_types.specs.Typing.{HasType, FitsPType}
+use Rattle.vortex_types.specs.Typing.{HasType}
 use Rattle.vortex_types.specs.Values as value
 use Rattle.vortex_types.specs.Values.{Value}
 use Rattle.vortex_errors.specs.declared.error.MismatchPlace.{MismatchPlace}
 use Rattle.vortex_like.specs.Tokens.{backslash}
-use Rattle.vortex_interface.specs.Shipped.{Shipped, Binary, Not, NullTest, Cast, Between, Like}
+use Rattle.vortex_interface.specs.Shipped.{Binary, Not, NullTest, Cast, Between, Like}
 use Rattle.vortex_interface.specs.Meaning.{fits}
-use Rattle.vortex_interface.specs.Functions.{ours, custom, function_arity}
-use Rattle.vortex_interface.specs.OptionBytes.{HasCharacters}
+use Rattle.vortex_interface.specs.Functions.{ours, function_arity}
 use Rattle.vortex_interface.specs.Eval.{tree_type, tree_types, types_or_none}
-use Rattle.vortex_interface.specs.Trees as trees
-use Rattle.vortex_interface.specs.Trees.{place, leaf, constant, call, no_trees, trees_of}
+use Rattle.vortex_interface.specs.Trees.{place, leaf, constant, call, trees_of}
 use Rattle.rowfn_lines.specs.Ranges.{in_range}
-use Rattle.rowfn_lines.specs.Commands.{type_named, integer_of, number_of, number_where, escape_of}
+use Rattle.rowfn_lines.specs.Commands.{integer_of, number_of, number_where, escape_of}
 use Rattle.rowfn_lines.proofs.Numbers as numbers
 use Rattle.vortex_syntax.specs.declared.step.Operator as syntax
 use Rattle.vortex_syntax.specs.declared.step.LikeKind.{LikeKind}
@@ -35,9 +33,9 @@ use Rattle.vortex_expressions.specs.Literals as literal
 use Rattle.vortex_expressions.specs.Literals.{Literal, type_beside, value_at}
 use Rattle.vortex_expressions.specs.Outcomes.{Outcome, answers, refuses, missing, and_then, or_refuses}
 use Rattle.vortex_expressions.specs.declared.refusal.Refusal.{Refusal}
-use Rattle.vortex_expressions.specs.declared.refusal.Refusal.TheVariants.{UntypedNull, NotHeld, UnknownType, NoEscape, NoCast, NotUtf8}
+use Rattle.vortex_expressions.specs.declared.refusal.Refusal.TheVariants.{UntypedNull, NotHeld, NoEscape, NoCast, NotUtf8}
 use Rattle.vortex_expressions.specs.Items.{Item, literal, bound, Tree, Callable, meaning, common_type, constant_at, settled, all_settled, call_of, called, refused_at, place_of}
-use Rattle.vortex_expressions.specs.Calls.{unquoted, text_of, between_quotes, as_item, field_found, column_of, sign_item, text_item, operand_item, negative_item, type_of_name, typed_item, cast_to, cast_item, truth_type, operator_of, joined_type, negated_if, not_item, joined_item, tested_item, within_bounds, between_all, between_item, like_options, escape_said, escape_in, liked_item, matched_item}
+use Rattle.vortex_expressions.specs.Calls.{unquoted, text_of, between_quotes, as_item, field_found, column_of, sign_item, text_item, operand_item, type_of_name, typed_item, cast_to, cast_item, truth_type, operator_of, joined_type, negated_if, not_item, joined_item, tested_item, within_bounds, between_all, between_item, like_options, escape_said, escape_in, liked_item, matched_item}
 use Rattle.vortex_expressions.specs.Binding.{item_of, tree_of}
 use Rattle.vortex_expressions.specs.Writing.{IsCallable, IsOver, AllOver}
 

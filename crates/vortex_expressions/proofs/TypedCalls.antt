@@ -11,7 +11,6 @@ use Rattle.vortex_interface.specs.Trees as trees
 use Rattle.vortex_interface.specs.Trees.{call, no_trees, trees_of, list_of}
 use Rattle.vortex_interface.specs.declared.options.EmptyOptions.{EmptyOptions}
 use Rattle.vortex_functions.specs.declared.custom.NoCustom.{NoCustom}
-use Rattle.vortex_syntax.specs.Syntax.{operand, typed}
 use Rattle.vortex_expressions.specs.Outcomes.{answers, and_then}
 use Rattle.vortex_expressions.specs.Items.{Item, Tree, Callable, meaning, settled, call_of, called}
 use Rattle.vortex_expressions.proofs.Options.{some_is}

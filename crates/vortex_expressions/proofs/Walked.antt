@@ -1,16 +1,15 @@
 -- Writing a tree task by task: what is written and what is still to be written are the tree's tokens, and less is left with each step.
-use Rattle.std.proofs.Common.{◌≡◌, ℕ, zero, suc, ◌+◌, ◌<◌, ◌≤◌, Bool, true, false, ◌&&◌, List, [], ◌∷◌, ◌++◌, map, Option, Some, None, refl, ap, sym, subst, ◌∙◌, append_assoc, arith, option_map, nat_lt, lit≤, lit<, length}
-use Rattle.std.specs.Prelude.{codes, slice_get, nat_le, if◌then◌else◌, string_bytes}
+use Rattle.std.proofs.Common.{◌≡◌, ℕ, zero, suc, ◌+◌, ◌<◌, ◌≤◌, Bool, true, false, List, [], ◌∷◌, ◌++◌, map, Option, Some, None, refl, ap, sym, subst, ◌∙◌, append_assoc, arith, option_map, nat_lt, lit≤, lit<, length}
+use Rattle.std.specs.Prelude.{slice_get, nat_le}
 use Rattle.std.specs.Option.{option_and_then}
 use Rattle.std.proofs.lemmas.List.{append-nil}
-use Rattle.std.proofs.lemmas.Bool.{le-leb, lt-leb, cond_both}
+use Rattle.std.proofs.lemmas.Bool.{le-leb, lt-leb}
 use Rattle.vortex_interface.specs.Shipped.{Shipped, Binary, Not, NullTest, Cast, Between, Like}
 use Rattle.vortex_interface.specs.Functions.{ours, custom}
 use Rattle.vortex_interface.specs.Trees as trees
 use Rattle.vortex_interface.specs.Trees.{leaf, constant, call, no_trees, list_of}
 use Rattle.vortex_interface.specs.declared.options.EmptyOptions.{EmptyOptions}
 use Rattle.vortex_functions.specs.declared.custom.NoCustom.{NoCustom}
-use Rattle.vortex_like.specs.declared.options.LikeOptions.{LikeOptions}
 use Rattle.vortex_syntax.specs.declared.nesting.TheConstants.{DEPTH}
 use Rattle.vortex_syntax.specs.declared.writing.Writer.{Writer}
 use Rattle.vortex_syntax.specs.Tokens.{Token, sign}
@@ -24,9 +23,9 @@ use Rattle.vortex_syntax.specs.Writing.{Holds, Adds}
 use Rattle.vortex_syntax.proofs.Written.{holds_more}
 use Rattle.vortex_expressions.specs.declared.tasks.TreeWriter.{TreeWriter}
 use Rattle.vortex_expressions.specs.Items.{Tree, Callable}
-use Rattle.vortex_expressions.specs.Writing.{is_within, written_operator, like_kind, escape_written, both, all_three, syntax_of, text_if, text_of_tree}
+use Rattle.vortex_expressions.specs.Writing.{is_within, written_operator, like_kind, escape_written, all_three, syntax_of, text_if, text_of_tree}
 use Rattle.vortex_expressions.specs.WritingSteps.{tree_level, tokens_behind, nests_behind, Part, token, tree, tasks_in, joined_tokens, part_tokens, all_tokens, binary_parts, between_parts, like_parts, bracket_parts, cast_parts, call_plan, shipped_plan, bracket_plan, Plans, Pushes, PushesIf, tree_cost, trees_cost, part_cost, parts_cost, Goes, Steps}
-use Rattle.vortex_expressions.proofs.PartTokens.{behind, joined_none, joined_nil, behind_nil, joined_behind, behind_twice, all_append, call_tokens, bracket_tokens, bare_tokens, zero_tokens}
+use Rattle.vortex_expressions.proofs.PartTokens.{behind, joined_nil, behind_nil, joined_behind, behind_twice, all_append, call_tokens, bracket_tokens, bare_tokens, zero_tokens}
 use Rattle.vortex_expressions.proofs.Options.{some_is, both_is, three_is, mapped_is, where_is}
 use Rattle.vortex_expressions.proofs.SyntaxLevels.{level_is, fits_of}
 use Rattle.vortex_expressions.proofs.SyntaxNests.{nests_is}

@@ -20,7 +20,7 @@ use Rattle.vortex_operators.specs.declared.between.StrictComparison.TheVariants.
 use Rattle.vortex_like.specs.declared.options.LikeOptions.{LikeOptions}
 use Rattle.vortex_like.specs.Tokens.{backslash}
 use Rattle.vortex_interface.specs.Shipped.{Shipped, Binary, Not, NullTest, Cast, Between, Like}
-use Rattle.vortex_interface.specs.Functions.{Function, ours, custom}
+use Rattle.vortex_interface.specs.Functions.{ours, custom}
 use Rattle.vortex_interface.specs.OptionBytes.{HasCharacters}
 use Rattle.vortex_interface.specs.Eval.{tree_type}
 use Rattle.vortex_interface.specs.declared.options.EmptyOptions.{EmptyOptions}

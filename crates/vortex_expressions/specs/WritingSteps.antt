@@ -8,7 +8,7 @@ use Rattle.vortex_types.specs.Values.{Value}
 use Rattle.vortex_operators.specs.declared.between.BetweenOptions.{BetweenOptions}
 use Rattle.vortex_like.specs.declared.options.LikeOptions.{LikeOptions}
 use Rattle.vortex_interface.specs.Shipped.{Shipped, Binary, Not, NullTest, Cast, Between, Like}
-use Rattle.vortex_interface.specs.Functions.{Function, ours, custom}
+use Rattle.vortex_interface.specs.Functions.{ours, custom}
 use Rattle.vortex_interface.specs.Trees as trees
 use Rattle.vortex_interface.specs.Trees.{leaf, constant, call, no_trees}
 use Rattle.vortex_interface.specs.declared.options.EmptyOptions.{EmptyOptions}

@@ -1,4 +1,4 @@
-use Rattle.std.proofs.Common.{ap, subst, ◌∙◌, List, ℕ}
+use Rattle.std.proofs.Common.{subst, ◌∙◌, List, ℕ}
 use Rattle.vortex_syntax.specs.Writing.{text_token, Adds}
 use Rattle.vortex_expressions.proofs.Walked.{pushes_one}
 use Rattle.vortex_expressions.proofs.tasks.TreeWriter.write_escape.Goals as goal
