@@ -12,3 +12,5 @@ mod refusals;
 mod shown;
 #[cfg(test)]
 mod trees;
+#[cfg(test)]
+mod written;

@@ -8,7 +8,7 @@ const NO: Nullability = Nullability::NonNullable;
 
 const YES: Nullability = Nullability::Nullable;
 
-fn scope(alloc: Global) -> VortexResult<StructFields> {
+pub fn scope(alloc: Global) -> VortexResult<StructFields> {
     StructFields::of(
         alloc,
         &[

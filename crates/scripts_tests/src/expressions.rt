@@ -11,5 +11,7 @@ mod refusals;
 pub mod shown;
 #[cfg(test)]
 mod words;
+#[cfg(test)]
+mod writes;
 
 pub use shown::{is_refused, list_is_refused, list_reads_as, places_are, reads_as};

@@ -7,3 +7,5 @@ pub mod Stacks
 pub mod Answering
 pub mod Reading
 pub mod Answers
+pub mod Writing
+pub mod WritingSteps

@@ -1,6 +1,9 @@
 pub mod Runs
 pub mod Quotes
 pub mod Lexed
+pub mod Doubled
+pub mod Written
+pub mod Writable
 pub mod Tables
 pub mod Settling
 pub mod Steps

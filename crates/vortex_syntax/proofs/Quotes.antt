@@ -14,11 +14,11 @@ with_front-nil : (v : Option (List ℕ × List ℕ)) → with_front [] v ≡ v
 with_front-nil None = refl
 with_front-nil (Some x) = refl
 
-closed_other : (q b : ℕ) (bs : List ℕ) → (b == q) ≡ false → closed q (b ∷ bs) ≡ with_front (b ∷ []) (closed q bs)
+pub closed_other : (q b : ℕ) (bs : List ℕ) → (b == q) ≡ false → closed q (b ∷ bs) ≡ with_front (b ∷ []) (closed q bs)
 closed_other q b [] h = rw h refl
 closed_other q b (c ∷ bs) h = rw h refl
 
-closed_twice : (q b c : ℕ) (bs : List ℕ) → (b == q) ≡ true → (c == q) ≡ true → closed q (b ∷ c ∷ bs) ≡ with_front (b ∷ c ∷ []) (closed q bs)
+pub closed_twice : (q b c : ℕ) (bs : List ℕ) → (b == q) ≡ true → (c == q) ≡ true → closed q (b ∷ c ∷ bs) ≡ with_front (b ∷ c ∷ []) (closed q bs)
 closed_twice q b c bs h k = rw (h, k) refl
 
 closed_last : (q b : ℕ) (bs : List ℕ) → (b == q) ≡ true → (0 < length bs → (get_or bs 0 0 == q) ≡ false) → closed q (b ∷ bs) ≡ Some ([], bs)

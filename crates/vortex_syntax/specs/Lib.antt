@@ -13,3 +13,4 @@ pub mod Grammar
 pub mod Reading
 pub mod AnswerLists
 pub mod AnswerParts
+pub mod Writing

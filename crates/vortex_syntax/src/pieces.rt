@@ -33,13 +33,13 @@ fn is_blank(byte: u8) -> bool
     byte == b' ' || byte == b'\t' || byte == b'\n' || byte == b'\r'
 }
 
-fn begins_word(byte: u8) -> bool
+pub(crate) fn begins_word(byte: u8) -> bool
     ensures { result ≡ begins_word byte }
 {
     byte.is_ascii_alphabetic() || byte == b'_'
 }
 
-fn is_in(run: Run, byte: u8) -> bool
+pub(crate) fn is_in(run: Run, byte: u8) -> bool
     ensures { result ≡ is_in run byte }
 {
     match run {
@@ -80,7 +80,7 @@ fn is_same_word(word: &[u8], other: &[u8]) -> bool
 }
 
 #[tactic(auto, unfolding(crate::specs::Keywords::keyword_of))]
-fn keyword_of(word: &[u8]) -> Option<Sign>
+pub(crate) fn keyword_of(word: &[u8]) -> Option<Sign>
     ensures { result ≡ keyword_of word.now }
 {
     if is_same_word(word, b"and") {

@@ -1,0 +1,216 @@
+-- Writing a tree from left to right: what is still to be written stands in a list.
+use Rattle.std.specs.Prelude.{◌≡◌, ℕ, zero, suc, ◌+◌, ◌<◌, nat_lt, ◌&&◌, Bool, true, false, List, []}
+use Rattle.std.specs.Prelude.{◌∷◌, ◌++◌, map, reverse, Option, Some, None, codes, slice_get}
+use Rattle.std.specs.Prelude.{if◌then◌else◌}
+use Rattle.std.specs.Option.{option_map, option_and_then}
+use Rattle.vortex_types.specs.ScalarView.{ScalarView}
+use Rattle.vortex_types.specs.Values.{Value}
+use Rattle.vortex_operators.specs.declared.between.BetweenOptions.{BetweenOptions}
+use Rattle.vortex_like.specs.declared.options.LikeOptions.{LikeOptions}
+use Rattle.vortex_interface.specs.Shipped.{Shipped, Binary, Not, NullTest, Cast, Between, Like}
+use Rattle.vortex_interface.specs.Functions.{ours, custom}
+use Rattle.vortex_interface.specs.Trees as trees
+use Rattle.vortex_interface.specs.Trees.{leaf, constant, call, no_trees}
+use Rattle.vortex_interface.specs.declared.options.EmptyOptions.{EmptyOptions}
+use Rattle.vortex_functions.specs.declared.custom.NoCustom.{NoCustom}
+use Rattle.vortex_syntax.specs.declared.nesting.TheConstants.{DEPTH}
+use Rattle.vortex_syntax.specs.declared.step.Operator as syntax
+use Rattle.vortex_syntax.specs.declared.token.Sign.TheVariants as sign
+use Rattle.vortex_syntax.specs.declared.writing.Writer.{Writer}
+use Rattle.vortex_syntax.specs.Tokens.{Token, nullable, sign}
+use Rattle.vortex_syntax.specs.Syntax.{Syntax, operand, negative, typed, grouped, negated, joined}
+use Rattle.vortex_syntax.specs.Syntax.{tested, between, matched, cast}
+use Rattle.vortex_syntax.specs.Levels.{own, left, right, not_level, is_level, predicate_level}
+use Rattle.vortex_syntax.specs.Levels.{sum_level, atom_level, literal_level}
+use Rattle.vortex_syntax.specs.Spelling.{spelling, operator_sign, null_test, like_sign, escape_tokens}
+use Rattle.vortex_syntax.specs.Writing.{text_token, Holds}
+use Rattle.vortex_expressions.specs.declared.tasks.Task.{Task}
+use Rattle.vortex_expressions.specs.declared.tasks.Task.TheVariants as task
+use Rattle.vortex_expressions.specs.declared.tasks.TreeWriter.{TreeWriter}
+use Rattle.vortex_expressions.specs.Items.{Tree, Callable}
+use Rattle.vortex_expressions.specs.Writing.{at_level, is_own_type, written_operator, is_within}
+use Rattle.vortex_expressions.specs.Writing.{like_kind, escape_text, escape_written, both, all_three}
+use Rattle.vortex_expressions.specs.Writing.{syntax_of, leaf_syntax, literal_syntax, value_syntax}
+
+-- the level of a tree's syntax
+abbrev pub shipped_level : Shipped → ℕ
+shipped_level (Binary o) = own (written_operator o)
+shipped_level Not = not_level
+shipped_level (NullTest n) = is_level
+shipped_level Cast = atom_level
+shipped_level (Between o) = predicate_level
+shipped_level (Like o) = predicate_level
+
+abbrev pub function_level : Callable → ℕ
+function_level (ours s) = shipped_level s
+function_level (custom f o) = atom_level
+
+abbrev pub leaf_level : Tree → ℕ
+leaf_level (constant s) = if is_own_type s.dtype then literal_level else atom_level
+leaf_level t = atom_level
+
+abbrev pub tree_level : Tree → ℕ
+tree_level (call f ts) = function_level f
+tree_level t = leaf_level t
+
+-- behind so many open brackets its own nest no deeper than they may
+abbrev pub nests_behind : ℕ → Syntax → Bool
+nests_behind d (operand t) = true
+nests_behind d (negative ds) = true
+nests_behind d (typed a w n) = nests_behind d a
+nests_behind d (grouped a) = nat_lt d DEPTH && nests_behind (suc d) a
+nests_behind d (negated a) = nests_behind d a
+nests_behind d (joined o a b) = nests_behind d a && nests_behind d b
+nests_behind d (tested n a) = nests_behind d a
+nests_behind d (between n a low high) = nests_behind d a && (nests_behind d low && nests_behind d high)
+nests_behind d (matched k a p e) = nests_behind d a && nests_behind d p
+nests_behind d (cast a w n) = nat_lt d DEPTH && nests_behind (suc d) a
+
+abbrev pub tokens_behind : ℕ → Syntax → Option (List Token)
+tokens_behind d a = if nests_behind d a then Some (spelling a) else None
+
+-- a part of a tree's text: a token, or a tree behind so many open brackets, at a level
+pub data Part : Type 0 where
+  token : Token → Part
+  tree : ℕ → ℕ → Tree → Part
+
+abbrev pub task_in : Task → Part
+task_in (task.Sign s) = token (sign s)
+task_in (task.Tree t l d) = tree d l t.now
+task_in task.TruthType = token (nullable (codes "bool"))
+task_in (task.Escape e) = token (text_token (escape_text e))
+
+abbrev pub tasks_in : TreeWriter → List Part
+tasks_in w = map task_in (reverse w.tasks.items)
+
+-- the tokens of parts, where they have a text
+abbrev pub joined_tokens : Option (List Token) → Option (List Token) → Option (List Token)
+joined_tokens None more = None
+joined_tokens (Some ts) None = None
+joined_tokens (Some ts) (Some us) = Some (ts ++ us)
+
+abbrev pub part_tokens : Part → Option (List Token)
+part_tokens (token t) = Some (t ∷ [])
+part_tokens (tree d l t) = option_and_then (λ a. tokens_behind d (at_level l a)) (syntax_of t)
+
+abbrev pub all_tokens : List Part → Option (List Token)
+all_tokens [] = Some []
+all_tokens (p ∷ ps) = joined_tokens (part_tokens p) (all_tokens ps)
+
+-- the parts of a call
+abbrev pub binary_parts : ℕ → syntax.Operator → Tree → Tree → List Part
+binary_parts d o a b =
+    tree d (left o) a ∷ token (sign (operator_sign o)) ∷ tree d (right o) b ∷ []
+
+abbrev pub between_parts : ℕ → Tree → Tree → Tree → List Part
+between_parts d a low high =
+    tree d sum_level a ∷ token (sign sign.Between)
+    ∷ tree d sum_level low ∷ token (sign sign.And) ∷ tree d sum_level high ∷ []
+
+abbrev pub like_parts : ℕ → LikeOptions → Tree → Tree → List Part
+like_parts d o a p =
+    tree d sum_level a ∷ (map token (like_sign (like_kind o))
+    ++ (tree d sum_level p ∷ map token (escape_tokens (escape_written o.escape))))
+
+abbrev pub bracket_parts : ℕ → Tree → List Part
+bracket_parts d t = token (sign sign.Open) ∷ tree (suc d) 0 t ∷ token (sign sign.Close) ∷ []
+
+abbrev pub cast_parts : ℕ → Tree → List Part
+cast_parts d t =
+    token (sign sign.Cast) ∷ token (sign sign.Open) ∷ tree (suc d) 0 t
+    ∷ token (sign sign.As) ∷ token (nullable (codes "bool")) ∷ token (sign sign.Close) ∷ []
+
+-- and of a function's call on these, where it has a text
+abbrev pub binary_plan : ℕ → syntax.Operator → List Tree → Option (List Part)
+binary_plan d o ts = both (binary_parts d o) (slice_get ts 0) (slice_get ts 1)
+
+abbrev pub not_plan : ℕ → List Tree → Option (List Part)
+not_plan d ts = option_map (λ t. token (sign sign.Not) ∷ tree d not_level t ∷ []) (slice_get ts 0)
+
+abbrev pub test_plan : ℕ → Bool → List Tree → Option (List Part)
+test_plan d n ts = option_map (λ t. tree d is_level t ∷ map token (null_test n)) (slice_get ts 0)
+
+abbrev pub cast_plan : ℕ → List Tree → Option (List Part)
+cast_plan d ts = if nat_lt d DEPTH then option_map (cast_parts d) (slice_get ts 0) else None
+
+abbrev pub between_plan : ℕ → BetweenOptions → List Tree → Option (List Part)
+between_plan d o ts =
+    if is_within o
+    then all_three (between_parts d) (slice_get ts 0) (slice_get ts 1) (slice_get ts 2) else None
+
+abbrev pub like_plan : ℕ → LikeOptions → List Tree → Option (List Part)
+like_plan d o ts = both (like_parts d o) (slice_get ts 0) (slice_get ts 1)
+
+abbrev pub shipped_plan : ℕ → Shipped → List Tree → Option (List Part)
+shipped_plan d (Binary o) ts = binary_plan d (written_operator o) ts
+shipped_plan d Not ts = not_plan d ts
+shipped_plan d (NullTest n) ts = test_plan d n ts
+shipped_plan d Cast ts = cast_plan d ts
+shipped_plan d (Between o) ts = between_plan d o ts
+shipped_plan d (Like o) ts = like_plan d o ts
+
+abbrev pub call_plan : ℕ → Callable → List Tree → Option (List Part)
+call_plan d (ours s) ts = shipped_plan d s ts
+call_plan d (custom f o) ts = None
+
+abbrev pub bracket_plan : ℕ → Tree → Option (List Part)
+bracket_plan d t = if nat_lt d DEPTH then Some (bracket_parts d t) else None
+
+-- these come next, where there are any; and nothing is written yet
+abbrev pub Plans : Option (List Part) → TreeWriter → TreeWriter → Bool → Type 0
+Plans None old new goes = goes ≡ false
+Plans (Some ps) old new goes =
+    (goes ≡ true) × (tasks_in new ≡ ps ++ tasks_in old) × (new.writer ≡ old.writer)
+
+-- these are written, where there are any
+abbrev pub Pushes : List Token → Writer → Writer → Type 0
+Pushes ts old new = (us : List Token) → Holds us old → Holds (us ++ ts) new
+
+abbrev pub PushesIf : Option (List Token) → Writer → Writer → Bool → Type 0
+PushesIf None old new goes = goes ≡ false
+PushesIf (Some ts) old new goes = (goes ≡ true) × Pushes ts old new
+
+-- the tokens of a literal without its type, of a literal, and of a column
+abbrev pub value_tokens : Value → Option (List Token)
+value_tokens v = option_map spelling (value_syntax v)
+
+abbrev pub literal_tokens : ScalarView → Option (List Token)
+literal_tokens s = option_map spelling (literal_syntax s)
+
+abbrev pub column_tokens : Tree → Option (List Token)
+column_tokens (leaf l) = option_map spelling (leaf_syntax l)
+column_tokens t = None
+
+-- how much is left to do
+abbrev mutual
+  pub tree_cost : Tree → ℕ
+  tree_cost (leaf l) = 1
+  tree_cost (constant s) = 1
+  tree_cost (call f ts) = 10 + trees_cost ts
+
+  pub trees_cost : trees.Trees NoCustom EmptyOptions → ℕ
+  trees_cost no_trees = 0
+  trees_cost (trees.tree t ts) = tree_cost t + 4 + trees_cost ts
+
+abbrev pub part_cost : Part → ℕ
+part_cost (token t) = 1
+part_cost (tree d zero t) = tree_cost t
+part_cost (tree d (suc l) t) = tree_cost t + 4
+
+abbrev pub parts_cost : List Part → ℕ
+parts_cost [] = 0
+parts_cost (p ∷ ps) = part_cost p + parts_cost ps
+
+-- what a part makes of what is written and of what is still to be written
+pub record Goes (p : Part) (old new : TreeWriter) : Type 0 where
+  pub tokens : List Token
+  pub parts : List Part
+  pub written : Pushes tokens old.writer new.writer
+  pub tasks : tasks_in new ≡ parts ++ tasks_in old
+  pub same : part_tokens p ≡ option_map (λ us. tokens ++ us) (all_tokens parts)
+  pub less : parts_cost parts < part_cost p
+
+-- or it has no text
+abbrev pub Steps : Part → TreeWriter → TreeWriter → Bool → Type 0
+Steps p old new true = Goes p old new
+Steps p old new false = part_tokens p ≡ None

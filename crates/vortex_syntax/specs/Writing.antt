@@ -1,0 +1,169 @@
+-- The text of tokens: how each is written, and where a blank stands before it.
+use Rattle.std.specs.Prelude.{◌≡◌, ℕ, ◌==◌, ◌&&◌, Bool, true, false, List, [], ◌∷◌, ◌++◌, codes}
+use Rattle.std.specs.Prelude.{is_none, string_bytes, if◌then◌else◌}
+use Rattle.std.specs.List.{list_all}
+use Rattle.vortex_syntax.specs.declared.token.Sign.{Sign}
+use Rattle.vortex_syntax.specs.declared.token.Sign.TheVariants as sign
+use Rattle.vortex_syntax.specs.declared.pieces.Run.TheVariants.{Word, Digits}
+use Rattle.vortex_syntax.specs.declared.writing.Ending.{Ending}
+use Rattle.vortex_syntax.specs.declared.writing.Ending.TheVariants as at
+use Rattle.vortex_syntax.specs.declared.writing.Writer.{Writer}
+use Rattle.vortex_syntax.specs.Tokens.{Token, name, nullable, quoted, number, text, sign}
+use Rattle.vortex_syntax.specs.Keywords.{keyword_of}
+use Rattle.vortex_syntax.specs.Pieces.{begins_word, is_in}
+
+abbrev pub sign_text : Sign → List ℕ
+sign_text sign.And = codes "and"
+sign_text sign.Or = codes "or"
+sign_text sign.Not = codes "not"
+sign_text sign.Is = codes "is"
+sign_text sign.Null = codes "null"
+sign_text sign.Between = codes "between"
+sign_text sign.Like = codes "like"
+sign_text sign.Ilike = codes "ilike"
+sign_text sign.Escape = codes "escape"
+sign_text sign.True = codes "true"
+sign_text sign.False = codes "false"
+sign_text sign.Cast = codes "cast"
+sign_text sign.As = codes "as"
+sign_text sign.Equal = codes "="
+sign_text sign.NotEqual = codes "<>"
+sign_text sign.Less = codes "<"
+sign_text sign.LessOrEqual = codes "<="
+sign_text sign.Greater = codes ">"
+sign_text sign.GreaterOrEqual = codes ">="
+sign_text sign.Plus = codes "+"
+sign_text sign.Minus = codes "-"
+sign_text sign.Times = codes "*"
+sign_text sign.Divide = codes "/"
+sign_text sign.Open = codes "("
+sign_text sign.Close = codes ")"
+sign_text sign.Comma = codes ","
+sign_text sign.Typed = codes "::"
+
+-- between quotes each quote stands twice
+abbrev pub doubled : ℕ → List ℕ → List ℕ
+doubled q [] = []
+doubled q (b ∷ bs) = if b == q then b ∷ b ∷ doubled q bs else b ∷ doubled q bs
+
+abbrev pub in_quotes : ℕ → List ℕ → List ℕ
+in_quotes q bs = q ∷ (bs ++ (q ∷ []))
+
+abbrev pub token_text : Token → List ℕ
+token_text (name w) = w
+token_text (nullable w) = w ++ codes "?"
+token_text (quoted w) = in_quotes 34 w
+token_text (number ds) = ds
+token_text (text bs) = in_quotes 39 bs
+token_text (sign s) = sign_text s
+
+-- A blank stands before each token but for these, by what stands before: `)`, `,` and `::`; all at
+-- the start and behind `(` and `::`; a number behind its minus sign; and the bracket of `cast`.
+abbrev pub is_tight : Ending → Bool
+is_tight at.Tight = true
+is_tight e = false
+
+abbrev pub joins_number : Ending → Bool
+joins_number at.Tight = true
+joins_number at.Signed = true
+joins_number e = false
+
+abbrev pub joins_bracket : Ending → Bool
+joins_bracket at.Tight = true
+joins_bracket at.Called = true
+joins_bracket e = false
+
+abbrev pub joins_sign : Ending → Sign → Bool
+joins_sign e sign.Close = true
+joins_sign e sign.Comma = true
+joins_sign e sign.Typed = true
+joins_sign e sign.Open = joins_bracket e
+joins_sign e s = is_tight e
+
+abbrev pub joins : Ending → Token → Bool
+joins e (sign s) = joins_sign e s
+joins e (number ds) = joins_number e
+joins e t = is_tight e
+
+abbrev pub blank_unless : Bool → List ℕ
+blank_unless joined = if joined then [] else codes " "
+
+-- What stands before the next token. A minus sign is a number's where no operand ends before it.
+abbrev pub minus_ending : Ending → Ending
+minus_ending at.Operand = at.Loose
+minus_ending e = at.Signed
+
+abbrev pub sign_ending : Ending → Sign → Ending
+sign_ending e sign.Open = at.Tight
+sign_ending e sign.Typed = at.Tight
+sign_ending e sign.Cast = at.Called
+sign_ending e sign.Minus = minus_ending e
+sign_ending e sign.Close = at.Operand
+sign_ending e sign.Null = at.Operand
+sign_ending e sign.True = at.Operand
+sign_ending e sign.False = at.Operand
+sign_ending e s = at.Loose
+
+abbrev pub ending_behind : Ending → Token → Ending
+ending_behind e (sign s) = sign_ending e s
+ending_behind e t = at.Operand
+
+abbrev pub ending_of : Ending → List Token → Ending
+ending_of e [] = e
+ending_of e (t ∷ ts) = ending_of (ending_behind e t) ts
+
+abbrev pub written_behind : Ending → List Token → List ℕ
+written_behind e [] = []
+written_behind e (t ∷ ts) =
+    blank_unless (joins e t) ++ (token_text t ++ written_behind (ending_behind e t) ts)
+
+-- the text of tokens
+abbrev pub written : List Token → List ℕ
+written ts = written_behind at.Tight ts
+
+-- a letter or `_`, and letters, digits and `_`
+abbrev pub is_word : List ℕ → Bool
+is_word [] = false
+is_word (b ∷ bs) = begins_word b && list_all (is_in Word) bs
+
+-- a name that stands without quotes: a word that is no keyword
+abbrev pub is_bare : List ℕ → Bool
+is_bare w = is_word w && is_none (keyword_of w)
+
+abbrev pub are_digits : List ℕ → Bool
+are_digits [] = false
+are_digits (d ∷ ds) = list_all (is_in Digits) (d ∷ ds)
+
+abbrev pub IsDoubled : ℕ → List ℕ → Type 0
+IsDoubled q bs = (raw : List ℕ) × (bs ≡ doubled q raw)
+
+-- tokens that stand in a text
+abbrev pub IsWritable : Token → Type 0
+IsWritable (name w) = is_bare w ≡ true
+IsWritable (nullable w) = is_word w ≡ true
+IsWritable (quoted w) = IsDoubled 34 w
+IsWritable (number ds) = are_digits ds ≡ true
+IsWritable (text bs) = IsDoubled 39 bs
+IsWritable (sign s) = Unit {0}
+
+abbrev pub AllWritable : List Token → Type 0
+AllWritable [] = Unit {0}
+AllWritable (t ∷ ts) = IsWritable t × AllWritable ts
+
+-- the tokens of any name, and of any text
+abbrev pub name_token : List ℕ → Token
+name_token w = if is_bare w then name w else quoted (doubled 34 w)
+
+abbrev pub text_token : List ℕ → Token
+text_token bs = text (doubled 39 bs)
+
+-- what is written so far
+abbrev pub Holds : List Token → Writer → Type 0
+Holds ts w = (string_bytes w.text ≡ written ts) × (w.ending ≡ ending_of at.Tight ts)
+
+-- one token more is written
+abbrev pub Adds : Token → Writer → Writer → Type 0
+Adds t old new =
+    (string_bytes new.text
+    ≡ string_bytes old.text ++ blank_unless (joins old.ending t) ++ token_text t)
+    × (new.ending ≡ ending_behind old.ending t)
