@@ -1,7 +1,7 @@
 -- Where a field stands, and lists that are made element by element.
 use Rattle.std.proofs.Common.{◌≡◌, ℕ, zero, suc, ◌+◌, ◌*◌, ◌/◌, ◌%◌, ◌<◌, ◌≤◌, List, [], ◌∷◌, ◌++◌}
 use Rattle.std.proofs.Common.{map}
-use Rattle.std.proofs.Common.{sym, ap, subst, ◌∙◌, arith, length}
+use Rattle.std.proofs.Common.{sym, ap, subst, ◌∙◌, arith, length, mul_comm, lt_of_not-le}
 use Rattle.std.specs.List.{range_with_len}
 use Rattle.std.proofs.lemmas.List.{map-append}
 use Rattle.std.proofs.lemmas.List.FromFn.{map-range_with_len_more}
@@ -31,6 +31,14 @@ place_within w n i j l even below within =
 -- so does the row's first
 pub row_within : (w n i j l : ℕ) → l ≡ w * n → i < n → j < w → i * w < l
 row_within w n i j l even below within = omega (arith, place_within w n i j l even below within)
+
+-- and so does each other field of a row of which there is one
+pub place_beside : (w n i j k l : ℕ) → l ≡ w * n → i * w + j < l → k < w → i * w + k < l
+place_beside w n i j k l even there within =
+    let turned : i * w ≡ w * i = mul_comm i w in
+    let row : i < n =
+    lt_of_not-le (λ le. let up : w * n ≤ w * i = mul-le-mul_left w le in omega (arith, there)) in
+    place_within w n i k l even row within
 
 -- where there is a field there is a column
 pub some_column : (w n k l : ℕ) → l ≡ w * n → k < l → 0 < w

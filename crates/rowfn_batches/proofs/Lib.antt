@@ -4,6 +4,7 @@ pub mod OneRow
 pub mod FirstRows
 pub mod Flowing
 pub mod LastAlone
+pub mod Leftmost
 pub mod Layouts
 pub mod Lines
 pub mod Outputs

@@ -44,8 +44,8 @@ module _ {R : Type 0} (s : Stream R) (behind : Option StreamError) (n : ℕ)
 
   pub within : n ≤ length s.batch.spans
   within =
-      within_batch s.expression.now s.batch.fields s.summary.rows_read (length s.batch.spans)
-      behind n e is.ends
+      within_batch s.expression.now s.batch.fields s.layout.places.items s.summary.rows_read
+      (length s.batch.spans) behind n e is.ends
 
   pub passed : (put : Stream R) (before after : Option (List ℕ))
       (result : Result (Unit {0}) StreamError)
@@ -65,13 +65,15 @@ pub kept_as_it_is : (held : Option (List ℕ)) → Keeps held held
 kept_as_it_is None = tt
 kept_as_it_is (Some xs) = refl
 
--- what a batch answers by its fields and their count is what the stream's batch answers
-module _ {R : Type 0} (s : Stream R) (behind : Option StreamError) (fs : List Field) (count : ℕ)
-    (same : fs ≡ s.batch.fields) (counted : count ≡ length s.batch.spans) where
+-- what a batch answers by its fields, their places and their count is what the stream's batch
+-- answers
+module _ {R : Type 0} (s : Stream R) (behind : Option StreamError) (fs : List Field)
+    (places : List ℕ) (count : ℕ) (same : fs ≡ s.batch.fields)
+    (placed : places ≡ s.layout.places.items) (counted : count ≡ length s.batch.spans) where
   pub answered_so : (r : Result Answered StreamError)
       → IfOk r (λ a. AreAnswers s.expression.now fs a.row_count a.answers.items)
-      → IfOk r (λ a. EndsBatch s.expression.now fs s.summary.rows_read count behind a.row_count
-      a.error)
+      → IfOk r (λ a. EndsBatch s.expression.now fs places s.summary.rows_read count behind
+      a.row_count a.error)
       → IfErr r (IsUnanswered s.expression.now fs count)
       → MatchResult r (λ a. IsAnswered s behind a.row_count a.answers.items a.error)
       (IsUnanswered s.expression.now s.batch.fields (length s.batch.spans))
@@ -81,13 +83,17 @@ module _ {R : Type 0} (s : Stream R) (behind : Option StreamError) (fs : List Fi
             (λ (f : List Field). AreAnswers s.expression.now f a.row_count a.answers.items) same
             rows;
         ends = subst
-            (λ (f : List Field). EndsBatch s.expression.now f s.summary.rows_read
-            (length s.batch.spans) behind a.row_count a.error)
+            (λ (f : List Field). EndsBatch s.expression.now f s.layout.places.items
+            s.summary.rows_read (length s.batch.spans) behind a.row_count a.error)
             same
             (subst
-            (λ (n : ℕ). EndsBatch s.expression.now fs s.summary.rows_read n behind a.row_count
-            a.error)
-            counted ends);
+            (λ (p : List ℕ). EndsBatch s.expression.now fs p s.summary.rows_read
+            (length s.batch.spans) behind a.row_count a.error)
+            placed
+            (subst
+            (λ (n : ℕ). EndsBatch s.expression.now fs places s.summary.rows_read n behind
+            a.row_count a.error)
+            counted ends));
       }
   answered_so (Err e) rows ends refused =
       subst (λ (f : List Field). IsUnanswered s.expression.now f (length s.batch.spans) e) same

@@ -43,20 +43,20 @@ module _ (x : Expression) (fs : List Field) where
   within_answers before fit other n e (at_fault columns fault told is first faulty tells) =
       omega (arith, faulty.below)
 
-  within_fitting : (before count : ℕ) (behind : Option StreamError) (n : ℕ)
-      (e : Option StreamError) → EndsFitting x fs before count behind n e → n ≤ count
-  within_fitting before count behind n e (with_batch is ended) = omega (arith, is)
-  within_fitting before count behind n e (at_misfit column told is misfit tells) =
+  within_fitting : (places : List ℕ) (before count : ℕ) (behind : Option StreamError) (n : ℕ)
+      (e : Option StreamError) → EndsFitting x fs places before count behind n e → n ≤ count
+  within_fitting places before count behind n e (with_batch is ended) = omega (arith, is)
+  within_fitting places before count behind n e (at_misfit column told is misfit tells) =
       let width = width_of x in
       let below = below_row width count n column (length (take (width * count) fs))
-      misfit.first.below (omega (arith, length-take (width * count) fs)) in
+      misfit.within (omega (arith, length-take (width * count) fs)) in
       omega (arith, below)
 
-  pub within_batch : (before count : ℕ) (behind : Option StreamError) (n : ℕ)
-      (e : Option StreamError) → EndsBatch x fs before count behind n e → n ≤ count
-  within_batch before count behind n e (fit, other, fitting, ends) =
+  pub within_batch : (places : List ℕ) (before count : ℕ) (behind : Option StreamError) (n : ℕ)
+      (e : Option StreamError) → EndsBatch x fs places before count behind n e → n ≤ count
+  within_batch places before count behind n e (fit, other, fitting, ends) =
       omega (
         arith,
-        within_fitting before count behind fit other fitting,
+        within_fitting places before count behind fit other fitting,
         within_answers before fit other n e ends,
       )

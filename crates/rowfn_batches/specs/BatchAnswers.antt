@@ -16,7 +16,7 @@ use Rattle.vortex_functions.specs.Walks.{AllMean}
 use Rattle.vortex_functions.specs.declared.custom.NoCustom.{NoCustom}
 use Rattle.rowfn_scripts.specs.declared.expression.Expression.{Expression}
 use Rattle.rowfn_batches.specs.Fields.{Field}
-use Rattle.rowfn_batches.specs.Batches.{field_at, AreEven, AreColumns, IsMisfit, IsTooLong}
+use Rattle.rowfn_batches.specs.Batches.{field_at, AreEven, AreColumns, IsLeftmost, IsTooLong}
 use Rattle.rowfn_batches.specs.Executing.{RefusesColumnsFirst, IsFirstFaultyRow}
 use Rattle.rowfn_batches.specs.declared.errors.StreamError.{StreamError}
 use Rattle.rowfn_batches.specs.declared.errors.StreamError.TheVariants as end
@@ -99,13 +99,14 @@ module _ (x : Expression) (fs : List Field) where
         → TellsName (struct_fields x.columns) column e → IsUnanswered count e
     unserved : IsUnserved e → IsUnanswered count e
 
-  module _ (before : ℕ) (count : ℕ) (behind : Option StreamError) where
+  -- each column has its place in a row of the input
+  module _ (places : List ℕ) (before : ℕ) (count : ℕ) (behind : Option StreamError) where
     -- so many rows have fields that fit: all of them, and the error behind the batch ends it; or
-    -- those before the first misfit, which is told
+    -- those before the first that has a misfit, of which the leftmost is told
     pub data EndsFitting (n : ℕ) (e : Option StreamError) : Type 0 where
       with_batch : n ≡ count → e ≡ behind → EndsFitting n e
       at_misfit : (column : ℕ) (told : StreamError) → e ≡ Some told
-          → IsMisfit (struct_fields x.columns) (first_fields count) n column
+          → IsLeftmost (struct_fields x.columns) (first_fields count) places n column
           → TellsMisfit before n (struct_fields x.columns) column
           (field_at fs (n * width_of x + column)) told
           → EndsFitting n e

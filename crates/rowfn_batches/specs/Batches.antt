@@ -1,5 +1,6 @@
 -- What the fields of a batch, which stand row by row, make of the columns that are declared.
-use Rattle.std.specs.Prelude.{◌≡◌, ◌+◌, ◌*◌, ◌%◌, ◌<◌, ℕ, List, length, map, Bool, true, false}
+use Rattle.std.specs.Prelude.{◌≡◌, ◌+◌, ◌*◌, ◌%◌, ◌<◌, ◌≤◌, ℕ, List, length, map, Bool, true, false}
+use Rattle.std.specs.Prelude.{get_or}
 use Rattle.std.specs.Prelude.{Option, Some, None, Result, MatchResult, slice_index_or, ⊤}
 use Rattle.std.specs.declared.alloc.Global.{Global}
 use Rattle.std.specs.Prelude.{Vec}
@@ -38,6 +39,25 @@ module _ (ds : Fields) (fs : List Field) where
   pub record IsMisfit (row column : ℕ) : Type 0 where
     pub below : column < field_count ds
     pub first : IsFirstMisfit (row * field_count ds + column)
+
+  -- the field of that row and column fits
+  abbrev pub fits_in : ℕ → ℕ → Bool
+  fits_in row column = fits_at (row * field_count ds + column)
+
+  module _ (places : List ℕ) (row : ℕ) where
+    -- of the first n columns it is the one that stands first in the input, of those whose field of
+    -- that row does not fit: each column has its place there
+    pub record IsLeftmostOf (n column : ℕ) : Type 0 where
+      pub below : column < field_count ds
+      pub misfit : fits_in row column ≡ false
+      pub leftmost : (j : ℕ) → j < n → fits_in row j ≡ false
+          → get_or places column 0 ≤ get_or places j 0
+
+    -- the leftmost field that does not fit, in the first row that has one
+    pub record IsLeftmost (column : ℕ) : Type 0 where
+      pub within : row * field_count ds + column < length fs
+      pub before : (k : ℕ) → k < row * field_count ds → fits_at k ≡ true
+      pub here : IsLeftmostOf (field_count ds) column
 
   module _ (n : ℕ) where
     -- the column that the fields of column j say

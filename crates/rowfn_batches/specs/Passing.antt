@@ -28,8 +28,8 @@ batch_text s answers n =
 pub record IsAnswered {R : Type 0} (s : Stream R) (behind : Option StreamError) (n : ℕ)
     (answers : List ColumnView) (e : Option StreamError) : Type 0 where
   pub rows : AreAnswers s.expression.now s.batch.fields n answers
-  pub ends : EndsBatch s.expression.now s.batch.fields s.summary.rows_read (length s.batch.spans)
-      behind n e
+  pub ends : EndsBatch s.expression.now s.batch.fields s.layout.places.items s.summary.rows_read
+      (length s.batch.spans) behind n e
 
 -- what is read, and how, stays
 pub record KeepsReading {R : Type 0} (old new : Stream R) : Type 0 where

@@ -10,7 +10,7 @@ ghost use Rattle.rowfn_batches.specs.BatchAnswers.{AreAnswers, EndsAnswers, Ends
 ghost use Rattle.rowfn_batches.specs.BatchAnswers.{IsUnserved, IsUnanswered, width_of};
 
 use crate::answers::{execute_answers, first_fault};
-use crate::columns::{BatchError, read_columns};
+use crate::columns::{BatchError, leftmost_misfit, read_columns};
 use crate::errors::StreamError;
 use rowfn_scripts::Expression;
 use std::alloc::Global;
@@ -29,6 +29,8 @@ pub struct Answered {
 pub struct Task<'a> {
     pub alloc: Global,
     pub expression: &'a Expression,
+    /// Where each declared column stands in a row of the input.
+    pub places: &'a [usize],
     /// How many rows were read before the batch.
     pub rows_before: u64,
 }
@@ -185,7 +187,8 @@ impl Task<'_> {
     }
 
     /// What the rows of a batch answer: up to the first that has a misfit or a fault, or all of
-    /// them and the error behind the batch, if there is one.
+    /// them and the error behind the batch, if there is one. Of several misfits of a row the
+    /// leftmost in the input is told.
     ///
     /// Refused where the texts of a column are too long for a batch, where the columns do not serve
     /// a tree, and where memory runs out; never with a row's fault.
@@ -198,7 +201,8 @@ impl Task<'_> {
         ensures rows { IfOk result (λ a. AreAnswers self.now.expression.now
             (map field_in fields.now) a.row_count a.answers.items) }
         ensures ends { IfOk result (λ a. EndsBatch self.now.expression.now
-            (map field_in fields.now) self.now.rows_before row_count error a.row_count a.error) }
+            (map field_in fields.now) self.now.places.now self.now.rows_before row_count error
+            a.row_count a.error) }
         ensures refused { IfErr result (IsUnanswered self.now.expression.now
             (map field_in fields.now) row_count) }
     {
@@ -207,6 +211,7 @@ impl Task<'_> {
         match read_columns(self.alloc, declared, whole, row_count) {
             Ok(columns) => self.answer_fitting(fields, &columns, row_count, error),
             Err(BatchError::Misfit { row, column }) => {
+                let column = leftmost_misfit(declared, self.places, whole, row, column);
                 let misfit = self.misfit(fields, row, column)?;
                 let columns = self.columns(fields, row)?;
                 self.answer_fitting(fields, &columns, row, Some(misfit))

@@ -1,7 +1,7 @@
 //! What the fields of a batch make of the columns that an expression declares.
 ghost use Rattle.std.specs.Prelude.{◌≡◌, ◌<◌, ◌*◌, ◌↔◌, IsTrue, IfOk, None, map, length};
 ghost use Rattle.std.specs.Prelude.{MatchOption, option_map};
-ghost use Rattle.std.specs.Prelude.{List};
+ghost use Rattle.std.specs.Prelude.{List, false, true, get_or, ℕ, ◌+◌, ◌≤◌};
 ghost use Rattle.vortex_columns.specs.ColumnView.{ColumnView};
 ghost use Rattle.vortex_errors.specs.Answers.{AnswersUnlessMemory};
 ghost use Rattle.vortex_types.specs.LogicalTypes.{field_count};
@@ -9,7 +9,7 @@ ghost use Rattle.vortex_types.specs.TypeOf.{struct_fields};
 ghost use Rattle.rowfn_lines.specs.Cells.{cell_in};
 ghost use Rattle.rowfn_batches.specs.Fields.{field_in};
 ghost use Rattle.rowfn_batches.specs.Batches.{cells_at, column_at, AllFit, IsFirstMisfit};
-ghost use Rattle.rowfn_batches.specs.Batches.{AreColumns};
+ghost use Rattle.rowfn_batches.specs.Batches.{AreColumns, fits_in, IsMisfit, IsLeftmost};
 ghost use Rattle.rowfn_batches.specs.Batches.{AreEven, RefusesBatch, ReadsColumns};
 
 use crate::fields::{field_cell, field_fits};
@@ -117,6 +117,75 @@ fn first_misfit(declared: &StructFields, fields: &[Option<&[u8]>]) -> Option<usi
         }
     }
     None
+}
+
+/// Whether the field of that row and column fits.
+fn fits_in(declared: &StructFields, fields: &[Option<&[u8]>], row: usize, column: usize) -> bool
+    requires column { column < field_count (struct_fields declared.now) }
+    requires place { row * field_count (struct_fields declared.now) + column < length fields.now }
+    ensures { result ≡ fits_in (struct_fields declared.now) (map field_in fields.now) row column }
+{
+    let place = row * declared.len() + column;
+    field_fits(declared.dtype(column), fields[place])
+}
+
+/// Where a column stands in a row of the input.
+fn place_of(places: &[usize], column: usize) -> usize
+    ensures { result ≡ get_or places.now column 0 }
+{
+    places.get(column).copied().unwrap_or(0)
+}
+
+/// Of two columns the second one where its field does not fit, and it stands before the first in
+/// the input; else the first.
+fn nearer(
+    declared: &StructFields,
+    places: &[usize],
+    fields: &[Option<&[u8]>],
+    row: usize,
+    columns: (usize, usize),
+) -> usize
+    requires column { columns.1 < field_count (struct_fields declared.now) }
+    requires place { row * field_count (struct_fields declared.now) + columns.1
+        < length fields.now }
+    ensures second { get_or places.now columns.1 0 < get_or places.now columns.0 0
+        → fits_in (struct_fields declared.now) (map field_in fields.now) row columns.1 ≡ false
+        → result ≡ columns.1 }
+    ensures before { get_or places.now columns.0 0 ≤ get_or places.now columns.1 0
+        → result ≡ columns.0 }
+    ensures fits { fits_in (struct_fields declared.now) (map field_in fields.now) row columns.1
+        ≡ true → result ≡ columns.0 }
+{
+    let (first, second) = columns;
+    if place_of(places, first) <= place_of(places, second) {
+        return first;
+    }
+    if fits_in(declared, fields, row, second) {
+        return first;
+    }
+    second
+}
+
+/// Of the fields of a row that do not fit, the column of the leftmost: each column has its place in
+/// the input. `column` is the first in the order of declaration whose field does not fit.
+pub(crate) fn leftmost_misfit(
+    declared: &StructFields,
+    places: &[usize],
+    fields: &[Option<&[u8]>],
+    row: usize,
+    column: usize,
+) -> usize
+    requires misfit { IsMisfit (struct_fields declared.now) (map field_in fields.now) row column }
+    requires even { (n : ℕ) × AreEven (struct_fields declared.now) (map field_in fields.now) n }
+    ensures { IsLeftmost (struct_fields declared.now) (map field_in fields.now) places.now row
+        result }
+{
+    let width = declared.len();
+    let mut leftmost = column;
+    for other in column + 1..width {
+        leftmost = nearer(declared, places, fields, row, (leftmost, other));
+    }
+    leftmost
 }
 
 /// Why the fields of that column make none.

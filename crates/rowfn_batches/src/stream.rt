@@ -189,6 +189,7 @@ impl<'a, R: Read + Drop> Stream<'a, R> {
         let task = Task {
             alloc: self.alloc,
             expression: self.expression,
+            places: &self.layout.places,
             rows_before: self.summary.rows_read,
         };
         task.answer_batch(&fields, self.batch.len(), error)

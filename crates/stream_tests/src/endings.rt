@@ -47,6 +47,15 @@ fn a_field_that_does_not_fit_is_told(rt: HostRuntime) {
 }
 
 #[test]
+fn of_fields_that_do_not_fit_the_leftmost_is_told(rt: HostRuntime) {
+    let told = "row 2, column b: \"x\" is no i8";
+    assert!(rt; ends(rt, plain(SUM, "b,a\n1,2\nx,y\n"), "sum\n3\n", 2, told));
+    let told = "row 1, column a: \"y\" is no i8";
+    assert!(rt; ends(rt, plain(SUM, "c,b,a\nu,1,y\nv,x,2\n"), "sum\n", 2, told));
+    assert!(rt; ends(rt, headless(SUM, "y,x\n"), "", 2, told));
+}
+
+#[test]
 fn text_that_is_no_utf8_is_told(rt: HostRuntime) {
     let told = "row 2, column t: \"a\\xff b\\x22\" is no utf8";
     let broken = Case {

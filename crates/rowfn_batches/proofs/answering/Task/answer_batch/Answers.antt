@@ -1,6 +1,6 @@
 use Rattle.std.proofs.Common.{refl}
 use Rattle.vortex_types.specs.TypeOf.{struct_fields}
-use Rattle.rowfn_batches.specs.Batches.{IsMisfit, IsTooLong}
+use Rattle.rowfn_batches.specs.Batches.{IsLeftmost, IsTooLong}
 use Rattle.rowfn_batches.specs.BatchAnswers.{with_batch, at_misfit, too_long}
 use Rattle.rowfn_batches.proofs.FirstRows.{are_first, of_first, if_ok-weaker}
 use Rattle.rowfn_batches.proofs.answering.Task.answer_batch.Goals as goal
@@ -22,11 +22,11 @@ pub returns-in-Err-Misfit-clause-ends : goal.returns-in-Err-Misfit-clause-ends
 returns-in-Err-Misfit-clause-ends c =
     let x = c.args.self.now.expression.now in
     let row = c.in-Err-Misfit.row in
-    let column = c.in-Err-Misfit.column in
+    let column = c.leftmost_misfit-column.result in
     let misfit = of_first x c.args.fields.now c.args.row_count c.len.result c.len.ensures
     c.first_rows-whole.result.now c.first_rows-whole.ensures
-    (λ f. IsMisfit (struct_fields x.columns) f row column)
-    (rw c.in-Err-Misfit.field-0-is at c.in-Err-Misfit.ensures).1 in
+    (λ f. IsLeftmost (struct_fields x.columns) f c.args.self.now.places.now row column)
+    c.leftmost_misfit-column.ensures in
     let told = c.in_ok-misfit-in-Err-Misfit in
     if_ok-weaker c.answer_fitting-in-Err-Misfit.result _ _
     (λ a h. (row, _, at_misfit column told.misfit refl misfit told.ensures, h))
