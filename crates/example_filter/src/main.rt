@@ -1,7 +1,7 @@
-//! An example to copy: a filter over two columns, made, optimised, executed and printed.
+//! An example to copy: the filter of a scan.
 //!
-//! Which goods are cheap and in stock: `(is_not_null((stock + ordered)) and (price < 10))` over
-//! columns of three rows.
+//! It is read from a text over the names and types of the columns, optimised once, and run over one
+//! batch after another: of each it tells the rows in which it is true.
 #![tactic(auto)]
 
 mod table;
@@ -9,71 +9,65 @@ mod table;
 use std::alloc::Global;
 use std::io;
 use std::process::ExitCode;
-use table::{columns, scope};
+use table::{Batch, batches, scope};
+use vortex_expressions::{read_expression, write_expression};
 use vortex_row_fn::*;
+
+/// The goods that are cheap, and whose stock is known.
+const FILTER: &str = "stock + ordered is not null and price < 10";
 
 /// A tree that calls shipped functions alone.
 type Expression = BoundExpression<NoCustom>;
 
-/// A call of an operator.
-fn binary(
-    alloc: Global,
-    left: Expression,
-    operator: Operator,
-    right: Expression,
-) -> VortexResult<Expression> {
-    let mut operands = Vec::new(alloc);
-    operands.push(left)?;
-    operands.push(right)?;
-    Binary.try_new_bound_expr(alloc, operator, operands)
-}
-
-/// `is_not_null((stock + ordered))`.
-fn known(alloc: Global, scope: &StructFields) -> VortexResult<Expression> {
-    let stock = BoundExpression::column(alloc, scope, "stock")?;
-    let ordered = BoundExpression::column(alloc, scope, "ordered")?;
-    let mut operands = Vec::new(alloc);
-    operands.push(binary(alloc, stock, Operator::Add, ordered)?)?;
-    IsNotNull.try_new_bound_expr(alloc, EmptyOptions, operands)
-}
-
-/// `price < 10`.
-fn cheap(alloc: Global, scope: &StructFields) -> VortexResult<Expression> {
-    let price = BoundExpression::column(alloc, scope, "price")?;
-    let ten = BoundExpression::lit(alloc, Scalar::from(10i32));
-    binary(alloc, price, Operator::Lt, ten)
-}
-
-fn filter(alloc: Global) -> VortexResult<Expression> {
-    let scope = scope(alloc)?;
-    let known = known(alloc, &scope)?;
-    let cheap = cheap(alloc, &scope)?;
-    binary(alloc, known, Operator::And, cheap)
-}
-
-/// The answer of the tree over the table, as a line.
-fn answer(alloc: Global, tree: &Expression) -> VortexResult<String> {
-    let columns = columns(alloc)?;
+/// The rows of the batch in which the filter is true; none where it is no truth value.
+fn picked(alloc: Global, filter: &Expression, batch: &Batch) -> VortexResult<Vec<u32>> {
     let mut ctx = ExecutionCtx::new(alloc);
-    tree.execute(&columns, 3, &mut ctx)?.text(alloc)
+    let answer = filter.execute(&batch.columns, batch.row_count, &mut ctx)?;
+    if !answer.dtype().is_boolean() {
+        return Ok(Vec::new(alloc));
+    }
+    answer.true_rows(alloc)
 }
 
-/// What the program prints: the filter, the filter after its rewrites, and its rows.
-fn report(alloc: Global) -> VortexResult<String> {
-    let tree = filter(alloc)?;
-    let optimized = tree.optimize_recursive(alloc, tree.weight())?;
-    let mut report = tree.sql_text(alloc)?;
+/// The batch's number, and the rows that are picked, as a line.
+fn line(alloc: Global, number: usize, rows: &[u32]) -> VortexResult<String> {
+    let mut line = format!(in alloc; "batch {number}:")?;
+    for row in rows {
+        line.push_str(format!(in alloc; " {row}")?.as_str())?;
+    }
+    line.push_str("\n")?;
+    Ok(line)
+}
+
+/// What the program prints: the filter as rules make it, and its rows, batch after batch.
+fn report(alloc: Global, filter: &Expression) -> VortexResult<String> {
+    let filter = filter.optimize_recursive(alloc, filter.weight())?.tree;
+    let mut report = write_expression(alloc, &filter)?.unwrap_or(String::new(alloc));
     report.push_str("\n")?;
-    report.push_str(optimized.tree.sql_text(alloc)?.as_str())?;
-    report.push_str("\n")?;
-    report.push_str(answer(alloc, &optimized.tree)?.as_str())?;
+    for (number, batch) in batches(alloc)?.iter().enumerate() {
+        let rows = picked(alloc, &filter, batch)?;
+        report.push_str(line(alloc, number, &rows)?.as_str())?;
+    }
     Ok(report)
 }
 
+/// Prints the report, or why there is none.
 fn run(rt: &(impl Print + AllocGlobal)) -> io::Result<u8> {
-    match report(rt.alloc()) {
+    let alloc = rt.alloc();
+    let Ok(scope) = scope(alloc) else {
+        println!(rt; "out of memory")?;
+        return Ok(1);
+    };
+    let filter = match read_expression(alloc, &scope, FILTER) {
+        Ok(filter) => filter,
+        Err(error) => {
+            println!(rt; "{error}")?;
+            return Ok(1);
+        }
+    };
+    match report(alloc, &filter) {
         Ok(report) => {
-            println!(rt; "{report}")?;
+            print!(rt; "{report}")?;
             Ok(0)
         }
         Err(error) => {

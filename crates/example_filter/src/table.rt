@@ -1,7 +1,14 @@
-//! The columns, and the scope that names and types them.
+//! The columns of two batches, and the scope that names and types them.
 
 use std::alloc::Global;
 use vortex_row_fn::*;
+
+/// Columns of one row count.
+#[derive(Drop)]
+pub struct Batch {
+    pub columns: Vec<Column>,
+    pub row_count: usize,
+}
 
 /// A type of 32-bit integers.
 fn number(nullability: Nullability) -> DType {
@@ -18,15 +25,38 @@ pub fn scope(alloc: Global) -> VortexResult<StructFields> {
     StructFields::of(alloc, &fields)
 }
 
-/// Three goods: 7 with 3 in stock and 1 ordered, 12 with 5 and 2, and 9 with an unknown stock.
-pub fn columns(alloc: Global) -> VortexResult<Vec<Column>> {
-    let mut prices = Vec::new(alloc);
-    for price in [7i32, 12, 9] {
-        prices.push(price)?;
-    }
+/// Three goods by their prices, what is in stock and what is ordered.
+fn batch(
+    alloc: Global,
+    prices: [i32; 3],
+    stock: [Option<i32>; 3],
+    ordered: [Option<i32>; 3],
+) -> VortexResult<Batch> {
     let mut columns = Vec::new(alloc);
+    let prices = prices.to_vec(alloc)?;
     columns.push(Column::try_primitive(alloc, prices, Validity::NonNullable)?)?;
-    columns.push(Column::of_ints(alloc, &[Some(3i32), Some(5), None])?)?;
-    columns.push(Column::of_ints(alloc, &[Some(1i32), Some(2), Some(4)])?)?;
-    Ok(columns)
+    columns.push(Column::of_ints(alloc, &stock)?)?;
+    columns.push(Column::of_ints(alloc, &ordered)?)?;
+    Ok(Batch {
+        columns,
+        row_count: 3,
+    })
+}
+
+/// In the first batch one of three goods is cheap and its stock known, in the second two.
+pub fn batches(alloc: Global) -> VortexResult<Vec<Batch>> {
+    let mut batches = Vec::new(alloc);
+    batches.push(batch(
+        alloc,
+        [7, 12, 9],
+        [Some(3), Some(5), None],
+        [Some(1), Some(2), Some(4)],
+    )?)?;
+    batches.push(batch(
+        alloc,
+        [2, 3, 30],
+        [Some(1), Some(0), Some(8)],
+        [Some(9), Some(0), None],
+    )?)?;
+    Ok(batches)
 }
