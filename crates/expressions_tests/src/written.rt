@@ -4,7 +4,7 @@ use fixtures::answers::same;
 use std::alloc::Global;
 use vortex_columns::VortexResult;
 use vortex_expressions::{read_expression, write_expression};
-use vortex_functions::{BoundExpression, NoCustom};
+use vortex_functions::{BoundExpression, NoCustom, ScalarFnRef};
 
 /// The tree that the text says; none where it says none.
 fn tree_of(alloc: Global, text: &str) -> VortexResult<Option<BoundExpression<NoCustom>>> {
@@ -123,4 +123,48 @@ fn literals(rt: HostRuntime) {
     assert!(rt; writes(rt, "sold = null", "sold = null::bool?"));
     assert!(rt; writes(rt, "true", "true"));
     assert!(rt; writes(rt, "-9223372036854775808", "-9223372036854775808"));
+}
+
+/// So many casts of a column within one another.
+fn casts(alloc: Global, count: usize) -> VortexResult<BoundExpression<NoCustom>> {
+    let scope = scope(alloc)?;
+    let mut tree = BoundExpression::column(alloc, &scope, "dear")?;
+    for _ in 0..count {
+        tree = BoundExpression::try_new(alloc, ScalarFnRef::Cast, vec![in alloc; tree]?)?;
+    }
+    Ok(tree)
+}
+
+/// Whether so many casts have a text.
+fn have_text(alloc: Global, count: usize) -> VortexResult<bool> {
+    let tree = casts(alloc, count)?;
+    Ok(write_expression(alloc, &tree)?.is_some())
+}
+
+/// A sum of so many operands.
+fn sum(alloc: Global, count: usize) -> VortexResult<String> {
+    let mut text = String::from_str(alloc, "total")?;
+    for _ in 1..count {
+        text.push_str(" + total")?;
+    }
+    Ok(text)
+}
+
+/// Whether a sum of so many operands is written as it was read.
+fn sum_is_written(alloc: Global, count: usize) -> VortexResult<bool> {
+    let text = sum(alloc, count)?;
+    let other = written(alloc, text.as_str())?;
+    Ok(other.as_str() == text.as_str())
+}
+
+#[test]
+fn depth(rt: HostRuntime) {
+    let alloc = rt.alloc();
+    assert!(rt; matches!(have_text(alloc, 1000), Ok(true)));
+    assert!(rt; matches!(have_text(alloc, 1001), Ok(false)));
+}
+
+#[test]
+fn a_long_sum(rt: HostRuntime) {
+    assert!(rt; matches!(sum_is_written(rt.alloc(), 100000), Ok(true)));
 }
