@@ -125,7 +125,7 @@ fn push_names(out: &mut Vec<u8>, types: &[&str], delimiter: u8) -> Result<(), Al
         }
         out.push(b'"')?;
         out.push(b'c')?;
-        out.push(b'0'.saturating_add(place as u8))?;
+        out.push(b'0'.saturating_add(u8::try_from(place).unwrap_or(0)))?;
         out.push(b'"')?;
     }
     out.push(b'\n')?;
