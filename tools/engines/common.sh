@@ -31,7 +31,8 @@ chmod 755 "$scratch/rowfn_stream"
 chmod 644 "$scratch/expression.rowfn"
 
 "$here/rows" "$count" > "$scratch/rows.csv"
-"$scratch/rowfn_stream" "$scratch/expression.rowfn" < "$scratch/rows.csv" > "$scratch/whole.csv"
+# the only answer may be null: its row is an empty line, as PostgreSQL writes it
+"$scratch/rowfn_stream" --blank-lines null "$scratch/expression.rowfn" < "$scratch/rows.csv" > "$scratch/whole.csv"
 
 needs() {
     for word in "$@"; do

@@ -4,7 +4,7 @@ use Rattle.std.proofs.Common.{refl, sym, subst, ◌∙◌, arith, below_more, in
 use Rattle.std.proofs.lemmas.Bool.{cases_lt}
 use Rattle.vortex_types.specs.LogicalTypes.{Fields, field_count}
 use Rattle.rowfn_batches.specs.Fields.{Field}
-use Rattle.rowfn_batches.specs.Batches.{fits_in, IsLeftmostOf, IsLeftmost, IsMisfit, AreEven}
+use Rattle.rowfn_batches.specs.Batches.{fits_in, IsLeftmostOf, IsLeftmost, IsMisfit}
 use Rattle.rowfn_batches.proofs.FieldPlaces.{place_beside}
 
 module _ (ds : Fields) (fs : List Field) (places : List ℕ) (row : ℕ) where

@@ -7,6 +7,8 @@ pub mod LastAlone
 pub mod Leftmost
 pub mod Layouts
 pub mod Lines
+pub mod NameOf
 pub mod Outputs
 pub mod Passed
+pub mod ReadingBack
 pub mod Within

@@ -2,9 +2,11 @@ pub mod Fields
 pub mod Batches
 pub mod Executing
 pub mod Printing
+pub mod ReadingBack
 pub mod BatchAnswers
 pub mod Endings
 pub mod Layouts
+pub mod Names
 pub mod Outputs
 pub mod Passing
 pub mod Tops

@@ -42,6 +42,13 @@ pub enum StreamError {
     },
     /// The header ends within quotes.
     OpenHeader,
+    /// A row of which a field has more bytes than that.
+    FieldTooLong {
+        row: u64,
+        limit: usize,
+    },
+    /// A header of which a field has more bytes than that.
+    HeaderTooLong(usize),
     /// The input could not be read.
     Reading(io::Error),
     /// The output could not be written.
@@ -50,6 +57,25 @@ pub enum StreamError {
     ReadingExpression(String, io::Error),
     /// A line of the expression is refused or malformed.
     Expression(ExpressionError),
+    /// A line of the expression gets a column that no line before it declares, which may mean
+    /// another.
+    UnknownColumn {
+        line: usize,
+        name: String,
+        near: Option<String>,
+    },
+    /// A line of the expression calls a function behind fewer trees than it takes.
+    FewTrees {
+        line: usize,
+        function: String,
+        wanted: usize,
+        found: usize,
+    },
+    /// Two answers have that name.
+    AnswerTwice(String),
+    /// The only answer, of that name, may be null, and the line of such a row would be passed over
+    /// where it is read.
+    RowsLost(String),
     /// Records are to be picked by an answer that is no truth value.
     NoTruth(String),
     /// Memory ran out, but in a call of the expression.
@@ -120,13 +146,20 @@ impl StreamError {
             | StreamError::ColumnTwice(_)
             | StreamError::Width { .. }
             | StreamError::OpenQuote { .. }
-            | StreamError::OpenHeader => 2,
+            | StreamError::OpenHeader
+            | StreamError::FieldTooLong { .. }
+            | StreamError::HeaderTooLong(_) => 2,
             StreamError::Reading(_)
             | StreamError::Writing(_)
             | StreamError::ReadingExpression(_, _)
             | StreamError::Expression(ExpressionError::OutOfMemory)
             | StreamError::OutOfMemory => 3,
-            StreamError::Expression(_) | StreamError::NoTruth(_) => 4,
+            StreamError::Expression(_)
+            | StreamError::UnknownColumn { .. }
+            | StreamError::FewTrees { .. }
+            | StreamError::AnswerTwice(_)
+            | StreamError::RowsLost(_)
+            | StreamError::NoTruth(_) => 4,
         }
     }
 }
@@ -144,14 +177,54 @@ fn write_bytes<W: fmt::Write>(f: &mut fmt::Formatter<W>, bytes: &[u8]) -> fmt::R
     f.write_str("\"")
 }
 
-/// Writes a field in quotes, or that it is a null.
+/// How much of a field is told: so many characters, or bytes where it is no text.
+const TOLD: usize = 80;
+
+/// Writes the beginning of a text in quotes.
+fn write_text<W: fmt::Write>(f: &mut fmt::Formatter<W>, text: &str) -> fmt::Result {
+    match text.char_indices().nth(TOLD) {
+        None => write!(f, "{text:?}"),
+        Some((end, _)) => {
+            let told = text.get(..end).unwrap_or("");
+            write!(f, "{told:?}..")
+        }
+    }
+}
+
+/// Writes the beginning of a field in quotes, or that it is a null.
 fn write_field<W: fmt::Write>(f: &mut fmt::Formatter<W>, field: Option<&[u8]>) -> fmt::Result {
-    match field {
-        None => f.write_str("null"),
-        Some(bytes) => match str::from_utf8(bytes) {
-            Ok(text) => write!(f, "{text:?}"),
-            Err(_) => write_bytes(f, bytes),
-        },
+    let Some(bytes) = field else {
+        return f.write_str("null");
+    };
+    if let Ok(text) = str::from_utf8(bytes) {
+        return write_text(f, text);
+    }
+    match bytes.get(..TOLD) {
+        None => write_bytes(f, bytes),
+        Some(told) => {
+            write_bytes(f, told)?;
+            f.write_str("..")
+        }
+    }
+}
+
+/// Writes why a record does not end, or has no end that could be read.
+fn write_record<W: fmt::Write>(f: &mut fmt::Formatter<W>, error: &StreamError) -> fmt::Result {
+    match error {
+        StreamError::FieldTooLong { row, limit } => {
+            write!(
+                f,
+                "row {row}: a field has more bytes than the {limit} of --max-field"
+            )
+        }
+        StreamError::HeaderTooLong(limit) => {
+            write!(
+                f,
+                "header: a field has more bytes than the {limit} of --max-field"
+            )
+        }
+        StreamError::OpenQuote { row } => write!(f, "row {row}: a quote is not closed"),
+        _ => f.write_str("header: a quote is not closed"),
     }
 }
 
@@ -184,8 +257,60 @@ fn write_input<W: fmt::Write>(f: &mut fmt::Formatter<W>, error: &StreamError) ->
         StreamError::Width { row, wanted, found } => {
             write!(f, "row {row}: {found} fields where {wanted} are wanted")
         }
-        StreamError::OpenQuote { row } => write!(f, "row {row}: a quote is not closed"),
-        _ => f.write_str("header: a quote is not closed"),
+        error => write_record(f, error),
+    }
+}
+
+/// Writes what is wrong with a line of an expression.
+fn write_line<W: fmt::Write>(f: &mut fmt::Formatter<W>, error: &StreamError) -> fmt::Result {
+    match error {
+        StreamError::UnknownColumn { line, name, near } => {
+            let name = name.as_str();
+            write!(f, "line {line}: no column {name} is declared")?;
+            match near {
+                Some(near) => {
+                    let near = near.as_str();
+                    write!(f, "; is {near} meant?")
+                }
+                None => Ok(()),
+            }
+        }
+        StreamError::FewTrees {
+            line,
+            function,
+            wanted,
+            found,
+        } => {
+            let function = function.as_str();
+            write!(
+                f,
+                "line {line}: call {function} takes {wanted} trees, not {found}"
+            )
+        }
+        error => write_answers(f, error),
+    }
+}
+
+/// Writes what is wrong with the answers of an expression.
+fn write_answers<W: fmt::Write>(f: &mut fmt::Formatter<W>, error: &StreamError) -> fmt::Result {
+    match error {
+        StreamError::AnswerTwice(name) => {
+            let name = name.as_str();
+            write!(
+                f,
+                "two answers are named {name}: expected another name for one, by as"
+            )
+        }
+        StreamError::RowsLost(name) => {
+            let name = name.as_str();
+            write!(f, "the only answer, {name}, may be null, an empty line: ")?;
+            f.write_str("expected --null TEXT or --blank-lines null")
+        }
+        StreamError::NoTruth(name) => {
+            let name = name.as_str();
+            write!(f, "--where: {name} is no truth value")
+        }
+        error => write_input(f, error),
     }
 }
 
@@ -208,12 +333,8 @@ impl fmt::Display for StreamError {
                 write!(f, "reading {path}: {error}")
             }
             StreamError::Expression(error) => write!(f, "{error}"),
-            StreamError::NoTruth(name) => {
-                let name = name.as_str();
-                write!(f, "--where: {name} is no truth value")
-            }
             StreamError::OutOfMemory => f.write_str("out of memory"),
-            error => write_input(f, error),
+            error => write_line(f, error),
         }
     }
 }

@@ -11,6 +11,10 @@ pub struct Settings<'a> {
     pub header: bool,
     /// How many rows are read, answered and written together, at most; 0 is taken for 1.
     pub batch: usize,
+    /// With how many bytes of the input the rows that are read together are enough.
+    pub batch_bytes: u64,
+    /// How many bytes a field has, at most.
+    pub max_field: usize,
     /// Whether the rows of the input are written in which the only answer is true, in place of
     /// answers.
     pub picks_rows: bool,

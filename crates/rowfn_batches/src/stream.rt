@@ -1,17 +1,19 @@
 //! The stream: batches of rows, answered and written one behind the other.
-ghost use Rattle.std.specs.Prelude.{◌≡◌, ◌≤◌, IfOk, IfErr, OnOk, MatchResult, length};
+ghost use Rattle.std.specs.Prelude.{◌≡◌, ◌≤◌, IfOk, IfErr, OnOk, MatchResult, length, false};
 ghost use Rattle.std.specs.Io.KnownBytes.{Appends};
 ghost use Rattle.rowfn_batches.specs.BatchAnswers.{IsUnanswered};
 ghost use Rattle.rowfn_batches.specs.Outputs.{Adds, HaveRows};
 ghost use Rattle.rowfn_batches.specs.Passing.{IsAnswered, batch_text, KeepsReading, IsCleared};
 ghost use Rattle.rowfn_batches.specs.Passing.{IsWriting, PassesOn, IsRefilled, IsBehind};
 ghost use Rattle.rowfn_batches.specs.Passing.{PassesNext, Flows};
+ghost use Rattle.rowfn_batches.specs.ReadingBack.{ReadsBack};
 ghost use Rattle.rowfn_batches.specs.Tops.{IsTop, RefusesTop};
 
 use crate::answering::{Answered, Task, row_number};
 use crate::errors::StreamError;
 use crate::header::{Layout, declared_layout, named_layout};
 use crate::output::Output;
+use crate::reading_back::check_reading_back;
 use crate::settings::Settings;
 use rowfn_csv::{Batch, ReadError, Records};
 use rowfn_scripts::Expression;
@@ -109,8 +111,11 @@ impl<'a, R: Read + Drop> Stream<'a, R> {
     ) -> Result<Stream<'a, R>, StreamError>
         ensures expression { IfOk result (λ s. s.expression.now ≡ expression.now) }
         ensures none_read { IfOk result (λ s. s.summary.rows_read ≡ 0) }
+        ensures reads_back { OnOk result (settings.now.picks_rows ≡ false
+            → ReadsBack settings.now.format expression.now.answers.items) }
     {
-        let mut records = Records::new(alloc, settings.format, reader);
+        check_reading_back(alloc, settings, expression)?;
+        let mut records = Records::new(alloc, settings.format, settings.max_field, reader);
         let mut output = Output::new(alloc, settings.format);
         let layout = if settings.header {
             read_header(alloc, settings, expression, &mut records, &mut output)?
@@ -132,9 +137,12 @@ impl<'a, R: Read + Drop> Stream<'a, R> {
         })
     }
 
-    /// Whether the last record is a row: closed, and of as many fields as are wanted.
+    /// Whether the last record is a row: closed, and of as many fields as are wanted, none of which
+    /// is too long.
     fn is_whole(&self) -> bool {
-        self.records.record().len() == self.layout.width && !self.records.is_open()
+        self.records.record().len() == self.layout.width
+            && !self.records.is_open()
+            && !self.records.is_outgrown()
     }
 
     /// Why the last record is no row.
@@ -142,6 +150,10 @@ impl<'a, R: Read + Drop> Stream<'a, R> {
     #[inline(never)]
     fn misshapen(&self) -> StreamError {
         let row = row_number(self.summary.rows_read, self.batch.len());
+        if self.records.is_outgrown() {
+            let limit = self.settings.max_field;
+            return StreamError::FieldTooLong { row, limit };
+        }
         if self.records.is_open() {
             return StreamError::OpenQuote { row };
         }
@@ -152,12 +164,17 @@ impl<'a, R: Read + Drop> Stream<'a, R> {
         }
     }
 
+    /// Whether the rows that were read from a place of the input on have enough bytes.
+    fn is_full(&self, begin: u64) -> bool {
+        self.records.span().end.saturating_sub(begin) >= self.settings.batch_bytes
+    }
+
     /// Reads the rows of the next batch.
     fn fill(&mut self) -> Filled
         ensures { IsRefilled self.old self.new }
     {
         self.batch.clear();
-        self.records.keep_from_here();
+        let begin = self.records.keep_from_here();
         'rows: for _ in 0..self.settings.batch.max(1) {
             match self.records.read() {
                 Ok(true) => {}
@@ -173,6 +190,9 @@ impl<'a, R: Read + Drop> Stream<'a, R> {
                 .is_err()
             {
                 return broken_by(ReadError::OutOfMemory);
+            }
+            if self.is_full(begin) {
+                return Filled::Full;
             }
         }
         Filled::Full
@@ -289,7 +309,10 @@ fn read_header<'a, R: Read>(
     records: &mut Records<'a, R>,
     output: &mut Output<'a>,
 ) -> Result<Layout, StreamError> {
-    let found = records.read()?;
+    let found = records.read_record()?;
+    if found && records.is_outgrown() {
+        return Err(StreamError::HeaderTooLong(settings.max_field));
+    }
     if found && records.is_open() {
         return Err(StreamError::OpenHeader);
     }
@@ -310,6 +333,8 @@ fn read_header<'a, R: Read>(
 /// Reads rows as CSV, a batch at a time, and writes what the expression answers in them; or, as the
 /// settings say, the rows in which its only answer is true. Answers how many rows those were.
 ///
+/// Refused before anything is written where what is written of answers would not read back: where
+/// two have one name, and where the only one may be null, and its empty line would be passed over.
 /// The rows before the first that is refused are answered and written before the error is returned,
 /// whatever the batches. Memory holds a batch at most, and the longest row.
 pub fn flow<R: Read + Drop, W: Write>(
@@ -319,7 +344,10 @@ pub fn flow<R: Read + Drop, W: Write>(
     reader: R,
     writer: &mut W,
 ) -> Result<Summary, StreamError>
-    ensures { Flows reader expression.now (W.contents writer.old) (W.contents writer.new) result }
+    ensures flows { Flows reader expression.now (W.contents writer.old) (W.contents writer.new)
+        result }
+    ensures reads_back { OnOk result (settings.now.picks_rows ≡ false
+        → ReadsBack settings.now.format expression.now.answers.items) }
 {
     let mut stream = Stream::begin(alloc, settings, expression, reader)?;
     stream.write(writer)?;

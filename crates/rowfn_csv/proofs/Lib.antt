@@ -1,3 +1,4 @@
 pub mod Marking
+pub mod RoundTrip
 pub mod Said
 pub mod Scanning

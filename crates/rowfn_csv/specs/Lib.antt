@@ -2,4 +2,5 @@ pub mod Batches
 pub mod Fields
 pub mod KeptLines
 pub mod Records
+pub mod RoundTrip
 pub mod Scanning

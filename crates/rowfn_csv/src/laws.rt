@@ -1,8 +1,16 @@
-//! What follows from what a record says. The function does nothing: its contract is proved.
+//! What follows from what a record says, and how fields are written. The functions do nothing: their
+//! contracts are proved.
 ghost use Rattle.rowfn_csv.specs.Records.{EachSaysFields};
+ghost use Rattle.rowfn_csv.specs.RoundTrip.{CellsReadBack};
 
 /// Whatever bytes a record has, they say fields, of which the last may be open.
 #[tactic(auto, using(crate::proofs::Said::each_says_fields))]
 pub fn each_says_fields()
     ensures { EachSaysFields }
+{}
+
+/// Cells that are written as a line, in quotes where they need them, and null as a text that may
+/// stand for it, say fields that are those cells, and no line ends within a field that stands bare.
+pub fn cells_read_back()
+    ensures { CellsReadBack }
 {}

@@ -3,6 +3,7 @@
 
 pub mod batch;
 pub mod format;
+mod growth;
 pub mod laws;
 pub mod quoting;
 mod raw;

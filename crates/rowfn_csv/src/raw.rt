@@ -10,7 +10,7 @@ use std::alloc::{AllocError, Global};
 
 /// Where a byte of a record stands.
 #[derive(Clone, Copy, PartialEq, Eq)]
-enum Place {
+pub enum Place {
     /// At the first byte of a field.
     Start,
     /// In a field, outside quotes.
@@ -22,12 +22,12 @@ enum Place {
 }
 
 /// Whether a byte ends a line.
-fn ends_line(byte: u8) -> bool {
+pub fn ends_line(byte: u8) -> bool {
     byte == b'\n' || byte == b'\r'
 }
 
 /// Where the byte behind this one stands, in the same record.
-fn behind(place: Place, byte: u8, delimiter: u8) -> Place
+pub fn behind(place: Place, byte: u8, delimiter: u8) -> Place
     ensures { result ≡ place_behind delimiter place byte }
 {
     match place {
@@ -37,6 +37,14 @@ fn behind(place: Place, byte: u8, delimiter: u8) -> Place
         Place::Start | Place::Closed if byte == b'"' => Place::Quoted,
         _ => Place::Plain,
     }
+}
+
+/// A byte order mark.
+pub const MARK: &[u8] = b"\xEF\xBB\xBF";
+
+/// The bytes without a byte order mark before them.
+pub fn without_mark(bytes: &[u8]) -> &[u8] {
+    bytes.strip_prefix(MARK).unwrap_or(bytes)
 }
 
 /// The record without the ends of lines before it.

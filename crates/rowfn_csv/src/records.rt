@@ -10,11 +10,12 @@ ghost use Rattle.rowfn_csv.specs.Scanning.{Knows};
 
 use crate::batch::Batch;
 use crate::format::Format;
-use crate::raw::{Quotes, is_closed, without_blank_lines, without_line_end};
+use crate::raw::{Quotes, is_closed, without_blank_lines, without_line_end, without_mark};
 use crate::tee::Tee;
 use csv::{ByteRecord, Error, ErrorKind, Reader, ReaderBuilder};
 use std::alloc::{AllocError, Global};
 use std::io::{self, Read};
+use std::mem;
 
 /// Where a record lies in the input, counted in bytes: from its first field up to the end of its
 /// line.
@@ -41,6 +42,21 @@ pub struct Records<'a, R> {
     span: Span,
     format: Format<'a>,
     quotes: Quotes,
+    ahead: Ahead,
+    limit: usize,
+    is_outgrown: bool,
+}
+
+/// What was read behind lines without a byte which are rows, and are given before it.
+#[derive(Drop)]
+struct Ahead {
+    record: ByteRecord,
+    /// Where it lies; an empty span at the end of the input where there is no record.
+    span: Span,
+    is_found: bool,
+    is_outgrown: bool,
+    /// Whether it is yet to be given.
+    is_held: bool,
 }
 
 /// Why a read failed. A call of its own, so that the call that reads a row keeps no stack for
@@ -54,9 +70,21 @@ fn read_error(error: Error) -> ReadError {
     }
 }
 
-/// The bytes without a byte order mark before them.
-fn without_mark(bytes: &[u8]) -> &[u8] {
-    bytes.strip_prefix(b"\xEF\xBB\xBF").unwrap_or(bytes)
+/// Whether a field of a record is longer than a limit.
+#[inline(always)]
+fn is_outgrown(record: &ByteRecord, limit: usize) -> bool {
+    record.as_slice().len() > limit && has_longer(record, limit)
+}
+
+#[cold]
+#[inline(never)]
+fn has_longer(record: &ByteRecord, limit: usize) -> bool {
+    for place in 0..record.len() {
+        if record.get(place).is_some_and(|field| field.len() > limit) {
+            return true;
+        }
+    }
+    false
 }
 
 /// Whether a field is that text.
@@ -124,33 +152,111 @@ fn add_fields(
 }
 
 impl<'a, R: Read> Records<'a, R> {
-    /// The records of a reader. Nothing is read yet.
-    pub fn new(alloc: Global, format: Format<'a>, reader: R) -> Records<'a, R> {
+    /// The records of a reader, whose fields have so many bytes at most. Nothing is read yet.
+    pub fn new(alloc: Global, format: Format<'a>, limit: usize, reader: R) -> Records<'a, R> {
         let reader = ReaderBuilder::new()
             .delimiter(format.delimiter)
             .has_headers(false)
             .flexible(true)
-            .from_reader(alloc, Tee::new(alloc, reader));
+            .from_reader(alloc, Tee::new(alloc, reader, format.delimiter, limit));
         Records {
             reader,
             last: ByteRecord::new(alloc),
             span: Span { start: 0, end: 0 },
             format,
             quotes: Quotes::new(alloc),
+            ahead: Ahead {
+                record: ByteRecord::new(alloc),
+                span: Span { start: 0, end: 0 },
+                is_found: false,
+                is_outgrown: false,
+                is_held: false,
+            },
+            limit,
+            is_outgrown: false,
         }
     }
 
-    /// Reads the next record; answers whether there was one.
+    /// Reads the next record, or the next line without a byte where that is one; answers whether
+    /// there was one.
     pub fn read(&mut self) -> Result<bool, ReadError> {
-        let start = self.reader.position().byte;
-        let found = match self.reader.read_byte_record(&mut self.last) {
-            Ok(found) => found,
-            Err(error) => return Err(read_error(error)),
-        };
-        if found {
-            self.span = self.span_of(start, self.reader.position().byte);
+        if self.format.blank_rows {
+            self.read_with_blank_lines()
+        } else {
+            self.read_record()
         }
-        Ok(found)
+    }
+
+    /// Reads what stands behind the lines without a byte, where nothing is held.
+    fn read_ahead(&mut self) -> Result<(), ReadError> {
+        if self.ahead.is_held {
+            return Ok(());
+        }
+        let given = self.span;
+        let found = self.read_record()?;
+        let end = self.reader.position().byte;
+        mem::swap(&mut self.last, &mut self.ahead.record);
+        self.ahead.span = if found {
+            self.span
+        } else {
+            Span { start: end, end }
+        };
+        self.ahead.is_found = found;
+        self.ahead.is_outgrown = self.is_outgrown;
+        self.ahead.is_held = true;
+        self.span = given;
+        self.is_outgrown = false;
+        Ok(())
+    }
+
+    /// Gives the next line without a byte, or else the record behind such lines.
+    fn read_with_blank_lines(&mut self) -> Result<bool, ReadError> {
+        self.read_ahead()?;
+        let place = self.reader.get_ref().behind_mark(self.span.end);
+        if place < self.ahead.span.start {
+            return self.give_blank(place);
+        }
+        mem::swap(&mut self.last, &mut self.ahead.record);
+        self.span = self.ahead.span;
+        self.is_outgrown = self.ahead.is_outgrown;
+        self.ahead.is_held = false;
+        Ok(self.ahead.is_found)
+    }
+
+    /// Gives the line without a byte that lies there, as a record of one empty field.
+    fn give_blank(&mut self, place: u64) -> Result<bool, ReadError> {
+        let tee = self.reader.get_ref();
+        let next = place.saturating_add(1);
+        let is_pair = tee.byte_at(place) == Some(b'\r') && tee.byte_at(next) == Some(b'\n');
+        self.span = Span {
+            start: place,
+            end: next.saturating_add(u64::from(is_pair)),
+        };
+        self.last.clear();
+        if self.last.push_field(&[]).is_err() {
+            return Err(ReadError::OutOfMemory);
+        }
+        Ok(true)
+    }
+
+    /// Reads the next record behind lines without a byte; answers whether there was one. One of
+    /// which a field is too long is not read to its end.
+    pub fn read_record(&mut self) -> Result<bool, ReadError> {
+        let start = self.reader.position().byte;
+        self.reader.get_ref().begin_record(start);
+        match self.reader.read_byte_record(&mut self.last) {
+            Ok(false) => return Ok(false),
+            Ok(true) => self.is_outgrown = is_outgrown(&self.last, self.limit),
+            Err(_) if self.reader.get_ref().is_outgrown() => self.is_outgrown = true,
+            Err(error) => return Err(read_error(error)),
+        }
+        self.span = self.span_of(start, self.reader.position().byte);
+        Ok(true)
+    }
+
+    /// Whether a field of the last record is too long: the record is no row.
+    pub fn is_outgrown(&self) -> bool {
+        self.is_outgrown
     }
 
     /// Where a record lies that was read between two places: behind a byte order mark and the ends
@@ -193,9 +299,12 @@ impl<'a, R: Read> Records<'a, R> {
         self.reader.get_ref().between(span.start, span.end)
     }
 
-    /// The records that are read from here on are kept, and none before them.
-    pub fn keep_from_here(&self) {
-        self.reader.get_ref().keep_from(self.reader.position().byte);
+    /// The records that are given from here on are kept, and none before them. Answers where they
+    /// begin in the input, counted in bytes.
+    pub fn keep_from_here(&self) -> u64 {
+        let place = self.reader.position().byte.min(self.span.end);
+        self.reader.get_ref().keep_from(place);
+        place
     }
 
     /// Whether the last record ends within quotes: it then is the input's last, and no read behind

@@ -1,12 +1,15 @@
 //! A reader that keeps what was read.
 ghost use Rattle.std.specs.Io.{ReadsAtMost};
 
+use crate::growth::Growth;
+use crate::raw::MARK;
 use std::alloc::Global;
 use std::cell::Cell;
-use std::io::{self, Read};
+use std::io::{self, ErrorKind, Read};
 
 /// A reader over another, which keeps the bytes that it gave from a place of the input on. Where it
-/// gives more than one byte, it gives a carriage return together with what stands behind it.
+/// gives more than one byte, it gives a carriage return together with what stands behind it. It
+/// fails where the record that is being read has a field that is longer than a limit.
 #[derive(Drop)]
 pub struct Tee<R> {
     inner: R,
@@ -15,14 +18,19 @@ pub struct Tee<R> {
     wanted: Cell<u64>,
     ended: bool,
     held: bool,
+    delimiter: u8,
+    limit: usize,
+    record: Cell<u64>,
+    growth: Growth,
+    outgrown: bool,
 }
 
 impl<R: Read> Tee<R> {
     ghost use Rattle.std.specs.Prelude.{◌≡◌};
     ghost use Rattle.rowfn_csv.specs.KeptLines.{bytes_between};
 
-    /// Nothing is read yet; takes no memory.
-    pub fn new(alloc: Global, inner: R) -> Tee<R> {
+    /// Nothing is read yet; takes no memory. `limit` is the greatest length of a field.
+    pub fn new(alloc: Global, inner: R, delimiter: u8, limit: usize) -> Tee<R> {
         Tee {
             inner,
             kept: Vec::new(alloc),
@@ -30,7 +38,23 @@ impl<R: Read> Tee<R> {
             wanted: Cell::new(0),
             ended: false,
             held: false,
+            delimiter,
+            limit,
+            record: Cell::new(0),
+            growth: Growth::from(0),
+            outgrown: false,
         }
+    }
+
+    /// A record is read next, which begins at this place or behind the ends of lines there.
+    pub fn begin_record(&self, place: u64) {
+        self.record.set(place);
+    }
+
+    /// Whether a field of the record that was being read is longer than the limit: no read goes on
+    /// behind it.
+    pub fn is_outgrown(&self) -> bool {
+        self.outgrown
     }
 
     /// From here on nothing is asked for that lies before this place, counted in bytes of the
@@ -61,6 +85,15 @@ impl<R: Read> Tee<R> {
         self.kept.as_slice().get(index as usize).copied()
     }
 
+    /// The place behind a byte order mark, where that is one's; else the same.
+    pub fn behind_mark(&self, place: u64) -> u64 {
+        if place == 0 && self.kept.as_slice().starts_with(MARK) {
+            MARK.len() as u64
+        } else {
+            place
+        }
+    }
+
     /// Drops what nobody asks for again.
     fn forget(&mut self) {
         let passed = self.wanted.get().saturating_sub(self.first);
@@ -76,6 +109,35 @@ impl<R: Read> Tee<R> {
 }
 
 impl<R: Read> Tee<R> {
+    /// Whether a field of the record that is being read is longer than the limit. Goes over the
+    /// record's bytes only where they are more than that, and over each once.
+    fn outgrows(&mut self) -> bool {
+        let end = self.first.saturating_add(self.kept.len() as u64);
+        let start = self.record.get();
+        if end.saturating_sub(start) <= self.limit as u64 {
+            return false;
+        }
+        if self.growth.seen() <= start {
+            self.growth = Growth::from(self.behind_mark(start));
+        }
+        let from = self.growth.seen().saturating_sub(self.first) as usize;
+        self.growth
+            .outgrows(&self.kept, from, self.delimiter, self.limit)
+    }
+
+    /// Reads, once more where a signal interrupts it.
+    fn read_inner(&mut self, buf: &mut [u8]) -> io::Result<usize>
+        ensures { ReadsAtMost result buf.new }
+    {
+        for _ in 0..u64::MAX {
+            match self.inner.read(buf) {
+                Err(error) if error.kind() == ErrorKind::Interrupted => {}
+                outcome => return outcome,
+            }
+        }
+        Err(io::Error::from(ErrorKind::Interrupted))
+    }
+
     /// Writes a carriage return that was held back before what is read next; answers how many bytes
     /// that is.
     fn give_held(&mut self, buf: &mut [u8]) -> usize {
@@ -96,7 +158,7 @@ impl<R: Read> Tee<R> {
         if count >= buf.len() {
             return Ok(buf.len());
         }
-        let more = self.inner.read(&mut buf[count..])?;
+        let more = self.read_inner(&mut buf[count..])?;
         if more == 0 {
             self.ended = true;
         }
@@ -119,6 +181,10 @@ impl<R: Read> Tee<R> {
 impl<R: Read> Read for Tee<R> {
     fn read(&mut self, buf: &mut [u8]) -> io::Result<usize> {
         self.forget();
+        if self.outgrows() {
+            self.outgrown = true;
+            return Err(io::Error::from(ErrorKind::FileTooLarge));
+        }
         let mut count = self.read_whole(buf)?;
         if count > 1 && !self.ended && buf[count - 1] == b'\r' {
             self.held = true;

@@ -53,14 +53,46 @@ fn null<'a>(alloc: Global) -> Result<Arg<'a>, Error> {
     )
 }
 
+fn blank_lines<'a>(alloc: Global) -> Result<Arg<'a>, Error> {
+    Ok(
+        Arg::new(alloc, "blank-lines")
+            .long("blank-lines")
+            .value_name("null|skip")
+            .default_value("skip")
+            .help("What a line without a byte is: a row of one null, or nothing"),
+    )
+}
+
 fn batch<'a>(alloc: Global) -> Result<Arg<'a>, Error> {
     Ok(
         Arg::new(alloc, "batch")
             .long("batch")
             .value_name("N")
             .value_parser(value_parser!(u32).range(1..))
-            .default_value("8192")
-            .help("How many rows are read, answered and written together"),
+            .default_value("2048")
+            .help("How many rows are read, answered and written together, at most"),
+    )
+}
+
+fn batch_bytes<'a>(alloc: Global) -> Result<Arg<'a>, Error> {
+    Ok(
+        Arg::new(alloc, "batch-bytes")
+            .long("batch-bytes")
+            .value_name("N")
+            .value_parser(value_parser!(u64).range(1..))
+            .default_value("1048576")
+            .help("With how many bytes of the input those rows are enough"),
+    )
+}
+
+fn max_field<'a>(alloc: Global) -> Result<Arg<'a>, Error> {
+    Ok(
+        Arg::new(alloc, "max-field")
+            .long("max-field")
+            .value_name("N")
+            .value_parser(value_parser!(u64).range(1..))
+            .default_value("268435456")
+            .help("How many bytes a field has, at most"),
     )
 }
 
@@ -123,7 +155,10 @@ pub fn command<'a>(alloc: Global) -> Result<Command<'a>, Error> {
     let command = with(command, header(alloc))?;
     let command = with(command, no_header(alloc))?;
     let command = with(command, null(alloc))?;
+    let command = with(command, blank_lines(alloc))?;
     let command = with(command, batch(alloc))?;
+    let command = with(command, batch_bytes(alloc))?;
+    let command = with(command, max_field(alloc))?;
     let command = with(command, picks(alloc))?;
     let command = with(command, explain(alloc))?;
     let command = with(command, summary(alloc))?;

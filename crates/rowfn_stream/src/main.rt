@@ -1,9 +1,11 @@
 //! Rows of CSV that flow from standard input through an expression to standard output.
 #![tactic(auto)]
 
-use rowfn_batches::{Format, Settings, StreamError, Summary, explain, flow, top_alone};
+use rowfn_batches::{
+    Format, Settings, StreamError, Summary, check_names, explain, flow, read_told, top_alone,
+};
 use rowfn_options::{Action, Options, Source, read_options, status};
-use rowfn_scripts::{Expression, read_expression};
+use rowfn_scripts::Expression;
 use std::alloc::Global;
 use std::process::ExitCode;
 use std::rt::{Env, Files};
@@ -60,9 +62,12 @@ fn pass_rows(
         format: Format {
             delimiter: options.delimiter,
             null: options.null.as_bytes(),
+            blank_rows: options.blank_rows,
         },
         header: options.header,
         batch: options.batch as usize,
+        batch_bytes: options.batch_bytes,
+        max_field: options.max_field as usize,
         picks_rows: options.action == Action::Pick,
     };
     let mut out = io::writer(rt);
@@ -82,9 +87,12 @@ fn perform(
     options: &Options<'_>,
 ) -> Result<(), StreamError> {
     let text = expression_text(rt, &options.source)?;
-    let expression = read_expression(rt.alloc(), &text)?;
+    let expression = read_told(rt.alloc(), &text)?;
     match options.action {
-        Action::Explain => print_expression(rt, &expression),
+        Action::Explain => {
+            check_names(rt.alloc(), &expression)?;
+            print_expression(rt, &expression)
+        }
         Action::Answer => pass_rows(rt, options, &expression),
         Action::Pick => pass_rows(rt, options, &top_alone(rt.alloc(), expression)?),
     }

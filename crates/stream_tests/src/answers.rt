@@ -4,7 +4,9 @@ use crate::cases::{Case, counts, gives, headless, plain};
 
 const SUM: &str = "col a i64\ncol b i64\nget a\nget b\ncall +\nas sum\n";
 
-const TEXT: &str = "col t utf8?\nget t\nas t\n";
+const TEXT: &str = "col t utf8\nget t\nas t\n";
+
+const NULLABLE: &str = "col t utf8?\nget t\nas t\n";
 
 const NUMBER: &str = "col n i32?\nget n\nas n\n";
 
@@ -92,7 +94,7 @@ fn null_is_the_empty_field_without_quotes(rt: HostRuntime) {
 fn null_may_be_another_text(rt: HostRuntime) {
     let na = Case {
         null: "NA",
-        ..plain(TEXT, "t\nNA\n\"NA\"\n\"\"\nNAN\n")
+        ..plain(NULLABLE, "t\nNA\n\"NA\"\n\"\"\nNAN\n")
     };
     assert!(rt; gives(rt, na, "t\nNA\n\"NA\"\n\"\"\nNAN\n"));
     let zero = Case {
@@ -100,6 +102,39 @@ fn null_may_be_another_text(rt: HostRuntime) {
         ..plain(NUMBER, "n\n0\n1\n00\n\"0\"\n")
     };
     assert!(rt; gives(rt, zero, "n\n0\n1\n\"0\"\n\"0\"\n"));
+}
+
+/// A case in which lines without a byte are rows.
+fn blank<'a>(expression: &'a str, input: &'a str) -> Case<'a> {
+    Case {
+        blank_rows: true,
+        ..plain(expression, input)
+    }
+}
+
+#[test]
+fn lines_without_a_byte_may_be_rows(rt: HostRuntime) {
+    assert!(rt; gives(rt, blank(NULLABLE, "t\na\n\n\nb\n\n"), "t\na\n\n\nb\n\n"));
+    assert!(rt;
+        gives(
+            rt,
+            blank(NULLABLE, "\n\r\nt\r\n\r\na\r\n\r\n"),
+            "t\n\na\n\n"
+        )
+    );
+    assert!(rt; gives(rt, blank(NULLABLE, "t\ra\r\r\"\"\rb"), "t\na\n\n\"\"\nb\n"));
+    assert!(rt; gives(rt, blank(NULLABLE, "t\n"), "t\n"));
+    let headless = Case {
+        header: false,
+        ..blank(NULLABLE, "\u{feff}\n\na\n")
+    };
+    assert!(rt; gives(rt, headless, "\n\na\n"));
+    let only = Case {
+        header: false,
+        ..blank(NULLABLE, "\n")
+    };
+    assert!(rt; gives(rt, only, "\n"));
+    assert!(rt; gives(rt, plain(SUM, "a,b\n1,2\n\n3,4\n"), "sum\n3\n7\n"));
 }
 
 #[test]

@@ -2,8 +2,7 @@
 
 use crate::pipes::{Drips, Sink};
 use fixtures::{same, same_text};
-use rowfn_batches::{Format, Settings, StreamError, Summary, flow, top_alone};
-use rowfn_scripts::read_expression;
+use rowfn_batches::{Format, Settings, StreamError, Summary, flow, read_told, top_alone};
 use std::alloc::Global;
 
 /// An expression, an input, and how it is read.
@@ -14,7 +13,9 @@ pub struct Case<'a> {
     pub header: bool,
     pub delimiter: u8,
     pub null: &'a str,
+    pub blank_rows: bool,
     pub picks_rows: bool,
+    pub max_field: usize,
     /// Whether reading fails behind the input.
     pub fails: bool,
     /// How many bytes the output takes.
@@ -29,7 +30,9 @@ pub fn plain<'a>(expression: &'a str, input: &'a str) -> Case<'a> {
         header: true,
         delimiter: b',',
         null: "",
+        blank_rows: false,
         picks_rows: false,
+        max_field: usize::MAX,
         fails: false,
         limit: usize::MAX,
     }
@@ -51,10 +54,11 @@ pub fn headless<'a>(expression: &'a str, input: &'a str) -> Case<'a> {
     }
 }
 
-fn run_case(
+/// Runs a stream by batches of so many rows, or so many bytes of them, and reads of so many bytes.
+pub fn run_case(
     alloc: Global,
     case: &Case<'_>,
-    batch: usize,
+    batch: (usize, u64),
     step: usize,
     sink: &mut Sink,
 ) -> Result<Summary, StreamError> {
@@ -62,12 +66,15 @@ fn run_case(
         format: Format {
             delimiter: case.delimiter,
             null: case.null.as_bytes(),
+            blank_rows: case.blank_rows,
         },
         header: case.header,
-        batch,
+        batch: batch.0,
+        batch_bytes: batch.1,
+        max_field: case.max_field,
         picks_rows: case.picks_rows,
     };
-    let expression = read_expression(alloc, case.expression.as_bytes())?;
+    let expression = read_told(alloc, case.expression.as_bytes())?;
     let expression = if case.picks_rows {
         top_alone(alloc, expression)?
     } else {
@@ -76,6 +83,7 @@ fn run_case(
     let reader = Drips {
         text: case.input,
         step,
+        interrupted: false,
         fails: case.fails,
     };
     flow(alloc, &settings, &expression, reader, sink)
@@ -85,7 +93,7 @@ fn run_case(
 fn ends_once(
     rt: HostRuntime,
     case: &Case<'_>,
-    batch: usize,
+    batch: (usize, u64),
     step: usize,
     wanted: (&str, u8, &str),
 ) -> bool {
@@ -113,7 +121,14 @@ fn ends_once(
 
 /// Whether a stream ends so, whatever the batches and the reads.
 pub fn ends(rt: HostRuntime, case: Case<'_>, output: &str, status: u8, told: &str) -> bool {
-    for batch in [1, 2, 7, 8192] {
+    for batch in [
+        (1, 1000),
+        (2, 1000),
+        (7, 1000),
+        (8192, 1),
+        (8192, 6),
+        (8192, 1 << 20),
+    ] {
         for step in [1, 2, 5, 8192] {
             if !ends_once(rt, &case, batch, step, (output, status, told)) {
                 return false;
@@ -135,7 +150,7 @@ pub fn counts(rt: HostRuntime, case: Case<'_>, rows_read: u64, rows_written: u64
         taken: Vec::new(alloc),
         limit: case.limit,
     };
-    match run_case(alloc, &case, 2, 3, &mut sink) {
+    match run_case(alloc, &case, (2, 1000), 3, &mut sink) {
         Ok(summary) => {
             let counts = (summary.rows_read, summary.rows_written);
             same(rt, counts, (rows_read, rows_written))

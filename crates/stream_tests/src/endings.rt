@@ -1,6 +1,7 @@
 //! How streams end that are not read to the end.
 
 use crate::cases::{Case, ends, headless, pick, plain};
+use std::alloc::{AllocError, Global};
 
 const SUM: &str = "col a i8\ncol b i8\nget a\nget b\ncall +\nas sum\n";
 
@@ -115,6 +116,75 @@ fn a_quote_that_is_not_closed_is_told(rt: HostRuntime) {
     assert!(rt; ends(rt, plain(SUM, "a,b\n1\",2"), "sum\n", 2, told));
 }
 
+/// A case whose fields have 8 bytes at most, and whose reader fails behind the input.
+fn narrow<'a>(expression: &'a str, input: &'a str) -> Case<'a> {
+    Case {
+        max_field: 8,
+        fails: true,
+        ..plain(expression, input)
+    }
+}
+
+#[test]
+fn a_field_that_is_too_long_is_told(rt: HostRuntime) {
+    let told = "row 2: a field has more bytes than the 8 of --max-field";
+    assert!(rt;
+        ends(
+            rt,
+            narrow(TEXT, "t\n12345678\n123456789\n"),
+            "t\n12345678\n",
+            2,
+            told
+        )
+    );
+    let input = "t\n\"123,\n\"\"78\"\n\"1234567890";
+    assert!(rt; ends(rt, narrow(TEXT, input), "t\n\"123,\n\"\"78\"\n", 2, told));
+    let input = "t,u\n1,12345678\n2,123456789,1\n";
+    assert!(rt; ends(rt, narrow(TEXT, input), "t\n1\n", 2, told));
+    let many = "t,u,v\n1,12345678,12345678\n2,\"12345\"678,1\n";
+    assert!(rt;
+        ends(
+            rt,
+            narrow(TEXT, many),
+            "t\n1\n2\n",
+            3,
+            "reading: connection reset"
+        )
+    );
+    let told = "header: a field has more bytes than the 8 of --max-field";
+    assert!(rt; ends(rt, narrow(TEXT, "t,\"123456789\n"), "", 2, told));
+}
+
+/// A text of so many letters.
+fn repeated(alloc: Global, letter: &str, count: usize) -> Result<String, AllocError> {
+    let mut text = String::new(alloc);
+    for _ in 0..count {
+        text.push_str(letter)?;
+    }
+    Ok(text)
+}
+
+/// Whether a text of so many letters is told so.
+fn tells_beginning(rt: HostRuntime, letter: &str, count: usize, told: &str) -> bool {
+    let alloc = rt.alloc();
+    let (Ok(text), Ok(shown)) = (repeated(alloc, letter, count), repeated(alloc, letter, 80)) else {
+        return false;
+    };
+    let input = format!(in alloc; "a,b\n1,{text}\n");
+    let told = format!(in alloc; "row 1, column b: \"{shown}\"{told} is no i8");
+    match (input, told) {
+        (Ok(input), Ok(told)) => ends(rt, plain(SUM, input.as_str()), "sum\n", 2, told.as_str()),
+        _ => false,
+    }
+}
+
+#[test]
+fn of_a_long_field_the_beginning_is_told(rt: HostRuntime) {
+    assert!(rt; tells_beginning(rt, "x", 80, ""));
+    assert!(rt; tells_beginning(rt, "x", 81, ".."));
+    assert!(rt; tells_beginning(rt, "π", 200, ".."));
+}
+
 #[test]
 fn reading_and_writing_may_fail(rt: HostRuntime) {
     let cut = Case {
@@ -134,10 +204,84 @@ fn a_wrong_expression_is_told_by_its_line(rt: HostRuntime) {
     let types = "col a i8\n\nget a\nlit bool true\ncall +\n";
     let told = "line 5: E3 TypeMismatch.Arithmetic";
     assert!(rt; ends(rt, plain(types, "a\n1\n"), "", 4, told));
-    let unknown = "col a i8\nget b\n";
-    let told = "line 2: E11 ScopeMismatch";
-    assert!(rt; ends(rt, plain(unknown, "a\n1\n"), "", 4, told));
+    let malformed = "col a i8\nget\n";
+    let told = "line 2: expected get and the name of a column";
+    assert!(rt; ends(rt, plain(malformed, "a\n1\n"), "", 4, told));
     let number = "col a i8\nget a\nas n\n";
     let told = "--where: n is no truth value";
     assert!(rt; ends(rt, pick(number, "a\n1\n"), "", 4, told));
+}
+
+#[test]
+fn an_unknown_column_is_told_with_one_that_is_near(rt: HostRuntime) {
+    let near = "col price i8\ncol id i8\n\nget idd\n";
+    let told = "line 4: no column idd is declared; is id meant?";
+    assert!(rt; ends(rt, plain(near, "id\n1\n"), "", 4, told));
+    let near = "col price i8\ncol id i8\nget prcie\n";
+    let told = "line 3: no column prcie is declared; is price meant?";
+    assert!(rt; ends(rt, plain(near, "id\n1\n"), "", 4, told));
+    let told = "line 2: no column other is declared";
+    assert!(rt; ends(rt, plain("col id i8\nget other\n", "id\n1\n"), "", 4, told));
+    let told = "line 2: no column x is declared";
+    assert!(rt; ends(rt, plain("col y i8\nget x\n", "y\n1\n"), "", 4, told));
+}
+
+#[test]
+fn too_few_trees_are_told_by_their_count(rt: HostRuntime) {
+    let told = "line 3: call + takes 2 trees, not 1";
+    assert!(rt;
+        ends(
+            rt,
+            plain("col a i8\nget a\ncall +\n", "a\n1\n"),
+            "",
+            4,
+            told
+        )
+    );
+    let told = "line 1: call between takes 3 trees, not 0";
+    assert!(rt; ends(rt, plain("call between <= <\n", "a\n1\n"), "", 4, told));
+    let told = "line 2: expected call and a function, behind as many trees as it takes";
+    assert!(rt; ends(rt, plain("lit i8 1\ncall xor\n", "a\n1\n"), "", 4, told));
+}
+
+#[test]
+fn a_row_that_would_be_lost_is_told(rt: HostRuntime) {
+    let nullable = "col n i32?\nget n\nas n\n";
+    let told = "the only answer, n, may be null, an empty line: \
+                expected --null TEXT or --blank-lines null";
+    assert!(rt; ends(rt, plain(nullable, "n\n1\n"), "", 4, told));
+    assert!(rt; ends(rt, headless(nullable, "1\n"), "", 4, told));
+    let named = Case {
+        null: "NA",
+        ..plain(nullable, "n\n1\nNA\n")
+    };
+    assert!(rt; ends(rt, named, "n\n1\nNA\n", 0, ""));
+    let two = "col n i32?\nget n\nas n\nlit i8 1\nas one\n";
+    assert!(rt; ends(rt, plain(two, "n,m\n1,2\n,3\n"), "n,one\n1,1\n,1\n", 0, ""));
+}
+
+#[test]
+fn a_line_without_a_byte_is_one_field(rt: HostRuntime) {
+    let blank = Case {
+        blank_rows: true,
+        ..plain(SUM, "a,b\n1,2\n\n3,4\n")
+    };
+    let told = "row 2: 1 fields where 2 are wanted";
+    assert!(rt; ends(rt, blank, "sum\n3\n", 2, told));
+    let text = Case {
+        blank_rows: true,
+        ..plain(TEXT, "t\na\n\n")
+    };
+    assert!(rt; ends(rt, text, "t\na\n", 2, "row 2, column t: null is no utf8"));
+}
+
+#[test]
+fn two_answers_of_one_name_are_told(rt: HostRuntime) {
+    let named = "col a i8\nget a\nas x\nget a\nas y\nlit i8 1\nas x\n";
+    let told = "two answers are named x: expected another name for one, by as";
+    assert!(rt; ends(rt, plain(named, "a\n1\n"), "", 4, told));
+    let unnamed = "col a bool\nget a\nget a\n";
+    let told = "two answers are named $.a: expected another name for one, by as";
+    assert!(rt; ends(rt, headless(unnamed, "true\n"), "", 4, told));
+    assert!(rt; ends(rt, pick(unnamed, "a\ntrue\nfalse\n"), "a\ntrue\n", 0, ""));
 }

@@ -23,4 +23,6 @@ mod picks;
 #[cfg(test)]
 mod pipes;
 #[cfg(test)]
+mod reading_back;
+#[cfg(test)]
 mod transcript;

@@ -20,12 +20,21 @@ fn described(alloc: Global, options: &Options<'_>) -> Result<String, AllocError>
         delimiter,
         header,
         null,
+        blank_rows,
         batch,
+        batch_bytes,
+        max_field,
         action,
         summary,
         source,
     } = options;
     let mut text = format!(in alloc; "{delimiter} {header} '{null}' {batch} {action:?} {summary}")?;
+    if *blank_rows {
+        text.push_str(" blank rows")?;
+    }
+    if (*batch_bytes, *max_field) != (1048576, 268435456) {
+        text.push_str(format!(in alloc; " {batch_bytes} {max_field}")?.as_str())?;
+    }
     match source {
         Source::File(name) => {
             text.push_str(" file ")?;
@@ -74,10 +83,10 @@ fn the_expression_stands_in_a_file_or_in_words(rt: HostRuntime) {
         says(
             rt,
             "p sum.rows",
-            "44 true '' 8192 Answer false file sum.rows"
+            "44 true '' 2048 Answer false file sum.rows"
         )
     );
-    let told = "44 true '' 8192 Answer false line get a line get b";
+    let told = "44 true '' 2048 Answer false line get a line get b";
     assert!(rt; says(rt, "p -e get|a -e get|b", told));
     assert!(rt; is_refused(rt, "p", ErrorKind::MissingRequiredArgument));
     assert!(rt; is_refused(rt, "p -e get|a sum.rows", ErrorKind::ArgumentConflict));
@@ -89,26 +98,26 @@ fn fields_are_told(rt: HostRuntime) {
         says(
             rt,
             "p --delimiter ; f",
-            "59 true '' 8192 Answer false file f"
+            "59 true '' 2048 Answer false file f"
         )
     );
     assert!(rt;
         says(
             rt,
             "p --delimiter \\t f",
-            "9 true '' 8192 Answer false file f"
+            "9 true '' 2048 Answer false file f"
         )
     );
     assert!(rt;
         says(
             rt,
             "p --no-header f",
-            "44 false '' 8192 Answer false file f"
+            "44 false '' 2048 Answer false file f"
         )
     );
-    assert!(rt; says(rt, "p --header f", "44 true '' 8192 Answer false file f"));
-    assert!(rt; says(rt, "p --null NA f", "44 true 'NA' 8192 Answer false file f"));
-    assert!(rt; says(rt, "p --null= f", "44 true '' 8192 Answer false file f"));
+    assert!(rt; says(rt, "p --header f", "44 true '' 2048 Answer false file f"));
+    assert!(rt; says(rt, "p --null NA f", "44 true 'NA' 2048 Answer false file f"));
+    assert!(rt; says(rt, "p --null= f", "44 true '' 2048 Answer false file f"));
     assert!(rt; is_refused(rt, "p --delimiter ;; f", ErrorKind::InvalidValue));
     assert!(rt; is_refused(rt, "p --delimiter \" f", ErrorKind::InvalidValue));
     assert!(rt; is_refused(rt, "p --delimiter π f", ErrorKind::InvalidValue));
@@ -121,8 +130,18 @@ fn a_text_for_null_stands_bare(rt: HostRuntime) {
     assert!(rt; is_refused(rt, "p --null a;b --delimiter ; f", ErrorKind::InvalidValue));
     assert!(rt; is_refused(rt, "p --null \" f", ErrorKind::InvalidValue));
     assert!(rt; is_refused(rt, "p --null a\nb f", ErrorKind::InvalidValue));
-    let told = "59 true 'a,b' 8192 Answer false file f";
+    assert!(rt; is_refused(rt, "p --null \u{feff} f", ErrorKind::InvalidValue));
+    let told = "59 true 'a,b' 2048 Answer false file f";
     assert!(rt; says(rt, "p --null a,b --delimiter ; f", told));
+}
+
+#[test]
+fn lines_without_a_byte_are_told(rt: HostRuntime) {
+    let told = "44 true '' 2048 Answer false blank rows file f";
+    assert!(rt; says(rt, "p --blank-lines null f", told));
+    let told = "44 true '' 2048 Answer false file f";
+    assert!(rt; says(rt, "p --blank-lines skip f", told));
+    assert!(rt; is_refused(rt, "p --blank-lines none f", ErrorKind::InvalidValue));
 }
 
 /// The status with which such words end the program; 0 where they give options.
@@ -148,12 +167,18 @@ fn wrong_words_have_a_status_of_their_own(rt: HostRuntime) {
 
 #[test]
 fn what_is_done_is_told(rt: HostRuntime) {
-    assert!(rt; says(rt, "p --where f", "44 true '' 8192 Pick false file f"));
-    assert!(rt; says(rt, "p --explain f", "44 true '' 8192 Explain false file f"));
-    assert!(rt; says(rt, "p --summary f", "44 true '' 8192 Answer true file f"));
+    assert!(rt; says(rt, "p --where f", "44 true '' 2048 Pick false file f"));
+    assert!(rt; says(rt, "p --explain f", "44 true '' 2048 Explain false file f"));
+    assert!(rt; says(rt, "p --summary f", "44 true '' 2048 Answer true file f"));
     assert!(rt; says(rt, "p --batch 7 f", "44 true '' 7 Answer false file f"));
     assert!(rt; is_refused(rt, "p --batch 0 f", ErrorKind::ValueValidation));
     assert!(rt; is_refused(rt, "p --batch x f", ErrorKind::ValueValidation));
+    let told = "44 true '' 2048 Answer false 7 268435456 file f";
+    assert!(rt; says(rt, "p --batch-bytes 7 f", told));
+    let told = "44 true '' 2048 Answer false 1048576 9 file f";
+    assert!(rt; says(rt, "p --max-field 9 f", told));
+    assert!(rt; is_refused(rt, "p --batch-bytes 0 f", ErrorKind::ValueValidation));
+    assert!(rt; is_refused(rt, "p --max-field 0 f", ErrorKind::ValueValidation));
     assert!(rt; is_refused(rt, "p --where --explain f", ErrorKind::ArgumentConflict));
     assert!(rt; is_refused(rt, "p --other f", ErrorKind::UnknownArgument));
     assert!(rt; is_refused(rt, "p --help", ErrorKind::DisplayHelp));

@@ -42,6 +42,18 @@ fn ends_of_lines_go_with_their_rows(rt: HostRuntime) {
 }
 
 #[test]
+fn lines_without_a_byte_are_picked(rt: HostRuntime) {
+    let missing = Case {
+        blank_rows: true,
+        ..pick(
+            "col a i64?\nget a\ncall is_null\n",
+            "a\r\n1\r\n\r\n2\r\n\r\n\r\n",
+        )
+    };
+    assert!(rt; gives(rt, missing, "a\r\n\r\n\r\n\r\n"));
+}
+
+#[test]
 fn rows_before_an_error_are_picked(rt: HostRuntime) {
     let input = "a\r\n1\r\n2\r\nx\r\n3\r\n";
     let told = "row 3, column a: \"x\" is no i64?";

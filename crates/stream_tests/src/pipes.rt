@@ -2,16 +2,23 @@
 
 use std::io::{self, Read, Write};
 
-/// Gives a text by at most so many bytes, and then its end or a failure.
+/// Gives a text by at most so many bytes, and then its end or a failure. Each read is interrupted
+/// once before it gives anything.
 #[derive(Drop)]
 pub struct Drips<'a> {
     pub text: &'a [u8],
     pub step: usize,
+    /// Whether the read that comes was interrupted.
+    pub interrupted: bool,
     pub fails: bool,
 }
 
 impl Read for Drips<'_> {
     fn read(&mut self, buf: &mut [u8]) -> io::Result<usize> {
+        self.interrupted = !self.interrupted;
+        if self.interrupted {
+            return Err(io::Error::from(io::ErrorKind::Interrupted));
+        }
         let count = self.step.min(self.text.len()).min(buf.len());
         if self.text.is_empty() && self.fails {
             return Err(io::Error::from(io::ErrorKind::ConnectionReset));

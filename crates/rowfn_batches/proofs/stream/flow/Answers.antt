@@ -4,14 +4,14 @@ use Rattle.rowfn_batches.specs.Passing.{none_yet, at_end, without_header, not_be
 use Rattle.rowfn_batches.proofs.Flowing.{has_begun, next_passed, next_ends}
 use Rattle.rowfn_batches.proofs.stream.flow.Goals as goal
 
-pub returns-in_err-stream : goal.returns-in_err-stream
-returns-in_err-stream g c =
+pub returns-in_err-stream-clause-flows : goal.returns-in_err-stream-clause-flows
+returns-in_err-stream-clause-flows g c =
     let p = err_from_is_err_and c.from_residual.result c.from_residual.ensures.1 in
     not_begun c.in_err-stream.field-0.0 (refl {a = g.W.Write.contents c.args.writer.now})
     (p.1 ∙ ap Err p.2)
 
-pub returns-in_err-write : goal.returns-in_err-write
-returns-in_err-write g c =
+pub returns-in_err-write-clause-flows : goal.returns-in_err-write-clause-flows
+returns-in_err-write-clause-flows g c =
     let p = err_from_is_err_and c.from_residual-in_err-write.result
     c.from_residual-in_err-write.ensures.1 in
     without_header c.in_err-write.field-0.0 c.in_err-write.ensures.refused (p.1 ∙ ap Err p.2)
@@ -25,8 +25,8 @@ batches-preserved g c =
     c.pass_next.new.self (g.W.Write.contents c.batches.writer)
     (g.W.Write.contents c.pass_next.new.writer) c.batches.invariant _ c.in_ok-goes_on.ensures
 
-pub returns-in_err-goes_on : goal.returns-in_err-goes_on
-returns-in_err-goes_on g c =
+pub returns-in_err-goes_on-clause-flows : goal.returns-in_err-goes_on-clause-flows
+returns-in_err-goes_on-clause-flows g c =
     let p = err_from_is_err_and c.from_residual-in_err-goes_on.result
     c.from_residual-in_err-goes_on.ensures.1 in
     let head = c.in_ok-stream.ensures in
@@ -41,8 +41,8 @@ returns-in_err-goes_on g c =
     head.expression head.none_read wrote.written wrote.kept wrote.cleared wrote.summary)
     c.in_err-goes_on.ensures (p.1 ∙ ap Err p.2)
 
-pub returns-then-not-goes_on : goal.returns-then-not-goes_on
-returns-then-not-goes_on g c =
+pub returns-then-not-goes_on-clause-flows : goal.returns-then-not-goes_on-clause-flows
+returns-then-not-goes_on-clause-flows g c =
     let head = c.in_ok-stream.ensures in
     let wrote = c.in_ok-write.ensures in
     at_end c.write.new.self c.pass_next.new.self (g.W.Write.contents c.write.new.writer)
@@ -54,8 +54,8 @@ returns-then-not-goes_on g c =
     (g.W.Write.contents c.pass_next.new.writer) c.batches.invariant _ c.in_ok-goes_on.ensures)
     refl
 
-pub returns : goal.returns
-returns g c =
+pub returns-clause-flows : goal.returns-clause-flows
+returns-clause-flows g c =
     let head = c.in_ok-stream.ensures in
     let wrote = c.in_ok-write.ensures in
     at_end c.write.new.self c.batches.stream (g.W.Write.contents c.write.new.writer)

@@ -1,0 +1,85 @@
+-- What is written of answers reads back.
+use Rattle.std.proofs.Common.{◌≡◌, ◌≢◌, ◌∙◌, ℕ, List, [], ◌∷◌, Bool, true, false, length, get_or, map}
+use Rattle.std.proofs.Common.{refl, sym, ap, ap₂, subst, arith, inr, if◌then◌else◌, Some, None}
+use Rattle.std.proofs.Common.{Result, Ok, Err}
+use Rattle.std.specs.Prelude.{MatchResult}
+use Rattle.vortex_types.specs.Values.{Value, is_null}
+use Rattle.vortex_columns.specs.ColumnView.{ColumnView, row}
+use Rattle.vortex_interface.specs.CallTexts.{joined}
+use Rattle.rowfn_scripts.specs.declared.expression.Answer.{Answer}
+use Rattle.rowfn_csv.specs.declared.format.Format.{Format}
+use Rattle.rowfn_csv.specs.Fields.{text_field}
+use Rattle.rowfn_csv.specs.RoundTrip.{cell_field, fields_line, SaysCells}
+use Rattle.rowfn_csv.proofs.RoundTrip.{cells_read_back}
+use Rattle.rowfn_batches.specs.Names.{names_of, AreApart}
+use Rattle.rowfn_batches.specs.Outputs.{row_fields, value_field}
+use Rattle.rowfn_batches.specs.Printing.{field_text}
+use Rattle.rowfn_batches.specs.ReadingBack.{may_be_lost, KeepsRows, RefusesRows, ReadsBack}
+use Rattle.rowfn_batches.specs.ReadingBack.{RefusesReadingBack, cell_of, row_cells, RowsReadBack}
+use Rattle.rowfn_batches.specs.declared.errors.StreamError.{StreamError}
+
+module _ (format : Format) (answers : List Answer) where
+  -- there are more answers than one, or none
+  pub keeps_others : length answers ≢ 1 → KeepsRows format answers
+  keeps_others h a e = absurd (h (ap length e))
+
+  pub only_one : (only : Answer) → length answers ≡ 1 → only ≡ get_or answers 0 only
+      → answers ≡ only ∷ []
+  only_one = of_one answers
+    where
+      of_one : (xs : List Answer) (only : Answer) → length xs ≡ 1 → only ≡ get_or xs 0 only
+          → xs ≡ only ∷ []
+      of_one [] only e is = absurd (omega (arith, e))
+      of_one (x ∷ []) only e is = ap (λ (y : Answer). y ∷ []) (sym is)
+      of_one (x ∷ y ∷ rest) only e is = absurd (omega (arith, e))
+
+  pub keeps_only : (only : Answer) → answers ≡ only ∷ [] → may_be_lost format only ≡ false
+      → KeepsRows format answers
+  keeps_only only is kept a e =
+      subst (λ (x : Answer). may_be_lost format x ≡ false)
+      (ap (λ (xs : List Answer). get_or xs 0 only) (sym is ∙ e)) kept
+
+  pub read_back : (picks : Bool) (lent : List Answer) (r : Result (Unit {0}) StreamError)
+      → picks ≡ false → AreApart (names_of answers) → lent ≡ answers
+      → MatchResult r (λ _. KeepsRows format lent) (RefusesRows format lent)
+      → MatchResult r (λ _. picks ≡ false → ReadsBack format answers)
+      (λ e. (picks ≡ false) × RefusesReadingBack format answers e)
+  read_back picks lent (Ok u) written apart same h =
+      λ _. record {
+        names = apart;
+        rows = subst (λ (xs : List Answer). KeepsRows format xs) same h;
+      }
+  read_back picks lent (Err e) written apart same h =
+      (written, inr (subst (λ (xs : List Answer). RefusesRows format xs e) same h))
+
+module _ (d : ℕ) (null : List ℕ) (i : ℕ) where
+  value_is : (v : Value) → value_field d null v ≡ cell_field d null (cell_of v)
+  value_is v = by_null (is_null v)
+    where
+      by_null : (b : Bool)
+          → (if b then null else text_field d null (field_text v))
+          ≡ cell_field d null (if b then None else Some (field_text v))
+      by_null true = refl
+      by_null false = refl
+
+  fields_are : (answers : List ColumnView)
+      → row_fields d null answers i ≡ map (cell_field d null) (row_cells answers i)
+  fields_are [] = refl
+  fields_are (c ∷ cs) =
+      ap₂ (λ (f : List ℕ) (fs : List (List ℕ)). f ∷ fs) (value_is (row c.rows i)) (fields_are cs)
+
+  some_cells : (answers : List ColumnView) → answers ≢ [] → row_cells answers i ≢ []
+  some_cells [] some = absurd (some refl)
+  some_cells (c ∷ cs) some = λ e. cc
+
+pub rows_read_back : RowsReadBack
+rows_read_back d null answers i no_quote may some =
+    record {
+      line = joined (d ∷ []) (row_fields d null answers i);
+      ended = refl;
+      says = subst
+          (λ (fs : List (List ℕ)). SaysCells d null (fields_line d fs) (row_cells answers i))
+          (sym (fields_are d null i answers))
+          (cells_read_back d null (row_cells answers i) no_quote may
+          (some_cells d null i answers some));
+    }

@@ -1,0 +1,74 @@
+-- Whether what an expression writes reads back, and that the rows of its answers do.
+use Rattle.std.specs.Prelude.{◌≡◌, ◌≢◌, ◌==◌, ◌&&◌, ◌∷◌, ◌++◌, [], ℕ, List, Bool, true, false, not}
+use Rattle.std.specs.Prelude.{Option, Some, None, map, length, if◌then◌else◌, ◌⊎◌}
+use Rattle.std.specs.Prelude.{string_bytes}
+use Rattle.vortex_types.specs.LogicalTypes.{LogicalType, is_nullable}
+use Rattle.vortex_types.specs.Values.{Value, is_null}
+use Rattle.vortex_columns.specs.ColumnView.{ColumnView, row}
+use Rattle.vortex_interface.specs.Eval.{tree_type}
+use Rattle.vortex_functions.specs.Fixed.{fixed_meaning}
+use Rattle.rowfn_scripts.specs.declared.expression.Answer.{Answer}
+use Rattle.rowfn_csv.specs.declared.format.Format.{Format}
+use Rattle.rowfn_csv.specs.RoundTrip.{MayBeNull, SaysCells}
+use Rattle.rowfn_batches.specs.Names.{names_of, AreApart, RefusesNames}
+use Rattle.rowfn_batches.specs.Outputs.{row_line}
+use Rattle.rowfn_batches.specs.Printing.{field_text}
+use Rattle.rowfn_batches.specs.declared.errors.StreamError.{StreamError}
+use Rattle.rowfn_batches.specs.declared.errors.StreamError.TheVariants as end
+
+abbrev pub allows_null : Option LogicalType → Bool
+allows_null None = false
+allows_null (Some t) = is_nullable t
+
+-- the rows of the answer of that name are told to be lost
+abbrev pub TellsLost : List ℕ → StreamError → Type 0
+TellsLost name (end.RowsLost told) = string_bytes told ≡ name
+TellsLost name e = ⊥
+
+module _ (format : Format) where
+  -- a null that stands alone is an empty line, and that is passed over
+  abbrev pub loses_nulls : Bool
+  loses_nulls = (length format.null.now == 0) && not format.blank_rows
+
+  -- the answer may be null, and its null is lost where it stands alone
+  abbrev pub may_be_lost : Answer → Bool
+  may_be_lost a = loses_nulls && allows_null (tree_type fixed_meaning a.tree)
+
+  -- no row of the answers is lost
+  abbrev pub KeepsRows : List Answer → Type 0
+  KeepsRows answers = (a : Answer) → answers ≡ a ∷ [] → may_be_lost a ≡ false
+
+  -- the only answer, whose null is lost, is told by its name; or memory ran out
+  pub data RefusesRows (answers : List Answer) (e : StreamError) : Type 0 where
+    is_lost : (a : Answer) → answers ≡ a ∷ [] → may_be_lost a ≡ true
+        → TellsLost (string_bytes a.name) e → RefusesRows answers e
+    without_memory : e ≡ end.OutOfMemory → RefusesRows answers e
+
+  -- what is written of the answers reads back: no two have one name, and no row is lost
+  pub record ReadsBack (answers : List Answer) : Type 0 where
+    pub names : AreApart (names_of answers)
+    pub rows : KeepsRows answers
+
+  abbrev pub RefusesReadingBack : List Answer → StreamError → Type 0
+  RefusesReadingBack answers e = RefusesNames (names_of answers) e ⊎ RefusesRows answers e
+
+-- a value as a cell: nothing for null
+abbrev pub cell_of : Value → Option (List ℕ)
+cell_of v = if is_null v then None else Some (field_text v)
+
+-- the cells of a row
+abbrev pub row_cells : List ColumnView → ℕ → List (Option (List ℕ))
+row_cells answers i = map (λ c. cell_of (row c.rows i)) answers
+
+-- the line of a row, without its end, says the row's cells
+pub record RowSaysCells (delimiter : ℕ) (null : List ℕ) (answers : List ColumnView) (i : ℕ)
+    : Type 0 where
+  pub line : List ℕ
+  pub ended : row_line delimiter null answers i ≡ line ++ (10 ∷ [])
+  pub says : SaysCells delimiter null line (row_cells answers i)
+
+-- rows that are written say their cells
+abbrev pub RowsReadBack : Type 0
+RowsReadBack =
+    (delimiter : ℕ) (null : List ℕ) (answers : List ColumnView) (i : ℕ) → delimiter ≢ 34
+    → MayBeNull delimiter null → answers ≢ [] → RowSaysCells delimiter null answers i

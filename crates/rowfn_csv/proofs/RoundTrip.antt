@@ -1,0 +1,150 @@
+-- What is written of cells says those cells.
+use Rattle.std.proofs.Common.{◌≡◌, ◌≢◌, Bool, true, false, ℕ, List, [], ◌∷◌, ◌==◌, ◌||◌, length}
+use Rattle.std.proofs.Common.{refl, sym, ap, ap₂, ◌∙◌, subst, if◌then◌else◌, map, append-nil, inl, inr}
+use Rattle.std.proofs.Common.{Option, Some, None, arith}
+use Rattle.std.specs.List.{list_any}
+use Rattle.std.specs.Str.{bytes_eq}
+use Rattle.std.proofs.lemmas.Bool.Decides.{eqb_tells}
+use Rattle.std.proofs.lemmas.Slice.Eq.{bytes_eq-Decides}
+use Rattle.rowfn_csv.specs.Fields.{is_special, is_mistaken, needs_quotes, quoted}
+use Rattle.rowfn_csv.specs.Records.{Field, bare, in_quotes, Lacks, BeginsBare, Spells, SaysFields}
+use Rattle.rowfn_csv.specs.RoundTrip.{cell_field, cell_said, fields_line, StandsInLine, MayBeNull}
+use Rattle.rowfn_csv.specs.RoundTrip.{AllStandInLine, CellsReadBack}
+
+-- neither of two is true where one of them is not
+neither : (a b : Bool) → (a || b) ≡ false → (a ≡ false) × (b ≡ false)
+neither false b e = (refl, e)
+neither true b e = absurd (cc e)
+
+is_other : (a b : ℕ) → (a == b) ≡ false → a ≢ b
+is_other a b e =
+    elim (eqb_tells a b) [
+      | inl h ↦ absurd (cc (sym e ∙ h.0))
+      | inr h ↦ h.1
+    ]
+
+same_bytes : (text : List ℕ) → bytes_eq text text ≡ true
+same_bytes text = by_cases (bytes_eq text text) refl
+  where
+    by_cases : (b : Bool) → bytes_eq text text ≡ b → bytes_eq text text ≡ true
+    by_cases true e = e
+    by_cases false e = grind (arith, bytes_eq-Decides text text)
+
+module _ (d : ℕ) (null : List ℕ) where
+  -- what a byte is not that asks for no quotes
+  record IsPlain (b : ℕ) : Type 0 where
+    no_quote : b ≢ 34
+    no_delimiter : b ≢ d
+    no_feed : b ≢ 10
+    no_return : b ≢ 13
+
+  is_plain : (b : ℕ) → is_special d b ≡ false → IsPlain b
+  is_plain b e =
+      let first = neither (b == 34) ((b == d) || ((b == 10) || (b == 13))) e in
+      let second = neither (b == d) ((b == 10) || (b == 13)) first.1 in
+      let third = neither (b == 10) (b == 13) second.1 in
+      record {
+        no_quote = is_other b 34 first.0;
+        no_delimiter = is_other b d second.0;
+        no_feed = is_other b 10 third.0;
+        no_return = is_other b 13 third.1;
+      }
+
+  -- a text of such bytes
+  plain_lacks : (c : ℕ) → ((b : ℕ) → IsPlain b → b ≢ c) → (text : List ℕ)
+      → list_any (is_special d) text ≡ false → Lacks c text
+  plain_lacks c h [] e = tt
+  plain_lacks c h (b ∷ bs) e =
+      let both = neither (is_special d b) (list_any (is_special d) bs) e in
+      (h b (is_plain b both.0), plain_lacks c h bs both.1)
+
+  begins_bare : (text : List ℕ) → list_any (is_special d) text ≡ false → BeginsBare text
+  begins_bare [] e = tt
+  begins_bare (b ∷ bs) e =
+      (is_plain b (neither (is_special d b) (list_any (is_special d) bs) e).0).no_quote
+
+  abbrev text_by : Bool → List ℕ → Field
+  text_by quotes text = if quotes then in_quotes text else bare text
+
+  abbrev field_of : Option (List ℕ) → Field
+  field_of None = bare null
+  field_of (Some text) = text_by (needs_quotes d null text) text
+
+  -- a text that needs no quotes
+  no_quotes : (text : List ℕ) → needs_quotes d null text ≡ false
+      → (list_any (is_special d) text ≡ false) × (bytes_eq text null ≡ false)
+  no_quotes text e =
+      let first =
+      neither (length text == 0)
+      (list_any (is_special d) text || (bytes_eq text null || is_mistaken text)) e in
+      let second =
+      neither (list_any (is_special d) text) (bytes_eq text null || is_mistaken text) first.1 in
+      (second.0, (neither (bytes_eq text null) (is_mistaken text) second.1).0)
+
+  text_spelled : (quotes : Bool) (text : List ℕ) → needs_quotes d null text ≡ quotes
+      → Spells d true (text_by quotes text) (if quotes then quoted text else text)
+  text_spelled true text e =
+      (text, [], sym (append-nil text), sym (append-nil (quoted text)), tt, tt)
+  text_spelled false text e =
+      let plain = (no_quotes text e).0 in
+      (refl, refl, plain_lacks d (λ b h. h.no_delimiter) text plain, begins_bare text plain)
+
+  text_said : (quotes : Bool) (text : List ℕ) → needs_quotes d null text ≡ quotes
+      → cell_said null (text_by quotes text) ≡ Some text
+  text_said true text e = refl
+  text_said false text e =
+      ap (λ (b : Bool). if b then None else Some text) (no_quotes text e).1
+
+  text_in_line : (quotes : Bool) (text : List ℕ) → needs_quotes d null text ≡ quotes
+      → StandsInLine (text_by quotes text)
+  text_in_line true text e = tt
+  text_in_line false text e =
+      let plain = (no_quotes text e).0 in (
+        plain_lacks 10 (λ b h. h.no_feed) text plain,
+        plain_lacks 13 (λ b h. h.no_return) text plain,
+      )
+
+  module _ (may : MayBeNull d null) where
+    spelled : (c : Option (List ℕ)) → Spells d true (field_of c) (cell_field d null c)
+    spelled None = (refl, refl, may.whole, may.begins)
+    spelled (Some text) = text_spelled (needs_quotes d null text) text refl
+
+    said : (c : Option (List ℕ)) → cell_said null (field_of c) ≡ c
+    said None = ap (λ (b : Bool). if b then None else Some null) (same_bytes null)
+    said (Some text) = text_said (needs_quotes d null text) text refl
+
+    in_line : (c : Option (List ℕ)) → StandsInLine (field_of c)
+    in_line None = may.lines
+    in_line (Some text) = text_in_line (needs_quotes d null text) text refl
+
+    line_says : (c : Option (List ℕ)) (cs : List (Option (List ℕ)))
+        → SaysFields d true (fields_line d (map (cell_field d null) (c ∷ cs))) (map field_of (c ∷ cs))
+    line_says c [] =
+        subst (λ (bytes : List ℕ). Spells d true (field_of c) bytes)
+        (sym (append-nil (cell_field d null c))) (spelled c)
+    line_says c (e ∷ cs) = (
+      cell_field d null c,
+      fields_line d (map (cell_field d null) (e ∷ cs)),
+      refl,
+      spelled c,
+      line_says e cs,
+    )
+
+    all_said : (cs : List (Option (List ℕ))) → map (cell_said null) (map field_of cs) ≡ cs
+    all_said [] = refl
+    all_said (c ∷ cs) =
+        ap₂ (λ (x : Option (List ℕ)) (xs : List (Option (List ℕ))). x ∷ xs) (said c) (all_said cs)
+
+    all_in_line : (cs : List (Option (List ℕ))) → AllStandInLine (map field_of cs)
+    all_in_line [] = tt
+    all_in_line (c ∷ cs) = (in_line c, all_in_line cs)
+
+pub cells_read_back : CellsReadBack
+cells_read_back d null [] no_quote may some = absurd (some refl)
+cells_read_back d null (c ∷ cs) no_quote may some =
+    record {
+      fields = map (field_of d null) (c ∷ cs);
+      said = line_says d null may c cs;
+      in_line = all_in_line d null may (c ∷ cs);
+      cells_said = all_said d null may (c ∷ cs);
+    }

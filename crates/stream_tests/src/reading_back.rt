@@ -1,0 +1,241 @@
+//! What is written reads back: streams of chance, whose output is read once more.
+
+use crate::cases::{Case, plain, run_case};
+use crate::pipes::Sink;
+use fixtures::same;
+use rowfn_batches::{StreamError, Summary};
+use std::alloc::{AllocError, Global};
+
+/// How many streams are tried.
+const COUNT: u64 = 400;
+
+/// Numbers that look like chance, each made of the one before.
+#[derive(Clone, Copy)]
+struct Chance {
+    state: u64,
+}
+
+impl Chance {
+    fn next(&mut self) -> u64 {
+        self.state = self
+            .state
+            .wrapping_mul(6364136223846793005)
+            .wrapping_add(1442695040888963407);
+        self.state >> 33
+    }
+
+    /// Whether one of so many comes; 0 is taken for 1.
+    fn is_one_of(&mut self, count: u64) -> bool {
+        self.next() % count.max(1) == 0
+    }
+
+    /// One of these words.
+    fn word<'a>(&mut self, words: &[&'a str]) -> &'a str {
+        let count = (words.len() as u64).max(1);
+        let place = (self.next() % count) as usize;
+        words.get(place).copied().unwrap_or("")
+    }
+}
+
+const DELIMITERS: &[&str] = &[",", ";", "\t", "|", "a", " ", "1", "-"];
+
+const NULLS: &[&str] = &["", "NA", "null", "\\.", "0", "π", "''"];
+
+const PIECES: &[&str] = &[
+    "", "a", "b", "NA", "null", "\"", "\"\"", ",", ";", "\t", "|", " ", "\n", "\r\n", "\r", "\\.",
+    "\u{feff}", "π", "''", "0", "1", "-1",
+];
+
+const TYPES: &[&str] = &["utf8", "utf8?", "i64?", "bool?"];
+
+/// A stream by its expression and its input, in which each cell but null stands in quotes.
+#[derive(Drop)]
+struct Tried<'a> {
+    expression: String,
+    input: Vec<u8>,
+    delimiter: u8,
+    null: &'a str,
+    header: bool,
+    blank_rows: bool,
+    row_count: u64,
+}
+
+/// Adds a text in quotes.
+fn push_text(out: &mut Vec<u8>, text: &str) -> Result<(), AllocError> {
+    out.push(b'"')?;
+    for byte in text.as_bytes() {
+        if *byte == b'"' {
+            out.push(b'"')?;
+        }
+        out.push(*byte)?;
+    }
+    out.push(b'"')?;
+    Ok(())
+}
+
+/// Adds a field of chance that its column holds.
+fn push_cell(
+    chance: &mut Chance,
+    out: &mut Vec<u8>,
+    dtype: &str,
+    null: &str,
+) -> Result<(), AllocError> {
+    if dtype != "utf8" && chance.is_one_of(3) {
+        return out.extend_from_slice(null.as_bytes());
+    }
+    if dtype == "i64?" {
+        return push_text(
+            out,
+            chance.word(&["0", "1", "-1", "10", "-9223372036854775808"]),
+        );
+    }
+    if dtype == "bool?" {
+        return push_text(out, chance.word(&["true", "false"]));
+    }
+    let mut text = String::new(out.allocator().clone()?);
+    for _ in 0..chance.next() % 4 {
+        text.push_str(chance.word(PIECES))?;
+    }
+    push_text(out, text.as_str())
+}
+
+/// Adds fields of chance as a line.
+fn push_line(
+    chance: &mut Chance,
+    out: &mut Vec<u8>,
+    types: &[&str],
+    delimiter: u8,
+    null: &str,
+) -> Result<(), AllocError> {
+    for (place, dtype) in types.iter().enumerate() {
+        if place != 0 {
+            out.push(delimiter)?;
+        }
+        push_cell(chance, out, dtype, null)?;
+    }
+    let end = chance.word(&["\n", "\r\n"]);
+    out.extend_from_slice(end.as_bytes())
+}
+
+/// Adds the names of columns as a line.
+fn push_names(out: &mut Vec<u8>, types: &[&str], delimiter: u8) -> Result<(), AllocError> {
+    for place in 0..types.len() {
+        if place != 0 {
+            out.push(delimiter)?;
+        }
+        out.push(b'"')?;
+        out.push(b'c')?;
+        out.push(b'0'.saturating_add(u8::try_from(place).unwrap_or(0)))?;
+        out.push(b'"')?;
+    }
+    out.push(b'\n')?;
+    Ok(())
+}
+
+/// The lines that answer each column, and whether it is null where that is asked.
+fn expression_of(alloc: Global, types: &[&str], asks_nulls: bool) -> Result<String, AllocError> {
+    let mut lines = String::new(alloc);
+    for (place, dtype) in types.iter().enumerate() {
+        let line = format!(in alloc; "col c{place} {dtype}\nget c{place}\nas c{place}\n")?;
+        lines.push_str(line.as_str())?;
+        if asks_nulls {
+            let line = format!(in alloc; "get c{place}\ncall is_null\nas n{place}\n")?;
+            lines.push_str(line.as_str())?;
+        }
+    }
+    Ok(lines)
+}
+
+/// The stream that a number leads to.
+fn tried_of<'a>(alloc: Global, seed: u64) -> Result<Tried<'a>, AllocError> {
+    let mut chance = Chance { state: seed };
+    let delimiter = chance
+        .word(DELIMITERS)
+        .as_bytes()
+        .first()
+        .copied()
+        .unwrap_or(b',');
+    let word = chance.word(NULLS);
+    let null = if word.as_bytes().contains(&delimiter) {
+        ""
+    } else {
+        word
+    };
+    let three = [chance.word(TYPES), chance.word(TYPES), chance.word(TYPES)];
+    let width = 1 + (chance.next() % 3) as usize;
+    let types = three.as_slice().get(..width).unwrap_or(&[]);
+    let header = chance.is_one_of(2);
+    let row_count = chance.next() % 6;
+    let expression = expression_of(alloc, types, header && chance.is_one_of(2))?;
+    let mut input = Vec::new(alloc);
+    if header {
+        push_names(&mut input, types, delimiter)?;
+    }
+    for _ in 0..row_count {
+        push_line(&mut chance, &mut input, types, delimiter, null)?;
+    }
+    Ok(Tried {
+        expression,
+        input,
+        delimiter,
+        null,
+        header,
+        blank_rows: chance.is_one_of(2) || width == 1 && null.is_empty(),
+        row_count,
+    })
+}
+
+/// Runs the stream over an input.
+fn run(
+    alloc: Global,
+    tried: &Tried<'_>,
+    input: &[u8],
+    sink: &mut Sink,
+) -> Result<Summary, StreamError> {
+    let case = Case {
+        input,
+        header: tried.header,
+        delimiter: tried.delimiter,
+        null: tried.null,
+        blank_rows: tried.blank_rows,
+        ..plain(tried.expression.as_str(), "")
+    };
+    run_case(alloc, &case, (2, 1000), 3, sink)
+}
+
+fn new_sink(alloc: Global) -> Sink {
+    Sink {
+        taken: Vec::new(alloc),
+        limit: usize::MAX,
+    }
+}
+
+/// Whether a stream's output reads back: as many rows, which are written the same once more.
+fn reads_back(rt: HostRuntime, tried: &Tried<'_>) -> bool {
+    let alloc = rt.alloc();
+    let (mut first, mut second) = (new_sink(alloc), new_sink(alloc));
+    let rows = Summary {
+        rows_read: tried.row_count,
+        rows_written: tried.row_count,
+    };
+    match run(alloc, tried, &tried.input, &mut first) {
+        Ok(summary) if same(rt, summary, rows) => {}
+        _ => return false,
+    }
+    match run(alloc, tried, &first.taken, &mut second) {
+        Ok(summary) if same(rt, summary, rows) => {
+            same(rt, second.taken.as_slice(), first.taken.as_slice())
+        }
+        _ => false,
+    }
+}
+
+#[test]
+fn what_is_written_reads_back(rt: HostRuntime) {
+    for seed in 0..COUNT {
+        match tried_of(rt.alloc(), seed) {
+            Ok(tried) => assert!(rt; reads_back(rt, &tried)),
+            Err(_) => assert!(rt; false),
+        }
+    }
+}
