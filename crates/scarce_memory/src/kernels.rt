@@ -2,7 +2,7 @@
 
 use crate::comparing::{Sides, are_same};
 use crate::seen::Tally;
-use fixtures::{Made, kept, nullable_bools, nullable_ints};
+use fixtures::{Made, constant, kept, nullable_bools, nullable_ints};
 use std::alloc::Global;
 use vortex_columns::*;
 use vortex_kernels::*;
@@ -76,6 +76,22 @@ fn combines(alloc: Global, operator: Operator, wanted: Made) -> VortexResult<boo
     sides.answer(answer, &*wanted)
 }
 
+/// The same beside one truth value in each row.
+fn combines_with(
+    alloc: Global,
+    operator: Operator,
+    right: bool,
+    wanted: Made,
+) -> VortexResult<bool> {
+    let wanted = wanted?;
+    let left = nullable_bools(alloc, &LEFT);
+    let scalar = Scalar::bool(right, Nullability::NonNullable);
+    let right = kept(alloc, Column::constant(alloc, scalar, LEFT.len()));
+    let sides = Sides::new(alloc, left, right)?;
+    let answer = boolean(alloc, &sides, operator);
+    sides.answer(answer, &*wanted)
+}
+
 /// 1, null, 3 beside 3, 3, 3.
 fn numbers(alloc: Global) -> VortexResult<Sides> {
     let left = nullable_ints(alloc, &[Some(1), None, Some(3)]);
@@ -94,6 +110,20 @@ fn compares(alloc: Global, operator: CompareOperator, wanted: Made) -> VortexRes
 fn calculates(alloc: Global, operator: NumericOperator, wanted: Made) -> VortexResult<bool> {
     let wanted = wanted?;
     let sides = numbers(alloc)?;
+    let mut ctx = ExecutionCtx::new(alloc);
+    let answer = execute_numeric(&*sides.left, &*sides.right, operator, &mut ctx);
+    sides.answer(kept(alloc, answer), &*wanted)
+}
+
+/// The same beside the number 3 in each row.
+fn calculates_with_three(
+    alloc: Global,
+    operator: NumericOperator,
+    wanted: Made,
+) -> VortexResult<bool> {
+    let wanted = wanted?;
+    let left = nullable_ints(alloc, &[Some(1), None, Some(3)]);
+    let sides = Sides::new(alloc, left, constant(alloc, PType::I32, 3, 3))?;
     let mut ctx = ExecutionCtx::new(alloc);
     let answer = execute_numeric(&*sides.left, &*sides.right, operator, &mut ctx);
     sides.answer(kept(alloc, answer), &*wanted)
@@ -148,6 +178,26 @@ pub fn ask(alloc: Global, tally: &mut Tally) {
     tally.note(
         "execute_numeric",
         calculates(alloc, NumericOperator::Add, sums),
+    );
+    let left = nullable_bools(alloc, &LEFT);
+    tally.note(
+        "execute_boolean, And true",
+        combines_with(alloc, Operator::And, true, left),
+    );
+    let left = nullable_bools(alloc, &LEFT);
+    tally.note(
+        "execute_boolean, Or false",
+        combines_with(alloc, Operator::Or, false, left),
+    );
+    let products = nullable_ints(alloc, &[Some(3), None, Some(9)]);
+    tally.note(
+        "execute_numeric, a constant factor",
+        calculates_with_three(alloc, NumericOperator::Mul, products),
+    );
+    let quotients = nullable_ints(alloc, &[Some(0), None, Some(1)]);
+    tally.note(
+        "execute_numeric, a constant divisor",
+        calculates_with_three(alloc, NumericOperator::Div, quotients),
     );
     let both = nullable_bools(alloc, &[Some(false), None]);
     tally.note(

@@ -8,6 +8,7 @@
 
 mod columns;
 mod comparing;
+mod expressions;
 mod kernels;
 mod patterns;
 mod rewriting;
@@ -29,6 +30,7 @@ fn all(alloc: Global) -> Tally {
     patterns::ask(alloc, &mut tally);
     trees::ask(alloc, &mut tally);
     rewriting::ask(alloc, &mut tally);
+    expressions::ask(alloc, &mut tally);
     scripts::ask(alloc, &mut tally);
     surely::ask(alloc, &mut tally);
     tally
