@@ -26,7 +26,7 @@ pub fn scope(alloc: Global) -> VortexResult<StructFields> {
 }
 
 /// Three goods by their prices, what is in stock and what is ordered.
-fn batch(
+fn goods(
     alloc: Global,
     prices: [i32; 3],
     stock: [Option<i32>; 3],
@@ -46,13 +46,13 @@ fn batch(
 /// In the first batch one of three goods is cheap and its stock known, in the second two.
 pub fn batches(alloc: Global) -> VortexResult<Vec<Batch>> {
     let mut batches = Vec::new(alloc);
-    batches.push(batch(
+    batches.push(goods(
         alloc,
         [7, 12, 9],
         [Some(3), Some(5), None],
         [Some(1), Some(2), Some(4)],
     )?)?;
-    batches.push(batch(
+    batches.push(goods(
         alloc,
         [2, 3, 30],
         [Some(1), Some(0), Some(8)],
