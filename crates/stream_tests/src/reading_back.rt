@@ -30,7 +30,7 @@ impl Chance {
     }
 
     /// One of these words.
-    fn word<'a>(&mut self, words: &[&'a str]) -> &'a str {
+    fn word(&mut self, words: &[&'static str]) -> &'static str {
         let count = (words.len() as u64).max(1);
         let place = (self.next() % count) as usize;
         words.get(place).copied().unwrap_or("")
@@ -50,11 +50,11 @@ const TYPES: &[&str] = &["utf8", "utf8?", "i64?", "bool?"];
 
 /// A stream by its expression and its input, in which each cell but null stands in quotes.
 #[derive(Drop)]
-struct Tried<'a> {
+struct Tried {
     expression: String,
     input: Vec<u8>,
     delimiter: u8,
-    null: &'a str,
+    null: &'static str,
     header: bool,
     blank_rows: bool,
     row_count: u64,
@@ -147,7 +147,7 @@ fn expression_of(alloc: Global, types: &[&str], asks_nulls: bool) -> Result<Stri
 }
 
 /// The stream that a number leads to.
-fn tried_of<'a>(alloc: Global, seed: u64) -> Result<Tried<'a>, AllocError> {
+fn tried_of(alloc: Global, seed: u64) -> Result<Tried, AllocError> {
     let mut chance = Chance { state: seed };
     let delimiter = chance
         .word(DELIMITERS)
@@ -188,7 +188,7 @@ fn tried_of<'a>(alloc: Global, seed: u64) -> Result<Tried<'a>, AllocError> {
 /// Runs the stream over an input.
 fn run(
     alloc: Global,
-    tried: &Tried<'_>,
+    tried: &Tried,
     input: &[u8],
     sink: &mut Sink,
 ) -> Result<Summary, StreamError> {
@@ -211,7 +211,7 @@ fn new_sink(alloc: Global) -> Sink {
 }
 
 /// Whether a stream's output reads back: as many rows, which are written the same once more.
-fn reads_back(rt: HostRuntime, tried: &Tried<'_>) -> bool {
+fn reads_back(rt: HostRuntime, tried: &Tried) -> bool {
     let alloc = rt.alloc();
     let (mut first, mut second) = (new_sink(alloc), new_sink(alloc));
     let rows = Summary {
