@@ -146,6 +146,30 @@ fn expression_of(alloc: Global, types: &[&str], asks_nulls: bool) -> Result<Stri
     Ok(lines)
 }
 
+/// A text for null in which the delimiter does not stand.
+fn null_beside(word: &'static str, delimiter: u8) -> &'static str {
+    if word.as_bytes().contains(&delimiter) {
+        ""
+    } else {
+        word
+    }
+}
+
+/// So many rows of chance.
+fn push_lines(
+    chance: &mut Chance,
+    input: &mut Vec<u8>,
+    types: &[&str],
+    form: (u8, &str),
+    count: u64,
+) -> Result<(), AllocError> {
+    let (delimiter, null) = form;
+    for _ in 0..count {
+        push_line(chance, input, types, delimiter, null)?;
+    }
+    Ok(())
+}
+
 /// The stream that a number leads to.
 fn tried_of(alloc: Global, seed: u64) -> Result<Tried, AllocError> {
     let mut chance = Chance { state: seed };
@@ -155,12 +179,7 @@ fn tried_of(alloc: Global, seed: u64) -> Result<Tried, AllocError> {
         .first()
         .copied()
         .unwrap_or(b',');
-    let word = chance.word(NULLS);
-    let null = if word.as_bytes().contains(&delimiter) {
-        ""
-    } else {
-        word
-    };
+    let null = null_beside(chance.word(NULLS), delimiter);
     let three = [chance.word(TYPES), chance.word(TYPES), chance.word(TYPES)];
     let width = 1 + (chance.next() % 3) as usize;
     let types = three.as_slice().get(..width).unwrap_or(&[]);
@@ -171,9 +190,7 @@ fn tried_of(alloc: Global, seed: u64) -> Result<Tried, AllocError> {
     if header {
         push_names(&mut input, types, delimiter)?;
     }
-    for _ in 0..row_count {
-        push_line(&mut chance, &mut input, types, delimiter, null)?;
-    }
+    push_lines(&mut chance, &mut input, types, (delimiter, null), row_count)?;
     Ok(Tried {
         expression,
         input,
