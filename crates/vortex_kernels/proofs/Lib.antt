@@ -13,3 +13,5 @@ pub mod EqualBytes
 pub mod ConstantOperands
 pub mod LaneMasks
 pub mod LaneWords
+pub mod FieldOrders
+pub mod PartOrders
