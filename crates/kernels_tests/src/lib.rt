@@ -22,6 +22,8 @@ mod integers;
 #[cfg(test)]
 mod like;
 #[cfg(test)]
+mod lists;
+#[cfg(test)]
 mod nested;
 #[cfg(test)]
 mod null_tests;
@@ -31,6 +33,8 @@ mod numeric;
 mod operators;
 #[cfg(test)]
 mod questions;
+#[cfg(test)]
+mod records;
 #[cfg(test)]
 mod scalars;
 #[cfg(test)]
