@@ -14,7 +14,6 @@ use crate::comparisons::Comparison;
 use crate::integer_types::with_integer;
 use crate::lanes::LaneInteger;
 use crate::lists::{hold_in_fixed_lists, hold_in_lists};
-use crate::records::hold_in_records;
 use crate::spans::{SpanBits, collect_spans};
 use std::alloc::Global;
 use std::marker::PhantomData;
@@ -354,24 +353,5 @@ pub(crate) fn hold_in_flat<P: Comparison>(
         DType::List(_, _) => hold_in_lists::<P>(alloc, lhs, rhs),
         DType::FixedSizeList(_, _, _) => hold_in_fixed_lists::<P>(alloc, lhs, rhs),
         _ => hold_in_cells::<P>(alloc, lhs, rhs),
-    }
-}
-
-/// Whether the comparison says yes in each row in which both sides have a value: records by their
-/// fields, and others by their kind.
-pub(crate) fn hold_in_rows<P: Comparison>(
-    alloc: Global,
-    lhs: &Column,
-    rhs: &Column,
-) -> VortexResult<BitBuffer>
-    requires { length lhs.now.rows ≡ length rhs.now.rows }
-    ensures { AnswersUnlessMemory result
-        (AreComparisons P.operator lhs.now.rows rhs.now.rows) }
-{
-    match (lhs.dtype(), rhs.dtype()) {
-        (DType::Struct(left, _), DType::Struct(right, _)) if left.len() == right.len() => {
-            hold_in_records::<P>(alloc, lhs, rhs, left.len())
-        }
-        _ => hold_in_flat::<P>(alloc, lhs, rhs),
     }
 }

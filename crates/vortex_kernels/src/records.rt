@@ -79,8 +79,47 @@ impl<U: BitWords + Copy> BitWords for Joined<'_, U> {
     }
 }
 
+/// How the fields of records are compared.
+pub(crate) trait FieldKernel: Copy {
+    ghost use Rattle.std.specs.Prelude.{◌≡◌, length};
+    ghost use Rattle.vortex_kernels.specs.Words.{AnswersUnlessMemory, AreComparisons};
+
+    /// Whether the comparison says yes in each row in which both sides have a value.
+    fn hold<P: Comparison>(alloc: Global, lhs: &Column, rhs: &Column) -> VortexResult<BitBuffer>
+        requires { length lhs.now.rows ≡ length rhs.now.rows }
+        ensures { AnswersUnlessMemory result
+            (AreComparisons P.operator lhs.now.rows rhs.now.rows) };
+}
+
+/// Each by its kind, records by their cells.
+#[derive(Clone, Copy)]
+pub(crate) struct Flat {}
+
+/// Records by their fields, which go by the kernel, and others by their kind.
+#[derive(Clone, Copy)]
+pub(crate) struct Nested<K: FieldKernel> {
+    fields: PhantomData<K>,
+}
+
+impl FieldKernel for Flat {
+    fn hold<P: Comparison>(alloc: Global, lhs: &Column, rhs: &Column) -> VortexResult<BitBuffer> {
+        hold_in_flat::<P>(alloc, lhs, rhs)
+    }
+}
+
+impl<K: FieldKernel> FieldKernel for Nested<K> {
+    fn hold<P: Comparison>(alloc: Global, lhs: &Column, rhs: &Column) -> VortexResult<BitBuffer> {
+        match (lhs.dtype(), rhs.dtype()) {
+            (DType::Struct(left, _), DType::Struct(right, _)) if left.len() == right.len() => {
+                hold_in_records::<P, K>(alloc, lhs, rhs, left.len())
+            }
+            _ => hold_in_flat::<P>(alloc, lhs, rhs),
+        }
+    }
+}
+
 /// Whether the comparison says yes in each row, where null is a value, equal to null and least.
-fn hold_with_nulls<P: Comparison>(
+fn hold_with_nulls<P: Comparison, K: FieldKernel>(
     alloc: Global,
     lhs: &Column,
     rhs: &Column,
@@ -90,7 +129,7 @@ fn hold_with_nulls<P: Comparison>(
         (AreHeld P.operator (row_orders lhs.now.rows rhs.now.rows) (length lhs.now.rows)) }
 {
     let len = lhs.len();
-    let values = hold_in_flat::<P>(alloc, lhs, rhs)?;
+    let values = K::hold::<P>(alloc, lhs, rhs)?;
     if let (ValidRows::Every, ValidRows::Every) = (lhs.valid_rows(), rhs.valid_rows()) {
         return Ok(values);
     }
@@ -105,7 +144,7 @@ fn hold_with_nulls<P: Comparison>(
 
 /// Whether the comparison says yes in each row: to these values where they differ, and else as the
 /// rest of the rows has it.
-fn hold_before<P: Comparison>(
+fn hold_before<P: Comparison, K: FieldKernel>(
     alloc: Global,
     lhs: &Column,
     rhs: &Column,
@@ -119,7 +158,7 @@ fn hold_before<P: Comparison>(
         else holds P.operator (row_orders lhs.now.rows rhs.now.rows i))) }
 {
     let len = lhs.len();
-    let equal = hold_with_nulls::<IsEqual>(alloc, lhs, rhs)?;
+    let equal = hold_with_nulls::<IsEqual, K>(alloc, lhs, rhs)?;
     let equal = equal.shifted();
     let rest = rest.shifted();
     if P::holds(Ordering::Less) == P::holds(Ordering::Greater) {
@@ -137,7 +176,7 @@ fn hold_before<P: Comparison>(
             len,
         );
     }
-    let unequal = hold_with_nulls::<P>(alloc, lhs, rhs)?;
+    let unequal = hold_with_nulls::<P, K>(alloc, lhs, rhs)?;
     let unequal = unequal.shifted();
     collect_words(
         alloc,
@@ -152,7 +191,7 @@ fn hold_before<P: Comparison>(
 
 /// Whether the comparison says yes in each row to the last `told + 1` of so many fields, by what was
 /// told of the last `told`, if any. None where a side keeps no such field.
-fn hold_by_last<P: Comparison>(
+fn hold_by_last<P: Comparison, K: FieldKernel>(
     alloc: Global,
     lhs: &Column,
     rhs: &Column,
@@ -172,15 +211,15 @@ fn hold_by_last<P: Comparison>(
         return Ok(None);
     };
     let bits = match rest {
-        None => hold_with_nulls::<P>(alloc, left, right)?,
-        Some(rest) => hold_before::<P>(alloc, left, right, rest)?,
+        None => hold_with_nulls::<P, K>(alloc, left, right)?,
+        Some(rest) => hold_before::<P, K>(alloc, left, right, rest)?,
     };
     Ok(Some(bits))
 }
 
 /// Whether the comparison says yes in each row by all fields, from the last to the first. None
 /// where a side keeps none.
-fn hold_in_fields<P: Comparison>(
+fn hold_in_fields<P: Comparison, K: FieldKernel>(
     alloc: Global,
     lhs: &Column,
     rhs: &Column,
@@ -198,7 +237,7 @@ fn hold_in_fields<P: Comparison>(
     }
     let mut rest = None;
     for told in 0..count {
-        let held = hold_by_last::<P>(alloc, lhs, rhs, count, told, &rest)?;
+        let held = hold_by_last::<P, K>(alloc, lhs, rhs, count, told, &rest)?;
         if held.is_none() {
             return Ok(None);
         }
@@ -208,7 +247,7 @@ fn hold_in_fields<P: Comparison>(
 }
 
 /// Whether the comparison says yes in each row, of records of so many fields.
-pub(crate) fn hold_in_records<P: Comparison>(
+fn hold_in_records<P: Comparison, K: FieldKernel>(
     alloc: Global,
     lhs: &Column,
     rhs: &Column,
@@ -222,8 +261,25 @@ pub(crate) fn hold_in_records<P: Comparison>(
 {
     let _left_typed = lhs.dtype();
     let _right_typed = rhs.dtype();
-    match hold_in_fields::<P>(alloc, lhs, rhs, count)? {
+    match hold_in_fields::<P, K>(alloc, lhs, rhs, count)? {
         Some(bits) => Ok(bits),
         None => hold_in_cells::<P>(alloc, lhs, rhs),
     }
+}
+
+/// How deep records within records go by their fields; below that by their cells.
+type FourLevels = Nested<Nested<Nested<Nested<Flat>>>>;
+
+/// Whether the comparison says yes in each row in which both sides have a value: records by their
+/// fields, and others by their kind.
+pub(crate) fn hold_in_rows<P: Comparison>(
+    alloc: Global,
+    lhs: &Column,
+    rhs: &Column,
+) -> VortexResult<BitBuffer>
+    requires { length lhs.now.rows ≡ length rhs.now.rows }
+    ensures { AnswersUnlessMemory result
+        (AreComparisons P.operator lhs.now.rows rhs.now.rows) }
+{
+    FourLevels::hold::<P>(alloc, lhs, rhs)
 }
