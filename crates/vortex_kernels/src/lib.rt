@@ -18,6 +18,7 @@ pub mod null_tests;
 mod numbers;
 pub mod numeric;
 mod pairs;
+mod quotients;
 mod row_operation;
 mod settled;
 mod spans;
