@@ -10,6 +10,8 @@ mod between;
 #[cfg(test)]
 mod boolean;
 #[cfg(test)]
+mod column_quotients;
+#[cfg(test)]
 mod compare;
 #[cfg(test)]
 mod constant_columns;

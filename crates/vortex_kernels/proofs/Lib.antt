@@ -5,6 +5,7 @@ pub mod KleeneBits
 pub mod SameIntegers
 pub mod Calculating
 pub mod FaultRows
+pub mod GuessedRows
 pub mod WordComparisons
 pub mod ConstantResults
 pub mod BetweenRows
