@@ -26,13 +26,15 @@ if [ ! -x "$program" ]; then
     exit 1
 fi
 cp "$program" "$scratch/rowfn_stream"
-cp "$here/expression.rowfn" "$scratch/expression.rowfn"
 chmod 755 "$scratch/rowfn_stream"
-chmod 644 "$scratch/expression.rowfn"
+
+# what is asked of the rows, and the columns that it reads
+expression="(a + b < 100 and s like '%nitr%') or a is null as wanted"
+columns='a i64?, b i64?, s utf8'
 
 "$here/rows" "$count" > "$scratch/rows.csv"
 # the only answer may be null: its row is an empty line, as PostgreSQL writes it
-"$scratch/rowfn_stream" --blank-lines null "$scratch/expression.rowfn" < "$scratch/rows.csv" > "$scratch/whole.csv"
+"$scratch/rowfn_stream" --blank-lines null --columns "$columns" "$expression" "$scratch/rows.csv" > "$scratch/whole.csv"
 
 needs() {
     for word in "$@"; do

@@ -12,3 +12,4 @@ pub mod Outputs
 pub mod Passed
 pub mod ReadingBack
 pub mod Within
+pub mod TakenRows

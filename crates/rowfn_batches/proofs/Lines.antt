@@ -2,7 +2,7 @@
 use Rattle.std.proofs.Common.{◌≡◌, ℕ, zero, suc, ◌+◌, Bool, true, false, List, [], ◌∷◌, ◌++◌, refl}
 use Rattle.std.proofs.Common.{ap, sym, ◌∙◌, append_assoc, append-nil, arith, if◌then◌else◌, get_or, cond}
 use Rattle.std.proofs.Common.{length, ◌<◌, ◌≤◌, map, add-one, zero-add, add-zero}
-use Rattle.std.specs.Prelude.{count_by}
+use Rattle.std.specs.Prelude.{count_by, slice_index_or, Option}
 use Rattle.std.specs.List.{flat_map, range_with_len}
 use Rattle.std.proofs.lemmas.Grind.{flat_map-append}
 use Rattle.std.proofs.lemmas.List.{get_or-map}
@@ -14,7 +14,10 @@ use Rattle.rowfn_csv.specs.declared.records.Records.{Records}
 use Rattle.rowfn_csv.specs.declared.records.Span.{Span}
 use Rattle.rowfn_csv.specs.KeptLines.{line_of}
 use Rattle.rowfn_batches.specs.declared.output.Output.{Output}
-use Rattle.rowfn_batches.specs.Outputs.{Adds, row_line, row_lines, is_true}
+use Rattle.rowfn_csv.specs.Records.{without_line_end}
+use Rattle.rowfn_batches.specs.BatchAnswers.{row_among}
+use Rattle.rowfn_batches.specs.Outputs.{Adds, row_line, row_lines, is_true, appended_line}
+use Rattle.rowfn_batches.specs.Outputs.{appended_lines}
 
 range_from : (a n : ℕ) → range_with_len a (suc n) ≡ range_with_len a n ++ ((a + n) ∷ [])
 range_from a zero = ap (λ (x : ℕ). x ∷ []) (sym (add-zero a))
@@ -98,3 +101,24 @@ next_count p n count x b h e f =
 pub one_at_most : (x : ℕ) (b : Bool) → x ≡ from_bool b → x ≤ 1
 one_at_most x true e = omega arith
 one_at_most x false e = omega arith
+
+-- a row of the answers behind its row of the input
+pub next_appended : (old now last : Output) (lines : List (List ℕ)) (rows : Option (List ℕ))
+    (answers : List ColumnView) (k at : ℕ) (line : List ℕ) → at ≡ row_among rows k
+    → line ≡ slice_index_or lines at []
+    → Adds old now (appended_lines old.format.delimiter old.format.null.now lines rows answers k)
+    → Adds now last (without_line_end line ++ (now.format.delimiter
+    ∷ row_line now.format.delimiter now.format.null.now answers k))
+    → Adds old last
+    (appended_lines old.format.delimiter old.format.null.now lines rows answers (k + 1))
+next_appended old now last lines rows answers k at line among is before added =
+    next_bytes old now last
+    (appended_line old.format.delimiter old.format.null.now lines rows answers) k before (
+      added.0
+          ∙ ap (λ (f : Format). now.bytes.items ++ (without_line_end line ++ (f.delimiter
+          ∷ row_line f.delimiter f.null.now answers k))) before.1
+          ∙ ap (λ (t : List ℕ). now.bytes.items ++ (without_line_end t ++ (old.format.delimiter
+          ∷ row_line old.format.delimiter old.format.null.now answers k)))
+          (is ∙ ap (λ (m : ℕ). slice_index_or lines m []) among),
+      added.1,
+    )

@@ -10,7 +10,8 @@ use Rattle.vortex_types.proofs.JoinedTexts.{joined_more}
 use Rattle.rowfn_csv.specs.Fields.{text_field}
 use Rattle.rowfn_csv.specs.declared.format.Format.{Format}
 use Rattle.rowfn_batches.specs.declared.output.Output.{Output}
-use Rattle.rowfn_batches.specs.Outputs.{Adds, name_field, value_field, row_fields}
+use Rattle.rowfn_csv.specs.Records.{without_line_end}
+use Rattle.rowfn_batches.specs.Outputs.{Adds, name_field, value_field, row_fields, row_line}
 
 -- the first values of a row stand behind what stood there before, in the same format
 abbrev pub HasFirst : Output → Output → List ColumnView → ℕ → ℕ → Type 0
@@ -61,4 +62,29 @@ name_added old parted new index name (Ok u) before added =
           ∙ ap (λ bs. bs ++ field) before.0
           ∙ append_assoc old.bytes.items (separator_before (old.format.delimiter ∷ []) index) field,
       added.1 ∙ before.1,
+    )
+
+-- a row of the answers behind a line without its end
+pub behind_line : (old put parted new : Output) (line bare : List ℕ) (answers : List ColumnView)
+    (place : ℕ) (r : Result (Unit {0}) AllocError) → bare ≡ without_line_end line
+    → Adds old put bare → Adds put parted (put.format.delimiter ∷ [])
+    → OnOk r (Adds parted new
+    (row_line parted.format.delimiter parted.format.null.now answers place))
+    → OnOk r (Adds old new (without_line_end line ++ (old.format.delimiter
+    ∷ row_line old.format.delimiter old.format.null.now answers place)))
+behind_line old put parted new line bare answers place (Err e) is first second third = third
+behind_line old put parted new line bare answers place (Ok u) is first second third =
+    let row = row_line old.format.delimiter old.format.null.now answers place in
+    let same : parted.format ≡ old.format = second.1 ∙ first.1 in (
+      third.0
+          ∙ ap (λ (f : Format). parted.bytes.items
+          ++ row_line f.delimiter f.null.now answers place) same
+          ∙ ap (λ bs. bs ++ row)
+          (second.0
+          ∙ ap (λ (f : Format). put.bytes.items ++ (f.delimiter ∷ [])) first.1
+          ∙ ap (λ bs. bs ++ (old.format.delimiter ∷ []))
+          (first.0 ∙ ap (λ bs. old.bytes.items ++ bs) is))
+          ∙ append_assoc (old.bytes.items ++ without_line_end line) (old.format.delimiter ∷ []) row
+          ∙ append_assoc old.bytes.items (without_line_end line) (old.format.delimiter ∷ row),
+      third.1 ∙ same,
     )

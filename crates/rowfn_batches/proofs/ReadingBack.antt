@@ -16,6 +16,7 @@ use Rattle.rowfn_batches.specs.Outputs.{row_fields, value_field}
 use Rattle.rowfn_batches.specs.Printing.{field_text}
 use Rattle.rowfn_batches.specs.ReadingBack.{may_be_lost, KeepsRows, RefusesRows, ReadsBack}
 use Rattle.rowfn_batches.specs.ReadingBack.{RefusesReadingBack, cell_of, row_cells, RowsReadBack}
+use Rattle.rowfn_batches.specs.declared.settings.Settings.{Settings}
 use Rattle.rowfn_batches.specs.declared.errors.StreamError.{StreamError}
 
 module _ (format : Format) (answers : List Answer) where
@@ -39,18 +40,24 @@ module _ (format : Format) (answers : List Answer) where
       subst (λ (x : Answer). may_be_lost format x ≡ false)
       (ap (λ (xs : List Answer). get_or xs 0 only) (sym is ∙ e)) kept
 
-  pub read_back : (picks : Bool) (lent : List Answer) (r : Result (Unit {0}) StreamError)
-      → picks ≡ false → AreApart (names_of answers) → lent ≡ answers
-      → MatchResult r (λ _. KeepsRows format lent) (RefusesRows format lent)
-      → MatchResult r (λ _. picks ≡ false → ReadsBack format answers)
-      (λ e. (picks ≡ false) × RefusesReadingBack format answers e)
-  read_back picks lent (Ok u) written apart same h =
+module _ (settings : Settings) (answers : List Answer) (written : settings.picks_rows ≡ false)
+    (apart : AreApart (names_of answers)) where
+  -- no row is lost that has fields of its own before its answers
+  pub kept_appended : settings.appends ≡ true → ReadsBack settings answers
+  kept_appended chosen =
+      record { names = apart; rows = λ other. absurd (cc (sym chosen ∙ other)) }
+
+  pub read_back : (lent : List Answer) (r : Result (Unit {0}) StreamError) → lent ≡ answers
+      → MatchResult r (λ _. KeepsRows settings.format lent) (RefusesRows settings.format lent)
+      → MatchResult r (λ _. settings.picks_rows ≡ false → ReadsBack settings answers)
+      (λ e. (settings.picks_rows ≡ false) × RefusesReadingBack settings.format answers e)
+  read_back lent (Ok u) same h =
       λ _. record {
         names = apart;
-        rows = subst (λ (xs : List Answer). KeepsRows format xs) same h;
+        rows = λ _. subst (λ (xs : List Answer). KeepsRows settings.format xs) same h;
       }
-  read_back picks lent (Err e) written apart same h =
-      (written, inr (subst (λ (xs : List Answer). RefusesRows format xs e) same h))
+  read_back lent (Err e) same h =
+      (written, inr (subst (λ (xs : List Answer). RefusesRows settings.format xs e) same h))
 
 module _ (d : ℕ) (null : List ℕ) (i : ℕ) where
   value_is : (v : Value) → value_field d null v ≡ cell_field d null (cell_of v)

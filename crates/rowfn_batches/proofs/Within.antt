@@ -37,26 +37,26 @@ module _ (x : Expression) (fs : List Field) where
   have_rows n answers a =
       all_have fixed_meaning a.columns n (trees_of x) answers a.mean
 
-  within_answers : (before fit : ℕ) (other : Option StreamError) (n : ℕ) (e : Option StreamError)
-      → EndsAnswers x fs before fit other n e → n ≤ fit
-  within_answers before fit other n e (with_them is ended) = omega (arith, is)
-  within_answers before fit other n e (at_fault columns fault told is first faulty tells) =
+  within_answers : (number : ℕ → ℕ) (fit : ℕ) (other : Option StreamError) (n : ℕ) (e : Option StreamError)
+      → EndsAnswers x fs number fit other n e → n ≤ fit
+  within_answers number fit other n e (with_them is ended) = omega (arith, is)
+  within_answers number fit other n e (at_fault columns fault told is first faulty tells) =
       omega (arith, faulty.below)
 
-  within_fitting : (places : List ℕ) (before count : ℕ) (behind : Option StreamError) (n : ℕ)
-      (e : Option StreamError) → EndsFitting x fs places before count behind n e → n ≤ count
-  within_fitting places before count behind n e (with_batch is ended) = omega (arith, is)
-  within_fitting places before count behind n e (at_misfit column told is misfit tells) =
+  within_fitting : (places : List ℕ) (number : ℕ → ℕ) (count : ℕ) (behind : Option StreamError) (n : ℕ)
+      (e : Option StreamError) → EndsFitting x fs places number count behind n e → n ≤ count
+  within_fitting places number count behind n e (with_batch is ended) = omega (arith, is)
+  within_fitting places number count behind n e (at_misfit column told is misfit tells) =
       let width = width_of x in
       let below = below_row width count n column (length (take (width * count) fs))
       misfit.within (omega (arith, length-take (width * count) fs)) in
       omega (arith, below)
 
-  pub within_batch : (places : List ℕ) (before count : ℕ) (behind : Option StreamError) (n : ℕ)
-      (e : Option StreamError) → EndsBatch x fs places before count behind n e → n ≤ count
-  within_batch places before count behind n e (fit, other, fitting, ends) =
+  pub within_batch : (places : List ℕ) (number : ℕ → ℕ) (count : ℕ) (behind : Option StreamError) (n : ℕ)
+      (e : Option StreamError) → EndsBatch x fs places number count behind n e → n ≤ count
+  within_batch places number count behind n e (fit, other, fitting, ends) =
       omega (
         arith,
-        within_fitting places before count behind fit other fitting,
-        within_answers before fit other n e ends,
+        within_fitting places number count behind fit other fitting,
+        within_answers number fit other n e ends,
       )

@@ -1,6 +1,6 @@
 -- What the rows of a batch answer, up to the first that ends the stream, and what ends it there.
 use Rattle.std.specs.Prelude.{◌≡◌, ◌+◌, ◌*◌, ◌-◌, ◌^◌, min, ℕ, List, map, take, Option}
-use Rattle.std.specs.Prelude.{Some, None, string_bytes, Vec, ⊤}
+use Rattle.std.specs.Prelude.{Some, None, string_bytes, Vec, ⊤, get_or, option_map}
 use Rattle.std.specs.declared.alloc.Global.{Global}
 use Rattle.vortex_errors.specs.declared.error.VortexError.{VortexError}
 use Rattle.vortex_errors.specs.Answers.{UnlessMemory}
@@ -18,6 +18,7 @@ use Rattle.rowfn_scripts.specs.declared.expression.Expression.{Expression}
 use Rattle.rowfn_batches.specs.Fields.{Field}
 use Rattle.rowfn_batches.specs.Batches.{field_at, AreEven, AreColumns, IsLeftmost, IsTooLong}
 use Rattle.rowfn_batches.specs.Executing.{RefusesColumnsFirst, IsFirstFaultyRow}
+use Rattle.rowfn_batches.specs.declared.answering.Task.{Task}
 use Rattle.rowfn_batches.specs.declared.errors.StreamError.{StreamError}
 use Rattle.rowfn_batches.specs.declared.errors.StreamError.TheVariants as end
 
@@ -25,22 +26,32 @@ use Rattle.rowfn_batches.specs.declared.errors.StreamError.TheVariants as end
 abbrev pub row_number : ℕ → ℕ → ℕ
 row_number before row = min (before + row + 1) (2 ^ 64 - 1)
 
+-- which row of a batch a row is of those that are answered: these, or all
+abbrev pub row_among : Option (List ℕ) → ℕ → ℕ
+row_among None row = row
+row_among (Some rows) row = get_or rows row 0
+
+-- the number of a row that is answered
+abbrev pub number_of : Task → ℕ → ℕ
+number_of t row = row_number t.rows_before (row_among (option_map (λ r. r.now) t.rows) row)
+
 -- the bytes of a field, and none of a null field
 abbrev pub field_told : Option (Vec ℕ Global) → Field
 field_told None = None
 field_told (Some bytes) = Some bytes.items
 
-module _ (before : ℕ) (row : ℕ) where
+-- rows have these numbers
+module _ (number : ℕ → ℕ) (row : ℕ) where
   -- the field of that row that its column does not hold, with the column's name and type
   abbrev pub TellsMisfit : Fields → ℕ → Field → StreamError → Type 0
-  TellsMisfit ds j f (end.Misfit number column dtype field) =
-      (number ≡ row_number before row) × (string_bytes column ≡ field_name j ds)
+  TellsMisfit ds j f (end.Misfit told column dtype field) =
+      (told ≡ number row) × (string_bytes column ≡ field_name j ds)
       × (type_of dtype ≡ field_type j ds) × (field_told field ≡ f)
   TellsMisfit ds j f e = ⊥
 
   -- the fault of that row
   abbrev pub TellsFault : VortexError → StreamError → Type 0
-  TellsFault fault (end.Fault number told) = (number ≡ row_number before row) × (told ≡ fault)
+  TellsFault fault (end.Fault told error) = (told ≡ number row) × (error ≡ fault)
   TellsFault fault e = ⊥
 
 -- a column whose texts are too long, by its name
@@ -73,14 +84,14 @@ module _ (x : Expression) (fs : List Field) where
 
   -- of so many rows whose fields fit all are answered, and what ends them does; or those before the
   -- first that faults, which is told
-  pub data EndsAnswers (before fit : ℕ) (other : Option StreamError) (n : ℕ)
+  pub data EndsAnswers (number : ℕ → ℕ) (fit : ℕ) (other : Option StreamError) (n : ℕ)
       (e : Option StreamError) : Type 0 where
-    with_them : n ≡ fit → e ≡ other → EndsAnswers before fit other n e
+    with_them : n ≡ fit → e ≡ other → EndsAnswers number fit other n e
     at_fault : (columns : List ColumnView) (fault : VortexError) (told : StreamError)
         → e ≡ Some told → AreFirst fit columns
         → IsFirstFaultyRow fixed_meaning columns fit (trees_of x) n fault
-        → TellsFault before n fault told
-        → EndsAnswers before fit other n e
+        → TellsFault number n fault told
+        → EndsAnswers number fit other n e
 
   -- the columns of first rows do not serve a tree, or memory ran out
   abbrev pub IsUnserved : StreamError → Type 0
@@ -100,14 +111,14 @@ module _ (x : Expression) (fs : List Field) where
     unserved : IsUnserved e → IsUnanswered count e
 
   -- each column has its place in a row of the input
-  module _ (places : List ℕ) (before : ℕ) (count : ℕ) (behind : Option StreamError) where
+  module _ (places : List ℕ) (number : ℕ → ℕ) (count : ℕ) (behind : Option StreamError) where
     -- so many rows have fields that fit: all of them, and the error behind the batch ends it; or
     -- those before the first that has a misfit, of which the leftmost is told
     pub data EndsFitting (n : ℕ) (e : Option StreamError) : Type 0 where
       with_batch : n ≡ count → e ≡ behind → EndsFitting n e
       at_misfit : (column : ℕ) (told : StreamError) → e ≡ Some told
           → IsLeftmost (struct_fields x.columns) (first_fields count) places n column
-          → TellsMisfit before n (struct_fields x.columns) column
+          → TellsMisfit number n (struct_fields x.columns) column
           (field_at fs (n * width_of x + column)) told
           → EndsFitting n e
 
@@ -115,4 +126,4 @@ module _ (x : Expression) (fs : List Field) where
     abbrev pub EndsBatch : ℕ → Option StreamError → Type 0
     EndsBatch n e =
         (fit : ℕ) × (other : Option StreamError) × EndsFitting fit other
-        × EndsAnswers before fit other n e
+        × EndsAnswers number fit other n e

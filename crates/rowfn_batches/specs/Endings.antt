@@ -38,5 +38,6 @@ status_of (end.UnknownColumn line name near) = 4
 status_of (end.FewTrees line function wanted found) = 4
 status_of (end.AnswerTwice name) = 4
 status_of (end.RowsLost name) = 4
+status_of (end.NameTaken name) = 4
 status_of (end.NoTruth name) = 4
 status_of end.OutOfMemory = 3

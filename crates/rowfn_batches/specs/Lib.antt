@@ -8,5 +8,6 @@ pub mod Endings
 pub mod Layouts
 pub mod Names
 pub mod Outputs
+pub mod Taking
 pub mod Passing
 pub mod Tops

@@ -1,11 +1,13 @@
 -- What is put down to be written, and what of a row.
 use Rattle.std.specs.Prelude.{◌≡◌, ℕ, ◌≤◌, List, [], ◌∷◌, ◌++◌, map, if◌then◌else◌}
-use Rattle.std.specs.Prelude.{Bool, false, All, length, slice_index_or, count_by}
+use Rattle.std.specs.Prelude.{Bool, false, All, length, slice_index_or, count_by, Option}
 use Rattle.std.specs.List.{flat_map, range_with_len}
 use Rattle.vortex_types.specs.Values.{Value, is_null, truth}
 use Rattle.vortex_columns.specs.ColumnView.{ColumnView, row}
 use Rattle.vortex_interface.specs.CallTexts.{joined, separator_before}
 use Rattle.rowfn_csv.specs.Fields.{text_field}
+use Rattle.rowfn_csv.specs.Records.{without_line_end}
+use Rattle.rowfn_batches.specs.BatchAnswers.{row_among}
 use Rattle.rowfn_batches.specs.Printing.{field_text}
 use Rattle.rowfn_batches.specs.declared.output.Output.{Output}
 
@@ -34,6 +36,16 @@ module _ (delimiter : ℕ) (null : List ℕ) where
   -- the first rows of the answers, a line each
   abbrev pub row_lines : List ColumnView → ℕ → List ℕ
   row_lines answers n = flat_map (row_line answers) (range_with_len 0 n)
+
+  -- the first rows of the answers, each behind its row of the input without the end of its line
+  abbrev pub appended_line : List (List ℕ) → Option (List ℕ) → List ColumnView → ℕ → List ℕ
+  appended_line lines rows answers k =
+      without_line_end (slice_index_or lines (row_among rows k) [])
+      ++ (delimiter ∷ row_line answers k)
+
+  abbrev pub appended_lines : List (List ℕ) → Option (List ℕ) → List ColumnView → ℕ → List ℕ
+  appended_lines lines rows answers n =
+      flat_map (appended_line lines rows answers) (range_with_len 0 n)
 
 -- each column has so many rows, or more
 abbrev pub HaveRows : ℕ → List ColumnView → Type 0

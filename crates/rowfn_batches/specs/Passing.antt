@@ -1,6 +1,6 @@
 -- What is written of a batch, and what passing it on ends.
 use Rattle.std.specs.Prelude.{◌≡◌, ◌-◌, ℕ, List, [], Option, Some, None, Result, Ok, Err, ⊤, length}
-use Rattle.std.specs.Prelude.{◌++◌, ◌+◌, ◌^◌, map, take, slice_get, if◌then◌else◌, min, Bool}
+use Rattle.std.specs.Prelude.{◌&&◌, not, is_some, option_map, ◌++◌, ◌+◌, ◌^◌, map, take, slice_get, if◌then◌else◌, min, Bool}
 use Rattle.std.specs.Io.KnownBytes.{Appends, Keeps}
 use Rattle.vortex_columns.specs.ColumnView.{ColumnView}
 use Rattle.rowfn_scripts.specs.declared.expression.Expression.{Expression}
@@ -10,32 +10,51 @@ use Rattle.rowfn_batches.specs.declared.errors.StreamError.TheVariants as end
 use Rattle.rowfn_batches.specs.declared.output.Output.{Output}
 use Rattle.rowfn_batches.specs.declared.stream.Stream.{Stream}
 use Rattle.rowfn_batches.specs.declared.stream.Summary.{Summary}
-use Rattle.rowfn_batches.specs.BatchAnswers.{AreAnswers, EndsBatch, IsUnanswered}
-use Rattle.rowfn_batches.specs.Outputs.{row_lines, picked_texts}
+use Rattle.rowfn_batches.specs.declared.taking.Condition.{Condition}
+use Rattle.rowfn_batches.specs.Fields.{Field}
+use Rattle.rowfn_batches.specs.BatchAnswers.{AreAnswers, EndsBatch, row_number, row_among}
+use Rattle.rowfn_batches.specs.Taking.{Takes, IsLeft, rows_before}
+use Rattle.rowfn_batches.specs.Outputs.{row_lines, picked_texts, appended_lines}
 
 -- the lines of the input of those of the first rows in which the answer is true
 abbrev pub picked_lines : {R : Type 0} → Stream R → Option ColumnView → ℕ → List ℕ
 picked_lines s None n = []
 picked_lines s (Some top) n = picked_texts top (map (line_of s.records) (take n s.batch.spans))
 
--- what is written of the first rows of the batch: a line of the answers for each, or those lines
-abbrev pub batch_text : {R : Type 0} → Stream R → List ColumnView → ℕ → List ℕ
-batch_text s answers n =
-    if s.settings.picks_rows then picked_lines s (slice_get answers (length answers - 1)) n
+-- a line of the answers for each of the first rows that are answered, behind the row's own fields
+-- where these are appended
+abbrev pub answer_text : {R : Type 0} → Stream R → Option (List ℕ) → List ColumnView → ℕ → List ℕ
+answer_text s rows answers n =
+    if s.settings.appends
+    then appended_lines s.output.format.delimiter s.output.format.null.now
+    (map (line_of s.records) s.batch.spans) rows answers n
     else row_lines s.output.format.delimiter s.output.format.null.now answers n
 
--- the first rows of the batch have those answers, and what ends them there does
-pub record IsAnswered {R : Type 0} (s : Stream R) (behind : Option StreamError) (n : ℕ)
-    (answers : List ColumnView) (e : Option StreamError) : Type 0 where
-  pub rows : AreAnswers s.expression.now s.batch.fields n answers
-  pub ends : EndsBatch s.expression.now s.batch.fields s.layout.places.items s.summary.rows_read
-      (length s.batch.spans) behind n e
+-- what is written of these rows: that, or the lines that are picked where all are answered
+abbrev pub batch_text : {R : Type 0} → Stream R → Option (List ℕ) → List ColumnView → ℕ → List ℕ
+batch_text s rows answers n =
+    if s.settings.picks_rows && not (is_some rows)
+    then picked_lines s (slice_get answers (length answers - 1)) n
+    else answer_text s rows answers n
+
+-- the first rows that are taken have those answers, and what ends them there does
+pub record IsAnswered {R : Type 0} (s : Stream R) (behind : Option StreamError)
+    (rows : Option (List ℕ)) (n : ℕ) (answers : List ColumnView) (e : Option StreamError)
+    : Type 0 where
+  pub fields : List Field
+  pub count : ℕ
+  pub ended : Option StreamError
+  pub taken : Takes s behind fields rows count ended
+  pub answered : AreAnswers s.expression.now fields n answers
+  pub ends : EndsBatch s.expression.now fields s.layout.places.items
+      (λ k. row_number (rows_before s) (row_among rows k)) count ended n e
 
 -- what is read, and how, stays
 pub record KeepsReading {R : Type 0} (old new : Stream R) : Type 0 where
   pub alloc : new.alloc ≡ old.alloc
   pub settings : new.settings ≡ old.settings
   pub expression : new.expression ≡ old.expression
+  pub condition : new.condition ≡ old.condition
   pub records : new.records ≡ old.records
   pub layout : new.layout ≡ old.layout
   pub batch : new.batch ≡ old.batch
@@ -56,13 +75,11 @@ ended (Some e) = Err e
 -- the writer refused.
 pub data PassesOn {R : Type 0} (s : Stream R) (behind : Option StreamError)
     (before after : Option (List ℕ)) (result : Result (Unit {0}) StreamError) : Type 0 where
-  answered : (n : ℕ) (answers : List ColumnView) (e : Option StreamError)
-      → IsAnswered s behind n answers e
-      → Appends before after (s.output.bytes.items ++ batch_text s answers n)
+  answered : (rows : Option (List ℕ)) (n : ℕ) (answers : List ColumnView) (e : Option StreamError)
+      → IsAnswered s behind rows n answers e
+      → Appends before after (s.output.bytes.items ++ batch_text s rows answers n)
       → result ≡ ended e → PassesOn s behind before after result
-  unanswered : (e : StreamError)
-      → IsUnanswered s.expression.now s.batch.fields (length s.batch.spans) e
-      → Keeps before after → result ≡ Err e → PassesOn s behind before after result
+  unanswered : (e : StreamError) → IsLeft s behind e → Keeps before after → result ≡ Err e → PassesOn s behind before after result
   without_memory : Keeps before after → result ≡ Err end.OutOfMemory
       → PassesOn s behind before after result
   unwritten : (e : StreamError) → IsWriting e → result ≡ Err e
@@ -72,10 +89,15 @@ pub data PassesOn {R : Type 0} (s : Stream R) (behind : Option StreamError)
 abbrev pub rows_read_behind : {R : Type 0} → Stream R → ℕ
 rows_read_behind s = min (s.summary.rows_read + length s.batch.spans) (2 ^ 64 - 1)
 
+-- what is asked by a condition, and where its columns stand
+abbrev pub condition_asked : Option Condition → Option (Expression × List ℕ)
+condition_asked = option_map (λ c. (c.expression.now, c.layout.places.items))
+
 -- another batch of the stream was read; all but what reads it stays
 pub record IsRefilled {R : Type 0} (old new : Stream R) : Type 0 where
   pub settings : new.settings ≡ old.settings
   pub expression : new.expression ≡ old.expression
+  pub condition : condition_asked new.condition ≡ condition_asked old.condition
   pub layout : new.layout ≡ old.layout
   pub output : new.output ≡ old.output
   pub summary : new.summary ≡ old.summary
@@ -105,11 +127,12 @@ pub data Passed {R : Type 0} (first : Stream R) (begun : Option (List ℕ))
       → Passed first begun was before → IsRefilled was s → PassesOn s behind before after (Ok tt)
       → IsBehind s now → Passed first begun now after
 
--- a stream of that expression behind its header, of whose rows none is read
-pub record HasBegun {R : Type 0} (x : Expression)
+-- a stream of that expression and that condition behind its header, of whose rows none is read
+pub record HasBegun {R : Type 0} (x : Expression) (asked : Option Expression)
     (before begun : Option (List ℕ)) (first : Stream R) : Type 0 where
   pub headed : Stream R
   pub expression : headed.expression.now ≡ x
+  pub condition : option_map (λ c. c.expression.now) headed.condition ≡ asked
   pub none_read : headed.summary.rows_read ≡ 0
   pub header : Appends before begun headed.output.bytes.items
   pub kept : KeepsReading headed first
@@ -119,15 +142,15 @@ pub record HasBegun {R : Type 0} (x : Expression)
 -- A stream of that reader flows: its header is written, and then batch by batch what is written of
 -- each, in their order and each once, up to the one that ends it, if any; that error is told, and
 -- nothing is written behind it.
-pub data Flows {R : Type 0} (reader : R) (x : Expression)
+pub data Flows {R : Type 0} (reader : R) (x : Expression) (asked : Option Expression)
     (before after : Option (List ℕ)) (result : Result Summary StreamError) : Type 0 where
-  at_end : (first now : Stream R) (begun : Option (List ℕ)) → HasBegun x before begun first
-      → Passed first begun now after → result ≡ Ok now.summary → Flows reader x before after result
+  at_end : (first now : Stream R) (begun : Option (List ℕ)) → HasBegun x asked before begun first
+      → Passed first begun now after → result ≡ Ok now.summary → Flows reader x asked before after result
   at_error : (first was s : Stream R) (begun held : Option (List ℕ)) (behind : Option StreamError)
-      (e : StreamError) → HasBegun x before begun first → Passed first begun was held
+      (e : StreamError) → HasBegun x asked before begun first → Passed first begun was held
       → IsRefilled was s → PassesOn s behind held after (Err e) → result ≡ Err e
-      → Flows reader x before after result
+      → Flows reader x asked before after result
   without_header : (e : StreamError) → IsWriting e → result ≡ Err e
-      → Flows reader x before after result
+      → Flows reader x asked before after result
   not_begun : (e : StreamError) → after ≡ before → result ≡ Err e
-      → Flows reader x before after result
+      → Flows reader x asked before after result

@@ -9,6 +9,7 @@ use Rattle.vortex_interface.specs.Eval.{tree_type}
 use Rattle.vortex_functions.specs.Fixed.{fixed_meaning}
 use Rattle.rowfn_scripts.specs.declared.expression.Answer.{Answer}
 use Rattle.rowfn_csv.specs.declared.format.Format.{Format}
+use Rattle.rowfn_batches.specs.declared.settings.Settings.{Settings}
 use Rattle.rowfn_csv.specs.RoundTrip.{MayBeNull, SaysCells}
 use Rattle.rowfn_batches.specs.Names.{names_of, AreApart, RefusesNames}
 use Rattle.rowfn_batches.specs.Outputs.{row_line}
@@ -44,13 +45,14 @@ module _ (format : Format) where
         → TellsLost (string_bytes a.name) e → RefusesRows answers e
     without_memory : e ≡ end.OutOfMemory → RefusesRows answers e
 
-  -- what is written of the answers reads back: no two have one name, and no row is lost
-  pub record ReadsBack (answers : List Answer) : Type 0 where
-    pub names : AreApart (names_of answers)
-    pub rows : KeepsRows answers
-
   abbrev pub RefusesReadingBack : List Answer → StreamError → Type 0
   RefusesReadingBack answers e = RefusesNames (names_of answers) e ⊎ RefusesRows answers e
+
+-- what is written of the answers reads back: no two have one name, and no row is lost, which none is
+-- that has fields of its own before them
+pub record ReadsBack (settings : Settings) (answers : List Answer) : Type 0 where
+  pub names : AreApart (names_of answers)
+  pub rows : settings.appends ≡ false → KeepsRows settings.format answers
 
 -- a value as a cell: nothing for null
 abbrev pub cell_of : Value → Option (List ℕ)

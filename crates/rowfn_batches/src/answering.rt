@@ -1,11 +1,12 @@
 //! What a batch answers, up to the first row that ends the stream.
 ghost use Rattle.std.specs.Prelude.{◌≡◌, ◌<◌, ◌+◌, ◌*◌, length, map, take, IfOk, IfErr};
-ghost use Rattle.std.specs.Prelude.{MatchResult};
+ghost use Rattle.std.specs.Prelude.{MatchResult, option_map};
 ghost use Rattle.vortex_types.specs.TypeOf.{struct_fields};
 ghost use Rattle.rowfn_batches.specs.Fields.{field_in};
 ghost use Rattle.rowfn_batches.specs.Batches.{field_at};
 ghost use Rattle.rowfn_batches.specs.declared.errors.StreamError.TheVariants.{OutOfMemory};
-ghost use Rattle.rowfn_batches.specs.BatchAnswers.{row_number, TellsMisfit, TellsName, AreFirst};
+ghost use Rattle.rowfn_batches.specs.BatchAnswers.{row_number, row_among, number_of};
+ghost use Rattle.rowfn_batches.specs.BatchAnswers.{TellsMisfit, TellsName, AreFirst};
 ghost use Rattle.rowfn_batches.specs.BatchAnswers.{AreAnswers, EndsAnswers, EndsBatch};
 ghost use Rattle.rowfn_batches.specs.BatchAnswers.{IsUnserved, IsUnanswered, width_of};
 
@@ -33,6 +34,8 @@ pub struct Task<'a> {
     pub places: &'a [usize],
     /// How many rows were read before the batch.
     pub rows_before: u64,
+    /// Which rows of the batch these are; all where that is not said.
+    pub rows: Option<&'a [usize]>,
 }
 
 /// The number of a row of a batch, counted from 1 over the whole input; 18,446,744,073,709,551,615
@@ -41,6 +44,16 @@ pub fn row_number(rows_before: u64, row: usize) -> u64
     ensures { result ≡ row_number rows_before row }
 {
     rows_before.saturating_add(row as u64).saturating_add(1)
+}
+
+/// Which row of a batch a row is of those that are answered: these, or all.
+pub fn row_among(rows: Option<&[usize]>, row: usize) -> usize
+    ensures { result ≡ row_among (option_map (λ r. r.now) rows.entry) row }
+{
+    match rows {
+        Some(rows) => rows.get(row).copied().unwrap_or(0),
+        None => row,
+    }
 }
 
 /// The fields of the first rows that have so many each; all where there are fewer.
@@ -63,6 +76,13 @@ fn first_rows<'f, 'b>(
 }
 
 impl Task<'_> {
+    /// The number of a row that is answered.
+    fn number_of(&self, row: usize) -> u64
+        ensures { result ≡ number_of self.now row }
+    {
+        row_number(self.rows_before, row_among(self.rows, row))
+    }
+
     /// The columns of the first rows, which are whole and none of which has a misfit. E9 where
     /// memory is refused.
     fn columns(
@@ -94,7 +114,7 @@ impl Task<'_> {
         requires place { row * width_of self.now.expression.now + column < length fields.now }
         ensures { let width = width_of self.now.expression.now in
             MatchResult result
-            (TellsMisfit self.now.rows_before row
+            (TellsMisfit (number_of self.now) row
             (struct_fields self.now.expression.now.columns) column
             (field_at (map field_in fields.now) (row * width + column)))
             (λ e. e ≡ OutOfMemory) }
@@ -105,7 +125,7 @@ impl Task<'_> {
             None => None,
         };
         Ok(StreamError::Misfit {
-            row: row_number(self.rows_before, row),
+            row: self.number_of(row),
             column: String::from_str(self.alloc, declared.name(column))?,
             dtype: declared.dtype(column).clone()?,
             field,
@@ -161,7 +181,7 @@ impl Task<'_> {
         ensures rows { IfOk result (λ a. AreAnswers self.now.expression.now
             (map field_in fields.now) a.row_count a.answers.items) }
         ensures ends { IfOk result (λ a. EndsAnswers self.now.expression.now
-            (map field_in fields.now) self.now.rows_before row_count error a.row_count a.error) }
+            (map field_in fields.now) (number_of self.now) row_count error a.row_count a.error) }
         ensures refused { IfErr result
             (IsUnserved self.now.expression.now (map field_in fields.now)) }
     {
@@ -175,7 +195,7 @@ impl Task<'_> {
         match first_fault(self.alloc, self.expression, columns, row_count) {
             Ok(Some((row, fault))) => {
                 let told = StreamError::Fault {
-                    row: row_number(self.rows_before, row),
+                    row: self.number_of(row),
                     error: fault,
                 };
                 self.answer_faultless(fields, row, Some(told))
@@ -201,7 +221,7 @@ impl Task<'_> {
         ensures rows { IfOk result (λ a. AreAnswers self.now.expression.now
             (map field_in fields.now) a.row_count a.answers.items) }
         ensures ends { IfOk result (λ a. EndsBatch self.now.expression.now
-            (map field_in fields.now) self.now.places.now self.now.rows_before row_count error
+            (map field_in fields.now) self.now.places.now (number_of self.now) row_count error
             a.row_count a.error) }
         ensures refused { IfErr result (IsUnanswered self.now.expression.now
             (map field_in fields.now) row_count) }

@@ -76,6 +76,9 @@ pub enum StreamError {
     /// The only answer, of that name, may be null, and the line of such a row would be passed over
     /// where it is read.
     RowsLost(String),
+    /// An answer has the name of a column of the input, before whose answers the input's fields are
+    /// written.
+    NameTaken(String),
     /// Records are to be picked by an answer that is no truth value.
     NoTruth(String),
     /// Memory ran out, but in a call of the expression.
@@ -159,6 +162,7 @@ impl StreamError {
             | StreamError::FewTrees { .. }
             | StreamError::AnswerTwice(_)
             | StreamError::RowsLost(_)
+            | StreamError::NameTaken(_)
             | StreamError::NoTruth(_) => 4,
         }
     }
@@ -306,9 +310,16 @@ fn write_answers<W: fmt::Write>(f: &mut fmt::Formatter<W>, error: &StreamError) 
             write!(f, "the only answer, {name}, may be null, an empty line: ")?;
             f.write_str("expected --null TEXT or --blank-lines null")
         }
+        StreamError::NameTaken(name) => {
+            let name = name.as_str();
+            write!(
+                f,
+                "--append: a column is named {name}: expected another name, by as"
+            )
+        }
         StreamError::NoTruth(name) => {
             let name = name.as_str();
-            write!(f, "--where: {name} is no truth value")
+            write!(f, "--pick: {name} is no truth value")
         }
         error => write_input(f, error),
     }

@@ -4,18 +4,24 @@ use rowfn_scripts::{Answer, Expression};
 use std::alloc::Global;
 use std::fmt::Write;
 use vortex_columns::VortexResult;
+use vortex_expressions::write_expression;
 use vortex_functions::{BoundExpression, NoCustom};
 use vortex_rewriting::Rewrite;
 
-/// A tree's text, its type and its weight, a line each.
+/// A tree as an expression, where it has such a text, as a tree prints itself, and its type and
+/// weight, a line each.
 fn push_tree(
     out: &mut String,
     alloc: Global,
     title: &str,
     tree: &BoundExpression<NoCustom>,
 ) -> VortexResult<()> {
-    let text = tree.sql_text(alloc)?;
-    write!(out, "  {title}: {text}\n    type ")?;
+    let text = match write_expression(alloc, tree)? {
+        Some(text) => text,
+        None => String::from_str(alloc, "no expression")?,
+    };
+    let printed = tree.sql_text(alloc)?;
+    write!(out, "  {title}: {text}\n    printed {printed}\n    type ")?;
     tree.dtype().write_text(out)?;
     let weight = tree.weight();
     write!(out, ", weight {weight}\n")?;
@@ -31,7 +37,7 @@ fn push_answer(out: &mut String, alloc: Global, answer: &Answer) -> VortexResult
     push_tree(out, alloc, "optimized", &optimized.tree)
 }
 
-/// Of each answer its name, its text, type and weight, and those of the tree that `optimize` makes
+/// Of each answer its name, its texts, type and weight, and those of the tree that `optimize` makes
 /// of it. E9 where memory is refused.
 pub fn explain(alloc: Global, expression: &Expression) -> VortexResult<String> {
     let mut out = String::new(alloc);

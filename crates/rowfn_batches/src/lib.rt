@@ -11,13 +11,13 @@ mod fields;
 mod header;
 pub mod laws;
 mod names;
-mod nearness;
 mod output;
 pub mod printing;
 mod reading;
 mod reading_back;
 pub mod settings;
 pub mod stream;
+mod taking;
 
 pub use answers::{execute_answers, first_fault};
 pub use columns::{BatchError, read_columns};

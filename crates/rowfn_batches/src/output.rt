@@ -1,16 +1,18 @@
 //! What is written: answers as fields of CSV, or rows of the input as they stand.
 ghost use Rattle.std.specs.Prelude.{◌≡◌, ◌<◌, ◌≤◌, ◌+◌, ◌∷◌, [], OnOk, IfOk, length, map};
-ghost use Rattle.std.specs.Prelude.{if◌then◌else◌};
+ghost use Rattle.std.specs.Prelude.{if◌then◌else◌, ◌++◌, option_map, slice_index_or};
 ghost use Rattle.vortex_columns.specs.ColumnView.{row};
 ghost use Rattle.vortex_interface.specs.CallTexts.{joined, separator_before};
 ghost use Rattle.rowfn_csv.specs.Fields.{text_field};
 ghost use Rattle.rowfn_csv.specs.KeptLines.{line_of};
 ghost use Rattle.rowfn_batches.specs.Outputs.{Adds, name_field, value_field, row_fields, row_line};
 ghost use Rattle.rowfn_batches.specs.Outputs.{HaveRows, row_lines, is_true, picked_texts};
-ghost use Rattle.rowfn_batches.specs.Outputs.{picked_count};
+ghost use Rattle.rowfn_batches.specs.Outputs.{picked_count, appended_lines};
+ghost use Rattle.rowfn_csv.specs.Records.{without_line_end};
 
+use crate::answering::row_among;
 use crate::printing::push_field;
-use rowfn_csv::{Format, Records, Span, quote_from};
+use rowfn_csv::{Format, Records, Span, quote_from, without_line_end};
 use std::alloc::{AllocError, Global};
 use std::io::Read;
 use vortex_columns::{Cell, Column};
@@ -146,6 +148,54 @@ impl<'a> Output<'a> {
         Ok(())
     }
 
+    /// Adds a delimiter. Refused only for want of memory.
+    fn push_delimiter(&mut self) -> Result<(), AllocError>
+        ensures { OnOk result (Adds self.old self.new (self.old.format.delimiter ∷ [])) }
+    {
+        self.bytes.push(self.format.delimiter)?;
+        Ok(())
+    }
+
+    /// Adds a line without its end, and behind it a row of the answers. Refused only for want of
+    /// memory.
+    fn push_behind(
+        &mut self,
+        line: &[u8],
+        answers: &[Column],
+        place: usize,
+    ) -> Result<(), AllocError>
+        requires { HaveRows (place + 1) answers.now }
+        ensures { OnOk result (Adds self.old self.new (without_line_end line.now
+            ++ (self.old.format.delimiter
+            ∷ row_line self.old.format.delimiter self.old.format.null.now answers.now place))) }
+    {
+        self.push_bytes(without_line_end(line))?;
+        self.push_delimiter()?;
+        self.push_row(answers, place)
+    }
+
+    /// Adds the first rows of the answers, each behind its row of the input, a line each; `rows`
+    /// says which those are, if not all. Refused only for want of memory.
+    pub fn push_appended<R: Read>(
+        &mut self,
+        records: &Records<'_, R>,
+        spans: &[Span],
+        rows: Option<&[usize]>,
+        answers: &[Column],
+        row_count: usize,
+    ) -> Result<(), AllocError>
+        requires { HaveRows row_count answers.now }
+        ensures { OnOk result (Adds self.old self.new (appended_lines self.old.format.delimiter
+            self.old.format.null.now (map (line_of records.now) spans.now)
+            (option_map (λ r. r.now) rows.entry) answers.now row_count)) }
+    {
+        for place in 0..row_count {
+            let line = line_at(records, spans, row_among(rows, place));
+            self.push_behind(line, answers, place)?;
+        }
+        Ok(())
+    }
+
     /// Adds the line of a row where a column is true in it, and answers whether it is. Refused only
     /// for want of memory.
     fn push_if_true(&mut self, top: &Column, i: usize, line: &[u8]) -> Result<bool, AllocError>
@@ -181,8 +231,18 @@ impl<'a> Output<'a> {
     }
 }
 
+/// The bytes of a row that is still kept; none where there is no such row.
+fn line_at<'r, R: Read>(records: &'r Records<'_, R>, spans: &[Span], row: usize) -> &'r [u8]
+    ensures { result.now ≡ slice_index_or (map (line_of records.now) spans.now) row [] }
+{
+    match spans.get(row) {
+        Some(span) => records.bytes(*span),
+        None => &[],
+    }
+}
+
 /// Whether a column is true in a row; it is not where it is null there.
-fn is_true(column: &Column, i: usize) -> bool
+pub fn is_true(column: &Column, i: usize) -> bool
     requires { i < length column.now.rows }
     ensures { result ≡ is_true (row column.now.rows i) }
 {

@@ -11,13 +11,13 @@ ghost use Rattle.rowfn_scripts.specs.Expressions.{Stops, Leaves, LeavesNone};
 ghost use Rattle.rowfn_batches.specs.Endings.{status_of, expression_status};
 
 use crate::errors::StreamError;
-use crate::nearness::is_near;
 use rowfn_lines::parse::parse;
 use rowfn_lines::{Line, lines};
 use rowfn_scripts::{Expected, Expression, ExpressionError, read_expression};
 use std::alloc::Global;
 use vortex_columns::VortexError;
 use vortex_errors::Arity;
+use vortex_expressions::nearest;
 use vortex_functions::{NoCustom, ScalarFnRef};
 
 /// The line of that number, counted from 1.
@@ -43,19 +43,16 @@ fn read_before(
     read_expression(alloc, &text)
 }
 
-/// The first declared column whose name may be meant by another.
+/// The declared column that may be meant by another name.
 fn near_column(
     alloc: Global,
     expression: &Expression,
     name: &str,
 ) -> Result<Option<String>, ExpressionError> {
-    for k in 0..expression.columns.len() {
-        let declared = expression.columns.name(k);
-        if is_near(alloc, name, declared)? {
-            return Ok(Some(String::from_str(alloc, declared)?));
-        }
+    match nearest(alloc, &expression.columns, name)? {
+        Some(declared) => Ok(Some(String::from_str(alloc, declared)?)),
+        None => Ok(None),
     }
-    Ok(None)
 }
 
 /// Why a line is refused that gets a column which no line before it declares; nothing of another.

@@ -48,7 +48,8 @@ fn check_rows(alloc: Global, format: &Format<'_>, answers: &[Answer]) -> Result<
 }
 
 /// Refused where answers are written which would not read back: where two have one name, where the
-/// only one may be null and its line would be passed over, and where memory runs out.
+/// only one may be null and its line would be passed over, where no fields of its own stand before
+/// it, and where memory runs out.
 pub fn check_reading_back(
     alloc: Global,
     settings: &Settings<'_>,
@@ -56,7 +57,7 @@ pub fn check_reading_back(
 ) -> Result<(), StreamError>
     ensures { let answers = expression.now.answers.items in
         MatchResult result
-        (λ _. settings.now.picks_rows ≡ false → ReadsBack settings.now.format answers)
+        (λ _. settings.now.picks_rows ≡ false → ReadsBack settings.now answers)
         (λ e. (settings.now.picks_rows ≡ false)
         × RefusesReadingBack settings.now.format answers e) }
 {
@@ -64,5 +65,8 @@ pub fn check_reading_back(
         return Ok(());
     }
     check_names(alloc, expression)?;
+    if settings.appends {
+        return Ok(());
+    }
     check_rows(alloc, &settings.format, &expression.answers)
 }

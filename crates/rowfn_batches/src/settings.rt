@@ -18,4 +18,8 @@ pub struct Settings<'a> {
     /// Whether the rows of the input are written in which the only answer is true, in place of
     /// answers.
     pub picks_rows: bool,
+    /// Whether each row's own fields are written before its answers.
+    pub appends: bool,
+    /// How many rows stand before those of the input, where that is a part of a whole.
+    pub rows_before: u64,
 }

@@ -1,11 +1,14 @@
 //! The stream: batches of rows, answered and written one behind the other.
-ghost use Rattle.std.specs.Prelude.{◌≡◌, ◌≤◌, IfOk, IfErr, OnOk, MatchResult, length, false};
+ghost use Rattle.std.specs.Prelude.{◌≡◌, ◌≤◌, IfOk, IfErr, OnOk, MatchResult, length, false, map, None};
+ghost use Rattle.std.specs.Prelude.{option_map, slice_get, ◌-◌};
 ghost use Rattle.std.specs.Io.KnownBytes.{Appends};
-ghost use Rattle.rowfn_batches.specs.BatchAnswers.{IsUnanswered};
 ghost use Rattle.rowfn_batches.specs.Outputs.{Adds, HaveRows};
+ghost use Rattle.rowfn_batches.specs.Passing.{picked_lines, answer_text};
 ghost use Rattle.rowfn_batches.specs.Passing.{IsAnswered, batch_text, KeepsReading, IsCleared};
 ghost use Rattle.rowfn_batches.specs.Passing.{IsWriting, PassesOn, IsRefilled, IsBehind};
 ghost use Rattle.rowfn_batches.specs.Passing.{PassesNext, Flows};
+ghost use Rattle.rowfn_batches.specs.Taking.{Takes, IsLeft, rows_before};
+ghost use Rattle.rowfn_batches.specs.Fields.{field_in};
 ghost use Rattle.rowfn_batches.specs.ReadingBack.{ReadsBack};
 ghost use Rattle.rowfn_batches.specs.Tops.{IsTop, RefusesTop};
 
@@ -15,7 +18,8 @@ use crate::header::{Layout, declared_layout, named_layout};
 use crate::output::Output;
 use crate::reading_back::check_reading_back;
 use crate::settings::Settings;
-use rowfn_csv::{Batch, ReadError, Records};
+use crate::taking::{Condition, Taken, slice_of, take_all, take_those};
+use rowfn_csv::{Batch, ByteRecord, ReadError, Records, without_line_end};
 use rowfn_scripts::Expression;
 use std::alloc::{AllocError, Global};
 use std::io::{Read, Write};
@@ -60,6 +64,7 @@ struct Stream<'a, R> {
     alloc: Global,
     settings: Settings<'a>,
     expression: &'a Expression,
+    condition: Option<Condition<'a>>,
     records: Records<'a, R>,
     layout: Layout,
     batch: Batch,
@@ -107,12 +112,15 @@ impl<'a, R: Read + Drop> Stream<'a, R> {
         alloc: Global,
         settings: &Settings<'a>,
         expression: &'a Expression,
+        condition: Option<&'a Expression>,
         reader: R,
     ) -> Result<Stream<'a, R>, StreamError>
         ensures expression { IfOk result (λ s. s.expression.now ≡ expression.now) }
+        ensures condition { IfOk result (λ s. option_map (λ c. c.expression.now) s.condition
+            ≡ option_map (λ c. c.now) condition.entry) }
         ensures none_read { IfOk result (λ s. s.summary.rows_read ≡ 0) }
         ensures reads_back { OnOk result (settings.now.picks_rows ≡ false
-            → ReadsBack settings.now.format expression.now.answers.items) }
+            → ReadsBack settings.now expression.now.answers.items) }
     {
         check_reading_back(alloc, settings, expression)?;
         let mut records = Records::new(alloc, settings.format, settings.max_field, reader);
@@ -122,10 +130,15 @@ impl<'a, R: Read + Drop> Stream<'a, R> {
         } else {
             declared_layout(alloc, &expression.columns)?
         };
+        let condition = match condition {
+            Some(condition) => Some(begin_condition(alloc, settings, condition, &records)?),
+            None => None,
+        };
         Ok(Stream {
             alloc,
             settings: *settings,
             expression,
+            condition,
             records,
             layout,
             batch: Batch::new(alloc),
@@ -135,6 +148,15 @@ impl<'a, R: Read + Drop> Stream<'a, R> {
                 rows_written: 0,
             },
         })
+    }
+
+    /// How many rows stand before the batch, those before the input among them.
+    fn rows_before(&self) -> u64
+        ensures { result ≡ rows_before self.now }
+    {
+        self.settings
+            .rows_before
+            .saturating_add(self.summary.rows_read)
     }
 
     /// Whether the last record is a row: closed, and of as many fields as are wanted, none of which
@@ -149,7 +171,7 @@ impl<'a, R: Read + Drop> Stream<'a, R> {
     #[cold]
     #[inline(never)]
     fn misshapen(&self) -> StreamError {
-        let row = row_number(self.summary.rows_read, self.batch.len());
+        let row = row_number(self.rows_before(), self.batch.len());
         if self.records.is_outgrown() {
             let limit = self.settings.max_field;
             return StreamError::FieldTooLong { row, limit };
@@ -169,11 +191,33 @@ impl<'a, R: Read + Drop> Stream<'a, R> {
         self.records.span().end.saturating_sub(begin) >= self.settings.batch_bytes
     }
 
+    fn clear_batch(&mut self)
+        ensures { IsRefilled self.old self.new }
+    {
+        self.batch.clear();
+        if let Some(condition) = &mut self.condition {
+            condition.batch.clear();
+        }
+    }
+
+    /// Adds the last record to the batch.
+    fn add_row(&mut self) -> Result<(), AllocError>
+        ensures { IsRefilled self.old self.new }
+    {
+        self.records.add_to(&mut self.batch, &self.layout.places)?;
+        match &mut self.condition {
+            Some(condition) => self
+                .records
+                .add_to(&mut condition.batch, &condition.layout.places),
+            None => Ok(()),
+        }
+    }
+
     /// Reads the rows of the next batch.
     fn fill(&mut self) -> Filled
         ensures { IsRefilled self.old self.new }
     {
-        self.batch.clear();
+        self.clear_batch();
         let begin = self.records.keep_from_here();
         'rows: for _ in 0..self.settings.batch.max(1) {
             match self.records.read() {
@@ -184,11 +228,7 @@ impl<'a, R: Read + Drop> Stream<'a, R> {
             if !self.is_whole() {
                 return Filled::Broken(self.misshapen());
             }
-            if self
-                .records
-                .add_to(&mut self.batch, &self.layout.places)
-                .is_err()
-            {
+            if self.add_row().is_err() {
                 return broken_by(ReadError::OutOfMemory);
             }
             if self.is_full(begin) {
@@ -198,43 +238,124 @@ impl<'a, R: Read + Drop> Stream<'a, R> {
         Filled::Full
     }
 
-    /// What the rows of the batch answer, behind which an error ends the stream, if there is one.
-    fn answer(&self, error: Option<StreamError>) -> Result<Answered, StreamError>
+    /// The rows of the batch that are answered, behind which an error ends the stream, if there is
+    /// one.
+    fn take(&self, error: Option<StreamError>) -> Result<Taken<'_>, StreamError>
         ensures { MatchResult result
-            (λ a. IsAnswered self.now error a.row_count a.answers.items a.error)
-            (IsUnanswered self.now.expression.now self.now.batch.fields
-            (length self.now.batch.spans)) }
+            (λ t. Takes self.now error (map field_in t.fields.items)
+            (option_map (λ r. r.items) t.rows) t.row_count t.error)
+            (IsLeft self.now error) }
     {
-        let fields = self.batch.fields(self.alloc)?;
-        let task = Task {
+        let Some(condition) = &self.condition else {
+            return take_all(self.alloc, &self.batch, error);
+        };
+        let (rows, error) = condition.sift(self.alloc, self.rows_before(), error)?;
+        take_those(
+            self.alloc,
+            &self.batch,
+            self.layout.places.len(),
+            rows,
+            error,
+        )
+    }
+
+    /// What is asked of rows of the batch: of these, or of all.
+    fn task<'r>(&'r self, rows: Option<&'r [usize]>) -> Task<'r>
+        ensures asked { (result.expression.now ≡ self.now.expression.now)
+            × (result.places.now ≡ self.now.layout.places.items) }
+        ensures numbers { (result.rows_before ≡ rows_before self.now)
+            × (result.rows ≡ rows.entry) }
+    {
+        Task {
             alloc: self.alloc,
             expression: self.expression,
             places: &self.layout.places,
-            rows_before: self.summary.rows_read,
-        };
-        task.answer_batch(&fields, self.batch.len(), error)
+            rows_before: self.rows_before(),
+            rows,
+        }
     }
 
-    /// Pushes what is written of the first rows: a line of the answers for each, or the lines of
-    /// the input of those in which the last answer is true. Answers how many those are. Refused
-    /// only for want of memory.
-    fn push_batch(&mut self, answers: &[Column], row_count: usize) -> Result<u64, AllocError>
+    /// What rows of the batch answer, and which these are where not all are answered.
+    fn answer(
+        &self,
+        error: Option<StreamError>,
+    ) -> Result<(Answered, Option<Vec<usize>>), StreamError>
+        ensures { MatchResult result
+            (λ a. IsAnswered self.now error (option_map (λ r. r.items) a.1) a.0.row_count
+            a.0.answers.items a.0.error)
+            (IsLeft self.now error) }
+    {
+        let Taken {
+            fields,
+            rows,
+            row_count,
+            error,
+        } = self.take(error)?;
+        let task = self.task(slice_of(&rows));
+        let answered = task.answer_batch(&fields, row_count, error)?;
+        Ok((answered, rows))
+    }
+
+    /// Pushes the lines of the input of those of the first rows in which the last answer is true.
+    /// Answers how many those are. Refused only for want of memory.
+    fn push_picked(&mut self, answers: &[Column], row_count: usize) -> Result<u64, AllocError>
         requires rows { HaveRows row_count answers.now }
         requires spans { row_count ≤ length self.old.batch.spans }
         ensures text { OnOk result (Adds self.old.output self.new.output
-            (batch_text self.old answers.now row_count)) }
+            (picked_lines self.old (slice_get answers.now (length answers.now - 1)) row_count)) }
         ensures kept { KeepsReading self.old self.new }
         ensures summary { self.new.summary ≡ self.old.summary }
     {
-        if !self.settings.picks_rows {
-            self.output.push_rows(answers, row_count)?;
-            return Ok(row_count as u64);
-        }
         let Some(top) = answers.last() else {
             return Ok(0);
         };
         let spans = &self.batch.spans()[..row_count];
         self.output.push_picked(top, &self.records, spans)
+    }
+
+    /// Pushes a line of the answers for each of the first rows, behind the row's own fields where
+    /// these are appended. Refused only for want of memory.
+    fn push_answers(
+        &mut self,
+        answers: &[Column],
+        row_count: usize,
+        rows: Option<&[usize]>,
+    ) -> Result<(), AllocError>
+        requires rows { HaveRows row_count answers.now }
+        ensures text { OnOk result (Adds self.old.output self.new.output
+            (answer_text self.old (option_map (λ r. r.now) rows.entry) answers.now row_count)) }
+        ensures kept { KeepsReading self.old self.new }
+        ensures summary { self.new.summary ≡ self.old.summary }
+    {
+        if self.settings.appends {
+            let spans = self.batch.spans();
+            self.output
+                .push_appended(&self.records, spans, rows, answers, row_count)
+        } else {
+            self.output.push_rows(answers, row_count)
+        }
+    }
+
+    /// Pushes what is written of the first rows that are answered. Answers how many those are.
+    /// Refused only for want of memory.
+    fn push_batch(
+        &mut self,
+        answers: &[Column],
+        row_count: usize,
+        rows: Option<&[usize]>,
+    ) -> Result<u64, AllocError>
+        requires rows { HaveRows row_count answers.now }
+        requires spans { rows ≡ None → row_count ≤ length self.old.batch.spans }
+        ensures text { OnOk result (Adds self.old.output self.new.output
+            (batch_text self.old (option_map (λ r. r.now) rows.entry) answers.now row_count)) }
+        ensures kept { KeepsReading self.old self.new }
+        ensures summary { self.new.summary ≡ self.old.summary }
+    {
+        if self.settings.picks_rows && rows.is_none() {
+            return self.push_picked(answers, row_count);
+        }
+        self.push_answers(answers, row_count, rows)?;
+        Ok(row_count as u64)
     }
 
     /// Writes what was pushed. Refused only where the writer refuses.
@@ -267,12 +388,13 @@ impl<'a, R: Read + Drop> Stream<'a, R> {
             result }
         ensures behind { OnOk result (IsBehind self.old self.new) }
     {
+        let (answered, rows) = self.answer(error)?;
         let Answered {
             answers,
             row_count,
             error,
-        } = self.answer(error)?;
-        let count = self.push_batch(&answers, row_count)?;
+        } = answered;
+        let count = self.push_batch(&answers, row_count, slice_of(&rows))?;
         self.write(writer)?;
         let Summary {
             rows_read,
@@ -300,6 +422,65 @@ impl<'a, R: Read + Drop> Stream<'a, R> {
     }
 }
 
+/// The condition, whose columns stand where the header that was read last says, if there is one.
+fn begin_condition<'a, R: Read>(
+    alloc: Global,
+    settings: &Settings<'a>,
+    expression: &'a Expression,
+    records: &Records<'a, R>,
+) -> Result<Condition<'a>, StreamError>
+    ensures { IfOk result (λ c. c.expression.now ≡ expression.now) }
+{
+    let layout = if settings.header {
+        named_layout(alloc, &expression.columns, records.record())?
+    } else {
+        declared_layout(alloc, &expression.columns)?
+    };
+    Ok(Condition {
+        expression,
+        layout,
+        batch: Batch::new(alloc),
+    })
+}
+
+/// Refused where an answer has the name of a column of the input.
+fn check_taken(
+    alloc: Global,
+    expression: &Expression,
+    header: &ByteRecord,
+) -> Result<(), StreamError> {
+    for answer in expression.answers.iter() {
+        for place in 0..header.len() {
+            if header.get(place) == Some(answer.name.as_bytes()) {
+                let name = String::from_str(alloc, answer.name.as_str())?;
+                return Err(StreamError::NameTaken(name));
+            }
+        }
+    }
+    Ok(())
+}
+
+/// Pushes the names of the answers as a header, behind that of the input where its fields are
+/// written too.
+fn push_header<'a, R: Read>(
+    alloc: Global,
+    settings: &Settings<'a>,
+    expression: &Expression,
+    records: &Records<'a, R>,
+    output: &mut Output<'a>,
+) -> Result<(), StreamError> {
+    if settings.appends {
+        check_taken(alloc, expression, records.record())?;
+        output.push_bytes(without_line_end(records.bytes(records.span())))?;
+    }
+    let first = usize::from(settings.appends);
+    for (index, answer) in expression.answers.iter().enumerate() {
+        output.push_name(index.saturating_add(first), answer.name.as_str())?;
+    }
+    output.end_line()?;
+    Ok(())
+}
+
 /// Reads the header and answers where the columns stand; pushes the header of the output: that of
 /// the input as it stands where rows are picked, else the names of the answers.
 fn read_header<'a, R: Read>(
@@ -323,15 +504,14 @@ fn read_header<'a, R: Read>(
         }
         return Ok(layout);
     }
-    for (index, answer) in expression.answers.iter().enumerate() {
-        output.push_name(index, answer.name.as_str())?;
-    }
-    output.end_line()?;
+    push_header(alloc, settings, expression, records, output)?;
     Ok(layout)
 }
 
-/// Reads rows as CSV, a batch at a time, and writes what the expression answers in them; or, as the
-/// settings say, the rows in which its only answer is true. Answers how many rows those were.
+/// Reads rows as CSV, a batch at a time, and writes what the expression answers in them, or in those
+/// of them in which a condition is true, which is one answer over columns of its own; or, as the
+/// settings say, the rows in which the expression's only answer is true, without a condition. Answers
+/// how many rows those were.
 ///
 /// Refused before anything is written where what is written of answers would not read back: where
 /// two have one name, and where the only one may be null, and its empty line would be passed over.
@@ -341,15 +521,17 @@ pub fn flow<R: Read + Drop, W: Write>(
     alloc: Global,
     settings: &Settings<'_>,
     expression: &Expression,
+    condition: Option<&Expression>,
     reader: R,
     writer: &mut W,
 ) -> Result<Summary, StreamError>
-    ensures flows { Flows reader expression.now (W.contents writer.old) (W.contents writer.new)
+    ensures flows { Flows reader expression.now (option_map (λ c. c.now) condition.entry)
+        (W.contents writer.old) (W.contents writer.new)
         result }
     ensures reads_back { OnOk result (settings.now.picks_rows ≡ false
-        → ReadsBack settings.now.format expression.now.answers.items) }
+        → ReadsBack settings.now expression.now.answers.items) }
 {
-    let mut stream = Stream::begin(alloc, settings, expression, reader)?;
+    let mut stream = Stream::begin(alloc, settings, expression, condition, reader)?;
     stream.write(writer)?;
     'batches: for _ in 0..u64::MAX {
         let goes_on = stream.pass_next(writer)?;

@@ -14,4 +14,5 @@ pub use batch::Batch;
 pub use csv::ByteRecord;
 pub use format::Format;
 pub use quoting::{push_quoted, quote_from};
+pub use raw::without_line_end;
 pub use records::{ReadError, Records, Span};

@@ -4,10 +4,12 @@ use clap::{Arg, ArgAction, Command, Error, value_parser};
 use std::alloc::Global;
 
 /// What `--help` prints below the options.
-const AFTER_HELP: &str = "Rows are CSV. An expression is lines: `col NAME TYPE` declares a column, \
-`get`, `lit` and `call` make trees,\n`as NAME` names the last one. The trees that are left at the \
-end are the answers.\n\nStatus: 1 a call faults in a row, 2 input that does not fit, 3 reading, \
-writing or memory, 4 a wrong\nexpression, 64 wrong options.";
+const AFTER_HELP: &str = "Rows are CSV. EXPRESSION is one answer or more: \
+'price * stock as worth, price > 100 as dear'.\nColumns that --columns does not declare take their \
+types from the first rows. With -e or -f the\nexpression is lines: `col NAME TYPE` declares a \
+column, `get`, `lit` and `call` make trees, `as NAME`\nnames the last one; the trees that are left \
+at the end are the answers.\n\nStatus: 1 a call faults in a row, 2 input that does not fit, 3 \
+reading, writing or memory, 4 a wrong\nexpression, 64 wrong options.";
 
 /// The command with an option more.
 fn with<'a>(command: Command<'a>, option: Result<Arg<'a>, Error>) -> Result<Command<'a>, Error> {
@@ -18,6 +20,7 @@ fn delimiter<'a>(alloc: Global) -> Result<Arg<'a>, Error> {
     Ok(
         Arg::new(alloc, "delimiter")
             .long("delimiter")
+            .short('d')
             .value_name("BYTE")
             .default_value(",")
             .help("The byte between two fields; \\t is a tab"),
@@ -47,6 +50,8 @@ fn null<'a>(alloc: Global) -> Result<Arg<'a>, Error> {
     Ok(
         Arg::new(alloc, "null")
             .long("null")
+            .short('n')
+            .allow_hyphen_values(true)
             .value_name("TEXT")
             .default_value("")
             .help("What stands for null, in no quotes"),
@@ -96,12 +101,64 @@ fn max_field<'a>(alloc: Global) -> Result<Arg<'a>, Error> {
     )
 }
 
-fn picks<'a>(alloc: Global) -> Result<Arg<'a>, Error> {
+fn columns<'a>(alloc: Global) -> Result<Arg<'a>, Error> {
+    Ok(
+        Arg::new(alloc, "columns")
+            .long("columns")
+            .value_name("COLUMNS")
+            .conflicts_with("lines")?
+            .conflicts_with("script")?
+            .help("Columns and their types: 'price i32, stock i32?, \"unit price\" i64'"),
+    )
+}
+
+fn no_infer<'a>(alloc: Global) -> Result<Arg<'a>, Error> {
+    Ok(
+        Arg::new(alloc, "no-infer")
+            .long("no-infer")
+            .action(ArgAction::SetTrue)
+            .help("Take no types from the first rows: columns are the declared ones"),
+    )
+}
+
+fn condition<'a>(alloc: Global) -> Result<Arg<'a>, Error> {
     Ok(
         Arg::new(alloc, "where")
             .long("where")
+            .value_name("EXPRESSION")
+            .allow_hyphen_values(true)
+            .help("Take the rows in which this is true; without answers, write them as they stand"),
+    )
+}
+
+fn picks<'a>(alloc: Global) -> Result<Arg<'a>, Error> {
+    Ok(
+        Arg::new(alloc, "pick")
+            .long("pick")
             .action(ArgAction::SetTrue)
+            .conflicts_with("where")?
             .help("Write the rows in which the last answer is true, as they stand"),
+    )
+}
+
+fn append<'a>(alloc: Global) -> Result<Arg<'a>, Error> {
+    Ok(
+        Arg::new(alloc, "append")
+            .long("append")
+            .action(ArgAction::SetTrue)
+            .conflicts_with("pick")?
+            .help("Write each row's own fields before its answers"),
+    )
+}
+
+fn first_row<'a>(alloc: Global) -> Result<Arg<'a>, Error> {
+    Ok(
+        Arg::new(alloc, "first-row")
+            .long("first-row")
+            .value_name("N")
+            .value_parser(value_parser!(u64).range(1..))
+            .default_value("1")
+            .help("The number by which the first row is told, as in a part of a whole"),
     )
 }
 
@@ -110,8 +167,8 @@ fn explain<'a>(alloc: Global) -> Result<Arg<'a>, Error> {
         Arg::new(alloc, "explain")
             .long("explain")
             .action(ArgAction::SetTrue)
-            .conflicts_with("where")?
-            .help("Print what is answered, and read no rows"),
+            .conflicts_with("pick")?
+            .help("Print what is answered, and of which types; write no rows"),
     )
 }
 
@@ -130,38 +187,90 @@ fn lines<'a>(alloc: Global) -> Result<Arg<'a>, Error> {
             .short('e')
             .value_name("LINES")
             .action(ArgAction::Append)
-            .help("Lines of the expression, in place of a file"),
+            .help("Lines of an expression, in place of EXPRESSION"),
     )
 }
 
-fn file<'a>(alloc: Global) -> Result<Arg<'a>, Error> {
+fn script<'a>(alloc: Global) -> Result<Arg<'a>, Error> {
     Ok(
-        Arg::new(alloc, "file")
+        Arg::new(alloc, "script")
+            .short('f')
             .value_name("EXPRESSION-FILE")
-            .required_unless_present("lines")?
             .conflicts_with("lines")?
-            .help("The file of the expression"),
+            .help("A file of such lines, in place of EXPRESSION"),
     )
 }
 
-/// The command with all its options: how fields are written, what is done with rows, and where the
-/// expression stands.
+fn input<'a>(alloc: Global) -> Result<Arg<'a>, Error> {
+    Ok(
+        Arg::new(alloc, "input")
+            .long("input")
+            .value_name("INPUT-FILE")
+            .help("The file of the rows, as INPUT-FILE"),
+    )
+}
+
+fn expression<'a>(alloc: Global) -> Result<Arg<'a>, Error> {
+    Ok(
+        Arg::new(alloc, "expression")
+            .value_name("EXPRESSION")
+            .required_unless_present("lines")?
+            .required_unless_present("script")?
+            .required_unless_present("where")?
+            .help("What is answered in each row; not there with -e or -f"),
+    )
+}
+
+fn input_file<'a>(alloc: Global) -> Result<Arg<'a>, Error> {
+    Ok(
+        Arg::new(alloc, "input-file")
+            .value_name("INPUT-FILE")
+            .conflicts_with("input")?
+            .help("The file of the rows; standard input where there is none, or it is -"),
+    )
+}
+
+/// How fields are written, in the input and in the output.
+fn with_fields<'a>(alloc: Global, command: Command<'a>) -> Result<Command<'a>, Error> {
+    let command = with(command, delimiter(alloc))?;
+    let command = with(command, header(alloc))?;
+    let command = with(command, no_header(alloc))?;
+    let command = with(command, null(alloc))?;
+    with(command, blank_lines(alloc))
+}
+
+/// How rows are read.
+fn with_rows<'a>(alloc: Global, command: Command<'a>) -> Result<Command<'a>, Error> {
+    let command = with(command, columns(alloc))?;
+    let command = with(command, no_infer(alloc))?;
+    let command = with(command, first_row(alloc))?;
+    let command = with(command, batch(alloc))?;
+    let command = with(command, batch_bytes(alloc))?;
+    with(command, max_field(alloc))
+}
+
+/// What is done with rows.
+fn with_actions<'a>(alloc: Global, command: Command<'a>) -> Result<Command<'a>, Error> {
+    let command = with(command, condition(alloc))?;
+    let command = with(command, picks(alloc))?;
+    let command = with(command, append(alloc))?;
+    let command = with(command, explain(alloc))?;
+    with(command, summary(alloc))
+}
+
+/// The command with all its options: where the expression stands, what is done with rows, and how
+/// they are read and written.
 pub fn command<'a>(alloc: Global) -> Result<Command<'a>, Error> {
     let command = Command::new(alloc, "rowfn_stream")
         .version("0.1")
         .about("Rows of CSV that flow through an expression")
         .after_help(AFTER_HELP);
-    let command = with(command, delimiter(alloc))?;
-    let command = with(command, header(alloc))?;
-    let command = with(command, no_header(alloc))?;
-    let command = with(command, null(alloc))?;
-    let command = with(command, blank_lines(alloc))?;
-    let command = with(command, batch(alloc))?;
-    let command = with(command, batch_bytes(alloc))?;
-    let command = with(command, max_field(alloc))?;
-    let command = with(command, picks(alloc))?;
-    let command = with(command, explain(alloc))?;
-    let command = with(command, summary(alloc))?;
+    let command = with(command, expression(alloc))?;
+    let command = with(command, input_file(alloc))?;
+    let command = with(command, input(alloc))?;
     let command = with(command, lines(alloc))?;
-    with(command, file(alloc))
+    let command = with(command, script(alloc))?;
+    let command = with_actions(alloc, command)?;
+    let command = with_rows(alloc, command)?;
+    with_fields(alloc, command)
 }

@@ -1,4 +1,7 @@
 //! What the words ask for.
+ghost use Rattle.std.specs.Prelude.{◌≡◌};
+ghost use Rattle.clap.specs.Values.{kind_of};
+ghost use Rattle.rowfn_options.specs.Statuses.{status_of};
 
 use crate::command::command;
 use clap::error::ErrorKind;
@@ -19,7 +22,11 @@ pub enum Action {
 /// Where the expression stands.
 #[derive(Drop)]
 pub enum Source<'a> {
-    /// In the file of that name.
+    /// Nowhere: rows are taken as they stand.
+    Nowhere,
+    /// In this text.
+    Text(&'a str),
+    /// In the lines of the file of that name.
     File(&'a str),
     /// In these lines.
     Lines(Vec<&'a str>),
@@ -41,10 +48,22 @@ pub struct Options<'a> {
     pub batch_bytes: u64,
     /// How many bytes a field has, at most; at least 1.
     pub max_field: u64,
+    /// The number by which the first row is told; at least 1.
+    pub first_row: u64,
     pub action: Action,
+    /// Whether each row's own fields are written before its answers.
+    pub appends: bool,
     /// Whether the rows are counted at the end.
     pub summary: bool,
+    /// The columns that are declared in words.
+    pub columns: Option<&'a str>,
+    /// Whether columns that are not declared take their types from the first rows.
+    pub infers: bool,
+    /// In which rows is answered, where not in all.
+    pub condition: Option<&'a str>,
     pub source: Source<'a>,
+    /// The file of the rows, where they are not those of standard input.
+    pub input: Option<&'a str>,
 }
 
 /// The byte that a word says: a byte of ASCII that is neither a quote nor the end of a line, or a
@@ -81,22 +100,61 @@ fn read_blank_lines(word: &str) -> Option<bool> {
 fn asked_action(matches: &ArgMatches<'_>) -> Action {
     if matches.get_flag("explain") {
         Action::Explain
-    } else if matches.get_flag("where") {
+    } else if matches.get_flag("pick") {
         Action::Pick
     } else {
         Action::Answer
     }
 }
 
+/// Whether the expression is lines.
+fn has_lines(matches: &ArgMatches<'_>) -> bool {
+    matches.contains_id("lines") || matches.contains_id("script")
+}
+
+/// Where the expression stands: the first word is it, where lines are not.
 fn asked_source<'a>(alloc: Global, matches: &ArgMatches<'a>) -> Result<Source<'a>, Error> {
-    if let Some(name) = matches.get_str("file") {
+    if let Some(name) = matches.get_str("script") {
         return Ok(Source::File(name));
     }
-    let mut lines = Vec::new(alloc);
     if let Some(words) = matches.get_strs("lines") {
+        let mut lines = Vec::new(alloc);
         lines.extend_from_slice(words)?;
+        return Ok(Source::Lines(lines));
     }
-    Ok(Source::Lines(lines))
+    match matches.get_str("expression") {
+        Some(text) => Ok(Source::Text(text)),
+        None => Ok(Source::Nowhere),
+    }
+}
+
+/// Why there are too many words for files.
+fn input_error(command: &mut Command<'_>) -> Result<Error, Error> {
+    let message = "the rows are those of one file: with -e and -f the first word is it";
+    Ok(command.error(ErrorKind::ArgumentConflict, message)?)
+}
+
+/// The words that may name the file of the rows: the first one where the expression is lines, else
+/// the second one.
+fn input_words<'a>(matches: &ArgMatches<'a>) -> [Option<&'a str>; 2] {
+    if has_lines(matches) {
+        [matches.get_str("expression"), matches.get_str("input-file")]
+    } else {
+        [matches.get_str("input-file"), None]
+    }
+}
+
+/// The file of the rows; nothing for standard input.
+fn asked_input<'a>(
+    matches: &ArgMatches<'a>,
+    command: &mut Command<'_>,
+) -> Result<Option<&'a str>, Error> {
+    let name = match (input_words(matches), matches.get_str("input")) {
+        ([word, None], None) => word,
+        ([None, None], named) => named,
+        _ => return Err(input_error(command)?),
+    };
+    Ok(name.filter(|name| *name != "-"))
 }
 
 /// Why a word is no delimiter.
@@ -154,6 +212,7 @@ fn options_of<'a>(
     alloc: Global,
     matches: &ArgMatches<'a>,
     fields: Fields<'a>,
+    input: Option<&'a str>,
 ) -> Result<Options<'a>, Error> {
     let source = asked_source(alloc, matches)?;
     Ok(Options {
@@ -164,9 +223,15 @@ fn options_of<'a>(
         batch: matches.get_one::<u32>("batch").unwrap_or(2048),
         batch_bytes: matches.get_one::<u64>("batch-bytes").unwrap_or(1 << 20),
         max_field: matches.get_one::<u64>("max-field").unwrap_or(1 << 28),
+        first_row: matches.get_one::<u64>("first-row").unwrap_or(1),
         action: asked_action(matches),
+        appends: matches.get_flag("append"),
         summary: matches.get_flag("summary"),
+        columns: matches.get_str("columns"),
+        infers: !matches.get_flag("no-infer"),
+        condition: matches.get_str("where"),
         source,
+        input,
     })
 }
 
@@ -176,12 +241,15 @@ pub fn read_options<'a>(alloc: Global, words: &'a [String]) -> Result<Options<'a
     let mut command = command(alloc)?;
     let matches = command.try_get_matches_from_mut(words)?;
     let fields = asked_fields(&matches, &mut command)?;
-    options_of(alloc, &matches, fields)
+    let input = asked_input(&matches, &mut command)?;
+    options_of(alloc, &matches, fields, input)
 }
 
 /// What the program ends with where its words give no options: 0 where help or the version was asked
 /// for, 3 where memory is refused, and 64 for wrong words.
-pub fn status(error: &Error) -> u8 {
+pub fn status(error: &Error) -> u8
+    ensures { result ≡ status_of (kind_of error.now) }
+{
     match error.kind() {
         ErrorKind::DisplayHelp | ErrorKind::DisplayVersion => 0,
         ErrorKind::OutOfMemory => 3,

@@ -1,44 +1,22 @@
-//! Rows of CSV that flow from standard input through an expression to standard output.
+//! Rows of CSV that flow from a file or standard input through an expression to standard output.
 #![tactic(auto)]
 
-use rowfn_batches::{
-    Format, Settings, StreamError, Summary, check_names, explain, flow, read_told, top_alone,
-};
-use rowfn_options::{Action, Options, Source, read_options, status};
+mod asking;
+mod failure;
+
+use crate::asking::{ask, format_of};
+use crate::failure::Failure;
+use rowfn_batches::{Settings, StreamError, Summary, check_names, explain, flow};
+use rowfn_options::{Action, Options, read_options, status};
+use rowfn_queries::{Again, Query};
 use rowfn_scripts::Expression;
-use std::alloc::Global;
+use std::io::Read;
 use std::process::ExitCode;
 use std::rt::{Env, Files};
 use std::{env, fs, io};
+use vortex_columns::StructFields;
 
-/// The lines of an expression, one behind the other.
-fn joined(alloc: Global, lines: &[&str]) -> Result<Vec<u8>, StreamError> {
-    let mut text = Vec::new(alloc);
-    for line in lines {
-        text.extend_from_slice(line.as_bytes())?;
-        text.push(b'\n')?;
-    }
-    Ok(text)
-}
-
-/// The text of the expression.
-fn expression_text(
-    rt: &(impl Files + AllocGlobal),
-    source: &Source<'_>,
-) -> Result<Vec<u8>, StreamError> {
-    match source {
-        Source::Lines(lines) => joined(rt.alloc(), lines),
-        Source::File(name) => match fs::read(rt, *name) {
-            Ok(text) => Ok(text),
-            Err(error) => {
-                let name = String::from_str(rt.alloc(), name)?;
-                Err(StreamError::ReadingExpression(name, error))
-            }
-        },
-    }
-}
-
-/// Prints the expression on standard output.
+/// Prints an expression on standard output.
 fn print_expression(
     rt: &(impl Print + AllocGlobal),
     expression: &Expression,
@@ -52,49 +30,109 @@ fn print_expression(
     }
 }
 
-/// Lets the rows flow, and prints how many they were where that is asked for.
-fn pass_rows(
-    rt: &(impl Input + Print + Eprint + AllocGlobal),
-    options: &Options<'_>,
-    expression: &Expression,
-) -> Result<(), StreamError> {
-    let settings = Settings {
-        format: Format {
-            delimiter: options.delimiter,
-            null: options.null.as_bytes(),
-            blank_rows: options.blank_rows,
-        },
+/// Prints what is asked: the answers, and behind them the condition.
+fn print_query(rt: &(impl Print + AllocGlobal), query: &Query) -> Result<(), StreamError> {
+    if let Some(answers) = &query.answers {
+        check_names(rt.alloc(), answers)?;
+        print_expression(rt, answers)?;
+    }
+    if let Some(condition) = &query.condition {
+        print_expression(rt, condition)?;
+    }
+    Ok(())
+}
+
+fn settings_of<'a>(options: &Options<'a>) -> Settings<'a> {
+    Settings {
+        format: format_of(options),
         header: options.header,
         batch: options.batch as usize,
         batch_bytes: options.batch_bytes,
         max_field: options.max_field as usize,
-        picks_rows: options.action == Action::Pick,
+        picks_rows: false,
+        appends: options.appends,
+        rows_before: options.first_row.saturating_sub(1),
+    }
+}
+
+/// Lets the rows flow, and tells how many they were.
+fn pass_rows<R: Read + Drop>(
+    rt: &(impl Print + AllocGlobal),
+    options: &Options<'_>,
+    query: &Query,
+    reader: R,
+) -> Result<Summary, StreamError> {
+    let alloc = rt.alloc();
+    let settings = settings_of(options);
+    let picking = Settings {
+        picks_rows: true,
+        ..settings
     };
     let mut out = io::writer(rt);
-    let Summary {
-        rows_read,
-        rows_written,
-    } = flow(rt.alloc(), &settings, expression, rt.reader(), &mut out)?;
-    if options.summary {
-        let _ = eprintln!(rt; "rows read {rows_read}, rows written {rows_written}");
+    match (&query.answers, &query.condition) {
+        (Some(answers), condition) => {
+            let condition = condition.as_ref();
+            flow(alloc, &settings, answers, condition, reader, &mut out)
+        }
+        (None, Some(condition)) => flow(alloc, &picking, condition, None, reader, &mut out),
+        (None, None) => Ok(Summary {
+            rows_read: 0,
+            rows_written: 0,
+        }),
     }
-    Ok(())
+}
+
+/// The error, with advice where the type that a field has not was taken from the first rows.
+fn advised(inferred: &StructFields, error: StreamError) -> Failure {
+    let is_inferred = match &error {
+        StreamError::Misfit { column, .. } => inferred.find(column.as_str()).is_some(),
+        _ => false,
+    };
+    if is_inferred {
+        Failure::Inferred(error)
+    } else {
+        Failure::Stream(error)
+    }
+}
+
+/// Does what the options ask for with the rows of a reader.
+fn perform_on<R: Read + Drop>(
+    rt: &(impl Print + Eprint + Files + AllocGlobal),
+    options: &Options<'_>,
+    reader: R,
+) -> Result<(), Failure> {
+    let mut reader = Again::new(rt.alloc(), reader);
+    let query = ask(rt, options, &mut reader)?;
+    if options.action == Action::Explain {
+        return Ok(print_query(rt, &query)?);
+    }
+    match pass_rows(rt, options, &query, reader) {
+        Ok(
+            Summary {
+                rows_read,
+                rows_written,
+            },
+        ) => {
+            if options.summary {
+                let _ = eprintln!(rt; "rows read {rows_read}, rows written {rows_written}");
+            }
+            Ok(())
+        }
+        Err(error) => Err(advised(&query.inferred, error)),
+    }
 }
 
 /// Does what the options ask for.
 fn perform(
     rt: &(impl Input + Print + Eprint + Files + AllocGlobal),
     options: &Options<'_>,
-) -> Result<(), StreamError> {
-    let text = expression_text(rt, &options.source)?;
-    let expression = read_told(rt.alloc(), &text)?;
-    match options.action {
-        Action::Explain => {
-            check_names(rt.alloc(), &expression)?;
-            print_expression(rt, &expression)
-        }
-        Action::Answer => pass_rows(rt, options, &expression),
-        Action::Pick => pass_rows(rt, options, &top_alone(rt.alloc(), expression)?),
+) -> Result<(), Failure> {
+    let Some(name) = options.input else {
+        return perform_on(rt, options, rt.reader());
+    };
+    match fs::open(rt, name) {
+        Ok(file) => perform_on(rt, options, file),
+        Err(error) => Err(Failure::Input(String::from_str(rt.alloc(), name)?, error)),
     }
 }
 
@@ -129,13 +167,6 @@ fn print_no_words(rt: &impl Eprint, error: &io::Error) -> u8 {
 /// a program that this signal ends. Nothing is printed then.
 const PIPE_CLOSED: u8 = 141;
 
-fn is_closed_pipe(error: &StreamError) -> bool {
-    match error {
-        StreamError::Writing(error) => error.kind() == io::ErrorKind::BrokenPipe,
-        _ => false,
-    }
-}
-
 /// Reads the options and does what they ask for; prints what went wrong on standard error. The
 /// status is 0 where nothing did.
 fn run(rt: &(impl Input + Print + Eprint + Env + Files + AllocGlobal)) -> u8 {
@@ -149,7 +180,7 @@ fn run(rt: &(impl Input + Print + Eprint + Env + Files + AllocGlobal)) -> u8 {
     };
     match perform(rt, &options) {
         Ok(()) => 0,
-        Err(error) if is_closed_pipe(&error) => PIPE_CLOSED,
+        Err(error) if error.is_closed_pipe() => PIPE_CLOSED,
         Err(error) => {
             let _ = eprintln!(rt; "rowfn_stream: {error}");
             error.status()

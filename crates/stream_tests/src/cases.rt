@@ -73,6 +73,8 @@ pub fn run_case(
         batch_bytes: batch.1,
         max_field: case.max_field,
         picks_rows: case.picks_rows,
+        appends: false,
+        rows_before: 0,
     };
     let expression = read_told(alloc, case.expression.as_bytes())?;
     let expression = if case.picks_rows {
@@ -86,7 +88,24 @@ pub fn run_case(
         interrupted: false,
         fails: case.fails,
     };
-    flow(alloc, &settings, &expression, reader, sink)
+    flow(alloc, &settings, &expression, None, reader, sink)
+}
+
+/// Whether that was written, and that text told with that status, if anything was.
+pub fn ended_so<T: Drop>(
+    rt: HostRuntime,
+    taken: &[u8],
+    told: Result<T, (u8, String)>,
+    wanted: (&str, u8, &str),
+) -> bool {
+    let (output, status, text) = wanted;
+    if !same_text(rt, taken, output) {
+        return false;
+    }
+    match told {
+        Ok(_) => same(rt, 0, status),
+        Err((found, told)) => same(rt, found, status) && same(rt, told.as_str(), text),
+    }
 }
 
 /// Whether a stream writes that output, and tells that text with that status, if it fails.
@@ -98,38 +117,37 @@ fn ends_once(
     wanted: (&str, u8, &str),
 ) -> bool {
     let alloc = rt.alloc();
-    let (output, status, told) = wanted;
     let mut sink = Sink {
         taken: Vec::new(alloc),
         limit: case.limit,
     };
-    let outcome = run_case(alloc, case, batch, step, &mut sink);
-    if !same_text(rt, &sink.taken, output) {
-        return false;
-    }
-    match outcome {
-        Ok(_) => same(rt, 0, status),
-        Err(error) => {
-            same(rt, error.status(), status)
-                && match format!(in alloc; "{error}") {
-                    Ok(text) => same(rt, text.as_str(), told),
-                    Err(_) => false,
-                }
-        }
-    }
+    let told = match run_case(alloc, case, batch, step, &mut sink) {
+        Ok(summary) => Ok(summary),
+        Err(error) => match format!(in alloc; "{error}") {
+            Ok(text) => Err((error.status(), text)),
+            Err(_) => return false,
+        },
+    };
+    ended_so(rt, &sink.taken, told, wanted)
 }
+
+/// The batches with which streams are tried, by their rows and their bytes.
+pub const BATCHES: [(usize, u64); 6] = [
+    (1, 1000),
+    (2, 1000),
+    (7, 1000),
+    (8192, 1),
+    (8192, 6),
+    (8192, 1 << 20),
+];
+
+/// How many bytes are read at once.
+pub const STEPS: [usize; 4] = [1, 2, 5, 8192];
 
 /// Whether a stream ends so, whatever the batches and the reads.
 pub fn ends(rt: HostRuntime, case: Case<'_>, output: &str, status: u8, told: &str) -> bool {
-    for batch in [
-        (1, 1000),
-        (2, 1000),
-        (7, 1000),
-        (8192, 1),
-        (8192, 6),
-        (8192, 1 << 20),
-    ] {
-        for step in [1, 2, 5, 8192] {
+    for batch in BATCHES {
+        for step in STEPS {
             if !ends_once(rt, &case, batch, step, (output, status, told)) {
                 return false;
             }

@@ -208,7 +208,7 @@ fn a_wrong_expression_is_told_by_its_line(rt: HostRuntime) {
     let told = "line 2: expected get and the name of a column";
     assert!(rt; ends(rt, plain(malformed, "a\n1\n"), "", 4, told));
     let number = "col a i8\nget a\nas n\n";
-    let told = "--where: n is no truth value";
+    let told = "--pick: n is no truth value";
     assert!(rt; ends(rt, pick(number, "a\n1\n"), "", 4, told));
 }
 

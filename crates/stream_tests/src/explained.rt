@@ -16,14 +16,18 @@ fn explains(rt: HostRuntime, expression: &str, wanted: &str) -> bool {
 }
 
 const WANTED: &str = "known
-  tree: vortex.is_null(($.a + $.b))
+  tree: a + b is null
+    printed vortex.is_null(($.a + $.b))
     type bool, weight 9
-  optimized: vortex.not((is_not_null($.a) and is_not_null($.b)))
+  optimized: not (a is not null and b is not null)
+    printed vortex.not((is_not_null($.a) and is_not_null($.b)))
     type bool, weight 8
 $.a
-  tree: $.a
+  tree: a
+    printed $.a
     type i32?, weight 1
-  optimized: $.a
+  optimized: a
+    printed $.a
     type i32?, weight 1
 ";
 

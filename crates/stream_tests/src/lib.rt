@@ -5,6 +5,8 @@
 #[cfg(test)]
 mod answers;
 #[cfg(test)]
+mod asking;
+#[cfg(test)]
 mod batch_answers;
 #[cfg(test)]
 mod cases;
@@ -17,11 +19,15 @@ mod expressions;
 #[cfg(test)]
 mod fields;
 #[cfg(test)]
+mod inference;
+#[cfg(test)]
 mod options;
 #[cfg(test)]
 mod picks;
 #[cfg(test)]
 mod pipes;
+#[cfg(test)]
+mod queries;
 #[cfg(test)]
 mod reading_back;
 #[cfg(test)]

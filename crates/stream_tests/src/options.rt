@@ -14,6 +14,32 @@ fn words_of(alloc: Global, line: &str) -> Result<Vec<String>, AllocError> {
     Ok(words)
 }
 
+/// A word, where there is one.
+fn push_word(text: &mut String, title: &str, word: Option<&str>) -> Result<(), AllocError> {
+    let Some(word) = word else {
+        return Ok(());
+    };
+    text.push_str(" ")?;
+    text.push_str(title)?;
+    text.push_str(" ")?;
+    text.push_str(word)
+}
+
+/// Where the expression stands.
+fn push_source(text: &mut String, source: &Source<'_>) -> Result<(), AllocError> {
+    match source {
+        Source::Nowhere => Ok(()),
+        Source::Text(answers) => push_word(text, "text", Some(*answers)),
+        Source::File(name) => push_word(text, "file", Some(*name)),
+        Source::Lines(lines) => {
+            for line in lines.iter() {
+                push_word(text, "line", Some(*line))?;
+            }
+            Ok(())
+        }
+    }
+}
+
 /// What options say, in a line.
 fn described(alloc: Global, options: &Options<'_>) -> Result<String, AllocError> {
     let Options {
@@ -24,9 +50,15 @@ fn described(alloc: Global, options: &Options<'_>) -> Result<String, AllocError>
         batch,
         batch_bytes,
         max_field,
+        first_row,
         action,
+        appends,
         summary,
+        columns,
+        infers,
+        condition,
         source,
+        input,
     } = options;
     let mut text = format!(in alloc; "{delimiter} {header} '{null}' {batch} {action:?} {summary}")?;
     if *blank_rows {
@@ -35,18 +67,13 @@ fn described(alloc: Global, options: &Options<'_>) -> Result<String, AllocError>
     if (*batch_bytes, *max_field) != (1048576, 268435456) {
         text.push_str(format!(in alloc; " {batch_bytes} {max_field}")?.as_str())?;
     }
-    match source {
-        Source::File(name) => {
-            text.push_str(" file ")?;
-            text.push_str(name)?;
-        }
-        Source::Lines(lines) => {
-            for line in lines.iter() {
-                text.push_str(" line ")?;
-                text.push_str(line)?;
-            }
-        }
+    if (*first_row, *appends, *infers) != (1, false, true) {
+        text.push_str(format!(in alloc; " {first_row} {appends} {infers}")?.as_str())?;
     }
+    push_word(&mut text, "columns", *columns)?;
+    push_word(&mut text, "where", *condition)?;
+    push_source(&mut text, source)?;
+    push_word(&mut text, "from", *input)?;
     Ok(text)
 }
 
@@ -78,18 +105,57 @@ fn is_refused(rt: HostRuntime, line: &str, wanted: ErrorKind) -> bool {
 }
 
 #[test]
-fn the_expression_stands_in_a_file_or_in_words(rt: HostRuntime) {
-    assert!(rt;
-        says(
-            rt,
-            "p sum.rows",
-            "44 true '' 2048 Answer false file sum.rows"
-        )
-    );
+fn the_expression_is_the_first_word_or_lines(rt: HostRuntime) {
+    let told = "44 true '' 2048 Answer false text a + b";
+    assert!(rt; says(rt, "p a|+|b", told));
+    let told = "44 true '' 2048 Answer false file sum.rows";
+    assert!(rt; says(rt, "p -f sum.rows", told));
     let told = "44 true '' 2048 Answer false line get a line get b";
     assert!(rt; says(rt, "p -e get|a -e get|b", told));
     assert!(rt; is_refused(rt, "p", ErrorKind::MissingRequiredArgument));
-    assert!(rt; is_refused(rt, "p -e get|a sum.rows", ErrorKind::ArgumentConflict));
+    assert!(rt; is_refused(rt, "p -e get|a -f sum.rows", ErrorKind::ArgumentConflict));
+}
+
+#[test]
+fn what_follows_is_the_file_of_the_rows(rt: HostRuntime) {
+    let told = "44 true '' 2048 Answer false text a from goods.csv";
+    assert!(rt; says(rt, "p a goods.csv", told));
+    assert!(rt; says(rt, "p a --input goods.csv", told));
+    let told = "44 true '' 2048 Answer false line get a from goods.csv";
+    assert!(rt; says(rt, "p -e get|a goods.csv", told));
+    assert!(rt; says(rt, "p --input goods.csv -e get|a", told));
+    let told = "44 true '' 2048 Answer false file sum.rows from goods.csv";
+    assert!(rt; says(rt, "p -f sum.rows goods.csv", told));
+    assert!(rt; says(rt, "p a -", "44 true '' 2048 Answer false text a"));
+    let told = "44 true '' 2048 Answer false where b from goods.csv";
+    assert!(rt; says(rt, "p --where b --input goods.csv", told));
+    assert!(rt; is_refused(rt, "p a b c", ErrorKind::UnknownArgument));
+    assert!(rt; is_refused(rt, "p -e get|a b c", ErrorKind::ArgumentConflict));
+    assert!(rt; is_refused(rt, "p a b --input c", ErrorKind::ArgumentConflict));
+    assert!(rt; is_refused(rt, "p -e get|a b --input c", ErrorKind::ArgumentConflict));
+}
+
+#[test]
+fn columns_and_conditions_are_told(rt: HostRuntime) {
+    let told = "44 true '' 2048 Answer false columns a i32? where a > 1 text a";
+    assert!(rt; says(rt, "p a --columns a|i32? --where a|>|1", told));
+    let told = "44 true '' 2048 Answer false 1 false false text a";
+    assert!(rt; says(rt, "p a --no-infer", told));
+    let told = "44 true '' 2048 Answer false 5 true true text a";
+    assert!(rt; says(rt, "p a --append --first-row 5", told));
+    let told = "44 true '-' 2048 Answer false where -5 < a text -5 + a";
+    assert!(rt; says(rt, "p --where -5|<|a --null - -- -5|+|a", told));
+    assert!(rt; is_refused(rt, "p a --first-row 0", ErrorKind::ValueValidation));
+    assert!(rt;
+        is_refused(
+            rt,
+            "p -e get|a --columns a|i32",
+            ErrorKind::ArgumentConflict
+        )
+    );
+    assert!(rt; is_refused(rt, "p -f f --columns a|i32", ErrorKind::ArgumentConflict));
+    assert!(rt; is_refused(rt, "p a --pick --where a", ErrorKind::ArgumentConflict));
+    assert!(rt; is_refused(rt, "p a --pick --append", ErrorKind::ArgumentConflict));
 }
 
 #[test]
@@ -98,26 +164,20 @@ fn fields_are_told(rt: HostRuntime) {
         says(
             rt,
             "p --delimiter ; f",
-            "59 true '' 2048 Answer false file f"
+            "59 true '' 2048 Answer false text f"
         )
     );
-    assert!(rt;
-        says(
-            rt,
-            "p --delimiter \\t f",
-            "9 true '' 2048 Answer false file f"
-        )
-    );
+    assert!(rt; says(rt, "p -d \\t f", "9 true '' 2048 Answer false text f"));
     assert!(rt;
         says(
             rt,
             "p --no-header f",
-            "44 false '' 2048 Answer false file f"
+            "44 false '' 2048 Answer false text f"
         )
     );
-    assert!(rt; says(rt, "p --header f", "44 true '' 2048 Answer false file f"));
-    assert!(rt; says(rt, "p --null NA f", "44 true 'NA' 2048 Answer false file f"));
-    assert!(rt; says(rt, "p --null= f", "44 true '' 2048 Answer false file f"));
+    assert!(rt; says(rt, "p --header f", "44 true '' 2048 Answer false text f"));
+    assert!(rt; says(rt, "p -n NA f", "44 true 'NA' 2048 Answer false text f"));
+    assert!(rt; says(rt, "p --null= f", "44 true '' 2048 Answer false text f"));
     assert!(rt; is_refused(rt, "p --delimiter ;; f", ErrorKind::InvalidValue));
     assert!(rt; is_refused(rt, "p --delimiter \" f", ErrorKind::InvalidValue));
     assert!(rt; is_refused(rt, "p --delimiter π f", ErrorKind::InvalidValue));
@@ -131,15 +191,15 @@ fn a_text_for_null_stands_bare(rt: HostRuntime) {
     assert!(rt; is_refused(rt, "p --null \" f", ErrorKind::InvalidValue));
     assert!(rt; is_refused(rt, "p --null a\nb f", ErrorKind::InvalidValue));
     assert!(rt; is_refused(rt, "p --null \u{feff} f", ErrorKind::InvalidValue));
-    let told = "59 true 'a,b' 2048 Answer false file f";
+    let told = "59 true 'a,b' 2048 Answer false text f";
     assert!(rt; says(rt, "p --null a,b --delimiter ; f", told));
 }
 
 #[test]
 fn lines_without_a_byte_are_told(rt: HostRuntime) {
-    let told = "44 true '' 2048 Answer false blank rows file f";
+    let told = "44 true '' 2048 Answer false blank rows text f";
     assert!(rt; says(rt, "p --blank-lines null f", told));
-    let told = "44 true '' 2048 Answer false file f";
+    let told = "44 true '' 2048 Answer false text f";
     assert!(rt; says(rt, "p --blank-lines skip f", told));
     assert!(rt; is_refused(rt, "p --blank-lines none f", ErrorKind::InvalidValue));
 }
@@ -167,19 +227,19 @@ fn wrong_words_have_a_status_of_their_own(rt: HostRuntime) {
 
 #[test]
 fn what_is_done_is_told(rt: HostRuntime) {
-    assert!(rt; says(rt, "p --where f", "44 true '' 2048 Pick false file f"));
-    assert!(rt; says(rt, "p --explain f", "44 true '' 2048 Explain false file f"));
-    assert!(rt; says(rt, "p --summary f", "44 true '' 2048 Answer true file f"));
-    assert!(rt; says(rt, "p --batch 7 f", "44 true '' 7 Answer false file f"));
+    assert!(rt; says(rt, "p --pick f", "44 true '' 2048 Pick false text f"));
+    assert!(rt; says(rt, "p --explain f", "44 true '' 2048 Explain false text f"));
+    assert!(rt; says(rt, "p --summary f", "44 true '' 2048 Answer true text f"));
+    assert!(rt; says(rt, "p --batch 7 f", "44 true '' 7 Answer false text f"));
     assert!(rt; is_refused(rt, "p --batch 0 f", ErrorKind::ValueValidation));
     assert!(rt; is_refused(rt, "p --batch x f", ErrorKind::ValueValidation));
-    let told = "44 true '' 2048 Answer false 7 268435456 file f";
+    let told = "44 true '' 2048 Answer false 7 268435456 text f";
     assert!(rt; says(rt, "p --batch-bytes 7 f", told));
-    let told = "44 true '' 2048 Answer false 1048576 9 file f";
+    let told = "44 true '' 2048 Answer false 1048576 9 text f";
     assert!(rt; says(rt, "p --max-field 9 f", told));
     assert!(rt; is_refused(rt, "p --batch-bytes 0 f", ErrorKind::ValueValidation));
     assert!(rt; is_refused(rt, "p --max-field 0 f", ErrorKind::ValueValidation));
-    assert!(rt; is_refused(rt, "p --where --explain f", ErrorKind::ArgumentConflict));
+    assert!(rt; is_refused(rt, "p --pick --explain f", ErrorKind::ArgumentConflict));
     assert!(rt; is_refused(rt, "p --other f", ErrorKind::UnknownArgument));
     assert!(rt; is_refused(rt, "p --help", ErrorKind::DisplayHelp));
     assert!(rt; is_refused(rt, "p --version", ErrorKind::DisplayVersion));

@@ -9,3 +9,4 @@ pub mod Reading
 pub mod Answers
 pub mod Writing
 pub mod WritingSteps
+pub mod Likeness

@@ -7,8 +7,9 @@ use crate::refusal::{Refusal, Stop};
 use std::alloc::{AllocError, Global};
 use std::str;
 
-/// What stands between two quotes, of two quotes in it the first alone.
-fn unquoted(alloc: Global, quote: u8, written: &[u8]) -> Result<Vec<u8>, AllocError>
+/// What stands between two quotes, of two quotes in it the first alone. Refused only for want of
+/// memory.
+pub fn unquoted(alloc: Global, quote: u8, written: &[u8]) -> Result<Vec<u8>, AllocError>
     ensures { IfOk result (λ text. text.items ≡ unquoted quote written.now) }
 {
     let mut text = Vec::new(alloc);

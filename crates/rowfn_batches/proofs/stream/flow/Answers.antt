@@ -1,4 +1,4 @@
-use Rattle.std.proofs.Common.{◌∙◌, Err, ap, refl}
+use Rattle.std.proofs.Common.{◌∙◌, Err, ap, refl, option_map}
 use Rattle.std.proofs.lemmas.Result.{err_from_is_err_and}
 use Rattle.rowfn_batches.specs.Passing.{none_yet, at_end, without_header, not_begun}
 use Rattle.rowfn_batches.proofs.Flowing.{has_begun, next_passed, next_ends}
@@ -34,11 +34,12 @@ returns-in_err-goes_on-clause-flows g c =
     next_ends c.write.new.self (g.W.Write.contents c.write.new.writer) c.batches.stream
     c.pass_next.new.self (g.W.Write.contents c.batches.writer)
     (g.W.Write.contents c.pass_next.new.writer) c.batches.invariant c.args.reader
-    c.args.expression.now (g.W.Write.contents c.args.writer.now) c.in_err-goes_on.field-0.0
+    c.args.expression.now (option_map (λ x. x.now) c.args.condition)
+    (g.W.Write.contents c.args.writer.now) c.in_err-goes_on.field-0.0
     c.from_residual-in_err-goes_on.result
-    (has_begun c.args.expression.now (g.W.Write.contents c.args.writer.now)
+    (has_begun c.args.expression.now (option_map (λ x. x.now) c.args.condition) (g.W.Write.contents c.args.writer.now)
     (g.W.Write.contents c.write.new.writer) c.in_ok-stream.stream c.write.new.self
-    head.expression head.none_read wrote.written wrote.kept wrote.cleared wrote.summary)
+    head.expression head.condition head.none_read wrote.written wrote.kept wrote.cleared wrote.summary)
     c.in_err-goes_on.ensures (p.1 ∙ ap Err p.2)
 
 pub returns-then-not-goes_on-clause-flows : goal.returns-then-not-goes_on-clause-flows
@@ -46,9 +47,9 @@ returns-then-not-goes_on-clause-flows g c =
     let head = c.in_ok-stream.ensures in
     let wrote = c.in_ok-write.ensures in
     at_end c.write.new.self c.pass_next.new.self (g.W.Write.contents c.write.new.writer)
-    (has_begun c.args.expression.now (g.W.Write.contents c.args.writer.now)
+    (has_begun c.args.expression.now (option_map (λ x. x.now) c.args.condition) (g.W.Write.contents c.args.writer.now)
     (g.W.Write.contents c.write.new.writer) c.in_ok-stream.stream c.write.new.self
-    head.expression head.none_read wrote.written wrote.kept wrote.cleared wrote.summary)
+    head.expression head.condition head.none_read wrote.written wrote.kept wrote.cleared wrote.summary)
     (next_passed c.write.new.self (g.W.Write.contents c.write.new.writer) c.batches.stream
     c.pass_next.new.self (g.W.Write.contents c.batches.writer)
     (g.W.Write.contents c.pass_next.new.writer) c.batches.invariant _ c.in_ok-goes_on.ensures)
@@ -59,7 +60,7 @@ returns-clause-flows g c =
     let head = c.in_ok-stream.ensures in
     let wrote = c.in_ok-write.ensures in
     at_end c.write.new.self c.batches.stream (g.W.Write.contents c.write.new.writer)
-    (has_begun c.args.expression.now (g.W.Write.contents c.args.writer.now)
+    (has_begun c.args.expression.now (option_map (λ x. x.now) c.args.condition) (g.W.Write.contents c.args.writer.now)
     (g.W.Write.contents c.write.new.writer) c.in_ok-stream.stream c.write.new.self
-    head.expression head.none_read wrote.written wrote.kept wrote.cleared wrote.summary)
+    head.expression head.condition head.none_read wrote.written wrote.kept wrote.cleared wrote.summary)
     c.batches.invariant refl

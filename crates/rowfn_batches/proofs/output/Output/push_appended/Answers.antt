@@ -1,0 +1,11 @@
+use Rattle.std.proofs.Common.{map, option_map}
+use Rattle.rowfn_csv.specs.KeptLines.{line_of}
+use Rattle.rowfn_batches.proofs.Lines.{next_appended}
+use Rattle.rowfn_batches.proofs.output.Output.push_appended.Goals as goal
+
+pub loop-place-preserved : goal.loop-place-preserved
+loop-place-preserved g c =
+    next_appended c.args.self.now c.loop-place.self c.push_behind.new.self
+    (map (line_of c.args.records.now) c.args.spans.now) (option_map (λ r. r.now) c.args.rows)
+    c.args.answers.now c.loop-place.place c.row_among.result c.line_at-line.result.now
+    c.row_among.ensures c.line_at-line.ensures c.loop-place.invariant c.in_ok-push_behind.ensures

@@ -1,0 +1,3 @@
+pub mod SeenMore
+pub mod Asking
+pub mod Refusing

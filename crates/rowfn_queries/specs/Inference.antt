@@ -1,0 +1,44 @@
+-- The type that the fields of a column have.
+use Rattle.std.specs.Prelude.{ℕ, List, Bool, true, false, ◌&&◌, ◌+◌, ◌*◌, map, not}
+use Rattle.std.specs.Prelude.{Option, Some, None, is_some, if◌then◌else◌, slice_index_or}
+use Rattle.std.specs.List.{list_all, list_any, range_with_len}
+use Rattle.std.specs.Str.{is_utf8}
+use Rattle.vortex_types.specs.declared.dtype.PType.TheVariants.{I64}
+use Rattle.vortex_types.specs.LogicalTypes.{LogicalType, bool_type, integer_type, text_type}
+use Rattle.rowfn_lines.specs.Commands.{cell_fits}
+
+-- the bytes of a field, and none of a null field
+abbrev pub Field : Type 0
+Field = Option (List ℕ)
+
+-- the field is null or says a value of the type
+abbrev pub holds : LogicalType → Field → Bool
+holds t None = true
+holds t (Some bytes) = is_utf8 bytes && cell_fits t (Some bytes)
+
+abbrev pub hold : LogicalType → List Field → Bool
+hold t fs = list_all (holds t) fs
+
+-- whether some field is not null, and whether some is
+abbrev pub has_value : List Field → Bool
+has_value fs = list_any is_some fs
+
+abbrev pub has_null : List Field → Bool
+has_null fs = list_any (λ f. not (is_some f)) fs
+
+-- of bool, i64 and utf8 the first that each field which is not null fits, and utf8 where none is;
+-- with null where a field is null
+abbrev pub inferred : List Field → LogicalType
+inferred fs =
+    let n = has_null fs in
+    if has_value fs && hold (bool_type false) fs then bool_type n
+    else (if has_value fs && hold (integer_type I64 false) fs then integer_type I64 n
+    else text_type n)
+
+-- the fields of column j, of the first n of rows of w fields
+abbrev pub column_fields : List Field → ℕ → ℕ → ℕ → List Field
+column_fields fs w n j = map (λ i. slice_index_or fs (i * w + j) None) (range_with_len 0 n)
+
+-- the types of columns by their fields, of n rows of w
+abbrev pub inferred_types : List Field → ℕ → ℕ → List LogicalType
+inferred_types fs w n = map (λ j. inferred (column_fields fs w n j)) (range_with_len 0 w)

@@ -1,0 +1,4 @@
+pub mod Inference
+pub mod Seen
+pub mod Scopes
+pub mod Queries

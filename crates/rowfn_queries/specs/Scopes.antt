@@ -1,0 +1,97 @@
+-- Columns as they are declared: `price i32, stock i32?, "unit price" i64`.
+use Rattle.std.specs.Prelude.{◌≡◌, ◌≢◌, ◌⊎◌, ℕ, List, [], ◌∷◌, Bool, true, false, Option, Some, None}
+use Rattle.std.specs.Prelude.{if◌then◌else◌, Result, MatchResult}
+use Rattle.std.specs.Str.{is_utf8}
+use Rattle.vortex_types.specs.LogicalTypes.{LogicalType, Fields, no_fields, with_field, find_field}
+use Rattle.vortex_syntax.specs.declared.token.Sign.TheVariants as sign
+use Rattle.vortex_syntax.specs.declared.error.SyntaxError.{SyntaxError}
+use Rattle.vortex_syntax.specs.declared.error.SyntaxError.TheVariants as syntax
+use Rattle.vortex_syntax.specs.Tokens.{Token, name, nullable, quoted, sign}
+use Rattle.vortex_syntax.specs.Lexing.{Lexes}
+use Rattle.vortex_expressions.specs.Calls.{unquoted}
+use Rattle.rowfn_lines.specs.Commands.{type_named}
+use Rattle.rowfn_queries.specs.declared.scope.ScopeReason.{ScopeReason}
+use Rattle.rowfn_queries.specs.declared.scope.ScopeReason.TheVariants as reason
+
+-- what becomes of a part of a text: what it stands for, or why it stands for nothing
+pub data Outcome (A : Type 0) : Type 0 where
+  answers : A → Outcome A
+  refuses : ScopeReason → Outcome A
+
+abbrev pub and_then : {A B : Type 0} → Outcome A → (A → Outcome B) → Outcome B
+and_then (answers a) f = f a
+and_then (refuses r) f = refuses r
+
+-- the outcome is what a call answers, by what is seen of it; or memory ran out
+abbrev pub Gives : {A B : Type 0} → (A → B) → Result A ScopeReason → Outcome B → Type 0
+Gives view result o =
+    MatchResult result (λ a. o ≡ answers (view a)) (λ e. e ≢ reason.OutOfMemory → o ≡ refuses e)
+
+abbrev pub is_comma : Token → Bool
+is_comma (sign sign.Comma) = true
+is_comma t = false
+
+abbrev pub text_said : List ℕ → Outcome (List ℕ)
+text_said bs = if is_utf8 bs then answers bs else refuses reason.NotUtf8
+
+-- the name that a token says, without its quotes
+abbrev pub name_said : Token → Outcome (List ℕ)
+name_said (name w) = text_said w
+name_said (quoted w) = text_said (unquoted 34 w)
+name_said t = refuses reason.NoName
+
+abbrev pub if_new : List ℕ → Option (ℕ × LogicalType) → Outcome (List ℕ)
+if_new w None = answers w
+if_new w (Some found) = refuses reason.NameTwice
+
+-- a name that no column has which stands before it
+abbrev pub new_name : Fields → Token → Outcome (List ℕ)
+new_name fs t = and_then (name_said t) (λ w. if_new w (find_field w fs))
+
+abbrev pub if_known : Option LogicalType → Outcome LogicalType
+if_known None = refuses reason.UnknownType
+if_known (Some t) = answers t
+
+abbrev pub type_of_name : Bool → List ℕ → Outcome LogicalType
+type_of_name n w = and_then (text_said w) (λ v. if_known (type_named n v))
+
+-- the type that a token names, which has null where a question mark stands behind it
+abbrev pub type_said : Token → Outcome LogicalType
+type_said (name w) = type_of_name false w
+type_said (nullable w) = type_of_name true w
+type_said t = refuses reason.NoType
+
+abbrev mutual
+  -- the columns that tokens declare behind others: a name, a type, and nothing or a comma and
+  -- further columns
+  pub columns_behind : Fields → List Token → Outcome Fields
+  columns_behind fs [] = refuses reason.NoName
+  columns_behind fs (n ∷ ts) = and_then (new_name fs n) (λ w. typed_behind fs w ts)
+
+  pub typed_behind : Fields → List ℕ → List Token → Outcome Fields
+  typed_behind fs w [] = refuses reason.NoType
+  typed_behind fs w (t ∷ ts) = and_then (type_said t) (λ u. more_behind (with_field fs w u) ts)
+
+  pub more_behind : Fields → List Token → Outcome Fields
+  more_behind fs [] = answers fs
+  more_behind fs (c ∷ ts) = if is_comma c then columns_behind fs ts else refuses reason.NoComma
+
+abbrev pub columns_of : List Token → Outcome Fields
+columns_of ts = columns_behind no_fields ts
+
+-- the text declares the columns
+pub record Declares (text : List ℕ) (fs : Fields) : Type 0 where
+  pub ts : List Token
+  pub lexed : Lexes text ts
+  pub said : columns_of ts ≡ answers fs
+
+-- the text declares none for that reason: its tokens are refused so, or it has none; or memory ran
+-- out
+pub data IsRefusedScope (text : List ℕ) (r : ScopeReason) : Type 0 where
+  refused : (ts : List Token) → Lexes text ts → columns_of ts ≡ refuses r → IsRefusedScope text r
+  no_token : r ≡ reason.NoToken → ((ts : List Token) → ¬ Lexes text ts) → IsRefusedScope text r
+  without_memory : r ≡ reason.OutOfMemory → IsRefusedScope text r
+
+abbrev pub reason_of : SyntaxError → ScopeReason
+reason_of syntax.OutOfMemory = reason.OutOfMemory
+reason_of e = reason.NoToken

@@ -1,0 +1,143 @@
+//! Why words ask nothing of rows.
+
+use crate::scope::{ScopeError, ScopeReason};
+use std::alloc::{AllocError, AllocFailed};
+use std::{fmt, io};
+use vortex_columns::{DType, VortexError};
+use vortex_expressions::ReadError;
+
+/// Where a text stands among the words of a program.
+#[derive(Clone, Copy, Debug, PartialEq, Eq)]
+pub enum Place {
+    /// The answers.
+    Expression,
+    /// The condition.
+    Where,
+}
+
+/// The word behind which the text stands.
+impl fmt::Display for Place {
+    fn fmt<W: fmt::Write>(&self, f: &mut fmt::Formatter<W>) -> fmt::Result {
+        f.write_str(match self {
+            Place::Expression => "expression",
+            Place::Where => "--where",
+        })
+    }
+}
+
+/// Why an input has no header, from which columns take their names.
+#[derive(Clone, Copy, Debug, PartialEq, Eq)]
+pub enum HeaderFault {
+    /// The input has no record.
+    Missing,
+    /// It ends within quotes.
+    Open,
+    /// A field of it has more bytes than that.
+    TooLong(usize),
+}
+
+/// What is wrong, in words.
+impl fmt::Display for HeaderFault {
+    fn fmt<W: fmt::Write>(&self, f: &mut fmt::Formatter<W>) -> fmt::Result {
+        match self {
+            HeaderFault::Missing => f.write_str("header: the input is empty"),
+            HeaderFault::Open => f.write_str("header: a quote is not closed"),
+            HeaderFault::TooLong(limit) => {
+                write!(
+                    f,
+                    "header: a field has more bytes than the {limit} of --max-field"
+                )
+            }
+        }
+    }
+}
+
+/// Why words ask nothing of rows.
+#[derive(Drop)]
+pub enum QueryError {
+    /// A text is refused, with its place in it.
+    Unread(Place, ReadError),
+    /// The columns that are declared are refused.
+    Columns(ScopeError),
+    /// The condition is no truth value, but of that type.
+    NoTruth(DType),
+    /// The input has no header.
+    Header(HeaderFault),
+    /// The header could not be read.
+    Reading(io::Error),
+    /// E9: memory ran out.
+    OutOfMemory,
+}
+
+impl From<AllocError> for QueryError {
+    ghost use Rattle.rowfn_queries.specs.declared.error.QueryError.TheVariants.{OutOfMemory};
+    ghost use Rattle.std.specs.Prelude.{◌≡◌};
+
+    ghost from_gives = { λ _ e. e ≡ OutOfMemory };
+
+    fn from(_error: AllocError) -> QueryError {
+        QueryError::OutOfMemory
+    }
+}
+
+impl<T: Drop> From<AllocFailed<T>> for QueryError {
+    ghost use Rattle.rowfn_queries.specs.declared.error.QueryError.TheVariants.{OutOfMemory};
+    ghost use Rattle.std.specs.Prelude.{◌≡◌};
+
+    ghost from_gives = { λ _ e. e ≡ OutOfMemory };
+
+    fn from(_error: AllocFailed<T>) -> QueryError {
+        QueryError::OutOfMemory
+    }
+}
+
+/// Want of memory: what is called here refuses nothing else.
+impl From<VortexError> for QueryError {
+    ghost use Rattle.rowfn_queries.specs.declared.error.QueryError.TheVariants.{OutOfMemory};
+    ghost use Rattle.std.specs.Prelude.{◌≡◌};
+
+    ghost from_gives = { λ _ e. e ≡ OutOfMemory };
+
+    fn from(_error: VortexError) -> QueryError {
+        QueryError::OutOfMemory
+    }
+}
+
+impl QueryError {
+    /// Whether memory ran out, and nothing is wrong with the words as far as is known.
+    pub fn is_out_of_memory(&self) -> bool {
+        match self {
+            QueryError::Unread(_, error) => error.is_out_of_memory(),
+            QueryError::Columns(error) => error.reason == ScopeReason::OutOfMemory,
+            QueryError::OutOfMemory => true,
+            QueryError::NoTruth(_) | QueryError::Header(_) | QueryError::Reading(_) => false,
+        }
+    }
+
+    /// 2 for a header that is none, 3 for reading and want of memory, 4 for words that are wrong.
+    pub fn status(&self) -> u8 {
+        match self {
+            QueryError::Header(_) => 2,
+            QueryError::Reading(_) => 3,
+            error if error.is_out_of_memory() => 3,
+            _ => 4,
+        }
+    }
+}
+
+/// Which text is refused, and why, in one line.
+impl fmt::Display for QueryError {
+    fn fmt<W: fmt::Write>(&self, f: &mut fmt::Formatter<W>) -> fmt::Result {
+        match self {
+            error if error.is_out_of_memory() => f.write_str("out of memory"),
+            QueryError::Unread(place, error) => write!(f, "{place}: {error}"),
+            QueryError::Columns(error) => write!(f, "--columns: {error}"),
+            QueryError::NoTruth(dtype) => {
+                write!(f, "--where: expected a truth value, not {dtype:?}")
+            }
+            QueryError::Header(fault) => write!(f, "{fault}"),
+            QueryError::Reading(error) => write!(f, "reading: {error}"),
+            QueryError::OutOfMemory => f.write_str("out of memory"),
+        }
+    }
+}

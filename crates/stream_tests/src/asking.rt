@@ -1,0 +1,179 @@
+//! What texts ask of rows.
+
+use crate::cases::{BATCHES, STEPS, ended_so};
+use crate::pipes::{Drips, Sink};
+use fixtures::same;
+use rowfn_batches::{Format, Settings, StreamError, Summary, flow};
+use rowfn_queries::{Again, Query, Words, read_query};
+use std::alloc::Global;
+
+/// What is asked, and of which rows.
+#[derive(Clone, Copy)]
+pub struct Asked<'a> {
+    pub words: Words<'a>,
+    pub input: &'a str,
+    pub appends: bool,
+    pub rows_before: u64,
+    pub max_field: usize,
+    /// Whether reading fails behind the input.
+    pub fails: bool,
+}
+
+/// Answers of rows, whose columns take their types from the rows.
+pub fn asks<'a>(answers: &'a str, input: &'a str) -> Asked<'a> {
+    Asked {
+        words: Words {
+            columns: None,
+            answers: Some(answers),
+            condition: None,
+            header: true,
+            infers: true,
+        },
+        input,
+        appends: false,
+        rows_before: 0,
+        max_field: usize::MAX,
+        fails: false,
+    }
+}
+
+/// The same, with columns that are declared.
+pub fn declared<'a>(columns: &'a str, answers: &'a str, input: &'a str) -> Asked<'a> {
+    let plain = asks(answers, input);
+    Asked {
+        words: Words {
+            columns: Some(columns),
+            ..plain.words
+        },
+        ..plain
+    }
+}
+
+/// The rows in which a condition is true, as they stand.
+pub fn rows_where<'a>(condition: &'a str, input: &'a str) -> Asked<'a> {
+    let plain = asks("", input);
+    Asked {
+        words: Words {
+            answers: None,
+            condition: Some(condition),
+            ..plain.words
+        },
+        ..plain
+    }
+}
+
+/// The answers of those rows.
+pub fn answers_where<'a>(condition: &'a str, answers: &'a str, input: &'a str) -> Asked<'a> {
+    let plain = asks(answers, input);
+    Asked {
+        words: Words {
+            condition: Some(condition),
+            ..plain.words
+        },
+        ..plain
+    }
+}
+
+fn settings_of<'a>(asked: &Asked<'a>, batch: (usize, u64)) -> Settings<'a> {
+    Settings {
+        format: Format {
+            delimiter: b',',
+            null: b"",
+            blank_rows: false,
+        },
+        header: asked.words.header,
+        batch: batch.0,
+        batch_bytes: batch.1,
+        max_field: asked.max_field,
+        picks_rows: asked.words.answers.is_none(),
+        appends: asked.appends,
+        rows_before: asked.rows_before,
+    }
+}
+
+/// Lets rows flow through a query.
+fn pass(
+    alloc: Global,
+    settings: &Settings<'_>,
+    query: &Query,
+    reader: Again<Drips<'_>>,
+    sink: &mut Sink,
+) -> Result<Summary, StreamError> {
+    match (&query.answers, &query.condition) {
+        (Some(answers), condition) => {
+            flow(alloc, settings, answers, condition.as_ref(), reader, sink)
+        }
+        (None, Some(condition)) => flow(alloc, settings, condition, None, reader, sink),
+        (None, None) => Err(StreamError::OutOfMemory),
+    }
+}
+
+/// Asks by batches of so many rows or so many bytes, and reads of so many bytes.
+fn ask_once(
+    alloc: Global,
+    asked: &Asked<'_>,
+    batch: (usize, u64),
+    step: usize,
+    sink: &mut Sink,
+) -> Result<(), (u8, String)> {
+    let settings = settings_of(asked, batch);
+    let drips = Drips {
+        text: asked.input.as_bytes(),
+        step,
+        interrupted: false,
+        fails: asked.fails,
+    };
+    let mut reader = Again::new(alloc, drips);
+    let max_field = asked.max_field;
+    let query = match read_query(alloc, asked.words, settings.format, max_field, &mut reader) {
+        Ok(query) => query,
+        Err(error) => {
+            let text = format!(in alloc; "{error}").unwrap_or(String::new(alloc));
+            return Err((error.status(), text));
+        }
+    };
+    match pass(alloc, &settings, &query, reader, sink) {
+        Ok(_) => Ok(()),
+        Err(error) => {
+            let text = format!(in alloc; "{error}").unwrap_or(String::new(alloc));
+            Err((error.status(), text))
+        }
+    }
+}
+
+/// Whether rows that are asked end so, whatever the batches and the reads.
+pub fn ends_so(rt: HostRuntime, asked: Asked<'_>, output: &str, status: u8, told: &str) -> bool {
+    let alloc = rt.alloc();
+    for batch in BATCHES {
+        for step in STEPS {
+            let mut sink = Sink {
+                taken: Vec::new(alloc),
+                limit: usize::MAX,
+            };
+            let outcome = ask_once(alloc, &asked, batch, step, &mut sink);
+            if !ended_so(rt, &sink.taken, outcome, (output, status, told)) {
+                return false;
+            }
+        }
+    }
+    true
+}
+
+/// Whether rows that are asked are read to their end, and that is written.
+pub fn answers_so(rt: HostRuntime, asked: Asked<'_>, output: &str) -> bool {
+    ends_so(rt, asked, output, 0, "")
+}
+
+/// Whether rows that are asked end with that status and that text, by batches and reads of the
+/// usual size.
+pub fn ends_once(rt: HostRuntime, asked: Asked<'_>, wanted: (u8, &str)) -> bool {
+    let alloc = rt.alloc();
+    let mut sink = Sink {
+        taken: Vec::new(alloc),
+        limit: usize::MAX,
+    };
+    match ask_once(alloc, &asked, (2048, 1 << 20), 8192, &mut sink) {
+        Ok(()) => same(rt, 0, wanted.0),
+        Err((status, told)) => same(rt, status, wanted.0) && same(rt, told.as_str(), wanted.1),
+    }
+}
