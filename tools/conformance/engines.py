@@ -143,6 +143,12 @@ class Program:
             raise Refused(ran.returncode, f"{len(rows)} rows of {len(table.rows)}")
         return found
 
+    def picked(self, text, table):
+        """The rows that --where takes by a text, as they stand, below their header. A text may begin with a minus sign."""
+        columns = self.by_text([], table)[:2]
+        ran = self.run([*columns, "--where=" + text], self.csv(self.by_text, table))
+        return ran.stdout + ran.stderr
+
     def explained(self, ask, answers, table):
         """What --explain tells of these."""
         arguments = ask([(f"r{place}", answer) for place, answer in enumerate(answers)], table)

@@ -9,7 +9,8 @@ from trees import ARITHMETIC, INTEGERS, LIKES
 
 # what is counted, in the order in which it is told; refusals and what is on purpose follow by their kinds
 COUNTED = ["expressions", "of those, asked of SQLite too", "of those, refused in some row", "of those, by text and by script lines",
-           "of those, plain and optimised", "of those, told alike by --explain", "of those, texts that PostgreSQL reads as they stand", "of these, without brackets",
+           "of those, plain and optimised", "of those, told alike by --explain",
+           "of those, rows picked by --where", "of those, texts that PostgreSQL reads as they stand", "of these, without brackets",
            "rows answered: true", "rows answered: false", "rows answered: null", "rows answered: numbers and texts",
            "rows refused", "rows compared with PostgreSQL", "rows compared with SQLite"]
 
@@ -119,7 +120,20 @@ class Asker:
         if self.texts:
             for case in self.explained_otherwise(cases, table):
                 differences.setdefault(case.number, []).append(Difference(0, "what --explain tells of its script lines", "another text", "or type"))
-        return differences
+            for case in cases:
+                if case.number % 20 == 0 and case.tree.type == "bool":
+                    answers = ours[case.number].get("text", [NOT_ASKED])
+                    if not any(isinstance(answer, Fault) or answer is NOT_ASKED for answer in answers):
+                        differences.setdefault(case.number, []).extend(self.picked_otherwise(case, table, answers))
+        return {number: found for number, found in differences.items() if found}
+
+    def picked_otherwise(self, case, table, answers):
+        """Whether --where takes other rows than those in which the answer is true."""
+        self.counts["of those, rows picked by --where"] += 1
+        true = table.only({column.name for column in table.columns}, [row for row, answer in enumerate(answers) if answer is True])
+        picked = self.program.picked(case.text, table)
+        if picked != self.program.csv(self.program.by_text, true):
+            yield Difference(0, "rows of --where", f"{len(true.rows)} rows that are true", repr(picked))
 
     def explained_otherwise(self, cases, table):
         """The cases of which --explain tells another tree, type or weight by their texts than by their lines. Asked where
