@@ -105,6 +105,8 @@ class Text:
         self.style, self.tokens = style, []
 
     def text(self, tree):
+        # PostgreSQL makes a name in no quotes small
+        self.are_names_small = is_unchanged(tree)
         self.tree(tree, literal_forms("", (tree,))[0] if tree.kind == "literal" else "", 0)
         return self.joined()
 
@@ -136,8 +138,8 @@ class Text:
 
     def name(self, name):
         is_word = re.fullmatch(r"[A-Za-z_][A-Za-z0-9_]*", name, re.ASCII) and name.lower() not in KEYWORDS
-        # PostgreSQL makes a name in no quotes small
-        return name if is_word and name == name.lower() and not self.style.is_quoted() else quoted(name, '"')
+        is_bare = is_word and (name == name.lower() or not self.are_names_small) and not self.style.is_quoted()
+        return name if is_bare else quoted(name, '"')
 
     def literal(self, node, form):
         if node.value is None:
