@@ -107,7 +107,7 @@ class Changed:
             if isinstance(other, Fault):
                 alike = other.name in STATES and isinstance(one, Fault) or other.name == "22025" and "like" in text
             else:
-                # a fault that stands beside what decides is not met by PostgreSQL
-                alike = isinstance(one, Fault) or one == other
+                # a fault that stands beside what decides, or beside a null, is not met by PostgreSQL
+                alike = one == other or isinstance(one, Fault) and bool(re.search(r"\b(and|or|null)\b", text))
             if not alike:
                 return self.differ(number, text, one, other)

@@ -6,11 +6,10 @@ from engines import NOT_ASKED, OVERFLOW, STATES, ZERO, Fault, Refused, line_name
 from spelling import Noisy, Plain, Text, is_in_sqlite, is_unchanged, lines, postgresql, sqlite
 from trees import ARITHMETIC, INTEGERS, LIKES
 
-
 # what is counted, in the order in which it is told; refusals and what is on purpose follow by their kinds
 COUNTED = ["expressions", "of those, asked of SQLite too", "of those, refused in some row", "of those, by text and by script lines",
-           "of those, plain and optimised", "of those, told alike by --explain",
-           "of those, rows picked by --where", "of those, texts that PostgreSQL reads as they stand", "of these, without brackets",
+           "of those, plain and optimised", "of those, told alike by --explain", "of those, rows picked by --where",
+           "of those, texts that PostgreSQL reads as they stand", "of these, without brackets",
            "rows answered: true", "rows answered: false", "rows answered: null", "rows answered: numbers and texts",
            "rows refused", "rows compared with PostgreSQL", "rows compared with SQLite"]
 
@@ -21,7 +20,6 @@ class Case:
     number: int
     tree: object
     text: str
-    flat: bool = False
 
     def __post_init__(self):
         self.calculations = [node for node in self.tree.nodes() if node.kind in ARITHMETIC]
@@ -109,26 +107,22 @@ class Asker:
         self.counts, self.calls = Counter(dict.fromkeys(COUNTED, 0)), Counter()
 
     def compare(self, cases, table):
-        """The differences of each case, by its number; nothing is told twice."""
+        """The differences of each case that has any, by its number."""
         asked = self.ask_postgresql(cases, table)
         ours = self.ask_program(cases, table, asked)
-        differences = {}
-        for case in cases:
-            found = list(self.judge(case, table, asked, ours[case.number]))
-            if found:
-                differences[case.number] = found
+        found = {case.number: list(self.judge(case, table, asked, ours[case.number])) for case in cases}
         if self.texts:
             for case in self.explained_otherwise(cases, table):
-                differences.setdefault(case.number, []).append(Difference(0, "what --explain tells of its script lines", "another text", "or type"))
+                found[case.number].append(Difference(0, "what --explain tells of its script lines", "another tree", "or type"))
             for case in cases:
-                if case.number % 20 == 0 and case.tree.type == "bool":
-                    answers = ours[case.number].get("text", [NOT_ASKED])
-                    if not any(isinstance(answer, Fault) or answer is NOT_ASKED for answer in answers):
-                        differences.setdefault(case.number, []).extend(self.picked_otherwise(case, table, answers))
-        return {number: found for number, found in differences.items() if found}
+                found[case.number].extend(self.picked_otherwise(case, table, ours[case.number].get("text", [])))
+        return {number: differences for number, differences in found.items() if differences}
 
     def picked_otherwise(self, case, table, answers):
-        """Whether --where takes other rows than those in which the answer is true."""
+        """Whether --where takes other rows than those in which the answer is true; asked of one in twenty."""
+        refused = any(isinstance(answer, Fault) or answer is NOT_ASKED for answer in answers)
+        if case.number % 20 or case.tree.type != "bool" or refused or not answers:
+            return
         self.counts["of those, rows picked by --where"] += 1
         true = table.only({column.name for column in table.columns}, [row for row, answer in enumerate(answers) if answer is True])
         picked = self.program.picked(case.text, table)
@@ -206,8 +200,8 @@ class Asker:
 
     def ask_around(self, ask, answers, table, case, faulty):
         """Asks for the whole table, of which the program answers the rows before one that it refuses; for the rows that
-        PostgreSQL does not refuse; and for one or each of those that it does, alone. Of lines with and without rules the first is asked of
-        the lines without alone, as rules may drop a fault."""
+        PostgreSQL does not refuse; and for one or each of those that it does, alone. Of lines with and without rules the
+        first and the last are asked of the lines without, as rules may drop a fault."""
         calm = [row for row in range(len(table.rows)) if row not in faulty]
         found = [self.ask_alone(ask, answers[:1], table, case)[0]] + [[NOT_ASKED] * len(table.rows) for _ in answers[1:]]
         chosen = faulty if self.every else [faulty[case.number % len(faulty)]]
