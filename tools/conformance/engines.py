@@ -143,10 +143,12 @@ class Program:
             raise Refused(ran.returncode, f"{len(rows)} rows of {len(table.rows)}")
         return found
 
-    def picked(self, text, table):
-        """The rows that --where takes by a text, as they stand, below their header. A text may begin with a minus sign."""
+    def picked(self, condition, table, *answers):
+        """The rows that --where takes by a text, as they stand, below their header; behind each row what a text answers in
+        it, named r, where one is there. Texts may begin with a minus sign."""
         columns = self.by_text([], table)[:2]
-        ran = self.run([*columns, "--where=" + text], self.csv(self.by_text, table))
+        behind = ["--append", "--", *(f"{answer}\nas r" for answer in answers)] if answers else []
+        ran = self.run([*columns, "--where=" + condition, *behind], self.csv(self.by_text, table))
         return ran.stdout + ran.stderr
 
     def explained(self, ask, answers, table):

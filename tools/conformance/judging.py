@@ -2,9 +2,9 @@
 from collections import Counter
 from dataclasses import dataclass
 
-from engines import NOT_ASKED, OVERFLOW, STATES, ZERO, Fault, Refused, line_names, value_of
+from engines import NOT_ASKED, OVERFLOW, STATES, ZERO, Fault, Refused, csv_rows, line_names, value_of
 from spelling import Noisy, Plain, Text, is_in_sqlite, is_unchanged, lines, postgresql, sqlite
-from trees import ARITHMETIC, INTEGERS, LIKES
+from trees import ARITHMETIC, INTEGERS, LIKES, Column, Table
 
 # what is counted, in the order in which it is told; refusals and what is on purpose follow by their kinds
 COUNTED = ["expressions", "of those, asked of SQLite too", "of those, refused in some row", "of those, by text and by script lines",
@@ -95,6 +95,14 @@ def folds_past_ascii(case, table, row):
     return False
 
 
+def same_rows(one, other):
+    """Whether two texts are the same rows of CSV, whatever stands in quotes."""
+    try:
+        return csv_rows(one) == csv_rows(other)
+    except (AttributeError, ValueError):
+        return False
+
+
 # -- asking everyone -----------------------------------------------------------------------------------------------------
 
 class Asker:
@@ -114,20 +122,27 @@ class Asker:
         if self.texts:
             for case in self.explained_otherwise(cases, table):
                 found[case.number].append(Difference(0, "what --explain tells of its script lines", "another tree", "or type"))
-            for case in cases:
-                found[case.number].extend(self.picked_otherwise(case, table, ours[case.number].get("text", [])))
+            for case, difference in self.picked_otherwise(cases, table, ours):
+                found[case.number].append(difference)
         return {number: differences for number, differences in found.items() if differences}
 
-    def picked_otherwise(self, case, table, answers):
-        """Whether --where takes other rows than those in which the answer is true; asked of one in twenty."""
-        refused = any(isinstance(answer, Fault) or answer is NOT_ASKED for answer in answers)
-        if case.number % 20 or case.tree.type != "bool" or refused or not answers:
-            return
-        self.counts["of those, rows picked by --where"] += 1
-        true = table.only({column.name for column in table.columns}, [row for row, answer in enumerate(answers) if answer is True])
-        picked = self.program.picked(case.text, table)
-        if picked != self.program.csv(self.program.by_text, true):
-            yield Difference(0, "rows of --where", f"{len(true.rows)} rows that are true", repr(picked))
+    def picked_otherwise(self, cases, table, ours):
+        """Whether --where takes other rows than those in which a text is true, as they stand or with what the next text
+        answers in them. Asked of one in twenty, of those that are refused in no row."""
+        calm = [(case, ours[case.number].get("text", [NOT_ASKED])) for case in cases]
+        calm = [(case, answers) for case, answers in calm if not any(isinstance(one, Fault) or one is NOT_ASKED for one in answers)]
+        for (case, answers), (other, others) in zip(calm, calm[1:] + calm[:1]):
+            if case.number % 20 or case.tree.type != "bool":
+                continue
+            self.counts["of those, rows picked by --where"] += 1
+            true = [row for row, answer in enumerate(answers) if answer is True]
+            rows = table.only({column.name for column in table.columns}, true)
+            if self.program.picked(case.text, table) != self.program.csv(self.program.by_text, rows):
+                yield case, Difference(0, "--where takes other rows than", true, "")
+            both = Table(rows.columns + [Column("r", other.tree.type, True)], [(*row, others[place]) for row, place in zip(rows.rows, true)])
+            picked = self.program.picked(case.text, table, other.text)
+            if not same_rows(picked, self.program.csv(self.program.by_text, both)):
+                yield case, Difference(0, f"--where with --append of {other.text!r} takes other rows than", true, picked)
 
     def explained_otherwise(self, cases, table):
         """The cases of which --explain tells another tree, type or weight by their texts than by their lines. Asked where
