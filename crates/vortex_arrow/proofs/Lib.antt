@@ -1,0 +1,10 @@
+pub mod Rows
+pub mod Parts
+pub mod Collecting
+pub mod Copied
+pub mod Joined
+pub mod Selected
+pub mod Refuting
+pub mod Nulls
+pub mod Cells
+pub mod Answered

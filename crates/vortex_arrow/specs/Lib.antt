@@ -1,0 +1,5 @@
+pub mod Values
+pub mod Layouts
+pub mod Columns
+pub mod Refusals
+pub mod Written

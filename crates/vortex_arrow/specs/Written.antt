@@ -1,0 +1,76 @@
+-- What is written into a caller's buffers: the rows that they say by the layouts, and what stands
+-- behind them.
+use Rattle.std.specs.Prelude.{◌≡◌, ℕ, ◌+◌, ◌/◌, ◌<◌, ◌≤◌, true, if◌then◌else◌, List}
+use Rattle.std.specs.Prelude.{[], length, map, drop}
+use Rattle.std.specs.List.{range_with_len, flat_map}
+use Rattle.vortex_types.specs.LogicalTypes.{is_bool_type}
+use Rattle.vortex_types.specs.Values.{Value, null, text, bytes}
+use Rattle.vortex_bits.specs.Bits.{bit_of}
+use Rattle.vortex_columns.specs.ColumnView.{ColumnView, is_bytes_like}
+use Rattle.vortex_columns.specs.TrueRows.{true_rows}
+use Rattle.vortex_arrow.specs.Layouts.{Layout, value_at}
+use Rattle.vortex_arrow.specs.declared.error.CopyError.{CopyError}
+use Rattle.vortex_arrow.specs.declared.error.CopyError.TheVariants.{OtherType, ValidityTooShort}
+use Rattle.vortex_arrow.specs.declared.error.CopyError.TheVariants.{OffsetsTooShort, DataTooShort}
+use Rattle.vortex_arrow.specs.declared.error.CopyError.TheVariants.{TooLong}
+use Rattle.vortex_arrow.specs.declared.error.CopyError.TheVariants.{ValuesTooShort}
+
+-- how many bytes hold n bits
+abbrev pub bytes_for : ℕ → ℕ
+bytes_for n = (n + 7) / 8
+
+-- from item k on nothing has changed
+abbrev pub SameBehind : {A : Type 0} → ℕ → List A → List A → Type 0
+SameBehind k old new = drop k new ≡ drop k old
+
+-- n rows of a layout: row i is null where bit i of the validity is not set, and else item i
+abbrev pub rows_of : List ℕ → Layout → ℕ → List Value
+rows_of validity l n =
+    map (λ i. if bit_of validity i then value_at l i else null) (range_with_len 0 n)
+
+-- why values are not copied: the column is of another type, or the first of the buffers is shorter
+-- than it has to be
+abbrev pub RefusesValues : Type 0 → ℕ → ℕ → ℕ → ℕ → CopyError → Type 0
+RefusesValues IsType needed validity items values OtherType = ¬ IsType
+RefusesValues IsType needed validity items values ValidityTooShort =
+    IsType × (validity < needed)
+RefusesValues IsType needed validity items values ValuesTooShort =
+    IsType × (needed ≤ validity) × (values < items)
+RefusesValues IsType needed validity items values e = ⊥
+
+-- the bytes of a text or a byte string
+abbrev pub value_bytes : Value → List ℕ
+value_bytes (text bs) = bs
+value_bytes (bytes bs) = bs
+value_bytes v = []
+
+-- those of all rows, one behind another
+abbrev pub joined : List Value → List ℕ
+joined rows = flat_map value_bytes rows
+
+-- likewise of texts, whose offsets tell no more bytes than the most
+abbrev pub RefusesTexts : ColumnView → ℕ → ℕ → ℕ → ℕ → CopyError → Type 0
+RefusesTexts c validity offsets room most OtherType = ¬ (is_bytes_like c.dtype ≡ true)
+RefusesTexts c validity offsets room most ValidityTooShort =
+    (is_bytes_like c.dtype ≡ true) × (validity < bytes_for (length c.rows))
+RefusesTexts c validity offsets room most OffsetsTooShort =
+    (is_bytes_like c.dtype ≡ true) × (bytes_for (length c.rows) ≤ validity)
+    × (offsets ≤ length c.rows)
+RefusesTexts c validity offsets room most TooLong =
+    (is_bytes_like c.dtype ≡ true) × (bytes_for (length c.rows) ≤ validity)
+    × (length c.rows < offsets) × (most < length (joined c.rows))
+RefusesTexts c validity offsets room most DataTooShort =
+    (is_bytes_like c.dtype ≡ true) × (bytes_for (length c.rows) ≤ validity)
+    × (length c.rows < offsets) × (length (joined c.rows) ≤ most)
+    × (room < length (joined c.rows))
+RefusesTexts c validity offsets room most e = ⊥
+
+-- why the numbers of the true rows are not copied, of which the greatest is no more than the most
+abbrev pub RefusesSelection : ColumnView → ℕ → ℕ → CopyError → Type 0
+RefusesSelection c room most OtherType = ¬ (is_bool_type c.dtype ≡ true)
+RefusesSelection c room most TooLong =
+    (is_bool_type c.dtype ≡ true) × (most + 1 < length c.rows)
+RefusesSelection c room most ValuesTooShort =
+    (is_bool_type c.dtype ≡ true) × (length c.rows ≤ most + 1)
+    × (room < length (true_rows c.rows))
+RefusesSelection c room most e = ⊥
