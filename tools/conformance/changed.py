@@ -1,0 +1,113 @@
+"""Texts that are changed at random, most of which are refused: what the program reads, PostgreSQL reads alike."""
+import random
+import re
+from collections import Counter
+
+from engines import NOT_ASKED, STATES, Fault, Refused
+from spelling import Plain, Text, is_unchanged
+from trees import Maker, random_table
+
+OTHERS = ["and", "or", "not", "is", "null", "between", "like", "ilike", "escape", "true", "false", "=", "<>", "<", "<=", ">", ">=",
+          "+", "-", "*", "/", "(", ")", "7", "0", "'a'", "'!'", "''", "i64_a", "i32_b", "bool_a", "utf8_a", "i16_a", "::", "i64", "bool"]
+# tokens of which one stands where another does
+CLASSES = [{"=", "<>", "<", "<=", ">", ">="}, {"+", "-", "*", "/"}, {"and", "or"}, {"like", "ilike"},
+           {"i64_a", "i64_b", "i64_c"}, {"i32_a", "i32_b", "i32_c"}, {"bool_a", "bool_b", "bool_c"}, {"utf8_a", "utf8_b"}]
+# What PostgreSQL reads and we refuse, by how the refusal begins behind its place. Whatever else only PostgreSQL reads is told.
+REFUSED_HERE = {
+    "another order of words": r"found .*, expected ",
+    "operands of two types": r"E3 TypeMismatch\.",
+    "null without a type": r"null has no type here",
+    "a number that its type does not hold": r"\S+ is no (bool|utf8|[iu]\d+)",
+    "another type": r"no type ",
+    "another cast": r"a cast leads from",
+}
+
+
+def changed_text(rng, table):
+    """A text of which tokens were dropped, doubled, exchanged, replaced or put in."""
+    while True:
+        tree = Maker(rng, table, True, small=True).tree(rng.choice((3, 5, 8)))
+        if is_unchanged(tree):
+            break
+    written = Text(Plain())
+    written.text(tree)
+    tokens = written.tokens
+    for _ in range(rng.choice((1, 1, 2, 3))):
+        tokens = rng.choice((roughly, gently, gently))(rng, tokens) or [rng.choice(OTHERS)]
+    return " ".join(tokens)
+
+
+def roughly(rng, tokens):
+    """A token dropped, doubled, exchanged with the next, put in, or replaced by any."""
+    place = rng.randrange(len(tokens))
+    first, rest = tokens[place:place + 1], tokens[place + 1:]
+    return tokens[:place] + rng.choice((rest, first * 2 + rest, rest[:1] + first + rest[1:], [rng.choice(OTHERS), *first, *rest],
+                                        [rng.choice(OTHERS), *rest]))
+
+
+def gently(rng, tokens):
+    """A token replaced by one of its kind, a `not` put in, or brackets around some tokens."""
+    place, end = sorted((rng.randrange(len(tokens)), rng.randint(1, len(tokens))))
+    kind = next((kind for kind in CLASSES if tokens[place] in kind), None)
+    if kind:
+        return [*tokens[:place], rng.choice(sorted(kind)), *tokens[place + 1:]]
+    if rng.random() < 0.5:
+        return [*tokens[:place], "not", *tokens[place:]]
+    return [*tokens[:place], "(", *tokens[place:end], ")", *tokens[end:]]
+
+
+def is_refused(answers):
+    """Whether PostgreSQL refuses a text, and not what it answers in some rows."""
+    states = {answer.name for answer in answers if isinstance(answer, Fault)}
+    return bool(states - {*STATES, "22025"})
+
+
+class Changed:
+    """Asks changed texts of the program and of PostgreSQL."""
+
+    def __init__(self, program, server, seed, rows):
+        self.program, self.server, self.seed, self.rows = program, server, seed, rows
+        self.counts, self.differences, self.examples = Counter(), [], {}
+
+    def run(self, begin, end):
+        table = random_table(random.Random(f"changed table {self.seed} {begin}"), self.rows, small=True)
+        texts = [changed_text(random.Random(f"changed {self.seed} {number}"), table) for number in range(begin, end)]
+        theirs = self.server.answers(texts, table)
+        for number, text, answers in zip(range(begin, end), texts, theirs):
+            self.counts["changed texts"] += 1
+            try:
+                ours = self.program.answers(self.program.by_text, [text], table, ["utf8"])[0]
+            except Refused as refused:
+                self.beside_refusal(number, text, refused, answers)
+            else:
+                self.beside_answers(number, text, ours, answers)
+
+    def differ(self, number, text, ours, theirs):
+        self.differences.append(f"changed text {number}: {text!r}\n    rowfn_stream: {ours}\n    PostgreSQL: {theirs}")
+
+    def beside_refusal(self, number, text, refused, answers):
+        told = re.fullmatch(r"rowfn_stream: (?:[^:]*: )?line \d+, column \d+: (.*)", refused.told, re.DOTALL)
+        if refused.status != 4 or not told:
+            return self.differ(number, text, refused, "whatever: that is no refusal of a text")
+        if is_refused(answers):
+            self.counts["changed texts that both refuse"] += 1
+            return
+        for kind, begins in REFUSED_HERE.items():
+            if re.match(begins, told[1]):
+                self.counts[f"on purpose: refused for {kind}, where PostgreSQL answers"] += 1
+                self.examples.setdefault(kind, []).append(text)
+                return
+        self.differ(number, text, refused, answers[0])
+
+    def beside_answers(self, number, text, ours, answers):
+        self.counts["changed texts that both answer"] += 1
+        for one, other in zip(ours, answers):
+            if one is NOT_ASKED:
+                break
+            if isinstance(other, Fault):
+                alike = other.name in STATES and isinstance(one, Fault) or other.name == "22025" and "like" in text
+            else:
+                # a fault that stands beside what decides, or beside a null, is not met by PostgreSQL
+                alike = one == other or isinstance(one, Fault) and bool(re.search(r"\b(and|or|null)\b", text))
+            if not alike:
+                return self.differ(number, text, one, other)

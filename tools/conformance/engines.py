@@ -1,0 +1,354 @@
+"""The program, PostgreSQL and SQLite: what each answers over the rows of a table."""
+import glob
+import json
+import os
+import pwd
+import re
+import shutil
+import signal
+import sqlite3
+import subprocess
+import sys
+import tempfile
+import time
+from dataclasses import dataclass
+
+from spelling import POSTGRESQL_TYPES, postgresql_domains, quoted, sql_literal
+from trees import INTEGERS
+
+TOP = os.path.dirname(os.path.dirname(os.path.dirname(os.path.realpath(__file__))))
+PROGRAM = os.environ.get("ROWFN_STREAM", TOP + "/crates/rowfn_stream/out/rowfn_stream")
+
+
+class Missing(Exception):
+    """Something that the tool needs is not there."""
+
+
+@dataclass(frozen=True)
+class Fault:
+    """A refusal in a row, by its name and what the engine says."""
+    name: str
+    told: str = ""
+
+    def __str__(self):
+        return f"{self.name} {self.told}".strip()
+
+
+# what the program says of the rows behind one that it refuses
+NOT_ASKED = ...
+
+
+def value_of(name, text):
+    """The value of a type that a text says, as the program and PostgreSQL write it."""
+    if text is None or name == "utf8":
+        return text
+    if name == "bool":
+        return {"true": True, "false": False}[text]
+    return int(text)
+
+
+# -- the program ---------------------------------------------------------------------------------------------------------
+
+def csv_field(value):
+    if value is None:
+        return ""
+    if isinstance(value, bool):
+        return "true" if value else "false"
+    return quoted(value, '"') if isinstance(value, str) else str(value)
+
+
+def csv_rows(text):
+    """The rows of a CSV text; a field is a text, or None where it is empty and stands in no quotes."""
+    rows, row, place = [], [], 0
+    while place < len(text):
+        if text[place] == '"':
+            field, place = "", place + 1
+            while True:
+                end = text.index('"', place)
+                field += text[place:end]
+                place = end + 1
+                if text[place:place + 1] != '"':
+                    break
+                field, place = field + '"', place + 1
+        else:
+            end = re.compile(r"[,\n]").search(text, place).start()
+            field, place = text[place:end] or None, end
+        row.append(field)
+        if text[place] == "\n":
+            rows.append(row)
+            row = []
+        place += 1
+    return rows
+
+
+def line_names(table):
+    """The names of the columns in lines of scripts: their own, or c0, c1 and so on where one is no word there."""
+    names = [column.name for column in table.columns]
+    are_words = all(re.fullmatch(r"\w+", name, re.ASCII) for name in names)
+    return {name: name if are_words else f"c{place}" for place, name in enumerate(names)}
+
+
+class Program:
+    """rowfn_stream over tables, asked by texts of expressions or by lines of scripts."""
+
+    def __init__(self, path):
+        self.path, self.runs = path, 0
+        if not os.access(path, os.X_OK):
+            raise Missing(f"no program at {path}: say `rt run` in crates/rowfn_stream, or set ROWFN_STREAM")
+        self.version = self.run(["--version"], "").stdout.strip()
+
+    def run(self, arguments, rows):
+        self.runs += 1
+        ran = subprocess.run([self.path, *arguments], input=rows.encode(), capture_output=True, close_fds=False)
+        ran.stdout, ran.stderr = ran.stdout.decode(), ran.stderr.decode()
+        return ran
+
+    @staticmethod
+    def by_text(answers, table):
+        """The arguments that ask for these texts, each with its name. A text may begin with a minus sign."""
+        columns = ", ".join(f"{quoted(column.name, chr(34))} {column.type}{'?' * column.nullable}" for column in table.columns)
+        return ["--columns", columns, "--", ", ".join(f"{text}\nas {name}" for name, text in answers)]
+
+    @staticmethod
+    def by_lines(answers, table):
+        """The arguments that ask for these lines of scripts, each list with its name."""
+        names = line_names(table)
+        said = [f"col {names[column.name]} {column.type}{'?' * column.nullable}" for column in table.columns]
+        for name, lines in answers:
+            said += [*lines, f"as {name}"]
+        return [word for line in said for word in ("-e", line)]
+
+    def csv(self, ask, table):
+        """A table as CSV, under the names by which it is asked for."""
+        names = line_names(table) if ask is self.by_lines else {column.name: column.name for column in table.columns}
+        rows = [list(names.values()), *table.rows]
+        return "".join(",".join(csv_field(value) for value in row) + "\n" for row in rows)
+
+    def answers(self, ask, answers, table, types):
+        """What each of these texts or lists of lines answers in each row: a value, or a fault, behind which the rows are
+        NOT_ASKED. `ask` is one of by_text and by_lines."""
+        arguments = ask([(f"r{place}", answer) for place, answer in enumerate(answers)], table)
+        ran = self.run(["--blank-lines", "null", *arguments], self.csv(ask, table))
+        if ran.returncode not in (0, 1):
+            raise Refused(ran.returncode, ran.stderr.strip())
+        _, *rows = csv_rows(ran.stdout)
+        found = [[value_of(name, row[place]) for row in rows] for place, name in enumerate(types)]
+        if ran.returncode == 1:
+            told = re.fullmatch(r"rowfn_stream: row (\d+): E7 (Arithmetic\.\w+)\n", ran.stderr)
+            if not told or int(told[1]) != len(rows) + 1:
+                raise Refused(ran.returncode, ran.stderr.strip())
+            for column in found:
+                column += [Fault(told[2])] + [NOT_ASKED] * (len(table.rows) - len(rows) - 1)
+        if any(len(column) != len(table.rows) for column in found):
+            raise Refused(ran.returncode, f"{len(rows)} rows of {len(table.rows)}")
+        return found
+
+    def picked(self, condition, table, *answers):
+        """The rows that --where takes by a text, as they stand, below their header; behind each row what a text answers in
+        it, named r, where one is there. Texts may begin with a minus sign."""
+        columns = self.by_text([], table)[:2]
+        behind = ["--append", "--", *(f"{answer}\nas r" for answer in answers)] if answers else []
+        ran = self.run([*columns, "--where=" + condition, *behind], self.csv(self.by_text, table))
+        return ran.stdout + ran.stderr
+
+    def explained(self, ask, answers, table):
+        """What --explain tells of these."""
+        arguments = ask([(f"r{place}", answer) for place, answer in enumerate(answers)], table)
+        ran = self.run(["--explain", *arguments], self.csv(ask, table))
+        return ran.stdout + ran.stderr
+
+
+class Refused(Exception):
+    """The program ended otherwise than with answers or with a fault of arithmetic."""
+
+    def __init__(self, status, told):
+        super().__init__(f"status {status}: {told}")
+        self.status, self.told = status, told
+
+
+# -- PostgreSQL ----------------------------------------------------------------------------------------------------------
+
+ASK = r"""
+SET client_min_messages = warning;
+CREATE OR REPLACE FUNCTION ask(expression text) RETURNS json LANGUAGE plpgsql AS $body$
+DECLARE
+    answers text[] := '{}';
+    faults text[] := '{}';
+    one record;
+    answer text;
+BEGIN
+    BEGIN
+        EXECUTE 'SELECT array_agg(answer::text ORDER BY place) FROM (SELECT place, ' || expression
+            || E'\n AS answer FROM given) t' INTO answers;
+        RETURN json_build_array(answers, null);
+    EXCEPTION WHEN OTHERS THEN answers := '{}';
+    END;
+    FOR one IN SELECT place FROM given ORDER BY place LOOP
+        BEGIN
+            EXECUTE 'SELECT answer::text FROM (SELECT ' || expression || E'\n AS answer FROM given WHERE place = $1) t'
+                INTO answer USING one.place;
+            answers := answers || answer;
+            faults := faults || null::text;
+        EXCEPTION WHEN OTHERS THEN
+            answers := answers || null::text;
+            faults := faults || (SQLSTATE || ' ' || SQLERRM);
+        END;
+    END LOOP;
+    RETURN json_build_array(answers, faults);
+END
+$body$;
+"""
+# how the refusals of PostgreSQL are told apart, by its SQLSTATE: of a domain's CHECK, of a range, of a divisor
+OVERFLOW, ZERO = "overflow", "zero divisor"
+STATES = {"22003": OVERFLOW, "23514": OVERFLOW, "22012": ZERO}
+
+
+class Postgresql:
+    """A cluster of its own, in a folder of its own, on a unix socket alone; it ends with the tool, however that ends."""
+    packages = "postgresql postgresql-client util-linux"
+
+    def __init__(self):
+        self.folder = self.server = None
+        # Debian keeps the server's programs out of the way
+        folders = sorted(glob.glob("/usr/lib/postgresql/*/bin"), key=lambda path: [int(number) for number in re.findall(r"\d+", path)])
+        self.path = os.pathsep.join([os.environ.get("PATH", ""), *folders[-1:]])
+        for word in ("initdb", "postgres", "psql", "setpriv"):
+            if not shutil.which(word, path=self.path):
+                raise Missing(f"{word} is not there: install {self.packages}")
+
+    def words(self, *words):
+        """The words of a command that runs as the server's user, and ends where the tool does."""
+        user = ["--reuid=" + self.user, "--regid=" + str(pwd.getpwnam(self.user).pw_gid), "--clear-groups"] if self.user else []
+        return ["setpriv", *user, "--pdeathsig", "QUIT", *words]
+
+    def start(self):
+        self.folder = tempfile.mkdtemp(prefix="conformance.", dir="/tmp")
+        self.user = None
+        if os.getuid() == 0:
+            # a server does not run as root
+            self.user = next(user for user in ("postgres", "nobody") if user in {entry.pw_name for entry in pwd.getpwall()})
+            os.chown(self.folder, pwd.getpwnam(self.user).pw_uid, -1)
+        self.environment = dict(os.environ, PATH=self.path, HOME=self.folder, LC_ALL="C.UTF-8", PGOPTIONS="")
+        self.made("initdb", "-D", self.folder + "/data", "-A", "trust", "-U", "asks", "-E", "UTF8", "--locale=C", "--no-sync")
+        with open(self.folder + "/log", "wb") as log:
+            self.server = subprocess.Popen(
+                self.words(self.which("postgres"), "-D", self.folder + "/data", "-k", self.folder, "-c", "listen_addresses=",
+                           "-c", "fsync=off", "-c", "jit=off", "-c", "max_connections=10"),
+                stdout=log, stderr=log, env=self.environment, cwd="/", start_new_session=True)
+        for _ in range(300):
+            if self.psql("SELECT 1;", check=False).returncode == 0:
+                break
+            if self.server.poll() is not None:
+                break
+            time.sleep(0.1)
+        self.version = "PostgreSQL " + self.ask_plain("SHOW server_version;")[0].split()[0]
+        self.ask_plain("\n".join(postgresql_domains()) + ASK)
+
+    def which(self, word):
+        return shutil.which(word, path=self.path)
+
+    def made(self, word, *words):
+        """Runs a command to its end, and where the tool is interrupted, ends it with all that it started."""
+        ran = subprocess.Popen(self.words(self.which(word), *words), env=self.environment, cwd="/", stdout=subprocess.DEVNULL,
+                               stderr=subprocess.PIPE, text=True, start_new_session=True)
+        try:
+            told = ran.communicate()[1]
+        except BaseException:
+            os.killpg(ran.pid, signal.SIGKILL)
+            ran.wait()
+            raise
+        if ran.returncode != 0:
+            raise Missing(f"{word}: {told.strip()}")
+
+    def psql(self, said, check=True):
+        words = [self.which("psql"), "-X", "-q", "-A", "-t", "-v", "ON_ERROR_STOP=1", "-h", self.folder, "-U", "asks", "-d", "postgres"]
+        ran = subprocess.run(words, input=said.encode(), capture_output=True, env=self.environment, cwd="/", start_new_session=True)
+        if check and ran.returncode != 0:
+            with open(self.folder + "/log", encoding="utf-8", errors="replace") as log:
+                raise Missing(f"psql: {ran.stderr.decode()}{''.join(log.readlines()[-3:])}")
+        return ran
+
+    def ask_plain(self, said):
+        return [line for line in self.psql(said).stdout.decode().split("\n") if line]
+
+    def fill(self, table):
+        """The statements that make a table the given one."""
+        types = ", ".join(f"{quoted(column.name, chr(34))} {column.type}" for column in table.columns)
+        rows = ",\n".join("(" + ", ".join(map(sql_literal, (place, *row))) + ")" for place, row in enumerate(table.rows))
+        return f"DROP TABLE IF EXISTS given;\nCREATE TABLE given (place integer{', ' * bool(types)}{types});\nINSERT INTO given VALUES {rows};\n"
+
+    def answers(self, texts, table):
+        """What each text answers in each row: a text or None, or a fault with its SQLSTATE."""
+        asked = "".join(f"SELECT ask($asked${text}$asked$);\n" for text in texts)
+        found = []
+        for line in self.ask_plain(self.fill(table) + asked):
+            answers, faults = json.loads(line)
+            found.append([Fault(*fault.split(" ", 1)) if fault else answer for answer, fault in zip(answers, faults or [None] * len(answers))])
+        assert len(found) == len(texts)
+        return found
+
+    def stop(self):
+        if self.server:
+            self.server.send_signal(signal.SIGINT)
+            try:
+                self.server.wait(20)
+            except subprocess.TimeoutExpired:
+                os.killpg(self.server.pid, signal.SIGKILL)
+                self.server.wait()
+            self.server = None
+        if self.folder:
+            # what was ended may still have been writing
+            for _ in range(20):
+                shutil.rmtree(self.folder, ignore_errors=True)
+                if not os.path.exists(self.folder):
+                    break
+                time.sleep(0.1)
+            self.folder = None
+
+
+def interrupted(number, _):
+    raise SystemExit(128 + number)
+
+
+def with_server(path, body):
+    """What `body` answers to the program at a path and a server, which ends however that ends; 2 where something is missing."""
+    for number in (signal.SIGHUP, signal.SIGINT, signal.SIGTERM):
+        signal.signal(number, interrupted)
+    try:
+        program, server = Program(path), Postgresql()
+        try:
+            server.start()
+            return body(program, server)
+        finally:
+            server.stop()
+    except Missing as missing:
+        print(missing, file=sys.stderr)
+        return 2
+
+
+# -- SQLite --------------------------------------------------------------------------------------------------------------
+
+class Sqlite:
+    """A table in memory. LIKE looks at case here, as in SQL; ILIKE is LIKE of what lower() makes."""
+    packages = "python3"
+
+    def __init__(self, looks_at_case=True):
+        self.version = "SQLite " + sqlite3.sqlite_version
+        self.table, self.looks_at_case = None, looks_at_case
+
+    def fill(self, table):
+        if self.table is not table:
+            self.table = table
+            self.connection = sqlite3.connect(":memory:")
+            self.connection.execute(f"PRAGMA case_sensitive_like = {'ON' if self.looks_at_case else 'OFF'}")
+            types = ", ".join(f"{quoted(column.name, chr(34))} {'TEXT' if column.type == 'utf8' else 'INTEGER'}" for column in table.columns)
+            self.connection.execute(f"CREATE TABLE given (place INTEGER{', ' * bool(types)}{types})")
+            signs = ", ".join("?" * (1 + len(table.columns)))
+            held = [tuple(None if isinstance(value, int) and value > INTEGERS["i64"][1] else value for value in row) for row in table.rows]
+            self.connection.executemany(f"INSERT INTO given VALUES ({signs})", [(place, *row) for place, row in enumerate(held)])
+
+    def answers(self, texts, table):
+        """What each text answers in each row, as SQLite holds it."""
+        self.fill(table)
+        rows = self.connection.execute(f"SELECT {', '.join(texts)} FROM given ORDER BY place").fetchall()
+        return [list(column) for column in zip(*rows)]

@@ -1,0 +1,318 @@
+"""How a tree is written: as people write expressions, as lines of a script, in PostgreSQL and in SQLite."""
+import re
+from trees import ARITHMETIC, BETWEEN, COMPARISONS, INTEGERS, LEVEL, LIKES, OPERANDS, TESTS
+
+KEYWORDS = "and or not is null between like ilike escape true false cast as".split()
+BARE_LEVEL = 9
+
+
+def literal_types(kind, operands, forms):
+    """The types that the bare literals among these operands take; None for a null that has none."""
+    def own(node):
+        return None if node.value is None else "i64" if node.type in INTEGERS else node.type
+    is_bare = [node.kind == "literal" and form == "bare" for node, form in zip(operands, forms)]
+    if kind in ("and", "or", "not", "cast"):
+        common = "bool"
+    elif kind in LIKES:
+        common = "utf8"
+    elif kind in TESTS:
+        common = None
+    else:
+        trees = [node.type for node, bare in zip(operands, is_bare) if not bare]
+        common = next(iter(trees + [name for name in map(own, operands) if name]), None)
+
+    def taken(node):
+        if node.value is None:
+            return common
+        return common if node.type in INTEGERS and common in INTEGERS else own(node)
+    return [taken(node) if bare else node.type for node, bare in zip(operands, is_bare)]
+
+
+def literal_forms(kind, operands):
+    """How each operand is written that is a literal: as its form says, and with its type where it would take another."""
+    forms = [node.form for node in operands]
+    while True:
+        wrong = [place for place, (node, name) in enumerate(zip(operands, literal_types(kind, operands, forms))) if node.type != name]
+        if not wrong:
+            return forms
+        forms[wrong[0]] = "typed"
+
+
+def quoted(text, quote):
+    return quote + text.replace(quote, quote * 2) + quote
+
+
+class Plain:
+    """One way to write an expression: no bracket that is not needed, one blank between two tokens."""
+
+    def keyword(self, word):
+        return word
+
+    def is_grouped(self):
+        return False
+
+    def is_quoted(self):
+        return False
+
+    def unequal(self):
+        return "<>"
+
+    def between(self, left, right):
+        return " "
+
+
+class Noisy(Plain):
+    """A random way: brackets, cases, blanks, comments and quotes that mean nothing."""
+
+    def __init__(self, rng, brackets):
+        self.rng, self.brackets = rng, brackets
+
+    def keyword(self, word):
+        return "".join(self.rng.choice((letter, letter.upper())) for letter in word) if self.rng.random() < 0.3 else word
+
+    def is_grouped(self):
+        return self.brackets and self.rng.random() < 0.1
+
+    def is_quoted(self):
+        return self.rng.random() < 0.15
+
+    def unequal(self):
+        return self.rng.choice(("<>", "!="))
+
+    def between(self, left, right):
+        gaps = [" "] * 24 + ["  ", "\t", "\n", "\r\n", " -- or so\n", " --' and (\r", "\n--\n"]
+        touching = [""] * 12 if may_touch(left, right) else []
+        return self.rng.choice(gaps + touching)
+
+
+def may_touch(left, right):
+    """Whether two tokens stay two where nothing stands between them, for PostgreSQL too."""
+    word = r"[A-Za-z0-9_?]"
+    if re.search(word + "$", left) and re.match(word, right):
+        return False
+    if left[-1] in "\"'" and right[0] in "\"'":
+        return False
+    # PostgreSQL takes a name before a quote for the beginning of a literal of another kind, and `!=-` for one operator
+    if re.search(word + "$", left) and right[0] in "\"'":
+        return len(left) > 2
+    return not (right == "-" and left in ("-", "!="))
+
+
+class Text:
+    """The tokens of a tree as people write it."""
+
+    def __init__(self, style):
+        self.style, self.tokens = style, []
+
+    def text(self, tree):
+        # PostgreSQL makes a name in no quotes small
+        self.are_names_small = is_unchanged(tree)
+        self.tree(tree, literal_forms("", (tree,))[0] if tree.kind == "literal" else "", 0)
+        return self.joined()
+
+    def joined(self):
+        joined = self.tokens[:1]
+        for left, right in zip(self.tokens, self.tokens[1:]):
+            joined += [self.style.between(left, right), right]
+        return "".join(joined)
+
+    def say(self, *tokens):
+        self.tokens += [self.style.keyword(token) if token in KEYWORDS else token for token in tokens]
+
+    def tree(self, node, form, level):
+        own = BARE_LEVEL if node.kind == "literal" and form == "bare" else LEVEL[node.kind]
+        grouped = own < level or self.style.is_grouped()
+        if grouped:
+            self.say("(")
+        self.spell(node, form)
+        if grouped:
+            self.say(")")
+
+    def spell(self, node, form):
+        if node.kind == "column":
+            self.tokens.append(self.name(node.value))
+        elif node.kind == "literal":
+            self.literal(node, form)
+        else:
+            self.call(node)
+
+    def name(self, name):
+        is_word = re.fullmatch(r"[A-Za-z_][A-Za-z0-9_]*", name, re.ASCII) and name.lower() not in KEYWORDS
+        is_bare = is_word and (name == name.lower() or not self.are_names_small) and not self.style.is_quoted()
+        return name if is_bare else quoted(name, '"')
+
+    def literal(self, node, form):
+        if node.value is None:
+            self.say("null")
+        elif node.type == "bool":
+            self.say("true" if node.value else "false")
+        elif node.type == "utf8":
+            self.tokens.append(quoted(node.value, "'"))
+        elif node.value < 0:
+            self.say("-", str(-node.value))
+        else:
+            self.say(str(node.value))
+        if form != "bare":
+            self.say("::", node.type + ("?" if form == "nullable" else ""))
+
+    def operands(self, node):
+        forms = literal_forms(node.kind, node.operands)
+        return list(zip(node.operands, forms, OPERANDS[node.kind]))
+
+    def call(self, node):
+        first, *others = self.operands(node)
+        if node.kind == "cast":
+            self.say("cast", "(")
+            self.tree(*first)
+            return self.say("as", "bool?", ")")
+        if node.kind == "not":
+            self.say("not")
+            return self.tree(*first)
+        self.tree(*first)
+        words = (self.style.unequal(),) if node.kind == "<>" else node.kind.split(" ")
+        self.say(*words)
+        for place, other in enumerate(others):
+            if place:
+                self.say("and")
+            self.tree(*other)
+        if node.kind in LIKES and node.value is not None:
+            self.say("escape")
+            self.tokens.append(quoted(node.value, "'"))
+
+
+def is_unchanged(tree):
+    """Whether PostgreSQL reads a tree's text as it stands: over columns of the types i16, i32 and i64 under these names,
+    where no word of a type has a question mark, no cast is asked, and each number is of the size that PostgreSQL gives it."""
+    def literal(kind, operands, place, form):
+        node = operands[place]
+        if form == "nullable":
+            return False
+        if node.type not in INTEGERS or node.value is None:
+            return True
+        # a minus sign stands before a number of PostgreSQL, whatever type it has
+        if node.value == INTEGERS[node.type][0]:
+            return False
+        if form != "bare" or node.type == "i32":
+            return True
+        # a number of PostgreSQL is an integer, or a bigint where that does not hold it
+        beside = any(other.columns() for other in operands)
+        if node.type == "i64":
+            return beside or not 9 < abs(node.value) < 2 ** 31
+        return beside and kind not in ARITHMETIC
+
+    def node_is(kind, operands, place, form):
+        node = operands[place]
+        if node.kind == "literal":
+            return literal(kind, operands, place, form)
+        if node.kind == "cast" or node.kind in ARITHMETIC and node.type not in ("i16", "i32", "i64"):
+            return False
+        forms = literal_forms(node.kind, node.operands)
+        return all(node_is(node.kind, node.operands, one, forms[one]) for one in range(len(forms)))
+    forms = literal_forms("", (tree,)) if tree.kind == "literal" else ["bare"]
+    return node_is("", (tree,), 0, forms[0])
+
+
+def lines(tree, names):
+    """The lines of a script that push a tree, or None where a literal has no cell. `names` are the columns' names there."""
+    said = []
+    for node in tree.nodes():
+        if node.kind == "column":
+            said.append(f"get {names[node.value]}")
+        elif node.kind == "literal":
+            if node.type == "utf8" and node.value is not None and re.search(r'["\n]', node.value):
+                return None
+            said.append(f"lit {node.type}{'?' if node.value is None or node.form == 'nullable' else ''} {cell(node.value)}")
+        elif node.kind in BETWEEN:
+            said += ["call between <= <="] + ["call not"] * (node.kind == "not between")
+        elif node.kind in LIKES:
+            said.append(f"call {node.kind.replace(' ', '_')}" + ("" if node.value is None else f' escape "{node.value}"'))
+        else:
+            said.append("call " + {"<>": "!="}.get(node.kind, node.kind.replace(" ", "_")))
+    return said
+
+
+def cell(value):
+    if value is None or isinstance(value, bool):
+        return str(value).lower().replace("none", "null")
+    return f'"{value}"' if isinstance(value, str) else str(value)
+
+
+# PostgreSQL: our types are domains over its own, whose CHECK refuses what they do not hold.
+POSTGRESQL_TYPES = {
+    "i8": "smallint", "i16": "smallint", "i32": "integer", "i64": "bigint",
+    "u8": "smallint", "u16": "integer", "u32": "bigint", "u64": "numeric(20, 0)",
+}
+WHOLE_IN_POSTGRESQL = ("i16", "i32", "i64")
+
+
+def postgresql_domains():
+    for name, base in POSTGRESQL_TYPES.items():
+        low, high = INTEGERS[name]
+        checked = "" if name in WHOLE_IN_POSTGRESQL else f" CHECK (VALUE BETWEEN {low} AND {high})"
+        yield f"CREATE DOMAIN {name} AS {base}{checked};"
+    yield 'CREATE DOMAIN utf8 AS text COLLATE "C";'
+
+
+def sql_literal(value):
+    if value is None or isinstance(value, bool):
+        return str(value).upper().replace("NONE", "NULL")
+    return quoted(value, "'") if isinstance(value, str) else f"({value})"
+
+
+def sql(node, leaf, calculated, liked, cast):
+    """A tree in SQL with each bracket, by what an engine writes for leaves, arithmetic, LIKE and casts."""
+    if node.kind in ("column", "literal"):
+        return leaf(node)
+    operands = [sql(operand, leaf, calculated, liked, cast) for operand in node.operands]
+    if node.kind in ARITHMETIC:
+        return calculated(node, *operands)
+    if node.kind in LIKES:
+        return liked(node, *operands)
+    if node.kind == "cast":
+        return cast(*operands)
+    if node.kind == "not":
+        return f"(NOT {operands[0]})"
+    if node.kind in TESTS:
+        return f"({operands[0]} {node.kind.upper()})"
+    if node.kind in BETWEEN:
+        return f"({operands[0]} {node.kind.upper()} {operands[1]} AND {operands[2]})"
+    return f"({operands[0]} {node.kind.upper()} {operands[1]})"
+
+
+def postgresql(node):
+    def leaf(node):
+        return quoted(node.value, '"') if node.kind == "column" else f"({sql_literal(node.value)}::{node.type})"
+
+    def calculated(node, left, right):
+        if node.type in WHOLE_IN_POSTGRESQL:
+            return f"({left} {node.kind} {right})"
+        called = f"div({left}, {right})" if node.type == "u64" and node.kind == "/" else f"({left} {node.kind} {right})"
+        return f"({called}::{node.type})"
+
+    def liked(node, text, pattern):
+        escape = "" if node.value is None else f" ESCAPE {quoted(node.value, chr(39))}"
+        return f"({text} {node.kind.upper()} {pattern}{escape})"
+    return sql(node, leaf, calculated, liked, lambda operand: f"({operand}::bool)")
+
+
+def is_in_sqlite(tree):
+    """Whether SQLite can be asked: it has no integers past 63 bits, and no ILIKE whose escape is a letter."""
+    return all(node.type != "u64" and not ("ilike" in node.kind and (node.value or "").isalpha()) for node in tree.nodes())
+
+
+def sqlite(node):
+    def leaf(node):
+        return quoted(node.value, '"') if node.kind == "column" else sql_literal(node.value)
+
+    def calculated(node, left, right):
+        return f"({left} {node.kind} {right})"
+
+    # LIKE looks at case by a setting of the connection, and no escape is the default
+    def liked(node, text, pattern):
+        chosen = "\\" if node.value is None else node.value
+        escape = f" ESCAPE {quoted(chosen, chr(39))}" if chosen else ""
+        word = node.kind.upper().replace("ILIKE", "LIKE")
+        if "ilike" in node.kind:
+            text, pattern = f"lower({text})", f"lower({pattern})"
+        return f"({text} {word} {pattern}{escape})"
+    return sql(node, leaf, calculated, liked, lambda operand: operand)
