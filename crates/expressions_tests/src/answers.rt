@@ -17,6 +17,13 @@ fn the_first_refusal_is_told(rt: HostRuntime) {
     assert!(rt;
         says_all(
             rt,
+            "price as x, null as y, price as z",
+            "line 1, column 13: null has no type here; say it, as null::i64?"
+        )
+    );
+    assert!(rt;
+        says_all(
+            rt,
             "price as a, small = 300 as b, weight",
             "line 1, column 19: 300 is no u8"
         )

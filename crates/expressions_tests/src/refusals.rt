@@ -14,7 +14,7 @@ fn of_columns(rt: HostRuntime) {
         says(
             rt,
             "1 < \"weight\"",
-            "line 1, column 5: no column \"weight\""
+            "line 1, column 5: no column \"weight\"; a text stands in single quotes, as 'text'"
         )
     );
 }
@@ -51,6 +51,13 @@ fn of_literals(rt: HostRuntime) {
     assert!(rt;
         says(
             rt,
+            "null",
+            "line 1, column 1: null has no type here; say it, as null::i64?"
+        )
+    );
+    assert!(rt;
+        says(
+            rt,
             "7::int",
             "line 1, column 4: no type \"int\"; types are bool, utf8, i8, i16, i32, i64, u8, u16, u32 and u64, with ? where they have null"
         )
@@ -71,6 +78,64 @@ fn of_escapes_and_casts(rt: HostRuntime) {
             rt,
             "cast(price as i64)",
             "line 1, column 15: a cast leads from a truth value to bool? alone"
+        )
+    );
+}
+
+#[test]
+fn of_signs_of_other_languages(rt: HostRuntime) {
+    assert!(rt;
+        says(
+            rt,
+            "price == 3",
+            "line 1, column 8: found \"=\", expected a column, a literal, cast or ( (a not needs brackets here); one = compares"
+        )
+    );
+    assert!(rt;
+        says(
+            rt,
+            "price <= <= 3",
+            "line 1, column 10: found \"<=\", expected a column, a literal, cast or ( (a not needs brackets here)"
+        )
+    );
+    assert!(rt;
+        says(
+            rt,
+            "dear && sold",
+            "line 1, column 6: found \"&\"; is and meant?"
+        )
+    );
+    assert!(rt;
+        says(
+            rt,
+            "dear andd sold",
+            "line 1, column 6: found \"andd\", expected an operator or the end; is and meant?"
+        )
+    );
+}
+
+#[test]
+fn of_what_begins_no_word(rt: HostRuntime) {
+    assert!(rt; says(rt, "name = 'a", "line 1, column 8: a quote is not closed"));
+    assert!(rt;
+        says(
+            rt,
+            "price > 2.5",
+            "line 1, column 10: numbers are whole, without \".\""
+        )
+    );
+    assert!(rt;
+        says(
+            rt,
+            "2nd = 3",
+            "line 1, column 1: \"2nd\" is no number; a name that begins with a digit stands in double quotes"
+        )
+    );
+    assert!(rt;
+        says(
+            rt,
+            "price ; 3",
+            "line 1, column 7: no word and no sign begins with \";\""
         )
     );
 }

@@ -7,7 +7,7 @@ use crate::error::{ReadError, Reason};
 use crate::item::{Item, common_type};
 use crate::literal::Literal;
 use crate::refusal::{Refusal, Stop};
-use crate::words::{found_at, line_and_column, nearest};
+use crate::words::{found_at, line_and_column, nearest, nearest_keyword};
 use std::alloc::Global;
 use std::fmt::Write;
 use std::str;
@@ -50,17 +50,80 @@ fn error_at(
     }
 }
 
+/// The byte at a place of the text, and the one before it.
+fn bytes_at(text: &str, byte: usize) -> (Option<u8>, Option<u8>) {
+    let bytes = text.as_bytes();
+    let before = match byte.checked_sub(1) {
+        Some(before) => bytes.get(before).copied(),
+        None => None,
+    };
+    (before, bytes.get(byte).copied())
+}
+
+/// What is told where no token begins.
+fn token_text(alloc: Global, text: &str, byte: usize) -> VortexResult<String> {
+    let found = found_at(text, byte);
+    let told = match bytes_at(text, byte) {
+        (_, Some(b'\'' | b'"')) => format!(in alloc; "a quote is not closed")?,
+        (Some(b'0'..=b'9'), Some(b'.')) => {
+            format!(in alloc; "numbers are whole, without {found}")?
+        }
+        (_, Some(b'0'..=b'9')) => format!(in alloc;
+            "{found} is no number; a name that begins with a digit stands in double quotes"
+        )?,
+        (_, Some(b'&')) => format!(in alloc; "found {found}; is and meant?")?,
+        (_, Some(b'|')) => format!(in alloc; "found {found}; is or meant?")?,
+        (_, Some(b'!')) => format!(in alloc; "found {found}; is not or <> meant?")?,
+        _ => format!(in alloc; "no word and no sign begins with {found}")?,
+    };
+    Ok(told)
+}
+
+/// Which sign may be meant by two that stand together as in other languages.
+fn sign_meant(text: &str, byte: usize) -> &'static str {
+    match bytes_at(text, byte) {
+        (Some(b'='), Some(b'=')) => "; one = compares",
+        (Some(b'='), Some(b'>')) => "; is >= meant?",
+        (Some(b'='), Some(b'<')) => "; is <= meant?",
+        _ => "",
+    }
+}
+
+/// Whether what could have come is a word between operands.
+fn is_operator(expected: Expected) -> bool {
+    matches!(
+        expected,
+        Expected::OperatorOrEnd
+            | Expected::OperatorOrName
+            | Expected::OperatorOrClose
+            | Expected::OperatorOrAs
+            | Expected::OperatorOrAnd
+            | Expected::PredicateWord
+    )
+}
+
+/// What is told where no expression goes on.
+fn unexpected_text(
+    alloc: Global,
+    text: &str,
+    byte: usize,
+    expected: Expected,
+) -> VortexResult<String> {
+    let found = found_at(text, byte);
+    if is_operator(expected) {
+        if let Some(word) = nearest_keyword(alloc, text, byte)? {
+            return Ok(format!(in alloc; "found {found}, expected {expected}; is {word} meant?")?);
+        }
+    }
+    let meant = sign_meant(text, byte);
+    Ok(format!(in alloc; "found {found}, expected {expected}{meant}")?)
+}
+
 /// What is told of a text that no expression is written as.
 fn syntax_text(alloc: Global, text: &str, error: SyntaxError) -> VortexResult<String> {
     match error {
-        SyntaxError::NoToken(byte) => {
-            let found = found_at(text, byte);
-            Ok(format!(in alloc; "no word and no sign begins with {found}")?)
-        }
-        SyntaxError::Unexpected(byte, expected) => {
-            let found = found_at(text, byte);
-            Ok(format!(in alloc; "found {found}, expected {expected}")?)
-        }
+        SyntaxError::NoToken(byte) => token_text(alloc, text, byte),
+        SyntaxError::Unexpected(byte, expected) => unexpected_text(alloc, text, byte, expected),
         SyntaxError::TooDeep(_) => Ok(format!(in alloc; "brackets nest deeper than {DEPTH}")?),
         SyntaxError::OutOfMemory => Err(VortexError::OutOfMemory),
     }
@@ -152,13 +215,17 @@ fn column_text(
     scope: &StructFields,
     step: Option<&Step<'_>>,
 ) -> VortexResult<String> {
-    let name = match step {
-        Some(Step::Operand(Token::Name(name))) | Some(Step::Operand(Token::Quoted(name))) => *name,
-        _ => b"",
+    let (name, is_quoted) = match step {
+        Some(Step::Operand(Token::Name(name))) => (*name, false),
+        Some(Step::Operand(Token::Quoted(name))) => (*name, true),
+        _ => (b"" as &[u8], false),
     };
     let name = str::from_utf8(name).unwrap_or("");
     match nearest(alloc, scope, name)? {
         Some(other) => Ok(format!(in alloc; "no column {name:?}; is {other:?} meant?")?),
+        None if is_quoted => Ok(format!(in alloc;
+            "no column {name:?}; a text stands in single quotes, as 'text'"
+        )?),
         None => Ok(format!(in alloc; "no column {name:?}")?),
     }
 }
@@ -282,9 +349,10 @@ impl Stopped {
         ensures { ToldStop self.stop result }
     {
         let step = self.step;
+        // Behind the last step the literal that it leaves is refused.
         let byte = match tree.places.get(step) {
             Some(byte) => *byte,
-            None => text.len(),
+            None => tree.places.last().copied().unwrap_or(text.len()),
         };
         let failure = Failure {
             alloc,
