@@ -56,7 +56,7 @@ fn filled(alloc: Global, side: Side, rows: usize) -> VortexResult<Vec<u8>> {
 }
 
 /// One bit of bytes that have it.
-fn with_bit(bytes: &mut Vec<u8>, at: usize, bit: bool) {
+pub(crate) fn with_bit(bytes: &mut Vec<u8>, at: usize, bit: bool) {
     if at / 8 < bytes.len() {
         let mask = 1u8 << (at % 8);
         let byte = bytes[at / 8];

@@ -10,6 +10,8 @@ mod between;
 #[cfg(test)]
 mod boolean;
 #[cfg(test)]
+mod column_quotients;
+#[cfg(test)]
 mod compare;
 #[cfg(test)]
 mod constant_columns;
@@ -22,6 +24,8 @@ mod integers;
 #[cfg(test)]
 mod like;
 #[cfg(test)]
+mod lists;
+#[cfg(test)]
 mod nested;
 #[cfg(test)]
 mod null_tests;
@@ -31,6 +35,8 @@ mod numeric;
 mod operators;
 #[cfg(test)]
 mod questions;
+#[cfg(test)]
+mod records;
 #[cfg(test)]
 mod scalars;
 #[cfg(test)]

@@ -5,6 +5,7 @@ pub mod KleeneBits
 pub mod SameIntegers
 pub mod Calculating
 pub mod FaultRows
+pub mod GuessedRows
 pub mod WordComparisons
 pub mod ConstantResults
 pub mod BetweenRows
@@ -13,3 +14,5 @@ pub mod EqualBytes
 pub mod ConstantOperands
 pub mod LaneMasks
 pub mod LaneWords
+pub mod FieldOrders
+pub mod PartOrders

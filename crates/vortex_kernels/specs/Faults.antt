@@ -1,6 +1,6 @@
 -- Rows that fault, told by bits, and rows of which none does.
-use Rattle.std.specs.Prelude.{◌≡◌, ℕ, ◌<◌, ℤ, Bool, true, false, Option, Some, None, List, length}
-use Rattle.std.specs.Prelude.{MatchOption}
+use Rattle.std.specs.Prelude.{◌≡◌, ℕ, ◌<◌, ℤ, pos, Bool, true, false, Option, Some, None, List}
+use Rattle.std.specs.Prelude.{MatchOption, length, slice_index_or}
 use Rattle.vortex_checked.specs.Exact.{is_outside}
 use Rattle.vortex_types.specs.declared.dtype.PType.{PType}
 use Rattle.vortex_types.specs.Typing.{least_of, greatest_of}
@@ -10,6 +10,15 @@ use Rattle.vortex_kernels.specs.Numeric.{AreResults, TellsFaults, FitWhereValid,
 -- a number for each of n rows: the exact result, which the integer type holds
 abbrev pub AreHeldResults : PType → (ℕ → Option ℤ) → ℕ → List ℤ → Type 0
 AreHeldResults p exact n ns = AreResults p exact n ns × TellsFaults p exact n false
+
+-- of the numbers of two lists, row by row
+abbrev pub pair_results : (ℤ → ℤ → Option ℤ) → List ℤ → List ℤ → ℕ → Option ℤ
+pair_results exact ls rs i = exact (slice_index_or ls i (pos 0)) (slice_index_or rs i (pos 0))
+
+-- a number for each of n rows: the exact result, where the integer type holds it; and whether it
+-- holds them all, unless a fault is told of
+abbrev pub AreToldResults : PType → (ℕ → Option ℤ) → ℕ → List ℤ → Bool → Type 0
+AreToldResults p exact n ns told = AreResults p exact n ns × TellsFaults p exact n told
 
 -- the integer type does not hold the result, as a test
 abbrev pub is_faulty : PType → Option ℤ → Bool

@@ -6,6 +6,8 @@ pub mod NullTests
 pub mod Constants
 pub mod Cast
 pub mod PairOrders
+pub mod Records
+pub mod Ranges
 pub mod Comparison
 pub mod ArithmeticIntegers
 pub mod Numeric

@@ -1,5 +1,6 @@
 -- The words of the contracts, from one place.
 pub use Rattle.vortex_bits.specs.Bits.{bit}
+pub use Rattle.vortex_bits.specs.Forms.{shifted_there, shifted_bit}
 pub use Rattle.vortex_bits.specs.Rows.{AreRows}
 pub use Rattle.vortex_columns.specs.ColumnView.{row, IsIntegerType, AreInts}
 pub use Rattle.vortex_views.specs.LentValues.{lent_values}
@@ -26,6 +27,9 @@ pub use Rattle.vortex_kernels.specs.Numeric.{IsNullColumn, null_of}
 pub use Rattle.vortex_kernels.specs.PairOrders.{byte_order, row_orders, int_orders, int_orders_with}
 pub use Rattle.vortex_kernels.specs.PairOrders.{bit_orders, bit_orders_with, byte_orders}
 pub use Rattle.vortex_kernels.specs.PairOrders.{byte_orders_with}
+pub use Rattle.vortex_kernels.specs.Ranges.{LiesIn, AreListed, part_order, list_orders}
+pub use Rattle.vortex_kernels.specs.Records.{HoldByLast, TellsPresence, presence_there}
+pub use Rattle.vortex_kernels.specs.Records.{presence_bit, IsRecordType}
 pub use Rattle.vortex_kernels.specs.Rows.{HasScalarRows}
 pub use Rattle.vortex_kernels.specs.Kleene.{HasKleeneRows, value_word, HaveTruths, AnswersKleene}
 pub use Rattle.vortex_kernels.specs.Kleene.{RefusesOperator, HasTruthRows}

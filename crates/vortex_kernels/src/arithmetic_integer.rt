@@ -1,11 +1,13 @@
 //! The integers that columns hold, as checked arithmetic reads them.
-ghost use Rattle.std.specs.Prelude.{◌≡◌, ◌*ℤ◌, Some};
+ghost use Rattle.std.specs.Prelude.{◌≡◌, ◌*ℤ◌, ◌<◌, false, Some};
 ghost use Rattle.std.specs.Bool.{FalseIff};
 ghost use Rattle.vortex_checked.specs.Exact.{quotient};
 ghost use Rattle.vortex_checked.specs.Factor.{AreEnds};
 ghost use Rattle.vortex_kernels.specs.Words.{FitsResult, AnswersExact};
 
-use vortex_checked::{CheckedPrimitiveOp, ConstantArithmetic, Divisor, bounded_product};
+use vortex_checked::{
+    CheckedPrimitiveOp, ConstantArithmetic, Divisor, GuessedDivision, bounded_product,
+};
 use vortex_columns::NativePType;
 
 /// One of the eight integer types. What columns and checked arithmetic see of it is the same: the
@@ -148,4 +150,22 @@ pub(crate) fn divide_by<T: ArithmeticInteger, D: Divisor<T>>(number: T, divisor:
         (quotient (T.NativePType.number number) (D.value divisor.now)) }
 {
     divisor.divide(number)
+}
+
+/// The quotient by the guess at a place, and whether that is off. Where it is not, this is the
+/// quotient, which the integer type holds.
+#[inline(always)]
+pub(crate) fn by_guess<T: ArithmeticInteger + GuessedDivision>(
+    left: T,
+    right: T,
+    guesses: &T::Guesses,
+    i: usize,
+) -> (T, bool)
+    requires { i < 64 }
+    ensures exact { result.1 ≡ false → Some (T.NativePType.number result.0)
+        ≡ quotient (T.NativePType.number left) (T.NativePType.number right) }
+    ensures fits { result.1 ≡ false → FitsResult T.ptype
+        (quotient (T.NativePType.number left) (T.NativePType.number right)) }
+{
+    left.by_guess(right, guesses, i)
 }

@@ -10,7 +10,7 @@ use crate::boolean::kleene_boolean_buffers;
 use crate::bounds::hold_between;
 use crate::comparisons::{IsGreater, IsGreaterOrEqual, IsLess, IsLessOrEqual};
 use crate::operators::Operator;
-use crate::pairs::hold_in_rows;
+use crate::records::hold_in_rows;
 use crate::validity::valid_in;
 use std::alloc::Global;
 use vortex_columns::{

@@ -9,7 +9,7 @@ use crate::comparisons::{
     Comparison, IsEqual, IsGreater, IsGreaterOrEqual, IsLess, IsLessOrEqual, IsNotEqual,
 };
 use crate::operators::CompareOperator;
-use crate::pairs::hold_in_rows;
+use crate::records::hold_in_rows;
 use vortex_columns::{
     Column, DType, ExecutionCtx, MismatchPlace, Scalar, VortexError, VortexResult, both_valid,
 };

@@ -15,10 +15,13 @@ use crate::constant_operand::{products_by, products_of, quotients_by};
 use crate::integer_types::with_integer;
 use crate::numbers::{ListedNumbers, Numbers, OneNumber};
 use crate::pairs::constant_int;
+use crate::quotients::column_quotients;
 use crate::row_operation::{RowOperation, WideMul};
 use crate::settled::settled_rows;
 use std::alloc::Global;
-use vortex_checked::{CheckedAdd, CheckedDiv, CheckedMul, CheckedSub, ConstantArithmetic};
+use vortex_checked::{
+    CheckedAdd, CheckedDiv, CheckedMul, CheckedSub, ConstantArithmetic, GuessedDivision,
+};
 use vortex_columns::{
     Column, DType, ExecutionCtx, MismatchPlace, Nullability, NumericOperator, PType, Scalar,
     ScalarValue, VortexError, VortexResult,
@@ -291,6 +294,24 @@ fn numeric_quotients<T: ArithmeticInteger>(
     numeric_columns::<T, CheckedDiv>(lhs, rhs, NumericOperator::Div, ctx)
 }
 
+/// The same, of a type whose quotients are guessed where neither column is constant.
+fn guessed_or_quotients<T: ArithmeticInteger + GuessedDivision>(
+    lhs: &Column,
+    rhs: &Column,
+    ctx: &mut ExecutionCtx,
+) -> VortexResult<Column>
+    requires types { integer_of_both lhs.now.dtype rhs.now.dtype ≡ Some T.ptype }
+    requires lengths { length lhs.now.rows ≡ length rhs.now.rows }
+    ensures rows { Answers result (AnswersNumeric Div lhs.now rhs.now)
+        (RefusesNumeric Div lhs.now rhs.now) }
+    ensures constant { IfOk result (KeepsTwoConstants lhs.now rhs.now) }
+{
+    if let (Some(lefts), Some(rights)) = (lhs.ints::<T>(), rhs.ints::<T>()) {
+        return column_quotients::<T>(lefts, rights, lhs, rhs, ctx);
+    }
+    numeric_quotients::<T>(lhs, rhs, ctx)
+}
+
 /// The same, the operator being chosen before the rows, in the form that serves any type.
 fn numeric_in<T: ArithmeticInteger>(
     lhs: &Column,
@@ -312,7 +333,7 @@ fn numeric_in<T: ArithmeticInteger>(
     }
 }
 
-/// The same, the type being chosen too, and products of 64 bits in a form of their own.
+/// The same, the type being chosen too: products of 64 bits, and other quotients, have own forms.
 fn numeric_typed(
     ptype: PType,
     lhs: &Column,
@@ -329,6 +350,12 @@ fn numeric_typed(
     match (operator, ptype) {
         (NumericOperator::Mul, PType::I64) => { numeric_products::<i64, WideMul>(lhs, rhs, ctx) }
         (NumericOperator::Mul, PType::U64) => { numeric_products::<u64, WideMul>(lhs, rhs, ctx) }
+        (NumericOperator::Div, PType::I8) => guessed_or_quotients::<i8>(lhs, rhs, ctx),
+        (NumericOperator::Div, PType::I16) => guessed_or_quotients::<i16>(lhs, rhs, ctx),
+        (NumericOperator::Div, PType::I32) => guessed_or_quotients::<i32>(lhs, rhs, ctx),
+        (NumericOperator::Div, PType::U8) => guessed_or_quotients::<u8>(lhs, rhs, ctx),
+        (NumericOperator::Div, PType::U16) => guessed_or_quotients::<u16>(lhs, rhs, ctx),
+        (NumericOperator::Div, PType::U32) => guessed_or_quotients::<u32>(lhs, rhs, ctx),
         _ => with_integer!(ptype, numeric_in::<_>(lhs, rhs, operator, ctx)),
     }
 }

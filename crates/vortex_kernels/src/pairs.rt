@@ -13,6 +13,7 @@ ghost use Rattle.vortex_kernels.specs.Words.{AreComparisons, IsIntegerType, IsNu
 use crate::comparisons::Comparison;
 use crate::integer_types::with_integer;
 use crate::lanes::LaneInteger;
+use crate::lists::{hold_in_fixed_lists, hold_in_lists};
 use crate::spans::{SpanBits, collect_spans};
 use std::alloc::Global;
 use std::marker::PhantomData;
@@ -70,7 +71,7 @@ impl<P: Comparison, R: SpanPairs> SpanBits for Held<P, R> {
 }
 
 /// Whether the comparison says yes in each row.
-fn hold_in_pairs<P: Comparison, R: Pairs>(
+pub(crate) fn hold_in_pairs<P: Comparison, R: Pairs>(
     alloc: Global,
     pairs: R,
     len: usize,
@@ -199,7 +200,8 @@ impl Pairs for BytesAndOne<'_> {
     }
 }
 
-fn hold_in_cells<P: Comparison>(
+/// The same of rows of any type, one by one.
+pub(crate) fn hold_in_cells<P: Comparison>(
     alloc: Global,
     lhs: &Column,
     rhs: &Column,
@@ -329,9 +331,10 @@ fn hold_in_bytes<P: Comparison>(
     }
 }
 
-/// Whether the comparison says yes in each row in which both sides have a value. The kind is chosen
-/// before the rows, and so is the form of the right side; a constant on the left goes by the cells.
-pub(crate) fn hold_in_rows<P: Comparison>(
+/// Whether the comparison says yes in each row in which both sides have a value, with records by
+/// the cells. The kind is chosen before the rows, and so is the form of the right side; a constant
+/// on the left goes by the cells.
+pub(crate) fn hold_in_flat<P: Comparison>(
     alloc: Global,
     lhs: &Column,
     rhs: &Column,
@@ -347,6 +350,8 @@ pub(crate) fn hold_in_rows<P: Comparison>(
         DType::Primitive(ptype, _) => {
             with_integer!(*ptype, hold_in_ints::<P, _>(alloc, lhs, rhs))
         }
+        DType::List(_, _) => hold_in_lists::<P>(alloc, lhs, rhs),
+        DType::FixedSizeList(_, _, _) => hold_in_fixed_lists::<P>(alloc, lhs, rhs),
         _ => hold_in_cells::<P>(alloc, lhs, rhs),
     }
 }

@@ -1,0 +1,240 @@
+//! Quotients that are guessed by lanes of floats and checked by integers.
+//!
+//! Nothing is claimed of floats: a guess may be any number, and one that is off is told.
+ghost use Rattle.std.specs.Prelude.{◌≡◌, ◌/◌, ◌<◌, length};
+ghost use Rattle.std.specs.Bool.{FalseIff};
+
+use crate::arithmetic::CheckedArithmetic;
+use std::simd::prelude::*;
+
+/// One of the integer types of up to 32 bits, whose quotients are guessed 64 at a time.
+pub trait GuessedDivision: CheckedArithmetic {
+    ghost use Rattle.std.specs.Prelude.{◌≡◌, ◌<◌, false, length, Some};
+    ghost use Rattle.vortex_checked.specs.Exact.{IsWithin, quotient};
+
+    /// Guesses at 64 quotients.
+    type Guesses: Drop;
+
+    fn guesses(lefts: &[Self], rights: &[Self]) -> Self::Guesses
+        requires left { length lefts.now ≡ 64 }
+        requires right { length rights.now ≡ 64 };
+
+    /// The quotient, truncated toward zero, by the guess at a place; and whether that is off. Where
+    /// it is not, this is the quotient, which the type holds.
+    fn by_guess(self, rhs: Self, guesses: &Self::Guesses, i: usize) -> (Self, bool)
+        requires { i < 64 }
+        ensures exact { result.1 ≡ false
+            → Some (Self.number result.0) ≡ quotient (Self.number self) (Self.number rhs) }
+        ensures fits { IsWithin Self.least Self.greatest (Self.number result.0) };
+}
+
+/// Guesses at four quotients of up to 32 bits, as the low bits of the lanes.
+///
+/// A little less than a half is taken from a quotient, and 1.5 * 2^52 added, which rounds it to a
+/// whole number. What is no number gives way to 0.
+#[inline(always)]
+fn low_bits_64(left: f64x4, right: f64x4) -> u64x4 {
+    let less = left / right - f64x4::splat(0.49999904632568359375);
+    let sum = less + f64x4::splat(6755399441055744.0);
+    let none = f64x4::splat(0.0);
+    sum.simd_gt(none).select(sum, none).to_bits()
+}
+
+/// The same, of up to 16 bits: 1.5 * 2^23 is added, and the quotient is made a little greater
+/// before a half is taken.
+#[inline(always)]
+fn low_bits_32(left: f32x4, right: f32x4) -> u32x4 {
+    let less = left / right * f32x4::splat(1.000003814697265625) - f32x4::splat(0.5);
+    let sum = less + f32x4::splat(12582912.0);
+    let none = f32x4::splat(0.0);
+    sum.simd_gt(none).select(sum, none).to_bits()
+}
+
+/// The sizes of four numbers; the least wraps to itself.
+#[inline(always)]
+fn sizes_of_32(numbers: i32x4) -> i32x4 {
+    let signs = numbers >> i32x4::splat(31);
+    (numbers ^ signs) - signs
+}
+
+/// The same, of 16 bits.
+#[inline(always)]
+fn sizes_of_16(numbers: i16x4) -> i16x4 {
+    let signs = numbers >> i16x4::splat(15);
+    (numbers ^ signs) - signs
+}
+
+/// Whether the number is not the quotient, or there is none.
+#[inline(always)]
+fn is_off_8(left: u8, right: u8, guess: u8) -> bool
+    ensures { FalseIff result ((0 < right) × (left / right ≡ guess)) }
+{
+    let divisor = u16::from(right);
+    u16::from(left).wrapping_sub(u16::from(guess) * divisor) >= divisor
+}
+
+/// The same, of 16 bits.
+#[inline(always)]
+fn is_off_16(left: u16, right: u16, guess: u16) -> bool
+    ensures { FalseIff result ((0 < right) × (left / right ≡ guess)) }
+{
+    let divisor = u32::from(right);
+    u32::from(left).wrapping_sub(u32::from(guess) * divisor) >= divisor
+}
+
+/// The same, of 32 bits.
+#[inline(always)]
+fn is_off_32(left: u32, right: u32, guess: u32) -> bool
+    ensures { FalseIff result ((0 < right) × (left / right ≡ guess)) }
+{
+    let divisor = u64::from(right);
+    u64::from(left).wrapping_sub(u64::from(guess) * divisor) >= divisor
+}
+
+impl GuessedDivision for u8 {
+    type Guesses = [u32; 64];
+
+    #[inline(always)]
+    fn guesses(lefts: &[u8], rights: &[u8]) -> [u32; 64] {
+        let mut guesses = [0u32; 64];
+        for k in 0..16 {
+            let left: f32x4 = u8x4::from_slice(&lefts[4 * k..4 * k + 4]).cast();
+            let right: f32x4 = u8x4::from_slice(&rights[4 * k..4 * k + 4]).cast();
+            low_bits_32(left, right).copy_to_slice(&mut guesses[4 * k..4 * k + 4]);
+        }
+        guesses
+    }
+
+    #[inline(always)]
+    fn by_guess(self, rhs: u8, guesses: &[u32; 64], i: usize) -> (u8, bool) {
+        let quotient = (guesses[i] % 0x100) as u8;
+        (quotient, is_off_8(self, rhs, quotient))
+    }
+}
+
+impl GuessedDivision for u16 {
+    type Guesses = [u32; 64];
+
+    #[inline(always)]
+    fn guesses(lefts: &[u16], rights: &[u16]) -> [u32; 64] {
+        let mut guesses = [0u32; 64];
+        for k in 0..16 {
+            let left: f32x4 = u16x4::from_slice(&lefts[4 * k..4 * k + 4]).cast();
+            let right: f32x4 = u16x4::from_slice(&rights[4 * k..4 * k + 4]).cast();
+            low_bits_32(left, right).copy_to_slice(&mut guesses[4 * k..4 * k + 4]);
+        }
+        guesses
+    }
+
+    #[inline(always)]
+    fn by_guess(self, rhs: u16, guesses: &[u32; 64], i: usize) -> (u16, bool) {
+        let quotient = (guesses[i] % 0x1_0000) as u16;
+        (quotient, is_off_16(self, rhs, quotient))
+    }
+}
+
+impl GuessedDivision for u32 {
+    type Guesses = [u64; 64];
+
+    #[inline(always)]
+    fn guesses(lefts: &[u32], rights: &[u32]) -> [u64; 64] {
+        let mut guesses = [0u64; 64];
+        for k in 0..16 {
+            let left: f64x4 = u32x4::from_slice(&lefts[4 * k..4 * k + 4]).cast();
+            let right: f64x4 = u32x4::from_slice(&rights[4 * k..4 * k + 4]).cast();
+            low_bits_64(left, right).copy_to_slice(&mut guesses[4 * k..4 * k + 4]);
+        }
+        guesses
+    }
+
+    #[inline(always)]
+    fn by_guess(self, rhs: u32, guesses: &[u64; 64], i: usize) -> (u32, bool) {
+        let quotient = (guesses[i] % 0x1_0000_0000) as u32;
+        (quotient, is_off_32(self, rhs, quotient))
+    }
+}
+
+impl GuessedDivision for i8 {
+    type Guesses = [u32; 64];
+
+    #[inline(always)]
+    fn guesses(lefts: &[i8], rights: &[i8]) -> [u32; 64] {
+        let mut guesses = [0u32; 64];
+        for k in 0..16 {
+            let left: i16x4 = i8x4::from_slice(&lefts[4 * k..4 * k + 4]).cast();
+            let right: i16x4 = i8x4::from_slice(&rights[4 * k..4 * k + 4]).cast();
+            let (left, right): (f32x4, f32x4) = (
+                sizes_of_16(left).cast(),
+                sizes_of_16(right).cast(),
+            );
+            low_bits_32(left, right).copy_to_slice(&mut guesses[4 * k..4 * k + 4]);
+        }
+        guesses
+    }
+
+    #[inline(always)]
+    fn by_guess(self, rhs: i8, guesses: &[u32; 64], i: usize) -> (i8, bool) {
+        let (left, right) = (self.unsigned_abs(), rhs.unsigned_abs());
+        let size = (guesses[i] % 0x80) as u8;
+        let quotient = if (self < 0) == (rhs < 0) {
+            size as i8
+        } else {
+            -(size as i8)
+        };
+        (quotient, is_off_8(left, right, size))
+    }
+}
+
+impl GuessedDivision for i16 {
+    type Guesses = [u32; 64];
+
+    #[inline(always)]
+    fn guesses(lefts: &[i16], rights: &[i16]) -> [u32; 64] {
+        let mut guesses = [0u32; 64];
+        for k in 0..16 {
+            let left: f32x4 = sizes_of_16(i16x4::from_slice(&lefts[4 * k..4 * k + 4])).cast();
+            let right: f32x4 = sizes_of_16(i16x4::from_slice(&rights[4 * k..4 * k + 4])).cast();
+            low_bits_32(left, right).copy_to_slice(&mut guesses[4 * k..4 * k + 4]);
+        }
+        guesses
+    }
+
+    #[inline(always)]
+    fn by_guess(self, rhs: i16, guesses: &[u32; 64], i: usize) -> (i16, bool) {
+        let (left, right) = (self.unsigned_abs(), rhs.unsigned_abs());
+        let size = (guesses[i] % 0x8000) as u16;
+        let quotient = if (self < 0) == (rhs < 0) {
+            size as i16
+        } else {
+            -(size as i16)
+        };
+        (quotient, is_off_16(left, right, size))
+    }
+}
+
+impl GuessedDivision for i32 {
+    type Guesses = [u64; 64];
+
+    #[inline(always)]
+    fn guesses(lefts: &[i32], rights: &[i32]) -> [u64; 64] {
+        let mut guesses = [0u64; 64];
+        for k in 0..16 {
+            let left: f64x4 = sizes_of_32(i32x4::from_slice(&lefts[4 * k..4 * k + 4])).cast();
+            let right: f64x4 = sizes_of_32(i32x4::from_slice(&rights[4 * k..4 * k + 4])).cast();
+            low_bits_64(left, right).copy_to_slice(&mut guesses[4 * k..4 * k + 4]);
+        }
+        guesses
+    }
+
+    #[inline(always)]
+    fn by_guess(self, rhs: i32, guesses: &[u64; 64], i: usize) -> (i32, bool) {
+        let (left, right) = (self.unsigned_abs(), rhs.unsigned_abs());
+        let size = (guesses[i] % 0x8000_0000) as u32;
+        let quotient = if (self < 0) == (rhs < 0) {
+            size as i32
+        } else {
+            -(size as i32)
+        };
+        (quotient, is_off_32(left, right, size))
+    }
+}
