@@ -1,6 +1,6 @@
 //! Types that columns take from the first rows.
 
-use crate::asking::{Asked, answers_so, asks, ends_once, ends_so};
+use crate::asking::{Asked, answers_so, asks, ends_once, ends_so, rows_where};
 use fixtures::same;
 use rowfn_queries::{SAMPLED_ROWS, Words, infer};
 use std::alloc::{AllocError, Global};
@@ -93,9 +93,7 @@ fn is_true_of(rt: HostRuntime, count: usize, condition: &str, status: u8, told: 
     let Ok(input) = numbers(alloc, count, "x\n") else {
         return false;
     };
-    let mut asked = asks("", input.as_str());
-    asked.words.answers = None;
-    asked.words.condition = Some(condition);
+    let asked = rows_where(condition, input.as_str());
     ends_once(rt, asked, (status, told))
 }
 
