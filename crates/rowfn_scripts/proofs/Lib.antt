@@ -11,3 +11,4 @@ pub mod Telling
 pub mod EachOutcome
 pub mod OneOutcome
 pub mod Headers
+pub mod SplitNames
