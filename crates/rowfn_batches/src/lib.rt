@@ -3,7 +3,6 @@
 #![tactic(auto)]
 
 mod answering;
-pub mod answers;
 pub mod columns;
 pub mod errors;
 pub mod explained;
@@ -20,7 +19,6 @@ pub mod settings;
 pub mod stream;
 mod taking;
 
-pub use answers::{execute_answers, first_fault};
 pub use columns::{BatchError, read_columns};
 pub use errors::StreamError;
 pub use explained::explain;

@@ -12,3 +12,5 @@ pub mod EachOutcome
 pub mod OneOutcome
 pub mod Headers
 pub mod SplitNames
+pub mod Answered
+pub mod OneRow

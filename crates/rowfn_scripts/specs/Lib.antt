@@ -10,3 +10,4 @@ pub mod Fitting
 pub mod Telling
 pub mod Words
 pub mod Naming
+pub mod Executing

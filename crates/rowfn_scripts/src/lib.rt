@@ -1,7 +1,8 @@
-//! Scripts over columns: what they print, and how they end; and expressions, whose lines are lines
-//! of scripts.
+//! Scripts over columns: what they print, and how they end; expressions, whose lines are lines of
+//! scripts; and what the trees that these leave answer over columns.
 #![tactic(auto)]
 
+pub mod answers;
 pub mod ending;
 pub mod expected;
 pub mod expression;
@@ -12,6 +13,7 @@ pub mod script;
 pub mod session;
 pub mod stop;
 
+pub use answers::{execute_answers, first_fault};
 pub use ending::{End, fault_line, status};
 pub use expected::Expected;
 pub use expression::{Answer, Expression, ExpressionError, read_expression};

@@ -259,12 +259,7 @@ fn declaration_by<'a>(alloc: Global, rest: &'a str) -> Result<Said<'a>, AllocErr
 }
 
 /// What a text says, by its first word and what follows that. E9 where memory is refused.
-fn said_by<'a>(
-    alloc: Global,
-    text: &'a str,
-    first: &str,
-    rest: &'a str,
-) -> VortexResult<Said<'a>>
+fn said_by<'a>(alloc: Global, text: &'a str, first: &str, rest: &'a str) -> VortexResult<Said<'a>>
     ensures { AnswersUnlessMemory result
         (λ said. said_as said ≡ said_by text.now first.now rest.now) }
 {

@@ -1,6 +1,6 @@
 use Rattle.std.proofs.Common.{◌≡◌, map, take}
-use Rattle.rowfn_batches.specs.Executing.{row_column}
-use Rattle.rowfn_batches.proofs.answers.row_of.Given as goal
+use Rattle.rowfn_scripts.specs.Executing.{row_column}
+use Rattle.rowfn_scripts.proofs.answers.row_of.Given as goal
 
 -- the columns so far
 abbrev pub invariant-loop-column : goal.invariant-loop-column

@@ -1,33 +1,33 @@
-//! What the trees of an expression answer over the columns of a batch.
+//! What trees answer over columns, and the first row in which one faults.
 ghost use Rattle.std.specs.Prelude.{◌≡◌, ◌≢◌, ◌<◌, ℕ, All, IfOk, length, map, MatchOption};
 ghost use Rattle.vortex_errors.specs.declared.error.VortexError.TheVariants.{OutOfMemory};
 ghost use Rattle.vortex_errors.specs.Answers.{Answers, AnswersUnlessMemory};
 ghost use Rattle.vortex_interface.specs.Bound.{IsBound};
 ghost use Rattle.vortex_functions.specs.Fixed.{fixed_meaning};
-ghost use Rattle.rowfn_batches.specs.Executing.{AnswersAll, AnswersFirstFault, AllFit};
-ghost use Rattle.rowfn_batches.specs.Executing.{RefusesColumnsFirst, FaultsFirst, AllGive};
-ghost use Rattle.rowfn_batches.specs.Executing.{row_column};
+ghost use Rattle.rowfn_scripts.specs.Executing.{AnswersAll, AnswersFirstFault, AllFit};
+ghost use Rattle.rowfn_scripts.specs.Executing.{RefusesColumnsFirst, FaultsFirst, AllGive};
+ghost use Rattle.rowfn_scripts.specs.Executing.{row_column};
 
-use rowfn_scripts::{Answer, Expression};
+use crate::expression::Answer;
 use std::alloc::Global;
 use vortex_columns::{Column, ExecutionCtx, VortexError, VortexResult};
 
-/// The columns of the answers, in their order.
+/// The columns of the answers, in their order; their names play no part.
 ///
 /// Refused with the refusal of the first answer that is refused: E11 where a leaf's column is
 /// missing or of another type, E2 where a column has not `row_count` rows, else the fault of the
 /// first call that faults in some row.
 pub fn execute_answers(
     alloc: Global,
-    expression: &Expression,
+    answers: &[Answer],
     columns: &[Column],
     row_count: usize,
 ) -> VortexResult<Vec<Column>>
-    ensures { AnswersAll fixed_meaning columns.now row_count
-        (map (λ a. a.tree) expression.now.answers.items) result }
+    ensures { AnswersAll fixed_meaning columns.now row_count (map (λ a. a.tree) answers.now)
+        result }
 {
     let mut ctx = ExecutionCtx::new(alloc);
-    execute_all(alloc, &expression.answers, columns, row_count, &mut ctx)
+    execute_all(alloc, answers, columns, row_count, &mut ctx)
 }
 
 fn execute_all(
@@ -123,15 +123,14 @@ fn fault_in(
 /// Refused where the columns do not serve an answer, as `execute_answers` is.
 pub fn first_fault(
     alloc: Global,
-    expression: &Expression,
+    answers: &[Answer],
     columns: &[Column],
     row_count: usize,
 ) -> VortexResult<Option<(usize, VortexError)>>
     ensures { AnswersFirstFault fixed_meaning columns.now row_count
-        (map (λ a. a.tree) expression.now.answers.items) result }
+        (map (λ a. a.tree) answers.now) result }
 {
     let mut ctx = ExecutionCtx::new(alloc);
-    let answers = &expression.answers;
     if answers.is_empty() {
         return Ok(None);
     }

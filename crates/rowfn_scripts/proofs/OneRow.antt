@@ -22,9 +22,9 @@ use Rattle.vortex_interface.specs.Execution.{RefusesExecution, misfit, faulty, u
 use Rattle.vortex_interface.specs.Execution.{uneven}
 use Rattle.vortex_interface.specs.Bound.{IsPlace, IsBound, AllBound}
 use Rattle.vortex_functions.specs.Walks.{AllMean}
-use Rattle.rowfn_batches.specs.Executing.{row_column, FaultsAt, FaultsFirst, AllGive, AllFit}
-use Rattle.rowfn_batches.specs.Executing.{RefusesFirst}
-use Rattle.rowfn_batches.proofs.Answered.{all_head, all_tail, all_cons}
+use Rattle.rowfn_scripts.specs.Executing.{row_column, FaultsAt, FaultsFirst, AllGive, AllFit}
+use Rattle.rowfn_scripts.specs.Executing.{RefusesFirst}
+use Rattle.rowfn_scripts.proofs.Answered.{all_head, all_tail, all_cons}
 
 module _ (cs : List ColumnView) (i : ℕ) where
   -- the columns of row i

@@ -5,12 +5,12 @@ use Rattle.vortex_errors.specs.Answers.{UnlessMemory}
 use Rattle.vortex_columns.specs.ColumnView.{ColumnView}
 use Rattle.vortex_interface.specs.Execution.{Executes}
 use Rattle.vortex_functions.specs.Walks.{AllMean}
-use Rattle.rowfn_batches.specs.Executing.{RefusesFirst}
-use Rattle.rowfn_batches.proofs.Answered.{unless_not}
-use Rattle.rowfn_batches.proofs.OneRow.{of_row, rows_within, all_counted, all_give_there}
-use Rattle.rowfn_batches.proofs.OneRow.{faults_first_there}
+use Rattle.rowfn_scripts.specs.Executing.{RefusesFirst}
+use Rattle.rowfn_scripts.proofs.Answered.{unless_not}
+use Rattle.rowfn_scripts.proofs.OneRow.{of_row, rows_within, all_counted, all_give_there}
+use Rattle.rowfn_scripts.proofs.OneRow.{faults_first_there}
 use Rattle.rowfn_scripts.specs.Stepping.{script_meaning}
-use Rattle.rowfn_batches.proofs.answers.fault_in.Goals as goal
+use Rattle.rowfn_scripts.proofs.answers.fault_in.Goals as goal
 
 pub row_of-requires : goal.row_of-requires
 row_of-requires c =

@@ -4,10 +4,10 @@ use Rattle.vortex_errors.proofs.Answering.{UnlessMemory-weaker}
 use Rattle.vortex_columns.specs.ColumnView.{ColumnView}
 use Rattle.vortex_interface.specs.Execution.{Executes, RefusesExecution}
 use Rattle.vortex_functions.specs.Walks.{AllMean}
-use Rattle.rowfn_batches.specs.Executing.{RefusesFirst}
-use Rattle.rowfn_batches.proofs.Answered.{all_more, answers_refusal, owned_is, refuses_at}
+use Rattle.rowfn_scripts.specs.Executing.{RefusesFirst}
+use Rattle.rowfn_scripts.proofs.Answered.{all_more, answers_refusal, owned_is, refuses_at}
 use Rattle.rowfn_scripts.specs.Stepping.{script_meaning}
-use Rattle.rowfn_batches.proofs.answers.execute_all.Goals as goal
+use Rattle.rowfn_scripts.proofs.answers.execute_all.Goals as goal
 
 pub returns-in_err-column : goal.returns-in_err-column
 returns-in_err-column c =

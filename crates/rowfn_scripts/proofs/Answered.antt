@@ -12,7 +12,7 @@ use Rattle.vortex_interface.specs.Trees.{Tree}
 use Rattle.vortex_interface.specs.Execution.{Executes, RefusesColumns, RefusesExecution}
 use Rattle.vortex_functions.specs.Executing.{Fits}
 use Rattle.vortex_functions.specs.Walks.{AllMean}
-use Rattle.rowfn_batches.specs.Executing.{RefusesFirst, RefusesColumnsFirst, AllFit}
+use Rattle.rowfn_scripts.specs.Executing.{RefusesFirst, RefusesColumnsFirst, AllFit}
 
 pub all_head : {X : Type 0} (P : X → Type 0) (x : X) (xs : List X) → All P (x ∷ xs) → P x
 all_head P x xs h = h 0 x (omega arith)

@@ -1,4 +1,4 @@
--- What the trees of an expression answer over the columns of a batch.
+-- What trees answer over columns, and the first row in which one faults.
 use Rattle.std.specs.Prelude.{◌≡◌, ◌<◌, ◌⊎◌, ℕ, List, [], ◌∷◌, Option, Result, MatchOption, ⊤}
 use Rattle.std.specs.declared.alloc.Global.{Global}
 use Rattle.std.specs.Prelude.{Vec}

@@ -1,8 +1,8 @@
 use Rattle.std.proofs.Common.{map, take}
 use Rattle.std.specs.Prelude.{All}
 use Rattle.vortex_interface.specs.Bound.{IsBound}
-use Rattle.rowfn_batches.specs.Executing.{AllFit}
-use Rattle.rowfn_batches.proofs.answers.check_columns.Given as goal
+use Rattle.rowfn_scripts.specs.Executing.{AllFit}
+use Rattle.rowfn_scripts.proofs.answers.check_columns.Given as goal
 
 -- the columns serve the trees so far, whose leaves are places
 abbrev pub invariant-loop-answer : goal.invariant-loop-answer

@@ -2,11 +2,11 @@ use Rattle.std.proofs.Common.{map, add-one}
 use Rattle.vortex_errors.proofs.Answering.{UnlessMemory-weaker}
 use Rattle.vortex_interface.specs.Bound.{IsBound}
 use Rattle.vortex_interface.specs.Execution.{RefusesColumns}
-use Rattle.rowfn_batches.specs.Executing.{AllFit, RefusesColumnsFirst}
-use Rattle.rowfn_batches.proofs.Answered.{placed_more, answers_refusal, fit_more}
-use Rattle.rowfn_batches.proofs.Answered.{refuses_columns_at}
+use Rattle.rowfn_scripts.specs.Executing.{AllFit, RefusesColumnsFirst}
+use Rattle.rowfn_scripts.proofs.Answered.{placed_more, answers_refusal, fit_more}
+use Rattle.rowfn_scripts.proofs.Answered.{refuses_columns_at}
 use Rattle.rowfn_scripts.specs.Stepping.{script_meaning}
-use Rattle.rowfn_batches.proofs.answers.check_columns.Goals as goal
+use Rattle.rowfn_scripts.proofs.answers.check_columns.Goals as goal
 
 pub returns-in_err-check_columns-clause-answer : goal.returns-in_err-check_columns-clause-answer
 returns-in_err-check_columns-clause-answer c =
