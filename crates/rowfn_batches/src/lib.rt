@@ -18,6 +18,7 @@ mod reading_back;
 pub mod settings;
 pub mod stream;
 mod taking;
+pub mod tops;
 
 pub use columns::{BatchError, read_columns};
 pub use errors::StreamError;
@@ -28,4 +29,5 @@ pub use printing::push_field;
 pub use reading::read_told;
 pub use rowfn_csv::Format;
 pub use settings::Settings;
-pub use stream::{Summary, flow, top_alone};
+pub use stream::{Summary, flow};
+pub use tops::top_alone;

@@ -1,7 +1,7 @@
 use Rattle.std.proofs.Common.{◌∙◌, ◌++◌, ◌-◌, [], ◌∷◌, ap, sym, refl, take}
 use Rattle.rowfn_batches.specs.Tops.{last_alone, IsTruth}
 use Rattle.rowfn_batches.proofs.LastAlone.{last_alone-append, of_none, of_one}
-use Rattle.rowfn_batches.proofs.stream.top_alone.Goals as goal
+use Rattle.rowfn_batches.proofs.tops.top_alone.Goals as goal
 
 pub returns-in_default-clause-top : goal.returns-in_default-clause-top
 unfolding last_alone
