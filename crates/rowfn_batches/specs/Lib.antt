@@ -10,3 +10,4 @@ pub mod Outputs
 pub mod Taking
 pub mod Passing
 pub mod Tops
+pub mod Spellings

@@ -1,6 +1,6 @@
 //! Where the declared columns stand in the input.
 ghost use Rattle.std.specs.Prelude.{◌≡◌, ◌↔◌, Some, IsTrue, IfOk, IfErr, MatchOption, MatchResult};
-ghost use Rattle.std.specs.Prelude.{is_some, length, ◌<◌, map};
+ghost use Rattle.std.specs.Prelude.{is_some, length, ◌<◌, map, option_map};
 ghost use Rattle.std.specs.List.{list_any, range_with_len};
 ghost use Rattle.csv.specs.Records.{fields_of, field_at};
 ghost use Rattle.vortex_types.specs.LogicalTypes.{field_count};
@@ -9,9 +9,10 @@ ghost use Rattle.rowfn_batches.specs.Layouts.{LacksFrom, IsFirstFrom, StandsOnce
 ghost use Rattle.rowfn_batches.specs.Layouts.{RefusesName, RefusesHeader, place_said, StandsWhere};
 ghost use Rattle.rowfn_batches.specs.Layouts.{RefusesPlace, RefusesColumn, declared_place};
 ghost use Rattle.rowfn_batches.specs.Layouts.{declared_width};
+ghost use Rattle.rowfn_batches.specs.Spellings.{spelled_at, spelled_columns, spelled_where};
 
 use crate::errors::StreamError;
-use rowfn_csv::ByteRecord;
+use rowfn_csv::{ByteRecord, Spelled};
 use std::alloc::{AllocError, Global};
 use vortex_columns::StructFields;
 
@@ -21,6 +22,8 @@ use vortex_columns::StructFields;
 pub struct Layout {
     pub places: Vec<usize>,
     pub width: Option<usize>,
+    /// The columns at their places, where truth values are read in any spelling; else nothing.
+    pub spelled: Option<Vec<Spelled>>,
 }
 
 impl Layout {
@@ -160,6 +163,7 @@ pub fn named_layout(
     Ok(Layout {
         places,
         width: Some(header.len()),
+        spelled: None,
     })
 }
 
@@ -201,5 +205,57 @@ pub fn declared_layout(
     Ok(Layout {
         places,
         width: declared_width(declared, said),
+        spelled: None,
+    })
+}
+
+/// A declared column at its place, and whether it is of truth values.
+fn spelled_at(declared: &StructFields, places: &[usize], column: usize) -> Spelled
+    requires { column < field_count (struct_fields declared.now) }
+    ensures { result ≡ spelled_at (struct_fields declared.now) places.now column }
+{
+    Spelled {
+        place: places.get(column).copied().unwrap_or(0),
+        is_truth: declared.dtype(column).is_boolean(),
+    }
+}
+
+/// The declared columns at their places, and which are of truth values.
+fn spelled_columns(
+    alloc: Global,
+    declared: &StructFields,
+    places: &[usize],
+) -> Result<Vec<Spelled>, AllocError>
+    ensures { IfOk result
+        (λ columns. columns.items ≡ spelled_columns (struct_fields declared.now) places.now) }
+{
+    let mut columns = Vec::new(alloc);
+    for column in 0..declared.len() {
+        columns.push(spelled_at(declared, places, column))?;
+    }
+    Ok(columns)
+}
+
+/// The layout with its columns, where their truth values are read in any spelling.
+pub fn with_spelling(
+    alloc: Global,
+    declared: &StructFields,
+    any_truths: bool,
+    layout: Layout,
+) -> Result<Layout, AllocError>
+    ensures { IfOk result (λ found. (found.places ≡ layout.places) × (found.width ≡ layout.width)
+        × (option_map (λ columns. columns.items) found.spelled
+        ≡ spelled_where any_truths (struct_fields declared.now) layout.places.items)) }
+{
+    let Layout { places, width, .. } = layout;
+    let spelled = if any_truths {
+        Some(spelled_columns(alloc, declared, &places)?)
+    } else {
+        None
+    };
+    Ok(Layout {
+        places,
+        width,
+        spelled,
     })
 }

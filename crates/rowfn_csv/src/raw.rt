@@ -1,6 +1,7 @@
 //! What the bytes of a record tell beyond its fields: which fields stand in quotes, and whether the
 //! last quote is closed.
 ghost use Rattle.std.specs.Prelude.{◌≡◌, ◌≢◌, List, Bool, true, false, map, OnOk, IfOk};
+ghost use Rattle.std.specs.Str.{bytes_eq};
 ghost use Rattle.rowfn_csv.specs.Records.{Field, SaysFields, is_quoted, quoted_at};
 ghost use Rattle.rowfn_csv.specs.Records.{without_line_end};
 ghost use Rattle.rowfn_csv.specs.Scanning.{place_behind, AreMarks, Knows};
@@ -37,6 +38,14 @@ pub fn behind(place: Place, byte: u8, delimiter: u8) -> Place
         Place::Start | Place::Closed if byte == b'"' => Place::Quoted,
         _ => Place::Plain,
     }
+}
+
+/// Whether a field is that text.
+#[inline(always)]
+pub fn is_text(field: &[u8], text: &[u8]) -> bool
+    ensures { result ≡ bytes_eq field.now text.now }
+{
+    field.len() == text.len() && field == text
 }
 
 /// A byte order mark.

@@ -1,19 +1,17 @@
 //! The records of the input, one at a time, each with its bytes.
 ghost use Rattle.std.specs.Prelude.{◌≡◌, ◌≢◌, ◌∷◌, [], ◌++◌, ◌&&◌, Bool, not, List, map, OnOk};
-ghost use Rattle.std.specs.Prelude.{IfOk};
-ghost use Rattle.std.specs.Str.{bytes_eq};
-ghost use Rattle.csv.specs.Records.{fields_of, field_at};
+ghost use Rattle.csv.specs.Records.{fields_of};
 ghost use Rattle.rowfn_csv.specs.KeptLines.{line_of, last_bytes, is_ended};
-ghost use Rattle.rowfn_csv.specs.Records.{Field, SaysFields, quoted_at, reads_null, field_taken};
-ghost use Rattle.rowfn_csv.specs.Records.{without_line_end};
-ghost use Rattle.rowfn_csv.specs.Scanning.{Knows};
+ghost use Rattle.rowfn_csv.specs.Records.{Field, SaysFields, field_taken, field_spelled};
 
 use crate::batch::Batch;
+use crate::fields::{add_fields, add_spelled_fields};
 use crate::format::Format;
 use crate::raw::{
     Quotes, has_line_end, is_closed, without_blank_lines, without_line_end, without_mark,
 };
 use crate::tee::Tee;
+use crate::truths::Spelled;
 use csv::{ByteRecord, Error, ErrorKind, Reader, ReaderBuilder};
 use std::alloc::{AllocError, Global};
 use std::io::{self, Read};
@@ -97,70 +95,6 @@ fn has_longer(record: &ByteRecord, limit: usize) -> bool {
         }
     }
     false
-}
-
-/// Whether a field is that text.
-#[inline(always)]
-fn is_text(field: &[u8], text: &[u8]) -> bool
-    ensures { result ≡ bytes_eq field.now text.now }
-{
-    field.len() == text.len() && field == text
-}
-
-/// Whether a field of a record is the text that stands for null.
-#[inline(always)]
-fn reads_null(fields: &ByteRecord, null: &[u8], index: usize) -> bool
-    ensures { result ≡ reads_null null.now (field_at (fields_of fields.now) index) }
-{
-    match fields.get(index) {
-        Some(field) => is_text(field, null),
-        None => false,
-    }
-}
-
-/// Whether a field of a record says null: the text that stands for null, in no quotes. `line` has
-/// the record's bytes.
-#[inline(always)]
-fn is_null(
-    fields: &ByteRecord,
-    line: &[u8],
-    format: &Format<'_>,
-    quotes: &mut Quotes,
-    index: usize,
-) -> Result<bool, AllocError>
-    requires { Knows format.now.delimiter line.now quotes.old }
-    ensures knows { Knows format.now.delimiter line.now quotes.new }
-    ensures null { (closed : Bool) → (said : List Field) → format.now.delimiter ≢ 34
-        → SaysFields format.now.delimiter closed (without_line_end line.now) said
-        → IfOk result (λ is_null. is_null ≡ (reads_null format.now.null.now
-        (field_at (fields_of fields.now) index) && not (quoted_at said index))) }
-{
-    Ok(reads_null(fields, format.null, index) && !quotes.is_quoted(line, format.delimiter, index)?)
-}
-
-/// Adds the fields of a record at those places to the batch; an empty one where the record has
-/// none. `line` has the record's bytes. Refused only for want of memory.
-fn add_fields(
-    fields: &ByteRecord,
-    line: &[u8],
-    format: &Format<'_>,
-    quotes: &mut Quotes,
-    batch: &mut Batch,
-    places: &[usize],
-) -> Result<(), AllocError>
-    requires { Knows format.now.delimiter line.now quotes.old }
-    ensures fields { (closed : Bool) → (said : List Field) → format.now.delimiter ≢ 34
-        → SaysFields format.now.delimiter closed (without_line_end line.now) said
-        → OnOk result (batch.new.fields ≡ batch.old.fields
-        ++ map (field_taken format.now.null.now (fields_of fields.now) said) places.now) }
-    ensures spans { OnOk result (batch.new.spans ≡ batch.old.spans) }
-{
-    for place in places {
-        let is_null = is_null(fields, line, format, quotes, *place)?;
-        let field = fields.get(*place).unwrap_or(&[]);
-        batch.push_field(field, is_null)?;
-    }
-    Ok(())
 }
 
 impl<'a, R: Read> Records<'a, R> {
@@ -394,6 +328,34 @@ impl<'a, R: Read> Records<'a, R> {
             &mut self.quotes,
             batch,
             places,
+        )?;
+        batch.end_row(self.span)
+    }
+
+    /// Adds the fields of the last record to the batch, as `add_to` does, but truth values as `true`
+    /// and `false` where a column's may stand in any spelling. Refused only for want of memory.
+    pub fn add_spelled_to(
+        &mut self,
+        batch: &mut Batch,
+        columns: &[Spelled],
+    ) -> Result<(), AllocError>
+        ensures fields { (closed : Bool) → (said : List Field) → self.old.format.delimiter ≢ 34
+            → SaysFields self.old.format.delimiter closed (last_bytes self.old) said
+            → OnOk result (batch.new.fields ≡ batch.old.fields
+            ++ map (field_spelled self.old.format.null.now (fields_of self.old.last) said)
+            columns.now) }
+        ensures spans { OnOk result (batch.new.spans ≡ batch.old.spans ++ (self.old.span ∷ [])) }
+    {
+        let Span { start, end } = self.span;
+        let line = self.reader.get_ref().between(start, end);
+        self.quotes.forget();
+        add_spelled_fields(
+            &self.last,
+            line,
+            &self.format,
+            &mut self.quotes,
+            batch,
+            columns,
         )?;
         batch.end_row(self.span)
     }

@@ -68,6 +68,16 @@ fn blank_lines<'a>(alloc: Global) -> Result<Arg<'a>, Error> {
     )
 }
 
+fn truths<'a>(alloc: Global) -> Result<Arg<'a>, Error> {
+    Ok(
+        Arg::new(alloc, "bool")
+            .long("bool")
+            .value_name("plain|any")
+            .default_value("plain")
+            .help("How truth values are read: true and false, or t, True, TRUE and 1 too"),
+    )
+}
+
 fn batch<'a>(alloc: Global) -> Result<Arg<'a>, Error> {
     Ok(
         Arg::new(alloc, "batch")
@@ -245,7 +255,8 @@ fn with_fields<'a>(alloc: Global, command: Command<'a>) -> Result<Command<'a>, E
     let command = with(command, header(alloc))?;
     let command = with(command, no_header(alloc))?;
     let command = with(command, null(alloc))?;
-    with(command, blank_lines(alloc))
+    let command = with(command, blank_lines(alloc))?;
+    with(command, truths(alloc))
 }
 
 /// How rows are read.

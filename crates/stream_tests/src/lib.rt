@@ -38,3 +38,5 @@ mod queries;
 mod reading_back;
 #[cfg(test)]
 mod transcript;
+#[cfg(test)]
+mod truths;

@@ -47,6 +47,7 @@ fn described(alloc: Global, options: &Options<'_>) -> Result<String, AllocError>
         header,
         null,
         blank_rows,
+        any_truths,
         batch,
         batch_bytes,
         flushes,
@@ -64,6 +65,9 @@ fn described(alloc: Global, options: &Options<'_>) -> Result<String, AllocError>
     let mut text = format!(in alloc; "{delimiter} {header} '{null}' {batch} {action:?} {summary}")?;
     if *blank_rows {
         text.push_str(" blank rows")?;
+    }
+    if *any_truths {
+        text.push_str(" any truths")?;
     }
     if *flushes {
         text.push_str(" flushes")?;
@@ -206,6 +210,20 @@ fn lines_without_a_byte_are_told(rt: HostRuntime) {
     let told = "44 true '' 2048 Answer false text f";
     assert!(rt; says(rt, "p --blank-lines skip f", told));
     assert!(rt; is_refused(rt, "p --blank-lines none f", ErrorKind::InvalidValue));
+}
+
+#[test]
+fn spellings_of_truth_values_are_told(rt: HostRuntime) {
+    let told = "44 true '' 2048 Answer false any truths text f";
+    assert!(rt; says(rt, "p --bool any f", told));
+    assert!(rt;
+        says(
+            rt,
+            "p --bool plain f",
+            "44 true '' 2048 Answer false text f"
+        )
+    );
+    assert!(rt; is_refused(rt, "p --bool yes f", ErrorKind::InvalidValue));
 }
 
 /// The status with which such words end the program; 0 where they give options.

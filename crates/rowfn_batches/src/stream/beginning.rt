@@ -5,7 +5,7 @@ ghost use Rattle.rowfn_batches.specs.ReadingBack.{ReadsBack};
 
 use super::{Stream, Summary};
 use crate::errors::StreamError;
-use crate::header::{Layout, declared_layout, named_layout};
+use crate::header::{Layout, declared_layout, named_layout, with_spelling};
 use crate::output::Output;
 use crate::reading_back::check_reading_back;
 use crate::settings::Settings;
@@ -39,6 +39,8 @@ impl<'a, R: Read + Drop> Stream<'a, R> {
         } else {
             declared_layout(alloc, &expression.columns, &expression.places)?
         };
+        let any_truths = settings.format.any_truths;
+        let layout = with_spelling(alloc, &expression.columns, any_truths, layout)?;
         let width = layout.width;
         let condition = match condition {
             Some(condition) => Some(begin_condition(alloc, settings, condition, &records)?),
@@ -81,6 +83,8 @@ fn begin_condition<'a, R: Read>(
     } else {
         declared_layout(alloc, &expression.columns, &expression.places)?
     };
+    let any_truths = settings.format.any_truths;
+    let layout = with_spelling(alloc, &expression.columns, any_truths, layout)?;
     Ok(Condition {
         expression,
         layout,

@@ -6,7 +6,8 @@ ghost use Rattle.rowfn_batches.specs.Taking.{rows_before};
 use super::Stream;
 use crate::answering::row_number;
 use crate::errors::StreamError;
-use rowfn_csv::{Found, ReadError};
+use crate::header::Layout;
+use rowfn_csv::{Batch, Found, ReadError, Records};
 use std::alloc::AllocError;
 use std::io::Read;
 
@@ -41,6 +42,18 @@ impl Filled {
 #[inline(never)]
 fn broken_by(error: ReadError) -> Filled {
     Filled::Broken(StreamError::from(error))
+}
+
+/// Adds the fields of the last record to a batch: those of the columns of a layout.
+fn add_last<R: Read>(
+    records: &mut Records<'_, R>,
+    batch: &mut Batch,
+    layout: &Layout,
+) -> Result<(), AllocError> {
+    match &layout.spelled {
+        Some(columns) => records.add_spelled_to(batch, columns),
+        None => records.add_to(batch, &layout.places),
+    }
 }
 
 impl<'a, R: Read + Drop> Stream<'a, R> {
@@ -109,11 +122,11 @@ impl<'a, R: Read + Drop> Stream<'a, R> {
     fn add_row(&mut self) -> Result<(), AllocError>
         ensures { IsRefilled self.old self.new }
     {
-        self.records.add_to(&mut self.batch, &self.layout.places)?;
+        add_last(&mut self.records, &mut self.batch, &self.layout)?;
         match &mut self.condition {
-            Some(condition) => self
-                .records
-                .add_to(&mut condition.batch, &condition.layout.places),
+            Some(condition) => {
+                add_last(&mut self.records, &mut condition.batch, &condition.layout)
+            }
             None => Ok(()),
         }
     }

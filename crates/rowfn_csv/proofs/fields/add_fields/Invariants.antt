@@ -2,7 +2,7 @@ use Rattle.std.proofs.Common.{◌≡◌, ◌≢◌, ◌++◌, Bool, List, map, t
 use Rattle.csv.specs.Records.{fields_of}
 use Rattle.rowfn_csv.specs.Records.{Field, SaysFields, field_taken, without_line_end}
 use Rattle.rowfn_csv.specs.Scanning.{Knows}
-use Rattle.rowfn_csv.proofs.records.add_fields.Given as goal
+use Rattle.rowfn_csv.proofs.fields.add_fields.Given as goal
 
 -- the fields at the places so far, and what is marked
 abbrev pub invariant-loop-place : goal.invariant-loop-place
