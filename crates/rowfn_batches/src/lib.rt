@@ -19,6 +19,7 @@ pub mod settings;
 pub mod stream;
 mod taking;
 pub mod tops;
+pub mod watched;
 
 pub use columns::{BatchError, read_columns};
 pub use errors::StreamError;
@@ -31,3 +32,4 @@ pub use rowfn_csv::Format;
 pub use settings::Settings;
 pub use stream::{Summary, flow};
 pub use tops::top_alone;
+pub use watched::{Watched, Watcher};

@@ -1,6 +1,7 @@
 //! How rows are read, answered and written.
 
 use rowfn_csv::Format;
+use std::cell::Cell;
 
 /// How rows are read, answered and written.
 #[derive(Clone, Copy)]
@@ -24,4 +25,6 @@ pub struct Settings<'a> {
     pub appends: bool,
     /// How many rows stand before those of the input, where that is a part of a whole.
     pub rows_before: u64,
+    /// Where the rows that were passed on are counted, if anybody asks.
+    pub rows_passed: Option<&'a Cell<u64>>,
 }

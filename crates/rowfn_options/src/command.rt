@@ -200,6 +200,15 @@ fn summary<'a>(alloc: Global) -> Result<Arg<'a>, Error> {
     )
 }
 
+fn progress<'a>(alloc: Global) -> Result<Arg<'a>, Error> {
+    Ok(
+        Arg::new(alloc, "progress")
+            .long("progress")
+            .action(ArgAction::SetTrue)
+            .help("Print, while rows flow, how many rows and bytes have"),
+    )
+}
+
 fn lines<'a>(alloc: Global) -> Result<Arg<'a>, Error> {
     Ok(
         Arg::new(alloc, "lines")
@@ -276,7 +285,8 @@ fn with_actions<'a>(alloc: Global, command: Command<'a>) -> Result<Command<'a>, 
     let command = with(command, picks(alloc))?;
     let command = with(command, append(alloc))?;
     let command = with(command, explain(alloc))?;
-    with(command, summary(alloc))
+    let command = with(command, summary(alloc))?;
+    with(command, progress(alloc))
 }
 
 /// The command with all its options: where the expression stands, what is done with rows, and how

@@ -59,6 +59,8 @@ pub struct Options<'a> {
     pub appends: bool,
     /// Whether the rows are counted at the end.
     pub summary: bool,
+    /// Whether it is told, while rows flow, how many have.
+    pub progress: bool,
     /// The columns that are declared in words.
     pub columns: Option<&'a str>,
     /// Whether columns that are not declared take their types from the first rows.
@@ -253,6 +255,7 @@ fn options_of<'a>(
         action: asked_action(matches),
         appends: matches.get_flag("append"),
         summary: matches.get_flag("summary"),
+        progress: matches.get_flag("progress"),
         columns: matches.get_str("columns"),
         infers: !matches.get_flag("no-infer"),
         condition: matches.get_str("where"),

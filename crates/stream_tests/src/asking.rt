@@ -92,6 +92,7 @@ fn settings_of<'a>(asked: &Asked<'a>, batch: (usize, u64)) -> Settings<'a> {
         picks_rows: asked.words.answers.is_none(),
         appends: asked.appends,
         rows_before: asked.rows_before,
+        rows_passed: None,
     }
 }
 

@@ -75,6 +75,7 @@ pub fn settings_of<'a>(case: &Case<'a>, batch: (usize, u64)) -> Settings<'a> {
         picks_rows: case.picks_rows,
         appends: false,
         rows_before: 0,
+        rows_passed: None,
     }
 }
 

@@ -40,3 +40,5 @@ mod reading_back;
 mod transcript;
 #[cfg(test)]
 mod truths;
+#[cfg(test)]
+mod watching;

@@ -56,6 +56,7 @@ fn described(alloc: Global, options: &Options<'_>) -> Result<String, AllocError>
         action,
         appends,
         summary,
+        progress,
         columns,
         infers,
         condition,
@@ -68,6 +69,9 @@ fn described(alloc: Global, options: &Options<'_>) -> Result<String, AllocError>
     }
     if *any_truths {
         text.push_str(" any truths")?;
+    }
+    if *progress {
+        text.push_str(" progress")?;
     }
     if *flushes {
         text.push_str(" flushes")?;
@@ -252,6 +256,13 @@ fn what_is_done_is_told(rt: HostRuntime) {
     assert!(rt; says(rt, "p --pick f", "44 true '' 2048 Pick false text f"));
     assert!(rt; says(rt, "p --explain f", "44 true '' 2048 Explain false text f"));
     assert!(rt; says(rt, "p --summary f", "44 true '' 2048 Answer true text f"));
+    assert!(rt;
+        says(
+            rt,
+            "p --progress f",
+            "44 true '' 2048 Answer false progress text f"
+        )
+    );
     assert!(rt; says(rt, "p --batch 7 f", "44 true '' 7 Answer false text f"));
     let told = "44 true '' 2048 Answer false flushes text f";
     assert!(rt; says(rt, "p --flush f", told));

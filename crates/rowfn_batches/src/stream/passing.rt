@@ -69,6 +69,13 @@ impl<'a, R: Read + Drop> Stream<'a, R> {
         Ok((answered, rows))
     }
 
+    /// Tells how many rows were passed on, where that is asked.
+    fn tell_rows(&self) {
+        if let Some(count) = self.settings.rows_passed {
+            count.set(self.summary.rows_read);
+        }
+    }
+
     /// Answers and writes the batch: the lines of its rows in their order, up to the first that
     /// ends the stream. Refused with the error that does, if any.
     pub(super) fn pass<W: Write>(
@@ -96,6 +103,7 @@ impl<'a, R: Read + Drop> Stream<'a, R> {
             rows_read: rows_read.saturating_add(self.batch.len() as u64),
             rows_written: rows_written.saturating_add(count),
         };
+        self.tell_rows();
         match error {
             Some(error) => Err(error),
             None => Ok(()),
