@@ -1,6 +1,5 @@
 pub mod Fields
 pub mod Batches
-pub mod Executing
 pub mod Printing
 pub mod ReadingBack
 pub mod BatchAnswers
@@ -11,3 +10,4 @@ pub mod Outputs
 pub mod Taking
 pub mod Passing
 pub mod Tops
+pub mod Spellings

@@ -3,13 +3,13 @@
 #![tactic(auto)]
 
 mod answering;
-pub mod answers;
 pub mod columns;
 pub mod errors;
 pub mod explained;
 mod fields;
 mod header;
 pub mod laws;
+pub mod line_errors;
 mod names;
 mod output;
 pub mod printing;
@@ -18,14 +18,18 @@ mod reading_back;
 pub mod settings;
 pub mod stream;
 mod taking;
+pub mod tops;
+pub mod watched;
 
-pub use answers::{execute_answers, first_fault};
 pub use columns::{BatchError, read_columns};
 pub use errors::StreamError;
 pub use explained::explain;
+pub use line_errors::LineError;
 pub use names::check_names;
 pub use printing::push_field;
 pub use reading::read_told;
 pub use rowfn_csv::Format;
 pub use settings::Settings;
-pub use stream::{Summary, flow, top_alone};
+pub use stream::{Summary, flow};
+pub use tops::top_alone;
+pub use watched::{Watched, Watcher};

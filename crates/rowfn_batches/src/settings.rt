@@ -1,6 +1,7 @@
 //! How rows are read, answered and written.
 
 use rowfn_csv::Format;
+use std::cell::Cell;
 
 /// How rows are read, answered and written.
 #[derive(Clone, Copy)]
@@ -13,6 +14,8 @@ pub struct Settings<'a> {
     pub batch: usize,
     /// With how many bytes of the input the rows that are read together are enough.
     pub batch_bytes: u64,
+    /// Whether a batch ends, too, where no row is there behind its last, as far as the input was read.
+    pub flushes: bool,
     /// How many bytes a field has, at most.
     pub max_field: usize,
     /// Whether the rows of the input are written in which the only answer is true, in place of
@@ -22,4 +25,6 @@ pub struct Settings<'a> {
     pub appends: bool,
     /// How many rows stand before those of the input, where that is a part of a whole.
     pub rows_before: u64,
+    /// Where the rows that were passed on are counted, if anybody asks.
+    pub rows_passed: Option<&'a Cell<u64>>,
 }

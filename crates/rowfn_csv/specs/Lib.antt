@@ -4,3 +4,4 @@ pub mod KeptLines
 pub mod Records
 pub mod RoundTrip
 pub mod Scanning
+pub mod Truths

@@ -8,6 +8,8 @@ use Rattle.std.specs.Str.{bytes_eq}
 use Rattle.csv.specs.Records.{field_at}
 use Rattle.rowfn_csv.specs.Fields.{doubled, quoted}
 use Rattle.rowfn_csv.specs.Batches.{field_said}
+use Rattle.rowfn_csv.specs.Truths.{respelled}
+use Rattle.rowfn_csv.specs.declared.truths.Spelled.{Spelled}
 
 -- a field by its text, as it stands
 pub data Field : Type 0 where
@@ -63,6 +65,12 @@ abbrev pub field_taken : List ℕ → List (List ℕ) → List Field → ℕ →
 field_taken null texts said i =
     field_said (unwrap_or (field_at texts i) [])
     (reads_null null (field_at texts i) && not (quoted_at said i))
+
+-- the same, in a column whose truth values may stand in any spelling
+abbrev pub field_spelled : List ℕ → List (List ℕ) → List Field → Spelled → Option (List ℕ)
+field_spelled null texts said s =
+    field_said (respelled s.is_truth (unwrap_or (field_at texts s.place) []))
+    (reads_null null (field_at texts s.place) && not (quoted_at said s.place))
 
 -- whether bytes end with one, and what is left without it
 abbrev pub ends_in : List ℕ → ℕ → Bool

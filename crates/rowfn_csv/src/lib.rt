@@ -2,6 +2,7 @@
 #![tactic(auto)]
 
 pub mod batch;
+mod fields;
 pub mod format;
 mod growth;
 pub mod laws;
@@ -9,10 +10,12 @@ pub mod quoting;
 mod raw;
 pub mod records;
 mod tee;
+pub mod truths;
 
 pub use batch::Batch;
 pub use csv::ByteRecord;
 pub use format::Format;
 pub use quoting::{push_quoted, quote_from};
 pub use raw::without_line_end;
-pub use records::{ReadError, Records, Span};
+pub use records::{Found, ReadError, Records, Span};
+pub use truths::{Spelled, truth_spelled};

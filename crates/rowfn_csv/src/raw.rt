@@ -1,6 +1,7 @@
 //! What the bytes of a record tell beyond its fields: which fields stand in quotes, and whether the
 //! last quote is closed.
 ghost use Rattle.std.specs.Prelude.{◌≡◌, ◌≢◌, List, Bool, true, false, map, OnOk, IfOk};
+ghost use Rattle.std.specs.Str.{bytes_eq};
 ghost use Rattle.rowfn_csv.specs.Records.{Field, SaysFields, is_quoted, quoted_at};
 ghost use Rattle.rowfn_csv.specs.Records.{without_line_end};
 ghost use Rattle.rowfn_csv.specs.Scanning.{place_behind, AreMarks, Knows};
@@ -39,6 +40,14 @@ pub fn behind(place: Place, byte: u8, delimiter: u8) -> Place
     }
 }
 
+/// Whether a field is that text.
+#[inline(always)]
+pub fn is_text(field: &[u8], text: &[u8]) -> bool
+    ensures { result ≡ bytes_eq field.now text.now }
+{
+    field.len() == text.len() && field == text
+}
+
 /// A byte order mark.
 pub const MARK: &[u8] = b"\xEF\xBB\xBF";
 
@@ -73,6 +82,18 @@ pub fn is_closed(raw: &[u8], delimiter: u8) -> bool
         place = behind(place, *byte, delimiter);
     }
     place != Place::Quoted
+}
+
+/// Whether a line ends in bytes which begin with a field, outside quotes.
+pub fn has_line_end(bytes: &[u8], delimiter: u8) -> bool {
+    let mut place = Place::Start;
+    for byte in bytes {
+        if place != Place::Quoted && ends_line(*byte) {
+            return true;
+        }
+        place = behind(place, *byte, delimiter);
+    }
+    false
 }
 
 /// Tells of each field of a record whether it stands in quotes; the record begins with its first

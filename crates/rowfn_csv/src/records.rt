@@ -1,17 +1,17 @@
 //! The records of the input, one at a time, each with its bytes.
 ghost use Rattle.std.specs.Prelude.{◌≡◌, ◌≢◌, ◌∷◌, [], ◌++◌, ◌&&◌, Bool, not, List, map, OnOk};
-ghost use Rattle.std.specs.Prelude.{IfOk};
-ghost use Rattle.std.specs.Str.{bytes_eq};
-ghost use Rattle.csv.specs.Records.{fields_of, field_at};
+ghost use Rattle.csv.specs.Records.{fields_of};
 ghost use Rattle.rowfn_csv.specs.KeptLines.{line_of, last_bytes, is_ended};
-ghost use Rattle.rowfn_csv.specs.Records.{Field, SaysFields, quoted_at, reads_null, field_taken};
-ghost use Rattle.rowfn_csv.specs.Records.{without_line_end};
-ghost use Rattle.rowfn_csv.specs.Scanning.{Knows};
+ghost use Rattle.rowfn_csv.specs.Records.{Field, SaysFields, field_taken, field_spelled};
 
 use crate::batch::Batch;
+use crate::fields::{add_fields, add_spelled_fields};
 use crate::format::Format;
-use crate::raw::{Quotes, is_closed, without_blank_lines, without_line_end, without_mark};
+use crate::raw::{
+    Quotes, has_line_end, is_closed, without_blank_lines, without_line_end, without_mark,
+};
 use crate::tee::Tee;
+use crate::truths::Spelled;
 use csv::{ByteRecord, Error, ErrorKind, Reader, ReaderBuilder};
 use std::alloc::{AllocError, Global};
 use std::io::{self, Read};
@@ -34,6 +34,18 @@ pub enum ReadError {
     OutOfMemory,
 }
 
+/// What a read found. It is small, since it is handed on with each record; what failed stands beside
+/// the records.
+#[derive(Clone, Copy, PartialEq, Eq)]
+pub enum Found {
+    /// A record, or a line without a byte that is one.
+    Record,
+    /// The end of the input.
+    End,
+    /// No record could be read: `take_error` tells why.
+    Failed,
+}
+
 /// The records of the input. The last one that was read stands here.
 #[derive(Drop)]
 pub struct Records<'a, R> {
@@ -45,6 +57,7 @@ pub struct Records<'a, R> {
     ahead: Ahead,
     limit: usize,
     is_outgrown: bool,
+    error: Option<ReadError>,
 }
 
 /// What was read behind lines without a byte which are rows, and are given before it.
@@ -53,16 +66,13 @@ struct Ahead {
     record: ByteRecord,
     /// Where it lies; an empty span at the end of the input where there is no record.
     span: Span,
-    is_found: bool,
+    found: Found,
     is_outgrown: bool,
     /// Whether it is yet to be given.
     is_held: bool,
 }
 
-/// Why a read failed. A call of its own, so that the call that reads a row keeps no stack for
-/// errors.
-#[cold]
-#[inline(never)]
+/// Why a read failed.
 fn read_error(error: Error) -> ReadError {
     match error.into_kind() {
         ErrorKind::Io(error) => ReadError::Io(error),
@@ -87,70 +97,6 @@ fn has_longer(record: &ByteRecord, limit: usize) -> bool {
     false
 }
 
-/// Whether a field is that text.
-#[inline(always)]
-fn is_text(field: &[u8], text: &[u8]) -> bool
-    ensures { result ≡ bytes_eq field.now text.now }
-{
-    field.len() == text.len() && field == text
-}
-
-/// Whether a field of a record is the text that stands for null.
-#[inline(always)]
-fn reads_null(fields: &ByteRecord, null: &[u8], index: usize) -> bool
-    ensures { result ≡ reads_null null.now (field_at (fields_of fields.now) index) }
-{
-    match fields.get(index) {
-        Some(field) => is_text(field, null),
-        None => false,
-    }
-}
-
-/// Whether a field of a record says null: the text that stands for null, in no quotes. `line` has
-/// the record's bytes.
-#[inline(always)]
-fn is_null(
-    fields: &ByteRecord,
-    line: &[u8],
-    format: &Format<'_>,
-    quotes: &mut Quotes,
-    index: usize,
-) -> Result<bool, AllocError>
-    requires { Knows format.now.delimiter line.now quotes.old }
-    ensures knows { Knows format.now.delimiter line.now quotes.new }
-    ensures null { (closed : Bool) → (said : List Field) → format.now.delimiter ≢ 34
-        → SaysFields format.now.delimiter closed (without_line_end line.now) said
-        → IfOk result (λ is_null. is_null ≡ (reads_null format.now.null.now
-        (field_at (fields_of fields.now) index) && not (quoted_at said index))) }
-{
-    Ok(reads_null(fields, format.null, index) && !quotes.is_quoted(line, format.delimiter, index)?)
-}
-
-/// Adds the fields of a record at those places to the batch; an empty one where the record has
-/// none. `line` has the record's bytes. Refused only for want of memory.
-fn add_fields(
-    fields: &ByteRecord,
-    line: &[u8],
-    format: &Format<'_>,
-    quotes: &mut Quotes,
-    batch: &mut Batch,
-    places: &[usize],
-) -> Result<(), AllocError>
-    requires { Knows format.now.delimiter line.now quotes.old }
-    ensures fields { (closed : Bool) → (said : List Field) → format.now.delimiter ≢ 34
-        → SaysFields format.now.delimiter closed (without_line_end line.now) said
-        → OnOk result (batch.new.fields ≡ batch.old.fields
-        ++ map (field_taken format.now.null.now (fields_of fields.now) said) places.now) }
-    ensures spans { OnOk result (batch.new.spans ≡ batch.old.spans) }
-{
-    for place in places {
-        let is_null = is_null(fields, line, format, quotes, *place)?;
-        let field = fields.get(*place).unwrap_or(&[]);
-        batch.push_field(field, is_null)?;
-    }
-    Ok(())
-}
-
 impl<'a, R: Read> Records<'a, R> {
     /// The records of a reader, whose fields have so many bytes at most. Nothing is read yet.
     pub fn new(alloc: Global, format: Format<'a>, limit: usize, reader: R) -> Records<'a, R> {
@@ -168,18 +114,18 @@ impl<'a, R: Read> Records<'a, R> {
             ahead: Ahead {
                 record: ByteRecord::new(alloc),
                 span: Span { start: 0, end: 0 },
-                is_found: false,
+                found: Found::End,
                 is_outgrown: false,
                 is_held: false,
             },
             limit,
             is_outgrown: false,
+            error: None,
         }
     }
 
-    /// Reads the next record, or the next line without a byte where that is one; answers whether
-    /// there was one.
-    pub fn read(&mut self) -> Result<bool, ReadError> {
+    /// Reads the next record, or the next line without a byte where that is one.
+    pub fn read(&mut self) -> Found {
         if self.format.blank_rows {
             self.read_with_blank_lines()
         } else {
@@ -187,44 +133,61 @@ impl<'a, R: Read> Records<'a, R> {
         }
     }
 
-    /// Reads what stands behind the lines without a byte, where nothing is held.
-    fn read_ahead(&mut self) -> Result<(), ReadError> {
-        if self.ahead.is_held {
-            return Ok(());
-        }
-        let given = self.span;
-        let found = self.read_record()?;
-        let end = self.reader.position().byte;
+    /// Why the last read failed.
+    pub fn take_error(&mut self) -> ReadError {
+        self.error.take().unwrap_or(ReadError::OutOfMemory)
+    }
+
+    /// Holds what was read behind lines without a byte, which stand behind a record.
+    fn hold(&mut self, given: Span, found: Found, place: u64) {
         mem::swap(&mut self.last, &mut self.ahead.record);
-        self.ahead.span = if found {
-            self.span
-        } else {
-            Span { start: end, end }
+        self.ahead.span = match found {
+            Found::Record => self.span,
+            Found::End | Found::Failed => Span {
+                start: place,
+                end: place,
+            },
         };
-        self.ahead.is_found = found;
+        self.ahead.found = found;
         self.ahead.is_outgrown = self.is_outgrown;
         self.ahead.is_held = true;
         self.span = given;
         self.is_outgrown = false;
-        Ok(())
     }
 
-    /// Gives the next line without a byte, or else the record behind such lines.
-    fn read_with_blank_lines(&mut self) -> Result<bool, ReadError> {
-        self.read_ahead()?;
-        let place = self.reader.get_ref().behind_mark(self.span.end);
-        if place < self.ahead.span.start {
-            return self.give_blank(place);
-        }
+    /// Gives what is held behind lines without a byte.
+    fn give_held(&mut self) -> Found {
         mem::swap(&mut self.last, &mut self.ahead.record);
         self.span = self.ahead.span;
         self.is_outgrown = self.ahead.is_outgrown;
         self.ahead.is_held = false;
-        Ok(self.ahead.is_found)
+        self.ahead.found
+    }
+
+    /// Gives the next line without a byte, or else the record behind such lines.
+    fn read_with_blank_lines(&mut self) -> Found {
+        if !self.ahead.is_held {
+            let given = self.span;
+            let found = self.read_record();
+            let place = match found {
+                Found::Record => self.span.start,
+                Found::End => self.reader.position().byte,
+                Found::Failed => return Found::Failed,
+            };
+            if place <= self.reader.get_ref().behind_mark(given.end) {
+                return found;
+            }
+            self.hold(given, found, place);
+        }
+        let place = self.reader.get_ref().behind_mark(self.span.end);
+        if place < self.ahead.span.start {
+            return self.give_blank(place);
+        }
+        self.give_held()
     }
 
     /// Gives the line without a byte that lies there, as a record of one empty field.
-    fn give_blank(&mut self, place: u64) -> Result<bool, ReadError> {
+    fn give_blank(&mut self, place: u64) -> Found {
         let tee = self.reader.get_ref();
         let next = place.saturating_add(1);
         let is_pair = tee.byte_at(place) == Some(b'\r') && tee.byte_at(next) == Some(b'\n');
@@ -234,24 +197,41 @@ impl<'a, R: Read> Records<'a, R> {
         };
         self.last.clear();
         if self.last.push_field(&[]).is_err() {
-            return Err(ReadError::OutOfMemory);
+            self.error = Some(ReadError::OutOfMemory);
+            return Found::Failed;
         }
-        Ok(true)
+        Found::Record
     }
 
-    /// Reads the next record behind lines without a byte; answers whether there was one. One of
-    /// which a field is too long is not read to its end.
-    pub fn read_record(&mut self) -> Result<bool, ReadError> {
+    /// Reads the next record behind lines without a byte. One of which a field is too long is not
+    /// read to its end.
+    pub fn read_record(&mut self) -> Found {
         let start = self.reader.position().byte;
         self.reader.get_ref().begin_record(start);
         match self.reader.read_byte_record(&mut self.last) {
-            Ok(false) => return Ok(false),
             Ok(true) => self.is_outgrown = is_outgrown(&self.last, self.limit),
-            Err(_) if self.reader.get_ref().is_outgrown() => self.is_outgrown = true,
-            Err(error) => return Err(read_error(error)),
+            Ok(false) => return Found::End,
+            Err(error) => {
+                if !self.note(error) {
+                    return Found::Failed;
+                }
+            }
         }
         self.span = self.span_of(start, self.reader.position().byte);
-        Ok(true)
+        Found::Record
+    }
+
+    /// Notes why a read failed; answers whether there is a record all the same, of which a field is
+    /// too long.
+    #[cold]
+    #[inline(never)]
+    fn note(&mut self, error: Error) -> bool {
+        if self.reader.get_ref().is_outgrown() {
+            self.is_outgrown = true;
+            return true;
+        }
+        self.error = Some(read_error(error));
+        false
     }
 
     /// Whether a field of the last record is too long: the record is no row.
@@ -278,6 +258,13 @@ impl<'a, R: Read> Records<'a, R> {
             };
         }
         Span { start, end }
+    }
+
+    /// Whether no record is there behind the last one, as far as the input was read: the next one is
+    /// yet to come, or its end is.
+    pub fn is_drained(&self) -> bool {
+        let rest = self.reader.get_ref().from(self.span.end);
+        !has_line_end(without_blank_lines(rest), self.format.delimiter)
     }
 
     /// The fields of the last record.
@@ -341,6 +328,34 @@ impl<'a, R: Read> Records<'a, R> {
             &mut self.quotes,
             batch,
             places,
+        )?;
+        batch.end_row(self.span)
+    }
+
+    /// Adds the fields of the last record to the batch, as `add_to` does, but truth values as `true`
+    /// and `false` where a column's may stand in any spelling. Refused only for want of memory.
+    pub fn add_spelled_to(
+        &mut self,
+        batch: &mut Batch,
+        columns: &[Spelled],
+    ) -> Result<(), AllocError>
+        ensures fields { (closed : Bool) → (said : List Field) → self.old.format.delimiter ≢ 34
+            → SaysFields self.old.format.delimiter closed (last_bytes self.old) said
+            → OnOk result (batch.new.fields ≡ batch.old.fields
+            ++ map (field_spelled self.old.format.null.now (fields_of self.old.last) said)
+            columns.now) }
+        ensures spans { OnOk result (batch.new.spans ≡ batch.old.spans ++ (self.old.span ∷ [])) }
+    {
+        let Span { start, end } = self.span;
+        let line = self.reader.get_ref().between(start, end);
+        self.quotes.forget();
+        add_spelled_fields(
+            &self.last,
+            line,
+            &self.format,
+            &mut self.quotes,
+            batch,
+            columns,
         )?;
         batch.end_row(self.span)
     }

@@ -68,6 +68,16 @@ fn blank_lines<'a>(alloc: Global) -> Result<Arg<'a>, Error> {
     )
 }
 
+fn truths<'a>(alloc: Global) -> Result<Arg<'a>, Error> {
+    Ok(
+        Arg::new(alloc, "bool")
+            .long("bool")
+            .value_name("plain|any")
+            .default_value("plain")
+            .help("How truth values are read: true and false, or t, True, TRUE and 1 too"),
+    )
+}
+
 fn batch<'a>(alloc: Global) -> Result<Arg<'a>, Error> {
     Ok(
         Arg::new(alloc, "batch")
@@ -87,6 +97,15 @@ fn batch_bytes<'a>(alloc: Global) -> Result<Arg<'a>, Error> {
             .value_parser(value_parser!(u64).range(1..))
             .default_value("1048576")
             .help("With how many bytes of the input those rows are enough"),
+    )
+}
+
+fn flush<'a>(alloc: Global) -> Result<Arg<'a>, Error> {
+    Ok(
+        Arg::new(alloc, "flush")
+            .long("flush")
+            .action(ArgAction::SetTrue)
+            .help("Write what is answered whenever the input pauses"),
     )
 }
 
@@ -181,6 +200,15 @@ fn summary<'a>(alloc: Global) -> Result<Arg<'a>, Error> {
     )
 }
 
+fn progress<'a>(alloc: Global) -> Result<Arg<'a>, Error> {
+    Ok(
+        Arg::new(alloc, "progress")
+            .long("progress")
+            .action(ArgAction::SetTrue)
+            .help("Print, while rows flow, how many rows and bytes have"),
+    )
+}
+
 fn lines<'a>(alloc: Global) -> Result<Arg<'a>, Error> {
     Ok(
         Arg::new(alloc, "lines")
@@ -236,7 +264,8 @@ fn with_fields<'a>(alloc: Global, command: Command<'a>) -> Result<Command<'a>, E
     let command = with(command, header(alloc))?;
     let command = with(command, no_header(alloc))?;
     let command = with(command, null(alloc))?;
-    with(command, blank_lines(alloc))
+    let command = with(command, blank_lines(alloc))?;
+    with(command, truths(alloc))
 }
 
 /// How rows are read.
@@ -246,6 +275,7 @@ fn with_rows<'a>(alloc: Global, command: Command<'a>) -> Result<Command<'a>, Err
     let command = with(command, first_row(alloc))?;
     let command = with(command, batch(alloc))?;
     let command = with(command, batch_bytes(alloc))?;
+    let command = with(command, flush(alloc))?;
     with(command, max_field(alloc))
 }
 
@@ -255,7 +285,8 @@ fn with_actions<'a>(alloc: Global, command: Command<'a>) -> Result<Command<'a>, 
     let command = with(command, picks(alloc))?;
     let command = with(command, append(alloc))?;
     let command = with(command, explain(alloc))?;
-    with(command, summary(alloc))
+    let command = with(command, summary(alloc))?;
+    with(command, progress(alloc))
 }
 
 /// The command with all its options: where the expression stands, what is done with rows, and how

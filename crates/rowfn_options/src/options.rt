@@ -42,10 +42,14 @@ pub struct Options<'a> {
     pub null: &'a str,
     /// Whether a line without a byte is a row of one null.
     pub blank_rows: bool,
+    /// Whether truth values are read in any spelling.
+    pub any_truths: bool,
     /// How many rows are read, answered and written together; at least 1.
     pub batch: u32,
     /// With how many bytes of the input those are enough; at least 1.
     pub batch_bytes: u64,
+    /// Whether rows are answered before more is read than has come.
+    pub flushes: bool,
     /// How many bytes a field has, at most; at least 1.
     pub max_field: u64,
     /// The number by which the first row is told; at least 1.
@@ -55,6 +59,8 @@ pub struct Options<'a> {
     pub appends: bool,
     /// Whether the rows are counted at the end.
     pub summary: bool,
+    /// Whether it is told, while rows flow, how many have.
+    pub progress: bool,
     /// The columns that are declared in words.
     pub columns: Option<&'a str>,
     /// Whether columns that are not declared take their types from the first rows.
@@ -93,6 +99,15 @@ fn read_blank_lines(word: &str) -> Option<bool> {
     match word {
         "skip" => Some(false),
         "null" => Some(true),
+        _ => None,
+    }
+}
+
+/// Whether truth values are read in any spelling, by the word that says so.
+fn read_truths(word: &str) -> Option<bool> {
+    match word {
+        "plain" => Some(false),
+        "any" => Some(true),
         _ => None,
     }
 }
@@ -177,12 +192,19 @@ fn blank_lines_error(command: &mut Command<'_>) -> Result<Error, Error> {
     Ok(command.error(ErrorKind::InvalidValue, message)?)
 }
 
+/// Why a word does not say how truth values are read.
+fn truths_error(command: &mut Command<'_>) -> Result<Error, Error> {
+    let message = "truth values are read in any spelling, or plain as true and false";
+    Ok(command.error(ErrorKind::InvalidValue, message)?)
+}
+
 /// How fields are written, as the words say it.
 #[derive(Clone, Copy)]
 struct Fields<'a> {
     delimiter: u8,
     null: &'a str,
     blank_rows: bool,
+    any_truths: bool,
 }
 
 /// How fields are written.
@@ -200,10 +222,14 @@ fn asked_fields<'a>(
     let Some(blank_rows) = read_blank_lines(matches.get_str("blank-lines").unwrap_or("skip")) else {
         return Err(blank_lines_error(command)?);
     };
+    let Some(any_truths) = read_truths(matches.get_str("bool").unwrap_or("plain")) else {
+        return Err(truths_error(command)?);
+    };
     Ok(Fields {
         delimiter,
         null,
         blank_rows,
+        any_truths,
     })
 }
 
@@ -220,13 +246,16 @@ fn options_of<'a>(
         header: !matches.get_flag("no-header"),
         null: fields.null,
         blank_rows: fields.blank_rows,
+        any_truths: fields.any_truths,
         batch: matches.get_one::<u32>("batch").unwrap_or(2048),
         batch_bytes: matches.get_one::<u64>("batch-bytes").unwrap_or(1 << 20),
+        flushes: matches.get_flag("flush"),
         max_field: matches.get_one::<u64>("max-field").unwrap_or(1 << 28),
         first_row: matches.get_one::<u64>("first-row").unwrap_or(1),
         action: asked_action(matches),
         appends: matches.get_flag("append"),
         summary: matches.get_flag("summary"),
+        progress: matches.get_flag("progress"),
         columns: matches.get_str("columns"),
         infers: !matches.get_flag("no-infer"),
         condition: matches.get_str("where"),

@@ -4,7 +4,7 @@ use crate::again::Again;
 use crate::error::{HeaderFault, QueryError};
 use crate::inference::infer;
 use crate::scopes::add_column;
-use rowfn_csv::{Batch, ByteRecord, Format, ReadError, Records};
+use rowfn_csv::{Batch, ByteRecord, Format, Found, ReadError, Records, truth_spelled};
 use std::alloc::{AllocError, Global};
 use std::io::{self, Read};
 use std::str;
@@ -77,8 +77,12 @@ fn read_rows<R: Read>(
     width: usize,
 ) -> Result<(), ReadError> {
     for _ in 0..SAMPLED_ROWS {
-        let is_row = records.read()?
-            && records.record().len() == width
+        match records.read() {
+            Found::Record => {}
+            Found::End => return Ok(()),
+            Found::Failed => return Err(records.take_error()),
+        }
+        let is_row = records.record().len() == width
             && !records.is_open()
             && !records.is_outgrown();
         if !is_row {
@@ -94,14 +98,40 @@ fn read_rows<R: Read>(
     Ok(())
 }
 
+/// A field that spells a truth value in letters, as `true` or `false`; `1` and `0` are numbers here.
+fn lettered(field: &[u8]) -> &[u8] {
+    if field == b"1".as_slice() || field == b"0".as_slice() {
+        field
+    } else {
+        truth_spelled(field)
+    }
+}
+
+/// The fields of a batch; truth values in letters as `true` and `false`, where they are read in any
+/// spelling.
+fn fields_of(
+    alloc: Global,
+    batch: &Batch,
+    any_truths: bool,
+) -> Result<Vec<Option<&[u8]>>, AllocError> {
+    let mut fields = batch.fields(alloc)?;
+    if any_truths {
+        for field in fields.iter_mut() {
+            *field = field.map(|bytes| lettered(bytes));
+        }
+    }
+    Ok(fields)
+}
+
 /// The columns of a header at those places, with the types of their fields.
 fn columns_of(
     alloc: Global,
     header: &[String],
     places: &[usize],
     batch: &Batch,
+    any_truths: bool,
 ) -> VortexResult<StructFields> {
-    let fields = batch.fields(alloc)?;
+    let fields = fields_of(alloc, batch, any_truths)?;
     let mut columns = StructFields::new(alloc);
     let (width, row_count) = (places.len(), batch.len());
     // each row has a field for each place
@@ -132,14 +162,16 @@ fn names_at(
 /// Reads a header. Refused where there is none.
 fn read_header<R: Read>(records: &mut Records<'_, R>, max_field: usize) -> Result<(), QueryError> {
     match records.read_record() {
-        Ok(false) => Err(QueryError::Header(HeaderFault::Missing)),
-        Ok(true) if records.is_outgrown() => {
+        Found::End => Err(QueryError::Header(HeaderFault::Missing)),
+        Found::Record if records.is_outgrown() => {
             Err(QueryError::Header(HeaderFault::TooLong(max_field)))
         }
-        Ok(true) if records.is_open() => Err(QueryError::Header(HeaderFault::Open)),
-        Ok(true) => Ok(()),
-        Err(ReadError::Io(error)) => Err(QueryError::Reading(error)),
-        Err(ReadError::OutOfMemory) => Err(QueryError::OutOfMemory),
+        Found::Record if records.is_open() => Err(QueryError::Header(HeaderFault::Open)),
+        Found::Record => Ok(()),
+        Found::Failed => match records.take_error() {
+            ReadError::Io(error) => Err(QueryError::Reading(error)),
+            ReadError::OutOfMemory => Err(QueryError::OutOfMemory),
+        },
     }
 }
 
@@ -164,6 +196,6 @@ pub(crate) fn read_sample<R: Read>(
         Err(ReadError::Io(error)) => sample.failed = Some(error),
         Err(ReadError::OutOfMemory) => return Err(QueryError::OutOfMemory),
     }
-    sample.columns = columns_of(alloc, &names, &places, &batch)?;
+    sample.columns = columns_of(alloc, &names, &places, &batch, format.any_truths)?;
     Ok(sample)
 }

@@ -33,12 +33,13 @@ fn file_text(rt: &(impl Files + AllocGlobal), name: &str) -> Result<Vec<u8>, Str
     }
 }
 
-/// How fields are parted, and how null is written.
+/// How fields are parted, how null is written, and how truth values are read.
 pub fn format_of<'a>(options: &Options<'a>) -> Format<'a> {
     Format {
         delimiter: options.delimiter,
         null: options.null.as_bytes(),
         blank_rows: options.blank_rows,
+        any_truths: options.any_truths,
     }
 }
 

@@ -3,13 +3,16 @@
 
 mod asking;
 mod failure;
+mod progress;
 
 use crate::asking::{ask, format_of};
 use crate::failure::Failure;
-use rowfn_batches::{Settings, StreamError, Summary, check_names, explain, flow};
+use crate::progress::{TOLD_BYTES, Teller};
+use rowfn_batches::{Settings, StreamError, Summary, Watched, check_names, explain, flow};
 use rowfn_options::{Action, Options, read_options, status};
 use rowfn_queries::{Again, Query};
 use rowfn_scripts::Expression;
+use std::cell::Cell;
 use std::io::Read;
 use std::process::ExitCode;
 use std::rt::{Env, Files};
@@ -42,28 +45,30 @@ fn print_query(rt: &(impl Print + AllocGlobal), query: &Query) -> Result<(), Str
     Ok(())
 }
 
-fn settings_of<'a>(options: &Options<'a>) -> Settings<'a> {
+/// How rows are read and written; those that were passed on are counted in a cell.
+fn settings_of<'a>(options: &Options<'a>, rows: &'a Cell<u64>) -> Settings<'a> {
     Settings {
         format: format_of(options),
         header: options.header,
         batch: options.batch as usize,
         batch_bytes: options.batch_bytes,
+        flushes: options.flushes,
         max_field: options.max_field as usize,
         picks_rows: false,
         appends: options.appends,
         rows_before: options.first_row.saturating_sub(1),
+        rows_passed: Some(rows),
     }
 }
 
 /// Lets the rows flow, and tells how many they were.
 fn pass_rows<R: Read + Drop>(
     rt: &(impl Print + AllocGlobal),
-    options: &Options<'_>,
+    settings: Settings<'_>,
     query: &Query,
     reader: R,
 ) -> Result<Summary, StreamError> {
     let alloc = rt.alloc();
-    let settings = settings_of(options);
     let picking = Settings {
         picks_rows: true,
         ..settings
@@ -80,6 +85,24 @@ fn pass_rows<R: Read + Drop>(
             rows_written: 0,
         }),
     }
+}
+
+/// The same, and tells on standard error how far they have come, where that is asked.
+fn pass_watched<R: Read + Drop>(
+    rt: &(impl Print + Eprint + AllocGlobal),
+    options: &Options<'_>,
+    query: &Query,
+    reader: R,
+) -> Result<Summary, StreamError> {
+    let rows = Cell::new(0);
+    let settings = settings_of(options, &rows);
+    if !options.progress {
+        return pass_rows(rt, settings, query, reader);
+    }
+    let watched = Watched::new(reader, Teller { rt }, &rows, TOLD_BYTES);
+    let passed = pass_rows(rt, settings, query, watched);
+    let _ = eprintln!(rt; "\rrows {}", rows.get());
+    passed
 }
 
 /// The error, with advice where the type that a field has not was taken from the first rows.
@@ -106,7 +129,7 @@ fn perform_on<R: Read + Drop>(
     if options.action == Action::Explain {
         return Ok(print_query(rt, &query)?);
     }
-    match pass_rows(rt, options, &query, reader) {
+    match pass_watched(rt, options, &query, reader) {
         Ok(
             Summary {
                 rows_read,

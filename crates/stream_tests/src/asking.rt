@@ -13,6 +13,7 @@ pub struct Asked<'a> {
     pub words: Words<'a>,
     pub input: &'a str,
     pub appends: bool,
+    pub any_truths: bool,
     pub rows_before: u64,
     pub max_field: usize,
     /// Whether reading fails behind the input.
@@ -31,6 +32,7 @@ pub fn asks<'a>(answers: &'a str, input: &'a str) -> Asked<'a> {
         },
         input,
         appends: false,
+        any_truths: false,
         rows_before: 0,
         max_field: usize::MAX,
         fails: false,
@@ -80,14 +82,17 @@ fn settings_of<'a>(asked: &Asked<'a>, batch: (usize, u64)) -> Settings<'a> {
             delimiter: b',',
             null: b"",
             blank_rows: false,
+            any_truths: asked.any_truths,
         },
         header: asked.words.header,
         batch: batch.0,
         batch_bytes: batch.1,
+        flushes: false,
         max_field: asked.max_field,
         picks_rows: asked.words.answers.is_none(),
         appends: asked.appends,
         rows_before: asked.rows_before,
+        rows_passed: None,
     }
 }
 

@@ -14,8 +14,10 @@ pub struct Case<'a> {
     pub delimiter: u8,
     pub null: &'a str,
     pub blank_rows: bool,
+    pub any_truths: bool,
     pub picks_rows: bool,
     pub max_field: usize,
+    pub flushes: bool,
     /// Whether reading fails behind the input.
     pub fails: bool,
     /// How many bytes the output takes.
@@ -31,8 +33,10 @@ pub fn plain<'a>(expression: &'a str, input: &'a str) -> Case<'a> {
         delimiter: b',',
         null: "",
         blank_rows: false,
+        any_truths: false,
         picks_rows: false,
         max_field: usize::MAX,
+        flushes: false,
         fails: false,
         limit: usize::MAX,
     }
@@ -54,6 +58,27 @@ pub fn headless<'a>(expression: &'a str, input: &'a str) -> Case<'a> {
     }
 }
 
+/// How the rows of a case are read, by batches of so many rows, or so many bytes of them.
+pub fn settings_of<'a>(case: &Case<'a>, batch: (usize, u64)) -> Settings<'a> {
+    Settings {
+        format: Format {
+            delimiter: case.delimiter,
+            null: case.null.as_bytes(),
+            blank_rows: case.blank_rows,
+            any_truths: case.any_truths,
+        },
+        header: case.header,
+        batch: batch.0,
+        batch_bytes: batch.1,
+        flushes: case.flushes,
+        max_field: case.max_field,
+        picks_rows: case.picks_rows,
+        appends: false,
+        rows_before: 0,
+        rows_passed: None,
+    }
+}
+
 /// Runs a stream by batches of so many rows, or so many bytes of them, and reads of so many bytes.
 pub fn run_case(
     alloc: Global,
@@ -62,20 +87,7 @@ pub fn run_case(
     step: usize,
     sink: &mut Sink,
 ) -> Result<Summary, StreamError> {
-    let settings = Settings {
-        format: Format {
-            delimiter: case.delimiter,
-            null: case.null.as_bytes(),
-            blank_rows: case.blank_rows,
-        },
-        header: case.header,
-        batch: batch.0,
-        batch_bytes: batch.1,
-        max_field: case.max_field,
-        picks_rows: case.picks_rows,
-        appends: false,
-        rows_before: 0,
-    };
+    let settings = settings_of(case, batch);
     let expression = read_told(alloc, case.expression.as_bytes())?;
     let expression = if case.picks_rows {
         top_alone(alloc, expression)?

@@ -19,7 +19,13 @@ mod expressions;
 #[cfg(test)]
 mod fields;
 #[cfg(test)]
+mod flushing;
+#[cfg(test)]
 mod inference;
+#[cfg(test)]
+mod line_errors;
+#[cfg(test)]
+mod naming;
 #[cfg(test)]
 mod options;
 #[cfg(test)]
@@ -32,3 +38,7 @@ mod queries;
 mod reading_back;
 #[cfg(test)]
 mod transcript;
+#[cfg(test)]
+mod truths;
+#[cfg(test)]
+mod watching;

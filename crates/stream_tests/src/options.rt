@@ -47,13 +47,16 @@ fn described(alloc: Global, options: &Options<'_>) -> Result<String, AllocError>
         header,
         null,
         blank_rows,
+        any_truths,
         batch,
         batch_bytes,
+        flushes,
         max_field,
         first_row,
         action,
         appends,
         summary,
+        progress,
         columns,
         infers,
         condition,
@@ -63,6 +66,15 @@ fn described(alloc: Global, options: &Options<'_>) -> Result<String, AllocError>
     let mut text = format!(in alloc; "{delimiter} {header} '{null}' {batch} {action:?} {summary}")?;
     if *blank_rows {
         text.push_str(" blank rows")?;
+    }
+    if *any_truths {
+        text.push_str(" any truths")?;
+    }
+    if *progress {
+        text.push_str(" progress")?;
+    }
+    if *flushes {
+        text.push_str(" flushes")?;
     }
     if (*batch_bytes, *max_field) != (1048576, 268435456) {
         text.push_str(format!(in alloc; " {batch_bytes} {max_field}")?.as_str())?;
@@ -204,6 +216,20 @@ fn lines_without_a_byte_are_told(rt: HostRuntime) {
     assert!(rt; is_refused(rt, "p --blank-lines none f", ErrorKind::InvalidValue));
 }
 
+#[test]
+fn spellings_of_truth_values_are_told(rt: HostRuntime) {
+    let told = "44 true '' 2048 Answer false any truths text f";
+    assert!(rt; says(rt, "p --bool any f", told));
+    assert!(rt;
+        says(
+            rt,
+            "p --bool plain f",
+            "44 true '' 2048 Answer false text f"
+        )
+    );
+    assert!(rt; is_refused(rt, "p --bool yes f", ErrorKind::InvalidValue));
+}
+
 /// The status with which such words end the program; 0 where they give options.
 fn ends_with(rt: HostRuntime, line: &str, wanted: u8) -> bool {
     let alloc = rt.alloc();
@@ -230,7 +256,16 @@ fn what_is_done_is_told(rt: HostRuntime) {
     assert!(rt; says(rt, "p --pick f", "44 true '' 2048 Pick false text f"));
     assert!(rt; says(rt, "p --explain f", "44 true '' 2048 Explain false text f"));
     assert!(rt; says(rt, "p --summary f", "44 true '' 2048 Answer true text f"));
+    assert!(rt;
+        says(
+            rt,
+            "p --progress f",
+            "44 true '' 2048 Answer false progress text f"
+        )
+    );
     assert!(rt; says(rt, "p --batch 7 f", "44 true '' 7 Answer false text f"));
+    let told = "44 true '' 2048 Answer false flushes text f";
+    assert!(rt; says(rt, "p --flush f", told));
     assert!(rt; is_refused(rt, "p --batch 0 f", ErrorKind::ValueValidation));
     assert!(rt; is_refused(rt, "p --batch x f", ErrorKind::ValueValidation));
     let told = "44 true '' 2048 Answer false 7 268435456 text f";

@@ -1,0 +1,159 @@
+//! How a stream reads the rows of a batch.
+ghost use Rattle.std.specs.Prelude.{◌≡◌};
+ghost use Rattle.rowfn_batches.specs.Passing.{IsRefilled};
+ghost use Rattle.rowfn_batches.specs.Taking.{rows_before};
+
+use super::Stream;
+use crate::answering::row_number;
+use crate::errors::StreamError;
+use crate::header::Layout;
+use rowfn_csv::{Batch, Found, ReadError, Records};
+use std::alloc::AllocError;
+use std::io::Read;
+
+/// How the reading of a batch ended.
+#[derive(Drop)]
+pub(super) enum Filled {
+    /// The batch is full.
+    Full,
+    /// The input is at its end.
+    Ended,
+    /// No row can be read behind those of the batch.
+    Broken(StreamError),
+}
+
+impl Filled {
+    /// Whether more rows may follow.
+    pub(super) fn goes_on(&self) -> bool {
+        matches!(self, Filled::Full)
+    }
+
+    /// What ends the stream behind the batch, if anything does.
+    pub(super) fn into_error(self) -> Option<StreamError> {
+        match self {
+            Filled::Broken(error) => Some(error),
+            Filled::Full | Filled::Ended => None,
+        }
+    }
+}
+
+/// What a read that failed ends.
+#[cold]
+#[inline(never)]
+fn broken_by(error: ReadError) -> Filled {
+    Filled::Broken(StreamError::from(error))
+}
+
+/// Adds the fields of the last record to a batch: those of the columns of a layout.
+fn add_last<R: Read>(
+    records: &mut Records<'_, R>,
+    batch: &mut Batch,
+    layout: &Layout,
+) -> Result<(), AllocError> {
+    match &layout.spelled {
+        Some(columns) => records.add_spelled_to(batch, columns),
+        None => records.add_to(batch, &layout.places),
+    }
+}
+
+impl<'a, R: Read + Drop> Stream<'a, R> {
+    /// Settles how many fields a row has, where the last record, which is the first row, tells it.
+    fn settle_width(&mut self)
+        ensures { IsRefilled self.old self.new }
+    {
+        if self.width.is_none() {
+            self.width = Some(self.layout.width_by(self.records.record().len()));
+        }
+    }
+
+    /// How many rows stand before the batch, those before the input among them.
+    pub(super) fn rows_before(&self) -> u64
+        ensures { result ≡ rows_before self.now }
+    {
+        self.settings
+            .rows_before
+            .saturating_add(self.summary.rows_read)
+    }
+
+    /// Whether the last record is a row: closed, and of as many fields as are wanted, none of which
+    /// is too long.
+    fn is_whole(&self) -> bool {
+        self.width == Some(self.records.record().len())
+            && !self.records.is_open()
+            && !self.records.is_outgrown()
+    }
+
+    /// Why the last record is no row.
+    #[cold]
+    #[inline(never)]
+    fn misshapen(&self) -> StreamError {
+        let row = row_number(self.rows_before(), self.batch.len());
+        if self.records.is_outgrown() {
+            let limit = self.settings.max_field;
+            return StreamError::FieldTooLong { row, limit };
+        }
+        if self.records.is_open() {
+            return StreamError::OpenQuote { row };
+        }
+        StreamError::Width {
+            row,
+            wanted: self.width.unwrap_or(0),
+            found: self.records.record().len(),
+        }
+    }
+
+    /// Whether the rows that were read from a place of the input on have enough bytes, or are to be
+    /// answered before more is read.
+    fn is_full(&self, begin: u64) -> bool {
+        self.records.span().end.saturating_sub(begin) >= self.settings.batch_bytes
+            || self.settings.flushes && self.records.is_drained()
+    }
+
+    fn clear_batch(&mut self)
+        ensures { IsRefilled self.old self.new }
+    {
+        self.batch.clear();
+        if let Some(condition) = &mut self.condition {
+            condition.batch.clear();
+        }
+    }
+
+    /// Adds the last record to the batch.
+    fn add_row(&mut self) -> Result<(), AllocError>
+        ensures { IsRefilled self.old self.new }
+    {
+        add_last(&mut self.records, &mut self.batch, &self.layout)?;
+        match &mut self.condition {
+            Some(condition) => {
+                add_last(&mut self.records, &mut condition.batch, &condition.layout)
+            }
+            None => Ok(()),
+        }
+    }
+
+    /// Reads the rows of the next batch.
+    pub(super) fn fill(&mut self) -> Filled
+        ensures { IsRefilled self.old self.new }
+    {
+        self.clear_batch();
+        let begin = self.records.keep_from_here();
+        'rows: for _ in 0..self.settings.batch.max(1) {
+            match self.records.read() {
+                Found::Record => {}
+                Found::End => return Filled::Ended,
+                Found::Failed => return broken_by(self.records.take_error()),
+            }
+            self.settle_width();
+            if !self.is_whole() {
+                return Filled::Broken(self.misshapen());
+            }
+            if self.add_row().is_err() {
+                return broken_by(ReadError::OutOfMemory);
+            }
+            if self.is_full(begin) {
+                return Filled::Full;
+            }
+        }
+        Filled::Full
+    }
+}

@@ -1,0 +1,54 @@
+//! Truth values as other programs spell them.
+ghost use Rattle.std.specs.Prelude.{◌≡◌};
+ghost use Rattle.rowfn_csv.specs.Truths.{says_true, says_false, truth_spelled, respelled};
+
+use crate::raw::is_text;
+
+/// Where a column stands in a record, and whether its truth values are read in any spelling.
+#[derive(Clone, Copy)]
+pub struct Spelled {
+    pub place: usize,
+    pub is_truth: bool,
+}
+
+fn says_true(field: &[u8]) -> bool
+    ensures { result ≡ says_true field.now }
+{
+    is_text(field, b"t")
+        || is_text(field, b"True")
+        || is_text(field, b"TRUE")
+        || is_text(field, b"1")
+}
+
+fn says_false(field: &[u8]) -> bool
+    ensures { result ≡ says_false field.now }
+{
+    is_text(field, b"f")
+        || is_text(field, b"False")
+        || is_text(field, b"FALSE")
+        || is_text(field, b"0")
+}
+
+/// A field that says a truth value in another spelling, as `true` or `false`; any other as it stands.
+pub fn truth_spelled(field: &[u8]) -> &[u8]
+    ensures { result.now ≡ truth_spelled field.now }
+{
+    if says_true(field) {
+        b"true"
+    } else if says_false(field) {
+        b"false"
+    } else {
+        field
+    }
+}
+
+/// The field of a column whose truth values are read in any spelling, or as it stands.
+pub fn respelled(field: &[u8], is_truth: bool) -> &[u8]
+    ensures { result.now ≡ respelled is_truth field.now }
+{
+    if is_truth {
+        truth_spelled(field)
+    } else {
+        field
+    }
+}
