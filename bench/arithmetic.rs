@@ -16,13 +16,17 @@ pub struct Inverse<T> {
 
 /// An integer type, with its operators in the forms that a loop is made vector code of, or not. A truth value beside an
 /// answer says that the type does not hold it.
-pub trait Number: Lanes + Default {
+pub trait Number: Lanes + Default + std::ops::BitOrAssign {
     fn sum(self, other: Self) -> (Self, bool);
-    fn sum_by_signs(self, other: Self) -> (Self, bool);
+    /// The sum, and bits of which the first is set where the type does not hold it.
+    fn sum_by_signs(self, other: Self) -> (Self, Self);
     fn sum_by_saturation(self, other: Self) -> (Self, bool);
     fn checked_sum(self, other: Self) -> Option<Self>;
     fn product(self, other: Self) -> (Self, bool);
     fn product_by_width(self, other: Self) -> (Self, bool);
+    /// The product, and bits of which some are set where the type does not hold it.
+    fn product_by_halves(self, other: Self) -> (Self, Self);
+    fn has_first_bit(self) -> bool;
     fn checked_product(self, other: Self) -> Option<Self>;
     fn quotient(self, other: Self) -> (Self, bool);
     fn checked_quotient(self, other: Self) -> Option<Self>;
@@ -58,6 +62,10 @@ macro_rules! common {
         fn product_by_width(self, other: $t) -> ($t, bool) {
             let product = self as $wide * other as $wide;
             (product as $t, product != product as $t as $wide)
+        }
+        #[inline(always)]
+        fn has_first_bit(self) -> bool {
+            self >> ($t::BITS - 1) != 0
         }
         #[inline(always)]
         fn checked_product(self, other: $t) -> Option<$t> {
@@ -98,9 +106,14 @@ macro_rules! signed {
                 (sum, (other < 0) != (sum < self))
             }
             #[inline(always)]
-            fn sum_by_signs(self, other: $t) -> ($t, bool) {
+            fn sum_by_signs(self, other: $t) -> ($t, $t) {
                 let sum = self.wrapping_add(other);
-                (sum, (self ^ sum) & (other ^ sum) < 0)
+                (sum, (self ^ sum) & (other ^ sum))
+            }
+            #[inline(always)]
+            fn product_by_halves(self, other: $t) -> ($t, $t) {
+                let product = self as $wide * other as $wide;
+                (product as $t, (product >> $t::BITS) as $t ^ (product as $t >> ($t::BITS - 1)))
             }
             #[inline(always)]
             fn quotient_by_float(self, other: $t) -> ($t, bool) {
@@ -132,9 +145,14 @@ macro_rules! unsigned {
                 (sum, sum < self)
             }
             #[inline(always)]
-            fn sum_by_signs(self, other: $t) -> ($t, bool) {
+            fn sum_by_signs(self, other: $t) -> ($t, $t) {
                 let sum = self.wrapping_add(other);
-                (sum, (self & other | (self | other) & !sum) >> ($t::BITS - 1) != 0)
+                (sum, self & other | (self | other) & !sum)
+            }
+            #[inline(always)]
+            fn product_by_halves(self, other: $t) -> ($t, $t) {
+                let product = self as $wide * other as $wide;
+                (product as $t, (product >> $t::BITS) as $t)
             }
             #[inline(always)]
             fn quotient_by_float(self, other: $t) -> ($t, bool) {
@@ -197,6 +215,25 @@ pub fn joined<T: Copy>(pair: &Pair<T>, apply: impl Fn(T, T) -> (T, bool)) -> Ans
         })
         .collect();
     unless_fault(pair, values, fault, |x, y| apply(x, y).1)
+}
+
+/// The bits joined over all rows.
+#[inline(always)]
+pub fn joined_bits<T: Number>(
+    pair: &Pair<T>,
+    apply: impl Fn(T, T) -> (T, T),
+    tells: impl Fn(T) -> bool,
+) -> Answered<T> {
+    let mut bits = T::default();
+    let pairs = pair.0.values.iter().zip(&pair.1.values);
+    let values = pairs
+        .map(|(x, y)| {
+            let (value, told) = apply(*x, *y);
+            bits |= told;
+            value
+        })
+        .collect();
+    unless_fault(pair, values, tells(bits), |x, y| tells(apply(x, y).1))
 }
 
 /// A loop that ends at the first row that faults; then all rows once more, as the fault may lie under a null.

@@ -81,13 +81,14 @@ fn arithmetic_cases<T: Number + Exported + Low>(
     vec![
         case(&format!("{name} + {name}"), &terms, |pair| T::call(pair, None, project::ADD), vec![
             form("sums compared", &terms, |pair| joined(pair, T::sum)),
-            form("signs joined", &terms, |pair| joined(pair, T::sum_by_signs)),
+            form("signs joined", &terms, |pair| joined_bits(pair, T::sum_by_signs, T::has_first_bit)),
             form("beside the saturated sum", &terms, |pair| joined(pair, T::sum_by_saturation)),
             form("checked_add, ends at a fault", &terms, |pair| ending(pair, T::checked_sum)),
         ]),
         case(&format!("{name} * {name}"), &factors, |pair| T::call(pair, None, project::MUL), vec![
             form("overflowing_mul, joined", &factors, |pair| joined(pair, T::product)),
             form("in twice the bits", &factors, |pair| joined(pair, T::product_by_width)),
+            form("upper halves joined", &factors, |pair| joined_bits(pair, T::product_by_halves, |x| x != T::default())),
             form("checked_mul, ends at a fault", &factors, |pair| ending(pair, T::checked_product)),
         ]),
     ]
