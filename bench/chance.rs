@@ -3,10 +3,11 @@
 use crate::columns::{Bits, Bools, Rows, Texts};
 use crate::nested::{Lists, Records};
 
+/// So many rows, of which so many of a hundred are null.
 #[derive(Clone, Copy)]
 pub struct Shape {
     pub rows: usize,
-    pub nulls: bool,
+    pub nulls: u64,
 }
 
 /// Texts of mixed lengths: two begin with x, two end in oxide, three have nitr, and one is i%o_i.
@@ -62,9 +63,9 @@ impl Chance {
         Bits { words, offset, len }
     }
 
-    /// Nine rows of ten are not null, where any can be null.
+    /// Which rows are not null, where any can be null.
     fn valid(&mut self, shape: &Shape, offset: usize) -> Option<Bits> {
-        shape.nulls.then(|| self.bits(offset, shape.rows, 90))
+        (shape.nulls > 0).then(|| self.bits(offset, shape.rows, 100 - shape.nulls))
     }
 
     pub fn rows<T>(&mut self, shape: &Shape, value: impl Fn(u64) -> T) -> Rows<Vec<T>> {
@@ -76,16 +77,27 @@ impl Chance {
         Rows { values: self.bits(offset, shape.rows, 50), valid: self.valid(shape, offset) }
     }
 
-    /// Records whose first integer is one of four.
-    pub fn records(&mut self, shape: &Shape) -> Records {
-        let first = (0..shape.rows).map(|_| self.below(4) as i64).collect();
+    /// So many integers, each one of four; a tenth of them null, where some can be.
+    fn few(&mut self, count: usize, has_nulls: bool) -> Rows<Vec<i64>> {
+        let values = (0..count).map(|_| self.below(4) as i64).collect();
+        Rows { values, valid: has_nulls.then(|| self.bits(0, count, 90)) }
+    }
+
+    /// Records of two integers; the first is one of four, and null in a tenth of the rows where some can be.
+    pub fn records(&mut self, shape: &Shape, has_nulls: bool) -> Records {
+        let first = self.few(shape.rows, has_nulls);
         let Rows { values: second, valid } = self.rows(shape, |x| x as i64);
         Rows { values: (first, second), valid }
     }
 
-    /// Lists of four integers, each one of four.
-    pub fn lists(&mut self, shape: &Shape) -> Lists {
-        self.rows(shape, |x| std::array::from_fn(|i| (x >> (2 * i) & 3) as i64))
+    /// Lists of four integers each, or of none to seven.
+    pub fn lists(&mut self, shape: &Shape, are_even: bool, has_nulls: bool) -> Lists {
+        let mut ends = vec![];
+        for _ in 0..shape.rows {
+            ends.push(ends.last().unwrap_or(&0) + if are_even { 4 } else { self.below(8) as usize });
+        }
+        let elements = self.few(*ends.last().unwrap_or(&0), has_nulls);
+        Rows { values: (elements, ends), valid: self.valid(shape, 0) }
     }
 
     /// A code below the count in each row.

@@ -164,12 +164,28 @@ impl Answer for Bools {
     }
 }
 
-impl<T: Copy + Into<i64>> Answer for Rows<Vec<T>> {
+/// The 64 bits that stand for an integer.
+pub trait Low: Copy {
+    fn low(self) -> u64;
+}
+
+macro_rules! low {
+    ($($t:ident)*) => {
+        $(impl Low for $t {
+            fn low(self) -> u64 {
+                self as u64
+            }
+        })*
+    };
+}
+
+low!(i8 i16 i32 i64 u8 u16 u32 u64);
+
+impl<T: Low> Answer for Rows<Vec<T>> {
     fn sum(&self) -> u64 {
         self.values.iter().enumerate().fold(0, |sum, (i, value)| {
             let valid = self.valid.as_ref().map_or(1, |valid| u64::from(valid.bit(i)));
-            let value: i64 = (*value).into();
-            joined(sum, (value as u64).wrapping_mul(valid).wrapping_add(valid))
+            joined(sum, value.low().wrapping_mul(valid).wrapping_add(valid))
         })
     }
 }

@@ -1,11 +1,11 @@
-//! Forms over integers: comparisons, Between, arithmetic, and the tree.
+//! Forms over integers: comparisons, Between, and the tree.
 
 use crate::bits::{and_words, both_valid, by_word, by_words, filled};
 use crate::columns::{Bits, Bools, Ints, Rows};
+use crate::lanes::Lanes;
 use crate::vectors::*;
-use std::arch::x86_64::*;
 
-type Pair<T> = (Rows<Vec<T>>, Rows<Vec<T>>);
+pub type Pair<T> = (Rows<Vec<T>>, Rows<Vec<T>>);
 
 // ---- comparisons
 
@@ -27,65 +27,38 @@ pub fn less_one<T: Ord>(pair: &Pair<T>, constant: T) -> Bools {
     compared_one(pair, |l| tested(l, |x| *x < constant))
 }
 
-pub fn less_u8(pair: &Pair<u8>) -> Bools {
-    let word = |l: &[u8; 64], r: &[u8; 64]| less_bytes_word(|i| sixteen(l, i), |i| sixteen(r, i));
+pub fn less_narrowed<T: Lanes>(pair: &Pair<T>) -> Bools {
+    let word = |l: &[T; 64], r: &[T; 64]| T::narrowed(|i| T::greater(T::load(r, i), T::load(l, i)));
     compared(pair, |l, r| worded_pairs(l, r, word, |x, y| x < y))
 }
 
-pub fn less_one_u8(pair: &Pair<u8>, constant: u8) -> Bools {
-    let right = sixteens(constant);
-    let word = |l: &[u8; 64]| less_bytes_word(|i| sixteen(l, i), |_| right);
+pub fn less_masked<T: Lanes>(pair: &Pair<T>) -> Bools {
+    let word = |l: &[T; 64], r: &[T; 64]| T::masked(|i| T::greater(T::load(r, i), T::load(l, i)));
+    compared(pair, |l, r| worded_pairs(l, r, word, |x, y| x < y))
+}
+
+pub fn less_one_narrowed<T: Lanes>(pair: &Pair<T>, constant: T) -> Bools {
+    let right = T::splat(constant);
+    let word = |l: &[T; 64]| T::narrowed(|i| T::greater(right, T::load(l, i)));
     compared_one(pair, |l| worded(l, word, |x| *x < constant))
 }
 
-pub fn less_i32_narrowed(pair: &Pair<i32>) -> Bools {
-    let word = |l: &[i32; 64], r: &[i32; 64]| narrowed_word(|i| greater_four(four(r, i), four(l, i)));
-    compared(pair, |l, r| worded_pairs(l, r, word, |x, y| x < y))
-}
-
-pub fn less_i32_masked(pair: &Pair<i32>) -> Bools {
-    let word = |l: &[i32; 64], r: &[i32; 64]| masked_word(|i| greater_four(four(r, i), four(l, i)));
-    compared(pair, |l, r| worded_pairs(l, r, word, |x, y| x < y))
-}
-
-pub fn less_one_i32_narrowed(pair: &Pair<i32>, constant: i32) -> Bools {
-    let right = fours(constant);
-    let word = |l: &[i32; 64]| narrowed_word(|i| greater_four(right, four(l, i)));
+pub fn less_one_masked<T: Lanes>(pair: &Pair<T>, constant: T) -> Bools {
+    let right = T::splat(constant);
+    let word = |l: &[T; 64]| T::masked(|i| T::greater(right, T::load(l, i)));
     compared_one(pair, |l| worded(l, word, |x| *x < constant))
 }
 
-pub fn less_one_i32_masked(pair: &Pair<i32>, constant: i32) -> Bools {
-    let right = fours(constant);
-    let word = |l: &[i32; 64]| masked_word(|i| greater_four(right, four(l, i)));
-    compared_one(pair, |l| worded(l, word, |x| *x < constant))
-}
-
-/// Which of rows `4 * i` to `4 * i + 3` are below those beside them.
-#[inline(always)]
-fn less_twos(left: &[i64; 64], right: impl Fn(usize) -> __m128i, i: usize) -> __m128i {
-    let mask = |i| greater_two(right(i), two(left, i));
-    halved(mask(2 * i), mask(2 * i + 1))
-}
-
-pub fn less_i64_narrowed(pair: &Pair<i64>) -> Bools {
-    let word = |l: &[i64; 64], r: &[i64; 64]| narrowed_word(|i| less_twos(l, |i| two(r, i), i));
+#[cfg(target_feature = "avx2")]
+pub fn less_wide<T: Lanes>(pair: &Pair<T>) -> Bools {
+    let word = |l: &[T; 64], r: &[T; 64]| T::word_wide(|i| T::greater_wide(T::load_wide(r, i), T::load_wide(l, i)));
     compared(pair, |l, r| worded_pairs(l, r, word, |x, y| x < y))
 }
 
-pub fn less_i64_masked(pair: &Pair<i64>) -> Bools {
-    let word = |l: &[i64; 64], r: &[i64; 64]| masked_word_of_twos(|i| greater_two(two(r, i), two(l, i)));
-    compared(pair, |l, r| worded_pairs(l, r, word, |x, y| x < y))
-}
-
-pub fn less_one_i64_narrowed(pair: &Pair<i64>, constant: i64) -> Bools {
-    let right = twos(constant);
-    let word = |l: &[i64; 64]| narrowed_word(|i| less_twos(l, |_| right, i));
-    compared_one(pair, |l| worded(l, word, |x| *x < constant))
-}
-
-pub fn less_one_i64_masked(pair: &Pair<i64>, constant: i64) -> Bools {
-    let right = twos(constant);
-    let word = |l: &[i64; 64]| masked_word_of_twos(|i| greater_two(right, two(l, i)));
+#[cfg(target_feature = "avx2")]
+pub fn less_one_wide<T: Lanes>(pair: &Pair<T>, constant: T) -> Bools {
+    let right = T::splat_wide(constant);
+    let word = |l: &[T; 64]| T::word_wide(|i| T::greater_wide(right, T::load_wide(l, i)));
     compared_one(pair, |l| worded(l, word, |x| *x < constant))
 }
 
@@ -163,6 +136,14 @@ pub fn between_by_vectors(sides: &Bounded) -> Bools {
     })
 }
 
+#[cfg(target_feature = "avx2")]
+pub fn between_by_wide_vectors(sides: &Bounded) -> Bools {
+    between_in_one_pass(sides, |[x, low, high]| {
+        let mask = |l, r| i32::word_wide(|i| i32::greater_wide(i32::load_wide(l, i), i32::load_wide(r, i)));
+        [mask(low, x), mask(x, high)]
+    })
+}
+
 /// Without nulls, what falls outside is joined before it is narrowed.
 pub fn between_by_joined_vectors(sides: &Bounded) -> Bools {
     if sides.0.valid.is_some() {
@@ -209,120 +190,23 @@ pub fn between_constants_by_vectors(sides: &Bounded) -> Bools {
     tested_ints(&sides.0, word, |x| (low <= *x) & (*x <= high))
 }
 
+#[cfg(target_feature = "avx2")]
+pub fn between_constants_by_wide_vectors(sides: &Bounded) -> Bools {
+    let (low, high) = bounds(sides);
+    let (lows, highs) = (i32::splat_wide(low), i32::splat_wide(high));
+    let word = |rows: &[i32; 64]| {
+        let mask = |i| (i32::greater_wide(lows, i32::load_wide(rows, i)), i32::greater_wide(i32::load_wide(rows, i), highs));
+        // SAFETY: AVX 2
+        !i32::word_wide(|i| unsafe { std::arch::x86_64::_mm256_or_si256(mask(i).0, mask(i).1) })
+    };
+    tested_ints(&sides.0, word, |x| (low <= *x) & (*x <= high))
+}
+
 pub fn between_constants_by_vector_spans(sides: &Bounded) -> Bools {
     let (low, high) = bounds(sides);
     let (lows, spans) = (fours(low), fours(high.wrapping_sub(low)));
     let word = |rows: &[i32; 64]| narrowed_word(|i| within_four(four(rows, i), lows, spans));
     tested_ints(&sides.0, word, |x| (low <= *x) & (*x <= high))
-}
-
-// ---- arithmetic
-
-/// The answer, unless a row that is not null faults; where no row does, none is looked at again.
-fn unless_fault<T: Copy>(
-    (left, right): &Pair<T>,
-    values: Vec<T>,
-    may_fault: bool,
-    faults: impl Fn(T, T) -> bool,
-) -> Rows<Vec<T>> {
-    let valid = both_valid(&left.valid, &right.valid);
-    if may_fault {
-        let mut pairs = left.values.iter().zip(&right.values).enumerate();
-        let is_valid = |i| valid.as_ref().is_none_or(|valid| valid.bit(i));
-        assert!(!pairs.any(|(i, (x, y))| is_valid(i) && faults(*x, *y)), "a fault");
-    }
-    Rows { values, valid }
-}
-
-/// Faults joined over all rows.
-#[inline(always)]
-pub fn joined<T: Copy>(pair: &Pair<T>, apply: impl Fn(T, T) -> (T, bool)) -> Rows<Vec<T>> {
-    let mut fault = false;
-    let pairs = pair.0.values.iter().zip(&pair.1.values);
-    let values = pairs
-        .map(|(x, y)| {
-            let (value, overflows) = apply(*x, *y);
-            fault |= overflows;
-            value
-        })
-        .collect();
-    unless_fault(pair, values, fault, |x, y| apply(x, y).1)
-}
-
-/// A loop that ends at the first row that faults; then all rows once more, as the fault may lie under a null.
-#[inline(always)]
-pub fn ending<T: Copy + Default>(pair: &Pair<T>, apply: impl Fn(T, T) -> Option<T>) -> Rows<Vec<T>> {
-    let len = pair.0.values.len();
-    let mut values = Vec::with_capacity(len);
-    let room = &mut values.spare_capacity_mut()[..len];
-    let mut rows = room.iter_mut().zip(pair.0.values.iter().zip(&pair.1.values));
-    let faults = rows.any(|(room, (x, y))| apply(*x, *y).map(|value| room.write(value)).is_none());
-    if faults {
-        return joined(pair, |x, y| apply(x, y).map_or((T::default(), true), |value| (value, false)));
-    }
-    // SAFETY: no row ended the loop, so each was written
-    unsafe { values.set_len(len) };
-    unless_fault(pair, values, false, |_, _| false)
-}
-
-/// The sum, and whether it passes the type, told without the flag for which loops are not made into vector code.
-pub fn add(left: i32, right: i32) -> (i32, bool) {
-    let sum = left.wrapping_add(right);
-    (sum, (right < 0) != (sum < left))
-}
-
-/// The same; a sum overflows where its sign differs from both signs.
-pub fn add_by_signs(pair: &Pair<i32>) -> Ints {
-    let mut signs = 0;
-    let pairs = pair.0.values.iter().zip(&pair.1.values);
-    let values = pairs
-        .map(|(x, y)| {
-            let sum = x.wrapping_add(*y);
-            signs |= (x ^ sum) & (y ^ sum);
-            sum
-        })
-        .collect();
-    unless_fault(pair, values, signs < 0, |x, y| x.overflowing_add(y).1)
-}
-
-pub fn divide(left: i32, right: i32) -> (i32, bool) {
-    left.checked_div(right).map_or((0, true), |value| (value, false))
-}
-
-/// Four quotients by way of `f64`, which holds each of them closely enough; one that is not an `i32` answers the least.
-#[inline(always)]
-fn four_quotients(left: __m128i, right: __m128i) -> __m128i {
-    // SAFETY: SSE 2
-    unsafe {
-        let quotients = |l, r| _mm_cvttpd_epi32(_mm_div_pd(_mm_cvtepi32_pd(l), _mm_cvtepi32_pd(r)));
-        let low = quotients(left, right);
-        let high = quotients(_mm_srli_si128::<8>(left), _mm_srli_si128::<8>(right));
-        _mm_unpacklo_epi64(low, high)
-    }
-}
-
-pub fn divide_by_doubles(pair: &Pair<i32>) -> Ints {
-    let (left, right) = (&pair.0.values, &pair.1.values);
-    let len = left.len();
-    let mut values: Vec<i32> = Vec::with_capacity(len);
-    let least = fours(i32::MIN);
-    let mut seen = fours(0);
-    let (lefts, rest) = left.as_chunks::<4>();
-    let (rights, others) = right.as_chunks::<4>();
-    for (i, (l, r)) in lefts.iter().zip(rights).enumerate() {
-        // SAFETY: four rows are read of each list, and written to room for them
-        unsafe {
-            let value = four_quotients(_mm_loadu_si128(l.as_ptr().cast()), _mm_loadu_si128(r.as_ptr().cast()));
-            seen = _mm_or_si128(seen, _mm_cmpeq_epi32(value, least));
-            _mm_storeu_si128(values.as_mut_ptr().add(4 * i).cast(), value);
-        }
-    }
-    // SAFETY: so many were written
-    unsafe { values.set_len(len - rest.len()) };
-    values.extend(rest.iter().zip(others).map(|(x, y)| x.checked_div(*y).unwrap_or(0)));
-    // SAFETY: SSE 2
-    let may_fault = unsafe { _mm_movemask_epi8(seen) } != 0 || others.iter().any(|y| matches!(y, 0 | -1));
-    unless_fault(pair, values, may_fault, |x, y| x.checked_div(y).is_none())
 }
 
 // ---- (a < 10 and b > 5) or not c
@@ -403,4 +287,11 @@ pub fn tree_in_one_pass_by_products(sides: &Sides) -> Bools {
 
 pub fn tree_in_one_pass_by_vectors(sides: &Sides) -> Bools {
     tree_in_one_pass(sides, below_ten, above_five)
+}
+
+#[cfg(target_feature = "avx2")]
+pub fn tree_in_one_pass_by_wide_vectors(sides: &Sides) -> Bools {
+    let below = |rows: &[i32; 64]| i32::word_wide(|i| i32::greater_wide(i32::splat_wide(10), i32::load_wide(rows, i)));
+    let above = |rows: &[i32; 64]| i32::word_wide(|i| i32::greater_wide(i32::load_wide(rows, i), i32::splat_wide(5)));
+    tree_in_one_pass(sides, below, above)
 }

@@ -13,6 +13,12 @@ pub const EQUAL: u32 = 3;
 pub const ADD: u32 = 4;
 pub const MUL: u32 = 5;
 pub const DIV: u32 = 6;
+pub const OR: u32 = 7;
+
+/// What stands on the right of a call of bools, as there.
+pub const COLUMN: u32 = 0;
+pub const TRUE: u32 = 1;
+pub const FALSE: u32 = 2;
 
 macro_rules! integers {
     ($name:ident, $t:ty) => {
@@ -29,11 +35,16 @@ unsafe extern "C" {
     fn bench_bools(
         left: *const u8, left_len: usize, left_valid: *const u8, left_valid_len: usize, left_offset: usize,
         right: *const u8, right_len: usize, right_valid: *const u8, right_valid_len: usize, right_offset: usize,
-        rows: usize, is_constant: bool, call: u32,
+        rows: usize, constant: u32, call: u32,
     ) -> u64;
-    integers!(bench_u8, u8);
+    integers!(bench_i8, i8);
+    integers!(bench_i16, i16);
     integers!(bench_i32, i32);
     integers!(bench_i64, i64);
+    integers!(bench_u8, u8);
+    integers!(bench_u16, u16);
+    integers!(bench_u32, u32);
+    integers!(bench_u64, u64);
     fn bench_texts(
         left: *const u8, left_len: usize, left_lengths: *const usize, left_lengths_len: usize,
         left_valid: *const u8, left_valid_len: usize,
@@ -60,14 +71,16 @@ unsafe extern "C" {
         input: *const i32, input_len: usize, input_valid: *const u8, input_valid_len: usize, is_negated: bool,
     ) -> u64;
     fn bench_records(
-        left_first: *const i64, left_first_len: usize, left_second: *const i64, left_second_len: usize,
-        left_valid: *const u8, left_valid_len: usize,
-        right_first: *const i64, right_first_len: usize, right_second: *const i64, right_second_len: usize,
-        right_valid: *const u8, right_valid_len: usize,
+        left_first: *const i64, left_first_len: usize, left_first_valid: *const u8, left_first_valid_len: usize,
+        left_second: *const i64, left_second_len: usize, left_valid: *const u8, left_valid_len: usize,
+        right_first: *const i64, right_first_len: usize, right_first_valid: *const u8, right_first_valid_len: usize,
+        right_second: *const i64, right_second_len: usize, right_valid: *const u8, right_valid_len: usize,
     ) -> u64;
     fn bench_lists(
-        left: *const i64, left_len: usize, left_valid: *const u8, left_valid_len: usize,
-        right: *const i64, right_len: usize, right_valid: *const u8, right_valid_len: usize,
+        left: *const i64, left_len: usize, left_inside: *const u8, left_inside_len: usize,
+        left_ends: *const usize, left_ends_len: usize, left_valid: *const u8, left_valid_len: usize,
+        right: *const i64, right_len: usize, right_inside: *const u8, right_inside_len: usize,
+        right_ends: *const usize, right_ends_len: usize, right_valid: *const u8, right_valid_len: usize,
     ) -> u64;
     fn bench_dictionary_ints(
         values: *const i64, values_len: usize, valid: *const u8, valid_len: usize,
@@ -94,36 +107,50 @@ pub fn deep(calls: usize) -> u64 {
     unsafe { bench_deep(calls) }
 }
 
-pub fn bools((l, r): &(Bools, Bools), call: u32, is_constant: bool) -> u64 {
+/// A call of bools beside a column or a constant.
+pub fn bools((l, r): &(Bools, Bools), call: u32, constant: u32) -> u64 {
     let (lv, rv) = (bytes_of(&l.valid), bytes_of(&r.valid));
     let (lb, rb) = (l.values.bytes(), r.values.bytes());
     unsafe {
         bench_bools(
             lb.as_ptr(), lb.len(), lv.as_ptr(), lv.len(), l.values.offset,
             rb.as_ptr(), rb.len(), rv.as_ptr(), rv.len(), r.values.offset,
-            l.values.len, is_constant, call,
+            l.values.len, constant, call,
         )
     }
 }
 
-macro_rules! integer_calls {
-    ($name:ident, $t:ty, $export:ident) => {
-        pub fn $name((l, r): &(Rows<Vec<$t>>, Rows<Vec<$t>>), constant: Option<$t>, call: u32) -> u64 {
-            let (lv, rv) = (bytes_of(&l.valid), bytes_of(&r.valid));
-            unsafe {
-                $export(
-                    l.values.as_ptr(), l.values.len(), lv.as_ptr(), lv.len(),
-                    r.values.as_ptr(), r.values.len(), rv.as_ptr(), rv.len(),
-                    constant.is_some(), constant.unwrap_or_default(), call,
-                )
+/// A type of integers with its export.
+pub trait Exported: Sized {
+    /// A call of two columns, or of one and a constant.
+    fn call(pair: &(Rows<Vec<Self>>, Rows<Vec<Self>>), constant: Option<Self>, call: u32) -> u64;
+}
+
+macro_rules! exported {
+    ($t:ident, $export:ident) => {
+        impl Exported for $t {
+            fn call((l, r): &(Rows<Vec<$t>>, Rows<Vec<$t>>), constant: Option<$t>, call: u32) -> u64 {
+                let (lv, rv) = (bytes_of(&l.valid), bytes_of(&r.valid));
+                unsafe {
+                    $export(
+                        l.values.as_ptr(), l.values.len(), lv.as_ptr(), lv.len(),
+                        r.values.as_ptr(), r.values.len(), rv.as_ptr(), rv.len(),
+                        constant.is_some(), constant.unwrap_or_default(), call,
+                    )
+                }
             }
         }
     };
 }
 
-integer_calls!(u8s, u8, bench_u8);
-integer_calls!(i32s, i32, bench_i32);
-integer_calls!(i64s, i64, bench_i64);
+exported!(i8, bench_i8);
+exported!(i16, bench_i16);
+exported!(i32, bench_i32);
+exported!(i64, bench_i64);
+exported!(u8, bench_u8);
+exported!(u16, bench_u16);
+exported!(u32, bench_u32);
+exported!(u64, bench_u64);
 
 fn lengths_of(texts: &Texts) -> Vec<usize> {
     texts.values.iter().map(String::len).collect()
@@ -188,22 +215,24 @@ pub fn null_tests(input: &Ints, is_negated: bool) -> u64 {
 pub fn records((l, r): &(Records, Records)) -> u64 {
     let (lv, rv) = (bytes_of(&l.valid), bytes_of(&r.valid));
     let ((la, lb), (ra, rb)) = (&l.values, &r.values);
+    let (li, ri) = (bytes_of(&la.valid), bytes_of(&ra.valid));
     unsafe {
         bench_records(
-            la.as_ptr(), la.len(), lb.as_ptr(), lb.len(), lv.as_ptr(), lv.len(),
-            ra.as_ptr(), ra.len(), rb.as_ptr(), rb.len(), rv.as_ptr(), rv.len(),
+            la.values.as_ptr(), la.values.len(), li.as_ptr(), li.len(), lb.as_ptr(), lb.len(), lv.as_ptr(), lv.len(),
+            ra.values.as_ptr(), ra.values.len(), ri.as_ptr(), ri.len(), rb.as_ptr(), rb.len(), rv.as_ptr(), rv.len(),
         )
     }
 }
 
-/// `<` of lists of four integers.
+/// `<` of lists of integers.
 pub fn lists((l, r): &(Lists, Lists)) -> u64 {
     let (lv, rv) = (bytes_of(&l.valid), bytes_of(&r.valid));
-    let (left, right) = (l.values.as_flattened(), r.values.as_flattened());
+    let ((le, ln), (re, rn)) = (&l.values, &r.values);
+    let (li, ri) = (bytes_of(&le.valid), bytes_of(&re.valid));
     unsafe {
         bench_lists(
-            left.as_ptr(), left.len(), lv.as_ptr(), lv.len(),
-            right.as_ptr(), right.len(), rv.as_ptr(), rv.len(),
+            le.values.as_ptr(), le.values.len(), li.as_ptr(), li.len(), ln.as_ptr(), ln.len(), lv.as_ptr(), lv.len(),
+            re.values.as_ptr(), re.values.len(), ri.as_ptr(), ri.len(), rn.as_ptr(), rn.len(), rv.as_ptr(), rv.len(),
         )
     }
 }

@@ -174,11 +174,30 @@ impl Turns {
     }
 }
 
+thread_local! {
+    static COUNTED: Cell<Option<usize>> = const { Cell::new(None) };
+}
+
+/// So many calls of one side, for a tool that counts their instructions.
+pub fn counted(case: Case, form: Option<usize>, calls: usize) {
+    match form {
+        Some(at) => (case.forms[at].calls)(calls),
+        None => {
+            COUNTED.set(Some(calls));
+            (case.ours)();
+        }
+    }
+}
+
 /// The project's side asks between its calls how many to make next; none ends it. So its columns are made once, and no clock
 /// runs while they are made.
 #[unsafe(no_mangle)]
 extern "C" fn bench_next() -> usize {
     let now = thread_time();
+    if let Some(calls) = COUNTED.get() {
+        COUNTED.set(Some(0));
+        return calls;
+    }
     if let Some(before) = BEFORE.take() {
         HELD.set(Some(bytes_in_use().saturating_sub(before)));
     }
@@ -195,6 +214,9 @@ extern "C" fn bench_next() -> usize {
 pub struct Seen {
     pub held: Option<usize>,
     pub ratio: Quartiles,
+    /// The median seconds of a call of the project, and of the best form.
+    pub ours: f64,
+    pub rust: f64,
     pub best: &'static str,
     pub forms: Vec<(&'static str, f64)>,
 }
@@ -220,7 +242,9 @@ fn seen(turns: Turns) -> Seen {
     }
     // the last turns of both sides are pairs: where a side began anew with more calls, its earlier ones are gone
     let pairs = turns.ours.times.iter().rev().zip(turns.rust[at].times.iter().rev());
-    Seen { held: HELD.take(), ratio: Quartiles::of(pairs.map(|(ours, rust)| ours / rust)), best, forms }
+    let ratio = Quartiles::of(pairs.map(|(ours, rust)| ours / rust));
+    let ours = Quartiles::of(turns.ours.times.iter().copied()).median;
+    Seen { held: HELD.take(), ratio, ours, rust: least, best, forms }
 }
 
 /// The forms alone: the time of each over that of the best.
