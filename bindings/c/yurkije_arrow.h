@@ -134,8 +134,8 @@ uint32_t yk_arrow_select(struct yk_expression *expression, size_t answer,
                          uint64_t *numbers, size_t *selected, struct yk_error *error);
 
 /* The stream of a text's answers over the batches of a stream, which is taken whether or not the call
- * is refused. It is used by one thread at a time, as a handle is. Rows are told by their number in the
- * whole stream. */
+ * is refused. It holds no handle, since each of its calls reads the text anew: one call is made at a
+ * time, on any thread. Rows are told by their number in the whole stream. */
 uint32_t yk_arrow_stream(const char *text, size_t length, struct ArrowArrayStream *in,
                          struct ArrowArrayStream *out, struct yk_error *error);
 

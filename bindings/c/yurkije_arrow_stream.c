@@ -118,24 +118,23 @@ uint32_t yk_arrow_run(struct yk_expression *expression, const struct ArrowSchema
     return status;
 }
 
-/* What stands behind a stream that comes out. */
+/* What stands behind a stream that comes out. No handle does: each call reads the text anew, so that each may be made by another thread. */
 struct running {
     struct ArrowArrayStream in;
     struct ArrowSchema schema;
-    struct yk_expression expression;
-    struct places places;
+    char *text;
+    size_t length;
     size_t rows; /* of the batches before */
     struct yk_error error;
     char message[512];
 };
 
 static void free_running(struct running *running) {
-    free_places(&running->places);
-    yk_expression_free(&running->expression);
     if (running->schema.release)
         running->schema.release(&running->schema);
     if (running->in.release)
         running->in.release(&running->in);
+    free(running->text);
     free(running);
 }
 
@@ -170,9 +169,25 @@ static uint32_t refuse_stream(struct ArrowArrayStream *in, int code, struct yk_e
     return yk_refuse(error, YK_STREAM_FAILED, YK_NONE, "the stream that came in: %.300s", words ? words : strerror(code));
 }
 
+/* Reads the text, and does with the expression what is asked: its schema, or its answers over a batch. */
+static uint32_t with_expression(struct running *running, struct ArrowSchema *schema, const struct ArrowArray *batch, struct ArrowArray *out) {
+    struct yk_expression expression = {0};
+    struct places places = {0};
+    uint32_t status = yk_arrow_expression_new(running->text, running->length, &running->schema, &expression, &running->error);
+    if (!status && schema)
+        status = yk_arrow_schema(&expression, schema, &running->error);
+    if (!status && batch)
+        status = find_places(&expression, &running->schema, &places, &running->error);
+    if (!status && batch)
+        status = run_places(&expression, &places, &running->schema, batch, running->rows, out, &running->error);
+    free_places(&places);
+    yk_expression_free(&expression);
+    return status;
+}
+
 static int stream_schema(struct ArrowArrayStream *stream, struct ArrowSchema *out) {
-    struct running *running = stream->private_data;
-    return errno_of(yk_arrow_schema(&running->expression, out, &running->error));
+    out->release = NULL;
+    return errno_of(with_expression(stream->private_data, out, NULL, NULL));
 }
 
 static int stream_next(struct ArrowArrayStream *stream, struct ArrowArray *out) {
@@ -186,21 +201,26 @@ static int stream_next(struct ArrowArrayStream *stream, struct ArrowArray *out) 
         return 0;
     uint32_t status = yk_check_batch(&running->schema, &batch, &running->error);
     if (!status)
-        status = run_places(&running->expression, &running->places, &running->schema, &batch, running->rows, out, &running->error);
+        status = with_expression(running, NULL, &batch, out);
     running->rows += (size_t)batch.length;
     batch.release(&batch);
     return errno_of(status);
 }
 
-/* Reads the schema and the expression of a stream that was taken. */
+/* Takes the schema and the text of a stream that was taken, and reads them once. */
 static uint32_t start(struct running *running, const char *text, size_t length, struct yk_error *error) {
     int code = running->in.get_schema(&running->in, &running->schema);
     if (code) {
         running->schema.release = NULL;
         return refuse_stream(&running->in, code, error);
     }
-    uint32_t status = yk_arrow_expression_new(text, length, &running->schema, &running->expression, error);
-    return status ? status : find_places(&running->expression, &running->schema, &running->places, error);
+    struct yk_expression expression = {0};
+    uint32_t status = yk_arrow_expression_new(text, length, &running->schema, &expression, error);
+    yk_expression_free(&expression);
+    running->text = status ? NULL : malloc(length + 1);
+    if (running->text)
+        memcpy(running->text, text, length);
+    return status || running->text ? status : yk_refuse_memory(error);
 }
 
 uint32_t yk_arrow_stream(const char *text, size_t length, struct ArrowArrayStream *in, struct ArrowArrayStream *out,
@@ -211,7 +231,7 @@ uint32_t yk_arrow_stream(const char *text, size_t length, struct ArrowArrayStrea
         in->release(in);
         return yk_refuse_memory(error);
     }
-    *running = (struct running){.in = *in};
+    *running = (struct running){.in = *in, .length = length};
     running->error.message = (struct yk_text_room){running->message, sizeof running->message};
     in->release = NULL;
     uint32_t status = start(running, text, length, error);

@@ -40,8 +40,8 @@ class Held:
         if not size:
             return np.zeros(0, np.uint8)
         memory = (c.c_uint8 * size).from_address(at)
-        memory._held = self
-        return np.frombuffer(memory, np.uint8)
+        setattr(memory, "held", self)
+        return np.frombuffer(memoryview(memory), np.uint8)
 
 
 def _texts(offsets: Any, data: bytes, is_text: bool, nulls: Any) -> Any:

@@ -3,7 +3,7 @@ from __future__ import annotations
 
 import ctypes as c
 from collections.abc import Sequence
-from typing import Any, Optional, Union
+from typing import Any, Optional
 
 import numpy as np
 
@@ -14,6 +14,7 @@ from ._library import KINDS, LARGE, NAMES, Column, Field, Slice, lib
 UNTAKEN = 140
 # The types of whole numbers by numpy's.
 INTEGERS: dict[Any, str] = {np.dtype(f"{kind}{size}"): f"{kind}{8 * size}" for kind in "iu" for size in (1, 2, 4, 8)}
+INTEGER_TYPES: dict[str, Any] = {name: dtype for dtype, name in INTEGERS.items()}
 # The kinds that an Arrow array may come in, by type.
 LAYOUTS: dict[int, int] = {11: 10, 12: 10, 14: 13, 15: 13}
 
@@ -63,9 +64,6 @@ def _of_integers(values: Any, nulls: Optional[Any], type_name: str) -> Borrowed:
     return column
 
 
-INTEGER_TYPES: dict[str, Any] = {name: dtype for dtype, name in INTEGERS.items()}
-
-
 def _of_bytes(values: list[Optional[bytes]], type_name: str) -> Borrowed:
     """Byte strings by offsets: of 64 bits where 32 are too few."""
     nulls = np.fromiter((value is None for value in values), np.bool_, len(values)) if None in values else None
@@ -104,7 +102,7 @@ def _of_objects(name: str, values: list[Any], wanted: Optional[str]) -> Borrowed
     kind = wanted or {bool: "bool", int: "i64", str: "utf8", bytes: "binary"}.get(type(first))
     if kind is None:
         raise refuse(name, "every row is null, and no type is said" if first is None else f"{type(first).__name__} is not taken")
-    classes = {"bool": (bool, np.bool_), "utf8": str, "binary": bytes}.get(kind, (int, np.integer))
+    classes: Any = {"bool": (bool, np.bool_), "utf8": str, "binary": bytes}.get(kind, (int, np.integer))
     other = next((v for v in values if v is not None and (not isinstance(v, classes) or (type(v) is bool and kind != "bool"))), None)
     if other is not None:
         raise refuse(name, f"{other!r} is no {kind}")
@@ -215,6 +213,3 @@ def fields_of(types: Sequence[tuple[str, str]]) -> tuple[Any, list[Any]]:
         field.name.at, field.name.length = c.addressof(room), len(encoded)
         field.kind, field.nullable = KINDS[plain], type_name.endswith("?")
     return fields, keeps
-
-
-Types = Union[str, Sequence[tuple[str, str]]]

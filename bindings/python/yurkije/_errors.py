@@ -55,11 +55,11 @@ def _class_of(raw: RawError) -> type[Error]:
         return OutOfMemory
     if raw.status == 7:
         return ArithmeticRefusal
-    if raw.byte != NONE or raw.line or 110 <= raw.status < 120:
-        return ExpressionError
-    if raw.status in (2, 11, 12, 102) or raw.status >= 120:
+    if raw.status >= 120:
         return ColumnError
-    return Error
+    if raw.byte != NONE or raw.line or raw.status >= 110:
+        return ExpressionError
+    return ColumnError if raw.status in (2, 11, 12, 102) else Error
 
 
 def _known(number: int) -> Optional[int]:

@@ -19,14 +19,39 @@ from ._library import NAMES, Column, Handle, Type, lib, text_of
 TOKEN = re.compile(r"""'[^']*'|--[^\n]*|(\w+)|"((?:[^"]|"")*)\"""", re.A)
 
 
-class _Program:
-    """The handle of one thread."""
+class _Owner:
+    """What one thread still has to free: handles that it made, and that were dropped by another. Dropped where the thread ends."""
 
     def __init__(self) -> None:
-        self.raw = Handle()
+        self.left: list[Handle] = []
+
+    def free(self) -> None:
+        while self.left:
+            lib.yk_expression_free(self.left.pop())
+
+    __del__ = free
+
+
+class _Owners(threading.local):
+    def __init__(self) -> None:
+        self.owner = _Owner()
+
+
+_owners = _Owners()
+
+
+class _Program:
+    """A handle, which stays on its thread: where another drops it, it is freed by its own thread's next call."""
+
+    def __init__(self) -> None:
+        _owners.owner.free()
+        self.raw, self.left, self.thread = Handle(), _owners.owner.left, threading.get_ident()
 
     def __del__(self) -> None:
-        lib.yk_expression_free(self.raw)
+        if threading.get_ident() == self.thread:
+            lib.yk_expression_free(self.raw)
+        else:
+            self.left.append(self.raw)
 
 
 class _Programs(threading.local):
@@ -209,7 +234,7 @@ class Expression:
 
 class Stream:
     """The answers of a text over a stream of Arrow's batches: read once, either by going over it, or by another library
-    through `__arrow_c_stream__`. Rows are told by their number in the whole stream. It is used by one thread at a time."""
+    through `__arrow_c_stream__`. Rows are told by their number in the whole stream. One thread at a time goes on with it."""
 
     def __init__(self, text: str, source: Any) -> None:
         encoded, told = text.encode(), Told()

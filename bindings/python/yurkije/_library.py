@@ -191,7 +191,7 @@ def _candidates() -> list[str]:
     prefixes = [os.environ[name] for name in ("YURKIJE_PREFIX",) if name in os.environ]
     if not prefixes:
         try:
-            from ._prefix import PREFIX
+            from ._prefix import PREFIX  # type: ignore[import]
 
             prefixes = [PREFIX]
         except ImportError:
