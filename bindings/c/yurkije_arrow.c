@@ -80,9 +80,30 @@ uint32_t yk_refuse_memory(struct yk_error *error) {
     return yk_refuse(error, YK_OUT_OF_MEMORY, YK_NONE, "E9 OutOfMemory");
 }
 
+/* Where a message tells that row: at its start, or else behind the name of a column, which may say anything. */
+static char *find_row(char *words, const char *row) {
+    size_t length = strlen(row);
+    char *found = strncmp(words, row, length) == 0 ? words : NULL;
+    for (char *at = found ? NULL : strstr(words, row); at; at = strstr(at + 1, row))
+        if (at[length] == ':' || at[length] == ',')
+            found = at;
+    return found;
+}
+
 void yk_add_to_row(struct yk_error *error, size_t before) {
-    if (error->row != YK_NONE)
-        error->row += before;
+    char old[40], row[40], rest[400];
+    if (error->row == YK_NONE || before == 0)
+        return;
+    snprintf(old, sizeof old, "row %zu", error->row);
+    error->row += before;
+    snprintf(row, sizeof row, "row %zu", error->row);
+    char *at = error->message.length > 0 ? find_row(error->message.at, old) : NULL;
+    if (!at)
+        return;
+    snprintf(rest, sizeof rest, "%s", at + strlen(old));
+    size_t room = error->message.length - (size_t)(at - error->message.at);
+    snprintf(at, room, "%s%s", row, rest);
+    error->message_length = strlen(error->message.at);
 }
 
 static const char *name_of(const struct ArrowSchema *schema) { return schema->name ? schema->name : ""; }

@@ -237,6 +237,7 @@ static void long_columns(void) {
     numbers[2 * YK_ARROW_BATCH + 3] = INT64_MAX;
     SAME(yk_arrow_answer(&expression, &in, 1, rows, &out, &error), YK_ARITHMETIC);
     SAME(error.row, 2 * YK_ARROW_BATCH + 3);
+    CHECK(strstr(message, "row 16387, answer 0 (twice)") == message);
     in.i64.length = rows - 1;
     numbers[2 * YK_ARROW_BATCH + 3] = 0;
     SAME(yk_arrow_answer(&expression, &in, 1, rows, &out, &error), YK_VALUES_TOO_SHORT);
