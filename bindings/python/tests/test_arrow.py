@@ -78,7 +78,7 @@ class Layer:
 
     def __init__(self, layer):
         self.layer = layer
-        stream = layer.GetArrowStream(["MAX_FEATURES_IN_BATCH=1000"])
+        held = [layer.GetArrowStream(["MAX_FEATURES_IN_BATCH=1000"])]
         self.capsule, self.raw = capsules.new(b"arrow_array_stream")
         kinds = dict(capsules.ArrowArrayStream._fields_)
 
@@ -90,16 +90,18 @@ class Layer:
             return 0
 
         def next_batch(_, to):
-            made = stream.GetNextRecordBatch()
+            made = held[0].GetNextRecordBatch()
             if made is None:
                 to.contents.release = type(to.contents.release)()
                 return 0
             return give(made, to)
 
         def release(at):
+            # a layer has one stream at a time
+            held.clear()
             at.contents.release = type(at.contents.release)()
 
-        self.calls = [kinds["get_schema"](lambda _, to: give(stream.GetSchema(), to)), kinds["get_next"](next_batch)]
+        self.calls = [kinds["get_schema"](lambda _, to: give(held[0].GetSchema(), to)), kinds["get_next"](next_batch)]
         self.calls += [kinds["get_last_error"](lambda _: None), kinds["release"](release)]
         Layer.kept.append(self.calls)
         self.raw.get_schema, self.raw.get_next, self.raw.get_last_error, self.raw.release = self.calls

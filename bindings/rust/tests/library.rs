@@ -117,12 +117,12 @@ fn a_column_that_is_refused_tells_its_number_and_row() -> Result<(), Error> {
     let expression = Expression::new("price + 1", &goods()[..2])?;
     let (prices, stocks) = (prices(), [1i64, 2, 3]);
     let good = Column::integers(&prices);
-    let short = expression.run(&[good, Column::integers(&stocks[..2]).nullable(None)], 3).err().expect("refused");
+    let short = expression.run(&[good, Column::integers(&stocks[..2]).nullable(None)], 3).expect_err("refused");
     assert_eq!((short.number(), short.column()), (2, Some(1)));
     let null = expression.run(&[ColumnBuf::integers([Some(1i64), None, None]).column_without_null(), good.nullable(None)], 3);
-    let null = null.err().expect("refused");
+    let null = null.expect_err("refused");
     assert_eq!((null.number(), null.column(), null.row()), (124, Some(0), Some(1)));
-    let other = expression.run(&[Column::integers(&[1i32, 2, 3]), good.nullable(None)], 3).err().expect("refused");
+    let other = expression.run(&[Column::integers(&[1i32, 2, 3]), good.nullable(None)], 3).expect_err("refused");
     assert_eq!((other.number(), other.column()), (11, Some(0)));
     Ok(())
 }
@@ -132,7 +132,7 @@ fn a_fault_tells_its_first_row() -> Result<(), Error> {
     let expression = Expression::new("price + 1, price / stock as share", &goods()[..2])?;
     let prices = prices();
     let stocks = [2i64, 0, 0];
-    let error = expression.run(&[Column::integers(&prices), Column::integers(&stocks).nullable(None)], 3).err().expect("a fault");
+    let error = expression.run(&[Column::integers(&prices), Column::integers(&stocks).nullable(None)], 3).expect_err("a fault");
     match error {
         Error::Fault { status, answer, row, .. } => assert_eq!((status, answer, row), (Status::Arithmetic, Some(1), 1)),
         other => panic!("{:?}", other),
