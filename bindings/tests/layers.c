@@ -80,6 +80,8 @@ static struct answered evaluate(OGRLayerH layer, const char *condition, const ch
     struct yk_error error = new_error();
     const char *id = OGR_L_GetFIDColumn(layer);
     char text[500];
+    /* SQL over a layer may leave its filter there */
+    OGR_L_SetAttributeFilter(layer, NULL);
     CHECK(OGR_L_GetArrowStream(layer, &given, NULL));
     CHECK(given.get_schema(&given, &schema) == 0);
     for (int64_t i = 0; i < schema.n_children; i++)
@@ -108,7 +110,8 @@ static void compare(const char *kind, GDALDatasetH set, const char *dialect, con
     bool is_sqlite = strcmp(dialect, "SQLITE") == 0;
     const char *id = is_sqlite ? OGR_L_GetFIDColumn(GDALDatasetGetLayer(set, 0)) : "fid";
     const char *own = id[0] && strcmp(kind, "CSV") != 0 ? id : "rowid";
-    snprintf(sql, sizeof sql, "SELECT %s AS number, %s AS id FROM given WHERE %s", number, is_sqlite ? own : "fid", condition);
+    /* a column that is plainly the number of a row would be no field of what is found */
+    snprintf(sql, sizeof sql, is_sqlite ? "SELECT %s AS number, %s + 0 AS id FROM given WHERE %s" : "SELECT %s AS number, %s AS id FROM given WHERE %s", number, is_sqlite ? own : "fid", condition);
     OGRLayerH found = GDALDatasetExecuteSQL(set, sql, NULL, dialect);
     if (!found) {
         fprintf(stderr, "%s: %s: no answer\n", kind, sql);
@@ -147,6 +150,7 @@ static void layer(const char *kind, GDALDatasetH set) {
         return;
     }
     size_t taken = 0;
+    int before = faults;
     struct answered ours = {NULL, 0, 0, ""};
     for (size_t i = 0; i < COUNT(asked); i++) {
         free(ours.ids);
@@ -156,7 +160,8 @@ static void layer(const char *kind, GDALDatasetH set) {
         compare(kind, set, "OGRSQL", asked[i][0], asked[i][1], &ours);
         compare(kind, set, "SQLITE", asked[i][0], asked[i][1], &ours);
     }
-    printf("%s (%s ): %zu expressions over %d rows, %zu rows taken: as OGR's SQL and SQLite say\n", kind, ours.format, COUNT(asked), rows, taken);
+    if (faults == before)
+        printf("%s (%s ): %zu expressions over %d rows, %zu rows taken: as OGR's SQL and SQLite say\n", kind, ours.format, COUNT(asked), rows, taken);
     free(ours.ids);
     GDALClose(set);
 }

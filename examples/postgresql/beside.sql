@@ -11,7 +11,7 @@ BEGIN
             count(*) FILTER (WHERE %1$s) FROM given', words);
     END LOOP;
     FOREACH words IN ARRAY ARRAY['a + b', 'a * 2 - b', 'b / 7', 'medium * 1000', 's'] LOOP
-        EXECUTE format('INSERT INTO beside SELECT %1$L, count(*) FILTER (WHERE yurkije(replace(%1$L, ''1000'', ''1000::i32''), given) IS DISTINCT FROM (%1$s)::text),
+        EXECUTE format('INSERT INTO beside SELECT %1$L, count(*) FILTER (WHERE yurkije(%1$L, given) IS DISTINCT FROM (%1$s)::text),
             count(*) FILTER (WHERE (%1$s) IS NOT NULL) FROM given', words);
     END LOOP;
 END $$;
