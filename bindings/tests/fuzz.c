@@ -53,22 +53,85 @@ static const char *const tokens[] = {
     "::", "::utf8?", "c0 is null", "c0 / c1", "2 * c0", "c0 between c1 and c2",
 };
 
-static size_t make_text(struct given *given, char *text, size_t room) {
-    size_t length = 0;
+/* A text that is being written, over these fields. */
+struct writing { char *text; size_t length, room; const struct yk_field *fields; size_t count; };
+
+static void write_words(struct writing *to, const char *words) {
+    size_t more = strlen(words);
+    if (to->length + more + 1 > to->room)
+        return;
+    memcpy(to->text + to->length, words, more);
+    to->length += more;
+    to->text[to->length++] = ' ';
+}
+
+/* Any tokens, and now and then a byte of the input. */
+static void write_tokens(struct given *given, struct writing *to) {
     for (unsigned count = 1 + below(given, 12); count > 0; count--) {
-        const char *token = tokens[below(given, sizeof tokens / sizeof *tokens)];
-        size_t more = strlen(token);
-        if (length + more + 2 > room)
-            break;
-        if (next(given) % 64 == 0) {
-            text[length++] = (char)next(given);
-            continue;
-        }
-        memcpy(text + length, token, more);
-        length += more;
-        text[length++] = ' ';
+        char byte[2] = {(char)next(given), 0};
+        write_words(to, next(given) % 64 == 0 ? byte : tokens[below(given, sizeof tokens / sizeof *tokens)]);
     }
-    return length;
+}
+
+enum shape { is_truth, is_number, is_text };
+
+static enum shape shape_of(uint32_t kind) { return kind == YK_BOOL ? is_truth : kind <= YK_U64 ? is_number : is_text; }
+
+/* A column of that shape, or a literal. */
+static void write_atom(struct given *given, struct writing *to, enum shape shape) {
+    static const char *const literals[][4] = {{"true", "false", "null::bool?", "c0"}, {"3", "0", "-1", "100"}, {"'a'", "''", "'%b_'", "null::utf8?"}};
+    for (unsigned tries = 0, at = next(given); tries < to->count; tries++, at++)
+        if (shape_of(to->fields[at % to->count].kind) == shape && next(given) % 4) {
+            write_words(to, (const char *const[]){"c0", "c1", "c2", "c3"}[at % to->count]);
+            return;
+        }
+    write_words(to, literals[shape][below(given, 4)]);
+}
+
+/* An expression that is well written and mostly well typed: an operator between two sums or atoms, in brackets, joined by and and or. */
+static void write_number(struct given *given, struct writing *to) {
+    static const char *const signs[] = {"+", "-", "*", "/"};
+    write_atom(given, to, is_number);
+    for (unsigned more = below(given, 3); more > 0; more--) {
+        write_words(to, signs[below(given, 4)]);
+        write_atom(given, to, is_number);
+    }
+}
+
+static void write_comparison(struct given *given, struct writing *to) {
+    static const char *const signs[] = {"<", "<=", ">", ">=", "=", "<>"}, *const likes[] = {"like", "not like", "ilike", "<", "=", "is null or not"};
+    unsigned form = below(given, 6);
+    if (form < 2) {
+        write_number(given, to);
+        write_words(to, signs[below(given, 6)]);
+        write_number(given, to);
+    } else if (form == 2) {
+        write_number(given, to);
+        write_words(to, next(given) & 1 ? "between" : "not between");
+        write_number(given, to);
+        write_words(to, "and");
+        write_number(given, to);
+    } else if (form == 3) {
+        write_atom(given, to, is_text);
+        write_words(to, likes[below(given, 5)]);
+        write_atom(given, to, is_text);
+    } else {
+        write_atom(given, to, (enum shape)below(given, 3));
+        write_words(to, form == 4 ? "is null" : "is not null");
+    }
+}
+
+static void write_answers(struct given *given, struct writing *to) {
+    static const char *const joins[] = {"and", "or", "and not", ", ", "or not"};
+    for (unsigned more = below(given, 5);; more--) {
+        if (next(given) % 4 == 0)
+            write_number(given, to);
+        else
+            write_comparison(given, to);
+        if (more == 0)
+            return;
+        write_words(to, joins[below(given, 5)]);
+    }
 }
 
 /* A column of a kind, over items from the input; now and then with a wrong length, offset or view. */
@@ -244,6 +307,13 @@ static void again(struct yk_expression *expression, struct fuzzed *made, size_t 
     yk_answers_free(&part);
 }
 
+/* How many texts were expressions, and how many batches were answered. */
+static unsigned long asked, readable, answered;
+
+__attribute__((destructor)) static void tell(void) {
+    fprintf(stderr, "fuzz: %lu texts, %lu of them expressions, %lu batches answered and compared\n", asked, readable, answered);
+}
+
 int LLVMFuzzerTestOneInput(const uint8_t *bytes, size_t size) {
     static struct fuzzed made[most_columns];
     struct given given = {bytes, size};
@@ -257,10 +327,17 @@ int LLVMFuzzerTestOneInput(const uint8_t *bytes, size_t size) {
     if (!slot_end[0])
         make_slots();
     taken = 0;
-    size_t count = 1 + below(&given, most_columns), rows = below(&given, most_rows), length = make_text(&given, text, sizeof text);
+    size_t count = 1 + below(&given, most_columns), rows = below(&given, most_rows);
     for (size_t i = 0; i < count; i++)
         fields[i] = (struct yk_field){{names[i], 2}, next(&given) % 64 == 0 ? next(&given) : 1 + below(&given, 15), next(&given) & 1};
-    uint32_t status = yk_expression_new(guarded_copy(text, length), length, fields, count, &expression, &error);
+    struct writing writing = {text, 0, sizeof text, fields, count};
+    if (next(&given) % 4)
+        write_answers(&given, &writing);
+    else
+        write_tokens(&given, &writing);
+    uint32_t status = yk_expression_new(guarded_copy(text, writing.length), writing.length, fields, count, &expression, &error);
+    asked++;
+    readable += status == YK_OK;
     taken = 0;
     for (size_t i = 0; !status && i < count; i++) {
         make_column(&made[i], &fields[i], &given, rows);
@@ -270,6 +347,7 @@ int LLVMFuzzerTestOneInput(const uint8_t *bytes, size_t size) {
         status = yk_run(&expression, columns, count, rows, &answers, &error);
     if ((status != YK_OK) != (error.status != YK_OK) || error.message_length >= sizeof message)
         abort();
+    answered += status == YK_OK;
     if (!status && rows > 0)
         again(&expression, made, count, rows, 1 + below(&given, (unsigned)rows), &answers, &error);
     yk_answers_free(&answers);
