@@ -42,6 +42,14 @@ void free(void *at) {
     __libc_free(at);
 }
 
+/* A hash of what was told since it was reset. */
+static uint64_t told;
+
+static void hash(const void *bytes, size_t length) {
+    for (size_t i = 0; i < length; i++)
+        told = (told ^ ((const uint8_t *)bytes)[i]) * 1099511628211u;
+}
+
 /* What is asked: reads an expression, runs it, and copies each answer out. Answers the first status that is not 0. */
 static const char text[] = "n * 2 as twice, t like '%o_t' and n > 1 as found, t, n between 2 and 7 or t ilike 'N%', cast(n > 3 as bool?), n is null";
 static const char script[] = "col n i64?\nget n\nlit i64 3\ncall +\noptimize\nas more\n";
@@ -62,7 +70,29 @@ static uint32_t copy_all(struct yk_answers *answers) {
     uint32_t status = YK_OK;
     for (size_t i = 0; !status && i < COUNT(rooms); i++)
         status = yk_answer_copy(answers, i, &rooms[i]);
-    return status ? status : yk_select(answers, 1, chosen, 4, &count);
+    if (!status)
+        status = yk_select(answers, 1, chosen, 4, &count);
+    if (!status) {
+        hash(values, 8), hash(values + 2, 16), hash(offsets, sizeof offsets), hash(bytes, sizeof bytes);
+        hash(chosen, count * sizeof *chosen);
+    }
+    return status;
+}
+
+/* The names and texts of all answers. */
+static uint32_t names(struct yk_expression *expression) {
+    char room[200];
+    size_t count = 0, length = 0;
+    uint32_t status = yk_answer_count(expression, &count);
+    for (size_t i = 0; !status && i < count; i++) {
+        status = yk_answer_name(expression, i, room, sizeof room, &length);
+        hash(room, status ? 0 : length);
+        for (int optimized = 0; !status && optimized < 2; optimized++) {
+            status = yk_answer_text(expression, i, optimized, room, sizeof room, &length);
+            hash(room, status ? 0 : length);
+        }
+    }
+    return status;
 }
 
 static uint32_t plain_calls(void) {
@@ -72,8 +102,6 @@ static uint32_t plain_calls(void) {
     struct yk_expression expression = {0};
     struct yk_answers answers = {0};
     struct yk_error error = new_error();
-    char room[200];
-    size_t length;
     uint32_t status = yk_expression_new(text, sizeof text - 1, fields, 2, &expression, &error);
     if (!status)
         status = yk_run(&expression, columns, 2, 4, &answers, &error);
@@ -82,11 +110,13 @@ static uint32_t plain_calls(void) {
     if (!status)
         status = copy_all(&answers);
     if (!status)
-        status = yk_answer_text(&expression, 3, true, room, sizeof room, &length);
+        status = names(&expression);
     yk_answers_free(&answers);
     yk_expression_free(&expression);
     if (!status)
         status = yk_expression_of_lines(script, sizeof script - 1, &expression, &error);
+    if (!status)
+        status = names(&expression);
     yk_expression_free(&expression);
     return status;
 }
@@ -131,6 +161,8 @@ static uint32_t arrow_calls(void) {
         status = yk_arrow_stream_error(&out)->status;
     else
         status = yk_arrow_share(&answers, &shared);
+    if (!status)
+        hash(shared.children[2]->buffers[2], 25), hash(&((const int64_t *)shared.children[0]->buffers[1])[2], 16);
     CHECK((code == ENOMEM) == (code != 0));
     if (shared.release)
         shared.release(&shared);
@@ -144,9 +176,13 @@ static uint32_t arrow_calls(void) {
 
 /* Refuses each allocation of what is asked, alone or with all behind it. */
 static void sweep(const char *name, uint32_t (*ask)(void), bool alone) {
-    long count = 0;
+    long count = 0, same = 0;
+    told = 1;
+    SAME(ask(), YK_OK);
+    uint64_t whole = told;
     for (long refuse = 1;; refuse++) {
         long before = live;
+        told = 1;
         asked = refused = 0;
         first = refuse;
         last = alone ? refuse : __LONG_MAX__;
@@ -154,14 +190,17 @@ static void sweep(const char *name, uint32_t (*ask)(void), bool alone) {
         long met = refused;
         first = -1;
         SAME(live, before);
-        if (!met) {
-            SAME(status, YK_OK);
+        if (status == YK_OK)
+            CHECK(told == whole);
+        else
+            SAME(status, YK_OUT_OF_MEMORY);
+        if (!met)
             break;
-        }
-        SAME(status, YK_OUT_OF_MEMORY);
+        same += status == YK_OK;
         count++;
     }
-    printf("%s: %ld allocations refused%s, each answers E9 and leaks nothing\n", name, count, alone ? "" : " with all behind them");
+    printf("%s: %ld allocations refused%s: %ld times E9, %ld times the answers as with memory; nothing leaks\n", name, count,
+           alone ? "" : " with all behind them", count - same, same);
 }
 
 int main(void) {

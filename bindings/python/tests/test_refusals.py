@@ -27,7 +27,7 @@ class Refusals(unittest.TestCase):
         self.assertIn("price", error.message)
         self.refused(ExpressionError, lambda: evaluate("price +", columns), number=112, name="NoExpression", byte=7)
         self.refused(ExpressionError, lambda: evaluate("price = 'a'", columns), number=3, name="TypeMismatch")
-        self.refused(ValueError, lambda: Expression("a", {"a": "int"}))
+        self.refused(ExpressionError, lambda: Expression("a", {"a": "int"}), number=113, name="UnknownType", column="a")
         self.refused(ExpressionError, lambda: Expression.of_lines("col a i64\nget b\n"), line=2)
 
     def test_the_first_row_that_faults(self):

@@ -8,10 +8,10 @@ from typing import Any, Optional
 import numpy as np
 
 from . import _capsules as capsules
-from ._errors import ColumnError, Told
+from ._errors import ColumnError, ExpressionError, Told
 from ._library import KINDS, LARGE, NAMES, Column, Field, Slice, lib
 
-UNTAKEN = 140
+UNTAKEN, UNKNOWN_TYPE = 140, 113
 # The types of whole numbers by numpy's.
 INTEGERS: dict[Any, str] = {np.dtype(f"{kind}{size}"): f"{kind}{8 * size}" for kind in "iu" for size in (1, 2, 4, 8)}
 INTEGER_TYPES: dict[str, Any] = {name: dtype for dtype, name in INTEGERS.items()}
@@ -206,7 +206,8 @@ def fields_of(types: Sequence[tuple[str, str]]) -> tuple[Any, list[Any]]:
     for field, (name, type_name) in zip(fields, types):
         plain = type_name[:-1] if type_name.endswith("?") else type_name
         if plain not in KINDS:
-            raise ValueError(f'column "{name}": no type "{type_name}"; types are {", ".join(KINDS)}, each with ? where a row may be null')
+            words = f'column "{name}": no type "{type_name}"; types are {", ".join(KINDS)}, each with ? where a row may be null'
+            raise ExpressionError(UNKNOWN_TYPE, words, name)
         encoded = name.encode()
         room = c.create_string_buffer(encoded, len(encoded) + 1)
         keeps.append(room)
