@@ -208,6 +208,7 @@ static void malformed(void) {
     schemas[0].flags = 0;
     SAME(run("n", &schema, &out, &error), YK_UNEXPECTED_NULL);
     SAME(error.row, 2);
+    release(&schema, &out);
 }
 
 /* Rows of many batches, told by their number in all. */

@@ -48,10 +48,11 @@ static inline bool bit(const uint8_t *bits, size_t i) { return bits[i / 8] >> i 
 /* Reads an expression that is none of the test's matter. */
 static inline struct yk_expression read_expression(const char *words, const struct yk_field *fields, size_t count) {
     struct yk_expression expression = {0};
-    struct yk_error error = new_error();
+    char told[300] = "";
+    struct yk_error error = {.message = {told, sizeof told}};
     uint32_t status = yk_expression_new(words, strlen(words), fields, count, &expression, &error);
     if (status) {
-        fprintf(stderr, "%s: refused, %u: %s\n", words, status, message);
+        fprintf(stderr, "%s: refused, %u: %s\n", words, status, told);
         exit(2);
     }
     return expression;
