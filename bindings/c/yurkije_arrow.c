@@ -1,0 +1,359 @@
+/* Arrow's arrays as borrowed columns, and expressions over a schema. */
+#include "yurkije_arrow_shared.h"
+
+#include <stdarg.h>
+#include <stdio.h>
+#include <stdlib.h>
+#include <string.h>
+
+static const struct layout layouts[] = {
+    {"b", YK_BOOL, 2, 0},        {"c", YK_I8, 2, 1},          {"s", YK_I16, 2, 2},
+    {"i", YK_I32, 2, 4},         {"l", YK_I64, 2, 8},         {"C", YK_U8, 2, 1},
+    {"S", YK_U16, 2, 2},         {"I", YK_U32, 2, 4},         {"L", YK_U64, 2, 8},
+    {"u", YK_UTF8, 3, 4},        {"U", YK_LARGE_UTF8, 3, 8},  {"z", YK_BINARY, 3, 4},
+    {"Z", YK_LARGE_BINARY, 3, 8}, {"vu", YK_UTF8_VIEW, 3, 1}, {"vz", YK_BINARY_VIEW, 3, 1},
+};
+
+static const size_t layout_count = sizeof layouts / sizeof *layouts;
+
+static const struct layout *layout_of_format(const char *format) {
+    for (size_t i = 0; i < layout_count; i++)
+        if (strcmp(layouts[i].format, format) == 0)
+            return &layouts[i];
+    return NULL;
+}
+
+const struct layout *yk_layout_of_kind(uint32_t kind) {
+    for (size_t i = 0; i < layout_count; i++)
+        if (layouts[i].kind == kind)
+            return &layouts[i];
+    return NULL;
+}
+
+/* The name of a format that is not taken: the longest beginning that stands here. */
+static const char *format_name(const char *format) {
+    static const char *const names[][2] = {
+        {"n", "null"},          {"e", "float16"},       {"f", "float32"},     {"g", "float64"},
+        {"d:", "decimal"},      {"w:", "fixed-size binary"},
+        {"tdD", "date32"},      {"tdm", "date64"},      {"tt", "time"},       {"ts", "timestamp"},
+        {"tD", "duration"},     {"ti", "interval"},     {"+l", "list"},       {"+L", "large list"},
+        {"+vl", "list view"},   {"+vL", "large list view"}, {"+w:", "fixed-size list"},
+        {"+s", "struct"},       {"+m", "map"},          {"+ud:", "dense union"},
+        {"+us:", "sparse union"}, {"+r", "run-end encoded"},
+    };
+    for (size_t i = 0; i < sizeof names / sizeof *names; i++)
+        if (strncmp(names[i][0], format, strlen(names[i][0])) == 0)
+            return names[i][1];
+    return "unknown";
+}
+
+void yk_reset(struct yk_error *error) {
+    struct yk_text_room message = error->message;
+    *error = (struct yk_error){.answer = YK_NONE, .column = YK_NONE, .row = YK_NONE, .byte = YK_NONE};
+    error->message = message;
+}
+
+/* Tells a refusal in words: as many whole characters as there is room for. */
+uint32_t yk_refuse(struct yk_error *error, uint32_t status, size_t column, const char *words, ...) {
+    char text[400];
+    va_list arguments;
+    va_start(arguments, words);
+    vsnprintf(text, sizeof text, words, arguments);
+    va_end(arguments);
+    yk_reset(error);
+    error->status = status;
+    error->column = column;
+    if (error->message.length > 0) {
+        size_t length = strlen(text);
+        if (length > error->message.length - 1)
+            length = error->message.length - 1;
+        while (length > 0 && ((unsigned char)text[length] & 0xc0) == 0x80)
+            length--;
+        memcpy(error->message.at, text, length);
+        error->message.at[length] = 0;
+        error->message_length = length;
+    }
+    return status;
+}
+
+uint32_t yk_refuse_memory(struct yk_error *error) {
+    return yk_refuse(error, YK_OUT_OF_MEMORY, YK_NONE, "E9 OutOfMemory");
+}
+
+/* Where a message tells that row: at its start, or else behind the name of a column, which may say anything. */
+static char *find_row(char *words, const char *row) {
+    size_t length = strlen(row);
+    char *found = strncmp(words, row, length) == 0 ? words : NULL;
+    for (char *at = found ? NULL : strstr(words, row); at; at = strstr(at + 1, row))
+        if (at[length] == ':' || at[length] == ',')
+            found = at;
+    return found;
+}
+
+void yk_add_to_row(struct yk_error *error, size_t before) {
+    char old[40], row[40], rest[400];
+    if (error->row == YK_NONE || before == 0)
+        return;
+    snprintf(old, sizeof old, "row %zu", error->row);
+    error->row += before;
+    snprintf(row, sizeof row, "row %zu", error->row);
+    char *at = error->message.length > 0 ? find_row(error->message.at, old) : NULL;
+    if (!at)
+        return;
+    snprintf(rest, sizeof rest, "%s", at + strlen(old));
+    size_t room = error->message.length - (size_t)(at - error->message.at);
+    snprintf(at, room, "%s%s", row, rest);
+    error->message_length = strlen(error->message.at);
+}
+
+static const char *name_of(const struct ArrowSchema *schema) { return schema->name ? schema->name : ""; }
+
+uint32_t yk_arrow_field(const struct ArrowSchema *schema, struct yk_field *field, struct yk_error *error) {
+    const struct layout *layout = layout_of_format(schema->format);
+    yk_reset(error);
+    if (layout && !schema->dictionary) {
+        field->name = (struct yk_text){name_of(schema), strlen(name_of(schema))};
+        field->kind = layout->kind;
+        field->nullable = (schema->flags & ARROW_FLAG_NULLABLE) != 0;
+        return YK_OK;
+    }
+    return yk_refuse(error, YK_UNTAKEN_FORMAT, YK_NONE, "column \"%.200s\": Arrow's format %.40s, %s, is not taken",
+                  name_of(schema), schema->format, layout ? "in a dictionary," : format_name(schema->format));
+}
+
+static bool is_view(const struct layout *layout) {
+    return layout->kind == YK_UTF8_VIEW || layout->kind == YK_BINARY_VIEW;
+}
+
+size_t yk_arrow_buffer_count(const struct ArrowSchema *schema, const struct ArrowArray *array) {
+    const struct layout *layout = layout_of_format(schema->format);
+    if (!layout || !is_view(layout) || array->n_buffers <= 3)
+        return 0;
+    return (size_t)(array->n_buffers - 3);
+}
+
+/* What is wrong with an array before any buffer is looked into, or NULL. */
+static const char *fault_of(const struct layout *layout, const struct ArrowArray *array) {
+    if (array->length < 0 || array->offset < 0 || array->offset > INT64_MAX / 64 - array->length)
+        return "its length or offset is out of range";
+    if (is_view(layout) ? array->n_buffers < 3 : array->n_buffers != layout->buffers)
+        return "it has another number of buffers than its format";
+    if (!array->buffers)
+        return "it has no buffers";
+    if (array->length > 0 && !array->buffers[1])
+        return "it has rows, and no values";
+    if (layout->width > 1 && (uintptr_t)array->buffers[1] % layout->width != 0)
+        return "its buffer is not aligned";
+    if (layout->buffers == 3 && !is_view(layout) && array->length == 0)
+        return NULL;
+    if (is_view(layout) && array->n_buffers > 3 && !array->buffers[array->n_buffers - 1])
+        return "it has no lengths of its buffers";
+    return NULL;
+}
+
+/* The bytes that offsets name: up to the last one, which what is proved checks again. */
+static struct yk_bytes data_up_to(const void *at, int64_t last) {
+    if (!at || last <= 0)
+        return (struct yk_bytes){NULL, 0};
+    return (struct yk_bytes){at, (size_t)last};
+}
+
+/* Sets the buffers of texts by offsets. Of no rows the offsets may be missing. */
+static void set_texts(const struct layout *layout, const struct ArrowArray *array, struct yk_column *column) {
+    size_t end = column->offset + column->rows;
+    if (column->rows == 0)
+        return;
+    if (layout->width == 4) {
+        const int32_t *offsets = array->buffers[1];
+        column->offsets32 = (struct yk_i32s){offsets, end + 1};
+        column->data = data_up_to(array->buffers[2], offsets[end]);
+    } else {
+        const int64_t *offsets = array->buffers[1];
+        column->offsets64 = (struct yk_i64s){offsets, end + 1};
+        column->data = data_up_to(array->buffers[2], offsets[end]);
+    }
+}
+
+/* Sets the views and their buffers, whose lengths stand in the last one. */
+static void set_views(const struct ArrowArray *array, struct yk_bytes *buffers, struct yk_column *column) {
+    size_t count = (size_t)(array->n_buffers - 3);
+    const int64_t *lengths = array->buffers[array->n_buffers - 1];
+    column->views = (struct yk_views){(const uint8_t(*)[16])array->buffers[1], column->offset + column->rows};
+    for (size_t i = 0; i < count; i++)
+        buffers[i] = data_up_to(array->buffers[i + 2], lengths[i]);
+    column->buffers = (struct yk_buffers){buffers, count};
+}
+
+/* Sets the one slice of values that the kind has. */
+static void set_values(const void *at, struct yk_column *column) {
+    size_t end = column->offset + column->rows;
+    switch (column->kind) {
+    case YK_BOOL: column->bools = (struct yk_bytes){at, yk_bytes_for(end)}; break;
+    case YK_I8: column->i8 = (struct yk_i8s){at, end}; break;
+    case YK_I16: column->i16 = (struct yk_i16s){at, end}; break;
+    case YK_I32: column->i32 = (struct yk_i32s){at, end}; break;
+    case YK_I64: column->i64 = (struct yk_i64s){at, end}; break;
+    case YK_U8: column->u8 = (struct yk_bytes){at, end}; break;
+    case YK_U16: column->u16 = (struct yk_u16s){at, end}; break;
+    case YK_U32: column->u32 = (struct yk_u32s){at, end}; break;
+    default: column->u64 = (struct yk_u64s){at, end}; break;
+    }
+}
+
+uint32_t yk_arrow_column(const struct ArrowSchema *schema, const struct ArrowArray *array,
+                         struct yk_bytes *buffers, struct yk_column *column, struct yk_error *error) {
+    struct yk_field field;
+    uint32_t status = yk_arrow_field(schema, &field, error);
+    if (status)
+        return status;
+    const struct layout *layout = layout_of_format(schema->format);
+    const char *fault = fault_of(layout, array);
+    if (fault)
+        return yk_refuse(error, YK_MALFORMED_ARRAY, YK_NONE, "column \"%.200s\": a malformed array: %s", name_of(schema), fault);
+    *column = (struct yk_column){.kind = layout->kind, .nullable = field.nullable};
+    column->rows = (size_t)array->length;
+    column->offset = (size_t)array->offset;
+    if (array->buffers[0] && array->null_count != 0)
+        column->validity = (struct yk_bytes){array->buffers[0], yk_bytes_for(column->offset + column->rows)};
+    if (column->rows == 0)
+        column->offset = 0, column->validity.length = 0;
+    else if (is_view(layout))
+        set_views(array, buffers, column);
+    else if (layout->buffers == 3)
+        set_texts(layout, array, column);
+    else
+        set_values(array->buffers[1], column);
+    return YK_OK;
+}
+
+/* The child of a batch that may itself begin at an offset. */
+struct ArrowArray yk_child_of(const struct ArrowArray *batch, int64_t child) {
+    struct ArrowArray array = *batch->children[child];
+    array.offset += batch->offset;
+    array.length = batch->length;
+    return array;
+}
+
+static bool has_null_row(const struct ArrowArray *batch) {
+    if (batch->null_count == 0 || batch->n_buffers < 1 || !batch->buffers || !batch->buffers[0])
+        return false;
+    const uint8_t *bits = batch->buffers[0];
+    for (int64_t i = batch->offset; i < batch->offset + batch->length; i++)
+        if (!(bits[i / 8] >> i % 8 & 1))
+            return true;
+    return false;
+}
+
+/* Why a child does not have the rows of its batch, or NULL. */
+static const char *child_fault(const struct ArrowArray *batch, const struct ArrowArray *child) {
+    if (child->offset < 0 || child->length < 0 || child->offset > INT64_MAX / 64 - child->length)
+        return "the length or offset of a child is out of range";
+    if (child->length < batch->length || child->length - batch->length < batch->offset)
+        return "a child is shorter than the batch";
+    return NULL;
+}
+
+uint32_t yk_check_batch(const struct ArrowSchema *schema, const struct ArrowArray *batch, struct yk_error *error) {
+    const char *fault = NULL;
+    yk_reset(error);
+    if (strcmp(schema->format, "+s") != 0)
+        fault = "it is no struct array";
+    else if (batch->n_children != schema->n_children)
+        fault = "it has another number of children than its schema";
+    else if (batch->length < 0 || batch->offset < 0 || batch->offset > INT64_MAX / 64 - batch->length)
+        fault = "its length or offset is out of range";
+    else if (has_null_row(batch))
+        fault = "a row of it is null as a whole";
+    for (int64_t i = 0; !fault && i < batch->n_children; i++)
+        fault = child_fault(batch, batch->children[i]);
+    return fault ? yk_refuse(error, YK_MALFORMED_ARRAY, YK_NONE, "a malformed batch: %s", fault) : YK_OK;
+}
+
+static bool is_word(char c) {
+    return (c >= 'a' && c <= 'z') || (c >= 'A' && c <= 'Z') || (c >= '0' && c <= '9') || c == '_';
+}
+
+/* Where the token at a place ends: a text or a name in quotes, a comment, a word, or one byte. */
+static size_t token_end(struct yk_text text, size_t at) {
+    char first = text.at[at++];
+    if (first == '\'' || first == '"') {
+        while (at < text.length && text.at[at] != first)
+            at++;
+        return at + (at < text.length);
+    }
+    if (first == '-' && at < text.length && text.at[at] == '-') {
+        while (at < text.length && text.at[at] != '\n')
+            at++;
+    } else if (is_word(first)) {
+        while (at < text.length && is_word(text.at[at]))
+            at++;
+    }
+    return at;
+}
+
+/* Whether the token at a place is that name, bare or in double quotes. */
+static bool is_name_at(struct yk_text text, size_t at, const char *name) {
+    size_t end = token_end(text, at), quotes = text.at[at] == '"';
+    size_t length = strlen(name);
+    return end - at == length + 2 * quotes && memcmp(text.at + at + quotes, name, length) == 0;
+}
+
+/* Whether a text may read the column of that name. One with a quote in it always may. */
+static bool is_named(struct yk_text text, const char *name) {
+    if (strchr(name, '"'))
+        return true;
+    for (size_t at = 0; at < text.length; at = token_end(text, at))
+        if (is_name_at(text, at, name))
+            return true;
+    return false;
+}
+
+/* The fields of the columns that are of a format that is taken: all, or those that the text names. */
+static size_t collect_fields(const struct ArrowSchema *schema, struct yk_text text, bool all, struct yk_field *fields) {
+    struct yk_error unheard = {0};
+    size_t count = 0;
+    for (int64_t i = 0; i < schema->n_children; i++) {
+        const struct ArrowSchema *child = schema->children[i];
+        if ((all || is_named(text, name_of(child))) && !yk_arrow_field(child, &fields[count], &unheard))
+            count++;
+    }
+    return count;
+}
+
+/* Refuses the column at the byte that was told, if it is there and of a format that is not taken. */
+static uint32_t refuse_untaken(const struct ArrowSchema *schema, struct yk_text text, struct yk_error *error) {
+    struct yk_error told = *error;
+    for (int64_t i = 0; i < schema->n_children; i++) {
+        struct yk_field field;
+        if (!is_name_at(text, told.byte, name_of(schema->children[i])) || !yk_arrow_field(schema->children[i], &field, error))
+            continue;
+        error->byte = told.byte, error->line = told.line, error->character = told.character;
+        return error->status;
+    }
+    return YK_OK;
+}
+
+/* An expression over few columns is read again over all, so that what is told knows their names. */
+uint32_t yk_arrow_expression_new(const char *text, size_t length, const struct ArrowSchema *schema,
+                                 struct yk_expression *expression, struct yk_error *error) {
+    struct yk_text words = {text, length};
+    yk_reset(error);
+    yk_expression_free(expression);
+    if (strcmp(schema->format, "+s") != 0)
+        return yk_refuse(error, YK_MALFORMED_ARRAY, YK_NONE, "a malformed schema: it is no struct");
+    struct yk_field *fields = malloc(((size_t)schema->n_children + 1) * sizeof *fields);
+    if (!fields)
+        return yk_refuse_memory(error);
+    size_t count = collect_fields(schema, words, false, fields);
+    uint32_t status = yk_expression_new(text, length, fields, count, expression, error);
+    if (status && status != YK_OUT_OF_MEMORY) {
+        count = collect_fields(schema, words, true, fields);
+        status = yk_expression_new(text, length, fields, count, expression, error);
+        uint32_t untaken = YK_OK;
+        if (status == YK_SCOPE_MISMATCH && error->byte < length)
+            untaken = refuse_untaken(schema, words, error);
+        status = untaken ? untaken : status;
+    }
+    free(fields);
+    return status;
+}

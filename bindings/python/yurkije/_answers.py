@@ -1,0 +1,126 @@
+"""Answers: columns that the library computed, as numpy arrays and as Arrow's capsules."""
+from __future__ import annotations
+
+import ctypes as c
+from collections.abc import Iterator, Mapping
+from typing import Any, NamedTuple, Union
+
+import numpy as np
+
+from . import _capsules as capsules
+from ._columns import INTEGER_TYPES
+from ._library import lib
+
+
+class Answer(NamedTuple):
+    """The name of an answer, and its type, with a question mark where a row may be null."""
+
+    name: str
+    type: str
+
+
+FORMATS: dict[bytes, str] = {
+    b"b": "bool", b"c": "i8", b"s": "i16", b"i": "i32", b"l": "i64",
+    b"C": "u8", b"S": "u16", b"I": "u32", b"L": "u64", b"u": "utf8", b"z": "binary",
+}  # fmt: skip
+
+
+class Held:
+    """An Arrow array of the library, released when nothing points to it any more."""
+
+    def __init__(self) -> None:
+        self.raw = capsules.ArrowArray()
+
+    def __del__(self) -> None:
+        if self.raw.release:
+            self.raw.release(c.byref(self.raw))
+
+    def bytes_at(self, at: Any, size: int) -> Any:
+        """Returns bytes of a buffer as an array that keeps this alive."""
+        if not size:
+            return np.zeros(0, np.uint8)
+        memory = (c.c_uint8 * size).from_address(at)
+        setattr(memory, "held", self)
+        return np.frombuffer(memoryview(memory), np.uint8)
+
+
+def _texts(offsets: Any, data: bytes, is_text: bool, nulls: Any) -> Any:
+    """Returns texts, or byte strings, as an array of objects, with None where one is null."""
+    ends = offsets.tolist()
+    whole: Union[str, bytes] = data
+    if is_text and data.isascii():
+        whole = data.decode("ascii")
+    rows: list[Any] = [whole[a:b] for a, b in zip(ends, ends[1:])]
+    if is_text and isinstance(whole, bytes):
+        rows = [row.decode() for row in rows]
+    made = np.empty(len(rows), object)
+    made[:] = rows
+    if nulls is not None:
+        made[nulls] = None
+    return made
+
+
+class Answers(Mapping[str, Any]):
+    """What an expression answers over a batch: columns by their names, in the order in which they were asked for.
+
+    `answers["worth"]` is a numpy array: of bool or a whole-number type, a masked one where the answer may be null; of
+    objects for texts and byte strings, with None where one is null. Where two answers have one name the first has it;
+    `column(1)` takes them by number. An object with `__arrow_c_array__`: other libraries take the answers as one struct
+    array, over the same memory.
+    """
+
+    def __init__(self, answers: tuple[Answer, ...], held: Held, schema: Any) -> None:
+        self.answers = answers
+        self._held, self._schema = held, schema
+
+    @property
+    def rows(self) -> int:
+        """How many rows each answer has."""
+        return int(self._held.raw.length)
+
+    def __len__(self) -> int:
+        return len({answer.name for answer in self.answers})
+
+    def __iter__(self) -> Iterator[str]:
+        return iter(dict.fromkeys(answer.name for answer in self.answers))
+
+    def __getitem__(self, name: str) -> Any:
+        for number, answer in enumerate(self.answers):
+            if answer.name == name:
+                return self.column(number)
+        raise KeyError(name)
+
+    def column(self, number: int) -> Any:
+        """Returns the answer of that number, from 0 on, as a numpy array."""
+        if not 0 <= number < len(self.answers):
+            raise IndexError(f"no answer {number} of {len(self.answers)}")
+        array = self._held.raw.children[number].contents
+        kind, rows = self.answers[number].type.rstrip("?"), self.rows
+        nulls = None
+        if array.buffers[0]:
+            bits = self._held.bytes_at(array.buffers[0], (rows + 7) // 8)
+            nulls = ~np.unpackbits(bits, count=rows, bitorder="little").view(np.bool_)
+        if kind in ("utf8", "binary"):
+            offsets = self._held.bytes_at(array.buffers[1], 4 * (rows + 1)).view(np.int32)
+            data = c.string_at(array.buffers[2], int(offsets[-1])) if offsets[-1] else b""
+            return _texts(offsets, data, kind == "utf8", nulls)
+        if kind == "bool":
+            bits = self._held.bytes_at(array.buffers[1], (rows + 7) // 8)
+            values = np.unpackbits(bits, count=rows, bitorder="little").view(np.bool_)
+        else:
+            dtype = INTEGER_TYPES[kind]
+            values = self._held.bytes_at(array.buffers[1], rows * dtype.itemsize).view(dtype)
+        if self.answers[number].type.endswith("?"):
+            return np.ma.MaskedArray(values, np.ma.nomask if nulls is None else nulls)
+        return values
+
+    def __arrow_c_array__(self, requested_schema: object = None) -> tuple[object, object]:
+        """Returns the answers as the capsules of a struct array; `requested_schema` is passed over, as Arrow allows."""
+        capsule, shared = capsules.new(b"arrow_array")
+        if lib.yk_arrow_share(self._held.raw, shared):
+            raise MemoryError
+        return self._schema(), capsule
+
+    def __repr__(self) -> str:
+        told = ", ".join(f"{answer.name} {answer.type}" for answer in self.answers)
+        return f"<yurkije.Answers of {self.rows} rows: {told}>"

@@ -1,0 +1,292 @@
+"""Expressions: a text, read once for each thread, and run over batches of columns."""
+from __future__ import annotations
+
+import ctypes as c
+import re
+import threading
+from collections.abc import Iterator, Mapping
+from typing import Any, Optional, Union
+
+import numpy as np
+
+from . import _capsules as capsules
+from ._answers import Answer, Answers, Held
+from ._columns import Borrowed, borrow, fields_of, type_of
+from ._errors import ExpressionError, Told, error_of
+from ._library import NAMES, Column, Handle, Type, lib, text_of
+
+# A token of an expression that can name a column, or hide one: a text, a comment, a word, a name in quotes.
+TOKEN = re.compile(r"""'[^']*'|--[^\n]*|(\w+)|"((?:[^"]|"")*)\"""", re.A)
+
+
+class _Owner:
+    """What one thread still has to free: handles that it made, and that were dropped by another. Dropped where the thread ends."""
+
+    def __init__(self) -> None:
+        self.left: list[Handle] = []
+
+    def free(self) -> None:
+        while self.left:
+            lib.yk_expression_free(self.left.pop())
+
+    __del__ = free
+
+
+class _Owners(threading.local):
+    def __init__(self) -> None:
+        self.owner = _Owner()
+
+
+_owners = _Owners()
+
+
+class _Program:
+    """A handle, which stays on its thread: where another drops it, it is freed by its own thread's next call."""
+
+    def __init__(self) -> None:
+        _owners.owner.free()
+        self.raw, self.left, self.thread = Handle(), _owners.owner.left, threading.get_ident()
+
+    def __del__(self) -> None:
+        if threading.get_ident() == self.thread:
+            lib.yk_expression_free(self.raw)
+        else:
+            self.left.append(self.raw)
+
+
+class _Programs(threading.local):
+    """A handle for each thread: one may not be used by two."""
+
+    program: Optional[_Program] = None
+
+
+def words_of(text: str) -> set[str]:
+    """Returns each name that a text may read as a column."""
+    return {(found[1] or found[2] or "").replace('""', '"') for found in TOKEN.finditer(text)} - {""}
+
+
+def _rows_of(columns: list[Borrowed], rows: Optional[int], source: Any) -> int:
+    if rows is not None:
+        return rows
+    if columns:
+        return int(columns[0].raw.rows)
+    for name in source.keys():
+        return len(source[name])
+    raise ValueError("there is no column to tell how many rows there are: say rows")
+
+
+class Expression:
+    """An expression over columns of types that are said, read once and run over many batches.
+
+    >>> worth = Expression("price * stock as worth, price > 100", {"price": "i64", "stock": "i64?"})
+    >>> worth.answers
+    (Answer(name='worth', type='i64?'), Answer(name='price > 100', type='bool'))
+
+    `columns` has the type of each column: bool, i8 to i64, u8 to u64, utf8 or binary, with a question mark where a row may
+    be null. Columns that no answer reads may be among them. docs/EXPRESSIONS.md has the language.
+
+    Threads may share an Expression: the first call in each reads the text anew, since a handle of the library is of one
+    thread. Calls of the library run beside Python's other threads.
+    """
+
+    def __init__(self, text: str, columns: Mapping[str, str]) -> None:
+        named = words_of(text)
+        self.text: Optional[str] = text
+        self._encoded = text.encode()
+        self._read = [(name, columns[name]) for name in columns if name in named]
+        self._local = _Programs()
+        try:
+            self._begin()
+        except ExpressionError:
+            # again, over all columns: what is told then knows their names
+            self._read = list(columns.items())
+            self._begin()
+
+    @classmethod
+    def of(cls, text: str, columns: Any) -> Expression:
+        """Returns the expression over the types that columns have: a mapping of columns, a frame of pandas, or anything with
+        `keys()` and the columns by name; or a batch with `__arrow_c_array__`."""
+        if not hasattr(columns, "keys"):
+            return cls._of_schema(text, capsules.struct_in(columns.__arrow_c_array__()[0], b"arrow_schema"))
+        named = words_of(text)
+        names = [str(name) for name in columns.keys()]
+        try:
+            return cls(text, {name: type_of(borrow(name, columns[name])) for name in names if name in named})
+        except ExpressionError:
+            return cls(text, {name: type_of(borrow(name, columns[name])) for name in names})
+
+    @classmethod
+    def of_lines(cls, lines: str) -> Expression:
+        """Returns the expression that lines of scripts say, which declare its columns (docs/STREAM.md)."""
+        made = cls.__new__(cls)
+        made.text, made._encoded, made._local = None, lines.encode(), _Programs()
+        made._begin()
+        made._read = made._fields()
+        return made
+
+    @classmethod
+    def _of_schema(cls, text: str, schema: Any) -> Expression:
+        made = cls.__new__(cls)
+        made.text, made._encoded, made._local = text, text.encode(), _Programs()
+        program, told = _Program(), Told()
+        told.check(lib.yk_arrow_expression_new(made._encoded, len(made._encoded), schema, program.raw, told.raw))
+        made._local.program = program
+        made._read = made._fields()
+        return made
+
+    def _begin(self) -> _Program:
+        """Reads the text in this thread."""
+        program, told = _Program(), Told()
+        if self.text is None:
+            told.check(lib.yk_expression_of_lines(self._encoded, len(self._encoded), program.raw, told.raw))
+        else:
+            fields, _keeps = fields_of(self._read)
+            status = lib.yk_expression_new(self._encoded, len(self._encoded), fields, len(self._read), program.raw, told.raw)
+            told.check(status, [name for name, _ in self._read])
+        self._local.program = program
+        return program
+
+    def _handle(self) -> Handle:
+        program = self._local.program or self._begin()
+        return program.raw
+
+    def _typed(self, count_of: Any, name_of: Any, type_of_it: Any) -> Iterator[tuple[str, str]]:
+        handle, count = self._handle(), c.c_size_t()
+        count_of(handle, c.byref(count))
+        for number in range(count.value):
+            kind = Type()
+            type_of_it(handle, number, c.byref(kind))
+            yield text_of(name_of, handle, number), NAMES.get(kind.kind, "none") + "?" * kind.nullable
+
+    def _fields(self) -> list[tuple[str, str]]:
+        return list(self._typed(lib.yk_field_count, lib.yk_field_name, lib.yk_field_type))
+
+    @property
+    def columns(self) -> dict[str, str]:
+        """The columns that are read, with their types."""
+        return dict(self._read)
+
+    @property
+    def answers(self) -> tuple[Answer, ...]:
+        """The names and types of the answers."""
+        return tuple(Answer(*told) for told in self._typed(lib.yk_answer_count, lib.yk_answer_name, lib.yk_answer_type))
+
+    def text_of_answer(self, answer: int, optimized: bool = False) -> str:
+        """Returns the text of an answer, as it was read or as it is run."""
+        return text_of(lib.yk_answer_text, self._handle(), answer, optimized)
+
+    def _borrowed(self, source: Any) -> list[Borrowed]:
+        columns = []
+        for name, kind in self._read:
+            column = borrow(name, source[name], kind.rstrip("?"))
+            column.raw.nullable = kind.endswith("?")
+            columns.append(column)
+        return columns
+
+    def _schema_capsule(self) -> object:
+        capsule, schema = capsules.new(b"arrow_schema")
+        told = Told()
+        told.check(lib.yk_arrow_schema(self._handle(), schema, told.raw))
+        return capsule
+
+    def run(self, columns: Any, rows: Optional[int] = None) -> Answers:
+        """Returns the answers over columns of one length: a mapping of them by name, a frame of pandas, or a batch with
+        `__arrow_c_array__`.
+
+        A column is a numpy array (a masked one has nulls), a pandas series, a list with None for null, or an array of Arrow.
+        Raises what is refused, with the row in which an answer faults. `rows` is needed where there are no columns.
+        """
+        told, held = Told(), Held()
+        names = [name for name, _ in self._read]
+        if not hasattr(columns, "keys"):
+            schema_capsule, array_capsule = columns.__arrow_c_array__()
+            schema = capsules.struct_in(schema_capsule, b"arrow_schema")
+            batch = capsules.struct_in(array_capsule, b"arrow_array")
+            told.check(lib.yk_arrow_run(self._handle(), schema, batch, held.raw, told.raw), names)
+        else:
+            borrowed = self._borrowed(columns)
+            raws = (Column * max(len(borrowed), 1))(*[column.raw for column in borrowed])
+            count = _rows_of(borrowed, rows, columns)
+            told.check(lib.yk_arrow_answer(self._handle(), raws, len(borrowed), count, held.raw, told.raw), names)
+        return Answers(self.answers, held, self._schema_capsule)
+
+    def select(self, columns: Any, answer: int = 0, rows: Optional[int] = None) -> Any:
+        """Returns the numbers of the rows in which an answer, a truth value, is true: an array of int64, ascending."""
+        told, borrowed = Told(), self._borrowed(columns)
+        raws = (Column * max(len(borrowed), 1))(*[column.raw for column in borrowed])
+        count = _rows_of(borrowed, rows, columns)
+        numbers, selected = np.empty(count, np.int64), c.c_size_t()
+        status = lib.yk_arrow_select(
+            self._handle(), answer, raws, len(borrowed), count, numbers.ctypes.data, c.byref(selected), told.raw
+        )
+        told.check(status, [name for name, _ in self._read])
+        return numbers[: selected.value].copy() if 2 * selected.value < count else numbers[: selected.value]
+
+    def __reduce__(self) -> Any:
+        """Pickles as its text, and is read anew where it arrives."""
+        if self.text is None:
+            return Expression.of_lines, (self._encoded.decode(),)
+        return Expression, (self.text, dict(self._read))
+
+    def __repr__(self) -> str:
+        return f"yurkije.Expression({self._encoded.decode()!r}, {dict(self._read)!r})"
+
+
+class Stream:
+    """The answers of a text over a stream of Arrow's batches: read once, either by going over it, or by another library
+    through `__arrow_c_stream__`. Rows are told by their number in the whole stream. One thread at a time goes on with it."""
+
+    def __init__(self, text: str, source: Any) -> None:
+        encoded, told = text.encode(), Told()
+        taken = source.__arrow_c_stream__()
+        self._capsule, self._raw = capsules.new(b"arrow_array_stream")
+        incoming = capsules.struct_in(taken, b"arrow_array_stream")
+        told.check(lib.yk_arrow_stream(encoded, len(encoded), incoming, self._raw, told.raw))
+        self.answers = tuple(Answer(name, kind) for name, kind in self._types())
+
+    def _schema_capsule(self) -> object:
+        capsule, schema = capsules.new(b"arrow_schema")
+        self._check(self._raw.get_schema(c.byref(self._raw), c.byref(schema)))
+        return capsule
+
+    def _types(self) -> Iterator[tuple[str, str]]:
+        from ._answers import FORMATS
+
+        capsule = self._schema_capsule()
+        schema = capsules.struct_in(capsule, b"arrow_schema")
+        for number in range(schema.n_children):
+            child = schema.children[number].contents
+            yield child.name.decode(), FORMATS[child.format] + "?" * bool(child.flags & 2)
+
+    def _check(self, code: int) -> None:
+        if code:
+            raise error_of(lib.yk_arrow_stream_error(c.byref(self._raw)).contents)
+
+    def __iter__(self) -> Iterator[Answers]:
+        while self._raw.release:
+            held = Held()
+            self._check(self._raw.get_next(c.byref(self._raw), c.byref(held.raw)))
+            if not held.raw.release:
+                return
+            yield Answers(self.answers, held, self._schema_capsule)
+
+    def __arrow_c_stream__(self, requested_schema: object = None) -> object:
+        """Hands the stream over, as a capsule."""
+        return self._capsule
+
+
+def evaluate(text: str, columns: Any, rows: Optional[int] = None) -> Union[Answers, Stream]:
+    """Returns what a text answers over columns, whose types are taken as they are; of a source with `__arrow_c_stream__`
+    a stream of answers.
+
+    >>> evaluate("a + b as sum", {"a": np.array([1, 2]), "b": [3, None]})["sum"]
+    masked_array(data=[4, --], mask=[False,  True], fill_value=999999)
+    """
+    if not hasattr(columns, "keys") and hasattr(columns, "__arrow_c_stream__"):
+        return Stream(text, columns)
+    return Expression.of(text, columns).run(columns, rows)
+
+
+def select(text: str, columns: Any) -> Any:
+    """Returns the numbers of the rows in which a text is true, over columns whose types are taken as they are."""
+    return Expression.of(text, columns).select(columns)

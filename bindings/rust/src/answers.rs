@@ -1,0 +1,170 @@
+//! Answers, as they are copied out of the library.
+use crate::column::{Integer, Kind};
+use crate::error::{checked, Error, Status};
+use crate::raw::{self, Handle, Rooms, Size};
+use std::cell::UnsafeCell;
+
+/// What an expression answers over a batch. It is of one thread.
+///
+/// ```compile_fail
+/// fn sends<T: Send>() {}
+/// sends::<yurkije::Answers>();
+/// ```
+#[derive(Debug)]
+pub struct Answers {
+    pub(crate) raw: UnsafeCell<Handle>,
+    pub(crate) kinds: Vec<Kind>,
+}
+
+/// An answer of whole numbers.
+#[derive(Clone, Debug, PartialEq, Eq)]
+pub struct Integers<T> {
+    /// A bit a row, set where it is not null, from the least significant of the first byte on.
+    pub validity: Vec<u8>,
+    /// A number a row; any where it is null.
+    pub values: Vec<T>,
+}
+
+/// An answer of truth values.
+#[derive(Clone, Debug, PartialEq, Eq)]
+pub struct Bools {
+    pub validity: Vec<u8>,
+    /// A bit a row, set where it is true; any where it is null.
+    pub bits: Vec<u8>,
+    pub rows: usize,
+}
+
+/// An answer of texts or byte strings.
+#[derive(Clone, Debug, PartialEq, Eq)]
+pub struct ByteStrings {
+    pub validity: Vec<u8>,
+    /// Where row `i` begins in the data, and, one further, where it ends.
+    pub offsets: Vec<i64>,
+    pub data: Vec<u8>,
+}
+
+fn bit(bytes: &[u8], row: usize) -> bool {
+    bytes[row / 8] >> (row % 8) & 1 == 1
+}
+
+impl<T: Copy> Integers<T> {
+    /// The rows, `None` where one is null.
+    pub fn iter(&self) -> impl Iterator<Item = Option<T>> + '_ {
+        self.values.iter().enumerate().map(move |(row, value)| if bit(&self.validity, row) { Some(*value) } else { None })
+    }
+}
+
+impl Bools {
+    /// The rows, `None` where one is null.
+    pub fn iter(&self) -> impl Iterator<Item = Option<bool>> + '_ {
+        (0..self.rows).map(move |row| if bit(&self.validity, row) { Some(bit(&self.bits, row)) } else { None })
+    }
+}
+
+impl ByteStrings {
+    /// The rows, `None` where one is null.
+    pub fn iter(&self) -> impl Iterator<Item = Option<&[u8]>> + '_ {
+        self.offsets.windows(2).enumerate().map(move |(row, ends)| {
+            if bit(&self.validity, row) {
+                self.data.get(ends[0] as usize..ends[1] as usize)
+            } else {
+                None
+            }
+        })
+    }
+
+    /// The same of texts.
+    pub fn texts(&self) -> impl Iterator<Item = Option<&str>> + '_ {
+        self.iter().map(|row| row.and_then(|bytes| std::str::from_utf8(bytes).ok()))
+    }
+}
+
+impl Answers {
+    fn handle(&self) -> *mut Handle {
+        self.raw.get()
+    }
+
+    /// How many answers there are.
+    pub fn len(&self) -> usize {
+        self.kinds.len()
+    }
+
+    /// Never: an expression has at least one answer.
+    pub fn is_empty(&self) -> bool {
+        self.kinds.is_empty()
+    }
+
+    fn size(&self, answer: usize, wanted: &[Kind]) -> Result<Size, Error> {
+        match self.kinds.get(answer) {
+            Some(kind) if wanted.contains(kind) => {}
+            Some(_) => return Err(Error::Use { status: Status::OtherKind }),
+            None => return Err(Error::Use { status: Status::NoSuchNumber }),
+        }
+        let mut size = Size::default();
+        // SAFETY: the handle is of this value alone, and the size is a struct of Rust.
+        checked(unsafe { raw::yk_answer_size(self.handle(), answer, &mut size) })?;
+        Ok(size)
+    }
+
+    fn copy(&self, answer: usize, mut rooms: Rooms<'_>) -> Result<(), Error> {
+        // SAFETY: the handle is of this value alone, and the rooms borrow slices of Rust that nothing else is handed.
+        checked(unsafe { raw::yk_answer_copy(self.handle(), answer, &mut rooms) })
+    }
+
+    /// The answer of that number, of whole numbers of the type `T`.
+    pub fn integers<T: Integer>(&self, answer: usize) -> Result<Integers<T>, Error> {
+        let size = self.size(answer, &[T::KIND])?;
+        let (mut validity, mut values) = (vec![0; size.validity], vec![T::default(); size.values]);
+        let mut rooms = Rooms { kind: T::KIND.number(), validity: validity[..].as_mut().into(), ..Default::default() };
+        T::make_room(&mut values, &mut rooms);
+        self.copy(answer, rooms)?;
+        Ok(Integers { validity, values })
+    }
+
+    /// The answer of that number, of truth values.
+    pub fn bools(&self, answer: usize) -> Result<Bools, Error> {
+        let size = self.size(answer, &[Kind::Bool])?;
+        let (mut validity, mut bits) = (vec![0; size.validity], vec![0; size.values]);
+        let rooms = Rooms {
+            kind: Kind::Bool.number(),
+            validity: validity[..].as_mut().into(),
+            bools: bits[..].as_mut().into(),
+            ..Default::default()
+        };
+        self.copy(answer, rooms)?;
+        Ok(Bools { validity, bits, rows: size.rows })
+    }
+
+    /// The answer of that number, of texts or byte strings.
+    pub fn byte_strings(&self, answer: usize) -> Result<ByteStrings, Error> {
+        let size = self.size(answer, &[Kind::Utf8, Kind::Binary])?;
+        let kind = if self.kinds[answer] == Kind::Utf8 { crate::column::LARGE_UTF8 } else { crate::column::LARGE_BINARY };
+        let (mut validity, mut offsets, mut data) = (vec![0; size.validity], vec![0; size.offsets], vec![0; size.data]);
+        let rooms = Rooms {
+            kind,
+            validity: validity[..].as_mut().into(),
+            offsets64: offsets[..].as_mut().into(),
+            data: data[..].as_mut().into(),
+            ..Default::default()
+        };
+        self.copy(answer, rooms)?;
+        Ok(ByteStrings { validity, offsets, data })
+    }
+
+    /// The numbers of the rows in which that answer, a truth value, is true, ascending from 0 on.
+    pub fn select(&self, answer: usize) -> Result<Vec<u64>, Error> {
+        let rows = self.size(answer, &[Kind::Bool])?.rows;
+        let (mut numbers, mut count) = (vec![0; rows], 0);
+        // SAFETY: the handle is of this value alone, and the room is a slice of Rust.
+        checked(unsafe { raw::yk_select(self.handle(), answer, numbers.as_mut_ptr(), rows, &mut count) })?;
+        numbers.truncate(count);
+        Ok(numbers)
+    }
+}
+
+impl Drop for Answers {
+    fn drop(&mut self) {
+        // SAFETY: the handle is as the library left it, and nothing uses it behind this.
+        unsafe { raw::yk_answers_free(self.handle()) }
+    }
+}

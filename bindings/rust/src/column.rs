@@ -1,0 +1,365 @@
+//! Columns that are borrowed where they lie, and columns that are made.
+use crate::raw;
+
+/// The types of fields, columns and answers.
+#[derive(Clone, Copy, Debug, PartialEq, Eq, Hash)]
+pub enum Kind {
+    Bool,
+    I8,
+    I16,
+    I32,
+    I64,
+    U8,
+    U16,
+    U32,
+    U64,
+    Utf8,
+    Binary,
+    /// A list or a struct, which scripts can have and no call copies.
+    Other,
+}
+
+const KINDS: [(u32, Kind); 15] = [
+    (1, Kind::Bool),
+    (2, Kind::I8),
+    (3, Kind::I16),
+    (4, Kind::I32),
+    (5, Kind::I64),
+    (6, Kind::U8),
+    (7, Kind::U16),
+    (8, Kind::U32),
+    (9, Kind::U64),
+    (10, Kind::Utf8),
+    (11, Kind::Utf8),
+    (12, Kind::Utf8),
+    (13, Kind::Binary),
+    (14, Kind::Binary),
+    (15, Kind::Binary),
+];
+
+pub(crate) const LARGE_UTF8: u32 = 11;
+pub(crate) const UTF8_VIEW: u32 = 12;
+pub(crate) const LARGE_BINARY: u32 = 14;
+pub(crate) const BINARY_VIEW: u32 = 15;
+
+impl Kind {
+    pub(crate) fn number(self) -> u32 {
+        KINDS.iter().find(|(_, kind)| *kind == self).map_or(0, |(number, _)| *number)
+    }
+
+    pub(crate) fn of(number: u32) -> Kind {
+        KINDS.iter().find(|(other, _)| *other == number).map_or(Kind::Other, |(_, kind)| *kind)
+    }
+}
+
+/// The type of a field or an answer.
+#[derive(Clone, Copy, Debug, PartialEq, Eq, Hash)]
+pub struct Type {
+    pub kind: Kind,
+    /// Whether a row can be null.
+    pub nullable: bool,
+}
+
+/// A named column of the scope that an expression is read over.
+#[derive(Clone, Copy, Debug, PartialEq, Eq, Hash)]
+pub struct Field<'a> {
+    pub name: &'a str,
+    pub of: Type,
+}
+
+impl<'a> Field<'a> {
+    /// A field in which no row is null.
+    pub fn new(name: &'a str, kind: Kind) -> Field<'a> {
+        Field { name, of: Type { kind, nullable: false } }
+    }
+
+    /// The field whose rows can be null.
+    pub fn nullable(name: &'a str, kind: Kind) -> Field<'a> {
+        Field { name, of: Type { kind, nullable: true } }
+    }
+}
+
+mod sealed {
+    pub trait Sealed {}
+}
+
+/// The eight types of whole numbers.
+pub trait Integer: sealed::Sealed + Copy + Default + 'static {
+    const KIND: Kind;
+    #[doc(hidden)]
+    fn lend<'a>(values: &'a [Self], column: &mut raw::Column<'a>);
+    #[doc(hidden)]
+    fn make_room<'a>(values: &'a mut [Self], rooms: &mut raw::Rooms<'a>);
+}
+
+macro_rules! integers {
+    ($($slot:ident $kind:ident)*) => {$(
+        impl sealed::Sealed for $slot {}
+
+        impl Integer for $slot {
+            const KIND: Kind = Kind::$kind;
+
+            fn lend<'a>(values: &'a [Self], column: &mut raw::Column<'a>) {
+                column.$slot = values.into();
+            }
+
+            fn make_room<'a>(values: &'a mut [Self], rooms: &mut raw::Rooms<'a>) {
+                rooms.$slot = values.into();
+            }
+        }
+    )*};
+}
+
+integers! { i8 I8 i16 I16 i32 I32 i64 I64 u8 U8 u16 U16 u32 U32 u64 U64 }
+
+/// A column in Arrow's layout, borrowed where it lies. It is begun by what its values are, and says more by turns:
+///
+/// ```
+/// use yurkije::Column;
+/// let stocks = [7i64, 0, 5];
+/// let valid = [0b101];
+/// let column = Column::integers(&stocks).nullable(Some(&valid));
+/// assert_eq!(column.rows(), 3);
+/// ```
+///
+/// What does not fit, as too few bits, is refused when the column is run.
+#[derive(Clone, Copy, Debug)]
+pub struct Column<'a> {
+    pub(crate) raw: raw::Column<'a>,
+}
+
+impl<'a> Column<'a> {
+    fn new(kind: u32, rows: usize) -> Column<'a> {
+        Column { raw: raw::Column { kind, rows, ..Default::default() } }
+    }
+
+    /// Whole numbers, one a row.
+    pub fn integers<T: Integer>(values: &'a [T]) -> Column<'a> {
+        let mut column = Column::new(T::KIND.number(), values.len());
+        T::lend(values, &mut column.raw);
+        column
+    }
+
+    /// Truth values, a bit a row, from the least significant of the first byte on.
+    pub fn bools(bits: &'a [u8], rows: usize) -> Column<'a> {
+        let mut column = Column::new(Kind::Bool.number(), rows);
+        column.raw.bools = bits.into();
+        column
+    }
+
+    /// Texts by offsets of 32 bits: row `i` is the text of bytes `offsets[i]` to `offsets[i + 1]` of the data.
+    pub fn texts(offsets: &'a [i32], data: &'a [u8]) -> Column<'a> {
+        Column::by_offsets(Kind::Utf8.number(), offsets, data)
+    }
+
+    /// Byte strings by offsets of 32 bits.
+    pub fn byte_strings(offsets: &'a [i32], data: &'a [u8]) -> Column<'a> {
+        Column::by_offsets(Kind::Binary.number(), offsets, data)
+    }
+
+    fn by_offsets(kind: u32, offsets: &'a [i32], data: &'a [u8]) -> Column<'a> {
+        let mut column = Column::new(kind, offsets.len().saturating_sub(1));
+        column.raw.offsets32 = offsets.into();
+        column.raw.data = data.into();
+        column
+    }
+
+    /// Texts by offsets of 64 bits.
+    pub fn large_texts(offsets: &'a [i64], data: &'a [u8]) -> Column<'a> {
+        Column::by_large_offsets(LARGE_UTF8, offsets, data)
+    }
+
+    /// Byte strings by offsets of 64 bits.
+    pub fn large_byte_strings(offsets: &'a [i64], data: &'a [u8]) -> Column<'a> {
+        Column::by_large_offsets(LARGE_BINARY, offsets, data)
+    }
+
+    fn by_large_offsets(kind: u32, offsets: &'a [i64], data: &'a [u8]) -> Column<'a> {
+        let mut column = Column::new(kind, offsets.len().saturating_sub(1));
+        column.raw.offsets64 = offsets.into();
+        column.raw.data = data.into();
+        column
+    }
+
+    /// Texts by 16-byte views, in little endian, over buffers that `Buffers` has.
+    pub fn text_views(views: &'a [[u8; 16]], buffers: &'a Buffers<'a>) -> Column<'a> {
+        Column::by_views(UTF8_VIEW, views, buffers)
+    }
+
+    /// Byte strings by 16-byte views.
+    pub fn byte_string_views(views: &'a [[u8; 16]], buffers: &'a Buffers<'a>) -> Column<'a> {
+        Column::by_views(BINARY_VIEW, views, buffers)
+    }
+
+    fn by_views(kind: u32, views: &'a [[u8; 16]], buffers: &'a Buffers<'a>) -> Column<'a> {
+        let mut column = Column::new(kind, views.len());
+        column.raw.views = views.into();
+        column.raw.buffers = buffers.0[..].into();
+        column
+    }
+
+    /// The column whose rows can be null: a bit a row, set where it is not, from the least significant of the first byte on;
+    /// or none, where no row is null after all.
+    pub fn nullable(mut self, validity: Option<&'a [u8]>) -> Column<'a> {
+        self.raw.nullable = true;
+        self.raw.validity = validity.unwrap_or(&[]).into();
+        self
+    }
+
+    /// So many rows from one on: of the values, and of the bits.
+    pub fn slice(mut self, first: usize, rows: usize) -> Column<'a> {
+        self.raw.offset = self.raw.offset.saturating_add(first);
+        self.raw.rows = rows;
+        self
+    }
+
+    /// How many rows it has.
+    pub fn rows(&self) -> usize {
+        self.raw.rows
+    }
+}
+
+/// The buffers that views name.
+#[derive(Clone, Debug, Default)]
+pub struct Buffers<'a>(Vec<raw::Slice<'a, u8>>);
+
+impl<'a> Buffers<'a> {
+    /// These buffers, in their order.
+    pub fn new(buffers: impl IntoIterator<Item = &'a [u8]>) -> Buffers<'a> {
+        Buffers(buffers.into_iter().map(raw::Slice::from).collect())
+    }
+}
+
+/// Bits, a row each.
+#[derive(Clone, Debug, Default, PartialEq, Eq)]
+struct Bits {
+    bytes: Vec<u8>,
+    rows: usize,
+}
+
+impl Bits {
+    fn push(&mut self, bit: bool) {
+        if self.rows % 8 == 0 {
+            self.bytes.push(0);
+        }
+        self.bytes[self.rows / 8] |= u8::from(bit) << (self.rows % 8);
+        self.rows += 1;
+    }
+}
+
+/// A column that is made of values, some of them null, and owns its buffers.
+///
+/// ```
+/// use yurkije::ColumnBuf;
+/// let stocks = ColumnBuf::integers([Some(7i64), None]);
+/// let names = ColumnBuf::texts([Some("nut"), Some("bolt")]).expect("short");
+/// assert_eq!(stocks.column().rows() + names.column().rows(), 4);
+/// ```
+///
+/// Its rows can be null: `column` borrows it for a nullable field, `column_without_null` for one that is not.
+#[derive(Clone, Debug)]
+pub struct ColumnBuf<T> {
+    validity: Bits,
+    values: Vec<T>,
+    data: Vec<u8>,
+    kind: Kind,
+}
+
+impl<T: Integer> ColumnBuf<T> {
+    /// Whole numbers.
+    pub fn integers(values: impl IntoIterator<Item = Option<T>>) -> ColumnBuf<T> {
+        let mut made = ColumnBuf { validity: Bits::default(), values: Vec::new(), data: Vec::new(), kind: T::KIND };
+        for value in values {
+            made.validity.push(value.is_some());
+            made.values.push(value.unwrap_or_default());
+        }
+        made
+    }
+}
+
+/// What texts by offsets are made of.
+#[derive(Clone, Copy, Debug)]
+#[repr(transparent)]
+pub struct Offset(i32);
+
+impl ColumnBuf<Offset> {
+    /// Texts; `None` where they have more than 2,147,483,647 bytes together.
+    pub fn texts<'t>(values: impl IntoIterator<Item = Option<&'t str>>) -> Option<ColumnBuf<Offset>> {
+        ColumnBuf::collect(Kind::Utf8, values.into_iter().map(|value| value.map(str::as_bytes)))
+    }
+
+    /// Byte strings.
+    pub fn byte_strings<'t>(values: impl IntoIterator<Item = Option<&'t [u8]>>) -> Option<ColumnBuf<Offset>> {
+        ColumnBuf::collect(Kind::Binary, values.into_iter())
+    }
+
+    fn collect<'t>(kind: Kind, values: impl Iterator<Item = Option<&'t [u8]>>) -> Option<ColumnBuf<Offset>> {
+        let mut made = ColumnBuf { validity: Bits::default(), values: vec![Offset(0)], data: Vec::new(), kind };
+        for value in values {
+            made.validity.push(value.is_some());
+            made.data.extend_from_slice(value.unwrap_or(&[]));
+            made.values.push(Offset(i32::try_from(made.data.len()).ok()?));
+        }
+        Some(made)
+    }
+}
+
+/// What truth values are made of.
+#[derive(Clone, Copy, Debug)]
+pub struct Truth;
+
+impl ColumnBuf<Truth> {
+    /// Truth values.
+    pub fn bools(values: impl IntoIterator<Item = Option<bool>>) -> ColumnBuf<Truth> {
+        let mut made = ColumnBuf { validity: Bits::default(), values: Vec::new(), data: Vec::new(), kind: Kind::Bool };
+        let mut bits = Bits::default();
+        for value in values {
+            made.validity.push(value.is_some());
+            bits.push(value.unwrap_or(false));
+        }
+        made.data = bits.bytes;
+        made
+    }
+}
+
+/// What a `ColumnBuf` is made of.
+pub trait Stored: Sized {
+    #[doc(hidden)]
+    fn lend<'a>(values: &'a [Self], data: &'a [u8], column: &mut raw::Column<'a>);
+}
+
+impl<T: Integer> Stored for T {
+    fn lend<'a>(values: &'a [Self], _data: &'a [u8], column: &mut raw::Column<'a>) {
+        T::lend(values, column);
+    }
+}
+
+impl Stored for Offset {
+    fn lend<'a>(values: &'a [Self], data: &'a [u8], column: &mut raw::Column<'a>) {
+        // SAFETY: an `Offset` is an `i32` and nothing else.
+        let offsets = unsafe { std::slice::from_raw_parts(values.as_ptr().cast::<i32>(), values.len()) };
+        column.offsets32 = offsets.into();
+        column.data = data.into();
+    }
+}
+
+impl Stored for Truth {
+    fn lend<'a>(_values: &'a [Self], data: &'a [u8], column: &mut raw::Column<'a>) {
+        column.bools = data.into();
+    }
+}
+
+impl<T: Stored> ColumnBuf<T> {
+    /// The column of a field whose rows can be null.
+    pub fn column(&self) -> Column<'_> {
+        self.column_without_null().nullable(Some(&self.validity.bytes))
+    }
+
+    /// The column of a field that is not nullable: a null is refused when it is run.
+    pub fn column_without_null(&self) -> Column<'_> {
+        let mut column = Column::new(self.kind.number(), self.validity.rows);
+        column.raw.validity = self.validity.bytes[..].into();
+        T::lend(&self.values, &self.data, &mut column.raw);
+        column
+    }
+}

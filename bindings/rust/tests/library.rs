@@ -1,0 +1,170 @@
+//! What a caller of the crate sees. Expected values are by hand.
+use yurkije::{Buffers, Column, ColumnBuf, Error, Expression, Field, Kind, Status, Type, STATUSES};
+
+fn prices() -> Vec<i64> {
+    vec![3, 12, 40]
+}
+
+fn goods() -> [Field<'static>; 3] {
+    [Field::new("price", Kind::I64), Field::nullable("stock", Kind::I64), Field::new("name", Kind::Utf8)]
+}
+
+#[test]
+fn the_library_is_the_one_of_this_crate() {
+    assert!(yurkije::is_compatible());
+    assert_eq!(yurkije::version(), format!("yurkije {}", env!("CARGO_PKG_VERSION")));
+}
+
+#[test]
+fn statuses_are_those_of_the_header() {
+    let header = concat!(env!("CARGO_MANIFEST_DIR"), "/../c/yurkije.h");
+    let text = std::fs::read_to_string(header).expect("the header stands beside this crate");
+    let mut told = Vec::new();
+    let enumeration = text.split("enum yk_status {").nth(1).and_then(|rest| rest.split("};").next()).expect("the statuses");
+    for line in enumeration.lines() {
+        if let Some((name, rest)) = line.trim().split_once(" = ") {
+            let digits: String = rest.chars().take_while(char::is_ascii_digit).collect();
+            told.push((digits.parse::<u32>().expect("a number"), name.trim_start_matches("YK_").replace('_', "").to_lowercase()));
+        }
+    }
+    let ours = STATUSES.iter().map(|(number, name)| (*number, name.to_lowercase()));
+    assert_eq!(told.into_iter().filter(|(number, _)| *number > 0).collect::<Vec<_>>(), ours.collect::<Vec<_>>());
+}
+
+#[test]
+fn answers_have_names_types_and_rows() -> Result<(), Error> {
+    let expression = Expression::new("price * stock as worth, price > 10, name", &goods())?;
+    let told = expression.answers()?;
+    let types = [
+        ("worth", Type { kind: Kind::I64, nullable: true }),
+        ("price > 10", Type { kind: Kind::Bool, nullable: false }),
+        ("name", Type { kind: Kind::Utf8, nullable: false }),
+    ];
+    assert_eq!(told.iter().map(|(name, of)| (name.as_str(), *of)).collect::<Vec<_>>(), types);
+    let prices = prices();
+    let stocks = ColumnBuf::integers([Some(7i64), None, Some(-1)]);
+    let names = ColumnBuf::texts([Some("nut"), Some("a bolt of some length"), Some("żółw")]).expect("short");
+    let columns = [Column::integers(&prices), stocks.column(), names.column_without_null()];
+    let answers = expression.run(&columns, 3)?;
+    assert_eq!(answers.len(), 3);
+    assert_eq!(answers.integers::<i64>(0)?.iter().collect::<Vec<_>>(), [Some(21), None, Some(-40)]);
+    assert_eq!(answers.bools(1)?.iter().collect::<Vec<_>>(), [Some(false), Some(true), Some(true)]);
+    assert_eq!(answers.select(1)?, [1, 2]);
+    let texts = answers.byte_strings(2)?;
+    assert_eq!(texts.texts().collect::<Vec<_>>(), [Some("nut"), Some("a bolt of some length"), Some("żółw")]);
+    Ok(())
+}
+
+#[test]
+fn an_expression_runs_over_many_batches() -> Result<(), Error> {
+    let expression = Expression::new("a + b", &[Field::new("a", Kind::U16), Field::nullable("b", Kind::U16)])?;
+    let (a, b): (Vec<u16>, Vec<u16>) = ((0..1000).collect(), (0..1000).rev().collect());
+    let valid: Vec<u8> = vec![0xfe; 125];
+    for (first, rows) in [(0, 1000), (3, 90), (999, 1), (7, 0)] {
+        let columns = [Column::integers(&a).slice(first, rows), Column::integers(&b).nullable(Some(&valid)).slice(first, rows)];
+        let answers = expression.run(&columns, rows)?;
+        let expected: Vec<Option<u16>> = (first..first + rows).map(|row| if row % 8 == 0 { None } else { Some(999) }).collect();
+        assert_eq!(answers.integers::<u16>(0)?.iter().collect::<Vec<_>>(), expected);
+    }
+    Ok(())
+}
+
+#[test]
+fn texts_come_in_each_layout() -> Result<(), Error> {
+    let expression = Expression::new("t like '%long%' as found, t", &[Field::new("t", Kind::Utf8)])?;
+    let data = b"shorta text that is too long for a view";
+    let mut views = [[0u8; 16]; 2];
+    views[0][..9].copy_from_slice(b"\x05\0\0\0short");
+    views[1][..8].copy_from_slice(b"\x22\0\0\0a te");
+    views[1][12] = 5;
+    let buffers = Buffers::new([&data[..]]);
+    let columns = [
+        Column::texts(&[0, 5, 39], data),
+        Column::large_texts(&[0, 5, 39], data),
+        Column::text_views(&views, &buffers),
+    ];
+    for column in columns {
+        let answers = expression.run(&[column], 2)?;
+        assert_eq!(answers.select(0)?, [1]);
+        let texts = answers.byte_strings(1)?;
+        assert_eq!(texts.texts().collect::<Vec<_>>(), [Some("short"), Some("a text that is too long for a view")]);
+    }
+    Ok(())
+}
+
+#[test]
+fn truth_values_are_bits() -> Result<(), Error> {
+    let expression = Expression::new("x and y", &[Field::nullable("x", Kind::Bool), Field::new("y", Kind::Bool)])?;
+    let x = ColumnBuf::bools([Some(true), Some(false), None, None]);
+    let answers = expression.run(&[x.column(), Column::bools(&[0b0111], 4)], 4)?;
+    assert_eq!(answers.bools(0)?.iter().collect::<Vec<_>>(), [Some(true), Some(false), None, Some(false)]);
+    Ok(())
+}
+
+#[test]
+fn a_text_that_is_refused_tells_its_place() {
+    let error = Expression::new("price > 1 and prcie < 2", &goods()).unwrap_err();
+    assert_eq!((error.number(), error.name()), (11, "ScopeMismatch"));
+    let place = error.place().expect("a place");
+    assert_eq!((place.byte, place.line, place.character), (Some(14), 1, 15));
+    assert!(error.to_string().contains("prcie"), "{}", error);
+    let error = Expression::new("price +", &goods()).unwrap_err();
+    assert_eq!((error.number(), error.place().and_then(|place| place.byte)), (112, Some(7)));
+}
+
+#[test]
+fn a_column_that_is_refused_tells_its_number_and_row() -> Result<(), Error> {
+    let expression = Expression::new("price + 1", &goods()[..2])?;
+    let (prices, stocks) = (prices(), [1i64, 2, 3]);
+    let good = Column::integers(&prices);
+    let short = expression.run(&[good, Column::integers(&stocks[..2]).nullable(None)], 3).expect_err("refused");
+    assert_eq!((short.number(), short.column()), (2, Some(1)));
+    let null = expression.run(&[ColumnBuf::integers([Some(1i64), None, None]).column_without_null(), good.nullable(None)], 3);
+    let null = null.expect_err("refused");
+    assert_eq!((null.number(), null.column(), null.row()), (124, Some(0), Some(1)));
+    let other = expression.run(&[Column::integers(&[1i32, 2, 3]), good.nullable(None)], 3).expect_err("refused");
+    assert_eq!((other.number(), other.column()), (11, Some(0)));
+    Ok(())
+}
+
+#[test]
+fn a_fault_tells_its_first_row() -> Result<(), Error> {
+    let expression = Expression::new("price + 1, price / stock as share", &goods()[..2])?;
+    let prices = prices();
+    let stocks = [2i64, 0, 0];
+    let error = expression.run(&[Column::integers(&prices), Column::integers(&stocks).nullable(None)], 3).expect_err("a fault");
+    match error {
+        Error::Fault { status, answer, row, .. } => assert_eq!((status, answer, row), (Status::Arithmetic, Some(1), 1)),
+        other => panic!("{:?}", other),
+    }
+    Ok(())
+}
+
+#[test]
+fn wrong_use_is_told() -> Result<(), Error> {
+    let expression = Expression::new("price", &goods()[..1])?;
+    let prices = prices();
+    let answers = expression.run(&[Column::integers(&prices)], 3)?;
+    assert_eq!(answers.integers::<i32>(0).unwrap_err(), Error::Use { status: Status::OtherKind });
+    assert_eq!(answers.integers::<i64>(1).unwrap_err(), Error::Use { status: Status::NoSuchNumber });
+    assert_eq!(answers.select(0).unwrap_err().name(), "OtherKind");
+    Ok(())
+}
+
+#[test]
+fn each_thread_reads_its_own() {
+    let sums: Vec<Option<i64>> = std::thread::scope(|scope| {
+        let runs: Vec<_> = (0..4i64)
+            .map(|n| {
+                scope.spawn(move || {
+                    let expression = Expression::new("a + 1", &[Field::new("a", Kind::I64)]).expect("an expression");
+                    let answers = expression.run(&[Column::integers(&[n])], 1).expect("answers");
+                    let sum = answers.integers::<i64>(0).expect("numbers").iter().next().flatten();
+                    sum
+                })
+            })
+            .collect();
+        runs.into_iter().map(|run| run.join().expect("a thread")).collect()
+    });
+    assert_eq!(sums, [Some(1), Some(2), Some(3), Some(4)]);
+}

@@ -1,0 +1,356 @@
+/* A fuzzer (libFuzzer): texts and columns from its bytes. Each slice that the library reads or writes ends where a page ends that nobody
+ * may touch, so that a byte past its end is a fault, also in code that no sanitizer knows. What is answered is asked again over the same
+ * rows at another offset and in another layout, and compared. */
+#define _DEFAULT_SOURCE
+#include "yurkije_arrow.h"
+
+#include <stdio.h>
+#include <stdlib.h>
+#include <string.h>
+#include <sys/mman.h>
+
+enum { most_columns = 4, most_rows = 70, slots = 40, slot_size = 4096 };
+
+/* The bytes of one input, taken from the front. */
+struct given { const uint8_t *at; size_t left; };
+
+static unsigned next(struct given *given) {
+    if (given->left == 0)
+        return 0;
+    given->left--;
+    return *given->at++;
+}
+
+static unsigned below(struct given *given, unsigned bound) { return bound ? next(given) % bound : 0; }
+
+/* Memory that ends at a page of no access: a slot for each slice of a run. */
+static uint8_t *slot_end[slots];
+static int taken;
+
+static void make_slots(void) {
+    uint8_t *at = mmap(NULL, (size_t)slots * 2 * slot_size, PROT_READ | PROT_WRITE, MAP_PRIVATE | MAP_ANONYMOUS, -1, 0);
+    if (at == MAP_FAILED)
+        abort();
+    for (int i = 0; i < slots; i++) {
+        mprotect(at + (size_t)(2 * i + 1) * slot_size, slot_size, PROT_NONE);
+        slot_end[i] = at + (size_t)(2 * i + 1) * slot_size;
+    }
+}
+
+static void *guarded(size_t bytes) {
+    if (taken == slots || bytes > slot_size)
+        abort();
+    return slot_end[taken++] - bytes;
+}
+
+static void *guarded_copy(const void *from, size_t bytes) { return bytes ? memcpy(guarded(bytes), from, bytes) : NULL; }
+
+/* Tokens that texts are made of: most of them say something. */
+static const char *const tokens[] = {
+    "c0", "c1", "c2", "c3", "\"c1\"", "7", "-3", "0", "'a'", "'%b_'", "true", "false", "null", "null::i64?", "5::u8", "and", "or", "not", "is null",
+    "is not null", "+", "-", "*", "/", "<", "<=", ">", ">=", "=", "<>", "(", ")", "between 1 and 3", "like 'a%'", "ilike '%B'", "like c1", ",", "as x",
+    "as \"a y\"", "cast(c0 as bool?)", "escape '!'", "--", "\n", "''''", "9223372036854775807", "c0 < c1", "c0 + c1", "c2 like '%'", "not like '_'",
+    "::", "::utf8?", "c0 is null", "c0 / c1", "2 * c0", "c0 between c1 and c2",
+};
+
+/* A text that is being written, over these fields. */
+struct writing { char *text; size_t length, room; const struct yk_field *fields; size_t count; };
+
+static void write_words(struct writing *to, const char *words) {
+    size_t more = strlen(words);
+    if (to->length + more + 1 > to->room)
+        return;
+    memcpy(to->text + to->length, words, more);
+    to->length += more;
+    to->text[to->length++] = ' ';
+}
+
+/* Any tokens, and now and then a byte of the input. */
+static void write_tokens(struct given *given, struct writing *to) {
+    for (unsigned count = 1 + below(given, 12); count > 0; count--) {
+        char byte[2] = {(char)next(given), 0};
+        write_words(to, next(given) % 64 == 0 ? byte : tokens[below(given, sizeof tokens / sizeof *tokens)]);
+    }
+}
+
+enum shape { is_truth, is_number, is_text };
+
+static enum shape shape_of(uint32_t kind) { return kind == YK_BOOL ? is_truth : kind <= YK_U64 ? is_number : is_text; }
+
+/* A column of that shape, or a literal. */
+static void write_atom(struct given *given, struct writing *to, enum shape shape) {
+    static const char *const literals[][4] = {{"true", "false", "null::bool?", "c0"}, {"3", "0", "-1", "100"}, {"'a'", "''", "'%b_'", "null::utf8?"}};
+    for (unsigned tries = 0, at = next(given); tries < to->count; tries++, at++)
+        if (shape_of(to->fields[at % to->count].kind) == shape && next(given) % 4) {
+            write_words(to, (const char *const[]){"c0", "c1", "c2", "c3"}[at % to->count]);
+            return;
+        }
+    write_words(to, literals[shape][below(given, 4)]);
+}
+
+/* An expression that is well written and mostly well typed: an operator between two sums or atoms, in brackets, joined by and and or. */
+static void write_number(struct given *given, struct writing *to) {
+    static const char *const signs[] = {"+", "-", "*", "/"};
+    write_atom(given, to, is_number);
+    for (unsigned more = below(given, 3); more > 0; more--) {
+        write_words(to, signs[below(given, 4)]);
+        write_atom(given, to, is_number);
+    }
+}
+
+static void write_comparison(struct given *given, struct writing *to) {
+    static const char *const signs[] = {"<", "<=", ">", ">=", "=", "<>"}, *const likes[] = {"like", "not like", "ilike", "<", "=", "is null or not"};
+    unsigned form = below(given, 6);
+    if (form < 2) {
+        write_number(given, to);
+        write_words(to, signs[below(given, 6)]);
+        write_number(given, to);
+    } else if (form == 2) {
+        write_number(given, to);
+        write_words(to, next(given) & 1 ? "between" : "not between");
+        write_number(given, to);
+        write_words(to, "and");
+        write_number(given, to);
+    } else if (form == 3) {
+        write_atom(given, to, is_text);
+        write_words(to, likes[below(given, 5)]);
+        write_atom(given, to, is_text);
+    } else {
+        write_atom(given, to, (enum shape)below(given, 3));
+        write_words(to, form == 4 ? "is null" : "is not null");
+    }
+}
+
+static void write_answers(struct given *given, struct writing *to) {
+    static const char *const joins[] = {"and", "or", "and not", ", ", "or not"};
+    for (unsigned more = below(given, 5);; more--) {
+        if (next(given) % 4 == 0)
+            write_number(given, to);
+        else
+            write_comparison(given, to);
+        if (more == 0)
+            return;
+        write_words(to, joins[below(given, 5)]);
+    }
+}
+
+/* A column of a kind, over items from the input; now and then with a wrong length, offset or view. */
+struct fuzzed { struct yk_column column; int32_t offsets[most_rows + 20]; uint8_t views[most_rows + 20][16]; uint8_t data[300]; struct yk_bytes buffers[2]; };
+
+static void fill(struct given *given, uint8_t *to, size_t bytes) {
+    uint64_t state = 1 + next(given);
+    unsigned kind = below(given, 4);
+    for (size_t i = 0; i < bytes; i++) {
+        state = state * 6364136223846793005u + 1442695040888963407u;
+        to[i] = kind == 0 ? 0 : kind == 1 ? (uint8_t)(state >> 56) : kind == 2 ? (uint8_t)('a' + (state >> 60)) : (uint8_t)(i % 8 == 0 ? state >> 62 : 0);
+    }
+}
+
+static void set_integers(struct yk_column *column, struct given *given, size_t items) {
+    uint8_t bytes[8 * (most_rows + 20)];
+    fill(given, bytes, sizeof bytes);
+    switch (column->kind) {
+    case YK_BOOL: items = items / 8 + (items % 8 != 0); column->bools = (struct yk_bytes){guarded_copy(bytes, items), items}; break;
+    case YK_I8: column->i8 = (struct yk_i8s){guarded_copy(bytes, items), items}; break;
+    case YK_I16: column->i16 = (struct yk_i16s){guarded_copy(bytes, 2 * items), items}; break;
+    case YK_I32: column->i32 = (struct yk_i32s){guarded_copy(bytes, 4 * items), items}; break;
+    case YK_I64: column->i64 = (struct yk_i64s){guarded_copy(bytes, 8 * items), items}; break;
+    case YK_U8: column->u8 = (struct yk_bytes){guarded_copy(bytes, items), items}; break;
+    case YK_U16: column->u16 = (struct yk_u16s){guarded_copy(bytes, 2 * items), items}; break;
+    case YK_U32: column->u32 = (struct yk_u32s){guarded_copy(bytes, 4 * items), items}; break;
+    default: column->u64 = (struct yk_u64s){guarded_copy(bytes, 8 * items), items}; break;
+    }
+}
+
+static void set_offsets(struct fuzzed *made, struct given *given, size_t items) {
+    struct yk_column *column = &made->column;
+    bool wild = next(given) % 16 == 0;
+    size_t length = below(given, 200);
+    int32_t at = 0;
+    fill(given, made->data, length);
+    for (size_t i = 0; i <= items; i++) {
+        made->offsets[i] = wild ? (int32_t)(next(given) << 24 | next(given)) : at;
+        if (at < (int32_t)length)
+            at += (int32_t)below(given, 4);
+        if (at > (int32_t)length)
+            at = (int32_t)length;
+    }
+    column->data = (struct yk_bytes){guarded_copy(made->data, length), length};
+    size_t count = next(given) % 32 == 0 ? items / 2 : items + 1;
+    if (column->kind == YK_UTF8 || column->kind == YK_BINARY) {
+        column->offsets32 = (struct yk_i32s){guarded_copy(made->offsets, 4 * count), count};
+    } else {
+        int64_t *wide = count ? guarded(8 * count) : NULL;
+        for (size_t i = 0; i < count; i++)
+            wide[i] = made->offsets[i];
+        column->offsets64 = (struct yk_i64s){wide, count};
+    }
+}
+
+static void set_views(struct fuzzed *made, struct given *given, size_t items) {
+    struct yk_column *column = &made->column;
+    fill(given, made->data, 200);
+    for (size_t i = 0; i < items; i++) {
+        uint32_t parts[4] = {below(given, 40), 0, below(given, 2), below(given, 120)};
+        if (next(given) % 64 == 0)
+            parts[next(given) % 4] = (uint32_t)next(given) << 24 | next(given);
+        memset(made->views[i], 0, 16);
+        memcpy(made->views[i], parts, 4);
+        if (parts[0] <= 12) {
+            fill(given, made->views[i] + 4, parts[0]);
+        } else {
+            memcpy(made->views[i] + 4, made->data + (parts[3] < 190 ? parts[3] : 0), 4);
+            memcpy(made->views[i] + 8, parts + 2, 8);
+        }
+    }
+    for (int i = 0; i < 2; i++)
+        made->buffers[i] = (struct yk_bytes){guarded_copy(made->data, 200), 200};
+    column->views = (struct yk_views){items ? (const uint8_t(*)[16])guarded_copy(made->views, 16 * items) : NULL, items};
+    column->buffers = (struct yk_buffers){guarded_copy(made->buffers, sizeof made->buffers), 2};
+}
+
+static void make_column(struct fuzzed *made, const struct yk_field *field, struct given *given, size_t rows) {
+    struct yk_column *column = &made->column;
+    uint8_t bits[(most_rows + 20) / 8 + 1];
+    *column = (struct yk_column){.kind = field->kind, .nullable = field->nullable, .rows = rows, .offset = below(given, 17)};
+    if (next(given) % 64 == 0)
+        column->kind = next(given);
+    size_t items = column->offset + rows;
+    if (field->nullable && next(given) % 4) {
+        size_t bytes = items / 8 + (items % 8 != 0) - (items > 0 && next(given) % 64 == 0);
+        fill(given, bits, sizeof bits);
+        column->validity = (struct yk_bytes){guarded_copy(bits, bytes), bytes};
+    }
+    if (next(given) % 64 == 0)
+        column->offset = SIZE_MAX - below(given, 100);
+    if (column->kind >= YK_BOOL && column->kind <= YK_U64)
+        set_integers(column, given, items - (items > 0 && next(given) % 64 == 0));
+    else if (column->kind == YK_UTF8_VIEW || column->kind == YK_BINARY_VIEW)
+        set_views(made, given, items);
+    else
+        set_offsets(made, given, items);
+}
+
+/* Rooms that end at pages of no access, of exactly the size that is told. */
+static uint32_t copy_answer(struct yk_answers *answers, size_t answer, uint32_t kind, struct yk_room *room) {
+    struct yk_size size;
+    uint32_t status = yk_answer_size(answers, answer, &size);
+    if (status)
+        return status;
+    *room = (struct yk_room){.kind = kind, .validity = {guarded(size.validity), size.validity}};
+    switch (kind) {
+    case YK_BOOL: room->bools = (struct yk_bytes_room){guarded(size.values), size.values}; break;
+    case YK_I8: room->i8 = (struct yk_i8s_room){guarded(size.values), size.values}; break;
+    case YK_I16: room->i16 = (struct yk_i16s_room){guarded(2 * size.values), size.values}; break;
+    case YK_I32: room->i32 = (struct yk_i32s_room){guarded(4 * size.values), size.values}; break;
+    case YK_I64: room->i64 = (struct yk_i64s_room){guarded(8 * size.values), size.values}; break;
+    case YK_U8: room->u8 = (struct yk_bytes_room){guarded(size.values), size.values}; break;
+    case YK_U16: room->u16 = (struct yk_u16s_room){guarded(2 * size.values), size.values}; break;
+    case YK_U32: room->u32 = (struct yk_u32s_room){guarded(4 * size.values), size.values}; break;
+    case YK_U64: room->u64 = (struct yk_u64s_room){guarded(8 * size.values), size.values}; break;
+    default:
+        if (size.data > slot_size)
+            return YK_ROOM_TOO_SMALL;
+        room->offsets32 = (struct yk_i32s_room){guarded(4 * size.offsets), size.offsets};
+        room->data = (struct yk_bytes_room){guarded(size.data), size.data};
+    }
+    return yk_answer_copy(answers, answer, room);
+}
+
+/* Whether row i of one copy is row j of another. */
+static bool same_row(const struct yk_room *a, size_t i, const struct yk_room *b, size_t j) {
+    bool valid = a->validity.at[i / 8] >> i % 8 & 1;
+    if (valid != (b->validity.at[j / 8] >> j % 8 & 1) || !valid)
+        return valid == (b->validity.at[j / 8] >> j % 8 & 1);
+    switch (a->kind) {
+    case YK_BOOL: return (a->bools.at[i / 8] >> i % 8 & 1) == (b->bools.at[j / 8] >> j % 8 & 1);
+    case YK_I8: return a->i8.at[i] == b->i8.at[j];
+    case YK_I16: return a->i16.at[i] == b->i16.at[j];
+    case YK_I32: return a->i32.at[i] == b->i32.at[j];
+    case YK_I64: return a->i64.at[i] == b->i64.at[j];
+    case YK_U8: return a->u8.at[i] == b->u8.at[j];
+    case YK_U16: return a->u16.at[i] == b->u16.at[j];
+    case YK_U32: return a->u32.at[i] == b->u32.at[j];
+    case YK_U64: return a->u64.at[i] == b->u64.at[j];
+    default: break;
+    }
+    int32_t length = a->offsets32.at[i + 1] - a->offsets32.at[i];
+    return length == b->offsets32.at[j + 1] - b->offsets32.at[j]
+           && (length == 0 || memcmp(a->data.at + a->offsets32.at[i], b->data.at + b->offsets32.at[j], (size_t)length) == 0);
+}
+
+/* Runs the rows from `cut` on as a batch of their own, and compares each answer with the whole's. */
+static void again(struct yk_expression *expression, struct fuzzed *made, size_t count, size_t rows, size_t cut, struct yk_answers *whole, struct yk_error *error) {
+    struct yk_column columns[most_columns];
+    struct yk_answers part = {0};
+    size_t answers = 0;
+    for (size_t i = 0; i < count; i++) {
+        columns[i] = made[i].column;
+        columns[i].offset += cut;
+        columns[i].rows -= cut;
+    }
+    if (yk_run(expression, columns, count, rows - cut, &part, error))
+        abort();
+    yk_answer_count(expression, &answers);
+    int before = taken;
+    for (size_t k = 0; k < answers && k < 3; k++) {
+        struct yk_room a, b;
+        struct yk_type type;
+        taken = before;
+        yk_answer_type(expression, k, &type);
+        if (copy_answer(whole, k, type.kind, &a) || copy_answer(&part, k, type.kind, &b))
+            break;
+        for (size_t i = cut; i < rows; i++)
+            if (!same_row(&a, i, &b, i - cut))
+                abort();
+    }
+    yk_answers_free(&part);
+}
+
+/* How many texts were expressions, and how many batches were answered. */
+static unsigned long asked, readable, answered;
+
+__attribute__((destructor)) static void tell(void) {
+    fprintf(stderr, "fuzz: %lu texts, %lu of them expressions, %lu batches answered and compared\n", asked, readable, answered);
+}
+
+int LLVMFuzzerTestOneInput(const uint8_t *bytes, size_t size) {
+    static struct fuzzed made[most_columns];
+    struct given given = {bytes, size};
+    struct yk_field fields[most_columns];
+    static const char *const names[] = {"c0", "c1", "c2", "c3"};
+    char text[400], message[40];
+    struct yk_column columns[most_columns];
+    struct yk_expression expression = {0};
+    struct yk_answers answers = {0};
+    struct yk_error error = {.message = {message, sizeof message}};
+    if (!slot_end[0])
+        make_slots();
+    taken = 0;
+    size_t count = 1 + below(&given, most_columns), rows = below(&given, most_rows);
+    for (size_t i = 0; i < count; i++)
+        fields[i] = (struct yk_field){{names[i], 2}, next(&given) % 64 == 0 ? next(&given) : 1 + below(&given, 15), next(&given) & 1};
+    struct writing writing = {text, 0, sizeof text, fields, count};
+    if (next(&given) % 4)
+        write_answers(&given, &writing);
+    else
+        write_tokens(&given, &writing);
+    uint32_t status = yk_expression_new(guarded_copy(text, writing.length), writing.length, fields, count, &expression, &error);
+    asked++;
+    readable += status == YK_OK;
+    taken = 0;
+    for (size_t i = 0; !status && i < count; i++) {
+        make_column(&made[i], &fields[i], &given, rows);
+        columns[i] = made[i].column;
+    }
+    if (!status)
+        status = yk_run(&expression, columns, count, rows, &answers, &error);
+    if ((status != YK_OK) != (error.status != YK_OK) || error.message_length >= sizeof message)
+        abort();
+    answered += status == YK_OK;
+    if (!status && rows > 0)
+        again(&expression, made, count, rows, 1 + below(&given, (unsigned)rows), &answers, &error);
+    yk_answers_free(&answers);
+    yk_expression_free(&expression);
+    return 0;
+}

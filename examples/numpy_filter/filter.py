@@ -1,0 +1,76 @@
+"""A scan filter over numpy columns, beside numpy's own answer."""
+import statistics
+import sys
+import time
+
+import numpy as np
+import yurkije
+
+try:
+    import pandas
+except ImportError:
+    pandas = None
+
+WORDS = ["ion foci", "xylene, mixed isomers", "nitric oxide", "iron", "£", "", "sodium nitrite"]
+
+
+def timed(call):
+    """Returns what a call answers, and the milliseconds of the median of some calls."""
+    times = []
+    for _ in range(9):
+        start = time.perf_counter()
+        answer = call()
+        times.append(1000 * (time.perf_counter() - start))
+    return answer, statistics.median(times)
+
+
+def show(what, expected, **calls):
+    """Makes the calls, holds each answer against the one that is expected, and prints how long each took."""
+    told = []
+    for name, call in calls.items():
+        answer, took = timed(call)
+        if not np.array_equal(np.asarray(answer), expected):
+            sys.exit(f"{what}: {name} answers otherwise")
+        told.append(f"{name} {took:.2f} ms")
+    print(f"{what}: the same answers; {', '.join(told)}")
+
+
+def main():
+    rows = int(sys.argv[1])
+    rng = np.random.default_rng(1)
+    a, b, c = (rng.integers(0, 100, rows) for _ in range(3))
+    names = [WORDS[k] for k in rng.integers(0, len(WORDS), rows)]
+    columns = {"a": a, "b": b, "c": c, "name": names}
+    frame = pandas.DataFrame(columns) if pandas else None
+
+    # An expression is read once, and run over as many batches as there are: here one of all rows.
+    taken = yurkije.Expression.of("a < b and c > 5 as taken", columns)
+    expected = (a < b) & (c > 5)
+    others = {"pandas": lambda: (frame.a < frame.b) & (frame.c > 5)} if pandas else {}
+    show(f"a < b and c > 5 over {rows} rows", expected, yurkije=lambda: taken.run(columns)["taken"], numpy=lambda: (a < b) & (c > 5), **others)
+    others = {"pandas": lambda: np.flatnonzero((frame.a < frame.b) & (frame.c > 5))} if pandas else {}
+    show("the rows that it takes", np.flatnonzero(expected), yurkije=lambda: taken.select(columns), numpy=lambda: np.flatnonzero((a < b) & (c > 5)), **others)
+
+    # With nulls: numpy's masked arrays take a comparison with null for null, and so does SQL.
+    nulls = rng.random(rows) < 0.1
+    masked = np.ma.MaskedArray(b, nulls)
+    with_nulls = {"a": a, "b": masked}
+    sums = yurkije.Expression.of("a + b as sum", with_nulls)
+    expected = np.ma.filled(a + masked, -1)
+    show("a + b, one of ten null", expected, yurkije=lambda: np.ma.filled(sums.run(with_nulls)["sum"], -1), numpy=lambda: np.ma.filled(a + masked, -1))
+
+    like = yurkije.Expression.of("name like '%nitr%' as found", columns)
+    expected = np.array(["nitr" in name for name in names])
+    others = {"pandas": lambda: frame.name.str.contains("nitr", regex=False)} if pandas else {}
+    show("name like '%nitr%', of a list of str", expected, yurkije=lambda: like.run(columns)["found"], python=lambda: ["nitr" in name for name in names], **others)
+
+    # What does not fit is refused, with its row; numpy's sum wraps round.
+    try:
+        yurkije.evaluate("a * 9223372036854775807", {"a": a})
+    except yurkije.ArithmeticRefusal as refusal:
+        with np.errstate(over="ignore"):
+            wrapped = (a * np.int64(9223372036854775807))[refusal.row]
+        print(f"refused: {refusal.message}; numpy says {wrapped}")
+
+
+main()
