@@ -293,7 +293,7 @@ fn with_actions<'a>(alloc: Global, command: Command<'a>) -> Result<Command<'a>, 
 /// they are read and written.
 pub fn command<'a>(alloc: Global) -> Result<Command<'a>, Error> {
     let command = Command::new(alloc, "rowfn_stream")
-        .version("0.1")
+        .version("0.1.0, proved with rattle-kit-13f")
         .about("Rows of CSV that flow through an expression")
         .after_help(AFTER_HELP);
     let command = with(command, expression(alloc))?;
