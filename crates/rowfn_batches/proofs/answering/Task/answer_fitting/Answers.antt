@@ -1,4 +1,7 @@
-use Rattle.std.proofs.Common.{ℕ, refl, sym, subst, map}
+use Rattle.std.proofs.Common.{ℕ, List, refl, sym, subst, map}
+use Rattle.vortex_functions.specs.Fixed.{fixed_meaning}
+use Rattle.rowfn_scripts.specs.declared.expression.Answer.{Answer}
+use Rattle.rowfn_scripts.specs.Executing.{IsFirstFaultyRow}
 use Rattle.rowfn_batches.specs.Fields.{field_in}
 use Rattle.rowfn_batches.specs.declared.errors.StreamError.TheVariants as end
 use Rattle.rowfn_batches.specs.BatchAnswers.{EndsAnswers, at_fault, number_of}
@@ -12,9 +15,15 @@ returns-in-Ok-Some-clause-ends c =
     let number = number_of c.args.self.now in
     let fit = c.args.row_count in
     let found = c.in-Ok-Some in
+    let faulty =
+    subst
+    (λ (answers : List Answer).
+    IsFirstFaultyRow fixed_meaning c.args.columns.now fit (map (λ a. a.tree) answers) found.row
+    found.fault)
+    c.deref-2.ensures.value (rw found.field-0-is at found.ensures) in
     if_ok-weaker c.answer_faultless.result _ _
     (λ a h.
     subst (λ (n : ℕ). EndsAnswers x fs number fit c.args.error n a.error) (sym h.0)
     (at_fault c.args.columns.now found.fault (end.Fault c.number_of.result found.fault) h.1
-    c.requires (rw found.field-0-is at found.ensures) (c.number_of.ensures, refl)))
+    c.requires faulty (c.number_of.ensures, refl)))
     c.answer_faultless.ensures.ends

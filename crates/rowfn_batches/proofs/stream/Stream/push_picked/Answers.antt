@@ -1,6 +1,6 @@
 use Rattle.std.proofs.Common.{arith}
 use Rattle.rowfn_batches.proofs.Passed.{picked_pushed}
-use Rattle.rowfn_batches.proofs.stream.writing.Stream.push_picked.Goals as goal
+use Rattle.rowfn_batches.proofs.stream.Stream.push_picked.Goals as goal
 
 pub returns-clause-text : goal.returns-clause-text
 returns-clause-text g c =

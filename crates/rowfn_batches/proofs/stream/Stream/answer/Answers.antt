@@ -2,7 +2,7 @@ use Rattle.std.proofs.Common.{◌≡◌, ◌∙◌, ap, map, option_map}
 use Rattle.std.proofs.lemmas.Result.{err_from_is_err_and}
 use Rattle.rowfn_batches.specs.Fields.{field_in}
 use Rattle.rowfn_batches.proofs.Passed.{is_answered, is_left}
-use Rattle.rowfn_batches.proofs.stream.passing.Stream.answer.Goals as goal
+use Rattle.rowfn_batches.proofs.stream.Stream.answer.Goals as goal
 
 pub returns-in_err-answered : goal.returns-in_err-answered
 returns-in_err-answered g c =

@@ -1,5 +1,5 @@
 use Rattle.rowfn_batches.specs.Passing.{IsRefilled}
-use Rattle.rowfn_batches.proofs.stream.filling.Stream.fill.Given as goal
+use Rattle.rowfn_batches.proofs.stream.Stream.fill.Given as goal
 
 -- all but what reads the batch stays
 abbrev pub invariant-rows : goal.invariant-rows

@@ -2,7 +2,7 @@ use Rattle.std.proofs.Common.{◌≡◌, ◌∙◌, Some, None, Err, ap, sym, op
 use Rattle.std.proofs.lemmas.Result.{err_from_is_err_and}
 use Rattle.rowfn_batches.specs.Passing.{ended, unanswered, unwritten}
 use Rattle.rowfn_batches.proofs.Passed.{have, within, passed, kept_as_it_is}
-use Rattle.rowfn_batches.proofs.stream.passing.Stream.pass.Goals as goal
+use Rattle.rowfn_batches.proofs.stream.Stream.pass.Goals as goal
 
 pub push_batch-requires-clause-rows : goal.push_batch-requires-clause-rows
 push_batch-requires-clause-rows g c =
