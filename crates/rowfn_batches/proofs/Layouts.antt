@@ -1,12 +1,13 @@
 -- One more column that stands in a header.
 use Rattle.std.proofs.Common.{◌≡◌, ◌≢◌, ℕ, ◌<◌, ◌≤◌, ◌+◌, suc, List, [], ◌∷◌, ◌++◌, length}
-use Rattle.std.proofs.Common.{ap, sym, get_or, zero, Some, arith}
+use Rattle.std.proofs.Common.{ap, sym, get_or, zero, Option, Some, arith}
 use Rattle.std.proofs.Common.{subst}
 use Rattle.csv.specs.Records.{field_at}
 use Rattle.std.proofs.lemmas.List.{length-append}
 use Rattle.vortex_types.specs.FieldNames.{field_name}
 use Rattle.vortex_types.specs.LogicalTypes.{Fields}
 use Rattle.rowfn_batches.specs.Layouts.{LacksFrom, IsFirstFrom, StandsOnce, FirstStandAt}
+use Rattle.rowfn_batches.specs.Layouts.{StandsWhere, place_said}
 
 -- a field that is there lies among the fields
 within : (fields : List (List ℕ)) (q : ℕ) (x : List ℕ) → field_at fields q ≡ Some x
@@ -41,22 +42,25 @@ one_place_more P (x ∷ ps) p h q zero lt = h 0 (omega arith)
 one_place_more P (x ∷ ps) p h q (suc i) lt =
     one_place_more (λ j y. P (suc j) y) ps p (λ j l. h (suc j) (omega arith)) q i (omega arith)
 
-pub no_columns : (fields : List (List ℕ)) (ds : Fields) (ps : List ℕ) → ps ≡ []
-    → FirstStandAt fields ds 0 ps
-no_columns fields ds ps e =
+pub no_columns : (fields : List (List ℕ)) (ds : Fields) (said : List (Option ℕ)) (ps : List ℕ)
+    → ps ≡ [] → FirstStandAt fields ds said 0 ps
+no_columns fields ds said ps e =
     record { count = ap length e; each = λ k lt. absurd (omega (arith, lt)) }
 
 -- a turn of a loop over declared columns
-pub next_column : (fields : List (List ℕ)) (ds : Fields) (k : ℕ) (ps now : List ℕ) (p : ℕ)
-    → FirstStandAt fields ds k ps → StandsOnce fields (field_name k ds) p
-    → now ≡ ps ++ (p ∷ []) → FirstStandAt fields ds (k + 1) now
-next_column fields ds k ps now p before once pushed =
-    subst (λ (all : List ℕ). FirstStandAt fields ds (k + 1) all) (sym pushed)
+pub next_column : (fields : List (List ℕ)) (ds : Fields) (said : List (Option ℕ)) (k : ℕ)
+    (ps now : List ℕ) (p : ℕ)
+    → FirstStandAt fields ds said k ps
+    → StandsWhere fields (place_said said k) (field_name k ds) p
+    → now ≡ ps ++ (p ∷ []) → FirstStandAt fields ds said (k + 1) now
+next_column fields ds said k ps now p before once pushed =
+    let Here : ℕ → ℕ → Type 0 = λ j y. StandsWhere fields (place_said said j) (field_name j ds) y in
+    subst (λ (all : List ℕ). FirstStandAt fields ds said (k + 1) all) (sym pushed)
     (record {
       count = omega (arith, before.count, length-append ps (p ∷ []));
       each = λ i lt.
-          one_place_more (λ j y. StandsOnce fields (field_name j ds) y) ps p
+          one_place_more Here ps p
           (λ j l. before.each j (omega (arith, l, before.count)))
-          (subst (λ (n : ℕ). StandsOnce fields (field_name n ds) p) (sym before.count) once) i
+          (subst (λ (n : ℕ). Here n p) (sym before.count) once) i
           (omega (arith, lt, before.count, length-append ps (p ∷ [])));
     })

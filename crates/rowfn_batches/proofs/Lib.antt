@@ -1,6 +1,4 @@
 pub mod FieldPlaces
-pub mod Answered
-pub mod OneRow
 pub mod FirstRows
 pub mod Flowing
 pub mod LastAlone

@@ -1,5 +1,7 @@
 -- Where declared columns stand in a header, and what is told where one does not stand there once.
-use Rattle.std.specs.Prelude.{◌≡◌, ◌≢◌, ◌<◌, ◌≤◌, ℕ, List, Some, ⊤, length, string_bytes, get_or}
+use Rattle.std.specs.Prelude.{◌≡◌, ◌≢◌, ◌<◌, ◌≤◌, ℕ, List, Option, Some, None, ⊤, length, get_or}
+use Rattle.std.specs.Prelude.{string_bytes, is_some, unwrap_or, if◌then◌else◌}
+use Rattle.std.specs.List.{list_any}
 use Rattle.csv.specs.Records.{field_at}
 use Rattle.vortex_types.specs.FieldNames.{field_name}
 use Rattle.vortex_types.specs.LogicalTypes.{Fields, field_count}
@@ -22,14 +24,25 @@ StandsOnce fields name place =
     (field_at fields place ≡ Some name)
     × ((q : ℕ) → field_at fields q ≡ Some name → q ≡ place)
 
--- the names of the first n declared columns stand at those places, each at its own and at no other
-pub record FirstStandAt (fields : List (List ℕ)) (ds : Fields) (n : ℕ) (places : List ℕ)
-    : Type 0 where
-  pub count : length places ≡ n
-  pub each : (k : ℕ) → k < n → StandsOnce fields (field_name k ds) (get_or places k 0)
+-- the place that the expression says of a column, if it does
+abbrev pub place_said : List (Option ℕ) → ℕ → Option ℕ
+place_said said k = get_or said k None
 
-abbrev pub StandAt : List (List ℕ) → Fields → List ℕ → Type 0
-StandAt fields ds = FirstStandAt fields ds (field_count ds)
+-- a column stands at the place that is said of it, which the header has; else where its name stands,
+-- and nowhere else
+abbrev pub StandsWhere : List (List ℕ) → Option ℕ → List ℕ → ℕ → Type 0
+StandsWhere fields None name place = StandsOnce fields name place
+StandsWhere fields (Some at) name place = (place ≡ at) × (at < length fields)
+
+-- the first n declared columns stand at those places
+pub record FirstStandAt (fields : List (List ℕ)) (ds : Fields) (said : List (Option ℕ)) (n : ℕ)
+    (places : List ℕ) : Type 0 where
+  pub count : length places ≡ n
+  pub each : (k : ℕ) → k < n
+      → StandsWhere fields (place_said said k) (field_name k ds) (get_or places k 0)
+
+abbrev pub StandAt : List (List ℕ) → Fields → List (Option ℕ) → List ℕ → Type 0
+StandAt fields ds said = FirstStandAt fields ds said (field_count ds)
 
 -- the name stands at two places
 abbrev pub StandsTwice : List (List ℕ) → List ℕ → Type 0
@@ -45,9 +58,33 @@ RefusesName fields name (end.ColumnTwice told) =
 RefusesName fields name end.OutOfMemory = ⊤
 RefusesName fields name e = ⊥
 
+-- the column is told, whose place lies behind so many fields; or memory ran out
+abbrev pub RefusesPlace : List (List ℕ) → ℕ → List ℕ → StreamError → Type 0
+RefusesPlace fields at name (end.PlaceMissing told place found) =
+    (string_bytes told ≡ name) × (place ≡ at) × (found ≡ length fields) × (length fields ≤ at)
+RefusesPlace fields at name end.OutOfMemory = ⊤
+RefusesPlace fields at name e = ⊥
+
+abbrev pub RefusesColumn : List (List ℕ) → Option ℕ → List ℕ → StreamError → Type 0
+RefusesColumn fields None = RefusesName fields
+RefusesColumn fields (Some at) = RefusesPlace fields at
+
 -- why a header is refused: by the first declared column that does not stand there once, all before
 -- it do; or memory ran out
-pub data RefusesHeader (fields : List (List ℕ)) (ds : Fields) (e : StreamError) : Type 0 where
-  at_column : (k : ℕ) (places : List ℕ) → k < field_count ds → FirstStandAt fields ds k places
-      → RefusesName fields (field_name k ds) e → RefusesHeader fields ds e
-  without_memory : e ≡ end.OutOfMemory → RefusesHeader fields ds e
+pub data RefusesHeader (fields : List (List ℕ)) (ds : Fields) (said : List (Option ℕ))
+    (e : StreamError) : Type 0 where
+  at_column : (k : ℕ) (places : List ℕ) → k < field_count ds
+      → FirstStandAt fields ds said k places
+      → RefusesColumn fields (place_said said k) (field_name k ds) e
+      → RefusesHeader fields ds said e
+  without_memory : e ≡ end.OutOfMemory → RefusesHeader fields ds said e
+
+-- without a header a column stands at the place that is said of it, else at its own among those that
+-- are declared
+abbrev pub declared_place : List (Option ℕ) → ℕ → ℕ
+declared_place said k = unwrap_or (place_said said k) k
+
+-- how many fields a row has, where the expression says it: as many as columns are declared, where it
+-- says no place of any
+abbrev pub declared_width : List (Option ℕ) → Fields → Option ℕ
+declared_width said ds = if list_any is_some said then None else Some (field_count ds)

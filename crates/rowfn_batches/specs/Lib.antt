@@ -1,6 +1,5 @@
 pub mod Fields
 pub mod Batches
-pub mod Executing
 pub mod Printing
 pub mod ReadingBack
 pub mod BatchAnswers

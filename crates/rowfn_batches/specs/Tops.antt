@@ -24,6 +24,7 @@ IsTruth t = IfSome (tree_type fixed_meaning t) (λ k. is_bool_type k ≡ true)
 -- the columns as they were, and the last answer alone, which is of Bool
 pub record IsTop (x top : Expression) : Type 0 where
   pub columns : top.columns ≡ x.columns
+  pub places : top.places ≡ x.places
   pub last : top.answers.items ≡ last_alone x.answers.items
   pub truth : All (λ a. IsTruth a.tree) top.answers.items
 

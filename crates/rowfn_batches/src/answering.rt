@@ -10,10 +10,9 @@ ghost use Rattle.rowfn_batches.specs.BatchAnswers.{TellsMisfit, TellsName, AreFi
 ghost use Rattle.rowfn_batches.specs.BatchAnswers.{AreAnswers, EndsAnswers, EndsBatch};
 ghost use Rattle.rowfn_batches.specs.BatchAnswers.{IsUnserved, IsUnanswered, width_of};
 
-use crate::answers::{execute_answers, first_fault};
 use crate::columns::{BatchError, leftmost_misfit, read_columns};
 use crate::errors::StreamError;
-use rowfn_scripts::Expression;
+use rowfn_scripts::{Expression, execute_answers, first_fault};
 use std::alloc::Global;
 use vortex_columns::Column;
 
@@ -157,7 +156,7 @@ impl Task<'_> {
         ensures refused { IfErr result (λ e. e ≡ OutOfMemory) }
     {
         let columns = self.columns(fields, row_count)?;
-        match execute_answers(self.alloc, self.expression, &columns, row_count) {
+        match execute_answers(self.alloc, &self.expression.answers, &columns, row_count) {
             Ok(answers) => Ok(Answered {
                 answers,
                 row_count,
@@ -185,14 +184,19 @@ impl Task<'_> {
         ensures refused { IfErr result
             (IsUnserved self.now.expression.now (map field_in fields.now)) }
     {
-        if let Ok(answers) = execute_answers(self.alloc, self.expression, columns, row_count) {
+        if let Ok(answers) = execute_answers(
+            self.alloc,
+            &self.expression.answers,
+            columns,
+            row_count,
+        ) {
             return Ok(Answered {
                 answers,
                 row_count,
                 error,
             });
         }
-        match first_fault(self.alloc, self.expression, columns, row_count) {
+        match first_fault(self.alloc, &self.expression.answers, columns, row_count) {
             Ok(Some((row, fault))) => {
                 let told = StreamError::Fault {
                     row: self.number_of(row),

@@ -1,5 +1,6 @@
 //! What ends a stream, with its status and its text.
 
+use crate::line_errors::LineError;
 use rowfn_csv::ReadError;
 use rowfn_scripts::ExpressionError;
 use std::alloc::{AllocError, AllocFailed};
@@ -30,6 +31,13 @@ pub enum StreamError {
     ColumnMissing(String),
     /// A declared column that the header names twice.
     ColumnTwice(String),
+    /// A declared column, by its name, is to stand at a place, counted from 0, behind the fields of
+    /// the header.
+    PlaceMissing {
+        name: String,
+        place: usize,
+        found: usize,
+    },
     /// A row of more or fewer fields than the header, or than declared columns where there is none.
     Width {
         row: u64,
@@ -57,19 +65,10 @@ pub enum StreamError {
     ReadingExpression(String, io::Error),
     /// A line of the expression is refused or malformed.
     Expression(ExpressionError),
-    /// A line of the expression gets a column that no line before it declares, which may mean
-    /// another.
-    UnknownColumn {
+    /// A line of the expression is refused or malformed, in words.
+    Line {
         line: usize,
-        name: String,
-        near: Option<String>,
-    },
-    /// A line of the expression calls a function behind fewer trees than it takes.
-    FewTrees {
-        line: usize,
-        function: String,
-        wanted: usize,
-        found: usize,
+        error: LineError,
     },
     /// Two answers have that name.
     AnswerTwice(String),
@@ -147,6 +146,7 @@ impl StreamError {
             | StreamError::TextsTooLong(_)
             | StreamError::ColumnMissing(_)
             | StreamError::ColumnTwice(_)
+            | StreamError::PlaceMissing { .. }
             | StreamError::Width { .. }
             | StreamError::OpenQuote { .. }
             | StreamError::OpenHeader
@@ -158,8 +158,7 @@ impl StreamError {
             | StreamError::Expression(ExpressionError::OutOfMemory)
             | StreamError::OutOfMemory => 3,
             StreamError::Expression(_)
-            | StreamError::UnknownColumn { .. }
-            | StreamError::FewTrees { .. }
+            | StreamError::Line { .. }
             | StreamError::AnswerTwice(_)
             | StreamError::RowsLost(_)
             | StreamError::NameTaken(_)
@@ -258,40 +257,17 @@ fn write_input<W: fmt::Write>(f: &mut fmt::Formatter<W>, error: &StreamError) ->
             let name = name.as_str();
             write!(f, "header: column {name} stands twice")
         }
+        StreamError::PlaceMissing { name, place, found } => {
+            let (name, place) = (name.as_str(), place.saturating_add(1));
+            write!(
+                f,
+                "header: {found} fields, and column {name} is to stand at {place}"
+            )
+        }
         StreamError::Width { row, wanted, found } => {
             write!(f, "row {row}: {found} fields where {wanted} are wanted")
         }
         error => write_record(f, error),
-    }
-}
-
-/// Writes what is wrong with a line of an expression.
-fn write_line<W: fmt::Write>(f: &mut fmt::Formatter<W>, error: &StreamError) -> fmt::Result {
-    match error {
-        StreamError::UnknownColumn { line, name, near } => {
-            let name = name.as_str();
-            write!(f, "line {line}: no column {name} is declared")?;
-            match near {
-                Some(near) => {
-                    let near = near.as_str();
-                    write!(f, "; is {near} meant?")
-                }
-                None => Ok(()),
-            }
-        }
-        StreamError::FewTrees {
-            line,
-            function,
-            wanted,
-            found,
-        } => {
-            let function = function.as_str();
-            write!(
-                f,
-                "line {line}: call {function} takes {wanted} trees, not {found}"
-            )
-        }
-        error => write_answers(f, error),
     }
 }
 
@@ -345,7 +321,8 @@ impl fmt::Display for StreamError {
             }
             StreamError::Expression(error) => write!(f, "{error}"),
             StreamError::OutOfMemory => f.write_str("out of memory"),
-            error => write_line(f, error),
+            StreamError::Line { line, error } => write!(f, "line {line}: {error}"),
+            error => write_answers(f, error),
         }
     }
 }

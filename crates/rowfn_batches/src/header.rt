@@ -1,23 +1,38 @@
 //! Where the declared columns stand in the input.
 ghost use Rattle.std.specs.Prelude.{◌≡◌, ◌↔◌, Some, IsTrue, IfOk, IfErr, MatchOption, MatchResult};
-ghost use Rattle.std.specs.Prelude.{length};
-ghost use Rattle.std.specs.List.{range_with_len};
+ghost use Rattle.std.specs.Prelude.{is_some, length, ◌<◌, map};
+ghost use Rattle.std.specs.List.{list_any, range_with_len};
 ghost use Rattle.csv.specs.Records.{fields_of, field_at};
 ghost use Rattle.vortex_types.specs.LogicalTypes.{field_count};
 ghost use Rattle.vortex_types.specs.TypeOf.{struct_fields};
 ghost use Rattle.rowfn_batches.specs.Layouts.{LacksFrom, IsFirstFrom, StandsOnce, StandAt};
-ghost use Rattle.rowfn_batches.specs.Layouts.{RefusesName, RefusesHeader};
+ghost use Rattle.rowfn_batches.specs.Layouts.{RefusesName, RefusesHeader, place_said, StandsWhere};
+ghost use Rattle.rowfn_batches.specs.Layouts.{RefusesPlace, RefusesColumn, declared_place};
+ghost use Rattle.rowfn_batches.specs.Layouts.{declared_width};
 
 use crate::errors::StreamError;
 use rowfn_csv::ByteRecord;
 use std::alloc::{AllocError, Global};
 use vortex_columns::StructFields;
 
-/// Where the declared columns stand in each record of the input, and how many fields it has.
+/// Where the declared columns stand in each record of the input, and how many fields it has; nothing
+/// where the first one tells it.
 #[derive(Drop)]
 pub struct Layout {
     pub places: Vec<usize>,
-    pub width: usize,
+    pub width: Option<usize>,
+}
+
+impl Layout {
+    /// How many fields a first record has that tells the width: as many as are found, but none less
+    /// than reach to each column.
+    pub fn width_by(&self, found: usize) -> usize {
+        let mut width = found;
+        for place in self.places.iter() {
+            width = width.max(place.saturating_add(1));
+        }
+        width
+    }
 }
 
 /// Whether that field is the name.
@@ -59,59 +74,132 @@ fn place_of(alloc: Global, header: &ByteRecord, name: &str) -> Result<usize, Str
     }
 }
 
-/// Where each declared column stands in a header. Refused where one is missing or stands twice,
-/// with the name of the first that is or does.
+/// The place that the expression says of a column.
+fn place_said(said: &[Option<usize>], column: usize) -> Option<usize>
+    ensures { result ≡ place_said said.now column }
+{
+    said.get(column).copied().unwrap_or(None)
+}
+
+/// The place that is said of a column, where the header has it. Refused where it has not.
+fn reached(
+    alloc: Global,
+    header: &ByteRecord,
+    place: usize,
+    name: &str,
+) -> Result<usize, StreamError>
+    ensures { MatchResult result
+        (λ found. (found ≡ place) × (place < length (fields_of header.now)))
+        (RefusesPlace (fields_of header.now) place name.now) }
+{
+    if place < header.len() {
+        return Ok(place);
+    }
+    Err(StreamError::PlaceMissing {
+        name: String::from_str(alloc, name)?,
+        place,
+        found: header.len(),
+    })
+}
+
+/// Where a column stands in a header: at the place that is said of it, else where its name does.
+/// Refused where the header has no such place, and where the name is missing or stands twice.
+fn column_place(
+    alloc: Global,
+    header: &ByteRecord,
+    said: Option<usize>,
+    name: &str,
+) -> Result<usize, StreamError>
+    ensures { MatchResult result
+        (StandsWhere (fields_of header.now) said name.now)
+        (RefusesColumn (fields_of header.now) said name.now) }
+{
+    match said {
+        Some(place) => reached(alloc, header, place, name),
+        None => place_of(alloc, header, name),
+    }
+}
+
+/// Where each declared column stands in a header. Refused where one does not, with the name of the
+/// first that does not.
 fn places_of(
     alloc: Global,
     declared: &StructFields,
+    said: &[Option<usize>],
     header: &ByteRecord,
 ) -> Result<Vec<usize>, StreamError>
     ensures { MatchResult result
-        (λ places. StandAt (fields_of header.now) (struct_fields declared.now) places.items)
-        (RefusesHeader (fields_of header.now) (struct_fields declared.now)) }
+        (λ places. StandAt (fields_of header.now) (struct_fields declared.now) said.now
+        places.items)
+        (RefusesHeader (fields_of header.now) (struct_fields declared.now) said.now) }
 {
     let mut places = Vec::new(alloc);
     for k in 0..declared.len() {
-        places.push(place_of(alloc, header, declared.name(k))?)?;
+        let place = column_place(alloc, header, place_said(said, k), declared.name(k))?;
+        places.push(place)?;
     }
     Ok(places)
 }
 
-/// The layout by a header. Refused where a declared column is missing or stands twice, with
-/// the name of the first that is or does.
+/// The layout by a header, and by the places that are said of columns. Refused where a declared
+/// column does not stand there, or twice, with the name of the first that does not.
 pub fn named_layout(
     alloc: Global,
     declared: &StructFields,
+    said: &[Option<usize>],
     header: &ByteRecord,
 ) -> Result<Layout, StreamError>
     ensures places { IfOk result
-        (λ layout. StandAt (fields_of header.now) (struct_fields declared.now)
+        (λ layout. StandAt (fields_of header.now) (struct_fields declared.now) said.now
         layout.places.items) }
-    ensures width { IfOk result (λ layout. layout.width ≡ length (fields_of header.now)) }
+    ensures width { IfOk result (λ layout. layout.width ≡ Some (length (fields_of header.now))) }
     ensures refused { IfErr result
-        (RefusesHeader (fields_of header.now) (struct_fields declared.now)) }
+        (RefusesHeader (fields_of header.now) (struct_fields declared.now) said.now) }
 {
-    let places = places_of(alloc, declared, header)?;
+    let places = places_of(alloc, declared, said, header)?;
     Ok(Layout {
         places,
-        width: header.len(),
+        width: Some(header.len()),
     })
 }
 
-/// The layout of an input without a header: the declared columns in their order.
-pub fn declared_layout(alloc: Global, declared: &StructFields) -> Result<Layout, AllocError>
+/// Whether a place is said of a column.
+fn says_places(said: &[Option<usize>]) -> bool
+    ensures { result ≡ list_any is_some said.now }
+{
+    said.iter().any(|place| place.is_some())
+}
+
+/// How many fields the rows have of an input without a header; nothing where places are said.
+fn declared_width(declared: &StructFields, said: &[Option<usize>]) -> Option<usize>
+    ensures { result ≡ declared_width said.now (struct_fields declared.now) }
+{
+    if says_places(said) {
+        None
+    } else {
+        Some(declared.len())
+    }
+}
+
+/// The layout of an input without a header: the declared columns in their order, but for those of
+/// which a place is said.
+pub fn declared_layout(
+    alloc: Global,
+    declared: &StructFields,
+    said: &[Option<usize>],
+) -> Result<Layout, AllocError>
     ensures places { IfOk result
-        (λ layout. layout.places.items
-        ≡ range_with_len 0 (field_count (struct_fields declared.now))) }
+        (λ layout. layout.places.items ≡ map (declared_place said.now)
+        (range_with_len 0 (field_count (struct_fields declared.now)))) }
     ensures width { IfOk result
-        (λ layout. layout.width ≡ field_count (struct_fields declared.now)) }
+        (λ layout. layout.width ≡ declared_width said.now (struct_fields declared.now)) }
 {
     let mut places = Vec::new(alloc);
     for i in 0..declared.len() {
-        places.push(i)?;
+        places.push(place_said(said, i).unwrap_or(i))?;
     }
     Ok(Layout {
         places,
-        width: declared.len(),
+        width: declared_width(declared, said),
     })
 }

@@ -3,13 +3,13 @@
 #![tactic(auto)]
 
 mod answering;
-pub mod answers;
 pub mod columns;
 pub mod errors;
 pub mod explained;
 mod fields;
 mod header;
 pub mod laws;
+pub mod line_errors;
 mod names;
 mod output;
 pub mod printing;
@@ -19,10 +19,10 @@ pub mod settings;
 pub mod stream;
 mod taking;
 
-pub use answers::{execute_answers, first_fault};
 pub use columns::{BatchError, read_columns};
 pub use errors::StreamError;
 pub use explained::explain;
+pub use line_errors::LineError;
 pub use names::check_names;
 pub use printing::push_field;
 pub use reading::read_told;

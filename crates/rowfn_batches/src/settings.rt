@@ -13,6 +13,8 @@ pub struct Settings<'a> {
     pub batch: usize,
     /// With how many bytes of the input the rows that are read together are enough.
     pub batch_bytes: u64,
+    /// Whether a batch ends, too, where no row is there behind its last, as far as the input was read.
+    pub flushes: bool,
     /// How many bytes a field has, at most.
     pub max_field: usize,
     /// Whether the rows of the input are written in which the only answer is true, in place of

@@ -19,7 +19,7 @@ use crate::output::Output;
 use crate::reading_back::check_reading_back;
 use crate::settings::Settings;
 use crate::taking::{Condition, Taken, slice_of, take_all, take_those};
-use rowfn_csv::{Batch, ByteRecord, ReadError, Records, without_line_end};
+use rowfn_csv::{Batch, ByteRecord, Found, ReadError, Records, without_line_end};
 use rowfn_scripts::Expression;
 use std::alloc::{AllocError, Global};
 use std::io::{Read, Write};
@@ -67,6 +67,8 @@ struct Stream<'a, R> {
     condition: Option<Condition<'a>>,
     records: Records<'a, R>,
     layout: Layout,
+    /// How many fields a row has, once that is known.
+    width: Option<usize>,
     batch: Batch,
     output: Output<'a>,
     summary: Summary,
@@ -80,12 +82,14 @@ pub fn top_alone(alloc: Global, expression: Expression) -> Result<Expression, St
 {
     let Expression {
         columns,
+        places,
         mut answers,
     } = expression;
     let mut top = Vec::new(alloc);
     let Some(answer) = answers.pop() else {
         return Ok(Expression {
             columns,
+            places,
             answers: top,
         });
     };
@@ -95,6 +99,7 @@ pub fn top_alone(alloc: Global, expression: Expression) -> Result<Expression, St
     top.push(answer)?;
     Ok(Expression {
         columns,
+        places,
         answers: top,
     })
 }
@@ -128,8 +133,9 @@ impl<'a, R: Read + Drop> Stream<'a, R> {
         let layout = if settings.header {
             read_header(alloc, settings, expression, &mut records, &mut output)?
         } else {
-            declared_layout(alloc, &expression.columns)?
+            declared_layout(alloc, &expression.columns, &expression.places)?
         };
+        let width = layout.width;
         let condition = match condition {
             Some(condition) => Some(begin_condition(alloc, settings, condition, &records)?),
             None => None,
@@ -141,6 +147,7 @@ impl<'a, R: Read + Drop> Stream<'a, R> {
             condition,
             records,
             layout,
+            width,
             batch: Batch::new(alloc),
             output,
             summary: Summary {
@@ -148,6 +155,15 @@ impl<'a, R: Read + Drop> Stream<'a, R> {
                 rows_written: 0,
             },
         })
+    }
+
+    /// Settles how many fields a row has, where the last record, which is the first row, tells it.
+    fn settle_width(&mut self)
+        ensures { IsRefilled self.old self.new }
+    {
+        if self.width.is_none() {
+            self.width = Some(self.layout.width_by(self.records.record().len()));
+        }
     }
 
     /// How many rows stand before the batch, those before the input among them.
@@ -162,7 +178,7 @@ impl<'a, R: Read + Drop> Stream<'a, R> {
     /// Whether the last record is a row: closed, and of as many fields as are wanted, none of which
     /// is too long.
     fn is_whole(&self) -> bool {
-        self.records.record().len() == self.layout.width
+        self.width == Some(self.records.record().len())
             && !self.records.is_open()
             && !self.records.is_outgrown()
     }
@@ -181,14 +197,16 @@ impl<'a, R: Read + Drop> Stream<'a, R> {
         }
         StreamError::Width {
             row,
-            wanted: self.layout.width,
+            wanted: self.width.unwrap_or(0),
             found: self.records.record().len(),
         }
     }
 
-    /// Whether the rows that were read from a place of the input on have enough bytes.
+    /// Whether the rows that were read from a place of the input on have enough bytes, or are to be
+    /// answered before more is read.
     fn is_full(&self, begin: u64) -> bool {
         self.records.span().end.saturating_sub(begin) >= self.settings.batch_bytes
+            || self.settings.flushes && self.records.is_drained()
     }
 
     fn clear_batch(&mut self)
@@ -221,10 +239,11 @@ impl<'a, R: Read + Drop> Stream<'a, R> {
         let begin = self.records.keep_from_here();
         'rows: for _ in 0..self.settings.batch.max(1) {
             match self.records.read() {
-                Ok(true) => {}
-                Ok(false) => return Filled::Ended,
-                Err(error) => return broken_by(error),
+                Found::Record => {}
+                Found::End => return Filled::Ended,
+                Found::Failed => return broken_by(self.records.take_error()),
             }
+            self.settle_width();
             if !self.is_whole() {
                 return Filled::Broken(self.misshapen());
             }
@@ -432,9 +451,14 @@ fn begin_condition<'a, R: Read>(
     ensures { IfOk result (λ c. c.expression.now ≡ expression.now) }
 {
     let layout = if settings.header {
-        named_layout(alloc, &expression.columns, records.record())?
+        named_layout(
+            alloc,
+            &expression.columns,
+            &expression.places,
+            records.record(),
+        )?
     } else {
-        declared_layout(alloc, &expression.columns)?
+        declared_layout(alloc, &expression.columns, &expression.places)?
     };
     Ok(Condition {
         expression,
@@ -490,14 +514,23 @@ fn read_header<'a, R: Read>(
     records: &mut Records<'a, R>,
     output: &mut Output<'a>,
 ) -> Result<Layout, StreamError> {
-    let found = records.read_record()?;
+    let found = match records.read_record() {
+        Found::Record => true,
+        Found::End => false,
+        Found::Failed => return Err(StreamError::from(records.take_error())),
+    };
     if found && records.is_outgrown() {
         return Err(StreamError::HeaderTooLong(settings.max_field));
     }
     if found && records.is_open() {
         return Err(StreamError::OpenHeader);
     }
-    let layout = named_layout(alloc, &expression.columns, records.record())?;
+    let layout = named_layout(
+        alloc,
+        &expression.columns,
+        &expression.places,
+        records.record(),
+    )?;
     if settings.picks_rows {
         if found {
             output.push_bytes(records.bytes(records.span()))?;

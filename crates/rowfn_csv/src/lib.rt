@@ -15,4 +15,4 @@ pub use csv::ByteRecord;
 pub use format::Format;
 pub use quoting::{push_quoted, quote_from};
 pub use raw::without_line_end;
-pub use records::{ReadError, Records, Span};
+pub use records::{Found, ReadError, Records, Span};

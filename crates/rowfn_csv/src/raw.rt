@@ -75,6 +75,18 @@ pub fn is_closed(raw: &[u8], delimiter: u8) -> bool
     place != Place::Quoted
 }
 
+/// Whether a line ends in bytes which begin with a field, outside quotes.
+pub fn has_line_end(bytes: &[u8], delimiter: u8) -> bool {
+    let mut place = Place::Start;
+    for byte in bytes {
+        if place != Place::Quoted && ends_line(*byte) {
+            return true;
+        }
+        place = behind(place, *byte, delimiter);
+    }
+    false
+}
+
 /// Tells of each field of a record whether it stands in quotes; the record begins with its first
 /// field. Refused only for want of memory.
 fn mark_quoted(raw: &[u8], delimiter: u8, marks: &mut Vec<bool>) -> Result<(), AllocError>

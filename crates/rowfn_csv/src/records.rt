@@ -10,7 +10,9 @@ ghost use Rattle.rowfn_csv.specs.Scanning.{Knows};
 
 use crate::batch::Batch;
 use crate::format::Format;
-use crate::raw::{Quotes, is_closed, without_blank_lines, without_line_end, without_mark};
+use crate::raw::{
+    Quotes, has_line_end, is_closed, without_blank_lines, without_line_end, without_mark,
+};
 use crate::tee::Tee;
 use csv::{ByteRecord, Error, ErrorKind, Reader, ReaderBuilder};
 use std::alloc::{AllocError, Global};
@@ -34,6 +36,18 @@ pub enum ReadError {
     OutOfMemory,
 }
 
+/// What a read found. It is small, since it is handed on with each record; what failed stands beside
+/// the records.
+#[derive(Clone, Copy, PartialEq, Eq)]
+pub enum Found {
+    /// A record, or a line without a byte that is one.
+    Record,
+    /// The end of the input.
+    End,
+    /// No record could be read: `take_error` tells why.
+    Failed,
+}
+
 /// The records of the input. The last one that was read stands here.
 #[derive(Drop)]
 pub struct Records<'a, R> {
@@ -45,6 +59,7 @@ pub struct Records<'a, R> {
     ahead: Ahead,
     limit: usize,
     is_outgrown: bool,
+    error: Option<ReadError>,
 }
 
 /// What was read behind lines without a byte which are rows, and are given before it.
@@ -53,16 +68,13 @@ struct Ahead {
     record: ByteRecord,
     /// Where it lies; an empty span at the end of the input where there is no record.
     span: Span,
-    is_found: bool,
+    found: Found,
     is_outgrown: bool,
     /// Whether it is yet to be given.
     is_held: bool,
 }
 
-/// Why a read failed. A call of its own, so that the call that reads a row keeps no stack for
-/// errors.
-#[cold]
-#[inline(never)]
+/// Why a read failed.
 fn read_error(error: Error) -> ReadError {
     match error.into_kind() {
         ErrorKind::Io(error) => ReadError::Io(error),
@@ -168,18 +180,18 @@ impl<'a, R: Read> Records<'a, R> {
             ahead: Ahead {
                 record: ByteRecord::new(alloc),
                 span: Span { start: 0, end: 0 },
-                is_found: false,
+                found: Found::End,
                 is_outgrown: false,
                 is_held: false,
             },
             limit,
             is_outgrown: false,
+            error: None,
         }
     }
 
-    /// Reads the next record, or the next line without a byte where that is one; answers whether
-    /// there was one.
-    pub fn read(&mut self) -> Result<bool, ReadError> {
+    /// Reads the next record, or the next line without a byte where that is one.
+    pub fn read(&mut self) -> Found {
         if self.format.blank_rows {
             self.read_with_blank_lines()
         } else {
@@ -187,44 +199,61 @@ impl<'a, R: Read> Records<'a, R> {
         }
     }
 
-    /// Reads what stands behind the lines without a byte, where nothing is held.
-    fn read_ahead(&mut self) -> Result<(), ReadError> {
-        if self.ahead.is_held {
-            return Ok(());
-        }
-        let given = self.span;
-        let found = self.read_record()?;
-        let end = self.reader.position().byte;
+    /// Why the last read failed.
+    pub fn take_error(&mut self) -> ReadError {
+        self.error.take().unwrap_or(ReadError::OutOfMemory)
+    }
+
+    /// Holds what was read behind lines without a byte, which stand behind a record.
+    fn hold(&mut self, given: Span, found: Found, place: u64) {
         mem::swap(&mut self.last, &mut self.ahead.record);
-        self.ahead.span = if found {
-            self.span
-        } else {
-            Span { start: end, end }
+        self.ahead.span = match found {
+            Found::Record => self.span,
+            Found::End | Found::Failed => Span {
+                start: place,
+                end: place,
+            },
         };
-        self.ahead.is_found = found;
+        self.ahead.found = found;
         self.ahead.is_outgrown = self.is_outgrown;
         self.ahead.is_held = true;
         self.span = given;
         self.is_outgrown = false;
-        Ok(())
     }
 
-    /// Gives the next line without a byte, or else the record behind such lines.
-    fn read_with_blank_lines(&mut self) -> Result<bool, ReadError> {
-        self.read_ahead()?;
-        let place = self.reader.get_ref().behind_mark(self.span.end);
-        if place < self.ahead.span.start {
-            return self.give_blank(place);
-        }
+    /// Gives what is held behind lines without a byte.
+    fn give_held(&mut self) -> Found {
         mem::swap(&mut self.last, &mut self.ahead.record);
         self.span = self.ahead.span;
         self.is_outgrown = self.ahead.is_outgrown;
         self.ahead.is_held = false;
-        Ok(self.ahead.is_found)
+        self.ahead.found
+    }
+
+    /// Gives the next line without a byte, or else the record behind such lines.
+    fn read_with_blank_lines(&mut self) -> Found {
+        if !self.ahead.is_held {
+            let given = self.span;
+            let found = self.read_record();
+            let place = match found {
+                Found::Record => self.span.start,
+                Found::End => self.reader.position().byte,
+                Found::Failed => return Found::Failed,
+            };
+            if place <= self.reader.get_ref().behind_mark(given.end) {
+                return found;
+            }
+            self.hold(given, found, place);
+        }
+        let place = self.reader.get_ref().behind_mark(self.span.end);
+        if place < self.ahead.span.start {
+            return self.give_blank(place);
+        }
+        self.give_held()
     }
 
     /// Gives the line without a byte that lies there, as a record of one empty field.
-    fn give_blank(&mut self, place: u64) -> Result<bool, ReadError> {
+    fn give_blank(&mut self, place: u64) -> Found {
         let tee = self.reader.get_ref();
         let next = place.saturating_add(1);
         let is_pair = tee.byte_at(place) == Some(b'\r') && tee.byte_at(next) == Some(b'\n');
@@ -234,24 +263,41 @@ impl<'a, R: Read> Records<'a, R> {
         };
         self.last.clear();
         if self.last.push_field(&[]).is_err() {
-            return Err(ReadError::OutOfMemory);
+            self.error = Some(ReadError::OutOfMemory);
+            return Found::Failed;
         }
-        Ok(true)
+        Found::Record
     }
 
-    /// Reads the next record behind lines without a byte; answers whether there was one. One of
-    /// which a field is too long is not read to its end.
-    pub fn read_record(&mut self) -> Result<bool, ReadError> {
+    /// Reads the next record behind lines without a byte. One of which a field is too long is not
+    /// read to its end.
+    pub fn read_record(&mut self) -> Found {
         let start = self.reader.position().byte;
         self.reader.get_ref().begin_record(start);
         match self.reader.read_byte_record(&mut self.last) {
-            Ok(false) => return Ok(false),
             Ok(true) => self.is_outgrown = is_outgrown(&self.last, self.limit),
-            Err(_) if self.reader.get_ref().is_outgrown() => self.is_outgrown = true,
-            Err(error) => return Err(read_error(error)),
+            Ok(false) => return Found::End,
+            Err(error) => {
+                if !self.note(error) {
+                    return Found::Failed;
+                }
+            }
         }
         self.span = self.span_of(start, self.reader.position().byte);
-        Ok(true)
+        Found::Record
+    }
+
+    /// Notes why a read failed; answers whether there is a record all the same, of which a field is
+    /// too long.
+    #[cold]
+    #[inline(never)]
+    fn note(&mut self, error: Error) -> bool {
+        if self.reader.get_ref().is_outgrown() {
+            self.is_outgrown = true;
+            return true;
+        }
+        self.error = Some(read_error(error));
+        false
     }
 
     /// Whether a field of the last record is too long: the record is no row.
@@ -278,6 +324,13 @@ impl<'a, R: Read> Records<'a, R> {
             };
         }
         Span { start, end }
+    }
+
+    /// Whether no record is there behind the last one, as far as the input was read: the next one is
+    /// yet to come, or its end is.
+    pub fn is_drained(&self) -> bool {
+        let rest = self.reader.get_ref().from(self.span.end);
+        !has_line_end(without_blank_lines(rest), self.format.delimiter)
     }
 
     /// The fields of the last record.

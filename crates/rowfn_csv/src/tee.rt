@@ -79,6 +79,12 @@ impl<R: Read> Tee<R> {
         self.kept.as_slice().get(start..end).unwrap_or(&[])
     }
 
+    /// The bytes from a place of the input on.
+    pub fn from(&self, start: u64) -> &[u8] {
+        let start = start.saturating_sub(self.first) as usize;
+        self.kept.as_slice().get(start..).unwrap_or(&[])
+    }
+
     /// The byte at a place of the input, where it was read and is still kept.
     pub fn byte_at(&self, place: u64) -> Option<u8> {
         let index = place.checked_sub(self.first)?;

@@ -39,7 +39,7 @@ pub fn is_name(word: &str) -> bool
 }
 
 /// The number that one to six digits say.
-fn count(word: &str) -> Option<usize>
+pub fn count(word: &str) -> Option<usize>
     ensures { result ≡ count_of word.now }
 {
     if word.len() > 6 || !are_digits(word) {
@@ -249,8 +249,8 @@ fn words_line<'a>(alloc: Global, words: &[Word<'a>]) -> VortexResult<Line<'a>>
     }
 }
 
-/// What a text says that begins with no space.
-fn text_line<'a>(alloc: Global, text: &'a str) -> VortexResult<Line<'a>>
+/// What a text says that begins with no space. E9 where memory is refused.
+pub fn text_line<'a>(alloc: Global, text: &'a str) -> VortexResult<Line<'a>>
     ensures { AnswersCommand (command_of_text text.now) result }
 {
     if begins_comment(text) {

@@ -90,6 +90,15 @@ fn batch_bytes<'a>(alloc: Global) -> Result<Arg<'a>, Error> {
     )
 }
 
+fn flush<'a>(alloc: Global) -> Result<Arg<'a>, Error> {
+    Ok(
+        Arg::new(alloc, "flush")
+            .long("flush")
+            .action(ArgAction::SetTrue)
+            .help("Write what is answered whenever the input pauses"),
+    )
+}
+
 fn max_field<'a>(alloc: Global) -> Result<Arg<'a>, Error> {
     Ok(
         Arg::new(alloc, "max-field")
@@ -246,6 +255,7 @@ fn with_rows<'a>(alloc: Global, command: Command<'a>) -> Result<Command<'a>, Err
     let command = with(command, first_row(alloc))?;
     let command = with(command, batch(alloc))?;
     let command = with(command, batch_bytes(alloc))?;
+    let command = with(command, flush(alloc))?;
     with(command, max_field(alloc))
 }
 

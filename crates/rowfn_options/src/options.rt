@@ -46,6 +46,8 @@ pub struct Options<'a> {
     pub batch: u32,
     /// With how many bytes of the input those are enough; at least 1.
     pub batch_bytes: u64,
+    /// Whether rows are answered before more is read than has come.
+    pub flushes: bool,
     /// How many bytes a field has, at most; at least 1.
     pub max_field: u64,
     /// The number by which the first row is told; at least 1.
@@ -222,6 +224,7 @@ fn options_of<'a>(
         blank_rows: fields.blank_rows,
         batch: matches.get_one::<u32>("batch").unwrap_or(2048),
         batch_bytes: matches.get_one::<u64>("batch-bytes").unwrap_or(1 << 20),
+        flushes: matches.get_flag("flush"),
         max_field: matches.get_one::<u64>("max-field").unwrap_or(1 << 28),
         first_row: matches.get_one::<u64>("first-row").unwrap_or(1),
         action: asked_action(matches),

@@ -1,5 +1,5 @@
 //! What is asked of rows.
-ghost use Rattle.std.specs.Prelude.{IfOk};
+ghost use Rattle.std.specs.Prelude.{◌≡◌, IfOk};
 ghost use Rattle.vortex_types.specs.TypeOf.{struct_fields};
 ghost use Rattle.rowfn_queries.specs.Queries.{trees_of, AreAsked, IsCondition, AskedBy};
 
@@ -10,7 +10,7 @@ use crate::named::push_columns;
 use crate::sample::{Sample, read_sample};
 use crate::scopes::{add_all, add_named, add_wanted};
 use rowfn_csv::Format;
-use rowfn_scripts::Expression;
+use rowfn_scripts::{Answer, Expression};
 use std::alloc::Global;
 use std::io::Read;
 use vortex_columns::{StructFields, VortexResult};
@@ -112,7 +112,7 @@ impl<'a> Binding<'a> {
         };
         let columns = self.answer_columns(text)?;
         let answers = answers_over(self.alloc, &columns, text)?;
-        Ok(Some(Expression { columns, answers }))
+        Ok(Some(found_by_name(self.alloc, columns, answers)))
     }
 
     fn condition(&self) -> Result<Option<Expression>, QueryError>
@@ -123,7 +123,7 @@ impl<'a> Binding<'a> {
         };
         let columns = self.all_columns(text)?;
         let answers = condition_over(self.alloc, &columns, text)?;
-        Ok(Some(Expression { columns, answers }))
+        Ok(Some(found_by_name(self.alloc, columns, answers)))
     }
 
     /// The answers, and the condition.
@@ -133,6 +133,17 @@ impl<'a> Binding<'a> {
     {
         let condition = self.condition()?;
         Ok((self.answers()?, condition))
+    }
+}
+
+/// An expression whose columns are all found by their names.
+fn found_by_name(alloc: Global, columns: StructFields, answers: Vec<Answer>) -> Expression
+    ensures { (result.columns ≡ columns) × (result.answers ≡ answers) }
+{
+    Expression {
+        columns,
+        places: Vec::new(alloc),
+        answers,
     }
 }
 
@@ -148,10 +159,7 @@ pub fn read_condition(
     let mut read = StructFields::new(alloc);
     add_all(alloc, &mut read, columns)?;
     let answers = condition_over(alloc, &read, text)?;
-    Ok(Expression {
-        columns: read,
-        answers,
-    })
+    Ok(found_by_name(alloc, read, answers))
 }
 
 /// Why words are refused, by all names that a header has: one of them may be meant.

@@ -4,7 +4,7 @@ use crate::again::Again;
 use crate::error::{HeaderFault, QueryError};
 use crate::inference::infer;
 use crate::scopes::add_column;
-use rowfn_csv::{Batch, ByteRecord, Format, ReadError, Records};
+use rowfn_csv::{Batch, Found, ByteRecord, Format, ReadError, Records};
 use std::alloc::{AllocError, Global};
 use std::io::{self, Read};
 use std::str;
@@ -77,8 +77,12 @@ fn read_rows<R: Read>(
     width: usize,
 ) -> Result<(), ReadError> {
     for _ in 0..SAMPLED_ROWS {
-        let is_row = records.read()?
-            && records.record().len() == width
+        match records.read() {
+            Found::Record => {}
+            Found::End => return Ok(()),
+            Found::Failed => return Err(records.take_error()),
+        }
+        let is_row = records.record().len() == width
             && !records.is_open()
             && !records.is_outgrown();
         if !is_row {
@@ -132,14 +136,16 @@ fn names_at(
 /// Reads a header. Refused where there is none.
 fn read_header<R: Read>(records: &mut Records<'_, R>, max_field: usize) -> Result<(), QueryError> {
     match records.read_record() {
-        Ok(false) => Err(QueryError::Header(HeaderFault::Missing)),
-        Ok(true) if records.is_outgrown() => {
+        Found::End => Err(QueryError::Header(HeaderFault::Missing)),
+        Found::Record if records.is_outgrown() => {
             Err(QueryError::Header(HeaderFault::TooLong(max_field)))
         }
-        Ok(true) if records.is_open() => Err(QueryError::Header(HeaderFault::Open)),
-        Ok(true) => Ok(()),
-        Err(ReadError::Io(error)) => Err(QueryError::Reading(error)),
-        Err(ReadError::OutOfMemory) => Err(QueryError::OutOfMemory),
+        Found::Record if records.is_open() => Err(QueryError::Header(HeaderFault::Open)),
+        Found::Record => Ok(()),
+        Found::Failed => match records.take_error() {
+            ReadError::Io(error) => Err(QueryError::Reading(error)),
+            ReadError::OutOfMemory => Err(QueryError::OutOfMemory),
+        },
     }
 }
 

@@ -1,5 +1,5 @@
 -- The names of trees in a header, and how a text ends.
-use Rattle.std.proofs.Common.{◌≡◌, ℕ, zero, suc, ◌+◌, ◌<◌, List, [], ◌∷◌, ◌++◌, map, length, take}
+use Rattle.std.proofs.Common.{◌≡◌, ℕ, zero, suc, ◌+◌, ◌<◌, ◌≤◌, List, [], ◌∷◌, ◌++◌, map, length, take}
 use Rattle.std.proofs.Common.{get_or}
 use Rattle.std.proofs.Common.{sym, ap, subst, ◌∙◌, refl, arith, Option, Some, None, option_map, Bor}
 use Rattle.std.proofs.Common.{String}
@@ -20,7 +20,7 @@ use Rattle.rowfn_scripts.specs.declared.expression.ExpressionError.TheVariants a
 use Rattle.rowfn_scripts.specs.Sessions.{SessionView}
 use Rattle.rowfn_scripts.specs.Stepping.{given_in, StopsBy}
 use Rattle.rowfn_scripts.specs.Expressions.{joined, given_at, IsHeader, AreHeaders, ending_of}
-use Rattle.rowfn_scripts.specs.Expressions.{ReadsLine, Reaches}
+use Rattle.rowfn_scripts.specs.Expressions.{ReadsLine, Reaches, begins, one_more}
 use Rattle.rowfn_scripts.specs.Expressions.{Stops, line_at}
 
 -- the name that is borrowed
@@ -77,6 +77,12 @@ answer_more tree name given ts xs k j t x next lt at h same is = (
       (sym (map-append name xs (x ∷ [])))
       (headers_more given ts (map name xs) k j t (name x) next lt at h.1 is),
 )
+
+-- no more lines go on than there are
+pub within_lines : {V O : Type 0} (m : Meaning V O) (rs : Rules V O) (lines : List (List ℕ)) (n : ℕ)
+    (s : SessionView V O) → Reaches m rs lines n s → n ≤ length lines
+within_lines m rs lines k u begins = omega arith
+within_lines m rs lines k u (one_more n s t reached below step) = omega (arith, below)
 
 -- a line at which the reading stops ends the text
 module _ {V O : Type 0} (m : Meaning V O) (rs : Rules V O) (lines : List (List ℕ)) (n : ℕ)

@@ -11,3 +11,6 @@ pub mod Telling
 pub mod EachOutcome
 pub mod OneOutcome
 pub mod Headers
+pub mod SplitNames
+pub mod Answered
+pub mod OneRow

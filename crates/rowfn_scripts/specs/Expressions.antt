@@ -1,19 +1,17 @@
 -- What a text means as an expression: the lines that go on, and what they leave.
-use Rattle.std.specs.Prelude.{◌≡◌, ◌≢◌, ◌+◌, ◌-◌, ◌<◌, ◌++◌, ◌&&◌, ℕ, suc, List, [], ◌∷◌, length}
-use Rattle.std.specs.Prelude.{reverse, take, nat_lt, codes, Bool, true, false, if◌then◌else◌}
+use Rattle.std.specs.Prelude.{◌≡◌, ◌≢◌, ◌+◌, ◌-◌, ◌<◌, ◌++◌, ℕ, suc, List, [], ◌∷◌, length}
+use Rattle.std.specs.Prelude.{reverse, take, nat_lt, Bool, true, false, if◌then◌else◌}
 use Rattle.std.specs.Prelude.{Option, Some, None, IfSome, slice_get, slice_index_or, String, ⊤}
 use Rattle.std.specs.declared.alloc.Global.{Global}
 use Rattle.std.specs.Borrow.{Bor}
-use Rattle.std.specs.Option.{option_and_then}
-use Rattle.std.specs.Str.{is_utf8, bytes_eq}
+use Rattle.std.specs.List.{flat_map}
 use Rattle.vortex_errors.specs.declared.error.VortexError.TheVariants.{OutOfMemory}
 use Rattle.vortex_types.specs.LogicalTypes.{Fields}
 use Rattle.vortex_interface.specs.Meaning.{Meaning}
 use Rattle.vortex_interface.specs.Rules.{Rules}
 use Rattle.vortex_interface.specs.Trees.{Tree}
 use Rattle.vortex_interface.specs.Printing.{tree_text}
-use Rattle.rowfn_lines.specs.Lines.{Word, plain, words_of}
-use Rattle.rowfn_lines.specs.Commands.{Command, rows, show, run, run_after, command_of, is_name}
+use Rattle.rowfn_lines.specs.Commands.{Command, rows, show, run, run_after}
 use Rattle.rowfn_scripts.specs.declared.stop.Stop.{Stop}
 use Rattle.rowfn_scripts.specs.declared.stop.Stop.TheVariants.{Refused, Malformed}
 use Rattle.rowfn_scripts.specs.declared.expected.Expected.TheVariants as expected
@@ -23,6 +21,7 @@ use Rattle.rowfn_scripts.specs.Sessions.{SessionView, Step, goes_on, refuses, is
 use Rattle.rowfn_scripts.specs.Sessions.{fresh}
 use Rattle.rowfn_scripts.specs.Stepping.{given_in}
 use Rattle.rowfn_scripts.specs.Expecting.{expected_in}
+use Rattle.rowfn_scripts.specs.Naming.{Said, names, declares, says, declared, said_of, place_told}
 
 -- lines of scripts that no expression has: it has no rows
 abbrev pub is_of_scripts : Command → Bool
@@ -31,16 +30,6 @@ is_of_scripts show = true
 is_of_scripts run = true
 is_of_scripts (run_after limit) = true
 is_of_scripts k = false
-
--- the name that the words of an `as` line say
-abbrev pub name_in : List Word → Option (List ℕ)
-name_in (plain w ∷ plain name ∷ []) =
-    if bytes_eq w (codes "as") && is_name name then Some name else None
-name_in ws = None
-
--- the name that an `as` line says
-abbrev pub name_said : List ℕ → Option (List ℕ)
-name_said line = if is_utf8 line then option_and_then name_in (words_of line) else None
 
 -- the bytes of line n, counted from 0
 abbrev pub line_at : List (List ℕ) → ℕ → List ℕ
@@ -92,13 +81,14 @@ module _ {V O : Type 0} where
     abbrev pub Makes : Command → SessionView V O → Step V O → Type 0
     Makes k = MakesBy (is_of_scripts k) k
 
-    -- an `as` line, else a line of a script
-    abbrev pub MakesOr : Option (List ℕ) → Command → SessionView V O → Step V O → Type 0
-    MakesOr (Some name) k s r = r ≡ named name s
-    MakesOr None k s r = Makes k s r
+    -- by what a line of an expression says
+    abbrev pub Does : Said → SessionView V O → Step V O → Type 0
+    Does (names name) s r = r ≡ named name s
+    Does (declares place name t) s r = StepsTo m rs (declared name t) s r
+    Does (says k) s r = Makes k s r
 
     abbrev pub ReadsLine : List ℕ → SessionView V O → Step V O → Type 0
-    ReadsLine line = MakesOr (name_said line) (command_of line)
+    ReadsLine line = Does (said_of line)
 
   -- the name that a line gave, else the text of the tree
   abbrev pub IsHeader : Tree V O → Option (List ℕ) → List ℕ → Type 0
@@ -145,12 +135,14 @@ module _ {V O : Type 0} (m : Meaning V O) (rs : Rules V O) (lines : List (List �
       × (x ≡ expected.Tree)
   LeavesNone e = ⊥
 
-  -- the columns that the lines declare, and the trees that they leave
-  pub record Leaves (columns : Fields) (ts : List (Tree V O))
+  -- the columns that the lines declare, each with the place that its line says, if it does, and the
+  -- trees that they leave
+  pub record Leaves (columns : Fields) (places : List (Option ℕ)) (ts : List (Tree V O))
       (headers : List (List ℕ)) : Type 0 where
     pub last : SessionView V O
     pub read : ReadsAll last
-    pub declared : columns ≡ last.fields
+    pub columns_declared : columns ≡ last.fields
+    pub places_told : places ≡ flat_map place_told lines
     pub trees : reverse ts ≡ last.stack
     pub some : ts ≢ []
     pub answers : AreHeaders last.names ts headers

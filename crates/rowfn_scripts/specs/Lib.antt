@@ -9,3 +9,5 @@ pub mod Expressions
 pub mod Fitting
 pub mod Telling
 pub mod Words
+pub mod Naming
+pub mod Executing

@@ -11,9 +11,9 @@ use thiserror::Error;
 pub enum Expected {
     #[error("a line of an expression: col, get, lit, call, optimize, as, or a comment")]
     Line,
-    #[error("col, a new name and a type, without cells")]
+    #[error("col, a new name, in quotes unless it is of letters, digits and _, and a type, without cells")]
     Column,
-    #[error("get and the name of a column")]
+    #[error("get and the name of a column, in quotes unless it is of letters, digits and _")]
     Leaf,
     #[error("lit, a type and a value of it")]
     Literal,
@@ -21,7 +21,7 @@ pub enum Expected {
     Call,
     #[error("optimize alone, behind a tree")]
     Optimize,
-    #[error("as and a name, behind a tree")]
+    #[error("as and a name, in quotes unless it is of letters, digits and _, behind a tree")]
     Name,
     /// At the end, where no tree is left.
     #[error("a tree, which get, lit or call makes")]

@@ -1,31 +1,32 @@
 //! Expressions: what their lines declare and leave.
 ghost use Rattle.std.specs.Prelude.{◌≡◌, ◌≢◌, ◌+◌, ◌<◌, ◌⊎◌, [], map, reverse, length, slice_get};
-ghost use Rattle.std.specs.Prelude.{string_bytes, MatchResult, option_map};
-ghost use Rattle.std.specs.Option.{option_and_then};
+ghost use Rattle.std.specs.Prelude.{string_bytes, MatchResult, OnOk, ◌++◌};
+ghost use Rattle.std.specs.List.{flat_map};
 ghost use Rattle.vortex_errors.specs.Answers.{AnswersUnlessMemory};
-ghost use Rattle.vortex_types.specs.TypeOf.{struct_fields};
+ghost use Rattle.vortex_types.specs.TypeOf.{struct_fields, type_of};
 ghost use Rattle.vortex_interface.specs.ValidityRules.{default_rules};
 ghost use Rattle.vortex_functions.specs.Fixed.{fixed_meaning};
 ghost use Rattle.vortex_functions.specs.declared.custom.NoCustom.{NoCustom};
 ghost use Rattle.vortex_interface.specs.declared.options.EmptyOptions.{EmptyOptions};
-ghost use Rattle.rowfn_lines.specs.Lines.{lines_of, word_in, words_of};
 ghost use Rattle.rowfn_lines.specs.Commands.{command_in};
-ghost use Rattle.rowfn_scripts.specs.Stepping.{MakesStep, script_meaning, script_rules, given_in};
+ghost use Rattle.rowfn_scripts.specs.Naming.{expression_lines, declared, place_told, place_in};
+ghost use Rattle.rowfn_scripts.specs.Naming.{said_as};
+ghost use Rattle.rowfn_scripts.specs.Stepping.{MakesStep, Steps, script_meaning, script_rules};
+ghost use Rattle.rowfn_scripts.specs.Stepping.{given_in};
 ghost use Rattle.rowfn_scripts.specs.Expressions.{line_behind, given_at, IsHeader, AreHeaders};
-ghost use Rattle.rowfn_scripts.specs.Expressions.{name_in, name_said, is_of_scripts, Makes};
+ghost use Rattle.rowfn_scripts.specs.Expressions.{is_of_scripts, Makes, Does};
 ghost use Rattle.rowfn_scripts.specs.Expressions.{ReadsLine, ReadsAll, Stops, Leaves, LeavesNone};
 ghost use Rattle.rowfn_scripts.specs.Expressions.{ending_of};
 
 use crate::expected::{Expected, expected_in};
+use crate::naming::{Said, expression_lines, said_of};
 use crate::session::Session;
 use crate::stop::Stop;
-use rowfn_lines::parse::{is_name, parse};
-use rowfn_lines::text::{Word, words};
-use rowfn_lines::{Line, lines};
+use rowfn_lines::Line;
+use rowfn_lines::cells::column_of_cells;
 use std::alloc::{AllocError, Global};
-use std::str;
 use thiserror::Error;
-use vortex_columns::{StructFields, VortexError, VortexResult};
+use vortex_columns::{DType, StructFields, VortexError, VortexResult};
 use vortex_functions::{BoundExpression, NoCustom};
 
 /// A tree that the lines left, and its name in a header.
@@ -40,6 +41,9 @@ pub struct Answer {
 #[derive(Drop)]
 pub struct Expression {
     pub columns: StructFields,
+    /// Where columns stand in a row of the input, counted from 0; nothing, as behind the last, for
+    /// one that is found by its name.
+    pub places: Vec<Option<usize>>,
     pub answers: Vec<Answer>,
 }
 
@@ -144,42 +148,6 @@ fn answers_of(
     Ok(answers)
 }
 
-/// The name that the words of an `as` line say.
-fn name_in<'a>(words: &[Word<'a>]) -> Option<&'a str>
-    ensures { option_map (λ w. w.now) result ≡ name_in (map word_in words.now) }
-{
-    let [Word::Plain(first), Word::Plain(name)] = words else {
-        return None;
-    };
-    if *first == "as" && is_name(name) {
-        Some(*name)
-    } else {
-        None
-    }
-}
-
-/// The name that a text says which is an `as` line. E9 where memory is refused.
-fn name_of_text(alloc: Global, text: &str) -> VortexResult<Option<&str>>
-    ensures { AnswersUnlessMemory result
-        (λ name. option_map (λ w. w.now) name ≡ option_and_then name_in (words_of text.now)) }
-{
-    match words(alloc, text)? {
-        Some(words) => Ok(name_in(&words)),
-        None => Ok(None),
-    }
-}
-
-/// The name that an `as` line says; nothing of any other line. E9 where memory is refused.
-fn name_said(alloc: Global, line: &[u8]) -> VortexResult<Option<&str>>
-    ensures { AnswersUnlessMemory result
-        (λ name. option_map (λ w. w.now) name ≡ name_said line.now) }
-{
-    let Ok(text) = str::from_utf8(line) else {
-        return Ok(None);
-    };
-    name_of_text(alloc, text)
-}
-
 /// Whether the line is one of scripts that no expression has.
 fn is_of_scripts(line: &Line<'_>) -> bool
     ensures { result ≡ is_of_scripts (command_in line.now) }
@@ -201,52 +169,103 @@ fn step(alloc: Global, line: Line<'_>, session: &mut Session) -> Result<(), Stop
     session.step(alloc, line)
 }
 
-/// Does what the line says, or stops: where it is none of an expression, where its call is refused,
-/// or where memory runs out.
-fn read_line(alloc: Global, line: &[u8], session: &mut Session) -> Result<(), Stop>
-    ensures { MakesStep (ReadsLine script_meaning script_rules line.now)
+/// Declares a column, which has no cells. Stops where its name is declared already, and where memory
+/// is refused.
+fn declare(alloc: Global, name: &str, dtype: &DType, session: &mut Session) -> Result<(), Stop>
+    ensures { MakesStep (Steps (declared name.now (type_of dtype.now)))
         session.old result session.new }
 {
-    match name_said(alloc, line)? {
-        Some(name) => session.name_last(alloc, name),
-        None => {
-            let line = parse(alloc, line)?;
-            step(alloc, line, session)
+    let line = match column_of_cells(alloc, dtype, &[])? {
+        Some(column) => Line::Column(name, column),
+        None => Line::Malformed,
+    };
+    session.step(alloc, line)
+}
+
+/// Does what a line says, or stops; adds the place that it says of its column.
+fn perform(
+    alloc: Global,
+    said: Said<'_>,
+    session: &mut Session,
+    places: &mut Vec<Option<usize>>,
+) -> Result<(), Stop>
+    ensures step { MakesStep (Does script_meaning script_rules (said_as said.entry))
+        session.old result session.new }
+    ensures places { OnOk result
+        (places.new.items ≡ places.old.items ++ place_in (said_as said.entry)) }
+{
+    match said {
+        Said::Names(name) => session.name_last(alloc, name.as_str()),
+        Said::Declares(place, name, dtype) => {
+            places.push(place)?;
+            declare(alloc, name.as_str(), &dtype, session)
         }
+        Said::Gets(name) => session.step(alloc, Line::Get(name.as_str())),
+        Said::Says(line) => step(alloc, line, session),
     }
 }
 
+/// Does what the line says, or stops: where it is none of an expression, where its call is refused,
+/// or where memory runs out. Adds the place that it says of its column.
+fn read_line(
+    alloc: Global,
+    line: &[u8],
+    session: &mut Session,
+    places: &mut Vec<Option<usize>>,
+) -> Result<(), Stop>
+    ensures step { MakesStep (ReadsLine script_meaning script_rules line.now)
+        session.old result session.new }
+    ensures places { OnOk result (places.new.items ≡ places.old.items ++ place_told line.now) }
+{
+    let said = said_of(alloc, line)?;
+    perform(alloc, said, session, places)
+}
+
+/// What the lines of an expression make, and the places that they say of columns.
+#[derive(Drop)]
+struct Made {
+    session: Session,
+    places: Vec<Option<usize>>,
+}
+
 /// Reads the lines one by one, up to the first that stops.
-fn read_lines(alloc: Global, lines: &[&[u8]]) -> Result<Session, ExpressionError>
+fn read_lines(alloc: Global, lines: &[&[u8]]) -> Result<Made, ExpressionError>
     ensures { MatchResult result
-        (ReadsAll script_meaning script_rules (map (λ l. l.now) lines.now))
+        (λ made. ReadsAll script_meaning script_rules (map (λ l. l.now) lines.now) made.session
+        × (made.places.items ≡ flat_map place_told (map (λ l. l.now) lines.now)))
         (Stops script_meaning script_rules (map (λ l. l.now) lines.now)) }
 {
     let mut session = Session::of_no_rows(alloc);
+    let mut places = Vec::new(alloc);
     for (place, line) in lines.iter().enumerate() {
-        if let Err(stop) = read_line(alloc, line, &mut session) {
+        if let Err(stop) = read_line(alloc, line, &mut session, &mut places) {
             return Err(stopped(stop, place + 1, line));
         }
     }
-    Ok(session)
+    Ok(Made { session, places })
 }
 
 /// Reads an expression.
 ///
 /// Its lines are lines of scripts: `col name type` without cells declares a column, and `get`,
 /// `lit`, `call` and `optimize` make trees. `as name` names the last tree for a header, until a
-/// call takes it; a tree without a name has its text there. At the end at least one tree is left.
-/// docs/STREAM.md has each line with an example.
+/// call takes it; a tree without a name has its text there. A name may stand in quotes, and then it
+/// is any text, in which two quotes stand for one; `col 3 as name type` declares the column at the
+/// third place of a row. At the end at least one tree is left. A byte order mark before the text and
+/// carriage returns at the ends of lines are passed over. docs/STREAM.md has each line with an
+/// example.
 pub fn read_expression(alloc: Global, text: &[u8]) -> Result<Expression, ExpressionError>
     ensures { let m = fixed_meaning {V = NoCustom} {O = EmptyOptions} in
         MatchResult result
-        (λ x. Leaves m (default_rules m) (lines_of text.now) (struct_fields x.columns)
-        (map (λ a. a.tree) x.answers.items) (map (λ a. string_bytes a.name) x.answers.items))
-        (λ e. Stops m (default_rules m) (lines_of text.now) e
-        ⊎ LeavesNone m (default_rules m) (lines_of text.now) e) }
+        (λ x. Leaves m (default_rules m) (expression_lines text.now) (struct_fields x.columns)
+        x.places.items (map (λ a. a.tree) x.answers.items)
+        (map (λ a. string_bytes a.name) x.answers.items))
+        (λ e. Stops m (default_rules m) (expression_lines text.now) e
+        ⊎ LeavesNone m (default_rules m) (expression_lines text.now) e) }
 {
-    let lines = lines(alloc, text)?;
-    let (columns, trees, names) = read_lines(alloc, &lines)?.into_parts();
+    let lines = expression_lines(alloc, text)?;
+    let Made { session, places } = read_lines(alloc, &lines)?;
+    let (columns, trees, names) = session.into_parts();
     if trees.is_empty() {
         return Err(ExpressionError::Malformed {
             line: line_behind(&lines),
@@ -254,5 +273,9 @@ pub fn read_expression(alloc: Global, text: &[u8]) -> Result<Expression, Express
         });
     }
     let answers = answers_of(alloc, &trees, &names)?;
-    Ok(Expression { columns, answers })
+    Ok(Expression {
+        columns,
+        places,
+        answers,
+    })
 }

@@ -48,6 +48,7 @@ fn settings_of<'a>(options: &Options<'a>) -> Settings<'a> {
         header: options.header,
         batch: options.batch as usize,
         batch_bytes: options.batch_bytes,
+        flushes: options.flushes,
         max_field: options.max_field as usize,
         picks_rows: false,
         appends: options.appends,

@@ -84,6 +84,7 @@ fn settings_of<'a>(asked: &Asked<'a>, batch: (usize, u64)) -> Settings<'a> {
         header: asked.words.header,
         batch: batch.0,
         batch_bytes: batch.1,
+        flushes: false,
         max_field: asked.max_field,
         picks_rows: asked.words.answers.is_none(),
         appends: asked.appends,

@@ -16,6 +16,7 @@ pub struct Case<'a> {
     pub blank_rows: bool,
     pub picks_rows: bool,
     pub max_field: usize,
+    pub flushes: bool,
     /// Whether reading fails behind the input.
     pub fails: bool,
     /// How many bytes the output takes.
@@ -33,6 +34,7 @@ pub fn plain<'a>(expression: &'a str, input: &'a str) -> Case<'a> {
         blank_rows: false,
         picks_rows: false,
         max_field: usize::MAX,
+        flushes: false,
         fails: false,
         limit: usize::MAX,
     }
@@ -54,15 +56,9 @@ pub fn headless<'a>(expression: &'a str, input: &'a str) -> Case<'a> {
     }
 }
 
-/// Runs a stream by batches of so many rows, or so many bytes of them, and reads of so many bytes.
-pub fn run_case(
-    alloc: Global,
-    case: &Case<'_>,
-    batch: (usize, u64),
-    step: usize,
-    sink: &mut Sink,
-) -> Result<Summary, StreamError> {
-    let settings = Settings {
+/// How the rows of a case are read, by batches of so many rows, or so many bytes of them.
+pub fn settings_of<'a>(case: &Case<'a>, batch: (usize, u64)) -> Settings<'a> {
+    Settings {
         format: Format {
             delimiter: case.delimiter,
             null: case.null.as_bytes(),
@@ -71,11 +67,23 @@ pub fn run_case(
         header: case.header,
         batch: batch.0,
         batch_bytes: batch.1,
+        flushes: case.flushes,
         max_field: case.max_field,
         picks_rows: case.picks_rows,
         appends: false,
         rows_before: 0,
-    };
+    }
+}
+
+/// Runs a stream by batches of so many rows, or so many bytes of them, and reads of so many bytes.
+pub fn run_case(
+    alloc: Global,
+    case: &Case<'_>,
+    batch: (usize, u64),
+    step: usize,
+    sink: &mut Sink,
+) -> Result<Summary, StreamError> {
+    let settings = settings_of(case, batch);
     let expression = read_told(alloc, case.expression.as_bytes())?;
     let expression = if case.picks_rows {
         top_alone(alloc, expression)?

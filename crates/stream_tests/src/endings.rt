@@ -201,47 +201,13 @@ fn reading_and_writing_may_fail(rt: HostRuntime) {
 
 #[test]
 fn a_wrong_expression_is_told_by_its_line(rt: HostRuntime) {
-    let types = "col a i8\n\nget a\nlit bool true\ncall +\n";
-    let told = "line 5: E3 TypeMismatch.Arithmetic";
-    assert!(rt; ends(rt, plain(types, "a\n1\n"), "", 4, told));
     let malformed = "col a i8\nget\n";
-    let told = "line 2: expected get and the name of a column";
+    let told = "line 2: expected get and the name of a column, in quotes unless it is of letters, \
+                digits and _";
     assert!(rt; ends(rt, plain(malformed, "a\n1\n"), "", 4, told));
     let number = "col a i8\nget a\nas n\n";
     let told = "--pick: n is no truth value";
     assert!(rt; ends(rt, pick(number, "a\n1\n"), "", 4, told));
-}
-
-#[test]
-fn an_unknown_column_is_told_with_one_that_is_near(rt: HostRuntime) {
-    let near = "col price i8\ncol id i8\n\nget idd\n";
-    let told = "line 4: no column idd is declared; is id meant?";
-    assert!(rt; ends(rt, plain(near, "id\n1\n"), "", 4, told));
-    let near = "col price i8\ncol id i8\nget prcie\n";
-    let told = "line 3: no column prcie is declared; is price meant?";
-    assert!(rt; ends(rt, plain(near, "id\n1\n"), "", 4, told));
-    let told = "line 2: no column other is declared";
-    assert!(rt; ends(rt, plain("col id i8\nget other\n", "id\n1\n"), "", 4, told));
-    let told = "line 2: no column x is declared";
-    assert!(rt; ends(rt, plain("col y i8\nget x\n", "y\n1\n"), "", 4, told));
-}
-
-#[test]
-fn too_few_trees_are_told_by_their_count(rt: HostRuntime) {
-    let told = "line 3: call + takes 2 trees, not 1";
-    assert!(rt;
-        ends(
-            rt,
-            plain("col a i8\nget a\ncall +\n", "a\n1\n"),
-            "",
-            4,
-            told
-        )
-    );
-    let told = "line 1: call between takes 3 trees, not 0";
-    assert!(rt; ends(rt, plain("call between <= <\n", "a\n1\n"), "", 4, told));
-    let told = "line 2: expected call and a function, behind as many trees as it takes";
-    assert!(rt; ends(rt, plain("lit i8 1\ncall xor\n", "a\n1\n"), "", 4, told));
 }
 
 #[test]

@@ -19,7 +19,13 @@ mod expressions;
 #[cfg(test)]
 mod fields;
 #[cfg(test)]
+mod flushing;
+#[cfg(test)]
 mod inference;
+#[cfg(test)]
+mod line_errors;
+#[cfg(test)]
+mod naming;
 #[cfg(test)]
 mod options;
 #[cfg(test)]

@@ -49,6 +49,7 @@ fn described(alloc: Global, options: &Options<'_>) -> Result<String, AllocError>
         blank_rows,
         batch,
         batch_bytes,
+        flushes,
         max_field,
         first_row,
         action,
@@ -63,6 +64,9 @@ fn described(alloc: Global, options: &Options<'_>) -> Result<String, AllocError>
     let mut text = format!(in alloc; "{delimiter} {header} '{null}' {batch} {action:?} {summary}")?;
     if *blank_rows {
         text.push_str(" blank rows")?;
+    }
+    if *flushes {
+        text.push_str(" flushes")?;
     }
     if (*batch_bytes, *max_field) != (1048576, 268435456) {
         text.push_str(format!(in alloc; " {batch_bytes} {max_field}")?.as_str())?;
@@ -231,6 +235,8 @@ fn what_is_done_is_told(rt: HostRuntime) {
     assert!(rt; says(rt, "p --explain f", "44 true '' 2048 Explain false text f"));
     assert!(rt; says(rt, "p --summary f", "44 true '' 2048 Answer true text f"));
     assert!(rt; says(rt, "p --batch 7 f", "44 true '' 7 Answer false text f"));
+    let told = "44 true '' 2048 Answer false flushes text f";
+    assert!(rt; says(rt, "p --flush f", told));
     assert!(rt; is_refused(rt, "p --batch 0 f", ErrorKind::ValueValidation));
     assert!(rt; is_refused(rt, "p --batch x f", ErrorKind::ValueValidation));
     let told = "44 true '' 2048 Answer false 7 268435456 text f";

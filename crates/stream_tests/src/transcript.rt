@@ -1,8 +1,8 @@
 //! What an expression prints over the rows of a batch.
 
 use fixtures::same_text;
-use rowfn_batches::{BatchError, execute_answers, first_fault, push_field, read_columns};
-use rowfn_scripts::{Expression, read_expression};
+use rowfn_batches::{BatchError, push_field, read_columns};
+use rowfn_scripts::{Expression, execute_answers, first_fault, read_expression};
 use std::alloc::{AllocError, Global};
 use std::fmt::Write;
 use vortex_columns::{Column, VortexError, VortexResult};
@@ -54,7 +54,7 @@ fn push_fault(
     columns: &[Column],
     row_count: usize,
 ) -> VortexResult<()> {
-    let text = match first_fault(alloc, expression, columns, row_count)? {
+    let text = match first_fault(alloc, &expression.answers, columns, row_count)? {
         Some((row, error)) => format!(in alloc; "row {row}: {}", error.name())?,
         None => String::from_str(alloc, "no row faults")?,
     };
@@ -70,7 +70,7 @@ fn push_answers(
     columns: &[Column],
     row_count: usize,
 ) -> VortexResult<()> {
-    match execute_answers(alloc, expression, columns, row_count) {
+    match execute_answers(alloc, &expression.answers, columns, row_count) {
         Ok(answers) => {
             for row in 0..row_count {
                 push_row(out, &answers, row)?;

@@ -11,6 +11,7 @@ returns-in_default-clause-top c =
     let none = e.items ∙ ap (λ xs. xs ++ []) empty in
     record {
       columns = refl;
+      places = refl;
       last = c.new-top.ensures.items ∙ sym (ap last_alone none);
       truth = rw c.new-top.ensures.items (of_none (λ a. IsTruth a.tree));
     }
@@ -32,6 +33,7 @@ returns-clause-top c =
     let pushed = c.in_ok-push.ensures.items ∙ ap (λ xs. xs ++ a ∷ []) c.new-top.ensures.items in
     record {
       columns = refl;
+      places = refl;
       last = pushed
           ∙ sym (ap last_alone c.in-Some.ensures.items ∙ last_alone-append c.pop.new.self.items a);
       truth = rw pushed

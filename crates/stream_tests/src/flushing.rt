@@ -1,0 +1,89 @@
+//! Streams whose reader gives more only behind what it has heard.
+
+use crate::cases::{Case, plain, settings_of};
+use rowfn_batches::{flow, read_told};
+use std::alloc::Global;
+use std::cell::Cell;
+use std::io::{self, Read, Write};
+
+/// Parts of an input, each of which is begun once so many bytes were written; fails where they were
+/// not, or more were.
+#[derive(Drop)]
+struct Asker<'a> {
+    parts: &'a [(&'a str, usize)],
+    /// What is left of the part that was begun last.
+    left: &'a [u8],
+    written: &'a Cell<usize>,
+}
+
+impl Read for Asker<'_> {
+    fn read(&mut self, buf: &mut [u8]) -> io::Result<usize> {
+        if self.left.is_empty() {
+            let Some(((part, wanted), rest)) = self.parts.split_first() else {
+                return Ok(0);
+            };
+            if self.written.get() != *wanted {
+                return Err(io::Error::from(io::ErrorKind::ConnectionReset));
+            }
+            self.left = part.as_bytes();
+            self.parts = rest;
+        }
+        let count = self.left.len().min(buf.len());
+        let (given, left) = self.left.split_at(count);
+        buf[..count].copy_from_slice(given);
+        self.left = left;
+        Ok(count)
+    }
+}
+
+/// Counts what is written.
+#[derive(Drop)]
+struct Listener<'a> {
+    written: &'a Cell<usize>,
+}
+
+impl Write for Listener<'_> {
+    fn write(&mut self, buf: &[u8]) -> io::Result<usize> {
+        self.written
+            .set(self.written.get().saturating_add(buf.len()));
+        Ok(buf.len())
+    }
+
+    fn flush(&mut self) -> io::Result<()> {
+        Ok(())
+    }
+}
+
+/// Whether a stream is read to its end by an asker.
+fn is_heard(alloc: Global, case: &Case<'_>, parts: &[(&str, usize)]) -> bool {
+    let written = Cell::new(0);
+    let reader = Asker {
+        parts,
+        left: &[],
+        written: &written,
+    };
+    let mut listener = Listener { written: &written };
+    let Ok(expression) = read_told(alloc, case.expression.as_bytes()) else {
+        return false;
+    };
+    let settings = settings_of(case, (1000, 1000));
+    flow(alloc, &settings, &expression, None, reader, &mut listener).is_ok()
+}
+
+const SUM: &str = "col a i64\ncol b i64\nget a\nget b\ncall +\nas sum\n";
+
+#[test]
+fn what_is_there_is_answered_before_more_is_read(rt: HostRuntime) {
+    let parts = [
+        ("a,b\n1,2\n", 0),
+        ("3,4\n5", 6),
+        (",6\r\n\r\n", 8),
+        ("", 11),
+    ];
+    let flushes = Case {
+        flushes: true,
+        ..plain(SUM, "")
+    };
+    assert!(rt; is_heard(rt.alloc(), &flushes, &parts));
+    assert!(rt; !is_heard(rt.alloc(), &plain(SUM, ""), &parts));
+}
