@@ -124,7 +124,7 @@ module _ {M : Type 1} {𝓤 : Ura M} {𝓛 : Logic 𝓤} {K : Type 0} {Γ : List
   handle_out t d vs none some =
       fsplit t $ fpick t (λ vss. fsplit t $ feq_l t (λ ev. fsplit t $ feq_l t (λ ep. fsplit t $ handle_tells (al R Z heap_laws.the_row_laws ghosts) t d.alloc vss.1.0 (λ h ea fits. move t (1 ∷ []) $ fsplit t $ feq_l t (λ eb. drop t $ move t (1 ∷ []) $
       let words : vs ≡ three (ptr_val d.at) h (flag d.live) ∷ [] = subst (λ (bs : List Val). vs ≡ vstruct (of_list (ptr_val d.at ∷ h ∷ (bs ++ []))) ∷ []) eb
-        (subst (λ (ws : List Val). vs ≡ vstruct (of_list (ptr_val d.at ∷ (ws ++ (vss.1.1.0 ++ [])))) ∷ []) ea (subst (λ (ps : List Val). vs ≡ vstruct (of_list (ps ++ (vss.1.0 ++ (vss.1.1.0 ++ [])))) ∷ []) ep ev)) in
+      (subst (λ (ws : List Val). vs ≡ vstruct (of_list (ptr_val d.at ∷ (ws ++ (vss.1.1.0 ++ [])))) ∷ []) ea (subst (λ (ps : List Val). vs ≡ vstruct (of_list (ps ++ (vss.1.0 ++ (vss.1.1.0 ++ [])))) ∷ []) ep ev)) in
       apart t d.at d.alloc d.live d.held
-        (λ em el. none h em (subst (λ (l : Bool). vs ≡ three (ptr_val d.at) h (flag l) ∷ []) el words) fits)
-        (λ b o x em el ep'. some b o h x em (subst (λ (p : Ptr). vs ≡ three (ptr_val p) h (flag true) ∷ []) ep' (subst (λ (l : Bool). vs ≡ three (ptr_val d.at) h (flag l) ∷ []) el words)) fits))))))
+      (λ em el. none h em (subst (λ (l : Bool). vs ≡ three (ptr_val d.at) h (flag l) ∷ []) el words) fits)
+      (λ b o x em el ep'. some b o h x em (subst (λ (p : Ptr). vs ≡ three (ptr_val p) h (flag true) ∷ []) ep' (subst (λ (l : Bool). vs ≡ three (ptr_val d.at) h (flag l) ∷ []) el words)) fits))))))

@@ -1,1 +1,5 @@
 pub mod Owned
+pub mod Holding
+pub mod Asking
+pub mod Reading
+pub mod Answering

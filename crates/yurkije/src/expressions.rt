@@ -1,12 +1,24 @@
 //! Expressions: read, asked, and freed.
-ghost use Rattle.std.specs.Prelude.{◌≡◌, None};
+ghost use Rattle.std.specs.Prelude.{◌≡◌, ◌≢◌, ◌⊎◌, ◌<◌, None, Some, length, IsUtf8};
+ghost use Rattle.vortex_types.specs.LogicalTypes.{Fields, field_count};
+ghost use Rattle.vortex_types.specs.TypeOf.{struct_fields};
+ghost use Rattle.vortex_expressions.specs.declared.refusal.Refusal.{Refusal};
+ghost use Rattle.vortex_expressions.specs.Answers.{IsRefusedAll};
+ghost use Rattle.yurkije_columns.specs.Scopes.{answers, scope_lent};
+ghost use Rattle.yurkije_core.specs.Statuses.{refusal_status};
+ghost use Rattle.yurkije.specs.Holding.{program_in};
+ghost use Rattle.yurkije.specs.Asking.{Asks, TellsFieldName, TellsFieldType};
+ghost use Rattle.yurkije.specs.Asking.{TellsAnswerName, TellsAnswerType};
+ghost use Rattle.yurkije.specs.Reading.{Reads, HoldsRead, HoldsLines, HoldsScope};
 
-
+use crate::asking::{
+    answer_count, answer_name, answer_text, answer_type, field_count, field_name, field_type,
+};
 use crate::handle::Handle;
 use crate::held::{Content, Held};
-use crate::statuses::{EMPTY_HANDLE, NO_SUCH_NUMBER, OK, OUT_OF_MEMORY, ROOM_TOO_SMALL};
+use crate::statuses::{EMPTY_HANDLE, OUT_OF_MEMORY};
 use std::alloc::Global;
-use yurkije_columns::{LentField, Type, placed, put_text, read_fields, type_told};
+use yurkije_columns::{LentField, Type, placed, read_fields};
 use yurkije_core::{
     Program, ProgramError, Report, Told, program_words, read_lines, read_program, scope_words,
 };
@@ -17,7 +29,10 @@ fn hold(
     read: Result<Program, ProgramError>,
     expression: &mut Handle,
     error: &mut Report<'_>,
-) -> u32 {
+) -> u32
+    requires { expression.old.held ≡ None }
+    ensures { Reads read expression.new.held result error.new }
+{
     let program = match read {
         Ok(program) => program,
         Err(wrong) => {
@@ -35,7 +50,8 @@ fn hold(
     }
 }
 
-/// Reads the answers of a text over the fields of a scope.
+/// Reads the answers of a text over the fields of a scope. 0 exactly where the handle then holds the
+/// expression; it is empty where the call is refused.
 #[unsafe(no_mangle)]
 pub extern "C" fn yk_expression_new(
     alloc: Global,
@@ -43,7 +59,9 @@ pub extern "C" fn yk_expression_new(
     fields: &[LentField<'_>],
     expression: &mut Handle,
     error: &mut Report<'_>,
-) -> u32 {
+) -> u32
+    ensures { HoldsRead fields.now text.now expression.new.held result error.new }
+{
     expression.clear(alloc);
     match read_fields(alloc, placed(fields)) {
         Ok(scope) => {
@@ -57,14 +75,17 @@ pub extern "C" fn yk_expression_new(
     }
 }
 
-/// Reads an expression from lines of scripts.
+/// Reads an expression from lines of scripts. 0 exactly where the handle then holds the expression;
+/// it is empty where the call is refused.
 #[unsafe(no_mangle)]
 pub extern "C" fn yk_expression_of_lines(
     alloc: Global,
     text: &[u8],
     expression: &mut Handle,
     error: &mut Report<'_>,
-) -> u32 {
+) -> u32
+    ensures { HoldsLines text.now expression.new.held result error.new }
+{
     expression.clear(alloc);
     let read = read_lines(alloc, placed(text));
     hold(alloc, read, expression, error)
@@ -80,34 +101,17 @@ pub extern "C" fn yk_expression_free(alloc: Global, expression: &mut Handle)
 
 /// How many fields the scope has.
 #[unsafe(no_mangle)]
-pub extern "C" fn yk_field_count(
-    alloc: Global,
-    expression: &mut Handle,
-    count: &mut usize,
-) -> u32 {
-    *count = 0;
+pub extern "C" fn yk_field_count(alloc: Global, expression: &mut Handle, count: &mut usize) -> u32
+    ensures kept { expression.new.held ≡ expression.old.held }
+    ensures count { Asks (program_in expression.old.held) 100 result (λ p. (result ≡ 0)
+        × (count.new ≡ field_count (struct_fields p.scope))) }
+{
     let Some(held) = expression.open(alloc) else {
         return EMPTY_HANDLE;
     };
-    let status = match held.program() {
-        Some(program) => {
-            *count = program.scope.len();
-            OK
-        }
-        None => EMPTY_HANDLE,
-    };
+    let status = field_count(&held, count);
     expression.close(held);
     status
-}
-
-/// Writes a text, and tells how long it is.
-pub(crate) fn put(text: &str, room: &mut [u8], length: &mut usize) -> u32 {
-    *length = text.len();
-    if put_text(text, room) == text.len() {
-        OK
-    } else {
-        ROOM_TOO_SMALL
-    }
 }
 
 /// The name of a field.
@@ -117,19 +121,16 @@ pub extern "C" fn yk_field_name(
     expression: &mut Handle,
     field: usize,
     room: &mut [u8],
-    length: &mut usize,
-) -> u32 {
-    *length = 0;
+    len: &mut usize,
+) -> u32
+    ensures kept { expression.new.held ≡ expression.old.held }
+    ensures name { Asks (program_in expression.old.held) 100 result
+        (λ p. TellsFieldName p field room.old room.new len.new result) }
+{
     let Some(held) = expression.open(alloc) else {
         return EMPTY_HANDLE;
     };
-    let status = match held.program() {
-        Some(program) if field < program.scope.len() => {
-            put(program.scope.name(field), room, length)
-        }
-        Some(_) => NO_SUCH_NUMBER,
-        None => EMPTY_HANDLE,
-    };
+    let status = field_name(&held, field, room, len);
     expression.close(held);
     status
 }
@@ -141,40 +142,30 @@ pub extern "C" fn yk_field_type(
     expression: &mut Handle,
     field: usize,
     dtype: &mut Type,
-) -> u32 {
+) -> u32
+    ensures kept { expression.new.held ≡ expression.old.held }
+    ensures told { Asks (program_in expression.old.held) 100 result
+        (λ p. TellsFieldType p field dtype.new result) }
+{
     let Some(held) = expression.open(alloc) else {
         return EMPTY_HANDLE;
     };
-    let status = match held.program() {
-        Some(program) if field < program.scope.len() => {
-            *dtype = type_told(program.scope.dtype(field));
-            OK
-        }
-        Some(_) => NO_SUCH_NUMBER,
-        None => EMPTY_HANDLE,
-    };
+    let status = field_type(&held, field, dtype);
     expression.close(held);
     status
 }
 
 /// How many answers the expression has.
 #[unsafe(no_mangle)]
-pub extern "C" fn yk_answer_count(
-    alloc: Global,
-    expression: &mut Handle,
-    count: &mut usize,
-) -> u32 {
-    *count = 0;
+pub extern "C" fn yk_answer_count(alloc: Global, expression: &mut Handle, count: &mut usize) -> u32
+    ensures kept { expression.new.held ≡ expression.old.held }
+    ensures count { Asks (program_in expression.old.held) 100 result (λ p. (result ≡ 0)
+        × (count.new ≡ length p.written.items)) }
+{
     let Some(held) = expression.open(alloc) else {
         return EMPTY_HANDLE;
     };
-    let status = match held.program() {
-        Some(program) => {
-            *count = program.written.len();
-            OK
-        }
-        None => EMPTY_HANDLE,
-    };
+    let status = answer_count(&held, count);
     expression.close(held);
     status
 }
@@ -186,19 +177,16 @@ pub extern "C" fn yk_answer_name(
     expression: &mut Handle,
     answer: usize,
     room: &mut [u8],
-    length: &mut usize,
-) -> u32 {
-    *length = 0;
+    len: &mut usize,
+) -> u32
+    ensures kept { expression.new.held ≡ expression.old.held }
+    ensures name { Asks (program_in expression.old.held) 100 result
+        (λ p. TellsAnswerName p answer room.old room.new len.new result) }
+{
     let Some(held) = expression.open(alloc) else {
         return EMPTY_HANDLE;
     };
-    let status = match held.program() {
-        Some(program) => match program.written.get(answer) {
-            Some(answer) => put(answer.name.as_str(), room, length),
-            None => NO_SUCH_NUMBER,
-        },
-        None => EMPTY_HANDLE,
-    };
+    let status = answer_name(&held, answer, room, len);
     expression.close(held);
     status
 }
@@ -210,20 +198,15 @@ pub extern "C" fn yk_answer_type(
     expression: &mut Handle,
     answer: usize,
     dtype: &mut Type,
-) -> u32 {
+) -> u32
+    ensures kept { expression.new.held ≡ expression.old.held }
+    ensures told { Asks (program_in expression.old.held) 100 result
+        (λ p. TellsAnswerType p answer dtype.new result) }
+{
     let Some(held) = expression.open(alloc) else {
         return EMPTY_HANDLE;
     };
-    let status = match held.program() {
-        Some(program) => match program.written.get(answer) {
-            Some(answer) => {
-                *dtype = type_told(answer.tree.dtype());
-                OK
-            }
-            None => NO_SUCH_NUMBER,
-        },
-        None => EMPTY_HANDLE,
-    };
+    let status = answer_type(&held, answer, dtype);
     expression.close(held);
     status
 }
@@ -236,20 +219,14 @@ pub extern "C" fn yk_answer_text(
     answer: usize,
     optimized: bool,
     room: &mut [u8],
-    length: &mut usize,
-) -> u32 {
-    *length = 0;
+    len: &mut usize,
+) -> u32
+    ensures { expression.new.held ≡ expression.old.held }
+{
     let Some(held) = expression.open(alloc) else {
         return EMPTY_HANDLE;
     };
-    let status = match held.program() {
-        Some(program) => match program.text(alloc, answer, optimized) {
-            Ok(Some(text)) => put(text.as_str(), room, length),
-            Ok(None) => NO_SUCH_NUMBER,
-            Err(_) => OUT_OF_MEMORY,
-        },
-        None => EMPTY_HANDLE,
-    };
+    let status = answer_text(alloc, &held, answer, optimized, room, len);
     expression.close(held);
     status
 }

@@ -28,7 +28,11 @@ impl Handle {
     pub fn empty(alloc: Global) -> Handle
         ensures { result.held ≡ None }
     {
-        Handle { at: std::ptr::null_mut(), alloc, live: false }
+        Handle {
+            at: std::ptr::null_mut(),
+            alloc,
+            live: false,
+        }
     }
 
     /// A handle of that box.
@@ -36,7 +40,11 @@ impl Handle {
         ensures { result.held ≡ Some parts.value }
     {
         let Parts { ptr, alloc } = parts;
-        Handle { at: ptr as *mut u8, alloc, live: true }
+        Handle {
+            at: ptr as *mut u8,
+            alloc,
+            live: true,
+        }
     }
 
     /// The box that is held, if there is one.
@@ -46,7 +54,10 @@ impl Handle {
     {
         let Handle { at, alloc, live } = self;
         if live {
-            Some(Parts { ptr: at as *mut Held, alloc })
+            Some(Parts {
+                ptr: at as *mut Held,
+                alloc,
+            })
         } else {
             None
         }

@@ -3,7 +3,9 @@
 #![tactic(auto)]
 
 mod answers;
+mod asking;
 mod expressions;
+mod giving;
 mod handle;
 mod held;
 mod parts;
@@ -18,5 +20,5 @@ pub use expressions::{
     yk_expression_new, yk_expression_of_lines, yk_field_count, yk_field_name, yk_field_type,
 };
 pub use handle::Handle;
-pub use held::{Answers, Held};
+pub use held::{Answers, Content, Held};
 pub use version::{yk_abi_version, yk_version};

@@ -1,8 +1,8 @@
 //! Which interface the library has.
-ghost use Rattle.std.specs.Prelude.{◌≡◌};
+ghost use Rattle.std.specs.Prelude.{◌≡◌, codes};
+ghost use Rattle.yurkije.specs.Asking.{IsPut};
 
-
-use crate::expressions::put;
+use crate::asking::put;
 
 /// The version of the interface.
 #[unsafe(no_mangle)]
@@ -14,6 +14,8 @@ pub extern "C" fn yk_abi_version() -> u32
 
 /// The library's name and version.
 #[unsafe(no_mangle)]
-pub extern "C" fn yk_version(room: &mut [u8], length: &mut usize) -> u32 {
-    put("yurkije 0.1.0", room, length)
+pub extern "C" fn yk_version(room: &mut [u8], len: &mut usize) -> u32
+    ensures { IsPut (codes "yurkije 0.1.0") room.old room.new len.new result }
+{
+    put("yurkije 0.1.0", room, len)
 }

@@ -4,10 +4,12 @@
 
 mod naming;
 pub mod program;
+pub mod reading;
 pub mod report;
 pub mod running;
 pub mod statuses;
 
-pub use program::{Program, ProgramError, read_lines, read_program};
+pub use program::Program;
+pub use reading::{ProgramError, read_lines, read_program};
 pub use report::{NONE, Report, Told, lent_words, program_words, run_words, scope_words};
 pub use running::{RunError, run_program};

@@ -1,10 +1,17 @@
 //! What is told of a refusal: numbers, and words in a caller's bytes.
-use crate::program::{Program, ProgramError};
+ghost use Rattle.std.specs.Prelude.{◌≡◌};
+ghost use Rattle.yurkije_core.specs.Reports.{nowhere, of_column, of_row, of_line, scope_told};
+ghost use Rattle.yurkije_core.specs.Reports.{text_told, lines_told, program_told, arrow_told};
+ghost use Rattle.yurkije_core.specs.Reports.{batch_told, lent_told, run_told, IsMessage, Tells};
+
+use crate::program::Program;
+use crate::reading::ProgramError;
 use crate::running::RunError;
 use crate::statuses::{program_status, run_status};
 use rowfn_scripts::ExpressionError;
 use std::alloc::Global;
 use vortex_arrow::ArrowError;
+use vortex_expressions::ReadError;
 use yurkije_columns::statuses::{column_status, scope_status};
 use yurkije_columns::{BatchError, ColumnFault, LentError, ScopeError, ScopeFault, put_text};
 
@@ -40,8 +47,10 @@ pub struct Told {
 }
 
 impl Told {
-    /// A status alone, at no place.
-    pub fn of(status: u32) -> Told {
+    /// A status at no place.
+    pub fn of(status: u32) -> Told
+        ensures { result ≡ nowhere status }
+    {
         Told {
             status,
             answer: NONE,
@@ -53,82 +62,139 @@ impl Told {
         }
     }
 
+    /// A status of a column.
+    fn of_column(column: usize, status: u32) -> Told
+        ensures { result ≡ of_column column status }
+    {
+        Told {
+            column,
+            ..Told::of(status)
+        }
+    }
+
+    /// A status of a row of a column.
+    fn of_row(column: usize, row: usize, status: u32) -> Told
+        ensures { result ≡ of_row column row status }
+    {
+        Told {
+            column,
+            row,
+            ..Told::of(status)
+        }
+    }
+
+    /// A status of a line.
+    fn of_line(line: usize, status: u32) -> Told
+        ensures { result ≡ of_line line status }
+    {
+        Told {
+            line,
+            ..Told::of(status)
+        }
+    }
+
     /// What is told of fields that are no scope.
-    pub fn of_scope(error: ScopeError) -> Told {
-        let told = Told::of(scope_status(error.fault));
-        if error.fault == ScopeFault::OutOfMemory {
-            return told;
+    pub fn of_scope(error: ScopeError) -> Told
+        ensures { result ≡ scope_told error }
+    {
+        let status = scope_status(error.fault);
+        match error.fault {
+            ScopeFault::OutOfMemory => Told::of(status),
+            _ => Told::of_column(error.field, status),
+        }
+    }
+
+    /// What is told of a text that is refused.
+    fn of_text(error: &ReadError, status: u32) -> Told
+        ensures { result ≡ text_told error.now status }
+    {
+        if error.is_out_of_memory() {
+            return Told::of(status);
         }
         Told {
-            column: error.field,
-            ..told
+            byte: error.byte,
+            line: error.line,
+            character: error.column,
+            ..Told::of(status)
+        }
+    }
+
+    /// What is told of lines that are refused.
+    fn of_lines(error: &ExpressionError, status: u32) -> Told
+        ensures { result ≡ lines_told error.now status }
+    {
+        match error {
+            ExpressionError::Refused { line, error: _ } => Told::of_line(*line, status),
+            ExpressionError::Malformed { line, expected: _ } => Told::of_line(*line, status),
+            ExpressionError::OutOfMemory => Told::of(status),
         }
     }
 
     /// What is told of a text that is no program.
-    pub fn of_program(error: &ProgramError) -> Told {
-        let told = Told::of(program_status(error));
+    pub fn of_program(error: &ProgramError) -> Told
+        ensures { result ≡ program_told error.now }
+    {
+        let status = program_status(error);
         match error {
-            ProgramError::Text(error) if !error.is_out_of_memory() => Told {
-                byte: error.byte,
-                line: error.line,
-                character: error.column,
-                ..told
-            },
-            ProgramError::Lines(ExpressionError::Refused { line, .. }) => {
-                Told { line: *line, ..told }
-            }
-            ProgramError::Lines(ExpressionError::Malformed { line, .. }) => {
-                Told { line: *line, ..told }
-            }
-            _ => told,
+            ProgramError::Text(error) => Told::of_text(error, status),
+            ProgramError::Lines(error) => Told::of_lines(error, status),
+            ProgramError::NotUtf8 => Told::of(status),
+            ProgramError::OutOfMemory => Told::of(status),
         }
     }
 
     /// What is told of a column whose buffers are refused.
-    fn of_arrow(self, column: usize, error: ArrowError) -> Told {
+    fn of_arrow(column: usize, error: ArrowError, status: u32) -> Told
+        ensures { result ≡ arrow_told column error status }
+    {
         match error {
-            ArrowError::UnexpectedNull { row } => Told { column, row, ..self },
-            ArrowError::InvalidValue { row, .. } => Told { column, row, ..self },
-            ArrowError::NotUtf8 { row } => Told { column, row, ..self },
-            ArrowError::OutOfMemory => self,
-            _ => Told { column, ..self },
+            ArrowError::UnexpectedNull { row } => Told::of_row(column, row, status),
+            ArrowError::InvalidValue { row, fault: _ } => Told::of_row(column, row, status),
+            ArrowError::NotUtf8 { row } => Told::of_row(column, row, status),
+            ArrowError::OutOfMemory => Told::of(status),
+            _ => Told::of_column(column, status),
         }
     }
 
-    /// What is told of a batch whose columns are refused.
-    pub fn of_batch(error: BatchError) -> Told {
-        let told = Told::of(column_status(error.fault));
+    /// What is told of a batch of which a column is wrong.
+    fn of_batch(error: BatchError) -> Told
+        ensures { result ≡ batch_told error }
+    {
+        let status = column_status(error.fault);
         match error.fault {
-            ColumnFault::Unread(fault) => told.of_arrow(error.column, fault),
-            _ => Told {
-                column: error.column,
-                ..told
-            },
+            ColumnFault::Unread(fault) => Told::of_arrow(error.column, fault, status),
+            _ => Told::of_column(error.column, status),
         }
     }
 
     /// What is told of columns that are not taken.
-    pub fn of_lent(error: LentError) -> Told {
+    pub fn of_lent(error: LentError) -> Told
+        ensures { result ≡ lent_told error }
+    {
         match error {
-            LentError::UnknownKind { column } => Told {
-                column,
-                ..Told::of(102)
-            },
+            LentError::UnknownKind { column } => Told::of_column(column, 102),
             LentError::OutOfMemory => Told::of(9),
         }
     }
 
     /// What is told of a run that answers nothing.
-    pub fn of_run(error: &RunError) -> Told {
+    pub fn of_run(error: &RunError) -> Told
+        ensures { result ≡ run_told error.now }
+    {
+        let status = run_status(error);
         match error {
             RunError::Batch(error) => Told::of_batch(*error),
-            RunError::Fault { row, answer, .. } => Told {
+            RunError::Fault {
+                row,
+                answer,
+                error: _,
+            } => Told {
                 row: *row,
                 answer: *answer,
-                ..Told::of(run_status(error))
+                ..Told::of(status)
             },
-            _ => Told::of(run_status(error)),
+            RunError::Refused(_) => Told::of(status),
+            RunError::OutOfMemory => Told::of(status),
         }
     }
 }
@@ -218,7 +284,9 @@ pub fn run_words(alloc: Global, program: &Program, error: &RunError, rows: usize
 
 /// Writes the words into the caller's bytes, ended by a NUL where there is room for one, and tells
 /// how many bytes they take without it.
-fn put_message(words: &str, message: &mut [u8]) -> usize {
+fn put_message(words: &str, message: &mut [u8]) -> usize
+    ensures { IsMessage words.now message.new result }
+{
     let Some(room) = message.len().checked_sub(1) else {
         return 0;
     };
@@ -229,7 +297,11 @@ fn put_message(words: &str, message: &mut [u8]) -> usize {
 
 impl Report<'_> {
     /// Tells a refusal, and answers its status.
-    pub fn tell(&mut self, told: Told, words: &str) -> u32 {
+    pub fn tell(&mut self, told: Told, words: &str) -> u32
+        ensures status { result ≡ told.status }
+        ensures told { Tells self.new told }
+        ensures message { IsMessage words.now self.new.message.now self.new.message_length }
+    {
         self.status = told.status;
         self.answer = told.answer;
         self.column = told.column;
@@ -242,7 +314,10 @@ impl Report<'_> {
     }
 
     /// Tells that nothing is refused.
-    pub fn clear(&mut self) -> u32 {
+    pub fn clear(&mut self) -> u32
+        ensures status { result ≡ 0 }
+        ensures told { Tells self.new (nowhere 0) }
+    {
         self.tell(Told::of(0), "")
     }
 }
