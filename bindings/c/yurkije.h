@@ -268,7 +268,8 @@ uint32_t yk_expression_new(const char *text, size_t length,
                            const struct yk_field *fields, size_t count,
                            struct yk_expression *expression, struct yk_error *error);
 
-/* Reads an expression from lines of scripts, which declare its fields themselves (docs/STREAM.md).
+/* Reads an expression from lines of scripts, which declare its fields themselves (docs/STREAM.md):
+ * column `k` of a batch is that of the `k`-th line that declares one, whatever place it says.
  * Refused with the line that is wrong. */
 uint32_t yk_expression_of_lines(const char *text, size_t length,
                                 struct yk_expression *expression, struct yk_error *error);
@@ -300,7 +301,9 @@ uint32_t yk_answer_text(struct yk_expression *expression, size_t answer, bool op
 
 /* Runs the expression over a batch: as many columns as there are fields, each of the field's kind,
  * nullable as the field is, and of `rows` rows. Refused with the column and the row that are wrong,
- * or with the first row in which an answer faults and the first answer that does there. */
+ * or with the first row in which an answer, as it was written, faults and the first answer that does
+ * there. What is run is optimized, which may drop a fault: then there are answers, of any value in
+ * that row, and in all others those of the expression as it was written. */
 uint32_t yk_run(struct yk_expression *expression,
                 const struct yk_column *columns, size_t count, size_t rows,
                 struct yk_answers *answers, struct yk_error *error);

@@ -1,7 +1,9 @@
 -- What a handle holds of a batch, and what is asked of answers.
 use Rattle.std.specs.Prelude.{◌≡◌, ◌⊎◌, ℕ, ℤ, pos, List, map, take, length}
 use Rattle.std.specs.Prelude.{Option, Some, None, slice_get}
-use Rattle.vortex_types.specs.TypeOf.{struct_fields}
+use Rattle.vortex_interface.specs.Rewrites.{Rewrites}
+use Rattle.vortex_functions.specs.Walks.{AllMean}
+use Rattle.vortex_expressions.specs.Items.{meaning}
 use Rattle.vortex_columns.specs.ColumnView.{ColumnView}
 use Rattle.vortex_columns.specs.TrueRows.{true_rows}
 use Rattle.vortex_arrow.specs.declared.column.ArrowColumn.{ArrowColumn}
@@ -16,44 +18,41 @@ use Rattle.yurkije_columns.specs.declared.rooms.RoomError.TheVariants as room
 use Rattle.yurkije_columns.specs.Lent.{AllSay, RefusesLent}
 use Rattle.yurkije_columns.specs.Rooms.{IsSize, RefusesSize, IsCopied, RefusesCopy, KeepsRefused}
 use Rattle.yurkije_columns.specs.Statuses.{copy_status}
-use Rattle.yurkije_core.specs.declared.program.Program.{Program}
 use Rattle.yurkije_core.specs.declared.running.RunError.{RunError}
 use Rattle.yurkije_core.specs.declared.report.Report.{Report}
-use Rattle.yurkije_core.specs.Programs.{trees_of, AreRewrites}
 use Rattle.yurkije_core.specs.Running.{AnswersBatch, RefusesRun}
 use Rattle.yurkije_core.specs.Statuses.{run_status}
 use Rattle.yurkije_core.specs.Reports.{Tells, nowhere, lent_told, run_told}
-use Rattle.yurkije.specs.declared.held.Held.{Held}
-use Rattle.yurkije.specs.Holding.{answers_in}
+use Rattle.yurkije.specs.Views.{ProgramView, HeldView, answers_in}
 use Rattle.yurkije.specs.Reading.{Done, Wants}
 
 -- The handle holds what the program answers over the columns that are lent, and 0 is answered; or it
 -- holds nothing, and why is told: a column is wrong, or an answer faults, or memory ran out. Of a
 -- program that was read, what is run are rewrites of what was written.
-pub data HoldsAnswers (p : Program) (lent : List LentColumn) (rows : ℕ) (held : Option Held)
+pub data HoldsAnswers (p : ProgramView) (lent : List LentColumn) (rows : ℕ) (held : Option HeldView)
     (result : ℕ) (report : Report) : Type 0 where
   answered : (columns : List ArrowColumn) (answers : List ColumnView) → AllSay lent columns
-      → (AreRewrites p.written.items p.optimized.items
-      → AnswersBatch (struct_fields p.scope) rows columns (trees_of p.written.items) answers)
+      → (AllMean (Rewrites meaning) p.written p.optimized
+      → AnswersBatch p.scope rows columns p.written answers)
       → answers_in held ≡ Some answers → Done result report
       → HoldsAnswers p lent rows held result report
   no_kind : (e : LentError) → RefusesLent lent e → held ≡ None
       → result ≡ (lent_told e).status → Tells report (lent_told e)
       → HoldsAnswers p lent rows held result report
   refused : (columns : List ArrowColumn) (e : RunError) → AllSay lent columns
-      → (AreRewrites p.written.items p.optimized.items
-      → RefusesRun (struct_fields p.scope) rows columns (trees_of p.written.items) e)
+      → (AllMean (Rewrites meaning) p.written p.optimized
+      → RefusesRun p.scope rows columns p.written e)
       → held ≡ None → result ≡ (run_told e).status → Tells report (run_told e)
       → HoldsAnswers p lent rows held result report
   without_memory : Wants held result report → HoldsAnswers p lent rows held result report
 
 -- there is no program to run
-pub record HoldsNothing (held : Option Held) (result : ℕ) (report : Report) : Type 0 where
+pub record HoldsNothing (held : Option HeldView) (result : ℕ) (report : Report) : Type 0 where
   pub left : held ≡ None
   pub status : result ≡ 100
   pub told : Tells report (nowhere 100)
 
-abbrev pub Runs : Option Program → List LentColumn → ℕ → Option Held → ℕ → Report → Type 0
+abbrev pub Runs : Option ProgramView → List LentColumn → ℕ → Option HeldView → ℕ → Report → Type 0
 Runs None lent rows held result report = HoldsNothing held result report
 Runs (Some p) lent rows held result report = HoldsAnswers p lent rows held result report
 
@@ -86,7 +85,7 @@ abbrev pub Selects : ColumnView → ℕ → List ℕ → List ℕ → ℕ → �
 Selects = SelectsBy pos
 
 -- the answers are held, or memory ran out
-abbrev pub KeepsOrWants : List ColumnView → Option Held → ℕ → Report → Type 0
+abbrev pub KeepsOrWants : List ColumnView → Option HeldView → ℕ → Report → Type 0
 KeepsOrWants columns held result report =
     ((answers_in held ≡ Some columns) × Done result report) ⊎ Wants held result report
 

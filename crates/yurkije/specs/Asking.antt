@@ -1,16 +1,15 @@
 -- What is asked of an expression and of answers that a handle holds.
 use Rattle.std.specs.Prelude.{◌≡◌, ◌≤◌, ◌<◌, ℕ, List, Option, Some, None, take, length}
-use Rattle.std.specs.Prelude.{if◌then◌else◌, nat_eq, slice_get, IfSome, string_bytes}
+use Rattle.std.specs.Prelude.{if◌then◌else◌, nat_eq, slice_get, IfSome}
 use Rattle.std.specs.Str.{IsCharBoundary}
 use Rattle.vortex_types.specs.LogicalTypes.{LogicalType, field_count, field_type, is_nullable}
 use Rattle.vortex_types.specs.FieldNames.{field_name}
-use Rattle.vortex_types.specs.TypeOf.{struct_fields}
 use Rattle.vortex_interface.specs.Eval.{tree_type}
 use Rattle.vortex_expressions.specs.Items.{meaning}
 use Rattle.vortex_arrow.specs.Written.{SameBehind}
 use Rattle.yurkije_columns.specs.Kinds.{type_number}
 use Rattle.yurkije_columns.specs.declared.kinds.Type as told
-use Rattle.yurkije_core.specs.declared.program.Program.{Program}
+use Rattle.yurkije.specs.Views.{ProgramView}
 
 -- P of what is there, which is answered with 0; or the status where nothing is
 abbrev pub Asks : {A : Type 0} → Option A → ℕ → ℕ → (A → Type 0) → Type 0
@@ -35,25 +34,22 @@ pub record IsType (t : LogicalType) (u : told.Type) : Type 0 where
   pub nullable : u.nullable ≡ is_nullable t
 
 -- the name and the type of a field; none has a number past the last
-abbrev pub TellsFieldName : Program → ℕ → List ℕ → List ℕ → ℕ → ℕ → Type 0
+abbrev pub TellsFieldName : ProgramView → ℕ → List ℕ → List ℕ → ℕ → ℕ → Type 0
 TellsFieldName p k old new len result =
-    let scope = struct_fields p.scope in
-    (k < field_count scope → IsPut (field_name k scope) old new len result)
-    × (field_count scope ≤ k → result ≡ 101)
+    (k < field_count p.scope → IsPut (field_name k p.scope) old new len result)
+    × (field_count p.scope ≤ k → result ≡ 101)
 
-abbrev pub TellsFieldType : Program → ℕ → told.Type → ℕ → Type 0
+abbrev pub TellsFieldType : ProgramView → ℕ → told.Type → ℕ → Type 0
 TellsFieldType p k t result =
-    let scope = struct_fields p.scope in
-    (k < field_count scope → (result ≡ 0) × IsType (field_type k scope) t)
-    × (field_count scope ≤ k → result ≡ 101)
+    (k < field_count p.scope → (result ≡ 0) × IsType (field_type k p.scope) t)
+    × (field_count p.scope ≤ k → result ≡ 101)
 
 -- those of an answer
-abbrev pub TellsAnswerName : Program → ℕ → List ℕ → List ℕ → ℕ → ℕ → Type 0
+abbrev pub TellsAnswerName : ProgramView → ℕ → List ℕ → List ℕ → ℕ → ℕ → Type 0
 TellsAnswerName p k old new len result =
-    Asks (slice_get p.written.items k) 101 result
-    (λ a. IsPut (string_bytes a.name) old new len result)
+    Asks (slice_get p.names k) 101 result (λ name. IsPut name old new len result)
 
-abbrev pub TellsAnswerType : Program → ℕ → told.Type → ℕ → Type 0
+abbrev pub TellsAnswerType : ProgramView → ℕ → told.Type → ℕ → Type 0
 TellsAnswerType p k t result =
-    Asks (slice_get p.written.items k) 101 result
-    (λ a. (result ≡ 0) × IfSome (tree_type meaning a.tree) (λ u. IsType u t))
+    Asks (slice_get p.written k) 101 result
+    (λ tree. (result ≡ 0) × IfSome (tree_type meaning tree) (λ u. IsType u t))

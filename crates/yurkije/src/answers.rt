@@ -1,6 +1,6 @@
 //! Answers: of a batch, asked, copied, and freed.
 ghost use Rattle.std.specs.Prelude.{◌≡◌, None, slice_get};
-ghost use Rattle.yurkije.specs.Holding.{program_in, answers_in};
+ghost use Rattle.yurkije.specs.Views.{program_in, answers_in};
 ghost use Rattle.yurkije.specs.Asking.{Asks};
 ghost use Rattle.yurkije.specs.Answering.{Runs, Sizes, Copies, Selects};
 

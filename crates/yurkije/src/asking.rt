@@ -2,8 +2,6 @@
 ghost use Rattle.std.specs.Prelude.{◌≡◌, ◌<◌, length, string_bytes, slice_get, map, ⊤};
 ghost use Rattle.vortex_types.specs.LogicalTypes.{field_count, field_type};
 ghost use Rattle.vortex_types.specs.FieldNames.{field_name};
-ghost use Rattle.vortex_types.specs.TypeOf.{struct_fields};
-ghost use Rattle.yurkije.specs.Holding.{content_program};
 ghost use Rattle.yurkije.specs.Asking.{Asks, IsPut, TellsFieldName, TellsFieldType};
 ghost use Rattle.yurkije.specs.Asking.{TellsAnswerName, TellsAnswerType};
 
@@ -25,8 +23,8 @@ pub(crate) fn put(text: &str, room: &mut [u8], len: &mut usize) -> u32
 }
 
 pub(crate) fn field_count(held: &Held, count: &mut usize) -> u32
-    ensures { Asks (content_program held.now.content) 100 result (λ p. (result ≡ 0)
-        × (count.new ≡ field_count (struct_fields p.scope))) }
+    ensures { Asks held.now.program 100 result (λ p. (result ≡ 0)
+        × (count.new ≡ field_count p.scope)) }
 {
     match held.program() {
         Some(program) => {
@@ -38,7 +36,7 @@ pub(crate) fn field_count(held: &Held, count: &mut usize) -> u32
 }
 
 pub(crate) fn field_name(held: &Held, field: usize, room: &mut [u8], len: &mut usize) -> u32
-    ensures { Asks (content_program held.now.content) 100 result
+    ensures { Asks held.now.program 100 result
         (λ p. TellsFieldName p field room.old room.new len.new result) }
 {
     match held.program() {
@@ -54,7 +52,7 @@ pub(crate) fn field_name(held: &Held, field: usize, room: &mut [u8], len: &mut u
 }
 
 pub(crate) fn field_type(held: &Held, field: usize, dtype: &mut Type) -> u32
-    ensures { Asks (content_program held.now.content) 100 result
+    ensures { Asks held.now.program 100 result
         (λ p. TellsFieldType p field dtype.new result) }
 {
     match held.program() {
@@ -71,8 +69,8 @@ pub(crate) fn field_type(held: &Held, field: usize, dtype: &mut Type) -> u32
 }
 
 pub(crate) fn answer_count(held: &Held, count: &mut usize) -> u32
-    ensures { Asks (content_program held.now.content) 100 result (λ p. (result ≡ 0)
-        × (count.new ≡ length p.written.items)) }
+    ensures { Asks held.now.program 100 result (λ p. (result ≡ 0)
+        × (count.new ≡ length p.written)) }
 {
     match held.program() {
         Some(program) => {
@@ -84,7 +82,7 @@ pub(crate) fn answer_count(held: &Held, count: &mut usize) -> u32
 }
 
 pub(crate) fn answer_name(held: &Held, answer: usize, room: &mut [u8], len: &mut usize) -> u32
-    ensures { Asks (content_program held.now.content) 100 result
+    ensures { Asks held.now.program 100 result
         (λ p. TellsAnswerName p answer room.old room.new len.new result) }
 {
     match held.program() {
@@ -97,7 +95,7 @@ pub(crate) fn answer_name(held: &Held, answer: usize, room: &mut [u8], len: &mut
 }
 
 pub(crate) fn answer_type(held: &Held, answer: usize, dtype: &mut Type) -> u32
-    ensures { Asks (content_program held.now.content) 100 result
+    ensures { Asks held.now.program 100 result
         (λ p. TellsAnswerType p answer dtype.new result) }
 {
     match held.program() {
@@ -120,7 +118,7 @@ pub(crate) fn answer_text(
     room: &mut [u8],
     len: &mut usize,
 ) -> u32
-    ensures { Asks (content_program held.now.content) 100 result (λ _. ⊤) }
+    ensures { Asks held.now.program 100 result (λ _. ⊤) }
 {
     match held.program() {
         Some(program) => match program.text(alloc, answer, optimized) {

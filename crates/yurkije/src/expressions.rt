@@ -1,21 +1,16 @@
 //! Expressions: read, asked, and freed.
-ghost use Rattle.std.specs.Prelude.{◌≡◌, ◌≢◌, ◌⊎◌, ◌<◌, None, Some, length, IsUtf8};
-ghost use Rattle.vortex_types.specs.LogicalTypes.{Fields, field_count};
-ghost use Rattle.vortex_types.specs.TypeOf.{struct_fields};
-ghost use Rattle.vortex_expressions.specs.declared.refusal.Refusal.{Refusal};
-ghost use Rattle.vortex_expressions.specs.Answers.{IsRefusedAll};
-ghost use Rattle.yurkije_columns.specs.Scopes.{answers, scope_lent};
-ghost use Rattle.yurkije_core.specs.Statuses.{refusal_status};
-ghost use Rattle.yurkije.specs.Holding.{program_in};
+ghost use Rattle.std.specs.Prelude.{◌≡◌, None, length};
+ghost use Rattle.vortex_types.specs.LogicalTypes.{field_count};
+ghost use Rattle.yurkije.specs.Views.{program_in};
 ghost use Rattle.yurkije.specs.Asking.{Asks, TellsFieldName, TellsFieldType};
 ghost use Rattle.yurkije.specs.Asking.{TellsAnswerName, TellsAnswerType};
-ghost use Rattle.yurkije.specs.Reading.{Reads, HoldsRead, HoldsLines, HoldsScope};
+ghost use Rattle.yurkije.specs.Reading.{Reads, HoldsRead, HoldsLines};
 
 use crate::asking::{
     answer_count, answer_name, answer_text, answer_type, field_count, field_name, field_type,
 };
 use crate::handle::Handle;
-use crate::held::{Content, Held};
+use crate::held::Held;
 use crate::statuses::{EMPTY_HANDLE, OUT_OF_MEMORY};
 use std::alloc::Global;
 use yurkije_columns::{LentField, Type, placed, read_fields};
@@ -40,8 +35,7 @@ fn hold(
             return error.tell(Told::of_program(&wrong), words.as_str());
         }
     };
-    let content = Content::Program(program);
-    match Box::new(alloc, Held { content }) {
+    match Box::new(alloc, Held::of_program(program)) {
         Ok(held) => {
             expression.close(held);
             error.clear()
@@ -104,7 +98,7 @@ pub extern "C" fn yk_expression_free(alloc: Global, expression: &mut Handle)
 pub extern "C" fn yk_field_count(alloc: Global, expression: &mut Handle, count: &mut usize) -> u32
     ensures kept { expression.new.held ≡ expression.old.held }
     ensures count { Asks (program_in expression.old.held) 100 result (λ p. (result ≡ 0)
-        × (count.new ≡ field_count (struct_fields p.scope))) }
+        × (count.new ≡ field_count p.scope)) }
 {
     let Some(held) = expression.open(alloc) else {
         return EMPTY_HANDLE;
@@ -160,7 +154,7 @@ pub extern "C" fn yk_field_type(
 pub extern "C" fn yk_answer_count(alloc: Global, expression: &mut Handle, count: &mut usize) -> u32
     ensures kept { expression.new.held ≡ expression.old.held }
     ensures count { Asks (program_in expression.old.held) 100 result (λ p. (result ≡ 0)
-        × (count.new ≡ length p.written.items)) }
+        × (count.new ≡ length p.written)) }
 {
     let Some(held) = expression.open(alloc) else {
         return EMPTY_HANDLE;

@@ -1,13 +1,13 @@
 //! What is run and given of what is held.
 ghost use Rattle.std.specs.Prelude.{◌≡◌, None, Some, slice_get, MatchResult, pos, map, take, length};
 ghost use Rattle.vortex_columns.specs.ColumnView.{ColumnView};
-ghost use Rattle.yurkije.specs.Holding.{content_program, content_answers, answers_in};
+ghost use Rattle.yurkije.specs.Views.{program_view};
 ghost use Rattle.yurkije.specs.Asking.{Asks};
 ghost use Rattle.yurkije.specs.Answering.{Runs, HoldsAnswers, Sizes, Copies, SelectsBy, FindsColumn};
 ghost use Rattle.yurkije.specs.Answering.{KeepsOrWants};
 
 use crate::handle::Handle;
-use crate::held::{Answers, Content, Held};
+use crate::held::Held;
 use crate::statuses::{EMPTY_HANDLE, NO_SUCH_NUMBER, OK, OUT_OF_MEMORY, UNKNOWN_KIND};
 use std::alloc::Global;
 use vortex_arrow::{IndexType, copy_true_rows, true_count};
@@ -21,8 +21,7 @@ fn hold(alloc: Global, columns: Vec<Column>, answers: &mut Handle, error: &mut R
     requires { answers.old.held ≡ None }
     ensures { KeepsOrWants columns.items answers.new.held result error.new }
 {
-    let content = Content::Answers(Answers { columns });
-    match Box::new(alloc, Held { content }) {
+    match Box::new(alloc, Held::of_answers(columns)) {
         Ok(held) => {
             answers.close(held);
             error.clear()
@@ -41,7 +40,7 @@ fn run(
     error: &mut Report<'_>,
 ) -> u32
     requires { answers.old.held ≡ None }
-    ensures { HoldsAnswers program.now columns.now rows answers.new.held result error.new }
+    ensures { HoldsAnswers (program_view program.now) columns.now rows answers.new.held result error.new }
 {
     let columns = match arrow_columns(alloc, columns) {
         Ok(columns) => columns,
@@ -69,7 +68,7 @@ pub(crate) fn run_held(
     error: &mut Report<'_>,
 ) -> u32
     requires { answers.old.held ≡ None }
-    ensures { Runs (content_program held.now.content) columns.now rows answers.new.held result
+    ensures { Runs held.now.program columns.now rows answers.new.held result
         error.new }
 {
     match held.program() {
@@ -80,8 +79,8 @@ pub(crate) fn run_held(
 
 /// The column of an answer, or the status where there is none.
 fn column_of(held: &Held, answer: usize) -> Result<&Column, u32>
-    ensures { MatchResult result (λ c. FindsColumn (content_answers held.now.content) answer c.now)
-        (λ status. Asks (content_answers held.now.content) 100 status
+    ensures { MatchResult result (λ c. FindsColumn held.now.answers answer c.now)
+        (λ status. Asks held.now.answers 100 status
         (λ cs. (status ≡ 101) × (slice_get cs answer ≡ None))) }
 {
     match held.columns() {
@@ -107,7 +106,7 @@ fn size_told(column: &Column, size: &mut Size) -> u32
 }
 
 pub(crate) fn put_size(held: &Held, answer: usize, size: &mut Size) -> u32
-    ensures { Asks (content_answers held.now.content) 100 result (λ cs.
+    ensures { Asks held.now.answers 100 result (λ cs.
         Asks (slice_get cs answer) 101 result (λ c. Sizes c size.new result)) }
 {
     match column_of(held, answer) {
@@ -128,7 +127,7 @@ fn answer_copied(column: &Column, room: &mut Room<'_>) -> u32
 }
 
 pub(crate) fn put_answer(held: &Held, answer: usize, room: &mut Room<'_>) -> u32
-    ensures { Asks (content_answers held.now.content) 100 result (λ cs.
+    ensures { Asks held.now.answers 100 result (λ cs.
         Asks (slice_get cs answer) 101 result (λ c. Copies c room.old room.new result)) }
 {
     match column_of(held, answer) {
@@ -154,7 +153,7 @@ pub(crate) fn put_true_rows<I: IndexType>(
     numbers: &mut [I],
     count: &mut usize,
 ) -> u32
-    ensures { Asks (content_answers held.now.content) 100 result (λ cs.
+    ensures { Asks held.now.answers 100 result (λ cs.
         Asks (slice_get cs answer) 101 result
         (λ c. SelectsBy I.number c I.most numbers.old numbers.new count.new result)) }
 {

@@ -1,6 +1,8 @@
 //! A program or answers on the heap, or nothing, as C carries them.
 ghost use Rattle.std.specs.Prelude.{◌≡◌, MatchOption, Option, None, Some};
-ghost use Rattle.yurkije.specs.declared.held.Held.{Held};
+ghost use Rattle.std.specs.Coded.{coded_option};
+ghost use Rattle.yurkije.specs.Views.{HeldView};
+ghost use Rattle.yurkije.specs.ViewCodes.{coded_held};
 
 use crate::held::Held;
 use crate::parts::Parts;
@@ -14,7 +16,7 @@ pub struct Handle {
     at: *mut u8,
     alloc: Global,
     live: bool,
-    pub ghost held: { Option Held },
+    pub ghost held: { Option HeldView } by { coded_option coded_held },
 }
 
 impl Model for Handle {
