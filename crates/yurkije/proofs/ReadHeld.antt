@@ -30,14 +30,14 @@ module _ (held : Option HeldView) (result : ℕ) (report : Report) where
       → RefusesFor w r)
       → IfErr r (IsNoText said) → Reads r held result report
       → HoldsRead fields said held result report
-  read_holds fields said scope (Ok p) lent same asked kept only refused no (inl h) =
+  read_holds fields said scope (Ok p) lent same asked kept only refused utf8 (inl h) =
       read p (lent ∙ ap (λ s. answers (struct_fields s)) (sym same))
       (subst (λ s. IsAsked (struct_fields s) said p.written.items) (sym same) asked) kept h.0 h.1
-  read_holds fields said scope (Ok p) lent same asked kept only refused no (inr w) =
+  read_holds fields said scope (Ok p) lent same asked kept only refused utf8 (inr w) =
       without_memory w
-  read_holds fields said scope (Err e) lent same asked kept only refused no h =
+  read_holds fields said scope (Err e) lent same asked kept only refused utf8 h =
       no_program (struct_fields scope) e lent
-      (record { utf8 = no; only = only; refused = refused }) h.0 h.1 h.2
+      (record { utf8 = utf8; only = only; refused = refused }) h.0 h.1 h.2
 
   pub lines_hold : (said : List ℕ) (r : Result Program ProgramError)
       → MatchResult r

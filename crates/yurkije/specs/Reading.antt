@@ -15,7 +15,6 @@ use Rattle.yurkije_core.specs.Programs.{IsAsked, AreRewrites, ReadsLines, Refuse
 use Rattle.yurkije_core.specs.Programs.{IsNoText, IsWant}
 use Rattle.yurkije_core.specs.Programs.{Tells as TellsOf}
 use Rattle.yurkije_core.specs.Statuses.{program_status}
-use Rattle.yurkije_columns.specs.Statuses.{scope_status}
 use Rattle.yurkije_columns.specs.declared.fields.ScopeFault.TheVariants.{OutOfMemory}
 use Rattle.yurkije_core.specs.Reports.{Tells, nowhere, program_told, scope_told}
 use Rattle.yurkije.specs.Views.{HeldView, program_view, program_held}
@@ -57,7 +56,7 @@ pub data HoldsRead (fields : List LentField) (text : List ℕ) (held : Option He
       → AreRewrites p.written.items p.optimized.items → Holds held p → Done result report
       → HoldsRead fields text held result report
   no_scope : (e : ScopeError) → (e.fault ≢ OutOfMemory → scope_lent fields ≡ refuses e)
-      → held ≡ None → result ≡ scope_status e.fault → Tells report (scope_told e)
+      → held ≡ None → result ≡ (scope_told e).status → Tells report (scope_told e)
       → HoldsRead fields text held result report
   no_program : (scope : Fields) (e : ProgramError) → scope_lent fields ≡ answers scope
       → IsRefusedText scope text e → held ≡ None → result ≡ program_status e
