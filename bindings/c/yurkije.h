@@ -1,0 +1,336 @@
+/*
+ * Yurkije: expressions over columns, for C and C++.
+ *
+ * An expression is a text over named fields, `price * stock as worth, name like 'a%'`. It is read
+ * once, and then run over as many batches of columns as there are. Columns are borrowed where they
+ * lie, in the layout of Apache Arrow; answers are columns, which are copied into buffers of the
+ * caller in the same layout.
+ *
+ *     struct yk_expression expression = {0};
+ *     struct yk_answers answers = {0};
+ *     char message[200];
+ *     struct yk_error error = {.message = {message, sizeof message}};
+ *
+ *     const char text[] = "price * stock > 100";
+ *     struct yk_field fields[] = {{{"price", 5}, YK_I64, false}, {{"stock", 5}, YK_I64, true}};
+ *     if (yk_expression_new(text, sizeof text - 1, fields, 2, &expression, &error)) {
+ *         fprintf(stderr, "%s\n", message);
+ *         return 1;
+ *     }
+ *     struct yk_column columns[] = {
+ *         {.kind = YK_I64, .rows = rows, .i64 = {prices, rows}},
+ *         {.kind = YK_I64, .rows = rows, .nullable = true, .i64 = {stocks, rows},
+ *          .validity = {valid, (rows + 7) / 8}},
+ *     };
+ *     if (yk_run(&expression, columns, 2, rows, &answers, &error) == YK_OK)
+ *         yk_select(&answers, 0, numbers, rows, &count);    // the rows in which it is true
+ *     yk_answers_free(&answers);
+ *     yk_expression_free(&expression);
+ *
+ * What the caller keeps
+ *
+ * 1. A handle (struct yk_expression, struct yk_answers) is zeroed before its first use. It is moved
+ *    and never copied: of two copies only one may be used again. Its members are given back as the
+ *    library left them. A zeroed handle holds nothing, and may be freed.
+ * 2. A pointer is not NULL, but for one to a slice of length 0 (`at` and `length` in structs, a
+ *    pointer and a length beside one another in calls), and points to as many items as the length
+ *    says, aligned for their type. Structs are zeroed where nothing is set. A `bool` is 0 or 1.
+ * 3. What a call borrows is neither written by another thread nor freed while the call runs. What a
+ *    call writes to (handles, `yk_error`, rooms, counts) overlaps nothing else that it is handed.
+ *    Behind the call the library keeps no pointer to anything of the caller's.
+ * 4. A handle is used by one thread at a time, and stays on the thread that filled it. Threads make
+ *    handles of their own; handles of one thread share nothing with those of another.
+ * 5. No call is made from a signal handler, nor in the forked child of a process with threads.
+ *    `malloc`, `realloc` and `free` are the C library's, or do what its do.
+ *
+ * What the library keeps
+ *
+ * - A call that fills a handle frees first what the handle held. Where the call is refused, the
+ *   handle is empty. Other calls leave a handle as it was, refused or not.
+ * - It frees what it allocated, when the handle is freed; it frees nothing of the caller's.
+ * - Where memory is refused, a call answers YK_OUT_OF_MEMORY and leaks nothing. It never aborts.
+ * - Calls read nothing outside of the slices that they are handed, whatever stands in them.
+ *
+ * Batches of some 8,192 rows run fastest: for larger ones the C library may give memory back to the
+ * system and fetch it again at each call.
+ */
+#ifndef YURKIJE_H
+#define YURKIJE_H
+
+#include <stdbool.h>
+#include <stddef.h>
+#include <stdint.h>
+
+#ifdef __cplusplus
+extern "C" {
+#endif
+
+/* The version of this interface, which yk_abi_version answers. */
+#define YK_ABI_VERSION 1
+
+/* What a call answers. 1 to 13 are E1 to E13 of docs/REFUSALS.md. */
+enum yk_status {
+    YK_OK = 0,
+
+    YK_INDEX_OUT_OF_BOUNDS = 1,
+    YK_LENGTH_MISMATCH = 2,      /* a column has another number of rows than the batch */
+    YK_TYPE_MISMATCH = 3,        /* a function does not take the types of its operands */
+    YK_NOT_BOOLEAN_OPERATOR = 4,
+    YK_NOT_COMPARE_OPERATOR = 5,
+    YK_ARITY_MISMATCH = 6,
+    YK_ARITHMETIC = 7,           /* in that row a result does not fit its type, or is divided by 0 */
+    YK_BAD_OPTIONS = 8,
+    YK_OUT_OF_MEMORY = 9,
+    YK_CUSTOM = 10,
+    YK_SCOPE_MISMATCH = 11,      /* no field has that name; a column is missing, or is not as its field */
+    YK_INVALID_COLUMN = 12,
+    YK_NO_SUCH_PLACE = 13,
+
+    /* Wrong use. */
+    YK_EMPTY_HANDLE = 100,       /* the handle holds nothing */
+    YK_NO_SUCH_NUMBER = 101,     /* there is no answer, or no field, of that number */
+    YK_UNKNOWN_KIND = 102,       /* a kind that is none */
+    YK_OTHER_KIND = 103,         /* the answer is of another kind than is asked for */
+    YK_ROOM_TOO_SMALL = 104,     /* a text has more bytes than there is room */
+
+    /* Why a text is no expression. */
+    YK_NOT_A_TEXT = 110,         /* the text, or the name of a field, is not UTF-8 */
+    YK_NAME_TWICE = 111,         /* two fields have one name */
+    YK_NO_EXPRESSION = 112,      /* it is not written as expressions are, or lines as lines are */
+    YK_UNKNOWN_TYPE = 113,       /* no type has that name */
+    YK_NOT_HELD = 114,           /* a literal is no value of its type */
+    YK_UNTYPED_NULL = 115,       /* a null stands beside nothing that has a type */
+    YK_NO_ESCAPE = 116,          /* the escape of a LIKE is more than one character */
+    YK_NO_CAST = 117,            /* no cast leads to that type */
+
+    /* Why a column is not read, or an answer not copied. */
+    YK_VALIDITY_TOO_SHORT = 120, /* fewer bits than the rows take */
+    YK_VALUES_TOO_SHORT = 121,   /* fewer truth values, integers or views */
+    YK_OFFSETS_TOO_SHORT = 122,  /* fewer offsets than the rows and one more */
+    YK_DATA_TOO_SHORT = 123,     /* fewer bytes than the texts of an answer have */
+    YK_UNEXPECTED_NULL = 124,    /* a null in a column that is not nullable */
+    YK_OFFSETS_FALL = 125,       /* an offset is negative, or below the one before it */
+    YK_PAST_DATA = 126,          /* an offset is past the end of the data */
+    YK_VIEW_OUT_OF_RANGE = 127,  /* a view names bytes that are not there */
+    YK_PREFIX_DIFFERS = 128,     /* a view tells other first bytes than its buffer has */
+    YK_NOT_PADDED = 129,         /* a text within its view is not followed by zeros */
+    YK_NOT_UTF8 = 130,           /* a text in a row that is not null is not UTF-8 */
+    YK_TOO_LONG = 131            /* texts are too long to be told, one or all together */
+};
+
+/* Kinds of values. Of texts and byte strings a kind says the layout of a column too; where only a
+ * type is meant, in fields, each of the three layouts stands for the type, and the library answers
+ * YK_UTF8 and YK_BINARY. */
+enum yk_kind {
+    YK_NO_KIND = 0,        /* none of these, as a list or a struct is, which scripts can have */
+    YK_BOOL = 1,
+    YK_I8 = 2,
+    YK_I16 = 3,
+    YK_I32 = 4,
+    YK_I64 = 5,
+    YK_U8 = 6,
+    YK_U16 = 7,
+    YK_U32 = 8,
+    YK_U64 = 9,
+    YK_UTF8 = 10,          /* texts in UTF-8, by offsets of 32 bits */
+    YK_LARGE_UTF8 = 11,    /* by offsets of 64 bits */
+    YK_UTF8_VIEW = 12,     /* by views of 16 bytes; not as a room */
+    YK_BINARY = 13,        /* byte strings, by offsets of 32 bits */
+    YK_LARGE_BINARY = 14,
+    YK_BINARY_VIEW = 15
+};
+
+/* Where there is no answer, column, row or byte to tell. */
+#define YK_NONE SIZE_MAX
+
+/* Handles. Zeroed, they hold nothing. */
+struct yk_expression { void *at; bool live; };
+struct yk_answers { void *at; bool live; };
+
+/* Slices that are read: `length` items from `at` on. */
+struct yk_text { const char *at; size_t length; };
+struct yk_bytes { const uint8_t *at; size_t length; };
+struct yk_i8s { const int8_t *at; size_t length; };
+struct yk_i16s { const int16_t *at; size_t length; };
+struct yk_i32s { const int32_t *at; size_t length; };
+struct yk_i64s { const int64_t *at; size_t length; };
+struct yk_u16s { const uint16_t *at; size_t length; };
+struct yk_u32s { const uint32_t *at; size_t length; };
+struct yk_u64s { const uint64_t *at; size_t length; };
+struct yk_views { const uint8_t (*at)[16]; size_t length; };
+struct yk_buffers { const struct yk_bytes *at; size_t length; };
+
+/* Slices that are written. */
+struct yk_text_room { char *at; size_t length; };
+struct yk_bytes_room { uint8_t *at; size_t length; };
+struct yk_i8s_room { int8_t *at; size_t length; };
+struct yk_i16s_room { int16_t *at; size_t length; };
+struct yk_i32s_room { int32_t *at; size_t length; };
+struct yk_i64s_room { int64_t *at; size_t length; };
+struct yk_u16s_room { uint16_t *at; size_t length; };
+struct yk_u32s_room { uint32_t *at; size_t length; };
+struct yk_u64s_room { uint64_t *at; size_t length; };
+
+/* Why a call was refused. The caller sets `message`, or leaves it zeroed; the call sets all else,
+ * and where it is not refused, `status` to YK_OK. */
+struct yk_error {
+    uint32_t status;             /* what the call answered */
+    size_t answer;               /* the answer that faults, from 0 on, or YK_NONE */
+    size_t column;               /* the column or field, from 0 on, or YK_NONE */
+    size_t row;                  /* the row of the batch, from 0 on, or YK_NONE */
+    size_t byte;                 /* the byte of the text, from 0 on, or YK_NONE */
+    size_t line;                 /* the line of the text, from 1 on, or 0 */
+    size_t character;            /* the character in that line, from 1 on, or 0 */
+    struct yk_text_room message; /* in words, one line of UTF-8 that ends with a NUL: as many whole
+                                    characters as there is room for */
+    size_t message_length;       /* its bytes, without the NUL */
+};
+
+/* A field of the scope of an expression: column `k` of a batch is that of field `k`. */
+struct yk_field {
+    struct yk_text name;
+    uint32_t kind;
+    bool nullable;
+};
+
+/* The type of an answer or of a field. */
+struct yk_type {
+    uint32_t kind;
+    bool nullable;
+};
+
+/* A borrowed column. Row `i` is item `offset + i`: bit of the validity and of truth values, integer,
+ * view, and text from its offset to the next. `kind` says which of the slices are read; the others
+ * stay zeroed. No row is null where `validity` is empty. What lies under a null may be anything, but
+ * for offsets, which may not fall there either. */
+struct yk_column {
+    uint32_t kind;
+    bool nullable;               /* as the field is */
+    size_t rows;
+    size_t offset;
+    struct yk_bytes validity;    /* a bit an item, least significant first: set where it is not null */
+    struct yk_bytes bools;       /* likewise: set where it is true */
+    struct yk_i8s i8;
+    struct yk_i16s i16;
+    struct yk_i32s i32;
+    struct yk_i64s i64;
+    struct yk_bytes u8;
+    struct yk_u16s u16;
+    struct yk_u32s u32;
+    struct yk_u64s u64;
+    struct yk_i32s offsets32;    /* one more than there are items; of YK_UTF8 and YK_BINARY */
+    struct yk_i64s offsets64;    /* of YK_LARGE_UTF8 and YK_LARGE_BINARY */
+    struct yk_bytes data;        /* which the offsets name */
+    struct yk_views views;
+    struct yk_buffers buffers;   /* which the views name */
+};
+
+/* What an answer takes: how long the slices of a yk_room have to be at least. */
+struct yk_size {
+    size_t rows;
+    size_t validity;             /* bytes of bits */
+    size_t values;               /* integers, or bytes of truth values; 0 of texts */
+    size_t offsets;              /* rows + 1 of texts and byte strings, else 0 */
+    size_t data;                 /* bytes of texts and byte strings, else 0 */
+};
+
+/* The caller's buffers for an answer. `kind` is the answer's, and of texts and byte strings says
+ * whether `offsets32` or `offsets64` is written; the slices that are not stay zeroed. */
+struct yk_room {
+    uint32_t kind;
+    struct yk_bytes_room validity;
+    struct yk_bytes_room bools;
+    struct yk_i8s_room i8;
+    struct yk_i16s_room i16;
+    struct yk_i32s_room i32;
+    struct yk_i64s_room i64;
+    struct yk_bytes_room u8;
+    struct yk_u16s_room u16;
+    struct yk_u32s_room u32;
+    struct yk_u64s_room u64;
+    struct yk_i32s_room offsets32;
+    struct yk_i64s_room offsets64;
+    struct yk_bytes_room data;
+};
+
+/* The version of the interface that the library has. A caller that was compiled for another than
+ * YK_ABI_VERSION cannot use it. */
+uint32_t yk_abi_version(void);
+
+/* The library's name and version, as `yurkije 0.1.0`: as much as there is room for, and in `length`
+ * how many bytes it has. YK_ROOM_TOO_SMALL where that is more. No NUL ends it. */
+uint32_t yk_version(char *room, size_t room_length, size_t *length);
+
+/* Reads the answers of a text over the fields of a scope, `price * stock as worth, price > 100`
+ * (docs/EXPRESSIONS.md). Refused with the place in the text where it is wrong; or with the number
+ * of a field whose kind or name is wrong, as `column`. */
+uint32_t yk_expression_new(const char *text, size_t length,
+                           const struct yk_field *fields, size_t count,
+                           struct yk_expression *expression, struct yk_error *error);
+
+/* Reads an expression from lines of scripts, which declare its fields themselves (docs/STREAM.md):
+ * column `k` of a batch is that of the `k`-th line that declares one, whatever place it says.
+ * Refused with the line that is wrong. */
+uint32_t yk_expression_of_lines(const char *text, size_t length,
+                                struct yk_expression *expression, struct yk_error *error);
+
+/* Frees what the handle holds, if anything, and leaves it empty. */
+void yk_expression_free(struct yk_expression *expression);
+
+/* How many fields the scope has. */
+uint32_t yk_field_count(struct yk_expression *expression, size_t *count);
+
+/* The name of field `field`, as yk_version answers its text, and its type. */
+uint32_t yk_field_name(struct yk_expression *expression, size_t field,
+                       char *room, size_t room_length, size_t *length);
+uint32_t yk_field_type(struct yk_expression *expression, size_t field, struct yk_type *type);
+
+/* How many answers the expression has: at least one. */
+uint32_t yk_answer_count(struct yk_expression *expression, size_t *count);
+
+/* The name of answer `answer`, as yk_version answers its text: the one behind its `as`, or that of
+ * the field which it is, or its text. And its type. */
+uint32_t yk_answer_name(struct yk_expression *expression, size_t answer,
+                        char *room, size_t room_length, size_t *length);
+uint32_t yk_answer_type(struct yk_expression *expression, size_t answer, struct yk_type *type);
+
+/* The text of answer `answer`, as it was read, or as it is run: optimized. As yk_version answers its
+ * text. */
+uint32_t yk_answer_text(struct yk_expression *expression, size_t answer, bool optimized,
+                        char *room, size_t room_length, size_t *length);
+
+/* Runs the expression over a batch: as many columns as there are fields, each of the field's kind,
+ * nullable as the field is, and of `rows` rows. Refused with the column and the row that are wrong,
+ * or with the first row in which an answer, as it was written, faults and the first answer that does
+ * there. What is run is optimized, which may drop a fault: then there are answers, of any value in
+ * that row, and in all others those of the expression as it was written. */
+uint32_t yk_run(struct yk_expression *expression,
+                const struct yk_column *columns, size_t count, size_t rows,
+                struct yk_answers *answers, struct yk_error *error);
+
+/* Frees what the handle holds, if anything, and leaves it empty. */
+void yk_answers_free(struct yk_answers *answers);
+
+/* How long the buffers have to be for answer `answer`. YK_TOO_LONG where its texts have more bytes
+ * than a size_t counts; YK_OTHER_KIND where it is a list or a struct, of which none is copied. */
+uint32_t yk_answer_size(struct yk_answers *answers, size_t answer, struct yk_size *size);
+
+/* Copies answer `answer` into the caller's buffers, each from its first item on: the bits of rows
+ * that are not null, and the values. What lies behind stays as it was, and all where the copy is
+ * refused. A null text has no bytes. */
+uint32_t yk_answer_copy(struct yk_answers *answers, size_t answer, struct yk_room *room);
+
+/* The numbers of the rows in which answer `answer`, a truth value, is true, ascending from 0 on, and
+ * how many they are. YK_VALUES_TOO_SHORT where there is less room, and `count` is told even so. */
+uint32_t yk_select(struct yk_answers *answers, size_t answer,
+                   uint64_t *numbers, size_t room, size_t *count);
+
+/* The same with numbers of 32 bits. YK_TOO_LONG where rows have numbers that these do not hold. */
+uint32_t yk_select_u32(struct yk_answers *answers, size_t answer,
+                       uint32_t *numbers, size_t room, size_t *count);
+
+#ifdef __cplusplus
+}
+#endif
+
+#endif

@@ -1,0 +1,23 @@
+-- What a handle holds of a batch that was answered.
+use Rattle.std.proofs.Common.{◌≡◌, ℕ, List, Option, inl, inr}
+use Rattle.vortex_columns.specs.ColumnView.{ColumnView}
+use Rattle.vortex_interface.specs.Rewrites.{Rewrites}
+use Rattle.vortex_functions.specs.Walks.{AllMean}
+use Rattle.vortex_expressions.specs.Items.{meaning}
+use Rattle.vortex_arrow.specs.declared.column.ArrowColumn.{ArrowColumn}
+use Rattle.yurkije_columns.specs.declared.lent.LentColumn.{LentColumn}
+use Rattle.yurkije_columns.specs.Lent.{AllSay}
+use Rattle.yurkije_core.specs.declared.report.Report.{Report}
+use Rattle.yurkije_core.specs.Running.{AnswersBatch}
+use Rattle.yurkije.specs.Views.{ProgramView, HeldView}
+use Rattle.yurkije.specs.Answering.{HoldsAnswers, answered, without_memory, KeepsOrWants}
+
+pub run_holds : (p : ProgramView) (lent : List LentColumn) (rows : ℕ) (held : Option HeldView)
+    (result : ℕ) (report : Report) (columns : List ArrowColumn) (answers : List ColumnView)
+    → AllSay lent columns
+    → (AllMean (Rewrites meaning) p.written p.optimized
+    → AnswersBatch p.scope rows columns p.written answers)
+    → KeepsOrWants answers held result report → HoldsAnswers p lent rows held result report
+run_holds p lent rows held result report columns answers say batch (inl h) =
+    answered columns answers say batch h.0 h.1
+run_holds p lent rows held result report columns answers say batch (inr w) = without_memory w

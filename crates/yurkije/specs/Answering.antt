@@ -1,0 +1,95 @@
+-- What a handle holds of a batch, and what is asked of answers.
+use Rattle.std.specs.Prelude.{◌≡◌, ◌⊎◌, ℕ, ℤ, pos, List, map, take, length}
+use Rattle.std.specs.Prelude.{Option, Some, None, slice_get}
+use Rattle.vortex_interface.specs.Rewrites.{Rewrites}
+use Rattle.vortex_functions.specs.Walks.{AllMean}
+use Rattle.vortex_expressions.specs.Items.{meaning}
+use Rattle.vortex_columns.specs.ColumnView.{ColumnView}
+use Rattle.vortex_columns.specs.TrueRows.{true_rows}
+use Rattle.vortex_arrow.specs.declared.column.ArrowColumn.{ArrowColumn}
+use Rattle.vortex_arrow.specs.declared.error.CopyError.{CopyError}
+use Rattle.vortex_arrow.specs.Written.{SameBehind, RefusesSelection}
+use Rattle.yurkije_columns.specs.declared.lent.LentColumn.{LentColumn}
+use Rattle.yurkije_columns.specs.declared.lent.LentError.{LentError}
+use Rattle.yurkije_columns.specs.declared.rooms.Size.{Size}
+use Rattle.yurkije_columns.specs.declared.rooms.Room.{Room}
+use Rattle.yurkije_columns.specs.declared.rooms.RoomError.{RoomError}
+use Rattle.yurkije_columns.specs.declared.rooms.RoomError.TheVariants as room
+use Rattle.yurkije_columns.specs.Lent.{AllSay, RefusesLent}
+use Rattle.yurkije_columns.specs.Rooms.{IsSize, RefusesSize, IsCopied, RefusesCopy, KeepsRefused}
+use Rattle.yurkije_columns.specs.Statuses.{copy_status}
+use Rattle.yurkije_core.specs.declared.running.RunError.{RunError}
+use Rattle.yurkije_core.specs.declared.report.Report.{Report}
+use Rattle.yurkije_core.specs.Running.{AnswersBatch, RefusesRun}
+use Rattle.yurkije_core.specs.Statuses.{run_status}
+use Rattle.yurkije_core.specs.Reports.{Tells, nowhere, lent_told, run_told}
+use Rattle.yurkije.specs.Views.{ProgramView, HeldView, answers_in}
+use Rattle.yurkije.specs.Reading.{Done, Wants}
+
+-- The handle holds what the program answers over the columns that are lent, and 0 is answered; or it
+-- holds nothing, and why is told: a column is wrong, or an answer faults, or memory ran out. Of a
+-- program that was read, what is run are rewrites of what was written.
+pub data HoldsAnswers (p : ProgramView) (lent : List LentColumn) (rows : ℕ) (held : Option HeldView)
+    (result : ℕ) (report : Report) : Type 0 where
+  answered : (columns : List ArrowColumn) (answers : List ColumnView) → AllSay lent columns
+      → (AllMean (Rewrites meaning) p.written p.optimized
+      → AnswersBatch p.scope rows columns p.written answers)
+      → answers_in held ≡ Some answers → Done result report
+      → HoldsAnswers p lent rows held result report
+  no_kind : (e : LentError) → RefusesLent lent e → held ≡ None
+      → result ≡ (lent_told e).status → Tells report (lent_told e)
+      → HoldsAnswers p lent rows held result report
+  refused : (columns : List ArrowColumn) (e : RunError) → AllSay lent columns
+      → (AllMean (Rewrites meaning) p.written p.optimized
+      → RefusesRun p.scope rows columns p.written e)
+      → held ≡ None → result ≡ (run_told e).status → Tells report (run_told e)
+      → HoldsAnswers p lent rows held result report
+  without_memory : Wants held result report → HoldsAnswers p lent rows held result report
+
+-- there is no program to run
+pub record HoldsNothing (held : Option HeldView) (result : ℕ) (report : Report) : Type 0 where
+  pub left : held ≡ None
+  pub status : result ≡ 100
+  pub told : Tells report (nowhere 100)
+
+abbrev pub Runs : Option ProgramView → List LentColumn → ℕ → Option HeldView → ℕ → Report → Type 0
+Runs None lent rows held result report = HoldsNothing held result report
+Runs (Some p) lent rows held result report = HoldsAnswers p lent rows held result report
+
+-- how long the buffers have to be, or why that is not told
+abbrev pub Sizes : ColumnView → Size → ℕ → Type 0
+Sizes c s result =
+    ((result ≡ 0) × IsSize c s)
+    ⊎ ((e : CopyError) × RefusesSize c e × (result ≡ copy_status e))
+
+abbrev pub room_status : RoomError → ℕ
+room_status room.UnknownKind = 102
+room_status (room.Uncopied e) = copy_status e
+
+-- the answer is copied, or why it is not, and then the buffers stay as they were
+abbrev pub Copies : ColumnView → Room → Room → ℕ → Type 0
+Copies c old new result =
+    ((result ≡ 0) × IsCopied c old new)
+    ⊎ ((e : RoomError) × RefusesCopy c old e × KeepsRefused old new × (result ≡ room_status e))
+
+-- the numbers of the true rows, and how many they are; or why they are not written
+pub record SelectsBy {I : Type 0} (number : I → ℤ) (c : ColumnView) (most : ℕ) (old new : List I)
+    (count result : ℕ) : Type 0 where
+  pub count_told : count ≡ length (true_rows c.rows)
+  pub written : ((result ≡ 0) × (map number (take count new) ≡ map pos (true_rows c.rows))
+      × SameBehind count old new)
+      ⊎ ((e : CopyError) × RefusesSelection c (length old) most e × (new ≡ old)
+      × (result ≡ copy_status e))
+
+abbrev pub Selects : ColumnView → ℕ → List ℕ → List ℕ → ℕ → ℕ → Type 0
+Selects = SelectsBy pos
+
+-- the answers are held, or memory ran out
+abbrev pub KeepsOrWants : List ColumnView → Option HeldView → ℕ → Report → Type 0
+KeepsOrWants columns held result report =
+    ((answers_in held ≡ Some columns) × Done result report) ⊎ Wants held result report
+
+-- it is that answer
+abbrev pub FindsColumn : Option (List ColumnView) → ℕ → ColumnView → Type 0
+FindsColumn None k c = ⊥
+FindsColumn (Some cs) k c = slice_get cs k ≡ Some c

@@ -1,0 +1,55 @@
+-- What is asked of an expression and of answers that a handle holds.
+use Rattle.std.specs.Prelude.{◌≡◌, ◌≤◌, ◌<◌, ℕ, List, Option, Some, None, take, length}
+use Rattle.std.specs.Prelude.{if◌then◌else◌, nat_eq, slice_get, IfSome}
+use Rattle.std.specs.Str.{IsCharBoundary}
+use Rattle.vortex_types.specs.LogicalTypes.{LogicalType, field_count, field_type, is_nullable}
+use Rattle.vortex_types.specs.FieldNames.{field_name}
+use Rattle.vortex_interface.specs.Eval.{tree_type}
+use Rattle.vortex_expressions.specs.Items.{meaning}
+use Rattle.vortex_arrow.specs.Written.{SameBehind}
+use Rattle.yurkije_columns.specs.Kinds.{type_number}
+use Rattle.yurkije_columns.specs.declared.kinds.Type as told
+use Rattle.yurkije.specs.Views.{ProgramView}
+
+-- P of what is there, which is answered with 0; or the status where nothing is
+abbrev pub Asks : {A : Type 0} → Option A → ℕ → ℕ → (A → Type 0) → Type 0
+Asks None status result P = result ≡ status
+Asks (Some a) status result P = P a
+
+-- a text is written into a room, of as many whole characters as there is room for, and how long it
+-- is is told
+pub record IsPut (text old new : List ℕ) (len result : ℕ) : Type 0 where
+  pub count : ℕ
+  pub room : count ≤ length old
+  pub boundary : IsCharBoundary text count
+  pub most : (i : ℕ) → count < i → i ≤ length old → ¬ IsCharBoundary text i
+  pub written : take count new ≡ take count text
+  pub behind : SameBehind count old new
+  pub told : len ≡ length text
+  pub status : result ≡ (if nat_eq count (length text) then 0 else 104)
+
+-- what is told of a type
+pub record IsType (t : LogicalType) (u : told.Type) : Type 0 where
+  pub kind : u.kind ≡ type_number t
+  pub nullable : u.nullable ≡ is_nullable t
+
+-- the name and the type of a field; none has a number past the last
+abbrev pub TellsFieldName : ProgramView → ℕ → List ℕ → List ℕ → ℕ → ℕ → Type 0
+TellsFieldName p k old new len result =
+    (k < field_count p.scope → IsPut (field_name k p.scope) old new len result)
+    × (field_count p.scope ≤ k → result ≡ 101)
+
+abbrev pub TellsFieldType : ProgramView → ℕ → told.Type → ℕ → Type 0
+TellsFieldType p k t result =
+    (k < field_count p.scope → (result ≡ 0) × IsType (field_type k p.scope) t)
+    × (field_count p.scope ≤ k → result ≡ 101)
+
+-- those of an answer
+abbrev pub TellsAnswerName : ProgramView → ℕ → List ℕ → List ℕ → ℕ → ℕ → Type 0
+TellsAnswerName p k old new len result =
+    Asks (slice_get p.names k) 101 result (λ name. IsPut name old new len result)
+
+abbrev pub TellsAnswerType : ProgramView → ℕ → told.Type → ℕ → Type 0
+TellsAnswerType p k t result =
+    Asks (slice_get p.written k) 101 result
+    (λ tree. (result ≡ 0) × IfSome (tree_type meaning tree) (λ u. IsType u t))

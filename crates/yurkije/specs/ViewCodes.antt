@@ -1,0 +1,44 @@
+-- Codes of what a handle holds, as its ghost field wants them.
+use Rattle.std.specs.Prelude.{ℕ, List, Option, refl}
+use Rattle.std.specs.Coded.{Coded, code_by, coded×, coded_ℕ, coded_list, coded_option}
+use Rattle.vortex_types.specs.Codes.{coded_fields}
+use Rattle.vortex_types.specs.LogicalTypes.{Fields}
+use Rattle.vortex_columns.specs.ColumnView.{ColumnView, coded_column}
+use Rattle.vortex_interface.specs.TreeCodes.{coded_tree}
+use Rattle.vortex_interface.specs.declared.options.EmptyOptions.{EmptyOptions}
+use Rattle.vortex_functions.specs.declared.custom.NoCustom.{NoCustom}
+use Rattle.vortex_expressions.specs.Items.{Tree}
+use Rattle.yurkije.specs.Views.{ProgramView, HeldView}
+
+abbrev coded_none : Coded NoCustom
+coded_none = code_by ℕ coded_ℕ (λ _. 0) (λ _. record {}) (λ _. refl)
+
+abbrev coded_empty : Coded EmptyOptions
+coded_empty = code_by ℕ coded_ℕ (λ _. 0) (λ _. record {}) (λ _. refl)
+
+abbrev Parts : Type 0
+Parts = Fields × (List (List ℕ) × (List Tree × List Tree))
+
+abbrev parts_of : ProgramView → Parts
+parts_of p = (p.scope, (p.names, (p.written, p.optimized)))
+
+abbrev of_parts : Parts → ProgramView
+of_parts p = record {
+  scope = p.0;
+  names = p.1.0;
+  written = p.1.1.0;
+  optimized = p.1.1.1;
+}
+
+abbrev pub coded_program : Coded ProgramView
+coded_program =
+    let trees = coded_list (coded_tree coded_none coded_empty) in
+    let parts =
+    coded× coded_fields (coded× (coded_list (coded_list coded_ℕ)) (coded× trees trees)) in
+    code_by Parts parts parts_of of_parts (λ _. refl)
+
+abbrev pub coded_held : Coded HeldView
+coded_held =
+    code_by (Option ProgramView × Option (List ColumnView))
+    (coded× (coded_option coded_program) (coded_option (coded_list coded_column)))
+    (λ h. (h.program, h.answers)) (λ p. record { program = p.0; answers = p.1 }) (λ _. refl)

@@ -1,0 +1,128 @@
+//! Answers: of a batch, asked, copied, and freed.
+ghost use Rattle.std.specs.Prelude.{◌≡◌, None, slice_get};
+ghost use Rattle.yurkije.specs.Views.{program_in, answers_in};
+ghost use Rattle.yurkije.specs.Asking.{Asks};
+ghost use Rattle.yurkije.specs.Answering.{Runs, Sizes, Copies, Selects};
+
+use crate::giving::{put_answer, put_size, put_true_rows, run_held};
+use crate::handle::Handle;
+use crate::statuses::EMPTY_HANDLE;
+use std::alloc::Global;
+use yurkije_columns::{LentColumn, Room, Size, placed};
+use yurkije_core::{Report, Told};
+
+/// Runs the expression over a batch. 0 exactly where the handle then holds its answers; that of
+/// answers is empty where the call is refused.
+#[unsafe(no_mangle)]
+pub extern "C" fn yk_run(
+    alloc: Global,
+    expression: &mut Handle,
+    columns: &[LentColumn<'_>],
+    rows: usize,
+    answers: &mut Handle,
+    error: &mut Report<'_>,
+) -> u32
+    ensures kept { expression.new.held ≡ expression.old.held }
+    ensures run { Runs (program_in expression.old.held) columns.now rows answers.new.held result
+        error.new }
+{
+    answers.clear(alloc);
+    let Some(held) = expression.open(alloc) else {
+        return error.tell(Told::of(EMPTY_HANDLE), "the handle holds nothing");
+    };
+    let status = run_held(alloc, &held, placed(columns), rows, answers, error);
+    expression.close(held);
+    status
+}
+
+/// Frees what the handle holds, and leaves it empty.
+#[unsafe(no_mangle)]
+pub extern "C" fn yk_answers_free(alloc: Global, answers: &mut Handle)
+    ensures { answers.new.held ≡ None }
+{
+    answers.clear(alloc);
+}
+
+/// How long the buffers have to be for an answer.
+#[unsafe(no_mangle)]
+pub extern "C" fn yk_answer_size(
+    alloc: Global,
+    answers: &mut Handle,
+    answer: usize,
+    size: &mut Size,
+) -> u32
+    ensures kept { answers.new.held ≡ answers.old.held }
+    ensures size { Asks (answers_in answers.old.held) 100 result (λ cs.
+        Asks (slice_get cs answer) 101 result (λ c. Sizes c size.new result)) }
+{
+    let Some(held) = answers.open(alloc) else {
+        return EMPTY_HANDLE;
+    };
+    let status = put_size(&held, answer, size);
+    answers.close(held);
+    status
+}
+
+/// Copies an answer into the caller's buffers.
+#[unsafe(no_mangle)]
+pub extern "C" fn yk_answer_copy(
+    alloc: Global,
+    answers: &mut Handle,
+    answer: usize,
+    room: &mut Room<'_>,
+) -> u32
+    ensures kept { answers.new.held ≡ answers.old.held }
+    ensures copied { Asks (answers_in answers.old.held) 100 result (λ cs.
+        Asks (slice_get cs answer) 101 result (λ c. Copies c room.old room.new result)) }
+{
+    let Some(held) = answers.open(alloc) else {
+        return EMPTY_HANDLE;
+    };
+    let status = put_answer(&held, answer, room);
+    answers.close(held);
+    status
+}
+
+/// The numbers of the rows in which an answer is true.
+#[unsafe(no_mangle)]
+pub extern "C" fn yk_select(
+    alloc: Global,
+    answers: &mut Handle,
+    answer: usize,
+    numbers: &mut [u64],
+    count: &mut usize,
+) -> u32
+    ensures kept { answers.new.held ≡ answers.old.held }
+    ensures selected { Asks (answers_in answers.old.held) 100 result (λ cs.
+        Asks (slice_get cs answer) 101 result
+        (λ c. Selects c 18446744073709551615 numbers.old numbers.new count.new result)) }
+{
+    let Some(held) = answers.open(alloc) else {
+        return EMPTY_HANDLE;
+    };
+    let status = put_true_rows(&held, answer, numbers, count);
+    answers.close(held);
+    status
+}
+
+/// The same with numbers of 32 bits.
+#[unsafe(no_mangle)]
+pub extern "C" fn yk_select_u32(
+    alloc: Global,
+    answers: &mut Handle,
+    answer: usize,
+    numbers: &mut [u32],
+    count: &mut usize,
+) -> u32
+    ensures kept { answers.new.held ≡ answers.old.held }
+    ensures selected { Asks (answers_in answers.old.held) 100 result (λ cs.
+        Asks (slice_get cs answer) 101 result
+        (λ c. Selects c 4294967295 numbers.old numbers.new count.new result)) }
+{
+    let Some(held) = answers.open(alloc) else {
+        return EMPTY_HANDLE;
+    };
+    let status = put_true_rows(&held, answer, numbers, count);
+    answers.close(held);
+    status
+}

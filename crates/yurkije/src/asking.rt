@@ -1,0 +1,131 @@
+//! What is asked of an expression that is held.
+ghost use Rattle.std.specs.Prelude.{◌≡◌, ◌<◌, length, string_bytes, slice_get, map, ⊤};
+ghost use Rattle.vortex_types.specs.LogicalTypes.{field_count, field_type};
+ghost use Rattle.vortex_types.specs.FieldNames.{field_name};
+ghost use Rattle.yurkije.specs.Asking.{Asks, IsPut, TellsFieldName, TellsFieldType};
+ghost use Rattle.yurkije.specs.Asking.{TellsAnswerName, TellsAnswerType};
+
+use crate::held::Held;
+use crate::statuses::{EMPTY_HANDLE, NO_SUCH_NUMBER, OK, OUT_OF_MEMORY, ROOM_TOO_SMALL};
+use std::alloc::Global;
+use yurkije_columns::{Type, put_text, type_told};
+
+/// Writes a text, and tells how long it is.
+pub(crate) fn put(text: &str, room: &mut [u8], len: &mut usize) -> u32
+    ensures { IsPut text.now room.old room.new len.new result }
+{
+    *len = text.len();
+    if put_text(text, room) == text.len() {
+        OK
+    } else {
+        ROOM_TOO_SMALL
+    }
+}
+
+pub(crate) fn field_count(held: &Held, count: &mut usize) -> u32
+    ensures { Asks held.now.program 100 result (λ p. (result ≡ 0)
+        × (count.new ≡ field_count p.scope)) }
+{
+    match held.program() {
+        Some(program) => {
+            *count = program.scope.len();
+            OK
+        }
+        None => EMPTY_HANDLE,
+    }
+}
+
+pub(crate) fn field_name(held: &Held, field: usize, room: &mut [u8], len: &mut usize) -> u32
+    ensures { Asks held.now.program 100 result
+        (λ p. TellsFieldName p field room.old room.new len.new result) }
+{
+    match held.program() {
+        Some(program) => {
+            if field < program.scope.len() {
+                put(program.scope.name(field), room, len)
+            } else {
+                NO_SUCH_NUMBER
+            }
+        }
+        None => EMPTY_HANDLE,
+    }
+}
+
+pub(crate) fn field_type(held: &Held, field: usize, dtype: &mut Type) -> u32
+    ensures { Asks held.now.program 100 result
+        (λ p. TellsFieldType p field dtype.new result) }
+{
+    match held.program() {
+        Some(program) => {
+            if field < program.scope.len() {
+                *dtype = type_told(program.scope.dtype(field));
+                OK
+            } else {
+                NO_SUCH_NUMBER
+            }
+        }
+        None => EMPTY_HANDLE,
+    }
+}
+
+pub(crate) fn answer_count(held: &Held, count: &mut usize) -> u32
+    ensures { Asks held.now.program 100 result (λ p. (result ≡ 0)
+        × (count.new ≡ length p.written)) }
+{
+    match held.program() {
+        Some(program) => {
+            *count = program.written.len();
+            OK
+        }
+        None => EMPTY_HANDLE,
+    }
+}
+
+pub(crate) fn answer_name(held: &Held, answer: usize, room: &mut [u8], len: &mut usize) -> u32
+    ensures { Asks held.now.program 100 result
+        (λ p. TellsAnswerName p answer room.old room.new len.new result) }
+{
+    match held.program() {
+        Some(program) => match program.written.get(answer) {
+            Some(answer) => put(answer.name.as_str(), room, len),
+            None => NO_SUCH_NUMBER,
+        },
+        None => EMPTY_HANDLE,
+    }
+}
+
+pub(crate) fn answer_type(held: &Held, answer: usize, dtype: &mut Type) -> u32
+    ensures { Asks held.now.program 100 result
+        (λ p. TellsAnswerType p answer dtype.new result) }
+{
+    match held.program() {
+        Some(program) => match program.written.get(answer) {
+            Some(answer) => {
+                *dtype = type_told(answer.tree.dtype());
+                OK
+            }
+            None => NO_SUCH_NUMBER,
+        },
+        None => EMPTY_HANDLE,
+    }
+}
+
+pub(crate) fn answer_text(
+    alloc: Global,
+    held: &Held,
+    answer: usize,
+    optimized: bool,
+    room: &mut [u8],
+    len: &mut usize,
+) -> u32
+    ensures { Asks held.now.program 100 result (λ _. ⊤) }
+{
+    match held.program() {
+        Some(program) => match program.text(alloc, answer, optimized) {
+            Ok(Some(text)) => put(text.as_str(), room, len),
+            Ok(None) => NO_SUCH_NUMBER,
+            Err(_) => OUT_OF_MEMORY,
+        },
+        None => EMPTY_HANDLE,
+    }
+}

@@ -1,0 +1,226 @@
+//! Expressions: read, asked, and freed.
+ghost use Rattle.std.specs.Prelude.{◌≡◌, None, length};
+ghost use Rattle.vortex_types.specs.LogicalTypes.{field_count};
+ghost use Rattle.yurkije.specs.Views.{program_in};
+ghost use Rattle.yurkije.specs.Asking.{Asks, TellsFieldName, TellsFieldType};
+ghost use Rattle.yurkije.specs.Asking.{TellsAnswerName, TellsAnswerType};
+ghost use Rattle.yurkije.specs.Reading.{Reads, HoldsRead, HoldsLines};
+
+use crate::asking::{
+    answer_count, answer_name, answer_text, answer_type, field_count, field_name, field_type,
+};
+use crate::handle::Handle;
+use crate::held::Held;
+use crate::statuses::{EMPTY_HANDLE, OUT_OF_MEMORY};
+use std::alloc::Global;
+use yurkije_columns::{LentField, Type, placed, read_fields};
+use yurkije_core::{
+    Program, ProgramError, Report, Told, program_words, read_lines, read_program, scope_words,
+};
+
+/// Holds a program, or tells why there is none.
+fn hold(
+    alloc: Global,
+    read: Result<Program, ProgramError>,
+    expression: &mut Handle,
+    error: &mut Report<'_>,
+) -> u32
+    requires { expression.old.held ≡ None }
+    ensures { Reads read expression.new.held result error.new }
+{
+    let program = match read {
+        Ok(program) => program,
+        Err(wrong) => {
+            let words = program_words(alloc, &wrong);
+            return error.tell(Told::of_program(&wrong), words.as_str());
+        }
+    };
+    match Box::new(alloc, Held::of_program(program)) {
+        Ok(held) => {
+            expression.close(held);
+            error.clear()
+        }
+        Err(_) => error.tell(Told::of(OUT_OF_MEMORY), "out of memory"),
+    }
+}
+
+/// Reads the answers of a text over the fields of a scope. 0 exactly where the handle then holds the
+/// expression; it is empty where the call is refused.
+#[unsafe(no_mangle)]
+pub extern "C" fn yk_expression_new(
+    alloc: Global,
+    text: &[u8],
+    fields: &[LentField<'_>],
+    expression: &mut Handle,
+    error: &mut Report<'_>,
+) -> u32
+    ensures { HoldsRead fields.now text.now expression.new.held result error.new }
+{
+    expression.clear(alloc);
+    match read_fields(alloc, placed(fields)) {
+        Ok(scope) => {
+            let read = read_program(alloc, scope, placed(text));
+            hold(alloc, read, expression, error)
+        }
+        Err(wrong) => {
+            let words = scope_words(alloc, wrong);
+            error.tell(Told::of_scope(wrong), words.as_str())
+        }
+    }
+}
+
+/// Reads an expression from lines of scripts. 0 exactly where the handle then holds the expression;
+/// it is empty where the call is refused.
+#[unsafe(no_mangle)]
+pub extern "C" fn yk_expression_of_lines(
+    alloc: Global,
+    text: &[u8],
+    expression: &mut Handle,
+    error: &mut Report<'_>,
+) -> u32
+    ensures { HoldsLines text.now expression.new.held result error.new }
+{
+    expression.clear(alloc);
+    let read = read_lines(alloc, placed(text));
+    hold(alloc, read, expression, error)
+}
+
+/// Frees what the handle holds, and leaves it empty.
+#[unsafe(no_mangle)]
+pub extern "C" fn yk_expression_free(alloc: Global, expression: &mut Handle)
+    ensures { expression.new.held ≡ None }
+{
+    expression.clear(alloc);
+}
+
+/// How many fields the scope has.
+#[unsafe(no_mangle)]
+pub extern "C" fn yk_field_count(alloc: Global, expression: &mut Handle, count: &mut usize) -> u32
+    ensures kept { expression.new.held ≡ expression.old.held }
+    ensures count { Asks (program_in expression.old.held) 100 result (λ p. (result ≡ 0)
+        × (count.new ≡ field_count p.scope)) }
+{
+    let Some(held) = expression.open(alloc) else {
+        return EMPTY_HANDLE;
+    };
+    let status = field_count(&held, count);
+    expression.close(held);
+    status
+}
+
+/// The name of a field.
+#[unsafe(no_mangle)]
+pub extern "C" fn yk_field_name(
+    alloc: Global,
+    expression: &mut Handle,
+    field: usize,
+    room: &mut [u8],
+    len: &mut usize,
+) -> u32
+    ensures kept { expression.new.held ≡ expression.old.held }
+    ensures name { Asks (program_in expression.old.held) 100 result
+        (λ p. TellsFieldName p field room.old room.new len.new result) }
+{
+    let Some(held) = expression.open(alloc) else {
+        return EMPTY_HANDLE;
+    };
+    let status = field_name(&held, field, room, len);
+    expression.close(held);
+    status
+}
+
+/// The type of a field.
+#[unsafe(no_mangle)]
+pub extern "C" fn yk_field_type(
+    alloc: Global,
+    expression: &mut Handle,
+    field: usize,
+    dtype: &mut Type,
+) -> u32
+    ensures kept { expression.new.held ≡ expression.old.held }
+    ensures told { Asks (program_in expression.old.held) 100 result
+        (λ p. TellsFieldType p field dtype.new result) }
+{
+    let Some(held) = expression.open(alloc) else {
+        return EMPTY_HANDLE;
+    };
+    let status = field_type(&held, field, dtype);
+    expression.close(held);
+    status
+}
+
+/// How many answers the expression has.
+#[unsafe(no_mangle)]
+pub extern "C" fn yk_answer_count(alloc: Global, expression: &mut Handle, count: &mut usize) -> u32
+    ensures kept { expression.new.held ≡ expression.old.held }
+    ensures count { Asks (program_in expression.old.held) 100 result (λ p. (result ≡ 0)
+        × (count.new ≡ length p.written)) }
+{
+    let Some(held) = expression.open(alloc) else {
+        return EMPTY_HANDLE;
+    };
+    let status = answer_count(&held, count);
+    expression.close(held);
+    status
+}
+
+/// The name of an answer.
+#[unsafe(no_mangle)]
+pub extern "C" fn yk_answer_name(
+    alloc: Global,
+    expression: &mut Handle,
+    answer: usize,
+    room: &mut [u8],
+    len: &mut usize,
+) -> u32
+    ensures kept { expression.new.held ≡ expression.old.held }
+    ensures name { Asks (program_in expression.old.held) 100 result
+        (λ p. TellsAnswerName p answer room.old room.new len.new result) }
+{
+    let Some(held) = expression.open(alloc) else {
+        return EMPTY_HANDLE;
+    };
+    let status = answer_name(&held, answer, room, len);
+    expression.close(held);
+    status
+}
+
+/// The type of an answer.
+#[unsafe(no_mangle)]
+pub extern "C" fn yk_answer_type(
+    alloc: Global,
+    expression: &mut Handle,
+    answer: usize,
+    dtype: &mut Type,
+) -> u32
+    ensures kept { expression.new.held ≡ expression.old.held }
+    ensures told { Asks (program_in expression.old.held) 100 result
+        (λ p. TellsAnswerType p answer dtype.new result) }
+{
+    let Some(held) = expression.open(alloc) else {
+        return EMPTY_HANDLE;
+    };
+    let status = answer_type(&held, answer, dtype);
+    expression.close(held);
+    status
+}
+
+/// The text of an answer, as it was written or as it is run.
+#[unsafe(no_mangle)]
+pub extern "C" fn yk_answer_text(
+    alloc: Global,
+    expression: &mut Handle,
+    answer: usize,
+    optimized: bool,
+    room: &mut [u8],
+    len: &mut usize,
+) -> u32
+    ensures { expression.new.held ≡ expression.old.held }
+{
+    let Some(held) = expression.open(alloc) else {
+        return EMPTY_HANDLE;
+    };
+    let status = answer_text(alloc, &held, answer, optimized, room, len);
+    expression.close(held);
+    status
+}

@@ -1,0 +1,164 @@
+//! What is run and given of what is held.
+ghost use Rattle.std.specs.Prelude.{◌≡◌, None, Some, slice_get, MatchResult, pos, map, take, length};
+ghost use Rattle.vortex_columns.specs.ColumnView.{ColumnView};
+ghost use Rattle.yurkije.specs.Views.{program_view};
+ghost use Rattle.yurkije.specs.Asking.{Asks};
+ghost use Rattle.yurkije.specs.Answering.{Runs, HoldsAnswers, Sizes, Copies, SelectsBy, FindsColumn};
+ghost use Rattle.yurkije.specs.Answering.{KeepsOrWants};
+
+use crate::handle::Handle;
+use crate::held::Held;
+use crate::statuses::{EMPTY_HANDLE, NO_SUCH_NUMBER, OK, OUT_OF_MEMORY, UNKNOWN_KIND};
+use std::alloc::Global;
+use vortex_arrow::{IndexType, copy_true_rows, true_count};
+use vortex_columns::Column;
+use yurkije_columns::statuses::copy_status;
+use yurkije_columns::{LentColumn, Room, RoomError, Size, arrow_columns, copy_answer, size_of};
+use yurkije_core::{Program, Report, Told, lent_words, run_program, run_words};
+
+/// Holds answers, or tells that memory ran out.
+fn hold(alloc: Global, columns: Vec<Column>, answers: &mut Handle, error: &mut Report<'_>) -> u32
+    requires { answers.old.held ≡ None }
+    ensures { KeepsOrWants columns.items answers.new.held result error.new }
+{
+    match Box::new(alloc, Held::of_answers(columns)) {
+        Ok(held) => {
+            answers.close(held);
+            error.clear()
+        }
+        Err(_) => error.tell(Told::of(OUT_OF_MEMORY), "out of memory"),
+    }
+}
+
+/// Runs a program over columns that are lent, and holds what it answers; or tells why it does not.
+fn run(
+    alloc: Global,
+    program: &Program,
+    columns: &[LentColumn<'_>],
+    rows: usize,
+    answers: &mut Handle,
+    error: &mut Report<'_>,
+) -> u32
+    requires { answers.old.held ≡ None }
+    ensures { HoldsAnswers (program_view program.now) columns.now rows answers.new.held result error.new }
+{
+    let columns = match arrow_columns(alloc, columns) {
+        Ok(columns) => columns,
+        Err(wrong) => {
+            let words = lent_words(alloc, wrong);
+            return error.tell(Told::of_lent(wrong), words.as_str());
+        }
+    };
+    match run_program(alloc, program, &columns, rows) {
+        Ok(columns) => hold(alloc, columns, answers, error),
+        Err(wrong) => {
+            let words = run_words(alloc, program, &wrong, rows);
+            error.tell(Told::of_run(&wrong), words.as_str())
+        }
+    }
+}
+
+/// Runs the program that is held.
+pub(crate) fn run_held(
+    alloc: Global,
+    held: &Held,
+    columns: &[LentColumn<'_>],
+    rows: usize,
+    answers: &mut Handle,
+    error: &mut Report<'_>,
+) -> u32
+    requires { answers.old.held ≡ None }
+    ensures { Runs held.now.program columns.now rows answers.new.held result
+        error.new }
+{
+    match held.program() {
+        Some(program) => run(alloc, program, columns, rows, answers, error),
+        None => error.tell(Told::of(EMPTY_HANDLE), "the handle holds no expression"),
+    }
+}
+
+/// The column of an answer, or the status where there is none.
+fn column_of(held: &Held, answer: usize) -> Result<&Column, u32>
+    ensures { MatchResult result (λ c. FindsColumn held.now.answers answer c.now)
+        (λ status. Asks held.now.answers 100 status
+        (λ cs. (status ≡ 101) × (slice_get cs answer ≡ None))) }
+{
+    match held.columns() {
+        Some(columns) => match columns.get(answer) {
+            Some(column) => Ok(column),
+            None => Err(NO_SUCH_NUMBER),
+        },
+        None => Err(EMPTY_HANDLE),
+    }
+}
+
+/// How long the buffers of an answer have to be.
+fn size_told(column: &Column, size: &mut Size) -> u32
+    ensures { Sizes column.now size.new result }
+{
+    match size_of(column) {
+        Ok(found) => {
+            *size = found;
+            OK
+        }
+        Err(error) => copy_status(error),
+    }
+}
+
+pub(crate) fn put_size(held: &Held, answer: usize, size: &mut Size) -> u32
+    ensures { Asks held.now.answers 100 result (λ cs.
+        Asks (slice_get cs answer) 101 result (λ c. Sizes c size.new result)) }
+{
+    match column_of(held, answer) {
+        Ok(column) => size_told(column, size),
+        Err(status) => status,
+    }
+}
+
+/// Copies an answer.
+fn answer_copied(column: &Column, room: &mut Room<'_>) -> u32
+    ensures { Copies column.now room.old room.new result }
+{
+    match copy_answer(column, room) {
+        Ok(()) => OK,
+        Err(RoomError::UnknownKind) => UNKNOWN_KIND,
+        Err(RoomError::Uncopied(error)) => copy_status(error),
+    }
+}
+
+pub(crate) fn put_answer(held: &Held, answer: usize, room: &mut Room<'_>) -> u32
+    ensures { Asks held.now.answers 100 result (λ cs.
+        Asks (slice_get cs answer) 101 result (λ c. Copies c room.old room.new result)) }
+{
+    match column_of(held, answer) {
+        Ok(column) => answer_copied(column, room),
+        Err(status) => status,
+    }
+}
+
+/// The numbers of the rows of a column that are true.
+fn true_rows_told<I: IndexType>(column: &Column, numbers: &mut [I], count: &mut usize) -> u32
+    ensures { SelectsBy I.number column.now I.most numbers.old numbers.new count.new result }
+{
+    *count = true_count(column);
+    match copy_true_rows(column, numbers) {
+        Ok(_) => OK,
+        Err(error) => copy_status(error),
+    }
+}
+
+pub(crate) fn put_true_rows<I: IndexType>(
+    held: &Held,
+    answer: usize,
+    numbers: &mut [I],
+    count: &mut usize,
+) -> u32
+    ensures { Asks held.now.answers 100 result (λ cs.
+        Asks (slice_get cs answer) 101 result
+        (λ c. SelectsBy I.number c I.most numbers.old numbers.new count.new result)) }
+{
+    match column_of(held, answer) {
+        Ok(column) => true_rows_told(column, numbers, count),
+        Err(status) => status,
+    }
+}

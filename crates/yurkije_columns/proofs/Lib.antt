@@ -1,0 +1,4 @@
+pub mod Serving
+pub mod ScopesSoFar
+pub mod LentSoFar
+pub mod TextRooms

@@ -1,0 +1,32 @@
+-- Texts and byte strings that stand in the caller's buffers.
+use Rattle.std.proofs.Common.{◌≡◌, ◌∙◌, refl, sym, ap, subst, ℕ, ℤ, List, length, Bool, true, false}
+use Rattle.std.specs.Prelude.{Result, Ok, Err, OnOk}
+use Rattle.vortex_types.specs.LogicalTypes.{LogicalType, is_text_type, is_nullable}
+use Rattle.vortex_columns.specs.ColumnView.{ColumnView}
+use Rattle.vortex_arrow.specs.Layouts.{Layout, offsets}
+use Rattle.vortex_arrow.specs.Written.{bytes_for, SameBehind, rows_of}
+use Rattle.yurkije_columns.specs.declared.kinds.Kind.{Kind}
+use Rattle.yurkije_columns.specs.declared.rooms.Room.{Room}
+use Rattle.yurkije_columns.specs.Kinds.{kind_type}
+use Rattle.yurkije_columns.specs.Rooms.{room_layout, KeepsBehind, StandsIn, IsOfKind}
+
+-- whether a type is that of texts, of which a kind is
+pub text_of_kind : (k j : Kind) (t : LogicalType) → k ≡ j → IsOfKind k t
+    → is_text_type t ≡ is_text_type (kind_type j (is_nullable t))
+text_of_kind k j t e h = sym (ap is_text_type (subst (λ (i : Kind). IsOfKind i t) e h))
+
+pub texts_stand : {A E : Type 0} (r : Result A E) (k j : Kind) (c : ColumnView) (old new : Room)
+    (b : Bool) (os : List ℤ) (bs : List ℕ) (B C : Type 0) → k ≡ j → room_layout j new ≡ offsets b os bs
+    → is_text_type c.dtype ≡ b
+    → OnOk r (c.rows ≡ rows_of new.validity.now (offsets (is_text_type c.dtype) os bs)
+    (length c.rows))
+    → OnOk r (SameBehind (bytes_for (length c.rows)) old.validity.now new.validity.now × B × C)
+    → (B → C → KeepsBehind j c old new) → OnOk r (StandsIn k c old new)
+texts_stand (Ok x) k j c old new b os bs B C e l is rows behind both =
+    subst (λ (i : Kind). StandsIn i c old new) (sym e) (record {
+      rows = subst (λ (y : Layout). c.rows ≡ rows_of new.validity.now y (length c.rows))
+          (ap (λ (z : Bool). offsets z os bs) is ∙ sym l) rows;
+      validity = behind.0;
+      values = both behind.1 behind.2;
+    })
+texts_stand (Err x) k j c old new b os bs B C e l is rows behind both = tt

@@ -1,0 +1,48 @@
+use Rattle.std.proofs.Common.{◌≡◌, ◌<◌, ◌∙◌, length, map, ap, arith}
+use Rattle.std.proofs.lemmas.List.{take_all}
+use Rattle.vortex_types.specs.LogicalTypes.{field_count}
+use Rattle.vortex_types.specs.TypeOf.{struct_fields}
+use Rattle.vortex_arrow.specs.Columns.{arrow_column}
+use Rattle.yurkije_columns.proofs.Serving.{wrong_at, first_serve_more, read_more}
+use Rattle.yurkije_columns.proofs.batch.read_batch.Goals as goal
+
+pub returns-in-Err : goal.returns-in-Err
+returns-in-Err c =
+    let each : length c.args.columns.now ≡ field_count (struct_fields c.args.scope.now) = omega (
+      arith,
+      c.if-columns-len.false,
+      c.if-len-columns.false,
+      c.len.ensures,
+      c.len-2.ensures,
+    ) in
+    wrong_at _ _ _ _ _ _ _ c.loop-k-test.true each c.dtype.ensures c.in-Err.ensures
+    c.loop-k.invariant.serve
+
+pub loop-k-preserved : goal.loop-k-preserved
+loop-k-preserved c = record {
+  count = omega (arith, c.push_reserved.ensures.len, c.loop-k.invariant.count);
+  place = c.push_reserved.ensures.capacity ∙ c.loop-k.invariant.place;
+  serve = first_serve_more _ _ _ _ _ _ c.loop-k-test.true c.dtype.ensures c.in-Ok-read_field.ensures.0
+      c.loop-k.invariant.serve;
+  columns = c.push_reserved.ensures.items
+      ∙ read_more _ _ _ _ c.in-Ok-read_field.field c.loop-k-test.true c.loop-k.invariant.columns
+      c.in-Ok-read_field.ensures.1;
+}
+
+pub returns : goal.returns
+returns c =
+    let each : length c.args.columns.now ≡ field_count (struct_fields c.args.scope.now) = omega (
+      arith,
+      c.if-columns-len.false,
+      c.if-len-columns.false,
+      c.len.ensures,
+      c.len-2.ensures,
+    ) in (
+      record {
+        each = each;
+        serve = λ i below. c.loop-k.invariant.serve i (omega (arith, below, c.loop-k-test.false));
+      },
+      c.loop-k.invariant.columns
+          ∙ ap (map arrow_column)
+          (take_all c.loop-k.k c.args.columns.now (omega (arith, c.loop-k-test.false))),
+    )

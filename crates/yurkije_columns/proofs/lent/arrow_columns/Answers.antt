@@ -1,0 +1,19 @@
+use Rattle.std.proofs.Common.{◌≡◌, ◌<◌, ◌∙◌, length, arith, add-one, subst, sym}
+use Rattle.std.proofs.lemmas.Option.{slice_get-get_or}
+use Rattle.std.proofs.lemmas.List.{take_all}
+use Rattle.yurkije_columns.specs.Lent.{AllSay}
+use Rattle.yurkije_columns.proofs.LentSoFar.{all_say_more}
+use Rattle.yurkije_columns.proofs.lent.arrow_columns.Goals as goal
+
+pub returns-in-None : goal.returns-in-None
+returns-in-None c = (_, slice_get-get_or _ _ _ c.loop-column-test.true, c.in-None.ensures)
+
+pub loop-column-preserved : goal.loop-column-preserved
+loop-column-preserved c =
+    let k = c.loop-column.column in record {
+      count = omega (arith, c.push_reserved.ensures.len, c.loop-column.invariant.count);
+      place = c.push_reserved.ensures.capacity ∙ c.loop-column.invariant.place;
+      say = rw c.push_reserved.ensures.items
+          (all_say_more _ _ k _ _ _ (add-one k) c.loop-column-test.true
+          c.loop-column.invariant.say c.in-Some.ensures);
+    }

@@ -1,0 +1,59 @@
+-- The columns of a batch over the fields of a scope.
+use Rattle.std.specs.Prelude.{◌≡◌, ◌≢◌, ◌<◌, ℕ, List, [], ◌∷◌, map, length, Option, Some, slice_get}
+use Rattle.std.specs.Prelude.{⊤}
+use Rattle.vortex_types.specs.LogicalTypes.{LogicalType, Fields, field_count, field_type}
+use Rattle.vortex_arrow.specs.declared.column.ArrowColumn.{ArrowColumn}
+use Rattle.vortex_arrow.specs.declared.error.ArrowError.{ArrowError}
+use Rattle.vortex_arrow.specs.declared.error.ArrowError.TheVariants.{OutOfMemory}
+use Rattle.vortex_arrow.specs.Layouts.{layout_of, layout_type}
+use Rattle.vortex_arrow.specs.Columns.{IsWellFormed}
+use Rattle.vortex_arrow.specs.Refusals.{TellsOf}
+use Rattle.yurkije_columns.specs.declared.batch.ColumnFault.{ColumnFault}
+use Rattle.yurkije_columns.specs.declared.batch.ColumnFault.TheVariants as fault
+use Rattle.yurkije_columns.specs.declared.batch.BatchError.{BatchError}
+
+abbrev pub type_lent : ArrowColumn → LogicalType
+type_lent c = layout_type (layout_of c.values) c.nullable
+
+-- the column serves a field of that type, in a batch of n rows
+pub record Serves (t : LogicalType) (n : ℕ) (c : ArrowColumn) : Type 0 where
+  pub dtype : type_lent c ≡ t
+  pub rows : c.length ≡ n
+  pub buffers : IsWellFormed c
+
+-- why a column does not
+abbrev pub RefusesColumn : LogicalType → ℕ → ArrowColumn → ColumnFault → Type 0
+RefusesColumn t n c fault.OtherType = type_lent c ≢ t
+RefusesColumn t n c (fault.OtherLength rows) = (type_lent c ≡ t) × (rows ≡ c.length) × (rows ≢ n)
+RefusesColumn t n c (fault.Unread e) = (type_lent c ≡ t) × (c.length ≡ n) × TellsOf c e
+RefusesColumn t n c e = ⊥
+
+module _ (scope : Fields) (n : ℕ) (cs : List ArrowColumn) where
+  -- the first k columns serve their fields
+  abbrev pub FirstServe : ℕ → Type 0
+  FirstServe k =
+      (i : ℕ) → i < k → (c : ArrowColumn) → slice_get cs i ≡ Some c
+      → Serves (field_type i scope) n c
+
+  -- there is a column for each field, and it serves
+  pub record AllServe : Type 0 where
+    pub each : length cs ≡ field_count scope
+    pub serve : FirstServe (length cs)
+
+  -- the first column that does not serve its field
+  pub record IsWrong (e : BatchError) : Type 0 where
+    pub each : length cs ≡ field_count scope
+    pub column : ArrowColumn
+    pub there : slice_get cs e.column ≡ Some column
+    pub refused : RefusesColumn (field_type e.column scope) n column e.fault
+    pub before : FirstServe e.column
+
+  -- why a batch is refused: there are fewer or more columns than fields, or one does not serve; or
+  -- memory ran out
+  pub data RefusesBatch (e : BatchError) : Type 0 where
+    missing : e.fault ≡ fault.Missing → e.column ≡ length cs → length cs < field_count scope
+        → RefusesBatch e
+    unasked : e.fault ≡ fault.Unasked → e.column ≡ field_count scope
+        → field_count scope < length cs → RefusesBatch e
+    wrong : IsWrong e → RefusesBatch e
+    without_memory : e.fault ≡ fault.Unread OutOfMemory → RefusesBatch e

@@ -1,0 +1,156 @@
+-- Answers copied into the caller's buffers.
+use Rattle.std.specs.Prelude.{◌≡◌, ◌⊎◌, ◌+◌, ◌^◌, ◌≤◌, ℕ, pos, true, false, List, [], map, length}
+use Rattle.std.specs.Prelude.{Some, None}
+use Rattle.vortex_types.specs.declared.dtype.PType.{PType}
+use Rattle.vortex_types.specs.declared.dtype.PType.TheVariants.{I8, I16, I32, I64, U8, U16, U32}
+use Rattle.vortex_types.specs.declared.dtype.PType.TheVariants.{U64}
+use Rattle.vortex_types.specs.LogicalTypes.{LogicalType, bool_type, integer_type, text_type}
+use Rattle.vortex_types.specs.LogicalTypes.{bytes_type, is_nullable, is_bool_type}
+use Rattle.vortex_columns.specs.ColumnView.{ColumnView, IsIntegerType}
+use Rattle.vortex_arrow.specs.Layouts.{Layout, bits, numbers, offsets}
+use Rattle.vortex_arrow.specs.Written.{bytes_for, SameBehind, rows_of, joined, RefusesValues}
+use Rattle.vortex_arrow.specs.Written.{RefusesTexts}
+use Rattle.vortex_arrow.specs.declared.error.CopyError.{CopyError}
+use Rattle.vortex_arrow.specs.declared.error.CopyError.TheVariants.{OtherType, TooLong}
+use Rattle.yurkije_columns.specs.declared.kinds.Kind.{Kind}
+use Rattle.yurkije_columns.specs.declared.kinds.Kind.TheVariants as kind
+use Rattle.yurkije_columns.specs.declared.rooms.Size.{Size}
+use Rattle.yurkije_columns.specs.declared.rooms.Room.{Room}
+use Rattle.yurkije_columns.specs.declared.rooms.RoomError.{RoomError}
+use Rattle.yurkije_columns.specs.declared.rooms.RoomError.TheVariants as error
+use Rattle.yurkije_columns.specs.Kinds.{kind_numbered, kind_type, type_number}
+
+-- how many values n rows of a type take, and offsets
+abbrev pub values_taken : LogicalType → ℕ → ℕ
+values_taken (bool_type m) n = bytes_for n
+values_taken (integer_type p m) n = n
+values_taken t n = 0
+
+abbrev pub offsets_taken : LogicalType → ℕ → ℕ
+offsets_taken (text_type m) n = n + 1
+offsets_taken (bytes_type m) n = n + 1
+offsets_taken t n = 0
+
+-- the bytes of texts and byte strings
+abbrev pub data_taken : LogicalType → ℕ → ℕ
+data_taken (text_type m) n = n
+data_taken (bytes_type m) n = n
+data_taken t n = 0
+
+pub record IsSize (c : ColumnView) (s : Size) : Type 0 where
+  pub rows : s.rows ≡ length c.rows
+  pub validity : s.validity ≡ bytes_for (length c.rows)
+  pub values : s.values ≡ values_taken c.dtype (length c.rows)
+  pub offsets : s.offsets ≡ offsets_taken c.dtype (length c.rows)
+  pub bytes : s.data ≡ data_taken c.dtype (length (joined c.rows))
+
+-- a column of a type that has no kind, or texts with more bytes or rows than a usize counts
+abbrev pub RefusesSize : ColumnView → CopyError → Type 0
+RefusesSize c OtherType = type_number c.dtype ≡ 0
+RefusesSize c TooLong = (2 ^ 64 ≤ length (joined c.rows)) ⊎ (2 ^ 64 ≤ length c.rows + 1)
+RefusesSize c e = ⊥
+
+-- what the buffers of that kind say
+abbrev pub room_layout : Kind → Room → Layout
+room_layout kind.Bool r = bits r.bools.now
+room_layout kind.I8 r = numbers I8 (map (λ x. x) r.i8s.now)
+room_layout kind.I16 r = numbers I16 (map (λ x. x) r.i16s.now)
+room_layout kind.I32 r = numbers I32 (map (λ x. x) r.i32s.now)
+room_layout kind.I64 r = numbers I64 (map (λ x. x) r.i64s.now)
+room_layout kind.U8 r = numbers U8 (map pos r.u8s.now)
+room_layout kind.U16 r = numbers U16 (map pos r.u16s.now)
+room_layout kind.U32 r = numbers U32 (map pos r.u32s.now)
+room_layout kind.U64 r = numbers U64 (map pos r.u64s.now)
+room_layout kind.Utf8 r = offsets true (map (λ x. x) r.offsets32.now) r.data.now
+room_layout kind.LargeUtf8 r = offsets true (map (λ x. x) r.offsets64.now) r.data.now
+room_layout kind.Binary r = offsets false (map (λ x. x) r.offsets32.now) r.data.now
+room_layout kind.LargeBinary r = offsets false (map (λ x. x) r.offsets64.now) r.data.now
+room_layout k r = bits []
+
+-- behind the rows of a column the buffers of that kind stay as they were
+abbrev pub KeepsBehind : Kind → ColumnView → Room → Room → Type 0
+KeepsBehind kind.Bool c r s = SameBehind (bytes_for (length c.rows)) r.bools.now s.bools.now
+KeepsBehind kind.I8 c r s = SameBehind (length c.rows) r.i8s.now s.i8s.now
+KeepsBehind kind.I16 c r s = SameBehind (length c.rows) r.i16s.now s.i16s.now
+KeepsBehind kind.I32 c r s = SameBehind (length c.rows) r.i32s.now s.i32s.now
+KeepsBehind kind.I64 c r s = SameBehind (length c.rows) r.i64s.now s.i64s.now
+KeepsBehind kind.U8 c r s = SameBehind (length c.rows) r.u8s.now s.u8s.now
+KeepsBehind kind.U16 c r s = SameBehind (length c.rows) r.u16s.now s.u16s.now
+KeepsBehind kind.U32 c r s = SameBehind (length c.rows) r.u32s.now s.u32s.now
+KeepsBehind kind.U64 c r s = SameBehind (length c.rows) r.u64s.now s.u64s.now
+KeepsBehind kind.LargeUtf8 c r s =
+    SameBehind (length c.rows + 1) r.offsets64.now s.offsets64.now
+    × SameBehind (length (joined c.rows)) r.data.now s.data.now
+KeepsBehind kind.LargeBinary c r s =
+    SameBehind (length c.rows + 1) r.offsets64.now s.offsets64.now
+    × SameBehind (length (joined c.rows)) r.data.now s.data.now
+KeepsBehind k c r s =
+    SameBehind (length c.rows + 1) r.offsets32.now s.offsets32.now
+    × SameBehind (length (joined c.rows)) r.data.now s.data.now
+
+-- the rows of the column stand in the buffers of that kind
+pub record StandsIn (k : Kind) (c : ColumnView) (old new : Room) : Type 0 where
+  pub rows : c.rows ≡ rows_of new.validity.now (room_layout k new) (length c.rows)
+  pub validity : SameBehind (bytes_for (length c.rows)) old.validity.now new.validity.now
+  pub values : KeepsBehind k c old new
+
+-- why integers of a type are not copied into a room for so many
+abbrev pub RefusesIntegers : PType → ColumnView → Room → ℕ → CopyError → Type 0
+RefusesIntegers p c r items e =
+    RefusesValues (IsIntegerType p c.dtype) (bytes_for (length c.rows)) (length r.validity.now)
+    (length c.rows) items e
+
+-- why texts are not copied into a room for so many offsets, of which the greatest is the most
+abbrev pub RefusesOffsets : ColumnView → Room → ℕ → ℕ → CopyError → Type 0
+RefusesOffsets c r items most e =
+    RefusesTexts c (length r.validity.now) items (length r.data.now) most e
+
+-- why a column is not copied into the buffers of that kind
+abbrev pub RefusesRoom : Kind → ColumnView → Room → CopyError → Type 0
+RefusesRoom kind.Bool c r e =
+    let n = bytes_for (length c.rows) in
+    RefusesValues (is_bool_type c.dtype ≡ true) n (length r.validity.now) n
+    (length r.bools.now) e
+RefusesRoom kind.I8 c r e = RefusesIntegers I8 c r (length r.i8s.now) e
+RefusesRoom kind.I16 c r e = RefusesIntegers I16 c r (length r.i16s.now) e
+RefusesRoom kind.I32 c r e = RefusesIntegers I32 c r (length r.i32s.now) e
+RefusesRoom kind.I64 c r e = RefusesIntegers I64 c r (length r.i64s.now) e
+RefusesRoom kind.U8 c r e = RefusesIntegers U8 c r (length r.u8s.now) e
+RefusesRoom kind.U16 c r e = RefusesIntegers U16 c r (length r.u16s.now) e
+RefusesRoom kind.U32 c r e = RefusesIntegers U32 c r (length r.u32s.now) e
+RefusesRoom kind.U64 c r e = RefusesIntegers U64 c r (length r.u64s.now) e
+RefusesRoom kind.Utf8 c r e = RefusesOffsets c r (length r.offsets32.now) 2147483647 e
+RefusesRoom kind.Binary c r e = RefusesOffsets c r (length r.offsets32.now) 2147483647 e
+RefusesRoom kind.LargeUtf8 c r e =
+    RefusesOffsets c r (length r.offsets64.now) 9223372036854775807 e
+RefusesRoom kind.LargeBinary c r e =
+    RefusesOffsets c r (length r.offsets64.now) 9223372036854775807 e
+RefusesRoom kind.Utf8View c r e = e ≡ OtherType
+RefusesRoom kind.BinaryView c r e = e ≡ OtherType
+
+-- the buffers of that kind are as they were
+pub record KeepsRoom (k : Kind) (old new : Room) : Type 0 where
+  pub validity : new.validity.now ≡ old.validity.now
+  pub values : room_layout k new ≡ room_layout k old
+
+-- values of the kind have the type of the column
+abbrev pub IsOfKind : Kind → LogicalType → Type 0
+IsOfKind k t = kind_type k (is_nullable t) ≡ t
+
+-- the room's kind is that of the column, whose rows stand in its buffers
+pub record IsCopied (c : ColumnView) (old new : Room) : Type 0 where
+  pub kind : Kind
+  pub numbered : kind_numbered old.kind ≡ Some kind
+  pub dtype : IsOfKind kind c.dtype
+  pub stands : StandsIn kind c old new
+
+-- the room's kind is none or another than the column's, or a buffer is too short
+abbrev pub RefusesCopy : ColumnView → Room → RoomError → Type 0
+RefusesCopy c r error.UnknownKind = kind_numbered r.kind ≡ None
+RefusesCopy c r (error.Uncopied e) =
+    (k : Kind) × (kind_numbered r.kind ≡ Some k)
+    × (((e ≡ OtherType) × ¬ IsOfKind k c.dtype) ⊎ (IsOfKind k c.dtype × RefusesRoom k c r e))
+
+-- what is refused leaves the buffers as they were
+abbrev pub KeepsRefused : Room → Room → Type 0
+KeepsRefused old new = (k : Kind) → kind_numbered old.kind ≡ Some k → KeepsRoom k old new

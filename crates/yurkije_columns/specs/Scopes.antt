@@ -1,0 +1,48 @@
+-- The scope that fields make which C lends.
+use Rattle.std.specs.Prelude.{◌≡◌, ◌+◌, ℕ, List, [], ◌∷◌, Bool, if◌then◌else◌, Option, Some, None}
+use Rattle.std.specs.Str.{is_utf8}
+use Rattle.vortex_types.specs.LogicalTypes.{LogicalType, Fields, no_fields, with_field}
+use Rattle.vortex_types.specs.LogicalTypes.{find_field}
+use Rattle.yurkije_columns.specs.declared.kinds.Kind.{Kind}
+use Rattle.yurkije_columns.specs.declared.fields.LentField.{LentField}
+use Rattle.yurkije_columns.specs.declared.fields.ScopeFault.{ScopeFault}
+use Rattle.yurkije_columns.specs.declared.fields.ScopeFault.TheVariants as fault
+use Rattle.yurkije_columns.specs.declared.fields.ScopeError.{ScopeError}
+use Rattle.yurkije_columns.specs.Kinds.{kind_numbered, kind_type}
+
+-- a scope, or what is wrong
+pub data Outcome (E : Type 0) : Type 0 where
+  answers : Fields → Outcome E
+  refuses : E → Outcome E
+
+-- a field of a name that none has
+abbrev pub if_new : Fields → List ℕ → LogicalType → Option (ℕ × LogicalType) → Outcome ScopeFault
+if_new fs name t None = answers (with_field fs name t)
+if_new fs name t (Some found) = refuses fault.NameTwice
+
+abbrev pub if_known : Fields → List ℕ → Bool → Option Kind → Outcome ScopeFault
+if_known fs name n None = refuses fault.UnknownKind
+if_known fs name n (Some k) =
+    if is_utf8 name then if_new fs name (kind_type k n) (find_field name fs)
+    else refuses fault.NotUtf8
+
+-- one field more
+abbrev pub with_lent : Fields → LentField → Outcome ScopeFault
+with_lent fs f = if_known fs f.name.now f.nullable (kind_numbered f.kind)
+
+-- at that place
+abbrev pub numbered : ℕ → Outcome ScopeFault → Outcome ScopeError
+numbered k (answers fs) = answers fs
+numbered k (refuses f) = refuses (record { field = k; fault = f })
+
+abbrev pub and_lent : ℕ → Outcome ScopeError → LentField → Outcome ScopeError
+and_lent k (answers fs) f = numbered k (with_lent fs f)
+and_lent k (refuses e) f = refuses e
+
+-- all of them behind others, of which there are k
+abbrev pub lent_behind : ℕ → Outcome ScopeError → List LentField → Outcome ScopeError
+lent_behind k o [] = o
+lent_behind k o (f ∷ rest) = lent_behind (k + 1) (and_lent k o f) rest
+
+abbrev pub scope_lent : List LentField → Outcome ScopeError
+scope_lent fields = lent_behind 0 (answers no_fields) fields

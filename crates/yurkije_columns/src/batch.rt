@@ -1,0 +1,125 @@
+//! The columns of a batch, read over the fields of a scope.
+ghost use Rattle.std.specs.Prelude.{◌≡◌, map, MatchResult};
+ghost use Rattle.vortex_types.specs.LogicalTypes.{integer_type};
+ghost use Rattle.vortex_types.specs.TypeOf.{type_of, struct_fields, allows_null};
+ghost use Rattle.vortex_arrow.specs.Columns.{arrow_column};
+ghost use Rattle.yurkije_columns.specs.Batches.{type_lent, Serves, RefusesColumn, AllServe};
+ghost use Rattle.yurkije_columns.specs.Batches.{RefusesBatch};
+
+use crate::kinds::nullability;
+use std::alloc::Global;
+use vortex_arrow::{ArrowColumn, ArrowError, ArrowValues, to_column};
+use vortex_columns::{Column, DType, PType, StructFields};
+
+/// What is wrong with a column of a batch.
+#[derive(Clone, Copy, Debug, Drop, PartialEq, Eq)]
+pub enum ColumnFault {
+    /// There is none for that field.
+    Missing,
+    /// There is no field for it.
+    Unasked,
+    /// Its values are of another type than the field, or it is nullable and the field is not, or the
+    /// other way round.
+    OtherType,
+    /// It has another number of rows than the batch.
+    OtherLength { rows: usize },
+    /// Its buffers are refused, or memory ran out.
+    Unread(ArrowError),
+}
+
+/// Why a batch is refused: the first column that is wrong.
+#[derive(Clone, Copy, Debug, Drop, PartialEq, Eq)]
+pub struct BatchError {
+    pub column: usize,
+    pub fault: ColumnFault,
+}
+
+/// The type of a column's values.
+fn dtype_of(column: &ArrowColumn<'_>) -> DType
+    ensures { type_of result ≡ type_lent column.now }
+{
+    let nullability = nullability(column.nullable);
+    match column.values {
+        ArrowValues::Bool(_) => DType::Bool(nullability),
+        ArrowValues::Int8(_) => DType::Primitive(PType::I8, nullability),
+        ArrowValues::Int16(_) => DType::Primitive(PType::I16, nullability),
+        ArrowValues::Int32(_) => DType::Primitive(PType::I32, nullability),
+        ArrowValues::Int64(_) => DType::Primitive(PType::I64, nullability),
+        ArrowValues::UInt8(_) => DType::Primitive(PType::U8, nullability),
+        ArrowValues::UInt16(_) => DType::Primitive(PType::U16, nullability),
+        ArrowValues::UInt32(_) => DType::Primitive(PType::U32, nullability),
+        ArrowValues::UInt64(_) => DType::Primitive(PType::U64, nullability),
+        ArrowValues::Utf8 { .. } => DType::Utf8(nullability),
+        ArrowValues::LargeUtf8 { .. } => DType::Utf8(nullability),
+        ArrowValues::Utf8View { .. } => DType::Utf8(nullability),
+        ArrowValues::Binary { .. } => DType::Binary(nullability),
+        ArrowValues::LargeBinary { .. } => DType::Binary(nullability),
+        ArrowValues::BinaryView { .. } => DType::Binary(nullability),
+    }
+}
+
+/// The column of a field of that type.
+fn read_field(
+    alloc: Global,
+    dtype: &DType,
+    column: &ArrowColumn<'_>,
+    rows: usize,
+) -> Result<Column, ColumnFault>
+    ensures { MatchResult result
+        (λ c. Serves (type_of dtype.now) rows column.now × (c ≡ arrow_column column.now))
+        (RefusesColumn (type_of dtype.now) rows column.now) }
+{
+    if dtype_of(column) != *dtype {
+        return Err(ColumnFault::OtherType);
+    }
+    if column.length != rows {
+        return Err(ColumnFault::OtherLength {
+            rows: column.length,
+        });
+    }
+    match to_column(alloc, column) {
+        Ok(column) => Ok(column),
+        Err(error) => Err(ColumnFault::Unread(error)),
+    }
+}
+
+/// The columns of a batch of so many rows, one for each field of the scope, each copied once.
+/// Refuses the first column that is wrong: one that is missing or not asked for, and else of another
+/// type than its field, then of another number of rows, then for its buffers.
+pub fn read_batch(
+    alloc: Global,
+    scope: &StructFields,
+    columns: &[ArrowColumn<'_>],
+    rows: usize,
+) -> Result<Vec<Column>, BatchError>
+    ensures { MatchResult result
+        (λ read. AllServe (struct_fields scope.now) rows columns.now
+        × (read.items ≡ map arrow_column columns.now))
+        (RefusesBatch (struct_fields scope.now) rows columns.now) }
+{
+    if columns.len() < scope.len() {
+        return Err(BatchError {
+            column: columns.len(),
+            fault: ColumnFault::Missing,
+        });
+    }
+    if scope.len() < columns.len() {
+        return Err(BatchError {
+            column: scope.len(),
+            fault: ColumnFault::Unasked,
+        });
+    }
+    let Ok(mut read) = Vec::with_capacity(alloc, columns.len()) else {
+        return Err(BatchError {
+            column: 0,
+            fault: ColumnFault::Unread(ArrowError::OutOfMemory),
+        });
+    };
+    for (k, column) in columns.iter().enumerate() {
+        match read_field(alloc, scope.dtype(k), column, rows) {
+            Ok(field) => read.push_reserved(field),
+            Err(fault) => return Err(BatchError { column: k, fault }),
+        }
+    }
+    Ok(read)
+}

@@ -1,0 +1,18 @@
+//! Columns, fields and buffers as C has them: a scope of fields, columns that are lent over it, and
+//! rooms for answers.
+#![tactic(auto)]
+
+pub mod batch;
+pub mod fields;
+pub mod kinds;
+pub mod lent;
+pub mod rooms;
+pub mod statuses;
+pub mod texts;
+
+pub use batch::{BatchError, ColumnFault, read_batch};
+pub use fields::{LentField, ScopeError, ScopeFault, read_fields};
+pub use kinds::{Kind, Type, kind_numbered, type_told};
+pub use lent::{LentColumn, LentError, arrow_columns, placed};
+pub use rooms::{Room, RoomError, Size, copy_answer, size_of};
+pub use texts::put_text;

@@ -1,0 +1,4 @@
+pub mod Keeping
+pub mod Faulty
+pub mod Optimized
+pub mod HeldTrees

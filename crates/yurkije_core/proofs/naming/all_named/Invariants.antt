@@ -1,0 +1,10 @@
+use Rattle.std.proofs.Common.{map, take}
+use Rattle.vortex_functions.specs.Walks.{AllMean}
+use Rattle.vortex_expressions.specs.Answers.{answer_in}
+use Rattle.yurkije_core.specs.Programs.{IsHeld}
+use Rattle.yurkije_core.proofs.naming.all_named.Given as goal
+
+-- the answers so far
+abbrev pub invariant-loop-answer : goal.invariant-loop-answer
+invariant-loop-answer l =
+    AllMean IsHeld (map answer_in (take l.answer-index l.list)) l.answers.items

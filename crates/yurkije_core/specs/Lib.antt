@@ -1,0 +1,4 @@
+pub mod Programs
+pub mod Running
+pub mod Statuses
+pub mod Reports

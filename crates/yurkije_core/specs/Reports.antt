@@ -1,0 +1,157 @@
+-- What is told of a refusal, by its numbers, and in words within the caller's bytes.
+use Rattle.std.specs.Prelude.{◌≡◌, ◌≤◌, ◌<◌, ℕ, List, Bool, if◌then◌else◌, take, length, slice_index_or}
+use Rattle.vortex_arrow.specs.declared.error.ArrowError.{ArrowError}
+use Rattle.vortex_arrow.specs.declared.error.ArrowError.TheVariants as arrow
+use Rattle.vortex_expressions.specs.declared.error.ReadError.{ReadError}
+use Rattle.vortex_expressions.specs.Reading.{is_want_of_memory}
+use Rattle.rowfn_scripts.specs.declared.expression.ExpressionError.{ExpressionError}
+use Rattle.rowfn_scripts.specs.declared.expression.ExpressionError.TheVariants as line
+use Rattle.yurkije_columns.specs.declared.batch.ColumnFault.{ColumnFault}
+use Rattle.yurkije_columns.specs.declared.batch.ColumnFault.TheVariants as column
+use Rattle.yurkije_columns.specs.declared.batch.BatchError.{BatchError}
+use Rattle.yurkije_columns.specs.declared.fields.ScopeFault.{ScopeFault}
+use Rattle.yurkije_columns.specs.declared.fields.ScopeFault.TheVariants as scope
+use Rattle.yurkije_columns.specs.declared.fields.ScopeError.{ScopeError}
+use Rattle.yurkije_columns.specs.declared.lent.LentError.{LentError}
+use Rattle.yurkije_columns.specs.declared.lent.LentError.TheVariants as lent
+use Rattle.yurkije_columns.specs.Statuses.{scope_status, column_status}
+use Rattle.yurkije_core.specs.declared.reading.ProgramError.{ProgramError}
+use Rattle.yurkije_core.specs.declared.reading.ProgramError.TheVariants as program
+use Rattle.yurkije_core.specs.declared.running.RunError.{RunError}
+use Rattle.yurkije_core.specs.declared.running.RunError.TheVariants as run
+use Rattle.yurkije_core.specs.declared.report.Report.{Report}
+use Rattle.yurkije_core.specs.declared.report.Told.{Told}
+use Rattle.yurkije_core.specs.Statuses.{program_status, run_status}
+
+-- in the place of a number, where there is none to tell
+abbrev pub none : ℕ
+none = 18446744073709551615
+
+-- a status at no place
+abbrev pub nowhere : ℕ → Told
+nowhere s = record {
+  status = s;
+  answer = none;
+  column = none;
+  row = none;
+  byte = none;
+  line = 0;
+  character = 0;
+}
+
+-- a status of a column, and of a row of it
+abbrev pub of_column : ℕ → ℕ → Told
+of_column k s = record {
+  status = s;
+  answer = none;
+  column = k;
+  row = none;
+  byte = none;
+  line = 0;
+  character = 0;
+}
+
+abbrev pub of_row : ℕ → ℕ → ℕ → Told
+of_row k r s = record {
+  status = s;
+  answer = none;
+  column = k;
+  row = r;
+  byte = none;
+  line = 0;
+  character = 0;
+}
+
+abbrev pub of_line : ℕ → ℕ → Told
+of_line l s = record {
+  status = s;
+  answer = none;
+  column = none;
+  row = none;
+  byte = none;
+  line = l;
+  character = 0;
+}
+
+-- the field that is wrong
+abbrev pub field_told : ℕ → ScopeFault → Told
+field_told k scope.OutOfMemory = nowhere (scope_status scope.OutOfMemory)
+field_told k f = of_column k (scope_status f)
+
+abbrev pub scope_told : ScopeError → Told
+scope_told e = field_told e.field e.fault
+
+-- the place in the text
+abbrev pub text_told : ReadError → ℕ → Told
+text_told e s =
+    if is_want_of_memory e then nowhere s
+    else record {
+      status = s;
+      answer = none;
+      column = none;
+      row = none;
+      byte = e.byte;
+      line = e.line;
+      character = e.column;
+    }
+
+-- the line
+abbrev pub lines_told : ExpressionError → ℕ → Told
+lines_told (line.Refused l e) s = of_line l s
+lines_told (line.Malformed l expected) s = of_line l s
+lines_told line.OutOfMemory s = nowhere s
+
+abbrev pub program_told : ProgramError → Told
+program_told program.NotUtf8 = nowhere (program_status program.NotUtf8)
+program_told (program.Text e) = text_told e (program_status (program.Text e))
+program_told (program.Lines e) = lines_told e (program_status (program.Lines e))
+program_told program.OutOfMemory = nowhere (program_status program.OutOfMemory)
+
+-- the column, and the row where one is wrong
+abbrev pub arrow_told : ℕ → ArrowError → ℕ → Told
+arrow_told k (arrow.UnexpectedNull r) s = of_row k r s
+arrow_told k (arrow.InvalidValue r f) s = of_row k r s
+arrow_told k (arrow.NotUtf8 r) s = of_row k r s
+arrow_told k arrow.OutOfMemory s = nowhere s
+arrow_told k e s = of_column k s
+
+abbrev pub fault_told : ℕ → ColumnFault → Told
+fault_told k (column.Unread e) = arrow_told k e (column_status (column.Unread e))
+fault_told k f = of_column k (column_status f)
+
+abbrev pub batch_told : BatchError → Told
+batch_told e = fault_told e.column e.fault
+
+abbrev pub lent_told : LentError → Told
+lent_told (lent.UnknownKind k) = of_column k 102
+lent_told lent.OutOfMemory = nowhere 9
+
+-- the row and the answer that faults in it
+abbrev pub run_told : RunError → Told
+run_told (run.Batch e) = batch_told e
+run_told (run.Fault r k e) = record {
+  status = run_status (run.Fault r k e);
+  answer = k;
+  column = none;
+  row = r;
+  byte = none;
+  line = 0;
+  character = 0;
+}
+run_told e = nowhere (run_status e)
+
+-- the report has the numbers
+pub record Tells (r : Report) (t : Told) : Type 0 where
+  pub status : r.status ≡ t.status
+  pub answer : r.answer ≡ t.answer
+  pub column : r.column ≡ t.column
+  pub row : r.row ≡ t.row
+  pub byte : r.byte ≡ t.byte
+  pub line : r.line ≡ t.line
+  pub character : r.character ≡ t.character
+
+-- so many bytes of the words stand in the caller's, and a zero behind them, if there is room for it
+pub record IsMessage (words message : List ℕ) (n : ℕ) : Type 0 where
+  pub within : n ≤ length message
+  pub said : take n message ≡ take n words
+  pub ended : 0 < length message → slice_index_or message n 1 ≡ 0

@@ -1,0 +1,45 @@
+-- The numbers of what is refused.
+use Rattle.std.specs.Prelude.{ℕ}
+use Rattle.vortex_errors.specs.Errors.{number_of}
+use Rattle.vortex_expressions.specs.declared.error.ReadError.{ReadError}
+use Rattle.vortex_expressions.specs.declared.error.Reason.{Reason}
+use Rattle.vortex_expressions.specs.declared.error.Reason.TheVariants as reason
+use Rattle.vortex_expressions.specs.declared.refusal.Refusal.{Refusal}
+use Rattle.vortex_expressions.specs.declared.refusal.Refusal.TheVariants as refusal
+use Rattle.rowfn_scripts.specs.declared.expression.ExpressionError.{ExpressionError}
+use Rattle.rowfn_scripts.specs.declared.expression.ExpressionError.TheVariants as line
+use Rattle.yurkije_columns.specs.Statuses.{column_status}
+use Rattle.yurkije_core.specs.declared.reading.ProgramError.{ProgramError}
+use Rattle.yurkije_core.specs.declared.reading.ProgramError.TheVariants as program
+use Rattle.yurkije_core.specs.declared.running.RunError.{RunError}
+use Rattle.yurkije_core.specs.declared.running.RunError.TheVariants as run
+
+abbrev pub refusal_status : Refusal → ℕ
+refusal_status refusal.NotUtf8 = 110
+refusal_status refusal.UnknownType = 113
+refusal_status refusal.NotHeld = 114
+refusal_status refusal.UntypedNull = 115
+refusal_status refusal.NoEscape = 116
+refusal_status refusal.NoCast = 117
+refusal_status (refusal.Binding e) = number_of e
+
+abbrev pub reason_status : Reason → ℕ
+reason_status (reason.Refused r) = refusal_status r
+reason_status r = 112
+
+abbrev pub lines_status : ExpressionError → ℕ
+lines_status (line.Refused n e) = number_of e
+lines_status (line.Malformed n expected) = 112
+lines_status line.OutOfMemory = 9
+
+abbrev pub program_status : ProgramError → ℕ
+program_status program.NotUtf8 = 110
+program_status (program.Text e) = reason_status e.reason
+program_status (program.Lines e) = lines_status e
+program_status program.OutOfMemory = 9
+
+abbrev pub run_status : RunError → ℕ
+run_status (run.Batch e) = column_status e.fault
+run_status (run.Fault row k e) = number_of e
+run_status (run.Refused e) = number_of e
+run_status run.OutOfMemory = 9

@@ -1,0 +1,15 @@
+//! Expressions that are read once and run over batches of columns that a caller lends: what the C
+//! interface calls, without its handles.
+#![tactic(auto)]
+
+mod naming;
+pub mod program;
+pub mod reading;
+pub mod report;
+pub mod running;
+pub mod statuses;
+
+pub use program::Program;
+pub use reading::{ProgramError, read_lines, read_program};
+pub use report::{NONE, Report, Told, lent_words, program_words, run_words, scope_words};
+pub use running::{RunError, run_program};

@@ -1,0 +1,323 @@
+//! What is told of a refusal: numbers, and words in a caller's bytes.
+ghost use Rattle.std.specs.Prelude.{◌≡◌};
+ghost use Rattle.yurkije_core.specs.Reports.{nowhere, of_column, of_row, of_line, scope_told};
+ghost use Rattle.yurkije_core.specs.Reports.{text_told, lines_told, program_told, arrow_told};
+ghost use Rattle.yurkije_core.specs.Reports.{batch_told, lent_told, run_told, IsMessage, Tells};
+
+use crate::program::Program;
+use crate::reading::ProgramError;
+use crate::running::RunError;
+use crate::statuses::{program_status, run_status};
+use rowfn_scripts::ExpressionError;
+use std::alloc::Global;
+use vortex_arrow::ArrowError;
+use vortex_expressions::ReadError;
+use yurkije_columns::statuses::{column_status, scope_status};
+use yurkije_columns::{BatchError, ColumnFault, LentError, ScopeError, ScopeFault, put_text};
+
+/// Where there is no answer, column, row or byte to tell.
+pub const NONE: usize = usize::MAX;
+
+/// Why a call is refused, as C has it: the caller's bytes for a message, and numbers that the call
+/// sets.
+#[repr(C)]
+#[derive(Drop)]
+pub struct Report<'a> {
+    pub status: u32,
+    pub answer: usize,
+    pub column: usize,
+    pub row: usize,
+    pub byte: usize,
+    pub line: usize,
+    pub character: usize,
+    pub message: &'a mut [u8],
+    pub message_length: usize,
+}
+
+/// The numbers of a refusal.
+#[derive(Clone, Copy, Debug, Drop, PartialEq, Eq)]
+pub struct Told {
+    pub status: u32,
+    pub answer: usize,
+    pub column: usize,
+    pub row: usize,
+    pub byte: usize,
+    pub line: usize,
+    pub character: usize,
+}
+
+impl Told {
+    /// A status at no place.
+    pub fn of(status: u32) -> Told
+        ensures { result ≡ nowhere status }
+    {
+        Told {
+            status,
+            answer: NONE,
+            column: NONE,
+            row: NONE,
+            byte: NONE,
+            line: 0,
+            character: 0,
+        }
+    }
+
+    /// A status of a column.
+    fn of_column(column: usize, status: u32) -> Told
+        ensures { result ≡ of_column column status }
+    {
+        Told {
+            column,
+            ..Told::of(status)
+        }
+    }
+
+    /// A status of a row of a column.
+    fn of_row(column: usize, row: usize, status: u32) -> Told
+        ensures { result ≡ of_row column row status }
+    {
+        Told {
+            column,
+            row,
+            ..Told::of(status)
+        }
+    }
+
+    /// A status of a line.
+    fn of_line(line: usize, status: u32) -> Told
+        ensures { result ≡ of_line line status }
+    {
+        Told {
+            line,
+            ..Told::of(status)
+        }
+    }
+
+    /// What is told of fields that are no scope.
+    pub fn of_scope(error: ScopeError) -> Told
+        ensures { result ≡ scope_told error }
+    {
+        let status = scope_status(error.fault);
+        match error.fault {
+            ScopeFault::OutOfMemory => Told::of(status),
+            _ => Told::of_column(error.field, status),
+        }
+    }
+
+    /// What is told of a text that is refused.
+    fn of_text(error: &ReadError, status: u32) -> Told
+        ensures { result ≡ text_told error.now status }
+    {
+        if error.is_out_of_memory() {
+            return Told::of(status);
+        }
+        Told {
+            byte: error.byte,
+            line: error.line,
+            character: error.column,
+            ..Told::of(status)
+        }
+    }
+
+    /// What is told of lines that are refused.
+    fn of_lines(error: &ExpressionError, status: u32) -> Told
+        ensures { result ≡ lines_told error.now status }
+    {
+        match error {
+            ExpressionError::Refused { line, error: _ } => Told::of_line(*line, status),
+            ExpressionError::Malformed { line, expected: _ } => Told::of_line(*line, status),
+            ExpressionError::OutOfMemory => Told::of(status),
+        }
+    }
+
+    /// What is told of a text that is no program.
+    pub fn of_program(error: &ProgramError) -> Told
+        ensures { result ≡ program_told error.now }
+    {
+        let status = program_status(error);
+        match error {
+            ProgramError::Text(error) => Told::of_text(error, status),
+            ProgramError::Lines(error) => Told::of_lines(error, status),
+            ProgramError::NotUtf8 => Told::of(status),
+            ProgramError::OutOfMemory => Told::of(status),
+        }
+    }
+
+    /// What is told of a column whose buffers are refused.
+    fn of_arrow(column: usize, error: ArrowError, status: u32) -> Told
+        ensures { result ≡ arrow_told column error status }
+    {
+        match error {
+            ArrowError::UnexpectedNull { row } => Told::of_row(column, row, status),
+            ArrowError::InvalidValue { row, fault: _ } => Told::of_row(column, row, status),
+            ArrowError::NotUtf8 { row } => Told::of_row(column, row, status),
+            ArrowError::OutOfMemory => Told::of(status),
+            _ => Told::of_column(column, status),
+        }
+    }
+
+    /// What is told of a batch of which a column is wrong.
+    fn of_batch(error: BatchError) -> Told
+        ensures { result ≡ batch_told error }
+    {
+        let status = column_status(error.fault);
+        match error.fault {
+            ColumnFault::Unread(fault) => Told::of_arrow(error.column, fault, status),
+            _ => Told::of_column(error.column, status),
+        }
+    }
+
+    /// What is told of columns that are not taken.
+    pub fn of_lent(error: LentError) -> Told
+        ensures { result ≡ lent_told error }
+    {
+        match error {
+            LentError::UnknownKind { column } => Told::of_column(column, 102),
+            LentError::OutOfMemory => Told::of(9),
+        }
+    }
+
+    /// What is told of a run that answers nothing.
+    pub fn of_run(error: &RunError) -> Told
+        ensures { result ≡ run_told error.now }
+    {
+        let status = run_status(error);
+        match error {
+            RunError::Batch(error) => Told::of_batch(*error),
+            RunError::Fault {
+                row,
+                answer,
+                error: _,
+            } => Told {
+                row: *row,
+                answer: *answer,
+                ..Told::of(status)
+            },
+            RunError::Refused(_) => Told::of(status),
+            RunError::OutOfMemory => Told::of(status),
+        }
+    }
+}
+
+/// The words for a field that is wrong; no bytes where memory is refused.
+pub fn scope_words(alloc: Global, error: ScopeError) -> String {
+    let field = error.field;
+    let words = match error.fault {
+        ScopeFault::UnknownKind => format!(in alloc; "field {field}: no kind has that number"),
+        ScopeFault::NotUtf8 => format!(in alloc; "field {field}: its name is not UTF-8"),
+        ScopeFault::NameTwice => format!(in alloc; "field {field}: a field before it has its name"),
+        ScopeFault::OutOfMemory => String::from_str(alloc, "out of memory"),
+    };
+    words.unwrap_or(String::new(alloc))
+}
+
+/// The words for a text that is no program.
+pub fn program_words(alloc: Global, error: &ProgramError) -> String {
+    let words = match error {
+        ProgramError::NotUtf8 => String::from_str(alloc, "the text is not UTF-8"),
+        ProgramError::Text(error) => format!(in alloc; "{error}"),
+        ProgramError::Lines(error) => format!(in alloc; "{error}"),
+        ProgramError::OutOfMemory => String::from_str(alloc, "out of memory"),
+    };
+    words.unwrap_or(String::new(alloc))
+}
+
+/// The name of a field, or none where there is no such field.
+fn field_named(program: &Program, field: usize) -> &str {
+    if field < program.scope.len() {
+        program.scope.name(field)
+    } else {
+        ""
+    }
+}
+
+/// The words for a column that is wrong.
+fn batch_words(alloc: Global, program: &Program, error: BatchError, rows: usize) -> String {
+    let column = error.column;
+    let name = field_named(program, column);
+    let words = match error.fault {
+        ColumnFault::Missing => format!(in alloc; "column {column} ({name}): missing"),
+        ColumnFault::Unasked => format!(in alloc; "column {column}: there is no field for it"),
+        ColumnFault::OtherType => {
+            format!(in alloc; "column {column} ({name}): of another type than the field")
+        }
+        ColumnFault::OtherLength { rows: length } => {
+            format!(in alloc; "column {column} ({name}): {length} rows in a batch of {rows}")
+        }
+        ColumnFault::Unread(error) => format!(in alloc; "column {column} ({name}): {error}"),
+    };
+    words.unwrap_or(String::new(alloc))
+}
+
+/// The words for columns that are not taken.
+pub fn lent_words(alloc: Global, error: LentError) -> String {
+    let words = match error {
+        LentError::UnknownKind { column } => {
+            format!(in alloc; "column {column}: no kind has that number")
+        }
+        LentError::OutOfMemory => String::from_str(alloc, "out of memory"),
+    };
+    words.unwrap_or(String::new(alloc))
+}
+
+/// The name of an answer, or none where there is no such answer.
+fn answer_named(program: &Program, answer: usize) -> &str {
+    match program.written.get(answer) {
+        Some(answer) => answer.name.as_str(),
+        None => "",
+    }
+}
+
+/// The words for a run that answers nothing.
+pub fn run_words(alloc: Global, program: &Program, error: &RunError, rows: usize) -> String {
+    let words = match error {
+        RunError::Batch(error) => return batch_words(alloc, program, *error, rows),
+        RunError::Fault { row, answer, error } => {
+            let name = answer_named(program, *answer);
+            format!(in alloc; "row {row}, answer {answer} ({name}): {error}")
+        }
+        RunError::Refused(error) => format!(in alloc; "{error}"),
+        RunError::OutOfMemory => String::from_str(alloc, "out of memory"),
+    };
+    words.unwrap_or(String::new(alloc))
+}
+
+/// Writes the words into the caller's bytes, ended by a NUL where there is room for one, and tells
+/// how many bytes they take without it.
+fn put_message(words: &str, message: &mut [u8]) -> usize
+    ensures { IsMessage words.now message.new result }
+{
+    let Some(room) = message.len().checked_sub(1) else {
+        return 0;
+    };
+    let count = put_text(words, &mut message[..room]);
+    message[count] = 0;
+    count
+}
+
+impl Report<'_> {
+    /// Tells a refusal, and answers its status.
+    pub fn tell(&mut self, told: Told, words: &str) -> u32
+        ensures status { result ≡ told.status }
+        ensures told { Tells self.new told }
+        ensures message { IsMessage words.now self.new.message.now self.new.message_length }
+    {
+        self.status = told.status;
+        self.answer = told.answer;
+        self.column = told.column;
+        self.row = told.row;
+        self.byte = told.byte;
+        self.line = told.line;
+        self.character = told.character;
+        self.message_length = put_message(words, self.message);
+        told.status
+    }
+
+    /// Tells that nothing is refused.
+    pub fn clear(&mut self) -> u32
+        ensures status { result ≡ 0 }
+        ensures told { Tells self.new (nowhere 0) }
+    {
+        self.tell(Told::of(0), "")
+    }
+}

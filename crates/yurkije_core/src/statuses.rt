@@ -1,0 +1,88 @@
+//! The numbers that the C interface has for what is refused.
+ghost use Rattle.std.specs.Prelude.{◌≡◌};
+ghost use Rattle.vortex_errors.specs.Errors.{number_of};
+ghost use Rattle.yurkije_core.specs.Statuses.{refusal_status, reason_status, lines_status};
+ghost use Rattle.yurkije_core.specs.Statuses.{program_status, run_status};
+
+use crate::reading::ProgramError;
+use crate::running::RunError;
+use rowfn_scripts::ExpressionError;
+use vortex_columns::VortexError;
+use vortex_expressions::{Reason, Refusal};
+use yurkije_columns::statuses::column_status;
+
+/// 1 to 13 for E1 to E13.
+fn error_status(error: &VortexError) -> u32
+    ensures { result ≡ number_of error.now }
+{
+    error.number() as u32
+}
+
+/// The number of a text that is well written and refused.
+fn refusal_status(refusal: &Refusal) -> u32
+    ensures { result ≡ refusal_status refusal.now }
+{
+    match refusal {
+        Refusal::NotUtf8 => 110,
+        Refusal::UnknownType => 113,
+        Refusal::NotHeld => 114,
+        Refusal::UntypedNull => 115,
+        Refusal::NoEscape => 116,
+        Refusal::NoCast => 117,
+        Refusal::Binding(error) => error_status(error),
+    }
+}
+
+/// The number of a text that is no expression.
+fn reason_status(reason: &Reason) -> u32
+    ensures { result ≡ reason_status reason.now }
+{
+    match reason {
+        Reason::NoToken => 112,
+        Reason::Unexpected(_) => 112,
+        Reason::TooDeep => 112,
+        Reason::Refused(refusal) => refusal_status(refusal),
+    }
+}
+
+/// The number of lines that are no expression.
+fn lines_status(error: &ExpressionError) -> u32
+    ensures { result ≡ lines_status error.now }
+{
+    match error {
+        ExpressionError::Refused { line: _, error } => error_status(error),
+        ExpressionError::Malformed {
+            line: _,
+            expected: _,
+        } => 112,
+        ExpressionError::OutOfMemory => 9,
+    }
+}
+
+/// The number of a text that is no program.
+pub fn program_status(error: &ProgramError) -> u32
+    ensures { result ≡ program_status error.now }
+{
+    match error {
+        ProgramError::NotUtf8 => 110,
+        ProgramError::Text(error) => reason_status(&error.reason),
+        ProgramError::Lines(error) => lines_status(error),
+        ProgramError::OutOfMemory => 9,
+    }
+}
+
+/// The number of a run that answers nothing.
+pub fn run_status(error: &RunError) -> u32
+    ensures { result ≡ run_status error.now }
+{
+    match error {
+        RunError::Batch(error) => column_status(error.fault),
+        RunError::Fault {
+            row: _,
+            answer: _,
+            error,
+        } => error_status(error),
+        RunError::Refused(error) => error_status(error),
+        RunError::OutOfMemory => 9,
+    }
+}

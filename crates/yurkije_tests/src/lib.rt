@@ -1,0 +1,11 @@
+//! Tests of expressions over columns that a C caller lends, on the examples of Arrow's own page.
+#![tactic(auto)]
+
+#[cfg(test)]
+mod lending;
+#[cfg(test)]
+mod reading;
+#[cfg(test)]
+mod rooms;
+#[cfg(test)]
+mod running;
