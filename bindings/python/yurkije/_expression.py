@@ -5,6 +5,7 @@ import ctypes as c
 import re
 import threading
 from collections.abc import Iterator, Mapping
+from functools import cached_property
 from typing import Any, Optional, Union
 
 import numpy as np
@@ -146,6 +147,11 @@ class Expression:
         self._local.program = program
         return program
 
+    @cached_property
+    def answers(self) -> tuple[Answer, ...]:
+        """The names and types of the answers."""
+        return tuple(Answer(*told) for told in self._typed(lib.yk_answer_count, lib.yk_answer_name, lib.yk_answer_type))
+
     def _handle(self) -> Handle:
         program = self._local.program or self._begin()
         return program.raw
@@ -165,11 +171,6 @@ class Expression:
     def columns(self) -> dict[str, str]:
         """The columns that are read, with their types."""
         return dict(self._read)
-
-    @property
-    def answers(self) -> tuple[Answer, ...]:
-        """The names and types of the answers."""
-        return tuple(Answer(*told) for told in self._typed(lib.yk_answer_count, lib.yk_answer_name, lib.yk_answer_type))
 
     def text_of_answer(self, answer: int, optimized: bool = False) -> str:
         """Returns the text of an answer, as it was read or as it is run."""
