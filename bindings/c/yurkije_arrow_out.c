@@ -232,7 +232,7 @@ static uint32_t run_batch(struct yk_expression *expression, const struct yk_colu
 /* Whether each column has the rows of the batch, so that it can be cut. */
 static bool can_cut(const struct yk_column *columns, size_t count, size_t rows) {
     for (size_t i = 0; i < count; i++)
-        if (columns[i].rows != rows || columns[i].offset > SIZE_MAX - rows)
+        if (columns[i].rows != rows)
             return false;
     return true;
 }
