@@ -6,7 +6,7 @@ import tempfile
 import unittest
 
 import numpy as np
-from yurkije import ColumnError, Error, Expression, ExpressionError, Stream, evaluate
+from yurkije import ColumnError, Error, Expression, ExpressionError, Stream, evaluate, select
 from yurkije import _capsules as capsules
 
 try:
@@ -40,9 +40,11 @@ class Capsules(unittest.TestCase):
         for _ in range(2):
             second = evaluate("more * 2 as twice, t, big, none", first)
             self.assertEqual(second["twice"].tolist(), [4, 6, None])
+            self.assertEqual(Expression.of("more + 1", first).columns, {"more": "i64?"})
             self.assertEqual(second["t"].tolist(), ["x", None, "a text of more than twelve bytes"])
             self.assertEqual(second["big"].tolist(), [False, True, None])
             self.assertEqual(second["none"].tolist(), [None] * 3)
+            self.assertEqual(select("twice > 4 and t is not null or big is null", second).tolist(), [2])
         del first
         gc.collect()
         self.assertEqual(second["twice"].tolist(), [4, 6, None])
