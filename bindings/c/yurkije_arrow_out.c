@@ -219,8 +219,8 @@ static struct yk_column slice(const struct yk_column *column, size_t start, size
 }
 
 /* Runs a batch of columns whose rows begin there. Rows are told by their number in all. */
-static uint32_t run_batch(struct yk_expression *expression, const struct yk_column *columns, struct yk_column *parts,
-                          size_t count, size_t start, size_t rows, struct yk_answers *answers, struct yk_error *error) {
+static uint32_t run_batch(struct yk_expression *expression, const struct yk_column *columns, struct yk_column *parts, size_t count,
+    size_t start, size_t rows, struct yk_answers *answers, struct yk_error *error) {
     for (size_t i = 0; i < count; i++)
         parts[i] = slice(&columns[i], start, rows);
     uint32_t status = yk_run(expression, parts, count, rows, answers, error);
@@ -254,8 +254,8 @@ static void *make_hole(size_t columns) {
 }
 
 /* Runs the columns a batch at a time; where they cannot be cut, whole, which is refused. */
-static uint32_t run_batches(struct yk_expression *expression, const struct yk_column *columns, size_t count, size_t rows,
-                            each_batch *each, void *to, struct yk_error *error) {
+static uint32_t run_batches(struct yk_expression *expression, const struct yk_column *columns, size_t count, size_t rows, each_batch *each,
+    void *to, struct yk_error *error) {
     struct yk_answers answers = {0};
     bool cut = can_cut(columns, count, rows);
     struct yk_column *parts = malloc(count * sizeof *parts + 1);
@@ -267,7 +267,7 @@ static uint32_t run_batches(struct yk_expression *expression, const struct yk_co
         status = cut ? run_batch(expression, columns, parts, count, start, part, &answers, error)
                      : yk_run(expression, columns, count, rows, &answers, error);
         if (!status && (status = each(to, &answers, start, part)))
-            yk_refuse(error, status, YK_NONE, "%s", status == YK_OUT_OF_MEMORY ? "E9 OutOfMemory" : "an answer is not copied");
+            yk_refuse(error, status, YK_NONE, "%s", status == YK_OUT_OF_MEMORY ? "out of memory" : "an answer is not copied");
         start += part;
         if (rows == 0)
             break;
@@ -311,7 +311,7 @@ static uint32_t make_children(struct yk_expression *expression, size_t count, si
 }
 
 uint32_t yk_arrow_answer(struct yk_expression *expression, const struct yk_column *columns, size_t count, size_t rows,
-                         struct ArrowArray *out, struct yk_error *error) {
+    struct ArrowArray *out, struct yk_error *error) {
     size_t answers = 0;
     yk_reset(error);
     *out = (struct ArrowArray){.length = (int64_t)rows, .n_buffers = 1, .buffers = no_validity, .release = release_array};
@@ -321,7 +321,7 @@ uint32_t yk_arrow_answer(struct yk_expression *expression, const struct yk_colum
     if (!status)
         status = out->children && collected.kinds ? make_children(expression, answers, rows, &collected) : YK_OUT_OF_MEMORY;
     if (status)
-        yk_refuse(error, status, YK_NONE, "%s", status == YK_OUT_OF_MEMORY ? "E9 OutOfMemory" : "the answers are not collected");
+        yk_refuse(error, status, YK_NONE, "%s", status == YK_OUT_OF_MEMORY ? "out of memory" : "the answers are not collected");
     else
         status = run_batches(expression, columns, count, rows, append_all, &collected, error);
     for (int64_t i = 0; !status && i < out->n_children; i++)
@@ -386,8 +386,8 @@ static uint32_t append_rows(void *to, struct yk_answers *answers, size_t start, 
     return status;
 }
 
-uint32_t yk_arrow_select(struct yk_expression *expression, size_t answer, const struct yk_column *columns, size_t count,
-                         size_t rows, uint64_t *numbers, size_t *selected, struct yk_error *error) {
+uint32_t yk_arrow_select(struct yk_expression *expression, size_t answer, const struct yk_column *columns, size_t count, size_t rows,
+    uint64_t *numbers, size_t *selected, struct yk_error *error) {
     struct selection selection = {answer, numbers, 0};
     yk_reset(error);
     uint32_t status = run_batches(expression, columns, count, rows, append_rows, &selection, error);

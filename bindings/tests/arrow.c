@@ -149,8 +149,17 @@ static void untaken(void) {
     struct yk_error error = new_error();
     make_batch();
     static const char *const cases[][2] = {
-        {"g", "float64"}, {"f", "float32"}, {"d:10,2", "decimal"}, {"tdD", "date32"}, {"tsu:UTC", "timestamp"}, {"ttm", "time"},
-        {"+l", "list"}, {"n", "null"}, {"w:16", "fixed-size binary"}, {"+s", "struct"}, {"?", "unknown"},
+        {"g", "float64"},
+        {"f", "float32"},
+        {"d:10,2", "decimal"},
+        {"tdD", "date32"},
+        {"tsu:UTC", "timestamp"},
+        {"ttm", "time"},
+        {"+l", "list"},
+        {"n", "null"},
+        {"w:16", "fixed-size binary"},
+        {"+s", "struct"},
+        {"?", "unknown"},
     };
     for (size_t i = 0; i < COUNT(cases); i++) {
         schemas[5].format = cases[i][0];
@@ -175,10 +184,10 @@ static void malformed(void) {
     struct ArrowSchema schema;
     struct ArrowArray out;
     struct yk_error error = new_error();
-#define MALFORMED(change)                                                                                                  \
-    make_batch();                                                                                                          \
-    change;                                                                                                                \
-    SAME(run("n, t, v", &schema, &out, &error), YK_MALFORMED_ARRAY);                                                       \
+#define MALFORMED(change)                                                                                                                  \
+    make_batch();                                                                                                                          \
+    change;                                                                                                                                \
+    SAME(run("n, t, v", &schema, &out, &error), YK_MALFORMED_ARRAY);                                                                       \
     release(&schema, &out)
     static const void *no_values[] = {NULL, NULL, NULL}, *no_lengths[] = {NULL, views, data, NULL};
     MALFORMED(arrays[0].length = 3);
@@ -266,8 +275,9 @@ static void long_texts(void) {
     memset(not_null, 0x7f, sizeof not_null);
     struct yk_field fields[] = {field("t", YK_UTF8, false), field("b", YK_BOOL, true)};
     struct yk_expression expression = read_expression("t, b", fields, 2);
-    struct yk_column in[] = {{.kind = YK_UTF8, .rows = rows, .offsets32 = {text_ends, rows + 1}, .data = {(const uint8_t *)texts, sizeof texts}},
-                             {.kind = YK_BOOL, .rows = rows, .nullable = true, .bools = {truths, sizeof truths}, .validity = {not_null, sizeof not_null}}};
+    struct yk_column in[] = {
+        {.kind = YK_UTF8, .rows = rows, .offsets32 = {text_ends, rows + 1}, .data = {(const uint8_t *)texts, sizeof texts}},
+        {.kind = YK_BOOL, .rows = rows, .nullable = true, .bools = {truths, sizeof truths}, .validity = {not_null, sizeof not_null}}};
     struct ArrowArray out;
     struct yk_error error = new_error();
     size_t count = 0, wrong = 0;
@@ -285,7 +295,11 @@ static void long_texts(void) {
 }
 
 /* A stream of the batch, so many times, and then an error or the end. */
-struct source { int left; bool fails; bool *released; };
+struct source {
+    int left;
+    bool fails;
+    bool *released;
+};
 
 static int batches_released;
 

@@ -49,7 +49,10 @@ static void loop(size_t rows) {
 }
 
 int main(void) {
-    static const struct { const char *name; void (*call)(size_t); } forms[] = {{"yk_run and yk_answer_copy", library}, {"a copy of both columns", copies}, {"a loop in C", loop}};
+    static const struct {
+        const char *name;
+        void (*call)(size_t);
+    } forms[] = {{"yk_run and yk_answer_copy", library}, {"a copy of both columns", copies}, {"a loop in C", loop}};
     struct yk_field fields[] = {field("a", YK_I64, false), field("b", YK_I64, false)};
     expression = read_expression("a < b", fields, 2);
     for (size_t i = 0; i < most; i++)
@@ -67,7 +70,8 @@ int main(void) {
                 times[run] = (now() - start) / (double)inner;
             }
             qsort(times, runs, sizeof *times, by_size);
-            printf("%6zu rows  %-26s %9.0f ns a call  %6.3f ns a row\n", rows, forms[form].name, times[runs / 2], times[runs / 2] / (double)rows);
+            printf("%6zu rows  %-26s %9.0f ns a call  %6.3f ns a row\n", rows, forms[form].name, times[runs / 2],
+                times[runs / 2] / (double)rows);
         }
     }
     yk_answers_free(&answers);

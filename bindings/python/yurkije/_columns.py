@@ -113,7 +113,8 @@ def _of_objects(name: str, values: list[Any], wanted: Optional[str]) -> Borrowed
     classes.discard(type(None))
     kind = wanted or (TYPES.get(min(classes, key=_place_in(values))) if classes else None)
     if kind is None:
-        raise refuse(name, f"{min(classes, key=_place_in(values)).__name__} is not taken" if classes else "every row is null, and no type is said")
+        first = min(classes, key=_place_in(values)).__name__ if classes else ""
+        raise refuse(name, f"{first} is not taken" if classes else "every row is null, and no type is said")
     allowed = CLASSES.get(kind, (int, np.integer))
     if not all(issubclass(it, allowed) and not (it is bool and kind != "bool") for it in classes):
         raise refuse(name, f"{_other_than(values, allowed, kind)!r} is no {kind}")
