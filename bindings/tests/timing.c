@@ -57,10 +57,9 @@ int main(void) {
     expression = read_expression("a < b", fields, 2);
     for (size_t i = 0; i < most; i++)
         a[i] = rand() % 100, b[i] = rand() % 100;
-    for (size_t rows = 64; rows <= most; rows *= 8) {
-        if (rows == 32768)
-            rows = 65536;
-        size_t inner = 4000000 / rows;
+    static const size_t sizes[] = {64, 1024, 8192, most};
+    for (size_t size = 0; size < COUNT(sizes); size++) {
+        size_t rows = sizes[size], inner = 4000000 / rows;
         for (size_t form = 0; form < COUNT(forms); form++) {
             double times[runs];
             for (int run = 0; run < runs; run++) {
