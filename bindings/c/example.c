@@ -56,7 +56,9 @@ int main(void) {
     static const char text[] = "price * stock as worth, price > 2 and stock > 5 and name like '%t' as chosen";
     int64_t prices[] = {3, 12, 10}, stocks[] = {7, 0, 6};
     int32_t ends[] = {0, 3, 7, 10};
-    const char names[] = "nut" "bolt" "bit";
+    const char names[] = "nut"
+                         "bolt"
+                         "bit";
     uint8_t stocks_valid[] = {0x5}; /* rows 0 and 2 are not null */
 
     /* Handles are zeroed; the message has room of the caller's. */

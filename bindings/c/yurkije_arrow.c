@@ -7,11 +7,21 @@
 #include <string.h>
 
 static const struct layout layouts[] = {
-    {"b", YK_BOOL, 2, 0},        {"c", YK_I8, 2, 1},          {"s", YK_I16, 2, 2},
-    {"i", YK_I32, 2, 4},         {"l", YK_I64, 2, 8},         {"C", YK_U8, 2, 1},
-    {"S", YK_U16, 2, 2},         {"I", YK_U32, 2, 4},         {"L", YK_U64, 2, 8},
-    {"u", YK_UTF8, 3, 4},        {"U", YK_LARGE_UTF8, 3, 8},  {"z", YK_BINARY, 3, 4},
-    {"Z", YK_LARGE_BINARY, 3, 8}, {"vu", YK_UTF8_VIEW, 3, 1}, {"vz", YK_BINARY_VIEW, 3, 1},
+    {"b", YK_BOOL, 2, 0},
+    {"c", YK_I8, 2, 1},
+    {"s", YK_I16, 2, 2},
+    {"i", YK_I32, 2, 4},
+    {"l", YK_I64, 2, 8},
+    {"C", YK_U8, 2, 1},
+    {"S", YK_U16, 2, 2},
+    {"I", YK_U32, 2, 4},
+    {"L", YK_U64, 2, 8},
+    {"u", YK_UTF8, 3, 4},
+    {"U", YK_LARGE_UTF8, 3, 8},
+    {"z", YK_BINARY, 3, 4},
+    {"Z", YK_LARGE_BINARY, 3, 8},
+    {"vu", YK_UTF8_VIEW, 3, 1},
+    {"vz", YK_BINARY_VIEW, 3, 1},
 };
 
 static const size_t layout_count = sizeof layouts / sizeof *layouts;
@@ -33,13 +43,28 @@ const struct layout *yk_layout_of_kind(uint32_t kind) {
 /* The name of a format that is not taken: the longest beginning that stands here. */
 static const char *format_name(const char *format) {
     static const char *const names[][2] = {
-        {"n", "null"},          {"e", "float16"},       {"f", "float32"},     {"g", "float64"},
-        {"d:", "decimal"},      {"w:", "fixed-size binary"},
-        {"tdD", "date32"},      {"tdm", "date64"},      {"tt", "time"},       {"ts", "timestamp"},
-        {"tD", "duration"},     {"ti", "interval"},     {"+l", "list"},       {"+L", "large list"},
-        {"+vl", "list view"},   {"+vL", "large list view"}, {"+w:", "fixed-size list"},
-        {"+s", "struct"},       {"+m", "map"},          {"+ud:", "dense union"},
-        {"+us:", "sparse union"}, {"+r", "run-end encoded"},
+        {"n", "null"},
+        {"e", "float16"},
+        {"f", "float32"},
+        {"g", "float64"},
+        {"d:", "decimal"},
+        {"w:", "fixed-size binary"},
+        {"tdD", "date32"},
+        {"tdm", "date64"},
+        {"tt", "time"},
+        {"ts", "timestamp"},
+        {"tD", "duration"},
+        {"ti", "interval"},
+        {"+l", "list"},
+        {"+L", "large list"},
+        {"+vl", "list view"},
+        {"+vL", "large list view"},
+        {"+w:", "fixed-size list"},
+        {"+s", "struct"},
+        {"+m", "map"},
+        {"+ud:", "dense union"},
+        {"+us:", "sparse union"},
+        {"+r", "run-end encoded"},
     };
     for (size_t i = 0; i < sizeof names / sizeof *names; i++)
         if (strncmp(names[i][0], format, strlen(names[i][0])) == 0)
@@ -76,9 +101,7 @@ uint32_t yk_refuse(struct yk_error *error, uint32_t status, size_t column, const
     return status;
 }
 
-uint32_t yk_refuse_memory(struct yk_error *error) {
-    return yk_refuse(error, YK_OUT_OF_MEMORY, YK_NONE, "E9 OutOfMemory");
-}
+uint32_t yk_refuse_memory(struct yk_error *error) { return yk_refuse(error, YK_OUT_OF_MEMORY, YK_NONE, "out of memory"); }
 
 /* Where a message tells that row: at its start, or else behind the name of a column, which may say anything. */
 static char *find_row(char *words, const char *row) {
@@ -117,13 +140,11 @@ uint32_t yk_arrow_field(const struct ArrowSchema *schema, struct yk_field *field
         field->nullable = (schema->flags & ARROW_FLAG_NULLABLE) != 0;
         return YK_OK;
     }
-    return yk_refuse(error, YK_UNTAKEN_FORMAT, YK_NONE, "column \"%.200s\": Arrow's format %.40s, %s, is not taken",
-                  name_of(schema), schema->format, layout ? "in a dictionary," : format_name(schema->format));
+    return yk_refuse(error, YK_UNTAKEN_FORMAT, YK_NONE, "column \"%.200s\": Arrow's format %.40s, %s, is not taken", name_of(schema),
+        schema->format, layout ? "in a dictionary," : format_name(schema->format));
 }
 
-static bool is_view(const struct layout *layout) {
-    return layout->kind == YK_UTF8_VIEW || layout->kind == YK_BINARY_VIEW;
-}
+static bool is_view(const struct layout *layout) { return layout->kind == YK_UTF8_VIEW || layout->kind == YK_BINARY_VIEW; }
 
 size_t yk_arrow_buffer_count(const struct ArrowSchema *schema, const struct ArrowArray *array) {
     const struct layout *layout = layout_of_format(schema->format);
@@ -200,8 +221,8 @@ static void set_values(const void *at, struct yk_column *column) {
     }
 }
 
-uint32_t yk_arrow_column(const struct ArrowSchema *schema, const struct ArrowArray *array,
-                         struct yk_bytes *buffers, struct yk_column *column, struct yk_error *error) {
+uint32_t yk_arrow_column(const struct ArrowSchema *schema, const struct ArrowArray *array, struct yk_bytes *buffers,
+    struct yk_column *column, struct yk_error *error) {
     struct yk_field field;
     uint32_t status = yk_arrow_field(schema, &field, error);
     if (status)
@@ -269,9 +290,7 @@ uint32_t yk_check_batch(const struct ArrowSchema *schema, const struct ArrowArra
     return fault ? yk_refuse(error, YK_MALFORMED_ARRAY, YK_NONE, "a malformed batch: %s", fault) : YK_OK;
 }
 
-static bool is_word(char c) {
-    return (c >= 'a' && c <= 'z') || (c >= 'A' && c <= 'Z') || (c >= '0' && c <= '9') || c == '_';
-}
+static bool is_word(char c) { return (c >= 'a' && c <= 'z') || (c >= 'A' && c <= 'Z') || (c >= '0' && c <= '9') || c == '_'; }
 
 /* Where the token at a place ends: a text or a name in quotes, a comment, a word, or one byte. */
 static size_t token_end(struct yk_text text, size_t at) {
@@ -334,8 +353,8 @@ static uint32_t refuse_untaken(const struct ArrowSchema *schema, struct yk_text 
 }
 
 /* An expression over few columns is read again over all, so that what is told knows their names. */
-uint32_t yk_arrow_expression_new(const char *text, size_t length, const struct ArrowSchema *schema,
-                                 struct yk_expression *expression, struct yk_error *error) {
+uint32_t yk_arrow_expression_new(
+    const char *text, size_t length, const struct ArrowSchema *schema, struct yk_expression *expression, struct yk_error *error) {
     struct yk_text words = {text, length};
     yk_reset(error);
     yk_expression_free(expression);

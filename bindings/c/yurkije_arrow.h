@@ -91,37 +91,33 @@ enum yk_arrow_status {
 
 /* The field that a schema says: its name, kind and whether it is nullable. The name is borrowed from
  * the schema. YK_UNTAKEN_FORMAT where its format is not taken. */
-uint32_t yk_arrow_field(const struct ArrowSchema *schema,
-                        struct yk_field *field, struct yk_error *error);
+uint32_t yk_arrow_field(const struct ArrowSchema *schema, struct yk_field *field, struct yk_error *error);
 
 /* How many slices the buffers of an array by views take: 0 of any other. */
 size_t yk_arrow_buffer_count(const struct ArrowSchema *schema, const struct ArrowArray *array);
 
 /* The column that an array says, borrowed from it. `buffers` has room for as many slices as
  * yk_arrow_buffer_count says, and stays with the column. */
-uint32_t yk_arrow_column(const struct ArrowSchema *schema, const struct ArrowArray *array,
-                         struct yk_bytes *buffers, struct yk_column *column, struct yk_error *error);
+uint32_t yk_arrow_column(const struct ArrowSchema *schema, const struct ArrowArray *array, struct yk_bytes *buffers,
+    struct yk_column *column, struct yk_error *error);
 
 /* Reads the answers of a text over the columns of a struct schema, of which those that an answer reads
  * are the fields of the expression. */
-uint32_t yk_arrow_expression_new(const char *text, size_t length, const struct ArrowSchema *schema,
-                                 struct yk_expression *expression, struct yk_error *error);
+uint32_t yk_arrow_expression_new(
+    const char *text, size_t length, const struct ArrowSchema *schema, struct yk_expression *expression, struct yk_error *error);
 
 /* The schema of what the expression answers: a struct with a child for each answer, texts and byte
  * strings by offsets of 32 bits. */
-uint32_t yk_arrow_schema(struct yk_expression *expression,
-                         struct ArrowSchema *out, struct yk_error *error);
+uint32_t yk_arrow_schema(struct yk_expression *expression, struct ArrowSchema *out, struct yk_error *error);
 
 /* Runs the expression over a batch: its fields are the columns of their names. Rows are told by their
  * number in the batch, columns by that of the field. */
-uint32_t yk_arrow_run(struct yk_expression *expression,
-                      const struct ArrowSchema *schema, const struct ArrowArray *batch,
-                      struct ArrowArray *out, struct yk_error *error);
+uint32_t yk_arrow_run(struct yk_expression *expression, const struct ArrowSchema *schema, const struct ArrowArray *batch,
+    struct ArrowArray *out, struct yk_error *error);
 
 /* Runs the expression over columns of any length, YK_ARROW_BATCH rows at a time. */
-uint32_t yk_arrow_answer(struct yk_expression *expression,
-                         const struct yk_column *columns, size_t count, size_t rows,
-                         struct ArrowArray *out, struct yk_error *error);
+uint32_t yk_arrow_answer(struct yk_expression *expression, const struct yk_column *columns, size_t count, size_t rows,
+    struct ArrowArray *out, struct yk_error *error);
 
 /* Another struct array over the same buffers as one that these calls filled, which is released for
  * itself: the buffers are freed with the last. Both are read only from then on. */
@@ -129,15 +125,14 @@ uint32_t yk_arrow_share(const struct ArrowArray *array, struct ArrowArray *out);
 
 /* The numbers of the rows in which answer `answer`, a truth value, is true, of columns of any length:
  * as yk_select tells them. `numbers` has room for one number a row, which always is enough. */
-uint32_t yk_arrow_select(struct yk_expression *expression, size_t answer,
-                         const struct yk_column *columns, size_t count, size_t rows,
-                         uint64_t *numbers, size_t *selected, struct yk_error *error);
+uint32_t yk_arrow_select(struct yk_expression *expression, size_t answer, const struct yk_column *columns, size_t count, size_t rows,
+    uint64_t *numbers, size_t *selected, struct yk_error *error);
 
 /* The stream of a text's answers over the batches of a stream, which is taken whether or not the call
  * is refused. It holds no handle, since each of its calls reads the text anew: one call is made at a
  * time, on any thread. Rows are told by their number in the whole stream. */
-uint32_t yk_arrow_stream(const char *text, size_t length, struct ArrowArrayStream *in,
-                         struct ArrowArrayStream *out, struct yk_error *error);
+uint32_t yk_arrow_stream(
+    const char *text, size_t length, struct ArrowArrayStream *in, struct ArrowArrayStream *out, struct yk_error *error);
 
 /* What a stream that yk_arrow_stream made was refused for last; it is there until the next call. */
 const struct yk_error *yk_arrow_stream_error(struct ArrowArrayStream *stream);

@@ -219,8 +219,8 @@ static struct yk_column slice(const struct yk_column *column, size_t start, size
 }
 
 /* Runs a batch of columns whose rows begin there. Rows are told by their number in all. */
-static uint32_t run_batch(struct yk_expression *expression, const struct yk_column *columns, struct yk_column *parts,
-                          size_t count, size_t start, size_t rows, struct yk_answers *answers, struct yk_error *error) {
+static uint32_t run_batch(struct yk_expression *expression, const struct yk_column *columns, struct yk_column *parts, size_t count,
+    size_t start, size_t rows, struct yk_answers *answers, struct yk_error *error) {
     for (size_t i = 0; i < count; i++)
         parts[i] = slice(&columns[i], start, rows);
     uint32_t status = yk_run(expression, parts, count, rows, answers, error);
@@ -232,7 +232,7 @@ static uint32_t run_batch(struct yk_expression *expression, const struct yk_colu
 /* Whether each column has the rows of the batch, so that it can be cut. */
 static bool can_cut(const struct yk_column *columns, size_t count, size_t rows) {
     for (size_t i = 0; i < count; i++)
-        if (columns[i].rows != rows || columns[i].offset > SIZE_MAX - rows)
+        if (columns[i].rows != rows)
             return false;
     return true;
 }
@@ -240,12 +240,26 @@ static bool can_cut(const struct yk_column *columns, size_t count, size_t rows) 
 /* What is done with the answers of each batch, whose first row is told. */
 typedef uint32_t each_batch(void *to, struct yk_answers *answers, size_t start, size_t rows);
 
+/* Room in the heap for what a batch copies, below a block that stays: what is freed behind each batch then never lies at the heap's end,
+ * where the C library would give it back to the system, only to fetch it again for the next. NULL, where memory is refused, is no fault. */
+static void *make_hole(size_t columns) {
+    void *blocks[12];
+    size_t made = 0, wanted = columns + 2 < 12 ? columns + 2 : 12;
+    while (made < wanted && (blocks[made] = malloc(YK_ARROW_BATCH * sizeof(int64_t) + 64)))
+        made++;
+    void *stays = malloc(64);
+    while (made > 0)
+        free(blocks[--made]);
+    return stays;
+}
+
 /* Runs the columns a batch at a time; where they cannot be cut, whole, which is refused. */
-static uint32_t run_batches(struct yk_expression *expression, const struct yk_column *columns, size_t count, size_t rows,
-                            each_batch *each, void *to, struct yk_error *error) {
+static uint32_t run_batches(struct yk_expression *expression, const struct yk_column *columns, size_t count, size_t rows, each_batch *each,
+    void *to, struct yk_error *error) {
     struct yk_answers answers = {0};
     bool cut = can_cut(columns, count, rows);
     struct yk_column *parts = malloc(count * sizeof *parts + 1);
+    void *hole = rows > YK_ARROW_BATCH ? make_hole(count) : NULL;
     uint32_t status = parts ? YK_OK : yk_refuse_memory(error);
     size_t start = 0;
     while (!status && (start == 0 || start < rows)) {
@@ -253,12 +267,13 @@ static uint32_t run_batches(struct yk_expression *expression, const struct yk_co
         status = cut ? run_batch(expression, columns, parts, count, start, part, &answers, error)
                      : yk_run(expression, columns, count, rows, &answers, error);
         if (!status && (status = each(to, &answers, start, part)))
-            yk_refuse(error, status, YK_NONE, "%s", status == YK_OUT_OF_MEMORY ? "E9 OutOfMemory" : "an answer is not copied");
+            yk_refuse(error, status, YK_NONE, "%s", status == YK_OUT_OF_MEMORY ? "out of memory" : "an answer is not copied");
         start += part;
         if (rows == 0)
             break;
     }
     yk_answers_free(&answers);
+    free(hole);
     free(parts);
     return status;
 }
@@ -296,7 +311,7 @@ static uint32_t make_children(struct yk_expression *expression, size_t count, si
 }
 
 uint32_t yk_arrow_answer(struct yk_expression *expression, const struct yk_column *columns, size_t count, size_t rows,
-                         struct ArrowArray *out, struct yk_error *error) {
+    struct ArrowArray *out, struct yk_error *error) {
     size_t answers = 0;
     yk_reset(error);
     *out = (struct ArrowArray){.length = (int64_t)rows, .n_buffers = 1, .buffers = no_validity, .release = release_array};
@@ -306,7 +321,7 @@ uint32_t yk_arrow_answer(struct yk_expression *expression, const struct yk_colum
     if (!status)
         status = out->children && collected.kinds ? make_children(expression, answers, rows, &collected) : YK_OUT_OF_MEMORY;
     if (status)
-        yk_refuse(error, status, YK_NONE, "%s", status == YK_OUT_OF_MEMORY ? "E9 OutOfMemory" : "the answers are not collected");
+        yk_refuse(error, status, YK_NONE, "%s", status == YK_OUT_OF_MEMORY ? "out of memory" : "the answers are not collected");
     else
         status = run_batches(expression, columns, count, rows, append_all, &collected, error);
     for (int64_t i = 0; !status && i < out->n_children; i++)
@@ -347,19 +362,32 @@ struct selection {
     size_t count;
 };
 
+/* Adds the numbers of the bits that are set in a word of 64 rows. */
+static size_t add_rows(uint64_t word, uint64_t first, uint64_t *numbers) {
+    size_t count = 0;
+    for (; word; word &= word - 1)
+        numbers[count++] = first + (uint64_t)__builtin_ctzll(word);
+    return count;
+}
+
+/* The rows that are true and not null, by the bits of both. */
 static uint32_t append_rows(void *to, struct yk_answers *answers, size_t start, size_t rows) {
+    static const size_t most = YK_ARROW_BATCH / 8;
     struct selection *selection = to;
-    uint64_t *numbers = selection->numbers + selection->count;
-    size_t more = 0;
-    uint32_t status = yk_select(answers, selection->answer, numbers, rows, &more);
-    for (size_t i = 0; !status && i < more; i++)
-        numbers[i] += start;
-    selection->count += status ? 0 : more;
+    uint64_t truths[YK_ARROW_BATCH / 64] = {0}, valid[YK_ARROW_BATCH / 64] = {0};
+    struct yk_room room = {.kind = YK_BOOL, .validity = {(uint8_t *)valid, most}, .bools = {(uint8_t *)truths, most}};
+    uint32_t status = yk_answer_copy(answers, selection->answer, &room);
+    for (size_t i = 0; !status && i < rows; i += 64) {
+        uint64_t word = truths[i / 64] & valid[i / 64];
+        if (rows - i < 64)
+            word &= (UINT64_C(1) << (rows - i)) - 1;
+        selection->count += add_rows(word, start + i, selection->numbers + selection->count);
+    }
     return status;
 }
 
-uint32_t yk_arrow_select(struct yk_expression *expression, size_t answer, const struct yk_column *columns, size_t count,
-                         size_t rows, uint64_t *numbers, size_t *selected, struct yk_error *error) {
+uint32_t yk_arrow_select(struct yk_expression *expression, size_t answer, const struct yk_column *columns, size_t count, size_t rows,
+    uint64_t *numbers, size_t *selected, struct yk_error *error) {
     struct selection selection = {answer, numbers, 0};
     yk_reset(error);
     uint32_t status = run_batches(expression, columns, count, rows, append_rows, &selection, error);

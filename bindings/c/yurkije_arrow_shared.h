@@ -21,8 +21,7 @@ static inline size_t yk_bytes_for(size_t bits) { return bits / 8 + (bits % 8 != 
 void yk_reset(struct yk_error *error);
 
 /* Tells a refusal in words, as printf writes them, and answers its status. */
-uint32_t yk_refuse(struct yk_error *error, uint32_t status, size_t column, const char *words, ...)
-    __attribute__((format(printf, 4, 5)));
+uint32_t yk_refuse(struct yk_error *error, uint32_t status, size_t column, const char *words, ...) __attribute__((format(printf, 4, 5)));
 uint32_t yk_refuse_memory(struct yk_error *error);
 
 /* Tells the row that was told by its number in the whole, of which so many rows stand before the batch. */

@@ -31,8 +31,8 @@ static void free_places(struct places *places) {
 }
 
 /* Finds the child of one field. */
-static uint32_t find_place(struct yk_expression *expression, const struct ArrowSchema *schema, size_t field,
-                           int64_t *child, struct yk_error *error) {
+static uint32_t find_place(
+    struct yk_expression *expression, const struct ArrowSchema *schema, size_t field, int64_t *child, struct yk_error *error) {
     size_t length = 0;
     char none[1];
     yk_field_name(expression, field, none, 0, &length);
@@ -43,13 +43,13 @@ static uint32_t find_place(struct yk_expression *expression, const struct ArrowS
     name[status ? 0 : length] = 0;
     *child = status ? -1 : child_named(schema, name, length);
     if (*child < 0)
-        status = yk_refuse(error, YK_SCOPE_MISMATCH, field, "E11 ScopeMismatch: the batch has no column \"%.200s\"", name);
+        status = yk_refuse(error, YK_SCOPE_MISMATCH, field, "column %zu (%.200s): missing", field, name);
     free(name);
     return status;
 }
 
-static uint32_t find_places(struct yk_expression *expression, const struct ArrowSchema *schema, struct places *places,
-                            struct yk_error *error) {
+static uint32_t find_places(
+    struct yk_expression *expression, const struct ArrowSchema *schema, struct places *places, struct yk_error *error) {
     yk_reset(error);
     *places = (struct places){0};
     uint32_t status = yk_field_count(expression, &places->count);
@@ -75,7 +75,7 @@ static size_t count_buffers(const struct places *places, const struct ArrowSchem
 }
 
 static uint32_t borrow_columns(struct places *places, const struct ArrowSchema *schema, const struct ArrowArray *batch,
-                               struct yk_bytes *buffers, struct yk_error *error) {
+    struct yk_bytes *buffers, struct yk_error *error) {
     uint32_t status = YK_OK;
     for (size_t i = 0; i < places->count && !status; i++) {
         int64_t child = places->children[i];
@@ -91,7 +91,7 @@ static uint32_t borrow_columns(struct places *places, const struct ArrowSchema *
 
 /* Runs a batch that was checked. Rows are told from that number on. */
 static uint32_t run_places(struct yk_expression *expression, struct places *places, const struct ArrowSchema *schema,
-                           const struct ArrowArray *batch, size_t first, struct ArrowArray *out, struct yk_error *error) {
+    const struct ArrowArray *batch, size_t first, struct ArrowArray *out, struct yk_error *error) {
     struct yk_bytes *buffers = malloc(count_buffers(places, schema, batch) * sizeof *buffers + 1);
     if (!buffers)
         return yk_refuse_memory(error);
@@ -105,7 +105,7 @@ static uint32_t run_places(struct yk_expression *expression, struct places *plac
 }
 
 uint32_t yk_arrow_run(struct yk_expression *expression, const struct ArrowSchema *schema, const struct ArrowArray *batch,
-                      struct ArrowArray *out, struct yk_error *error) {
+    struct ArrowArray *out, struct yk_error *error) {
     struct places places;
     out->release = NULL;
     uint32_t status = yk_check_batch(schema, batch, error);
@@ -170,7 +170,8 @@ static uint32_t refuse_stream(struct ArrowArrayStream *in, int code, struct yk_e
 }
 
 /* Reads the text, and does with the expression what is asked: its schema, or its answers over a batch. */
-static uint32_t with_expression(struct running *running, struct ArrowSchema *schema, const struct ArrowArray *batch, struct ArrowArray *out) {
+static uint32_t with_expression(
+    struct running *running, struct ArrowSchema *schema, const struct ArrowArray *batch, struct ArrowArray *out) {
     struct yk_expression expression = {0};
     struct places places = {0};
     uint32_t status = yk_arrow_expression_new(running->text, running->length, &running->schema, &expression, &running->error);
@@ -223,8 +224,8 @@ static uint32_t start(struct running *running, const char *text, size_t length, 
     return status || running->text ? status : yk_refuse_memory(error);
 }
 
-uint32_t yk_arrow_stream(const char *text, size_t length, struct ArrowArrayStream *in, struct ArrowArrayStream *out,
-                         struct yk_error *error) {
+uint32_t yk_arrow_stream(
+    const char *text, size_t length, struct ArrowArrayStream *in, struct ArrowArrayStream *out, struct yk_error *error) {
     struct running *running = malloc(sizeof *running);
     out->release = NULL;
     if (!running) {

@@ -51,7 +51,8 @@ static void hash(const void *bytes, size_t length) {
 }
 
 /* What is asked: reads an expression, runs it, and copies each answer out. Answers the first status that is not 0. */
-static const char text[] = "n * 2 as twice, t like '%o_t' and n > 1 as found, t, n between 2 and 7 or t ilike 'N%', cast(n > 3 as bool?), n is null";
+static const char text[] =
+    "n * 2 as twice, t like '%o_t' and n > 1 as found, t, n between 2 and 7 or t ilike 'N%', cast(n > 3 as bool?), n is null";
 static const char script[] = "col n i64?\nget n\nlit i64 3\ncall +\noptimize\nas more\n";
 static const int64_t numbers[] = {1, 2, 3, 4};
 static const uint8_t valid[] = {0x0d};
@@ -65,8 +66,8 @@ static uint32_t copy_all(struct yk_answers *answers) {
     uint64_t chosen[4];
     size_t count;
     struct yk_room rooms[] = {{.kind = YK_I64, .validity = {validity, 1}, .i64 = {values, 4}},
-                              {.kind = YK_BOOL, .validity = {validity, 1}, .bools = {bits, 1}},
-                              {.kind = YK_UTF8, .validity = {validity, 1}, .offsets32 = {offsets, 5}, .data = {bytes, 25}}};
+        {.kind = YK_BOOL, .validity = {validity, 1}, .bools = {bits, 1}},
+        {.kind = YK_UTF8, .validity = {validity, 1}, .offsets32 = {offsets, 5}, .data = {bytes, 25}}};
     uint32_t status = YK_OK;
     for (size_t i = 0; !status && i < COUNT(rooms); i++)
         status = yk_answer_copy(answers, i, &rooms[i]);
@@ -98,7 +99,7 @@ static uint32_t names(struct yk_expression *expression) {
 static uint32_t plain_calls(void) {
     struct yk_field fields[] = {field("n", YK_I64, true), field("t", YK_UTF8, false)};
     struct yk_column columns[] = {{.kind = YK_I64, .nullable = true, .rows = 4, .i64 = {numbers, 4}, .validity = {valid, 1}},
-                                  {.kind = YK_UTF8, .rows = 4, .offsets32 = {ends, 5}, .data = {(const uint8_t *)data, 25}}};
+        {.kind = YK_UTF8, .rows = 4, .offsets32 = {ends, 5}, .data = {(const uint8_t *)data, 25}}};
     struct yk_expression expression = {0};
     struct yk_answers answers = {0};
     struct yk_error error = new_error();
@@ -200,7 +201,7 @@ static void sweep(const char *name, uint32_t (*ask)(void), bool alone) {
         count++;
     }
     printf("%s: %ld allocations refused%s: %ld times E9, %ld times the answers as with memory; nothing leaks\n", name, count,
-           alone ? "" : " with all behind them", count - same, same);
+        alone ? "" : " with all behind them", count - same, same);
 }
 
 int main(void) {

@@ -149,8 +149,17 @@ static void untaken(void) {
     struct yk_error error = new_error();
     make_batch();
     static const char *const cases[][2] = {
-        {"g", "float64"}, {"f", "float32"}, {"d:10,2", "decimal"}, {"tdD", "date32"}, {"tsu:UTC", "timestamp"}, {"ttm", "time"},
-        {"+l", "list"}, {"n", "null"}, {"w:16", "fixed-size binary"}, {"+s", "struct"}, {"?", "unknown"},
+        {"g", "float64"},
+        {"f", "float32"},
+        {"d:10,2", "decimal"},
+        {"tdD", "date32"},
+        {"tsu:UTC", "timestamp"},
+        {"ttm", "time"},
+        {"+l", "list"},
+        {"n", "null"},
+        {"w:16", "fixed-size binary"},
+        {"+s", "struct"},
+        {"?", "unknown"},
     };
     for (size_t i = 0; i < COUNT(cases); i++) {
         schemas[5].format = cases[i][0];
@@ -175,10 +184,10 @@ static void malformed(void) {
     struct ArrowSchema schema;
     struct ArrowArray out;
     struct yk_error error = new_error();
-#define MALFORMED(change)                                                                                                  \
-    make_batch();                                                                                                          \
-    change;                                                                                                                \
-    SAME(run("n, t, v", &schema, &out, &error), YK_MALFORMED_ARRAY);                                                       \
+#define MALFORMED(change)                                                                                                                  \
+    make_batch();                                                                                                                          \
+    change;                                                                                                                                \
+    SAME(run("n, t, v", &schema, &out, &error), YK_MALFORMED_ARRAY);                                                                       \
     release(&schema, &out)
     static const void *no_values[] = {NULL, NULL, NULL}, *no_lengths[] = {NULL, views, data, NULL};
     MALFORMED(arrays[0].length = 3);
@@ -188,6 +197,8 @@ static void malformed(void) {
     MALFORMED(arrays[0].buffers = NULL);
     MALFORMED(arrays[0].buffers = no_values);
     MALFORMED(arrays[2].buffers = no_values);
+    static const void *askew[] = {NULL, (const char *)i64s + 4};
+    MALFORMED(arrays[0].buffers = askew; arrays[0].length = batch.length = 3);
     MALFORMED(arrays[4].n_buffers = 2);
     MALFORMED(arrays[4].buffers = no_lengths);
     MALFORMED(batch.length = -1);
@@ -249,8 +260,53 @@ static void long_columns(void) {
     yk_expression_free(&expression);
 }
 
+/* Texts of many batches lie one behind the other; a truth value under a null is not selected. */
+static void long_texts(void) {
+    enum { rows = 2 * YK_ARROW_BATCH + 7 };
+    static int32_t text_ends[rows + 1];
+    static char texts[4 * rows];
+    static uint8_t truths[rows / 8 + 1], not_null[rows / 8 + 1];
+    static uint64_t chosen[rows];
+    for (int32_t i = 0; i < rows; i++) {
+        text_ends[i + 1] = text_ends[i] + i % 4;
+        memset(texts + text_ends[i], 'a' + i % 26, (size_t)(i % 4));
+    }
+    memset(truths, 0xff, sizeof truths);
+    memset(not_null, 0x7f, sizeof not_null);
+    struct yk_field fields[] = {field("t", YK_UTF8, false), field("b", YK_BOOL, true)};
+    struct yk_expression expression = read_expression("t, b", fields, 2);
+    struct yk_column in[] = {
+        {.kind = YK_UTF8, .rows = rows, .offsets32 = {text_ends, rows + 1}, .data = {(const uint8_t *)texts, sizeof texts}},
+        {.kind = YK_BOOL, .rows = rows, .nullable = true, .bools = {truths, sizeof truths}, .validity = {not_null, sizeof not_null}}};
+    struct ArrowArray out;
+    struct yk_error error = new_error();
+    size_t count = 0, wrong = 0;
+    SAME(yk_arrow_answer(&expression, in, 2, rows, &out, &error), YK_OK);
+    CHECK(memcmp(out.children[0]->buffers[1], text_ends, sizeof text_ends) == 0);
+    CHECK(memcmp(out.children[0]->buffers[2], texts, (size_t)text_ends[rows]) == 0);
+    SAME(out.children[1]->null_count, rows / 8);
+    out.release(&out);
+    SAME(yk_arrow_select(&expression, 1, in, 2, rows, chosen, &count, &error), YK_OK);
+    SAME(count, rows - rows / 8);
+    for (size_t i = 0; i < count; i++)
+        wrong += chosen[i] != i + i / 7;
+    SAME(wrong, 0);
+    yk_expression_free(&expression);
+}
+
 /* A stream of the batch, so many times, and then an error or the end. */
-struct source { int left; bool fails; bool *released; };
+struct source {
+    int left;
+    bool fails;
+    bool *released;
+};
+
+static int batches_released;
+
+static void release_counted(struct ArrowArray *array) {
+    batches_released++;
+    array->release = NULL;
+}
 
 static int source_schema(struct ArrowArrayStream *stream, struct ArrowSchema *out) {
     (void)stream;
@@ -261,6 +317,7 @@ static int source_schema(struct ArrowArrayStream *stream, struct ArrowSchema *ou
 static int source_next(struct ArrowArrayStream *stream, struct ArrowArray *out) {
     struct source *source = stream->private_data;
     *out = batch;
+    out->release = release_counted;
     if (source->left-- > 0)
         return 0;
     out->release = NULL;
@@ -298,7 +355,7 @@ static void streams(void) {
     CHECK(out.get_next(&out, &answers) != 0 && strstr(out.get_last_error(&out), "the disk is gone"));
     SAME(yk_arrow_stream_error(&out)->status, YK_STREAM_FAILED);
     out.release(&out);
-    CHECK(released && !out.release);
+    CHECK(released && !out.release && batches_released == 2);
     in = (struct ArrowArrayStream){source_schema, source_next, source_error, source_release, &source};
     released = false;
     SAME(yk_arrow_stream("g", 1, &in, &out, &error), YK_SCOPE_MISMATCH);
@@ -309,6 +366,18 @@ static void streams(void) {
     CHECK(out.get_next(&out, &answers) != 0);
     SAME(yk_arrow_stream_error(&out)->row, 3);
     out.release(&out);
+    source = (struct source){2, false, &released};
+    in = (struct ArrowArrayStream){source_schema, source_next, source_error, source_release, &source};
+    SAME(yk_arrow_stream("n / (n - 6)", 11, &in, &out, &error), YK_OK);
+    static const int64_t others[] = {1, 2, 3, 4};
+    of_i64[1] = others;
+    SAME(out.get_next(&out, &answers), 0);
+    answers.release(&answers);
+    of_i64[1] = i64s;
+    CHECK(out.get_next(&out, &answers) != 0);
+    SAME(yk_arrow_stream_error(&out)->row, 4 + 1);
+    CHECK(strncmp(out.get_last_error(&out), "row 5,", 6) == 0);
+    out.release(&out);
 }
 
 int main(void) {
@@ -318,6 +387,7 @@ int main(void) {
     untaken();
     malformed();
     long_columns();
+    long_texts();
     streams();
     if (!faults)
         puts("arrow: as expected");

@@ -29,8 +29,16 @@ static struct yk_column column(uint32_t kind) {
     case YK_U16: made.u16 = (struct yk_u16s){u16s, 3}; break;
     case YK_U32: made.u32 = (struct yk_u32s){u32s, 3}; break;
     case YK_U64: made.u64 = (struct yk_u64s){u64s, 3}; break;
-    case YK_UTF8: case YK_BINARY: made.offsets32 = (struct yk_i32s){offsets32, 4}; made.data = buffer; break;
-    case YK_LARGE_UTF8: case YK_LARGE_BINARY: made.offsets64 = (struct yk_i64s){offsets64, 4}; made.data = buffer; break;
+    case YK_UTF8:
+    case YK_BINARY:
+        made.offsets32 = (struct yk_i32s){offsets32, 4};
+        made.data = buffer;
+        break;
+    case YK_LARGE_UTF8:
+    case YK_LARGE_BINARY:
+        made.offsets64 = (struct yk_i64s){offsets64, 4};
+        made.data = buffer;
+        break;
     default: made.views = (struct yk_views){(const uint8_t(*)[16])views, 3}; made.buffers = (struct yk_buffers){&buffer, 1};
     }
     return made;
@@ -80,9 +88,16 @@ static void each_kind(void) {
         if (kind == YK_BOOL)
             SAME(*(uint8_t *)values & 3, 1);
         else if (width(kind))
-            CHECK(memcmp(values, kind == YK_I8 ? (const void *)i8s : kind == YK_I16 ? (const void *)i16s : kind == YK_I32 ? (const void *)i32s
-                                : kind == YK_I64 ? (const void *)i64s : kind == YK_U8 ? (const void *)u8s : kind == YK_U16 ? (const void *)u16s
-                                : kind == YK_U32 ? (const void *)u32s : (const void *)u64s, 2 * width(kind)) == 0);
+            CHECK(memcmp(values,
+                      kind == YK_I8    ? (const void *)i8s
+                      : kind == YK_I16 ? (const void *)i16s
+                      : kind == YK_I32 ? (const void *)i32s
+                      : kind == YK_I64 ? (const void *)i64s
+                      : kind == YK_U8  ? (const void *)u8s
+                      : kind == YK_U16 ? (const void *)u16s
+                      : kind == YK_U32 ? (const void *)u32s
+                                       : (const void *)u64s,
+                      2 * width(kind)) == 0);
         else
             CHECK(memcmp(bytes, data, 35) == 0 && memcmp(offsets, offsets32, sizeof offsets) == 0);
         yk_answers_free(&answers);
@@ -124,10 +139,20 @@ static void told(void) {
 
 /* Texts that are refused tell where. */
 static void refused_texts(void) {
-    static const struct { const char *text; uint32_t status; size_t byte; } cases[] = {
-        {"price <", YK_NO_EXPRESSION, 7},       {"prcie", YK_SCOPE_MISMATCH, 0},  {"1 + prcie", YK_SCOPE_MISMATCH, 4},
-        {"7::i7", YK_UNKNOWN_TYPE, 3},          {"price + 1 = 3000000000", YK_NOT_HELD, 10}, {"null = null", YK_UNTYPED_NULL, 5},
-        {"name like 'a' escape 'xy'", YK_NO_ESCAPE, 5}, {"price and true", YK_TYPE_MISMATCH, 6}, {"cast(price as u8)", YK_NO_CAST, 14},
+    static const struct {
+        const char *text;
+        uint32_t status;
+        size_t byte;
+    } cases[] = {
+        {"price <", YK_NO_EXPRESSION, 7},
+        {"prcie", YK_SCOPE_MISMATCH, 0},
+        {"1 + prcie", YK_SCOPE_MISMATCH, 4},
+        {"7::i7", YK_UNKNOWN_TYPE, 3},
+        {"price + 1 = 3000000000", YK_NOT_HELD, 10},
+        {"null = null", YK_UNTYPED_NULL, 5},
+        {"name like 'a' escape 'xy'", YK_NO_ESCAPE, 5},
+        {"price and true", YK_TYPE_MISMATCH, 6},
+        {"cast(price as u8)", YK_NO_CAST, 14},
         {"\xff", YK_NOT_A_TEXT, YK_NONE},
     };
     struct yk_field fields[] = {field("price", YK_I32, false), field("name", YK_UTF8, false)};
@@ -180,12 +205,12 @@ static void refused_columns(void) {
     struct yk_answers answers = {0};
     struct yk_error error = new_error();
     struct yk_column good[] = {{.kind = YK_I64, .rows = 3, .i64 = {(const int64_t[]){1, 2, 3}, 3}}, column(YK_UTF8)}, in[2];
-#define REFUSED(change, expected, at, of_row)                                                                              \
-    memcpy(in, good, sizeof in);                                                                                           \
-    change;                                                                                                                \
-    SAME(yk_run(&expression, in, 2, 3, &answers, &error), expected);                                                       \
-    SAME(error.column, at);                                                                                                \
-    SAME(error.row, of_row);                                                                                               \
+#define REFUSED(change, expected, at, of_row)                                                                                              \
+    memcpy(in, good, sizeof in);                                                                                                           \
+    change;                                                                                                                                \
+    SAME(yk_run(&expression, in, 2, 3, &answers, &error), expected);                                                                       \
+    SAME(error.column, at);                                                                                                                \
+    SAME(error.row, of_row);                                                                                                               \
     CHECK(!answers.live)
     SAME(yk_run(&expression, good, 2, 3, &answers, &error), YK_OK);
     REFUSED(in[0].rows = 2, YK_LENGTH_MISMATCH, 0, YK_NONE);

@@ -10,22 +10,22 @@
 
 static int faults;
 
-#define CHECK(question)                                                                                                    \
-    do {                                                                                                                   \
-        if (!(question)) {                                                                                                 \
-            fprintf(stderr, "%s:%d: %s\n", __FILE__, __LINE__, #question);                                                 \
-            faults++;                                                                                                      \
-        }                                                                                                                  \
+#define CHECK(question)                                                                                                                    \
+    do {                                                                                                                                   \
+        if (!(question)) {                                                                                                                 \
+            fprintf(stderr, "%s:%d: %s\n", __FILE__, __LINE__, #question);                                                                 \
+            faults++;                                                                                                                      \
+        }                                                                                                                                  \
     } while (0)
 
 /* The two values, where a status or a count is not as expected. */
-#define SAME(value, expected)                                                                                              \
-    do {                                                                                                                   \
-        long long got_ = (long long)(value), want_ = (long long)(expected);                                                \
-        if (got_ != want_) {                                                                                               \
-            fprintf(stderr, "%s:%d: %s is %lld, not %lld\n", __FILE__, __LINE__, #value, got_, want_);                     \
-            faults++;                                                                                                      \
-        }                                                                                                                  \
+#define SAME(value, expected)                                                                                                              \
+    do {                                                                                                                                   \
+        long long got_ = (long long)(value), want_ = (long long)(expected);                                                                \
+        if (got_ != want_) {                                                                                                               \
+            fprintf(stderr, "%s:%d: %s is %lld, not %lld\n", __FILE__, __LINE__, #value, got_, want_);                                     \
+            faults++;                                                                                                                      \
+        }                                                                                                                                  \
     } while (0)
 
 #define COUNT(array) (sizeof(array) / sizeof *(array))

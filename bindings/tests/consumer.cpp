@@ -8,7 +8,7 @@
 #include <vector>
 
 class Expression {
-public:
+  public:
     Expression(const std::string &text, const std::vector<yk_field> &fields) {
         char message[200];
         yk_error error{};
@@ -33,7 +33,7 @@ public:
         return numbers;
     }
 
-private:
+  private:
     yk_expression raw{};
 };
 

@@ -2,7 +2,7 @@
  * may touch, so that a byte past its end is a fault, also in code that no sanitizer knows. What is answered is asked again over the same
  * rows at another offset and in another layout, and compared. */
 #define _DEFAULT_SOURCE
-#include "yurkije_arrow.h"
+#include "fuzz_texts.h"
 
 #include <stdio.h>
 #include <stdlib.h>
@@ -10,18 +10,6 @@
 #include <sys/mman.h>
 
 enum { most_columns = 4, most_rows = 70, slots = 40, slot_size = 4096 };
-
-/* The bytes of one input, taken from the front. */
-struct given { const uint8_t *at; size_t left; };
-
-static unsigned next(struct given *given) {
-    if (given->left == 0)
-        return 0;
-    given->left--;
-    return *given->at++;
-}
-
-static unsigned below(struct given *given, unsigned bound) { return bound ? next(given) % bound : 0; }
 
 /* Memory that ends at a page of no access: a slot for each slice of a run. */
 static uint8_t *slot_end[slots];
@@ -45,104 +33,24 @@ static void *guarded(size_t bytes) {
 
 static void *guarded_copy(const void *from, size_t bytes) { return bytes ? memcpy(guarded(bytes), from, bytes) : NULL; }
 
-/* Tokens that texts are made of: most of them say something. */
-static const char *const tokens[] = {
-    "c0", "c1", "c2", "c3", "\"c1\"", "7", "-3", "0", "'a'", "'%b_'", "true", "false", "null", "null::i64?", "5::u8", "and", "or", "not", "is null",
-    "is not null", "+", "-", "*", "/", "<", "<=", ">", ">=", "=", "<>", "(", ")", "between 1 and 3", "like 'a%'", "ilike '%B'", "like c1", ",", "as x",
-    "as \"a y\"", "cast(c0 as bool?)", "escape '!'", "--", "\n", "''''", "9223372036854775807", "c0 < c1", "c0 + c1", "c2 like '%'", "not like '_'",
-    "::", "::utf8?", "c0 is null", "c0 / c1", "2 * c0", "c0 between c1 and c2",
-};
-
-/* A text that is being written, over these fields. */
-struct writing { char *text; size_t length, room; const struct yk_field *fields; size_t count; };
-
-static void write_words(struct writing *to, const char *words) {
-    size_t more = strlen(words);
-    if (to->length + more + 1 > to->room)
-        return;
-    memcpy(to->text + to->length, words, more);
-    to->length += more;
-    to->text[to->length++] = ' ';
-}
-
-/* Any tokens, and now and then a byte of the input. */
-static void write_tokens(struct given *given, struct writing *to) {
-    for (unsigned count = 1 + below(given, 12); count > 0; count--) {
-        char byte[2] = {(char)next(given), 0};
-        write_words(to, next(given) % 64 == 0 ? byte : tokens[below(given, sizeof tokens / sizeof *tokens)]);
-    }
-}
-
-enum shape { is_truth, is_number, is_text };
-
-static enum shape shape_of(uint32_t kind) { return kind == YK_BOOL ? is_truth : kind <= YK_U64 ? is_number : is_text; }
-
-/* A column of that shape, or a literal. */
-static void write_atom(struct given *given, struct writing *to, enum shape shape) {
-    static const char *const literals[][4] = {{"true", "false", "null::bool?", "c0"}, {"3", "0", "-1", "100"}, {"'a'", "''", "'%b_'", "null::utf8?"}};
-    for (unsigned tries = 0, at = next(given); tries < to->count; tries++, at++)
-        if (shape_of(to->fields[at % to->count].kind) == shape && next(given) % 4) {
-            write_words(to, (const char *const[]){"c0", "c1", "c2", "c3"}[at % to->count]);
-            return;
-        }
-    write_words(to, literals[shape][below(given, 4)]);
-}
-
-/* An expression that is well written and mostly well typed: an operator between two sums or atoms, in brackets, joined by and and or. */
-static void write_number(struct given *given, struct writing *to) {
-    static const char *const signs[] = {"+", "-", "*", "/"};
-    write_atom(given, to, is_number);
-    for (unsigned more = below(given, 3); more > 0; more--) {
-        write_words(to, signs[below(given, 4)]);
-        write_atom(given, to, is_number);
-    }
-}
-
-static void write_comparison(struct given *given, struct writing *to) {
-    static const char *const signs[] = {"<", "<=", ">", ">=", "=", "<>"}, *const likes[] = {"like", "not like", "ilike", "<", "=", "is null or not"};
-    unsigned form = below(given, 6);
-    if (form < 2) {
-        write_number(given, to);
-        write_words(to, signs[below(given, 6)]);
-        write_number(given, to);
-    } else if (form == 2) {
-        write_number(given, to);
-        write_words(to, next(given) & 1 ? "between" : "not between");
-        write_number(given, to);
-        write_words(to, "and");
-        write_number(given, to);
-    } else if (form == 3) {
-        write_atom(given, to, is_text);
-        write_words(to, likes[below(given, 5)]);
-        write_atom(given, to, is_text);
-    } else {
-        write_atom(given, to, (enum shape)below(given, 3));
-        write_words(to, form == 4 ? "is null" : "is not null");
-    }
-}
-
-static void write_answers(struct given *given, struct writing *to) {
-    static const char *const joins[] = {"and", "or", "and not", ", ", "or not"};
-    for (unsigned more = below(given, 5);; more--) {
-        if (next(given) % 4 == 0)
-            write_number(given, to);
-        else
-            write_comparison(given, to);
-        if (more == 0)
-            return;
-        write_words(to, joins[below(given, 5)]);
-    }
-}
-
 /* A column of a kind, over items from the input; now and then with a wrong length, offset or view. */
-struct fuzzed { struct yk_column column; int32_t offsets[most_rows + 20]; uint8_t views[most_rows + 20][16]; uint8_t data[300]; struct yk_bytes buffers[2]; };
+struct fuzzed {
+    struct yk_column column;
+    int32_t offsets[most_rows + 20];
+    uint8_t views[most_rows + 20][16];
+    uint8_t data[300];
+    struct yk_bytes buffers[2];
+};
 
 static void fill(struct given *given, uint8_t *to, size_t bytes) {
     uint64_t state = 1 + next(given);
     unsigned kind = below(given, 4);
     for (size_t i = 0; i < bytes; i++) {
         state = state * 6364136223846793005u + 1442695040888963407u;
-        to[i] = kind == 0 ? 0 : kind == 1 ? (uint8_t)(state >> 56) : kind == 2 ? (uint8_t)('a' + (state >> 60)) : (uint8_t)(i % 8 == 0 ? state >> 62 : 0);
+        to[i] = kind == 0   ? 0
+                : kind == 1 ? (uint8_t)(state >> 56)
+                : kind == 2 ? (uint8_t)('a' + (state >> 60))
+                            : (uint8_t)(i % 8 == 0 ? state >> 62 : 0);
     }
 }
 
@@ -150,7 +58,10 @@ static void set_integers(struct yk_column *column, struct given *given, size_t i
     uint8_t bytes[8 * (most_rows + 20)];
     fill(given, bytes, sizeof bytes);
     switch (column->kind) {
-    case YK_BOOL: items = items / 8 + (items % 8 != 0); column->bools = (struct yk_bytes){guarded_copy(bytes, items), items}; break;
+    case YK_BOOL:
+        items = items / 8 + (items % 8 != 0);
+        column->bools = (struct yk_bytes){guarded_copy(bytes, items), items};
+        break;
     case YK_I8: column->i8 = (struct yk_i8s){guarded_copy(bytes, items), items}; break;
     case YK_I16: column->i16 = (struct yk_i16s){guarded_copy(bytes, 2 * items), items}; break;
     case YK_I32: column->i32 = (struct yk_i32s){guarded_copy(bytes, 4 * items), items}; break;
@@ -275,12 +186,13 @@ static bool same_row(const struct yk_room *a, size_t i, const struct yk_room *b,
     default: break;
     }
     int32_t length = a->offsets32.at[i + 1] - a->offsets32.at[i];
-    return length == b->offsets32.at[j + 1] - b->offsets32.at[j]
-           && (length == 0 || memcmp(a->data.at + a->offsets32.at[i], b->data.at + b->offsets32.at[j], (size_t)length) == 0);
+    return length == b->offsets32.at[j + 1] - b->offsets32.at[j] &&
+           (length == 0 || memcmp(a->data.at + a->offsets32.at[i], b->data.at + b->offsets32.at[j], (size_t)length) == 0);
 }
 
 /* Runs the rows from `cut` on as a batch of their own, and compares each answer with the whole's. */
-static void again(struct yk_expression *expression, struct fuzzed *made, size_t count, size_t rows, size_t cut, struct yk_answers *whole, struct yk_error *error) {
+static void again(struct yk_expression *expression, struct fuzzed *made, size_t count, size_t rows, size_t cut, struct yk_answers *whole,
+    struct yk_error *error) {
     struct yk_column columns[most_columns];
     struct yk_answers part = {0};
     size_t answers = 0;

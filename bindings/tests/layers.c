@@ -12,14 +12,17 @@
 #include "check.h"
 
 static int rows = 20000;
-static const char *const words[] = {"ion foci", "xylene, mixed isomers", "nitric oxide", "iron", "a \"quoted\" name", "£", "sodium nitrite", "żółw"};
+static const char *const words[] = {
+    "ion foci", "xylene, mixed isomers", "nitric oxide", "iron", "a \"quoted\" name", "£", "sodium nitrite", "żółw"};
 
 /* Rows of whole numbers and texts, of which some are missing; and a float and a point, which no expression takes. */
 static GDALDatasetH make_rows(void) {
     GDALDatasetH set = GDALCreate(GDALGetDriverByName("Memory"), "", 0, 0, 0, GDT_Unknown, NULL);
     OGRLayerH layer = GDALDatasetCreateLayer(set, "given", NULL, wkbPoint, NULL);
-    static const struct { const char *name; OGRFieldType type; } made[] = {
-        {"a", OFTInteger64}, {"b", OFTInteger64}, {"c", OFTInteger}, {"s", OFTString}, {"f", OFTReal}};
+    static const struct {
+        const char *name;
+        OGRFieldType type;
+    } made[] = {{"a", OFTInteger64}, {"b", OFTInteger64}, {"c", OFTInteger}, {"s", OFTString}, {"f", OFTReal}};
     for (size_t i = 0; i < COUNT(made); i++) {
         OGRFieldDefnH definition = OGR_Fld_Create(made[i].name, made[i].type);
         OGR_L_CreateField(layer, definition, 1);
@@ -56,7 +59,12 @@ static GDALDatasetH through(GDALDatasetH given, const char *driver, const char *
 }
 
 /* What was answered: which rows are true, by the number that GDAL gives them, and the sum of the second answer over them. */
-struct answered { GIntBig *ids; size_t count; long long sum; char format[200]; };
+struct answered {
+    GIntBig *ids;
+    size_t count;
+    long long sum;
+    char format[200];
+};
 
 /* Takes the answers of a batch: whether the row is taken, a number, and the row's own number. */
 static void take(const struct ArrowArray *batch, struct answered *answered) {
@@ -105,13 +113,16 @@ static struct answered evaluate(OGRLayerH layer, const char *condition, const ch
 }
 
 /* Asks OGR the same, and compares row by row. */
-static void compare(const char *kind, GDALDatasetH set, const char *dialect, const char *condition, const char *number, const struct answered *ours) {
+static void compare(
+    const char *kind, GDALDatasetH set, const char *dialect, const char *condition, const char *number, const struct answered *ours) {
     char sql[700];
     bool is_sqlite = strcmp(dialect, "SQLITE") == 0;
     const char *id = is_sqlite ? OGR_L_GetFIDColumn(GDALDatasetGetLayer(set, 0)) : "fid";
     const char *own = id[0] && strcmp(kind, "CSV") != 0 ? id : "rowid";
     /* a column that is plainly the number of a row would be no field of what is found */
-    snprintf(sql, sizeof sql, is_sqlite ? "SELECT %s AS number, %s + 0 AS id FROM given WHERE %s" : "SELECT %s AS number, %s AS id FROM given WHERE %s", number, is_sqlite ? own : "fid", condition);
+    snprintf(sql, sizeof sql,
+        is_sqlite ? "SELECT %s AS number, %s + 0 AS id FROM given WHERE %s" : "SELECT %s AS number, %s AS id FROM given WHERE %s", number,
+        is_sqlite ? own : "fid", condition);
     OGRLayerH found = GDALDatasetExecuteSQL(set, sql, NULL, dialect);
     if (!found) {
         fprintf(stderr, "%s: %s: no answer\n", kind, sql);
@@ -127,7 +138,9 @@ static void compare(const char *kind, GDALDatasetH set, const char *dialect, con
         count++;
     }
     if (count != ours->count || other || sum != ours->sum)
-        fprintf(stderr, "%s, %s, %s: %zu rows, sum %lld, and here %zu, sum %lld; %zu rows are others\n", kind, dialect, condition, count, sum, ours->count, ours->sum, other), faults++;
+        fprintf(stderr, "%s, %s, %s: %zu rows, sum %lld, and here %zu, sum %lld; %zu rows are others\n", kind, dialect, condition, count,
+            sum, ours->count, ours->sum, other),
+            faults++;
     GDALDatasetReleaseResultSet(set, found);
 }
 
@@ -161,7 +174,8 @@ static void layer(const char *kind, GDALDatasetH set) {
         compare(kind, set, "SQLITE", asked[i][0], asked[i][1], &ours);
     }
     if (faults == before)
-        printf("%s (%s ): %zu expressions over %d rows, %zu rows taken: as OGR's SQL and SQLite say\n", kind, ours.format, COUNT(asked), rows, taken);
+        printf("%s (%s ): %zu expressions over %d rows, %zu rows taken: as OGR's SQL and SQLite say\n", kind, ours.format, COUNT(asked),
+            rows, taken);
     free(ours.ids);
     GDALClose(set);
 }

@@ -49,15 +49,17 @@ static void loop(size_t rows) {
 }
 
 int main(void) {
-    static const struct { const char *name; void (*call)(size_t); } forms[] = {{"yk_run and yk_answer_copy", library}, {"a copy of both columns", copies}, {"a loop in C", loop}};
+    static const struct {
+        const char *name;
+        void (*call)(size_t);
+    } forms[] = {{"yk_run and yk_answer_copy", library}, {"a copy of both columns", copies}, {"a loop in C", loop}};
     struct yk_field fields[] = {field("a", YK_I64, false), field("b", YK_I64, false)};
     expression = read_expression("a < b", fields, 2);
     for (size_t i = 0; i < most; i++)
         a[i] = rand() % 100, b[i] = rand() % 100;
-    for (size_t rows = 64; rows <= most; rows *= 8) {
-        if (rows == 32768)
-            rows = 65536;
-        size_t inner = 4000000 / rows;
+    static const size_t sizes[] = {64, 1024, 8192, most};
+    for (size_t size = 0; size < COUNT(sizes); size++) {
+        size_t rows = sizes[size], inner = 4000000 / rows;
         for (size_t form = 0; form < COUNT(forms); form++) {
             double times[runs];
             for (int run = 0; run < runs; run++) {
@@ -67,7 +69,8 @@ int main(void) {
                 times[run] = (now() - start) / (double)inner;
             }
             qsort(times, runs, sizeof *times, by_size);
-            printf("%6zu rows  %-26s %9.0f ns a call  %6.3f ns a row\n", rows, forms[form].name, times[runs / 2], times[runs / 2] / (double)rows);
+            printf("%6zu rows  %-26s %9.0f ns a call  %6.3f ns a row\n", rows, forms[form].name, times[runs / 2],
+                times[runs / 2] / (double)rows);
         }
     }
     yk_answers_free(&answers);

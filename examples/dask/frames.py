@@ -19,7 +19,8 @@ def rows(first, count):
     place = np.arange(first, first + count)
     a = pandas.array(place * 7919 % 10007 - 5000, dtype="Int64")
     a[place % 10 == 3] = pandas.NA
-    return pandas.DataFrame({"a": a, "b": pandas.array(place * 104729 % 9973 - 5000, dtype="Int64"), "s": [WORDS[k] for k in place * 31 % len(WORDS)]})
+    b = pandas.array(place * 104729 % 9973 - 5000, dtype="Int64")
+    return pandas.DataFrame({"a": a, "b": b, "s": [WORDS[k] for k in place * 31 % len(WORDS)]})
 
 
 def answered(expression, first, count):
@@ -37,7 +38,8 @@ def kill_one(client, parts):
     held = {worker: len(keys) for worker, keys in client.has_what().items()}
     victim = max(held, key=held.get)
     os.kill(client.run(os.getpid)[victim], signal.SIGKILL)
-    print(f"{sum(part.done() for part in parts)} of {PARTS} parts are answered: the worker that has {held[victim]} of them is killed", flush=True)
+    done = sum(part.done() for part in parts)
+    print(f"{done} of {PARTS} parts are answered: the worker that has {held[victim]} of them is killed", flush=True)
 
 
 def main():
@@ -58,7 +60,7 @@ def main():
     beside = ((frame.a + frame.b < 100) & frame.s.str.contains("nitr", regex=False)) | frame.a.isna()
     if wanted.tolist() != beside.fillna(False).tolist():
         sys.exit("wanted: another answer than pandas has")
-    print(f"Dask, {PARTS} parts of {part} rows: the same answers as over the whole, and as pandas has; {int(wanted.sum())} rows wanted")
+    print(f"Dask, {PARTS} parts of {part} rows: the same answers as over the whole, and as pandas has; {wanted.sum()} rows wanted")
 
 
 if __name__ == "__main__":

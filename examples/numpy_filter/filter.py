@@ -24,7 +24,7 @@ def timed(call):
     return answer, statistics.median(times)
 
 
-def show(what, expected, **calls):
+def show(what, expected, calls):
     """Makes the calls, holds each answer against the one that is expected, and prints how long each took."""
     told = []
     for name, call in calls.items():
@@ -45,24 +45,27 @@ def main():
 
     # An expression is read once, and run over as many batches as there are: here one of all rows.
     taken = yurkije.Expression.of("a < b and c > 5 as taken", columns)
-    expected = (a < b) & (c > 5)
-    others = {"pandas": lambda: (frame.a < frame.b) & (frame.c > 5)} if pandas else {}
-    show(f"a < b and c > 5 over {rows} rows", expected, yurkije=lambda: taken.run(columns)["taken"], numpy=lambda: (a < b) & (c > 5), **others)
-    others = {"pandas": lambda: np.flatnonzero((frame.a < frame.b) & (frame.c > 5))} if pandas else {}
-    show("the rows that it takes", np.flatnonzero(expected), yurkije=lambda: taken.select(columns), numpy=lambda: np.flatnonzero((a < b) & (c > 5)), **others)
+    calls = {"yurkije": lambda: taken.run(columns)["taken"], "numpy": lambda: (a < b) & (c > 5)}
+    if pandas:
+        calls["pandas"] = lambda: (frame.a < frame.b) & (frame.c > 5)
+    show(f"a < b and c > 5 over {rows} rows", (a < b) & (c > 5), calls)
+    calls = {"yurkije": lambda: taken.select(columns), "numpy": lambda: np.flatnonzero((a < b) & (c > 5))}
+    if pandas:
+        calls["pandas"] = lambda: np.flatnonzero((frame.a < frame.b) & (frame.c > 5))
+    show("the rows that it takes", np.flatnonzero((a < b) & (c > 5)), calls)
 
     # With nulls: numpy's masked arrays take a comparison with null for null, and so does SQL.
-    nulls = rng.random(rows) < 0.1
-    masked = np.ma.MaskedArray(b, nulls)
+    masked = np.ma.MaskedArray(b, rng.random(rows) < 0.1)
     with_nulls = {"a": a, "b": masked}
     sums = yurkije.Expression.of("a + b as sum", with_nulls)
-    expected = np.ma.filled(a + masked, -1)
-    show("a + b, one of ten null", expected, yurkije=lambda: np.ma.filled(sums.run(with_nulls)["sum"], -1), numpy=lambda: np.ma.filled(a + masked, -1))
+    calls = {"yurkije": lambda: np.ma.filled(sums.run(with_nulls)["sum"], -1), "numpy": lambda: np.ma.filled(a + masked, -1)}
+    show("a + b, one of ten null", np.ma.filled(a + masked, -1), calls)
 
     like = yurkije.Expression.of("name like '%nitr%' as found", columns)
-    expected = np.array(["nitr" in name for name in names])
-    others = {"pandas": lambda: frame.name.str.contains("nitr", regex=False)} if pandas else {}
-    show("name like '%nitr%', of a list of str", expected, yurkije=lambda: like.run(columns)["found"], python=lambda: ["nitr" in name for name in names], **others)
+    calls = {"yurkije": lambda: like.run(columns)["found"], "python": lambda: ["nitr" in name for name in names]}
+    if pandas:
+        calls["pandas"] = lambda: frame.name.str.contains("nitr", regex=False)
+    show("name like '%nitr%', of a list of str", np.array(["nitr" in name for name in names]), calls)
 
     # What does not fit is refused, with its row; numpy's sum wraps round.
     try:

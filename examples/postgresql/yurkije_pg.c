@@ -25,14 +25,14 @@ struct place {
     MemoryContext context;
     struct yk_expression expression;
     struct yk_answers answers;
-    text *words;              /* of the expression */
-    Oid type;                 /* of the row */
+    text *words; /* of the expression */
+    Oid type;    /* of the row */
     int32 typmod;
     TupleDesc row;
     size_t count;
-    int *attributes;          /* of each field */
+    int *attributes; /* of each field */
     struct yk_column *columns;
-    int64 *numbers;           /* room for the value of each, or its offsets */
+    int64 *numbers; /* room for the value of each, or its offsets */
     struct yk_type answer;
 };
 
@@ -63,13 +63,15 @@ static const char *format_of(Oid type) {
     case INT2OID: return "s";
     case INT4OID: return "i";
     case INT8OID: return "l";
-    case TEXTOID: case VARCHAROID: return "u";
+    case TEXTOID:
+    case VARCHAROID: return "u";
     case BYTEAOID: return "z";
     case FLOAT4OID: return "f";
     case FLOAT8OID: return "g";
     case NUMERICOID: return "d:";
     case DATEOID: return "tdD";
-    case TIMESTAMPOID: case TIMESTAMPTZOID: return "tsu:";
+    case TIMESTAMPOID:
+    case TIMESTAMPTZOID: return "tsu:";
     default: return "of another type";
     }
 }
@@ -92,7 +94,8 @@ static void read_expression(struct place *place) {
         Form_pg_attribute attribute = TupleDescAttr(place->row, i);
         if (attribute->attisdropped)
             continue;
-        schemas[i] = (struct ArrowSchema){.format = format_of(attribute->atttypid), .name = NameStr(attribute->attname), .flags = ARROW_FLAG_NULLABLE};
+        schemas[i] = (struct ArrowSchema){
+            .format = format_of(attribute->atttypid), .name = NameStr(attribute->attname), .flags = ARROW_FLAG_NULLABLE};
         children[schema.n_children++] = &schemas[i];
     }
     if (yk_arrow_expression_new(VARDATA_ANY(place->words), VARSIZE_ANY_EXHDR(place->words), &schema, &place->expression, &error))
@@ -126,8 +129,9 @@ static void make_columns(struct place *place) {
 
 /* Reads the expression, unless this place has read it over rows of that type. */
 static void prepare(struct place *place, text *words, Oid type, int32 typmod) {
-    if (place->expression.live && place->type == type && place->typmod == typmod && VARSIZE_ANY_EXHDR(place->words) == VARSIZE_ANY_EXHDR(words)
-        && memcmp(VARDATA_ANY(place->words), VARDATA_ANY(words), VARSIZE_ANY_EXHDR(words)) == 0)
+    if (place->expression.live && place->type == type && place->typmod == typmod &&
+        VARSIZE_ANY_EXHDR(place->words) == VARSIZE_ANY_EXHDR(words) &&
+        memcmp(VARDATA_ANY(place->words), VARDATA_ANY(words), VARSIZE_ANY_EXHDR(words)) == 0)
         return;
     if (GetDatabaseEncoding() != PG_UTF8)
         ereport(ERROR, (errcode(ERRCODE_FEATURE_NOT_SUPPORTED), errmsg("yurkije: the database's encoding is not UTF8")));
@@ -203,7 +207,8 @@ static bool copy_answer(struct place *place, struct answer *answer) {
     case YK_I16: answer->room.i16 = (struct yk_i16s_room){&answer->number.i16, 1}; break;
     case YK_I32: answer->room.i32 = (struct yk_i32s_room){&answer->number.i32, 1}; break;
     case YK_I64: answer->room.i64 = (struct yk_i64s_room){&answer->number.i64, 1}; break;
-    case YK_UTF8: case YK_BINARY:
+    case YK_UTF8:
+    case YK_BINARY:
         answer->room.offsets32 = (struct yk_i32s_room){answer->ends, 2};
         answer->room.data = (struct yk_bytes_room){palloc(size.data + 1), size.data};
         break;

@@ -37,9 +37,11 @@ static const char *past_blanks(const char *at) { return at + strspn(at, " \t\r\n
 
 /* The kind of a type's name, 0 of none. */
 static uint32_t kind_named(const char *name, size_t length) {
-    static const struct { const char *name; uint32_t kind; } kinds[] = {
-        {"bool", YK_BOOL}, {"i8", YK_I8}, {"i16", YK_I16}, {"i32", YK_I32}, {"i64", YK_I64}, {"u8", YK_U8}, {"u16", YK_U16}, {"u32", YK_U32},
-        {"u64", YK_U64}, {"utf8", YK_UTF8}, {"binary", YK_BINARY}};
+    static const struct {
+        const char *name;
+        uint32_t kind;
+    } kinds[] = {{"bool", YK_BOOL}, {"i8", YK_I8}, {"i16", YK_I16}, {"i32", YK_I32}, {"i64", YK_I64}, {"u8", YK_U8}, {"u16", YK_U16},
+        {"u32", YK_U32}, {"u64", YK_U64}, {"utf8", YK_UTF8}, {"binary", YK_BINARY}};
     for (size_t i = 0; i < sizeof kinds / sizeof *kinds; i++)
         if (strlen(kinds[i].name) == length && memcmp(kinds[i].name, name, length) == 0)
             return kinds[i].kind;
@@ -97,7 +99,9 @@ struct cell {
     uint8_t valid;
 };
 
-static int64_t least(uint32_t kind) { return kind == YK_I8 ? INT8_MIN : kind == YK_I16 ? INT16_MIN : kind == YK_I32 ? INT32_MIN : kind == YK_I64 ? INT64_MIN : 0; }
+static int64_t least(uint32_t kind) {
+    return kind == YK_I8 ? INT8_MIN : kind == YK_I16 ? INT16_MIN : kind == YK_I32 ? INT32_MIN : kind == YK_I64 ? INT64_MIN : 0;
+}
 
 static int64_t most(uint32_t kind) {
     static const int64_t most_of[] = {0, 1, INT8_MAX, INT16_MAX, INT32_MAX, INT64_MAX, UINT8_MAX, UINT16_MAX, UINT32_MAX, INT64_MAX};
@@ -173,9 +177,7 @@ static struct yk_room room_of(uint32_t kind, uint8_t *validity, void *values, in
     case YK_U16: room.u16 = (struct yk_u16s_room){values, 1}; break;
     case YK_U32: room.u32 = (struct yk_u32s_room){values, 1}; break;
     case YK_U64: room.u64 = (struct yk_u64s_room){values, 1}; break;
-    default:
-        room.offsets32 = (struct yk_i32s_room){ends, 2};
-        room.data = data;
+    default: room.offsets32 = (struct yk_i32s_room){ends, 2}; room.data = data;
     }
     return room;
 }
@@ -228,7 +230,8 @@ static void yurkije(sqlite3_context *context, int count, sqlite3_value **values)
     struct cell cells[most_columns];
     char message[300];
     struct yk_error error = {.message = {message, sizeof message}};
-    const char *declared = count < 2 ? NULL : (const char *)sqlite3_value_text(values[0]), *text = count < 2 ? NULL : (const char *)sqlite3_value_text(values[1]);
+    const char *declared = count < 2 ? NULL : (const char *)sqlite3_value_text(values[0]),
+               *text = count < 2 ? NULL : (const char *)sqlite3_value_text(values[1]);
     struct place *place = declared && text ? place_of(context, declared, text) : NULL;
     if (!declared || !text)
         sqlite3_result_error(context, "yurkije: expected columns, an expression, and a value for each column", -1);
@@ -240,7 +243,8 @@ static void yurkije(sqlite3_context *context, int count, sqlite3_value **values)
     }
     for (size_t i = 0; i < place->count; i++)
         if (!borrow(values[i + 2], &place->fields[i], &columns[i], &cells[i])) {
-            char *words = sqlite3_mprintf("yurkije: a value is none of column %.*s", (int)place->fields[i].name.length, place->fields[i].name.at);
+            char *words =
+                sqlite3_mprintf("yurkije: a value is none of column %.*s", (int)place->fields[i].name.length, place->fields[i].name.at);
             sqlite3_result_error(context, words ? words : "out of memory", -1);
             sqlite3_free(words);
             return;

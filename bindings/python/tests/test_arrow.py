@@ -6,7 +6,7 @@ import tempfile
 import unittest
 
 import numpy as np
-from yurkije import ColumnError, Error, Expression, ExpressionError, Stream, evaluate
+from yurkije import ColumnError, Error, Expression, ExpressionError, Stream, evaluate, select
 from yurkije import _capsules as capsules
 
 try:
@@ -21,13 +21,14 @@ class Child:
     """One column of a batch that `evaluate` answered, as an array of its own."""
 
     def __init__(self, answers, number):
-        self.schema, self.array = answers.__arrow_c_array__()
-        self.number = number
+        self.answers, self.number = answers, number
 
     def __arrow_c_array__(self, requested_schema=None):
         schema_capsule, schema = capsules.new(b"arrow_schema")
         array_capsule, array = capsules.new(b"arrow_array")
-        for target, source, name in ((schema, self.schema, b"arrow_schema"), (array, self.array, b"arrow_array")):
+        whole_schema, whole_array = self.answers.__arrow_c_array__()
+        for target, source, name in ((schema, whole_schema, b"arrow_schema"), (array, whole_array, b"arrow_array")):
+            # moved out of the whole, which is released without it
             child = capsules.struct_in(source, name).children[self.number].contents
             ctypes.memmove(ctypes.byref(target), ctypes.byref(child), ctypes.sizeof(child))
             child.release = type(child.release)()
@@ -40,9 +41,11 @@ class Capsules(unittest.TestCase):
         for _ in range(2):
             second = evaluate("more * 2 as twice, t, big, none", first)
             self.assertEqual(second["twice"].tolist(), [4, 6, None])
+            self.assertEqual(Expression.of("more + 1", first).columns, {"more": "i64?"})
             self.assertEqual(second["t"].tolist(), ["x", None, "a text of more than twelve bytes"])
             self.assertEqual(second["big"].tolist(), [False, True, None])
             self.assertEqual(second["none"].tolist(), [None] * 3)
+            self.assertEqual(select("twice > 4 and t is not null or big is null", second).tolist(), [2])
         del first
         gc.collect()
         self.assertEqual(second["twice"].tolist(), [4, 6, None])

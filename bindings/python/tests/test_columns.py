@@ -58,6 +58,8 @@ class Numpy(unittest.TestCase):
             self.assertEqual(answers["t"].tolist(), ["nut", "żółw", ""])
             self.assertEqual(answers["found"].tolist(), [True, False, False])
             self.assertEqual(answers["none"].tolist(), [False, False, True])
+        zeros = ["a\0b", "", None, "\0"]
+        self.assertEqual(evaluate("t", {"t": zeros})["t"].tolist(), zeros)
         long = [None if row % 5 == 3 else f"a text of row {row}, ł" * (row % 3) for row in range(20000)]
         self.assertEqual(evaluate("t", {"t": long})["t"].tolist(), long)
 

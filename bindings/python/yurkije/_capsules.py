@@ -100,7 +100,9 @@ def new(name: bytes) -> tuple[Any, Any]:
 
 
 def struct_in(capsule: object, name: bytes) -> Any:
-    """Returns the struct in a capsule of that name. It is there as long as the capsule is."""
+    """Returns the struct in a capsule of that name, which keeps the capsule: it is there as long as that is."""
     if not _python.PyCapsule_IsValid(capsule, name):
         raise TypeError(f"expected a capsule named {name.decode()}, not {capsule!r}")
-    return KINDS[name].from_address(_python.PyCapsule_GetPointer(capsule, name))
+    struct = KINDS[name].from_address(_python.PyCapsule_GetPointer(capsule, name))
+    struct.capsule = capsule
+    return struct

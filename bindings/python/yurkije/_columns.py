@@ -3,6 +3,8 @@ from __future__ import annotations
 
 import ctypes as c
 from collections.abc import Sequence
+from itertools import repeat
+from operator import is_
 from typing import Any, Optional
 
 import numpy as np
@@ -64,19 +66,24 @@ def _of_integers(values: Any, nulls: Optional[Any], type_name: str) -> Borrowed:
     return column
 
 
-def _of_bytes(values: list[Optional[bytes]], type_name: str) -> Borrowed:
+def _nulls_of(values: list[Any]) -> Any:
+    """Returns which values are None."""
+    return np.fromiter(map(is_, values, repeat(None)), np.bool_, len(values))
+
+
+def _of_bytes(values: list[Optional[bytes]], has_null: bool, type_name: str) -> Borrowed:
     """Byte strings by offsets: of 64 bits where 32 are too few."""
-    nulls = np.fromiter((value is None for value in values), np.bool_, len(values)) if None in values else None
-    held = values if nulls is None else [value or b"" for value in values]
-    data = b"".join(held)  # type: ignore[arg-type]
-    return _by_offsets(np.fromiter(map(len, held), np.int64, len(held)), data, nulls, type_name)  # type: ignore[arg-type]
+    held: list[Any] = [value or b"" for value in values] if has_null else values
+    ends = np.cumsum(np.fromiter(map(len, held), np.int64, len(held)))
+    return _by_ends(ends, b"".join(held), _nulls_of(values) if has_null else None, type_name)
 
 
-def _by_offsets(lengths: Any, data: bytes, nulls: Optional[Any], type_name: str) -> Borrowed:
-    column = Borrowed(type_name, len(lengths))
+def _by_ends(ends: Any, data: bytes, nulls: Optional[Any], type_name: str) -> Borrowed:
+    """Byte strings that lie one behind the other, by where each ends."""
+    column = Borrowed(type_name, len(ends))
     is_large = len(data) > 0x7FFFFFFF
-    offsets = np.zeros(len(lengths) + 1, np.int64 if is_large else np.int32)
-    np.cumsum(lengths, out=offsets[1:])
+    offsets = np.zeros(len(ends) + 1, np.int64 if is_large else np.int32)
+    offsets[1:] = ends
     if is_large:
         column.raw.kind = LARGE[type_name]
     column.lend("offsets64" if is_large else "offsets32", offsets)
@@ -86,39 +93,62 @@ def _by_offsets(lengths: Any, data: bytes, nulls: Optional[Any], type_name: str)
     return column
 
 
-def _of_texts(values: list[Optional[str]]) -> Borrowed:
-    """Texts by offsets. Texts of ASCII alone, as most are, are encoded in one call."""
-    nulls = np.fromiter((value is None for value in values), np.bool_, len(values)) if None in values else None
-    held = values if nulls is None else [value or "" for value in values]
-    whole = "".join(held)  # type: ignore[arg-type]
-    if whole.isascii():
-        return _by_offsets(np.fromiter(map(len, held), np.int64, len(held)), whole.encode(), nulls, "utf8")  # type: ignore[arg-type]
-    return _of_bytes([None if value is None else value.encode() for value in values], "utf8")
+def _of_texts(values: list[Optional[str]], has_null: bool) -> Borrowed:
+    """Texts by offsets. They are encoded in one call, with a zero byte behind each, which tells where it ends."""
+    held: list[Any] = [value or "" for value in values] if has_null else values
+    nulls = _nulls_of(values) if has_null else None
+    data = "\0".join([*held, ""]).encode()
+    ends = np.flatnonzero(np.frombuffer(data, np.uint8) == 0)
+    if len(ends) == len(held):
+        ends -= np.arange(len(held))
+        return _by_ends(ends, data.translate(None, b"\0"), nulls, "utf8")
+    # some text has a zero byte of its own
+    return _of_bytes([None if value is None else value.encode() for value in values], has_null, "utf8")
 
 
 def _of_objects(name: str, values: list[Any], wanted: Optional[str]) -> Borrowed:
     """A list of one type and None, of which the first value that is not None tells the type where none is wanted."""
-    first = next((value for value in values if value is not None), None)
-    kind = wanted or {bool: "bool", int: "i64", str: "utf8", bytes: "binary"}.get(type(first))
+    classes = set(map(type, values))
+    has_null = type(None) in classes
+    classes.discard(type(None))
+    kind = wanted or (TYPES.get(min(classes, key=_place_in(values))) if classes else None)
     if kind is None:
-        raise refuse(name, "every row is null, and no type is said" if first is None else f"{type(first).__name__} is not taken")
-    classes: Any = {"bool": (bool, np.bool_), "utf8": str, "binary": bytes}.get(kind, (int, np.integer))
-    other = next((v for v in values if v is not None and (not isinstance(v, classes) or (type(v) is bool and kind != "bool"))), None)
-    if other is not None:
-        raise refuse(name, f"{other!r} is no {kind}")
+        first = min(classes, key=_place_in(values)).__name__ if classes else ""
+        raise refuse(name, f"{first} is not taken" if classes else "every row is null, and no type is said")
+    allowed = CLASSES.get(kind, (int, np.integer))
+    if not all(issubclass(it, allowed) and not (it is bool and kind != "bool") for it in classes):
+        raise refuse(name, f"{_other_than(values, allowed, kind)!r} is no {kind}")
     if kind == "utf8":
-        return _of_texts(values)
+        return _of_texts(values, has_null)
     if kind == "binary":
-        return _of_bytes(values, "binary")
-    nulls = np.array([value is None for value in values], np.bool_) if None in values else None
-    held = [value or 0 for value in values]
+        return _of_bytes(values, has_null, "binary")
+    return _of_numbers(name, [value or 0 for value in values] if has_null else values, _nulls_of(values) if has_null else None, kind)
+
+
+# The types of Python by their first value, and the classes that a type takes.
+TYPES: dict[Any, str] = {bool: "bool", int: "i64", str: "utf8", bytes: "binary"}
+CLASSES: dict[str, Any] = {"bool": (bool, np.bool_), "utf8": str, "binary": bytes}
+
+
+def _place_in(values: list[Any]) -> Any:
+    """Returns what tells where a class comes first."""
+    return lambda cls: next(place for place, value in enumerate(values) if type(value) is cls)
+
+
+def _other_than(values: list[Any], allowed: Any, kind: str) -> Any:
+    """Returns the first value that is of no such class."""
+    return next(v for v in values if v is not None and (not isinstance(v, allowed) or (type(v) is bool and kind != "bool")))
+
+
+def _of_numbers(name: str, held: list[Any], nulls: Optional[Any], kind: str) -> Borrowed:
+    """Truth values, or whole numbers, which have to be of their type."""
     if kind == "bool":
         return _of_bools(np.array(held, np.bool_), nulls)
     try:
         return _of_integers(np.array(held, INTEGER_TYPES[kind]), nulls, kind)
     except OverflowError:
-        low = next(value for value in held if not np.iinfo(INTEGER_TYPES[kind]).min <= value <= np.iinfo(INTEGER_TYPES[kind]).max)
-        raise refuse(name, f"{low} is no {kind}") from None
+        ends = np.iinfo(INTEGER_TYPES[kind])
+        raise refuse(name, f"{next(value for value in held if not ends.min <= value <= ends.max)} is no {kind}") from None
 
 
 def _of_array(name: str, array: Any, wanted: Optional[str]) -> Borrowed:

@@ -5,6 +5,7 @@ import ctypes as c
 import re
 import threading
 from collections.abc import Iterator, Mapping
+from functools import cached_property
 from typing import Any, Optional, Union
 
 import numpy as np
@@ -65,6 +66,11 @@ def words_of(text: str) -> set[str]:
     return {(found[1] or found[2] or "").replace('""', '"') for found in TOKEN.finditer(text)} - {""}
 
 
+def _is_batch(source: Any) -> bool:
+    """Whether columns are handed over as a batch of Arrow."""
+    return hasattr(source, "__arrow_c_array__")
+
+
 def _rows_of(columns: list[Borrowed], rows: Optional[int], source: Any) -> int:
     if rows is not None:
         return rows
@@ -106,7 +112,7 @@ class Expression:
     def of(cls, text: str, columns: Any) -> Expression:
         """Returns the expression over the types that columns have: a mapping of columns, a frame of pandas, or anything with
         `keys()` and the columns by name; or a batch with `__arrow_c_array__`."""
-        if not hasattr(columns, "keys"):
+        if _is_batch(columns):
             return cls._of_schema(text, capsules.struct_in(columns.__arrow_c_array__()[0], b"arrow_schema"))
         named = words_of(text)
         names = [str(name) for name in columns.keys()]
@@ -146,6 +152,11 @@ class Expression:
         self._local.program = program
         return program
 
+    @cached_property
+    def answers(self) -> tuple[Answer, ...]:
+        """The names and types of the answers."""
+        return tuple(Answer(*told) for told in self._typed(lib.yk_answer_count, lib.yk_answer_name, lib.yk_answer_type))
+
     def _handle(self) -> Handle:
         program = self._local.program or self._begin()
         return program.raw
@@ -165,11 +176,6 @@ class Expression:
     def columns(self) -> dict[str, str]:
         """The columns that are read, with their types."""
         return dict(self._read)
-
-    @property
-    def answers(self) -> tuple[Answer, ...]:
-        """The names and types of the answers."""
-        return tuple(Answer(*told) for told in self._typed(lib.yk_answer_count, lib.yk_answer_name, lib.yk_answer_type))
 
     def text_of_answer(self, answer: int, optimized: bool = False) -> str:
         """Returns the text of an answer, as it was read or as it is run."""
@@ -198,7 +204,7 @@ class Expression:
         """
         told, held = Told(), Held()
         names = [name for name, _ in self._read]
-        if not hasattr(columns, "keys"):
+        if _is_batch(columns):
             schema_capsule, array_capsule = columns.__arrow_c_array__()
             schema = capsules.struct_in(schema_capsule, b"arrow_schema")
             batch = capsules.struct_in(array_capsule, b"arrow_array")
@@ -212,6 +218,8 @@ class Expression:
 
     def select(self, columns: Any, answer: int = 0, rows: Optional[int] = None) -> Any:
         """Returns the numbers of the rows in which an answer, a truth value, is true: an array of int64, ascending."""
+        if _is_batch(columns):
+            return np.flatnonzero(np.ma.filled(self.run(columns).column(answer), False))
         told, borrowed = Told(), self._borrowed(columns)
         raws = (Column * max(len(borrowed), 1))(*[column.raw for column in borrowed])
         count = _rows_of(borrowed, rows, columns)
@@ -282,7 +290,7 @@ def evaluate(text: str, columns: Any, rows: Optional[int] = None) -> Union[Answe
     >>> evaluate("a + b as sum", {"a": np.array([1, 2]), "b": [3, None]})["sum"]
     masked_array(data=[4, --], mask=[False,  True], fill_value=999999)
     """
-    if not hasattr(columns, "keys") and hasattr(columns, "__arrow_c_stream__"):
+    if not _is_batch(columns) and not hasattr(columns, "keys") and hasattr(columns, "__arrow_c_stream__"):
         return Stream(text, columns)
     return Expression.of(text, columns).run(columns, rows)
 
