@@ -39,12 +39,12 @@ fn a_null_is_no_truth_value(rt: HostRuntime) {
     let lines = Case {
         null: "f",
         any_truths: true,
-        ..plain("col b bool?\nget b\n", "b\nt\nf\n\"f\"\n0\n")
+        ..plain("col b bool?\nget b\nas b\n", "b\nt\nf\n\"f\"\n0\n")
     };
     assert!(rt; gives(rt, lines, "b\ntrue\nf\nfalse\nfalse\n"));
     let none = Case {
         any_truths: true,
-        ..plain("col b bool\nget b\n", "b\nt\n\"\"\n")
+        ..plain("col b bool\nget b\nas b\n", "b\nt\n\"\"\n")
     };
     assert!(rt; ends(rt, none, "b\ntrue\n", 2, "row 2, column b: \"\" is no bool"));
 }
