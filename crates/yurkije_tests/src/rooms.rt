@@ -8,6 +8,7 @@ use vortex_columns::Column;
 use yurkije_columns::{Room, RoomError, Size, copy_answer, put_text, size_of};
 
 /// The buffers that tests hand in.
+#[derive(Drop)]
 struct Rooms {
     validity: [u8; 1],
     i32s: [i32; 5],
