@@ -1,7 +1,7 @@
 -- The fields of a batch, row by row, with its nulls.
 use Rattle.std.specs.Prelude.{◌≡◌, Bool, Option, Some, None, ℕ, List, [], ◌∷◌, length}
 use Rattle.std.specs.Prelude.{if◌then◌else◌}
-use Rattle.csv.specs.Records.{fields_of, partial_of}
+use Rattle.csv.specs.Records.{cut_from, last_end, Rising}
 use Rattle.rowfn_csv.specs.declared.records.Span.{Span}
 use Rattle.rowfn_csv.specs.declared.batch.Batch.TheInside.{Inside}
 
@@ -21,10 +21,15 @@ marked (f ∷ fs) (m ∷ ms) = field_said f m ∷ marked fs ms
 
 abbrev pub batch_of : Inside → BatchView
 batch_of a = record {
-  fields = marked (fields_of a.fields) a.nulls.items;
+  fields = marked (cut_from 0 a.ends.items a.bytes.items) a.nulls.items;
   spans = a.spans.items;
 }
 
--- each field has a mark, and none is begun
+-- each field has a mark; the fields lie one behind the other, and no byte lies behind the last
+pub record AreParts (bytes ends : List ℕ) (nulls : List Bool) : Type 0 where
+  pub counts : length ends ≡ length nulls
+  pub rising : Rising 0 ends (length bytes)
+  pub whole : last_end 0 ends ≡ length bytes
+
 abbrev pub IsBatch : Inside → Type 0
-IsBatch a = (length (fields_of a.fields) ≡ length a.nulls.items) × (partial_of a.fields ≡ [])
+IsBatch a = AreParts a.bytes.items a.ends.items a.nulls.items

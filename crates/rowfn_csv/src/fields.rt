@@ -1,6 +1,7 @@
 //! The fields of a record as a batch takes them.
 ghost use Rattle.std.specs.Prelude.{◌≡◌, ◌≢◌, ◌++◌, ◌&&◌, Bool, not, List, map, OnOk, IfOk};
-ghost use Rattle.csv.specs.Records.{fields_of, field_at};
+ghost use Rattle.std.specs.Prelude.{option_map};
+ghost use Rattle.csv.specs.Records.{fields_of};
 ghost use Rattle.rowfn_csv.specs.Records.{Field, SaysFields, quoted_at, reads_null, field_taken};
 ghost use Rattle.rowfn_csv.specs.Records.{without_line_end, field_spelled};
 ghost use Rattle.rowfn_csv.specs.Scanning.{Knows};
@@ -12,22 +13,22 @@ use crate::truths::{Spelled, respelled};
 use csv::ByteRecord;
 use std::alloc::AllocError;
 
-/// Whether a field of a record is the text that stands for null.
+/// Whether a field, if there is one, is the text that stands for null.
 #[inline(always)]
-fn reads_null(fields: &ByteRecord, null: &[u8], index: usize) -> bool
-    ensures { result ≡ reads_null null.now (field_at (fields_of fields.now) index) }
+fn reads_null(field: Option<&[u8]>, null: &[u8]) -> bool
+    ensures { result ≡ reads_null null.now (option_map (λ f. f.now) field.entry) }
 {
-    match fields.get(index) {
+    match field {
         Some(field) => is_text(field, null),
         None => false,
     }
 }
 
-/// Whether a field of a record says null: the text that stands for null, in no quotes. `line` has
-/// the record's bytes.
+/// Whether a field of a record, at that index, says null: the text that stands for null, in no
+/// quotes. `line` has the record's bytes.
 #[inline(always)]
 fn is_null(
-    fields: &ByteRecord,
+    field: Option<&[u8]>,
     line: &[u8],
     format: &Format<'_>,
     quotes: &mut Quotes,
@@ -38,9 +39,9 @@ fn is_null(
     ensures null { (closed : Bool) → (said : List Field) → format.now.delimiter ≢ 34
         → SaysFields format.now.delimiter closed (without_line_end line.now) said
         → IfOk result (λ is_null. is_null ≡ (reads_null format.now.null.now
-        (field_at (fields_of fields.now) index) && not (quoted_at said index))) }
+        (option_map (λ f. f.now) field.entry) && not (quoted_at said index))) }
 {
-    Ok(reads_null(fields, format.null, index) && !quotes.is_quoted(line, format.delimiter, index)?)
+    Ok(reads_null(field, format.null) && !quotes.is_quoted(line, format.delimiter, index)?)
 }
 
 /// Adds the fields of a record at those places to the batch; an empty one where the record has
@@ -61,9 +62,9 @@ pub fn add_fields(
     ensures spans { OnOk result (batch.new.spans ≡ batch.old.spans) }
 {
     for place in places {
-        let is_null = is_null(fields, line, format, quotes, *place)?;
-        let field = fields.get(*place).unwrap_or(&[]);
-        batch.push_field(field, is_null)?;
+        let field = fields.get(*place);
+        let is_null = is_null(field, line, format, quotes, *place)?;
+        batch.push_field(field.unwrap_or(&[]), is_null)?;
     }
     Ok(())
 }
@@ -87,9 +88,9 @@ pub fn add_spelled_fields(
 {
     for column in columns {
         let Spelled { place, is_truth } = *column;
-        let is_null = is_null(fields, line, format, quotes, place)?;
-        let field = respelled(fields.get(place).unwrap_or(&[]), is_truth);
-        batch.push_field(field, is_null)?;
+        let field = fields.get(place);
+        let is_null = is_null(field, line, format, quotes, place)?;
+        batch.push_field(respelled(field.unwrap_or(&[]), is_truth), is_null)?;
     }
     Ok(())
 }
