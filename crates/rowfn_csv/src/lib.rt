@@ -15,7 +15,7 @@ pub mod truths;
 pub use batch::Batch;
 pub use csv::ByteRecord;
 pub use format::Format;
-pub use quoting::{push_quoted, quote_from};
+pub use quoting::{field_of, push_quoted, quote_from};
 pub use raw::without_line_end;
 pub use records::{Found, ReadError, Records, Span};
 pub use truths::{Spelled, truth_spelled};

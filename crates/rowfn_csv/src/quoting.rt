@@ -93,3 +93,16 @@ pub fn quote_from(
     bytes.truncate(start);
     push_quoted(bytes, spare)
 }
+
+/// A text as a field: as it stands, or in quotes, where it needs them. `in_quotes` is the text in
+/// quotes.
+pub fn field_of<'t>(text: &'t [u8], in_quotes: &'t [u8], format: &Format<'_>) -> &'t [u8]
+    requires { in_quotes.now ≡ quoted text.now }
+    ensures { result.now ≡ text_field format.now.delimiter format.now.null.now text.now }
+{
+    if needs_quotes(text, format) {
+        in_quotes
+    } else {
+        text
+    }
+}
