@@ -29,7 +29,7 @@ module _ {A : Type 0} where
       → all_some os ≡ Some xs → o ≡ Some x → all_some (os ++ o ∷ []) ≡ Some (xs ++ x ∷ [])
   some_more os xs o x h e = appended os o ∙ (λ i. with_last (h i) (e i))
 
-  none_first : (o : Option A) → with_first o None ≡ None
+  pub none_first : (o : Option A) → with_first o None ≡ None
   none_first None = refl
   none_first (Some x) = refl
 

@@ -326,19 +326,19 @@ is_there : {X : Type 0} (f : X → Value) (o : Option X) (t : LogicalType) (n : 
 is_there f (Some x) t n c k e h = refl
 is_there f None t n c k e h = let allowed = null_allowed t c e in cc
 
--- one more cell
-pub cell_read : {X : Type 0} (t : LogicalType) (n : Bool) (value : X → Value)
-    (cells : List (Option (Bor (List ℕ)))) (i : ℕ) (d : Option (Bor (List ℕ))) (items : List X)
+-- one more cell of those that are found at the elements of a list
+pub cell_read : {X W : Type 0} (t : LogicalType) (n : Bool) (value : X → Value)
+    (cell : W → Option (List ℕ)) (places : List W) (i : ℕ) (d : W) (items : List X)
     (valid : List Bool) (item : Option X) (blank : X)
-    → is_nullable t ≡ n → i < length cells
-    → AreCells n (map value items) valid (cell_values t (map cell_in (take i cells)))
-    → cell_value t (cell_in (get_or cells i d)) ≡ Some (item_or_null value item)
+    → is_nullable t ≡ n → i < length places
+    → AreCells n (map value items) valid (cell_values t (map cell (take i places)))
+    → cell_value t (cell (get_or places i d)) ≡ Some (item_or_null value item)
     → text_bytes (value blank) ≡ []
     → AreCells n (map value (items ++ unwrap_or item blank ∷ [])) (valid ++ is_some item ∷ [])
-    (cell_values t (map cell_in (take (i + 1) cells)))
-cell_read t n value cells i d items valid item blank nullable lt h e fit = record {
+    (cell_values t (map cell (take (i + 1) places)))
+cell_read t n value cell places i d items valid item blank nullable lt h e fit = record {
   says =
-      next_some (cell_value t) cell_in cells i d (cells_from (map value items) valid)
+      next_some (cell_value t) cell places i d (cells_from (map value items) valid)
       (item_or_null value item) lt h.says e
       ∙ ap (λ (vs : List Value). Some vs)
       (sym
@@ -348,7 +348,7 @@ cell_read t n value cells i d items valid item blank nullable lt h e fit = recor
       (sym (item_is value item blank))));
   items = subst (λ (vs : List Value). AreItems n vs (valid ++ b ∷ [])) (sym more)
       (items_more n (map value items) valid v b h.items
-      (is_there value item t n (cell_in (get_or cells i d)) nullable e)
+      (is_there value item t n (cell (get_or places i d)) nullable e)
       (blank_fits value item blank fit));
 }
   where

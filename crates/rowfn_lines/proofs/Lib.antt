@@ -2,6 +2,8 @@ pub mod AllSome
 pub mod CellRows
 pub mod Numbers
 pub mod ShortNumbers
+pub mod IntegerTexts
+pub mod Apart
 pub mod Marks
 pub mod Words
 pub mod WordsSaid

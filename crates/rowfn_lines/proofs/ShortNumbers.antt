@@ -1,16 +1,16 @@
 -- Numbers of 64 bits, which are read digit by digit.
 use Rattle.std.proofs.Common.{◌≡◌, ℕ, ◌+◌, ◌-◌, ◌*◌, ◌<◌, ◌≤◌, Bool, true, false, List, [], ◌∷◌}
 use Rattle.std.proofs.Common.{ap, sym, ◌∙◌, ◌&&◌, refl, arith, length, get_or, drop, Some, ℤ, pos}
-use Rattle.std.proofs.Common.{zero, suc, ◌-ℤ◌, ◌^◌, subst}
+use Rattle.std.proofs.Common.{zero, suc, ◌-ℤ◌, ◌^◌, subst, Option, ◌≢◌}
 use Rattle.std.specs.Int.{w128}
 use mir.Val.{to_z, of_z, hbits, SFits}
 use Rattle.std.proofs.lemmas.Int.{ints, to_z-of_z}
-use Rattle.std.specs.Prelude.{option_map}
+use Rattle.std.specs.Prelude.{option_map, MatchOption, ⊤}
 use Rattle.std.specs.List.{list_all}
 use Rattle.std.specs.Char.{is_ascii_digit}
 use Rattle.std.proofs.lemmas.List.{drop_more, drop_all}
-use Rattle.rowfn_lines.specs.Commands.{decimal_from, digits_of, negative}
-use Rattle.rowfn_lines.proofs.Numbers.{are_digits, digits_known}
+use Rattle.rowfn_lines.specs.Commands.{decimal_from, digits_of, negative, integer_of}
+use Rattle.rowfn_lines.proofs.Numbers.{are_digits, digits_known, integer_plain}
 
 -- what is left behind the first k bytes says the rest of the number, and is of digits where all are
 pub record SaysFrom (bs : List ℕ) (k n : ℕ) : Type 0 where
@@ -44,12 +44,6 @@ last_digit bs k n some past at =
     number : n ≡ decimal_from 0 bs
     number = sym (ap (decimal_from n) (drop_all k bs past)) ∙ at.number
 
-pub short_plain : (w bytes : List ℕ) (n : ℕ) (z : ℤ) → bytes ≡ w → digits_of bytes ≡ Some n
-    → z ≡ pos n → option_map pos (digits_of w) ≡ Some z
-short_plain w bytes n z same said is =
-    ap (λ (bs : List ℕ). option_map pos (digits_of bs)) (sym same) ∙ ap (option_map pos) said
-    ∙ ap Some (sym is)
-
 minus : (n : ℕ) → pos 0 -ℤ pos n ≡ negative n
 minus zero = refl
 minus (suc n) = grind (arith, ints)
@@ -67,8 +61,20 @@ turned n z h is =
     same : pos 0 -ℤ z ≡ negative n
     same = ap (λ (y : ℤ). pos 0 -ℤ y) is ∙ minus n
 
-pub short_negative : (w bytes : List ℕ) (n : ℕ) (z : ℤ) → bytes ≡ w → digits_of bytes ≡ Some n
-    → z ≡ negative n → option_map negative (digits_of w) ≡ Some z
-short_negative w bytes n z same said is =
-    ap (λ (bs : List ℕ). option_map negative (digits_of bs)) (sym same)
-    ∙ ap (option_map negative) said ∙ ap Some (sym is)
+-- bytes that begin with a minus sign, and others
+pub minus_first : (w rest : List ℕ) (b : ℕ) → w ≡ b ∷ rest → b ≡ 45
+    → option_map negative (digits_of rest) ≡ integer_of w
+minus_first w rest b is first =
+    sym (ap integer_of is ∙ ap (λ (x : ℕ). integer_of (x ∷ rest)) first)
+
+pub plain_first : (w rest : List ℕ) (b : ℕ) → w ≡ b ∷ rest → b ≢ 45
+    → option_map pos (digits_of w) ≡ integer_of w
+plain_first w rest b is other =
+    sym
+    (integer_plain w
+    (λ more e. other (ap (λ (bs : List ℕ). get_or bs 0 0) (sym is ∙ e))))
+
+-- a number that is said in the one way is said in the other
+pub said_as : (a b r : Option ℤ) → a ≡ b → MatchOption r ⊤ (λ z. a ≡ Some z)
+    → MatchOption r ⊤ (λ z. b ≡ Some z)
+said_as a b r e h = subst (λ (o : Option ℤ). MatchOption r ⊤ (λ z. o ≡ Some z)) e h

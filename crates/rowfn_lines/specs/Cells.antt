@@ -1,7 +1,8 @@
 -- Items that were read, with a blank under each null, and the column that is made of them.
 use Rattle.std.specs.Int.{w128}
-use Rattle.std.specs.Prelude.{◌≡◌, ℤ, MatchOption, FitsSigned, ℕ, ◌<◌, Bool, true, false, Option}
-use Rattle.std.specs.Prelude.{Some, None, List, [], ◌∷◌, length, map, slice_index_or}
+use Rattle.std.specs.List.{range_with_len}
+use Rattle.std.specs.Prelude.{◌≡◌, ℤ, MatchOption, FitsSigned, ℕ, ◌<◌, ◌+◌, ◌*◌, Bool, true, false}
+use Rattle.std.specs.Prelude.{Option, Some, None, List, [], ◌∷◌, length, map, slice_index_or}
 use Rattle.std.specs.Prelude.{option_map, if◌then◌else◌}
 use Rattle.std.specs.Borrow.{Bor}
 use Rattle.vortex_types.specs.LogicalTypes.{LogicalType}
@@ -52,6 +53,13 @@ pub record AreCells (n : Bool) (vs : List Value) (valid : List Bool)
 abbrev pub cells_validity : Bool → List Bool → ValidityView
 cells_validity false valid = record { form = non_nullable; bits = [] }
 cells_validity true valid = record { form = array; bits = valid }
+
+-- the cell of column j in row i, of rows of w cells, and those of the first n rows
+abbrev pub cell_apart : List (Option (List ℕ)) → ℕ → ℕ → ℕ → Option (List ℕ)
+cell_apart cs w j i = slice_index_or cs (i * w + j) None
+
+abbrev pub cells_apart : List (Option (List ℕ)) → ℕ → ℕ → ℕ → List (Option (List ℕ))
+cells_apart cs w n j = map (cell_apart cs w j) (range_with_len 0 n)
 
 -- the number that a word says is read, but for one of more bits than 128
 abbrev pub ReadsNumber : Option ℤ → Option ℤ → Type 0

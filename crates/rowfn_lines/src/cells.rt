@@ -1,6 +1,7 @@
 //! Columns and values that are read from cells, each a text or null.
 ghost use Rattle.std.specs.Prelude.{◌≡◌, refl, [], Bool, None, map, option_map, is_some};
-ghost use Rattle.std.specs.Prelude.{MatchOption};
+ghost use Rattle.std.specs.Prelude.{MatchOption, Option, List};
+ghost use Rattle.std.specs.Option.{option_and_then};
 ghost use Rattle.vortex_errors.specs.Answers.{AnswersUnlessMemory};
 ghost use Rattle.vortex_types.specs.LogicalTypes.{LogicalType, bool_type, integer_type, text_type};
 ghost use Rattle.vortex_types.specs.LogicalTypes.{is_nullable};
@@ -11,6 +12,7 @@ ghost use Rattle.vortex_types.specs.Typing.{HasType};
 ghost use Rattle.vortex_columns.specs.ValidityView.{validity_of};
 ghost use Rattle.rowfn_lines.specs.Commands.{text_bytes, cell_value, cell_values, column_from};
 ghost use Rattle.rowfn_lines.specs.Commands.{column_of_cells, literal_of_cell, cell_fits};
+ghost use Rattle.rowfn_lines.specs.Commands.{column_where};
 ghost use Rattle.rowfn_lines.specs.Cells.{cell_in, AreCells, cells_validity};
 ghost use Rattle.rowfn_lines.specs.Answering.{ReadsItem, ReadsCell, MakesColumn};
 
@@ -23,14 +25,14 @@ use vortex_columns::{
 };
 
 /// The types of one kind, nullable or not.
-trait CellTypes {
+pub(crate) trait CellTypes {
     ghost kind: { Bool → LogicalType };
 
     ghost nullable: { (n : Bool) → is_nullable (kind n) ≡ n };
 }
 
 /// Values of one kind, as texts say them; texts are borrowed.
-trait CellKind<'a>: CellTypes {
+pub(crate) trait CellKind<'a>: CellTypes {
     type Item: Copy + Drop;
 
     ghost value: { Self.Item → Value };
@@ -56,7 +58,7 @@ trait CellKind<'a>: CellTypes {
 
 struct BoolCells {}
 
-struct IntCells<T: NativePType>(PhantomData<T>);
+pub(crate) struct IntCells<T: NativePType>(PhantomData<T>);
 
 struct TextCells {}
 
@@ -178,9 +180,9 @@ fn read_cell<'a, K: CellKind<'a>>(
 
 /// What cells say: an item for each, with a blank under each null, and which are not null.
 #[derive(Drop)]
-struct Cells<T> {
-    items: Vec<T>,
-    valid: Vec<bool>,
+pub(crate) struct Cells<T> {
+    pub(crate) items: Vec<T>,
+    pub(crate) valid: Vec<bool>,
 }
 
 /// What each cell says; nothing where one says no value of the type. E9 where memory is refused.
@@ -194,8 +196,8 @@ fn read_cells<'a, K: CellKind<'a>>(
         (λ c. AreCells (allows_null nullability) (map K.value c.items.items) c.valid.items
         (cell_values (K.kind (allows_null nullability)) (map cell_in cells.now)))) }
 {
-    let mut items = Vec::new(alloc);
-    let mut valid = Vec::new(alloc);
+    let mut items = Vec::with_capacity(alloc, cells.len())?;
+    let mut valid = Vec::with_capacity(alloc, cells.len())?;
     for cell in cells {
         let Some(item) = read_cell::<K>(nullability, *cell) else {
             return Ok(None);
@@ -217,6 +219,27 @@ fn cells_validity(alloc: Global, nullability: Nullability, valid: &[bool]) -> Vo
     }
 }
 
+/// The column of what cells say; nothing where a text is too long for a column. E9 where memory is
+/// refused.
+pub(crate) fn column_of<'a, K: CellKind<'a>>(
+    alloc: Global,
+    nullability: Nullability,
+    cells: Cells<K::Item>,
+) -> VortexResult<Option<Column>>
+    ensures { (said : Option (List Value)) → AreCells (allows_null nullability)
+        (map K.value cells.items.items) cells.valid.items said
+        → AnswersUnlessMemory result
+        (λ c. c ≡ option_and_then (column_where (K.kind (allows_null nullability))) said) }
+{
+    let Cells { items, valid } = cells;
+    let validity = cells_validity(alloc, nullability, &valid)?;
+    match K::column(alloc, items, validity) {
+        Ok(column) => Ok(Some(column)),
+        Err(VortexError::InvalidColumn) => Ok(None),
+        Err(error) => Err(error),
+    }
+}
+
 /// The column of the cells; nothing where one says no value of the type, or a text is too long for
 /// a column. E9 where memory is refused.
 fn read_column<'a, K: CellKind<'a>>(
@@ -227,14 +250,9 @@ fn read_column<'a, K: CellKind<'a>>(
     ensures { AnswersUnlessMemory result
         (λ c. c ≡ column_from (K.kind (allows_null nullability)) (map cell_in cells.now)) }
 {
-    let Some(Cells { items, valid }) = read_cells::<K>(alloc, nullability, cells)? else {
-        return Ok(None);
-    };
-    let validity = cells_validity(alloc, nullability, &valid)?;
-    match K::column(alloc, items, validity) {
-        Ok(column) => Ok(Some(column)),
-        Err(VortexError::InvalidColumn) => Ok(None),
-        Err(error) => Err(error),
+    match read_cells::<K>(alloc, nullability, cells)? {
+        Some(read) => column_of::<K>(alloc, nullability, read),
+        None => Ok(None),
     }
 }
 

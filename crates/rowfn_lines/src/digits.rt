@@ -5,6 +5,8 @@ ghost use Rattle.std.specs.Char.{is_ascii_digit};
 ghost use Rattle.rowfn_lines.specs.Commands.{digits_of, negative, integer_of};
 ghost use Rattle.rowfn_lines.specs.Cells.{ReadsNumber};
 
+use std::str;
+
 fn all_digits(word: &str) -> bool
     ensures { result ≡ list_all is_ascii_digit word.now }
 {
@@ -35,13 +37,29 @@ fn short_number(digits: &[u8]) -> Option<u64>
     Some(number)
 }
 
+/// The same as a number with a sign.
+fn short_plain(digits: &[u8]) -> Option<i128>
+    ensures { MatchOption result ⊤ (λ z. option_map pos (digits_of digits.now) ≡ Some z) }
+{
+    let number = short_number(digits)?;
+    Some(i128::from(number))
+}
+
+/// The same after a minus sign.
+fn short_negative(digits: &[u8]) -> Option<i128>
+    ensures { MatchOption result ⊤ (λ z. option_map negative (digits_of digits.now) ≡ Some z) }
+{
+    let number = short_number(digits)?;
+    Some(-i128::from(number))
+}
+
 /// The number that digits say; nothing where others stand there, and for a number past every
 /// integer type. Numbers of 64 bits, which nearly all are, go by words of the machine.
 fn read_plain(word: &str) -> Option<i128>
     ensures { ReadsNumber (option_map pos (digits_of word.now)) result }
 {
-    if let Some(number) = short_number(word.as_bytes()) {
-        return Some(i128::from(number));
+    if let Some(number) = short_plain(word.as_bytes()) {
+        return Some(number);
     }
     if !are_digits(word) {
         return None;
@@ -54,8 +72,8 @@ fn read_negative(word: &str, digits: &str) -> Option<i128>
     requires { word.now ≡ 45 ∷ digits.now }
     ensures { ReadsNumber (option_map negative (digits_of digits.now)) result }
 {
-    if let Some(number) = short_number(digits.as_bytes()) {
-        return Some(-i128::from(number));
+    if let Some(number) = short_negative(digits.as_bytes()) {
+        return Some(number);
     }
     if !are_digits(digits) {
         return None;
@@ -71,5 +89,42 @@ pub fn read_integer(word: &str) -> Option<i128>
     match word.strip_prefix('-') {
         Some(digits) => read_negative(word, digits),
         None => read_plain(word),
+    }
+}
+
+/// The number that bytes say by digits, as far as 64 bits hold it beside its sign; nothing for
+/// others.
+#[inline(always)]
+fn short_integer(bytes: &[u8]) -> Option<i128>
+    ensures { MatchOption result ⊤ (λ z. integer_of bytes.now ≡ Some z) }
+{
+    let (first, rest) = bytes.split_first()?;
+    if *first == b'-' {
+        short_negative(rest)
+    } else {
+        short_plain(bytes)
+    }
+}
+
+/// The number that bytes say, where it may be one of more bits.
+#[cold]
+#[inline(never)]
+fn long_integer(bytes: &[u8]) -> Option<i128>
+    ensures { ReadsNumber (integer_of bytes.now) result }
+{
+    match str::from_utf8(bytes) {
+        Ok(word) => read_integer(word),
+        Err(_) => None,
+    }
+}
+
+/// The number that bytes say, as `read_integer` does of a word.
+#[inline(always)]
+pub fn read_integer_in(bytes: &[u8]) -> Option<i128>
+    ensures { ReadsNumber (integer_of bytes.now) result }
+{
+    match short_integer(bytes) {
+        Some(number) => Some(number),
+        None => long_integer(bytes),
     }
 }

@@ -4,6 +4,7 @@
 pub mod cells;
 pub mod command;
 mod digits;
+pub mod integers;
 pub mod laws;
 pub mod parse;
 mod said;

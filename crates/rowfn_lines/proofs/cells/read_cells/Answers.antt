@@ -23,6 +23,6 @@ loop-cell-preserved g c =
       c.in_ok-push-2.ensures.items,
       c.unwrap_or.ensures,
     )
-    (cell_read (g.K.CellTypes.kind n) n value c.args.cells.now c.loop-cell.cell-index _
+    (cell_read (g.K.CellTypes.kind n) n value cell_in c.args.cells.now c.loop-cell.cell-index _
     c.loop-cell.items.items c.loop-cell.valid.items c.in-Some.item c.blank.result
     (g.K.CellTypes.nullable n) c.loop-cell-test.true c.loop-cell.invariant said c.blank.ensures)

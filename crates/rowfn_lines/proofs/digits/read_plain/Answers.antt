@@ -1,15 +1,16 @@
-use Rattle.std.proofs.Common.{◌≡◌, sym, ◌∙◌, arith, to_z-of_z}
+use Rattle.std.proofs.Common.{◌≡◌, arith, to_z-of_z, Some, sym, ap, ◌∙◌, pos, List, ℕ}
+use Rattle.std.specs.Prelude.{option_map}
 use Rattle.std.specs.Int.{w128}
 use mir.Val.{to_z, of_z}
+use Rattle.rowfn_lines.specs.Commands.{digits_of}
 use Rattle.rowfn_lines.proofs.Numbers.{are_digits, plain_read}
-use Rattle.rowfn_lines.proofs.ShortNumbers.{short_plain}
 use Rattle.rowfn_lines.proofs.digits.read_plain.Goals as goal
 
 pub returns-in-Some : goal.returns-in-Some
 returns-in-Some c =
-    let back : to_z w128 (of_z w128 c.from.result) ≡ c.from.result = grind (arith, to_z-of_z) in
-    short_plain c.args.word.now c.as_bytes.result.now c.in-Some.number _ c.as_bytes.ensures.value
-    c.in-Some.ensures (back ∙ c.from.ensures)
+    let back : to_z w128 (of_z w128 c.in-Some.number) ≡ c.in-Some.number = grind (arith, to_z-of_z) in
+    ap (λ (bs : List ℕ). option_map pos (digits_of bs)) (sym c.as_bytes.ensures.value)
+    ∙ c.in-Some.ensures ∙ ap Some (sym back)
 
 pub returns : goal.returns
 returns c =
