@@ -14,6 +14,7 @@ use Rattle.std.proofs.lemmas.List.FromFn.{get_or-map-range_with_len, length-map-
 use Rattle.vortex_types.specs.LogicalTypes.{Fields, field_count}
 use Rattle.rowfn_lines.specs.Commands.{all_some}
 use Rattle.rowfn_lines.proofs.AllSome.{some_more, one_missing}
+pub use Rattle.rowfn_lines.proofs.Apart.{place_within}
 use Rattle.rowfn_batches.specs.Fields.{Field, field_in}
 use Rattle.rowfn_batches.specs.Batches.{field_at, IsFirstMisfit, IsMisfit}
 
@@ -22,13 +23,7 @@ pub field_is : (fs : List (Option (Bor (List ℕ)))) (k : ℕ) (d : Option (Bor 
     → k < length fs → field_in (get_or fs k d) ≡ field_at (map field_in fs) k
 field_is fs k d within = sym (get_or-map field_in fs k d None within)
 
--- a place in a row lies within the fields of the rows
-pub place_within : (w n i j l : ℕ) → l ≡ w * n → i < n → j < w → i * w + j < l
-place_within w n i j l even below within =
-    let row : w * suc i ≤ w * n = mul-le-mul_left w (omega arith) in
-    omega (arith, row)
-
--- so does the row's first
+-- the first of a row lies within the fields of the rows
 pub row_within : (w n i j l : ℕ) → l ≡ w * n → i < n → j < w → i * w < l
 row_within w n i j l even below within = omega (arith, place_within w n i j l even below within)
 

@@ -1,4 +1,5 @@
 pub mod FieldPlaces
+pub mod IntegerCells
 pub mod FirstRows
 pub mod Flowing
 pub mod LastAlone

@@ -14,9 +14,10 @@ ghost use Rattle.rowfn_batches.specs.Batches.{AreEven, RefusesBatch, ReadsColumn
 
 use crate::fields::{field_cell, field_fits};
 use rowfn_lines::cells::column_of_cells;
+use rowfn_lines::integers::integers_of_cells;
 use std::alloc::{AllocError, AllocFailed, Global};
 use thiserror::Error;
-use vortex_columns::{Column, StructFields, VortexError, VortexResult};
+use vortex_columns::{Column, DType, StructFields, VortexError, VortexResult};
 
 /// Why the fields of a batch make no columns. Records and columns are counted from 0.
 #[derive(Debug, Drop, Error)]
@@ -73,7 +74,7 @@ fn column_cells<'a>(
     ensures { IfOk result (λ cells. option_map (λ cs. map cell_in cs.items) cells
         ≡ cells_at (map field_in fields.now) width row_count column) }
 {
-    let mut cells = Vec::new(alloc);
+    let mut cells = Vec::with_capacity(alloc, row_count)?;
     for row in 0..row_count {
         let place = row * width + column;
         let Some(cell) = field_cell(fields[place]) else {
@@ -98,8 +99,21 @@ fn read_column(
     ensures { AnswersUnlessMemory result (λ c. c
         ≡ column_at (struct_fields declared.now) (map field_in fields.now) row_count column) }
 {
-    match column_cells(alloc, fields, declared.len(), row_count, column)? {
-        Some(cells) => column_of_cells(alloc, declared.dtype(column), &cells),
+    let width = declared.len();
+    let dtype = declared.dtype(column);
+    if let DType::Primitive(ptype, nullability) = dtype {
+        return integers_of_cells(
+            alloc,
+            *ptype,
+            *nullability,
+            fields,
+            width,
+            row_count,
+            column,
+        );
+    }
+    match column_cells(alloc, fields, width, row_count, column)? {
+        Some(cells) => column_of_cells(alloc, dtype, &cells),
         None => Ok(None),
     }
 }
