@@ -11,3 +11,4 @@ pub mod Taking
 pub mod Passing
 pub mod Tops
 pub mod Spellings
+pub mod Truths

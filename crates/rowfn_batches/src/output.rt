@@ -1,21 +1,63 @@
 //! What is written: answers as fields of CSV, or rows of the input as they stand.
 ghost use Rattle.std.specs.Prelude.{◌≡◌, ◌<◌, ◌≤◌, ◌+◌, ◌∷◌, [], OnOk, IfOk, length, map};
 ghost use Rattle.std.specs.Prelude.{if◌then◌else◌, ◌++◌, option_map, slice_index_or};
-ghost use Rattle.vortex_columns.specs.ColumnView.{row};
+ghost use Rattle.vortex_columns.specs.ColumnView.{row, AreBits};
 ghost use Rattle.vortex_interface.specs.CallTexts.{joined, separator_before};
 ghost use Rattle.rowfn_csv.specs.Fields.{text_field};
 ghost use Rattle.rowfn_csv.specs.KeptLines.{line_of};
 ghost use Rattle.rowfn_batches.specs.Outputs.{Adds, name_field, value_field, row_fields, row_line};
 ghost use Rattle.rowfn_batches.specs.Outputs.{HaveRows, row_lines, is_true, picked_texts};
 ghost use Rattle.rowfn_batches.specs.Outputs.{picked_count, appended_lines};
+ghost use Rattle.rowfn_batches.specs.Truths.{AreTruths};
 ghost use Rattle.rowfn_csv.specs.Records.{without_line_end};
 
 use crate::answering::row_among;
 use crate::printing::push_field;
-use rowfn_csv::{Format, Records, Span, quote_from, without_line_end};
+use rowfn_csv::{Format, Records, Span, field_of, quote_from, without_line_end};
 use std::alloc::{AllocError, Global};
 use std::io::Read;
-use vortex_columns::{Cell, Column};
+use vortex_columns::{BitBuffer, Cell, Column};
+
+/// How truth values stand as fields.
+#[derive(Clone, Copy)]
+struct Truths<'t> {
+    yes: &'t [u8],
+    no: &'t [u8],
+}
+
+/// How truth values stand as fields of a format.
+fn truths_of<'t>(format: &Format<'t>) -> Truths<'t>
+    ensures { AreTruths format.now result }
+{
+    Truths {
+        yes: field_of(b"true", b"\"true\"", format),
+        no: field_of(b"false", b"\"false\"", format),
+    }
+}
+
+/// The field of a row of a column of truth values, which has those bits.
+fn truth_field<'t>(
+    column: &Column,
+    bits: &BitBuffer,
+    place: usize,
+    truths: Truths<'t>,
+    format: &Format<'t>,
+) -> &'t [u8]
+    requires place { place < length column.now.rows }
+    requires bits { AreBits column.now bits.now }
+    requires truths { AreTruths format.now truths }
+    ensures { result.now ≡ value_field format.now.delimiter format.now.null.now
+        (row column.now.rows place) }
+{
+    if !column.is_valid(place) {
+        return format.null;
+    }
+    if bits.value(place) {
+        truths.yes
+    } else {
+        truths.no
+    }
+}
 
 /// What is to be written next. Its buffers serve from batch to batch.
 #[derive(Drop)]
@@ -88,8 +130,8 @@ impl<'a> Output<'a> {
         self.push_text(name)
     }
 
-    /// Adds the value of a row as a field. Refused only for want of memory.
-    fn push_value(&mut self, column: &Column, place: usize) -> Result<(), AllocError>
+    /// Adds the value of a row, which is no truth value, as a field. Refused only for want of memory.
+    fn push_other(&mut self, column: &Column, place: usize) -> Result<(), AllocError>
         requires { place < length column.now.rows }
         ensures { OnOk result (Adds self.old self.new
             (value_field self.old.format.delimiter self.old.format.null.now
@@ -104,6 +146,26 @@ impl<'a> Output<'a> {
         Ok(())
     }
 
+    /// Adds the value of a row as a field. Refused only for want of memory.
+    fn push_value(
+        &mut self,
+        column: &Column,
+        place: usize,
+        truths: Truths<'a>,
+    ) -> Result<(), AllocError>
+        requires place { place < length column.now.rows }
+        requires truths { AreTruths self.old.format truths }
+        ensures { OnOk result (Adds self.old self.new
+            (value_field self.old.format.delimiter self.old.format.null.now
+            (row column.now.rows place))) }
+    {
+        let Some(bits) = column.bits() else {
+            return self.push_other(column, place);
+        };
+        let field = truth_field(column, bits, place, truths, &self.format);
+        self.bytes.extend_from_slice(field)
+    }
+
     /// Ends a line. Refused only for want of memory.
     pub fn end_line(&mut self) -> Result<(), AllocError>
         ensures { OnOk result (Adds self.old self.new (10 ∷ [])) }
@@ -113,26 +175,38 @@ impl<'a> Output<'a> {
     }
 
     /// Adds the values of a row as fields. Refused only for want of memory.
-    fn push_values(&mut self, answers: &[Column], place: usize) -> Result<(), AllocError>
-        requires { HaveRows (place + 1) answers.now }
+    fn push_values(
+        &mut self,
+        answers: &[Column],
+        place: usize,
+        truths: Truths<'a>,
+    ) -> Result<(), AllocError>
+        requires rows { HaveRows (place + 1) answers.now }
+        requires truths { AreTruths self.old.format truths }
         ensures { OnOk result (Adds self.old self.new
             (joined (self.old.format.delimiter ∷ []) (row_fields self.old.format.delimiter
             self.old.format.null.now answers.now place))) }
     {
         for k in 0..answers.len() {
             self.begin_field(k)?;
-            self.push_value(&answers[k], place)?;
+            self.push_value(&answers[k], place, truths)?;
         }
         Ok(())
     }
 
     /// Adds a row of the answers as a line. Refused only for want of memory.
-    fn push_row(&mut self, answers: &[Column], place: usize) -> Result<(), AllocError>
-        requires { HaveRows (place + 1) answers.now }
+    fn push_row(
+        &mut self,
+        answers: &[Column],
+        place: usize,
+        truths: Truths<'a>,
+    ) -> Result<(), AllocError>
+        requires rows { HaveRows (place + 1) answers.now }
+        requires truths { AreTruths self.old.format truths }
         ensures { OnOk result (Adds self.old self.new
             (row_line self.old.format.delimiter self.old.format.null.now answers.now place)) }
     {
-        self.push_values(answers, place)?;
+        self.push_values(answers, place, truths)?;
         self.end_line()
     }
 
@@ -142,8 +216,9 @@ impl<'a> Output<'a> {
         ensures { OnOk result (Adds self.old self.new
             (row_lines self.old.format.delimiter self.old.format.null.now answers.now row_count)) }
     {
+        let truths = truths_of(&self.format);
         for row in 0..row_count {
-            self.push_row(answers, row)?;
+            self.push_row(answers, row, truths)?;
         }
         Ok(())
     }
@@ -163,15 +238,17 @@ impl<'a> Output<'a> {
         line: &[u8],
         answers: &[Column],
         place: usize,
+        truths: Truths<'a>,
     ) -> Result<(), AllocError>
-        requires { HaveRows (place + 1) answers.now }
+        requires rows { HaveRows (place + 1) answers.now }
+        requires truths { AreTruths self.old.format truths }
         ensures { OnOk result (Adds self.old self.new (without_line_end line.now
             ++ (self.old.format.delimiter
             ∷ row_line self.old.format.delimiter self.old.format.null.now answers.now place))) }
     {
         self.push_bytes(without_line_end(line))?;
         self.push_delimiter()?;
-        self.push_row(answers, place)
+        self.push_row(answers, place, truths)
     }
 
     /// Adds the first rows of the answers, each behind its row of the input, a line each; `rows`
@@ -189,9 +266,10 @@ impl<'a> Output<'a> {
             self.old.format.null.now (map (line_of records.now) spans.now)
             (option_map (λ r. r.now) rows.entry) answers.now row_count)) }
     {
+        let truths = truths_of(&self.format);
         for place in 0..row_count {
             let line = line_at(records, spans, row_among(rows, place));
-            self.push_behind(line, answers, place)?;
+            self.push_behind(line, answers, place, truths)?;
         }
         Ok(())
     }

@@ -1,3 +1,6 @@
+use Rattle.std.proofs.Common.{sym, subst}
+use Rattle.rowfn_csv.specs.declared.format.Format.{Format}
+use Rattle.rowfn_batches.specs.Truths.{AreTruths}
 use Rattle.rowfn_batches.proofs.Lines.{next_line}
 use Rattle.rowfn_batches.proofs.output.Output.push_rows.Goals as goal
 
@@ -5,3 +8,8 @@ pub loop-row-preserved : goal.loop-row-preserved
 loop-row-preserved c =
     next_line c.args.self.now c.loop-row.self c.push_row.new.self c.args.answers.now c.loop-row.row
     c.loop-row.invariant c.in_ok-push_row.ensures
+
+pub push_row-requires-clause-truths : goal.push_row-requires-clause-truths
+push_row-requires-clause-truths c =
+    subst (λ (f : Format). AreTruths f c.truths_of-truths.result) (sym c.loop-row.invariant.1)
+    c.truths_of-truths.ensures

@@ -1,0 +1,10 @@
+-- Truth values as fields of a format.
+use Rattle.std.specs.Prelude.{◌≡◌, codes}
+use Rattle.rowfn_csv.specs.Fields.{text_field}
+use Rattle.rowfn_csv.specs.declared.format.Format.{Format}
+use Rattle.rowfn_batches.specs.declared.output.Truths.{Truths}
+
+-- how each stands as a field
+pub record AreTruths (format : Format) (truths : Truths) : Type 0 where
+  pub yes : truths.yes.now ≡ text_field format.delimiter format.null.now (codes "true")
+  pub no : truths.no.now ≡ text_field format.delimiter format.null.now (codes "false")
