@@ -20,8 +20,8 @@ impl Watcher for Diary<'_> {
     }
 }
 
-/// How often a stream tells how far it came, by rows that are passed on one by one and reads of two
-/// bytes, and what it tells last; and how many rows it counts in all.
+/// How often a stream tells how far it came, by rows that are passed on one by one and reads of one
+/// byte, and what it tells last; and how many rows it counts in all.
 fn watched(alloc: Global, input: &str, every: u64) -> Option<((u64, u64, u64), u64)> {
     let case = plain("col a i64\nget a\n", input);
     let (last, rows) = (Cell::new((0, 0, 0)), Cell::new(0));
@@ -34,7 +34,7 @@ fn watched(alloc: Global, input: &str, every: u64) -> Option<((u64, u64, u64), u
     };
     let drips = Drips {
         text: case.input,
-        step: 2,
+        step: 1,
         interrupted: false,
         fails: false,
     };
