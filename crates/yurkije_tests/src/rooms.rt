@@ -16,7 +16,7 @@ struct Rooms {
     data: [u8; 8],
 }
 
-fn rooms() -> Rooms {
+fn filled() -> Rooms {
     Rooms {
         validity: [0],
         i32s: [9; 5],
@@ -66,7 +66,7 @@ fn is_copied(rt: HostRuntime, answer: Option<Box<Column>>) -> bool {
     let Some(column) = answer else {
         return false;
     };
-    let mut rooms = rooms();
+    let mut rooms = filled();
     match copied(&column, 4, &mut rooms) {
         Ok(()) => same(rt, (rooms.validity[0], rooms.i32s[4]), (0b00011101, 64)),
         Err(_) => false,
@@ -77,7 +77,7 @@ fn is_copied_as_text(rt: HostRuntime, answer: Option<Box<Column>>) -> bool {
     let Some(column) = answer else {
         return false;
     };
-    let mut rooms = rooms();
+    let mut rooms = filled();
     match copied(&column, 10, &mut rooms) {
         Ok(()) => {
             let offsets = rooms.offsets == [0, 3, 3, 3, 7, 7];
@@ -92,7 +92,7 @@ fn is_of_other_kind(rt: HostRuntime, answer: Option<Box<Column>>) -> bool {
     let Some(column) = answer else {
         return false;
     };
-    let mut rooms = rooms();
+    let mut rooms = filled();
     let refused = copied(&column, 13, &mut rooms).is_err();
     refused && same(rt, rooms.offsets[0], 9)
 }
