@@ -51,7 +51,7 @@ fn refuses(rt: HostRuntime, text: &[u8], place: [usize; 4], words: &str) -> bool
 fn texts_are_read(rt: HostRuntime) {
     assert!(rt; reads(rt, b"number as n", "n", "number"));
     assert!(rt; reads(rt, b"name", "name", "name"));
-    assert!(rt; reads(rt, b"(number)>1", "number > 1", "number > 1"));
+    assert!(rt; reads(rt, b"(name)like'a%'", "name like 'a%'", "name like 'a%'"));
 }
 
 #[test]
