@@ -88,18 +88,18 @@ fn pass_rows<R: Read + Drop>(
 }
 
 /// The same, and tells on standard error how far they have come, where that is asked.
-fn pass_watched<R: Read + Drop>(
+fn pass_watched<'a, R: Read + Drop>(
     rt: &(impl Print + Eprint + AllocGlobal),
-    options: &Options<'_>,
+    options: &Options<'a>,
+    rows: &'a Cell<u64>,
     query: &Query,
     reader: R,
 ) -> Result<Summary, StreamError> {
-    let rows = Cell::new(0);
-    let settings = settings_of(options, &rows);
+    let settings = settings_of(options, rows);
     if !options.progress {
         return pass_rows(rt, settings, query, reader);
     }
-    let watched = Watched::new(reader, Teller { rt }, &rows, TOLD_BYTES);
+    let watched = Watched::new(reader, Teller { rt }, rows, TOLD_BYTES);
     let passed = pass_rows(rt, settings, query, watched);
     let _ = eprintln!(rt; "\rrows {}", rows.get());
     passed
@@ -119,9 +119,10 @@ fn advised(inferred: &StructFields, error: StreamError) -> Failure {
 }
 
 /// Does what the options ask for with the rows of a reader.
-fn perform_on<R: Read + Drop>(
+fn perform_on<'a, R: Read + Drop>(
     rt: &(impl Print + Eprint + Files + AllocGlobal),
-    options: &Options<'_>,
+    options: &Options<'a>,
+    rows: &'a Cell<u64>,
     reader: R,
 ) -> Result<(), Failure> {
     let mut reader = Again::new(rt.alloc(), reader);
@@ -129,7 +130,7 @@ fn perform_on<R: Read + Drop>(
     if options.action == Action::Explain {
         return Ok(print_query(rt, &query)?);
     }
-    match pass_watched(rt, options, &query, reader) {
+    match pass_watched(rt, options, rows, &query, reader) {
         Ok(
             Summary {
                 rows_read,
@@ -146,15 +147,16 @@ fn perform_on<R: Read + Drop>(
 }
 
 /// Does what the options ask for.
-fn perform(
+fn perform<'a>(
     rt: &(impl Input + Print + Eprint + Files + AllocGlobal),
-    options: &Options<'_>,
+    options: &Options<'a>,
+    rows: &'a Cell<u64>,
 ) -> Result<(), Failure> {
     let Some(name) = options.input else {
-        return perform_on(rt, options, rt.reader());
+        return perform_on(rt, options, rows, rt.reader());
     };
     match fs::open(rt, name) {
-        Ok(file) => perform_on(rt, options, file),
+        Ok(file) => perform_on(rt, options, rows, file),
         Err(error) => Err(Failure::Input(String::from_str(rt.alloc(), name)?, error)),
     }
 }
@@ -193,6 +195,7 @@ const PIPE_CLOSED: u8 = 141;
 /// Reads the options and does what they ask for; prints what went wrong on standard error. The
 /// status is 0 where nothing did.
 fn run(rt: &(impl Input + Print + Eprint + Env + Files + AllocGlobal)) -> u8 {
+    let rows = Cell::new(0);
     let words = match words_of(rt) {
         Ok(words) => words,
         Err(error) => return print_no_words(rt, &error),
@@ -201,7 +204,7 @@ fn run(rt: &(impl Input + Print + Eprint + Env + Files + AllocGlobal)) -> u8 {
         Ok(options) => options,
         Err(error) => return print_no_options(rt, &error),
     };
-    match perform(rt, &options) {
+    match perform(rt, &options, &rows) {
         Ok(()) => 0,
         Err(error) if error.is_closed_pipe() => PIPE_CLOSED,
         Err(error) => {
