@@ -33,11 +33,11 @@ fn file_text(rt: &(impl Files + AllocGlobal), name: &str) -> Result<Vec<u8>, Str
     }
 }
 
-/// How fields are parted, how null is written, and how truth values are read.
-pub fn format_of<'a>(options: &Options<'a>) -> Format<'a> {
+/// How fields are parted and truth values are read, with that text for null.
+pub fn format_with<'a>(options: &Options<'_>, null: &'a [u8]) -> Format<'a> {
     Format {
         delimiter: options.delimiter,
-        null: options.null.as_bytes(),
+        null,
         blank_rows: options.blank_rows,
         any_truths: options.any_truths,
     }
@@ -75,7 +75,7 @@ fn read_texts<R: Read>(
     let read = read_query(
         alloc,
         words,
-        format_of(options),
+        format_with(options, options.null.as_bytes()),
         options.max_field as usize,
         reader,
     );

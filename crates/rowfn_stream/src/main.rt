@@ -5,7 +5,7 @@ mod asking;
 mod failure;
 mod progress;
 
-use crate::asking::{ask, format_of};
+use crate::asking::{ask, format_with};
 use crate::failure::Failure;
 use crate::progress::{TOLD_BYTES, Teller};
 use rowfn_batches::{Settings, StreamError, Summary, Watched, check_names, explain, flow};
@@ -46,9 +46,9 @@ fn print_query(rt: &(impl Print + AllocGlobal), query: &Query) -> Result<(), Str
 }
 
 /// How rows are read and written; those that were passed on are counted in a cell.
-fn settings_of<'a>(options: &Options<'a>, rows: &'a Cell<u64>) -> Settings<'a> {
+fn settings_of<'a>(options: &Options<'_>, null: &'a [u8], rows: &'a Cell<u64>) -> Settings<'a> {
     Settings {
-        format: format_of(options),
+        format: format_with(options, null),
         header: options.header,
         batch: options.batch as usize,
         batch_bytes: options.batch_bytes,
@@ -87,19 +87,22 @@ fn pass_rows<R: Read + Drop>(
     }
 }
 
-/// The same, and tells on standard error how far they have come, where that is asked.
-fn pass_watched<'a, R: Read + Drop>(
+/// The same, and tells on standard error how far they have come, where that is asked. What counts
+/// them lives as long as this call, and so does the text for null that stands beside it.
+fn pass_watched<R: Read + Drop>(
     rt: &(impl Print + Eprint + AllocGlobal),
-    options: &Options<'a>,
-    rows: &'a Cell<u64>,
+    options: &Options<'_>,
     query: &Query,
     reader: R,
 ) -> Result<Summary, StreamError> {
-    let settings = settings_of(options, rows);
+    let null = String::from_str(rt.alloc(), options.null)?;
+    let null = null.as_bytes();
+    let rows = Cell::new(0);
+    let settings = settings_of(options, null, &rows);
     if !options.progress {
         return pass_rows(rt, settings, query, reader);
     }
-    let watched = Watched::new(reader, Teller { rt }, rows, TOLD_BYTES);
+    let watched = Watched::new(reader, Teller { rt }, &rows, TOLD_BYTES);
     let passed = pass_rows(rt, settings, query, watched);
     let _ = eprintln!(rt; "\rrows {}", rows.get());
     passed
@@ -119,10 +122,9 @@ fn advised(inferred: &StructFields, error: StreamError) -> Failure {
 }
 
 /// Does what the options ask for with the rows of a reader.
-fn perform_on<'a, R: Read + Drop>(
+fn perform_on<R: Read + Drop>(
     rt: &(impl Print + Eprint + Files + AllocGlobal),
-    options: &Options<'a>,
-    rows: &'a Cell<u64>,
+    options: &Options<'_>,
     reader: R,
 ) -> Result<(), Failure> {
     let mut reader = Again::new(rt.alloc(), reader);
@@ -130,7 +132,7 @@ fn perform_on<'a, R: Read + Drop>(
     if options.action == Action::Explain {
         return Ok(print_query(rt, &query)?);
     }
-    match pass_watched(rt, options, rows, &query, reader) {
+    match pass_watched(rt, options, &query, reader) {
         Ok(
             Summary {
                 rows_read,
@@ -147,16 +149,15 @@ fn perform_on<'a, R: Read + Drop>(
 }
 
 /// Does what the options ask for.
-fn perform<'a>(
+fn perform(
     rt: &(impl Input + Print + Eprint + Files + AllocGlobal),
-    options: &Options<'a>,
-    rows: &'a Cell<u64>,
+    options: &Options<'_>,
 ) -> Result<(), Failure> {
     let Some(name) = options.input else {
-        return perform_on(rt, options, rows, rt.reader());
+        return perform_on(rt, options, rt.reader());
     };
     match fs::open(rt, name) {
-        Ok(file) => perform_on(rt, options, rows, file),
+        Ok(file) => perform_on(rt, options, file),
         Err(error) => Err(Failure::Input(String::from_str(rt.alloc(), name)?, error)),
     }
 }
@@ -195,7 +196,6 @@ const PIPE_CLOSED: u8 = 141;
 /// Reads the options and does what they ask for; prints what went wrong on standard error. The
 /// status is 0 where nothing did.
 fn run(rt: &(impl Input + Print + Eprint + Env + Files + AllocGlobal)) -> u8 {
-    let rows = Cell::new(0);
     let words = match words_of(rt) {
         Ok(words) => words,
         Err(error) => return print_no_words(rt, &error),
@@ -204,7 +204,7 @@ fn run(rt: &(impl Input + Print + Eprint + Env + Files + AllocGlobal)) -> u8 {
         Ok(options) => options,
         Err(error) => return print_no_options(rt, &error),
     };
-    match perform(rt, &options, &rows) {
+    match perform(rt, &options) {
         Ok(()) => 0,
         Err(error) if error.is_closed_pipe() => PIPE_CLOSED,
         Err(error) => {

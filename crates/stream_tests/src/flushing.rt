@@ -11,27 +11,30 @@ use std::io::{self, Read, Write};
 #[derive(Drop)]
 struct Asker<'a> {
     parts: &'a [(&'a str, usize)],
-    /// What is left of the part that was begun last.
-    left: &'a [u8],
+    /// Which part comes, and how many of its bytes were given.
+    place: usize,
+    given: usize,
     written: &'a Cell<usize>,
 }
 
 impl Read for Asker<'_> {
     fn read(&mut self, buf: &mut [u8]) -> io::Result<usize> {
-        if self.left.is_empty() {
-            let Some(((part, wanted), rest)) = self.parts.split_first() else {
-                return Ok(0);
-            };
-            if self.written.get() != *wanted {
-                return Err(io::Error::from(io::ErrorKind::ConnectionReset));
-            }
-            self.left = part.as_bytes();
-            self.parts = rest;
+        let Some((part, wanted)) = self.parts.get(self.place) else {
+            return Ok(0);
+        };
+        if self.given == 0 && self.written.get() != *wanted {
+            return Err(io::Error::from(io::ErrorKind::ConnectionReset));
         }
-        let count = self.left.len().min(buf.len());
-        let (given, left) = self.left.split_at(count);
-        buf[..count].copy_from_slice(given);
-        self.left = left;
+        let Some(left) = part.as_bytes().get(self.given..) else {
+            return Ok(0);
+        };
+        let count = left.len().min(buf.len());
+        buf[..count].copy_from_slice(&left[..count]);
+        self.given = self.given.saturating_add(count);
+        if self.given >= part.len() {
+            self.place = self.place.saturating_add(1);
+            self.given = 0;
+        }
         Ok(count)
     }
 }
@@ -59,7 +62,8 @@ fn is_heard(alloc: Global, case: &Case<'_>, parts: &[(&str, usize)]) -> bool {
     let written = Cell::new(0);
     let reader = Asker {
         parts,
-        left: &[],
+        place: 0,
+        given: 0,
         written: &written,
     };
     let mut listener = Listener { written: &written };
