@@ -58,12 +58,12 @@ fn texts_are_read(rt: HostRuntime) {
 fn texts_are_refused_with_their_place(rt: HostRuntime) {
     let words = "line 1, column 8: no column \"nam\"; is \"name\" meant?";
     assert!(rt; refuses(rt, b"number,nam", [11, 7, 1, 8], words));
-    let words = "line 2, column 10: 300000000000 is no i32";
+    let words = "line 2, column 8: 300000000000 is no i32";
     assert!(rt;
         refuses(
             rt,
             b"number as n,\nnumber = 300000000000",
-            [114, 22, 2, 10],
+            [114, 20, 2, 8],
             words
         )
     );
