@@ -60,7 +60,8 @@ impl CheckedArithmetic for i8 {
     }
 
     fn mul_failure(self, rhs: i8) -> bool {
-        self.overflowing_mul(rhs).1
+        let product = i16::from(self) * i16::from(rhs);
+        product < -128 || product > 127
     }
 
     fn div_value(self, rhs: i8) -> i8 {
