@@ -3,7 +3,8 @@ ghost use Rattle.std.specs.Prelude.{◌≡◌, IfSome, ℤ, int_lt, pos, Some};
 ghost use Rattle.vortex_checked.specs.Exact.{IsWithin, quotient};
 
 use crate::arithmetic::CheckedArithmetic;
-use crate::division::{Divisor32, Divisor64, SignedDivisor32, SignedDivisor64, SizeDivisor32};
+use crate::division::{Divisor32, Divisor64, SignedDivisor32, SignedDivisor64};
+use crate::division_16::{Divisor16, SignedDivisor16, SizeDivisor16};
 
 /// A number that divides those of a type by multiplication.
 pub trait Divisor<T: CheckedArithmetic>: Copy {
@@ -43,21 +44,21 @@ pub trait ConstantArithmetic: CheckedArithmetic {
     ghost holds_zero: { IsWithin Self.least Self.greatest (pos 0) };
 }
 
-impl Divisor<i8> for SignedDivisor32 {
+impl Divisor<i8> for SignedDivisor16 {
     ghost use Rattle.std.specs.Prelude.{pos};
 
     ghost value = { λ d. d.divisor };
 
     #[inline(always)]
     fn divide(&self, number: i8) -> i8 {
-        self.quotient(i32::from(number)) as i8
+        self.quotient(i16::from(number)) as i8
     }
 }
 
 impl ConstantArithmetic for i8 {
     ghost use Rattle.std.proofs.Common.{arith};
 
-    type Divisor = SignedDivisor32;
+    type Divisor = SignedDivisor16;
 
     fn least_value() -> i8 {
         i8::MIN
@@ -72,32 +73,32 @@ impl ConstantArithmetic for i8 {
         self < other
     }
 
-    fn divisor(self) -> Option<SignedDivisor32> {
+    fn divisor(self) -> Option<SignedDivisor16> {
         if self == 0 || self == 1 || self == -1 {
             None
         } else {
-            Some(SignedDivisor32::new(i32::from(self)))
+            Some(SignedDivisor16::new(i16::from(self)))
         }
     }
 
     ghost holds_zero = { (omega arith, omega arith) };
 }
 
-impl Divisor<i16> for SignedDivisor32 {
+impl Divisor<i16> for SignedDivisor16 {
     ghost use Rattle.std.specs.Prelude.{pos};
 
     ghost value = { λ d. d.divisor };
 
     #[inline(always)]
     fn divide(&self, number: i16) -> i16 {
-        self.quotient(i32::from(number)) as i16
+        self.quotient(number)
     }
 }
 
 impl ConstantArithmetic for i16 {
     ghost use Rattle.std.proofs.Common.{arith};
 
-    type Divisor = SignedDivisor32;
+    type Divisor = SignedDivisor16;
 
     fn least_value() -> i16 {
         i16::MIN
@@ -112,11 +113,11 @@ impl ConstantArithmetic for i16 {
         self < other
     }
 
-    fn divisor(self) -> Option<SignedDivisor32> {
+    fn divisor(self) -> Option<SignedDivisor16> {
         if self == 0 || self == 1 || self == -1 {
             None
         } else {
-            Some(SignedDivisor32::new(i32::from(self)))
+            Some(SignedDivisor16::new(self))
         }
     }
 
@@ -203,21 +204,21 @@ impl ConstantArithmetic for i64 {
     ghost holds_zero = { (omega arith, omega arith) };
 }
 
-impl Divisor<u8> for SizeDivisor32 {
+impl Divisor<u8> for SizeDivisor16 {
     ghost use Rattle.std.specs.Prelude.{pos};
 
     ghost value = { λ d. pos d.divisor };
 
     #[inline(always)]
     fn divide(&self, number: u8) -> u8 {
-        self.quotient(u32::from(number)) as u8
+        self.quotient(u16::from(number)) as u8
     }
 }
 
 impl ConstantArithmetic for u8 {
     ghost use Rattle.std.proofs.Common.{arith};
 
-    type Divisor = SizeDivisor32;
+    type Divisor = SizeDivisor16;
 
     fn least_value() -> u8 {
         u8::MIN
@@ -232,32 +233,32 @@ impl ConstantArithmetic for u8 {
         self < other
     }
 
-    fn divisor(self) -> Option<SizeDivisor32> {
+    fn divisor(self) -> Option<SizeDivisor16> {
         if self < 2 {
             None
         } else {
-            Some(SizeDivisor32::new(u32::from(self)))
+            Some(SizeDivisor16::new(u16::from(self)))
         }
     }
 
     ghost holds_zero = { (omega arith, omega arith) };
 }
 
-impl Divisor<u16> for SizeDivisor32 {
+impl Divisor<u16> for Divisor16 {
     ghost use Rattle.std.specs.Prelude.{pos};
 
     ghost value = { λ d. pos d.divisor };
 
     #[inline(always)]
     fn divide(&self, number: u16) -> u16 {
-        self.quotient(u32::from(number)) as u16
+        self.quotient(number)
     }
 }
 
 impl ConstantArithmetic for u16 {
     ghost use Rattle.std.proofs.Common.{arith};
 
-    type Divisor = SizeDivisor32;
+    type Divisor = Divisor16;
 
     fn least_value() -> u16 {
         u16::MIN
@@ -272,11 +273,11 @@ impl ConstantArithmetic for u16 {
         self < other
     }
 
-    fn divisor(self) -> Option<SizeDivisor32> {
+    fn divisor(self) -> Option<Divisor16> {
         if self < 2 {
             None
         } else {
-            Some(SizeDivisor32::new(u32::from(self)))
+            Some(Divisor16::new(self))
         }
     }
 

@@ -4,6 +4,7 @@
 pub mod arithmetic;
 pub mod constants;
 pub mod division;
+pub mod division_16;
 pub mod factor;
 pub mod failure;
 pub mod guess;
