@@ -1,0 +1,32 @@
+use Rattle.std.proofs.Common.{◌≡◌, ap, sym, subst, ◌∙◌, ◌*ℤ◌, ◌/◌, arith, pos, negsuc, to_z-of_z}
+use Rattle.std.specs.Int.{w32, w64}
+use Rattle.std.specs.Int.Bits.{bit_xor}
+use Rattle.std.specs.Bool.{FalseIff}
+use Rattle.std.proofs.lemmas.Int.{wrapping_mul_is}
+use mir.Val.{to_z, of_z}
+use Rattle.vortex_checked.specs.Evidence.{is_nonzero}
+use Rattle.vortex_checked.specs.Exact.{IsWithin, sign_word_32}
+use Rattle.vortex_checked.proofs.WideProduct32.{product_fits, wide_tells}
+use Rattle.vortex_checked.proofs.signed.I32CheckedArithmetic.mul_failure.Goals as goal
+
+pub returns-clause-evidence : goal.returns-clause-evidence
+returns-clause-evidence c =
+    let a = c.args.self in
+    let b = c.args.rhs in
+    let left : to_z w32 (of_z w32 a) ≡ a = grind (arith, to_z-of_z) in
+    let right : to_z w32 (of_z w32 b) ≡ b = grind (arith, to_z-of_z) in
+    let upper =
+    c.upper_half_32.ensures ∙ (λ i. of_z w64 (left i *ℤ right i) / 4294967296) in
+    let sign =
+    c.sign_word_32.ensures ∙ ap sign_word_32 (wrapping_mul_is w32 a b c.ranges.self c.ranges.rhs) in
+    λ i. bit_xor (upper i) (sign i)
+
+pub returns-clause-fault : goal.returns-clause-fault
+returns-clause-fault c =
+    let z = c.args.self *ℤ c.args.rhs in
+    subst
+    (λ e.
+    FalseIff (is_nonzero e)
+    (IsWithin (negsuc 2147483647) (pos 2147483647) z))
+    (sym (returns-clause-evidence c))
+    (wide_tells z (product_fits c.args.self c.args.rhs c.ranges.self c.ranges.rhs))
