@@ -7,13 +7,18 @@ ghost use Rattle.std.specs.Bool.{FalseIff};
 use crate::arithmetic::CheckedArithmetic;
 use std::simd::prelude::*;
 
-/// One of the integer types of up to 32 bits, whose quotients are guessed 64 at a time.
+/// One of the integer types, whose quotients are guessed 64 at a time.
 pub trait GuessedDivision: CheckedArithmetic {
     ghost use Rattle.std.specs.Prelude.{◌≡◌, ◌<◌, false, length, Some};
     ghost use Rattle.vortex_checked.specs.Exact.{IsWithin, quotient};
 
     /// Guesses at 64 quotients.
     type Guesses: Drop;
+
+    /// Whether guesses are worth their time. Nothing is claimed of it.
+    fn may_serve(lefts: &[Self], rights: &[Self]) -> bool {
+        true
+    }
 
     fn guesses(lefts: &[Self], rights: &[Self]) -> Self::Guesses
         requires left { length lefts.now ≡ 64 }
@@ -89,6 +94,22 @@ fn is_off_32(left: u32, right: u32, guess: u32) -> bool
 {
     let divisor = u64::from(right);
     u64::from(left).wrapping_sub(u64::from(guess) * divisor) >= divisor
+}
+
+/// The same, of 64 bits.
+#[inline(always)]
+fn is_off_64(left: u64, right: u64, guess: u64) -> bool
+    ensures { FalseIff result ((0 < right) × (left / right ≡ guess)) }
+{
+    let divisor = u128::from(right);
+    u128::from(left).wrapping_sub(u128::from(guess) * divisor) >= divisor
+}
+
+/// The sizes of four numbers of 64 bits; the least wraps to itself.
+#[inline(always)]
+fn sizes_of_64(numbers: i64x4) -> i64x4 {
+    let signs = numbers >> i64x4::splat(63);
+    (numbers ^ signs) - signs
 }
 
 impl GuessedDivision for u8 {
@@ -236,5 +257,45 @@ impl GuessedDivision for i32 {
             -(size as i32)
         };
         (quotient, is_off_32(left, right, size))
+    }
+}
+
+impl GuessedDivision for i64 {
+    type Guesses = [u64; 64];
+
+    /// Floats hold what fits 51 bits.
+    #[inline(always)]
+    fn may_serve(lefts: &[i64], rights: &[i64]) -> bool {
+        let mut bits = 0u64;
+        for left in lefts {
+            bits |= left.unsigned_abs();
+        }
+        for right in rights {
+            bits |= right.unsigned_abs();
+        }
+        bits < 1 << 51
+    }
+
+    #[inline(always)]
+    fn guesses(lefts: &[i64], rights: &[i64]) -> [u64; 64] {
+        let mut guesses = [0u64; 64];
+        for k in 0..16 {
+            let left: f64x4 = sizes_of_64(i64x4::from_slice(&lefts[4 * k..4 * k + 4])).cast();
+            let right: f64x4 = sizes_of_64(i64x4::from_slice(&rights[4 * k..4 * k + 4])).cast();
+            low_bits_64(left, right).copy_to_slice(&mut guesses[4 * k..4 * k + 4]);
+        }
+        guesses
+    }
+
+    #[inline(always)]
+    fn by_guess(self, rhs: i64, guesses: &[u64; 64], i: usize) -> (i64, bool) {
+        let (left, right) = (self.unsigned_abs(), rhs.unsigned_abs());
+        let size = guesses[i] % 0x8_0000_0000_0000;
+        let quotient = if (self < 0) == (rhs < 0) {
+            size as i64
+        } else {
+            -(size as i64)
+        };
+        (quotient, is_off_64(left, right, size))
     }
 }

@@ -353,6 +353,7 @@ fn numeric_typed(
         (NumericOperator::Div, PType::I8) => guessed_or_quotients::<i8>(lhs, rhs, ctx),
         (NumericOperator::Div, PType::I16) => guessed_or_quotients::<i16>(lhs, rhs, ctx),
         (NumericOperator::Div, PType::I32) => guessed_or_quotients::<i32>(lhs, rhs, ctx),
+        (NumericOperator::Div, PType::I64) => guessed_or_quotients::<i64>(lhs, rhs, ctx),
         (NumericOperator::Div, PType::U8) => guessed_or_quotients::<u8>(lhs, rhs, ctx),
         (NumericOperator::Div, PType::U16) => guessed_or_quotients::<u16>(lhs, rhs, ctx),
         (NumericOperator::Div, PType::U32) => guessed_or_quotients::<u32>(lhs, rhs, ctx),

@@ -94,6 +94,9 @@ fn next_rows<T: ArithmeticInteger + GuessedDivision>(
         (vec_len values + 64) (map T.NativePType.number result.0.items) result.1 }
 {
     let start = values.len();
+    if !T::may_serve(&lefts[start..start + 64], &rights[start..start + 64]) {
+        return divide_rows::<T>(values, fault, lefts, rights, start + 64);
+    }
     let (mut guesses, is_off) = guess_rows::<T>(values, lefts, rights);
     if !is_off {
         return (guesses, fault);
