@@ -218,15 +218,17 @@ static struct yk_column slice(const struct yk_column *column, size_t start, size
     return part;
 }
 
-/* Runs a batch of columns whose rows begin there. Rows are told by their number in all. */
+/* Runs a batch of columns whose rows begin there. Where it is refused, all rows are run in one call, which says why they are: for the first
+ * column that is wrong, else for the first row that faults, and rows behind the batch may have either. */
 static uint32_t run_batch(struct yk_expression *expression, const struct yk_column *columns, struct yk_column *parts, size_t count,
-    size_t start, size_t rows, struct yk_answers *answers, struct yk_error *error) {
+    size_t rows, size_t start, size_t part, struct yk_answers *answers, struct yk_error *error) {
     for (size_t i = 0; i < count; i++)
-        parts[i] = slice(&columns[i], start, rows);
-    uint32_t status = yk_run(expression, parts, count, rows, answers, error);
-    if (status)
-        yk_add_to_row(error, start);
-    return status;
+        parts[i] = slice(&columns[i], start, part);
+    uint32_t status = yk_run(expression, parts, count, part, answers, error);
+    if (!status || status == YK_OUT_OF_MEMORY)
+        return status;
+    uint32_t whole = yk_run(expression, columns, count, rows, answers, error);
+    return whole ? whole : yk_refuse(error, status, YK_NONE, "a batch of the rows is refused");
 }
 
 /* Whether each column has the rows of the batch, so that it can be cut. */
@@ -253,24 +255,22 @@ static void *make_hole(size_t columns) {
     return stays;
 }
 
-/* Runs the columns a batch at a time; where they cannot be cut, whole, which is refused. */
+/* Runs the columns a batch at a time; where they are few or cannot be cut, in one call, which refuses the latter. */
 static uint32_t run_batches(struct yk_expression *expression, const struct yk_column *columns, size_t count, size_t rows, each_batch *each,
     void *to, struct yk_error *error) {
     struct yk_answers answers = {0};
-    bool cut = can_cut(columns, count, rows);
+    bool cut = rows > YK_ARROW_BATCH && can_cut(columns, count, rows);
     struct yk_column *parts = malloc(count * sizeof *parts + 1);
-    void *hole = rows > YK_ARROW_BATCH ? make_hole(count) : NULL;
+    void *hole = cut ? make_hole(count) : NULL;
     uint32_t status = parts ? YK_OK : yk_refuse_memory(error);
     size_t start = 0;
-    while (!status && (start == 0 || start < rows)) {
+    for (bool more = !status; more; more = !status && start < rows) {
         size_t part = cut && rows - start > YK_ARROW_BATCH ? YK_ARROW_BATCH : rows - start;
-        status = cut ? run_batch(expression, columns, parts, count, start, part, &answers, error)
+        status = cut ? run_batch(expression, columns, parts, count, rows, start, part, &answers, error)
                      : yk_run(expression, columns, count, rows, &answers, error);
         if (!status && (status = each(to, &answers, start, part)))
             yk_refuse(error, status, YK_NONE, "%s", status == YK_OUT_OF_MEMORY ? "out of memory" : "an answer is not copied");
         start += part;
-        if (rows == 0)
-            break;
     }
     yk_answers_free(&answers);
     free(hole);
