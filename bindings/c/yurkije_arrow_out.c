@@ -193,12 +193,17 @@ static uint32_t append(struct yk_answers *answers, size_t answer, uint32_t kind,
 }
 
 static int64_t count_nulls(const uint8_t *bits, size_t rows) {
-    size_t valid = 0;
-    for (size_t i = 0; i < rows / 8; i++)
-        valid += (size_t)__builtin_popcount(bits[i]);
-    if (rows % 8)
-        valid += (size_t)__builtin_popcount(bits[rows / 8] & ((1u << rows % 8) - 1));
-    return (int64_t)(rows - valid);
+    int64_t nulls = 0;
+    for (size_t start = 0; start < rows; start += 64) {
+        uint64_t word = UINT64_MAX;
+        if (rows - start >= 64)
+            memcpy(&word, bits + start / 8, 8);
+        else
+            for (size_t row = start; row < rows; row++)
+                word &= ~((uint64_t)!(bits[row / 8] >> row % 8 & 1) << (row - start));
+        nulls += 64 - __builtin_popcountll(word);
+    }
+    return nulls;
 }
 
 /* Shows the buffers, the validity only where a row is null. */

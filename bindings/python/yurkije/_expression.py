@@ -228,7 +228,9 @@ class Expression:
             self._handle(), answer, raws, len(borrowed), count, numbers.ctypes.data, c.byref(selected), told.raw
         )
         told.check(status, [name for name, _ in self._read])
-        return numbers[: selected.value].copy() if 2 * selected.value < count else numbers[: selected.value]
+        # shrinks where it lies; nothing else points to it yet
+        numbers.resize(selected.value, refcheck=False)
+        return numbers
 
     def __reduce__(self) -> Any:
         """Pickles as its text, and is read anew where it arrives."""
