@@ -126,7 +126,7 @@ static bool make_held(uint32_t kind, size_t rows, struct ArrowArray *array) {
     *array = (struct ArrowArray){.length = (int64_t)rows, .n_buffers = held->layout->buffers, .release = release_array};
     array->buffers = held->buffers;
     array->private_data = held;
-    held->validity = malloc(yk_bytes_for(rows) + 1);
+    held->validity = malloc(yk_bytes_for(rows) + sizeof(uint64_t));
     held->values = malloc((width ? items * width : yk_bytes_for(items)) + 1);
     return held->validity && held->values;
 }
@@ -192,16 +192,15 @@ static uint32_t append(struct yk_answers *answers, size_t answer, uint32_t kind,
     return YK_OK;
 }
 
+/* Bits behind the rows, which are there and say nothing, count as set. */
 static int64_t count_nulls(const uint8_t *bits, size_t rows) {
     int64_t nulls = 0;
     for (size_t start = 0; start < rows; start += 64) {
-        uint64_t word = UINT64_MAX;
-        if (rows - start >= 64)
-            memcpy(&word, bits + start / 8, 8);
-        else
-            for (size_t row = start; row < rows; row++)
-                word &= ~((uint64_t)!(bits[row / 8] >> row % 8 & 1) << (row - start));
-        nulls += 64 - __builtin_popcountll(word);
+        uint64_t word;
+        memcpy(&word, bits + start / 8, sizeof word);
+        if (rows - start < 64)
+            word |= UINT64_MAX << (rows - start);
+        nulls += __builtin_popcountll(~word);
     }
     return nulls;
 }
