@@ -152,6 +152,10 @@ class Program:
         ran = self.run([*columns, "--where=" + condition, *behind], self.csv(self.by_text, table))
         return ran.stdout + ran.stderr
 
+    def is_rewritten(self, text, table):
+        """Whether a text is run as another tree than it says: the program runs what is written."""
+        return False
+
     def explained(self, ask, answers, table):
         """What --explain tells of these."""
         arguments = ask([(f"r{place}", answer) for place, answer in enumerate(answers)], table)
@@ -319,12 +323,12 @@ def interrupted(number, _):
     raise SystemExit(128 + number)
 
 
-def with_server(path, body):
-    """What `body` answers to the program at a path and a server, which ends however that ends; 2 where something is missing."""
+def with_server(make, body):
+    """What `body` answers to the program that is made and a server, which ends however that ends; 2 where something is missing."""
     for number in (signal.SIGHUP, signal.SIGINT, signal.SIGTERM):
         signal.signal(number, interrupted)
     try:
-        program, server = Program(path), Postgresql()
+        program, server = make(), Postgresql()
         try:
             server.start()
             return body(program, server)
