@@ -130,6 +130,12 @@ uint32_t yk_arrow_share(const struct ArrowArray *array, struct ArrowArray *out);
 uint32_t yk_arrow_select(struct yk_expression *expression, size_t answer, const struct yk_column *columns, size_t count, size_t rows,
     uint64_t *numbers, size_t *selected, struct yk_error *error);
 
+/* Whether answer `answer`, a truth value, is true in each row of columns of any length: a byte a row, 1
+ * where it is true and 0 where it is false or null. `mask` has room for a byte a row, and holds anything
+ * where the call is refused, which it is as yk_arrow_answer is. */
+uint32_t yk_arrow_mask(struct yk_expression *expression, size_t answer, const struct yk_column *columns, size_t count, size_t rows,
+    uint8_t *mask, struct yk_error *error);
+
 /* The stream of a text's answers over the batches of a stream, which is taken whether or not the call
  * is refused. It holds no handle, since each of its calls reads the text anew: one call is made at a
  * time, on any thread. Rows are told by their number in the whole stream. */

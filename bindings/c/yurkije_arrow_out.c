@@ -243,9 +243,6 @@ static bool can_cut(const struct yk_column *columns, size_t count, size_t rows) 
     return true;
 }
 
-/* What is done with the answers of each batch, whose first row is told. */
-typedef uint32_t each_batch(void *to, struct yk_answers *answers, size_t start, size_t rows);
-
 /* Room in the heap for what a batch copies, below a block that stays: what is freed behind each batch then never lies at the heap's end,
  * where the C library would give it back to the system, only to fetch it again for the next. NULL, where memory is refused, is no fault. */
 static void *make_hole(size_t columns) {
@@ -259,8 +256,7 @@ static void *make_hole(size_t columns) {
     return stays;
 }
 
-/* Runs the columns a batch at a time; where they are few or cannot be cut, in one call, which refuses the latter. */
-static uint32_t run_batches(struct yk_expression *expression, const struct yk_column *columns, size_t count, size_t rows, each_batch *each,
+uint32_t yk_run_batches(struct yk_expression *expression, const struct yk_column *columns, size_t count, size_t rows, yk_each_batch *each,
     void *to, struct yk_error *error) {
     struct yk_answers answers = {0};
     bool cut = rows > YK_ARROW_BATCH && can_cut(columns, count, rows);
@@ -327,7 +323,7 @@ uint32_t yk_arrow_answer(struct yk_expression *expression, const struct yk_colum
     if (status)
         yk_refuse(error, status, YK_NONE, "%s", status == YK_OUT_OF_MEMORY ? "out of memory" : "the answers are not collected");
     else
-        status = run_batches(expression, columns, count, rows, append_all, &collected, error);
+        status = yk_run_batches(expression, columns, count, rows, append_all, &collected, error);
     for (int64_t i = 0; !status && i < out->n_children; i++)
         finish(out->children[i]);
     if (status)
@@ -357,44 +353,4 @@ uint32_t yk_arrow_share(const struct ArrowArray *array, struct ArrowArray *out) 
     if (!shared)
         release_array(out);
     return shared ? YK_OK : YK_OUT_OF_MEMORY;
-}
-
-/* Where the numbers of a batch go, and how many there are so far. */
-struct selection {
-    size_t answer;
-    uint64_t *numbers;
-    size_t count;
-};
-
-/* Adds the numbers of the bits that are set in a word of 64 rows. */
-static size_t add_rows(uint64_t word, uint64_t first, uint64_t *numbers) {
-    size_t count = 0;
-    for (; word; word &= word - 1)
-        numbers[count++] = first + (uint64_t)__builtin_ctzll(word);
-    return count;
-}
-
-/* The rows that are true and not null, by the bits of both. */
-static uint32_t append_rows(void *to, struct yk_answers *answers, size_t start, size_t rows) {
-    static const size_t most = YK_ARROW_BATCH / 8;
-    struct selection *selection = to;
-    uint64_t truths[YK_ARROW_BATCH / 64] = {0}, valid[YK_ARROW_BATCH / 64] = {0};
-    struct yk_room room = {.kind = YK_BOOL, .validity = {(uint8_t *)valid, most}, .bools = {(uint8_t *)truths, most}};
-    uint32_t status = yk_answer_copy(answers, selection->answer, &room);
-    for (size_t i = 0; !status && i < rows; i += 64) {
-        uint64_t word = truths[i / 64] & valid[i / 64];
-        if (rows - i < 64)
-            word &= (UINT64_C(1) << (rows - i)) - 1;
-        selection->count += add_rows(word, start + i, selection->numbers + selection->count);
-    }
-    return status;
-}
-
-uint32_t yk_arrow_select(struct yk_expression *expression, size_t answer, const struct yk_column *columns, size_t count, size_t rows,
-    uint64_t *numbers, size_t *selected, struct yk_error *error) {
-    struct selection selection = {answer, numbers, 0};
-    yk_reset(error);
-    uint32_t status = run_batches(expression, columns, count, rows, append_rows, &selection, error);
-    *selected = status ? 0 : selection.count;
-    return status;
 }

@@ -42,6 +42,7 @@ static void long_columns(void) {
 /* Whether the calls that cut columns refuse them as one call over all rows does: the row that it tells. */
 static void refused_alike(struct yk_expression *expression, const struct yk_column *columns, size_t count, size_t rows, size_t row) {
     static uint64_t chosen[3 * YK_ARROW_BATCH];
+    static uint8_t mask[3 * YK_ARROW_BATCH];
     struct yk_answers answers = {0};
     struct ArrowArray out;
     char words[300];
@@ -54,6 +55,8 @@ static void refused_alike(struct yk_expression *expression, const struct yk_colu
     SAME(yk_arrow_select(expression, 0, columns, count, rows, chosen, &selected, &error), whole.status);
     CHECK(error.column == whole.column && error.row == row && strcmp(message, words) == 0);
     SAME(selected, 0);
+    SAME(yk_arrow_mask(expression, 0, columns, count, rows, mask, &error), whole.status);
+    CHECK(error.column == whole.column && error.row == row && strcmp(message, words) == 0);
 }
 
 /* What refuses an earlier batch is not told where a run of all rows would tell something else. */
@@ -108,7 +111,14 @@ static void long_texts(void) {
     SAME(count, rows - rows / 8);
     for (size_t i = 0; i < count; i++)
         wrong += chosen[i] != i + i / 7;
+    static uint8_t mask[rows + 1];
+    mask[rows] = 7;
+    SAME(yk_arrow_mask(&expression, 1, in, 2, rows, mask, &error), YK_OK);
+    for (size_t i = 0; i < rows; i++)
+        wrong += mask[i] != (i % 8 != 7);
     SAME(wrong, 0);
+    SAME(mask[rows], 7);
+    SAME(yk_arrow_mask(&expression, 0, in, 2, rows, mask, &error), YK_OTHER_KIND);
     yk_expression_free(&expression);
 }
 

@@ -13,7 +13,7 @@ import numpy as np
 from . import _capsules as capsules
 from ._answers import Answer, Answers, Held
 from ._columns import Borrowed, borrow, fields_of, type_of
-from ._errors import ExpressionError, Told, error_of
+from ._errors import Error, ExpressionError, Told, error_of
 from ._library import NAMES, Column, Handle, Type, lib, text_of
 
 # A token of an expression that can name a column, or hide one: a text, a comment, a word, a name in quotes.
@@ -235,7 +235,7 @@ class Expression:
     def select(self, columns: Any, answer: int = 0, rows: Optional[int] = None) -> Any:
         """Returns the numbers of the rows in which an answer, a truth value, is true: an array of int64, ascending."""
         if _is_batch(columns):
-            return np.flatnonzero(np.ma.filled(self.run(columns).column(answer), False))
+            return np.flatnonzero(self._true(columns, answer))
         return self._select(self._borrowed(columns), columns, answer, rows)
 
     def _select(self, borrowed: list[Borrowed], source: Any, answer: int, rows: Optional[int]) -> Any:
@@ -248,6 +248,25 @@ class Expression:
         # shrinks where it lies; nothing else points to it yet
         numbers.resize(selected.value, refcheck=False)
         return numbers
+
+    def _true(self, batch: Any, answer: int) -> Any:
+        """Returns in which rows of a batch an answer is true."""
+        values = self.run(batch).column(answer)
+        if values.dtype != np.bool_:
+            raise Error(103, f"answer {answer} is no truth value")
+        return np.ma.filled(values, False)
+
+    def mask(self, columns: Any, answer: int = 0, rows: Optional[int] = None) -> Any:
+        """Returns whether an answer, a truth value, is true in each row: an array of bool, False where it is null, as filters of
+        numpy and pandas take it, `frame[wanted.mask(frame)]`."""
+        if _is_batch(columns):
+            return self._true(columns, answer)
+        told, borrowed = Told(), self._borrowed(columns)
+        count = _rows_of(borrowed, rows, columns)
+        mask = np.empty(count, np.bool_)
+        status = lib.yk_arrow_mask(self._handle(), answer, _raws(borrowed), len(borrowed), count, mask.ctypes.data, told.raw)
+        told.check(status, self._names())
+        return mask
 
     def __reduce__(self) -> Any:
         """Pickles as its text, and is read anew where it arrives."""
