@@ -1,5 +1,5 @@
 /* A scan filter: the expression is read once, and run over batches that are borrowed where they lie. Compiles as C11 and as C++17:
- *     cc example.c $(pkg-config --cflags --libs yurkije) -o example && ./example
+ *     cc example.c $(pkg-config --cflags --libs yurkije) -Wl,-rpath,$(pkg-config --variable=libdir yurkije) -o example && ./example
  * prints
  *     worth of row 0: 21
  *     worth of row 1: null

@@ -115,7 +115,8 @@ uint32_t yk_arrow_schema(struct yk_expression *expression, struct ArrowSchema *o
 uint32_t yk_arrow_run(struct yk_expression *expression, const struct ArrowSchema *schema, const struct ArrowArray *batch,
     struct ArrowArray *out, struct yk_error *error);
 
-/* Runs the expression over columns of any length, YK_ARROW_BATCH rows at a time. */
+/* Runs the expression over columns of any length, YK_ARROW_BATCH rows at a time. Refused as yk_run over
+ * all rows is: with the same column, row and answer. */
 uint32_t yk_arrow_answer(struct yk_expression *expression, const struct yk_column *columns, size_t count, size_t rows,
     struct ArrowArray *out, struct yk_error *error);
 
@@ -124,9 +125,16 @@ uint32_t yk_arrow_answer(struct yk_expression *expression, const struct yk_colum
 uint32_t yk_arrow_share(const struct ArrowArray *array, struct ArrowArray *out);
 
 /* The numbers of the rows in which answer `answer`, a truth value, is true, of columns of any length:
- * as yk_select tells them. `numbers` has room for one number a row, which always is enough. */
+ * as yk_select tells them. `numbers` has room for one number a row, which always is enough. Refused as
+ * yk_arrow_answer is. */
 uint32_t yk_arrow_select(struct yk_expression *expression, size_t answer, const struct yk_column *columns, size_t count, size_t rows,
     uint64_t *numbers, size_t *selected, struct yk_error *error);
+
+/* Whether answer `answer`, a truth value, is true in each row of columns of any length: a byte a row, 1
+ * where it is true and 0 where it is false or null. `mask` has room for a byte a row, and holds anything
+ * where the call is refused, which it is as yk_arrow_answer is. */
+uint32_t yk_arrow_mask(struct yk_expression *expression, size_t answer, const struct yk_column *columns, size_t count, size_t rows,
+    uint8_t *mask, struct yk_error *error);
 
 /* The stream of a text's answers over the batches of a stream, which is taken whether or not the call
  * is refused. It holds no handle, since each of its calls reads the text anew: one call is made at a

@@ -126,7 +126,7 @@ static bool make_held(uint32_t kind, size_t rows, struct ArrowArray *array) {
     *array = (struct ArrowArray){.length = (int64_t)rows, .n_buffers = held->layout->buffers, .release = release_array};
     array->buffers = held->buffers;
     array->private_data = held;
-    held->validity = malloc(yk_bytes_for(rows) + 1);
+    held->validity = malloc(yk_bytes_for(rows) + sizeof(uint64_t));
     held->values = malloc((width ? items * width : yk_bytes_for(items)) + 1);
     return held->validity && held->values;
 }
@@ -192,13 +192,17 @@ static uint32_t append(struct yk_answers *answers, size_t answer, uint32_t kind,
     return YK_OK;
 }
 
+/* Bits behind the rows, which are there and say nothing, count as set. */
 static int64_t count_nulls(const uint8_t *bits, size_t rows) {
-    size_t valid = 0;
-    for (size_t i = 0; i < rows / 8; i++)
-        valid += (size_t)__builtin_popcount(bits[i]);
-    if (rows % 8)
-        valid += (size_t)__builtin_popcount(bits[rows / 8] & ((1u << rows % 8) - 1));
-    return (int64_t)(rows - valid);
+    int64_t nulls = 0;
+    for (size_t start = 0; start < rows; start += 64) {
+        uint64_t word;
+        memcpy(&word, bits + start / 8, sizeof word);
+        if (rows - start < 64)
+            word |= UINT64_MAX << (rows - start);
+        nulls += __builtin_popcountll(~word);
+    }
+    return nulls;
 }
 
 /* Shows the buffers, the validity only where a row is null. */
@@ -218,15 +222,17 @@ static struct yk_column slice(const struct yk_column *column, size_t start, size
     return part;
 }
 
-/* Runs a batch of columns whose rows begin there. Rows are told by their number in all. */
+/* Runs a batch of columns whose rows begin there. Where it is refused, all rows are run in one call, which says why they are: for the first
+ * column that is wrong, else for the first row that faults, and rows behind the batch may have either. */
 static uint32_t run_batch(struct yk_expression *expression, const struct yk_column *columns, struct yk_column *parts, size_t count,
-    size_t start, size_t rows, struct yk_answers *answers, struct yk_error *error) {
+    size_t rows, size_t start, size_t part, struct yk_answers *answers, struct yk_error *error) {
     for (size_t i = 0; i < count; i++)
-        parts[i] = slice(&columns[i], start, rows);
-    uint32_t status = yk_run(expression, parts, count, rows, answers, error);
-    if (status)
-        yk_add_to_row(error, start);
-    return status;
+        parts[i] = slice(&columns[i], start, part);
+    uint32_t status = yk_run(expression, parts, count, part, answers, error);
+    if (!status || status == YK_OUT_OF_MEMORY)
+        return status;
+    uint32_t whole = yk_run(expression, columns, count, rows, answers, error);
+    return whole ? whole : yk_refuse(error, status, YK_NONE, "a batch of the rows is refused");
 }
 
 /* Whether each column has the rows of the batch, so that it can be cut. */
@@ -236,9 +242,6 @@ static bool can_cut(const struct yk_column *columns, size_t count, size_t rows) 
             return false;
     return true;
 }
-
-/* What is done with the answers of each batch, whose first row is told. */
-typedef uint32_t each_batch(void *to, struct yk_answers *answers, size_t start, size_t rows);
 
 /* Room in the heap for what a batch copies, below a block that stays: what is freed behind each batch then never lies at the heap's end,
  * where the C library would give it back to the system, only to fetch it again for the next. NULL, where memory is refused, is no fault. */
@@ -253,24 +256,21 @@ static void *make_hole(size_t columns) {
     return stays;
 }
 
-/* Runs the columns a batch at a time; where they cannot be cut, whole, which is refused. */
-static uint32_t run_batches(struct yk_expression *expression, const struct yk_column *columns, size_t count, size_t rows, each_batch *each,
+uint32_t yk_run_batches(struct yk_expression *expression, const struct yk_column *columns, size_t count, size_t rows, yk_each_batch *each,
     void *to, struct yk_error *error) {
     struct yk_answers answers = {0};
-    bool cut = can_cut(columns, count, rows);
+    bool cut = rows > YK_ARROW_BATCH && can_cut(columns, count, rows);
     struct yk_column *parts = malloc(count * sizeof *parts + 1);
-    void *hole = rows > YK_ARROW_BATCH ? make_hole(count) : NULL;
+    void *hole = cut ? make_hole(count) : NULL;
     uint32_t status = parts ? YK_OK : yk_refuse_memory(error);
     size_t start = 0;
-    while (!status && (start == 0 || start < rows)) {
+    for (bool more = !status; more; more = !status && start < rows) {
         size_t part = cut && rows - start > YK_ARROW_BATCH ? YK_ARROW_BATCH : rows - start;
-        status = cut ? run_batch(expression, columns, parts, count, start, part, &answers, error)
+        status = cut ? run_batch(expression, columns, parts, count, rows, start, part, &answers, error)
                      : yk_run(expression, columns, count, rows, &answers, error);
         if (!status && (status = each(to, &answers, start, part)))
             yk_refuse(error, status, YK_NONE, "%s", status == YK_OUT_OF_MEMORY ? "out of memory" : "an answer is not copied");
         start += part;
-        if (rows == 0)
-            break;
     }
     yk_answers_free(&answers);
     free(hole);
@@ -323,7 +323,7 @@ uint32_t yk_arrow_answer(struct yk_expression *expression, const struct yk_colum
     if (status)
         yk_refuse(error, status, YK_NONE, "%s", status == YK_OUT_OF_MEMORY ? "out of memory" : "the answers are not collected");
     else
-        status = run_batches(expression, columns, count, rows, append_all, &collected, error);
+        status = yk_run_batches(expression, columns, count, rows, append_all, &collected, error);
     for (int64_t i = 0; !status && i < out->n_children; i++)
         finish(out->children[i]);
     if (status)
@@ -353,44 +353,4 @@ uint32_t yk_arrow_share(const struct ArrowArray *array, struct ArrowArray *out) 
     if (!shared)
         release_array(out);
     return shared ? YK_OK : YK_OUT_OF_MEMORY;
-}
-
-/* Where the numbers of a batch go, and how many there are so far. */
-struct selection {
-    size_t answer;
-    uint64_t *numbers;
-    size_t count;
-};
-
-/* Adds the numbers of the bits that are set in a word of 64 rows. */
-static size_t add_rows(uint64_t word, uint64_t first, uint64_t *numbers) {
-    size_t count = 0;
-    for (; word; word &= word - 1)
-        numbers[count++] = first + (uint64_t)__builtin_ctzll(word);
-    return count;
-}
-
-/* The rows that are true and not null, by the bits of both. */
-static uint32_t append_rows(void *to, struct yk_answers *answers, size_t start, size_t rows) {
-    static const size_t most = YK_ARROW_BATCH / 8;
-    struct selection *selection = to;
-    uint64_t truths[YK_ARROW_BATCH / 64] = {0}, valid[YK_ARROW_BATCH / 64] = {0};
-    struct yk_room room = {.kind = YK_BOOL, .validity = {(uint8_t *)valid, most}, .bools = {(uint8_t *)truths, most}};
-    uint32_t status = yk_answer_copy(answers, selection->answer, &room);
-    for (size_t i = 0; !status && i < rows; i += 64) {
-        uint64_t word = truths[i / 64] & valid[i / 64];
-        if (rows - i < 64)
-            word &= (UINT64_C(1) << (rows - i)) - 1;
-        selection->count += add_rows(word, start + i, selection->numbers + selection->count);
-    }
-    return status;
-}
-
-uint32_t yk_arrow_select(struct yk_expression *expression, size_t answer, const struct yk_column *columns, size_t count, size_t rows,
-    uint64_t *numbers, size_t *selected, struct yk_error *error) {
-    struct selection selection = {answer, numbers, 0};
-    yk_reset(error);
-    uint32_t status = run_batches(expression, columns, count, rows, append_rows, &selection, error);
-    *selected = status ? 0 : selection.count;
-    return status;
 }

@@ -30,6 +30,13 @@ void yk_add_to_row(struct yk_error *error, size_t before);
 /* Refuses what is no batch of that schema. */
 uint32_t yk_check_batch(const struct ArrowSchema *schema, const struct ArrowArray *batch, struct yk_error *error);
 
+/* What is done with the answers of each batch, whose first row is told. */
+typedef uint32_t yk_each_batch(void *to, struct yk_answers *answers, size_t start, size_t rows);
+
+/* Runs columns a batch at a time; where they are few or cannot be cut, in one call, which refuses the latter. */
+uint32_t yk_run_batches(struct yk_expression *expression, const struct yk_column *columns, size_t count, size_t rows, yk_each_batch *each,
+    void *to, struct yk_error *error);
+
 struct ArrowArray yk_child_of(const struct ArrowArray *batch, int64_t child);
 
 #endif

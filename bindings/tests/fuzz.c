@@ -2,7 +2,7 @@
  * may touch, so that a byte past its end is a fault, also in code that no sanitizer knows. What is answered is asked again over the same
  * rows at another offset and in another layout, and compared. */
 #define _DEFAULT_SOURCE
-#include "fuzz_texts.h"
+#include "fuzz_lines.h"
 
 #include <stdio.h>
 #include <stdlib.h>
@@ -226,43 +226,82 @@ __attribute__((destructor)) static void tell(void) {
     fprintf(stderr, "fuzz: %lu texts, %lu of them expressions, %lu batches answered and compared\n", asked, readable, answered);
 }
 
-int LLVMFuzzerTestOneInput(const uint8_t *bytes, size_t size) {
-    static struct fuzzed made[most_columns];
-    struct given given = {bytes, size};
+/* What one input is read as: an expression over fields. */
+struct asking {
     struct yk_field fields[most_columns];
+    size_t count;
+    struct yk_expression expression;
+    char message[40];
+    struct yk_error error;
+};
+
+/* An expression over fields of the input: a text that is well written, tokens, or bytes. */
+static uint32_t read_text(struct given *given, struct asking *asking) {
     static const char *const names[] = {"c0", "c1", "c2", "c3"};
-    char text[400], message[40];
+    char text[400];
+    asking->count = 1 + below(given, most_columns);
+    for (size_t i = 0; i < asking->count; i++)
+        asking->fields[i] = (struct yk_field){{names[i], 2}, next(given) % 64 == 0 ? next(given) : 1 + below(given, 15), next(given) & 1};
+    struct writing writing = {text, 0, sizeof text, asking->fields, asking->count};
+    unsigned form = next(given) % 8;
+    (form == 0 ? write_bytes : form < 3 ? write_tokens : write_answers)(given, &writing);
+    return yk_expression_new(
+        guarded_copy(text, writing.length), writing.length, asking->fields, asking->count, &asking->expression, &asking->error);
+}
+
+/* An expression of lines, which declare the fields themselves. Of one whose fields have no kind no batch is run. */
+static uint32_t read_lines(struct given *given, struct asking *asking) {
+    char text[700];
+    struct writing writing = {text, 0, sizeof text, NULL, 0};
+    (next(given) % 8 == 0 ? write_bytes : write_script)(given, &writing);
+    uint32_t status = yk_expression_of_lines(guarded_copy(text, writing.length), writing.length, &asking->expression, &asking->error);
+    if (!status)
+        status = yk_field_count(&asking->expression, &asking->count);
+    if (!status && asking->count > most_columns)
+        return YK_NO_SUCH_NUMBER;
+    for (size_t i = 0; !status && i < asking->count; i++) {
+        struct yk_type type;
+        yk_field_type(&asking->expression, i, &type);
+        asking->fields[i] = (struct yk_field){.kind = type.kind, .nullable = type.nullable};
+        status = type.kind == YK_NO_KIND ? YK_OTHER_KIND : YK_OK;
+    }
+    return status;
+}
+
+/* Runs the expression over columns of the input, and compares what it answers. */
+static void run(struct given *given, struct asking *asking) {
+    static struct fuzzed made[most_columns];
     struct yk_column columns[most_columns];
-    struct yk_expression expression = {0};
     struct yk_answers answers = {0};
-    struct yk_error error = {.message = {message, sizeof message}};
-    if (!slot_end[0])
-        make_slots();
+    size_t rows = below(given, most_rows);
     taken = 0;
-    size_t count = 1 + below(&given, most_columns), rows = below(&given, most_rows);
-    for (size_t i = 0; i < count; i++)
-        fields[i] = (struct yk_field){{names[i], 2}, next(&given) % 64 == 0 ? next(&given) : 1 + below(&given, 15), next(&given) & 1};
-    struct writing writing = {text, 0, sizeof text, fields, count};
-    if (next(&given) % 4)
-        write_answers(&given, &writing);
-    else
-        write_tokens(&given, &writing);
-    uint32_t status = yk_expression_new(guarded_copy(text, writing.length), writing.length, fields, count, &expression, &error);
-    asked++;
-    readable += status == YK_OK;
-    taken = 0;
-    for (size_t i = 0; !status && i < count; i++) {
-        make_column(&made[i], &fields[i], &given, rows);
+    for (size_t i = 0; i < asking->count; i++) {
+        make_column(&made[i], &asking->fields[i], given, rows);
         columns[i] = made[i].column;
     }
-    if (!status)
-        status = yk_run(&expression, columns, count, rows, &answers, &error);
-    if ((status != YK_OK) != (error.status != YK_OK) || error.message_length >= sizeof message)
+    uint32_t status = yk_run(&asking->expression, columns, asking->count, rows, &answers, &asking->error);
+    if ((status != YK_OK) != (asking->error.status != YK_OK))
         abort();
     answered += status == YK_OK;
     if (!status && rows > 0)
-        again(&expression, made, count, rows, 1 + below(&given, (unsigned)rows), &answers, &error);
+        again(&asking->expression, made, asking->count, rows, 1 + below(given, (unsigned)rows), &answers, &asking->error);
     yk_answers_free(&answers);
-    yk_expression_free(&expression);
+}
+
+int LLVMFuzzerTestOneInput(const uint8_t *bytes, size_t size) {
+    struct given given = {bytes, size};
+    struct asking asking = {.count = 0};
+    asking.error.message = (struct yk_text_room){asking.message, sizeof asking.message};
+    if (!slot_end[0])
+        make_slots();
+    taken = 0;
+    uint32_t status = next(&given) % 4 == 0 ? read_lines(&given, &asking) : read_text(&given, &asking);
+    asked++;
+    readable += status == YK_OK;
+    if (!status)
+        run(&given, &asking);
+    if (asking.error.message_length >= sizeof asking.message)
+        abort();
+    yk_expression_free(&asking.expression);
     return 0;
 }

@@ -105,6 +105,13 @@ static void write_tokens(struct given *given, struct writing *to) {
     }
 }
 
+/* The bytes of the input as they are. */
+static void write_bytes(struct given *given, struct writing *to) {
+    size_t most = next(given) + next(given);
+    while (given->left > 0 && most-- > 0 && to->length < to->room)
+        to->text[to->length++] = (char)next(given);
+}
+
 enum shape { is_truth, is_number, is_text };
 
 static enum shape shape_of(uint32_t kind) { return kind == YK_BOOL ? is_truth : kind <= YK_U64 ? is_number : is_text; }

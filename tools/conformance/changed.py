@@ -80,7 +80,7 @@ class Changed:
             except Refused as refused:
                 self.beside_refusal(number, text, refused, answers)
             else:
-                self.beside_answers(number, text, ours, answers)
+                self.beside_answers(number, text, ours, answers, self.program.is_rewritten(text, table))
 
     def differ(self, number, text, ours, theirs):
         self.differences.append(f"changed text {number}: {text!r}\n    rowfn_stream: {ours}\n    PostgreSQL: {theirs}")
@@ -99,13 +99,14 @@ class Changed:
                 return
         self.differ(number, text, refused, answers[0])
 
-    def beside_answers(self, number, text, ours, answers):
+    def beside_answers(self, number, text, ours, answers, is_rewritten):
+        """Compares the rows of both. Of a tree that rules made another the call that faults may be gone."""
         self.counts["changed texts that both answer"] += 1
         for one, other in zip(ours, answers):
             if one is NOT_ASKED:
                 break
             if isinstance(other, Fault):
-                alike = other.name in STATES and isinstance(one, Fault) or other.name == "22025" and "like" in text
+                alike = other.name in STATES and (isinstance(one, Fault) or is_rewritten) or other.name == "22025" and "like" in text
             else:
                 # a fault that stands beside what decides, or beside a null, is not met by PostgreSQL
                 alike = one == other or isinstance(one, Fault) and bool(re.search(r"\b(and|or|null)\b", text))

@@ -75,6 +75,7 @@ def page_lines(program, server, cased):
 
 
 def not_on_page(lines):
+    """The lines that the page has otherwise. Its header may tell other versions, of the run that it tells of."""
     with open(PAGE, encoding="utf-8") as page:
         said = set(page.read().split("\n"))
-    return [line for line in lines if line not in said]
+    return [line for line in lines[1:] if line not in said]

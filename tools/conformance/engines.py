@@ -1,4 +1,5 @@
 """The program, PostgreSQL and SQLite: what each answers over the rows of a table."""
+import copy
 import glob
 import json
 import os
@@ -151,6 +152,10 @@ class Program:
         ran = self.run([*columns, "--where=" + condition, *behind], self.csv(self.by_text, table))
         return ran.stdout + ran.stderr
 
+    def is_rewritten(self, text, table):
+        """Whether a text is run as another tree than it says: the program runs what is written."""
+        return False
+
     def explained(self, ask, answers, table):
         """What --explain tells of these."""
         arguments = ask([(f"r{place}", answer) for place, answer in enumerate(answers)], table)
@@ -209,6 +214,7 @@ class Postgresql:
 
     def __init__(self):
         self.folder = self.server = None
+        self.database = "postgres"
         # Debian keeps the server's programs out of the way
         folders = sorted(glob.glob("/usr/lib/postgresql/*/bin"), key=lambda path: [int(number) for number in re.findall(r"\d+", path)])
         self.path = os.pathsep.join([os.environ.get("PATH", ""), *folders[-1:]])
@@ -233,7 +239,7 @@ class Postgresql:
         with open(self.folder + "/log", "wb") as log:
             self.server = subprocess.Popen(
                 self.words(self.which("postgres"), "-D", self.folder + "/data", "-k", self.folder, "-c", "listen_addresses=",
-                           "-c", "fsync=off", "-c", "jit=off", "-c", "max_connections=10"),
+                           "-c", "fsync=off", "-c", "jit=off", "-c", "max_connections=100"),
                 stdout=log, stderr=log, env=self.environment, cwd="/", start_new_session=True)
         for _ in range(300):
             if self.psql("SELECT 1;", check=False).returncode == 0:
@@ -246,6 +252,13 @@ class Postgresql:
 
     def which(self, word):
         return shutil.which(word, path=self.path)
+
+    def another_database(self, name):
+        """This server, asked in a database of its own, so that processes do not fill one table."""
+        self.ask_plain(f"CREATE DATABASE {name} TEMPLATE postgres;")
+        other = copy.copy(self)
+        other.database = name
+        return other
 
     def made(self, word, *words):
         """Runs a command to its end, and where the tool is interrupted, ends it with all that it started."""
@@ -261,7 +274,7 @@ class Postgresql:
             raise Missing(f"{word}: {told.strip()}")
 
     def psql(self, said, check=True):
-        words = [self.which("psql"), "-X", "-q", "-A", "-t", "-v", "ON_ERROR_STOP=1", "-h", self.folder, "-U", "asks", "-d", "postgres"]
+        words = [self.which("psql"), "-X", "-q", "-A", "-t", "-v", "ON_ERROR_STOP=1", "-h", self.folder, "-U", "asks", "-d", self.database]
         ran = subprocess.run(words, input=said.encode(), capture_output=True, env=self.environment, cwd="/", start_new_session=True)
         if check and ran.returncode != 0:
             with open(self.folder + "/log", encoding="utf-8", errors="replace") as log:
@@ -310,12 +323,12 @@ def interrupted(number, _):
     raise SystemExit(128 + number)
 
 
-def with_server(path, body):
-    """What `body` answers to the program at a path and a server, which ends however that ends; 2 where something is missing."""
+def with_server(make, body):
+    """What `body` answers to the program that is made and a server, which ends however that ends; 2 where something is missing."""
     for number in (signal.SIGHUP, signal.SIGINT, signal.SIGTERM):
         signal.signal(number, interrupted)
     try:
-        program, server = Program(path), Postgresql()
+        program, server = make(), Postgresql()
         try:
             server.start()
             return body(program, server)

@@ -27,6 +27,9 @@ class Numpy(unittest.TestCase):
             got = evaluate("a < b and c > 5 as taken", {"a": a, "b": b, "c": c})["taken"]
             np.testing.assert_array_equal(got, (a < b) & (c > 5))
             np.testing.assert_array_equal(select("a < b and c > 5", {"a": a, "b": b, "c": c}), np.flatnonzero((a < b) & (c > 5)))
+            wanted = Expression("a < b and c > 5", {"a": "i64", "b": "i64", "c": "i64"}).mask({"a": a, "b": b, "c": c}, rows=size)
+            self.assertEqual(wanted.dtype, np.bool_)
+            np.testing.assert_array_equal(wanted, (a < b) & (c > 5))
 
     def test_masks_are_nulls(self):
         rng = np.random.default_rng(2)
@@ -36,6 +39,15 @@ class Numpy(unittest.TestCase):
             self.assertEqual(rows_of(answers["more"]), [None if null else value + 1 for value, null in zip(a.tolist(), nulls)])
             np.testing.assert_array_equal(answers["missing"], nulls)
             np.testing.assert_array_equal(np.ma.filled(answers["taken"], False), (a > 0) | nulls)
+            # null is not true
+            masked = np.ma.MaskedArray(a, nulls)
+            wanted = Expression("a > 0, a", {"a": "i64?"})
+            np.testing.assert_array_equal(wanted.mask({"a": masked}), (a > 0) & ~nulls)
+            np.testing.assert_array_equal(wanted.mask(evaluate("a", {"a": masked})), (a > 0) & ~nulls)
+            for given in ({"a": masked}, evaluate("a", {"a": masked})):
+                with self.assertRaises(yurkije.Error) as refused:
+                    wanted.mask(given, 1)
+                self.assertEqual(refused.exception.number, 103)
 
     def test_each_integer_type_comes_back_as_it_was(self):
         for kind in ("i1", "i2", "i4", "i8", "u1", "u2", "u4", "u8"):

@@ -13,7 +13,7 @@ import numpy as np
 from . import _capsules as capsules
 from ._answers import Answer, Answers, Held
 from ._columns import Borrowed, borrow, fields_of, type_of
-from ._errors import ExpressionError, Told, error_of
+from ._errors import Error, ExpressionError, Told, error_of
 from ._library import NAMES, Column, Handle, Type, lib, text_of
 
 # A token of an expression that can name a column, or hide one: a text, a comment, a word, a name in quotes.
@@ -81,6 +81,11 @@ def _rows_of(columns: list[Borrowed], rows: Optional[int], source: Any) -> int:
     raise ValueError("there is no column to tell how many rows there are: say rows")
 
 
+def _raws(borrowed: list[Borrowed]) -> Any:
+    """Returns the columns one behind the other, as the library reads them."""
+    return (Column * max(len(borrowed), 1))(*[column.raw for column in borrowed])
+
+
 class Expression:
     """An expression over columns of types that are said, read once and run over many batches.
 
@@ -114,12 +119,20 @@ class Expression:
         `keys()` and the columns by name; or a batch with `__arrow_c_array__`."""
         if _is_batch(columns):
             return cls._of_schema(text, capsules.struct_in(columns.__arrow_c_array__()[0], b"arrow_schema"))
+        return cls._over(text, columns)[0]
+
+    @classmethod
+    def _over(cls, text: str, columns: Any) -> tuple[Expression, list[Borrowed]]:
+        """Returns the expression over the types that columns have, and the columns that it reads, borrowed."""
         named = words_of(text)
         names = [str(name) for name in columns.keys()]
+        borrowed = {name: borrow(name, columns[name]) for name in names if name in named}
         try:
-            return cls(text, {name: type_of(borrow(name, columns[name])) for name in names if name in named})
+            made = cls(text, {name: type_of(column) for name, column in borrowed.items()})
         except ExpressionError:
-            return cls(text, {name: type_of(borrow(name, columns[name])) for name in names})
+            borrowed = {name: borrowed[name] if name in borrowed else borrow(name, columns[name]) for name in names}
+            made = cls(text, {name: type_of(column) for name, column in borrowed.items()})
+        return made, [made._lent(borrowed[name], kind) for name, kind in made._read]
 
     @classmethod
     def of_lines(cls, lines: str) -> Expression:
@@ -181,13 +194,13 @@ class Expression:
         """Returns the text of an answer, as it was read or as it is run."""
         return text_of(lib.yk_answer_text, self._handle(), answer, optimized)
 
+    @staticmethod
+    def _lent(column: Borrowed, kind: str) -> Borrowed:
+        column.raw.nullable = kind.endswith("?")
+        return column
+
     def _borrowed(self, source: Any) -> list[Borrowed]:
-        columns = []
-        for name, kind in self._read:
-            column = borrow(name, source[name], kind.rstrip("?"))
-            column.raw.nullable = kind.endswith("?")
-            columns.append(column)
-        return columns
+        return [self._lent(borrow(name, source[name], kind.rstrip("?")), kind) for name, kind in self._read]
 
     def _schema_capsule(self) -> object:
         capsule, schema = capsules.new(b"arrow_schema")
@@ -202,33 +215,58 @@ class Expression:
         A column is a numpy array (a masked one has nulls), a pandas series, a list with None for null, or an array of Arrow.
         Raises what is refused, with the row in which an answer faults. `rows` is needed where there are no columns.
         """
+        if not _is_batch(columns):
+            return self._run(self._borrowed(columns), columns, rows)
         told, held = Told(), Held()
-        names = [name for name, _ in self._read]
-        if _is_batch(columns):
-            schema_capsule, array_capsule = columns.__arrow_c_array__()
-            schema = capsules.struct_in(schema_capsule, b"arrow_schema")
-            batch = capsules.struct_in(array_capsule, b"arrow_array")
-            told.check(lib.yk_arrow_run(self._handle(), schema, batch, held.raw, told.raw), names)
-        else:
-            borrowed = self._borrowed(columns)
-            raws = (Column * max(len(borrowed), 1))(*[column.raw for column in borrowed])
-            count = _rows_of(borrowed, rows, columns)
-            told.check(lib.yk_arrow_answer(self._handle(), raws, len(borrowed), count, held.raw, told.raw), names)
+        schema_capsule, array_capsule = columns.__arrow_c_array__()
+        schema = capsules.struct_in(schema_capsule, b"arrow_schema")
+        batch = capsules.struct_in(array_capsule, b"arrow_array")
+        told.check(lib.yk_arrow_run(self._handle(), schema, batch, held.raw, told.raw), self._names())
+        return Answers(self.answers, held, self._schema_capsule)
+
+    def _names(self) -> list[str]:
+        return [name for name, _ in self._read]
+
+    def _run(self, borrowed: list[Borrowed], source: Any, rows: Optional[int]) -> Answers:
+        told, held, count = Told(), Held(), _rows_of(borrowed, rows, source)
+        told.check(lib.yk_arrow_answer(self._handle(), _raws(borrowed), len(borrowed), count, held.raw, told.raw), self._names())
         return Answers(self.answers, held, self._schema_capsule)
 
     def select(self, columns: Any, answer: int = 0, rows: Optional[int] = None) -> Any:
         """Returns the numbers of the rows in which an answer, a truth value, is true: an array of int64, ascending."""
         if _is_batch(columns):
-            return np.flatnonzero(np.ma.filled(self.run(columns).column(answer), False))
-        told, borrowed = Told(), self._borrowed(columns)
-        raws = (Column * max(len(borrowed), 1))(*[column.raw for column in borrowed])
-        count = _rows_of(borrowed, rows, columns)
+            return np.flatnonzero(self._true(columns, answer))
+        return self._select(self._borrowed(columns), columns, answer, rows)
+
+    def _select(self, borrowed: list[Borrowed], source: Any, answer: int, rows: Optional[int]) -> Any:
+        told, count = Told(), _rows_of(borrowed, rows, source)
         numbers, selected = np.empty(count, np.int64), c.c_size_t()
         status = lib.yk_arrow_select(
-            self._handle(), answer, raws, len(borrowed), count, numbers.ctypes.data, c.byref(selected), told.raw
+            self._handle(), answer, _raws(borrowed), len(borrowed), count, numbers.ctypes.data, c.byref(selected), told.raw
         )
-        told.check(status, [name for name, _ in self._read])
-        return numbers[: selected.value].copy() if 2 * selected.value < count else numbers[: selected.value]
+        told.check(status, self._names())
+        # shrinks where it lies; nothing else points to it yet
+        numbers.resize(selected.value, refcheck=False)
+        return numbers
+
+    def _true(self, batch: Any, answer: int) -> Any:
+        """Returns in which rows of a batch an answer is true."""
+        values = self.run(batch).column(answer)
+        if values.dtype != np.bool_:
+            raise Error(103, f"answer {answer} is no truth value")
+        return np.ma.filled(values, False)
+
+    def mask(self, columns: Any, answer: int = 0, rows: Optional[int] = None) -> Any:
+        """Returns whether an answer, a truth value, is true in each row: an array of bool, False where it is null, as filters of
+        numpy and pandas take it, `frame[wanted.mask(frame)]`."""
+        if _is_batch(columns):
+            return self._true(columns, answer)
+        told, borrowed = Told(), self._borrowed(columns)
+        count = _rows_of(borrowed, rows, columns)
+        mask = np.empty(count, np.bool_)
+        status = lib.yk_arrow_mask(self._handle(), answer, _raws(borrowed), len(borrowed), count, mask.ctypes.data, told.raw)
+        told.check(status, self._names())
+        return mask
 
     def __reduce__(self) -> Any:
         """Pickles as its text, and is read anew where it arrives."""
@@ -290,11 +328,17 @@ def evaluate(text: str, columns: Any, rows: Optional[int] = None) -> Union[Answe
     >>> evaluate("a + b as sum", {"a": np.array([1, 2]), "b": [3, None]})["sum"]
     masked_array(data=[4, --], mask=[False,  True], fill_value=999999)
     """
-    if not _is_batch(columns) and not hasattr(columns, "keys") and hasattr(columns, "__arrow_c_stream__"):
+    if _is_batch(columns):
+        return Expression.of(text, columns).run(columns, rows)
+    if not hasattr(columns, "keys") and hasattr(columns, "__arrow_c_stream__"):
         return Stream(text, columns)
-    return Expression.of(text, columns).run(columns, rows)
+    expression, borrowed = Expression._over(text, columns)
+    return expression._run(borrowed, columns, rows)
 
 
 def select(text: str, columns: Any) -> Any:
     """Returns the numbers of the rows in which a text is true, over columns whose types are taken as they are."""
-    return Expression.of(text, columns).select(columns)
+    if _is_batch(columns):
+        return Expression.of(text, columns).select(columns)
+    expression, borrowed = Expression._over(text, columns)
+    return expression._select(borrowed, columns, 0, None)

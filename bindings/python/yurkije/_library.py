@@ -163,6 +163,7 @@ _CALLS: dict[str, list[Any]] = {
     "yk_arrow_run": [_HANDLE, _SCHEMA, _ARRAY, _ARRAY, _ERROR],
     "yk_arrow_answer": [_HANDLE, c.POINTER(Column), c.c_size_t, c.c_size_t, _ARRAY, _ERROR],
     "yk_arrow_select": [_HANDLE, c.c_size_t, c.POINTER(Column), c.c_size_t, c.c_size_t, c.c_void_p, _SIZE, _ERROR],
+    "yk_arrow_mask": [_HANDLE, c.c_size_t, c.POINTER(Column), c.c_size_t, c.c_size_t, c.c_void_p, _ERROR],
     "yk_arrow_share": [_ARRAY, _ARRAY],
     "yk_arrow_stream": [c.c_char_p, c.c_size_t, _STREAM, _STREAM, _ERROR],
     "yk_arrow_stream_error": [_STREAM],
