@@ -13,8 +13,8 @@ use crate::error::CopyError;
 use crate::offsets::IndexType;
 use vortex_columns::{Column, DType, ValidRows};
 
-/// Whether each row is true, of a column that is no list of bits: a constant, or a column of another
-/// kind, in which no row is true.
+/// Whether each row is true, of a column that is no list of bits: a constant, or a column of
+/// another kind, in which no row is true.
 fn is_true_throughout(column: &Column) -> bool
     requires { ¬ HasBits column.now }
     ensures { (i : ℕ) → i < length column.now.rows → is_true (row column.now.rows i) ≡ result }
