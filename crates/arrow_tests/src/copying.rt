@@ -6,7 +6,7 @@ use std::alloc::Global;
 use vortex_arrow::{
     CopyError, byte_count, copy_bools, copy_integers, copy_texts, copy_true_rows, true_count,
 };
-use vortex_columns::{Column, PType, VortexResult};
+use vortex_columns::{Column, Nullability, PType, Scalar, VortexResult};
 
 /// Whether a column of 32-bit integers is copied as this validity and these values, and an item
 /// behind them is kept.
@@ -101,6 +101,18 @@ fn true_rows_are_copied(rt: HostRuntime) {
     let rows = [Some(false), Some(true), None, Some(true)];
     assert!(rt; rt.yes(selects(rt, nullable_bools(alloc, &rows), 2, [1, 3, 77, 77])));
     assert!(rt; rt.yes(selects(rt, bools(alloc, &[]), 0, [77; 4])));
+}
+
+#[test]
+fn true_rows_are_copied_across_words(rt: HostRuntime) {
+    let alloc = rt.alloc();
+    let mut rows = [false; 130];
+    rows[63] = true;
+    rows[64] = true;
+    rows[129] = true;
+    assert!(rt; rt.yes(selects(rt, bools(alloc, &rows), 3, [63, 64, 129, 77])));
+    let yes = Column::constant(alloc, Scalar::bool(true, Nullability::NonNullable), 3);
+    assert!(rt; rt.yes(selects(rt, kept(alloc, yes), 3, [0, 1, 2, 77])));
 }
 
 /// How a copy into one byte of validity and that many others is refused.

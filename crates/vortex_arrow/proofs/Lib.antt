@@ -3,6 +3,8 @@ pub mod Parts
 pub mod Collecting
 pub mod Copied
 pub mod Joined
+pub mod Places
+pub mod Lowest
 pub mod Selected
 pub mod Refuting
 pub mod Nulls

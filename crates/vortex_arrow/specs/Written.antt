@@ -1,8 +1,8 @@
 -- What is written into a caller's buffers: the rows that they say by the layouts, and what stands
 -- behind them.
-use Rattle.std.specs.Prelude.{◌≡◌, ℕ, ◌+◌, ◌/◌, ◌<◌, ◌≤◌, true, if◌then◌else◌, List}
+use Rattle.std.specs.Prelude.{◌≡◌, ℕ, ◌+◌, ◌/◌, ◌<◌, ◌≤◌, Bool, true, if◌then◌else◌, List}
 use Rattle.std.specs.Prelude.{[], length, map, drop}
-use Rattle.std.specs.List.{range_with_len, flat_map}
+use Rattle.std.specs.List.{range_with_len, filter, flat_map}
 use Rattle.vortex_types.specs.LogicalTypes.{is_bool_type}
 use Rattle.vortex_types.specs.Values.{Value, null, text, bytes}
 use Rattle.vortex_bits.specs.Bits.{bit_of}
@@ -64,6 +64,10 @@ RefusesTexts c validity offsets room most DataTooShort =
     × (length c.rows < offsets) × (length (joined c.rows) ≤ most)
     × (room < length (joined c.rows))
 RefusesTexts c validity offsets room most e = ⊥
+
+-- the places below n at which a test gives true, ascending
+unfoldable pub places : (ℕ → Bool) → ℕ → List ℕ
+places test n = filter test (range_with_len 0 n)
 
 -- why the numbers of the true rows are not copied, of which the greatest is no more than the most
 abbrev pub RefusesSelection : ColumnView → ℕ → ℕ → CopyError → Type 0

@@ -16,9 +16,10 @@ pub fn bytes_for(bits: usize) -> usize
 }
 
 /// The first bits of a word, and zero above them.
-fn first_bits(word: u64, count: usize) -> u64
+pub(crate) fn first_bits(word: u64, count: usize) -> u64
     requires { count ≤ 64 }
-    ensures { (j : ℕ) → j < count → bit result j ≡ bit word j }
+    ensures first { (j : ℕ) → j < count → bit result j ≡ bit word j }
+    ensures above { (j : ℕ) → count ≤ j → j < 64 → bit result j ≡ false }
 {
     if count < 64 {
         word & ((1 << count) - 1)

@@ -1,5 +1,5 @@
 -- What a handle holds of a batch that was answered.
-use Rattle.std.proofs.Common.{◌≡◌, ℕ, List, Option, inl, inr}
+use Rattle.std.proofs.Common.{ℕ, List, Option, inl, inr}
 use Rattle.vortex_columns.specs.ColumnView.{ColumnView}
 use Rattle.vortex_interface.specs.Rewrites.{Rewrites}
 use Rattle.vortex_functions.specs.Walks.{AllMean}

@@ -16,12 +16,11 @@ use Rattle.yurkije_columns.specs.declared.rooms.Room.{Room}
 use Rattle.yurkije_columns.specs.declared.rooms.RoomError.{RoomError}
 use Rattle.yurkije_columns.specs.declared.rooms.RoomError.TheVariants as room
 use Rattle.yurkije_columns.specs.Lent.{AllSay, RefusesLent}
-use Rattle.yurkije_columns.specs.Rooms.{IsSize, RefusesSize, IsCopied, RefusesCopy, KeepsRefused}
+use Rattle.yurkije_columns.specs.Rooms.{IsSize, RefusesSize, IsCopied, RefusesCopy}
 use Rattle.yurkije_columns.specs.Statuses.{copy_status}
 use Rattle.yurkije_core.specs.declared.running.RunError.{RunError}
 use Rattle.yurkije_core.specs.declared.report.Report.{Report}
 use Rattle.yurkije_core.specs.Running.{AnswersBatch, RefusesRun}
-use Rattle.yurkije_core.specs.Statuses.{run_status}
 use Rattle.yurkije_core.specs.Reports.{Tells, nowhere, lent_told, run_told}
 use Rattle.yurkije.specs.Views.{ProgramView, HeldView, answers_in}
 use Rattle.yurkije.specs.Reading.{Done, Wants}
@@ -70,7 +69,7 @@ room_status (room.Uncopied e) = copy_status e
 abbrev pub Copies : ColumnView → Room → Room → ℕ → Type 0
 Copies c old new result =
     ((result ≡ 0) × IsCopied c old new)
-    ⊎ ((e : RoomError) × RefusesCopy c old e × KeepsRefused old new × (result ≡ room_status e))
+    ⊎ ((e : RoomError) × RefusesCopy c old e × (new ≡ old) × (result ≡ room_status e))
 
 -- the numbers of the true rows, and how many they are; or why they are not written
 pub record SelectsBy {I : Type 0} (number : I → ℤ) (c : ColumnView) (most : ℕ) (old new : List I)

@@ -1,5 +1,5 @@
 -- What is asked of an expression and of answers that a handle holds.
-use Rattle.std.specs.Prelude.{◌≡◌, ◌≤◌, ◌<◌, ℕ, List, Option, Some, None, take, length}
+use Rattle.std.specs.Prelude.{◌≡◌, ◌⊎◌, ◌≤◌, ◌<◌, ℕ, Bool, List, Option, Some, None, take, length}
 use Rattle.std.specs.Prelude.{if◌then◌else◌, nat_eq, slice_get, IfSome}
 use Rattle.std.specs.Str.{IsCharBoundary}
 use Rattle.vortex_types.specs.LogicalTypes.{LogicalType, field_count, field_type, is_nullable}
@@ -9,6 +9,7 @@ use Rattle.vortex_expressions.specs.Items.{meaning}
 use Rattle.vortex_arrow.specs.Written.{SameBehind}
 use Rattle.yurkije_columns.specs.Kinds.{type_number}
 use Rattle.yurkije_columns.specs.declared.kinds.Type as told
+use Rattle.yurkije_core.specs.Programs.{IsTreeText}
 use Rattle.yurkije.specs.Views.{ProgramView}
 
 -- P of what is there, which is answered with 0; or the status where nothing is
@@ -53,3 +54,11 @@ abbrev pub TellsAnswerType : ProgramView → ℕ → told.Type → ℕ → Type 
 TellsAnswerType p k t result =
     Asks (slice_get p.written k) 101 result
     (λ tree. (result ≡ 0) × IfSome (tree_type meaning tree) (λ u. IsType u t))
+
+-- the text of an answer, as it was written or as it is run; or memory ran out, and nothing is
+-- written
+abbrev pub TellsAnswerText : ProgramView → ℕ → Bool → List ℕ → List ℕ → ℕ → ℕ → ℕ → Type 0
+TellsAnswerText p k optimized old new len_old len result =
+    ((result ≡ 9) × (new ≡ old) × (len ≡ len_old))
+    ⊎ Asks (slice_get (if optimized then p.optimized else p.written) k) 101 result
+    (λ tree. (words : List ℕ) × IsTreeText tree words × IsPut words old new len result)

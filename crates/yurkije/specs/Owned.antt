@@ -1,5 +1,5 @@
 -- What a handle owns: nothing, or the box at its pointer.
-use Rattle.std.specs.Prelude.{◌≡◌, Option, None, Some, Bool, true, false}
+use Rattle.std.specs.Prelude.{Option, None, Some, Bool, true, false}
 use base.Fml.{Fml, fsep, feq}
 use denote.RawPtr.{Ptr}
 use Rattle.std.specs.Box.Ownership.{box_owns}

@@ -100,7 +100,7 @@ pub extern "C" fn yk_select(
     let Some(held) = answers.open(alloc) else {
         return EMPTY_HANDLE;
     };
-    let status = put_true_rows(&held, answer, numbers, count);
+    let status = put_true_rows::<u64>(&held, answer, numbers, count);
     answers.close(held);
     status
 }
@@ -122,7 +122,7 @@ pub extern "C" fn yk_select_u32(
     let Some(held) = answers.open(alloc) else {
         return EMPTY_HANDLE;
     };
-    let status = put_true_rows(&held, answer, numbers, count);
+    let status = put_true_rows::<u32>(&held, answer, numbers, count);
     answers.close(held);
     status
 }

@@ -1,9 +1,9 @@
 //! What is asked of an expression that is held.
-ghost use Rattle.std.specs.Prelude.{◌≡◌, ◌<◌, length, string_bytes, slice_get, map, ⊤};
+ghost use Rattle.std.specs.Prelude.{◌≡◌, ◌<◌, length, string_bytes, slice_get, map};
 ghost use Rattle.vortex_types.specs.LogicalTypes.{field_count, field_type};
 ghost use Rattle.vortex_types.specs.FieldNames.{field_name};
 ghost use Rattle.yurkije.specs.Asking.{Asks, IsPut, TellsFieldName, TellsFieldType};
-ghost use Rattle.yurkije.specs.Asking.{TellsAnswerName, TellsAnswerType};
+ghost use Rattle.yurkije.specs.Asking.{TellsAnswerName, TellsAnswerType, TellsAnswerText};
 
 use crate::held::Held;
 use crate::statuses::{EMPTY_HANDLE, NO_SUCH_NUMBER, OK, OUT_OF_MEMORY, ROOM_TOO_SMALL};
@@ -118,7 +118,8 @@ pub(crate) fn answer_text(
     room: &mut [u8],
     len: &mut usize,
 ) -> u32
-    ensures { Asks held.now.program 100 result (λ _. ⊤) }
+    ensures { Asks held.now.program 100 result (λ p. TellsAnswerText p answer optimized room.old
+        room.new len.old len.new result) }
 {
     match held.program() {
         Some(program) => match program.text(alloc, answer, optimized) {

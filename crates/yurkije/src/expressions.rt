@@ -3,7 +3,7 @@ ghost use Rattle.std.specs.Prelude.{◌≡◌, None, length};
 ghost use Rattle.vortex_types.specs.LogicalTypes.{field_count};
 ghost use Rattle.yurkije.specs.Views.{program_in};
 ghost use Rattle.yurkije.specs.Asking.{Asks, TellsFieldName, TellsFieldType};
-ghost use Rattle.yurkije.specs.Asking.{TellsAnswerName, TellsAnswerType};
+ghost use Rattle.yurkije.specs.Asking.{TellsAnswerName, TellsAnswerType, TellsAnswerText};
 ghost use Rattle.yurkije.specs.Reading.{Reads, HoldsRead, HoldsLines};
 
 use crate::asking::{
@@ -205,7 +205,8 @@ pub extern "C" fn yk_answer_type(
     status
 }
 
-/// The text of an answer, as it was written or as it is run.
+/// The text of an answer, as it was written or as it is run. Where memory is refused nothing is
+/// written.
 #[unsafe(no_mangle)]
 pub extern "C" fn yk_answer_text(
     alloc: Global,
@@ -215,7 +216,9 @@ pub extern "C" fn yk_answer_text(
     room: &mut [u8],
     len: &mut usize,
 ) -> u32
-    ensures { expression.new.held ≡ expression.old.held }
+    ensures kept { expression.new.held ≡ expression.old.held }
+    ensures text { Asks (program_in expression.old.held) 100 result
+        (λ p. TellsAnswerText p answer optimized room.old room.new len.old len.new result) }
 {
     let Some(held) = expression.open(alloc) else {
         return EMPTY_HANDLE;

@@ -1,7 +1,6 @@
 -- The columns so far serve, and one column more, or the first that does not.
-use Rattle.std.proofs.Common.{◌≡◌, ◌+◌, ◌<◌, ◌≤◌, ℕ, List, [], ◌∷◌, ◌++◌, map, length, take, get_or}
-use Rattle.std.proofs.Common.{sym, ap, subst, ◌∙◌, Some, below_more}
-use Rattle.std.specs.Prelude.{slice_get}
+use Rattle.std.proofs.Common.{◌≡◌, ◌+◌, ◌<◌, ℕ, List, [], ◌∷◌, ◌++◌, map, length, take, get_or}
+use Rattle.std.proofs.Common.{sym, ap, subst, ◌∙◌, below_more}
 use Rattle.std.proofs.lemmas.Option.{slice_get-get_or, get_or_from_slice_get}
 use Rattle.std.proofs.lemmas.List.{take_more, map_push}
 use Rattle.vortex_types.specs.LogicalTypes.{LogicalType, Fields, field_count, field_type}
@@ -9,7 +8,7 @@ use Rattle.vortex_columns.specs.ColumnView.{ColumnView}
 use Rattle.vortex_arrow.specs.declared.column.ArrowColumn.{ArrowColumn}
 use Rattle.vortex_arrow.specs.Columns.{arrow_column}
 use Rattle.yurkije_columns.specs.declared.batch.ColumnFault.{ColumnFault}
-use Rattle.yurkije_columns.specs.Batches.{Serves, RefusesColumn, FirstServe, IsWrong, RefusesBatch}
+use Rattle.yurkije_columns.specs.Batches.{Serves, RefusesColumn, FirstServe, RefusesBatch}
 use Rattle.yurkije_columns.specs.Batches.{wrong}
 
 module _ (scope : Fields) (n : ℕ) (cs : List ArrowColumn) where

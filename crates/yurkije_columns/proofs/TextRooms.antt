@@ -1,6 +1,6 @@
 -- Texts and byte strings that stand in the caller's buffers.
-use Rattle.std.proofs.Common.{◌≡◌, ◌∙◌, refl, sym, ap, subst, ℕ, ℤ, List, length, Bool, true, false}
-use Rattle.std.specs.Prelude.{Result, Ok, Err, OnOk}
+use Rattle.std.proofs.Common.{◌≡◌, ◌∙◌, sym, ap, subst, ℕ, ℤ, List, length, Bool}
+use Rattle.std.specs.Prelude.{Result, Ok, Err, OnOk, OnErr}
 use Rattle.vortex_types.specs.LogicalTypes.{LogicalType, is_text_type, is_nullable}
 use Rattle.vortex_columns.specs.ColumnView.{ColumnView}
 use Rattle.vortex_arrow.specs.Layouts.{Layout, offsets}
@@ -8,7 +8,7 @@ use Rattle.vortex_arrow.specs.Written.{bytes_for, SameBehind, rows_of}
 use Rattle.yurkije_columns.specs.declared.kinds.Kind.{Kind}
 use Rattle.yurkije_columns.specs.declared.rooms.Room.{Room}
 use Rattle.yurkije_columns.specs.Kinds.{kind_type}
-use Rattle.yurkije_columns.specs.Rooms.{room_layout, KeepsBehind, StandsIn, IsOfKind}
+use Rattle.yurkije_columns.specs.Rooms.{room_layout, KeepsBehind, StandsIn, IsOfKind, with_buffers}
 
 -- whether a type is that of texts, of which a kind is
 pub text_of_kind : (k j : Kind) (t : LogicalType) → k ≡ j → IsOfKind k t
@@ -21,12 +21,26 @@ pub texts_stand : {A E : Type 0} (r : Result A E) (k j : Kind) (c : ColumnView) 
     → OnOk r (c.rows ≡ rows_of new.validity.now (offsets (is_text_type c.dtype) os bs)
     (length c.rows))
     → OnOk r (SameBehind (bytes_for (length c.rows)) old.validity.now new.validity.now × B × C)
-    → (B → C → KeepsBehind j c old new) → OnOk r (StandsIn k c old new)
-texts_stand (Ok x) k j c old new b os bs B C e l is rows behind both =
+    → (B → C → KeepsBehind j c old new) → new ≡ with_buffers j old new
+    → OnOk r (StandsIn k c old new)
+texts_stand (Ok x) k j c old new b os bs B C e l is rows behind both only =
     subst (λ (i : Kind). StandsIn i c old new) (sym e) (record {
       rows = subst (λ (y : Layout). c.rows ≡ rows_of new.validity.now y (length c.rows))
           (ap (λ (z : Bool). offsets z os bs) is ∙ sym l) rows;
       validity = behind.0;
       values = both behind.1 behind.2;
+      only = only;
     })
-texts_stand (Err x) k j c old new b os bs B C e l is rows behind both = tt
+texts_stand (Err x) k j c old new b os bs B C e l is rows behind both only = tt
+
+-- what is refused is as it was where its buffers are
+pub same_of_two : {A E X Y : Type 0} (r : Result A E) (f : X → Y → Room) (x x' : X) (y y' : Y)
+    → OnErr r ((x' ≡ x) × (y' ≡ y)) → OnErr r (f x' y' ≡ f x y)
+same_of_two (Ok a) f x x' y y' same = tt
+same_of_two (Err e) f x x' y y' same = λ i. f (same.0 i) (same.1 i)
+
+pub same_of_three : {A E X Y Z : Type 0} (r : Result A E) (f : X → Y → Z → Room) (x x' : X)
+    (y y' : Y) (z z' : Z) → OnErr r ((x' ≡ x) × (y' ≡ y) × (z' ≡ z))
+    → OnErr r (f x' y' z' ≡ f x y z)
+same_of_three (Ok a) f x x' y y' z z' same = tt
+same_of_three (Err e) f x x' y y' z z' same = λ i. f (same.0 i) (same.1 i) (same.2 i)

@@ -1,9 +1,7 @@
 -- The columns of a batch over the fields of a scope.
-use Rattle.std.specs.Prelude.{◌≡◌, ◌≢◌, ◌<◌, ℕ, List, [], ◌∷◌, map, length, Option, Some, slice_get}
-use Rattle.std.specs.Prelude.{⊤}
+use Rattle.std.specs.Prelude.{◌≡◌, ◌≢◌, ◌<◌, ℕ, List, length, Some, slice_get}
 use Rattle.vortex_types.specs.LogicalTypes.{LogicalType, Fields, field_count, field_type}
 use Rattle.vortex_arrow.specs.declared.column.ArrowColumn.{ArrowColumn}
-use Rattle.vortex_arrow.specs.declared.error.ArrowError.{ArrowError}
 use Rattle.vortex_arrow.specs.declared.error.ArrowError.TheVariants.{OutOfMemory}
 use Rattle.vortex_arrow.specs.Layouts.{layout_of, layout_type}
 use Rattle.vortex_arrow.specs.Columns.{IsWellFormed}

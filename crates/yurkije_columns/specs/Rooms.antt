@@ -1,6 +1,7 @@
 -- Answers copied into the caller's buffers.
-use Rattle.std.specs.Prelude.{◌≡◌, ◌⊎◌, ◌+◌, ◌^◌, ◌≤◌, ℕ, pos, true, false, List, [], map, length}
+use Rattle.std.specs.Prelude.{◌≡◌, ◌⊎◌, ◌+◌, ◌^◌, ◌≤◌, ℕ, pos, true, false, [], map, length}
 use Rattle.std.specs.Prelude.{Some, None}
+use Rattle.std.specs.Borrow.{MutBor}
 use Rattle.vortex_types.specs.declared.dtype.PType.{PType}
 use Rattle.vortex_types.specs.declared.dtype.PType.TheVariants.{I8, I16, I32, I64, U8, U16, U32}
 use Rattle.vortex_types.specs.declared.dtype.PType.TheVariants.{U64}
@@ -88,11 +89,76 @@ KeepsBehind k c r s =
     SameBehind (length c.rows + 1) r.offsets32.now s.offsets32.now
     × SameBehind (length (joined c.rows)) r.data.now s.data.now
 
--- the rows of the column stand in the buffers of that kind
+-- the same borrowed slice with other items
+abbrev pub holding : {A : Type 0} → MutBor A → A → MutBor A
+holding b xs = record b { now = xs }
+
+-- the room with another validity and other texts
+abbrev pub with_offsets32 : Room → Room → Room
+with_offsets32 r s =
+    record r {
+      validity = holding r.validity s.validity.now;
+      offsets32 = holding r.offsets32 s.offsets32.now;
+      «data» = holding r.data s.data.now;
+    }
+
+abbrev pub with_offsets64 : Room → Room → Room
+with_offsets64 r s =
+    record r {
+      validity = holding r.validity s.validity.now;
+      offsets64 = holding r.offsets64 s.offsets64.now;
+      «data» = holding r.data s.data.now;
+    }
+
+-- the room with another validity and other values in the buffers of a kind: the other buffers are
+-- as they were, and each is borrowed where it was
+abbrev pub with_buffers : Kind → Room → Room → Room
+with_buffers kind.Bool r s =
+    record r { validity = holding r.validity s.validity.now; bools = holding r.bools s.bools.now }
+with_buffers kind.I8 r s =
+    record r { validity = holding r.validity s.validity.now; i8s = holding r.i8s s.i8s.now }
+with_buffers kind.I16 r s =
+    record r { validity = holding r.validity s.validity.now; i16s = holding r.i16s s.i16s.now }
+with_buffers kind.I32 r s =
+    record r { validity = holding r.validity s.validity.now; i32s = holding r.i32s s.i32s.now }
+with_buffers kind.I64 r s =
+    record r { validity = holding r.validity s.validity.now; i64s = holding r.i64s s.i64s.now }
+with_buffers kind.U8 r s =
+    record r { validity = holding r.validity s.validity.now; u8s = holding r.u8s s.u8s.now }
+with_buffers kind.U16 r s =
+    record r { validity = holding r.validity s.validity.now; u16s = holding r.u16s s.u16s.now }
+with_buffers kind.U32 r s =
+    record r { validity = holding r.validity s.validity.now; u32s = holding r.u32s s.u32s.now }
+with_buffers kind.U64 r s =
+    record r { validity = holding r.validity s.validity.now; u64s = holding r.u64s s.u64s.now }
+with_buffers kind.Utf8 r s = with_offsets32 r s
+with_buffers kind.Binary r s = with_offsets32 r s
+with_buffers kind.LargeUtf8 r s = with_offsets64 r s
+with_buffers kind.LargeBinary r s = with_offsets64 r s
+with_buffers k r s = r
+
+-- each buffer is borrowed where it was
+pub record KeepsLoans (old new : Room) : Type 0 where
+  pub validity : new.validity.ghost_name ≡ old.validity.ghost_name
+  pub bools : new.bools.ghost_name ≡ old.bools.ghost_name
+  pub i8s : new.i8s.ghost_name ≡ old.i8s.ghost_name
+  pub i16s : new.i16s.ghost_name ≡ old.i16s.ghost_name
+  pub i32s : new.i32s.ghost_name ≡ old.i32s.ghost_name
+  pub i64s : new.i64s.ghost_name ≡ old.i64s.ghost_name
+  pub u8s : new.u8s.ghost_name ≡ old.u8s.ghost_name
+  pub u16s : new.u16s.ghost_name ≡ old.u16s.ghost_name
+  pub u32s : new.u32s.ghost_name ≡ old.u32s.ghost_name
+  pub u64s : new.u64s.ghost_name ≡ old.u64s.ghost_name
+  pub offsets32 : new.offsets32.ghost_name ≡ old.offsets32.ghost_name
+  pub offsets64 : new.offsets64.ghost_name ≡ old.offsets64.ghost_name
+  pub bytes : new.data.ghost_name ≡ old.data.ghost_name
+
+-- the rows of the column stand in the buffers of that kind, and nothing else has changed
 pub record StandsIn (k : Kind) (c : ColumnView) (old new : Room) : Type 0 where
   pub rows : c.rows ≡ rows_of new.validity.now (room_layout k new) (length c.rows)
   pub validity : SameBehind (bytes_for (length c.rows)) old.validity.now new.validity.now
   pub values : KeepsBehind k c old new
+  pub only : new ≡ with_buffers k old new
 
 -- why integers of a type are not copied into a room for so many
 abbrev pub RefusesIntegers : PType → ColumnView → Room → ℕ → CopyError → Type 0
@@ -128,11 +194,6 @@ RefusesRoom kind.LargeBinary c r e =
 RefusesRoom kind.Utf8View c r e = e ≡ OtherType
 RefusesRoom kind.BinaryView c r e = e ≡ OtherType
 
--- the buffers of that kind are as they were
-pub record KeepsRoom (k : Kind) (old new : Room) : Type 0 where
-  pub validity : new.validity.now ≡ old.validity.now
-  pub values : room_layout k new ≡ room_layout k old
-
 -- values of the kind have the type of the column
 abbrev pub IsOfKind : Kind → LogicalType → Type 0
 IsOfKind k t = kind_type k (is_nullable t) ≡ t
@@ -150,7 +211,3 @@ RefusesCopy c r error.UnknownKind = kind_numbered r.kind ≡ None
 RefusesCopy c r (error.Uncopied e) =
     (k : Kind) × (kind_numbered r.kind ≡ Some k)
     × (((e ≡ OtherType) × ¬ IsOfKind k c.dtype) ⊎ (IsOfKind k c.dtype × RefusesRoom k c r e))
-
--- what is refused leaves the buffers as they were
-abbrev pub KeepsRefused : Room → Room → Type 0
-KeepsRefused old new = (k : Kind) → kind_numbered old.kind ≡ Some k → KeepsRoom k old new

@@ -1,5 +1,5 @@
 -- The scope that fields make which C lends.
-use Rattle.std.specs.Prelude.{◌≡◌, ◌+◌, ℕ, List, [], ◌∷◌, Bool, if◌then◌else◌, Option, Some, None}
+use Rattle.std.specs.Prelude.{◌+◌, ℕ, List, [], ◌∷◌, Bool, if◌then◌else◌, Option, Some, None}
 use Rattle.std.specs.Str.{is_utf8}
 use Rattle.vortex_types.specs.LogicalTypes.{LogicalType, Fields, no_fields, with_field}
 use Rattle.vortex_types.specs.LogicalTypes.{find_field}

@@ -1,8 +1,8 @@
 //! Answers copied into a caller's buffers.
 ghost use Rattle.std.specs.Prelude.{◌≡◌, ◌↔◌, IsTrue, MatchResult, OnOk, OnErr, true, ⊤};
 ghost use Rattle.vortex_columns.specs.ColumnView.{is_bytes_like};
-ghost use Rattle.yurkije_columns.specs.Rooms.{IsSize, RefusesSize, StandsIn, RefusesRoom, KeepsRoom};
-ghost use Rattle.yurkije_columns.specs.Rooms.{IsCopied, RefusesCopy, KeepsRefused, IsOfKind};
+ghost use Rattle.yurkije_columns.specs.Rooms.{IsSize, RefusesSize, StandsIn, RefusesRoom};
+ghost use Rattle.yurkije_columns.specs.Rooms.{IsCopied, RefusesCopy, IsOfKind, KeepsLoans};
 
 use crate::kinds::{Kind, kind_numbered};
 use vortex_arrow::{CopyError, byte_count, bytes_for, copy_bools, copy_integers, copy_texts};
@@ -99,7 +99,8 @@ fn copy_into(column: &Column, kind: Kind, room: &mut Room<'_>) -> Result<(), Cop
     requires { IsOfKind kind column.now.dtype }
     ensures copied { OnOk result (StandsIn kind column.now room.old room.new) }
     ensures refused { MatchResult result (λ _. ⊤) (RefusesRoom kind column.now room.old) }
-    ensures kept { OnErr result (KeepsRoom kind room.old room.new) }
+    ensures kept { OnErr result (room.new ≡ room.old) }
+    ensures loans { KeepsLoans room.old room.new }
 {
     match kind {
         Kind::Bool => copy_bools(column, room.validity, room.bools),
@@ -129,11 +130,12 @@ pub enum RoomError {
 }
 
 /// Copies an answer into the caller's buffers, each from its first item on. What lies behind stays
-/// as it was, and all where the copy is refused.
+/// as it was, and so do the buffers of other kinds, and all where the copy is refused.
 pub fn copy_answer(column: &Column, room: &mut Room<'_>) -> Result<(), RoomError>
     ensures copied { OnOk result (IsCopied column.now room.old room.new) }
     ensures refused { MatchResult result (λ _. ⊤) (RefusesCopy column.now room.old) }
-    ensures kept { OnErr result (KeepsRefused room.old room.new) }
+    ensures kept { OnErr result (room.new ≡ room.old) }
+    ensures loans { KeepsLoans room.old room.new }
 {
     let Some(kind) = kind_numbered(room.kind) else {
         return Err(RoomError::UnknownKind);

@@ -1,7 +1,9 @@
 -- What a text asks: the answers that are held of it, and what rules make of them.
 use Rattle.std.specs.Prelude.{◌≡◌, ◌⊎◌, ℕ, List, map, Option, Some, None, IfSome, Result, MatchResult, ⊤}
-use Rattle.std.specs.Prelude.{string_bytes, IsTrue, IsUtf8}
+use Rattle.std.specs.Prelude.{string_bytes, IsTrue, IsUtf8, String, MatchOption}
+use Rattle.std.specs.declared.alloc.Global.{Global}
 use Rattle.vortex_types.specs.LogicalTypes.{Fields}
+use Rattle.vortex_interface.specs.Printing.{tree_text}
 use Rattle.vortex_interface.specs.Rewrites.{Rewrites}
 use Rattle.vortex_interface.specs.ValidityRules.{default_rules}
 use Rattle.vortex_functions.specs.Walks.{AllMean}
@@ -10,6 +12,7 @@ use Rattle.vortex_expressions.specs.declared.refusal.Refusal.{Refusal}
 use Rattle.vortex_expressions.specs.Items.{Tree, meaning}
 use Rattle.vortex_expressions.specs.Answers.{Answer, ExpressesAll}
 use Rattle.vortex_expressions.specs.Reading.{is_want_of_memory, RefusedFor}
+use Rattle.vortex_expressions.specs.Writing.{text_of_tree}
 use Rattle.rowfn_scripts.specs.declared.expression.Answer as held
 use Rattle.rowfn_scripts.specs.Expressions.{Leaves, Stops, LeavesNone}
 use Rattle.yurkije_core.specs.declared.reading.ProgramError.{ProgramError}
@@ -61,6 +64,17 @@ RefusesLines lines (program.Lines e) =
     Stops meaning (default_rules meaning) lines e ⊎ LeavesNone meaning (default_rules meaning) lines e
 RefusesLines lines program.OutOfMemory = ⊤
 RefusesLines lines e = ⊥
+
+-- the text of a tree: as people write it, or else as it is printed
+abbrev pub IsTreeText : Tree → List ℕ → Type 0
+IsTreeText t words =
+    (text_of_tree t ≡ Some words)
+    ⊎ ((text_of_tree t ≡ None) × IfSome (tree_text t) (λ printed. words ≡ printed))
+
+-- that of the tree, if there is one
+abbrev pub IsTextAt : Option Tree → Option (String Global) → Type 0
+IsTextAt None words = words ≡ None
+IsTextAt (Some t) words = MatchOption words ⊥ (λ w. IsTreeText t (string_bytes w))
 
 -- the text is not UTF-8
 abbrev pub IsNoText : List ℕ → ProgramError → Type 0

@@ -1,9 +1,9 @@
 //! Names of answers that were given none.
-ghost use Rattle.std.specs.Prelude.{◌≡◌, map, ⊤};
+ghost use Rattle.std.specs.Prelude.{◌≡◌, map, string_bytes, ⊤};
 ghost use Rattle.vortex_errors.specs.Answers.{AnswersUnlessMemory};
 ghost use Rattle.vortex_functions.specs.Walks.{AllMean};
 ghost use Rattle.vortex_expressions.specs.Answers.{answer_in};
-ghost use Rattle.yurkije_core.specs.Programs.{IsHeld};
+ghost use Rattle.yurkije_core.specs.Programs.{IsHeld, IsTreeText};
 
 use rowfn_scripts::Answer;
 use std::alloc::Global;
@@ -13,7 +13,7 @@ use vortex_functions::{BoundExpression, NoCustom};
 
 /// The text of a tree: as it is written, or else as it is printed.
 pub(crate) fn text_of(alloc: Global, tree: &BoundExpression<NoCustom>) -> VortexResult<String>
-    ensures { AnswersUnlessMemory result (λ _. ⊤) }
+    ensures { AnswersUnlessMemory result (λ text. IsTreeText tree.now (string_bytes text)) }
 {
     match write_expression(alloc, tree)? {
         Some(text) => Ok(text),

@@ -1,9 +1,9 @@
 //! Programs: expressions that were read, each tree as it was written and as it is run.
-ghost use Rattle.std.specs.Prelude.{◌≡◌};
+ghost use Rattle.std.specs.Prelude.{◌≡◌, slice_get, if◌then◌else◌};
 ghost use Rattle.vortex_errors.specs.Answers.{AnswersUnlessMemory};
 ghost use Rattle.vortex_interface.specs.Rewrites.{Rewrites};
 ghost use Rattle.vortex_functions.specs.Fixed.{fixed_meaning};
-ghost use Rattle.yurkije_core.specs.Programs.{AreRewrites};
+ghost use Rattle.yurkije_core.specs.Programs.{trees_of, AreRewrites, IsTextAt};
 
 use crate::naming::text_of;
 use rowfn_scripts::Answer;
@@ -46,6 +46,16 @@ fn optimized_answers(alloc: Global, written: &[Answer]) -> VortexResult<Vec<Answ
     Ok(answers)
 }
 
+/// The text of an answer; none where there is no answer of that number.
+fn text_at(alloc: Global, answers: &[Answer], answer: usize) -> VortexResult<Option<String>>
+    ensures { AnswersUnlessMemory result (IsTextAt (slice_get (trees_of answers.now) answer)) }
+{
+    match answers.get(answer) {
+        Some(answer) => Ok(Some(text_of(alloc, &answer.tree)?)),
+        None => Ok(None),
+    }
+}
+
 impl Program {
     /// The program of answers over a scope. E9 where memory is refused.
     pub fn of(alloc: Global, scope: StructFields, written: Vec<Answer>) -> VortexResult<Program>
@@ -67,15 +77,15 @@ impl Program {
         alloc: Global,
         answer: usize,
         optimized: bool,
-    ) -> VortexResult<Option<String>> {
-        let answers = if optimized {
-            &self.optimized
+    ) -> VortexResult<Option<String>>
+        ensures { let trees = if optimized then trees_of self.now.optimized.items
+            else trees_of self.now.written.items in
+            AnswersUnlessMemory result (IsTextAt (slice_get trees answer)) }
+    {
+        if optimized {
+            text_at(alloc, &self.optimized, answer)
         } else {
-            &self.written
-        };
-        match answers.get(answer) {
-            Some(answer) => Ok(Some(text_of(alloc, &answer.tree)?)),
-            None => Ok(None),
+            text_at(alloc, &self.written, answer)
         }
     }
 }

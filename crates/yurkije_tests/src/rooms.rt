@@ -5,7 +5,7 @@ use crate::running::answers_of;
 use fixtures::same;
 use vortex_arrow::copy_true_rows;
 use vortex_columns::Column;
-use yurkije_columns::{Size, put_text, size_of};
+use yurkije_columns::{Room, Size, copy_answer, put_text, size_of};
 
 /// The first answer of a text over the columns.
 fn first(rt: HostRuntime, text: &[u8]) -> Option<Box<Column>> {
@@ -50,6 +50,42 @@ fn are_selected(rt: HostRuntime, answer: Option<Box<Column>>) -> bool {
         Ok(count) => same(rt, (count, numbers), (3, [0, 2, 3, 9, 9])),
         Err(_) => false,
     }
+}
+
+/// Whether an answer is copied into a room for 32-bit integers, and the last of these is kept.
+fn is_copied(rt: HostRuntime, answer: Option<Box<Column>>) -> bool {
+    let Some(column) = answer else {
+        return false;
+    };
+    let mut validity = [99u8];
+    let mut numbers = [9i32; 6];
+    let mut room = Room {
+        kind: 4,
+        validity: &mut validity,
+        bools: &mut [],
+        i8s: &mut [],
+        i16s: &mut [],
+        i32s: &mut numbers,
+        i64s: &mut [],
+        u8s: &mut [],
+        u16s: &mut [],
+        u32s: &mut [],
+        u64s: &mut [],
+        offsets32: &mut [],
+        offsets64: &mut [],
+        data: &mut [],
+    };
+    let copied = copy_answer(&column, &mut room).is_ok();
+    same(
+        rt,
+        (copied, validity, numbers),
+        (true, [0b00011101], [1, 0, 2, 4, 8, 9]),
+    )
+}
+
+#[test]
+fn answers_are_copied(rt: HostRuntime) {
+    assert!(rt; is_copied(rt, first(rt, b"number")));
 }
 
 #[test]

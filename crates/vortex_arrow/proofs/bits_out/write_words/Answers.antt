@@ -30,7 +30,7 @@ returns-clause-bits g c =
     (omega (arith, c.bytes_for.ensures))
     (λ k h. c.loop-k.invariant.bits k (omega (arith, through, h)))
     c.write_word-2.ensures.before c.write_word-2.ensures.here
-    (λ j h. c.first_bits-last.ensures j h ∙ c.last.ensures j h) i (omega arith)
+    (λ j h. c.first_bits-last.ensures.first j h ∙ c.last.ensures j h) i (omega arith)
 
 pub returns-clause-behind : goal.returns-clause-behind
 returns-clause-behind g c =

@@ -1,33 +1,36 @@
-use Rattle.std.proofs.Common.{sym, ap, ◌∙◌, length, arith}
-use Rattle.std.proofs.lemmas.List.{length_push}
-use Rattle.vortex_columns.specs.TrueRows.{is_true, true_among}
-use Rattle.vortex_arrow.proofs.Selected.{next_true, next_other}
+use Rattle.std.proofs.Common.{◌*◌, ◌+◌, ◌∙◌, ap, length, arith}
+use Rattle.vortex_arrow.proofs.Lowest.{ones_are_places}
+use Rattle.vortex_arrow.proofs.Selected.{all_true, few_true, no_more_true, word_count}
 use Rattle.vortex_arrow.proofs.selecting.true_count.Goals as goal
-use Rattle.vortex_arrow.proofs.selecting.true_count.Goals.{then-is_true, else-is_true}
 
-pub loop-i-preserved : goal.loop-i-preserved
-loop-i-preserved c =
+pub overflow_add-count : goal.overflow_add-count
+overflow_add-count c =
     let rows = c.args.column.now.rows in
-    let i = c.loop-i.i in
-    let said = sym (ap is_true c.cell.ensures.value) ∙ sym c.is_true.ensures in
-    elim c.if-is_true.branch [
-      | then-is_true w ↦ (
-        omega (
-          arith,
-          w.count-is,
-          c.loop-i.invariant.0,
-          ap length (next_true rows i (said ∙ w.if-is_true.true)),
-          length_push (true_among i rows) i,
-        ),
-        omega (arith, w.count-is, c.loop-i.invariant.1),
-      )
-      | else-is_true w ↦ (
-        omega (
-          arith,
-          w.count-is,
-          c.loop-i.invariant.0,
-          ap length (next_other rows i (said ∙ w.if-is_true.false)),
-        ),
-        omega (arith, w.count-is, c.loop-i.invariant.1),
-      )
-    ]
+    let k = c.loop-k.k in
+    omega (
+      arith,
+      ones_are_places c.true_word.result c.true_word.type_inv,
+      word_count rows k c.true_word.result c.true_word.ensures,
+      few_true rows (64 * (k + 1)),
+      no_more_true rows,
+    )
+
+pub loop-k-preserved : goal.loop-k-preserved
+loop-k-preserved c =
+    let rows = c.args.column.now.rows in
+    let k = c.loop-k.k in
+    record {
+      ends = c.loop-k.invariant.ends;
+      count =
+          omega (
+            arith,
+            ones_are_places c.true_word.result c.true_word.type_inv,
+            word_count rows k c.true_word.result c.true_word.ensures,
+            c.loop-k.invariant.count,
+          );
+    }
+
+pub returns : goal.returns
+returns c =
+    let rows = c.args.column.now.rows in
+    c.loop-k.invariant.count ∙ ap length (all_true rows (64 * c.loop-k.k) (omega arith))

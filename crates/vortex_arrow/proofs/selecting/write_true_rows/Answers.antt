@@ -1,74 +1,68 @@
-use Rattle.std.proofs.Common.{rules, ◌<◌, sym, ap, ◌∙◌, length, map, take, drop, arith, pos}
-use Rattle.std.proofs.lemmas.List.{length_push}
-use Rattle.vortex_columns.specs.TrueRows.{is_true, true_among}
-use Rattle.vortex_arrow.proofs.Cells.{behind_next}
-use Rattle.vortex_arrow.proofs.Selected.{next_true, next_other, next_there, number_more}
+use Rattle.std.proofs.Common.{◌*◌, ◌+◌, ◌∙◌, pos, ap, length, map, take, arith}
+use Rattle.vortex_arrow.proofs.Parts.{drop_further}
+use Rattle.vortex_arrow.proofs.Selected.{all_true, few_true, no_more_true, word_count, word_there}
+use Rattle.vortex_arrow.proofs.Selected.{word_numbers}
 use Rattle.vortex_arrow.proofs.selecting.write_true_rows.Goals as goal
-use Rattle.vortex_arrow.proofs.selecting.write_true_rows.Goals.{then-is_true, else-is_true}
 
-pub bounds-numbers-count : goal.bounds-numbers-count
-bounds-numbers-count g c =
+pub write_places-count-requires : goal.write_places-count-requires
+write_places-count-requires g c =
     let rows = c.args.column.now.rows in
-    let i = c.loop-i.i in
-    let said = sym (ap is_true c.cell.ensures.value) ∙ sym c.is_true.ensures in
-    let within : i < length rows = search rules in
-    omega (
-      arith,
-      next_there rows i (length rows) within (said ∙ c.if-is_true.true),
-      c.loop-i.invariant.count,
-      c.requires.room,
-      c.loop-i.auto.numbers,
-    )
-
-pub overflow_add-count : goal.overflow_add-count
-overflow_add-count g c =
-    omega (arith, c.loop-i.invariant.few, c.loop-i-test.true, c.len-i-end.type_inv)
-
-pub loop-i-preserved : goal.loop-i-preserved
-loop-i-preserved g c =
-    let f = g.I.IndexType.number in
-    let rows = c.args.column.now.rows in
-    let i = c.loop-i.i in
-    let said = sym (ap is_true c.cell.ensures.value) ∙ sym c.is_true.ensures in
-    let ends : i < length rows = search rules in
-    elim c.if-is_true.branch [
-      | then-is_true w ↦
-          let t = said ∙ w.if-is_true.true in
-          let within : c.loop-i.count < length c.loop-i.numbers =
+    let k = c.loop-k.k in
+    let word = c.true_word.result in
+    let there = word_there rows k word c.true_word.ensures in
+    record {
+      room =
           omega (
             arith,
-            next_there rows i (length rows) ends t,
-            c.loop-i.invariant.count,
+            c.loop-k.invariant.count,
+            word_count rows k word c.true_word.ensures,
+            few_true rows (64 * (k + 1)),
             c.requires.room,
-            c.loop-i.auto.numbers,
-          ) in
-          record {
-            few = omega (arith, w.count-is, c.loop-i.invariant.few);
-            count =
-                omega (
-                  arith,
-                  w.count-is,
-                  c.loop-i.invariant.count,
-                  ap length (next_true rows i t),
-                  length_push (true_among i rows) i,
-                );
-            numbers = (λ j. map f (take (w.count-is j) (w.numbers-is j)))
-                ∙ number_more f rows i c.loop-i.count c.loop-i.numbers w.of_place.result within
-                c.loop-i.invariant.numbers w.of_place.ensures t;
-            behind = (λ j. drop (w.count-is j) (w.numbers-is j))
-                ∙ behind_next f c.loop-i.numbers c.loop-i.count w.of_place.result within
-                c.args.numbers.now c.loop-i.invariant.behind
-                ∙ ap (λ n. drop n c.args.numbers.now) (sym w.count-is);
-          }
-      | else-is_true w ↦
-          let same = next_other rows i (said ∙ w.if-is_true.false) in
-          record {
-            few = omega (arith, w.count-is, c.loop-i.invariant.few);
-            count = w.count-is ∙ c.loop-i.invariant.count ∙ ap length (sym same);
-            numbers = (λ j. map f (take (w.count-is j) (w.numbers-is j)))
-                ∙ c.loop-i.invariant.numbers ∙ ap (map pos) (sym same);
-            behind = (λ j. drop (w.count-is j) (w.numbers-is j))
-                ∙ c.loop-i.invariant.behind
-                ∙ ap (λ n. drop n c.args.numbers.now) (sym w.count-is);
-          }
-    ]
+            c.loop-k.auto.numbers,
+          );
+      end =
+          omega (
+            arith,
+            c.loop-k.invariant.count,
+            word_count rows k word c.true_word.ensures,
+            few_true rows (64 * (k + 1)),
+            no_more_true rows,
+          );
+      most = λ j lt set. omega (arith, there j lt set, c.requires.most);
+      fits = λ j lt set. omega (arith, there j lt set);
+    }
+
+pub loop-k-preserved : goal.loop-k-preserved
+loop-k-preserved g c =
+    let f = g.I.IndexType.number in
+    let rows = c.args.column.now.rows in
+    let k = c.loop-k.k in
+    let word = c.true_word.result in
+    record {
+      ends = c.loop-k.invariant.ends;
+      count =
+          omega (
+            arith,
+            c.write_places-count.ensures.end,
+            c.loop-k.invariant.count,
+            word_count rows k word c.true_word.ensures,
+          );
+      numbers =
+          word_numbers rows k word c.true_word.ensures f (take c.loop-k.count c.loop-k.numbers)
+          (take c.write_places-count.result c.write_places-count.new.numbers)
+          c.loop-k.invariant.numbers c.write_places-count.ensures.numbers;
+      behind =
+          c.write_places-count.ensures.behind
+          ∙ drop_further c.loop-k.numbers c.args.numbers.now c.loop-k.count c.write_places-count.result
+          (omega (arith, c.write_places-count.ensures.end)) c.loop-k.invariant.behind;
+    }
+
+pub returns : goal.returns
+returns g c =
+    let rows = c.args.column.now.rows in
+    let all = all_true rows (64 * c.loop-k.k) (omega arith) in
+    record {
+      count = c.loop-k.invariant.count ∙ ap length all;
+      numbers = c.loop-k.invariant.numbers ∙ ap (map pos) all;
+      behind = c.loop-k.invariant.behind;
+    }

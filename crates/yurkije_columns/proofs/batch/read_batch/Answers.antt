@@ -1,4 +1,4 @@
-use Rattle.std.proofs.Common.{◌≡◌, ◌<◌, ◌∙◌, length, map, ap, arith}
+use Rattle.std.proofs.Common.{◌≡◌, ◌∙◌, length, map, ap, arith}
 use Rattle.std.proofs.lemmas.List.{take_all}
 use Rattle.vortex_types.specs.LogicalTypes.{field_count}
 use Rattle.vortex_types.specs.TypeOf.{struct_fields}

@@ -1,4 +1,4 @@
-use Rattle.yurkije_columns.proofs.ScopesSoFar.{one_lent_more, lent_wrong}
+use Rattle.yurkije_columns.proofs.ScopesSoFar.{lent_wrong}
 use Rattle.yurkije_columns.proofs.fields.read_fields.Goals as goal
 
 pub returns-in-Err : goal.returns-in-Err

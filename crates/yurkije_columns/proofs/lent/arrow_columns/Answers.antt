@@ -1,7 +1,5 @@
-use Rattle.std.proofs.Common.{◌≡◌, ◌<◌, ◌∙◌, length, arith, add-one, subst, sym}
+use Rattle.std.proofs.Common.{◌∙◌, arith, add-one}
 use Rattle.std.proofs.lemmas.Option.{slice_get-get_or}
-use Rattle.std.proofs.lemmas.List.{take_all}
-use Rattle.yurkije_columns.specs.Lent.{AllSay}
 use Rattle.yurkije_columns.proofs.LentSoFar.{all_say_more}
 use Rattle.yurkije_columns.proofs.lent.arrow_columns.Goals as goal
 

@@ -1,34 +1,28 @@
 -- `empty` owns nothing.
-use Rattle.std.proofs.Common.{◌≡◌, List, [], ◌∷◌, ◌++◌, refl, sym, ap, ◌∙◌, subst, lit<}
-use mathlib.Core.Bool.{true, false}
-use mir.Val.{Val, vptr, vcons, vnil}
+use Rattle.std.proofs.Common.{◌≡◌, List, [], ◌∷◌, ◌++◌, refl, sym, subst}
+use mathlib.Core.Bool.{false}
+use mir.Val.{Val}
 use base.Logic.{SProp, ent, emp, id⊢}
-use base.Fml.{ftrue, flft}
+use base.Fml.{ftrue}
 use prog.Wp.{WpFn}
-use types.Kit.{‵, raw, ◌⊛◌, some, later, at_ret, ◌$◌, ◌∵◌, !, qed, by, move, keep, drop, split, join, fsplit, fjoin, fpick, pick, suffices, use0, use1, await, feq_l}
-use types.Run.{stop, fld, lit, true_lit, false_lit, of_opd, bin, no_more, and_then, first, branches, exec, returns, enter}
-use types.ByLocal.{alloc_all, pass_all, free_all, look_at, get, get_in, sets, sets_last, env}
-use types.Part.{agg, sub, whole}
-use types.Match.{live}
+use types.Kit.{‵, raw, ◌⊛◌, ◌$◌, ◌∵◌, !, qed, by, move, keep, split, fsplit, fjoin, suffices, use0}
+use types.Run.{lit, false_lit, no_more, and_then, returns, enter}
+use types.ByLocal.{alloc_all, pass_all, free_all, look_at, get, sets}
+use types.Part.{agg}
 use contract.Monad.{fact, fact_i}
 use contract.Running.{tables}
 use denote.Exit.{yes}
-use denote.RattleType.{RattleType, owns}
-use denote.Signature.{types_at, type_at, plain}
-use denote.RawPtr.{block_ptr, null_ptr, ptr_val}
+use denote.RattleType.{owns}
+use denote.Signature.{types_at, plain}
+use denote.RawPtr.{null_ptr, ptr_val}
 use denote.Steps.{nothing}
-use denote.Param.{layout}
 use denote.Triple.Walked.{Stays, stay_dropped, walk_of, Goes-dropped}
-use Rattle.std.specs.declared.option.Option.TheVariants.{None, Some}
-use Rattle.std.proofs.alloc.Calls.{Goes-blank, handle_tells}
-use Rattle.std.proofs.alloc.Shapes.{after}
-use Rattle.std.proofs.cell.Inside.{Good}
-use Rattle.std.proofs.option.Made.{Some-of, none_of}
-use Rattle.std.proofs.ResultValues.{and_tt}
+use Rattle.std.specs.declared.option.Option.TheVariants.{None}
+use Rattle.std.proofs.alloc.Calls.{handle_tells}
 use Rattle.std.proofs.alloc.Global.TheLaws as heap_laws
 use Rattle.std.specs.contracts.impls.GlobalAllocator.TheImpl.{ghosts}
 use Rattle.std.proofs.raw_atomic.Walks.{proved_at, leaves}
-use Rattle.yurkije.proofs.Values.{both, three, flag, R, Z, P, H, al, parts_good, parts_out, parts_in, some_good, none_good, some_in, none_in, handle_out}
+use Rattle.yurkije.proofs.Values.{three, flag, R, Z, al, none_good, none_in}
 use Rattle.yurkije.specs.contracts.handle.Handle.empty.{ended, clauses}
 use Rattle.yurkije.specs.contracts.handle.Handle.empty.Key.{name as #self}
 use Rattle.yurkije.proofs.handle.Handle.empty.Statement.{statement}

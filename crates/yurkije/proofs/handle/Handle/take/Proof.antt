@@ -1,12 +1,12 @@
 -- `take` hands what the handle owns to the parts.
-use Rattle.std.proofs.Common.{◌≡◌, List, [], ◌∷◌, ◌++◌, refl, sym, ap, ◌∙◌, subst, lit<}
+use Rattle.std.proofs.Common.{◌≡◌, List, [], ◌∷◌, ◌++◌, refl, sym, subst, lit<}
 use mathlib.Core.Bool.{true, false}
 use mir.Val.{Val, vptr, vcons, vnil}
 use base.Logic.{SProp, ent, emp, id⊢}
-use base.Fml.{ftrue, flft}
+use base.Fml.{ftrue}
 use prog.Wp.{WpFn}
-use types.Kit.{‵, raw, ◌⊛◌, some, later, at_ret, ◌$◌, ◌∵◌, !, qed, by, move, keep, drop, split, join, fsplit, fjoin, fpick, pick, suffices, use0, use1, await, feq_l}
-use types.Run.{stop, fld, lit, true_lit, false_lit, of_opd, bin, no_more, and_then, first, branches, exec, returns, enter}
+use types.Kit.{‵, raw, ◌⊛◌, at_ret, ◌$◌, ◌∵◌, !, qed, by, move, keep, drop, split, fsplit, fjoin, suffices, use0, use1}
+use types.Run.{stop, fld, lit, of_opd, no_more, and_then, first, branches, exec, returns, enter}
 use types.ByLocal.{alloc_all, pass_all, free_all, look_at, get, get_in, sets, sets_last, env}
 use types.Part.{agg, sub, whole}
 use types.Match.{live}
@@ -15,12 +15,11 @@ use contract.Running.{tables}
 use denote.Exit.{yes}
 use denote.RattleType.{RattleType, owns}
 use denote.Signature.{types_at, type_at, plain}
-use denote.RawPtr.{block_ptr, null_ptr, ptr_val}
+use denote.RawPtr.{block_ptr, ptr_val}
 use denote.Steps.{nothing}
 use denote.Param.{layout}
 use denote.Triple.Walked.{Stays, stay_dropped, walk_of, Goes-dropped}
 use Rattle.std.specs.declared.option.Option.TheVariants.{None, Some}
-use Rattle.std.proofs.alloc.Calls.{Goes-blank, handle_tells}
 use Rattle.std.proofs.alloc.Shapes.{after}
 use denote.RawPtr.{rawptr_Lawful}
 use Rattle.std.proofs.cell.Inside.{Good}
@@ -29,7 +28,7 @@ use Rattle.std.proofs.ResultValues.{and_tt}
 use Rattle.std.proofs.alloc.Global.TheLaws as heap_laws
 use Rattle.std.specs.contracts.impls.GlobalAllocator.TheImpl.{ghosts}
 use Rattle.std.proofs.raw_atomic.Walks.{proved_at, leaves}
-use Rattle.yurkije.proofs.Values.{both, three, flag, R, Z, P, H, al, parts_good, parts_out, parts_in, some_good, none_good, some_in, none_in, handle_out, idle_good}
+use Rattle.yurkije.proofs.Values.{both, three, flag, R, Z, P, H, parts_good, parts_in, some_good, handle_out, idle_good}
 use Rattle.yurkije.specs.contracts.handle.Handle.take.{ended, clauses}
 use Rattle.yurkije.specs.contracts.handle.Handle.take.Key.{name as #self}
 use Rattle.yurkije.proofs.handle.Handle.take.Statement.{statement}
@@ -50,7 +49,8 @@ take_spec 𝓤 𝓛 𝓜 𝓡 wired =
     sets ! (of_opd ! (get_in ! (fld ! refl (stop !)) (sub ! 0 refl (whole !)))) refl ((rawptr_Lawful 𝓛).typed p _ refl).0 $ sets ! (of_opd ! (get_in ! (fld ! refl (stop !)) (sub ! 1 refl (whole !)))) refl fits $
     sets ! (of_opd ! (get_in ! (fld ! refl (stop !)) (sub ! 2 refl (whole !)))) refl (tt, tt) $ sets ! (of_opd ! (get ! refl)) refl (tt, tt) $
     first ! $ branches ! (get ! refl) (λ wrong. absurd wrong)
-    (λ _. sets_last ! (agg ! (and_then ! (lit ! tt) (no_more !))) refl (tt, (record { fits = lit< tt }, tt)) $ exec ! 𝓣.C 𝓣.Λ Ev (after 5 fn.body) (at_ret Ev Post) $ sets ! (of_opd ! (get ! refl)) refl (tt, (record { fits = lit< tt }, tt)) $
+    (λ _. sets_last ! (agg ! (and_then ! (lit ! tt) (no_more !))) refl (tt, (record { fits = lit< tt }, tt)) $
+    exec ! 𝓣.C 𝓣.Λ Ev (after 5 fn.body) (at_ret Ev Post) $ sets ! (of_opd ! (get ! refl)) refl (tt, (record { fits = lit< tt }, tt)) $
     drop ! $ use0 𝓛 (‵ (Out.own_val None (live 0 vnil ∷ []))) (none_of 𝓛 P) $ use0 𝓛 (raw (fact 𝓤 (z.0.3.0.held ≡ None))) (fact_i 𝓤 (z.0.3.0.held ≡ None) (emp 𝓤) em) $ nothing ! $ nothing ! $ fjoin ! $
     returns ! (look_at ! 0 refl) $ free_all ! refl $ keep ! (4 ∷ 0 ∷ 2 ∷ 1 ∷ []) $ by ! (leaves 𝓛 ended hs c z (live 0 vnil) None (tt, tt) (tt, tt)))))
     (λ b o h x em ws fits. let w : Val = three (vptr b o) h (flag true) in let made : Val = both (vptr b o) h in let typed = parts_good R Z heap_laws.the_row_laws ghosts b o h fits in
@@ -60,7 +60,8 @@ take_spec 𝓤 𝓛 𝓜 𝓡 wired =
     sets ! (of_opd ! (get_in ! (fld ! refl (stop !)) (sub ! 0 refl (whole !)))) refl (tt, tt) $ sets ! (of_opd ! (get_in ! (fld ! refl (stop !)) (sub ! 1 refl (whole !)))) refl fits $
     sets ! (of_opd ! (get_in ! (fld ! refl (stop !)) (sub ! 2 refl (whole !)))) refl (tt, tt) $ sets ! (of_opd ! (get ! refl)) refl (tt, tt) $
     first ! $ branches ! (get ! refl)
-    (λ _. sets ! (of_opd ! (get ! refl)) refl (tt, tt) $ sets ! (agg ! (and_then ! (get ! refl) (and_then ! (get ! refl) (no_more !)))) refl typed $ sets_last ! (agg ! (and_then ! (lit ! tt) (and_then ! (get ! refl) (no_more !)))) refl good $
+    (λ _. sets ! (of_opd ! (get ! refl)) refl (tt, tt) $ sets ! (agg ! (and_then ! (get ! refl) (and_then ! (get ! refl) (no_more !)))) refl typed $
+    sets_last ! (agg ! (and_then ! (lit ! tt) (and_then ! (get ! refl) (no_more !)))) refl good $
     exec ! 𝓣.C 𝓣.Λ Ev (after 5 fn.body) (at_ret Ev Post) $ sets ! (of_opd ! (get ! refl)) refl good $ parts_in R Z heap_laws.the_row_laws ghosts ! b o h a x $
     use1 𝓛 (‵ (Out.own_val (Some d) (v ∷ []))) (Some-of 𝓛 P d made) $ use0 𝓛 (raw (fact 𝓤 (z.0.3.0.held ≡ Some x))) (fact_i 𝓤 (z.0.3.0.held ≡ Some x) (emp 𝓤) em) $ nothing ! $ nothing ! $ fjoin ! $
     returns ! (look_at ! 0 refl) $ free_all ! refl $ keep ! (4 ∷ 0 ∷ 2 ∷ 1 ∷ []) $ by ! (leaves 𝓛 ended hs c z v (Some d) (tt, tt) (tt, tt)))
