@@ -222,15 +222,45 @@ static struct yk_column slice(const struct yk_column *column, size_t start, size
     return part;
 }
 
-/* Runs a batch of columns whose rows begin there. Where it is refused, all rows are run in one call, which says why they are: for the first
- * column that is wrong, else for the first row that faults, and rows behind the batch may have either. */
+/* The columns from that row on, so many rows of each. */
+static const struct yk_column *cut(const struct yk_column *columns, struct yk_column *parts, size_t count, size_t start, size_t rows) {
+    for (size_t i = 0; i < count; i++)
+        parts[i] = slice(&columns[i], start, rows);
+    return parts;
+}
+
+/* Whether an answer is run as another tree than was read, or may be: memory to tell was refused. */
+static bool is_rewritten(struct yk_expression *expression) {
+    size_t count = 0, length = 0, other = 0;
+    bool same = yk_answer_count(expression, &count) == YK_OK;
+    for (size_t i = 0; same && i < count; i++) {
+        yk_answer_text(expression, i, false, NULL, 0, &length);
+        yk_answer_text(expression, i, true, NULL, 0, &other);
+        char *read = malloc(length + 1), *run = malloc(other + 1);
+        same = read && run && length == other && !yk_answer_text(expression, i, false, read, length, &length) &&
+               !yk_answer_text(expression, i, true, run, other, &other) && memcmp(read, run, length) == 0;
+        free(read);
+        free(run);
+    }
+    return !same;
+}
+
+/* Runs a batch of columns whose rows begin there. What refuses it is told as a run of all rows tells it: a column that is wrong before a
+ * row that faults, the first of either. So a row is told where no rule can have dropped a fault before it and the rest of the columns is
+ * read; else all rows are run, which goes from row to row. */
 static uint32_t run_batch(struct yk_expression *expression, const struct yk_column *columns, struct yk_column *parts, size_t count,
     size_t rows, size_t start, size_t part, struct yk_answers *answers, struct yk_error *error) {
-    for (size_t i = 0; i < count; i++)
-        parts[i] = slice(&columns[i], start, part);
-    uint32_t status = yk_run(expression, parts, count, part, answers, error);
+    struct yk_error ignored = {0};
+    uint32_t status = yk_run(expression, cut(columns, parts, count, start, part), count, part, answers, error);
     if (!status || status == YK_OUT_OF_MEMORY)
         return status;
+    if (status == YK_ARITHMETIC && !is_rewritten(expression)) {
+        size_t behind = start + part;
+        uint32_t rest = yk_run(expression, cut(columns, parts, count, behind, rows - behind), count, rows - behind, answers, &ignored);
+        yk_add_to_row(error, start);
+        if (!rest || rest == YK_ARITHMETIC)
+            return status;
+    }
     uint32_t whole = yk_run(expression, columns, count, rows, answers, error);
     return whole ? whole : yk_refuse(error, status, YK_NONE, "a batch of the rows is refused");
 }
@@ -259,15 +289,15 @@ static void *make_hole(size_t columns) {
 uint32_t yk_run_batches(struct yk_expression *expression, const struct yk_column *columns, size_t count, size_t rows, yk_each_batch *each,
     void *to, struct yk_error *error) {
     struct yk_answers answers = {0};
-    bool cut = rows > YK_ARROW_BATCH && can_cut(columns, count, rows);
+    bool is_cut = rows > YK_ARROW_BATCH && can_cut(columns, count, rows);
     struct yk_column *parts = malloc(count * sizeof *parts + 1);
-    void *hole = cut ? make_hole(count) : NULL;
+    void *hole = is_cut ? make_hole(count) : NULL;
     uint32_t status = parts ? YK_OK : yk_refuse_memory(error);
     size_t start = 0;
     for (bool more = !status; more; more = !status && start < rows) {
-        size_t part = cut && rows - start > YK_ARROW_BATCH ? YK_ARROW_BATCH : rows - start;
-        status = cut ? run_batch(expression, columns, parts, count, rows, start, part, &answers, error)
-                     : yk_run(expression, columns, count, rows, &answers, error);
+        size_t part = is_cut && rows - start > YK_ARROW_BATCH ? YK_ARROW_BATCH : rows - start;
+        status = is_cut ? run_batch(expression, columns, parts, count, rows, start, part, &answers, error)
+                        : yk_run(expression, columns, count, rows, &answers, error);
         if (!status && (status = each(to, &answers, start, part)))
             yk_refuse(error, status, YK_NONE, "%s", status == YK_OUT_OF_MEMORY ? "out of memory" : "an answer is not copied");
         start += part;

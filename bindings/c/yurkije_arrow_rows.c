@@ -3,6 +3,10 @@
 
 #include <string.h>
 
+#ifdef __SSSE3__
+#include <immintrin.h>
+#endif
+
 /* The rows of a batch that are true and not null, a bit each. Those behind the rows are not set. */
 struct chosen {
     uint64_t words[YK_ARROW_BATCH / 64];
@@ -59,24 +63,33 @@ struct mask {
     uint8_t *at;
 };
 
-/* A byte of 0 or 1 for each of eight bits, the least significant first: byte `i` of the product has bit `i` alone, which a sum carries to
- * the byte's top. */
-static uint64_t spread(uint64_t byte) {
-    uint64_t each = byte * UINT64_C(0x0101010101010101) & UINT64_C(0x8040201008040201);
-    return (each + UINT64_C(0x7f7f7f7f7f7f7f7f)) >> 7 & UINT64_C(0x0101010101010101);
+/* A byte of 0 or 1 for each of 64 bits, the least significant first. */
+#ifdef __SSSE3__
+static void spread(uint64_t word, uint8_t *to) {
+    const __m128i eight = _mm_set_epi64x(0x0101010101010101, 0), bit = _mm_set1_epi64x((int64_t)0x8040201008040201), one = _mm_set1_epi8(1);
+    for (int i = 0; i < 64; i += 16) {
+        __m128i bytes = _mm_shuffle_epi8(_mm_cvtsi32_si128((int)(word >> i & 0xffff)), eight);
+        _mm_storeu_si128((__m128i *)(void *)(to + i), _mm_min_epu8(_mm_and_si128(bytes, bit), one));
+    }
 }
+#else
+static void spread(uint64_t word, uint8_t *to) {
+    for (int i = 0; i < 64; i++)
+        to[i] = word >> i & 1;
+}
+#endif
 
 static uint32_t append_mask(void *to, struct yk_answers *answers, size_t start, size_t rows) {
     const struct mask *mask = to;
     struct chosen chosen = {{0}};
     uint32_t status = choose(answers, mask->answer, rows, &chosen);
-    uint8_t *at = mask->at + start;
-    for (size_t i = 0; !status && i < rows / 8 * 8; i += 8) {
-        uint64_t bytes = spread(chosen.words[i / 64] >> i % 64 & 0xff);
-        memcpy(at + i, &bytes, sizeof bytes);
+    uint8_t *at = mask->at + start, last[64];
+    for (size_t i = 0; !status && i < rows; i += 64) {
+        bool whole = rows - i >= 64;
+        spread(chosen.words[i / 64], whole ? at + i : last);
+        if (!whole)
+            memcpy(at + i, last, rows - i);
     }
-    for (size_t i = rows / 8 * 8; !status && i < rows; i++)
-        at[i] = chosen.words[i / 64] >> i % 64 & 1;
     return status;
 }
 

@@ -175,6 +175,37 @@ static uint32_t arrow_calls(void) {
     return status;
 }
 
+/* Columns that are cut into batches: joined, selected, masked, and refused for the last row, as of which all rows are run again. */
+static uint32_t long_calls(void) {
+    enum { rows = 2 * YK_ARROW_BATCH + 3 };
+    static int64_t many[rows];
+    static uint64_t chosen[rows];
+    static uint8_t mask[rows];
+    struct yk_field fields[] = {field("n", YK_I64, false)};
+    struct yk_column in = {.kind = YK_I64, .rows = rows, .i64 = {many, rows}};
+    struct yk_expression expression = {0};
+    struct ArrowArray out = {.release = NULL};
+    struct yk_error error = new_error();
+    size_t count = 0;
+    many[rows - 1] = 4;
+    uint32_t status = yk_expression_new("n * 2 > 6", 9, fields, 1, &expression, &error);
+    if (!status && !(status = yk_arrow_select(&expression, 0, &in, 1, rows, chosen, &count, &error)))
+        hash(chosen, count * sizeof *chosen);
+    if (!status && !(status = yk_arrow_mask(&expression, 0, &in, 1, rows, mask, &error)))
+        hash(mask, rows);
+    if (!status && !(status = yk_arrow_answer(&expression, &in, 1, rows, &out, &error)))
+        hash(out.children[0]->buffers[1], rows / 8);
+    if (out.release)
+        out.release(&out);
+    many[rows - 1] = INT64_MAX;
+    if (!status && (status = yk_arrow_mask(&expression, 0, &in, 1, rows, mask, &error)) == YK_ARITHMETIC) {
+        hash(&error.row, sizeof error.row);
+        status = YK_OK;
+    }
+    yk_expression_free(&expression);
+    return status;
+}
+
 /* Refuses each allocation of what is asked, alone or with all behind it. */
 static void sweep(const char *name, uint32_t (*ask)(void), bool alone) {
     long count = 0, same = 0;
@@ -210,5 +241,7 @@ int main(void) {
     sweep("plain calls", plain_calls, false);
     sweep("calls of the shim", arrow_calls, true);
     sweep("calls of the shim", arrow_calls, false);
+    sweep("calls over many batches", long_calls, true);
+    sweep("calls over many batches", long_calls, false);
     return faults != 0;
 }

@@ -79,6 +79,18 @@ static void refused_in_many_batches(void) {
     in[1].i64.length = rows - 1;
     refused_alike(&expression, in, 2, rows, YK_NONE);
     yk_expression_free(&expression);
+    /* nothing of this is dropped: the first batch that faults has the first row */
+    expression = read_expression("a * 2 > b, b * 2 > a", fields, 2);
+    refused_alike(&expression, in, 2, rows, YK_NONE);
+    in[1].i64.length = rows;
+    refused_alike(&expression, in, 2, rows, 5);
+    b[5] = 0;
+    a[2 * YK_ARROW_BATCH + 3] = INT64_MAX;
+    refused_alike(&expression, in, 2, rows, 2 * YK_ARROW_BATCH + 3);
+    a[rows - 1] = INT64_MAX;
+    b[2 * YK_ARROW_BATCH + 3] = 0;
+    refused_alike(&expression, in, 2, rows, 2 * YK_ARROW_BATCH + 3);
+    yk_expression_free(&expression);
 }
 
 /* Texts of many batches lie one behind the other; a truth value under a null is not selected. */

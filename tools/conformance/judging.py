@@ -326,12 +326,10 @@ class Asker:
             fault = fault_in_sqlite(case, values, row)
             self.counts["rows compared with SQLite"] += 1
             if fault:
-                if self.is_dropped(case, table, answer):
-                    continue
-                if not isinstance(answer, Fault) or answer.name != "Arithmetic." + ARITHMETIC[fault[0]]:
-                    yield Difference(row, "SQLite", answer, f"{fault[1]} in {fault[0]}")
-                else:
+                if isinstance(answer, Fault) and answer.name == "Arithmetic." + ARITHMETIC[fault[0]]:
                     self.counts[f"on purpose: {fault[1]} is no refusal in SQLite"] += 1
+                elif not self.is_dropped(case, table, answer):
+                    yield Difference(row, "SQLite", answer, f"{fault[1]} in {fault[0]}")
                 continue
             theirs = values[case.tree][row]
             theirs = bool(theirs) if case.tree.type == "bool" and theirs in (0, 1) else theirs
