@@ -27,16 +27,22 @@ null_written d null v valid is gone =
 module _ (format : Format) (truths : Truths) (v : Value) (valid : Bool) (known : AreTruths format truths)
     (is : valid ≡ not (is_null v)) (there : valid ≡ true)
   where
-    pub true_written : (is_null v ≡ false → v ≡ truth true)
+    true_written : (is_null v ≡ false → v ≡ truth true)
         → truths.yes.now ≡ value_field format.delimiter format.null.now v
     true_written same =
         known.yes
         ∙ sym
         (ap (value_field format.delimiter format.null.now) (same (is_some (is_null v) valid is there)))
 
-    pub false_written : (is_null v ≡ false → v ≡ truth false)
+    false_written : (is_null v ≡ false → v ≡ truth false)
         → truths.no.now ≡ value_field format.delimiter format.null.now v
     false_written same =
         known.no
         ∙ sym
         (ap (value_field format.delimiter format.null.now) (same (is_some (is_null v) valid is there)))
+
+    pub truth_written : (b : Bool) → (is_null v ≡ false → v ≡ truth b)
+        → (if b then truths.yes.now else truths.no.now)
+        ≡ value_field format.delimiter format.null.now v
+    truth_written true same = true_written same
+    truth_written false same = false_written same

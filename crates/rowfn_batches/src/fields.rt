@@ -1,5 +1,5 @@
 //! A field as a cell, and whether it fits its column.
-ghost use Rattle.std.specs.Prelude.{◌≡◌, option_map};
+ghost use Rattle.std.specs.Prelude.{◌≡◌, option_map, MatchOption, IsUtf8};
 ghost use Rattle.vortex_types.specs.TypeOf.{type_of};
 ghost use Rattle.rowfn_lines.specs.Cells.{cell_in};
 ghost use Rattle.rowfn_batches.specs.Fields.{field_in, field_cell, field_fits};
@@ -8,17 +8,29 @@ use rowfn_lines::cells::cell_fits;
 use std::str;
 use vortex_columns::DType;
 
+/// The text that bytes are; nothing where they are not UTF-8. ASCII, which nearly all texts are, is
+/// told by words.
+#[inline(always)]
+fn text_of(bytes: &[u8]) -> Option<&str>
+    ensures { MatchOption result (¬ (IsUtf8 bytes.now))
+        (λ text. (text.now ≡ bytes.now) × IsUtf8 bytes.now) }
+{
+    if bytes.is_ascii() {
+        return Some(unsafe { str::from_utf8_unchecked(bytes) });
+    }
+    str::from_utf8(bytes).ok()
+}
+
 /// The cell that a field is; nothing for bytes that are not UTF-8.
+#[inline(always)]
 pub fn field_cell<'a>(field: Option<&'a [u8]>) -> Option<Option<&'a str>>
     ensures { option_map cell_in result ≡ field_cell (field_in field.entry) }
 {
     let Some(bytes) = field else {
         return Some(None);
     };
-    match str::from_utf8(bytes) {
-        Ok(text) => Some(Some(text)),
-        Err(_) => None,
-    }
+    let text = text_of(bytes)?;
+    Some(Some(text))
 }
 
 /// Whether the field says a value of the type.

@@ -1,6 +1,6 @@
 //! What is written: answers as fields of CSV, or rows of the input as they stand.
 ghost use Rattle.std.specs.Prelude.{◌≡◌, ◌<◌, ◌≤◌, ◌+◌, ◌∷◌, [], OnOk, IfOk, length, map};
-ghost use Rattle.std.specs.Prelude.{if◌then◌else◌, ◌++◌, option_map, slice_index_or};
+ghost use Rattle.std.specs.Prelude.{if◌then◌else◌, ◌++◌, option_map, slice_index_or, true, codes};
 ghost use Rattle.vortex_columns.specs.ColumnView.{row, AreBits};
 ghost use Rattle.vortex_interface.specs.CallTexts.{joined, separator_before};
 ghost use Rattle.rowfn_csv.specs.Fields.{text_field};
@@ -23,40 +23,81 @@ use vortex_columns::{BitBuffer, Cell, Column};
 struct Truths<'t> {
     yes: &'t [u8],
     no: &'t [u8],
+    /// Whether that is in no quotes.
+    are_bare: bool,
 }
 
 /// How truth values stand as fields of a format.
 fn truths_of<'t>(format: &Format<'t>) -> Truths<'t>
     ensures { AreTruths format.now result }
 {
-    Truths {
-        yes: field_of(b"true", b"\"true\"", format),
-        no: field_of(b"false", b"\"false\"", format),
+    let yes = field_of(b"true", b"\"true\"", format);
+    let no = field_of(b"false", b"\"false\"", format);
+    let are_bare = yes == b"true".as_slice() && no == b"false".as_slice();
+    Truths { yes, no, are_bare }
+}
+
+/// Adds the field of true. A text whose length is known here is copied without a call.
+#[inline(always)]
+fn push_yes(bytes: &mut Vec<u8>, yes: &[u8], is_bare: bool) -> Result<(), AllocError>
+    requires { is_bare ≡ true → yes.now ≡ codes "true" }
+    ensures { OnOk result (bytes.new.items ≡ bytes.old.items ++ yes.now) }
+{
+    if is_bare {
+        bytes.extend_from_slice(b"true")
+    } else {
+        bytes.extend_from_slice(yes)
     }
 }
 
-/// The field of a row of a column of truth values, which has those bits.
-fn truth_field<'t>(
+/// Adds the field of false, in the same way.
+#[inline(always)]
+fn push_no(bytes: &mut Vec<u8>, no: &[u8], is_bare: bool) -> Result<(), AllocError>
+    requires { is_bare ≡ true → no.now ≡ codes "false" }
+    ensures { OnOk result (bytes.new.items ≡ bytes.old.items ++ no.now) }
+{
+    if is_bare {
+        bytes.extend_from_slice(b"false")
+    } else {
+        bytes.extend_from_slice(no)
+    }
+}
+
+/// Adds a truth value as a field.
+#[inline(always)]
+fn push_truth(bytes: &mut Vec<u8>, truth: bool, truths: Truths<'_>) -> Result<(), AllocError>
+    requires yes { truths.are_bare ≡ true → truths.yes.now ≡ codes "true" }
+    requires no { truths.are_bare ≡ true → truths.no.now ≡ codes "false" }
+    ensures { OnOk result (bytes.new.items
+        ≡ bytes.old.items ++ (if truth then truths.entry.yes.now else truths.entry.no.now)) }
+{
+    if truth {
+        push_yes(bytes, truths.yes, truths.are_bare)
+    } else {
+        push_no(bytes, truths.no, truths.are_bare)
+    }
+}
+
+/// Adds a row of a column of truth values, which has those bits, as a field.
+#[inline(always)]
+fn push_truth_in(
+    bytes: &mut Vec<u8>,
     column: &Column,
     bits: &BitBuffer,
     place: usize,
-    truths: Truths<'t>,
-    format: &Format<'t>,
-) -> &'t [u8]
+    truths: Truths<'_>,
+    format: &Format<'_>,
+) -> Result<(), AllocError>
     requires place { place < length column.now.rows }
     requires bits { AreBits column.now bits.now }
     requires truths { AreTruths format.now truths }
-    ensures { result.now ≡ value_field format.now.delimiter format.now.null.now
-        (row column.now.rows place) }
+    ensures { OnOk result (bytes.new.items ≡ bytes.old.items
+        ++ value_field format.now.delimiter format.now.null.now (row column.now.rows place)) }
 {
     if !column.is_valid(place) {
-        return format.null;
+        return bytes.extend_from_slice(format.null);
     }
-    if bits.value(place) {
-        truths.yes
-    } else {
-        truths.no
-    }
+    push_truth(bytes, bits.value(place), truths)
 }
 
 /// What is to be written next. Its buffers serve from batch to batch.
@@ -101,6 +142,7 @@ impl<'a> Output<'a> {
     }
 
     /// Adds a delimiter before each field but the first.
+    #[inline(always)]
     fn begin_field(&mut self, index: usize) -> Result<(), AllocError>
         ensures { OnOk result (Adds self.old self.new
             (separator_before (self.old.format.delimiter ∷ []) index)) }
@@ -147,6 +189,7 @@ impl<'a> Output<'a> {
     }
 
     /// Adds the value of a row as a field. Refused only for want of memory.
+    #[inline(always)]
     fn push_value(
         &mut self,
         column: &Column,
@@ -162,11 +205,11 @@ impl<'a> Output<'a> {
         let Some(bits) = column.bits() else {
             return self.push_other(column, place);
         };
-        let field = truth_field(column, bits, place, truths, &self.format);
-        self.bytes.extend_from_slice(field)
+        push_truth_in(&mut self.bytes, column, bits, place, truths, &self.format)
     }
 
     /// Ends a line. Refused only for want of memory.
+    #[inline(always)]
     pub fn end_line(&mut self) -> Result<(), AllocError>
         ensures { OnOk result (Adds self.old self.new (10 ∷ [])) }
     {
@@ -175,6 +218,7 @@ impl<'a> Output<'a> {
     }
 
     /// Adds the values of a row as fields. Refused only for want of memory.
+    #[inline(always)]
     fn push_values(
         &mut self,
         answers: &[Column],
@@ -195,6 +239,7 @@ impl<'a> Output<'a> {
     }
 
     /// Adds a row of the answers as a line. Refused only for want of memory.
+    #[inline(always)]
     fn push_row(
         &mut self,
         answers: &[Column],

@@ -1,4 +1,4 @@
-pub mod Marking
+pub mod Parts
 pub mod RoundTrip
 pub mod Said
 pub mod Scanning

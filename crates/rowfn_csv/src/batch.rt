@@ -1,21 +1,26 @@
 //! The fields of a batch of rows.
-ghost use Rattle.std.specs.Prelude.{◌≡◌, ◌<◌, ◌++◌, ◌∷◌, [], length, map, get_or};
-ghost use Rattle.std.specs.Prelude.{option_map, None, OnOk, IfOk, ◌-◌, take, drop, slice_index};
-ghost use Rattle.csv.specs.Records.{prev, Rising};
-ghost use Rattle.rowfn_csv.specs.Batches.{field_said};
+ghost use Rattle.std.specs.Prelude.{◌≡◌, ◌++◌, ◌∷◌, [], length, map, option_map, OnOk, IfOk};
+ghost use Rattle.rowfn_csv.specs.Batches.{field_said, part_said, LiesWithin, AreParts};
 
 use crate::records::Span;
 use std::alloc::{AllocError, Global};
 use std::marker::Model;
 
+/// Where a field's bytes lie among those of a batch, and whether it says null.
+#[derive(Clone, Copy)]
+struct Part {
+    start: usize,
+    end: usize,
+    is_null: bool,
+}
+
 /// The fields of the declared columns of a batch, row by row, and where the rows lie in the input.
 /// Its buffers serve from batch to batch.
 #[derive(Drop)]
 pub struct Batch {
-    /// Every field's bytes, one behind the other, and where each ends.
+    /// Every field's bytes, one behind the other.
     bytes: Vec<u8>,
-    ends: Vec<usize>,
-    nulls: Vec<bool>,
+    parts: Vec<Part>,
     spans: Vec<Span>,
 }
 
@@ -29,64 +34,59 @@ impl Model for Batch {
     ghost invariant = { IsBatch };
 }
 
-/// Clears the fields, the marks and the places.
-fn clear_all(
-    bytes: &mut Vec<u8>,
-    ends: &mut Vec<usize>,
-    nulls: &mut Vec<bool>,
-    spans: &mut Vec<Span>,
-)
-    ensures bytes { bytes.new.items ≡ [] }
-    ensures ends { ends.new.items ≡ [] }
-    ensures nulls { nulls.new.items ≡ [] }
-    ensures spans { spans.new.items ≡ [] }
-{
-    bytes.clear();
-    ends.clear();
-    nulls.clear();
-    spans.clear();
-}
-
-/// Adds a field's bytes, its end and its mark.
+/// Adds a field's bytes and its place.
 #[inline(always)]
-fn push_parts(
+fn push_part(
     bytes: &mut Vec<u8>,
-    ends: &mut Vec<usize>,
-    nulls: &mut Vec<bool>,
+    parts: &mut Vec<Part>,
     field: &[u8],
     is_null: bool,
 ) -> Result<(), AllocError>
-    ensures bytes { OnOk result (bytes.new.items ≡ bytes.old.items ++ field.now) }
-    ensures ends { OnOk result
-        (ends.new.items ≡ ends.old.items ++ (length (bytes.old.items ++ field.now) ∷ [])) }
-    ensures nulls { OnOk result (nulls.new.items ≡ nulls.old.items ++ (is_null ∷ [])) }
+    requires { AreParts bytes.old.items parts.old.items }
+    ensures parts { AreParts bytes.new.items parts.new.items }
+    ensures pushed { OnOk result (map (part_said bytes.new.items) parts.new.items
+        ≡ map (part_said bytes.old.items) parts.old.items
+        ++ (field_said field.now is_null ∷ [])) }
 {
+    let start = bytes.len();
     bytes.extend_from_slice(field)?;
-    ends.push(bytes.len())?;
-    nulls.push(is_null)?;
+    let end = bytes.len();
+    parts.push(Part {
+        start,
+        end,
+        is_null,
+    })?;
     Ok(())
 }
 
-/// Where a field begins.
+/// A field; nothing where it is null.
 #[inline(always)]
-fn start_of(ends: &[usize], i: usize) -> usize
-    requires { i < length ends.now }
-    ensures { result ≡ prev 0 ends.now i }
+fn field_at<'b>(bytes: &'b [u8], part: Part) -> Option<&'b [u8]>
+    requires { LiesWithin (length bytes.now) part }
+    ensures { option_map (λ f. f.now) result ≡ part_said bytes.now part }
 {
-    if i == 0 { 0 } else { ends[i - 1] }
+    if part.is_null {
+        None
+    } else {
+        Some(&bytes[part.start..part.end])
+    }
 }
 
-/// The bytes of a field.
-#[inline(always)]
-fn bytes_of<'b>(bytes: &'b [u8], ends: &[usize], i: usize) -> &'b [u8]
-    requires place { i < length ends.now }
-    requires rising { Rising 0 ends.now (length bytes.now) }
-    ensures { result.now ≡ take (slice_index ends.now i - prev 0 ends.now i)
-        (drop (prev 0 ends.now i) bytes.now) }
+/// The fields that lie so, nothing for each null. Refused only for want of memory.
+fn fields_in<'b>(
+    alloc: Global,
+    bytes: &'b [u8],
+    parts: &[Part],
+) -> Result<Vec<Option<&'b [u8]>>, AllocError>
+    requires { AreParts bytes.now parts.now }
+    ensures { IfOk result (λ fields. map (option_map (λ f. f.now)) fields.items
+        ≡ map (part_said bytes.now) parts.now) }
 {
-    let start = start_of(ends, i);
-    let end = ends[i];
-    &bytes[start..end]
+    let mut fields = Vec::with_capacity(alloc, parts.len())?;
+    for part in parts {
+        fields.push_reserved(field_at(bytes, *part));
+    }
+    Ok(fields)
 }
 
 impl Batch {
@@ -96,8 +96,7 @@ impl Batch {
     {
         Batch {
             bytes: Vec::new(alloc),
-            ends: Vec::new(alloc),
-            nulls: Vec::new(alloc),
+            parts: Vec::new(alloc),
             spans: Vec::new(alloc),
         }
     }
@@ -106,12 +105,9 @@ impl Batch {
     pub fn clear(&mut self)
         ensures { (self.new.fields ≡ []) × (self.new.spans ≡ []) }
     {
-        clear_all(
-            &mut self.bytes,
-            &mut self.ends,
-            &mut self.nulls,
-            &mut self.spans,
-        );
+        self.bytes.clear();
+        self.parts.clear();
+        self.spans.clear();
     }
 
     /// How many rows there are.
@@ -128,36 +124,20 @@ impl Batch {
         self.spans.as_slice()
     }
 
-    /// Adds a field to the row that comes next. Refused only for want of memory, and then no row is
-    /// left.
+    /// Adds a field to the row that comes next. Refused only for want of memory, and then the row is
+    /// left unfinished.
     #[inline(always)]
     pub fn push_field(&mut self, field: &[u8], is_null: bool) -> Result<(), AllocError>
         ensures fields { OnOk result (self.new.fields ≡ self.old.fields
             ++ (field_said field.now is_null ∷ [])) }
-        ensures spans { OnOk result (self.new.spans ≡ self.old.spans) }
+        ensures spans { self.new.spans ≡ self.old.spans }
     {
-        match push_parts(
-            &mut self.bytes,
-            &mut self.ends,
-            &mut self.nulls,
-            field,
-            is_null,
-        ) {
-            Ok(()) => Ok(()),
-            Err(error) => {
-                clear_all(
-                    &mut self.bytes,
-                    &mut self.ends,
-                    &mut self.nulls,
-                    &mut self.spans,
-                );
-                Err(error)
-            }
-        }
+        push_part(&mut self.bytes, &mut self.parts, field, is_null)
     }
 
     /// Ends the row of the fields that were added since the last one. Refused only for want of
     /// memory.
+    #[inline(always)]
     pub fn end_row(&mut self, span: Span) -> Result<(), AllocError>
         ensures spans { OnOk result (self.new.spans ≡ self.old.spans ++ (span ∷ [])) }
         ensures fields { self.new.fields ≡ self.old.fields }
@@ -166,37 +146,11 @@ impl Batch {
         Ok(())
     }
 
-    /// How many fields there are.
-    #[tactic(auto, using(crate::proofs::Marking::marked_length))]
-    fn count(&self) -> usize
-        ensures { result ≡ length self.now.fields }
-    {
-        self.nulls.len()
-    }
-
-    /// A field; nothing where it is null.
-    fn field(&self, i: usize) -> Option<&[u8]>
-        requires { i < length self.now.fields }
-        ensures { option_map (λ f. f.now) result ≡ get_or self.now.fields i None }
-    {
-        let nulls = self.nulls.as_slice();
-        if nulls[i] {
-            return None;
-        }
-        let bytes = self.bytes.as_slice();
-        let ends = self.ends.as_slice();
-        Some(bytes_of(bytes, ends, i))
-    }
-
     /// The fields, row by row, nothing for each null. Refused only for want of memory.
     pub fn fields(&self, alloc: Global) -> Result<Vec<Option<&[u8]>>, AllocError>
         ensures { IfOk result
             (λ fields. map (option_map (λ f. f.now)) fields.items ≡ self.now.fields) }
     {
-        let mut fields = Vec::with_capacity(alloc, self.count())?;
-        for i in 0..self.count() {
-            fields.push(self.field(i))?;
-        }
-        Ok(fields)
+        fields_in(alloc, &self.bytes, &self.parts)
     }
 }

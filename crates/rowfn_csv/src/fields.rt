@@ -2,14 +2,14 @@
 ghost use Rattle.std.specs.Prelude.{◌≡◌, ◌≢◌, ◌++◌, ◌&&◌, Bool, not, List, map, OnOk, IfOk};
 ghost use Rattle.std.specs.Prelude.{option_map};
 ghost use Rattle.csv.specs.Records.{fields_of};
-ghost use Rattle.rowfn_csv.specs.Records.{Field, SaysFields, quoted_at, reads_null, field_taken};
+ghost use Rattle.rowfn_csv.specs.Records.{Field, SaysFields, quoted_at, reads_null};
 ghost use Rattle.rowfn_csv.specs.Records.{without_line_end, field_spelled};
 ghost use Rattle.rowfn_csv.specs.Scanning.{Knows};
 
 use crate::batch::Batch;
 use crate::format::Format;
 use crate::raw::{Quotes, is_text};
-use crate::truths::{Spelled, respelled};
+use crate::truths::{Chosen, Spelled, respelled};
 use csv::ByteRecord;
 use std::alloc::AllocError;
 
@@ -44,50 +44,27 @@ fn is_null(
     Ok(reads_null(field, format.null) && !quotes.is_quoted(line, format.delimiter, index)?)
 }
 
-/// Adds the fields of a record at those places to the batch; an empty one where the record has
+/// Adds the fields of a record in those columns to the batch; an empty one where the record has
 /// none. `line` has the record's bytes. Refused only for want of memory.
-pub fn add_fields(
+#[inline(always)]
+pub fn add_fields<C: Chosen>(
     fields: &ByteRecord,
     line: &[u8],
     format: &Format<'_>,
     quotes: &mut Quotes,
     batch: &mut Batch,
-    places: &[usize],
+    columns: &[C],
 ) -> Result<(), AllocError>
     requires { Knows format.now.delimiter line.now quotes.old }
     ensures fields { (closed : Bool) → (said : List Field) → format.now.delimiter ≢ 34
         → SaysFields format.now.delimiter closed (without_line_end line.now) said
         → OnOk result (batch.new.fields ≡ batch.old.fields
-        ++ map (field_taken format.now.null.now (fields_of fields.now) said) places.now) }
-    ensures spans { OnOk result (batch.new.spans ≡ batch.old.spans) }
-{
-    for place in places {
-        let field = fields.get(*place);
-        let is_null = is_null(field, line, format, quotes, *place)?;
-        batch.push_field(field.unwrap_or(&[]), is_null)?;
-    }
-    Ok(())
-}
-
-/// Adds the fields of a record at those places to the batch, as `add_fields` does, but truth values
-/// as `true` and `false` where a column's may stand in any spelling.
-pub fn add_spelled_fields(
-    fields: &ByteRecord,
-    line: &[u8],
-    format: &Format<'_>,
-    quotes: &mut Quotes,
-    batch: &mut Batch,
-    columns: &[Spelled],
-) -> Result<(), AllocError>
-    requires { Knows format.now.delimiter line.now quotes.old }
-    ensures fields { (closed : Bool) → (said : List Field) → format.now.delimiter ≢ 34
-        → SaysFields format.now.delimiter closed (without_line_end line.now) said
-        → OnOk result (batch.new.fields ≡ batch.old.fields
-        ++ map (field_spelled format.now.null.now (fields_of fields.now) said) columns.now) }
-    ensures spans { OnOk result (batch.new.spans ≡ batch.old.spans) }
+        ++ map (λ c. field_spelled format.now.null.now (fields_of fields.now) said (C.spelled c))
+        columns.now) }
+    ensures spans { batch.new.spans ≡ batch.old.spans }
 {
     for column in columns {
-        let Spelled { place, is_truth } = *column;
+        let Spelled { place, is_truth } = column.spelled();
         let field = fields.get(place);
         let is_null = is_null(field, line, format, quotes, place)?;
         batch.push_field(respelled(field.unwrap_or(&[]), is_truth), is_null)?;

@@ -5,13 +5,13 @@ ghost use Rattle.rowfn_csv.specs.KeptLines.{line_of, last_bytes, is_ended};
 ghost use Rattle.rowfn_csv.specs.Records.{Field, SaysFields, field_taken, field_spelled};
 
 use crate::batch::Batch;
-use crate::fields::{add_fields, add_spelled_fields};
+use crate::fields::add_fields;
 use crate::format::Format;
 use crate::raw::{
-    Quotes, has_line_end, is_closed, without_blank_lines, without_line_end, without_mark,
+    Quotes, ends_line, has_line_end, is_closed, without_blank_lines, without_line_end, without_mark,
 };
 use crate::tee::Tee;
-use crate::truths::Spelled;
+use crate::truths::{Chosen, Spelled};
 use csv::{ByteRecord, Error, ErrorKind, Reader, ReaderBuilder};
 use std::alloc::{AllocError, Global};
 use std::io::{self, Read};
@@ -125,6 +125,7 @@ impl<'a, R: Read> Records<'a, R> {
     }
 
     /// Reads the next record, or the next line without a byte where that is one.
+    #[inline(always)]
     pub fn read(&mut self) -> Found {
         if self.format.blank_rows {
             self.read_with_blank_lines()
@@ -165,6 +166,7 @@ impl<'a, R: Read> Records<'a, R> {
     }
 
     /// Gives the next line without a byte, or else the record behind such lines.
+    #[inline(always)]
     fn read_with_blank_lines(&mut self) -> Found {
         if !self.ahead.is_held {
             let given = self.span;
@@ -205,6 +207,7 @@ impl<'a, R: Read> Records<'a, R> {
 
     /// Reads the next record behind lines without a byte. One of which a field is too long is not
     /// read to its end.
+    #[inline(always)]
     pub fn read_record(&mut self) -> Found {
         let start = self.reader.position().byte;
         self.reader.get_ref().begin_record(start);
@@ -241,8 +244,20 @@ impl<'a, R: Read> Records<'a, R> {
 
     /// Where a record lies that was read between two places: behind a byte order mark and the ends
     /// of lines before it, and with a line feed behind its carriage return.
+    #[inline(always)]
     fn span_of(&self, start: u64, end: u64) -> Span {
-        let bytes = self.bytes(Span { start, end });
+        let span = Span { start, end };
+        match self.bytes(span) {
+            // so do nearly all records lie
+            [first, .., b'\n'] if start != 0 && !ends_line(*first) => span,
+            bytes => self.trimmed(bytes, span),
+        }
+    }
+
+    /// The same of a record that has those bytes.
+    #[inline(never)]
+    fn trimmed(&self, bytes: &[u8], span: Span) -> Span {
+        let Span { start, end } = span;
         let bytes = if start == 0 {
             without_mark(bytes)
         } else {
@@ -296,6 +311,7 @@ impl<'a, R: Read> Records<'a, R> {
 
     /// Whether the last record ends within quotes: it then is the input's last, and no read behind
     /// it tells so.
+    #[inline(always)]
     pub fn is_open(&self) -> bool
         ensures { (closed : Bool) → (said : List Field) → self.now.format.delimiter ≢ 34
             → SaysFields self.now.format.delimiter closed (last_bytes self.now) said
@@ -310,6 +326,7 @@ impl<'a, R: Read> Records<'a, R> {
 
     /// Adds the fields of the last record at those places to the batch, as a row; an empty one
     /// where the record has none. Refused only for want of memory.
+    #[inline(always)]
     pub fn add_to(&mut self, batch: &mut Batch, places: &[usize]) -> Result<(), AllocError>
         ensures fields { (closed : Bool) → (said : List Field) → self.old.format.delimiter ≢ 34
             → SaysFields self.old.format.delimiter closed (last_bytes self.old) said
@@ -318,18 +335,7 @@ impl<'a, R: Read> Records<'a, R> {
             places.now) }
         ensures spans { OnOk result (batch.new.spans ≡ batch.old.spans ++ (self.old.span ∷ [])) }
     {
-        let Span { start, end } = self.span;
-        let line = self.reader.get_ref().between(start, end);
-        self.quotes.forget();
-        add_fields(
-            &self.last,
-            line,
-            &self.format,
-            &mut self.quotes,
-            batch,
-            places,
-        )?;
-        batch.end_row(self.span)
+        self.add_columns_to(batch, places)
     }
 
     /// Adds the fields of the last record to the batch, as `add_to` does, but truth values as `true`
@@ -346,10 +352,27 @@ impl<'a, R: Read> Records<'a, R> {
             columns.now) }
         ensures spans { OnOk result (batch.new.spans ≡ batch.old.spans ++ (self.old.span ∷ [])) }
     {
+        self.add_columns_to(batch, columns)
+    }
+
+    /// Adds the fields of the last record in those columns to the batch, as a row.
+    #[inline(always)]
+    fn add_columns_to<C: Chosen>(
+        &mut self,
+        batch: &mut Batch,
+        columns: &[C],
+    ) -> Result<(), AllocError>
+        ensures fields { (closed : Bool) → (said : List Field) → self.old.format.delimiter ≢ 34
+            → SaysFields self.old.format.delimiter closed (last_bytes self.old) said
+            → OnOk result (batch.new.fields ≡ batch.old.fields
+            ++ map (λ c. field_spelled self.old.format.null.now (fields_of self.old.last) said
+            (C.spelled c)) columns.now) }
+        ensures spans { OnOk result (batch.new.spans ≡ batch.old.spans ++ (self.old.span ∷ [])) }
+    {
         let Span { start, end } = self.span;
         let line = self.reader.get_ref().between(start, end);
         self.quotes.forget();
-        add_spelled_fields(
+        add_fields(
             &self.last,
             line,
             &self.format,

@@ -47,6 +47,7 @@ impl<R: Read> Tee<R> {
     }
 
     /// A record is read next, which begins at this place or behind the ends of lines there.
+    #[inline(always)]
     pub fn begin_record(&self, place: u64) {
         self.record.set(place);
     }
@@ -71,6 +72,7 @@ impl<R: Read> Tee<R> {
     }
 
     /// The bytes between two places of the input, without those that are no longer kept.
+    #[inline(always)]
     pub fn between(&self, start: u64, end: u64) -> &[u8]
         ensures { result.now ≡ bytes_between self.now start end }
     {

@@ -11,6 +11,39 @@ pub struct Spelled {
     pub is_truth: bool,
 }
 
+/// A column of a batch, as it is told where it stands in a record.
+pub trait Chosen: Copy + Drop {
+    ghost use Rattle.rowfn_csv.specs.declared.truths.Spelled.{Spelled};
+
+    ghost spelled: { Self → Spelled };
+
+    /// Its place, and whether its truth values are read in any spelling.
+    fn spelled(&self) -> Spelled
+        ensures { result ≡ spelled self.now };
+}
+
+/// By its place alone its fields are read as they stand.
+impl Chosen for usize {
+    ghost use Rattle.std.specs.Prelude.{false};
+
+    ghost spelled = { λ place. record { place = place; is_truth = false } };
+
+    fn spelled(&self) -> Spelled {
+        Spelled {
+            place: *self,
+            is_truth: false,
+        }
+    }
+}
+
+impl Chosen for Spelled {
+    ghost spelled = { λ s. s };
+
+    fn spelled(&self) -> Spelled {
+        *self
+    }
+}
+
 fn says_true(field: &[u8]) -> bool
     ensures { result ≡ says_true field.now }
 {

@@ -76,6 +76,21 @@ fn texts_that_others_mistake_are_quoted(rt: HostRuntime) {
 }
 
 #[test]
+fn truth_values_are_quoted_where_needed(rt: HostRuntime) {
+    let truth = "col b bool\nget b\n";
+    let named = Case {
+        null: "true",
+        ..headless(truth, "\"true\"\nfalse\n")
+    };
+    assert!(rt; gives(rt, named, "\"true\"\nfalse\n"));
+    let parted = Case {
+        delimiter: b'f',
+        ..headless(truth, "true\n\"false\"\n")
+    };
+    assert!(rt; gives(rt, parted, "true\n\"false\"\n"));
+}
+
+#[test]
 fn null_is_the_empty_field_without_quotes(rt: HostRuntime) {
     let two = "col t utf8?\ncol n i32?\nget t\nget n\n";
     let rows = "a,1\n\"\",2\n,3\nb,\n,\n";

@@ -104,6 +104,16 @@ fn bytes_that_are_no_text_do_not_fit(rt: HostRuntime) {
 }
 
 #[test]
+fn letters_and_wrong_bytes_are_seen_at_each_place(rt: HostRuntime) {
+    let letters = "abcdefgh\u{e9},\u{e9},abcdefghijklmnopqrstuvw\u{3c0}xyz";
+    let printed = "abcdefgh\u{e9},\n\u{e9},\nabcdefghijklmnopqrstuvw\u{3c0}xyz,\n";
+    assert!(rt; has(rt, "utf8", letters.as_bytes(), 3, printed));
+    assert!(rt; misfits(rt, "utf8", b"abcdefgh,abcdefg\xFF", 2, 1));
+    assert!(rt; misfits(rt, "utf8", b"\xFFbcdefghi", 1, 0));
+    assert!(rt; misfits(rt, "utf8", b"abcdefghijklmno\xFFq", 1, 0));
+}
+
+#[test]
 fn the_first_misfit_goes_row_by_row(rt: HostRuntime) {
     let text = "col a i8\ncol b bool\nget a\nas a";
     let told = "a,\nthe field of row 0 and column 1 does not fit";

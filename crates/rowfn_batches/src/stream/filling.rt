@@ -45,6 +45,7 @@ fn broken_by(error: ReadError) -> Filled {
 }
 
 /// Adds the fields of the last record to a batch: those of the columns of a layout.
+#[inline(always)]
 fn add_last<R: Read>(
     records: &mut Records<'_, R>,
     batch: &mut Batch,
@@ -58,6 +59,7 @@ fn add_last<R: Read>(
 
 impl<'a, R: Read + Drop> Stream<'a, R> {
     /// Settles how many fields a row has, where the last record, which is the first row, tells it.
+    #[inline(always)]
     fn settle_width(&mut self)
         ensures { IsRefilled self.old self.new }
     {
@@ -77,6 +79,7 @@ impl<'a, R: Read + Drop> Stream<'a, R> {
 
     /// Whether the last record is a row: closed, and of as many fields as are wanted, none of which
     /// is too long.
+    #[inline(always)]
     fn is_whole(&self) -> bool {
         self.width == Some(self.records.record().len())
             && !self.records.is_open()
@@ -104,6 +107,7 @@ impl<'a, R: Read + Drop> Stream<'a, R> {
 
     /// Whether the rows that were read from a place of the input on have enough bytes, or are to be
     /// answered before more is read.
+    #[inline(always)]
     fn is_full(&self, begin: u64) -> bool {
         self.records.span().end.saturating_sub(begin) >= self.settings.batch_bytes
             || self.settings.flushes && self.records.is_drained()
@@ -119,6 +123,7 @@ impl<'a, R: Read + Drop> Stream<'a, R> {
     }
 
     /// Adds the last record to the batch.
+    #[inline(always)]
     fn add_row(&mut self) -> Result<(), AllocError>
         ensures { IsRefilled self.old self.new }
     {

@@ -5,19 +5,20 @@ use Rattle.std.proofs.lemmas.Bool.{false_from_ne_true}
 use Rattle.rowfn_batches.specs.Fields.{field_in, field_cell}
 use Rattle.rowfn_batches.proofs.fields.field_cell.Goals as goal
 
-pub returns-in-Ok : goal.returns-in-Ok
-returns-in-Ok c =
+pub returns : goal.returns
+returns c =
     let bytes = c.in-Some.bytes.now in
-    let readable = is_utf8-from_IsUtf8 bytes c.in-Ok.ensures.cases.1 in
-    ap (λ t. Some (Some t)) c.in-Ok.ensures.cases.0
+    let readable = is_utf8-from_IsUtf8 bytes c.in_ok-text.ensures.1 in
+    ap (λ t. Some (Some t)) c.in_ok-text.ensures.0
     ∙ sym (ap (λ b. if b then Some (Some bytes) else None) readable)
     ∙ ap (λ f. field_cell (field_in f)) (sym c.in-Some.is)
 
-pub returns-in-Err : goal.returns-in-Err
-returns-in-Err c =
+pub returns-in_err-text : goal.returns-in_err-text
+returns-in_err-text c =
     let bytes = c.in-Some.bytes.now in
     let unreadable =
     false_from_ne_true (is_utf8 bytes)
-    (λ e. c.in-Err.ensures.cases.0 (IsUtf8-from_is_utf8 bytes e)) in
-    sym (ap (λ b. if b then Some (Some bytes) else None) unreadable)
-    ∙ ap (λ f. field_cell (field_in f)) (sym c.in-Some.is)
+    (λ e. c.in_err-text.ensures (IsUtf8-from_is_utf8 bytes e)) in
+    rw c.from_residual.ensures
+    (sym (ap (λ b. if b then Some (Some bytes) else None) unreadable)
+    ∙ ap (λ f. field_cell (field_in f)) (sym c.in-Some.is))
