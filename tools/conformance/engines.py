@@ -149,7 +149,8 @@ class Program:
         it, named r, where one is there. Texts may begin with a minus sign."""
         columns = self.by_text([], table)[:2]
         behind = ["--append", "--", *(f"{answer}\nas r" for answer in answers)] if answers else []
-        ran = self.run([*columns, "--where=" + condition, *behind], self.csv(self.by_text, table))
+        # a null in the only column is an empty line
+        ran = self.run(["--blank-lines", "null", *columns, "--where=" + condition, *behind], self.csv(self.by_text, table))
         return ran.stdout + ran.stderr
 
     def is_rewritten(self, text, table):
