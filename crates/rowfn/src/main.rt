@@ -7,28 +7,31 @@ use std::io::{self, Read, Write};
 use std::process::ExitCode;
 use std::rt::Env;
 
-/// Whether the program is called by its name alone.
-fn is_called_alone(rt: &(impl Env + AllocGlobal)) -> io::Result<bool> {
-    match env::args(rt) {
-        Ok(words) => {
-            let words: Vec<String> = words.collect(rt.alloc())?;
-            Ok(words.len() <= 1)
-        }
+/// What the program is called for.
+enum Call {
+    Script,
+    Version,
+    Other,
+}
+
+/// What the words behind the program's name ask for: nothing stands for a script.
+fn call(rt: &(impl Env + AllocGlobal)) -> io::Result<Call> {
+    let words: Vec<String> = match env::args(rt) {
+        Ok(words) => words.collect(rt.alloc())?,
         // a word that is no text
-        Err(error) if error.kind() == io::ErrorKind::InvalidData => Ok(false),
-        Err(error) => Err(error),
+        Err(error) if error.kind() == io::ErrorKind::InvalidData => return Ok(Call::Other),
+        Err(error) => return Err(error),
+    };
+    match words.as_slice() {
+        [] | [_] => Ok(Call::Script),
+        [_, word] if word.as_str() == "--version" => Ok(Call::Version),
+        _ => Ok(Call::Other),
     }
 }
 
 /// Runs the script of standard input: prints what it prints, then its fault line, if any, to
-/// standard error. Called with words it reads no script, and says so.
-fn run(rt: &(impl Input + Print + Eprint + Env + AllocGlobal)) -> io::Result<u8> {
-    if !is_called_alone(rt)? {
-        let _ = eprintln!(rt;
-            "rowfn: it takes no arguments, and reads a script from standard input"
-        );
-        return Ok(3);
-    }
+/// standard error.
+fn run_script(rt: &(impl Input + Print + Eprint + AllocGlobal)) -> io::Result<u8> {
     let mut script = Vec::new(rt.alloc());
     rt.reader().read_to_end(&mut script)?;
     let outcome = interpret(rt.alloc(), &script);
@@ -41,8 +44,25 @@ fn run(rt: &(impl Input + Print + Eprint + Env + AllocGlobal)) -> io::Result<u8>
     Ok(status(&outcome.ending))
 }
 
+/// Runs a script, or tells the version. Called with other words it reads no script, and says so.
+fn run(rt: &(impl Input + Print + Eprint + Env + AllocGlobal)) -> io::Result<u8> {
+    match call(rt)? {
+        Call::Script => run_script(rt),
+        Call::Version => {
+            println!(rt; "rowfn 0.1.0, proved with rattle-kit-13f")?;
+            Ok(0)
+        }
+        Call::Other => {
+            let _ = eprintln!(rt;
+                "rowfn: it takes no arguments but --version, and reads a script from standard input"
+            );
+            Ok(3)
+        }
+    }
+}
+
 /// Ends with the ending's status; with 3 where standard input or output fails, memory runs out while
-/// reading, or the program is called with words.
+/// reading, or the program is called with other words.
 fn main(rt: HostRuntime) -> ExitCode {
     match run(&rt) {
         Ok(status) => ExitCode::from(status),
