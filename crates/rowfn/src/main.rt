@@ -8,24 +8,24 @@ use std::process::ExitCode;
 use std::rt::Env;
 
 /// What the program is called for.
-enum Call {
+enum CalledFor {
     Script,
     Version,
     Other,
 }
 
 /// What the words behind the program's name ask for: nothing stands for a script.
-fn call(rt: &(impl Env + AllocGlobal)) -> io::Result<Call> {
+fn asked_for(rt: &(impl Env + AllocGlobal)) -> io::Result<CalledFor> {
     let words: Vec<String> = match env::args(rt) {
         Ok(words) => words.collect(rt.alloc())?,
         // a word that is no text
-        Err(error) if error.kind() == io::ErrorKind::InvalidData => return Ok(Call::Other),
+        Err(error) if error.kind() == io::ErrorKind::InvalidData => return Ok(CalledFor::Other),
         Err(error) => return Err(error),
     };
     match words.as_slice() {
-        [] | [_] => Ok(Call::Script),
-        [_, word] if word.as_str() == "--version" => Ok(Call::Version),
-        _ => Ok(Call::Other),
+        [] | [_] => Ok(CalledFor::Script),
+        [_, word] if word.as_str() == "--version" => Ok(CalledFor::Version),
+        _ => Ok(CalledFor::Other),
     }
 }
 
@@ -46,13 +46,13 @@ fn run_script(rt: &(impl Input + Print + Eprint + AllocGlobal)) -> io::Result<u8
 
 /// Runs a script, or tells the version. Called with other words it reads no script, and says so.
 fn run(rt: &(impl Input + Print + Eprint + Env + AllocGlobal)) -> io::Result<u8> {
-    match call(rt)? {
-        Call::Script => run_script(rt),
-        Call::Version => {
+    match asked_for(rt)? {
+        CalledFor::Script => run_script(rt),
+        CalledFor::Version => {
             println!(rt; "rowfn 0.1.0, proved with rattle-kit-13f")?;
             Ok(0)
         }
-        Call::Other => {
+        CalledFor::Other => {
             let _ = eprintln!(rt;
                 "rowfn: it takes no arguments but --version, and reads a script from standard input"
             );
