@@ -6,7 +6,10 @@ ghost use Rattle.rowfn_batches.specs.ReadingBack.{ReadsBack};
 mod beginning;
 mod filling;
 mod passing;
+mod skipping;
 mod writing;
+
+pub use skipping::flow_on;
 
 use crate::errors::StreamError;
 use crate::header::Layout;

@@ -19,6 +19,10 @@ pub enum Failure {
     Inferred(StreamError),
     /// The file of the rows, by its name, cannot be read.
     Input(String, io::Error),
+    /// The file that tells of rows that are refused, by its name, cannot be made.
+    Refusals(String, io::Error),
+    /// So many rows were refused, and left out.
+    LeftOut(u64),
 }
 
 impl From<QueryError> for Failure {
@@ -53,13 +57,14 @@ impl From<VortexError> for Failure {
 }
 
 impl Failure {
-    /// 1 for a fault of the expression, 2 for input that does not fit, 3 for reading, writing and
+    /// 1 for a fault of the expression, and where rows were left out, 2 for input that does not fit, 3 for reading, writing and
     /// memory, 4 for an expression that is wrong.
     pub fn status(&self) -> u8 {
         match self {
             Failure::Query(error) | Failure::QueryOfFile(error, _) => error.status(),
             Failure::Stream(error) | Failure::Inferred(error) => error.status(),
-            Failure::Input(_, _) => 3,
+            Failure::Input(_, _) | Failure::Refusals(_, _) => 3,
+            Failure::LeftOut(_) => 1,
         }
     }
 
@@ -94,6 +99,11 @@ impl fmt::Display for Failure {
                 let name = name.as_str();
                 write!(f, "reading {name}: {error}")
             }
+            Failure::Refusals(name, error) => {
+                let name = name.as_str();
+                write!(f, "writing {name}: {error}")
+            }
+            Failure::LeftOut(count) => write!(f, "rows left out {count}"),
         }
     }
 }
