@@ -34,6 +34,7 @@ status_of (end.HeaderTooLong limit) = 2
 status_of (end.Reading e) = 3
 status_of (end.Writing e) = 3
 status_of (end.Telling e) = 3
+status_of (end.TellingNowhere name e) = 3
 status_of (end.ReadingExpression name e) = 3
 status_of (end.Expression e) = expression_status e
 status_of (end.Line line e) = 4

@@ -19,8 +19,10 @@ use Rattle.rowfn_batches.specs.Taking.{rows_before}
 
 -- the row at that place, behind so many rows, is refused, and no other row has its number
 pub record IsPlace (before place : ℕ) (e : StreamError) : Type 0 where
-  pub told : row_left_out e ≡ Some (before + place + 1)
-  pub own : before + place + 1 < 2 ^ 64 - 1
+  pub number : ℕ
+  pub told : row_left_out e ≡ Some number
+  pub behind : number ≡ before + place + 1
+  pub own : number < 2 ^ 64 - 1
 
 -- so many rows were read then, up to the one at a place of the batch
 abbrev pub rows_read_up_to : {R : Type 0} → Stream R → ℕ → ℕ

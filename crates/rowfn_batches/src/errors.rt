@@ -63,6 +63,8 @@ pub enum StreamError {
     Writing(io::Error),
     /// The rows that are refused could not be told.
     Telling(io::Error),
+    /// The file that is to tell them, by its name, could not be made.
+    TellingNowhere(String, io::Error),
     /// The file of the expression, by its name, could not be read.
     ReadingExpression(String, io::Error),
     /// A line of the expression is refused or malformed.
@@ -157,6 +159,7 @@ impl StreamError {
             StreamError::Reading(_)
             | StreamError::Writing(_)
             | StreamError::Telling(_)
+            | StreamError::TellingNowhere(_, _)
             | StreamError::ReadingExpression(_, _)
             | StreamError::Expression(ExpressionError::OutOfMemory)
             | StreamError::OutOfMemory => 3,
@@ -214,10 +217,7 @@ impl StreamError {
 
 /// Writes that a field is longer than a limit.
 fn write_too_long<W: fmt::Write>(f: &mut fmt::Formatter<W>, limit: usize) -> fmt::Result {
-    write!(
-        f,
-        "a field has more bytes than the {limit} of --max-field"
-    )
+    write!(f, "a field has more bytes than the {limit} of --max-field")
 }
 
 /// Writes bytes that are no UTF-8, those beyond plain ASCII by their numbers.
@@ -274,7 +274,10 @@ fn write_field<W: fmt::Write>(f: &mut fmt::Formatter<W>, field: Option<&[u8]>) -
 fn write_input<W: fmt::Write>(f: &mut fmt::Formatter<W>, error: &StreamError) -> fmt::Result {
     match error {
         StreamError::Misfit {
-            row, column, field, ..
+            row,
+            column,
+            field,
+            ..
         } => {
             let column = column.as_str();
             write!(f, "row {row}, column {column}: ")?;
@@ -354,6 +357,10 @@ impl fmt::Display for StreamError {
             StreamError::Reading(error) => write!(f, "reading: {error}"),
             StreamError::Writing(error) => write!(f, "writing: {error}"),
             StreamError::Telling(error) => write!(f, "writing refused rows: {error}"),
+            StreamError::TellingNowhere(path, error) => {
+                let path = path.as_str();
+                write!(f, "writing {path}: {error}")
+            }
             StreamError::ReadingExpression(path, error) => {
                 let path = path.as_str();
                 write!(f, "reading {path}: {error}")

@@ -43,11 +43,7 @@ fn add_spans(batch: &mut Batch, spans: &[Span]) -> Result<(), AllocError>
 }
 
 /// Puts rows into a batch, and nothing else: their fields, and where they lie.
-pub fn refill(
-    batch: &mut Batch,
-    fields: &[Option<&[u8]>],
-    spans: &[Span],
-) -> Result<(), AllocError>
+pub fn refill(batch: &mut Batch, fields: &[Option<&[u8]>], spans: &[Span]) -> Result<(), AllocError>
     ensures fields { OnOk result (batch.new.fields ≡ map field_in fields.now) }
     ensures spans { OnOk result (batch.new.spans ≡ spans.now) }
 {

@@ -1,12 +1,12 @@
 //! Rows that are refused, as lines of CSV.
-ghost use Rattle.std.specs.Prelude.{◌≡◌, OnOk, IfErr};
+ghost use Rattle.std.specs.Prelude.{◌≡◌, OnOk, IfOk, IfErr};
 ghost use Rattle.rowfn_batches.specs.Refusals.{IsUntold, one_more_counted};
 
 use crate::errors::{StreamError, told_bytes, told_text, write_bytes};
 use std::alloc::{AllocError, Global};
-use std::fmt;
 use std::io::Write;
-use std::str;
+use std::rt::Files;
+use std::{fmt, fs, str};
 
 /// The names of the columns.
 const HEADER: &[u8] = b"row,column,reason,field\n";
@@ -21,11 +21,7 @@ struct Line<'a> {
 }
 
 /// Writes a text and what stands behind it in quotes, each quote in the text twice.
-fn write_quoted<W: fmt::Write>(
-    f: &mut fmt::Formatter<W>,
-    text: &str,
-    end: &str,
-) -> fmt::Result {
+fn write_quoted<W: fmt::Write>(f: &mut fmt::Formatter<W>, text: &str, end: &str) -> fmt::Result {
     f.write_str("\"")?;
     for (place, part) in text.split('"').enumerate() {
         if place != 0 {
@@ -178,5 +174,26 @@ impl<W: Write> Refusals<W> {
         }
         self.lines.clear();
         Ok(())
+    }
+}
+
+/// Makes the file of that name, or empties it, to tell rows that are refused there, behind the
+/// header. Refused with the name where it cannot be made, and for want of memory.
+pub fn refusals_in<F: Files + AllocGlobal>(
+    rt: &F,
+    name: &str,
+) -> Result<Refusals<F::File>, StreamError>
+    ensures { IfOk result (λ refusals. refusals.count ≡ 0) }
+{
+    match fs::create(rt, name) {
+        Ok(file) => {
+            let mut refusals = Refusals::new(rt.alloc(), file);
+            refusals.tell_header()?;
+            Ok(refusals)
+        }
+        Err(error) => {
+            let name = String::from_str(rt.alloc(), name)?;
+            Err(StreamError::TellingNowhere(name, error))
+        }
     }
 }

@@ -9,8 +9,6 @@ mod passing;
 mod skipping;
 mod writing;
 
-pub use skipping::flow_on;
-
 use crate::errors::StreamError;
 use crate::header::Layout;
 use crate::output::Output;
@@ -18,6 +16,7 @@ use crate::settings::Settings;
 use crate::taking::Condition;
 use rowfn_csv::{Batch, Records};
 use rowfn_scripts::Expression;
+pub use skipping::flow_on;
 use std::alloc::Global;
 use std::io::{Read, Write};
 

@@ -19,8 +19,6 @@ pub enum Failure {
     Inferred(StreamError),
     /// The file of the rows, by its name, cannot be read.
     Input(String, io::Error),
-    /// The file that tells of rows that are refused, by its name, cannot be made.
-    Refusals(String, io::Error),
     /// So many rows were refused, and left out.
     LeftOut(u64),
 }
@@ -63,7 +61,7 @@ impl Failure {
         match self {
             Failure::Query(error) | Failure::QueryOfFile(error, _) => error.status(),
             Failure::Stream(error) | Failure::Inferred(error) => error.status(),
-            Failure::Input(_, _) | Failure::Refusals(_, _) => 3,
+            Failure::Input(_, _) => 3,
             Failure::LeftOut(_) => 1,
         }
     }
@@ -98,10 +96,6 @@ impl fmt::Display for Failure {
             Failure::Input(name, error) => {
                 let name = name.as_str();
                 write!(f, "reading {name}: {error}")
-            }
-            Failure::Refusals(name, error) => {
-                let name = name.as_str();
-                write!(f, "writing {name}: {error}")
             }
             Failure::LeftOut(count) => write!(f, "rows left out {count}"),
         }

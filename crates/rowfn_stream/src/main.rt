@@ -10,7 +10,9 @@ use crate::asking::{ask, format_with};
 use crate::failure::Failure;
 use crate::progress::{TOLD_BYTES, Teller};
 use crate::telling::{Complaints, flow_telling};
-use rowfn_batches::{Refusals, Settings, StreamError, Summary, Watched, check_names, explain};
+use rowfn_batches::{
+    Refusals, Settings, StreamError, Summary, Watched, check_names, explain, refusals_in,
+};
 use rowfn_options::{Action, Options, read_options, status};
 use rowfn_queries::{Again, Query};
 use rowfn_scripts::Expression;
@@ -84,7 +86,14 @@ fn pass_rows<R: Read + Drop, E: Write>(
             flow_telling(alloc, &settings, asked, reader, &mut out, refusals)
         }
         (None, Some(condition)) => {
-            flow_telling(alloc, &picking, (condition, None), reader, &mut out, refusals)
+            flow_telling(
+                alloc,
+                &picking,
+                (condition, None),
+                reader,
+                &mut out,
+                refusals,
+            )
         }
         (None, None) => Ok(Summary {
             rows_read: 0,
@@ -197,14 +206,8 @@ fn perform_on<R: Read + Drop>(
         let mut refusals = Refusals::new(alloc, Complaints { rt });
         return pass_told(rt, options, &query, reader, &mut refusals);
     };
-    match fs::create(rt, name) {
-        Ok(file) => {
-            let mut refusals = Refusals::new(alloc, file);
-            refusals.tell_header()?;
-            pass_told(rt, options, &query, reader, &mut refusals)
-        }
-        Err(error) => Err(Failure::Refusals(String::from_str(alloc, name)?, error)),
-    }
+    let mut refusals = refusals_in(rt, name)?;
+    pass_told(rt, options, &query, reader, &mut refusals)
 }
 
 /// Does what the options ask for.

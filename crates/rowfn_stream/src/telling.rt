@@ -1,7 +1,6 @@
 //! Where rows that are refused are told.
 
-use rowfn_batches::{Refusals, StreamError, Summary, flow, flow_on};
-use rowfn_batches::Settings;
+use rowfn_batches::{Refusals, Settings, StreamError, Summary, flow, flow_on};
 use rowfn_scripts::Expression;
 use std::alloc::Global;
 use std::io::{self, ErrorKind, Read, Write};

@@ -126,10 +126,26 @@ fn pass_on(
     let passed = match (&query.answers, &query.condition) {
         (Some(answers), condition) => {
             let condition = condition.as_ref();
-            flow_on(alloc, settings, answers, condition, reader, sink, &mut refusals)
+            flow_on(
+                alloc,
+                settings,
+                answers,
+                condition,
+                reader,
+                sink,
+                &mut refusals,
+            )
         }
         (None, Some(condition)) => {
-            flow_on(alloc, settings, condition, None, reader, sink, &mut refusals)
+            flow_on(
+                alloc,
+                settings,
+                condition,
+                None,
+                reader,
+                sink,
+                &mut refusals,
+            )
         }
         (None, None) => Err(StreamError::OutOfMemory),
     };

@@ -247,7 +247,13 @@ fn what_refused_rows_do_is_told(rt: HostRuntime) {
     let told = "44 true '' 2048 Answer false errors to e.csv text f";
     assert!(rt; says(rt, "p --errors-to e.csv f", told));
     assert!(rt; is_refused(rt, "p --errors pass f", ErrorKind::InvalidValue));
-    assert!(rt; is_refused(rt, "p --errors-to r.csv f r.csv", ErrorKind::ArgumentConflict));
+    assert!(rt;
+        is_refused(
+            rt,
+            "p --errors-to r.csv f r.csv",
+            ErrorKind::ArgumentConflict
+        )
+    );
     assert!(rt; ends_with(rt, "p --errors pass f", 64));
 }
 

@@ -4,6 +4,7 @@ use crate::asking::{Asked, ask_once, asks, declared};
 use crate::cases::{BATCHES, STEPS, ended_so};
 use crate::pipes::Sink;
 use fixtures::{same, same_text};
+use rowfn_batches::refusals_in;
 use rowfn_queries::Words;
 use std::alloc::{AllocError, Global};
 
@@ -89,7 +90,8 @@ fn is_cut(rt: HostRuntime) -> Result<bool, AllocError> {
     let (long, cut) = (long.as_str(), cut.as_str());
     let input = format!(in alloc; "a,b\n{long},1\n{cut},1\n\"{long},\",1\n")?;
     let told = format!(in alloc;
-        "row,column,reason,field\n1,a,is no i8,{cut}..\n2,a,is no i8,{cut}\n3,a,is no i8,{cut}..\n")?;
+        "row,column,reason,field\n1,a,is no i8,{cut}..\n2,a,is no i8,{cut}\n3,a,is no i8,{cut}..\n"
+    )?;
     let asked = declared(TYPES, SUM, input.as_str());
     Ok(goes_on_once(rt, &asked, ((2, 1000), 5), told.as_str(), ("sum\n", 0, "")))
 }
@@ -102,7 +104,14 @@ fn of_a_long_field_the_beginning_is_told(rt: HostRuntime) {
 #[test]
 fn a_quote_that_is_not_closed_is_left_out(rt: HostRuntime) {
     let told = "row,column,reason,field\n2,,a quote is not closed,\n";
-    assert!(rt; goes_on(rt, declared(TYPES, SUM, "a,b\n1,2\n3,\"4\n5,6\n"), "sum\n3\n", told));
+    assert!(rt;
+        goes_on(
+            rt,
+            declared(TYPES, SUM, "a,b\n1,2\n3,\"4\n5,6\n"),
+            "sum\n3\n",
+            told
+        )
+    );
 }
 
 #[test]
@@ -231,6 +240,18 @@ fn a_writer_that_refuses_lines_ends_the_stream(rt: HostRuntime) {
         Err((status, told)) => {
             assert!(rt; same(rt, status, 3));
             assert!(rt; same(rt, told.as_str(), "writing refused rows: broken pipe"));
+        }
+    }
+}
+
+#[test]
+fn a_file_that_cannot_be_made_is_told_by_its_name(rt: HostRuntime) {
+    match refusals_in(&rt, "nowhere/refused.csv") {
+        Ok(_) => assert!(rt; false),
+        Err(error) => {
+            let told = format!(in rt.alloc(); "{error}").unwrap_or(String::new(rt.alloc()));
+            assert!(rt; same(rt, error.status(), 3));
+            assert!(rt; told.as_str().starts_with("writing nowhere/refused.csv: "));
         }
     }
 }

@@ -167,7 +167,14 @@ impl<'a, R: Read + Drop> Stream<'a, R> {
         let (rows, asked) = self.take_rows();
         let fields = rows.fields(self.alloc)?;
         let asked_fields = asked.fields(self.alloc)?;
-        self.pass_parts(&fields, &asked_fields, rows.spans(), first, writer, refusals)
+        self.pass_parts(
+            &fields,
+            &asked_fields,
+            rows.spans(),
+            first,
+            writer,
+            refusals,
+        )
     }
 
     /// Passes on the batch, but for the rows that are refused, which are told.
