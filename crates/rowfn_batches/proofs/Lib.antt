@@ -10,6 +10,7 @@ pub mod Lines
 pub mod NameOf
 pub mod Outputs
 pub mod Passed
+pub mod Skipped
 pub mod ReadingBack
 pub mod Within
 pub mod TakenRows

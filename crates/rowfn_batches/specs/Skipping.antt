@@ -1,6 +1,6 @@
 -- How a stream goes on behind rows that are refused.
 use Rattle.std.specs.Prelude.{◌≡◌, ◌+◌, ◌*◌, ◌-◌, ◌^◌, ◌<◌, ◌≤◌, min, ℕ, List, [], length, take, drop}
-use Rattle.std.specs.Prelude.{Option, Some, None, Result, Ok, Err, Bool, false, ⊤, ◌⊎◌, option_map}
+use Rattle.std.specs.Prelude.{Option, Some, None, Result, Ok, Err, Bool, ⊤, ◌⊎◌}
 use Rattle.std.specs.Io.KnownBytes.{Appends}
 use Rattle.rowfn_csv.specs.declared.records.Span.{Span}
 use Rattle.rowfn_scripts.specs.declared.expression.Expression.{Expression}
@@ -12,7 +12,7 @@ use Rattle.rowfn_batches.specs.declared.taking.Condition.{Condition}
 use Rattle.rowfn_batches.specs.Endings.{row_left_out}
 use Rattle.rowfn_batches.specs.Fields.{Field}
 use Rattle.rowfn_batches.specs.Passing.{PassesUpTo, IsBehind, KeepsReading, IsCleared, IsRefilled}
-use Rattle.rowfn_batches.specs.Passing.{HasBegun, IsWriting}
+use Rattle.rowfn_batches.specs.Passing.{HasBegun, IsWriting, condition_asked}
 use Rattle.rowfn_batches.specs.Parts.{next_row}
 use Rattle.rowfn_batches.specs.Refusals.{one_more_counted, IsUntold}
 use Rattle.rowfn_batches.specs.Taking.{rows_before}
@@ -62,10 +62,13 @@ abbrev pub fields_asked : Option Condition → List Field
 fields_asked None = []
 fields_asked (Some c) = c.batch.fields
 
--- how many of a row those are
+-- how many of a row those are, by what is asked by the condition
+abbrev pub width_asked : Option (Expression × List ℕ) → ℕ
+width_asked None = 0
+width_asked (Some asked) = length asked.1
+
 abbrev pub asked_width : Option Condition → ℕ
-asked_width None = 0
-asked_width (Some c) = length c.layout.places.items
+asked_width c = width_asked (condition_asked c)
 
 -- a condition, if there is one, reads these fields of rows that lie there
 abbrev pub ReadsRows : List Field → List Span → Option Condition → Type 0

@@ -16,10 +16,10 @@ const FIELDS: &[&str] = &[
 ];
 
 const ANSWERS: &[&str] = &[
-    "a + b as c",
-    "a / b as c, b",
+    "a + b as c, a as d",
+    "a / b as c, b as d",
     "a * a as c, b is null as n",
-    "b, a - b as c",
+    "b as d, a - b as c",
 ];
 
 const CONDITIONS: &[&str] = &["", "a > 0", "b / a > 0", "b is not null"];

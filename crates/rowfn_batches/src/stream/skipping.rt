@@ -202,9 +202,9 @@ impl<'a, R: Read + Drop> Stream<'a, R> {
         ensures { PassesMisshapen self.old self.new error refusals.old.count refusals.new.count
             result }
     {
-        if error.left_out().is_none() {
+        let Some(_row) = error.left_out() else {
             return Err(error);
-        }
+        };
         refusals.tell(&error)?;
         self.summary.rows_read = self.summary.rows_read.saturating_add(1);
         self.tell_rows();
