@@ -1,7 +1,6 @@
 -- How a stream goes on behind rows that are refused.
 use Rattle.std.specs.Prelude.{◌≡◌, ◌+◌, ◌*◌, ◌-◌, ◌^◌, ◌<◌, ◌≤◌, min, ℕ, List, [], length, take, drop}
 use Rattle.std.specs.Prelude.{Option, Some, None, Result, Ok, Err, Bool, ⊤, ◌⊎◌}
-use Rattle.std.specs.Io.KnownBytes.{Appends}
 use Rattle.rowfn_csv.specs.declared.records.Span.{Span}
 use Rattle.rowfn_scripts.specs.declared.expression.Expression.{Expression}
 use Rattle.rowfn_batches.specs.declared.errors.StreamError.{StreamError}
@@ -46,7 +45,7 @@ pub data PassesTold {R : Type 0} (s now : Stream R) (before after : Option (List
     (counted count : ℕ) (result : Result (Option ℕ) StreamError) : Type 0 where
   whole : PassesUpTo s None before after (Ok None) → IsBehind s now → count ≡ counted
       → result ≡ Ok None → PassesTold s now before after counted count result
-  refused : (e : StreamError) (place : ℕ) → PassesUpTo s None before after (Ok (Some e))
+  up_to_one : (e : StreamError) (place : ℕ) → PassesUpTo s None before after (Ok (Some e))
       → IsPlace (rows_before s) place e → IsPast s now place → count ≡ one_more_counted counted
       → result ≡ Ok (Some place) → PassesTold s now before after counted count result
   ends : (outcome : Result (Option StreamError) StreamError) (e : StreamError)
@@ -72,23 +71,23 @@ asked_width c = width_asked (condition_asked c)
 
 -- a condition, if there is one, reads these fields of rows that lie there
 abbrev pub ReadsRows : List Field → List Span → Option Condition → Type 0
-ReadsRows asked spans None = ⊤
-ReadsRows asked spans (Some c) = (c.batch.fields ≡ asked) × (c.batch.spans ≡ spans)
+ReadsRows fs lines None = ⊤
+ReadsRows fs lines (Some c) = (c.batch.fields ≡ fs) × (c.batch.spans ≡ lines)
 
 -- the batch has these rows
-pub record AreLoaded {R : Type 0} (fields asked : List Field) (spans : List Span) (s : Stream R)
+pub record AreLoaded {R : Type 0} (fs gs : List Field) (lines : List Span) (s : Stream R)
     : Type 0 where
-  pub fields : s.batch.fields ≡ fields
-  pub spans : s.batch.spans ≡ spans
-  pub asked : ReadsRows asked spans s.condition
+  pub fields : s.batch.fields ≡ fs
+  pub spans : s.batch.spans ≡ lines
+  pub asked : ReadsRows gs lines s.condition
 
 -- rows of a batch, by their fields, those that the condition reads, and where they lie
-module _ {R : Type 0} (fields asked : List Field) (spans : List Span) where
+module _ {R : Type 0} (fs gs : List Field) (lines : List Span) where
   -- the batch has so many of them, from one on
   abbrev pub HasPart : ℕ → ℕ → Stream R → Type 0
   HasPart first tried s =
-      AreLoaded (fields_from fields (length s.layout.places.items) first tried)
-      (fields_from asked (asked_width s.condition) first tried) (take tried (drop first spans)) s
+      AreLoaded (fields_from fs (length s.layout.places.items) first tried)
+      (fields_from gs (asked_width s.condition) first tried) (take tried (drop first lines)) s
 
   -- so many of them, from one on, are passed on, but for the first that is refused
   pub data PassesPart (first tried : ℕ) (old now : Stream R) (before after : Option (List ℕ))
@@ -105,16 +104,16 @@ module _ {R : Type 0} (fields asked : List Field) (spans : List Span) where
       : ℕ → Stream R → Option (List ℕ) → ℕ → Type 0 where
     no_part : PassesParts first old before counted first old before counted
     one_part : (next tried : ℕ) (was now : Stream R) (held after : Option (List ℕ)) (some more : ℕ)
-        (refused : Option ℕ) → PassesParts first old before counted next was held some
-        → tried + next ≤ length spans
-        → PassesPart next tried was now held after some more (Ok refused)
-        → PassesParts first old before counted (next_row next tried refused) now after more
+        (place : Option ℕ) → PassesParts first old before counted next was held some
+        → tried + next ≤ length lines
+        → PassesPart next tried was now held after some more (Ok place)
+        → PassesParts first old before counted (next_row next tried place) now after more
 
   -- all of them are, from one on; or a part of them ends the stream
   pub data PassesAll (first : ℕ) (old now : Stream R) (before after : Option (List ℕ))
       (counted count : ℕ) (result : Result (Unit {0}) StreamError) : Type 0 where
     all_parts : (next : ℕ) → PassesParts first old before counted next now after count
-        → length spans ≤ next → result ≡ Ok tt
+        → length lines ≤ next → result ≡ Ok tt
         → PassesAll first old now before after counted count result
     ends_in_part : (next tried : ℕ) (was : Stream R) (held : Option (List ℕ)) (some : ℕ)
         (e : StreamError) → PassesParts first old before counted next was held some
@@ -174,9 +173,9 @@ pub data PassesNextTold {R : Type 0} (old now : Stream R) (before after : Option
   ends_in_batch : (s : Stream R) (e : StreamError) → IsRefilled old s
       → PassesBatch s now before after counted count (Err e) → result ≡ Err e
       → PassesNextTold old now before after counted count result
-  ends_behind : (s mid : Stream R) (behind : StreamError) (some : ℕ) (e : StreamError)
+  ends_behind : (s mid : Stream R) (behind : Option StreamError) (some : ℕ) (e : StreamError)
       → IsRefilled old s → PassesBatch s mid before after counted some (Ok tt)
-      → PassesMisshapen mid now behind some count (Err e) → result ≡ Err e
+      → PassesBehind mid now behind some count (Err e) → result ≡ Err e
       → PassesNextTold old now before after counted count result
   lines_unwritten : (s mid : Stream R) (behind : Option StreamError) (some : ℕ) (e : StreamError)
       → IsRefilled old s → PassesBatch s mid before after counted some (Ok tt)

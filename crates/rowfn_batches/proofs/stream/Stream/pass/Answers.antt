@@ -6,3 +6,11 @@ pub returns-in_err-pass_up_to-clause-passes : goal.returns-in_err-pass_up_to-cla
 returns-in_err-pass_up_to-clause-passes g c =
     let p = err_from_is_err_and c.from_residual.result c.from_residual.ensures.1 in
     (Err c.in_err-pass_up_to.field-0.0, c.in_err-pass_up_to.ensures.passes, p.1 ∙ ap Err p.2)
+
+pub returns-in-Some-clause-passes : goal.returns-in-Some-clause-passes
+returns-in-Some-clause-passes g c =
+    (Ok (Some c.in-Some.error), rw c.in-Some.is at c.in_ok-pass_up_to.ensures.passes, refl)
+
+pub returns-clause-passes : goal.returns-clause-passes
+returns-clause-passes g c =
+    (Ok None, rw c.in-None.is at c.in_ok-pass_up_to.ensures.passes, refl)

@@ -1,6 +1,6 @@
 use Rattle.std.proofs.Common.{◌≡◌, ◌∙◌, Ok, Err, Some, None, ap, refl, inl, inr, subst, sym}
 use Rattle.std.proofs.lemmas.Result.{err_from_is_err_and}
-use Rattle.rowfn_batches.specs.Skipping.{whole, refused, ends}
+use Rattle.rowfn_batches.specs.Skipping.{whole, up_to_one, ends}
 use Rattle.rowfn_batches.proofs.Skipped.{kept_counted}
 use Rattle.rowfn_batches.proofs.stream.Stream.pass_told.Goals as goal
 
@@ -9,3 +9,29 @@ returns-in_err-pass_up_to g c =
     let p = err_from_is_err_and c.from_residual.result c.from_residual.ensures.1 in
     let e = c.in_err-pass_up_to.field-0.0 in
     ends (Err e) e c.in_err-pass_up_to.ensures.passes refl (p.1 ∙ ap Err p.2)
+
+pub returns-in_default : goal.returns-in_default
+returns-in_default g c =
+    let none = c.in_default.is in
+    whole (rw none at c.in_ok-pass_up_to.ensures.passes) c.in_ok-pass_up_to.ensures.behind refl refl
+
+pub returns-in_default-2 : goal.returns-in_default-2
+returns-in_default-2 g c =
+    let told = rw c.in-Some.is at c.in_ok-pass_up_to.ensures.passes in
+    ends (Ok (Some c.in-Some.error)) c.in-Some.error told (inl refl) refl
+
+pub returns-in_err-tell : goal.returns-in_err-tell
+returns-in_err-tell g c =
+    let p = err_from_is_err_and c.from_residual-in_err-tell.result
+    c.from_residual-in_err-tell.ensures.1 in
+    let told = rw c.in-Some.is at c.in_ok-pass_up_to.ensures.passes in
+    ends (Ok (Some c.in-Some.error)) c.in_err-tell.field-0.0 told
+    (inr c.in_err-tell.ensures.refused) (p.1 ∙ ap Err p.2)
+
+pub returns : goal.returns
+returns g c =
+    let told = rw c.in-Some.is at c.in_ok-pass_up_to.ensures.passes in
+    let behind = c.in_ok-pass_up_to.ensures.behind in
+    up_to_one c.in-Some.error c.in-Some-2.place told ?
+    (record { kept = kept_counted c.args.self.now c.pass_up_to.new.self _ behind.kept; cleared = behind.cleared; rows_read = ? })
+    c.in_ok-tell.ensures.count refl
