@@ -69,6 +69,30 @@ fn sizes_of_16(numbers: i16x4) -> i16x4 {
     (numbers ^ signs) - signs
 }
 
+/// The size of a number as a float, where one holds it for sure.
+#[inline(always)]
+fn float_of_size(number: i64) -> f64 {
+    let size = number.unsigned_abs();
+    if size < 0x20_0000_0000_0000 {
+        size as i64 as f64
+    } else {
+        0.0
+    }
+}
+
+/// The sizes of four numbers.
+#[inline(always)]
+fn floats_of_64(numbers: &[i64]) -> f64x4
+    requires { length numbers.now ≡ 4 }
+{
+    f64x4::from_array([
+        float_of_size(numbers[0]),
+        float_of_size(numbers[1]),
+        float_of_size(numbers[2]),
+        float_of_size(numbers[3]),
+    ])
+}
+
 /// Whether the number is not the quotient, or there is none.
 #[inline(always)]
 fn is_off_8(left: u8, right: u8, guess: u8) -> bool
@@ -103,13 +127,6 @@ fn is_off_64(left: u64, right: u64, guess: u64) -> bool
 {
     let divisor = u128::from(right);
     u128::from(left).wrapping_sub(u128::from(guess) * divisor) >= divisor
-}
-
-/// The sizes of four numbers of 64 bits; the least wraps to itself.
-#[inline(always)]
-fn sizes_of_64(numbers: i64x4) -> i64x4 {
-    let signs = numbers >> i64x4::splat(63);
-    (numbers ^ signs) - signs
 }
 
 impl GuessedDivision for u8 {
@@ -280,8 +297,8 @@ impl GuessedDivision for i64 {
     fn guesses(lefts: &[i64], rights: &[i64]) -> [u64; 64] {
         let mut guesses = [0u64; 64];
         for k in 0..16 {
-            let left: f64x4 = sizes_of_64(i64x4::from_slice(&lefts[4 * k..4 * k + 4])).cast();
-            let right: f64x4 = sizes_of_64(i64x4::from_slice(&rights[4 * k..4 * k + 4])).cast();
+            let left = floats_of_64(&lefts[4 * k..4 * k + 4]);
+            let right = floats_of_64(&rights[4 * k..4 * k + 4]);
             low_bits_64(left, right).copy_to_slice(&mut guesses[4 * k..4 * k + 4]);
         }
         guesses

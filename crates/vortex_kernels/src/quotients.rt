@@ -1,4 +1,4 @@
-//! Quotients of two columns, guessed 64 rows at a time where the integers have up to 32 bits.
+//! Quotients of two columns, guessed 64 rows at a time where floats may hold the integers.
 ghost use Rattle.std.specs.Prelude.{◌≡◌, ◌+◌, ◌≤◌, Bool, false, length, map, take, Some};
 ghost use Rattle.std.specs.Vec.{vec_len, vec_capacity};
 ghost use Rattle.vortex_checked.specs.Exact.{quotient};
