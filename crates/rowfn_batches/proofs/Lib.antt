@@ -11,6 +11,7 @@ pub mod NameOf
 pub mod Outputs
 pub mod Passed
 pub mod Skipped
+pub mod Spent
 pub mod ReadingBack
 pub mod Within
 pub mod TakenRows

@@ -1,13 +1,12 @@
 -- Parts of a batch that a stream passes on.
-use Rattle.std.proofs.Common.{◌≡◌, ◌∙◌, ℕ, ◌+◌, ◌*◌, ◌-◌, ◌<◌, ◌≤◌, ◌^◌, List, length, take, drop, map, arith}
+use Rattle.std.proofs.Common.{◌≡◌, ◌∙◌, ℕ, ◌*◌, List, length, take, drop, map}
 use Rattle.std.proofs.Common.{Option, Some, None, Result, Ok, Err, ap, sym, subst, refl}
 use Rattle.rowfn_csv.specs.declared.records.Span.{Span}
 use Rattle.rowfn_batches.specs.declared.errors.StreamError.{StreamError}
 use Rattle.rowfn_batches.specs.declared.stream.Stream.{Stream}
 use Rattle.rowfn_batches.specs.declared.taking.Condition.{Condition}
 use Rattle.rowfn_batches.specs.Fields.{Field, field_in}
-use Rattle.rowfn_batches.specs.Parts.{next_row}
-use Rattle.rowfn_batches.specs.Passing.{KeepsReading, IsBehind, IsRefilled}
+use Rattle.rowfn_batches.specs.Passing.{IsRefilled}
 use Rattle.rowfn_batches.specs.Skipping.{fields_from, asked_width, width_asked, ReadsRows, AreLoaded}
 use Rattle.rowfn_batches.specs.Skipping.{HasPart, PassesAll}
 use Rattle.rowfn_batches.proofs.TakenRows.{Fields, field_part}
@@ -42,25 +41,6 @@ has_part fields asked lent lent_asked spans part first tried w v old s kept wide
       spans = h.spans ∙ lies;
       asked = reads_same _ _ _ _ s.condition (part_fields asked lent_asked first tried v _ is_asked wider_asked) lies h.asked;
     }
-
--- each part leads on
-pub leads_on : (next tried len : ℕ) (refused : Option ℕ) → next < len → len < 2 ^ 64 → 0 < tried
-    → len - next_row next tried refused < len - next
-leads_on next tried len None below fits some = omega arith
-leads_on next tried len (Some place) below fits some = omega arith
-
--- the stream behind a batch, of whose rows others are counted
-pub kept_counted : {R : Type 0} (s mid : Stream R) (n : ℕ) → KeepsReading s mid
-    → KeepsReading s (record mid { summary = record mid.summary { rows_read = n } })
-kept_counted s mid n h = record {
-  alloc = h.alloc;
-  settings = h.settings;
-  expression = h.expression;
-  condition = h.condition;
-  records = h.records;
-  layout = h.layout;
-  batch = h.batch;
-}
 
 -- rows of a batch are passed on, by how they are lent
 pub all_lent : {R : Type 0} (fields asked fs gs : List Field) (spans lent : List Span) (first : ℕ)

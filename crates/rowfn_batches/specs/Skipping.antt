@@ -99,24 +99,27 @@ module _ {R : Type 0} (fs gs : List Field) (lines : List Span) where
         → PassesPart first tried old now before after counted count result
 
   -- they are passed on from one on, part by part, each behind the other or behind the row that was
-  -- refused there: those up to another, what the writer then holds, and how many were refused
+  -- refused there: those up to another, what the writer then holds, how many were refused, and how
+  -- many were tried
   pub data PassesParts (first : ℕ) (old : Stream R) (before : Option (List ℕ)) (counted : ℕ)
-      : ℕ → Stream R → Option (List ℕ) → ℕ → Type 0 where
-    no_part : PassesParts first old before counted first old before counted
+      : ℕ → Stream R → Option (List ℕ) → ℕ → ℕ → Type 0 where
+    no_part : PassesParts first old before counted first old before counted 0
     one_part : (next tried : ℕ) (was now : Stream R) (held after : Option (List ℕ)) (some more : ℕ)
-        (place : Option ℕ) → PassesParts first old before counted next was held some
+        (place : Option ℕ) (total : ℕ) → PassesParts first old before counted next was held some total
         → tried + next ≤ length lines
         → PassesPart next tried was now held after some more (Ok place)
-        → PassesParts first old before counted (next_row next tried place) now after more
+        → PassesParts first old before counted (next_row (length lines) next tried place) now after
+        more (total + tried)
 
-  -- all of them are, from one on; or a part of them ends the stream
+  -- all of them are, from one on, where no more than twice as many are tried; or a part of them ends
+  -- the stream
   pub data PassesAll (first : ℕ) (old now : Stream R) (before after : Option (List ℕ))
       (counted count : ℕ) (result : Result (Unit {0}) StreamError) : Type 0 where
-    all_parts : (next : ℕ) → PassesParts first old before counted next now after count
-        → length lines ≤ next → result ≡ Ok tt
+    all_parts : (next total : ℕ) → PassesParts first old before counted next now after count total
+        → length lines ≤ next → total ≤ 2 * (length lines - first) → result ≡ Ok tt
         → PassesAll first old now before after counted count result
-    ends_in_part : (next tried : ℕ) (was : Stream R) (held : Option (List ℕ)) (some : ℕ)
-        (e : StreamError) → PassesParts first old before counted next was held some
+    ends_in_part : (next tried : ℕ) (was : Stream R) (held : Option (List ℕ)) (some total : ℕ)
+        (e : StreamError) → PassesParts first old before counted next was held some total
         → PassesPart next tried was now held after some count (Err e) → result ≡ Err e
         → PassesAll first old now before after counted count result
 

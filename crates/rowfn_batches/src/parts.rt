@@ -79,15 +79,16 @@ pub fn fields_from<'f, 'b>(
     }
 }
 
-/// Which row comes behind so many that were tried from one on: the one behind them, or behind the
-/// one of them that was refused.
-pub fn next_row(first: usize, tried: usize, refused: Option<usize>) -> usize
-    ensures { result ≡ next_row first tried refused }
+/// Which row of so many comes behind those that were tried from one on: the one behind them, or
+/// behind the one of them that was refused.
+pub fn next_row(len: usize, first: usize, tried: usize, refused: Option<usize>) -> usize
+    ensures { result ≡ next_row len first tried refused }
 {
-    match refused {
+    let next = match refused {
         Some(place) => first.saturating_add(place).saturating_add(1),
         None => first.saturating_add(tried),
-    }
+    };
+    next.min(len)
 }
 
 /// How many rows are tried next, where so many were: twice as many, and one behind a row that was

@@ -148,7 +148,7 @@ impl<'a, R: Read + Drop> Stream<'a, R> {
             let tried = tried.min(count);
             let part = (next, tried);
             let refused = self.pass_part(fields, asked, spans, part, writer, refusals)?;
-            next = next_row(next, tried, refused);
+            next = next_row(spans.len(), next, tried, refused);
             count = next_count(count, refused);
         }
         Ok(())

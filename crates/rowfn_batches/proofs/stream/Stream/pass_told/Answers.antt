@@ -1,7 +1,7 @@
-use Rattle.std.proofs.Common.{◌≡◌, ◌∙◌, Ok, Err, Some, None, ap, refl, inl, inr, subst, sym}
+use Rattle.std.proofs.Common.{◌≡◌, ◌∙◌, Ok, Err, Some, None, ap, refl, inl, inr, sym, arith}
+use Rattle.std.proofs.lemmas.Grind.{common_steps}
 use Rattle.std.proofs.lemmas.Result.{err_from_is_err_and}
 use Rattle.rowfn_batches.specs.Skipping.{whole, up_to_one, ends}
-use Rattle.rowfn_batches.proofs.Skipped.{kept_counted}
 use Rattle.rowfn_batches.proofs.stream.Stream.pass_told.Goals as goal
 
 pub returns-in_err-pass_up_to : goal.returns-in_err-pass_up_to
@@ -32,6 +32,20 @@ pub returns : goal.returns
 returns g c =
     let told = rw c.in-Some.is at c.in_ok-pass_up_to.ensures.passes in
     let behind = c.in_ok-pass_up_to.ensures.behind in
-    up_to_one c.in-Some.error c.in-Some-2.place told ?
-    (record { kept = kept_counted c.args.self.now c.pass_up_to.new.self _ behind.kept; cleared = behind.cleared; rows_read = ? })
+    let kept = behind.kept in
+    up_to_one c.in-Some.error c.in-Some-place.place told
+    (rw (← c.rows_before-rows_before.ensures) c.in-Some-place.ensures)
+    (record {
+      kept = record {
+        alloc = kept.alloc;
+        settings = kept.settings;
+        expression = kept.expression;
+        condition = kept.condition;
+        records = kept.records;
+        layout = kept.layout;
+        batch = kept.batch;
+      };
+      cleared = behind.cleared;
+      rows_read = grind (arith, common_steps);
+    })
     c.in_ok-tell.ensures.count refl
