@@ -3,6 +3,7 @@ use Rattle.std.proofs.Common.{◌≡◌, ◌∙◌, ℕ, ◌*◌, List, length, 
 use Rattle.std.proofs.Common.{Option, Some, None, Result, Ok, Err, ap, sym, subst, refl}
 use Rattle.rowfn_csv.specs.declared.records.Span.{Span}
 use Rattle.rowfn_batches.specs.declared.errors.StreamError.{StreamError}
+use Rattle.rowfn_batches.specs.declared.header.Layout.{Layout}
 use Rattle.rowfn_batches.specs.declared.stream.Stream.{Stream}
 use Rattle.rowfn_batches.specs.declared.taking.Condition.{Condition}
 use Rattle.rowfn_batches.specs.Fields.{Field, field_in}
@@ -34,7 +35,7 @@ pub has_part : {R : Type 0} (fields asked lent lent_asked : Fields) (spans part 
     → AreLoaded (map field_in lent) (map field_in lent_asked) part s
     → HasPart (map field_in fields) (map field_in asked) spans first tried s
 has_part fields asked lent lent_asked spans part first tried w v old s kept wide asks is is_asked lies h =
-    let wider : w ≡ length s.layout.places.items = wide ∙ sym (ap (λ l. length l.places.items) kept.layout) in
+    let wider : w ≡ length s.layout.places.items = wide ∙ sym (ap (λ (l : Layout). length l.places.items) kept.layout) in
     let wider_asked : v ≡ asked_width s.condition = asks ∙ sym (ap width_asked kept.condition) in
     record {
       fields = h.fields ∙ part_fields fields lent first tried w _ is wider;

@@ -9,6 +9,6 @@ one_more_counted n = min (n + 1) (2 ^ 64 - 1)
 
 -- it was not told which row is refused: that could not be written, or memory ran out
 abbrev pub IsUntold : StreamError → Type 0
-IsUntold (end.Telling e) = ⊤
+IsUntold (end.Writing e) = ⊤
 IsUntold end.OutOfMemory = ⊤
 IsUntold e = ⊥

@@ -61,10 +61,6 @@ pub enum StreamError {
     Reading(io::Error),
     /// The output could not be written.
     Writing(io::Error),
-    /// The rows that are refused could not be told.
-    Telling(io::Error),
-    /// The file that is to tell them, by its name, could not be made.
-    TellingNowhere(String, io::Error),
     /// The file of the expression, by its name, could not be read.
     ReadingExpression(String, io::Error),
     /// A line of the expression is refused or malformed.
@@ -158,8 +154,6 @@ impl StreamError {
             | StreamError::HeaderTooLong(_) => 2,
             StreamError::Reading(_)
             | StreamError::Writing(_)
-            | StreamError::Telling(_)
-            | StreamError::TellingNowhere(_, _)
             | StreamError::ReadingExpression(_, _)
             | StreamError::Expression(ExpressionError::OutOfMemory)
             | StreamError::OutOfMemory => 3,
@@ -356,11 +350,6 @@ impl fmt::Display for StreamError {
             }
             StreamError::Reading(error) => write!(f, "reading: {error}"),
             StreamError::Writing(error) => write!(f, "writing: {error}"),
-            StreamError::Telling(error) => write!(f, "writing refused rows: {error}"),
-            StreamError::TellingNowhere(path, error) => {
-                let path = path.as_str();
-                write!(f, "writing {path}: {error}")
-            }
             StreamError::ReadingExpression(path, error) => {
                 let path = path.as_str();
                 write!(f, "reading {path}: {error}")

@@ -30,7 +30,7 @@ pub use line_errors::LineError;
 pub use names::check_names;
 pub use printing::push_field;
 pub use reading::read_told;
-pub use refusals::{Refusals, refusals_in};
+pub use refusals::{NoRefusals, Refusals, refusals_in};
 pub use rowfn_csv::Format;
 pub use settings::Settings;
 pub use stream::{Summary, flow, flow_on};

@@ -1,10 +1,10 @@
 //! Rows that are refused, as lines of CSV.
-ghost use Rattle.std.specs.Prelude.{◌≡◌, OnOk, IfOk, IfErr};
+ghost use Rattle.std.specs.Prelude.{◌≡◌, OnOk, IfOk, IfErr, true};
 ghost use Rattle.rowfn_batches.specs.Refusals.{IsUntold, one_more_counted};
 
 use crate::errors::{StreamError, told_bytes, told_text, write_bytes};
-use std::alloc::{AllocError, Global};
-use std::io::Write;
+use std::alloc::{AllocError, AllocFailed, Global};
+use std::io::{self, Write};
 use std::rt::Files;
 use std::{fmt, fs, str};
 
@@ -99,6 +99,8 @@ pub struct Refusals<W> {
     has_header: bool,
     /// How many rows were told.
     count: u64,
+    /// Whether the writer refused lines.
+    failed: bool,
 }
 
 impl<W> Refusals<W> {
@@ -112,6 +114,7 @@ impl<W> Refusals<W> {
             lines: Vec::new(alloc),
             has_header: false,
             count: 0,
+            failed: false,
         }
     }
 
@@ -120,6 +123,13 @@ impl<W> Refusals<W> {
         ensures { result ≡ self.now.count }
     {
         self.count
+    }
+
+    /// Whether the writer refused lines when they were written last.
+    pub fn has_failed(&self) -> bool
+        ensures { result ≡ self.now.failed }
+    {
+        self.failed
     }
 }
 
@@ -158,22 +168,77 @@ impl<W: Write> Refusals<W> {
         self.flush()
     }
 
-    /// Writes the lines that are held. Refused only where the writer refuses.
+    /// Writes the lines that are held.
+    fn write_lines(&mut self) -> Result<(), StreamError>
+        ensures count { self.new.count ≡ self.old.count }
+        ensures refused { IfErr result IsUntold }
+    {
+        if let Err(error) = self.writer.write_all(&self.lines) {
+            return Err(StreamError::Writing(error));
+        }
+        if let Err(error) = self.writer.flush() {
+            return Err(StreamError::Writing(error));
+        }
+        Ok(())
+    }
+
+    /// Writes the lines that are held. Refused only where the writer refuses; then they are lost.
     pub fn flush(&mut self) -> Result<(), StreamError>
         ensures count { self.new.count ≡ self.old.count }
         ensures refused { IfErr result IsUntold }
+        ensures failed { IfErr result (λ _. self.new.failed ≡ true) }
     {
         if self.lines.is_empty() {
             return Ok(());
         }
-        if let Err(error) = self.writer.write_all(&self.lines) {
-            return Err(StreamError::Telling(error));
-        }
-        if let Err(error) = self.writer.flush() {
-            return Err(StreamError::Telling(error));
-        }
+        let written = self.write_lines();
+        self.failed = written.is_err();
         self.lines.clear();
-        Ok(())
+        written
+    }
+}
+
+/// Why there is no file in which rows that are refused are told.
+#[derive(Drop)]
+pub enum NoRefusals {
+    /// The file of that name cannot be made.
+    NoFile(String, io::Error),
+    /// Memory ran out.
+    OutOfMemory,
+}
+
+impl From<AllocError> for NoRefusals {
+    ghost use Rattle.rowfn_batches.specs.declared.refusals.NoRefusals.TheVariants.{OutOfMemory};
+    ghost use Rattle.std.specs.Prelude.{◌≡◌};
+
+    ghost from_gives = { λ _ e. e ≡ OutOfMemory };
+
+    fn from(_error: AllocError) -> NoRefusals {
+        NoRefusals::OutOfMemory
+    }
+}
+
+impl<T: Drop> From<AllocFailed<T>> for NoRefusals {
+    ghost use Rattle.rowfn_batches.specs.declared.refusals.NoRefusals.TheVariants.{OutOfMemory};
+    ghost use Rattle.std.specs.Prelude.{◌≡◌};
+
+    ghost from_gives = { λ _ e. e ≡ OutOfMemory };
+
+    fn from(_error: AllocFailed<T>) -> NoRefusals {
+        NoRefusals::OutOfMemory
+    }
+}
+
+/// The file, and what is wrong with it.
+impl fmt::Display for NoRefusals {
+    fn fmt<W: fmt::Write>(&self, f: &mut fmt::Formatter<W>) -> fmt::Result {
+        match self {
+            NoRefusals::NoFile(name, error) => {
+                let name = name.as_str();
+                write!(f, "writing {name}: {error}")
+            }
+            NoRefusals::OutOfMemory => f.write_str("out of memory"),
+        }
     }
 }
 
@@ -182,7 +247,7 @@ impl<W: Write> Refusals<W> {
 pub fn refusals_in<F: Files + AllocGlobal>(
     rt: &F,
     name: &str,
-) -> Result<Refusals<F::File>, StreamError>
+) -> Result<Refusals<F::File>, NoRefusals>
     ensures { IfOk result (λ refusals. refusals.count ≡ 0) }
 {
     match fs::create(rt, name) {
@@ -193,7 +258,7 @@ pub fn refusals_in<F: Files + AllocGlobal>(
         }
         Err(error) => {
             let name = String::from_str(rt.alloc(), name)?;
-            Err(StreamError::TellingNowhere(name, error))
+            Err(NoRefusals::NoFile(name, error))
         }
     }
 }

@@ -1,6 +1,6 @@
 //! What goes wrong, with its status and its text.
 
-use rowfn_batches::StreamError;
+use rowfn_batches::{NoRefusals, StreamError};
 use rowfn_queries::QueryError;
 use std::alloc::{AllocError, AllocFailed};
 use std::{fmt, io};
@@ -19,6 +19,10 @@ pub enum Failure {
     Inferred(StreamError),
     /// The file of the rows, by its name, cannot be read.
     Input(String, io::Error),
+    /// There is no file in which rows that are refused are told.
+    NoRefusals(NoRefusals),
+    /// Rows that are refused cannot be told there, in the file of that name or on standard error.
+    Telling(String, io::Error),
     /// So many rows were refused, and left out.
     LeftOut(u64),
 }
@@ -32,6 +36,12 @@ impl From<QueryError> for Failure {
 impl From<StreamError> for Failure {
     fn from(error: StreamError) -> Failure {
         Failure::Stream(error)
+    }
+}
+
+impl From<NoRefusals> for Failure {
+    fn from(error: NoRefusals) -> Failure {
+        Failure::NoRefusals(error)
     }
 }
 
@@ -61,7 +71,7 @@ impl Failure {
         match self {
             Failure::Query(error) | Failure::QueryOfFile(error, _) => error.status(),
             Failure::Stream(error) | Failure::Inferred(error) => error.status(),
-            Failure::Input(_, _) => 3,
+            Failure::Input(_, _) | Failure::NoRefusals(_) | Failure::Telling(_, _) => 3,
             Failure::LeftOut(_) => 1,
         }
     }
@@ -96,6 +106,11 @@ impl fmt::Display for Failure {
             Failure::Input(name, error) => {
                 let name = name.as_str();
                 write!(f, "reading {name}: {error}")
+            }
+            Failure::NoRefusals(error) => write!(f, "{error}"),
+            Failure::Telling(name, error) => {
+                let name = name.as_str();
+                write!(f, "writing {name}: {error}")
             }
             Failure::LeftOut(count) => write!(f, "rows left out {count}"),
         }

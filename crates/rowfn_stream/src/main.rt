@@ -153,17 +153,48 @@ fn tell_last<E: Write>(
     refusals.flush()
 }
 
-/// Lets the rows flow, tells those that are refused, and counts them at the end.
+/// What went wrong where rows that are refused could not be told.
+fn untold(rt: &impl AllocGlobal, options: &Options<'_>, error: StreamError) -> Failure {
+    let StreamError::Writing(error) = error else {
+        return Failure::Stream(error);
+    };
+    let name = options.errors_to.unwrap_or("standard error");
+    match String::from_str(rt.alloc(), name) {
+        Ok(name) => Failure::Telling(name, error),
+        Err(_) => Failure::Stream(StreamError::OutOfMemory),
+    }
+}
+
+/// Lets the rows flow, and tells those that are refused; answers how many were left out.
 fn pass_told<R: Read + Drop, E: Write>(
     rt: &(impl Print + Eprint + AllocGlobal),
     options: &Options<'_>,
     query: &Query,
     reader: R,
     refusals: &mut Refusals<E>,
-) -> Result<(), Failure> {
+) -> (u64, Result<Summary, Failure>) {
     let passed = pass_watched(rt, options, query, reader, refusals);
     let left_out = refusals.count();
-    tell_last(options, &passed, refusals)?;
+    let passed = match tell_last(options, &passed, refusals) {
+        Ok(()) => passed,
+        Err(error) => Err(error),
+    };
+    match passed {
+        Ok(summary) => (left_out, Ok(summary)),
+        Err(error) if refusals.has_failed() => (left_out, Err(untold(rt, options, error))),
+        Err(error) => (left_out, Err(advised(&query.inferred, error))),
+    }
+}
+
+/// Lets the rows flow, tells those that are refused, and counts them at the end.
+fn pass_counted<R: Read + Drop, E: Write>(
+    rt: &(impl Print + Eprint + AllocGlobal),
+    options: &Options<'_>,
+    query: &Query,
+    reader: R,
+    refusals: &mut Refusals<E>,
+) -> Result<(), Failure> {
+    let (left_out, passed) = pass_told(rt, options, query, reader, refusals);
     match passed {
         Ok(
             Summary {
@@ -180,8 +211,7 @@ fn pass_told<R: Read + Drop, E: Write>(
                 Err(Failure::LeftOut(left_out))
             }
         }
-        Err(error) => {
-            let failure = advised(&query.inferred, error);
+        Err(failure) => {
             if left_out != 0 && !failure.is_closed_pipe() {
                 let _ = eprintln!(rt; "rowfn_stream: {}", Failure::LeftOut(left_out));
             }
@@ -204,10 +234,10 @@ fn perform_on<R: Read + Drop>(
     }
     let Some(name) = options.errors_to else {
         let mut refusals = Refusals::new(alloc, Complaints { rt });
-        return pass_told(rt, options, &query, reader, &mut refusals);
+        return pass_counted(rt, options, &query, reader, &mut refusals);
     };
     let mut refusals = refusals_in(rt, name)?;
-    pass_told(rt, options, &query, reader, &mut refusals)
+    pass_counted(rt, options, &query, reader, &mut refusals)
 }
 
 /// Does what the options ask for.

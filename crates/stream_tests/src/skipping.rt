@@ -239,7 +239,7 @@ fn a_writer_that_refuses_lines_ends_the_stream(rt: HostRuntime) {
         Ok(()) => assert!(rt; false),
         Err((status, told)) => {
             assert!(rt; same(rt, status, 3));
-            assert!(rt; same(rt, told.as_str(), "writing refused rows: broken pipe"));
+            assert!(rt; same(rt, told.as_str(), "writing: broken pipe"));
         }
     }
 }
@@ -250,7 +250,6 @@ fn a_file_that_cannot_be_made_is_told_by_its_name(rt: HostRuntime) {
         Ok(_) => assert!(rt; false),
         Err(error) => {
             let told = format!(in rt.alloc(); "{error}").unwrap_or(String::new(rt.alloc()));
-            assert!(rt; same(rt, error.status(), 3));
             assert!(rt; told.as_str().starts_with("writing nowhere/refused.csv: "));
         }
     }
