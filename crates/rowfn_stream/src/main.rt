@@ -155,13 +155,10 @@ fn tell_last<E: Write>(
 
 /// What went wrong where rows that are refused could not be told.
 fn untold(rt: &impl AllocGlobal, options: &Options<'_>, error: StreamError) -> Failure {
-    let StreamError::Writing(error) = error else {
-        return Failure::Stream(error);
-    };
     let name = options.errors_to.unwrap_or("standard error");
-    match String::from_str(rt.alloc(), name) {
-        Ok(name) => Failure::Telling(name, error),
-        Err(_) => Failure::Stream(StreamError::OutOfMemory),
+    match (error, String::from_str(rt.alloc(), name)) {
+        (StreamError::Writing(error), Ok(name)) => Failure::Telling(name, error),
+        (error, _) => Failure::Stream(error),
     }
 }
 

@@ -15,4 +15,4 @@ pub returns : goal.returns
 returns g c =
     left_out c.in-Some._row (sym c.left_out.ensures ∙ c.in-Some.is)
     (record { alloc = refl; settings = refl; expression = refl; condition = refl; records = refl; layout = refl; batch = refl })
-    refl c.saturating_add.ensures c.in_ok-tell.ensures.count refl
+    refl c.saturating_add-self.ensures c.in_ok-tell.ensures.count refl

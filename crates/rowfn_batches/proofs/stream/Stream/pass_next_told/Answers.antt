@@ -23,10 +23,13 @@ returns-in_err-flush g c =
     c.from_residual-in_err-flush.ensures.1 in
     lines_unwritten c.fill-filled.new.self c.pass_batch.new.self c.into_error.result
     c.pass_batch.new.refusals.count c.in_err-flush.field-0.0 c.fill-filled.ensures
-    c.in_ok-pass_batch.ensures ? c.in_err-flush.ensures.refused (p.1 ∙ ap Err p.2)
+    c.in_ok-pass_batch.ensures
+    (rw c.in_err-flush.ensures.count c.in_ok-pass_behind.ensures)
+    c.in_err-flush.ensures.refused (p.1 ∙ ap Err p.2)
 
 pub returns : goal.returns
 returns g c =
     batch_and_behind c.fill-filled.new.self c.pass_batch.new.self c.into_error.result
     c.pass_batch.new.refusals.count _ c.fill-filled.ensures
-    c.in_ok-pass_batch.ensures ? refl
+    c.in_ok-pass_batch.ensures
+    (rw c.in_ok-flush.ensures.count c.in_ok-pass_behind.ensures) refl

@@ -1,4 +1,4 @@
-use Rattle.std.proofs.Common.{◌≡◌, ◌∙◌, Ok, Err, ap, refl, sym}
+use Rattle.std.proofs.Common.{◌∙◌, ℕ, Err, ap, refl, take, drop, arith}
 use Rattle.std.proofs.lemmas.Result.{err_from_is_err_and}
 use Rattle.rowfn_batches.specs.Skipping.{loaded, not_loaded}
 use Rattle.rowfn_batches.proofs.Skipped.{has_part}
@@ -16,5 +16,6 @@ returns g c =
     c.fields_from-asked.result.now c.args.spans.now _ c.args.part.0 c.args.part.1 c.len-width.result
     c.asked_width.result c.args.self.now c.load.new.self c.in_ok-load.ensures.refilled
     (c.len-width.ensures ∙ c.args.self.now.layout.places.ok.0) c.asked_width.ensures
-    c.fields_from-fields.ensures c.fields_from-asked.ensures ? c.in_ok-load.ensures.loaded)
+    c.fields_from-fields.ensures c.fields_from-asked.ensures
+    (ap (λ (n : ℕ). take n (drop c.args.part.0 c.args.spans.now)) (omega arith)) c.in_ok-load.ensures.loaded)
     c.pass_told.ensures

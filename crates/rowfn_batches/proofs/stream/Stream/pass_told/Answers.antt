@@ -4,37 +4,37 @@ use Rattle.std.proofs.lemmas.Result.{err_from_is_err_and}
 use Rattle.rowfn_batches.specs.Skipping.{whole, up_to_one, ends}
 use Rattle.rowfn_batches.proofs.stream.Stream.pass_told.Goals as goal
 
-pub returns-in_err-pass_up_to : goal.returns-in_err-pass_up_to
-returns-in_err-pass_up_to g c =
+pub returns-in_err-error : goal.returns-in_err-error
+returns-in_err-error g c =
     let p = err_from_is_err_and c.from_residual.result c.from_residual.ensures.1 in
-    let e = c.in_err-pass_up_to.field-0.0 in
-    ends (Err e) e c.in_err-pass_up_to.ensures.passes refl (p.1 ∙ ap Err p.2)
+    let e = c.in_err-error.field-0.0 in
+    ends (Err e) e c.in_err-error.ensures.passes refl (p.1 ∙ ap Err p.2)
 
 pub returns-in_default : goal.returns-in_default
 returns-in_default g c =
     let none = c.in_default.is in
-    whole (rw none at c.in_ok-pass_up_to.ensures.passes) c.in_ok-pass_up_to.ensures.behind refl refl
+    whole (rw none at c.in_ok-error.ensures.passes) c.in_ok-error.ensures.behind refl refl
 
-pub returns-in_default-2 : goal.returns-in_default-2
-returns-in_default-2 g c =
-    let told = rw c.in-Some.is at c.in_ok-pass_up_to.ensures.passes in
+pub returns-in_default-place_of : goal.returns-in_default-place_of
+returns-in_default-place_of g c =
+    let told = rw c.in-Some.is at c.in_ok-error.ensures.passes in
     ends (Ok (Some c.in-Some.error)) c.in-Some.error told (inl refl) refl
 
 pub returns-in_err-tell : goal.returns-in_err-tell
 returns-in_err-tell g c =
     let p = err_from_is_err_and c.from_residual-in_err-tell.result
     c.from_residual-in_err-tell.ensures.1 in
-    let told = rw c.in-Some.is at c.in_ok-pass_up_to.ensures.passes in
+    let told = rw c.in-Some.is at c.in_ok-error.ensures.passes in
     ends (Ok (Some c.in-Some.error)) c.in_err-tell.field-0.0 told
     (inr c.in_err-tell.ensures.refused) (p.1 ∙ ap Err p.2)
 
 pub returns : goal.returns
 returns g c =
-    let told = rw c.in-Some.is at c.in_ok-pass_up_to.ensures.passes in
-    let behind = c.in_ok-pass_up_to.ensures.behind in
+    let told = rw c.in-Some.is at c.in_ok-error.ensures.passes in
+    let behind = c.in_ok-error.ensures.behind in
     let kept = behind.kept in
-    up_to_one c.in-Some.error c.in-Some-place.place told
-    (rw (← c.rows_before-rows_before.ensures) c.in-Some-place.ensures)
+    up_to_one c.in-Some.error c.in-Some-place_of.place told
+    (rw (← c.rows_before-rows_before.ensures) c.in-Some-place_of.ensures)
     (record {
       kept = record {
         alloc = kept.alloc;
