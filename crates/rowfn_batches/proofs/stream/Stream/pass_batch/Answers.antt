@@ -1,4 +1,4 @@
-use Rattle.std.proofs.Common.{◌≡◌, ◌∙◌, Ok, Err, Some, None, ap, refl, sym}
+use Rattle.std.proofs.Common.{◌∙◌, Err, ap, refl}
 use Rattle.std.proofs.lemmas.Result.{err_from_is_err_and}
 use Rattle.rowfn_batches.specs.Skipping.{at_once, but_for, ends_at_once}
 use Rattle.rowfn_batches.proofs.stream.Stream.pass_batch.Goals as goal

@@ -1,4 +1,4 @@
-use Rattle.std.proofs.Common.{◌≡◌, ◌∙◌, Ok, Err, ap, refl, sym, map}
+use Rattle.std.proofs.Common.{◌∙◌, Err, ap, refl, map}
 use Rattle.std.proofs.lemmas.Result.{err_from_is_err_and}
 use Rattle.rowfn_csv.specs.Batches.{BatchView}
 use Rattle.rowfn_batches.specs.Fields.{field_in}

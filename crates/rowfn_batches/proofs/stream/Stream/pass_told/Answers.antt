@@ -1,4 +1,4 @@
-use Rattle.std.proofs.Common.{◌≡◌, ◌∙◌, Ok, Err, Some, None, ap, refl, inl, inr, sym, arith}
+use Rattle.std.proofs.Common.{◌∙◌, Ok, Err, Some, ap, refl, inl, inr, arith}
 use Rattle.std.proofs.lemmas.Grind.{common_steps}
 use Rattle.std.proofs.lemmas.Result.{err_from_is_err_and}
 use Rattle.rowfn_batches.specs.Skipping.{whole, up_to_one, ends}

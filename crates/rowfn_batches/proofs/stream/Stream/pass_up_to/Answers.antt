@@ -1,4 +1,4 @@
-use Rattle.std.proofs.Common.{◌≡◌, ◌∙◌, Some, None, Err, ap, sym, option_map}
+use Rattle.std.proofs.Common.{◌∙◌, Err, ap, sym, option_map}
 use Rattle.std.proofs.lemmas.Result.{err_from_is_err_and}
 use Rattle.rowfn_batches.specs.Passing.{unanswered, unwritten}
 use Rattle.rowfn_batches.proofs.Passed.{have, within, passed, kept_as_it_is}
