@@ -10,6 +10,8 @@ pub mod Lines
 pub mod NameOf
 pub mod Outputs
 pub mod Passed
+pub mod Skipped
+pub mod Spent
 pub mod ReadingBack
 pub mod Within
 pub mod TakenRows

@@ -21,8 +21,8 @@ use Rattle.rowfn_batches.specs.declared.taking.Condition.{Condition}
 use Rattle.rowfn_batches.specs.declared.taking.Taken.{Taken}
 use Rattle.rowfn_batches.specs.declared.errors.StreamError.TheVariants.{OutOfMemory}
 use Rattle.rowfn_batches.specs.Outputs.{Adds, HaveRows, picked_texts}
-use Rattle.rowfn_batches.specs.Passing.{IsAnswered, answer_text, batch_text, picked_lines, PassesOn}
-use Rattle.rowfn_batches.specs.Passing.{answered, ended}
+use Rattle.rowfn_batches.specs.Passing.{IsAnswered, answer_text, batch_text, picked_lines, PassesUpTo}
+use Rattle.rowfn_batches.specs.Passing.{answered}
 use Rattle.rowfn_batches.proofs.Within.{have_rows, within_batch}
 
 -- what is written of a batch, by whether its rows are picked
@@ -75,18 +75,16 @@ module _ {R : Type 0} (s : Stream R) (behind : Option StreamError) (rows : Optio
 
   pub passed : (lent_rows : Option (List ℕ)) → lent_rows ≡ rows
       → (put : Stream R) (before after : Option (List ℕ))
-      (result : Result (Unit {0}) StreamError)
       → Adds s.output put.output (batch_text s lent_rows lent n)
-      → Appends before after put.output.bytes.items → result ≡ ended e
-      → PassesOn s behind before after result
-  passed lent_rows rowed put before after result adds wrote ends =
+      → Appends before after put.output.bytes.items → PassesUpTo s behind before after (Ok e)
+  passed lent_rows rowed put before after adds wrote =
       answered rows n answers e is
       (subst (λ (bytes : List ℕ). Appends before after bytes)
       (adds.0
       ∙ ap₂ (λ (o : Option (List ℕ)) (cs : List ColumnView). s.output.bytes.items
       ++ batch_text s o cs n) rowed same)
       wrote)
-      ends
+      refl
 
 -- what is written nothing to stays as it is
 pub kept_as_it_is : (held : Option (List ℕ)) → Keeps held held

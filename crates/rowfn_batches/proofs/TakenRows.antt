@@ -16,7 +16,7 @@ use Rattle.rowfn_batches.specs.Outputs.{is_true}
 use Rattle.rowfn_batches.specs.Taking.{true_rows, fields_picked}
 use Rattle.rowfn_batches.proofs.Lines.{range_more}
 
-abbrev Fields : Type 0
+abbrev pub Fields : Type 0
 Fields = List (Option (Bor (List ℕ)))
 
 pub true_more : (top : ColumnView) (n : ℕ)
@@ -44,7 +44,7 @@ fields_more fs w k rows r lt =
     ∙ ap (λ (t : List Field). fields_picked fs w (take k rows) ++ t)
     (append-nil (take w (drop (get_or rows k r * w) fs)))
 
-field_part : (fields : Fields) (w s : ℕ)
+pub field_part : (fields : Fields) (w s : ℕ)
     → map field_in (take w (drop s fields)) ≡ take w (drop s (map field_in fields))
 field_part fields w s =
     sym (take-map field_in w (drop s fields)) ∙ ap (take w) (sym (drop-map field_in s fields))

@@ -1,5 +1,5 @@
 -- What a read that failed ends, and the status with which a program tells what ended a stream.
-use Rattle.std.specs.Prelude.{ℕ}
+use Rattle.std.specs.Prelude.{ℕ, Option, Some, None}
 use Rattle.rowfn_csv.specs.declared.records.ReadError.{ReadError}
 use Rattle.rowfn_csv.specs.declared.records.ReadError.TheVariants as read
 use Rattle.rowfn_scripts.specs.declared.expression.ExpressionError.{ExpressionError}
@@ -41,3 +41,17 @@ status_of (end.RowsLost name) = 4
 status_of (end.NameTaken name) = 4
 status_of (end.NoTruth name) = 4
 status_of end.OutOfMemory = 3
+
+-- the number of the row that is refused, where one is
+abbrev pub row_told : StreamError → Option ℕ
+row_told (end.Fault row e) = Some row
+row_told (end.Misfit row column dtype field) = Some row
+row_told (end.Width row wanted found) = Some row
+row_told (end.OpenQuote row) = Some row
+row_told (end.FieldTooLong row limit) = Some row
+row_told e = None
+
+-- the same, where rows behind it can be read: a field that is too long was not read to its end
+abbrev pub row_left_out : StreamError → Option ℕ
+row_left_out (end.FieldTooLong row limit) = None
+row_left_out e = row_told e

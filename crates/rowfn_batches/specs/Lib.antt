@@ -12,3 +12,7 @@ pub mod Passing
 pub mod Tops
 pub mod Spellings
 pub mod Truths
+pub mod Parts
+pub mod Refusals
+pub mod Skipping
+pub mod Watching

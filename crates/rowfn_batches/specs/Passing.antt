@@ -71,19 +71,33 @@ ended None = Ok tt
 ended (Some e) = Err e
 
 -- A batch is passed on, behind what was put down before it: what is written of its first rows, and
--- what ends them is told. Or nothing is written: the batch is not answered, or memory ran out. Or
--- the writer refused.
-pub data PassesOn {R : Type 0} (s : Stream R) (behind : Option StreamError)
-    (before after : Option (List ℕ)) (result : Result (Unit {0}) StreamError) : Type 0 where
+-- what ends them is answered. Or nothing is written: the batch is not answered, or memory ran out.
+-- Or the writer refused.
+pub data PassesUpTo {R : Type 0} (s : Stream R) (behind : Option StreamError)
+    (before after : Option (List ℕ)) (result : Result (Option StreamError) StreamError)
+    : Type 0 where
   answered : (rows : Option (List ℕ)) (n : ℕ) (answers : List ColumnView) (e : Option StreamError)
       → IsAnswered s behind rows n answers e
       → Appends before after (s.output.bytes.items ++ batch_text s rows answers n)
-      → result ≡ ended e → PassesOn s behind before after result
-  unanswered : (e : StreamError) → IsLeft s behind e → Keeps before after → result ≡ Err e → PassesOn s behind before after result
+      → result ≡ Ok e → PassesUpTo s behind before after result
+  unanswered : (e : StreamError) → IsLeft s behind e → Keeps before after → result ≡ Err e
+      → PassesUpTo s behind before after result
   without_memory : Keeps before after → result ≡ Err end.OutOfMemory
-      → PassesOn s behind before after result
+      → PassesUpTo s behind before after result
   unwritten : (e : StreamError) → IsWriting e → result ≡ Err e
-      → PassesOn s behind before after result
+      → PassesUpTo s behind before after result
+
+-- what ends the first rows of a batch ends the stream
+abbrev pub ended_with : Result (Option StreamError) StreamError → Result (Unit {0}) StreamError
+ended_with (Ok e) = ended e
+ended_with (Err e) = Err e
+
+-- a batch is passed on, and what ends its first rows is told
+abbrev pub PassesOn : {R : Type 0} → Stream R → Option StreamError → Option (List ℕ)
+    → Option (List ℕ) → Result (Unit {0}) StreamError → Type 0
+PassesOn s behind before after result =
+    (outcome : Result (Option StreamError) StreamError)
+    × PassesUpTo s behind before after outcome × (result ≡ ended_with outcome)
 
 -- what was counted: the rows of the batch are read too
 abbrev pub rows_read_behind : {R : Type 0} → Stream R → ℕ

@@ -132,7 +132,7 @@ impl<T: Drop> From<AllocFailed<T>> for StreamError {
 }
 
 impl StreamError {
-    ghost use Rattle.rowfn_batches.specs.Endings.{status_of};
+    ghost use Rattle.rowfn_batches.specs.Endings.{status_of, row_told, row_left_out};
     ghost use Rattle.std.specs.Prelude.{◌≡◌};
 
     /// 1 for a fault of the expression, 2 for input that does not fit, 3 for reading, writing and
@@ -165,11 +165,57 @@ impl StreamError {
             | StreamError::NoTruth(_) => 4,
         }
     }
+
+    /// The number of the row that is refused, where one is.
+    pub fn row(&self) -> Option<u64>
+        ensures { result ≡ row_told self.now }
+    {
+        match self {
+            StreamError::Fault { row, .. } => Some(*row),
+            StreamError::Misfit { row, .. } => Some(*row),
+            StreamError::Width { row, .. } => Some(*row),
+            StreamError::OpenQuote { row } => Some(*row),
+            StreamError::FieldTooLong { row, .. } => Some(*row),
+            _ => None,
+        }
+    }
+
+    /// The number of the row that is refused, where rows behind it can be read: not where a field is
+    /// too long, as its end was not looked for.
+    pub fn left_out(&self) -> Option<u64>
+        ensures { result ≡ row_left_out self.now }
+    {
+        match self {
+            StreamError::FieldTooLong { .. } => None,
+            error => error.row(),
+        }
+    }
+
+    /// Writes why a row is refused, without its number, its column and its field.
+    pub fn write_reason<W: fmt::Write>(&self, f: &mut fmt::Formatter<W>) -> fmt::Result {
+        match self {
+            StreamError::Fault { error, .. } => {
+                let (number, name) = (error.number(), error.name());
+                write!(f, "E{number} {name}")
+            }
+            StreamError::Misfit { dtype, .. } => write!(f, "is no {dtype:?}"),
+            StreamError::Width { wanted, found, .. } => {
+                write!(f, "{found} fields where {wanted} are wanted")
+            }
+            StreamError::FieldTooLong { limit, .. } => write_too_long(f, *limit),
+            StreamError::HeaderTooLong(limit) => write_too_long(f, *limit),
+            _ => f.write_str("a quote is not closed"),
+        }
+    }
 }
 
-/// Writes bytes that are no UTF-8 in quotes, those beyond plain ASCII by their numbers.
-fn write_bytes<W: fmt::Write>(f: &mut fmt::Formatter<W>, bytes: &[u8]) -> fmt::Result {
-    f.write_str("\"")?;
+/// Writes that a field is longer than a limit.
+fn write_too_long<W: fmt::Write>(f: &mut fmt::Formatter<W>, limit: usize) -> fmt::Result {
+    write!(f, "a field has more bytes than the {limit} of --max-field")
+}
+
+/// Writes bytes that are no UTF-8, those beyond plain ASCII by their numbers.
+pub(crate) fn write_bytes<W: fmt::Write>(f: &mut fmt::Formatter<W>, bytes: &[u8]) -> fmt::Result {
     for byte in bytes {
         if byte.is_ascii_graphic() && *byte != b'"' && *byte != b'\\' || *byte == b' ' {
             f.write_char(char::from(*byte))?;
@@ -177,20 +223,25 @@ fn write_bytes<W: fmt::Write>(f: &mut fmt::Formatter<W>, bytes: &[u8]) -> fmt::R
             write!(f, "\\x{byte:02x}")?;
         }
     }
-    f.write_str("\"")
+    Ok(())
 }
 
 /// How much of a field is told: so many characters, or bytes where it is no text.
 const TOLD: usize = 80;
 
-/// Writes the beginning of a text in quotes.
-fn write_text<W: fmt::Write>(f: &mut fmt::Formatter<W>, text: &str) -> fmt::Result {
+/// What is told of a text: its beginning, and whether more stands behind that.
+pub(crate) fn told_text(text: &str) -> (&str, bool) {
     match text.char_indices().nth(TOLD) {
-        None => write!(f, "{text:?}"),
-        Some((end, _)) => {
-            let told = text.get(..end).unwrap_or("");
-            write!(f, "{told:?}..")
-        }
+        None => (text, false),
+        Some((end, _)) => (text.get(..end).unwrap_or(""), true),
+    }
+}
+
+/// The same of bytes that are no text.
+pub(crate) fn told_bytes(bytes: &[u8]) -> (&[u8], bool) {
+    match bytes.get(..TOLD) {
+        None => (bytes, false),
+        Some(told) => (told, true),
     }
 }
 
@@ -199,36 +250,18 @@ fn write_field<W: fmt::Write>(f: &mut fmt::Formatter<W>, field: Option<&[u8]>) -
     let Some(bytes) = field else {
         return f.write_str("null");
     };
-    if let Ok(text) = str::from_utf8(bytes) {
-        return write_text(f, text);
-    }
-    match bytes.get(..TOLD) {
-        None => write_bytes(f, bytes),
-        Some(told) => {
-            write_bytes(f, told)?;
-            f.write_str("..")
-        }
-    }
-}
-
-/// Writes why a record does not end, or has no end that could be read.
-fn write_record<W: fmt::Write>(f: &mut fmt::Formatter<W>, error: &StreamError) -> fmt::Result {
-    match error {
-        StreamError::FieldTooLong { row, limit } => {
-            write!(
-                f,
-                "row {row}: a field has more bytes than the {limit} of --max-field"
-            )
-        }
-        StreamError::HeaderTooLong(limit) => {
-            write!(
-                f,
-                "header: a field has more bytes than the {limit} of --max-field"
-            )
-        }
-        StreamError::OpenQuote { row } => write!(f, "row {row}: a quote is not closed"),
-        _ => f.write_str("header: a quote is not closed"),
-    }
+    let is_cut = if let Ok(text) = str::from_utf8(bytes) {
+        let (told, is_cut) = told_text(text);
+        write!(f, "{told:?}")?;
+        is_cut
+    } else {
+        let (told, is_cut) = told_bytes(bytes);
+        f.write_str("\"")?;
+        write_bytes(f, told)?;
+        f.write_str("\"")?;
+        is_cut
+    };
+    f.write_str(if is_cut { ".." } else { "" })
 }
 
 /// Writes what the input has that does not fit.
@@ -237,13 +270,14 @@ fn write_input<W: fmt::Write>(f: &mut fmt::Formatter<W>, error: &StreamError) ->
         StreamError::Misfit {
             row,
             column,
-            dtype,
             field,
+            ..
         } => {
             let column = column.as_str();
             write!(f, "row {row}, column {column}: ")?;
             write_field(f, field.as_ref().map(|bytes| bytes.as_slice()))?;
-            write!(f, " is no {dtype:?}")
+            f.write_str(" ")?;
+            error.write_reason(f)
         }
         StreamError::TextsTooLong(name) => {
             let name = name.as_str();
@@ -264,10 +298,15 @@ fn write_input<W: fmt::Write>(f: &mut fmt::Formatter<W>, error: &StreamError) ->
                 "header: {found} fields, and column {name} is to stand at {place}"
             )
         }
-        StreamError::Width { row, wanted, found } => {
-            write!(f, "row {row}: {found} fields where {wanted} are wanted")
+        StreamError::OpenHeader | StreamError::HeaderTooLong(_) => {
+            f.write_str("header: ")?;
+            error.write_reason(f)
         }
-        error => write_record(f, error),
+        error => {
+            let row = error.row().unwrap_or(0);
+            write!(f, "row {row}: ")?;
+            error.write_reason(f)
+        }
     }
 }
 
@@ -305,10 +344,6 @@ fn write_answers<W: fmt::Write>(f: &mut fmt::Formatter<W>, error: &StreamError) 
 impl fmt::Display for StreamError {
     fn fmt<W: fmt::Write>(&self, f: &mut fmt::Formatter<W>) -> fmt::Result {
         match self {
-            StreamError::Fault { row, error } => {
-                let (number, name) = (error.number(), error.name());
-                write!(f, "row {row}: E{number} {name}")
-            }
             StreamError::Refused(error) => {
                 let (number, name) = (error.number(), error.name());
                 write!(f, "E{number} {name}")

@@ -6,6 +6,7 @@ ghost use Rattle.rowfn_batches.specs.ReadingBack.{ReadsBack};
 mod beginning;
 mod filling;
 mod passing;
+mod skipping;
 mod writing;
 
 use crate::errors::StreamError;
@@ -15,6 +16,7 @@ use crate::settings::Settings;
 use crate::taking::Condition;
 use rowfn_csv::{Batch, Records};
 use rowfn_scripts::Expression;
+pub use skipping::flow_on;
 use std::alloc::Global;
 use std::io::{Read, Write};
 

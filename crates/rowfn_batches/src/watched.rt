@@ -1,4 +1,8 @@
 //! A reader that tells how far a stream has come.
+ghost use Rattle.std.specs.Prelude.{◌≡◌, ◌+◌, ◌-◌, ◌^◌, min};
+ghost use Rattle.std.specs.Io.{ReadsAtMost};
+ghost use Rattle.std.specs.Io.KnownBytes.{ReadConsumes};
+ghost use Rattle.rowfn_batches.specs.Watching.{counted};
 
 use std::cell::Cell;
 use std::io::{self, Read};
@@ -23,7 +27,9 @@ pub struct Watched<'a, R, T> {
 
 impl<'a, R, T> Watched<'a, R, T> {
     /// Nothing is read yet; takes no memory.
-    pub fn new(inner: R, watcher: T, rows: &'a Cell<u64>, every: u64) -> Watched<'a, R, T> {
+    pub fn new(inner: R, watcher: T, rows: &'a Cell<u64>, every: u64) -> Watched<'a, R, T>
+        ensures { (result.inner ≡ inner) × (result.bytes ≡ 0) }
+    {
         Watched {
             inner,
             watcher,
@@ -35,14 +41,31 @@ impl<'a, R, T> Watched<'a, R, T> {
     }
 }
 
-impl<R: Read, T: Watcher> Read for Watched<'_, R, T> {
-    fn read(&mut self, buf: &mut [u8]) -> io::Result<usize> {
-        let count = self.inner.read(buf)?;
+impl<R: Read, T: Watcher> Watched<'_, R, T> {
+    /// Counts bytes that were read, and tells how far the stream has come where that is due.
+    fn count(&mut self, count: usize)
+        ensures bytes { self.new.bytes ≡ min (self.old.bytes + count) (2 ^ 64 - 1) }
+        ensures inner { self.new.inner ≡ self.old.inner }
+    {
         self.bytes = self.bytes.saturating_add(count as u64);
         if self.bytes.saturating_sub(self.told) >= self.every {
             self.told = self.bytes;
             self.watcher.tell(self.rows.get(), self.bytes);
         }
+    }
+}
+
+impl<R: Read, T: Watcher> Read for Watched<'_, R, T> {
+    ghost remaining = { λ w. R.remaining w.inner };
+
+    fn read(&mut self, buf: &mut [u8]) -> io::Result<usize>
+        ensures bound { ReadsAtMost result buf.new }
+        ensures bytes { ReadConsumes (R.remaining self.old.inner) (R.remaining self.new.inner)
+            result buf.new }
+        ensures count { self.new.bytes ≡ counted self.old.bytes result }
+    {
+        let count = self.inner.read(buf)?;
+        self.count(count);
         Ok(count)
     }
 }

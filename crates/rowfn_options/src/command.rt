@@ -8,8 +8,8 @@ const AFTER_HELP: &str = "Rows are CSV. EXPRESSION is one answer or more: \
 'price * stock as worth, price > 100 as dear'.\nColumns that --columns does not declare take their \
 types from the first rows. With -e or -f the\nexpression is lines: `col NAME TYPE` declares a \
 column, `get`, `lit` and `call` make trees, `as NAME`\nnames the last one; the trees that are left \
-at the end are the answers.\n\nStatus: 1 a call faults in a row, 2 input that does not fit, 3 \
-reading, writing or memory, 4 a wrong\nexpression, 64 wrong options.";
+at the end are the answers.\n\nStatus: 1 a call faults in a row, or rows were left out, 2 input \
+that does not fit, 3 reading,\nwriting or memory, 4 a wrong expression, 64 wrong options.";
 
 /// The command with an option more.
 fn with<'a>(command: Command<'a>, option: Result<Arg<'a>, Error>) -> Result<Command<'a>, Error> {
@@ -209,6 +209,25 @@ fn progress<'a>(alloc: Global) -> Result<Arg<'a>, Error> {
     )
 }
 
+fn errors<'a>(alloc: Global) -> Result<Arg<'a>, Error> {
+    Ok(
+        Arg::new(alloc, "errors")
+            .long("errors")
+            .value_name("skip|stop")
+            .default_value("stop")
+            .help("What a row that is refused does: it is told and left out, or ends the stream"),
+    )
+}
+
+fn errors_to<'a>(alloc: Global) -> Result<Arg<'a>, Error> {
+    Ok(
+        Arg::new(alloc, "errors-to")
+            .long("errors-to")
+            .value_name("FILE")
+            .help("The file that tells of refused rows, as CSV: row, column, reason, field"),
+    )
+}
+
 fn lines<'a>(alloc: Global) -> Result<Arg<'a>, Error> {
     Ok(
         Arg::new(alloc, "lines")
@@ -285,6 +304,8 @@ fn with_actions<'a>(alloc: Global, command: Command<'a>) -> Result<Command<'a>, 
     let command = with(command, picks(alloc))?;
     let command = with(command, append(alloc))?;
     let command = with(command, explain(alloc))?;
+    let command = with(command, errors(alloc))?;
+    let command = with(command, errors_to(alloc))?;
     let command = with(command, summary(alloc))?;
     with(command, progress(alloc))
 }

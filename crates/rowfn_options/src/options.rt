@@ -61,6 +61,10 @@ pub struct Options<'a> {
     pub summary: bool,
     /// Whether it is told, while rows flow, how many have.
     pub progress: bool,
+    /// Whether a row that is refused is left out; else it ends the stream.
+    pub skips: bool,
+    /// The file that tells of rows that are refused.
+    pub errors_to: Option<&'a str>,
     /// The columns that are declared in words.
     pub columns: Option<&'a str>,
     /// Whether columns that are not declared take their types from the first rows.
@@ -108,6 +112,15 @@ fn read_truths(word: &str) -> Option<bool> {
     match word {
         "plain" => Some(false),
         "any" => Some(true),
+        _ => None,
+    }
+}
+
+/// Whether rows that are refused are left out, by the word that says so.
+fn read_errors(word: &str) -> Option<bool> {
+    match word {
+        "stop" => Some(false),
+        "skip" => Some(true),
         _ => None,
     }
 }
@@ -198,6 +211,51 @@ fn truths_error(command: &mut Command<'_>) -> Result<Error, Error> {
     Ok(command.error(ErrorKind::InvalidValue, message)?)
 }
 
+/// Why a word does not say what rows that are refused do.
+fn errors_error(command: &mut Command<'_>) -> Result<Error, Error> {
+    let message = "rows that are refused stop the stream, or skip leaves them out";
+    Ok(command.error(ErrorKind::InvalidValue, message)?)
+}
+
+/// Why a file does not tell of rows that are refused.
+fn errors_to_error(command: &mut Command<'_>) -> Result<Error, Error> {
+    let message = "the file of --errors-to is that of the rows";
+    Ok(command.error(ErrorKind::ArgumentConflict, message)?)
+}
+
+/// The file that tells of rows that are refused: none that the rows are read from.
+fn asked_errors_to<'a>(
+    matches: &ArgMatches<'a>,
+    command: &mut Command<'_>,
+    input: Option<&str>,
+) -> Result<Option<&'a str>, Error> {
+    let name = matches.get_str("errors-to");
+    if name.is_some() && name == input {
+        return Err(errors_to_error(command)?);
+    }
+    Ok(name)
+}
+
+/// What is done with rows that are refused.
+#[derive(Clone, Copy)]
+struct Refused<'a> {
+    skips: bool,
+    errors_to: Option<&'a str>,
+}
+
+/// What is done with rows that are refused.
+fn asked_refused<'a>(
+    matches: &ArgMatches<'a>,
+    command: &mut Command<'_>,
+    input: Option<&str>,
+) -> Result<Refused<'a>, Error> {
+    let Some(skips) = read_errors(matches.get_str("errors").unwrap_or("stop")) else {
+        return Err(errors_error(command)?);
+    };
+    let errors_to = asked_errors_to(matches, command, input)?;
+    Ok(Refused { skips, errors_to })
+}
+
 /// How fields are written, as the words say it.
 #[derive(Clone, Copy)]
 struct Fields<'a> {
@@ -239,6 +297,7 @@ fn options_of<'a>(
     matches: &ArgMatches<'a>,
     fields: Fields<'a>,
     input: Option<&'a str>,
+    refused: Refused<'a>,
 ) -> Result<Options<'a>, Error> {
     let source = asked_source(alloc, matches)?;
     Ok(Options {
@@ -256,6 +315,8 @@ fn options_of<'a>(
         appends: matches.get_flag("append"),
         summary: matches.get_flag("summary"),
         progress: matches.get_flag("progress"),
+        skips: refused.skips,
+        errors_to: refused.errors_to,
         columns: matches.get_str("columns"),
         infers: !matches.get_flag("no-infer"),
         condition: matches.get_str("where"),
@@ -271,7 +332,8 @@ pub fn read_options<'a>(alloc: Global, words: &'a [String]) -> Result<Options<'a
     let matches = command.try_get_matches_from_mut(words)?;
     let fields = asked_fields(&matches, &mut command)?;
     let input = asked_input(&matches, &mut command)?;
-    options_of(alloc, &matches, fields, input)
+    let refused = asked_refused(&matches, &mut command, input)?;
+    options_of(alloc, &matches, fields, input, refused)
 }
 
 /// What the program ends with where its words give no options: 0 where help or the version was asked

@@ -1,6 +1,6 @@
 //! What goes wrong, with its status and its text.
 
-use rowfn_batches::StreamError;
+use rowfn_batches::{NoRefusals, StreamError};
 use rowfn_queries::QueryError;
 use std::alloc::{AllocError, AllocFailed};
 use std::{fmt, io};
@@ -19,6 +19,12 @@ pub enum Failure {
     Inferred(StreamError),
     /// The file of the rows, by its name, cannot be read.
     Input(String, io::Error),
+    /// There is no file in which rows that are refused are told.
+    NoRefusals(NoRefusals),
+    /// Rows that are refused cannot be told there, in the file of that name or on standard error.
+    Telling(String, io::Error),
+    /// So many rows were refused, and left out.
+    LeftOut(u64),
 }
 
 impl From<QueryError> for Failure {
@@ -30,6 +36,12 @@ impl From<QueryError> for Failure {
 impl From<StreamError> for Failure {
     fn from(error: StreamError) -> Failure {
         Failure::Stream(error)
+    }
+}
+
+impl From<NoRefusals> for Failure {
+    fn from(error: NoRefusals) -> Failure {
+        Failure::NoRefusals(error)
     }
 }
 
@@ -53,13 +65,14 @@ impl From<VortexError> for Failure {
 }
 
 impl Failure {
-    /// 1 for a fault of the expression, 2 for input that does not fit, 3 for reading, writing and
+    /// 1 for a fault of the expression, and where rows were left out, 2 for input that does not fit, 3 for reading, writing and
     /// memory, 4 for an expression that is wrong.
     pub fn status(&self) -> u8 {
         match self {
             Failure::Query(error) | Failure::QueryOfFile(error, _) => error.status(),
             Failure::Stream(error) | Failure::Inferred(error) => error.status(),
-            Failure::Input(_, _) => 3,
+            Failure::Input(_, _) | Failure::NoRefusals(_) | Failure::Telling(_, _) => 3,
+            Failure::LeftOut(_) => 1,
         }
     }
 
@@ -94,6 +107,12 @@ impl fmt::Display for Failure {
                 let name = name.as_str();
                 write!(f, "reading {name}: {error}")
             }
+            Failure::NoRefusals(error) => write!(f, "{error}"),
+            Failure::Telling(name, error) => {
+                let name = name.as_str();
+                write!(f, "writing {name}: {error}")
+            }
+            Failure::LeftOut(count) => write!(f, "rows left out {count}"),
         }
     }
 }

@@ -4,16 +4,20 @@
 mod asking;
 mod failure;
 mod progress;
+mod telling;
 
 use crate::asking::{ask, format_with};
 use crate::failure::Failure;
 use crate::progress::{TOLD_BYTES, Teller};
-use rowfn_batches::{Settings, StreamError, Summary, Watched, check_names, explain, flow};
+use crate::telling::{Complaints, flow_telling};
+use rowfn_batches::{
+    Refusals, Settings, StreamError, Summary, Watched, check_names, explain, refusals_in,
+};
 use rowfn_options::{Action, Options, read_options, status};
 use rowfn_queries::{Again, Query};
 use rowfn_scripts::Expression;
 use std::cell::Cell;
-use std::io::Read;
+use std::io::{Read, Write};
 use std::process::ExitCode;
 use std::rt::{Env, Files};
 use std::{env, fs, io};
@@ -61,12 +65,14 @@ fn settings_of<'a>(options: &Options<'_>, null: &'a [u8], rows: &'a Cell<u64>) -
     }
 }
 
-/// Lets the rows flow, and tells how many they were.
-fn pass_rows<R: Read + Drop>(
+/// Lets the rows flow, and tells how many they were. Those that are refused are told where they are
+/// to be left out.
+fn pass_rows<R: Read + Drop, E: Write>(
     rt: &(impl Print + AllocGlobal),
     settings: Settings<'_>,
     query: &Query,
     reader: R,
+    refusals: Option<&mut Refusals<E>>,
 ) -> Result<Summary, StreamError> {
     let alloc = rt.alloc();
     let picking = Settings {
@@ -76,10 +82,19 @@ fn pass_rows<R: Read + Drop>(
     let mut out = io::writer(rt);
     match (&query.answers, &query.condition) {
         (Some(answers), condition) => {
-            let condition = condition.as_ref();
-            flow(alloc, &settings, answers, condition, reader, &mut out)
+            let asked = (answers, condition.as_ref());
+            flow_telling(alloc, &settings, asked, reader, &mut out, refusals)
         }
-        (None, Some(condition)) => flow(alloc, &picking, condition, None, reader, &mut out),
+        (None, Some(condition)) => {
+            flow_telling(
+                alloc,
+                &picking,
+                (condition, None),
+                reader,
+                &mut out,
+                refusals,
+            )
+        }
         (None, None) => Ok(Summary {
             rows_read: 0,
             rows_written: 0,
@@ -89,21 +104,23 @@ fn pass_rows<R: Read + Drop>(
 
 /// The same, and tells on standard error how far they have come, where that is asked. What counts
 /// them lives as long as this call, and so does the text for null that stands beside it.
-fn pass_watched<R: Read + Drop>(
+fn pass_watched<R: Read + Drop, E: Write>(
     rt: &(impl Print + Eprint + AllocGlobal),
     options: &Options<'_>,
     query: &Query,
     reader: R,
+    refusals: &mut Refusals<E>,
 ) -> Result<Summary, StreamError> {
     let null = String::from_str(rt.alloc(), options.null)?;
     let null = null.as_bytes();
     let rows = Cell::new(0);
     let settings = settings_of(options, null, &rows);
+    let refusals = if options.skips { Some(refusals) } else { None };
     if !options.progress {
-        return pass_rows(rt, settings, query, reader);
+        return pass_rows(rt, settings, query, reader, refusals);
     }
     let watched = Watched::new(reader, Teller { rt }, &rows, TOLD_BYTES);
-    let passed = pass_rows(rt, settings, query, watched);
+    let passed = pass_rows(rt, settings, query, watched, refusals);
     let _ = eprintln!(rt; "\rrows {}", rows.get());
     passed
 }
@@ -121,18 +138,61 @@ fn advised(inferred: &StructFields, error: StreamError) -> Failure {
     }
 }
 
-/// Does what the options ask for with the rows of a reader.
-fn perform_on<R: Read + Drop>(
-    rt: &(impl Print + Eprint + Files + AllocGlobal),
+/// Tells the row whose refusal ended the stream, where a file is to tell it, and writes what was not
+/// yet.
+fn tell_last<E: Write>(
     options: &Options<'_>,
-    reader: R,
-) -> Result<(), Failure> {
-    let mut reader = Again::new(rt.alloc(), reader);
-    let query = ask(rt, options, &mut reader)?;
-    if options.action == Action::Explain {
-        return Ok(print_query(rt, &query)?);
+    passed: &Result<Summary, StreamError>,
+    refusals: &mut Refusals<E>,
+) -> Result<(), StreamError> {
+    if let Err(error) = passed {
+        if options.errors_to.is_some() && error.row().is_some() {
+            refusals.tell(error)?;
+        }
     }
-    match pass_watched(rt, options, &query, reader) {
+    refusals.flush()
+}
+
+/// What went wrong where rows that are refused could not be told.
+fn untold(rt: &impl AllocGlobal, options: &Options<'_>, error: StreamError) -> Failure {
+    let name = options.errors_to.unwrap_or("standard error");
+    match (error, String::from_str(rt.alloc(), name)) {
+        (StreamError::Writing(error), Ok(name)) => Failure::Telling(name, error),
+        (error, _) => Failure::Stream(error),
+    }
+}
+
+/// Lets the rows flow, and tells those that are refused; answers how many were left out.
+fn pass_told<R: Read + Drop, E: Write>(
+    rt: &(impl Print + Eprint + AllocGlobal),
+    options: &Options<'_>,
+    query: &Query,
+    reader: R,
+    refusals: &mut Refusals<E>,
+) -> (u64, Result<Summary, Failure>) {
+    let passed = pass_watched(rt, options, query, reader, refusals);
+    let left_out = refusals.count();
+    let passed = match tell_last(options, &passed, refusals) {
+        Ok(()) => passed,
+        Err(error) => Err(error),
+    };
+    match passed {
+        Ok(summary) => (left_out, Ok(summary)),
+        Err(error) if refusals.has_failed() => (left_out, Err(untold(rt, options, error))),
+        Err(error) => (left_out, Err(advised(&query.inferred, error))),
+    }
+}
+
+/// Lets the rows flow, tells those that are refused, and counts them at the end.
+fn pass_counted<R: Read + Drop, E: Write>(
+    rt: &(impl Print + Eprint + AllocGlobal),
+    options: &Options<'_>,
+    query: &Query,
+    reader: R,
+    refusals: &mut Refusals<E>,
+) -> Result<(), Failure> {
+    let (left_out, passed) = pass_told(rt, options, query, reader, refusals);
+    match passed {
         Ok(
             Summary {
                 rows_read,
@@ -142,10 +202,39 @@ fn perform_on<R: Read + Drop>(
             if options.summary {
                 let _ = eprintln!(rt; "rows read {rows_read}, rows written {rows_written}");
             }
-            Ok(())
+            if left_out == 0 {
+                Ok(())
+            } else {
+                Err(Failure::LeftOut(left_out))
+            }
         }
-        Err(error) => Err(advised(&query.inferred, error)),
+        Err(failure) => {
+            if left_out != 0 && !failure.is_closed_pipe() {
+                let _ = eprintln!(rt; "rowfn_stream: {}", Failure::LeftOut(left_out));
+            }
+            Err(failure)
+        }
     }
+}
+
+/// Does what the options ask for with the rows of a reader.
+fn perform_on<R: Read + Drop>(
+    rt: &(impl Print + Eprint + Files + AllocGlobal),
+    options: &Options<'_>,
+    reader: R,
+) -> Result<(), Failure> {
+    let alloc = rt.alloc();
+    let mut reader = Again::new(alloc, reader);
+    let query = ask(rt, options, &mut reader)?;
+    if options.action == Action::Explain {
+        return Ok(print_query(rt, &query)?);
+    }
+    let Some(name) = options.errors_to else {
+        let mut refusals = Refusals::new(alloc, Complaints { rt });
+        return pass_counted(rt, options, &query, reader, &mut refusals);
+    };
+    let mut refusals = refusals_in(rt, name)?;
+    pass_counted(rt, options, &query, reader, &mut refusals)
 }
 
 /// Does what the options ask for.

@@ -3,7 +3,7 @@
 use crate::cases::{BATCHES, STEPS, ended_so};
 use crate::pipes::{Drips, Sink};
 use fixtures::same;
-use rowfn_batches::{Format, Settings, StreamError, Summary, flow};
+use rowfn_batches::{Format, Refusals, Settings, StreamError, Summary, flow, flow_on};
 use rowfn_queries::{Again, Query, Words, read_query};
 use std::alloc::Global;
 
@@ -113,13 +113,71 @@ fn pass(
     }
 }
 
-/// Asks by batches of so many rows or so many bytes, and reads of so many bytes.
-fn ask_once(
+/// Lets rows flow through a query, but for those that are refused, which are told.
+fn pass_on(
+    alloc: Global,
+    settings: &Settings<'_>,
+    query: &Query,
+    reader: Again<Drips<'_>>,
+    sink: &mut Sink,
+    told: &mut Sink,
+) -> Result<Summary, StreamError> {
+    let mut refusals = Refusals::new(alloc, told);
+    let passed = match (&query.answers, &query.condition) {
+        (Some(answers), condition) => {
+            let condition = condition.as_ref();
+            flow_on(
+                alloc,
+                settings,
+                answers,
+                condition,
+                reader,
+                sink,
+                &mut refusals,
+            )
+        }
+        (None, Some(condition)) => {
+            flow_on(
+                alloc,
+                settings,
+                condition,
+                None,
+                reader,
+                sink,
+                &mut refusals,
+            )
+        }
+        (None, None) => Err(StreamError::OutOfMemory),
+    };
+    refusals.flush()?;
+    passed
+}
+
+/// The query of what is asked.
+fn query_of(
+    alloc: Global,
+    asked: &Asked<'_>,
+    settings: &Settings<'_>,
+    reader: &mut Again<Drips<'_>>,
+) -> Result<Query, (u8, String)> {
+    match read_query(alloc, asked.words, settings.format, asked.max_field, reader) {
+        Ok(query) => Ok(query),
+        Err(error) => {
+            let text = format!(in alloc; "{error}").unwrap_or(String::new(alloc));
+            Err((error.status(), text))
+        }
+    }
+}
+
+/// Asks by batches of so many rows or so many bytes, and reads of so many bytes. Rows that are
+/// refused end the stream, or are told and left out.
+pub fn ask_once(
     alloc: Global,
     asked: &Asked<'_>,
     batch: (usize, u64),
     step: usize,
     sink: &mut Sink,
+    told: Option<&mut Sink>,
 ) -> Result<(), (u8, String)> {
     let settings = settings_of(asked, batch);
     let drips = Drips {
@@ -129,15 +187,12 @@ fn ask_once(
         fails: asked.fails,
     };
     let mut reader = Again::new(alloc, drips);
-    let max_field = asked.max_field;
-    let query = match read_query(alloc, asked.words, settings.format, max_field, &mut reader) {
-        Ok(query) => query,
-        Err(error) => {
-            let text = format!(in alloc; "{error}").unwrap_or(String::new(alloc));
-            return Err((error.status(), text));
-        }
+    let query = query_of(alloc, asked, &settings, &mut reader)?;
+    let passed = match told {
+        Some(told) => pass_on(alloc, &settings, &query, reader, sink, told),
+        None => pass(alloc, &settings, &query, reader, sink),
     };
-    match pass(alloc, &settings, &query, reader, sink) {
+    match passed {
         Ok(_) => Ok(()),
         Err(error) => {
             let text = format!(in alloc; "{error}").unwrap_or(String::new(alloc));
@@ -155,7 +210,7 @@ pub fn ends_so(rt: HostRuntime, asked: Asked<'_>, output: &str, status: u8, told
                 taken: Vec::new(alloc),
                 limit: usize::MAX,
             };
-            let outcome = ask_once(alloc, &asked, batch, step, &mut sink);
+            let outcome = ask_once(alloc, &asked, batch, step, &mut sink, None);
             if !ended_so(rt, &sink.taken, outcome, (output, status, told)) {
                 return false;
             }
@@ -177,7 +232,7 @@ pub fn ends_once(rt: HostRuntime, asked: Asked<'_>, wanted: (u8, &str)) -> bool 
         taken: Vec::new(alloc),
         limit: usize::MAX,
     };
-    match ask_once(alloc, &asked, (2048, 1 << 20), 8192, &mut sink) {
+    match ask_once(alloc, &asked, (2048, 1 << 20), 8192, &mut sink, None) {
         Ok(()) => same(rt, 0, wanted.0),
         Err((status, told)) => same(rt, status, wanted.0) && same(rt, told.as_str(), wanted.1),
     }

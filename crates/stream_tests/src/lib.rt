@@ -11,6 +11,8 @@ mod batch_answers;
 #[cfg(test)]
 mod cases;
 #[cfg(test)]
+mod chance;
+#[cfg(test)]
 mod endings;
 #[cfg(test)]
 mod explained;
@@ -36,6 +38,10 @@ mod pipes;
 mod queries;
 #[cfg(test)]
 mod reading_back;
+#[cfg(test)]
+mod skipping;
+#[cfg(test)]
+mod skipping_by_chance;
 #[cfg(test)]
 mod transcript;
 #[cfg(test)]

@@ -57,6 +57,8 @@ fn described(alloc: Global, options: &Options<'_>) -> Result<String, AllocError>
         appends,
         summary,
         progress,
+        skips,
+        errors_to,
         columns,
         infers,
         condition,
@@ -82,6 +84,10 @@ fn described(alloc: Global, options: &Options<'_>) -> Result<String, AllocError>
     if (*first_row, *appends, *infers) != (1, false, true) {
         text.push_str(format!(in alloc; " {first_row} {appends} {infers}")?.as_str())?;
     }
+    if *skips {
+        text.push_str(" skips")?;
+    }
+    push_word(&mut text, "errors to", *errors_to)?;
     push_word(&mut text, "columns", *columns)?;
     push_word(&mut text, "where", *condition)?;
     push_source(&mut text, source)?;
@@ -228,6 +234,27 @@ fn spellings_of_truth_values_are_told(rt: HostRuntime) {
         )
     );
     assert!(rt; is_refused(rt, "p --bool yes f", ErrorKind::InvalidValue));
+}
+
+#[test]
+fn what_refused_rows_do_is_told(rt: HostRuntime) {
+    let told = "44 true '' 2048 Answer false skips text f";
+    assert!(rt; says(rt, "p --errors skip f", told));
+    let told = "44 true '' 2048 Answer false text f";
+    assert!(rt; says(rt, "p --errors stop f", told));
+    let told = "44 true '' 2048 Answer false skips errors to e.csv text f from r.csv";
+    assert!(rt; says(rt, "p --errors skip --errors-to e.csv f r.csv", told));
+    let told = "44 true '' 2048 Answer false errors to e.csv text f";
+    assert!(rt; says(rt, "p --errors-to e.csv f", told));
+    assert!(rt; is_refused(rt, "p --errors pass f", ErrorKind::InvalidValue));
+    assert!(rt;
+        is_refused(
+            rt,
+            "p --errors-to r.csv f r.csv",
+            ErrorKind::ArgumentConflict
+        )
+    );
+    assert!(rt; ends_with(rt, "p --errors pass f", 64));
 }
 
 /// The status with which such words end the program; 0 where they give options.

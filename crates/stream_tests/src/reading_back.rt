@@ -1,6 +1,7 @@
 //! What is written reads back: streams of chance, whose output is read once more.
 
 use crate::cases::{Case, plain, run_case};
+use crate::chance::Chance;
 use crate::pipes::Sink;
 use fixtures::same;
 use rowfn_batches::{StreamError, Summary};
@@ -8,34 +9,6 @@ use std::alloc::{AllocError, Global};
 
 /// How many streams are tried.
 const COUNT: u64 = 400;
-
-/// Numbers that look like chance, each made of the one before.
-#[derive(Clone, Copy)]
-struct Chance {
-    state: u64,
-}
-
-impl Chance {
-    fn next(&mut self) -> u64 {
-        self.state = self
-            .state
-            .wrapping_mul(6364136223846793005)
-            .wrapping_add(1442695040888963407);
-        self.state >> 33
-    }
-
-    /// Whether one of so many comes; 0 is taken for 1.
-    fn is_one_of(&mut self, count: u64) -> bool {
-        self.next() % count.max(1) == 0
-    }
-
-    /// One of these words.
-    fn word(&mut self, words: &[&'static str]) -> &'static str {
-        let count = (words.len() as u64).max(1);
-        let place = (self.next() % count) as usize;
-        words.get(place).copied().unwrap_or("")
-    }
-}
 
 const DELIMITERS: &[&str] = &[",", ";", "\t", "|", "a", " ", "1", "-"];
 

@@ -28,6 +28,11 @@ impl Filled {
         matches!(self, Filled::Full)
     }
 
+    /// Whether the input is at its end.
+    pub(super) fn is_end(&self) -> bool {
+        matches!(self, Filled::Ended)
+    }
+
     /// What ends the stream behind the batch, if anything does.
     pub(super) fn into_error(self) -> Option<StreamError> {
         match self {

@@ -1,7 +1,7 @@
 //! How a stream passes a batch on: what its rows answer, up to the one that ends it.
 ghost use Rattle.std.specs.Prelude.{◌≡◌, OnOk, MatchResult, map, option_map};
 ghost use Rattle.rowfn_batches.specs.Fields.{field_in};
-ghost use Rattle.rowfn_batches.specs.Passing.{IsAnswered, PassesOn, IsBehind};
+ghost use Rattle.rowfn_batches.specs.Passing.{IsAnswered, PassesUpTo, PassesOn, IsBehind};
 ghost use Rattle.rowfn_batches.specs.Taking.{Takes, IsLeft, rows_before};
 
 use super::{Stream, Summary};
@@ -70,20 +70,21 @@ impl<'a, R: Read + Drop> Stream<'a, R> {
     }
 
     /// Tells how many rows were passed on, where that is asked.
-    fn tell_rows(&self) {
+    pub(super) fn tell_rows(&self) {
         if let Some(count) = self.settings.rows_passed {
             count.set(self.summary.rows_read);
         }
     }
 
-    /// Answers and writes the batch: the lines of its rows in their order, up to the first that
-    /// ends the stream. Refused with the error that does, if any.
-    pub(super) fn pass<W: Write>(
+    /// Answers and writes the batch: the lines of its rows in their order, up to the first that is
+    /// refused, or all of them. Answers what ends them there, if anything does. Refused where no row
+    /// is answered, and where the writer refuses.
+    pub(super) fn pass_up_to<W: Write>(
         &mut self,
         error: Option<StreamError>,
         writer: &mut W,
-    ) -> Result<(), StreamError>
-        ensures passes { PassesOn self.old error (W.contents writer.old) (W.contents writer.new)
+    ) -> Result<Option<StreamError>, StreamError>
+        ensures passes { PassesUpTo self.old error (W.contents writer.old) (W.contents writer.new)
             result }
         ensures behind { OnOk result (IsBehind self.old self.new) }
     {
@@ -104,7 +105,20 @@ impl<'a, R: Read + Drop> Stream<'a, R> {
             rows_written: rows_written.saturating_add(count),
         };
         self.tell_rows();
-        match error {
+        Ok(error)
+    }
+
+    /// The same. Refused with the error that ends the stream, too, if any.
+    pub(super) fn pass<W: Write>(
+        &mut self,
+        error: Option<StreamError>,
+        writer: &mut W,
+    ) -> Result<(), StreamError>
+        ensures passes { PassesOn self.old error (W.contents writer.old) (W.contents writer.new)
+            result }
+        ensures behind { OnOk result (IsBehind self.old self.new) }
+    {
+        match self.pass_up_to(error, writer)? {
             Some(error) => Err(error),
             None => Ok(()),
         }

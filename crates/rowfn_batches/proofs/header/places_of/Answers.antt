@@ -1,9 +1,9 @@
-use Rattle.std.proofs.Common.{◌≡◌, ℕ, List, subst, arith}
+use Rattle.std.proofs.Common.{◌≡◌, ℕ, subst, arith}
 use Rattle.std.proofs.lemmas.Result.{err_from_is_err_and}
 use Rattle.csv.specs.Records.{fields_of}
 use Rattle.vortex_types.specs.LogicalTypes.{field_count}
 use Rattle.vortex_types.specs.TypeOf.{struct_fields}
-use Rattle.rowfn_batches.specs.Layouts.{FirstStandAt, RefusesColumn, at_column, place_said}
+use Rattle.rowfn_batches.specs.Layouts.{FirstStandAt, at_column}
 use Rattle.rowfn_batches.proofs.Layouts.{no_columns, next_column}
 use Rattle.rowfn_batches.proofs.header.places_of.Goals as goal
 

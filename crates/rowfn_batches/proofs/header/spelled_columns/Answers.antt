@@ -1,4 +1,4 @@
-use Rattle.std.proofs.Common.{◌∙◌, ◌++◌, ◌∷◌, [], ℕ, ap, sym, arith, ◌≡◌, map}
+use Rattle.std.proofs.Common.{◌∙◌, ◌∷◌, [], ℕ, ap, sym, arith, ◌≡◌, map}
 use Rattle.std.specs.List.{range_with_len}
 use Rattle.std.proofs.lemmas.List.{map-append}
 use Rattle.vortex_types.specs.LogicalTypes.{field_count}

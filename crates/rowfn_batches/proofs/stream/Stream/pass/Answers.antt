@@ -1,48 +1,16 @@
-use Rattle.std.proofs.Common.{◌≡◌, ◌∙◌, Some, None, Err, ap, sym, option_map}
+use Rattle.std.proofs.Common.{◌∙◌, Ok, Err, Some, None, ap, refl}
 use Rattle.std.proofs.lemmas.Result.{err_from_is_err_and}
-use Rattle.rowfn_batches.specs.Passing.{ended, unanswered, unwritten}
-use Rattle.rowfn_batches.proofs.Passed.{have, within, passed, kept_as_it_is}
 use Rattle.rowfn_batches.proofs.stream.Stream.pass.Goals as goal
 
-pub push_batch-requires-clause-rows : goal.push_batch-requires-clause-rows
-push_batch-requires-clause-rows g c =
-    let a = c.in_ok-answered in
-    have c.args.self.now c.args.error _ a.answered.row_count _ c.deref.result.now _ a.ensures
-    (cc c.deref.ensures.value)
-
-pub push_batch-requires-clause-spans : goal.push_batch-requires-clause-spans
-push_batch-requires-clause-spans g c = λ none.
-    let a = c.in_ok-answered in
-    within c.args.self.now c.args.error _ a.answered.row_count _ c.deref.result.now _ a.ensures
-    (cc c.deref.ensures.value)
-    (sym c.slice_of.ensures ∙ ap (λ o. option_map (λ r. r.now) o) none)
-
-pub returns-in_err-answered-clause-passes : goal.returns-in_err-answered-clause-passes
-returns-in_err-answered-clause-passes g c =
+pub returns-in_err-error-clause-passes : goal.returns-in_err-error-clause-passes
+returns-in_err-error-clause-passes g c =
     let p = err_from_is_err_and c.from_residual.result c.from_residual.ensures.1 in
-    unanswered c.in_err-answered.field-0.0 c.in_err-answered.ensures
-    (kept_as_it_is (g.W.Write.contents c.args.writer.now)) (p.1 ∙ ap Err p.2)
-
-pub returns-in_err-write-clause-passes : goal.returns-in_err-write-clause-passes
-returns-in_err-write-clause-passes g c =
-    let p = err_from_is_err_and c.from_residual-in_err-write.result
-    c.from_residual-in_err-write.ensures.1 in
-    unwritten c.in_err-write.field-0.0 c.in_err-write.ensures.refused (p.1 ∙ ap Err p.2)
+    (Err c.in_err-error.field-0.0, c.in_err-error.ensures.passes, p.1 ∙ ap Err p.2)
 
 pub returns-in-Some-clause-passes : goal.returns-in-Some-clause-passes
 returns-in-Some-clause-passes g c =
-    let a = c.in_ok-answered in
-    let same : a.answered.error ≡ Some c.in-Some.error = cc c.in-Some.is in
-    passed c.args.self.now c.args.error _ a.answered.row_count _ c.deref.result.now _ a.ensures
-    (cc c.deref.ensures.value) _ c.slice_of.ensures
-    c.push_batch.new.self _ _ _ c.in_ok-count.ensures.text c.in_ok-write.ensures.written
-    (sym (ap ended same))
+    (Ok (Some c.in-Some.error), rw c.in-Some.is at c.in_ok-error.ensures.passes, refl)
 
-pub returns-clause-passes : goal.returns-clause-passes
-returns-clause-passes g c =
-    let a = c.in_ok-answered in
-    let same : a.answered.error ≡ None = cc c.in-None.is in
-    passed c.args.self.now c.args.error _ a.answered.row_count _ c.deref.result.now _ a.ensures
-    (cc c.deref.ensures.value) _ c.slice_of.ensures
-    c.push_batch.new.self _ _ _ c.in_ok-count.ensures.text c.in_ok-write.ensures.written
-    (sym (ap ended same))
+pub returns-in-None-clause-passes : goal.returns-in-None-clause-passes
+returns-in-None-clause-passes g c =
+    (Ok None, rw c.in-None.is at c.in_ok-error.ensures.passes, refl)
