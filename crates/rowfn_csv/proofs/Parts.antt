@@ -1,82 +1,78 @@
 -- Where fields lie among the bytes of a batch, as more bytes come behind them.
-use Rattle.std.proofs.Common.{◌≡◌, ℕ, ◌<◌, ◌-◌, suc, List, [], ◌∷◌, ◌++◌, length, Bool}
-use Rattle.std.proofs.Common.{Option, map, take, drop, refl, ap, sym, ◌∙◌, arith, length-append}
-use Rattle.std.proofs.Common.{get_or, slice_index_or, ◌+◌, add-one}
+use Rattle.std.proofs.Common.{◌≡◌, ℕ, ◌<◌, ◌≤◌, suc, List, [], ◌∷◌, ◌++◌, Bool, true}
+use Rattle.std.proofs.Common.{false, Option, Some, None, map, take, drop, refl, ap, sym, ◌∙◌, arith}
+use Rattle.std.proofs.Common.{get_or, ◌+◌, add-one, if◌then◌else◌}
+use Rattle.std.specs.Prelude.{nat_le}
 use Rattle.std.proofs.Math.Seq.{take-suc}
-use Rattle.std.proofs.lemmas.List.{take-append-le, drop-append-le, drop_all, take_all, map-append, length-drop}
+use Rattle.std.proofs.lemmas.Bool.{le-leb}
+use Rattle.std.proofs.lemmas.List.{take-take, map-append}
 use Rattle.std.proofs.lemmas.List.Elements.{All-push}
-use Rattle.rowfn_csv.specs.Batches.{part_bytes, part_said, field_said, LiesWithin, AreParts}
+use Rattle.std.proofs.lemmas.Slice.{between_is}
+use Rattle.rowfn_csv.specs.Batches.{part_bytes, part_said, AreParts, KeepsParts}
 use Rattle.rowfn_csv.specs.declared.batch.Part.{Part}
 
-module _ (bytes more : List ℕ) where
-  pub within_more : (p : Part) → LiesWithin (length bytes) p → LiesWithin (length (bytes ++ more)) p
-  within_more p h = record {
-    rising = h.rising;
-    within = omega (arith, h.within, length-append bytes more);
-  }
+-- bytes that begin alike say the same there
+said_alike : (n : ℕ) (xs ys : List ℕ) → take n ys ≡ take n xs → (p : Part) → p.end ≤ n
+    → part_said ys p ≡ part_said xs p
+said_alike n xs ys same p within = by (nat_le p.start p.end)
+  where
+    here : part_bytes ys p ≡ part_bytes xs p
+    here =
+        between_is ys p.start p.end
+        ∙ ap (drop p.start) (sym (take-take p.end n ys within))
+        ∙ ap (λ (bs : List ℕ). drop p.start (take p.end bs)) same
+        ∙ ap (drop p.start) (take-take p.end n xs within)
+        ∙ sym (between_is xs p.start p.end)
 
-  pub parts_more : (ps : List Part) → AreParts bytes ps → AreParts (bytes ++ more) ps
-  parts_more ps h k d lt = within_more (slice_index_or ps k d) (h k d lt)
+    by : (b : Bool)
+        → (if b then Some (part_bytes ys p) else None)
+        ≡ (if b then Some (part_bytes xs p) else None)
+    by true = ap Some here
+    by false = refl
 
-  same_bytes : (p : Part) → LiesWithin (length bytes) p
-      → part_bytes (bytes ++ more) p ≡ part_bytes bytes p
-  same_bytes p h =
-      ap (take (p.end - p.start)) (drop-append-le p.start bytes more (omega (arith, h.rising, h.within)))
-      ∙ take-append-le (p.end - p.start) (drop p.start bytes) more
-      (omega (arith, h.rising, h.within, length-drop p.start bytes))
+-- so the fields that lie within the first bytes are kept
+pub parts_kept : (n more : ℕ) (xs ys : List ℕ) → n ≤ more → take n ys ≡ take n xs
+    → KeepsParts n xs more ys
+parts_kept n more xs ys size same = record { grows = size; said = said_alike n xs ys same }
 
-  pub said_more : (ps : List Part) → AreParts bytes ps
-      → map (part_said (bytes ++ more)) ps ≡ map (part_said bytes) ps
-  said_more [] h = refl
-  said_more (p ∷ ps) h =
-      ap (λ (f : List ℕ). field_said f p.is_null ∷ map (part_said (bytes ++ more)) ps)
-      (same_bytes p (h 0 p (omega arith)))
-      ∙ ap (λ (rest : List (Option (List ℕ))). part_said bytes p ∷ rest)
-      (said_more ps (λ k d lt. h (suc k) d (omega (arith, lt))))
+-- what is put there is said there
+pub part_put : (bytes field : List ℕ) (p : Part) → p.start ≤ p.end → part_bytes bytes p ≡ field
+    → part_said bytes p ≡ Some field
+part_put bytes field p rising e =
+    ap (λ b. if b then Some (part_bytes bytes p) else None) (le-leb p.start p.end rising) ∙ ap Some e
+
+said_all : (n more : ℕ) (xs ys : List ℕ) → KeepsParts n xs more ys → (ps : List Part) → AreParts n ps
+    → map (part_said ys) ps ≡ map (part_said xs) ps
+said_all n more xs ys kept [] h = refl
+said_all n more xs ys kept (p ∷ ps) h =
+    λ i. kept.said p (h 0 p (omega arith)) i
+    ∷ said_all n more xs ys kept ps (λ k d lt. h (suc k) d (omega (arith, lt))) i
+
+-- and they lie within more bytes
+pub parts_more : (n more : ℕ) (ps : List Part) → n ≤ more → AreParts n ps → AreParts more ps
+parts_more n more ps size h k d lt = let within = h k d lt in omega (arith, size, within)
 
 -- no parts
-pub none_parts : (bytes : List ℕ) (ps : List Part) → ps ≡ [] → AreParts bytes ps
-none_parts bytes [] e k d lt = absurd (omega (arith, lt))
-none_parts bytes (p ∷ ps) e k d lt = absurd (cc e)
+pub none_parts : (size : ℕ) (ps : List Part) → ps ≡ [] → AreParts size ps
+none_parts size [] e k d lt = absurd (omega (arith, lt))
+none_parts size (p ∷ ps) e k d lt = absurd (cc e)
 
 pub none_said : (bytes : List ℕ) (ps : List Part) → ps ≡ [] → map (part_said bytes) ps ≡ []
 none_said bytes ps e = ap (map (part_said bytes)) e
 
-abbrev part_at : ℕ → ℕ → Bool → Part
-part_at start end m = record { start = start; end = end; is_null = m }
-
--- a field that comes behind bytes, in a part of its own
-module _ (bytes field : List ℕ) (m : Bool) (start end : ℕ) (from : start ≡ length bytes)
-    (to : end ≡ length (bytes ++ field))
+-- one part more
+module _ (n more : ℕ) (xs ys : List ℕ) (kept : KeepsParts n xs more ys) (p : Part) (ps : List Part)
+    (h : AreParts n ps)
   where
-    size : end - start ≡ length field
-    size = omega (arith, from, to, length-append bytes field)
+    pub parts_pushed : p.end ≤ more → AreParts more (ps ++ (p ∷ []))
+    parts_pushed within =
+        All-push (λ (q : Part). q.end ≤ more) ps p (parts_more n more ps kept.grows h) within
 
-    bytes_behind : part_bytes (bytes ++ field) (part_at start end m) ≡ field
-    bytes_behind =
-        ap (λ (n : ℕ). take (end - start) (drop n (bytes ++ field))) from
-        ∙ ap (take (end - start))
-        (drop-append-le (length bytes) bytes field (omega arith)
-        ∙ ap (λ (bs : List ℕ). bs ++ field) (drop_all (length bytes) bytes (omega arith)))
-        ∙ take_all (end - start) field (omega (arith, size))
-
-    pub parts_pushed : (ps : List Part) → AreParts bytes ps
-        → AreParts (bytes ++ field) (ps ++ (record { start = start; end = end; is_null = m } ∷ []))
-    parts_pushed ps h =
-        All-push (LiesWithin (length (bytes ++ field))) ps (part_at start end m)
-        (parts_more bytes field ps h)
-        (record {
-          rising = omega (arith, from, to, length-append bytes field);
-          within = omega (arith, to);
-        })
-
-    pub said_pushed : (ps : List Part) → AreParts bytes ps
-        → map (part_said (bytes ++ field))
-        (ps ++ (record { start = start; end = end; is_null = m } ∷ []))
-        ≡ map (part_said bytes) ps ++ (field_said field m ∷ [])
-    said_pushed ps h =
-        map-append (part_said (bytes ++ field)) ps (part_at start end m ∷ [])
-        ∙ (λ i. said_more bytes field ps h i ++ (field_said (bytes_behind i) m ∷ []))
+    pub said_pushed : (said : Option (List ℕ)) → part_said ys p ≡ said
+        → map (part_said ys) (ps ++ (p ∷ [])) ≡ map (part_said xs) ps ++ (said ∷ [])
+    said_pushed said e =
+        map-append (part_said ys) ps (p ∷ [])
+        ∙ (λ i. said_all n more xs ys kept ps h i ++ (e i ∷ []))
 
 -- one more of a list of which a map has what the first parts say
 pub next_part : {A : Type 0} (f : A → Option (List ℕ)) (bytes : List ℕ) (xs : List A) (y : A)

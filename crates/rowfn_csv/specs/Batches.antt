@@ -1,6 +1,6 @@
 -- The fields of a batch, row by row, with its nulls.
 use Rattle.std.specs.Prelude.{◌≤◌, ◌-◌, Bool, Option, Some, None, ℕ, List, length, map, All}
-use Rattle.std.specs.Prelude.{if◌then◌else◌, take, drop}
+use Rattle.std.specs.Prelude.{◌≡◌, if◌then◌else◌, take, drop, nat_le}
 use Rattle.rowfn_csv.specs.declared.records.Span.{Span}
 use Rattle.rowfn_csv.specs.declared.batch.Part.{Part}
 use Rattle.rowfn_csv.specs.declared.batch.Batch.TheInside.{Inside}
@@ -13,12 +13,12 @@ pub record BatchView : Type 0 where
 abbrev pub field_said : List ℕ → Bool → Option (List ℕ)
 field_said field is_null = if is_null then None else Some field
 
--- the bytes of a field, and what it says
+-- the bytes of a field, and what it says: nothing where its end stands before its start
 abbrev pub part_bytes : List ℕ → Part → List ℕ
 part_bytes bytes p = take (p.end - p.start) (drop p.start bytes)
 
 abbrev pub part_said : List ℕ → Part → Option (List ℕ)
-part_said bytes p = field_said (part_bytes bytes p) p.is_null
+part_said bytes p = if nat_le p.start p.end then Some (part_bytes bytes p) else None
 
 abbrev pub batch_of : Inside → BatchView
 batch_of a = record {
@@ -26,13 +26,15 @@ batch_of a = record {
   spans = a.spans.items;
 }
 
--- a field lies within so many bytes
-pub record LiesWithin (size : ℕ) (p : Part) : Type 0 where
-  pub rising : p.start ≤ p.end
-  pub within : p.end ≤ size
+-- the fields lie within so many bytes
+abbrev pub AreParts : ℕ → List Part → Type 0
+AreParts size parts = All (λ p. p.end ≤ size) parts
 
-abbrev pub AreParts : List ℕ → List Part → Type 0
-AreParts bytes parts = All (LiesWithin (length bytes)) parts
+-- fields that lie within the first bytes say the same among other bytes, of which more are theirs
+pub record KeepsParts (size : ℕ) (bytes : List ℕ) (more : ℕ) (others : List ℕ) : Type 0 where
+  pub grows : size ≤ more
+  pub said : (p : Part) → p.end ≤ size → part_said others p ≡ part_said bytes p
 
-abbrev pub IsBatch : Inside → Type 0
-IsBatch a = AreParts a.bytes.items a.parts.items
+pub record IsBatch (a : Inside) : Type 0 where
+  pub filled : a.filled ≤ length a.bytes.items
+  pub parts : AreParts a.filled a.parts.items

@@ -1,25 +1,27 @@
 //! The fields of a batch of rows.
-ghost use Rattle.std.specs.Prelude.{◌≡◌, ◌++◌, ◌∷◌, [], length, map, option_map, OnOk, IfOk};
-ghost use Rattle.rowfn_csv.specs.Batches.{field_said, part_said, LiesWithin, AreParts};
+ghost use Rattle.std.specs.Prelude.{◌≡◌, ◌++◌, ◌∷◌, [], length, map, take, drop, option_map};
+ghost use Rattle.std.specs.Prelude.{◌≤◌, ◌+◌, Some, OnOk, IfOk};
+ghost use Rattle.rowfn_csv.specs.Batches.{field_said, part_said, AreParts, KeepsParts};
 
 use crate::records::Span;
 use std::alloc::{AllocError, Global};
 use std::marker::Model;
 
-/// Where a field's bytes lie among those of a batch, and whether it says null.
+/// Where a field's bytes lie among those of a batch; of null the end stands before the start.
 #[derive(Clone, Copy)]
 struct Part {
     start: usize,
     end: usize,
-    is_null: bool,
 }
 
 /// The fields of the declared columns of a batch, row by row, and where the rows lie in the input.
 /// Its buffers serve from batch to batch.
 #[derive(Drop)]
 pub struct Batch {
-    /// Every field's bytes, one behind the other.
+    /// Every field's bytes, one behind the other, and room behind them.
     bytes: Vec<u8>,
+    /// How many of them are those of fields.
+    filled: usize,
     parts: Vec<Part>,
     spans: Vec<Span>,
 }
@@ -34,41 +36,98 @@ impl Model for Batch {
     ghost invariant = { IsBatch };
 }
 
-/// Adds a field's bytes and its place.
+/// Makes room for so many bytes behind the first ones, which stay.
+#[cold]
+#[inline(never)]
+fn make_room(bytes: &mut Vec<u8>, filled: usize, count: usize) -> Result<(), AllocError>
+    ensures room { OnOk result (filled + count ≤ length bytes.new.items) }
+    ensures kept { filled ≤ length bytes.old.items
+        → take filled bytes.new.items ≡ take filled bytes.old.items }
+    ensures longer { length bytes.old.items ≤ length bytes.new.items }
+{
+    let wanted = filled.checked_add(count).ok_or(AllocError)?;
+    let twice = bytes.len().saturating_mul(2);
+    bytes.resize(wanted.max(twice), 0)
+}
+
+/// The same where there is none yet.
+#[inline(always)]
+fn have_room(bytes: &mut Vec<u8>, filled: usize, count: usize) -> Result<(), AllocError>
+    requires { filled ≤ length bytes.old.items }
+    ensures room { OnOk result (filled + count ≤ length bytes.new.items) }
+    ensures kept { take filled bytes.new.items ≡ take filled bytes.old.items }
+    ensures longer { length bytes.old.items ≤ length bytes.new.items }
+{
+    if count > bytes.len() - filled {
+        return make_room(bytes, filled, count);
+    }
+    Ok(())
+}
+
+/// Writes a field's bytes from a place on.
+#[inline(always)]
+fn write_at(out: &mut [u8], at: usize, field: &[u8])
+    requires { at + length field.now ≤ length out.old }
+    ensures before { take at out.new ≡ take at out.old }
+    ensures here { take (length field.now) (drop at out.new) ≡ field.now }
+    ensures size { length out.new ≡ length out.old }
+{
+    out[at..at + field.len()].copy_from_slice(field);
+}
+
+/// Puts a field's bytes behind the first ones; answers where they lie.
+#[inline(always)]
+fn put_field(bytes: &mut Vec<u8>, filled: &mut usize, field: &[u8]) -> Result<Part, AllocError>
+    requires { filled.old ≤ length bytes.old.items }
+    ensures filled { filled.new ≤ length bytes.new.items }
+    ensures kept { KeepsParts filled.old bytes.old.items filled.new bytes.new.items }
+    ensures put { IfOk result (λ p. (part_said bytes.new.items p ≡ Some field.now)
+        × (p.end ≤ filled.new)) }
+{
+    let start = *filled;
+    have_room(bytes, start, field.len())?;
+    write_at(bytes.as_mut_slice(), start, field);
+    let end = start + field.len();
+    *filled = end;
+    Ok(Part { start, end })
+}
+
+/// Adds a field: its bytes, if it is not null, and its place.
 #[inline(always)]
 fn push_part(
     bytes: &mut Vec<u8>,
+    filled: &mut usize,
     parts: &mut Vec<Part>,
     field: &[u8],
     is_null: bool,
 ) -> Result<(), AllocError>
-    requires { AreParts bytes.old.items parts.old.items }
-    ensures parts { AreParts bytes.new.items parts.new.items }
+    requires filled { filled.old ≤ length bytes.old.items }
+    requires parts { AreParts filled.old parts.old.items }
+    ensures filled { filled.new ≤ length bytes.new.items }
+    ensures parts { AreParts filled.new parts.new.items }
     ensures pushed { OnOk result (map (part_said bytes.new.items) parts.new.items
         ≡ map (part_said bytes.old.items) parts.old.items
         ++ (field_said field.now is_null ∷ [])) }
 {
-    let start = bytes.len();
-    bytes.extend_from_slice(field)?;
-    let end = bytes.len();
-    parts.push(Part {
-        start,
-        end,
-        is_null,
-    })?;
+    if is_null {
+        parts.push(Part { start: 1, end: 0 })?;
+        return Ok(());
+    }
+    let part = put_field(bytes, filled, field)?;
+    parts.push(part)?;
     Ok(())
 }
 
 /// A field; nothing where it is null.
 #[inline(always)]
 fn field_at<'b>(bytes: &'b [u8], part: Part) -> Option<&'b [u8]>
-    requires { LiesWithin (length bytes.now) part }
+    requires { part.end ≤ length bytes.now }
     ensures { option_map (λ f. f.now) result ≡ part_said bytes.now part }
 {
-    if part.is_null {
-        None
-    } else {
+    if part.start <= part.end {
         Some(&bytes[part.start..part.end])
+    } else {
+        None
     }
 }
 
@@ -78,7 +137,7 @@ fn fields_in<'b>(
     bytes: &'b [u8],
     parts: &[Part],
 ) -> Result<Vec<Option<&'b [u8]>>, AllocError>
-    requires { AreParts bytes.now parts.now }
+    requires { AreParts (length bytes.now) parts.now }
     ensures { IfOk result (λ fields. map (option_map (λ f. f.now)) fields.items
         ≡ map (part_said bytes.now) parts.now) }
 {
@@ -96,6 +155,7 @@ impl Batch {
     {
         Batch {
             bytes: Vec::new(alloc),
+            filled: 0,
             parts: Vec::new(alloc),
             spans: Vec::new(alloc),
         }
@@ -105,7 +165,7 @@ impl Batch {
     pub fn clear(&mut self)
         ensures { (self.new.fields ≡ []) × (self.new.spans ≡ []) }
     {
-        self.bytes.clear();
+        self.filled = 0;
         self.parts.clear();
         self.spans.clear();
     }
@@ -132,7 +192,13 @@ impl Batch {
             ++ (field_said field.now is_null ∷ [])) }
         ensures spans { self.new.spans ≡ self.old.spans }
     {
-        push_part(&mut self.bytes, &mut self.parts, field, is_null)
+        push_part(
+            &mut self.bytes,
+            &mut self.filled,
+            &mut self.parts,
+            field,
+            is_null,
+        )
     }
 
     /// Ends the row of the fields that were added since the last one. Refused only for want of

@@ -6,7 +6,6 @@ ghost use Rattle.rowfn_csv.specs.Records.{Field, SaysFields, is_quoted, quoted_a
 ghost use Rattle.rowfn_csv.specs.Records.{without_line_end};
 ghost use Rattle.rowfn_csv.specs.Scanning.{place_behind, AreMarks, Knows};
 
-use memchr::memchr;
 use std::alloc::{AllocError, Global};
 
 /// Where a byte of a record stands.
@@ -149,7 +148,7 @@ impl Quotes {
         ensures kept { self.new.is_marked ≡ self.old.is_marked }
     {
         let raw = without_line_end(line);
-        if memchr(b'"', raw).is_none() {
+        if !raw.contains(&b'"') {
             self.marks.clear();
             return Ok(());
         }

@@ -369,12 +369,11 @@ impl<'a, R: Read> Records<'a, R> {
             (C.spelled c)) columns.now) }
         ensures spans { OnOk result (batch.new.spans ≡ batch.old.spans ++ (self.old.span ∷ [])) }
     {
-        let Span { start, end } = self.span;
-        let line = self.reader.get_ref().between(start, end);
         self.quotes.forget();
         add_fields(
             &self.last,
-            line,
+            self.reader.get_ref(),
+            self.span,
             &self.format,
             &mut self.quotes,
             batch,

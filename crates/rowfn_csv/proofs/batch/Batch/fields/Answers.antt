@@ -1,7 +1,11 @@
+use Rattle.rowfn_csv.proofs.Parts.{parts_more}
 use Rattle.rowfn_csv.proofs.batch.Batch.fields.Goals as goal
 
 pub fields_in-requires : goal.fields_in-requires
-fields_in-requires c = rw (c.deref.ensures.value, c.deref-2.ensures.value) c.self.invariant
+fields_in-requires c =
+    let held = c.self.invariant in
+    rw (c.deref.ensures.value, c.deref-2.ensures.value)
+    (parts_more _ _ _ held.filled held.parts)
 
 pub returns : goal.returns
 returns c =
