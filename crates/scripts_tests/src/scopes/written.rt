@@ -1,5 +1,6 @@
 //! The texts of trees, each of which says its tree again.
-use crate::shown::{says, scope};
+use crate::endings::is_case;
+use crate::scopes::shown::{says, scope};
 use fixtures::answers::same;
 use std::alloc::Global;
 use vortex_columns::VortexResult;
@@ -43,86 +44,72 @@ fn writes(rt: HostRuntime, text: &str, wanted: &str) -> bool {
     }
 }
 
+/// Whether so does each text.
+fn each_writes(rt: HostRuntime, cases: &[(&str, &str)]) -> bool {
+    for (place, (text, wanted)) in cases.iter().enumerate() {
+        if !is_case(rt, place, writes(rt, text, wanted)) {
+            return false;
+        }
+    }
+    true
+}
+
 #[test]
 fn brackets(rt: HostRuntime) {
-    assert!(rt;
-        writes(
-            rt,
-            "((total + 1)) * (2 - total)",
-            "(total + 1) * (2 - total)"
-        )
-    );
-    assert!(rt; writes(rt, "(total * 1) + (2 / total)", "total * 1 + 2 / total"));
-    assert!(rt; writes(rt, "(total - 1) - (total - 2)", "total - 1 - (total - 2)"));
-    assert!(rt;
-        writes(
-            rt,
+    const CASES: &[(&str, &str)] = &[
+        ("((total + 1)) * (2 - total)", "(total + 1) * (2 - total)"),
+        ("(total * 1) + (2 / total)", "total * 1 + 2 / total"),
+        ("(total - 1) - (total - 2)", "total - 1 - (total - 2)"),
+        (
             "not (dear and (sold or dear))",
-            "not (dear and (sold or dear))"
-        )
-    );
-    assert!(rt;
-        writes(
-            rt,
-            "(not dear) or (dear and sold)",
-            "not dear or dear and sold"
-        )
-    );
-    assert!(rt; writes(rt, "(dear = sold) = dear", "(dear = sold) = dear"));
-    assert!(rt; writes(rt, "not (dear is null)", "not dear is null"));
-    assert!(rt; writes(rt, "(not dear) is not null", "(not dear) is not null"));
+            "not (dear and (sold or dear))",
+        ),
+        ("(not dear) or (dear and sold)", "not dear or dear and sold"),
+        ("(dear = sold) = dear", "(dear = sold) = dear"),
+        ("not (dear is null)", "not dear is null"),
+        ("(not dear) is not null", "(not dear) is not null"),
+    ];
+    assert!(rt; each_writes(rt, CASES));
 }
 
 #[test]
 fn predicates(rt: HostRuntime) {
-    assert!(rt;
-        writes(
-            rt,
+    const CASES: &[(&str, &str)] = &[
+        (
             "total not between (1) and (2 + total) and dear",
-            "not total between 1 and 2 + total and dear"
-        )
-    );
-    assert!(rt;
-        writes(
-            rt,
+            "not total between 1 and 2 + total and dear",
+        ),
+        (
             "name NOT ILIKE 'it''s!%' ESCAPE '!'",
-            "name not ilike 'it''s!%' escape '!'"
-        )
-    );
-    assert!(rt; writes(rt, "name like 'a%' escape ''", "name like 'a%' escape ''"));
-    assert!(rt;
-        writes(
-            rt,
-            "name like 'a%' escape ''''",
-            "name like 'a%' escape ''''"
-        )
-    );
-    assert!(rt;
-        writes(
-            rt,
+            "name not ilike 'it''s!%' escape '!'",
+        ),
+        ("name like 'a%' escape ''", "name like 'a%' escape ''"),
+        ("name like 'a%' escape ''''", "name like 'a%' escape ''''"),
+        (
             "(name like 'a%' escape '\\') is null",
-            "name like 'a%' is null"
-        )
-    );
-    assert!(rt;
-        writes(
-            rt,
+            "name like 'a%' is null",
+        ),
+        (
             "cast((dear or sold) as bool?)",
-            "cast(dear or sold as bool?)"
-        )
-    );
+            "cast(dear or sold as bool?)",
+        ),
+    ];
+    assert!(rt; each_writes(rt, CASES));
 }
 
 #[test]
 fn literals(rt: HostRuntime) {
-    assert!(rt; writes(rt, "price * 2 > stock", "price * 2::i32 > stock"));
-    assert!(rt; writes(rt, "small = 7", "small = 7::u8"));
-    assert!(rt; writes(rt, "\"unit price\" - -7", "\"unit price\" - -7"));
-    assert!(rt; writes(rt, "-128::i8", "-128::i8"));
-    assert!(rt; writes(rt, "null::utf8", "null::utf8?"));
-    assert!(rt; writes(rt, "sold = null", "sold = null::bool?"));
-    assert!(rt; writes(rt, "true", "true"));
-    assert!(rt; writes(rt, "-9223372036854775808", "-9223372036854775808"));
+    const CASES: &[(&str, &str)] = &[
+        ("price * 2 > stock", "price * 2::i32 > stock"),
+        ("small = 7", "small = 7::u8"),
+        ("\"unit price\" - -7", "\"unit price\" - -7"),
+        ("-128::i8", "-128::i8"),
+        ("null::utf8", "null::utf8?"),
+        ("sold = null", "sold = null::bool?"),
+        ("true", "true"),
+        ("-9223372036854775808", "-9223372036854775808"),
+    ];
+    assert!(rt; each_writes(rt, CASES));
 }
 
 /// So many casts of a column within one another.

@@ -1,6 +1,6 @@
 //! Buffers that no column is made of.
 
-use crate::reading::{made, nullable, plain};
+use crate::arrow::reading::{made, nullable, plain};
 use fixtures::same;
 use vortex_arrow::{ArrowColumn, ArrowError, ArrowValues, ValueFault};
 

@@ -1,5 +1,5 @@
 //! Lists of answers.
-use crate::shown::says_all;
+use crate::scopes::shown::{each_says_all, says_all};
 
 #[test]
 fn names_and_none(rt: HostRuntime) {
@@ -14,25 +14,19 @@ fn names_and_none(rt: HostRuntime) {
 
 #[test]
 fn the_first_refusal_is_told(rt: HostRuntime) {
-    assert!(rt;
-        says_all(
-            rt,
+    const CASES: &[(&str, &str)] = &[
+        (
             "price as x, null as y, price as z",
-            "line 1, column 13: null has no type here; say it, as null::i64?"
-        )
-    );
-    assert!(rt;
-        says_all(
-            rt,
+            "line 1, column 13: null has no type here; say it, as null::i64?",
+        ),
+        (
             "price as a, small = 300 as b, weight",
-            "line 1, column 19: 300 is no u8"
-        )
-    );
-    assert!(rt;
-        says_all(
-            rt,
+            "line 1, column 19: 300 is no u8",
+        ),
+        (
             "price as a,",
-            "line 1, column 12: found the end, expected a column, a literal, not, cast or ("
-        )
-    );
+            "line 1, column 12: found the end, expected a column, a literal, not, cast or (",
+        ),
+    ];
+    assert!(rt; each_says_all(rt, CASES));
 }

@@ -1,5 +1,6 @@
 //! What a text says over one scope, as a line.
-use fixtures::answers::same;
+use crate::endings::is_case;
+use fixtures::same;
 use std::alloc::Global;
 use vortex_columns::{DType, Nullability, PType, StructFields, VortexResult};
 use vortex_expressions::{Answer, read_answers, read_expression};
@@ -79,4 +80,24 @@ pub fn says_all(rt: HostRuntime, text: &str, wanted: &str) -> bool {
         Ok(line) => same(rt, line.as_str(), wanted),
         Err(error) => same(rt, error.name(), wanted),
     }
+}
+
+/// Whether each text says that.
+pub fn each_says(rt: HostRuntime, cases: &[(&str, &str)]) -> bool {
+    for (place, (text, wanted)) in cases.iter().enumerate() {
+        if !is_case(rt, place, says(rt, text, wanted)) {
+            return false;
+        }
+    }
+    true
+}
+
+/// Whether each text says those answers.
+pub fn each_says_all(rt: HostRuntime, cases: &[(&str, &str)]) -> bool {
+    for (place, (text, wanted)) in cases.iter().enumerate() {
+        if !is_case(rt, place, says_all(rt, text, wanted)) {
+            return false;
+        }
+    }
+    true
 }
