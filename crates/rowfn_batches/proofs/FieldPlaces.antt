@@ -9,11 +9,7 @@ use Rattle.std.proofs.lemmas.Nat.{div-add-mod'}
 use Rattle.std.proofs.Math.Nat.{mul-le-mul_left, mod-lt}
 use Rattle.std.proofs.Common.{get_or, Bor, Option, None}
 use Rattle.std.proofs.lemmas.List.{get_or-map}
-use Rattle.std.proofs.Common.{Some}
-use Rattle.std.proofs.lemmas.List.FromFn.{get_or-map-range_with_len, length-map-range_with_len}
 use Rattle.vortex_types.specs.LogicalTypes.{Fields, field_count}
-use Rattle.rowfn_lines.specs.Commands.{all_some}
-use Rattle.rowfn_lines.proofs.AllSome.{some_more, one_missing}
 pub use Rattle.rowfn_lines.proofs.Apart.{place_within}
 use Rattle.rowfn_batches.specs.Fields.{Field, field_in}
 use Rattle.rowfn_batches.specs.Batches.{field_at, IsFirstMisfit, IsMisfit}
@@ -52,20 +48,6 @@ made_more g f xs x i h e =
     map-append g xs (x ∷ [])
     ∙ (λ j. h j ++ e j ∷ [])
     ∙ sym (map-range_with_len_more f 0 i i (omega arith))
-
--- the elements that a function of the place makes, where none is missing
-pub cell_more : {A : Type 0} (f : ℕ → Option A) (i : ℕ) (xs : List A) (x : A)
-    → all_some (map f (range_with_len 0 i)) ≡ Some xs → f i ≡ Some x
-    → all_some (map f (range_with_len 0 (i + 1))) ≡ Some (xs ++ x ∷ [])
-cell_more f i xs x h e =
-    ap all_some (map-range_with_len_more f 0 i i (omega arith))
-    ∙ some_more (map f (range_with_len 0 i)) xs (f i) x h e
-
-pub cell_missing : {A : Type 0} (f : ℕ → Option A) (n i : ℕ) → i < n → f i ≡ None
-    → all_some (map f (range_with_len 0 n)) ≡ None
-cell_missing f n i lt e =
-    one_missing (map f (range_with_len 0 n)) i (omega (arith, lt, length-map-range_with_len f 0 n))
-    (get_or-map-range_with_len f 0 n i i None lt (omega arith) ∙ e)
 
 -- a row and a column of a place
 pub misfit_there : (ds : Fields) (fs : List Field) (k : ℕ) → 0 < field_count ds

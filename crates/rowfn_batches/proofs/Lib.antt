@@ -1,5 +1,4 @@
 pub mod FieldPlaces
-pub mod IntegerCells
 pub mod TruthFields
 pub mod FirstRows
 pub mod Flowing

@@ -12,7 +12,8 @@ use Rattle.rowfn_lines.specs.Commands.{all_some, column_of_cells}
 use Rattle.rowfn_batches.specs.declared.columns.BatchError.{BatchError}
 use Rattle.rowfn_batches.specs.declared.columns.BatchError.TheVariants.{Misfit, TextsTooLong}
 use Rattle.rowfn_batches.specs.declared.columns.BatchError.TheVariants.{Uneven, OutOfMemory}
-use Rattle.rowfn_batches.specs.Fields.{Field, field_cell, field_fits}
+use Rattle.rowfn_lines.specs.Fields.{field_cell}
+use Rattle.rowfn_batches.specs.Fields.{Field, field_fits}
 
 abbrev pub field_at : List Field → ℕ → Field
 field_at fs k = slice_index_or fs k None

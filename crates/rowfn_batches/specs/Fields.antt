@@ -1,10 +1,9 @@
 -- A field as a cell, and whether it fits its column.
 use Rattle.std.specs.Prelude.{ℕ, List, Bool, false, Option, Some, None, option_map}
-use Rattle.std.specs.Prelude.{if◌then◌else◌}
-use Rattle.std.specs.Str.{is_utf8}
 use Rattle.std.specs.Borrow.{Bor}
 use Rattle.vortex_types.specs.LogicalTypes.{LogicalType}
 use Rattle.rowfn_lines.specs.Commands.{cell_fits}
+use Rattle.rowfn_lines.specs.Fields.{field_cell}
 
 -- the bytes of a field, and none of a null field
 abbrev pub Field : Type 0
@@ -13,11 +12,6 @@ Field = Option (List ℕ)
 -- the field that is borrowed
 abbrev pub field_in : Option (Bor (List ℕ)) → Field
 field_in = option_map (λ b. b.now)
-
--- the cell that a field is; bytes that are no text are none
-abbrev pub field_cell : Field → Option (Option (List ℕ))
-field_cell None = Some None
-field_cell (Some bs) = if is_utf8 bs then Some (Some bs) else None
 
 -- the field says a value of the type
 abbrev pub fits_as : LogicalType → Option (Option (List ℕ)) → Bool

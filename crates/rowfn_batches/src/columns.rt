@@ -1,23 +1,20 @@
 //! What the fields of a batch make of the columns that an expression declares.
-ghost use Rattle.std.specs.Prelude.{◌≡◌, ◌<◌, ◌*◌, ◌↔◌, IsTrue, IfOk, None, map, length};
-ghost use Rattle.std.specs.Prelude.{MatchOption, option_map};
+ghost use Rattle.std.specs.Prelude.{◌≡◌, ◌<◌, ◌*◌, ◌↔◌, IsTrue, None, map, length, MatchOption};
 ghost use Rattle.std.specs.Prelude.{List, false, true, get_or, ℕ, ◌+◌, ◌≤◌};
 ghost use Rattle.vortex_columns.specs.ColumnView.{ColumnView};
 ghost use Rattle.vortex_errors.specs.Answers.{AnswersUnlessMemory};
 ghost use Rattle.vortex_types.specs.LogicalTypes.{field_count};
 ghost use Rattle.vortex_types.specs.TypeOf.{struct_fields};
-ghost use Rattle.rowfn_lines.specs.Cells.{cell_in};
 ghost use Rattle.rowfn_batches.specs.Fields.{field_in};
-ghost use Rattle.rowfn_batches.specs.Batches.{cells_at, column_at, AllFit, IsFirstMisfit};
+ghost use Rattle.rowfn_batches.specs.Batches.{column_at, AllFit, IsFirstMisfit};
 ghost use Rattle.rowfn_batches.specs.Batches.{AreColumns, fits_in, IsMisfit, IsLeftmost};
 ghost use Rattle.rowfn_batches.specs.Batches.{AreEven, RefusesBatch, ReadsColumns};
 
-use crate::fields::{field_cell, field_fits};
-use rowfn_lines::cells::column_of_cells;
-use rowfn_lines::integers::integers_of_cells;
-use std::alloc::{AllocError, AllocFailed, Global};
+use crate::fields::field_fits;
+use rowfn_lines::fields::column_of_fields;
+use std::alloc::{AllocFailed, Global};
 use thiserror::Error;
-use vortex_columns::{Column, DType, StructFields, VortexError, VortexResult};
+use vortex_columns::{Column, StructFields, VortexError, VortexResult};
 
 /// Why the fields of a batch make no columns. Records and columns are counted from 0.
 #[derive(Debug, Drop, Error)]
@@ -61,30 +58,6 @@ impl<T: Drop> From<AllocFailed<T>> for BatchError {
     }
 }
 
-/// The cells of a column's fields, of rows of so many; nothing where one is no cell.
-fn column_cells<'a>(
-    alloc: Global,
-    fields: &[Option<&'a [u8]>],
-    width: usize,
-    row_count: usize,
-    column: usize,
-) -> Result<Option<Vec<Option<&'a str>>>, AllocError>
-    requires column { column < width }
-    requires even { length fields.now ≡ width * row_count }
-    ensures { IfOk result (λ cells. option_map (λ cs. map cell_in cs.items) cells
-        ≡ cells_at (map field_in fields.now) width row_count column) }
-{
-    let mut cells = Vec::with_capacity(alloc, row_count)?;
-    for row in 0..row_count {
-        let place = row * width + column;
-        let Some(cell) = field_cell(fields[place]) else {
-            return Ok(None);
-        };
-        cells.push(cell)?;
-    }
-    Ok(Some(cells))
-}
-
 /// The column of a column's fields; nothing where one does not fit its type, or the texts are too
 /// long. E9 where memory is refused.
 fn read_column(
@@ -100,22 +73,14 @@ fn read_column(
         ≡ column_at (struct_fields declared.now) (map field_in fields.now) row_count column) }
 {
     let width = declared.len();
-    let dtype = declared.dtype(column);
-    if let DType::Primitive(ptype, nullability) = dtype {
-        return integers_of_cells(
-            alloc,
-            *ptype,
-            *nullability,
-            fields,
-            width,
-            row_count,
-            column,
-        );
-    }
-    match column_cells(alloc, fields, width, row_count, column)? {
-        Some(cells) => column_of_cells(alloc, dtype, &cells),
-        None => Ok(None),
-    }
+    column_of_fields(
+        alloc,
+        declared.dtype(column),
+        fields,
+        width,
+        row_count,
+        column,
+    )
 }
 
 /// The first field that does not fit its column, row by row and in a row from left to right.

@@ -1,25 +1,13 @@
 //! A field as a cell, and whether it fits its column.
-ghost use Rattle.std.specs.Prelude.{◌≡◌, option_map, MatchOption, IsUtf8};
+ghost use Rattle.std.specs.Prelude.{◌≡◌, option_map};
 ghost use Rattle.vortex_types.specs.TypeOf.{type_of};
 ghost use Rattle.rowfn_lines.specs.Cells.{cell_in};
-ghost use Rattle.rowfn_batches.specs.Fields.{field_in, field_cell, field_fits};
+ghost use Rattle.rowfn_lines.specs.Fields.{field_cell};
+ghost use Rattle.rowfn_batches.specs.Fields.{field_in, field_fits};
 
 use rowfn_lines::cells::cell_fits;
-use std::str;
+use rowfn_lines::fields::text_of;
 use vortex_columns::DType;
-
-/// The text that bytes are; nothing where they are not UTF-8. ASCII, which nearly all texts are, is
-/// told by words.
-#[inline(always)]
-fn text_of(bytes: &[u8]) -> Option<&str>
-    ensures { MatchOption result (¬ (IsUtf8 bytes.now))
-        (λ text. (text.now ≡ bytes.now) × IsUtf8 bytes.now) }
-{
-    if bytes.is_ascii() {
-        return Some(unsafe { str::from_utf8_unchecked(bytes) });
-    }
-    str::from_utf8(bytes).ok()
-}
 
 /// The cell that a field is; nothing for bytes that are not UTF-8.
 #[inline(always)]

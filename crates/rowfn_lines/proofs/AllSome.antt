@@ -1,6 +1,6 @@
 -- All elements of a list, where none is missing.
 use Rattle.std.proofs.Common.{◌≡◌, ◌∙◌, ℕ, zero, suc, ◌+◌, ◌<◌, Option, Some, None, List, [], ◌∷◌}
-use Rattle.std.proofs.Common.{◌++◌, map, take, length, get_or, add-one, refl, sym, ap, arith}
+use Rattle.std.proofs.Common.{◌++◌, map, take, length, get_or, add-one, refl, ap, arith}
 use Rattle.std.proofs.Math.Seq.{take-suc}
 use Rattle.std.proofs.lemmas.List.{get_or-map, length-map, map-append}
 use Rattle.rowfn_lines.specs.Commands.{with_first, all_some}

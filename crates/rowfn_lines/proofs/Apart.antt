@@ -1,6 +1,6 @@
 -- Where the cell of a row and a column stands.
 use Rattle.std.proofs.Common.{◌≡◌, ◌∙◌, ℕ, suc, ◌+◌, ◌*◌, ◌<◌, ◌≤◌, Bor, Option, None, List, map, length}
-use Rattle.std.proofs.Common.{get_or, sym, ap, arith}
+use Rattle.std.proofs.Common.{get_or, ap, arith}
 use Rattle.std.proofs.Math.Nat.{mul-le-mul_left}
 use Rattle.std.specs.List.{range_with_len}
 use Rattle.std.proofs.lemmas.List.{get_or-map}

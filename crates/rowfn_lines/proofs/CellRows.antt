@@ -1,5 +1,5 @@
 -- Cells that are read one by one, and the column that is made of them.
-use Rattle.std.proofs.Common.{tests, ◌≡◌, ℕ, zero, suc, ◌+◌, take, Bor, ◌<◌, ◌≤◌, Bool, true}
+use Rattle.std.proofs.Common.{tests, ◌≡◌, ℕ, zero, suc, ◌+◌, take, ◌<◌, ◌≤◌, Bool, true}
 use Rattle.std.proofs.Common.{false, Option, Some, None, Result, List, [], ◌∷◌, ◌++◌, ℤ, pos, map}
 use Rattle.std.proofs.Common.{length, get_or, refl, sym, ap, subst, ◌∙◌, arith, length-append}
 use Rattle.std.proofs.Common.{◌&&◌, if◌then◌else◌, All}
@@ -26,8 +26,8 @@ use Rattle.vortex_columns.specs.Stored.{made_of}
 use Rattle.rowfn_lines.specs.Ranges.{in_range}
 use Rattle.rowfn_lines.specs.Commands.{integer_of, number_where, value_of_text, cell_value}
 use Rattle.rowfn_lines.specs.Commands.{cell_values, text_bytes, texts_fit, fit_column}
-use Rattle.rowfn_lines.specs.Commands.{column_of, column_where}
-use Rattle.rowfn_lines.specs.Cells.{cell_in, cells_from, item_or_null, IsMade, AreItems, AreCells}
+use Rattle.rowfn_lines.specs.Commands.{column_of, column_where, all_some}
+use Rattle.rowfn_lines.specs.Cells.{cells_from, item_or_null, IsMade, AreItems, AreCells}
 use Rattle.rowfn_lines.specs.Cells.{cells_validity}
 use Rattle.rowfn_lines.proofs.AllSome.{next_some}
 
@@ -320,25 +320,26 @@ blank_fits : {X : Type 0} (f : X → Value) (o : Option X) (d : X) → text_byte
 blank_fits f None d h e = h
 blank_fits f (Some x) d h e = cc
 
-is_there : {X : Type 0} (f : X → Value) (o : Option X) (t : LogicalType) (n : Bool)
+pub is_there : {X : Type 0} (f : X → Value) (o : Option X) (t : LogicalType) (n : Bool)
     (c : Option (List ℕ))
     → is_nullable t ≡ n → cell_value t c ≡ Some (item_or_null f o) → n ≡ false → is_some o ≡ true
 is_there f (Some x) t n c k e h = refl
 is_there f None t n c k e h = let allowed = null_allowed t c e in cc
 
--- one more cell of those that are found at the elements of a list
-pub cell_read : {X W : Type 0} (t : LogicalType) (n : Bool) (value : X → Value)
+-- one more value of those that are found at the elements of a list
+pub value_read : {X W : Type 0} (f : Option (List ℕ) → Option Value) (n : Bool) (value : X → Value)
     (cell : W → Option (List ℕ)) (places : List W) (i : ℕ) (d : W) (items : List X)
     (valid : List Bool) (item : Option X) (blank : X)
-    → is_nullable t ≡ n → i < length places
-    → AreCells n (map value items) valid (cell_values t (map cell (take i places)))
-    → cell_value t (cell (get_or places i d)) ≡ Some (item_or_null value item)
+    → i < length places
+    → AreCells n (map value items) valid (all_some (map f (map cell (take i places))))
+    → f (cell (get_or places i d)) ≡ Some (item_or_null value item)
+    → (n ≡ false → is_some item ≡ true)
     → text_bytes (value blank) ≡ []
     → AreCells n (map value (items ++ unwrap_or item blank ∷ [])) (valid ++ is_some item ∷ [])
-    (cell_values t (map cell (take (i + 1) places)))
-cell_read t n value cell places i d items valid item blank nullable lt h e fit = record {
+    (all_some (map f (map cell (take (i + 1) places))))
+value_read f n value cell places i d items valid item blank lt h e there fit = record {
   says =
-      next_some (cell_value t) cell places i d (cells_from (map value items) valid)
+      next_some f cell places i d (cells_from (map value items) valid)
       (item_or_null value item) lt h.says e
       ∙ ap (λ (vs : List Value). Some vs)
       (sym
@@ -347,8 +348,7 @@ cell_read t n value cell places i d items valid item blank nullable lt h e fit =
       ∙ ap (λ (y : Value). cells_from (map value items) valid ++ y ∷ [])
       (sym (item_is value item blank))));
   items = subst (λ (vs : List Value). AreItems n vs (valid ++ b ∷ [])) (sym more)
-      (items_more n (map value items) valid v b h.items
-      (is_there value item t n (cell (get_or places i d)) nullable e)
+      (items_more n (map value items) valid v b h.items there
       (blank_fits value item blank fit));
 }
   where
@@ -360,3 +360,17 @@ cell_read t n value cell places i d items valid item blank nullable lt h e fit =
 
     more : map value (items ++ unwrap_or item blank ∷ []) ≡ map value items ++ v ∷ []
     more = map-append value items (unwrap_or item blank ∷ [])
+
+-- the same of cells
+pub cell_read : {X W : Type 0} (t : LogicalType) (n : Bool) (value : X → Value)
+    (cell : W → Option (List ℕ)) (places : List W) (i : ℕ) (d : W) (items : List X)
+    (valid : List Bool) (item : Option X) (blank : X)
+    → is_nullable t ≡ n → i < length places
+    → AreCells n (map value items) valid (cell_values t (map cell (take i places)))
+    → cell_value t (cell (get_or places i d)) ≡ Some (item_or_null value item)
+    → text_bytes (value blank) ≡ []
+    → AreCells n (map value (items ++ unwrap_or item blank ∷ [])) (valid ++ is_some item ∷ [])
+    (cell_values t (map cell (take (i + 1) places)))
+cell_read t n value cell places i d items valid item blank nullable lt h e fit =
+    value_read (cell_value t) n value cell places i d items valid item blank lt h e
+    (is_there value item t n (cell (get_or places i d)) nullable e) fit

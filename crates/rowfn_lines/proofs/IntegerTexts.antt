@@ -1,6 +1,6 @@
 -- Bytes that say an integer are a text.
 use Rattle.std.proofs.Common.{tests, ◌≡◌, ℕ, zero, suc, ◌==◌, Bool, true, false, Option, Some, None}
-use Rattle.std.proofs.Common.{List, [], ◌∷◌, ℤ, pos, refl, ap, arith, get_or, ◌<◌}
+use Rattle.std.proofs.Common.{List, [], ◌∷◌, ℤ, pos, refl, arith, ◌<◌}
 use Rattle.std.proofs.Common.{if◌then◌else◌}
 use Rattle.std.specs.Prelude.{option_map, is_some, IsUtf8}
 use Rattle.std.specs.List.{list_all}

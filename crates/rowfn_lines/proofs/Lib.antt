@@ -1,5 +1,6 @@
 pub mod AllSome
 pub mod CellRows
+pub mod FieldRows
 pub mod Numbers
 pub mod ShortNumbers
 pub mod IntegerTexts

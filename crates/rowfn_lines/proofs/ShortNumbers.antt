@@ -1,7 +1,7 @@
 -- Numbers of 64 bits, which are read digit by digit.
-use Rattle.std.proofs.Common.{◌≡◌, ℕ, ◌+◌, ◌-◌, ◌*◌, ◌<◌, ◌≤◌, Bool, true, false, List, [], ◌∷◌}
+use Rattle.std.proofs.Common.{◌≡◌, ℕ, ◌+◌, ◌-◌, ◌*◌, ◌<◌, ◌≤◌, true, List, ◌∷◌}
 use Rattle.std.proofs.Common.{ap, sym, ◌∙◌, ◌&&◌, refl, arith, length, get_or, drop, Some, ℤ, pos}
-use Rattle.std.proofs.Common.{zero, suc, ◌-ℤ◌, ◌^◌, subst, Option, ◌≢◌}
+use Rattle.std.proofs.Common.{zero, suc, ◌-ℤ◌, ◌^◌, subst, Option, ◌≢◌, add-one}
 use Rattle.std.specs.Int.{w128}
 use mir.Val.{to_z, of_z, hbits, SFits}
 use Rattle.std.proofs.lemmas.Int.{ints, to_z-of_z}
@@ -43,6 +43,28 @@ last_digit bs k n some past at =
 
     number : n ≡ decimal_from 0 bs
     number = sym (ap (decimal_from n) (drop_all k bs past)) ∙ at.number
+
+-- the greatest number of so many digits
+abbrev pub most_of : ℕ → ℕ
+most_of zero = 0
+most_of (suc k) = most_of k * 10 + 9
+
+most_more : (k m : ℕ) → k ≤ m → most_of k ≤ most_of m
+most_more zero m h = omega arith
+most_more (suc k) zero h = absurd (omega (arith, h))
+most_more (suc k) (suc m) h = omega (arith, most_more k m (omega (arith, h)))
+
+-- a number of so few digits that 64 bits hold it with one more
+pub few_held : (k n : ℕ) → k < 19 → n ≤ most_of k → n ≤ 999999999999999999
+few_held k n few h =
+    let most : most_of k ≤ 999999999999999999 = most_more k 18 (omega (arith, few)) in
+    omega (arith, h, most)
+
+-- and one digit more of it
+pub few_more : (k n d next : ℕ) → d ≤ 9 → n ≤ most_of k → next ≡ n * 10 + d
+    → next ≤ most_of (k + 1)
+few_more k n d next digit h is =
+    subst (λ (m : ℕ). next ≤ most_of m) (sym (add-one k)) (omega (arith, digit, h, is))
 
 minus : (n : ℕ) → pos 0 -ℤ pos n ≡ negative n
 minus zero = refl

@@ -3,3 +3,4 @@ pub mod Ranges
 pub mod Cells
 pub mod Commands
 pub mod Answering
+pub mod Fields

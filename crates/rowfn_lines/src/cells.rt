@@ -56,11 +56,11 @@ pub(crate) trait CellKind<'a>: CellTypes {
         ensures { MakesColumn value Self.kind (validity_of validity) values.items result };
 }
 
-struct BoolCells {}
+pub(crate) struct BoolCells {}
 
 pub(crate) struct IntCells<T: NativePType>(PhantomData<T>);
 
-struct TextCells {}
+pub(crate) struct TextCells {}
 
 impl CellTypes for BoolCells {
     ghost kind = { bool_type };
@@ -165,6 +165,7 @@ impl<'a> CellKind<'a> for TextCells {
 }
 
 /// What a cell says, a null among it; nothing where it says no value of the type.
+#[inline(always)]
 fn read_cell<'a, K: CellKind<'a>>(
     nullability: Nullability,
     cell: Option<&'a str>,

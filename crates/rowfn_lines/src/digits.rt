@@ -1,5 +1,5 @@
 //! Numbers that words say by digits.
-ghost use Rattle.std.specs.Prelude.{◌≡◌, pos, ◌∷◌, Some, is_some, option_map, MatchOption, ⊤};
+ghost use Rattle.std.specs.Prelude.{◌≡◌, pos, ◌∷◌, Some, is_some, option_map, MatchOption, ⊤, ◌<◌, ◌≤◌, length};
 ghost use Rattle.std.specs.List.{list_all};
 ghost use Rattle.std.specs.Char.{is_ascii_digit};
 ghost use Rattle.rowfn_lines.specs.Commands.{digits_of, negative, integer_of};
@@ -20,13 +20,29 @@ pub fn are_digits(word: &str) -> bool
     !word.is_empty() && all_digits(word)
 }
 
-/// The number that digits say; nothing where others stand there, and where 64 bits do not hold it.
-fn short_number(digits: &[u8]) -> Option<u64>
+/// The number that so few digits say that 64 bits hold it; nothing where others stand there.
+#[inline(always)]
+fn few_digits(digits: &[u8]) -> Option<u64>
+    requires some { 0 < length digits.now }
+    requires few { length digits.now ≤ 19 }
     ensures { MatchOption result ⊤ (λ n. digits_of digits.now ≡ Some n) }
 {
-    if digits.is_empty() {
-        return None;
+    let mut number = 0u64;
+    for byte in digits {
+        if !byte.is_ascii_digit() {
+            return None;
+        }
+        number = number * 10 + (*byte - b'0') as u64;
     }
+    Some(number)
+}
+
+/// The number that digits say; nothing where others stand there, and where 64 bits do not hold it.
+#[inline(never)]
+fn many_digits(digits: &[u8]) -> Option<u64>
+    requires { 0 < length digits.now }
+    ensures { MatchOption result ⊤ (λ n. digits_of digits.now ≡ Some n) }
+{
     let mut number = 0u64;
     for byte in digits {
         if !byte.is_ascii_digit() {
@@ -37,7 +53,20 @@ fn short_number(digits: &[u8]) -> Option<u64>
     Some(number)
 }
 
+/// The number that digits say; nothing where others stand there, and where 64 bits do not hold it.
+#[inline(always)]
+fn short_number(digits: &[u8]) -> Option<u64>
+    ensures { MatchOption result ⊤ (λ n. digits_of digits.now ≡ Some n) }
+{
+    match digits.len() {
+        0 => None,
+        1..=19 => few_digits(digits),
+        _ => many_digits(digits),
+    }
+}
+
 /// The same as a number with a sign.
+#[inline(always)]
 fn short_plain(digits: &[u8]) -> Option<i128>
     ensures { MatchOption result ⊤ (λ z. option_map pos (digits_of digits.now) ≡ Some z) }
 {
@@ -46,6 +75,7 @@ fn short_plain(digits: &[u8]) -> Option<i128>
 }
 
 /// The same after a minus sign.
+#[inline(always)]
 fn short_negative(digits: &[u8]) -> Option<i128>
     ensures { MatchOption result ⊤ (λ z. option_map negative (digits_of digits.now) ≡ Some z) }
 {

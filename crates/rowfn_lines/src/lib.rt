@@ -4,7 +4,7 @@
 pub mod cells;
 pub mod command;
 mod digits;
-pub mod integers;
+pub mod fields;
 pub mod laws;
 pub mod parse;
 mod said;

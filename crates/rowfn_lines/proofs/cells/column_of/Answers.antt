@@ -2,7 +2,7 @@ use Rattle.std.proofs.Common.{◌∙◌, ap, map}
 use Rattle.vortex_types.specs.TypeOf.{allows_null}
 use Rattle.vortex_columns.specs.ValidityView.{validity_of}
 use Rattle.rowfn_lines.specs.Cells.{cells_validity}
-use Rattle.rowfn_lines.proofs.CellRows.{column_made, column_unmade}
+use Rattle.rowfn_lines.proofs.CellRows.{column_made}
 use Rattle.rowfn_lines.proofs.cells.column_of.Goals as goal
 
 pub returns-in-Ok : goal.returns-in-Ok

@@ -1,4 +1,3 @@
-use Rattle.std.proofs.Common.{ap, sym}
 use Rattle.rowfn_lines.proofs.ShortNumbers.{said_as, minus_first, plain_first}
 use Rattle.rowfn_lines.proofs.digits.short_integer.Goals as goal
 

@@ -1,4 +1,4 @@
-use Rattle.rowfn_lines.proofs.integers.integers_of_cells.Goals as goal
+use Rattle.rowfn_lines.proofs.fields.read_int_column.Goals as goal
 
 pub returns-in-I8 : goal.returns-in-I8
 returns-in-I8 c = rw c.in-I8.is c.read_column.ensures

@@ -1,6 +1,6 @@
-use Rattle.std.proofs.Common.{tests, arith, ◌≡◌, ◌+◌, ◌-◌, ◌*◌, ◌∙◌, ap, sym, refl, ℕ, get_or}
+use Rattle.std.proofs.Common.{◌+◌, ◌-◌, ◌∙◌, ap, sym, refl, ℕ, get_or}
 use Rattle.rowfn_lines.proofs.ShortNumbers.{next_digit, last_digit}
-use Rattle.rowfn_lines.proofs.digits.short_number.Goals as goal
+use Rattle.rowfn_lines.proofs.digits.many_digits.Goals as goal
 
 pub loop-byte-preserved : goal.loop-byte-preserved
 loop-byte-preserved c =
@@ -15,4 +15,4 @@ loop-byte-preserved c =
 pub returns : goal.returns
 returns c =
     last_digit c.args.digits.now c.loop-byte.byte-index c.loop-byte.number
-    (grind (arith, tests, c.if-is_empty.ensures)) c.loop-byte-test.false c.loop-byte.invariant
+    c.requires c.loop-byte-test.false c.loop-byte.invariant

@@ -1,5 +1,5 @@
 use Rattle.std.proofs.lemmas.Str.{IsUtf8-from_ascii}
-use Rattle.rowfn_batches.proofs.fields.text_of.Goals as goal
+use Rattle.rowfn_lines.proofs.fields.text_of.Goals as goal
 
 pub from_utf8_unchecked-requires : goal.from_utf8_unchecked-requires
 from_utf8_unchecked-requires c = IsUtf8-from_ascii c.args.bytes.now c.if-is_ascii.ensures.cases
