@@ -352,20 +352,23 @@ impl Test {
     }
 }
 
-/// A pattern that is the one before it is not taken apart again.
-pub fn by_repeated((texts, patterns): &(TextViews, TextViews)) -> Bools {
+/// A pattern that is one of the last `KEPT` is not taken apart again.
+pub fn by_repeated<const KEPT: usize>((texts, patterns): &(TextViews, TextViews)) -> Bools {
     let (rows, others) = (&texts.values, &patterns.values);
     let len = rows.rows().len();
     let mut values = Bits { words: vec![0; len.div_ceil(64) + 1], offset: 0, len };
-    let mut last: (&[u8], Test) = (b"", Test::of(""));
+    let mut kept: [(&[u8], Test); KEPT] = std::array::from_fn(|_| (&b""[..], Test::of("")));
+    let mut at = 0;
     for (k, pairs) in rows.rows().chunks(64).zip(others.rows().chunks(64)).enumerate() {
         let mut word = 0;
         for (i, (text, pattern)) in pairs.0.iter().zip(pairs.1).enumerate() {
             let bytes = others.bytes(pattern);
-            if bytes != last.0 {
-                last = (bytes, Test::of(as_text(bytes)));
-            }
-            word |= u64::from(last.1.says(rows.bytes(text))) << i;
+            at = (at..KEPT).chain(0..at).find(|at| kept[*at].0 == bytes).unwrap_or_else(|| {
+                let next = (at + 1) % KEPT;
+                kept[next] = (bytes, Test::of(as_text(bytes)));
+                next
+            });
+            word |= u64::from(kept[at].1.says(rows.bytes(text))) << i;
         }
         values.words[k] = word;
     }

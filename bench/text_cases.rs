@@ -136,10 +136,22 @@ fn like_cases_of(shape: &Shape, chance: &mut Chance, name: &str, are_long: bool)
         let views = Rc::new((views.as_ref().clone(), views_of(&patterns)));
         let name = format!("{name} like {pattern}, in each row");
         case(&name, &texts, move |texts| project::like_repeated(texts, &patterns), vec![
-            form("views, calls, the last pattern kept", &views, like::by_repeated),
+            form("views, calls, the last pattern kept", &views, like::by_repeated::<1>),
         ])
     }));
+    cases.push(patterns_in_turn(shape, &format!("{name} like eight patterns in turn"), &texts, whole));
     cases
+}
+
+/// Another pattern in each row than in the one before, of eight.
+fn patterns_in_turn(shape: &Shape, name: &str, texts: &Rc<Texts>, whole: &str) -> Case {
+    let eight = ["x%", "%oxide", "%nitr%", whole, "water%", "%on", "%ine%", "iodine"];
+    let patterns = Texts { values: (0..shape.rows).map(|i| eight[i % 8].into()).collect(), valid: None };
+    let views = Rc::new((views_of(texts), views_of(&patterns)));
+    case(name, texts, move |texts| project::like_repeated(texts, &patterns), vec![
+        form("views, calls, the last pattern kept", &views, like::by_repeated::<1>),
+        form("views, calls, the last eight kept", &views, like::by_repeated::<8>),
+    ])
 }
 
 /// A dictionary of so many values: its rows made, and a function over its values or its rows.

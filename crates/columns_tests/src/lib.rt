@@ -1,6 +1,9 @@
-//! Tests of views and their words, of types, values, scalars and columns.
+//! Tests of views and their words, of types, values, scalars and columns, and of columns in Arrow's
+//! format.
 #![tactic(auto)]
 
+#[cfg(test)]
+mod arrow;
 #[cfg(test)]
 mod bits;
 #[cfg(test)]

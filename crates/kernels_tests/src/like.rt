@@ -4,6 +4,7 @@ mod columns;
 mod escapes;
 mod folding;
 mod forms;
+mod many;
 mod patterns;
 mod questions;
 mod shapes;

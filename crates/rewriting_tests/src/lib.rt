@@ -1,5 +1,5 @@
-//! Tests of array trees, and of rules at places of either kind of tree, in runs, and of callers'
-//! functions.
+//! Tests of array trees, and of rules at roots and at places of either kind of tree, in runs, and of
+//! callers' functions.
 #![tactic(auto)]
 
 #[cfg(test)]
@@ -18,5 +18,7 @@ mod questions;
 mod readme;
 #[cfg(test)]
 mod rewriting;
+#[cfg(test)]
+mod rules;
 #[cfg(test)]
 mod running;

@@ -11,252 +11,335 @@ column, `get`, `lit` and `call` make trees, `as NAME`\nnames the last one; the t
 at the end are the answers.\n\nStatus: 1 a call faults in a row, or rows were left out, 2 input \
 that does not fit, 3 reading,\nwriting or memory, 4 a wrong expression, 64 wrong options.";
 
+/// What an option takes behind its name.
+#[derive(Clone, Copy)]
+enum Takes {
+    /// Nothing.
+    Flag,
+    /// A text.
+    Text,
+    /// A text, which may begin with a hyphen.
+    AnyText,
+    /// A text each time that the option stands there.
+    Texts,
+    /// A number from 1 that 32 bits hold.
+    Number32,
+    /// A number from 1 that 64 bits hold.
+    Number64,
+}
+
+/// An option, as `--help` prints it.
+#[derive(Clone, Copy)]
+struct Row {
+    id: &'static str,
+    long: Option<&'static str>,
+    short: Option<char>,
+    takes: Takes,
+    /// How its value is called; empty for a flag.
+    value: &'static str,
+    default: Option<&'static str>,
+    /// Options that may not stand beside it.
+    against: [Option<&'static str>; 2],
+    help: &'static str,
+}
+
+/// An option that takes a text. Each row below says in what it differs.
+const TEXT: Row = Row {
+    id: "",
+    long: None,
+    short: None,
+    takes: Takes::Text,
+    value: "",
+    default: None,
+    against: [None, None],
+    help: "",
+};
+
+/// A flag.
+const FLAG: Row = Row {
+    takes: Takes::Flag,
+    ..TEXT
+};
+
+/// Where the expression and the rows stand.
+const SOURCES: [Row; 4] = [
+    Row {
+        id: "input-file",
+        value: "INPUT-FILE",
+        against: [Some("input"), None],
+        help: "The file of the rows; standard input where there is none, or it is -",
+        ..TEXT
+    },
+    Row {
+        id: "input",
+        long: Some("input"),
+        value: "INPUT-FILE",
+        help: "The file of the rows, as INPUT-FILE",
+        ..TEXT
+    },
+    Row {
+        id: "lines",
+        short: Some('e'),
+        takes: Takes::Texts,
+        value: "LINES",
+        help: "Lines of an expression, in place of EXPRESSION",
+        ..TEXT
+    },
+    Row {
+        id: "script",
+        short: Some('f'),
+        value: "EXPRESSION-FILE",
+        against: [Some("lines"), None],
+        help: "A file of such lines, in place of EXPRESSION",
+        ..TEXT
+    },
+];
+
+/// What is done with rows.
+const ACTIONS: [Row; 8] = [
+    Row {
+        id: "where",
+        long: Some("where"),
+        takes: Takes::AnyText,
+        value: "EXPRESSION",
+        help: "Take the rows in which this is true; without answers, write them as they stand",
+        ..TEXT
+    },
+    Row {
+        id: "pick",
+        long: Some("pick"),
+        against: [Some("where"), None],
+        help: "Write the rows in which the last answer is true, as they stand",
+        ..FLAG
+    },
+    Row {
+        id: "append",
+        long: Some("append"),
+        against: [Some("pick"), None],
+        help: "Write each row's own fields before its answers",
+        ..FLAG
+    },
+    Row {
+        id: "explain",
+        long: Some("explain"),
+        against: [Some("pick"), None],
+        help: "Print what is answered, and of which types; write no rows",
+        ..FLAG
+    },
+    Row {
+        id: "errors",
+        long: Some("errors"),
+        value: "skip|stop",
+        default: Some("stop"),
+        help: "What a row that is refused does: it is told and left out, or ends the stream",
+        ..TEXT
+    },
+    Row {
+        id: "errors-to",
+        long: Some("errors-to"),
+        value: "FILE",
+        help: "The file that tells of refused rows, as CSV: row, column, reason, field",
+        ..TEXT
+    },
+    Row {
+        id: "summary",
+        long: Some("summary"),
+        help: "Print at the end how many rows were read and written",
+        ..FLAG
+    },
+    Row {
+        id: "progress",
+        long: Some("progress"),
+        help: "Print, while rows flow, how many rows and bytes have",
+        ..FLAG
+    },
+];
+
+/// How rows are read.
+const READING: [Row; 7] = [
+    Row {
+        id: "columns",
+        long: Some("columns"),
+        value: "COLUMNS",
+        against: [Some("lines"), Some("script")],
+        help: "Columns and their types: 'price i32, stock i32?, \"unit price\" i64'",
+        ..TEXT
+    },
+    Row {
+        id: "no-infer",
+        long: Some("no-infer"),
+        help: "Take no types from the first rows: columns are the declared ones",
+        ..FLAG
+    },
+    Row {
+        id: "first-row",
+        long: Some("first-row"),
+        takes: Takes::Number64,
+        value: "N",
+        default: Some("1"),
+        help: "The number by which the first row is told, as in a part of a whole",
+        ..TEXT
+    },
+    Row {
+        id: "batch",
+        long: Some("batch"),
+        takes: Takes::Number32,
+        value: "N",
+        default: Some("2048"),
+        help: "How many rows are read, answered and written together, at most",
+        ..TEXT
+    },
+    Row {
+        id: "batch-bytes",
+        long: Some("batch-bytes"),
+        takes: Takes::Number64,
+        value: "N",
+        default: Some("1048576"),
+        help: "With how many bytes of the input those rows are enough",
+        ..TEXT
+    },
+    Row {
+        id: "flush",
+        long: Some("flush"),
+        help: "Write what is answered whenever the input pauses",
+        ..FLAG
+    },
+    Row {
+        id: "max-field",
+        long: Some("max-field"),
+        takes: Takes::Number64,
+        value: "N",
+        default: Some("268435456"),
+        help: "How many bytes a field has, at most",
+        ..TEXT
+    },
+];
+
+/// How fields are written, in the input and in the output.
+const FIELDS: [Row; 6] = [
+    Row {
+        id: "delimiter",
+        long: Some("delimiter"),
+        short: Some('d'),
+        value: "BYTE",
+        default: Some(","),
+        help: "The byte between two fields; \\t is a tab",
+        ..TEXT
+    },
+    Row {
+        id: "header",
+        long: Some("header"),
+        against: [Some("no-header"), None],
+        help: "The first record names the columns (default)",
+        ..FLAG
+    },
+    Row {
+        id: "no-header",
+        long: Some("no-header"),
+        help: "No record names columns: they are the declared ones in their order",
+        ..FLAG
+    },
+    Row {
+        id: "null",
+        long: Some("null"),
+        short: Some('n'),
+        takes: Takes::AnyText,
+        value: "TEXT",
+        default: Some(""),
+        help: "What stands for null, in no quotes",
+        ..TEXT
+    },
+    Row {
+        id: "blank-lines",
+        long: Some("blank-lines"),
+        value: "null|skip",
+        default: Some("skip"),
+        help: "What a line without a byte is: a row of one null, or nothing",
+        ..TEXT
+    },
+    Row {
+        id: "bool",
+        long: Some("bool"),
+        value: "plain|any",
+        default: Some("plain"),
+        help: "How truth values are read: true and false, or t, True, TRUE and 1 too",
+        ..TEXT
+    },
+];
+
+/// What an option takes, as `clap` says it.
+fn taking<'a>(arg: Arg<'a>, row: Row) -> Arg<'a> {
+    match row.takes {
+        Takes::Flag => arg.action(ArgAction::SetTrue),
+        Takes::Text => arg.value_name(row.value),
+        Takes::AnyText => arg.value_name(row.value).allow_hyphen_values(true),
+        Takes::Texts => arg.value_name(row.value).action(ArgAction::Append),
+        Takes::Number32 => {
+            arg.value_name(row.value)
+                .value_parser(value_parser!(u32).range(1..))
+        }
+        Takes::Number64 => {
+            arg.value_name(row.value)
+                .value_parser(value_parser!(u64).range(1..))
+        }
+    }
+}
+
+/// An option by its row.
+fn option<'a>(alloc: Global, row: Row) -> Result<Arg<'a>, Error> {
+    let mut arg = taking(Arg::new(alloc, row.id).help(row.help), row);
+    if let Some(long) = row.long {
+        arg = arg.long(long);
+    }
+    if let Some(short) = row.short {
+        arg = arg.short(short);
+    }
+    if let Some(default) = row.default {
+        arg = arg.default_value(default);
+    }
+    for other in row.against {
+        if let Some(other) = other {
+            arg = arg.conflicts_with(other)?;
+        }
+    }
+    Ok(arg)
+}
+
 /// The command with an option more.
 fn with<'a>(command: Command<'a>, option: Result<Arg<'a>, Error>) -> Result<Command<'a>, Error> {
     Ok(command.arg(option?)?)
 }
 
-fn delimiter<'a>(alloc: Global) -> Result<Arg<'a>, Error> {
-    Ok(
-        Arg::new(alloc, "delimiter")
-            .long("delimiter")
-            .short('d')
-            .value_name("BYTE")
-            .default_value(",")
-            .help("The byte between two fields; \\t is a tab"),
-    )
+/// The command with options more.
+fn with_rows<'a>(alloc: Global, command: Command<'a>, rows: &[Row]) -> Result<Command<'a>, Error> {
+    let mut command = command;
+    for row in rows {
+        command = with(command, option(alloc, *row))?;
+    }
+    Ok(command)
 }
 
-fn header<'a>(alloc: Global) -> Result<Arg<'a>, Error> {
-    Ok(
-        Arg::new(alloc, "header")
-            .long("header")
-            .action(ArgAction::SetTrue)
-            .conflicts_with("no-header")?
-            .help("The first record names the columns (default)"),
-    )
+/// Where the expression and the rows stand.
+fn with_sources<'a>(alloc: Global, command: Command<'a>) -> Result<Command<'a>, Error> {
+    with_rows(alloc, command, &SOURCES)
 }
 
-fn no_header<'a>(alloc: Global) -> Result<Arg<'a>, Error> {
-    Ok(
-        Arg::new(alloc, "no-header")
-            .long("no-header")
-            .action(ArgAction::SetTrue)
-            .help("No record names columns: they are the declared ones in their order"),
-    )
+/// What is done with rows.
+fn with_actions<'a>(alloc: Global, command: Command<'a>) -> Result<Command<'a>, Error> {
+    with_rows(alloc, command, &ACTIONS)
 }
 
-fn null<'a>(alloc: Global) -> Result<Arg<'a>, Error> {
-    Ok(
-        Arg::new(alloc, "null")
-            .long("null")
-            .short('n')
-            .allow_hyphen_values(true)
-            .value_name("TEXT")
-            .default_value("")
-            .help("What stands for null, in no quotes"),
-    )
+/// How rows are read.
+fn with_reading<'a>(alloc: Global, command: Command<'a>) -> Result<Command<'a>, Error> {
+    with_rows(alloc, command, &READING)
 }
 
-fn blank_lines<'a>(alloc: Global) -> Result<Arg<'a>, Error> {
-    Ok(
-        Arg::new(alloc, "blank-lines")
-            .long("blank-lines")
-            .value_name("null|skip")
-            .default_value("skip")
-            .help("What a line without a byte is: a row of one null, or nothing"),
-    )
+/// How fields are written, in the input and in the output.
+fn with_fields<'a>(alloc: Global, command: Command<'a>) -> Result<Command<'a>, Error> {
+    with_rows(alloc, command, &FIELDS)
 }
 
-fn truths<'a>(alloc: Global) -> Result<Arg<'a>, Error> {
-    Ok(
-        Arg::new(alloc, "bool")
-            .long("bool")
-            .value_name("plain|any")
-            .default_value("plain")
-            .help("How truth values are read: true and false, or t, True, TRUE and 1 too"),
-    )
-}
-
-fn batch<'a>(alloc: Global) -> Result<Arg<'a>, Error> {
-    Ok(
-        Arg::new(alloc, "batch")
-            .long("batch")
-            .value_name("N")
-            .value_parser(value_parser!(u32).range(1..))
-            .default_value("2048")
-            .help("How many rows are read, answered and written together, at most"),
-    )
-}
-
-fn batch_bytes<'a>(alloc: Global) -> Result<Arg<'a>, Error> {
-    Ok(
-        Arg::new(alloc, "batch-bytes")
-            .long("batch-bytes")
-            .value_name("N")
-            .value_parser(value_parser!(u64).range(1..))
-            .default_value("1048576")
-            .help("With how many bytes of the input those rows are enough"),
-    )
-}
-
-fn flush<'a>(alloc: Global) -> Result<Arg<'a>, Error> {
-    Ok(
-        Arg::new(alloc, "flush")
-            .long("flush")
-            .action(ArgAction::SetTrue)
-            .help("Write what is answered whenever the input pauses"),
-    )
-}
-
-fn max_field<'a>(alloc: Global) -> Result<Arg<'a>, Error> {
-    Ok(
-        Arg::new(alloc, "max-field")
-            .long("max-field")
-            .value_name("N")
-            .value_parser(value_parser!(u64).range(1..))
-            .default_value("268435456")
-            .help("How many bytes a field has, at most"),
-    )
-}
-
-fn columns<'a>(alloc: Global) -> Result<Arg<'a>, Error> {
-    Ok(
-        Arg::new(alloc, "columns")
-            .long("columns")
-            .value_name("COLUMNS")
-            .conflicts_with("lines")?
-            .conflicts_with("script")?
-            .help("Columns and their types: 'price i32, stock i32?, \"unit price\" i64'"),
-    )
-}
-
-fn no_infer<'a>(alloc: Global) -> Result<Arg<'a>, Error> {
-    Ok(
-        Arg::new(alloc, "no-infer")
-            .long("no-infer")
-            .action(ArgAction::SetTrue)
-            .help("Take no types from the first rows: columns are the declared ones"),
-    )
-}
-
-fn condition<'a>(alloc: Global) -> Result<Arg<'a>, Error> {
-    Ok(
-        Arg::new(alloc, "where")
-            .long("where")
-            .value_name("EXPRESSION")
-            .allow_hyphen_values(true)
-            .help("Take the rows in which this is true; without answers, write them as they stand"),
-    )
-}
-
-fn picks<'a>(alloc: Global) -> Result<Arg<'a>, Error> {
-    Ok(
-        Arg::new(alloc, "pick")
-            .long("pick")
-            .action(ArgAction::SetTrue)
-            .conflicts_with("where")?
-            .help("Write the rows in which the last answer is true, as they stand"),
-    )
-}
-
-fn append<'a>(alloc: Global) -> Result<Arg<'a>, Error> {
-    Ok(
-        Arg::new(alloc, "append")
-            .long("append")
-            .action(ArgAction::SetTrue)
-            .conflicts_with("pick")?
-            .help("Write each row's own fields before its answers"),
-    )
-}
-
-fn first_row<'a>(alloc: Global) -> Result<Arg<'a>, Error> {
-    Ok(
-        Arg::new(alloc, "first-row")
-            .long("first-row")
-            .value_name("N")
-            .value_parser(value_parser!(u64).range(1..))
-            .default_value("1")
-            .help("The number by which the first row is told, as in a part of a whole"),
-    )
-}
-
-fn explain<'a>(alloc: Global) -> Result<Arg<'a>, Error> {
-    Ok(
-        Arg::new(alloc, "explain")
-            .long("explain")
-            .action(ArgAction::SetTrue)
-            .conflicts_with("pick")?
-            .help("Print what is answered, and of which types; write no rows"),
-    )
-}
-
-fn summary<'a>(alloc: Global) -> Result<Arg<'a>, Error> {
-    Ok(
-        Arg::new(alloc, "summary")
-            .long("summary")
-            .action(ArgAction::SetTrue)
-            .help("Print at the end how many rows were read and written"),
-    )
-}
-
-fn progress<'a>(alloc: Global) -> Result<Arg<'a>, Error> {
-    Ok(
-        Arg::new(alloc, "progress")
-            .long("progress")
-            .action(ArgAction::SetTrue)
-            .help("Print, while rows flow, how many rows and bytes have"),
-    )
-}
-
-fn errors<'a>(alloc: Global) -> Result<Arg<'a>, Error> {
-    Ok(
-        Arg::new(alloc, "errors")
-            .long("errors")
-            .value_name("skip|stop")
-            .default_value("stop")
-            .help("What a row that is refused does: it is told and left out, or ends the stream"),
-    )
-}
-
-fn errors_to<'a>(alloc: Global) -> Result<Arg<'a>, Error> {
-    Ok(
-        Arg::new(alloc, "errors-to")
-            .long("errors-to")
-            .value_name("FILE")
-            .help("The file that tells of refused rows, as CSV: row, column, reason, field"),
-    )
-}
-
-fn lines<'a>(alloc: Global) -> Result<Arg<'a>, Error> {
-    Ok(
-        Arg::new(alloc, "lines")
-            .short('e')
-            .value_name("LINES")
-            .action(ArgAction::Append)
-            .help("Lines of an expression, in place of EXPRESSION"),
-    )
-}
-
-fn script<'a>(alloc: Global) -> Result<Arg<'a>, Error> {
-    Ok(
-        Arg::new(alloc, "script")
-            .short('f')
-            .value_name("EXPRESSION-FILE")
-            .conflicts_with("lines")?
-            .help("A file of such lines, in place of EXPRESSION"),
-    )
-}
-
-fn input<'a>(alloc: Global) -> Result<Arg<'a>, Error> {
-    Ok(
-        Arg::new(alloc, "input")
-            .long("input")
-            .value_name("INPUT-FILE")
-            .help("The file of the rows, as INPUT-FILE"),
-    )
-}
-
+/// The first word, which is the expression unless lines are.
 fn expression<'a>(alloc: Global) -> Result<Arg<'a>, Error> {
     Ok(
         Arg::new(alloc, "expression")
@@ -268,61 +351,19 @@ fn expression<'a>(alloc: Global) -> Result<Arg<'a>, Error> {
     )
 }
 
-fn input_file<'a>(alloc: Global) -> Result<Arg<'a>, Error> {
-    Ok(
-        Arg::new(alloc, "input-file")
-            .value_name("INPUT-FILE")
-            .conflicts_with("input")?
-            .help("The file of the rows; standard input where there is none, or it is -"),
-    )
-}
-
-/// How fields are written, in the input and in the output.
-fn with_fields<'a>(alloc: Global, command: Command<'a>) -> Result<Command<'a>, Error> {
-    let command = with(command, delimiter(alloc))?;
-    let command = with(command, header(alloc))?;
-    let command = with(command, no_header(alloc))?;
-    let command = with(command, null(alloc))?;
-    let command = with(command, blank_lines(alloc))?;
-    with(command, truths(alloc))
-}
-
-/// How rows are read.
-fn with_rows<'a>(alloc: Global, command: Command<'a>) -> Result<Command<'a>, Error> {
-    let command = with(command, columns(alloc))?;
-    let command = with(command, no_infer(alloc))?;
-    let command = with(command, first_row(alloc))?;
-    let command = with(command, batch(alloc))?;
-    let command = with(command, batch_bytes(alloc))?;
-    let command = with(command, flush(alloc))?;
-    with(command, max_field(alloc))
-}
-
-/// What is done with rows.
-fn with_actions<'a>(alloc: Global, command: Command<'a>) -> Result<Command<'a>, Error> {
-    let command = with(command, condition(alloc))?;
-    let command = with(command, picks(alloc))?;
-    let command = with(command, append(alloc))?;
-    let command = with(command, explain(alloc))?;
-    let command = with(command, errors(alloc))?;
-    let command = with(command, errors_to(alloc))?;
-    let command = with(command, summary(alloc))?;
-    with(command, progress(alloc))
-}
-
-/// The command with all its options: where the expression stands, what is done with rows, and how
-/// they are read and written.
-pub fn command<'a>(alloc: Global) -> Result<Command<'a>, Error> {
-    let command = Command::new(alloc, "rowfn_stream")
+/// The command without its options.
+fn bare_command<'a>(alloc: Global) -> Command<'a> {
+    Command::new(alloc, "rowfn_stream")
         .version("0.1.0, proved with rattle-kit-13f")
         .about("Rows of CSV that flow through an expression")
-        .after_help(AFTER_HELP);
-    let command = with(command, expression(alloc))?;
-    let command = with(command, input_file(alloc))?;
-    let command = with(command, input(alloc))?;
-    let command = with(command, lines(alloc))?;
-    let command = with(command, script(alloc))?;
+        .after_help(AFTER_HELP)
+}
+
+/// The command with all its options, in the order of `--help`.
+pub fn command<'a>(alloc: Global) -> Result<Command<'a>, Error> {
+    let command = with(bare_command(alloc), expression(alloc))?;
+    let command = with_sources(alloc, command)?;
     let command = with_actions(alloc, command)?;
-    let command = with_rows(alloc, command)?;
+    let command = with_reading(alloc, command)?;
     with_fields(alloc, command)
 }

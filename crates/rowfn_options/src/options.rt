@@ -98,31 +98,20 @@ fn is_bare(text: &str, delimiter: u8) -> bool {
             .any(|byte| *byte == delimiter || b"\"\r\n".contains(byte))
 }
 
-/// Whether lines without a byte are rows, by the word that says so.
-fn read_blank_lines(word: &str) -> Option<bool> {
-    match word {
-        "skip" => Some(false),
-        "null" => Some(true),
-        _ => None,
+/// Whether a word is the second of two; it may be no other.
+fn is_second(word: &str, first: &str, second: &str) -> Option<bool> {
+    if word == second {
+        Some(true)
+    } else if word == first {
+        Some(false)
+    } else {
+        None
     }
 }
 
-/// Whether truth values are read in any spelling, by the word that says so.
-fn read_truths(word: &str) -> Option<bool> {
-    match word {
-        "plain" => Some(false),
-        "any" => Some(true),
-        _ => None,
-    }
-}
-
-/// Whether rows that are refused are left out, by the word that says so.
-fn read_errors(word: &str) -> Option<bool> {
-    match word {
-        "stop" => Some(false),
-        "skip" => Some(true),
-        _ => None,
-    }
+/// Why the words are refused.
+fn refusal(command: &mut Command<'_>, kind: ErrorKind, message: &str) -> Result<Error, Error> {
+    Ok(command.error(kind, message)?)
 }
 
 fn asked_action(matches: &ArgMatches<'_>) -> Action {
@@ -156,12 +145,6 @@ fn asked_source<'a>(alloc: Global, matches: &ArgMatches<'a>) -> Result<Source<'a
     }
 }
 
-/// Why there are too many words for files.
-fn input_error(command: &mut Command<'_>) -> Result<Error, Error> {
-    let message = "the rows are those of one file: with -e and -f the first word is it";
-    Ok(command.error(ErrorKind::ArgumentConflict, message)?)
-}
-
 /// The words that may name the file of the rows: the first one where the expression is lines, else
 /// the second one.
 fn input_words<'a>(matches: &ArgMatches<'a>) -> [Option<&'a str>; 2] {
@@ -180,47 +163,12 @@ fn asked_input<'a>(
     let name = match (input_words(matches), matches.get_str("input")) {
         ([word, None], None) => word,
         ([None, None], named) => named,
-        _ => return Err(input_error(command)?),
+        _ => {
+            let message = "the rows are those of one file: with -e and -f the first word is it";
+            return Err(refusal(command, ErrorKind::ArgumentConflict, message)?);
+        }
     };
     Ok(name.filter(|name| *name != "-"))
-}
-
-/// Why a word is no delimiter.
-fn delimiter_error(command: &mut Command<'_>) -> Result<Error, Error> {
-    let message = "the delimiter is one byte of ASCII, no quote and no end of a line";
-    Ok(command.error(ErrorKind::InvalidValue, message)?)
-}
-
-/// Why a text does not stand for null.
-fn null_error(command: &mut Command<'_>) -> Result<Error, Error> {
-    let message =
-        "the text for null has no delimiter, no quote, no end of a line and no byte order \
-                   mark in it";
-    Ok(command.error(ErrorKind::InvalidValue, message)?)
-}
-
-/// Why a word does not say what lines without a byte are.
-fn blank_lines_error(command: &mut Command<'_>) -> Result<Error, Error> {
-    let message = "lines without a byte are null, or skip passes over them";
-    Ok(command.error(ErrorKind::InvalidValue, message)?)
-}
-
-/// Why a word does not say how truth values are read.
-fn truths_error(command: &mut Command<'_>) -> Result<Error, Error> {
-    let message = "truth values are read in any spelling, or plain as true and false";
-    Ok(command.error(ErrorKind::InvalidValue, message)?)
-}
-
-/// Why a word does not say what rows that are refused do.
-fn errors_error(command: &mut Command<'_>) -> Result<Error, Error> {
-    let message = "rows that are refused stop the stream, or skip leaves them out";
-    Ok(command.error(ErrorKind::InvalidValue, message)?)
-}
-
-/// Why a file does not tell of rows that are refused.
-fn errors_to_error(command: &mut Command<'_>) -> Result<Error, Error> {
-    let message = "the file of --errors-to is that of the rows";
-    Ok(command.error(ErrorKind::ArgumentConflict, message)?)
 }
 
 /// The file that tells of rows that are refused: none that the rows are read from.
@@ -231,7 +179,8 @@ fn asked_errors_to<'a>(
 ) -> Result<Option<&'a str>, Error> {
     let name = matches.get_str("errors-to");
     if name.is_some() && name == input {
-        return Err(errors_to_error(command)?);
+        let message = "the file of --errors-to is that of the rows";
+        return Err(refusal(command, ErrorKind::ArgumentConflict, message)?);
     }
     Ok(name)
 }
@@ -249,8 +198,10 @@ fn asked_refused<'a>(
     command: &mut Command<'_>,
     input: Option<&str>,
 ) -> Result<Refused<'a>, Error> {
-    let Some(skips) = read_errors(matches.get_str("errors").unwrap_or("stop")) else {
-        return Err(errors_error(command)?);
+    let errors = matches.get_str("errors").unwrap_or("stop");
+    let Some(skips) = is_second(errors, "stop", "skip") else {
+        let message = "rows that are refused stop the stream, or skip leaves them out";
+        return Err(refusal(command, ErrorKind::InvalidValue, message)?);
     };
     let errors_to = asked_errors_to(matches, command, input)?;
     Ok(Refused { skips, errors_to })
@@ -271,17 +222,25 @@ fn asked_fields<'a>(
     command: &mut Command<'_>,
 ) -> Result<Fields<'a>, Error> {
     let Some(delimiter) = read_delimiter(matches.get_str("delimiter").unwrap_or(",")) else {
-        return Err(delimiter_error(command)?);
+        let message = "the delimiter is one byte of ASCII, no quote and no end of a line";
+        return Err(refusal(command, ErrorKind::InvalidValue, message)?);
     };
     let null = matches.get_str("null").unwrap_or("");
     if !is_bare(null, delimiter) {
-        return Err(null_error(command)?);
+        let message =
+            "the text for null has no delimiter, no quote, no end of a line and no byte order \
+                       mark in it";
+        return Err(refusal(command, ErrorKind::InvalidValue, message)?);
     }
-    let Some(blank_rows) = read_blank_lines(matches.get_str("blank-lines").unwrap_or("skip")) else {
-        return Err(blank_lines_error(command)?);
+    let blank_lines = matches.get_str("blank-lines").unwrap_or("skip");
+    let Some(blank_rows) = is_second(blank_lines, "skip", "null") else {
+        let message = "lines without a byte are null, or skip passes over them";
+        return Err(refusal(command, ErrorKind::InvalidValue, message)?);
     };
-    let Some(any_truths) = read_truths(matches.get_str("bool").unwrap_or("plain")) else {
-        return Err(truths_error(command)?);
+    let truths = matches.get_str("bool").unwrap_or("plain");
+    let Some(any_truths) = is_second(truths, "plain", "any") else {
+        let message = "truth values are read in any spelling, or plain as true and false";
+        return Err(refusal(command, ErrorKind::InvalidValue, message)?);
     };
     Ok(Fields {
         delimiter,

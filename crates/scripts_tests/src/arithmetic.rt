@@ -1,6 +1,6 @@
 //! Scripts that calculate.
 
-use crate::endings::{is_refused, prints};
+use crate::endings::{are_refused, each_prints, is_refused, prints};
 
 const FAULTS_ON_BOTH_SIDES: &str = "rows 2
 col a u8 1 1
@@ -20,14 +20,25 @@ run
 
 #[test]
 fn operators_calculate(rt: HostRuntime) {
-    let script = "rows 2\ncol a i32? 7 null\ncol b i32? 2 0\nget a\nget b\ncall /\nrun\n";
-    assert!(rt; prints(rt, script, "i32?: 3 null\n"));
-    let script = "rows 2\ncol a i8 -7 100\nlit i8 2\nget a\ncall -\nrun\n";
-    assert!(rt; prints(rt, script, "i8: 9 -98\n"));
-    let script = "rows 2\ncol a u8? 250 null\nget a\nlit u8 5\ncall +\nrun\n";
-    assert!(rt; prints(rt, script, "u8?: 255 null\n"));
-    let script = "rows 1\ncol a i64 -3\nget a\nget a\ncall *\nshow\nrun\n";
-    assert!(rt; prints(rt, script, "($.a * $.a)\ni64: 9\n"));
+    const CASES: &[(&str, &str)] = &[
+        (
+            "rows 2\ncol a i32? 7 null\ncol b i32? 2 0\nget a\nget b\ncall /\nrun\n",
+            "i32?: 3 null\n",
+        ),
+        (
+            "rows 2\ncol a i8 -7 100\nlit i8 2\nget a\ncall -\nrun\n",
+            "i8: 9 -98\n",
+        ),
+        (
+            "rows 2\ncol a u8? 250 null\nget a\nlit u8 5\ncall +\nrun\n",
+            "u8?: 255 null\n",
+        ),
+        (
+            "rows 1\ncol a i64 -3\nget a\nget a\ncall *\nshow\nrun\n",
+            "($.a * $.a)\ni64: 9\n",
+        ),
+    ];
+    assert!(rt; each_prints(rt, CASES));
 }
 
 #[test]
@@ -38,11 +49,19 @@ fn no_rows_have_no_fault(rt: HostRuntime) {
 
 #[test]
 fn types_of_arithmetic_are_refused(rt: HostRuntime) {
-    let refusal = "error: TypeMismatch.Arithmetic\n";
-    let script = "rows 1\nlit i32 1\nlit i64 1\ncall +\n";
-    assert!(rt; is_refused(rt, script, "", refusal));
-    let script = "rows 1\nlit bool true\nlit bool true\ncall +\n";
-    assert!(rt; is_refused(rt, script, "", refusal));
+    const CASES: &[(&str, &str, &str)] = &[
+        (
+            "rows 1\nlit i32 1\nlit i64 1\ncall +\n",
+            "",
+            "error: TypeMismatch.Arithmetic\n",
+        ),
+        (
+            "rows 1\nlit bool true\nlit bool true\ncall +\n",
+            "",
+            "error: TypeMismatch.Arithmetic\n",
+        ),
+    ];
+    assert!(rt; are_refused(rt, CASES));
 }
 
 #[test]

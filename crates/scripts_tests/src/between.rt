@@ -1,6 +1,6 @@
 //! Scripts that ask whether values lie between bounds.
 
-use crate::endings::{ends, is_refused, prints};
+use crate::endings::{each_prints, ends, is_case, is_refused};
 
 const BETWEEN_COLUMNS: &str = "rows 3
 col x i32 10 10 1
@@ -18,11 +18,17 @@ run
 
 #[test]
 fn between_runs(rt: HostRuntime) {
-    let out = "($.l <= $.x <= $.u)\nbool?: false null true\nbool: true false true\n";
-    assert!(rt; prints(rt, BETWEEN_COLUMNS, out));
-    let script =
-        "rows 2\ncol x i32 0 1\nget x\nlit i32 0\nlit i32 1\ncall between  <  <=\nshow\nrun\n";
-    assert!(rt; prints(rt, script, "(0i32 < $.x <= 1i32)\nbool: false true\n"));
+    const CASES: &[(&str, &str)] = &[
+        (
+            BETWEEN_COLUMNS,
+            "($.l <= $.x <= $.u)\nbool?: false null true\nbool: true false true\n",
+        ),
+        (
+            "rows 2\ncol x i32 0 1\nget x\nlit i32 0\nlit i32 1\ncall between  <  <=\nshow\nrun\n",
+            "(0i32 < $.x <= 1i32)\nbool: false true\n",
+        ),
+    ];
+    assert!(rt; each_prints(rt, CASES));
 }
 
 #[test]
@@ -40,12 +46,25 @@ fn is_no_call(rt: HostRuntime, line: &str) -> bool {
     ends(rt, script.as_bytes(), "", 2, "line 5: malformed\n")
 }
 
+/// Whether so is each of these lines.
+fn are_no_calls(rt: HostRuntime, cases: &[&str]) -> bool {
+    for (place, line) in cases.iter().enumerate() {
+        if !is_case(rt, place, is_no_call(rt, line)) {
+            return false;
+        }
+    }
+    true
+}
+
 #[test]
 fn between_takes_two_words(rt: HostRuntime) {
-    assert!(rt; is_no_call(rt, "call between < !"));
-    assert!(rt; is_no_call(rt, "call between"));
-    assert!(rt; is_no_call(rt, "call between <"));
-    assert!(rt; is_no_call(rt, "call between < < <"));
-    assert!(rt; is_no_call(rt, "call \"between < <\""));
-    assert!(rt; is_no_call(rt, "call and < <"));
+    const CASES: &[&str] = &[
+        "call between < !",
+        "call between",
+        "call between <",
+        "call between < < <",
+        "call \"between < <\"",
+        "call and < <",
+    ];
+    assert!(rt; are_no_calls(rt, CASES));
 }

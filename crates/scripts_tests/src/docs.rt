@@ -1,8 +1,6 @@
 //! The examples of docs/SCRIPTS.md that no other module has.
 
-use crate::endings::{
-    ends, is_malformed_at_1, is_malformed_at_4, is_refused, prints, prints_after,
-};
+use crate::endings::{are_malformed, are_refused, each_prints, each_prints_after, ends, prints};
 
 const WORDS: &str = "# a comment, and an empty line
 
@@ -85,40 +83,54 @@ fn columns_of_several_types(rt: HostRuntime) {
 
 #[test]
 fn signed_integers(rt: HostRuntime) {
-    let script = "rows 2\ncol n i8 -128 127\nget n\nrun\n";
-    assert!(rt; prints(rt, script, "i8: -128 127\n"));
-    let script = "rows 2\ncol n i16 -32768 32767\nget n\nrun\n";
-    assert!(rt; prints(rt, script, "i16: -32768 32767\n"));
-    let script = "rows 2\ncol n i32 -2147483648 2147483647\nget n\nrun\n";
-    assert!(rt; prints(rt, script, "i32: -2147483648 2147483647\n"));
-    let script = "rows 2\ncol n i64 -9223372036854775808 9223372036854775807\nget n\nrun\n";
-    assert!(rt;
-        prints(
-            rt,
-            script,
-            "i64: -9223372036854775808 9223372036854775807\n"
-        )
-    );
+    const CASES: &[(&str, &str)] = &[
+        ("rows 2\ncol n i8 -128 127\nget n\nrun\n", "i8: -128 127\n"),
+        (
+            "rows 2\ncol n i16 -32768 32767\nget n\nrun\n",
+            "i16: -32768 32767\n",
+        ),
+        (
+            "rows 2\ncol n i32 -2147483648 2147483647\nget n\nrun\n",
+            "i32: -2147483648 2147483647\n",
+        ),
+        (
+            "rows 2\ncol n i64 -9223372036854775808 9223372036854775807\nget n\nrun\n",
+            "i64: -9223372036854775808 9223372036854775807\n",
+        ),
+    ];
+    assert!(rt; each_prints(rt, CASES));
 }
 
 #[test]
 fn unsigned_integers(rt: HostRuntime) {
-    let script = "rows 2\ncol n u8 0 255\nget n\nrun\n";
-    assert!(rt; prints(rt, script, "u8: 0 255\n"));
-    let script = "rows 2\ncol n u16 0 65535\nget n\nrun\n";
-    assert!(rt; prints(rt, script, "u16: 0 65535\n"));
-    let script = "rows 2\ncol n u32 0 4294967295\nget n\nrun\n";
-    assert!(rt; prints(rt, script, "u32: 0 4294967295\n"));
-    let script = "rows 2\ncol n u64 0 18446744073709551615\nget n\nrun\n";
-    assert!(rt; prints(rt, script, "u64: 0 18446744073709551615\n"));
+    const CASES: &[(&str, &str)] = &[
+        ("rows 2\ncol n u8 0 255\nget n\nrun\n", "u8: 0 255\n"),
+        ("rows 2\ncol n u16 0 65535\nget n\nrun\n", "u16: 0 65535\n"),
+        (
+            "rows 2\ncol n u32 0 4294967295\nget n\nrun\n",
+            "u32: 0 4294967295\n",
+        ),
+        (
+            "rows 2\ncol n u64 0 18446744073709551615\nget n\nrun\n",
+            "u64: 0 18446744073709551615\n",
+        ),
+    ];
+    assert!(rt; each_prints(rt, CASES));
 }
 
 #[test]
 fn nulls_and_texts(rt: HostRuntime) {
-    let script = "rows 2\ncol s utf8? null \"null\"\nget s\nrun\n";
-    assert!(rt; prints(rt, script, "utf8?: null \"null\"\n"));
-    let script = "rows 2\ncol s utf8 \"\" \"C:\\n\"\nget s\nrun\n";
-    assert!(rt; prints(rt, script, "utf8: \"\" \"C:\\n\"\n"));
+    const CASES: &[(&str, &str)] = &[
+        (
+            "rows 2\ncol s utf8? null \"null\"\nget s\nrun\n",
+            "utf8?: null \"null\"\n",
+        ),
+        (
+            "rows 2\ncol s utf8 \"\" \"C:\\n\"\nget s\nrun\n",
+            "utf8: \"\" \"C:\\n\"\n",
+        ),
+    ];
+    assert!(rt; each_prints(rt, CASES));
 }
 
 #[test]
@@ -139,125 +151,154 @@ fn texts_of_literals(rt: HostRuntime) {
 
 #[test]
 fn comparisons(rt: HostRuntime) {
-    assert!(rt;
-        prints_after(
-            rt,
-            COMPARED,
-            "call =\nrun\n",
-            "bool?: false true false null\n"
-        )
-    );
-    assert!(rt;
-        prints_after(
-            rt,
-            COMPARED,
-            "call !=\nrun\n",
-            "bool?: true false true null\n"
-        )
-    );
-    assert!(rt;
-        prints_after(
-            rt,
-            COMPARED,
-            "call <\nrun\n",
-            "bool?: true false false null\n"
-        )
-    );
-    assert!(rt;
-        prints_after(
-            rt,
-            COMPARED,
-            "call <=\nrun\n",
-            "bool?: true true false null\n"
-        )
-    );
-    assert!(rt;
-        prints_after(
-            rt,
-            COMPARED,
-            "call >\nrun\n",
-            "bool?: false false true null\n"
-        )
-    );
-    assert!(rt;
-        prints_after(
-            rt,
-            COMPARED,
-            "call >=\nrun\n",
-            "bool?: false true true null\n"
-        )
-    );
+    const CASES: &[(&str, &str, &str)] = &[
+        (COMPARED, "call =\nrun\n", "bool?: false true false null\n"),
+        (COMPARED, "call !=\nrun\n", "bool?: true false true null\n"),
+        (COMPARED, "call <\nrun\n", "bool?: true false false null\n"),
+        (COMPARED, "call <=\nrun\n", "bool?: true true false null\n"),
+        (COMPARED, "call >\nrun\n", "bool?: false false true null\n"),
+        (COMPARED, "call >=\nrun\n", "bool?: false true true null\n"),
+    ];
+    assert!(rt; each_prints_after(rt, CASES));
 }
 
 #[test]
 fn calculations(rt: HostRuntime) {
-    assert!(rt; prints_after(rt, CALCULATED, "call +\nrun\n", "i8?: -5 null\n"));
-    assert!(rt; prints_after(rt, CALCULATED, "call -\nrun\n", "i8?: -9 null\n"));
-    assert!(rt; prints_after(rt, CALCULATED, "call *\nrun\n", "i8?: -14 null\n"));
-    assert!(rt; prints_after(rt, CALCULATED, "call /\nrun\n", "i8?: -3 null\n"));
+    const CASES: &[(&str, &str, &str)] = &[
+        (CALCULATED, "call +\nrun\n", "i8?: -5 null\n"),
+        (CALCULATED, "call -\nrun\n", "i8?: -9 null\n"),
+        (CALCULATED, "call *\nrun\n", "i8?: -14 null\n"),
+        (CALCULATED, "call /\nrun\n", "i8?: -3 null\n"),
+    ];
+    assert!(rt; each_prints_after(rt, CASES));
 }
 
 #[test]
 fn faults_of_calculations(rt: HostRuntime) {
-    let script = "rows 1\nlit u8 250\nlit u8 6\ncall +\nrun\n";
-    assert!(rt; is_refused(rt, script, "", "error: Arithmetic.Add\n"));
-    let script = "rows 1\nlit u8 0\nlit u8 1\ncall -\nrun\n";
-    assert!(rt; is_refused(rt, script, "", "error: Arithmetic.Sub\n"));
-    let script = "rows 1\nlit i8 -128\nlit i8 -1\ncall *\nrun\n";
-    assert!(rt; is_refused(rt, script, "", "error: Arithmetic.Mul\n"));
-    let script = "rows 1\nlit i8 -128\nlit i8 -1\ncall /\nrun\n";
-    assert!(rt; is_refused(rt, script, "", "error: Arithmetic.Div\n"));
+    const CASES: &[(&str, &str, &str)] = &[
+        (
+            "rows 1\nlit u8 250\nlit u8 6\ncall +\nrun\n",
+            "",
+            "error: Arithmetic.Add\n",
+        ),
+        (
+            "rows 1\nlit u8 0\nlit u8 1\ncall -\nrun\n",
+            "",
+            "error: Arithmetic.Sub\n",
+        ),
+        (
+            "rows 1\nlit i8 -128\nlit i8 -1\ncall *\nrun\n",
+            "",
+            "error: Arithmetic.Mul\n",
+        ),
+        (
+            "rows 1\nlit i8 -128\nlit i8 -1\ncall /\nrun\n",
+            "",
+            "error: Arithmetic.Div\n",
+        ),
+    ];
+    assert!(rt; are_refused(rt, CASES));
 }
 
 #[test]
 fn bounds(rt: HostRuntime) {
-    let out = "($.l <= $.x <= $.u)\nbool: true true true true false\n";
-    assert!(rt; prints_after(rt, BOUNDED, "call between <= <=\nshow\nrun\n", out));
-    let out = "($.l <= $.x < $.u)\nbool: true true false false false\n";
-    assert!(rt; prints_after(rt, BOUNDED, "call between <= <\nshow\nrun\n", out));
-    let out = "($.l < $.x <= $.u)\nbool: true false true false false\n";
-    assert!(rt; prints_after(rt, BOUNDED, "call between < <=\nshow\nrun\n", out));
-    let out = "($.l < $.x < $.u)\nbool: true false false false false\n";
-    assert!(rt; prints_after(rt, BOUNDED, "call between < <\nshow\nrun\n", out));
+    const CASES: &[(&str, &str, &str)] = &[
+        (
+            BOUNDED,
+            "call between <= <=\nshow\nrun\n",
+            "($.l <= $.x <= $.u)\nbool: true true true true false\n",
+        ),
+        (
+            BOUNDED,
+            "call between <= <\nshow\nrun\n",
+            "($.l <= $.x < $.u)\nbool: true true false false false\n",
+        ),
+        (
+            BOUNDED,
+            "call between < <=\nshow\nrun\n",
+            "($.l < $.x <= $.u)\nbool: true false true false false\n",
+        ),
+        (
+            BOUNDED,
+            "call between < <\nshow\nrun\n",
+            "($.l < $.x < $.u)\nbool: true false false false false\n",
+        ),
+    ];
+    assert!(rt; each_prints_after(rt, CASES));
 }
 
 #[test]
 fn like_words(rt: HostRuntime) {
-    let out = "$.s like \"a%\"\nbool?: true false false null\n";
-    assert!(rt; prints_after(rt, LIKENED, "call like\nshow\nrun\n", out));
-    let out = "$.s not like \"a%\"\nbool?: false true true null\n";
-    assert!(rt; prints_after(rt, LIKENED, "call not_like\nshow\nrun\n", out));
-    let out = "$.s ilike \"a%\"\nbool?: true true false null\n";
-    assert!(rt; prints_after(rt, LIKENED, "call ilike\nshow\nrun\n", out));
-    let out = "$.s not ilike \"a%\"\nbool?: false false true null\n";
-    assert!(rt; prints_after(rt, LIKENED, "call not_ilike\nshow\nrun\n", out));
+    const CASES: &[(&str, &str, &str)] = &[
+        (
+            LIKENED,
+            "call like\nshow\nrun\n",
+            "$.s like \"a%\"\nbool?: true false false null\n",
+        ),
+        (
+            LIKENED,
+            "call not_like\nshow\nrun\n",
+            "$.s not like \"a%\"\nbool?: false true true null\n",
+        ),
+        (
+            LIKENED,
+            "call ilike\nshow\nrun\n",
+            "$.s ilike \"a%\"\nbool?: true true false null\n",
+        ),
+        (
+            LIKENED,
+            "call not_ilike\nshow\nrun\n",
+            "$.s not ilike \"a%\"\nbool?: false false true null\n",
+        ),
+    ];
+    assert!(rt; each_prints_after(rt, CASES));
 }
 
 #[test]
 fn patterns(rt: HostRuntime) {
-    let script =
-        "rows 3\ncol s utf8 \"aaxaab\" \"aab\" \"ab\"\nget s\nlit utf8 \"%a_b\"\ncall like\nrun\n";
-    assert!(rt; prints(rt, script, "bool: true true false\n"));
-    let script =
-        "rows 2\ncol s utf8 \"\\abc\" \"abc\"\nget s\nlit utf8 \"\\\\%\"\ncall like\nrun\n";
-    assert!(rt; prints(rt, script, "bool: true false\n"));
+    const CASES: &[(&str, &str)] = &[
+        (
+            "rows 3\ncol s utf8 \"aaxaab\" \"aab\" \"ab\"\nget s\nlit utf8 \"%a_b\"\ncall like\nrun\n",
+            "bool: true true false\n",
+        ),
+        (
+            "rows 2\ncol s utf8 \"\\abc\" \"abc\"\nget s\nlit utf8 \"\\\\%\"\ncall like\nrun\n",
+            "bool: true false\n",
+        ),
+    ];
+    assert!(rt; each_prints(rt, CASES));
 }
 
 #[test]
 fn types_are_refused(rt: HostRuntime) {
-    let script = "rows 1\nlit i32 1\nlit bool true\ncall and\n";
-    assert!(rt; is_refused(rt, script, "", "error: TypeMismatch.Boolean\n"));
-    let script = "rows 1\nlit i32 1\ncall not\n";
-    assert!(rt; is_refused(rt, script, "", "error: TypeMismatch.Not\n"));
-    let script = "rows 1\nlit i32 1\nlit i32 1\nlit bool true\ncall between < <\n";
-    assert!(rt; is_refused(rt, script, "", "error: TypeMismatch.BetweenUpper\n"));
+    const CASES: &[(&str, &str, &str)] = &[
+        (
+            "rows 1\nlit i32 1\nlit bool true\ncall and\n",
+            "",
+            "error: TypeMismatch.Boolean\n",
+        ),
+        (
+            "rows 1\nlit i32 1\ncall not\n",
+            "",
+            "error: TypeMismatch.Not\n",
+        ),
+        (
+            "rows 1\nlit i32 1\nlit i32 1\nlit bool true\ncall between < <\n",
+            "",
+            "error: TypeMismatch.BetweenUpper\n",
+        ),
+    ];
+    assert!(rt; are_refused(rt, CASES));
 }
 
 #[test]
 fn malformed_lines(rt: HostRuntime) {
-    assert!(rt; is_malformed_at_4(rt, "\n\nrows 1\nfoo\n"));
-    assert!(rt; is_malformed_at_1(rt, "rows 1 # one\n"));
-    assert!(rt; is_malformed_at_1(rt, "\"rows\" 1\n"));
+    const CASES: &[(usize, &str)] = &[
+        (4, "\n\nrows 1\nfoo\n"),
+        (1, "rows 1 # one\n"),
+        (1, "\"rows\" 1\n"),
+    ];
+    assert!(rt; are_malformed(rt, CASES));
 }
 
 #[test]

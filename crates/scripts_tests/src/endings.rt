@@ -33,22 +33,58 @@ pub fn is_refused(rt: HostRuntime, script: &str, out: &str, line: &str) -> bool 
     ends(rt, script.as_bytes(), out, 1, line)
 }
 
-/// Whether a script prints nothing, and its first line is malformed.
-pub fn is_malformed_at_1(rt: HostRuntime, script: &str) -> bool {
-    ends(rt, script.as_bytes(), "", 2, "line 1: malformed\n")
+/// Whether a script prints nothing, and that line of it is malformed.
+pub fn is_malformed_at(rt: HostRuntime, line: usize, script: &str) -> bool {
+    match format!(in rt.alloc(); "line {line}: malformed\n") {
+        Ok(told) => ends(rt, script.as_bytes(), "", 2, told.as_str()),
+        Err(_) => false,
+    }
 }
 
-/// Whether a script prints nothing, and its second line is malformed.
-pub fn is_malformed_at_2(rt: HostRuntime, script: &str) -> bool {
-    ends(rt, script.as_bytes(), "", 2, "line 2: malformed\n")
+/// Whether a case of a table holds. If not, its place is printed.
+pub fn is_case(rt: HostRuntime, place: usize, holds: bool) -> bool {
+    if !holds {
+        let _ = eprintln!(rt; "in case {place}, counted from 0");
+    }
+    holds
 }
 
-/// Whether a script prints nothing, and its third line is malformed.
-pub fn is_malformed_at_3(rt: HostRuntime, script: &str) -> bool {
-    ends(rt, script.as_bytes(), "", 2, "line 3: malformed\n")
+/// Whether each script is read to its end, and prints that.
+pub fn each_prints(rt: HostRuntime, cases: &[(&str, &str)]) -> bool {
+    for (place, (script, out)) in cases.iter().enumerate() {
+        if !is_case(rt, place, prints(rt, script, out)) {
+            return false;
+        }
+    }
+    true
 }
 
-/// Whether a script prints nothing, and its fourth line is malformed.
-pub fn is_malformed_at_4(rt: HostRuntime, script: &str) -> bool {
-    ends(rt, script.as_bytes(), "", 2, "line 4: malformed\n")
+/// Whether lines behind others are read to their end, and print that, in each case.
+pub fn each_prints_after(rt: HostRuntime, cases: &[(&str, &str, &str)]) -> bool {
+    for (place, (before, lines, out)) in cases.iter().enumerate() {
+        if !is_case(rt, place, prints_after(rt, before, lines, out)) {
+            return false;
+        }
+    }
+    true
+}
+
+/// Whether each script prints that and is then refused, with that line.
+pub fn are_refused(rt: HostRuntime, cases: &[(&str, &str, &str)]) -> bool {
+    for (place, (script, out, line)) in cases.iter().enumerate() {
+        if !is_case(rt, place, is_refused(rt, script, out, line)) {
+            return false;
+        }
+    }
+    true
+}
+
+/// Whether each script prints nothing, and that line of it is malformed.
+pub fn are_malformed(rt: HostRuntime, cases: &[(usize, &str)]) -> bool {
+    for (place, (line, script)) in cases.iter().enumerate() {
+        if !is_case(rt, place, is_malformed_at(rt, *line, script)) {
+            return false;
+        }
+    }
+    true
 }

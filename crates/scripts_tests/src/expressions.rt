@@ -1,17 +1,13 @@
 //! Tests of expressions as people write them.
 
-#[cfg(test)]
 mod levels;
-#[cfg(test)]
 mod lists;
-#[cfg(test)]
 mod places;
-#[cfg(test)]
 mod refusals;
-pub mod shown;
-#[cfg(test)]
+mod shown;
 mod words;
-#[cfg(test)]
 mod writes;
 
-pub use shown::{is_refused, list_is_refused, list_reads_as, places_are, reads_as};
+pub use shown::{
+    all_places_are, each_list_reads_as, each_reads_as, is_refused, list_is_refused, reads_as,
+};

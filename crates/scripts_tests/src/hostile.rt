@@ -1,6 +1,6 @@
 //! Scripts that are cut off, and lines that nobody would write.
 
-use crate::endings::{ends, is_malformed_at_1, is_malformed_at_4};
+use crate::endings::{are_malformed, ends, is_case};
 use rowfn_scripts::{End, interpret};
 use std::alloc::Global;
 
@@ -78,15 +78,31 @@ fn is_malformed_behind_literals(rt: HostRuntime, line: &str) -> bool {
     ends(rt, script.as_bytes(), "", 2, "line 5: malformed\n")
 }
 
+/// Whether so is each of these lines.
+fn are_malformed_behind_literals(rt: HostRuntime, cases: &[&str]) -> bool {
+    for (place, line) in cases.iter().enumerate() {
+        if !is_case(rt, place, is_malformed_behind_literals(rt, line)) {
+            return false;
+        }
+    }
+    true
+}
+
 #[test]
 fn odd_lines_are_malformed(rt: HostRuntime) {
-    assert!(rt; is_malformed_at_4(rt, "\n\nrows 1\nfoo\n"));
-    assert!(rt; is_malformed_at_1(rt, "rows 1000000\n"));
-    assert!(rt; is_malformed_at_1(rt, "get a\n"));
-    assert!(rt; is_malformed_behind_literals(rt, "lit i8 -129"));
-    assert!(rt; is_malformed_behind_literals(rt, "lit utf8 \"a"));
-    assert!(rt; is_malformed_behind_literals(rt, "lit utf8 \"a\"b"));
-    assert!(rt; is_malformed_behind_literals(rt, "call between < !"));
+    const MALFORMED: &[(usize, &str)] = &[
+        (4, "\n\nrows 1\nfoo\n"),
+        (1, "rows 1000000\n"),
+        (1, "get a\n"),
+    ];
+    const BEHIND_LITERALS: &[&str] = &[
+        "lit i8 -129",
+        "lit utf8 \"a",
+        "lit utf8 \"a\"b",
+        "call between < !",
+    ];
+    assert!(rt; are_malformed(rt, MALFORMED));
+    assert!(rt; are_malformed_behind_literals(rt, BEHIND_LITERALS));
 }
 
 #[test]

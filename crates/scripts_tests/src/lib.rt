@@ -1,4 +1,5 @@
-//! Tests of scripts: what they print, and how they end; and of expressions as people write them.
+//! Tests of scripts: what they print, and how they end; and of expressions as people write them, read
+//! and over a scope.
 #![tactic(auto)]
 
 #[cfg(test)]
@@ -11,7 +12,8 @@ mod cells;
 mod docs;
 #[cfg(test)]
 mod endings;
-pub mod expressions;
+#[cfg(test)]
+mod expressions;
 #[cfg(test)]
 mod hostile;
 #[cfg(test)]
@@ -22,5 +24,7 @@ mod lines;
 mod null_tests;
 #[cfg(test)]
 mod rewriting;
+#[cfg(test)]
+mod scopes;
 #[cfg(test)]
 mod trees;

@@ -1,6 +1,6 @@
 //! Scripts with LIKE.
 
-use crate::endings::{is_malformed_at_4, is_refused, prints, prints_after};
+use crate::endings::{are_refused, each_prints_after, is_case, is_malformed_at, prints};
 
 #[test]
 fn like_runs(rt: HostRuntime) {
@@ -22,12 +22,19 @@ const PERCENTS: &str = "rows 2\ncol s utf8 \"100%\" \"100x\"\nget s\nlit utf8 \"
 
 #[test]
 fn an_escape_is_chosen(rt: HostRuntime) {
-    let out = "$.s not like \"100!%\" escape '!'\nbool: false true\n";
-    let lines = "call not_like escape \"!\"\nshow\nrun\n";
-    assert!(rt; prints_after(rt, PERCENTS, lines, out));
-    let out = "$.s ilike \"100!%\" escape ''\nbool: false false\n";
-    let lines = "call ilike escape \"\"\nshow\nrun\n";
-    assert!(rt; prints_after(rt, PERCENTS, lines, out));
+    const CASES: &[(&str, &str, &str)] = &[
+        (
+            PERCENTS,
+            "call not_like escape \"!\"\nshow\nrun\n",
+            "$.s not like \"100!%\" escape '!'\nbool: false true\n",
+        ),
+        (
+            PERCENTS,
+            "call ilike escape \"\"\nshow\nrun\n",
+            "$.s ilike \"100!%\" escape ''\nbool: false false\n",
+        ),
+    ];
+    assert!(rt; each_prints_after(rt, CASES));
 }
 
 /// Whether that line, the third behind one text for two arguments, is malformed.
@@ -36,21 +43,43 @@ fn is_no_call(rt: HostRuntime, line: &str) -> bool {
     let mut script = String::new(alloc);
     let _ = script.push_str("rows 1\nlit utf8 \"a\"\nlit utf8 \"a\"\n");
     let _ = script.push_str(line);
-    is_malformed_at_4(rt, script.as_str())
+    is_malformed_at(rt, 4, script.as_str())
+}
+
+/// Whether so is each of these lines.
+fn are_no_calls(rt: HostRuntime, cases: &[&str]) -> bool {
+    for (place, line) in cases.iter().enumerate() {
+        if !is_case(rt, place, is_no_call(rt, line)) {
+            return false;
+        }
+    }
+    true
 }
 
 #[test]
 fn escapes_are_one_character_of_like(rt: HostRuntime) {
-    assert!(rt; is_no_call(rt, "call like escape \"ab\"\n"));
-    assert!(rt; is_no_call(rt, "call like escape\n"));
-    assert!(rt; is_no_call(rt, "call like escape x\n"));
-    assert!(rt; is_no_call(rt, "call = escape \"!\"\n"));
+    const CASES: &[&str] = &[
+        "call like escape \"ab\"\n",
+        "call like escape\n",
+        "call like escape x\n",
+        "call = escape \"!\"\n",
+    ];
+    assert!(rt; are_no_calls(rt, CASES));
 }
 
 #[test]
 fn patterns_are_texts(rt: HostRuntime) {
-    let script = "rows 1\ncol a i32 1\nget a\nget a\ncall like\n";
-    assert!(rt; is_refused(rt, script, "", "error: TypeMismatch.LikeInput\n"));
-    let script = "rows 1\ncol a i32 1\nlit utf8 \"a\"\nget a\ncall like\n";
-    assert!(rt; is_refused(rt, script, "", "error: TypeMismatch.LikePattern\n"));
+    const CASES: &[(&str, &str, &str)] = &[
+        (
+            "rows 1\ncol a i32 1\nget a\nget a\ncall like\n",
+            "",
+            "error: TypeMismatch.LikeInput\n",
+        ),
+        (
+            "rows 1\ncol a i32 1\nlit utf8 \"a\"\nget a\ncall like\n",
+            "",
+            "error: TypeMismatch.LikePattern\n",
+        ),
+    ];
+    assert!(rt; are_refused(rt, CASES));
 }

@@ -1,14 +1,11 @@
 //! Lines of scripts, the odd ones too.
 
-use crate::endings::{
-    ends, is_malformed_at_1, is_malformed_at_2, is_malformed_at_3, is_malformed_at_4, prints,
-};
+use crate::endings::{are_malformed, each_prints, ends, prints};
 
 #[test]
 fn lines_without_words_do_nothing(rt: HostRuntime) {
-    assert!(rt; prints(rt, "", ""));
-    assert!(rt; prints(rt, "\n\n# no words\n", ""));
-    assert!(rt; prints(rt, "  # \"\nrows 0\n", ""));
+    const CASES: &[(&str, &str)] = &[("", ""), ("\n\n# no words\n", ""), ("  # \"\nrows 0\n", "")];
+    assert!(rt; each_prints(rt, CASES));
 }
 
 #[test]
@@ -19,39 +16,48 @@ fn spaces_stand_anywhere_between_words(rt: HostRuntime) {
 
 #[test]
 fn columns_have_the_row_count_and_a_new_name(rt: HostRuntime) {
-    assert!(rt; is_malformed_at_2(rt, "rows 2\ncol a bool true null\n"));
-    assert!(rt; is_malformed_at_2(rt, "rows 2\ncol a bool? true\n"));
-    assert!(rt; is_malformed_at_3(rt, "rows 1\ncol a bool true\ncol a bool true\n"));
-    assert!(rt; is_malformed_at_2(rt, "rows 1\ncol a- bool true\n"));
-    assert!(rt; is_malformed_at_2(rt, "rows 1\ncol a int true\n"));
-    assert!(rt; is_malformed_at_2(rt, "rows 1\ncol a bool True\n"));
+    const CASES: &[(usize, &str)] = &[
+        (2, "rows 2\ncol a bool true null\n"),
+        (2, "rows 2\ncol a bool? true\n"),
+        (3, "rows 1\ncol a bool true\ncol a bool true\n"),
+        (2, "rows 1\ncol a- bool true\n"),
+        (2, "rows 1\ncol a int true\n"),
+        (2, "rows 1\ncol a bool True\n"),
+    ];
+    assert!(rt; are_malformed(rt, CASES));
 }
 
 #[test]
 fn calls_take_trees(rt: HostRuntime) {
-    assert!(rt; is_malformed_at_4(rt, "rows 1\ncol a bool true\nget a\ncall and\n"));
-    assert!(rt; is_malformed_at_4(rt, "rows 1\ncol a bool true\nget a\ncall xor\n"));
-    assert!(rt; is_malformed_at_2(rt, "rows 1\ncall not\n"));
-    assert!(rt; is_malformed_at_2(rt, "rows 1\nrun\n"));
-    assert!(rt; is_malformed_at_2(rt, "rows 1\nrun now\n"));
-    assert!(rt; is_malformed_at_2(rt, "rows 1\nshow\n"));
-    assert!(rt; is_malformed_at_3(rt, "rows 1\nlit i8 1\nshow it\n"));
+    const CASES: &[(usize, &str)] = &[
+        (4, "rows 1\ncol a bool true\nget a\ncall and\n"),
+        (4, "rows 1\ncol a bool true\nget a\ncall xor\n"),
+        (2, "rows 1\ncall not\n"),
+        (2, "rows 1\nrun\n"),
+        (2, "rows 1\nrun now\n"),
+        (2, "rows 1\nshow\n"),
+        (3, "rows 1\nlit i8 1\nshow it\n"),
+    ];
+    assert!(rt; are_malformed(rt, CASES));
 }
 
 #[test]
 fn rows_are_said_first_and_once(rt: HostRuntime) {
-    assert!(rt; is_malformed_at_2(rt, "rows 1\nrows 1\n"));
-    assert!(rt; is_malformed_at_1(rt, "rows 1234567\n"));
-    assert!(rt; is_malformed_at_1(rt, "rows +1\n"));
-    assert!(rt; is_malformed_at_1(rt, "rows 1 1\n"));
-    assert!(rt; is_malformed_at_2(rt, "# rows\nget a\n"));
-    assert!(rt; is_malformed_at_1(rt, "lit i8 1\n"));
+    const CASES: &[(usize, &str)] = &[
+        (2, "rows 1\nrows 1\n"),
+        (1, "rows 1234567\n"),
+        (1, "rows +1\n"),
+        (1, "rows 1 1\n"),
+        (2, "# rows\nget a\n"),
+        (1, "lit i8 1\n"),
+    ];
+    assert!(rt; are_malformed(rt, CASES));
 }
 
 #[test]
 fn tabs_and_returns_are_no_spaces(rt: HostRuntime) {
-    assert!(rt; is_malformed_at_2(rt, "rows 1\n\trun\n"));
-    assert!(rt; is_malformed_at_1(rt, "rows 1\r\n"));
+    const CASES: &[(usize, &str)] = &[(2, "rows 1\n\trun\n"), (1, "rows 1\r\n")];
+    assert!(rt; are_malformed(rt, CASES));
 }
 
 #[test]

@@ -1,13 +1,20 @@
 //! Scripts that test for nulls, and that cast.
 
-use crate::endings::{is_refused, prints};
+use crate::endings::{each_prints, is_refused, prints};
 
 #[test]
 fn null_tests_run(rt: HostRuntime) {
-    let script = "rows 2\ncol a i32? 1 null\nget a\ncall is_null\nshow\nrun\n";
-    assert!(rt; prints(rt, script, "vortex.is_null($.a)\nbool: false true\n"));
-    let script = "rows 2\ncol a i32? 1 null\nget a\ncall is_not_null\nshow\nrun\n";
-    assert!(rt; prints(rt, script, "is_not_null($.a)\nbool: true false\n"));
+    const CASES: &[(&str, &str)] = &[
+        (
+            "rows 2\ncol a i32? 1 null\nget a\ncall is_null\nshow\nrun\n",
+            "vortex.is_null($.a)\nbool: false true\n",
+        ),
+        (
+            "rows 2\ncol a i32? 1 null\nget a\ncall is_not_null\nshow\nrun\n",
+            "is_not_null($.a)\nbool: true false\n",
+        ),
+    ];
+    assert!(rt; each_prints(rt, CASES));
 }
 
 #[test]

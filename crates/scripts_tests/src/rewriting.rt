@@ -1,6 +1,6 @@
 //! Scripts that rewrite.
 
-use crate::endings::{is_malformed_at_2, is_malformed_at_3, is_refused, prints, prints_after};
+use crate::endings::{are_malformed, are_refused, is_refused, prints, prints_after};
 
 const SUM: &str = "rows 2
 col a i32? 1 null
@@ -55,15 +55,11 @@ fn the_test_of_a_null_is_optimized(rt: HostRuntime) {
 
 #[test]
 fn a_run_of_rules_drops_a_fault(rt: HostRuntime) {
-    assert!(rt;
-        is_refused(
-            rt,
-            OVERFLOW,
-            "bool: false true\n",
-            "error: Arithmetic.Add\n"
-        )
-    );
-    assert!(rt; is_refused(rt, DECIDED, "bool: false\n", "error: Arithmetic.Div\n"));
+    const CASES: &[(&str, &str, &str)] = &[
+        (OVERFLOW, "bool: false true\n", "error: Arithmetic.Add\n"),
+        (DECIDED, "bool: false\n", "error: Arithmetic.Div\n"),
+    ];
+    assert!(rt; are_refused(rt, CASES));
 }
 
 #[test]
@@ -80,12 +76,15 @@ fn a_run_of_rules_leaves_the_tree(rt: HostRuntime) {
 
 #[test]
 fn lines_that_rewrite_are_malformed(rt: HostRuntime) {
-    assert!(rt; is_malformed_at_2(rt, "rows 1\noptimize\n"));
-    assert!(rt; is_malformed_at_2(rt, "rows 1\nrun 1\n"));
-    assert!(rt; is_malformed_at_3(rt, "rows 1\nlit bool true\noptimize 1\n"));
-    assert!(rt; is_malformed_at_3(rt, "rows 1\nlit bool true\nrun 18446744073709551616\n"));
-    assert!(rt; is_malformed_at_3(rt, "rows 1\nlit bool true\nrun -1\n"));
-    assert!(rt; is_malformed_at_3(rt, "rows 1\nlit bool true\nrun 1 2\n"));
+    const CASES: &[(usize, &str)] = &[
+        (2, "rows 1\noptimize\n"),
+        (2, "rows 1\nrun 1\n"),
+        (3, "rows 1\nlit bool true\noptimize 1\n"),
+        (3, "rows 1\nlit bool true\nrun 18446744073709551616\n"),
+        (3, "rows 1\nlit bool true\nrun -1\n"),
+        (3, "rows 1\nlit bool true\nrun 1 2\n"),
+    ];
+    assert!(rt; are_malformed(rt, CASES));
 }
 
 #[test]

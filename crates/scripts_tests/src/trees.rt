@@ -1,6 +1,6 @@
 //! Scripts that make trees and run them.
 
-use crate::endings::{is_refused, prints};
+use crate::endings::{each_prints, is_refused, prints};
 use std::alloc::Global;
 
 const COLUMNS: &str = "rows 9
@@ -65,17 +65,29 @@ fn what_was_printed_stays(rt: HostRuntime) {
 
 #[test]
 fn a_column_runs(rt: HostRuntime) {
-    assert!(rt; prints(rt, "rows 0\ncol a bool\nget a\nrun\n", "bool:\n"));
-    let script = "rows 000002\ncol A bool? null true\nget A\ncall not\nrun\n";
-    assert!(rt; prints(rt, script, "bool?: null false\n"));
+    const CASES: &[(&str, &str)] = &[
+        ("rows 0\ncol a bool\nget a\nrun\n", "bool:\n"),
+        (
+            "rows 000002\ncol A bool? null true\nget A\ncall not\nrun\n",
+            "bool?: null false\n",
+        ),
+    ];
+    assert!(rt; each_prints(rt, CASES));
 }
 
 #[test]
 fn texts_and_truth_values_compare(rt: HostRuntime) {
-    let script = "rows 3\ncol s utf8? \"a\" null \"b c\"\nget s\nlit utf8 \"b\"\ncall <\nrun\n";
-    assert!(rt; prints(rt, script, "bool?: true null false\n"));
-    let out = "bool: false true false false\nbool: true false true true\n";
-    assert!(rt; prints(rt, TRUTHS_COMPARED, out));
+    const CASES: &[(&str, &str)] = &[
+        (
+            "rows 3\ncol s utf8? \"a\" null \"b c\"\nget s\nlit utf8 \"b\"\ncall <\nrun\n",
+            "bool?: true null false\n",
+        ),
+        (
+            TRUTHS_COMPARED,
+            "bool: false true false false\nbool: true false true true\n",
+        ),
+    ];
+    assert!(rt; each_prints(rt, CASES));
 }
 
 #[test]
@@ -89,11 +101,17 @@ fn integers_compare(rt: HostRuntime) {
 
 #[test]
 fn trees_are_shown(rt: HostRuntime) {
-    let script = "rows 2\ncol n u16? 1 null\nlit u16 1\nget n\ncall !=\nshow\nrun\n";
-    assert!(rt; prints(rt, script, "(1u16 != $.n)\nbool?: false null\n"));
-    let script =
-        "rows 1\ncol a bool true\ncol b bool? null\nget a\nget b\ncall and\ncall not\nshow\n";
-    assert!(rt; prints(rt, script, "vortex.not(($.a and $.b))\n"));
+    const CASES: &[(&str, &str)] = &[
+        (
+            "rows 2\ncol n u16? 1 null\nlit u16 1\nget n\ncall !=\nshow\nrun\n",
+            "(1u16 != $.n)\nbool?: false null\n",
+        ),
+        (
+            "rows 1\ncol a bool true\ncol b bool? null\nget a\nget b\ncall and\ncall not\nshow\n",
+            "vortex.not(($.a and $.b))\n",
+        ),
+    ];
+    assert!(rt; each_prints(rt, CASES));
 }
 
 #[test]

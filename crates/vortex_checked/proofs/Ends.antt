@@ -1,8 +1,8 @@
 -- The ends between which a product fits.
-use Rattle.std.proofs.Common.{◌≡◌, ◌⊎◌, inl, inr, ℕ, zero, suc, ◌*◌, ◌/◌, ◌<◌, ◌≤◌, ◌↔◌, ℤ, pos}
-use Rattle.std.proofs.Common.{negsuc, ◌*ℤ◌, ◌≤ℤ◌, neg_ℤ, refl, sym, ap, ◌∙◌, subst, arith, Bool}
-use Rattle.std.proofs.Common.{true, false, Option, Some, None}
-use Rattle.std.specs.Prelude.{int_div, int_lt, ◌||◌}
+use Rattle.std.proofs.Common.{◌≡◌, ℕ, zero, suc, ◌*◌, ◌/◌, ◌<◌, ◌≤◌, ◌↔◌, ℤ, pos}
+use Rattle.std.proofs.Common.{negsuc, ◌*ℤ◌, ◌≤ℤ◌, neg_ℤ, refl, sym, subst, arith, Bool}
+use Rattle.std.proofs.Common.{true, false, Option, Some}
+use Rattle.std.specs.Prelude.{int_lt, ◌||◌}
 use Rattle.std.specs.Bool.{FalseIff}
 use Rattle.std.proofs.lemmas.Int.{ints}
 use Rattle.std.proofs.Math.Nat.{le-div_iff_mul-le}

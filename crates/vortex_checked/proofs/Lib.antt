@@ -2,5 +2,3 @@ mod Dividing
 mod Ends
 mod Signs
 mod WideProduct
-mod WideProduct16
-mod WideProduct32

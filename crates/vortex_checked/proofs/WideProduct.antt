@@ -1,25 +1,35 @@
--- The evidence of a product of two 64-bit numbers.
-use Rattle.std.proofs.Common.{◌≡◌, ℕ, zero, suc, ◌-◌, ◌/◌, ◌%◌, ◌<◌, ◌≤◌, ◌^◌, ◌*ℤ◌, true, false}
-use Rattle.std.proofs.Common.{refl, sym, ap, ◌∙◌, subst, arith, cond, pos, negsuc, ℤ, FitsSigned}
-use Rattle.std.proofs.Common.{inl, inr}
+-- The evidence of a product of two numbers, in twice their bits.
+use Rattle.std.proofs.Common.{◌≡◌, ℕ, zero, suc, ◌+◌, ◌-◌, ◌*◌, ◌/◌, ◌%◌, ◌<◌, ◌≤◌, ◌^◌, ◌*ℤ◌}
+use Rattle.std.proofs.Common.{refl, sym, ap, ◌∙◌, subst, arith, Bool, true, false, pos, negsuc, ℤ, FitsSigned, inl, inr}
+use Rattle.std.proofs.Common.{div-add-mod', mul-le-mul_left, mul-le-mul_right, cond}
 use Rattle.std.specs.Prelude.{◌⊎◌, int_lt, unsigned_abs}
 use Rattle.std.proofs.lemmas.Bool.{cases_lt}
+use Rattle.std.proofs.lemmas.Nat.{div_below, le-div, mod_below}
 use Rattle.std.specs.Bool.{FalseIff}
-use Rattle.std.specs.Int.{w64, w128, cast_signed, int_wrap, int_rem_euclid, bit_at}
+use Rattle.std.specs.Int.{Width, w16, w32, w64, w128, cast_signed, cast_unsigned, int_wrap, bit_at}
 use Rattle.std.specs.Int.Bits.{bit_xor}
-use Rattle.std.proofs.lemmas.Int.{ints, fits_signed_mul}
+use Rattle.std.proofs.lemmas.Int.{ints, fits_signed_mul, int_rem_euclid_is, to_z_pos}
 use Rattle.std.proofs.lemmas.Nat.Bits.{bit_at-zero, bit_at-lt, bit_at_xor, same_from_bits}
+use mir.Val.{bits, hbits}
+use mir.ValLaws.{to_z-neg}
 use Rattle.vortex_checked.specs.Evidence.{is_nonzero}
-use Rattle.vortex_checked.specs.Exact.{IsWithin, wide_evidence}
+use Rattle.vortex_checked.specs.Exact.{sign_word, wide_evidence}
 
-pub product_fits : (a b : ℤ) → FitsSigned w64 a → FitsSigned w64 b → FitsSigned w128 (a *ℤ b)
-product_fits a b f g =
-    fits_signed_mul w128 a b 9223372036854775808 9223372036854775808 (bound a f) (bound b g)
-    (omega arith)
-  where
-    bound : (z : ℤ) → FitsSigned w64 z → unsigned_abs z ≤ 9223372036854775808
-    bound (pos n) f = omega (arith, f)
-    bound (negsuc n) f = omega (arith, f)
+-- what the powers of two of a width and of one of twice its bits say of each other
+pub record IsTwice (w wide : Width) : Type 0 where
+  whole : 2 ^ bits w ≡ 2 ^ hbits w + 2 ^ hbits w
+  some : 0 < 2 ^ hbits w
+  wide_whole : 2 ^ bits wide ≡ 2 ^ bits w * 2 ^ bits w
+  wide_half : 2 ^ hbits wide ≡ 2 ^ hbits w * 2 ^ bits w
+
+pub twice_16 : IsTwice w16 w32
+twice_16 = record { whole = refl; some = omega arith; wide_whole = refl; wide_half = refl }
+
+pub twice_32 : IsTwice w32 w64
+twice_32 = record { whole = refl; some = omega arith; wide_whole = refl; wide_half = refl }
+
+pub twice_64 : IsTwice w64 w128
+twice_64 = record { whole = refl; some = omega arith; wide_whole = refl; wide_half = refl }
 
 -- bits that differ nowhere
 xor_same : (a : ℕ) → bit_xor a a ≡ 0
@@ -46,99 +56,151 @@ told {P} a b there back = by (bit_xor a b) refl
         subst (λ c. bit_xor a c ≡ 0) (back p) (xor_same a) in
         omega (arith, e, same)
 
--- the sign of a lower half, in each bit
-abbrev sign_of : ℕ → ℕ
-sign_of k = cond (int_lt (cast_signed w64 k) (pos 0)) 18446744073709551615 0
+same_told : {P Q : Type 0} (b : Bool) → FalseIff b P → (P → Q) → (Q → P) → FalseIff b Q
+same_told true h there back = λ q. h (back q)
+same_told false h there back = there h
 
-sign_low : (k : ℕ) → k < 9223372036854775808 → sign_of k ≡ 0
-sign_low k h =
-    let low : int_lt (cast_signed w64 k) (pos 0) ≡ false = grind (arith) in
-    ap (λ b. cond b 18446744073709551615 0) low
+module _ (w wide : Width) (twice : IsTwice w wide) where
+  pub product_fits : (a b : ℤ) → FitsSigned w a → FitsSigned w b → FitsSigned wide (a *ℤ b)
+  product_fits a b f g =
+      fits_signed_mul wide a b (2 ^ hbits w) (2 ^ hbits w) (bound a f) (bound b g)
+      (omega (arith, twice.wide_half, twice.whole, twice.some, mul-le-mul_left (2 ^ hbits w) less))
+    where
+      bound : (z : ℤ) → FitsSigned w z → unsigned_abs z ≤ 2 ^ hbits w
+      bound (pos n) f = omega (arith, f.sfits)
+      bound (negsuc n) f = omega (arith, f.sfits)
 
-sign_high : (k : ℕ) → 9223372036854775808 ≤ k → k < 18446744073709551616
-    → sign_of k ≡ 18446744073709551615
-sign_high k g h =
-    let high : int_lt (cast_signed w64 k) (pos 0) ≡ true = grind (arith) in
-    ap (λ b. cond b 18446744073709551615 0) high
+      less : 2 ^ hbits w + 1 ≤ 2 ^ bits w
+      less = omega (arith, twice.whole, twice.some)
 
-kept_sign : (z : ℤ) (k : ℕ) → int_rem_euclid z (pos 18446744073709551616) ≡ pos k
-    → cond (int_lt (int_wrap w64 z) (pos 0)) (2 ^ 64 - 1) 0 ≡ sign_of k
-unfolding int_wrap
-kept_sign z k e =
-    ap (λ r. cond (int_lt (cast_signed w64 (unsigned_abs r)) (pos 0)) 18446744073709551615 0) e
+  some : 0 < 2 ^ bits w
+  some = omega (arith, twice.whole, twice.some)
 
--- the upper half of a number repeats the sign of the lower exactly where the lower half holds the
--- number
-record Halves (upper lower n : ℕ) : Type 0 where
-  there : upper ≡ sign_of lower → n ≤ 9223372036854775807
-  back : n ≤ 9223372036854775807 → upper ≡ sign_of lower
+  below : (n : ℕ) → n < 2 ^ hbits wide → n < 2 ^ bits wide
+  below n h =
+      omega (arith, h, twice.wide_half, twice.wide_whole, ap (λ x. x * 2 ^ bits w) twice.whole)
 
-halves_pos : (n : ℕ) → n < 170141183460469231731687303715884105728
-    → Halves (n / 18446744073709551616) (n % 18446744073709551616) n
-halves_pos n f = by (cases_lt (n % 18446744073709551616) 9223372036854775808)
-  where
-    by : (n % 18446744073709551616 < 9223372036854775808) ⊎ (9223372036854775808 ≤ n %
-        18446744073709551616)
-        → Halves (n / 18446744073709551616) (n % 18446744073709551616) n
-    by (inl h) =
-        let low = sign_low (n % 18446744073709551616) h in
-        record {
-          there = λ e. omega (arith, e ∙ low);
-          back = λ p. let none : n / 18446744073709551616 ≡ 0 = omega arith in none ∙ sym low;
-        }
-    by (inr h) =
-        let high = sign_high (n % 18446744073709551616) h (omega arith) in
-        record { there = λ e. absurd (omega (arith, e ∙ high)); back = λ p. absurd (omega arith) }
+  -- the lower half, read with its sign
+  wrapped : (z : ℤ) → FitsSigned wide z
+      → int_wrap w z ≡ cast_signed w (cast_unsigned wide z % 2 ^ bits w)
+  unfolding int_wrap
+  wrapped (pos n) f =
+      ap (λ r. cast_signed w (unsigned_abs r))
+      (int_rem_euclid_is (pos n) (pos (2 ^ bits w)) (2 ^ bits w) 0 n some refl
+      (omega (arith, ints)))
+  wrapped (negsuc n) f =
+      ap (λ r. cast_signed w (unsigned_abs r))
+      (int_rem_euclid_is (negsuc n) (pos (2 ^ bits w)) (2 ^ bits w) (2 ^ bits w)
+      (2 ^ bits wide - suc n) some refl
+      (omega (arith, ints, below n f.sfits, twice.wide_whole)))
 
-halves_negsuc : (n : ℕ) → n < 170141183460469231731687303715884105728
-    → Halves ((340282366920938463463374607431768211456 - suc n) / 18446744073709551616)
-    (18446744073709551615 - n % 18446744073709551616) n
-halves_negsuc n f =
-    by (cases_lt (18446744073709551615 - n % 18446744073709551616) 9223372036854775808)
-  where
-    by : (18446744073709551615 - n % 18446744073709551616 < 9223372036854775808)
-        ⊎ (9223372036854775808 ≤ 18446744073709551615 - n % 18446744073709551616)
-        → Halves ((340282366920938463463374607431768211456 - suc n) / 18446744073709551616)
-        (18446744073709551615 - n % 18446744073709551616) n
-    by (inl h) =
-        let low = sign_low (18446744073709551615 - n % 18446744073709551616) h in
-        record { there = λ e. absurd (omega (arith, e ∙ low)); back = λ p. absurd (omega arith) }
-    by (inr h) =
-        let high = sign_high (18446744073709551615 - n % 18446744073709551616) h (omega arith) in
-        record {
-          there = λ e. omega (arith, e ∙ high);
-          back =
-              λ p.
-              let all : (340282366920938463463374607431768211456 - suc n) / 18446744073709551616
-              ≡ 18446744073709551615 =
-              omega arith in
-              all ∙ sym high;
-        }
+  -- the sign of a lower half
+  low : (k : ℕ) → k < 2 ^ hbits w → sign_word w (cast_signed w k) ≡ 0
+  low k h =
+      let none : int_lt (pos k) (pos 0) ≡ false = grind (arith) in
+      ap (sign_word w) (to_z_pos w k h) ∙ ap (λ b. cond b (2 ^ bits w - 1) 0) none
 
-pub wide_tells : (z : ℤ) → FitsSigned w128 z
-    → FalseIff (is_nonzero (wide_evidence z))
-    (IsWithin (negsuc 9223372036854775807) (pos 9223372036854775807) z)
-wide_tells (pos n) f =
-    let both = halves_pos n (omega (arith, f)) in
-    subst
-    (λ s.
-    FalseIff (is_nonzero (bit_xor (n / 18446744073709551616) s))
-    (IsWithin (negsuc 9223372036854775807) (pos 9223372036854775807) (pos n)))
-    (sym (kept_sign (pos n) (n % 18446744073709551616) refl))
-    (told (n / 18446744073709551616) (sign_of (n % 18446744073709551616))
-    (λ e. let small = both.there e in (omega (arith, ints), omega (arith, ints)))
-    (λ p. both.back (omega (arith, ints, p.1))))
-wide_tells (negsuc n) f =
-    let both = halves_negsuc n (omega (arith, f)) in
-    subst
-    (λ s.
-    FalseIff
-    (is_nonzero
-    (bit_xor ((340282366920938463463374607431768211456 - suc n) / 18446744073709551616)
-    s))
-    (IsWithin (negsuc 9223372036854775807) (pos 9223372036854775807) (negsuc n)))
-    (sym (kept_sign (negsuc n) (18446744073709551615 - n % 18446744073709551616) refl))
-    (told ((340282366920938463463374607431768211456 - suc n) / 18446744073709551616)
-    (sign_of (18446744073709551615 - n % 18446744073709551616))
-    (λ e. let small = both.there e in (omega (arith, ints), omega (arith, ints)))
-    (λ p. both.back (omega (arith, ints, p.0))))
+  high : (k : ℕ) → 2 ^ hbits w ≤ k → k < 2 ^ bits w
+      → sign_word w (cast_signed w k) ≡ 2 ^ bits w - 1
+  high k g h =
+      let j = 2 ^ bits w - suc k in
+      let back : 2 ^ bits w - suc j ≡ k = omega arith in
+      let small : j < 2 ^ hbits w = omega (arith, twice.whole) in
+      subst (λ n. sign_word w (cast_signed w n) ≡ 2 ^ bits w - 1) back
+      (ap (sign_word w) (to_z-neg w j small))
+
+  -- the evidence of a number by its bits in the whole width
+  abbrev of_bits : ℕ → ℕ
+  of_bits m =
+      bit_xor (m / 2 ^ bits w) (sign_word w (cast_signed w (m % 2 ^ bits w)))
+
+  by_sign : (m s : ℕ) → {P : Type 0} → sign_word w (cast_signed w (m % 2 ^ bits w)) ≡ s
+      → (m / 2 ^ bits w ≡ s → P) → (P → m / 2 ^ bits w ≡ s) → FalseIff (is_nonzero (of_bits m)) P
+  by_sign m s {P} e there back =
+      subst (λ s. FalseIff (is_nonzero (bit_xor (m / 2 ^ bits w) s)) P) (sym e)
+      (told (m / 2 ^ bits w) s there back)
+
+  positive : (n : ℕ) → n < 2 ^ hbits wide → FalseIff (is_nonzero (of_bits n)) (n < 2 ^ hbits w)
+  positive n f = by (cases_lt (n % 2 ^ bits w) (2 ^ hbits w))
+    where
+      upper : n / 2 ^ bits w < 2 ^ hbits w
+      upper = div_below n (2 ^ bits w) (2 ^ hbits w) some (omega (arith, f, twice.wide_half))
+
+      whole : n / 2 ^ bits w * 2 ^ bits w + n % 2 ^ bits w ≡ n
+      whole = div-add-mod' n (2 ^ bits w)
+
+      by : (n % 2 ^ bits w < 2 ^ hbits w) ⊎ (2 ^ hbits w ≤ n % 2 ^ bits w)
+          → FalseIff (is_nonzero (of_bits n)) (n < 2 ^ hbits w)
+      by (inl h) =
+          by_sign n 0 (low (n % 2 ^ bits w) h)
+          (λ e. omega (arith, whole, h, ap (λ q. q * 2 ^ bits w) e))
+          (λ p.
+          let none = div_below n (2 ^ bits w) 1 some (omega (arith, p, twice.whole)) in
+          omega (arith, none))
+      by (inr h) =
+          by_sign n (2 ^ bits w - 1)
+          (high (n % 2 ^ bits w) h (mod_below n (2 ^ bits w) some))
+          (λ e. absurd (omega (arith, upper, e, twice.whole, twice.some)))
+          (λ p. absurd (omega (arith, whole, h, p)))
+
+  -- n + 1 below zero
+  negative : (m n : ℕ) → m + suc n ≡ 2 ^ bits wide → n < 2 ^ hbits wide
+      → FalseIff (is_nonzero (of_bits m)) (n < 2 ^ hbits w)
+  negative m n sum f = by (cases_lt (m % 2 ^ bits w) (2 ^ hbits w))
+    where
+      square : m + suc n ≡ 2 ^ bits w * 2 ^ bits w
+      square = sum ∙ twice.wide_whole
+
+      halves : 2 ^ bits w * 2 ^ bits w ≡ (2 ^ hbits w + 2 ^ hbits w) * 2 ^ bits w
+      halves = ap (λ x. x * 2 ^ bits w) twice.whole
+
+      lower : 2 ^ hbits w ≤ m / 2 ^ bits w
+      lower =
+          le-div (2 ^ hbits w) m (2 ^ bits w) some
+          (omega (arith, square, halves, f, twice.wide_half))
+
+      upper : m / 2 ^ bits w < 2 ^ bits w
+      upper = div_below m (2 ^ bits w) (2 ^ bits w) some (omega (arith, square))
+
+      next : (m / 2 ^ bits w + 1) * 2 ^ bits w ≤ 2 ^ bits w * 2 ^ bits w
+      next = mul-le-mul_right (2 ^ bits w) (omega (arith, upper))
+
+      whole : m / 2 ^ bits w * 2 ^ bits w + m % 2 ^ bits w ≡ m
+      whole = div-add-mod' m (2 ^ bits w)
+
+      last : (2 ^ bits w - 1 + 1) * 2 ^ bits w ≡ 2 ^ bits w * 2 ^ bits w
+      last = ap (λ x. x * 2 ^ bits w) (omega (arith, some))
+
+      by : (m % 2 ^ bits w < 2 ^ hbits w) ⊎ (2 ^ hbits w ≤ m % 2 ^ bits w)
+          → FalseIff (is_nonzero (of_bits m)) (n < 2 ^ hbits w)
+      by (inl h) =
+          by_sign m 0 (low (m % 2 ^ bits w) h)
+          (λ e. absurd (omega (arith, lower, e, twice.some)))
+          (λ p. absurd (omega (arith, whole, next, h, p, square, twice.whole)))
+      by (inr h) =
+          by_sign m (2 ^ bits w - 1)
+          (high (m % 2 ^ bits w) h (mod_below m (2 ^ bits w) some))
+          (λ e.
+          let times = ap (λ q. (q + 1) * 2 ^ bits w) e in
+          omega (arith, whole, times, last, h, square, twice.whole))
+          (λ p.
+          let most =
+          le-div (2 ^ bits w - 1) m (2 ^ bits w) some
+          (omega (arith, last, square, p, twice.whole)) in
+          omega (arith, most, upper))
+
+  pub wide_tells : {P : Type 0} (z : ℤ) → FitsSigned wide z → (FitsSigned w z → P)
+      → (P → FitsSigned w z) → FalseIff (is_nonzero (wide_evidence w wide z)) P
+  wide_tells {P} z f there back =
+      subst
+      (λ y. FalseIff (is_nonzero (bit_xor (cast_unsigned wide z / 2 ^ bits w) (sign_word w y))) P)
+      (sym (wrapped z f)) (by z f there back)
+    where
+      by : (z : ℤ) → FitsSigned wide z → (FitsSigned w z → P) → (P → FitsSigned w z)
+          → FalseIff (is_nonzero (of_bits (cast_unsigned wide z))) P
+      by (pos n) f there back =
+          same_told _ (positive n f.sfits) (λ h. there (record { sfits = h })) (λ p. (back p).sfits)
+      by (negsuc n) f there back =
+          same_told _
+          (negative (2 ^ bits wide - suc n) n (omega (arith, below n f.sfits)) f.sfits)
+          (λ h. there (record { sfits = h })) (λ p. (back p).sfits)

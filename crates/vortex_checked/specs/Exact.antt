@@ -1,5 +1,6 @@
 -- Exact arithmetic of whole numbers, and where a type holds the result.
-use Rattle.std.specs.Int.{w16, w32, w64, w128, cast_unsigned, int_wrap}
+use Rattle.std.specs.Int.{Width, cast_unsigned, int_wrap}
+use mir.Val.{bits}
 use Rattle.std.specs.Int.Bits.{bit_xor}
 use Rattle.std.proofs.Common.{cond}
 use Rattle.std.specs.Prelude.{ℕ, zero, ◌/◌, ◌-◌, ◌^◌, ◌≤ℤ◌, ℤ, pos, Option, Some, None, Bool, ◌||◌}
@@ -28,26 +29,11 @@ abbrev pub held_or_zero : ℤ → ℤ → Option ℤ → ℤ
 held_or_zero least greatest None = pos 0
 held_or_zero least greatest (Some z) = cond (is_outside least greatest z) (pos 0) z
 
--- a word of which each bit is the sign of a number
-abbrev pub sign_word : ℤ → ℕ
-sign_word z = cond (int_lt z (pos 0)) (2 ^ 64 - 1) 0
+-- a word of a width, of which each bit is the sign of a number
+abbrev pub sign_word : Width → ℤ → ℕ
+sign_word w z = cond (int_lt z (pos 0)) (2 ^ bits w - 1) 0
 
--- Of a product of two 64-bit numbers in 128 bits: the upper half, each bit turned where the lower
--- half is negative. It is
--- zero exactly where the lower half holds the product.
-abbrev pub wide_evidence : ℤ → ℕ
-wide_evidence z = bit_xor (cast_unsigned w128 z / 2 ^ 64) (sign_word (int_wrap w64 z))
-
--- the same two of numbers of 16 bits
-abbrev pub sign_word_16 : ℤ → ℕ
-sign_word_16 z = cond (int_lt z (pos 0)) (2 ^ 16 - 1) 0
-
-abbrev pub wide_evidence_16 : ℤ → ℕ
-wide_evidence_16 z = bit_xor (cast_unsigned w32 z / 2 ^ 16) (sign_word_16 (int_wrap w16 z))
-
--- the same two of numbers of 32 bits
-abbrev pub sign_word_32 : ℤ → ℕ
-sign_word_32 z = cond (int_lt z (pos 0)) (2 ^ 32 - 1) 0
-
-abbrev pub wide_evidence_32 : ℤ → ℕ
-wide_evidence_32 z = bit_xor (cast_unsigned w64 z / 2 ^ 32) (sign_word_32 (int_wrap w32 z))
+-- Of a product of two numbers in twice their bits: the upper half, each bit turned where the lower
+-- half is negative. It is zero exactly where the lower half holds the product.
+abbrev pub wide_evidence : Width → Width → ℤ → ℕ
+wide_evidence w wide z = bit_xor (cast_unsigned wide z / 2 ^ bits w) (sign_word w (int_wrap w z))

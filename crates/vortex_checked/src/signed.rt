@@ -1,8 +1,8 @@
 //! The signed types.
 
 ghost use Rattle.std.specs.Prelude.{◌≡◌, ◌*ℤ◌, ◌/◌, ◌^◌};
-ghost use Rattle.std.specs.Int.{w32, w64, w128, cast_unsigned};
-ghost use Rattle.vortex_checked.specs.Exact.{sign_word, sign_word_16, sign_word_32};
+ghost use Rattle.std.specs.Int.{w16, w32, w64, w128, cast_unsigned};
+ghost use Rattle.vortex_checked.specs.Exact.{sign_word};
 
 use crate::arithmetic::CheckedArithmetic;
 
@@ -16,7 +16,7 @@ fn upper_half(left: i64, right: i64) -> u64
 
 /// Each bit the sign of a number.
 fn sign_word(number: i64) -> u64
-    ensures { result ≡ sign_word number }
+    ensures { result ≡ sign_word w64 number }
 {
     if number < 0 { u64::MAX } else { 0 }
 }
@@ -31,7 +31,7 @@ fn upper_half_16(left: i16, right: i16) -> u16
 
 /// Each bit the sign of a number of 16 bits.
 fn sign_word_16(number: i16) -> u16
-    ensures { result ≡ sign_word_16 number }
+    ensures { result ≡ sign_word w16 number }
 {
     if number < 0 { u16::MAX } else { 0 }
 }
@@ -46,7 +46,7 @@ fn upper_half_32(left: i32, right: i32) -> u32
 
 /// Each bit the sign of a number of 32 bits.
 fn sign_word_32(number: i32) -> u32
-    ensures { result ≡ sign_word_32 number }
+    ensures { result ≡ sign_word w32 number }
 {
     if number < 0 { u32::MAX } else { 0 }
 }
@@ -109,8 +109,8 @@ impl CheckedArithmetic for i8 {
 
 impl CheckedArithmetic for i16 {
     ghost use Rattle.std.specs.Prelude.{◌*ℤ◌, pos, negsuc};
-    ghost use Rattle.std.specs.Int.{w16, int_wrap};
-    ghost use Rattle.vortex_checked.specs.Exact.{wide_evidence_16};
+    ghost use Rattle.std.specs.Int.{w16, w32, int_wrap};
+    ghost use Rattle.vortex_checked.specs.Exact.{wide_evidence};
     ghost use Rattle.vortex_checked.specs.Kept.{signed_keeps};
 
     type MulFailure = u16;
@@ -123,7 +123,7 @@ impl CheckedArithmetic for i16 {
 
     ghost wrapped = { int_wrap w16 };
 
-    ghost mul_evidence = { λ a b. wide_evidence_16 (a *ℤ b) };
+    ghost mul_evidence = { λ a b. wide_evidence w16 w32 (a *ℤ b) };
 
     fn add_value(self, rhs: i16) -> i16 {
         self.wrapping_add(rhs)
@@ -164,8 +164,8 @@ impl CheckedArithmetic for i16 {
 
 impl CheckedArithmetic for i32 {
     ghost use Rattle.std.specs.Prelude.{◌*ℤ◌, pos, negsuc};
-    ghost use Rattle.std.specs.Int.{w32, int_wrap};
-    ghost use Rattle.vortex_checked.specs.Exact.{wide_evidence_32};
+    ghost use Rattle.std.specs.Int.{w32, w64, int_wrap};
+    ghost use Rattle.vortex_checked.specs.Exact.{wide_evidence};
     ghost use Rattle.vortex_checked.specs.Kept.{signed_keeps};
 
     type MulFailure = u32;
@@ -178,7 +178,7 @@ impl CheckedArithmetic for i32 {
 
     ghost wrapped = { int_wrap w32 };
 
-    ghost mul_evidence = { λ a b. wide_evidence_32 (a *ℤ b) };
+    ghost mul_evidence = { λ a b. wide_evidence w32 w64 (a *ℤ b) };
 
     fn add_value(self, rhs: i32) -> i32 {
         self.wrapping_add(rhs)
@@ -219,7 +219,7 @@ impl CheckedArithmetic for i32 {
 
 impl CheckedArithmetic for i64 {
     ghost use Rattle.std.specs.Prelude.{◌*ℤ◌, pos, negsuc};
-    ghost use Rattle.std.specs.Int.{w64, int_wrap};
+    ghost use Rattle.std.specs.Int.{w64, w128, int_wrap};
     ghost use Rattle.vortex_checked.specs.Exact.{wide_evidence};
     ghost use Rattle.vortex_checked.specs.Kept.{signed_keeps};
 
@@ -233,7 +233,7 @@ impl CheckedArithmetic for i64 {
 
     ghost wrapped = { int_wrap w64 };
 
-    ghost mul_evidence = { λ a b. wide_evidence (a *ℤ b) };
+    ghost mul_evidence = { λ a b. wide_evidence w64 w128 (a *ℤ b) };
 
     fn add_value(self, rhs: i64) -> i64 {
         self.wrapping_add(rhs)

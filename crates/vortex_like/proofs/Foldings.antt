@@ -69,7 +69,7 @@ module _ (literal text : List ℕ) where
         ∙ r.3,
   )
 
-  front_folds : folded (take (length literal) text) ≡ folded literal
+  pub front_folds : folded (take (length literal) text) ≡ folded literal
       → Match true (front_tokens literal) text
   front_folds e =
       subst (λ (cs : List ℕ). Match true (front_tokens literal) cs)
@@ -77,7 +77,7 @@ module _ (literal text : List ℕ) where
       (start_folds literal (take (length literal) text) (drop (length literal) text) (any ∷ []) e
       (drop (length literal) text, [], sym (append-nil (drop (length literal) text)), refl))
 
-  folds_front : Match true (front_tokens literal) text
+  pub folds_front : Match true (front_tokens literal) text
       → (length literal ≤ length text) × (folded (take (length literal) text) ≡ folded literal)
   folds_front m =
       let r = fold_start literal (any ∷ []) text m in

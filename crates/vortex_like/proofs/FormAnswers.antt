@@ -10,7 +10,7 @@ use Rattle.vortex_like.specs.declared.form_test.FormTest.{FormTest}
 use Rattle.vortex_like.specs.declared.form_test.FormTest.TheVariants.{Eq, StartsWith, EndsWith}
 use Rattle.vortex_like.specs.declared.form_test.FormTest.TheVariants.{Contains, IEqAscii}
 use Rattle.vortex_like.specs.declared.form_test.FormTest.TheVariants.{IStartsWithAscii}
-use Rattle.vortex_like.specs.declared.form_test.FormTest.TheVariants.{IEndsWithAscii, Tokens}
+use Rattle.vortex_like.specs.declared.form_test.FormTest.TheVariants.{IEndsWithAscii, Tokens, SmallInside}
 use Rattle.vortex_like.proofs.LiteralAnswers.{whole_answer, front_answer, end_answer}
 use Rattle.vortex_like.proofs.LiteralAnswers.{inside_answer}
 use Rattle.vortex_like.proofs.Foldings.{folded_whole, folded_front, folded_end}
@@ -30,3 +30,4 @@ form_answer (IEqAscii t) bytes u ascii = folded_whole t.text bytes (ascii refl)
 form_answer (IStartsWithAscii t) bytes u ascii = folded_front t.text bytes (ascii refl)
 form_answer (IEndsWithAscii t) bytes u ascii = folded_end t.text bytes (ascii refl)
 form_answer (Tokens t) bytes u ascii = refl
+form_answer (SmallInside t) bytes u ascii = refl

@@ -7,9 +7,13 @@ pub mod Reading
 pub mod Shapes
 pub mod Forming
 pub mod Literals
+pub mod Fronts
 pub mod LiteralAnswers
 pub mod Foldings
+pub mod SmallLetters
 pub mod FormAnswers
 pub mod AsciiPatterns
 pub mod EachRow
+pub mod KeptPatterns
+pub mod Gathering
 pub mod SaidRows

@@ -19,7 +19,7 @@ use Rattle.vortex_like.proofs.Testing.{answer_is, ending_passes, passes_ending}
 use Rattle.vortex_like.proofs.Literals.{whole_match, front_match, end_match, inside_match}
 
 -- where a literal part stands in a text
-occurs_parted : (bytes literal : List ℕ) (k : ℕ) → OccursAt bytes literal k
+pub occurs_parted : (bytes literal : List ℕ) (k : ℕ) → OccursAt bytes literal k
     → (front : List ℕ) × (rest : List ℕ) × (bytes ≡ front ++ (literal ++ rest))
 occurs_parted bytes literal k h = (
   take k bytes,
@@ -43,7 +43,7 @@ occurs_parted bytes literal k h = (
         get_or-take (length literal) (drop k bytes) i 0 within ∙ get_or-drop k bytes i 0
         ∙ h.reads i within)
 
-parted_occurs : (bytes literal front rest : List ℕ) → bytes ≡ front ++ (literal ++ rest)
+pub parted_occurs : (bytes literal front rest : List ℕ) → bytes ≡ front ++ (literal ++ rest)
     → OccursAt bytes literal (length front)
 parted_occurs bytes literal front rest e = record {
   fits = fits;
@@ -65,7 +65,7 @@ module _ (literal bytes : List ℕ) where
   abbrev begins : List ℕ → Bool
   begins ending = starts_with nat_eq ending literal
 
-  holds_parted : holds_inside literal bytes ≡ true
+  pub holds_parted : holds_inside literal bytes ≡ true
       → (front : List ℕ) × (rest : List ℕ) × (bytes ≡ front ++ (literal ++ rest))
   holds_parted e =
       let at = ending_passes begins bytes e in
@@ -77,7 +77,7 @@ module _ (literal bytes : List ℕ) where
             ∙ ap (λ (bs : List ℕ). take at.0 bytes ++ bs) (told.0 at.1),
       )
 
-  parted_holds : (front rest : List ℕ) → bytes ≡ front ++ (literal ++ rest)
+  pub parted_holds : (front rest : List ℕ) → bytes ≡ front ++ (literal ++ rest)
       → holds_inside literal bytes ≡ true
   parted_holds front rest e =
       let behind = drop (length front) bytes in

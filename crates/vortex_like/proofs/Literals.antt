@@ -40,7 +40,7 @@ same_bytes xs ys u v e =
     sym (encodes-chars xs u) ∙ ap encode_utf8_all e ∙ encodes-chars ys v
 
 -- the bytes of a text that is put together of characters
-parted_bytes : (bytes front : List ℕ) (rest : List ℕ) → IsUtf8 bytes → chars bytes ≡ front ++ rest
+pub parted_bytes : (bytes front : List ℕ) (rest : List ℕ) → IsUtf8 bytes → chars bytes ≡ front ++ rest
     → bytes ≡ encode_utf8_all front ++ encode_utf8_all rest
 parted_bytes bytes front rest u e =
     sym (encodes-chars bytes u) ∙ ap encode_utf8_all e ∙ encodes-append front rest

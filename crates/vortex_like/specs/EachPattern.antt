@@ -1,16 +1,28 @@
--- A pattern for each row, and the last one that was compiled.
-use Rattle.std.specs.Prelude.{◌≡◌, ℕ, Bool, false, string_bytes}
+-- A pattern for each row, and the last few that were compiled.
+use Rattle.std.specs.Prelude.{◌≡◌, ◌<◌, ◌⊎◌, ℕ, Bool, false, string_bytes, List, [], ◌∷◌, ◌++◌}
+use Rattle.std.specs.Prelude.{length, slice_set}
+use Rattle.std.specs.List.{HoldsAt}
 use Rattle.vortex_types.specs.Values.{is_null}
 use Rattle.vortex_columns.specs.ColumnView.{row}
 use Rattle.vortex_like.specs.Patterns.{pattern_of}
 use Rattle.vortex_like.specs.declared.options.LikeOptions.{LikeOptions}
-use Rattle.vortex_like.specs.declared.each_pattern.LastPattern.{LastPattern}
+use Rattle.vortex_like.specs.declared.each_pattern.CompiledPattern.{CompiledPattern}
 use Rattle.vortex_like.specs.declared.each_pattern.SideBySide.{SideBySide}
 
 -- compiled from its text
-abbrev pub IsCompiled : LikeOptions → Bool → LastPattern → Type 0
-IsCompiled options ascii last =
-    last.pattern ≡ pattern_of options.escape (string_bytes last.text) options.case_insensitive ascii
+abbrev pub IsCompiled : LikeOptions → Bool → CompiledPattern → Type 0
+IsCompiled options ascii own =
+    own.pattern ≡ pattern_of options.escape (string_bytes own.text) options.case_insensitive ascii
+
+-- the pattern of these bytes is kept at that place
+abbrev pub IsKeptAt : List ℕ → List CompiledPattern → ℕ → Type 0
+IsKeptAt bytes kept at =
+    (at < length kept) × HoldsAt (λ own. string_bytes own.text ≡ bytes) kept at
+
+-- a pattern is kept at that place, as one more or in place of another
+abbrev pub IsKept : CompiledPattern → ℕ → List CompiledPattern → List CompiledPattern → Type 0
+IsKept own at old new =
+    ((new ≡ old ++ own ∷ []) × (at ≡ length old)) ⊎ ((new ≡ slice_set old at own) × (at < length old))
 
 -- neither side is null
 abbrev pub AreBothValid : SideBySide → ℕ → Type 0

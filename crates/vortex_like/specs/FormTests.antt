@@ -12,7 +12,7 @@ use Rattle.vortex_like.specs.declared.form_test.FormTest.{FormTest}
 use Rattle.vortex_like.specs.declared.form_test.FormTest.TheVariants.{Eq, StartsWith, EndsWith}
 use Rattle.vortex_like.specs.declared.form_test.FormTest.TheVariants.{Contains, IEqAscii}
 use Rattle.vortex_like.specs.declared.form_test.FormTest.TheVariants.{IStartsWithAscii}
-use Rattle.vortex_like.specs.declared.form_test.FormTest.TheVariants.{IEndsWithAscii, Tokens}
+use Rattle.vortex_like.specs.declared.form_test.FormTest.TheVariants.{IEndsWithAscii, Tokens, SmallInside}
 
 abbrev pub test_form : FormTest → LikeForm
 test_form (Eq t) = form.Eq
@@ -23,6 +23,7 @@ test_form (IEqAscii t) = form.IEqAscii
 test_form (IStartsWithAscii t) = form.IStartsWithAscii
 test_form (IEndsWithAscii t) = form.IEndsWithAscii
 test_form (Tokens t) = form.Tokens
+test_form (SmallInside t) = form.Tokens
 
 -- the tokens that it answers as
 abbrev pub test_tokens : FormTest → List Token
@@ -34,6 +35,7 @@ test_tokens (IEqAscii t) = whole_tokens t.text
 test_tokens (IStartsWithAscii t) = front_tokens t.text
 test_tokens (IEndsWithAscii t) = end_tokens t.text
 test_tokens (Tokens t) = t.tokens.items
+test_tokens (SmallInside t) = t.tokens.tokens.items
 
 -- and whether past case
 abbrev pub test_folds : FormTest → Bool
@@ -41,6 +43,7 @@ test_folds (IEqAscii t) = true
 test_folds (IStartsWithAscii t) = true
 test_folds (IEndsWithAscii t) = true
 test_folds (Tokens t) = t.case_insensitive
+test_folds (SmallInside t) = t.tokens.case_insensitive
 test_folds t = false
 
 -- what it says of bytes that it may read, be they a text or not
@@ -53,6 +56,8 @@ form_said (IEqAscii t) bytes = folds_alike t.text bytes
 form_said (IStartsWithAscii t) bytes = front_folds_alike t.text bytes
 form_said (IEndsWithAscii t) bytes = end_folds_alike t.text bytes
 form_said (Tokens t) bytes = is_match t.case_insensitive t.tokens.items (chars bytes)
+form_said (SmallInside t) bytes =
+    is_match t.tokens.case_insensitive t.tokens.tokens.items (chars bytes)
 
 -- the forms that are for ASCII texts alone
 abbrev pub is_ascii_form : LikeForm → Bool

@@ -9,12 +9,15 @@ pub mod Rows
 pub mod Variants
 pub mod UnescapedTexts
 pub mod Cuts
+pub mod Fronts
 pub mod Forms
 pub mod Shapes
 pub mod AsciiFolds
+pub mod SmallLetters
 pub mod ByteTests
 pub mod FormTests
 pub mod TextRows
 pub mod EachPattern
+pub mod Gathered
 pub mod Words
 pub mod OptionBytes

@@ -1,21 +1,29 @@
 //! One pattern beside the texts of a column: a loop for each form, chosen before the rows.
 ghost use Rattle.std.specs.Prelude.{◌≡◌, ◌<◌, ◌&&◌, ℕ, List, true, false, not, length, nat_eq};
-ghost use Rattle.std.specs.Prelude.{string_bytes};
+ghost use Rattle.std.specs.Prelude.{string_bytes, IsUtf8, IsTrue, slice_index_or};
 ghost use Rattle.std.specs.List.{starts_with, ends_with};
 ghost use Rattle.std.specs.Str.{chars, bytes_eq};
 ghost use Rattle.vortex_like.specs.Words.{AnswersUnlessMemory, is_match, is_null, row, AreTold};
 ghost use Rattle.vortex_like.specs.Words.{IsSaid, turned, texts_of, text_at, AreTexts, AreAscii};
 ghost use Rattle.vortex_like.specs.Words.{test_form, test_tokens, test_folds, is_ascii_form};
-ghost use Rattle.vortex_like.specs.Words.{form_said};
+ghost use Rattle.vortex_like.specs.Words.{form_said, holds_inside};
 
 use crate::form_test::FormTest;
-use crate::text_tests::{ByBytes, EndTest, FrontTest, WholeTest};
+use crate::gathered::held_rows;
+use crate::small_inside::SmallInsideTest;
+use crate::text_tests::{ByBytes, EndTest, FrontTest, InsideTest, TextTest, WholeTest};
 use crate::texts::Texts;
 use crate::token_test::TokenTest;
 use std::alloc::Global;
 use vortex_bits::{RowBits, collect_rows};
 use vortex_columns::{BitBuffer, Column, VortexResult};
-use vortex_views::{BinaryView, LongFront, LongWhole, ShortFront, ShortWhole, ValueTest, WholeEnd};
+use vortex_views::{
+    BinaryView, LongFront, LongWhole, Row, ShortFront, ShortWhole, ValueTest, WholeEnd,
+    WordsOfBytes,
+};
+
+/// So few texts are searched one by one.
+const FEW: usize = 64;
 
 /// What a test that reads any bytes says of each text, whether it lies under a null or not.
 #[derive(Clone, Copy)]
@@ -79,7 +87,74 @@ fn said_by_test<T: ValueTest>(
     collect_rows(alloc, &rows, column.len())
 }
 
-/// What a test token by token says of them: it reads no text under a null.
+/// What a test that reads texts alone says of them: it reads none under a null.
+fn said_of_texts<'a, T: ValueTest>(
+    alloc: Global,
+    column: &'a Column,
+    texts: Texts<'a>,
+    test: &'a T,
+    negated: bool,
+) -> VortexResult<BitBuffer>
+    requires texts { AreTexts column.now (texts_of texts) }
+    requires reads { (bytes : List ℕ) → IsUtf8 bytes → T.can_read test.now bytes }
+    ensures { AnswersUnlessMemory result (AreTold (length column.now.rows)
+        (λ i b. IsSaid (T.said test.now) negated (row column.now.rows i) b)) }
+{
+    let tested = Tested {
+        texts,
+        test,
+        negated,
+    };
+    let rows = ValidTested { column, tested };
+    collect_rows(alloc, &rows, column.len())
+}
+
+/// A test token by token, behind a test by words of what each text begins with that passes: it
+/// leaves few rows to go over.
+#[derive(Drop)]
+struct Fronted<'a, F: ValueTest> {
+    front: &'a F,
+    test: &'a TokenTest,
+    ghost needed: { (bytes : List ℕ) → IsUtf8 bytes
+        → is_match test.now.case_insensitive test.now.tokens.items (chars bytes) ≡ true
+        → F.said front.now bytes ≡ true },
+}
+
+impl<F: ValueTest> ValueTest for Fronted<'_, F> {
+    ghost can_read = { λ t bytes. IsUtf8 bytes × F.can_read t.front.now bytes };
+
+    ghost said = { λ t bytes. is_match t.test.now.case_insensitive t.test.now.tokens.items
+        (chars bytes) };
+
+    #[inline(always)]
+    fn passes(&self, row: &Row<'_>) -> bool {
+        self.front.passes(row) && self.test.passes(row.value_bytes())
+    }
+}
+
+/// What a test token by token says of the texts of a column, behind a test of their fronts.
+fn said_behind_front<'a, F: ValueTest>(
+    alloc: Global,
+    column: &'a Column,
+    texts: Texts<'a>,
+    front: &'a F,
+    test: &'a TokenTest,
+    negated: bool,
+) -> VortexResult<BitBuffer>
+    requires texts { AreTexts column.now (texts_of texts) }
+    requires reads { (bytes : List ℕ) → F.can_read front.now bytes }
+    requires needed { (bytes : List ℕ) → IsUtf8 bytes
+        → is_match test.now.case_insensitive test.now.tokens.items (chars bytes) ≡ true
+        → F.said front.now bytes ≡ true }
+    ensures { AnswersUnlessMemory result (AreTold (length column.now.rows) (λ i b. IsSaid
+        (λ bytes. is_match test.now.case_insensitive test.now.tokens.items (chars bytes))
+        negated (row column.now.rows i) b)) }
+{
+    let fronted = Fronted { front, test };
+    said_of_texts(alloc, column, texts, &fronted, negated)
+}
+
+/// What a test token by token says of them.
 fn said_by_tokens<'a>(
     alloc: Global,
     column: &'a Column,
@@ -92,13 +167,16 @@ fn said_by_tokens<'a>(
         (λ bytes. is_match test.now.case_insensitive test.now.tokens.items (chars bytes))
         negated (row column.now.rows i) b)) }
 {
-    let tested = Tested {
-        texts,
-        test: &ByBytes { test },
-        negated,
-    };
-    let rows = ValidTested { column, tested };
-    collect_rows(alloc, &rows, column.len())
+    let front = test.front.as_bytes();
+    if front.is_empty() {
+        return said_of_texts(alloc, column, texts, &ByBytes { test }, negated);
+    }
+    if front.len() <= 4 {
+        let front = ShortFront::new(front);
+        return said_behind_front(alloc, column, texts, &front, test, negated);
+    }
+    let front = LongFront::new(front);
+    said_behind_front(alloc, column, texts, &front, test, negated)
 }
 
 /// Which texts of a column are this one, turned over where negated: by the words of their views,
@@ -162,6 +240,69 @@ fn said_by_end(
     said_by_test(alloc, column, texts, &end, negated)
 }
 
+/// Rows of which it is told whether they hold a needle, turned over where negated.
+#[derive(Clone, Copy)]
+struct Held<'a> {
+    held: &'a [bool],
+    negated: bool,
+}
+
+impl RowBits for Held<'_> {
+    ghost has_row = { λ r i. i < length r.held.now };
+
+    ghost row_bit = { λ r i. turned r.negated (slice_index_or r.held.now i false) };
+
+    fn bit(&self, i: usize) -> bool {
+        self.held[i] != self.negated
+    }
+}
+
+/// Which texts of a column hold it, likewise: by one search over many where there are many.
+fn said_by_search(
+    alloc: Global,
+    column: &Column,
+    texts: Texts<'_>,
+    test: &InsideTest,
+    negated: bool,
+) -> VortexResult<BitBuffer>
+    requires { AreTexts column.now (texts_of texts) }
+    ensures { AnswersUnlessMemory result (AreTold (length column.now.rows) (λ i b. IsSaid
+        (holds_inside test.now.finder) negated (row column.now.rows i) b)) }
+{
+    if column.len() < FEW {
+        return said_by_test(alloc, column, texts, &ByBytes { test }, negated);
+    }
+    let held = held_rows(alloc, &texts, test, false)?;
+    let rows = Held {
+        held: held.as_slice(),
+        negated,
+    };
+    collect_rows(alloc, &rows, column.len())
+}
+
+/// Which texts of a column hold a literal part past case, likewise, by small letters; each is
+/// ASCII, if it is not null.
+fn said_in_small(
+    alloc: Global,
+    column: &Column,
+    texts: Texts<'_>,
+    test: &SmallInsideTest,
+    negated: bool,
+) -> VortexResult<BitBuffer>
+    requires texts { AreTexts column.now (texts_of texts) }
+    requires ascii { AreAscii column.now (texts_of texts) }
+    ensures { AnswersUnlessMemory result (AreTold (length column.now.rows) (λ i b. IsSaid
+        (λ bytes. is_match test.now.tokens.case_insensitive test.now.tokens.tokens.items
+        (chars bytes)) negated (row column.now.rows i) b)) }
+{
+    let held = held_rows(alloc, &texts, &test.search, true)?;
+    let rows = Held {
+        held: held.as_slice(),
+        negated,
+    };
+    collect_rows(alloc, &rows, column.len())
+}
+
 /// What the test of a pattern says of the texts of a column, turned over where negated.
 fn said_by_form(
     alloc: Global,
@@ -169,8 +310,10 @@ fn said_by_form(
     texts: Texts<'_>,
     test: &FormTest,
     negated: bool,
+    ascii: bool,
 ) -> VortexResult<BitBuffer>
-    requires { AreTexts column.now (texts_of texts) }
+    requires texts { AreTexts column.now (texts_of texts) }
+    requires ascii { IsTrue ascii → AreAscii column.now (texts_of texts) }
     ensures { AnswersUnlessMemory result (AreTold (length column.now.rows)
         (λ i b. IsSaid (form_said test.now) negated (row column.now.rows i) b)) }
 {
@@ -178,9 +321,7 @@ fn said_by_form(
         FormTest::Eq(test) => said_by_whole(alloc, column, texts, test, negated),
         FormTest::StartsWith(test) => said_by_front(alloc, column, texts, test, negated),
         FormTest::EndsWith(test) => said_by_end(alloc, column, texts, test, negated),
-        FormTest::Contains(test) => {
-            said_by_test(alloc, column, texts, &ByBytes { test }, negated)
-        }
+        FormTest::Contains(test) => said_by_search(alloc, column, texts, test, negated),
         FormTest::IEqAscii(test) => {
             said_by_test(alloc, column, texts, &ByBytes { test }, negated)
         }
@@ -191,23 +332,32 @@ fn said_by_form(
             said_by_test(alloc, column, texts, &ByBytes { test }, negated)
         }
         FormTest::Tokens(test) => said_by_tokens(alloc, column, texts, test, negated),
+        FormTest::SmallInside(test) if ascii => {
+            said_in_small(alloc, column, texts, test, negated)
+        }
+        FormTest::SmallInside(test) => {
+            said_by_tokens(alloc, column, texts, &test.tokens, negated)
+        }
     }
 }
 
-/// Which texts of a column the tokens of the test match, turned over where negated.
+/// Which texts of a column the tokens of the test match, turned over where negated. With `ascii`
+/// each text that is not null is ASCII.
 pub(crate) fn tested_by_form(
     alloc: Global,
     column: &Column,
     texts: Texts<'_>,
     test: &FormTest,
     negated: bool,
+    ascii: bool,
 ) -> VortexResult<BitBuffer>
     requires texts { AreTexts column.now (texts_of texts) }
+    requires all { IsTrue ascii → AreAscii column.now (texts_of texts) }
     requires ascii { is_ascii_form (test_form test.now) ≡ true
         → AreAscii column.now (texts_of texts) }
     ensures { AnswersUnlessMemory result (AreTold (length column.now.rows) (λ i b. IsSaid
         (λ bytes. is_match (test_folds test.now) (test_tokens test.now) (chars bytes))
         negated (row column.now.rows i) b)) }
 {
-    said_by_form(alloc, column, texts, test, negated)
+    said_by_form(alloc, column, texts, test, negated, ascii)
 }

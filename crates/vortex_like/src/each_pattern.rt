@@ -1,10 +1,12 @@
 //! A pattern for each row.
-ghost use Rattle.std.specs.Prelude.{◌≡◌, ◌<◌, ℕ, true, false, length, IsTrue, IsUtf8};
+ghost use Rattle.std.specs.Prelude.{◌≡◌, ◌<◌, ◌≤◌, ℕ, true, false, length, IsTrue, IsUtf8, IfSome};
 ghost use Rattle.std.specs.Prelude.{string_bytes};
+ghost use Rattle.std.specs.List.{All, HoldsAt};
 ghost use Rattle.std.specs.Str.{chars, IsAscii};
 ghost use Rattle.vortex_like.specs.Words.{AnswersUnlessMemory, is_null, row, is_match, turned};
 ghost use Rattle.vortex_like.specs.Words.{AreLikeBits};
 ghost use Rattle.vortex_like.specs.Words.{IsTextOf, AreTexts, texts_of, IsCompiled, AreBothValid};
+ghost use Rattle.vortex_like.specs.Words.{IsKept, IsKeptAt};
 
 use crate::options::LikeOptions;
 use crate::pattern::LikePattern;
@@ -36,10 +38,13 @@ impl SideBySide<'_> {
 
 /// A pattern, and the text that it was compiled from.
 #[derive(Drop)]
-struct LastPattern {
+struct CompiledPattern {
     text: String,
     pattern: LikePattern,
 }
+
+/// How many compiled patterns are kept.
+const KEPT: usize = 8;
 
 /// The pattern of this text.
 fn compiled(
@@ -47,48 +52,132 @@ fn compiled(
     text: &str,
     options: LikeOptions,
     ascii: bool,
-) -> VortexResult<LastPattern>
+) -> VortexResult<CompiledPattern>
     ensures pattern { AnswersUnlessMemory result (IsCompiled options ascii) }
-    ensures text { AnswersUnlessMemory result (λ last. string_bytes last.text ≡ text.now) }
+    ensures text { AnswersUnlessMemory result (λ own. string_bytes own.text ≡ text.now) }
 {
     let pattern = LikePattern::compile_with(alloc, text, options, ascii)?;
     let text = String::from_str(alloc, text)?;
-    Ok(LastPattern { text, pattern })
+    Ok(CompiledPattern { text, pattern })
 }
 
-/// Turns to the pattern of these bytes. Where the last one had the same it serves again.
-fn turn_to(
+/// Whether the pattern of these bytes is kept at that place.
+#[inline(always)]
+fn is_kept_at(kept: &[CompiledPattern], at: usize, bytes: &[u8]) -> bool
+    ensures { IsTrue result → IsKeptAt bytes.now kept.now at }
+{
+    at < kept.len() && kept[at].text.as_bytes() == bytes
+}
+
+/// The place of the pattern of these bytes among those that are kept, if it is one of them: they
+/// are looked at from place `from` on, and then those before it.
+fn place_of(kept: &[CompiledPattern], from: usize, bytes: &[u8]) -> Option<usize>
+    requires { from ≤ length kept.now }
+    ensures { IfSome result (IsKeptAt bytes.now kept.now) }
+{
+    let behind = kept.len() - from;
+    for step in 0..kept.len() {
+        let at = if step < behind {
+            from + step
+        } else {
+            step - behind
+        };
+        if is_kept_at(kept, at, bytes) {
+            return Some(at);
+        }
+    }
+    None
+}
+
+/// Keeps a pattern, and answers its place: in place of the one behind the last that was asked for,
+/// where there are as many as are kept.
+fn keep(
+    kept: &mut Vec<CompiledPattern>,
+    last: usize,
+    pattern: CompiledPattern,
+) -> VortexResult<usize>
+    ensures { AnswersUnlessMemory result (λ at. IsKept pattern at kept.old.items kept.new.items) }
+{
+    if kept.len() < KEPT {
+        let at = kept.len();
+        kept.push(pattern)?;
+        return Ok(at);
+    }
+    let at = if last < kept.len() - 1 { last + 1 } else { 0 };
+    kept[at] = pattern;
+    Ok(at)
+}
+
+/// The place of the pattern of these bytes, which is not the last that was asked for. Where one
+/// that is kept has the same it serves again.
+#[inline(never)]
+fn turn_further(
     alloc: Global,
-    last: &mut LastPattern,
+    kept: &mut Vec<CompiledPattern>,
+    last: usize,
     bytes: &[u8],
     options: LikeOptions,
     ascii: bool,
-) -> VortexResult<()>
+) -> VortexResult<usize>
     requires utf8 { IsUtf8 bytes.now }
-    requires pattern { IsCompiled options ascii last.old }
-    ensures pattern { AnswersUnlessMemory result (λ _. IsCompiled options ascii last.new) }
-    ensures text { AnswersUnlessMemory result (λ _. string_bytes last.new.text ≡ bytes.now) }
+    requires last { last ≤ length kept.old.items }
+    requires patterns { All (IsCompiled options ascii) kept.old.items }
+    ensures patterns { AnswersUnlessMemory result
+        (λ _. All (IsCompiled options ascii) kept.new.items) }
+    ensures place { AnswersUnlessMemory result (IsKeptAt bytes.now kept.new.items) }
 {
-    if bytes == last.text.as_bytes() {
-        return Ok(());
+    if let Some(at) = place_of(kept.as_slice(), last, bytes) {
+        return Ok(at);
     }
     let text = unsafe { str::from_utf8_unchecked(bytes) };
-    *last = compiled(alloc, text, options, ascii)?;
-    Ok(())
+    let pattern = compiled(alloc, text, options, ascii)?;
+    keep(kept, last, pattern)
+}
+
+/// The same of any: the last that was asked for is looked at first.
+#[inline(always)]
+fn turn_to(
+    alloc: Global,
+    kept: &mut Vec<CompiledPattern>,
+    last: usize,
+    bytes: &[u8],
+    options: LikeOptions,
+    ascii: bool,
+) -> VortexResult<usize>
+    requires utf8 { IsUtf8 bytes.now }
+    requires last { last ≤ length kept.old.items }
+    requires patterns { All (IsCompiled options ascii) kept.old.items }
+    ensures patterns { AnswersUnlessMemory result
+        (λ _. All (IsCompiled options ascii) kept.new.items) }
+    ensures place { AnswersUnlessMemory result (IsKeptAt bytes.now kept.new.items) }
+{
+    if is_kept_at(kept.as_slice(), last, bytes) {
+        return Ok(last);
+    }
+    turn_further(alloc, kept, last, bytes, options, ascii)
+}
+
+/// The pattern at a place.
+fn pattern_at(kept: &[CompiledPattern], at: usize) -> &CompiledPattern
+    requires { at < length kept.now }
+    ensures { HoldsAt (λ own. own ≡ result.now) kept.now at }
+{
+    &kept[at]
 }
 
 /// What the pattern says of a text, turned over where negated.
-fn said(last: &LastPattern, bytes: &[u8], negated: bool) -> bool
+fn said(own: &CompiledPattern, bytes: &[u8], negated: bool) -> bool
     requires utf8 { IsUtf8 bytes.now }
-    requires ascii { IsTrue last.now.pattern.ascii_haystack → IsAscii bytes.now }
-    ensures { result ≡ turned negated (is_match last.now.pattern.case_insensitive
-        last.now.pattern.tokens (chars bytes.now)) }
+    requires ascii { IsTrue own.now.pattern.ascii_haystack → IsAscii bytes.now }
+    ensures { result ≡ turned negated (is_match own.now.pattern.case_insensitive
+        own.now.pattern.tokens (chars bytes.now)) }
 {
-    last.pattern.matches(bytes) != negated
+    own.pattern.matches(bytes) != negated
 }
 
 /// What LIKE says of each text and the pattern beside it. A null row's pattern is not read, and of
-/// the row nothing is said. The last pattern that was compiled serves again while its bytes repeat.
+/// the row nothing is said. The last few patterns that were compiled serve again where their bytes
+/// come again.
 pub(crate) fn each_bits<R: RowTexts>(
     alloc: Global,
     columns: SideBySide<'_>,
@@ -107,7 +196,8 @@ pub(crate) fn each_bits<R: RowTexts>(
 {
     let options = columns.options;
     let len = columns.texts.len();
-    let mut last = compiled(alloc, "", options, columns.ascii)?;
+    let mut kept = Vec::with_capacity(alloc, KEPT)?;
+    let mut at = 0;
     let mut bits = Vec::with_capacity(alloc, len)?;
     for i in 0..len {
         if !columns.are_both_valid(i) {
@@ -115,8 +205,9 @@ pub(crate) fn each_bits<R: RowTexts>(
             continue;
         }
         let bytes = patterns.bytes(i);
-        turn_to(alloc, &mut last, bytes, options, columns.ascii)?;
-        bits.push_reserved(said(&last, texts.bytes(i), options.negated));
+        at = turn_to(alloc, &mut kept, at, bytes, options, columns.ascii)?;
+        let own = pattern_at(kept.as_slice(), at);
+        bits.push_reserved(said(own, texts.bytes(i), options.negated));
     }
     BitBuffer::from_bools(alloc, bits.as_slice())
 }

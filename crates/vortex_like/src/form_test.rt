@@ -1,13 +1,16 @@
 //! The test that a pattern is compiled to, by its form.
 ghost use Rattle.std.specs.Prelude.{◌≡◌, ◌≢◌, ◌+◌, ◌*◌, ◌<◌, ◌≤◌, [], length, true, false};
-ghost use Rattle.std.specs.Prelude.{IsTrue, IsUtf8};
+ghost use Rattle.std.specs.Prelude.{IsTrue, IsUtf8, string_bytes};
 ghost use Rattle.std.specs.Str.{chars, IsAscii};
 ghost use Rattle.vortex_like.specs.Words.{AnswersUnlessMemory, is_match, asked, form_of};
 ghost use Rattle.vortex_like.specs.Words.{plain_form, folded_form, test_form, test_tokens};
 ghost use Rattle.vortex_like.specs.Words.{test_folds, is_ascii_form, form_said, IsTestOf};
+ghost use Rattle.vortex_like.specs.Words.{IsNeeded, tokens_of, inside_tokens};
 
+use crate::cuts::cut_at_special;
 use crate::folded_tests::{FoldedEndTest, FoldedFrontTest, FoldedText, FoldedWholeTest};
 use crate::form::{LikeForm, Shape, shape_of};
+use crate::small_inside::{SmallInsideTest, folds_to_small};
 use crate::text_tests::{EndTest, FrontTest, InsideTest, TextTest, WholeTest};
 use crate::token::Looks;
 use crate::token_reading::tokens_of;
@@ -26,6 +29,42 @@ pub(crate) enum FormTest {
     IStartsWithAscii(FoldedFrontTest),
     IEndsWithAscii(FoldedEndTest),
     Tokens(TokenTest),
+    /// Tokens as well, of `Contains` past case.
+    SmallInside(SmallInsideTest),
+}
+
+/// What each text begins with that a pattern matches: its characters before the first that is
+/// special; of a pattern past case nothing.
+fn needed_front(
+    alloc: Global,
+    pattern: &str,
+    escape: Option<char>,
+    case_insensitive: bool,
+) -> VortexResult<String>
+    ensures { AnswersUnlessMemory result (λ front. IsNeeded case_insensitive
+        (tokens_of escape (chars pattern.now)) (string_bytes front)) }
+{
+    if case_insensitive {
+        return Ok(String::new(alloc));
+    }
+    let cut = cut_at_special(pattern, escape);
+    Ok(String::from_str(alloc, cut.front)?)
+}
+
+/// The tokens of a pattern, as a test.
+fn tokens_test(
+    alloc: Global,
+    pattern: &str,
+    escape: Option<char>,
+    case_insensitive: bool,
+) -> VortexResult<TokenTest>
+    ensures tokens { AnswersUnlessMemory result
+        (λ t. t.tokens.items ≡ tokens_of escape (chars pattern.now)) }
+    ensures folds { AnswersUnlessMemory result (λ t. t.case_insensitive ≡ case_insensitive) }
+{
+    let tokens = tokens_of(alloc, pattern, escape)?;
+    let front = needed_front(alloc, pattern, escape, case_insensitive)?;
+    Ok(TokenTest::new(tokens, case_insensitive, front))
 }
 
 /// The test of a pattern token by token.
@@ -38,11 +77,27 @@ fn token_test(
     ensures { AnswersUnlessMemory result
         (IsTestOf escape (chars pattern.now) case_insensitive LikeForm.Tokens) }
 {
-    let tokens = tokens_of(alloc, pattern, escape)?;
-    Ok(FormTest::Tokens(TokenTest {
-        tokens,
-        case_insensitive,
-    }))
+    Ok(FormTest::Tokens(tokens_test(alloc, pattern, escape, case_insensitive)?))
+}
+
+/// The test, with folding, of a pattern that is this literal part between two `%`: token by token,
+/// but in ASCII texts by small letters where these tell what folds alike.
+fn small_inside_test(
+    alloc: Global,
+    pattern: &str,
+    escape: Option<char>,
+    literal: &str,
+) -> VortexResult<FormTest>
+    requires { tokens_of escape (chars pattern.now) ≡ inside_tokens (chars literal.now) }
+    ensures { AnswersUnlessMemory result
+        (IsTestOf escape (chars pattern.now) true LikeForm.Tokens) }
+{
+    let tokens = tokens_test(alloc, pattern, escape, true)?;
+    if !literal.is_ascii() || !folds_to_small() {
+        return Ok(FormTest::Tokens(tokens));
+    }
+    let test = SmallInsideTest::new(alloc, tokens, literal)?;
+    Ok(FormTest::SmallInside(test))
 }
 
 /// The test of a pattern without folding.
@@ -90,7 +145,8 @@ fn folded_test(alloc: Global, pattern: &str, escape: Option<char>) -> VortexResu
             let text = FoldedText::new(alloc, literal)?;
             Ok(FormTest::IEndsWithAscii(FoldedEndTest { text }))
         }
-        _ => token_test(alloc, pattern, escape, true),
+        Shape::Inside(literal) => small_inside_test(alloc, pattern, escape, literal),
+        Shape::Other => token_test(alloc, pattern, escape, true),
     }
 }
 
@@ -128,6 +184,7 @@ impl FormTest {
             FormTest::IStartsWithAscii(_) => LikeForm::IStartsWithAscii,
             FormTest::IEndsWithAscii(_) => LikeForm::IEndsWithAscii,
             FormTest::Tokens(_) => LikeForm::Tokens,
+            FormTest::SmallInside(_) => LikeForm::Tokens,
         }
     }
 
@@ -145,6 +202,7 @@ impl FormTest {
             FormTest::IStartsWithAscii(test) => test.passes(haystack),
             FormTest::IEndsWithAscii(test) => test.passes(haystack),
             FormTest::Tokens(test) => test.passes(haystack),
+            FormTest::SmallInside(test) => test.tokens.passes(haystack),
         }
     }
 
@@ -175,6 +233,7 @@ impl FormTest {
     {
         match self {
             FormTest::Tokens(test) => test.passes_counted(haystack),
+            FormTest::SmallInside(test) => test.tokens.passes_counted(haystack),
             _ => (self.passes(haystack), Looks::new()),
         }
     }

@@ -147,6 +147,7 @@ impl LikePattern {
             (λ bytes. is_match self.now.case_insensitive self.now.tokens (chars bytes))
             negated (row column.now.rows i) b)) }
     {
-        tested_by_form(alloc, column, texts, &self.test, negated)
+        let ascii = self.ascii_haystack;
+        tested_by_form(alloc, column, texts, &self.test, negated, ascii)
     }
 }

@@ -1,7 +1,8 @@
 //! Tests of texts by their bytes, one for each form without folding.
-ghost use Rattle.std.specs.Prelude.{◌≡◌, ℕ, List, Bool, IsUtf8, string_bytes, nat_eq};
+ghost use Rattle.std.specs.Prelude.{◌≡◌, ℕ, List, Bool, IsUtf8, string_bytes, nat_eq, length};
 ghost use Rattle.std.specs.List.{starts_with, ends_with};
 ghost use Rattle.std.specs.Str.{bytes_eq};
+ghost use Rattle.memchr.specs.Find.{FindsNeedle};
 ghost use Rattle.vortex_like.specs.ByteTests.{holds_inside};
 
 use memchr::memmem::{Finder, FinderBuilder};
@@ -99,6 +100,20 @@ impl InsideTest {
         InsideTest {
             finder: FinderBuilder::new().build_forward_owned(literal.into_bytes()),
         }
+    }
+
+    /// How many bytes the literal has.
+    pub(crate) fn len(&self) -> usize
+        ensures { result ≡ length self.now.finder }
+    {
+        self.finder.needle().len()
+    }
+
+    /// Where it first stands in these bytes.
+    pub(crate) fn find(&self, haystack: &[u8]) -> Option<usize>
+        ensures { FindsNeedle haystack.now self.now.finder 0 result }
+    {
+        self.finder.find(haystack)
     }
 }
 

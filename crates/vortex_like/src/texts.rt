@@ -1,11 +1,15 @@
 //! The texts of columns, row by row.
-ghost use Rattle.std.specs.Prelude.{◌≡◌, ◌<◌, ℕ, List, true, false, length};
+ghost use Rattle.std.specs.Prelude.{◌≡◌, ◌<◌, ◌≤◌, ◌+◌, ◌++◌, ℕ, List, true, false, length};
+ghost use Rattle.std.specs.Prelude.{slice_index, IsTrue};
 ghost use Rattle.std.specs.Str.{IsAscii};
 ghost use Rattle.vortex_like.specs.Words.{is_text_type, texts_of, text_at, AreTexts, AreAscii};
-ghost use Rattle.vortex_like.specs.Words.{IsTextColumn, is_null, row};
+ghost use Rattle.vortex_like.specs.Words.{IsTextColumn, is_null, row, AnswersUnlessMemory};
+ghost use Rattle.std.specs.Int.{w64, to_le_bytes};
+ghost use Rattle.std.specs.Vec.{vec_len, vec_capacity};
+ghost use Rattle.vortex_views.specs.ViewBytes.{view_bytes, inlined_value, IsInlined};
 
-use vortex_columns::{Cell, Column, ResolvedViews};
-use vortex_views::Row;
+use vortex_columns::{Cell, Column, ResolvedViews, VortexResult};
+use vortex_views::{BinaryView, Row};
 
 /// The texts of a column that is no constant, each where it lies. Under a null lie any bytes.
 #[derive(Clone, Copy)]
@@ -40,6 +44,67 @@ pub(crate) fn text_column(column: &Column) -> TextColumn<'_>
         Cell::Text(text) => TextColumn::One(text),
         _ => TextColumn::Null,
     }
+}
+
+/// Bytes are below 256.
+#[inline(always)]
+fn learn_bytes(bytes: &[u8])
+    ensures { (i : ℕ) → slice_index bytes.now i < 256 }
+{}
+
+/// Whether there is room for twelve bytes more.
+#[inline(always)]
+fn has_room(bytes: &Vec<u8>) -> bool
+    ensures { IsTrue result → vec_len bytes.now + 12 ≤ vec_capacity bytes.now }
+{
+    bytes.len() < bytes.capacity() && bytes.capacity() - bytes.len() >= 12
+}
+
+/// Adds four bytes, for which there is room.
+#[inline(always)]
+fn push_four(bytes: &mut Vec<u8>, part: [u8; 4])
+    requires { vec_len bytes.old + 4 ≤ vec_capacity bytes.old }
+    ensures items { bytes.new.items ≡ bytes.old.items ++ part }
+    ensures room { vec_capacity bytes.new ≡ vec_capacity bytes.old }
+    ensures len { vec_len bytes.new ≡ vec_len bytes.old + 4 }
+{
+    let [a, b, c, d] = part;
+    bytes.push_reserved(a);
+    bytes.push_reserved(b);
+    bytes.push_reserved(c);
+    bytes.push_reserved(d);
+}
+
+/// Adds the eight bytes of a number, the lowest first, for which there is room.
+#[inline(always)]
+fn push_eight(bytes: &mut Vec<u8>, number: u64)
+    requires { vec_len bytes.old + 8 ≤ vec_capacity bytes.old }
+    ensures { bytes.new.items ≡ bytes.old.items ++ to_le_bytes w64 number }
+{
+    let [b0, b1, b2, b3, b4, b5, b6, b7] = number.to_le_bytes();
+    bytes.push_reserved(b0);
+    bytes.push_reserved(b1);
+    bytes.push_reserved(b2);
+    bytes.push_reserved(b3);
+    bytes.push_reserved(b4);
+    bytes.push_reserved(b5);
+    bytes.push_reserved(b6);
+    bytes.push_reserved(b7);
+}
+
+/// Adds a text that lies in its view, for which there is room: the view's last twelve bytes, of
+/// which those behind the text go again.
+#[inline(always)]
+fn push_inlined(bytes: &mut Vec<u8>, view: &BinaryView)
+    requires inlined { IsInlined (view_bytes view.now) }
+    requires room { vec_len bytes.old + 12 ≤ vec_capacity bytes.old }
+    ensures { bytes.new.items ≡ bytes.old.items ++ inlined_value (view_bytes view.now) }
+{
+    learn_bytes(view.as_bytes());
+    let end = bytes.len() + view.len() as usize;
+    push_four(bytes, view.prefix());
+    push_eight(bytes, view.rest());
+    bytes.truncate(end);
 }
 
 /// A text for each row that is not null.
@@ -89,6 +154,38 @@ impl<'a> Texts<'a> {
         ensures { row_value result ≡ text_at (texts_of self.now) i }
     {
         self.rows.row(i)
+    }
+
+    /// How many texts there are.
+    pub(crate) fn len(&self) -> usize
+        ensures { result ≡ length (texts_of self.now) }
+    {
+        self.rows.len()
+    }
+
+    /// How many bytes the text of a row has.
+    #[inline(always)]
+    pub(crate) fn text_len(&self, i: usize) -> usize
+        requires { i < length (texts_of self.now) }
+        ensures { result ≡ length (text_at (texts_of self.now) i) }
+    {
+        self.rows.view(i).len() as usize
+    }
+
+    /// Adds the text of a row behind other bytes.
+    #[inline(always)]
+    pub(crate) fn append(&self, i: usize, bytes: &mut Vec<u8>) -> VortexResult<()>
+        requires { i < length (texts_of self.now) }
+        ensures { AnswersUnlessMemory result (λ _. bytes.new.items
+            ≡ bytes.old.items ++ text_at (texts_of self.now) i) }
+    {
+        let view = self.rows.view(i);
+        if view.is_inlined() && has_room(bytes) {
+            push_inlined(bytes, view);
+            return Ok(());
+        }
+        bytes.extend_from_slice(self.rows.bytes(i))?;
+        Ok(())
     }
 
     /// Whether the text of a row is ASCII, if the row is not null.

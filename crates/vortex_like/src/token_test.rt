@@ -1,8 +1,10 @@
 //! The test of texts token by token.
 ghost use Rattle.std.specs.Prelude.{◌≡◌, ◌≢◌, ◌+◌, ◌*◌, ◌<◌, ◌≤◌, ℕ, List, [], length, IsTrue};
-ghost use Rattle.std.specs.Prelude.{IsUtf8};
+ghost use Rattle.std.specs.Prelude.{IsUtf8, string_bytes};
 ghost use Rattle.std.specs.Str.{chars};
-ghost use Rattle.vortex_like.specs.Words.{is_match, asked};
+ghost use Rattle.vortex_like.specs.Tokens.{is_match};
+ghost use Rattle.vortex_like.specs.Places.{asked};
+ghost use Rattle.vortex_like.specs.Fronts.{IsNeeded};
 
 use crate::matching::match_tokens;
 use crate::text_tests::TextTest;
@@ -13,9 +15,24 @@ use crate::token::{LikeToken, Looks};
 pub(crate) struct TokenTest {
     pub(crate) tokens: Vec<LikeToken>,
     pub(crate) case_insensitive: bool,
+    /// What each text that passes begins with.
+    pub(crate) front: String,
+    ghost needed: { IsNeeded case_insensitive tokens.items (string_bytes front) },
 }
 
 impl TokenTest {
+    pub(crate) fn new(tokens: Vec<LikeToken>, case_insensitive: bool, front: String) -> TokenTest
+        requires { IsNeeded case_insensitive tokens.items (string_bytes front) }
+        ensures tokens { result.tokens.items ≡ tokens.items }
+        ensures folds { result.case_insensitive ≡ case_insensitive }
+    {
+        TokenTest {
+            tokens,
+            case_insensitive,
+            front,
+        }
+    }
+
     /// Whether a text passes, and how often a token was compared with a character.
     pub(crate) fn passes_counted(&self, haystack: &[u8]) -> (bool, Looks)
         requires { IsUtf8 haystack.now }

@@ -1,4 +1,5 @@
 //! Texts that are refused, with the byte.
+use crate::endings::is_case;
 use crate::expressions::is_refused;
 use std::alloc::{AllocError, Global};
 use vortex_syntax::{Expected, SyntaxError};
@@ -7,47 +8,63 @@ fn stops(alloc: Global, text: &str, byte: usize, expected: Expected) -> bool {
     is_refused(alloc, text, SyntaxError::Unexpected(byte, expected))
 }
 
+/// Whether each text is refused there for what is expected.
+fn each_stops(rt: HostRuntime, cases: &[(&str, usize, Expected)]) -> bool {
+    for (place, (text, byte, expected)) in cases.iter().enumerate() {
+        if !is_case(rt, place, stops(rt.alloc(), text, *byte, *expected)) {
+            return false;
+        }
+    }
+    true
+}
+
 #[test]
 fn no_chains(rt: HostRuntime) {
-    let alloc = rt.alloc();
-    assert!(rt; stops(alloc, "a < b < c", 6, Expected::Brackets));
-    assert!(rt; stops(alloc, "a like b like c", 9, Expected::Brackets));
-    assert!(rt; stops(alloc, "a not like b not like c", 17, Expected::Brackets));
-    assert!(rt; stops(alloc, "a between 1 and 2 like b", 18, Expected::Brackets));
-    assert!(rt; stops(alloc, "a = not b", 4, Expected::TightOperand));
-    assert!(rt; stops(alloc, "a between b < c and d", 12, Expected::OperatorOrAnd));
+    const CASES: &[(&str, usize, Expected)] = &[
+        ("a < b < c", 6, Expected::Brackets),
+        ("a like b like c", 9, Expected::Brackets),
+        ("a not like b not like c", 17, Expected::Brackets),
+        ("a between 1 and 2 like b", 18, Expected::Brackets),
+        ("a = not b", 4, Expected::TightOperand),
+        ("a between b < c and d", 12, Expected::OperatorOrAnd),
+    ];
+    assert!(rt; each_stops(rt, CASES));
 }
 
 #[test]
 fn beginnings(rt: HostRuntime) {
-    let alloc = rt.alloc();
-    assert!(rt; stops(alloc, "", 0, Expected::Operand));
-    assert!(rt; stops(alloc, "a +", 3, Expected::TightOperand));
-    assert!(rt; stops(alloc, "a or", 4, Expected::Operand));
-    assert!(rt; stops(alloc, "(a", 2, Expected::OperatorOrClose));
-    assert!(rt; stops(alloc, "a between 1", 11, Expected::OperatorOrAnd));
-    assert!(rt; stops(alloc, "a is", 4, Expected::NullOrNot));
-    assert!(rt; stops(alloc, "a is not", 8, Expected::Null));
-    assert!(rt; stops(alloc, "a not", 5, Expected::PredicateWord));
-    assert!(rt; stops(alloc, "a like b escape", 15, Expected::EscapeText));
-    assert!(rt; stops(alloc, "cast", 4, Expected::OpenBracket));
-    assert!(rt; stops(alloc, "cast(a", 6, Expected::OperatorOrAs));
-    assert!(rt; stops(alloc, "cast(a as", 9, Expected::TypeName));
-    assert!(rt; stops(alloc, "cast(a as bool", 14, Expected::CloseBracket));
-    assert!(rt; stops(alloc, "7::", 3, Expected::TypeName));
-    assert!(rt; stops(alloc, "-", 1, Expected::Digits));
+    const CASES: &[(&str, usize, Expected)] = &[
+        ("", 0, Expected::Operand),
+        ("a +", 3, Expected::TightOperand),
+        ("a or", 4, Expected::Operand),
+        ("(a", 2, Expected::OperatorOrClose),
+        ("a between 1", 11, Expected::OperatorOrAnd),
+        ("a is", 4, Expected::NullOrNot),
+        ("a is not", 8, Expected::Null),
+        ("a not", 5, Expected::PredicateWord),
+        ("a like b escape", 15, Expected::EscapeText),
+        ("cast", 4, Expected::OpenBracket),
+        ("cast(a", 6, Expected::OperatorOrAs),
+        ("cast(a as", 9, Expected::TypeName),
+        ("cast(a as bool", 14, Expected::CloseBracket),
+        ("7::", 3, Expected::TypeName),
+        ("-", 1, Expected::Digits),
+    ];
+    assert!(rt; each_stops(rt, CASES));
 }
 
 #[test]
 fn wrong_words(rt: HostRuntime) {
-    let alloc = rt.alloc();
-    assert!(rt; stops(alloc, "a b", 2, Expected::OperatorOrEnd));
-    assert!(rt; stops(alloc, "a as b", 2, Expected::OperatorOrEnd));
-    assert!(rt; stops(alloc, "a)", 1, Expected::OperatorOrEnd));
-    assert!(rt; stops(alloc, "(a or b, c)", 7, Expected::OperatorOrClose));
-    assert!(rt; stops(alloc, "- a", 2, Expected::Digits));
-    assert!(rt; stops(alloc, "a::u8", 1, Expected::LiteralBeforeType));
-    assert!(rt; stops(alloc, "a not < b", 6, Expected::PredicateWord));
+    const CASES: &[(&str, usize, Expected)] = &[
+        ("a b", 2, Expected::OperatorOrEnd),
+        ("a as b", 2, Expected::OperatorOrEnd),
+        ("a)", 1, Expected::OperatorOrEnd),
+        ("(a or b, c)", 7, Expected::OperatorOrClose),
+        ("- a", 2, Expected::Digits),
+        ("a::u8", 1, Expected::LiteralBeforeType),
+        ("a not < b", 6, Expected::PredicateWord),
+    ];
+    assert!(rt; each_stops(rt, CASES));
 }
 
 #[test]

@@ -1,4 +1,6 @@
 //! Trees as texts in postfix order.
+use crate::endings::is_case;
+use fixtures::same;
 use std::alloc::{AllocError, Global};
 use std::str;
 use vortex_syntax::{
@@ -139,9 +141,9 @@ fn answers(alloc: Global, text: &str) -> Result<String, SyntaxError> {
 }
 
 /// Whether the text is read as the list of these answers, each in postfix order and with its name.
-pub fn list_reads_as(alloc: Global, text: &str, list: &str) -> bool {
-    match answers(alloc, text) {
-        Ok(out) => out.as_str() == list,
+pub fn list_reads_as(rt: HostRuntime, text: &str, list: &str) -> bool {
+    match answers(rt.alloc(), text) {
+        Ok(out) => same(rt, out.as_str(), list),
         Err(_) => false,
     }
 }
@@ -155,17 +157,17 @@ pub fn list_is_refused(alloc: Global, text: &str, error: SyntaxError) -> bool {
 }
 
 /// Whether the text is read as the tree of these steps.
-pub fn reads_as(alloc: Global, text: &str, steps: &str) -> bool {
-    match postfix(alloc, text) {
-        Ok(out) => out.as_str() == steps,
+pub fn reads_as(rt: HostRuntime, text: &str, steps: &str) -> bool {
+    match postfix(rt.alloc(), text) {
+        Ok(out) => same(rt, out.as_str(), steps),
         Err(_) => false,
     }
 }
 
 /// Whether the steps of the text's tree are told at these bytes.
-pub fn places_are(alloc: Global, text: &str, places: &[usize]) -> bool {
-    match read_syntax(alloc, text.as_bytes()) {
-        Ok(tree) => tree.places.as_slice() == places,
+fn places_are(rt: HostRuntime, text: &str, places: &[usize]) -> bool {
+    match read_syntax(rt.alloc(), text.as_bytes()) {
+        Ok(tree) => same(rt, tree.places.as_slice(), places),
         Err(_) => false,
     }
 }
@@ -176,4 +178,34 @@ pub fn is_refused(alloc: Global, text: &str, error: SyntaxError) -> bool {
         Ok(_) => false,
         Err(found) => found == error,
     }
+}
+
+/// Whether each text is read as that list.
+pub fn each_list_reads_as(rt: HostRuntime, cases: &[(&str, &str)]) -> bool {
+    for (place, (text, list)) in cases.iter().enumerate() {
+        if !is_case(rt, place, list_reads_as(rt, text, list)) {
+            return false;
+        }
+    }
+    true
+}
+
+/// Whether each text is read as the tree of those steps.
+pub fn each_reads_as(rt: HostRuntime, cases: &[(&str, &str)]) -> bool {
+    for (place, (text, steps)) in cases.iter().enumerate() {
+        if !is_case(rt, place, reads_as(rt, text, steps)) {
+            return false;
+        }
+    }
+    true
+}
+
+/// Whether the steps of each text's tree are told at those bytes.
+pub fn all_places_are(rt: HostRuntime, cases: &[(&str, &[usize])]) -> bool {
+    for (place, (text, places)) in cases.iter().enumerate() {
+        if !is_case(rt, place, places_are(rt, text, places)) {
+            return false;
+        }
+    }
+    true
 }

@@ -35,7 +35,7 @@ fn blanks(rt: HostRuntime) {
     let alloc = rt.alloc();
     let text = "price * (\"unit price\" - 2 - -3) >= -128::i8?";
     assert!(rt; is(sums(alloc), text));
-    assert!(rt; reads_as(alloc, text, "price \"unit price 2 - -3 - * -128 ::i8? >="));
+    assert!(rt; reads_as(rt, text, "price \"unit price 2 - -3 - * -128 ::i8? >="));
 }
 
 fn casts(alloc: Global) -> Result<String, AllocError> {

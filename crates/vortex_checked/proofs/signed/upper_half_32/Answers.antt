@@ -1,7 +1,7 @@
 use Rattle.std.proofs.Common.{◌≡◌, ap, ◌∙◌, ◌*ℤ◌, ◌/◌, arith, to_z-of_z}
 use Rattle.std.specs.Int.{w32, w64}
 use mir.Val.{to_z, of_z}
-use Rattle.vortex_checked.proofs.WideProduct32.{product_fits}
+use Rattle.vortex_checked.proofs.WideProduct.{product_fits, twice_32}
 use Rattle.vortex_checked.proofs.signed.upper_half_32.Goals as goal
 
 pub returns : goal.returns
@@ -15,7 +15,7 @@ returns c =
     let x = ap (λ z. to_z w64 (of_z w64 z)) (c.from.ensures ∙ left) ∙ wide_left in
     let y = ap (λ z. to_z w64 (of_z w64 z)) (c.from-2.ensures ∙ right) ∙ wide_right in
     let same : to_z w64 (of_z w64 (a *ℤ b)) ≡ a *ℤ b =
-    to_z-of_z (product_fits a b c.ranges.left c.ranges.right) in
+    to_z-of_z (product_fits w32 w64 twice_32 a b c.ranges.left c.ranges.right) in
     ap (λ u. u / 4294967296)
     (c.cast_unsigned.ensures ∙ (λ i. of_z w64 (to_z w64 (of_z w64 (x i *ℤ y i))))
     ∙ ap (of_z w64) same)

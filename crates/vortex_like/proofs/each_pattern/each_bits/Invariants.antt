@@ -1,11 +1,12 @@
-use Rattle.std.proofs.Common.{◌≡◌}
+use Rattle.std.proofs.Common.{◌≡◌, ◌≤◌, length}
+use Rattle.std.specs.List.{All}
 use Rattle.std.specs.Vec.{vec_capacity}
 use Rattle.vortex_columns.specs.ColumnView.{row}
 use Rattle.vortex_like.specs.EachPattern.{IsCompiled}
 use Rattle.vortex_like.specs.Rows.{AreTold, IsLikeBit}
 use Rattle.vortex_like.proofs.each_pattern.each_bits.Given as goal
 
--- the rows so far, the room for the rest, and the last pattern
+-- the rows so far, the room for the rest, and the patterns that are kept
 abbrev pub invariant-loop-i : goal.invariant-loop-i
 invariant-loop-i g l =
     (vec_capacity l.bits ≡ l.len)
@@ -13,4 +14,5 @@ invariant-loop-i g l =
     (λ i b.
     IsLikeBit l.columns.options (row l.columns.texts.now.rows i)
     (row l.columns.patterns.now.rows i) b) l.bits.items
-    × IsCompiled l.columns.options l.columns.ascii l.last
+    × All (IsCompiled l.columns.options l.columns.ascii) l.kept.items
+    × (l.at ≤ length l.kept.items)

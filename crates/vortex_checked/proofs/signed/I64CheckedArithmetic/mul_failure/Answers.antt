@@ -2,11 +2,11 @@ use Rattle.std.proofs.Common.{◌≡◌, ap, sym, subst, ◌∙◌, ◌*ℤ◌, 
 use Rattle.std.specs.Int.{w64, w128}
 use Rattle.std.specs.Int.Bits.{bit_xor}
 use Rattle.std.specs.Bool.{FalseIff}
-use Rattle.std.proofs.lemmas.Int.{wrapping_mul_is}
+use Rattle.std.proofs.lemmas.Int.{ints, wrapping_mul_is}
 use mir.Val.{to_z, of_z}
 use Rattle.vortex_checked.specs.Evidence.{is_nonzero}
 use Rattle.vortex_checked.specs.Exact.{IsWithin, sign_word}
-use Rattle.vortex_checked.proofs.WideProduct.{product_fits, wide_tells}
+use Rattle.vortex_checked.proofs.WideProduct.{product_fits, wide_tells, twice_64}
 use Rattle.vortex_checked.proofs.signed.I64CheckedArithmetic.mul_failure.Goals as goal
 
 pub returns-clause-evidence : goal.returns-clause-evidence
@@ -18,7 +18,7 @@ returns-clause-evidence c =
     let upper =
     c.upper_half.ensures ∙ (λ i. of_z w128 (left i *ℤ right i) / 18446744073709551616) in
     let sign =
-    c.sign_word.ensures ∙ ap sign_word (wrapping_mul_is w64 a b c.ranges.self c.ranges.rhs) in
+    c.sign_word.ensures ∙ ap (sign_word w64) (wrapping_mul_is w64 a b c.ranges.self c.ranges.rhs) in
     λ i. bit_xor (upper i) (sign i)
 
 pub returns-clause-fault : goal.returns-clause-fault
@@ -29,4 +29,7 @@ returns-clause-fault c =
     FalseIff (is_nonzero e)
     (IsWithin (negsuc 9223372036854775807) (pos 9223372036854775807) z))
     (sym (returns-clause-evidence c))
-    (wide_tells z (product_fits c.args.self c.args.rhs c.ranges.self c.ranges.rhs))
+    (wide_tells w64 w128 twice_64 z
+    (product_fits w64 w128 twice_64 c.args.self c.args.rhs c.ranges.self c.ranges.rhs)
+    (λ f. (omega (arith, ints, f), omega (arith, ints, f)))
+    (λ p. omega (arith, ints, p.0, p.1)))

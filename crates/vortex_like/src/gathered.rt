@@ -1,0 +1,172 @@
+//! Which texts hold a needle: they are gathered one behind another, so that one search goes over
+//! many.
+ghost use Rattle.std.specs.Prelude.{◌≡◌, ◌≤◌, ◌<◌, ◌+◌, ◌-◌, ◌↔◌, ℕ, length, slice_index, map};
+ghost use Rattle.std.specs.Prelude.{IsTrue};
+ghost use Rattle.std.specs.Vec.{vec_len, vec_capacity};
+ghost use Rattle.memchr.specs.Find.{OccursAt};
+ghost use Rattle.vortex_like.specs.Words.{AnswersUnlessMemory, AreTold, texts_of, text_at};
+ghost use Rattle.vortex_like.specs.SmallLetters.{cased};
+ghost use Rattle.vortex_like.specs.Words.{IsBatch, ArePlaces, IsNext, IsHeldAt, AreHeld};
+
+use crate::text_tests::InsideTest;
+use crate::texts::{RowTexts, Texts};
+use std::alloc::Global;
+use vortex_columns::VortexResult;
+
+/// The most bytes that are gathered at once.
+const ROOM: usize = 65_536;
+
+/// The most texts that are gathered at once.
+const MOST: usize = 4_096;
+
+/// Gathers the texts of a column from row `first` on, as many as there is room for, at least one,
+/// in place of what was gathered before.
+fn gather(
+    texts: &Texts<'_>,
+    first: usize,
+    bytes: &mut Vec<u8>,
+    places: &mut Vec<usize>,
+) -> VortexResult<()>
+    requires { first < length (texts_of texts.now) }
+    ensures { AnswersUnlessMemory result
+        (λ _. IsBatch (texts_of texts.now) first bytes.new.items places.new.items) }
+{
+    bytes.clear();
+    places.clear();
+    places.push(0)?;
+    let most = first + MOST.min(texts.len() - first);
+    for end in first..most {
+        if end > first && texts.text_len(end) > ROOM.saturating_sub(bytes.len()) {
+            return Ok(());
+        }
+        texts.append(end, bytes)?;
+        places.push(bytes.len())?;
+    }
+    Ok(())
+}
+
+/// A needle that is sought in what was gathered: a text stands between each two places that follow
+/// one another.
+#[derive(Clone, Copy)]
+struct Search<'a> {
+    bytes: &'a [u8],
+    places: &'a [usize],
+    test: &'a InsideTest,
+}
+
+impl Search<'_> {
+    /// How many texts there are.
+    fn len(&self) -> usize
+        requires { 0 < length self.now.places.now }
+        ensures { result + 1 ≡ length self.now.places.now }
+    {
+        self.places.len() - 1
+    }
+
+    /// Where the needle stands next from a place on; behind the bytes where it stands nowhere.
+    fn next_place(&self, from: usize) -> usize
+        requires { from ≤ length self.now.bytes.now }
+        ensures { IsNext self.now.bytes.now self.now.test.now.finder from result }
+    {
+        match self.test.find(&self.bytes[from..]) {
+            Some(at) => from + at,
+            None => self.bytes.len() + 1,
+        }
+    }
+
+    /// Whether a needle that stands at that place ends where this text does, or before.
+    fn ends_by(&self, place: usize, text: usize) -> bool
+        requires { text + 1 < length self.now.places.now }
+        ensures { IsTrue result ↔ (place + length self.now.test.now.finder
+            ≤ slice_index self.now.places.now (text + 1)) }
+    {
+        let end = self.places[text + 1];
+        let count = self.test.len();
+        count <= end && place <= end - count
+    }
+
+    /// Notes of the next texts that they do not hold the needle, up to the first in which it may
+    /// end that stands at that place.
+    fn pass_over(&self, place: usize, held: &mut Vec<bool>)
+        requires places { ArePlaces self.now.bytes.now self.now.places.now }
+        requires room { length self.now.places.now ≤ vec_capacity held.old + 1 }
+        requires within { length held.old.items + 1 < length self.now.places.now }
+        requires next { IsNext self.now.bytes.now self.now.test.now.finder
+            (slice_index self.now.places.now (length held.old.items)) place }
+        requires told { AreTold (length held.old.items)
+            (IsHeldAt self.now.bytes.now self.now.test.now.finder self.now.places.now)
+            held.old.items }
+        ensures room { vec_capacity held.new ≡ vec_capacity held.old }
+        ensures low { length held.old.items ≤ length held.new.items }
+        ensures high { length held.new.items + 1 ≤ length self.now.places.now }
+        ensures told { AreTold (length held.new.items)
+            (IsHeldAt self.now.bytes.now self.now.test.now.finder self.now.places.now)
+            held.new.items }
+        ensures ends { length held.new.items + 1 < length self.now.places.now
+            → place + length self.now.test.now.finder
+            ≤ slice_index self.now.places.now (length held.new.items + 1) }
+    {
+        while held.len() < self.len() && !self.ends_by(place, held.len()) {
+            held.push_reserved(false);
+        }
+    }
+
+    /// Notes of each text whether it holds the needle.
+    fn run(&self, held: &mut Vec<bool>)
+        requires places { ArePlaces self.now.bytes.now self.now.places.now }
+        requires none { length held.old.items ≡ 0 }
+        requires room { length self.now.places.now ≤ vec_capacity held.old + 1 }
+        ensures room { vec_capacity held.new ≡ vec_capacity held.old }
+        ensures told { AreTold (length self.now.places.now - 1)
+            (IsHeldAt self.now.bytes.now self.now.test.now.finder self.now.places.now)
+            held.new.items }
+    {
+        while held.len() < self.len() {
+            let place = self.next_place(self.places[held.len()]);
+            self.pass_over(place, held);
+            if held.len() < self.len() && self.places[held.len()] <= place {
+                held.push_reserved(true);
+            }
+        }
+    }
+}
+
+/// Turns ASCII letters to small ones, where these are asked for.
+fn turn_small(bytes: &mut Vec<u8>, in_small: bool)
+    ensures { bytes.new.items ≡ cased in_small bytes.old.items }
+{
+    if in_small {
+        bytes.as_mut_slice().make_ascii_lowercase();
+    }
+}
+
+/// Whether each text holds the needle, or whether its small letters do.
+pub(crate) fn held_rows(
+    alloc: Global,
+    texts: &Texts<'_>,
+    test: &InsideTest,
+    in_small: bool,
+) -> VortexResult<Vec<bool>>
+    ensures { AnswersUnlessMemory result (λ held. AreHeld
+        (map (cased in_small) (texts_of texts.now)) test.now.finder
+        (length (texts_of texts.now)) held.items) }
+{
+    let len = texts.len();
+    let mut all = Vec::with_capacity(alloc, len)?;
+    let most = len.min(MOST);
+    let mut held = Vec::with_capacity(alloc, most)?;
+    let mut bytes = Vec::with_capacity(alloc, 16 * most)?;
+    let mut places = Vec::with_capacity(alloc, most + 1)?;
+    while all.len() < len {
+        gather(texts, all.len(), &mut bytes, &mut places)?;
+        turn_small(&mut bytes, in_small);
+        let search = Search {
+            bytes: bytes.as_slice(),
+            places: places.as_slice(),
+            test,
+        };
+        search.run(&mut held);
+        all.append(&mut held)?;
+    }
+    Ok(all)
+}
