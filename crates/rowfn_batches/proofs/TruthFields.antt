@@ -1,12 +1,14 @@
 -- The field of a row of truth values.
-use Rattle.std.proofs.Common.{◌≡◌, ◌∙◌, ℕ, List, Bool, true, false, not, sym, ap, refl}
-use Rattle.std.proofs.Common.{if◌then◌else◌}
+use Rattle.std.proofs.Common.{◌≡◌, ◌∙◌, ℕ, List, [], ◌∷◌, ◌++◌, Bool, true, false, not, sym, ap, refl}
+use Rattle.std.proofs.Common.{if◌then◌else◌, append_assoc, append-nil, Result, Ok, Err}
+use Rattle.std.specs.Prelude.{codes, OnOk}
 use Rattle.vortex_types.specs.Values.{Value, is_null, truth}
 use Rattle.rowfn_csv.specs.Fields.{text_field}
 use Rattle.rowfn_csv.specs.declared.format.Format.{Format}
-use Rattle.rowfn_batches.specs.declared.output.Truths.{Truths}
+use Rattle.rowfn_batches.specs.declared.truths.Truths.{Truths}
 use Rattle.rowfn_batches.specs.Printing.{field_text}
-use Rattle.rowfn_batches.specs.Outputs.{value_field}
+use Rattle.vortex_columns.specs.ColumnView.{ColumnView, row}
+use Rattle.rowfn_batches.specs.Outputs.{value_field, row_line}
 use Rattle.rowfn_batches.specs.Truths.{AreTruths}
 
 is_there : (null valid : Bool) → valid ≡ not null → valid ≡ false → null ≡ true
@@ -46,3 +48,27 @@ module _ (format : Format) (truths : Truths) (v : Value) (valid : Bool) (known :
         ≡ value_field format.delimiter format.null.now v
     truth_written true same = true_written same
     truth_written false same = false_written same
+
+-- the same where each stands as it is spelled
+pub bare_written : (format : Format) (truths : Truths) (v : Value) (valid : Bool)
+    → AreTruths format truths → truths.are_bare ≡ true → valid ≡ not (is_null v) → valid ≡ true
+    → (b : Bool) → (is_null v ≡ false → v ≡ truth b)
+    → (if b then codes "true" else codes "false")
+    ≡ value_field format.delimiter format.null.now v
+bare_written format truths v valid known bare is there true same =
+    sym (known.bare_yes bare) ∙ truth_written format truths v valid known is there true same
+bare_written format truths v valid known bare is there false same =
+    sym (known.bare_no bare) ∙ truth_written format truths v valid known is there false same
+
+-- the end of a line behind a field
+pub ended : {X E : Type 0} (r : Result X E) (old mid new field : List ℕ) → mid ≡ old ++ field
+    → OnOk r (new ≡ mid ++ (10 ∷ [])) → OnOk r (new ≡ old ++ (field ++ (10 ∷ [])))
+ended (Ok x) old mid new field e h =
+    h ∙ ap (λ (t : List ℕ). t ++ (10 ∷ [])) e ∙ append_assoc old field (10 ∷ [])
+ended (Err x) old mid new field e h = h
+
+-- the line of a row of one answer
+pub one_line : (d : ℕ) (null : List ℕ) (c : ColumnView) (i : ℕ)
+    → value_field d null (row c.rows i) ++ (10 ∷ []) ≡ row_line d null (c ∷ []) i
+one_line d null c i =
+    sym (ap (λ (t : List ℕ). t ++ (10 ∷ [])) (append-nil (value_field d null (row c.rows i))))

@@ -21,6 +21,7 @@ pub mod settings;
 pub mod stream;
 mod taking;
 pub mod tops;
+mod truths;
 pub mod watched;
 
 pub use columns::{BatchError, read_columns};

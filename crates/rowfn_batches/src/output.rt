@@ -1,7 +1,7 @@
 //! What is written: answers as fields of CSV, or rows of the input as they stand.
 ghost use Rattle.std.specs.Prelude.{◌≡◌, ◌<◌, ◌≤◌, ◌+◌, ◌∷◌, [], OnOk, IfOk, length, map};
-ghost use Rattle.std.specs.Prelude.{if◌then◌else◌, ◌++◌, option_map, slice_index_or, true, codes};
-ghost use Rattle.vortex_columns.specs.ColumnView.{row, AreBits};
+ghost use Rattle.std.specs.Prelude.{if◌then◌else◌, ◌++◌, option_map, slice_index_or, IfSome};
+ghost use Rattle.vortex_columns.specs.ColumnView.{row};
 ghost use Rattle.vortex_interface.specs.CallTexts.{joined, separator_before};
 ghost use Rattle.rowfn_csv.specs.Fields.{text_field};
 ghost use Rattle.rowfn_csv.specs.KeptLines.{line_of};
@@ -13,91 +13,20 @@ ghost use Rattle.rowfn_csv.specs.Records.{without_line_end};
 
 use crate::answering::row_among;
 use crate::printing::push_field;
-use rowfn_csv::{Format, Records, Span, field_of, quote_from, without_line_end};
+use crate::truths::{TruthRows, Truths, push_line_end, push_truth_in, push_truth_line, truths_of};
+use rowfn_csv::{Format, Records, Span, quote_from, without_line_end};
 use std::alloc::{AllocError, Global};
 use std::io::Read;
-use vortex_columns::{BitBuffer, Cell, Column};
+use vortex_columns::{Cell, Column};
 
-/// How truth values stand as fields.
-#[derive(Clone, Copy)]
-struct Truths<'t> {
-    yes: &'t [u8],
-    no: &'t [u8],
-    /// Whether that is in no quotes.
-    are_bare: bool,
-}
-
-/// How truth values stand as fields of a format.
-fn truths_of<'t>(format: &Format<'t>) -> Truths<'t>
-    ensures { AreTruths format.now result }
+/// The only answer, where it has truth values and is no constant.
+fn only_truths(answers: &[Column]) -> Option<TruthRows<'_>>
+    ensures { IfSome result (λ rows. answers.now ≡ rows ∷ []) }
 {
-    let yes = field_of(b"true", b"\"true\"", format);
-    let no = field_of(b"false", b"\"false\"", format);
-    let are_bare = yes == b"true".as_slice() && no == b"false".as_slice();
-    Truths { yes, no, are_bare }
-}
-
-/// Adds the field of true. A text whose length is known here is copied without a call.
-#[inline(always)]
-fn push_yes(bytes: &mut Vec<u8>, yes: &[u8], is_bare: bool) -> Result<(), AllocError>
-    requires { is_bare ≡ true → yes.now ≡ codes "true" }
-    ensures { OnOk result (bytes.new.items ≡ bytes.old.items ++ yes.now) }
-{
-    if is_bare {
-        bytes.extend_from_slice(b"true")
-    } else {
-        bytes.extend_from_slice(yes)
+    match answers {
+        [answer] => TruthRows::of(answer),
+        _ => None,
     }
-}
-
-/// Adds the field of false, in the same way.
-#[inline(always)]
-fn push_no(bytes: &mut Vec<u8>, no: &[u8], is_bare: bool) -> Result<(), AllocError>
-    requires { is_bare ≡ true → no.now ≡ codes "false" }
-    ensures { OnOk result (bytes.new.items ≡ bytes.old.items ++ no.now) }
-{
-    if is_bare {
-        bytes.extend_from_slice(b"false")
-    } else {
-        bytes.extend_from_slice(no)
-    }
-}
-
-/// Adds a truth value as a field.
-#[inline(always)]
-fn push_truth(bytes: &mut Vec<u8>, truth: bool, truths: Truths<'_>) -> Result<(), AllocError>
-    requires yes { truths.are_bare ≡ true → truths.yes.now ≡ codes "true" }
-    requires no { truths.are_bare ≡ true → truths.no.now ≡ codes "false" }
-    ensures { OnOk result (bytes.new.items
-        ≡ bytes.old.items ++ (if truth then truths.entry.yes.now else truths.entry.no.now)) }
-{
-    if truth {
-        push_yes(bytes, truths.yes, truths.are_bare)
-    } else {
-        push_no(bytes, truths.no, truths.are_bare)
-    }
-}
-
-/// Adds a row of a column of truth values, which has those bits, as a field.
-#[inline(always)]
-fn push_truth_in(
-    bytes: &mut Vec<u8>,
-    column: &Column,
-    bits: &BitBuffer,
-    place: usize,
-    truths: Truths<'_>,
-    format: &Format<'_>,
-) -> Result<(), AllocError>
-    requires place { place < length column.now.rows }
-    requires bits { AreBits column.now bits.now }
-    requires truths { AreTruths format.now truths }
-    ensures { OnOk result (bytes.new.items ≡ bytes.old.items
-        ++ value_field format.now.delimiter format.now.null.now (row column.now.rows place)) }
-{
-    if !column.is_valid(place) {
-        return bytes.extend_from_slice(format.null);
-    }
-    push_truth(bytes, bits.value(place), truths)
 }
 
 /// What is to be written next. Its buffers serve from batch to batch.
@@ -202,10 +131,10 @@ impl<'a> Output<'a> {
             (value_field self.old.format.delimiter self.old.format.null.now
             (row column.now.rows place))) }
     {
-        let Some(bits) = column.bits() else {
+        let Some(rows) = TruthRows::of(column) else {
             return self.push_other(column, place);
         };
-        push_truth_in(&mut self.bytes, column, bits, place, truths, &self.format)
+        push_truth_in(&mut self.bytes, &rows, place, truths, &self.format)
     }
 
     /// Ends a line. Refused only for want of memory.
@@ -213,8 +142,7 @@ impl<'a> Output<'a> {
     pub fn end_line(&mut self) -> Result<(), AllocError>
         ensures { OnOk result (Adds self.old self.new (10 ∷ [])) }
     {
-        self.bytes.push(b'\n')?;
-        Ok(())
+        push_line_end(&mut self.bytes)
     }
 
     /// Adds the values of a row as fields. Refused only for want of memory.
@@ -255,6 +183,24 @@ impl<'a> Output<'a> {
         self.end_line()
     }
 
+    /// Adds the first rows of truth values, a line each. Refused only for want of memory.
+    fn push_truths(
+        &mut self,
+        rows: &TruthRows<'_>,
+        row_count: usize,
+        truths: Truths<'a>,
+    ) -> Result<(), AllocError>
+        requires rows { row_count ≤ length rows.now.rows }
+        requires truths { AreTruths self.old.format truths }
+        ensures { OnOk result (Adds self.old self.new (row_lines self.old.format.delimiter
+            self.old.format.null.now (rows.now ∷ []) row_count)) }
+    {
+        for row in 0..row_count {
+            push_truth_line(&mut self.bytes, rows, row, truths, &self.format)?;
+        }
+        Ok(())
+    }
+
     /// Adds the first rows of the answers, a line each. Refused only for want of memory.
     pub fn push_rows(&mut self, answers: &[Column], row_count: usize) -> Result<(), AllocError>
         requires { HaveRows row_count answers.now }
@@ -262,6 +208,9 @@ impl<'a> Output<'a> {
             (row_lines self.old.format.delimiter self.old.format.null.now answers.now row_count)) }
     {
         let truths = truths_of(&self.format);
+        if let Some(rows) = only_truths(answers) {
+            return self.push_truths(&rows, row_count, truths);
+        }
         for row in 0..row_count {
             self.push_row(answers, row, truths)?;
         }

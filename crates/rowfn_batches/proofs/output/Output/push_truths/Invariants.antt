@@ -1,0 +1,9 @@
+use Rattle.std.proofs.Common.{◌∷◌, []}
+use Rattle.rowfn_batches.specs.Outputs.{Adds, row_lines}
+use Rattle.rowfn_batches.proofs.output.Output.push_truths.Given as goal
+
+-- the lines so far
+abbrev pub invariant-loop-row : goal.invariant-loop-row
+invariant-loop-row l =
+    Adds l.initial.self l.self
+    (row_lines l.initial.self.format.delimiter l.initial.self.format.null.now (l.rows ∷ []) l.row)
