@@ -1,5 +1,5 @@
 -- Where fields lie among the bytes of a batch, as more bytes come behind them.
-use Rattle.std.proofs.Common.{◌≡◌, ℕ, ◌<◌, ◌≤◌, suc, List, [], ◌∷◌, ◌++◌, Bool, true}
+use Rattle.std.proofs.Common.{length, ◌≡◌, ℕ, ◌<◌, ◌≤◌, suc, List, [], ◌∷◌, ◌++◌, Bool, true}
 use Rattle.std.proofs.Common.{false, Option, Some, None, map, take, drop, refl, ap, sym, ◌∙◌, arith}
 use Rattle.std.proofs.Common.{get_or, ◌+◌, add-one, if◌then◌else◌}
 use Rattle.std.specs.Prelude.{nat_le}
