@@ -1,5 +1,6 @@
 //! Between in trees.
 
+use crate::questions::{must, sure};
 use fixtures::{Ask, nullable_ints, same};
 use std::alloc::Global;
 use tree_fixtures::makers::*;
@@ -63,12 +64,16 @@ fn below_a_truth<C: ScalarFnVTable>(alloc: Global) -> Bound<C> {
 #[test]
 fn bounds_of_other_types_are_refused(rt: HostRuntime) {
     let alloc = rt.alloc();
-    assert!(rt; rt.is_refused(above_a_text::<NoCustom>(alloc), "TypeMismatch.BetweenLower"));
-    assert!(rt;
+    must(
+        &rt,
+        rt.is_refused(above_a_text::<NoCustom>(alloc), "TypeMismatch.BetweenLower"),
+    );
+    must(
+        &rt,
         rt.is_refused(
             below_a_truth::<NoCustom>(alloc),
-            "TypeMismatch.BetweenUpper"
-        )
+            "TypeMismatch.BetweenUpper",
+        ),
     );
 }
 
@@ -84,14 +89,17 @@ fn scores(alloc: Global) -> VortexResult<Vec<Column>> {
 fn between_answers(rt: HostRuntime) {
     let alloc = rt.alloc();
     let wanted = [Some(true), Some(false), None, Some(false)];
-    assert!(rt; rt.yes(answers::<NoCustom>(rt, from_ten_to_fifty(alloc), scores(alloc), &wanted,)));
+    sure(
+        &rt,
+        answers::<NoCustom>(rt, from_ten_to_fifty(alloc), scores(alloc), &wanted),
+    );
 }
 
 #[test]
 fn between_prints(rt: HostRuntime) {
     let alloc = rt.alloc();
     let text = "(10i32 <= $.a < 50i32)";
-    assert!(rt; rt.yes(prints::<NoCustom>(rt, from_ten_to_fifty(alloc), text)));
+    sure(&rt, prints::<NoCustom>(rt, from_ten_to_fifty(alloc), text));
 }
 
 /// Whether a copy of Between has its options, identity and names, and is not strict.
@@ -123,8 +131,11 @@ fn options_print(rt: HostRuntime, options: BetweenOptions, text: &str) -> Vortex
 #[test]
 fn between_tells_what_it_is(rt: HostRuntime) {
     let alloc = rt.alloc();
-    assert!(rt; rt.yes(is_between::<NoCustom>(alloc, Between.bind(half_open()))));
+    sure(
+        &rt,
+        is_between::<NoCustom>(alloc, Between.bind(half_open())),
+    );
     assert!(rt; names(&["between", "<=", "<"]));
     let text = "lower_strict: <=, upper_strict: <";
-    assert!(rt; rt.yes(options_print(rt, half_open(), text)));
+    sure(&rt, options_print(rt, half_open(), text));
 }

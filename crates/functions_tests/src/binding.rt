@@ -1,5 +1,6 @@
 //! What is refused when a tree is bound.
 
+use crate::questions::must;
 use fixtures::Ask;
 use std::alloc::Global;
 use tree_fixtures::makers::*;
@@ -42,11 +43,12 @@ fn arity_is_refused_before_types(rt: HostRuntime) {
 #[test]
 fn types_of_arithmetic_are_refused(rt: HostRuntime) {
     let alloc = rt.alloc();
-    assert!(rt;
+    must(
+        &rt,
         rt.is_refused(
             sum_of_truths::<NoCustom>(alloc, 2),
-            "TypeMismatch.Arithmetic"
-        )
+            "TypeMismatch.Arithmetic",
+        ),
     );
 }
 
@@ -58,7 +60,10 @@ fn cast_of_numbers<C: ScalarFnVTable>(alloc: Global) -> Bound<C> {
 
 #[test]
 fn cast_of_other_types_is_refused(rt: HostRuntime) {
-    assert!(rt; rt.is_refused(cast_of_numbers::<NoCustom>(rt.alloc()), "TypeMismatch.Cast"));
+    must(
+        &rt,
+        rt.is_refused(cast_of_numbers::<NoCustom>(rt.alloc()), "TypeMismatch.Cast"),
+    );
 }
 
 /// Not of a column of i32.
@@ -69,19 +74,28 @@ fn not_of_numbers<C: ScalarFnVTable>(alloc: Global) -> Bound<C> {
 
 #[test]
 fn not_of_other_types_is_refused(rt: HostRuntime) {
-    assert!(rt; rt.is_refused(not_of_numbers::<NoCustom>(rt.alloc()), "TypeMismatch.Not"));
+    must(
+        &rt,
+        rt.is_refused(not_of_numbers::<NoCustom>(rt.alloc()), "TypeMismatch.Not"),
+    );
 }
 
 #[test]
 fn a_comparison_of_other_types_is_refused(rt: HostRuntime) {
     let alloc = rt.alloc();
-    assert!(rt; rt.is_refused(number_is_text::<NoCustom>(alloc), "TypeMismatch.Compare"));
+    must(
+        &rt,
+        rt.is_refused(number_is_text::<NoCustom>(alloc), "TypeMismatch.Compare"),
+    );
 }
 
 #[test]
 fn an_unknown_column_is_refused(rt: HostRuntime) {
     let alloc = rt.alloc();
-    assert!(rt; rt.is_refused(leaf::<NoCustom>(alloc, "c"), "ScopeMismatch"));
+    must(
+        &rt,
+        rt.is_refused(leaf::<NoCustom>(alloc, "c"), "ScopeMismatch"),
+    );
 }
 
 /// Whether a word of scripts names the operator.

@@ -1,7 +1,7 @@
 //! And, Or and comparisons in trees, of bits at offsets and of nulls.
 
-use crate::questions::{FALSE, NULL, TRUE, compares};
-use fixtures::{Ask, Made, kept};
+use crate::questions::{FALSE, NULL, TRUE, compares, sure};
+use fixtures::{Made, kept};
 use std::alloc::Global;
 use vortex_columns::*;
 use vortex_operators::*;
@@ -31,8 +31,8 @@ fn seventy(rt: HostRuntime, operator: Operator, odd: bool) -> VortexResult<bool>
 
 #[test]
 fn seventy_rows_at_two_offsets(rt: HostRuntime) {
-    assert!(rt; rt.yes(seventy(rt, Operator::And, false)));
-    assert!(rt; rt.yes(seventy(rt, Operator::Or, true)));
+    sure(&rt, seventy(rt, Operator::And, false));
+    sure(&rt, seventy(rt, Operator::Or, true));
 }
 
 /// Whether a comparison of two rows, from bit 1 of byte 6 on, with two from the beginning of byte 2
@@ -46,10 +46,10 @@ fn two_rows(rt: HostRuntime, operator: Operator, wanted: [Option<bool>; 2]) -> V
 
 #[test]
 fn bits_at_two_offsets_are_compared(rt: HostRuntime) {
-    assert!(rt; rt.yes(two_rows(rt, Operator::Lt, [FALSE, FALSE])));
-    assert!(rt; rt.yes(two_rows(rt, Operator::Gte, [TRUE, TRUE])));
-    assert!(rt; rt.yes(two_rows(rt, Operator::Eq, [FALSE, TRUE])));
-    assert!(rt; rt.yes(two_rows(rt, Operator::Gt, [TRUE, FALSE])));
+    sure(&rt, two_rows(rt, Operator::Lt, [FALSE, FALSE]));
+    sure(&rt, two_rows(rt, Operator::Gte, [TRUE, TRUE]));
+    sure(&rt, two_rows(rt, Operator::Eq, [FALSE, TRUE]));
+    sure(&rt, two_rows(rt, Operator::Gt, [TRUE, FALSE]));
 }
 
 /// Bits with that validity.
@@ -72,8 +72,8 @@ fn beside_nulls(
 
 #[test]
 fn rows_beside_nulls_can_be_decided(rt: HostRuntime) {
-    assert!(rt; rt.yes(beside_nulls(rt, Operator::And, [FALSE, NULL])));
-    assert!(rt; rt.yes(beside_nulls(rt, Operator::Or, [NULL, TRUE])));
+    sure(&rt, beside_nulls(rt, Operator::And, [FALSE, NULL]));
+    sure(&rt, beside_nulls(rt, Operator::Or, [NULL, TRUE]));
 }
 
 /// Two rows of type Null.
@@ -85,5 +85,5 @@ fn two_nulls(alloc: Global) -> Made {
 fn nulls_are_never_equal(rt: HostRuntime) {
     let alloc = rt.alloc();
     let (left, right) = (two_nulls(alloc), two_nulls(alloc));
-    assert!(rt; rt.yes(compares(rt, left, Operator::Eq, right, &[NULL, NULL])));
+    sure(&rt, compares(rt, left, Operator::Eq, right, &[NULL, NULL]));
 }

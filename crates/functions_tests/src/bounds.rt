@@ -1,7 +1,7 @@
 //! Between in trees, by the strictness of its bounds and by nulls.
 
-use crate::questions::{FALSE, NULL, TRUE};
-use fixtures::{Ask, names, nullable_ints, numbers};
+use crate::questions::{FALSE, NULL, TRUE, sure};
+use fixtures::{names, nullable_ints, numbers};
 use std::alloc::Global;
 use tree_fixtures::makers::*;
 use vortex_columns::*;
@@ -68,13 +68,13 @@ fn of_five(
 #[test]
 fn bounds_are_left_out_where_they_are_strict(rt: HostRuntime) {
     let wanted = [TRUE, TRUE, TRUE, TRUE, FALSE];
-    assert!(rt; rt.yes(of_five(rt, LOOSE, LOOSE, wanted)));
+    sure(&rt, of_five(rt, LOOSE, LOOSE, wanted));
     let wanted = [TRUE, TRUE, FALSE, FALSE, FALSE];
-    assert!(rt; rt.yes(of_five(rt, LOOSE, STRICT, wanted)));
+    sure(&rt, of_five(rt, LOOSE, STRICT, wanted));
     let wanted = [TRUE, FALSE, TRUE, FALSE, FALSE];
-    assert!(rt; rt.yes(of_five(rt, STRICT, LOOSE, wanted)));
+    sure(&rt, of_five(rt, STRICT, LOOSE, wanted));
     let wanted = [TRUE, FALSE, FALSE, FALSE, FALSE];
-    assert!(rt; rt.yes(of_five(rt, STRICT, STRICT, wanted)));
+    sure(&rt, of_five(rt, STRICT, STRICT, wanted));
 }
 
 /// Numbers beside lower bounds of which two are null.
@@ -92,9 +92,9 @@ fn a_row_beside_a_null_bound_can_be_false(rt: HostRuntime) {
     let alloc = rt.alloc();
     let tree = bounded::<NoCustom>(alloc, LOOSE, LOOSE);
     let wanted = [FALSE, NULL, TRUE];
-    assert!(rt; rt.yes(answers(rt, tree, beside_nulls(alloc), &wanted)));
+    sure(&rt, answers(rt, tree, beside_nulls(alloc), &wanted));
     let tree = bounded::<NoCustom>(alloc, LOOSE, LOOSE);
     let there = call_of(alloc, IsNotNull.bind(EmptyOptions), tree);
     let wanted = [TRUE, FALSE, TRUE];
-    assert!(rt; rt.yes(answers(rt, there, beside_nulls(alloc), &wanted)));
+    sure(&rt, answers(rt, there, beside_nulls(alloc), &wanted));
 }

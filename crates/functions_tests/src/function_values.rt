@@ -1,6 +1,7 @@
 //! Options as bytes, and functions as values: their texts, and which are found where others are
 //! kept.
 
+use crate::questions::sure;
 use caller_functions::levelled::{Level, Levelled};
 use fixtures::{Ask, same};
 use std::alloc::Global;
@@ -130,12 +131,12 @@ fn own() -> Function {
 
 #[test]
 fn option_bytes_are_read(rt: HostRuntime) {
-    assert!(rt; rt.yes(reads(rt, Binary, &[11], Operator::Div)));
-    assert!(rt; rt.yes(reads(rt, Binary, &[0], Operator::Eq)));
-    assert!(rt; rt.yes(reads(rt, Like, &[0], like(false, false))));
-    assert!(rt; rt.yes(reads(rt, Like, &[3], like(true, true))));
-    assert!(rt; rt.yes(reads(rt, Between, &[1], bounds(Strict, NonStrict))));
-    assert!(rt; rt.yes(reads(rt, Not, &[7, 7], EmptyOptions)));
+    sure(&rt, reads(rt, Binary, &[11], Operator::Div));
+    sure(&rt, reads(rt, Binary, &[0], Operator::Eq));
+    sure(&rt, reads(rt, Like, &[0], like(false, false)));
+    sure(&rt, reads(rt, Like, &[3], like(true, true)));
+    sure(&rt, reads(rt, Between, &[1], bounds(Strict, NonStrict)));
+    sure(&rt, reads(rt, Not, &[7, 7], EmptyOptions));
 }
 
 #[test]
@@ -159,64 +160,77 @@ fn other_bytes_are_no_escape(rt: HostRuntime) {
 
 #[test]
 fn escapes_come_back(rt: HostRuntime) {
-    assert!(rt; rt.yes(keeps(rt, Like, escaped(false, None), &[8])));
-    assert!(rt; rt.yes(keeps(rt, Like, escaped(false, Some('!')), &[4, 0, 0, 0, 33])));
-    assert!(rt;
-        rt.yes(keeps(
+    sure(&rt, keeps(rt, Like, escaped(false, None), &[8]));
+    sure(
+        &rt,
+        keeps(rt, Like, escaped(false, Some('!')), &[4, 0, 0, 0, 33]),
+    );
+    sure(
+        &rt,
+        keeps(
             rt,
             Like,
             escaped(true, Some('\u{1f600}')),
-            &[5, 0, 1, 246, 0]
-        ))
+            &[5, 0, 1, 246, 0],
+        ),
     );
 }
 
 #[test]
 fn operators_come_back(rt: HostRuntime) {
-    assert!(rt; rt.yes(keeps(rt, Binary, Operator::Eq, &[0])));
-    assert!(rt; rt.yes(keeps(rt, Binary, Operator::NotEq, &[1])));
-    assert!(rt; rt.yes(keeps(rt, Binary, Operator::Gt, &[2])));
-    assert!(rt; rt.yes(keeps(rt, Binary, Operator::Gte, &[3])));
-    assert!(rt; rt.yes(keeps(rt, Binary, Operator::Lt, &[4])));
-    assert!(rt; rt.yes(keeps(rt, Binary, Operator::Lte, &[5])));
-    assert!(rt; rt.yes(keeps(rt, Binary, Operator::And, &[6])));
-    assert!(rt; rt.yes(keeps(rt, Binary, Operator::Or, &[7])));
-    assert!(rt; rt.yes(keeps(rt, Binary, Operator::Add, &[8])));
-    assert!(rt; rt.yes(keeps(rt, Binary, Operator::Sub, &[9])));
-    assert!(rt; rt.yes(keeps(rt, Binary, Operator::Mul, &[10])));
-    assert!(rt; rt.yes(keeps(rt, Binary, Operator::Div, &[11])));
+    sure(&rt, keeps(rt, Binary, Operator::Eq, &[0]));
+    sure(&rt, keeps(rt, Binary, Operator::NotEq, &[1]));
+    sure(&rt, keeps(rt, Binary, Operator::Gt, &[2]));
+    sure(&rt, keeps(rt, Binary, Operator::Gte, &[3]));
+    sure(&rt, keeps(rt, Binary, Operator::Lt, &[4]));
+    sure(&rt, keeps(rt, Binary, Operator::Lte, &[5]));
+    sure(&rt, keeps(rt, Binary, Operator::And, &[6]));
+    sure(&rt, keeps(rt, Binary, Operator::Or, &[7]));
+    sure(&rt, keeps(rt, Binary, Operator::Add, &[8]));
+    sure(&rt, keeps(rt, Binary, Operator::Sub, &[9]));
+    sure(&rt, keeps(rt, Binary, Operator::Mul, &[10]));
+    sure(&rt, keeps(rt, Binary, Operator::Div, &[11]));
 }
 
 #[test]
 fn other_options_come_back(rt: HostRuntime) {
-    assert!(rt; rt.yes(keeps(rt, Between, bounds(NonStrict, NonStrict), &[0])));
-    assert!(rt; rt.yes(keeps(rt, Between, bounds(Strict, NonStrict), &[1])));
-    assert!(rt; rt.yes(keeps(rt, Between, bounds(NonStrict, Strict), &[2])));
-    assert!(rt; rt.yes(keeps(rt, Between, bounds(Strict, Strict), &[3])));
-    assert!(rt; rt.yes(keeps(rt, Like, like(false, false), &[0])));
-    assert!(rt; rt.yes(keeps(rt, Like, like(true, false), &[1])));
-    assert!(rt; rt.yes(keeps(rt, Like, like(false, true), &[2])));
-    assert!(rt; rt.yes(keeps(rt, Like, like(true, true), &[3])));
-    assert!(rt; rt.yes(keeps(rt, Not, EmptyOptions, &[])));
-    assert!(rt; rt.yes(keeps(rt, IsNull, EmptyOptions, &[])));
-    assert!(rt; rt.yes(keeps(rt, IsNotNull, EmptyOptions, &[])));
-    assert!(rt; rt.yes(keeps(rt, Cast, CastOptions, &[])));
+    sure(&rt, keeps(rt, Between, bounds(NonStrict, NonStrict), &[0]));
+    sure(&rt, keeps(rt, Between, bounds(Strict, NonStrict), &[1]));
+    sure(&rt, keeps(rt, Between, bounds(NonStrict, Strict), &[2]));
+    sure(&rt, keeps(rt, Between, bounds(Strict, Strict), &[3]));
+    sure(&rt, keeps(rt, Like, like(false, false), &[0]));
+    sure(&rt, keeps(rt, Like, like(true, false), &[1]));
+    sure(&rt, keeps(rt, Like, like(false, true), &[2]));
+    sure(&rt, keeps(rt, Like, like(true, true), &[3]));
+    sure(&rt, keeps(rt, Not, EmptyOptions, &[]));
+    sure(&rt, keeps(rt, IsNull, EmptyOptions, &[]));
+    sure(&rt, keeps(rt, IsNotNull, EmptyOptions, &[]));
+    sure(&rt, keeps(rt, Cast, CastOptions, &[]));
 }
 
 #[test]
 fn values_write_their_options(rt: HostRuntime) {
     let alloc = rt.alloc();
-    assert!(rt; rt.yes(writes::<NoCustom>(rt, operator(Operator::Add), &[8])));
-    assert!(rt; rt.yes(writes::<NoCustom>(rt, Between.bind(bounds(NonStrict, Strict)), &[2])));
-    assert!(rt; rt.yes(writes::<NoCustom>(rt, Like.bind(like(true, false)), &[1])));
-    assert!(rt; rt.yes(writes::<NoCustom>(rt, Not.bind(EmptyOptions), &[])));
-    assert!(rt; rt.yes(writes_nothing(alloc, own())));
+    sure(&rt, writes::<NoCustom>(rt, operator(Operator::Add), &[8]));
+    sure(
+        &rt,
+        writes::<NoCustom>(rt, Between.bind(bounds(NonStrict, Strict)), &[2]),
+    );
+    sure(
+        &rt,
+        writes::<NoCustom>(rt, Like.bind(like(true, false)), &[1]),
+    );
+    sure(&rt, writes::<NoCustom>(rt, Not.bind(EmptyOptions), &[]));
+    sure(&rt, writes_nothing(alloc, own()));
 }
 
 #[test]
 fn a_callers_options_come_back(rt: HostRuntime) {
-    assert!(rt; rt.yes(keeps(rt, Levelled, Level { level: 3 }, &[3])));
-    assert!(rt; rt.yes(writes(rt, ScalarFnRef::custom(Levelled, Level { level: 7 }), &[7])));
+    sure(&rt, keeps(rt, Levelled, Level { level: 3 }, &[3]));
+    sure(
+        &rt,
+        writes(rt, ScalarFnRef::custom(Levelled, Level { level: 7 }), &[7]),
+    );
     assert!(rt; refuses(rt, Levelled, &[]));
     assert!(rt; refuses(rt, Levelled, &[3, 3]));
 }
@@ -225,40 +239,66 @@ fn a_callers_options_come_back(rt: HostRuntime) {
 fn values_print(rt: HostRuntime) {
     let text = "lower_strict: <, upper_strict: <=";
     let between = "vortex.between(lower_strict: <, upper_strict: <=)";
-    assert!(rt; rt.yes(is_shown(rt, Between.bind(bounds(Strict, NonStrict)), between, text)));
-    assert!(rt; rt.yes(is_shown(rt, operator(Operator::Add), "vortex.binary(+)", "+")));
-    assert!(rt; rt.yes(is_shown(rt, Cast.bind(CastOptions), "vortex.cast(bool?)", "bool?")));
-    assert!(rt; rt.yes(is_shown(rt, Not.bind(EmptyOptions), "vortex.not()", "")));
-    assert!(rt; rt.yes(is_shown(rt, own(), "rowfn.none()", "")));
-    assert!(rt; rt.yes(debugs_alike(rt, own(), own())));
+    sure(
+        &rt,
+        is_shown(rt, Between.bind(bounds(Strict, NonStrict)), between, text),
+    );
+    sure(
+        &rt,
+        is_shown(rt, operator(Operator::Add), "vortex.binary(+)", "+"),
+    );
+    sure(
+        &rt,
+        is_shown(rt, Cast.bind(CastOptions), "vortex.cast(bool?)", "bool?"),
+    );
+    sure(
+        &rt,
+        is_shown(rt, Not.bind(EmptyOptions), "vortex.not()", ""),
+    );
+    sure(&rt, is_shown(rt, own(), "rowfn.none()", ""));
+    sure(&rt, debugs_alike(rt, own(), own()));
 }
 
 #[test]
 fn equal_values_are_found(rt: HostRuntime) {
     let alloc = rt.alloc();
-    assert!(rt; rt.yes(is_found(alloc, operator(Operator::Add), operator(Operator::Add))));
-    assert!(rt;
-        rt.yes(is_found(
+    sure(
+        &rt,
+        is_found(alloc, operator(Operator::Add), operator(Operator::Add)),
+    );
+    sure(
+        &rt,
+        is_found(
             alloc,
             Like.bind(like(true, false)),
-            Like.bind(like(true, false))
-        ))
+            Like.bind(like(true, false)),
+        ),
     );
-    assert!(rt; rt.yes(is_found(alloc, Cast.bind(CastOptions), Cast.bind(CastOptions))));
-    assert!(rt; rt.yes(is_found(alloc, own(), own())));
+    sure(
+        &rt,
+        is_found(alloc, Cast.bind(CastOptions), Cast.bind(CastOptions)),
+    );
+    sure(&rt, is_found(alloc, own(), own()));
 }
 
 #[test]
 fn other_values_are_missed(rt: HostRuntime) {
     let alloc = rt.alloc();
-    assert!(rt; rt.yes(is_missed(alloc, operator(Operator::Add), operator(Operator::Sub))));
-    assert!(rt;
-        rt.yes(is_missed(
+    sure(
+        &rt,
+        is_missed(alloc, operator(Operator::Add), operator(Operator::Sub)),
+    );
+    sure(
+        &rt,
+        is_missed(
             alloc,
             Like.bind(like(true, false)),
-            Like.bind(like(false, true))
-        ))
+            Like.bind(like(false, true)),
+        ),
     );
-    assert!(rt; rt.yes(is_missed(alloc, Not.bind(EmptyOptions), IsNull.bind(EmptyOptions))));
-    assert!(rt; rt.yes(is_missed(alloc, Not.bind(EmptyOptions), own())));
+    sure(
+        &rt,
+        is_missed(alloc, Not.bind(EmptyOptions), IsNull.bind(EmptyOptions)),
+    );
+    sure(&rt, is_missed(alloc, Not.bind(EmptyOptions), own()));
 }

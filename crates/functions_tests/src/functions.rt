@@ -2,7 +2,8 @@
 
 ghost use Rattle.std.specs.Prelude.{◌≡◌, length};
 
-use fixtures::{Ask, Made, nullable_bools, same};
+use crate::questions::sure;
+use fixtures::{Made, nullable_bools, same};
 use std::alloc::Global;
 use std::borrow::Cow;
 use tree_fixtures::makers::{Bound, call_of_leaves};
@@ -172,27 +173,34 @@ fn shipped_functions_have_marks(rt: HostRuntime) {
 
 #[test]
 fn a_function_tells_what_it_is(rt: HostRuntime) {
-    assert!(rt; rt.yes(is_copied::<NoCustom>(rt.alloc(), and(), Operator::And)));
+    sure(&rt, is_copied::<NoCustom>(rt.alloc(), and(), Operator::And));
     assert!(rt; is_not::<NoCustom>(ScalarFnRef::Not));
     assert!(rt; is_null_test::<NoCustom>(ScalarFnRef::IsNull));
     assert!(rt; is_not_null_test::<NoCustom>(ScalarFnRef::IsNotNull));
-    assert!(rt; rt.yes(is_copied_cast::<NoCustom>(rt.alloc(), ScalarFnRef::Cast)));
+    sure(
+        &rt,
+        is_copied_cast::<NoCustom>(rt.alloc(), ScalarFnRef::Cast),
+    );
     assert!(rt; is_custom(ScalarFnRef::custom(NoCustom, EmptyOptions), "rowfn.none"));
 }
 
 #[test]
 fn a_call_tells_its_function_and_children(rt: HostRuntime) {
-    assert!(rt; rt.yes(is_operator_over::<NoCustom>(call_of_leaves(rt.alloc(), and(), 2), 2)));
+    sure(
+        &rt,
+        is_operator_over::<NoCustom>(call_of_leaves(rt.alloc(), and(), 2), 2),
+    );
 }
 
 #[test]
 fn inputs_end(rt: HostRuntime) {
     let alloc = rt.alloc();
-    assert!(rt;
-        rt.yes(are_two_inputs(
+    sure(
+        &rt,
+        are_two_inputs(
             rt,
             nullable_bools(alloc, &[Some(true)]),
             nullable_bools(alloc, &[None]),
-        ))
+        ),
     );
 }

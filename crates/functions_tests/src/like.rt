@@ -1,5 +1,6 @@
 //! LIKE in trees: what it is, what it refuses, its texts and its rows.
 
+use crate::questions::{must, sure};
 use fixtures::{Ask, texts};
 use std::alloc::Global;
 use tree_fixtures::makers::*;
@@ -119,8 +120,14 @@ fn like_has_names_and_marks(rt: HostRuntime) {
 #[test]
 fn like_tells_its_options(rt: HostRuntime) {
     let alloc = rt.alloc();
-    assert!(rt; rt.yes(is_copied_like::<NoCustom>(alloc, Like.bind(NOT_LIKE), NOT_LIKE)));
-    assert!(rt; rt.yes(is_copied_like::<NoCustom>(alloc, ScalarFnRef::Like(ILIKE), ILIKE)));
+    sure(
+        &rt,
+        is_copied_like::<NoCustom>(alloc, Like.bind(NOT_LIKE), NOT_LIKE),
+    );
+    sure(
+        &rt,
+        is_copied_like::<NoCustom>(alloc, ScalarFnRef::Like(ILIKE), ILIKE),
+    );
 }
 
 #[test]
@@ -135,19 +142,19 @@ fn words_name_like(rt: HostRuntime) {
 fn inputs_are_refused_before_patterns(rt: HostRuntime) {
     let alloc = rt.alloc();
     let numbers = like_of::<NoCustom>(alloc, LIKE, two_numbers());
-    assert!(rt; rt.is_refused(numbers, "TypeMismatch.LikeInput"));
+    must(&rt, rt.is_refused(numbers, "TypeMismatch.LikeInput"));
     let number = like_of::<NoCustom>(alloc, ILIKE, number_and_text());
-    assert!(rt; rt.is_refused(number, "TypeMismatch.LikeInput"));
+    must(&rt, rt.is_refused(number, "TypeMismatch.LikeInput"));
     let pattern = like_of::<NoCustom>(alloc, LIKE, text_and_number());
-    assert!(rt; rt.is_refused(pattern, "TypeMismatch.LikePattern"));
+    must(&rt, rt.is_refused(pattern, "TypeMismatch.LikePattern"));
 }
 
 #[test]
 fn calls_of_like_print(rt: HostRuntime) {
-    assert!(rt; rt.yes(like_prints(rt, LIKE, "$.a like $.b")));
-    assert!(rt; rt.yes(like_prints(rt, NOT_LIKE, "$.a not like $.b")));
-    assert!(rt; rt.yes(like_prints(rt, ILIKE, "$.a ilike $.b")));
-    assert!(rt; rt.yes(like_prints(rt, NOT_ILIKE, "$.a not ilike $.b")));
+    sure(&rt, like_prints(rt, LIKE, "$.a like $.b"));
+    sure(&rt, like_prints(rt, NOT_LIKE, "$.a not like $.b"));
+    sure(&rt, like_prints(rt, ILIKE, "$.a ilike $.b"));
+    sure(&rt, like_prints(rt, NOT_ILIKE, "$.a not ilike $.b"));
 }
 
 /// LIKE with that escape.
@@ -157,9 +164,18 @@ fn escaped(escape: Option<char>) -> LikeOptions {
 
 #[test]
 fn escapes_print(rt: HostRuntime) {
-    assert!(rt; rt.yes(like_prints(rt, escaped(Some('!')), "$.a like $.b escape '!'")));
-    assert!(rt; rt.yes(like_prints(rt, escaped(Some('\'')), "$.a like $.b escape '''")));
-    assert!(rt; rt.yes(like_prints(rt, escaped(None), "$.a like $.b escape ''")));
+    sure(
+        &rt,
+        like_prints(rt, escaped(Some('!')), "$.a like $.b escape '!'"),
+    );
+    sure(
+        &rt,
+        like_prints(rt, escaped(Some('\'')), "$.a like $.b escape '''"),
+    );
+    sure(
+        &rt,
+        like_prints(rt, escaped(None), "$.a like $.b escape ''"),
+    );
 }
 
 /// Whether a script that says so of the escape calls LIKE with these options.
@@ -180,8 +196,8 @@ fn scripts_choose_escapes(rt: HostRuntime) {
 
 #[test]
 fn like_answers(rt: HostRuntime) {
-    assert!(rt; rt.yes(says(rt, LIKE, &[Some(true), Some(false)])));
-    assert!(rt; rt.yes(says(rt, NOT_LIKE, &[Some(false), Some(true)])));
-    assert!(rt; rt.yes(says(rt, ILIKE, &[Some(true), Some(true)])));
-    assert!(rt; rt.yes(says(rt, NOT_ILIKE, &[Some(false), Some(false)])));
+    sure(&rt, says(rt, LIKE, &[Some(true), Some(false)]));
+    sure(&rt, says(rt, NOT_LIKE, &[Some(false), Some(true)]));
+    sure(&rt, says(rt, ILIKE, &[Some(true), Some(true)]));
+    sure(&rt, says(rt, NOT_ILIKE, &[Some(false), Some(false)]));
 }

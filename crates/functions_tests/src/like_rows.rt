@@ -1,5 +1,6 @@
 //! LIKE in trees: texts beside one pattern.
 
+use crate::questions::sure;
 use fixtures::{Ask, texts};
 use std::alloc::Global;
 use tree_fixtures::makers::*;
@@ -87,8 +88,14 @@ fn single_characters(rt: HostRuntime) {
 #[test]
 fn escapes(rt: HostRuntime) {
     let words = ["100%", "100x", "a_b", "axb"];
-    assert!(rt; rt.yes(says(rt, LIKE, "100\\%", &words, &[true, false, false, false])));
-    assert!(rt; rt.yes(says(rt, LIKE, "a\\_b", &words, &[false, false, true, false])));
+    sure(
+        &rt,
+        says(rt, LIKE, "100\\%", &words, &[true, false, false, false]),
+    );
+    sure(
+        &rt,
+        says(rt, LIKE, "a\\_b", &words, &[false, false, true, false]),
+    );
     assert!(rt; parts(rt, "foo\\%", ["foo%", "foobar"]));
     assert!(rt; parts(rt, "\\%\\_", ["%_", "xx"]));
     assert!(rt; parts(rt, "\\a", ["a", "aa"]));
@@ -99,9 +106,9 @@ fn escapes(rt: HostRuntime) {
 #[test]
 fn no_other_character_is_special(rt: HostRuntime) {
     let words = ["a.c", "abc", "a$c"];
-    assert!(rt; rt.yes(says(rt, LIKE, "a.%", &words, &[true, false, false])));
+    sure(&rt, says(rt, LIKE, "a.%", &words, &[true, false, false]));
     let words = ["h£llo", "hxllo", "h£xllo"];
-    assert!(rt; rt.yes(says(rt, LIKE, "h_llo", &words, &[true, true, false])));
+    sure(&rt, says(rt, LIKE, "h_llo", &words, &[true, true, false]));
     assert!(rt; parts(rt, ".", [".", "x"]));
     assert!(rt; parts(rt, "$", ["$", "x"]));
 }
@@ -119,21 +126,21 @@ fn sequences_reach_over_any_character(rt: HostRuntime) {
 #[test]
 fn like_is_turned_over_and_folds_case(rt: HostRuntime) {
     let words = ["hello", "world"];
-    assert!(rt; rt.yes(says(rt, NOT_LIKE, "he%", &words, &[false, true])));
+    sure(&rt, says(rt, NOT_LIKE, "he%", &words, &[false, true]));
     let words = ["HELLO", "world"];
-    assert!(rt; rt.yes(says(rt, NOT_ILIKE, "he%", &words, &[false, true])));
+    sure(&rt, says(rt, NOT_ILIKE, "he%", &words, &[false, true]));
     let words = ["HELLO", "world", "Help"];
-    assert!(rt; rt.yes(says(rt, ILIKE, "he%", &words, &[true, false, true])));
+    sure(&rt, says(rt, ILIKE, "he%", &words, &[true, false, true]));
     let words = ["AbC", "AbCd"];
-    assert!(rt; rt.yes(says(rt, ILIKE, "abc", &words, &[true, false])));
+    sure(&rt, says(rt, ILIKE, "abc", &words, &[true, false]));
     let words = ["hello world", "worlds"];
-    assert!(rt; rt.yes(says(rt, ILIKE, "%WORLD", &words, &[true, false])));
+    sure(&rt, says(rt, ILIKE, "%WORLD", &words, &[true, false]));
 }
 
 #[test]
 fn characters_fold_one_by_one(rt: HostRuntime) {
-    assert!(rt; rt.yes(says(rt, ILIKE, "ss", &["\u{df}"], &[false])));
-    assert!(rt; rt.yes(says(rt, ILIKE, "k", &["K"], &[true])));
+    sure(&rt, says(rt, ILIKE, "ss", &["\u{df}"], &[false]));
+    sure(&rt, says(rt, ILIKE, "k", &["K"], &[true]));
 }
 
 /// Column `a`: the same text three times, and `b`: a pattern for each.
@@ -151,7 +158,7 @@ fn each_row_has_its_pattern(rt: HostRuntime) {
     let types = (DType::Utf8(NO), DType::Utf8(NO));
     let tree = call_of_columns::<NoCustom>(alloc, Like.bind(LIKE), types);
     let wanted = [Some(true), Some(false), Some(true)];
-    assert!(rt; rt.yes(answers(rt, tree, three_patterns(alloc), &wanted)));
+    sure(&rt, answers(rt, tree, three_patterns(alloc), &wanted));
 }
 
 /// Column `a`: the same text four times, and `b`: patterns of which one is null.
@@ -174,5 +181,5 @@ fn a_null_pattern_gives_null(rt: HostRuntime) {
     let types = (DType::Utf8(NO), DType::Utf8(YES));
     let tree = call_of_columns::<NoCustom>(alloc, Like.bind(LIKE), types);
     let wanted = [Some(true), Some(true), None, Some(true)];
-    assert!(rt; rt.yes(answers(rt, tree, a_null_pattern(alloc), &wanted)));
+    sure(&rt, answers(rt, tree, a_null_pattern(alloc), &wanted));
 }

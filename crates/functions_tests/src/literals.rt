@@ -1,6 +1,7 @@
 //! Leaves that are literals.
 
-use fixtures::{Ask, nullable_bools};
+use crate::questions::sure;
+use fixtures::nullable_bools;
 use std::alloc::Global;
 use tree_fixtures::makers::*;
 use vortex_columns::*;
@@ -86,34 +87,34 @@ fn is_no_literal<C: ScalarFnVTable>(tree: Bound<C>) -> VortexResult<bool> {
 #[test]
 fn a_literal_answers_a_constant_column_of_its_type(rt: HostRuntime) {
     let alloc = rt.alloc();
-    assert!(rt;
-        rt.yes(answers_constant::<NoCustom>(
-            alloc,
-            copied(alloc, literal(alloc, five())),
-            five(),
-            3
-        ))
+    sure(
+        &rt,
+        answers_constant::<NoCustom>(alloc, copied(alloc, literal(alloc, five())), five(), 3),
     );
 }
 
 #[test]
 fn a_literal_tells_its_scalar(rt: HostRuntime) {
     let alloc = rt.alloc();
-    assert!(rt; rt.yes(is_literal::<NoCustom>(literal(alloc, Ok(Scalar::from(true))), true)));
+    sure(
+        &rt,
+        is_literal::<NoCustom>(literal(alloc, Ok(Scalar::from(true))), true),
+    );
 }
 
 #[test]
 fn other_trees_are_no_literals(rt: HostRuntime) {
     let alloc = rt.alloc();
-    assert!(rt; rt.yes(is_no_literal::<NoCustom>(leaf(alloc, "a"))));
-    assert!(rt; rt.yes(is_no_literal::<NoCustom>(true_and_b(alloc))));
+    sure(&rt, is_no_literal::<NoCustom>(leaf(alloc, "a")));
+    sure(&rt, is_no_literal::<NoCustom>(true_and_b(alloc)));
 }
 
 #[test]
 fn and_with_a_literal_executes(rt: HostRuntime) {
     let alloc = rt.alloc();
-    assert!(rt;
-        rt.yes(answers::<NoCustom>(
+    sure(
+        &rt,
+        answers::<NoCustom>(
             rt,
             true_and_b(alloc),
             two(
@@ -122,6 +123,6 @@ fn and_with_a_literal_executes(rt: HostRuntime) {
                 nullable_bools(alloc, &[Some(true), Some(false), None]),
             ),
             &[Some(true), Some(false), None],
-        ))
+        ),
     );
 }

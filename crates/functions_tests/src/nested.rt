@@ -1,6 +1,6 @@
 //! Comparisons of structs, lists and maps in trees.
 
-use crate::questions::{FALSE, TRUE, compares, refused};
+use crate::questions::{FALSE, TRUE, compares, must, refused, sure};
 use fixtures::{Ask, Made, boxed, kept, names, nullable_ints, numbers};
 use std::alloc::Global;
 use tree_fixtures::makers::{NO, one, two};
@@ -64,13 +64,13 @@ fn structs_are_compared_field_by_field(rt: HostRuntime) {
     let words = ["a", "b"];
     let left = pairs(alloc, &words, &[1], &[2]);
     let right = pairs(alloc, &words, &[1], &[3]);
-    assert!(rt; rt.yes(compares(rt, left, Operator::Lt, right, &[TRUE])));
+    sure(&rt, compares(rt, left, Operator::Lt, right, &[TRUE]));
     let left = pairs(alloc, &words, &[2], &[0]);
     let right = pairs(alloc, &words, &[1], &[9]);
-    assert!(rt; rt.yes(compares(rt, left, Operator::Gt, right, &[TRUE])));
+    sure(&rt, compares(rt, left, Operator::Gt, right, &[TRUE]));
     let left = pairs(alloc, &words, &[1, 1], &[3, 3]);
     let right = pairs(alloc, &words, &[1, 1], &[3, 4]);
-    assert!(rt; rt.yes(compares(rt, left, Operator::Eq, right, &[TRUE, FALSE])));
+    sure(&rt, compares(rt, left, Operator::Eq, right, &[TRUE, FALSE]));
 }
 
 /// The lists [1, 2], [2] and [null].
@@ -95,20 +95,20 @@ fn lists_are_compared_by_the_first_difference(rt: HostRuntime) {
     let alloc = rt.alloc();
     let (left, right) = (left_lists(alloc), right_lists(alloc));
     let less = [TRUE, FALSE, FALSE];
-    assert!(rt; rt.yes(compares(rt, left, Operator::Lt, right, &less)));
+    sure(&rt, compares(rt, left, Operator::Lt, right, &less));
     let (left, right) = (left_lists(alloc), right_lists(alloc));
     let greater = [FALSE, TRUE, FALSE];
-    assert!(rt; rt.yes(compares(rt, left, Operator::Gt, right, &greater)));
+    sure(&rt, compares(rt, left, Operator::Gt, right, &greater));
     let (left, right) = (left_lists(alloc), right_lists(alloc));
     let equal = [FALSE, FALSE, TRUE];
-    assert!(rt; rt.yes(compares(rt, left, Operator::Eq, right, &equal)));
+    sure(&rt, compares(rt, left, Operator::Eq, right, &equal));
 }
 
 #[test]
 fn maps_are_compared(rt: HostRuntime) {
     let alloc = rt.alloc();
     let (null, zero) = (maps(alloc, None, &[1, 0]), maps(alloc, Some(0), &[1, 1]));
-    assert!(rt; rt.yes(compares(rt, null, Operator::Lt, zero, &[TRUE, TRUE])));
+    sure(&rt, compares(rt, null, Operator::Lt, zero, &[TRUE, TRUE]));
 }
 
 /// Two lists of no elements, of a fixed size.
@@ -129,9 +129,9 @@ fn bare_structs(alloc: Global) -> Made {
 fn values_of_no_parts_are_equal(rt: HostRuntime) {
     let alloc = rt.alloc();
     let (left, right) = (empty_lists(alloc), empty_lists(alloc));
-    assert!(rt; rt.yes(compares(rt, left, Operator::Eq, right, &[TRUE, TRUE])));
+    sure(&rt, compares(rt, left, Operator::Eq, right, &[TRUE, TRUE]));
     let (left, right) = (bare_structs(alloc), bare_structs(alloc));
-    assert!(rt; rt.yes(compares(rt, left, Operator::Eq, right, &[TRUE, TRUE])));
+    sure(&rt, compares(rt, left, Operator::Eq, right, &[TRUE, TRUE]));
 }
 
 /// The list of 5 and 6.
@@ -153,7 +153,7 @@ fn overlapping_lists_are_compared_with_a_constant(rt: HostRuntime) {
     let alloc = rt.alloc();
     let left = lists(alloc, numbers(alloc, &[5i32, 6]), &[0, 0], &[2, 1]);
     let right = constant_lists(alloc);
-    assert!(rt; rt.yes(compares(rt, left, Operator::Eq, right, &[TRUE, FALSE])));
+    sure(&rt, compares(rt, left, Operator::Eq, right, &[TRUE, FALSE]));
 }
 
 /// The struct of one field `a`.
@@ -166,13 +166,14 @@ fn fields_are_of_one_name_and_of_any_nullability(rt: HostRuntime) {
     let alloc = rt.alloc();
     let left = single(alloc, nullable_ints(alloc, &[Some(1)]));
     let right = single(alloc, numbers(alloc, &[1i32]));
-    assert!(rt; rt.yes(compares(rt, left, Operator::Eq, right, &[TRUE])));
+    sure(&rt, compares(rt, left, Operator::Eq, right, &[TRUE]));
     let left = pairs(alloc, &["a", "b"], &[1], &[2]);
     let right = pairs(alloc, &["b", "a"], &[1], &[2]);
-    assert!(rt;
+    must(
+        &rt,
         rt.is_refused(
             refused(alloc, left, Operator::Eq, right),
-            "TypeMismatch.Compare"
-        )
+            "TypeMismatch.Compare",
+        ),
     );
 }

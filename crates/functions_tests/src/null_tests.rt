@@ -1,6 +1,7 @@
 //! The null tests and Cast in trees.
 
-use fixtures::{Ask, bools, kept, nullable_ints};
+use crate::questions::sure;
+use fixtures::{bools, kept, nullable_ints};
 use std::alloc::Global;
 use tree_fixtures::makers::*;
 use vortex_columns::*;
@@ -57,8 +58,14 @@ const VALUES: [Option<bool>; 5] = [Some(true), Some(false), Some(true), Some(fal
 
 #[test]
 fn null_tests_answer(rt: HostRuntime) {
-    assert!(rt; rt.yes(tests::<NoCustom>(rt, IsNull.bind(EmptyOptions), &NULLS)));
-    assert!(rt; rt.yes(tests::<NoCustom>(rt, IsNotNull.bind(EmptyOptions), &VALUES)));
+    sure(
+        &rt,
+        tests::<NoCustom>(rt, IsNull.bind(EmptyOptions), &NULLS),
+    );
+    sure(
+        &rt,
+        tests::<NoCustom>(rt, IsNotNull.bind(EmptyOptions), &VALUES),
+    );
 }
 
 /// Whether a column of type Null is null.
@@ -80,14 +87,15 @@ fn each_row_of_type_null_is_null(rt: HostRuntime) {
     let alloc = rt.alloc();
     let wanted = [Some(true), Some(true)];
     let tree = is_null_of_nulls::<NoCustom>(alloc);
-    assert!(rt; rt.yes(answers(rt, tree, two_nulls(alloc), &wanted)));
+    sure(&rt, answers(rt, tree, two_nulls(alloc), &wanted));
 }
 
 #[test]
 fn cast_answers(rt: HostRuntime) {
     let alloc = rt.alloc();
     let wanted = [Some(true), Some(false)];
-    assert!(rt;
-        rt.yes(answers::<NoCustom>(rt, cast_of_truths(alloc), two_truths(alloc), &wanted,))
+    sure(
+        &rt,
+        answers::<NoCustom>(rt, cast_of_truths(alloc), two_truths(alloc), &wanted),
     );
 }

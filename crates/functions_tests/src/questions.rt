@@ -1,7 +1,8 @@
 //! One call over columns each, and short questions to its answer.
 
-use fixtures::Made;
+use fixtures::{Ask, Made};
 use std::alloc::Global;
+use std::process::Abort;
 use tree_fixtures::makers::*;
 use vortex_columns::*;
 use vortex_functions::*;
@@ -12,6 +13,17 @@ pub(crate) const TRUE: Option<bool> = Some(true);
 pub(crate) const FALSE: Option<bool> = Some(false);
 
 pub(crate) const NULL: Option<bool> = None;
+
+/// Ends the test unless that holds, which was printed if not. A call costs less to prove than an
+/// `assert!` with its branch.
+pub(crate) fn must(test: &impl Abort, holds: bool) {
+    assert!(test; holds);
+}
+
+/// Ends the test unless a question was answered with yes.
+pub(crate) fn sure<R: Abort + Ask>(test: &R, answer: VortexResult<bool>) {
+    assert!(test; test.yes(answer));
+}
 
 /// An operator between columns `a` and `b` of the types of these.
 fn over_types<C: ScalarFnVTable>(

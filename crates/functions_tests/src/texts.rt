@@ -1,6 +1,7 @@
 //! The texts of trees, by `sql_text` and by Display.
 
-use fixtures::{Ask, boxed, fields};
+use crate::questions::sure;
+use fixtures::{boxed, fields};
 use std::alloc::Global;
 use tree_fixtures::makers::*;
 use vortex_columns::*;
@@ -109,91 +110,122 @@ fn one_is_greater_than_two<C: ScalarFnVTable>(alloc: Global) -> Bound<C> {
 
 #[test]
 fn signed_integers_print_with_their_type(rt: HostRuntime) {
-    assert!(rt; rt.yes(literal_prints(rt, Ok(Scalar::from(1i32)), "1i32")));
-    assert!(rt; rt.yes(literal_prints(rt, nullable_integer(PType::I8, -3), "-3i8")));
-    assert!(rt; rt.yes(literal_prints(rt, nullable_integer(PType::I16, 100), "100i16")));
-    assert!(rt; rt.yes(literal_prints(rt, nullable_integer(PType::I32, 0), "0i32")));
-    assert!(rt;
-        rt.yes(literal_prints(
+    sure(&rt, literal_prints(rt, Ok(Scalar::from(1i32)), "1i32"));
+    sure(
+        &rt,
+        literal_prints(rt, nullable_integer(PType::I8, -3), "-3i8"),
+    );
+    sure(
+        &rt,
+        literal_prints(rt, nullable_integer(PType::I16, 100), "100i16"),
+    );
+    sure(
+        &rt,
+        literal_prints(rt, nullable_integer(PType::I32, 0), "0i32"),
+    );
+    sure(
+        &rt,
+        literal_prints(
             rt,
             nullable_integer(PType::I64, -9223372036854775808),
             "-9223372036854775808i64",
-        ))
+        ),
     );
 }
 
 #[test]
 fn unsigned_integers_print_with_their_type(rt: HostRuntime) {
-    assert!(rt; rt.yes(literal_prints(rt, nullable_integer(PType::U8, 255), "255u8")));
-    assert!(rt; rt.yes(literal_prints(rt, nullable_integer(PType::U16, 10), "10u16")));
-    assert!(rt;
-        rt.yes(literal_prints(
+    sure(
+        &rt,
+        literal_prints(rt, nullable_integer(PType::U8, 255), "255u8"),
+    );
+    sure(
+        &rt,
+        literal_prints(rt, nullable_integer(PType::U16, 10), "10u16"),
+    );
+    sure(
+        &rt,
+        literal_prints(
             rt,
             nullable_integer(PType::U32, 4294967295),
             "4294967295u32",
-        ))
+        ),
     );
-    assert!(rt;
-        rt.yes(literal_prints(
+    sure(
+        &rt,
+        literal_prints(
             rt,
             nullable_integer(PType::U64, 18446744073709551615),
             "18446744073709551615u64",
-        ))
+        ),
     );
 }
 
 #[test]
 fn truths_and_nulls_print(rt: HostRuntime) {
-    assert!(rt; rt.yes(literal_prints(rt, Ok(Scalar::from(true)), "true")));
-    assert!(rt; rt.yes(literal_prints(rt, Ok(Scalar::bool(false, YES)), "false")));
-    assert!(rt; rt.yes(literal_prints(rt, Scalar::try_new(DType::Utf8(YES), None), "null",)));
+    sure(&rt, literal_prints(rt, Ok(Scalar::from(true)), "true"));
+    sure(
+        &rt,
+        literal_prints(rt, Ok(Scalar::bool(false, YES)), "false"),
+    );
+    sure(
+        &rt,
+        literal_prints(rt, Scalar::try_new(DType::Utf8(YES), None), "null"),
+    );
 }
 
 #[test]
 fn words_and_bytes_print(rt: HostRuntime) {
     let alloc = rt.alloc();
-    assert!(rt;
-        rt.yes(literal_prints(
+    sure(
+        &rt,
+        literal_prints(
             rt,
             Scalar::try_from_str(alloc, "a \"b\" é"),
             "\"a \"b\" é\"",
-        ))
+        ),
     );
-    assert!(rt;
-        rt.yes(literal_prints(
+    sure(
+        &rt,
+        literal_prints(
             rt,
             value_of(Ok(DType::Binary(NO)), bytes(alloc, &[0, 10, 171, 255])),
             "0x000aabff",
-        ))
+        ),
     );
-    assert!(rt;
-        rt.yes(literal_prints(
-            rt,
-            value_of(Ok(DType::Binary(NO)), bytes(alloc, &[])),
-            "0x",
-        ))
+    sure(
+        &rt,
+        literal_prints(rt, value_of(Ok(DType::Binary(NO)), bytes(alloc, &[])), "0x"),
     );
 }
 
 #[test]
 fn lists_print(rt: HostRuntime) {
     let alloc = rt.alloc();
-    assert!(rt; rt.yes(literal_prints(rt, value_of(list_of_bools(alloc), empty(alloc)), "[]")));
-    assert!(rt;
-        rt.yes(literal_prints(
+    sure(
+        &rt,
+        literal_prints(rt, value_of(list_of_bools(alloc), empty(alloc)), "[]"),
+    );
+    sure(
+        &rt,
+        literal_prints(
             rt,
             value_of(two_numbers(alloc), pair(alloc, number(-1), number(2))),
             "[-1i64, 2i64]",
-        ))
+        ),
     );
 }
 
 #[test]
 fn structs_print(rt: HostRuntime) {
     let alloc = rt.alloc();
-    assert!(rt; rt.yes(literal_prints(rt, value_of(no_fields(alloc), empty(alloc)), "{}")));
-    assert!(rt;
-        rt.yes(literal_prints(
+    sure(
+        &rt,
+        literal_prints(rt, value_of(no_fields(alloc), empty(alloc)), "{}"),
+    );
+    sure(
+        &rt,
+        literal_prints(
             rt,
             value_of(
                 number_and_list(alloc),
@@ -204,15 +236,16 @@ fn structs_print(rt: HostRuntime) {
                 ),
             ),
             "{n: 1u8, m: [null, true]}",
-        ))
+        ),
     );
 }
 
 #[test]
 fn maps_print(rt: HostRuntime) {
     let alloc = rt.alloc();
-    assert!(rt;
-        rt.yes(literal_prints(
+    sure(
+        &rt,
+        literal_prints(
             rt,
             value_of(
                 map_of_words(alloc),
@@ -223,32 +256,40 @@ fn maps_print(rt: HostRuntime) {
                 ),
             ),
             "[{key: \"a\", value: 1i16}, {key: \"b\", value: null}]",
-        ))
+        ),
     );
 }
 
 #[test]
 fn calls_of_operators_print(rt: HostRuntime) {
     let alloc = rt.alloc();
-    assert!(rt; rt.yes(prints::<NoCustom>(rt, true_and_b(alloc), "(true and $.b)")));
-    assert!(rt; rt.yes(prints::<NoCustom>(rt, one_is_greater_than_two(alloc), "(1i32 > 2i32)",)));
+    sure(
+        &rt,
+        prints::<NoCustom>(rt, true_and_b(alloc), "(true and $.b)"),
+    );
+    sure(
+        &rt,
+        prints::<NoCustom>(rt, one_is_greater_than_two(alloc), "(1i32 > 2i32)"),
+    );
 }
 
 #[test]
 fn calls_by_name_print(rt: HostRuntime) {
     let alloc = rt.alloc();
-    assert!(rt;
-        rt.yes(prints::<NoCustom>(
+    sure(
+        &rt,
+        prints::<NoCustom>(
             rt,
             not_of(alloc, a_and_b(alloc)),
             "vortex.not(($.a and $.b))",
-        ))
+        ),
     );
-    assert!(rt;
-        rt.yes(prints(
+    sure(
+        &rt,
+        prints(
             rt,
             call_of_leaves(alloc, ScalarFnRef::custom(NoCustom, EmptyOptions), 0),
             "rowfn.none()",
-        ))
+        ),
     );
 }

@@ -1,5 +1,6 @@
 //! Execution of trees.
 
+use crate::questions::{must, sure};
 use fixtures::{Ask, Made, are_rows, bools, kept, nullable_bools};
 use std::alloc::Global;
 use std::borrow::Cow;
@@ -111,8 +112,9 @@ fn beside_null<C: ScalarFnVTable>(alloc: Global, operator: Operator) -> Bound<C>
 #[test]
 fn and_follows_kleenes_table(rt: HostRuntime) {
     let alloc = rt.alloc();
-    assert!(rt;
-        rt.yes(answers::<NoCustom>(
+    sure(
+        &rt,
+        answers::<NoCustom>(
             rt,
             copied(alloc, over_both(alloc, Operator::And)),
             kleene_columns(alloc),
@@ -127,15 +129,16 @@ fn and_follows_kleenes_table(rt: HostRuntime) {
                 Some(false),
                 None,
             ],
-        ))
+        ),
     );
 }
 
 #[test]
 fn or_follows_kleenes_table(rt: HostRuntime) {
     let alloc = rt.alloc();
-    assert!(rt;
-        rt.yes(answers::<NoCustom>(
+    sure(
+        &rt,
+        answers::<NoCustom>(
             rt,
             copied(alloc, over_both(alloc, Operator::Or)),
             kleene_columns(alloc),
@@ -150,15 +153,16 @@ fn or_follows_kleenes_table(rt: HostRuntime) {
                 None,
                 None,
             ],
-        ))
+        ),
     );
 }
 
 #[test]
 fn not_of_and_follows_kleenes_table(rt: HostRuntime) {
     let alloc = rt.alloc();
-    assert!(rt;
-        rt.yes(answers::<NoCustom>(
+    sure(
+        &rt,
+        answers::<NoCustom>(
             rt,
             not_of(alloc, over_both(alloc, Operator::And)),
             kleene_columns(alloc),
@@ -173,14 +177,15 @@ fn not_of_and_follows_kleenes_table(rt: HostRuntime) {
                 Some(true),
                 None,
             ],
-        ))
+        ),
     );
 }
 
 #[test]
 fn lengths_are_compared_with_the_row_count(rt: HostRuntime) {
     let alloc = rt.alloc();
-    assert!(rt;
+    must(
+        &rt,
         rt.is_uneven(
             executed::<NoCustom>(
                 alloc,
@@ -193,28 +198,30 @@ fn lengths_are_compared_with_the_row_count(rt: HostRuntime) {
                 2,
             ),
             (2, 3),
-        )
+        ),
     );
 }
 
 #[test]
 fn a_function_without_arguments_answers_every_row(rt: HostRuntime) {
     let alloc = rt.alloc();
-    assert!(rt;
-        rt.yes(answers::<NoCustom>(
+    sure(
+        &rt,
+        answers::<NoCustom>(
             rt,
             not_of(alloc, none(alloc)),
             twice(alloc, &[Some(true), None]),
             &[Some(true), Some(true)],
-        ))
+        ),
     );
 }
 
 #[test]
 fn a_lone_leaf_is_lent(rt: HostRuntime) {
     let alloc = rt.alloc();
-    assert!(rt;
-        rt.yes(is_lent::<NoCustom>(
+    sure(
+        &rt,
+        is_lent::<NoCustom>(
             rt,
             leaf(alloc, "b"),
             two(
@@ -223,7 +230,7 @@ fn a_lone_leaf_is_lent(rt: HostRuntime) {
                 nullable_bools(alloc, &[Some(true)]),
             ),
             &[Some(true)],
-        ))
+        ),
     );
 }
 
@@ -236,8 +243,14 @@ fn owned<C: ScalarFnVTable>(alloc: Global, tree: Bound<C>) -> Bound<C> {
 #[test]
 fn a_lent_tree_is_owned_as_a_copy(rt: HostRuntime) {
     let alloc = rt.alloc();
-    assert!(rt; rt.yes(prints::<NoCustom>(rt, owned(alloc, below_five(alloc)), "($.a < 5u16)")));
-    assert!(rt; rt.yes(prints::<NoCustom>(rt, owned(alloc, leaf(alloc, "b")), "$.b")));
+    sure(
+        &rt,
+        prints::<NoCustom>(rt, owned(alloc, below_five(alloc)), "($.a < 5u16)"),
+    );
+    sure(
+        &rt,
+        prints::<NoCustom>(rt, owned(alloc, leaf(alloc, "b")), "$.b"),
+    );
 }
 
 /// The leaf of the second of two columns, by its place.
@@ -257,14 +270,18 @@ fn a_leaf_of_a_place_lends_its_column(rt: HostRuntime) {
         nullable_bools(alloc, &[None]),
         nullable_bools(alloc, &[Some(true)]),
     );
-    assert!(rt; rt.yes(prints::<NoCustom>(rt, second_leaf(alloc), "$.b")));
-    assert!(rt; rt.yes(is_lent::<NoCustom>(rt, second_leaf(alloc), columns, &[Some(true)])));
+    sure(&rt, prints::<NoCustom>(rt, second_leaf(alloc), "$.b"));
+    sure(
+        &rt,
+        is_lent::<NoCustom>(rt, second_leaf(alloc), columns, &[Some(true)]),
+    );
 }
 
 #[test]
 fn a_leaf_without_its_column_is_refused(rt: HostRuntime) {
     let alloc = rt.alloc();
-    assert!(rt;
+    must(
+        &rt,
         rt.is_refused(
             executed::<NoCustom>(
                 alloc,
@@ -273,7 +290,7 @@ fn a_leaf_without_its_column_is_refused(rt: HostRuntime) {
                 1,
             ),
             "ScopeMismatch",
-        )
+        ),
     );
 }
 
@@ -289,7 +306,8 @@ fn deep<C: ScalarFnVTable>(alloc: Global) -> Bound<C> {
 #[test]
 fn the_deepest_leaf_is_refused_without_its_column(rt: HostRuntime) {
     let alloc = rt.alloc();
-    assert!(rt;
+    must(
+        &rt,
         rt.is_refused(
             executed::<NoCustom>(
                 alloc,
@@ -298,65 +316,65 @@ fn the_deepest_leaf_is_refused_without_its_column(rt: HostRuntime) {
                 1,
             ),
             "ScopeMismatch",
-        )
+        ),
     );
 }
 
 #[test]
 fn a_leaf_over_a_column_of_another_type_is_refused_before_lengths(rt: HostRuntime) {
     let alloc = rt.alloc();
-    assert!(rt;
+    must(
+        &rt,
         rt.is_refused(
             executed::<NoCustom>(
                 alloc,
                 leaf(alloc, "b"),
-                two(
-                    alloc,
-                    nullable_bools(alloc, &[None]),
-                    bools(alloc, &[true]),
-                ),
+                two(alloc, nullable_bools(alloc, &[None]), bools(alloc, &[true])),
                 2,
             ),
             "ScopeMismatch",
-        )
+        ),
     );
 }
 
 #[test]
 fn a_comparison_with_a_literal_executes(rt: HostRuntime) {
     let alloc = rt.alloc();
-    assert!(rt;
-        rt.yes(answers::<NoCustom>(
+    sure(
+        &rt,
+        answers::<NoCustom>(
             rt,
             below_five(alloc),
             one(alloc, four_to_six(alloc)),
             &[Some(true), Some(false), Some(false), None],
-        ))
+        ),
     );
 }
 
 #[test]
 fn and_with_a_null_literal_executes(rt: HostRuntime) {
     let alloc = rt.alloc();
-    assert!(rt;
-        rt.yes(answers::<NoCustom>(
+    sure(
+        &rt,
+        answers::<NoCustom>(
             rt,
             beside_null(alloc, Operator::And),
             twice(alloc, &[Some(false), Some(true), None]),
             &[Some(false), None, None],
-        ))
+        ),
     );
 }
 
 #[test]
 fn or_with_a_null_literal_executes(rt: HostRuntime) {
     let alloc = rt.alloc();
-    assert!(rt;
-        rt.yes(answers::<NoCustom>(
+    sure(
+        &rt,
+        answers::<NoCustom>(
             rt,
             beside_null(alloc, Operator::Or),
             twice(alloc, &[Some(false), Some(true), None]),
             &[None, Some(true), None],
-        ))
+        ),
     );
 }

@@ -1,5 +1,6 @@
 //! Rules at places of an array tree.
 
+use crate::questions::{must, sure};
 use fixtures::{Ask, are_rows, nullable_bools};
 use std::alloc::Global;
 use tree_fixtures::array_makers::*;
@@ -35,9 +36,9 @@ fn null_test_answers(
 fn array_trees_are_rewritten(rt: HostRuntime) {
     let alloc = rt.alloc();
     let rows = [Some(true), Some(true), None];
-    assert!(rt; rt.yes(column_stays(alloc, &rows)));
+    sure(&rt, column_stays(alloc, &rows));
     let missing = [Some(false), Some(false), Some(true)];
-    assert!(rt; rt.yes(null_test_answers(rt, &rows, &missing)));
+    sure(&rt, null_test_answers(rt, &rows, &missing));
 }
 
 /// Whether And of `x` and `y` is null, as an array tree.
@@ -91,13 +92,13 @@ const MISSING: [Option<bool>; 3] = [Some(false), Some(false), Some(true)];
 fn a_rule_applies_at_a_place_of_an_array(rt: HostRuntime) {
     let alloc = rt.alloc();
     let missing = missing_both::<NoCustom>(alloc);
-    assert!(rt; rt.yes(array_becomes(rt, missing, &[], Rule::Reduce, &MISSING)));
+    sure(&rt, array_becomes(rt, missing, &[], Rule::Reduce, &MISSING));
     let missing = missing_both::<NoCustom>(alloc);
-    assert!(rt; rt.yes(array_stays(alloc, missing, &[0], Rule::Reduce)));
+    sure(&rt, array_stays(alloc, missing, &[0], Rule::Reduce));
     let missing = missing_both::<NoCustom>(alloc);
-    assert!(rt; rt.yes(array_stays(alloc, missing, &[], Rule::Simplify)));
+    sure(&rt, array_stays(alloc, missing, &[], Rule::Simplify));
     let nowhere = array_at(alloc, missing_both::<NoCustom>(alloc), &[1], Rule::Reduce);
-    assert!(rt; rt.is_refused(nowhere, "NoSuchPlace"));
+    must(&rt, rt.is_refused(nowhere, "NoSuchPlace"));
 }
 
 /// What a list of steps makes of an array.
@@ -127,14 +128,14 @@ fn array_lists_to<C: ScalarFnRules>(
 #[test]
 fn rules_apply_to_an_array_one_after_another(rt: HostRuntime) {
     let alloc = rt.alloc();
-    let steps: [(&[usize], Rule); 3] = [
+    const STEPS: &[(&[usize], Rule)] = &[
         (&[], Rule::Reduce),
         (&[0], Rule::Reduce),
         (&[0], Rule::Simplify),
     ];
     let missing = missing_both::<NoCustom>(alloc);
-    assert!(rt; rt.yes(array_lists_to(rt, missing, &steps, &MISSING, 2)));
-    let outside: [(&[usize], Rule); 2] = [(&[], Rule::Reduce), (&[0, 5], Rule::Reduce)];
-    let refused = array_listed(alloc, missing_both::<NoCustom>(alloc), &outside);
-    assert!(rt; rt.is_refused(refused, "NoSuchPlace"));
+    sure(&rt, array_lists_to(rt, missing, STEPS, &MISSING, 2));
+    const OUTSIDE: &[(&[usize], Rule)] = &[(&[], Rule::Reduce), (&[0, 5], Rule::Reduce)];
+    let refused = array_listed(alloc, missing_both::<NoCustom>(alloc), OUTSIDE);
+    must(&rt, rt.is_refused(refused, "NoSuchPlace"));
 }

@@ -1,5 +1,6 @@
 //! Array trees: how they are made, and what they answer.
 
+use crate::questions::{must, sure};
 use fixtures::{Ask, nullable_bools, numbers};
 use std::alloc::Global;
 use std::borrow::Cow;
@@ -61,9 +62,12 @@ fn a_lent_array_is_owned_as_a_copy(rt: HostRuntime) {
     let alloc = rt.alloc();
     let there = is_there::<NoCustom>(alloc, held(alloc, x(alloc)));
     let rows = [Some(true), Some(true), Some(false)];
-    assert!(rt; rt.yes(array_answers(rt, owned(alloc, there), &rows)));
+    sure(&rt, array_answers(rt, owned(alloc, there), &rows));
     let column = held::<NoCustom>(alloc, x(alloc));
-    assert!(rt; rt.yes(array_answers(rt, owned(alloc, column), &[Some(true), Some(true), None])));
+    sure(
+        &rt,
+        array_answers(rt, owned(alloc, column), &[Some(true), Some(true), None]),
+    );
 }
 
 #[test]
@@ -71,11 +75,12 @@ fn other_lengths_are_refused_before_types(rt: HostRuntime) {
     let alloc = rt.alloc();
     let two_rows = numbers::<i32>(alloc, &[1, 2]);
     let three_rows = numbers::<i32>(alloc, &[1, 2, 3]);
-    assert!(rt;
+    must(
+        &rt,
         rt.is_uneven(
             over_columns::<NoCustom>(alloc, two_rows, Operator::And, three_rows),
-            (2, 3)
-        )
+            (2, 3),
+        ),
     );
 }
 
@@ -84,11 +89,12 @@ fn types_are_refused(rt: HostRuntime) {
     let alloc = rt.alloc();
     let left = numbers::<i32>(alloc, &[1, 2, 3]);
     let right = numbers::<i32>(alloc, &[1, 2, 3]);
-    assert!(rt;
+    must(
+        &rt,
         rt.is_refused(
             over_columns::<NoCustom>(alloc, left, Operator::And, right),
-            "TypeMismatch.Boolean"
-        )
+            "TypeMismatch.Boolean",
+        ),
     );
 }
 
@@ -104,25 +110,32 @@ fn an_array_tree_answers_its_rows(rt: HostRuntime) {
     let left = nullable_bools(alloc, &[Some(true), None, Some(false)]);
     let right = nullable_bools(alloc, &[Some(true), Some(true), None]);
     let both = over_columns::<NoCustom>(alloc, left, Operator::And, right);
-    assert!(rt;
-        rt.yes(array_answers(
+    sure(
+        &rt,
+        array_answers(
             rt,
             is_there(alloc, both),
-            &[Some(true), Some(false), Some(true)]
-        ))
+            &[Some(true), Some(false), Some(true)],
+        ),
     );
 }
 
 #[test]
 fn a_call_without_children_has_its_rows(rt: HostRuntime) {
     let alloc = rt.alloc();
-    assert!(rt; rt.yes(array_answers(rt, none_of_rows(alloc, 2), &[Some(false), Some(false)])));
+    sure(
+        &rt,
+        array_answers(rt, none_of_rows(alloc, 2), &[Some(false), Some(false)]),
+    );
 }
 
 #[test]
 fn a_lone_column_is_lent(rt: HostRuntime) {
     let alloc = rt.alloc();
-    assert!(rt; rt.yes(lends::<NoCustom>(alloc, held(alloc, numbers::<i32>(alloc, &[1])))));
+    sure(
+        &rt,
+        lends::<NoCustom>(alloc, held(alloc, numbers::<i32>(alloc, &[1]))),
+    );
 }
 
 /// A call of And without children.
@@ -146,8 +159,11 @@ fn none_of_none(alloc: Global) -> Held<NoCustom> {
 #[test]
 fn a_call_without_children_is_refused_where_no_row_count_is_given(rt: HostRuntime) {
     let alloc = rt.alloc();
-    assert!(rt; rt.is_refused(and_of_none::<NoCustom>(alloc), "ArityMismatch"));
-    assert!(rt; rt.is_refused(none_of_none(alloc), "ArityMismatch"));
+    must(
+        &rt,
+        rt.is_refused(and_of_none::<NoCustom>(alloc), "ArityMismatch"),
+    );
+    must(&rt, rt.is_refused(none_of_none(alloc), "ArityMismatch"));
 }
 
 /// A sum of two columns of u8, whose second row is past 255.
@@ -162,12 +178,15 @@ fn a_sum_out_of_range_faults(rt: HostRuntime) {
     let alloc = rt.alloc();
     let wanted = [None, None];
     let sum = array_answers::<NoCustom>(rt, large_sum(alloc), &wanted);
-    assert!(rt; rt.is_refused(sum, "Arithmetic.Add"));
+    must(&rt, rt.is_refused(sum, "Arithmetic.Add"));
 }
 
 #[test]
 fn or_beside_a_null_answers(rt: HostRuntime) {
     let alloc = rt.alloc();
     let either = over_columns::<NoCustom>(alloc, x(alloc), Operator::Or, y(alloc));
-    assert!(rt; rt.yes(array_answers(rt, either, &[Some(true), Some(true), Some(true)])));
+    sure(
+        &rt,
+        array_answers(rt, either, &[Some(true), Some(true), Some(true)]),
+    );
 }

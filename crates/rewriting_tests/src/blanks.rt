@@ -1,6 +1,6 @@
 //! Trees over a function that takes any number of arguments and is null in each row.
 
-use crate::questions::{array_runs_to, rewrites_to, runs_to};
+use crate::questions::{array_runs_to, rewrites_to, runs_to, sure};
 use caller_functions::blank::Blank;
 use fixtures::Ask;
 use std::alloc::Global;
@@ -52,8 +52,8 @@ fn any_number_of_arguments_is_taken(rt: HostRuntime) {
     assert!(rt; is_blank(rt, 3));
     assert!(rt; is_blank_alone(rt, &[]));
     assert!(rt; is_blank_alone(rt, &[None, None, None]));
-    assert!(rt; rt.yes(prints(rt, blank(alloc, 0), "test.blank()")));
-    assert!(rt; rt.yes(prints(rt, blank(alloc, 2), "test.blank($.a, $.b)")));
+    sure(&rt, prints(rt, blank(alloc, 0), "test.blank()"));
+    sure(&rt, prints(rt, blank(alloc, 2), "test.blank($.a, $.b)"));
 }
 
 /// The null test of it, over so many leaves.
@@ -69,12 +69,18 @@ fn there(alloc: Global) -> Bound<Blank> {
 #[test]
 fn null_for_arguments_that_are_not_is_told(rt: HostRuntime) {
     let alloc = rt.alloc();
-    assert!(rt; rt.yes(answers(rt, missing(alloc, 0), valid_rows(alloc), &TRUE)));
-    assert!(rt; rt.yes(answers(rt, missing(alloc, 2), valid_rows(alloc), &TRUE)));
-    assert!(rt; rt.yes(answers(rt, there(alloc), valid_rows(alloc), &FALSE)));
-    assert!(rt; rt.yes(stays(rt, reduced(alloc, missing(alloc, 0)))));
-    assert!(rt; rt.yes(stays(rt, reduced(alloc, missing(alloc, 2)))));
-    assert!(rt; rt.yes(stays(rt, reduced(alloc, there(alloc)))));
+    sure(
+        &rt,
+        answers(rt, missing(alloc, 0), valid_rows(alloc), &TRUE),
+    );
+    sure(
+        &rt,
+        answers(rt, missing(alloc, 2), valid_rows(alloc), &TRUE),
+    );
+    sure(&rt, answers(rt, there(alloc), valid_rows(alloc), &FALSE));
+    sure(&rt, stays(rt, reduced(alloc, missing(alloc, 0))));
+    sure(&rt, stays(rt, reduced(alloc, missing(alloc, 2))));
+    sure(&rt, stays(rt, reduced(alloc, there(alloc))));
 }
 
 /// And of a truth value and of it, over two leaves.
@@ -87,13 +93,28 @@ fn beside(alloc: Global, truth: bool) -> Bound<Blank> {
 fn a_run_goes_on_round_it(rt: HostRuntime) {
     let alloc = rt.alloc();
     let text = "test.blank($.a, $.b)";
-    assert!(rt; rt.yes(rewrites_to(rt, beside(alloc, true), 9, (1, true), text)));
-    assert!(rt; rt.yes(runs_to(rt, beside(alloc, true), valid_rows(alloc), 9, &NULLS)));
-    assert!(rt; rt.yes(runs_to(rt, beside(alloc, false), valid_rows(alloc), 9, &FALSE)));
+    sure(
+        &rt,
+        rewrites_to(rt, beside(alloc, true), 9, (1, true), text),
+    );
+    sure(
+        &rt,
+        runs_to(rt, beside(alloc, true), valid_rows(alloc), 9, &NULLS),
+    );
+    sure(
+        &rt,
+        runs_to(rt, beside(alloc, false), valid_rows(alloc), 9, &FALSE),
+    );
     let text = "vortex.is_null(test.blank($.a, $.b))";
-    assert!(rt; rt.yes(rewrites_to(rt, missing(alloc, 2), 9, (0, true), text)));
-    assert!(rt; rt.yes(runs_to(rt, missing(alloc, 2), valid_rows(alloc), 9, &TRUE)));
-    assert!(rt; rt.yes(runs_to(rt, missing(alloc, 0), Ok(Vec::new(alloc)), 9, &TRUE)));
+    sure(&rt, rewrites_to(rt, missing(alloc, 2), 9, (0, true), text));
+    sure(
+        &rt,
+        runs_to(rt, missing(alloc, 2), valid_rows(alloc), 9, &TRUE),
+    );
+    sure(
+        &rt,
+        runs_to(rt, missing(alloc, 0), Ok(Vec::new(alloc)), 9, &TRUE),
+    );
 }
 
 /// The function over the array of a column, so many times, each of three rows.
@@ -124,12 +145,18 @@ fn of_no_rows_known(alloc: Global) -> VortexResult<ScalarFnArray<Blank>> {
 #[test]
 fn arrays_are_taken_in_any_number(rt: HostRuntime) {
     let alloc = rt.alloc();
-    assert!(rt; rt.yes(array_answers(rt, blank_array(alloc, 0), &[None, None, None])));
-    assert!(rt; rt.yes(array_answers(rt, blank_array(alloc, 2), &[None, None, None])));
+    sure(
+        &rt,
+        array_answers(rt, blank_array(alloc, 0), &[None, None, None]),
+    );
+    sure(
+        &rt,
+        array_answers(rt, blank_array(alloc, 2), &[None, None, None]),
+    );
     let all = [Some(true), Some(true), Some(true)];
-    assert!(rt; rt.yes(array_answers(rt, missing_array(alloc, 0), &all)));
-    assert!(rt; rt.yes(array_answers(rt, missing_array(alloc, 2), &all)));
-    assert!(rt; rt.yes(array_runs_to(rt, missing_array(alloc, 2), &all)));
+    sure(&rt, array_answers(rt, missing_array(alloc, 0), &all));
+    sure(&rt, array_answers(rt, missing_array(alloc, 2), &all));
+    sure(&rt, array_runs_to(rt, missing_array(alloc, 2), &all));
     let any = Arity::Variadic { min: 0, max: None };
     assert!(rt; is_misfit(rt, of_no_rows_known(alloc), any, 0));
 }

@@ -1,8 +1,8 @@
 //! A run that only its limit ends.
 
-use crate::questions::{rewrites_to, runs_to};
+use crate::questions::{rewrites_to, runs_to, sure};
 use caller_functions::grow::Grow;
-use fixtures::{Ask, same};
+use fixtures::same;
 use std::alloc::Global;
 use tree_fixtures::makers::*;
 use vortex_columns::*;
@@ -32,7 +32,7 @@ fn grows_by_ten(rt: HostRuntime, rows: &[Option<bool>]) -> VortexResult<bool> {
 
 #[test]
 fn a_run_without_end_stops_at_its_limit(rt: HostRuntime) {
-    assert!(rt; rt.yes(grows_by_ten(rt, &[Some(true), Some(false), None])));
+    sure(&rt, grows_by_ten(rt, &[Some(true), Some(false), None]));
 }
 
 /// True, false, null.
@@ -42,8 +42,17 @@ const ROWS: [Option<bool>; 3] = [Some(true), Some(false), None];
 fn a_run_answers_wherever_its_limit_stops_it(rt: HostRuntime) {
     let alloc = rt.alloc();
     let once = "test.grow(vortex.not(vortex.not($.a)))";
-    assert!(rt; rt.yes(rewrites_to(rt, growing(alloc), 0, (0, false), "test.grow($.a)")));
-    assert!(rt; rt.yes(rewrites_to(rt, growing(alloc), 1, (1, false), once)));
-    assert!(rt; rt.yes(runs_to(rt, growing(alloc), twice(alloc, &ROWS), 0, &ROWS)));
-    assert!(rt; rt.yes(runs_to(rt, growing(alloc), twice(alloc, &ROWS), 100, &ROWS)));
+    sure(
+        &rt,
+        rewrites_to(rt, growing(alloc), 0, (0, false), "test.grow($.a)"),
+    );
+    sure(&rt, rewrites_to(rt, growing(alloc), 1, (1, false), once));
+    sure(
+        &rt,
+        runs_to(rt, growing(alloc), twice(alloc, &ROWS), 0, &ROWS),
+    );
+    sure(
+        &rt,
+        runs_to(rt, growing(alloc), twice(alloc, &ROWS), 100, &ROWS),
+    );
 }

@@ -1,5 +1,6 @@
 //! Execution of a caller's function that stands on arithmetic.
 
+use crate::questions::{must, sure};
 use caller_functions::half::Half;
 use fixtures::{Ask, Made, kept, nullable_ints, same};
 use std::alloc::Global;
@@ -39,7 +40,7 @@ fn has_halves(rt: HostRuntime, rows: Made, wanted: &[Option<i128>]) -> VortexRes
 fn halves_even_numbers_beside_null(rt: HostRuntime) {
     let alloc = rt.alloc();
     let rows = nullable_ints(alloc, &[Some(4), None]);
-    assert!(rt; rt.yes(has_halves(rt, rows, &[Some(2), None])));
+    sure(&rt, has_halves(rt, rows, &[Some(2), None]));
 }
 
 #[test]
@@ -58,11 +59,14 @@ fn two_faults(alloc: Global) -> Made {
 fn several_rows_fault(rt: HostRuntime) {
     let alloc = rt.alloc();
     assert!(rt; is_fault(rt, halved(alloc, two_faults(alloc), 4), 1));
-    assert!(rt; rt.is_refused(halved(alloc, two_faults(alloc), 4), "Custom"));
+    must(
+        &rt,
+        rt.is_refused(halved(alloc, two_faults(alloc), 4), "Custom"),
+    );
 }
 
 #[test]
 fn an_odd_number_under_null_is_no_fault(rt: HostRuntime) {
     let alloc = rt.alloc();
-    assert!(rt; rt.yes(has_halves(rt, three_under_null(alloc), &[None])));
+    sure(&rt, has_halves(rt, three_under_null(alloc), &[None]));
 }

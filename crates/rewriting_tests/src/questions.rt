@@ -1,10 +1,22 @@
 //! Questions to runs of rules.
 
-use fixtures::{are_rows, same};
+use fixtures::{Ask, are_rows, same};
+use std::process::Abort;
 use tree_fixtures::array_makers::Held;
 use tree_fixtures::makers::{Bound, has_text};
 use vortex_columns::*;
 use vortex_rewriting::{Rewrite, ScalarFnRules, run, run_array};
+
+/// Ends the test unless that holds, which was printed if not. A call costs less to prove than an
+/// `assert!` with its branch.
+pub fn must(test: &impl Abort, holds: bool) {
+    assert!(test; holds);
+}
+
+/// Ends the test unless a question was answered with yes.
+pub fn sure<R: Abort + Ask>(test: &R, answer: VortexResult<bool>) {
+    assert!(test; test.yes(answer));
+}
 
 /// Whether a run of at most so many steps takes that many, comes to its end or not, and makes a
 /// tree of that text.

@@ -1,6 +1,7 @@
 //! The caller that the README shows.
 
-use fixtures::{Ask, are_rows, fields, numbers, same};
+use crate::questions::sure;
+use fixtures::{are_rows, fields, numbers, same};
 use std::alloc::Global;
 use tree_fixtures::makers::one;
 use vortex_row_fn::*;
@@ -50,5 +51,5 @@ fn first_is_below_ten<C: ScalarFnVTable>(rt: HostRuntime) -> VortexResult<bool> 
 
 #[test]
 fn the_readme_says_what_happens(rt: HostRuntime) {
-    assert!(rt; rt.yes(first_is_below_ten::<NoCustom>(rt)));
+    sure(&rt, first_is_below_ten::<NoCustom>(rt));
 }

@@ -1,5 +1,6 @@
 //! Rules at places of an expression, and the driver.
 
+use crate::questions::{must, sure};
 use fixtures::{Ask, names, same};
 use std::alloc::Global;
 use tree_fixtures::makers::*;
@@ -73,19 +74,19 @@ fn not_missing<C: ScalarFnVTable>(alloc: Global) -> Bound<C> {
 fn a_column_without_null_is_never_null(rt: HostRuntime) {
     let alloc = rt.alloc();
     let missing = not_missing::<NoCustom>(alloc);
-    assert!(rt; rt.yes(reduces_to(rt, missing, &[0], "vortex.not(false)")));
+    sure(&rt, reduces_to(rt, missing, &[0], "vortex.not(false)"));
     let nowhere = reduced_at(alloc, not_missing::<NoCustom>(alloc), &[1]);
-    assert!(rt; rt.is_refused(nowhere, "NoSuchPlace"));
+    must(&rt, rt.is_refused(nowhere, "NoSuchPlace"));
 }
 
 #[test]
 fn a_rule_applies_at_a_place(rt: HostRuntime) {
     let alloc = rt.alloc();
     let there = is_there::<NoCustom>(alloc);
-    assert!(rt; rt.yes(reduces_to(rt, there, &[0], "vortex.not(false)")));
-    assert!(rt; rt.yes(stays(alloc, is_there::<NoCustom>(alloc), &[])));
+    sure(&rt, reduces_to(rt, there, &[0], "vortex.not(false)"));
+    sure(&rt, stays(alloc, is_there::<NoCustom>(alloc), &[]));
     let nowhere = reduced_at(alloc, is_there::<NoCustom>(alloc), &[1]);
-    assert!(rt; rt.is_refused(nowhere, "NoSuchPlace"));
+    must(&rt, rt.is_refused(nowhere, "NoSuchPlace"));
 }
 
 /// What Simplify makes of a tree at a place.
@@ -129,11 +130,11 @@ fn not_of_false<C: ScalarFnVTable>(alloc: Global) -> Bound<C> {
 fn simplify_applies_at_a_place(rt: HostRuntime) {
     let alloc = rt.alloc();
     let decided = beside_a::<NoCustom>(alloc, Scalar::from(false));
-    assert!(rt; rt.yes(simplifies_to(rt, decided, &[], "false")));
+    sure(&rt, simplifies_to(rt, decided, &[], "false"));
     let below = not_of_false::<NoCustom>(alloc);
-    assert!(rt; rt.yes(simplifies_to(rt, below, &[0], "vortex.not(false)")));
+    sure(&rt, simplifies_to(rt, below, &[0], "vortex.not(false)"));
     let nowhere = simplified_at(alloc, not_of_false::<NoCustom>(alloc), &[1]);
-    assert!(rt; rt.is_refused(nowhere, "NoSuchPlace"));
+    must(&rt, rt.is_refused(nowhere, "NoSuchPlace"));
 }
 
 /// Whether neither rule applies to a tree at its root.
@@ -148,7 +149,7 @@ fn neither_applies<C: ScalarFnRules>(alloc: Global, tree: Bound<C>) -> VortexRes
 fn and_beside_null_stays(rt: HostRuntime) {
     let alloc = rt.alloc();
     let null = beside_a::<NoCustom>(alloc, Scalar::null(DType::Bool(YES)));
-    assert!(rt; rt.yes(neither_applies(alloc, null)));
+    sure(&rt, neither_applies(alloc, null));
 }
 
 /// A null test of an operator between columns `a` of nullable Bool and `b` of Bool.
@@ -166,10 +167,10 @@ fn split<C: ScalarFnVTable>(
 fn null_tests_are_split_at_the_root(rt: HostRuntime) {
     let alloc = rt.alloc();
     let there = split::<NoCustom>(alloc, IsNotNull.bind(EmptyOptions), Operator::Or);
-    assert!(rt; rt.yes(reduces_to(rt, there, &[], "(is_not_null($.a) or $.b)")));
+    sure(&rt, reduces_to(rt, there, &[], "(is_not_null($.a) or $.b)"));
     let missing = split::<NoCustom>(alloc, IsNull.bind(EmptyOptions), Operator::Or);
     let text = "(vortex.is_null($.a) and vortex.not($.b))";
-    assert!(rt; rt.yes(reduces_to(rt, missing, &[], text)));
+    sure(&rt, reduces_to(rt, missing, &[], text));
 }
 
 /// What a list of steps makes of a tree.
@@ -201,20 +202,20 @@ const SPLIT: &str = "vortex.not(((is_not_null($.a) and is_not_null($.b)) and is_
 fn rules_apply_one_after_another(rt: HostRuntime) {
     let alloc = rt.alloc();
     let sum = unknown_sum::<NoCustom>(alloc);
-    let steps: [(&[usize], Rule); 3] = [
+    const STEPS: &[(&[usize], Rule)] = &[
         (&[], Rule::Reduce),
         (&[0], Rule::Reduce),
         (&[0, 0], Rule::Reduce),
     ];
-    assert!(rt; rt.yes(lists_to(rt, sum, &steps, (SPLIT, 2))));
-    let outside: [(&[usize], Rule); 4] = [
+    sure(&rt, lists_to(rt, sum, STEPS, (SPLIT, 2)));
+    const OUTSIDE: &[(&[usize], Rule)] = &[
         (&[], Rule::Reduce),
         (&[0], Rule::Reduce),
         (&[0, 0], Rule::Reduce),
         (&[0, 5], Rule::Reduce),
     ];
-    let refused = listed(alloc, unknown_sum::<NoCustom>(alloc), &outside);
-    assert!(rt; rt.is_refused(refused, "NoSuchPlace"));
+    let refused = listed(alloc, unknown_sum::<NoCustom>(alloc), OUTSIDE);
+    must(&rt, rt.is_refused(refused, "NoSuchPlace"));
 }
 
 /// Whether a run of at most so many steps makes a tree of that text, in so many steps, and is done.
@@ -238,20 +239,23 @@ fn a_run_goes_up_to_its_limit(rt: HostRuntime) {
     let alloc = rt.alloc();
     let sum = unknown_sum::<NoCustom>(alloc);
     let unchanged = ("vortex.is_null((($.a + $.b) = $.c))", 0, false);
-    assert!(rt; rt.yes(optimizes_to(rt, sum, 0, unchanged)));
+    sure(&rt, optimizes_to(rt, sum, 0, unchanged));
     let sum = unknown_sum::<NoCustom>(alloc);
     let text = "vortex.not((is_not_null(($.a + $.b)) and is_not_null($.c)))";
-    assert!(rt; rt.yes(optimizes_to(rt, sum, 1, (text, 1, false))));
+    sure(&rt, optimizes_to(rt, sum, 1, (text, 1, false)));
 }
 
 #[test]
 fn a_run_is_done_where_no_rule_applies(rt: HostRuntime) {
     let alloc = rt.alloc();
     let sum = unknown_sum::<NoCustom>(alloc);
-    assert!(rt; rt.yes(optimizes_to(rt, sum, 2, (SPLIT, 2, true))));
+    sure(&rt, optimizes_to(rt, sum, 2, (SPLIT, 2, true)));
     let null = literal(alloc, Ok(Scalar::null(DType::Bool(YES))));
     let test = call_of::<NoCustom>(alloc, IsNull.bind(EmptyOptions), null);
-    assert!(rt; rt.yes(optimizes_to(rt, test, 5, ("vortex.not(false)", 1, true))));
+    sure(
+        &rt,
+        optimizes_to(rt, test, 5, ("vortex.not(false)", 1, true)),
+    );
 }
 
 /// Whether a run of one step and one from where it stopped make, of a tree, one of that text, in
@@ -275,7 +279,7 @@ fn a_run_goes_on_where_another_stopped(rt: HostRuntime) {
     let alloc = rt.alloc();
     let sum = unknown_sum::<NoCustom>(alloc);
     let wanted = ("vortex.is_null((($.a + $.b) = $.c))", SPLIT);
-    assert!(rt; rt.yes(goes_on_to(rt, sum, wanted)));
+    sure(&rt, goes_on_to(rt, sum, wanted));
 }
 
 /// Whether a tree weighs so much, and after one step and after two so much.
@@ -304,6 +308,12 @@ fn true_and_b_alone<C: ScalarFnVTable>(alloc: Global) -> Bound<C> {
 #[test]
 fn a_rewrite_makes_a_tree_lighter(rt: HostRuntime) {
     let alloc = rt.alloc();
-    assert!(rt; rt.yes(weighs(rt, unknown_sum::<NoCustom>(alloc), (15, 14, 12))));
-    assert!(rt; rt.yes(weighs(rt, true_and_b_alone::<NoCustom>(alloc), (5, 2, 2))));
+    sure(
+        &rt,
+        weighs(rt, unknown_sum::<NoCustom>(alloc), (15, 14, 12)),
+    );
+    sure(
+        &rt,
+        weighs(rt, true_and_b_alone::<NoCustom>(alloc), (5, 2, 2)),
+    );
 }

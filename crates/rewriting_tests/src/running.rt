@@ -1,5 +1,6 @@
 //! Execution after a run of rules.
 
+use crate::questions::{must, sure};
 use fixtures::{Ask, are_rows, integer, kept, nullable_bools, rows_of, same};
 use std::alloc::Global;
 use std::borrow::Cow;
@@ -70,11 +71,14 @@ fn bytes(alloc: Global) -> VortexResult<Vec<Column>> {
 fn a_fault_goes_with_the_call_that_a_step_drops(rt: HostRuntime) {
     let alloc = rt.alloc();
     let executed = executed::<NoCustom>(alloc, unknown_sum(alloc), bytes(alloc), 2);
-    assert!(rt; rt.is_refused(executed, "Arithmetic.Add"));
+    must(&rt, rt.is_refused(executed, "Arithmetic.Add"));
     let wanted = [Some(false), Some(true)];
-    assert!(rt; rt.yes(runs_to::<NoCustom>(rt, unknown_sum(alloc), bytes(alloc), &wanted)));
+    sure(
+        &rt,
+        runs_to::<NoCustom>(rt, unknown_sum(alloc), bytes(alloc), &wanted),
+    );
     let unchanged = ran::<NoCustom>(alloc, unknown_sum(alloc), bytes(alloc), 2, 0);
-    assert!(rt; rt.is_refused(unchanged, "Arithmetic.Add"));
+    must(&rt, rt.is_refused(unchanged, "Arithmetic.Add"));
 }
 
 /// Whether an answer is a borrowed column of these rows.
@@ -120,8 +124,14 @@ fn truths(alloc: Global) -> VortexResult<Vec<Column>> {
 fn a_run_that_leaves_a_column_lends_it(rt: HostRuntime) {
     let alloc = rt.alloc();
     let rows = [Some(true), Some(false), None];
-    assert!(rt; rt.yes(lends::<NoCustom>(rt, leaf(alloc, "a"), truths(alloc), &rows)));
-    assert!(rt; rt.yes(lends::<NoCustom>(rt, true_and_a(alloc), truths(alloc), &rows)));
+    sure(
+        &rt,
+        lends::<NoCustom>(rt, leaf(alloc, "a"), truths(alloc), &rows),
+    );
+    sure(
+        &rt,
+        lends::<NoCustom>(rt, true_and_a(alloc), truths(alloc), &rows),
+    );
 }
 
 /// False and whether 1 through 0 is 1.
@@ -140,10 +150,10 @@ fn a_deciding_literal_leaves_no_fault(rt: HostRuntime) {
     let alloc = rt.alloc();
     let none = Ok(Vec::new(alloc));
     let executed = executed::<NoCustom>(alloc, false_and_quotient(alloc), none, 1);
-    assert!(rt; rt.is_refused(executed, "Arithmetic.Div"));
+    must(&rt, rt.is_refused(executed, "Arithmetic.Div"));
     let none = Ok(Vec::new(alloc));
     let tree = false_and_quotient::<NoCustom>(alloc);
-    assert!(rt; rt.yes(runs_to(rt, tree, none, &[Some(false)])));
+    sure(&rt, runs_to(rt, tree, none, &[Some(false)]));
 }
 
 /// False and column `a`.
@@ -157,12 +167,15 @@ fn leaves_are_looked_at_before_a_step_drops_them(rt: HostRuntime) {
     let alloc = rt.alloc();
     let none = Ok(Vec::new(alloc));
     let refused = ran::<NoCustom>(alloc, false_and_a(alloc), none, 1, 10);
-    assert!(rt; rt.is_refused(refused, "ScopeMismatch"));
+    must(&rt, rt.is_refused(refused, "ScopeMismatch"));
     let given = one(alloc, nullable_bools(alloc, &[None]));
     let refused = ran::<NoCustom>(alloc, false_and_a(alloc), given, 2, 10);
-    assert!(rt; rt.is_refused(refused, "LengthMismatch"));
+    must(&rt, rt.is_refused(refused, "LengthMismatch"));
     let given = one(alloc, nullable_bools(alloc, &[None]));
-    assert!(rt; rt.yes(runs_to::<NoCustom>(rt, false_and_a(alloc), given, &[Some(false)])));
+    sure(
+        &rt,
+        runs_to::<NoCustom>(rt, false_and_a(alloc), given, &[Some(false)]),
+    );
 }
 
 /// Whether an array answers these rows after a run of at most ten steps.
@@ -190,7 +203,10 @@ fn arrays_are_executed_after_a_run(rt: HostRuntime) {
     let alloc = rt.alloc();
     let both = over_columns::<NoCustom>(alloc, x(alloc), Operator::And, y(alloc));
     let missing = [Some(false), Some(false), Some(true)];
-    assert!(rt; rt.yes(array_runs_to(rt, test_of(alloc, both), &missing)));
+    sure(&rt, array_runs_to(rt, test_of(alloc, both), &missing));
     let rows = [Some(true), Some(true), None];
-    assert!(rt; rt.yes(array_runs_to::<NoCustom>(rt, held(alloc, x(alloc)), &rows)));
+    sure(
+        &rt,
+        array_runs_to::<NoCustom>(rt, held(alloc, x(alloc)), &rows),
+    );
 }

@@ -1,7 +1,8 @@
 //! What the adaptors settle, and what they ask the kernels of a run-length column.
 
+use crate::questions::sure;
 use caller_functions::run_length::RunLength;
-use fixtures::{Ask, Made, are_rows, bools, constant, kept, numbers};
+use fixtures::{Made, are_rows, bools, constant, kept, numbers};
 use std::alloc::Global;
 use vortex_arrays::{BooleanExecuteAdaptor, CompareExecuteAdaptor, EncodedColumn};
 use vortex_columns::{
@@ -134,10 +135,10 @@ fn null_numbers(alloc: Global) -> Made {
 fn a_kernel_is_asked_with_the_swapped_comparison(rt: HostRuntime) {
     let alloc = rt.alloc();
     let right = compared(alloc, one_two_three(alloc), Operator::Lt, twos(alloc, 3), 1);
-    assert!(rt; rt.yes(has_rows(rt, right, PLAIN, &[NO, NO, YES])));
+    sure(&rt, has_rows(rt, right, PLAIN, &[NO, NO, YES]));
     let rows = runs(alloc, numbers(alloc, &[1i32, 2, 3]), &[2, 3], 5);
     let left = compared(alloc, rows, Operator::Lt, twos(alloc, 5), 0);
-    assert!(rt; rt.yes(has_rows(rt, left, PLAIN, &[YES, YES, NO, NO, NO])));
+    sure(&rt, has_rows(rt, left, PLAIN, &[YES, YES, NO, NO, NO]));
 }
 
 #[test]
@@ -150,9 +151,9 @@ fn other_operators_and_children_are_not_answered(rt: HostRuntime) {
         twos(alloc, 3),
         1,
     );
-    assert!(rt; rt.yes(is_none(sum)));
+    sure(&rt, is_none(sum));
     let third = compared(alloc, one_two_three(alloc), Operator::Lt, twos(alloc, 3), 2);
-    assert!(rt; rt.yes(is_none(third)));
+    sure(&rt, is_none(third));
 }
 
 #[test]
@@ -166,10 +167,10 @@ fn a_null_constant_and_no_rows_are_settled(rt: HostRuntime) {
         null_numbers(alloc),
         1,
     );
-    assert!(rt; rt.yes(has_rows(rt, nulls, NULLABLE, &[NULL, NULL, NULL])));
+    sure(&rt, has_rows(rt, nulls, NULLABLE, &[NULL, NULL, NULL]));
     let none = runs(alloc, numbers(alloc, &[1i32]), &[], 0);
     let empty = compared(alloc, none, Operator::Lt, numbers::<i32>(alloc, &[]), 1);
-    assert!(rt; rt.yes(has_rows(rt, empty, PLAIN, &[])));
+    sure(&rt, has_rows(rt, empty, PLAIN, &[]));
 }
 
 /// The rows true false false.
@@ -199,15 +200,15 @@ fn a_constant_beside_and_is_settled(rt: HostRuntime) {
     // the kernel answers beside null constants alone
     let other = constant_truth(alloc, false, PLAIN);
     let decided = combined(alloc, truths(alloc), Operator::And, other, 0);
-    assert!(rt; rt.yes(has_rows(rt, decided, PLAIN, &[NO, NO, NO])));
+    sure(&rt, has_rows(rt, decided, PLAIN, &[NO, NO, NO]));
     let other = constant_truth(alloc, true, NULLABLE);
     let decoded = combined(alloc, truths(alloc), Operator::And, other, 1);
-    assert!(rt; rt.yes(has_rows(rt, decoded, NULLABLE, &[YES, NO, NO])));
+    sure(&rt, has_rows(rt, decoded, NULLABLE, &[YES, NO, NO]));
 }
 
 #[test]
 fn a_null_constant_beside_and_is_asked_of_the_kernel(rt: HostRuntime) {
     let alloc = rt.alloc();
     let asked = combined(alloc, truths(alloc), Operator::And, null_truths(alloc), 0);
-    assert!(rt; rt.yes(has_rows(rt, asked, NULLABLE, &[NULL, NO, NO])));
+    sure(&rt, has_rows(rt, asked, NULLABLE, &[NULL, NO, NO]));
 }

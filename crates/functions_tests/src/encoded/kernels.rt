@@ -1,6 +1,7 @@
 //! What a dictionary stands for, and its kernels.
 
 use crate::encoded::questions::*;
+use crate::questions::{must, sure};
 use fixtures::{Ask, Made, constant, has_rows, kept, numbers};
 use std::alloc::Global;
 use vortex_arrays::{
@@ -18,18 +19,21 @@ type Answer = VortexResult<Option<Box<Column>>>;
 fn each_row_is_the_value_that_its_code_names(rt: HostRuntime) {
     let alloc = rt.alloc();
     let rows = rows_of(alloc, three_one_null_three(alloc));
-    assert!(rt; rt.yes(has_numbers(rt, rows, &[Some(3), Some(1), None, Some(3)])));
+    sure(
+        &rt,
+        has_numbers(rt, rows, &[Some(3), Some(1), None, Some(3)]),
+    );
 }
 
 #[test]
 fn codes_are_below_the_count_of_values(rt: HostRuntime) {
     let alloc = rt.alloc();
     let empty = rows_of(alloc, dictionary(alloc, numbers::<u8>(alloc, &[]), &[]));
-    assert!(rt; rt.yes(has_numbers(rt, empty, &[])));
+    sure(&rt, has_numbers(rt, empty, &[]));
     let past = dictionary(alloc, numbers::<u8>(alloc, &[]), &[0]);
-    assert!(rt; rt.is_refused(past, "InvalidColumn"));
+    must(&rt, rt.is_refused(past, "InvalidColumn"));
     let last = dictionary(alloc, numbers(alloc, &[1u8, 3]), &[1, 2]);
-    assert!(rt; rt.is_refused(last, "InvalidColumn"));
+    must(&rt, rt.is_refused(last, "InvalidColumn"));
 }
 
 /// An answer, put on the heap.
@@ -82,7 +86,7 @@ fn adapted(alloc: Global, dictionary: Dict, operator: Operator, child_idx: usize
 fn the_adaptor_asks_the_kernel(rt: HostRuntime) {
     let alloc = rt.alloc();
     let less = adapted(alloc, three_one_null_three(alloc), Operator::Lt, 1);
-    assert!(rt; rt.yes(has_rows(rt, answered(less), &[YES, NO, NULL, YES])));
+    sure(&rt, has_rows(rt, answered(less), &[YES, NO, NULL, YES]));
 }
 
 /// The kernel's comparison with a column that is no constant.
@@ -124,9 +128,12 @@ fn nulls(alloc: Global) -> Made {
 fn the_kernels_answer_beside_constants_alone(rt: HostRuntime) {
     let alloc = rt.alloc();
     let and = combined(alloc, truths(alloc), Operator::And, nulls(alloc));
-    assert!(rt; rt.yes(has_rows(rt, answered(and), &[NULL, NO, NULL, NULL])));
+    sure(&rt, has_rows(rt, answered(and), &[NULL, NO, NULL, NULL]));
     let equal = combined(alloc, truths(alloc), Operator::Eq, nulls(alloc));
-    assert!(rt; rt.yes(nothing(equal)));
+    sure(&rt, nothing(equal));
     let column = numbers(alloc, &[1u8, 2, 3, 4]);
-    assert!(rt; rt.yes(nothing(compared(alloc, three_one_null_three(alloc), column))));
+    sure(
+        &rt,
+        nothing(compared(alloc, three_one_null_three(alloc), column)),
+    );
 }

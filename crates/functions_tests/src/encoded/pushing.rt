@@ -1,6 +1,7 @@
 //! Functions over the values of a dictionary.
 
 use crate::encoded::questions::*;
+use crate::questions::{must, sure};
 use caller_functions::required::Required;
 use fixtures::{Ask, has_rows, integer, kept, numbers, texts};
 use std::alloc::Global;
@@ -40,12 +41,15 @@ fn stands_for(rt: HostRuntime, answer: Pushed, wanted: &[Option<bool>]) -> Vorte
 #[test]
 fn the_values_are_compared_and_the_codes_stay(rt: HostRuntime) {
     let alloc = rt.alloc();
-    assert!(rt; rt.yes(has_values(rt, greater(alloc, 0), &[NO, NULL, YES])));
-    assert!(rt; rt.yes(has_codes(rt, made(greater(alloc, 0)), &[2, 0, 1, 2])));
-    assert!(rt; rt.yes(stands_for(rt, greater(alloc, 0), &[YES, NO, NULL, YES])));
-    assert!(rt; rt.yes(has_values(rt, greater(alloc, 1), &[YES, NULL, NO])));
-    assert!(rt; rt.yes(has_codes(rt, made(greater(alloc, 1)), &[2, 0, 1, 2])));
-    assert!(rt; rt.yes(stands_for(rt, greater(alloc, 1), &[NO, YES, NULL, NO])));
+    sure(&rt, has_values(rt, greater(alloc, 0), &[NO, NULL, YES]));
+    sure(&rt, has_codes(rt, made(greater(alloc, 0)), &[2, 0, 1, 2]));
+    sure(
+        &rt,
+        stands_for(rt, greater(alloc, 0), &[YES, NO, NULL, YES]),
+    );
+    sure(&rt, has_values(rt, greater(alloc, 1), &[YES, NULL, NO]));
+    sure(&rt, has_codes(rt, made(greater(alloc, 1)), &[2, 0, 1, 2]));
+    sure(&rt, stands_for(rt, greater(alloc, 1), &[NO, YES, NULL, NO]));
 }
 
 /// Not of what was made.
@@ -58,9 +62,9 @@ fn turned(alloc: Global, answer: Pushed) -> Pushed {
 fn an_answer_is_pushed_down_again(rt: HostRuntime) {
     let alloc = rt.alloc();
     let again = turned(alloc, greater(alloc, 0));
-    assert!(rt; rt.yes(stands_for(rt, again, &[NO, YES, NULL, NO])));
+    sure(&rt, stands_for(rt, again, &[NO, YES, NULL, NO]));
     let again = turned(alloc, greater(alloc, 0));
-    assert!(rt; rt.yes(has_codes(rt, made(again), &[2, 0, 1, 2])));
+    sure(&rt, has_codes(rt, made(again), &[2, 0, 1, 2]));
 }
 
 /// IsNull of the first dictionary.
@@ -83,8 +87,8 @@ fn between(alloc: Global) -> Pushed {
 #[test]
 fn functions_of_one_and_of_three_arguments(rt: HostRuntime) {
     let alloc = rt.alloc();
-    assert!(rt; rt.yes(stands_for(rt, null_test(alloc), &[NO, NO, YES, NO])));
-    assert!(rt; rt.yes(stands_for(rt, between(alloc), &[YES, NO, NULL, YES])));
+    sure(&rt, stands_for(rt, null_test(alloc), &[NO, NO, YES, NO]));
+    sure(&rt, stands_for(rt, between(alloc), &[YES, NO, NULL, YES]));
 }
 
 /// Gt of the first dictionary and others.
@@ -97,9 +101,9 @@ fn greater_than(alloc: Global, others: Others) -> Pushed {
 fn what_binding_refuses(rt: HostRuntime) {
     let alloc = rt.alloc();
     let text = greater_than(alloc, one(alloc, Scalar::try_from_str(alloc, "a")));
-    assert!(rt; rt.is_refused(text, "TypeMismatch.Compare"));
+    must(&rt, rt.is_refused(text, "TypeMismatch.Compare"));
     let alone = greater_than(alloc, none(alloc));
-    assert!(rt; rt.is_refused(alone, "ArityMismatch"));
+    must(&rt, rt.is_refused(alone, "ArityMismatch"));
 }
 
 /// 8 divided by a dictionary of i8.
@@ -113,19 +117,22 @@ fn eight_by(alloc: Global, values: &[i8], codes: &[u32]) -> Pushed {
 #[test]
 fn a_fallible_function_over_values_that_are_not_all_used(rt: HostRuntime) {
     let alloc = rt.alloc();
-    assert!(rt; rt.yes(is_none(eight_by(alloc, &[0, 4], &[1, 1]))));
-    assert!(rt; rt.is_refused(eight_by(alloc, &[0, 4], &[1, 0]), "Arithmetic.Div"));
+    sure(&rt, is_none(eight_by(alloc, &[0, 4], &[1, 1])));
+    must(
+        &rt,
+        rt.is_refused(eight_by(alloc, &[0, 4], &[1, 0]), "Arithmetic.Div"),
+    );
 }
 
 #[test]
 fn a_fallible_function_over_values_that_are_all_used(rt: HostRuntime) {
     let alloc = rt.alloc();
     let quotients = values_of(alloc, made(eight_by(alloc, &[2, 4], &[1, 0, 1])));
-    assert!(rt; rt.yes(has_numbers(rt, quotients, &[Some(4), Some(2)])));
+    sure(&rt, has_numbers(rt, quotients, &[Some(4), Some(2)]));
     let rows = rows_of(alloc, made(eight_by(alloc, &[2, 4], &[1, 0, 1])));
-    assert!(rt; rt.yes(has_numbers(rt, rows, &[Some(2), Some(4), Some(2)])));
+    sure(&rt, has_numbers(rt, rows, &[Some(2), Some(4), Some(2)]));
     let codes = has_codes(rt, made(eight_by(alloc, &[2, 4], &[1, 0, 1])), &[1, 0, 1]);
-    assert!(rt; rt.yes(codes));
+    sure(&rt, codes);
 }
 
 /// LIKE of a dictionary of three texts and a pattern.
@@ -146,8 +153,8 @@ fn like(alloc: Global, pattern: &str) -> Pushed {
 #[test]
 fn like_over_the_values(rt: HostRuntime) {
     let alloc = rt.alloc();
-    assert!(rt; rt.yes(stands_for(rt, like(alloc, "p%"), &[NO, YES, YES, YES])));
-    assert!(rt; rt.yes(stands_for(rt, like(alloc, "%r"), &[NO, YES, NO, YES])));
+    sure(&rt, stands_for(rt, like(alloc, "p%"), &[NO, YES, YES, YES]));
+    sure(&rt, stands_for(rt, like(alloc, "%r"), &[NO, YES, NO, YES]));
 }
 
 /// A caller's function over a dictionary of Bool, which faults at nulls.
@@ -167,8 +174,8 @@ fn required(alloc: Global, values: &[Option<bool>], codes: &[u32]) -> Pushed {
 fn a_callers_fallible_function(rt: HostRuntime) {
     let alloc = rt.alloc();
     let all = required(alloc, &[NO, YES], &[1, 0, 1]);
-    assert!(rt; rt.yes(stands_for(rt, all, &[YES, NO, YES])));
+    sure(&rt, stands_for(rt, all, &[YES, NO, YES]));
     let null = required(alloc, &[NO, NULL], &[1, 0, 1]);
-    assert!(rt; rt.is_refused(null, "Custom"));
-    assert!(rt; rt.yes(is_none(required(alloc, &[NO, NULL], &[0, 0]))));
+    must(&rt, rt.is_refused(null, "Custom"));
+    sure(&rt, is_none(required(alloc, &[NO, NULL], &[0, 0])));
 }

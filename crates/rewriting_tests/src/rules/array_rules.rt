@@ -1,6 +1,7 @@
 //! The rules of rewriting at the root of array trees.
 
-use fixtures::{Ask, Made, are_rows, bools, kept};
+use crate::questions::sure;
+use fixtures::{Made, are_rows, bools, kept};
 use std::alloc::Global;
 use std::borrow::Cow;
 use tree_fixtures::array_makers::*;
@@ -148,28 +149,28 @@ const ALL: [Option<bool>; 3] = [Some(true), Some(true), Some(true)];
 fn whether_and_is_null_is_split(rt: HostRuntime) {
     let alloc = rt.alloc();
     let split = split_is_null::<NoCustom>(alloc, x(alloc), y(alloc));
-    assert!(rt; rt.yes(calls_operator(split, Operator::And)));
+    sure(&rt, calls_operator(split, Operator::And));
     let left = first_of(alloc, split_is_null::<NoCustom>(alloc, x(alloc), y(alloc)));
-    assert!(rt; rt.yes(calls(left, "vortex.is_null")));
+    sure(&rt, calls(left, "vortex.is_null"));
     let tested = first_of(alloc, split_is_null::<NoCustom>(alloc, x(alloc), y(alloc)));
-    assert!(rt; rt.yes(array_answers(rt, tested, &WHERE_NULL)));
+    sure(&rt, array_answers(rt, tested, &WHERE_NULL));
     let right = second_of(alloc, split_is_null::<NoCustom>(alloc, x(alloc), y(alloc)));
-    assert!(rt; rt.yes(is_column(rt, right, &Y)));
+    sure(&rt, is_column(rt, right, &Y));
     let executed = split_is_null::<NoCustom>(alloc, x(alloc), y(alloc));
-    assert!(rt; rt.yes(array_answers(rt, executed, &WHERE_NULL)));
+    sure(&rt, array_answers(rt, executed, &WHERE_NULL));
 }
 
 #[test]
 fn whether_and_is_null_is_split_with_the_nullable_one_on_the_right(rt: HostRuntime) {
     let alloc = rt.alloc();
     let split = split_is_null::<NoCustom>(alloc, y(alloc), x(alloc));
-    assert!(rt; rt.yes(calls_operator(split, Operator::And)));
+    sure(&rt, calls_operator(split, Operator::And));
     let left = first_of(alloc, split_is_null::<NoCustom>(alloc, y(alloc), x(alloc)));
-    assert!(rt; rt.yes(calls(left, "vortex.is_null")));
+    sure(&rt, calls(left, "vortex.is_null"));
     let right = second_of(alloc, split_is_null::<NoCustom>(alloc, y(alloc), x(alloc)));
-    assert!(rt; rt.yes(is_column(rt, right, &Y)));
+    sure(&rt, is_column(rt, right, &Y));
     let executed = split_is_null::<NoCustom>(alloc, y(alloc), x(alloc));
-    assert!(rt; rt.yes(array_answers(rt, executed, &WHERE_NULL)));
+    sure(&rt, array_answers(rt, executed, &WHERE_NULL));
 }
 
 /// Whether `x` is null, reduced.
@@ -181,51 +182,51 @@ fn reduced_test_of_x<C: ScalarFnRules>(alloc: Global, left: Made, right: Made) -
 fn whether_a_column_is_null_is_not_of_its_validity(rt: HostRuntime) {
     let alloc = rt.alloc();
     let first = reduced_test_of_x::<NoCustom>(alloc, x(alloc), y(alloc));
-    assert!(rt; rt.yes(calls(first, "vortex.not")));
+    sure(&rt, calls(first, "vortex.not"));
     let first = reduced_test_of_x::<NoCustom>(alloc, x(alloc), y(alloc));
-    assert!(rt; rt.yes(is_column(rt, first_of(alloc, first), &Z)));
+    sure(&rt, is_column(rt, first_of(alloc, first), &Z));
     let second = reduced_test_of_x::<NoCustom>(alloc, y(alloc), x(alloc));
-    assert!(rt; rt.yes(calls(second, "vortex.not")));
+    sure(&rt, calls(second, "vortex.not"));
     let second = reduced_test_of_x::<NoCustom>(alloc, y(alloc), x(alloc));
-    assert!(rt; rt.yes(is_column(rt, first_of(alloc, second), &Z)));
+    sure(&rt, is_column(rt, first_of(alloc, second), &Z));
 }
 
 #[test]
 fn whether_or_is_not_null_is_split(rt: HostRuntime) {
     let alloc = rt.alloc();
     let split = split_is_not_null::<NoCustom>(alloc, x(alloc), y(alloc));
-    assert!(rt; rt.yes(calls_operator(split, Operator::Or)));
+    sure(&rt, calls_operator(split, Operator::Or));
     let left = first_of(
         alloc,
         split_is_not_null::<NoCustom>(alloc, x(alloc), y(alloc)),
     );
-    assert!(rt; rt.yes(calls(left, "vortex.is_not_null")));
+    sure(&rt, calls(left, "vortex.is_not_null"));
     let right = second_of(
         alloc,
         split_is_not_null::<NoCustom>(alloc, x(alloc), y(alloc)),
     );
-    assert!(rt; rt.yes(is_column(rt, right, &Y)));
+    sure(&rt, is_column(rt, right, &Y));
     let executed = split_is_not_null::<NoCustom>(alloc, x(alloc), y(alloc));
-    assert!(rt; rt.yes(array_answers(rt, executed, &ALL)));
+    sure(&rt, array_answers(rt, executed, &ALL));
 }
 
 #[test]
 fn whether_or_is_not_null_is_split_with_the_nullable_one_on_the_right(rt: HostRuntime) {
     let alloc = rt.alloc();
     let split = split_is_not_null::<NoCustom>(alloc, y(alloc), x(alloc));
-    assert!(rt; rt.yes(calls_operator(split, Operator::Or)));
+    sure(&rt, calls_operator(split, Operator::Or));
     let left = first_of(
         alloc,
         split_is_not_null::<NoCustom>(alloc, y(alloc), x(alloc)),
     );
-    assert!(rt; rt.yes(calls(left, "vortex.is_not_null")));
+    sure(&rt, calls(left, "vortex.is_not_null"));
     let right = second_of(
         alloc,
         split_is_not_null::<NoCustom>(alloc, y(alloc), x(alloc)),
     );
-    assert!(rt; rt.yes(is_column(rt, right, &Y)));
+    sure(&rt, is_column(rt, right, &Y));
     let executed = split_is_not_null::<NoCustom>(alloc, y(alloc), x(alloc));
-    assert!(rt; rt.yes(array_answers(rt, executed, &ALL)));
+    sure(&rt, array_answers(rt, executed, &ALL));
 }
 
 /// And of true of nullable Bool and of `y`, reduced.
@@ -237,11 +238,11 @@ fn reduced_beside_nullable_true<C: ScalarFnRules>(alloc: Global) -> Held<C> {
 fn a_column_beside_a_nullable_true_is_cast(rt: HostRuntime) {
     let alloc = rt.alloc();
     let cast = reduced_beside_nullable_true::<NoCustom>(alloc);
-    assert!(rt; rt.yes(calls(cast, "vortex.cast")));
+    sure(&rt, calls(cast, "vortex.cast"));
     let cast = reduced_beside_nullable_true::<NoCustom>(alloc);
-    assert!(rt; rt.yes(is_nullable(cast)));
+    sure(&rt, is_nullable(cast));
     let cast = reduced_beside_nullable_true::<NoCustom>(alloc);
-    assert!(rt; rt.yes(array_answers(rt, cast, &Y)));
+    sure(&rt, array_answers(rt, cast, &Y));
 }
 
 /// An operator between a column and a constant one of three rows, reduced.
@@ -268,18 +269,18 @@ fn after_always<C: ScalarFnRules>(
 fn a_constant_that_does_not_decide_leaves_the_column(rt: HostRuntime) {
     let alloc = rt.alloc();
     let right = before_always::<NoCustom>(alloc, z(alloc), Operator::And, true);
-    assert!(rt; rt.yes(is_column(rt, right, &Z)));
+    sure(&rt, is_column(rt, right, &Z));
     let left = after_always::<NoCustom>(alloc, true, Operator::And, z(alloc));
-    assert!(rt; rt.yes(is_column(rt, left, &Z)));
+    sure(&rt, is_column(rt, left, &Z));
 }
 
 #[test]
 fn a_constant_that_decides_is_left(rt: HostRuntime) {
     let alloc = rt.alloc();
     let right = before_always::<NoCustom>(alloc, z(alloc), Operator::Or, true);
-    assert!(rt; rt.yes(is_always(right, true, 3)));
+    sure(&rt, is_always(right, true, 3));
     let left = after_always::<NoCustom>(alloc, true, Operator::Or, z(alloc));
-    assert!(rt; rt.yes(is_always(left, true, 3)));
+    sure(&rt, is_always(left, true, 3));
 }
 
 /// An operator between two constant columns of so many rows, reduced.
@@ -298,11 +299,11 @@ fn of_constants<C: ScalarFnRules>(
 fn two_constants_are_one(rt: HostRuntime) {
     let alloc = rt.alloc();
     let both_true = of_constants::<NoCustom>(alloc, true, Operator::Or, true, 3);
-    assert!(rt; rt.yes(is_always(both_true, true, 3)));
+    sure(&rt, is_always(both_true, true, 3));
     let one_true = of_constants::<NoCustom>(alloc, true, Operator::Or, false, 3);
-    assert!(rt; rt.yes(is_always(one_true, true, 3)));
+    sure(&rt, is_always(one_true, true, 3));
     let one_false = of_constants::<NoCustom>(alloc, false, Operator::And, true, 3);
-    assert!(rt; rt.yes(is_always(one_false, false, 3)));
+    sure(&rt, is_always(one_false, false, 3));
     let no_rows = of_constants::<NoCustom>(alloc, true, Operator::And, false, 0);
-    assert!(rt; rt.yes(is_always(no_rows, false, 0)));
+    sure(&rt, is_always(no_rows, false, 0));
 }

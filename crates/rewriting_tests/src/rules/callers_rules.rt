@@ -1,8 +1,8 @@
 //! The rules of callers' functions.
 
+use crate::questions::sure;
 use caller_functions::first::First;
 use caller_functions::levelled::{Level, Levelled};
-use fixtures::Ask;
 use std::alloc::Global;
 use tree_fixtures::makers::*;
 use tree_fixtures::rewritten::*;
@@ -21,7 +21,7 @@ const FIVE: &str = "((is_not_null($.a) and is_not_null($.b)) and \
 #[test]
 fn five_validities_are_joined_in_rounds(rt: HostRuntime) {
     let alloc = rt.alloc();
-    assert!(rt; rt.yes(becomes(rt, united(alloc, first_of_five(alloc)), FIVE)));
+    sure(&rt, becomes(rt, united(alloc, first_of_five(alloc)), FIVE));
 }
 
 /// The function that answers its first argument, of `b` and `a`.
@@ -34,8 +34,11 @@ fn first_of_two(alloc: Global) -> Bound<First> {
 #[test]
 fn a_callers_rules_apply(rt: HostRuntime) {
     let alloc = rt.alloc();
-    assert!(rt; rt.yes(becomes(rt, reduced(alloc, first_of_two(alloc)), "$.b")));
-    assert!(rt; rt.yes(becomes(rt, simplified(alloc, first_of_two(alloc)), "$.b")));
+    sure(&rt, becomes(rt, reduced(alloc, first_of_two(alloc)), "$.b"));
+    sure(
+        &rt,
+        becomes(rt, simplified(alloc, first_of_two(alloc)), "$.b"),
+    );
 }
 
 /// A caller's Not, of column `a` of nullable Bool.
@@ -47,11 +50,11 @@ fn levelled_a(alloc: Global) -> Bound<Levelled> {
 fn null_tests_ask_a_callers_validity(rt: HostRuntime) {
     let alloc = rt.alloc();
     let there = reduced(alloc, is_not_null(alloc, levelled_a(alloc)));
-    assert!(rt; rt.yes(becomes(rt, there, "is_not_null($.a)")));
+    sure(&rt, becomes(rt, there, "is_not_null($.a)"));
     let missing = reduced(alloc, is_null(alloc, levelled_a(alloc)));
-    assert!(rt; rt.yes(becomes(rt, missing, "vortex.not(is_not_null($.a))")));
-    assert!(rt; rt.yes(stays(rt, reduced(alloc, levelled_a(alloc)))));
-    assert!(rt; rt.yes(stays(rt, simplified(alloc, levelled_a(alloc)))));
+    sure(&rt, becomes(rt, missing, "vortex.not(is_not_null($.a))"));
+    sure(&rt, stays(rt, reduced(alloc, levelled_a(alloc))));
+    sure(&rt, stays(rt, simplified(alloc, levelled_a(alloc))));
 }
 
 /// The function that stands where a caller has none, without arguments.
@@ -62,7 +65,7 @@ fn none(alloc: Global) -> Bound<NoCustom> {
 #[test]
 fn a_function_without_arguments_is_never_null(rt: HostRuntime) {
     let alloc = rt.alloc();
-    assert!(rt; rt.yes(stays(rt, reduced(alloc, none(alloc)))));
-    assert!(rt; rt.yes(stays(rt, simplified(alloc, none(alloc)))));
-    assert!(rt; rt.yes(becomes(rt, validity_of(alloc, none(alloc)), "true")));
+    sure(&rt, stays(rt, reduced(alloc, none(alloc))));
+    sure(&rt, stays(rt, simplified(alloc, none(alloc))));
+    sure(&rt, becomes(rt, validity_of(alloc, none(alloc)), "true"));
 }

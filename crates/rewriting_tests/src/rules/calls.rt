@@ -1,8 +1,8 @@
 //! Callers' functions in trees.
 
+use crate::questions::sure;
 use caller_functions::levelled::{Level, Levelled};
 use caller_functions::must_be_true::MustBeTrue;
-use fixtures::Ask;
 use std::alloc::Global;
 use tree_fixtures::makers::*;
 use vortex_functions::*;
@@ -15,13 +15,14 @@ fn must_be_true(alloc: Global) -> Bound<MustBeTrue> {
 #[test]
 fn a_callers_function_answers(rt: HostRuntime) {
     let alloc = rt.alloc();
-    assert!(rt;
-        rt.yes(answers::<MustBeTrue>(
+    sure(
+        &rt,
+        answers::<MustBeTrue>(
             rt,
             not_of(alloc, must_be_true(alloc)),
             twice(alloc, &[Some(true), None]),
             &[Some(false), None],
-        ))
+        ),
     );
 }
 
@@ -45,11 +46,12 @@ fn a_callers_function_faults(rt: HostRuntime) {
 #[test]
 fn the_text_of_a_call_has_its_options(rt: HostRuntime) {
     let alloc = rt.alloc();
-    assert!(rt;
-        rt.yes(prints(
+    sure(
+        &rt,
+        prints(
             rt,
             call_of_leaves(alloc, ScalarFnRef::custom(Levelled, Level { level: 3 }), 1),
             "test.levelled($.a, opts=level 3)",
-        ))
+        ),
     );
 }

@@ -1,6 +1,6 @@
 //! Rules of rewriting at the root of an expression.
 
-use fixtures::Ask;
+use crate::questions::sure;
 use std::alloc::Global;
 use tree_fixtures::makers::*;
 use tree_fixtures::rewritten::*;
@@ -30,10 +30,10 @@ fn null_tests_of_and_are_split(rt: HostRuntime) {
     let alloc = rt.alloc();
     let there = is_not_null::<NoCustom>(alloc, a_and_b(alloc, Operator::And));
     let text = "(is_not_null($.a) or vortex.not($.b))";
-    assert!(rt; rt.yes(becomes(rt, reduced(alloc, there), text)));
+    sure(&rt, becomes(rt, reduced(alloc, there), text));
     let missing = is_null::<NoCustom>(alloc, b_and_a(alloc, Operator::And));
     let text = "(vortex.is_null($.a) and $.b)";
-    assert!(rt; rt.yes(becomes(rt, reduced(alloc, missing), text)));
+    sure(&rt, becomes(rt, reduced(alloc, missing), text));
 }
 
 #[test]
@@ -41,10 +41,10 @@ fn null_tests_of_or_are_split(rt: HostRuntime) {
     let alloc = rt.alloc();
     let there = is_not_null::<NoCustom>(alloc, a_and_b(alloc, Operator::Or));
     let text = "(is_not_null($.a) or $.b)";
-    assert!(rt; rt.yes(becomes(rt, reduced(alloc, there), text)));
+    sure(&rt, becomes(rt, reduced(alloc, there), text));
     let missing = is_null::<NoCustom>(alloc, a_and_b(alloc, Operator::Or));
     let text = "(vortex.is_null($.a) and vortex.not($.b))";
-    assert!(rt; rt.yes(becomes(rt, reduced(alloc, missing), text)));
+    sure(&rt, becomes(rt, reduced(alloc, missing), text));
 }
 
 /// Whether the call of And over two columns that may both be null is null.
@@ -73,23 +73,26 @@ fn is_null_of_equal_nulls<C: ScalarFnVTable>(alloc: Global) -> Bound<C> {
 #[test]
 fn null_tests_of_other_calls_stay(rt: HostRuntime) {
     let alloc = rt.alloc();
-    assert!(rt;
-        rt.yes(stays(
+    sure(
+        &rt,
+        stays(
             rt,
-            reduced(alloc, is_null_of_two_nullable::<NoCustom>(alloc))
-        ))
+            reduced(alloc, is_null_of_two_nullable::<NoCustom>(alloc)),
+        ),
     );
-    assert!(rt;
-        rt.yes(stays(
+    sure(
+        &rt,
+        stays(
             rt,
-            reduced(alloc, is_not_null_of_two_nullable::<NoCustom>(alloc))
-        ))
+            reduced(alloc, is_not_null_of_two_nullable::<NoCustom>(alloc)),
+        ),
     );
-    assert!(rt;
-        rt.yes(stays(
+    sure(
+        &rt,
+        stays(
             rt,
-            reduced(alloc, is_null_of_equal_nulls::<NoCustom>(alloc))
-        ))
+            reduced(alloc, is_null_of_equal_nulls::<NoCustom>(alloc)),
+        ),
     );
 }
 
@@ -97,9 +100,9 @@ fn null_tests_of_other_calls_stay(rt: HostRuntime) {
 fn null_tests_of_what_is_never_null_are_decided(rt: HostRuntime) {
     let alloc = rt.alloc();
     let there = is_not_null::<NoCustom>(alloc, mixed(alloc, "b"));
-    assert!(rt; rt.yes(becomes(rt, reduced(alloc, there), "true")));
+    sure(&rt, becomes(rt, reduced(alloc, there), "true"));
     let missing = is_null::<NoCustom>(alloc, mixed(alloc, "b"));
-    assert!(rt; rt.yes(becomes(rt, reduced(alloc, missing), "false")));
+    sure(&rt, becomes(rt, reduced(alloc, missing), "false"));
 }
 
 /// Or of true of nullable Bool, and of false.
@@ -113,11 +116,11 @@ fn true_or_false<C: ScalarFnVTable>(alloc: Global) -> Bound<C> {
 fn and_and_or_beside_a_constant_are_reduced(rt: HostRuntime) {
     let alloc = rt.alloc();
     let decided = reduced(alloc, true_or_false::<NoCustom>(alloc));
-    assert!(rt; rt.yes(is_nullable_literal(rt, decided, "true")));
+    sure(&rt, is_nullable_literal(rt, decided, "true"));
     let kept = beside_b::<NoCustom>(alloc, Scalar::from(true), Operator::And);
-    assert!(rt; rt.yes(becomes(rt, reduced(alloc, kept), "$.b")));
+    sure(&rt, becomes(rt, reduced(alloc, kept), "$.b"));
     let decided = beside_b::<NoCustom>(alloc, Scalar::from(false), Operator::And);
-    assert!(rt; rt.yes(becomes(rt, reduced(alloc, decided), "false")));
+    sure(&rt, becomes(rt, reduced(alloc, decided), "false"));
 }
 
 /// And of a null of Bool and column `b`.
@@ -128,8 +131,14 @@ fn null_and_b<C: ScalarFnVTable>(alloc: Global) -> Bound<C> {
 #[test]
 fn and_beside_null_stays(rt: HostRuntime) {
     let alloc = rt.alloc();
-    assert!(rt; rt.yes(stays(rt, reduced(alloc, null_and_b::<NoCustom>(alloc)))));
-    assert!(rt; rt.yes(stays(rt, simplified(alloc, null_and_b::<NoCustom>(alloc)))));
+    sure(
+        &rt,
+        stays(rt, reduced(alloc, null_and_b::<NoCustom>(alloc))),
+    );
+    sure(
+        &rt,
+        stays(rt, simplified(alloc, null_and_b::<NoCustom>(alloc))),
+    );
 }
 
 /// An equality of a column of nullable u16 and a null of its type.
@@ -145,9 +154,9 @@ fn operators_beside_a_constant_are_simplified(rt: HostRuntime) {
     let alloc = rt.alloc();
     let cast = beside_b::<NoCustom>(alloc, Scalar::bool(true, YES), Operator::And);
     let text = "vortex.cast($.b, opts=bool?)";
-    assert!(rt; rt.yes(becomes(rt, simplified(alloc, cast), text)));
+    sure(&rt, becomes(rt, simplified(alloc, cast), text));
     let unknown = simplified(alloc, equals_null::<NoCustom>(alloc));
-    assert!(rt; rt.yes(is_nullable_literal(rt, unknown, "null")));
+    sure(&rt, is_nullable_literal(rt, unknown, "null"));
 }
 
 /// Between of three columns.
@@ -164,5 +173,5 @@ fn three_validities_are_joined_in_rounds(rt: HostRuntime) {
     let alloc = rt.alloc();
     let text = "((is_not_null($.x) and is_not_null($.lo)) and is_not_null($.hi))";
     let three = united(alloc, between_columns::<NoCustom>(alloc));
-    assert!(rt; rt.yes(becomes(rt, three, text)));
+    sure(&rt, becomes(rt, three, text));
 }

@@ -2,7 +2,7 @@
 ghost use Rattle.std.specs.Prelude.{◌≡◌, Some};
 ghost use Rattle.vortex_functions.specs.Words.{called, function_of};
 
-use fixtures::Ask;
+use crate::questions::sure;
 use std::alloc::Global;
 use std::borrow::Cow;
 use tree_fixtures::array_makers::{Held, array_answers, held, made, over_columns, x, y};
@@ -177,69 +177,90 @@ fn between_truths<C: ScalarFnVTable>(alloc: Global) -> Bound<C> {
 fn operators_and_null_tests_are_reduced(rt: HostRuntime) {
     let alloc = rt.alloc();
     let kept = reduced(alloc, beside_b::<NoCustom>(alloc, true));
-    assert!(rt; rt.yes(becomes(rt, kept, "$.b")));
+    sure(&rt, becomes(rt, kept, "$.b"));
     let there = is_not_null::<NoCustom>(alloc, a_with_b(alloc, Operator::Or));
     let text = "(is_not_null($.a) or $.b)";
-    assert!(rt; rt.yes(becomes(rt, reduced(alloc, there), text)));
+    sure(&rt, becomes(rt, reduced(alloc, there), text));
     let missing = is_null::<NoCustom>(alloc, a_with_b(alloc, Operator::Or));
     let text = "(vortex.is_null($.a) and vortex.not($.b))";
-    assert!(rt; rt.yes(becomes(rt, reduced(alloc, missing), text)));
+    sure(&rt, becomes(rt, reduced(alloc, missing), text));
 }
 
 #[test]
 fn other_functions_are_not_reduced(rt: HostRuntime) {
     let alloc = rt.alloc();
-    assert!(rt; rt.yes(stays(rt, reduced(alloc, not_a::<NoCustom>(alloc)))));
-    assert!(rt; rt.yes(stays(rt, reduced(alloc, cast_of_b::<NoCustom>(alloc)))));
-    assert!(rt; rt.yes(stays(rt, reduced(alloc, like_of_texts::<NoCustom>(alloc)))));
-    assert!(rt; rt.yes(stays(rt, reduced(alloc, between_truths::<NoCustom>(alloc)))));
+    sure(&rt, stays(rt, reduced(alloc, not_a::<NoCustom>(alloc))));
+    sure(&rt, stays(rt, reduced(alloc, cast_of_b::<NoCustom>(alloc))));
+    sure(
+        &rt,
+        stays(rt, reduced(alloc, like_of_texts::<NoCustom>(alloc))),
+    );
+    sure(
+        &rt,
+        stays(rt, reduced(alloc, between_truths::<NoCustom>(alloc))),
+    );
 }
 
 #[test]
 fn strict_functions_have_a_validity(rt: HostRuntime) {
     let alloc = rt.alloc();
     let not = validity(alloc, not_a::<NoCustom>(alloc));
-    assert!(rt; rt.yes(becomes(rt, not, "is_not_null($.a)")));
+    sure(&rt, becomes(rt, not, "is_not_null($.a)"));
     let equal = validity(alloc, a_with_b::<NoCustom>(alloc, Operator::Eq));
-    assert!(rt; rt.yes(becomes(rt, equal, "is_not_null($.a)")));
+    sure(&rt, becomes(rt, equal, "is_not_null($.a)"));
     let text = "(is_not_null($.a) and is_not_null($.b))";
     let like = validity(alloc, like_of_texts::<NoCustom>(alloc));
-    assert!(rt; rt.yes(becomes(rt, like, text)));
+    sure(&rt, becomes(rt, like, text));
 }
 
 #[test]
 fn other_functions_have_none(rt: HostRuntime) {
     let alloc = rt.alloc();
     let both = a_with_b::<NoCustom>(alloc, Operator::And);
-    assert!(rt; rt.yes(stays(rt, validity(alloc, both))));
-    assert!(rt; rt.yes(stays(rt, validity(alloc, cast_of_b::<NoCustom>(alloc)))));
-    assert!(rt; rt.yes(stays(rt, validity(alloc, between_truths::<NoCustom>(alloc)))));
+    sure(&rt, stays(rt, validity(alloc, both)));
+    sure(
+        &rt,
+        stays(rt, validity(alloc, cast_of_b::<NoCustom>(alloc))),
+    );
+    sure(
+        &rt,
+        stays(rt, validity(alloc, between_truths::<NoCustom>(alloc))),
+    );
     let test = is_null::<NoCustom>(alloc, mixed(alloc, "a"));
-    assert!(rt; rt.yes(stays(rt, validity(alloc, test))));
+    sure(&rt, stays(rt, validity(alloc, test)));
     let test = is_not_null::<NoCustom>(alloc, mixed(alloc, "a"));
-    assert!(rt; rt.yes(stays(rt, validity(alloc, test))));
+    sure(&rt, stays(rt, validity(alloc, test)));
 }
 
 #[test]
 fn operators_are_simplified(rt: HostRuntime) {
     let alloc = rt.alloc();
     let decided = simplified(alloc, beside_b::<NoCustom>(alloc, false));
-    assert!(rt; rt.yes(becomes(rt, decided, "false")));
+    sure(&rt, becomes(rt, decided, "false"));
     let kept = simplified(alloc, beside_b::<NoCustom>(alloc, true));
-    assert!(rt; rt.yes(becomes(rt, kept, "$.b")));
+    sure(&rt, becomes(rt, kept, "$.b"));
     let both = a_with_b::<NoCustom>(alloc, Operator::And);
-    assert!(rt; rt.yes(stays(rt, simplified(alloc, both))));
+    sure(&rt, stays(rt, simplified(alloc, both)));
 }
 
 #[test]
 fn other_functions_are_not_simplified(rt: HostRuntime) {
     let alloc = rt.alloc();
-    assert!(rt; rt.yes(stays(rt, simplified(alloc, not_a::<NoCustom>(alloc)))));
-    assert!(rt; rt.yes(stays(rt, simplified(alloc, cast_of_b::<NoCustom>(alloc)))));
-    assert!(rt; rt.yes(stays(rt, simplified(alloc, like_of_texts::<NoCustom>(alloc)))));
-    assert!(rt; rt.yes(stays(rt, simplified(alloc, between_truths::<NoCustom>(alloc)))));
+    sure(&rt, stays(rt, simplified(alloc, not_a::<NoCustom>(alloc))));
+    sure(
+        &rt,
+        stays(rt, simplified(alloc, cast_of_b::<NoCustom>(alloc))),
+    );
+    sure(
+        &rt,
+        stays(rt, simplified(alloc, like_of_texts::<NoCustom>(alloc))),
+    );
+    sure(
+        &rt,
+        stays(rt, simplified(alloc, between_truths::<NoCustom>(alloc))),
+    );
     let test = is_null::<NoCustom>(alloc, mixed(alloc, "b"));
-    assert!(rt; rt.yes(stays(rt, simplified(alloc, test))));
+    sure(&rt, stays(rt, simplified(alloc, test)));
 }
 
 /// What Reduce makes of an array; a refusal where no rule applies.
@@ -279,8 +300,8 @@ fn calls_over_arrays_are_reduced_and_have_a_validity(rt: HostRuntime) {
     let alloc = rt.alloc();
     let missing = reduced_array(alloc, unknown_both::<NoCustom>(alloc));
     let rows = [Some(false), Some(false), Some(true)];
-    assert!(rt; rt.yes(array_answers(rt, missing, &rows)));
+    sure(&rt, array_answers(rt, missing, &rows));
     let there = validity_of_array(alloc, not_x::<NoCustom>(alloc));
     let rows = [Some(true), Some(true), Some(false)];
-    assert!(rt; rt.yes(array_answers(rt, there, &rows)));
+    sure(&rt, array_answers(rt, there, &rows));
 }
