@@ -1,5 +1,6 @@
 //! Bits, validity and integers.
 
+use crate::questions::{must, sure};
 use fixtures::{Ask, same};
 use std::alloc::Global;
 use vortex_columns::{BitBuffer, Ints, NativePType, Nullability, PType, Validity, VortexResult};
@@ -21,14 +22,15 @@ fn copy(alloc: Global, bits: VortexResult<BitBuffer>) -> VortexResult<BitBuffer>
 #[test]
 fn bits_are_read(rt: HostRuntime) {
     let alloc = rt.alloc();
-    assert!(rt; rt.yes(are(rt, from_bools(alloc, true, false), (true, false))));
-    assert!(rt; rt.yes(are(rt, from_bools(alloc, false, true), (false, true))));
-    assert!(rt;
-        rt.yes(are(
+    sure(&rt, are(rt, from_bools(alloc, true, false), (true, false)));
+    sure(&rt, are(rt, from_bools(alloc, false, true), (false, true)));
+    sure(
+        &rt,
+        are(
             rt,
             copy(alloc, from_bools(alloc, true, false)),
-            (true, false)
-        ))
+            (true, false),
+        ),
     );
 }
 
@@ -44,10 +46,13 @@ fn zeros(alloc: Global, bytes: usize, offset: usize, len: usize) -> VortexResult
 #[test]
 fn bits_past_the_bytes_are_refused(rt: HostRuntime) {
     let alloc = rt.alloc();
-    assert!(rt; rt.is_refused(zeros(alloc, 9, 7, 70), "InvalidColumn"));
-    assert!(rt; rt.is_refused(zeros(alloc, 0, 1, 0), "InvalidColumn"));
-    assert!(rt; rt.is_refused(zeros(alloc, 1, usize::MAX, 1), "InvalidColumn"));
-    assert!(rt; rt.yes(zeros(alloc, 9, 2, 70).map(|bits| bits.len() == 70)));
+    must(&rt, rt.is_refused(zeros(alloc, 9, 7, 70), "InvalidColumn"));
+    must(&rt, rt.is_refused(zeros(alloc, 0, 1, 0), "InvalidColumn"));
+    must(
+        &rt,
+        rt.is_refused(zeros(alloc, 1, usize::MAX, 1), "InvalidColumn"),
+    );
+    sure(&rt, zeros(alloc, 9, 2, 70).map(|bits| bits.len() == 70));
 }
 
 /// The bits of bytes 0x80, 0x01, 0x00 and 0xFF from place 7 on.
@@ -96,7 +101,7 @@ fn is_listed(alloc: Global, bits: VortexResult<BitBuffer>) -> VortexResult<bool>
 #[test]
 fn validity_is_read(rt: HostRuntime) {
     let alloc = rt.alloc();
-    assert!(rt; rt.yes(is_listed(alloc, from_bools(alloc, true, false))));
+    sure(&rt, is_listed(alloc, from_bools(alloc, true, false)));
     assert!(rt; Validity::NonNullable.nullability() == Nullability::NonNullable);
     assert!(rt; Validity::NonNullable.is_valid(7));
     assert!(rt; Validity::AllValid.is_valid(7));
@@ -128,5 +133,5 @@ fn has_shorts(rt: HostRuntime, ints: VortexResult<Ints>, wanted: &[i16]) -> Vort
 #[test]
 fn integers_are_read(rt: HostRuntime) {
     let alloc = rt.alloc();
-    assert!(rt; rt.yes(has_shorts(rt, copy_of(alloc, shorts(alloc)), &[5, -6])));
+    sure(&rt, has_shorts(rt, copy_of(alloc, shorts(alloc)), &[5, -6]));
 }

@@ -1,5 +1,6 @@
 //! Columns as their makers make and refuse them.
 
+use crate::questions::{must, sure};
 use fixtures::{Ask, Made, copied, has_rows, kept, names, nullable_bools, numbers, same};
 use std::alloc::Global;
 use vortex_columns::{BitBuffer, Cell, Column, ValidRows, Validity, VortexResult, both_valid};
@@ -90,12 +91,24 @@ fn unevenly_valid_bits(alloc: Global) -> Made {
 #[test]
 fn invalid_columns_are_refused(rt: HostRuntime) {
     let alloc = rt.alloc();
-    assert!(rt; rt.is_refused(unevenly_valid(alloc), "InvalidColumn"));
-    assert!(rt; rt.is_refused(unevenly_valid_bits(alloc), "InvalidColumn"));
-    assert!(rt; rt.is_refused(records(alloc, "a", "a", 2), "InvalidColumn"));
-    assert!(rt; rt.is_refused(records(alloc, "a", "b", 3), "InvalidColumn"));
-    assert!(rt; rt.is_refused(lists(alloc, [0, usize::MAX], [1, 1]), "InvalidColumn"));
-    assert!(rt; rt.is_refused(maps(alloc, &[5]), "InvalidColumn"));
+    must(&rt, rt.is_refused(unevenly_valid(alloc), "InvalidColumn"));
+    must(
+        &rt,
+        rt.is_refused(unevenly_valid_bits(alloc), "InvalidColumn"),
+    );
+    must(
+        &rt,
+        rt.is_refused(records(alloc, "a", "a", 2), "InvalidColumn"),
+    );
+    must(
+        &rt,
+        rt.is_refused(records(alloc, "a", "b", 3), "InvalidColumn"),
+    );
+    must(
+        &rt,
+        rt.is_refused(lists(alloc, [0, usize::MAX], [1, 1]), "InvalidColumn"),
+    );
+    must(&rt, rt.is_refused(maps(alloc, &[5]), "InvalidColumn"));
 }
 
 /// No elements, as lists whose sizes add up to more than usize holds.
@@ -110,7 +123,7 @@ fn past_usize(alloc: Global) -> Made {
 
 #[test]
 fn a_product_past_usize_is_refused(rt: HostRuntime) {
-    assert!(rt; rt.is_refused(past_usize(rt.alloc()), "InvalidColumn"));
+    must(&rt, rt.is_refused(past_usize(rt.alloc()), "InvalidColumn"));
 }
 
 /// Whether these three rows are valid, or not.
@@ -158,10 +171,13 @@ fn a_nullable_column_is_read(rt: HostRuntime) {
     let alloc = rt.alloc();
     let rows = [Some(true), None, Some(false)];
     let copy = copied(alloc, nullable_bools(alloc, &rows));
-    assert!(rt; rt.yes(has_rows(rt, copy, &rows)));
-    assert!(rt; rt.yes(tells_validity(rt, nullable_bools(alloc, &rows), (true, false, true))));
-    assert!(rt; rt.yes(lends_bits(nullable_bools(alloc, &rows))));
-    assert!(rt; rt.yes(lists_validity(alloc, nullable_bools(alloc, &rows))));
+    sure(&rt, has_rows(rt, copy, &rows));
+    sure(
+        &rt,
+        tells_validity(rt, nullable_bools(alloc, &rows), (true, false, true)),
+    );
+    sure(&rt, lends_bits(nullable_bools(alloc, &rows)));
+    sure(&rt, lists_validity(alloc, nullable_bools(alloc, &rows)));
 }
 
 /// How a column lends its valid rows: all of them, none, or by a list of so many bits.
@@ -181,9 +197,9 @@ fn lends(rt: HostRuntime, column: Made, wanted: (bool, bool, usize)) -> VortexRe
 fn valid_rows_are_lent(rt: HostRuntime) {
     let alloc = rt.alloc();
     let listed = nullable_bools(alloc, &[Some(true), None]);
-    assert!(rt; rt.yes(lends(rt, pair(alloc), (true, false, 0))));
-    assert!(rt; rt.yes(lends(rt, byte_lists(alloc), (false, true, 0))));
-    assert!(rt; rt.yes(lends(rt, listed, (false, false, 2))));
+    sure(&rt, lends(rt, pair(alloc), (true, false, 0)));
+    sure(&rt, lends(rt, byte_lists(alloc), (false, true, 0)));
+    sure(&rt, lends(rt, listed, (false, false, 2)));
 }
 
 /// Whether these of four rows are valid on both sides.
@@ -221,8 +237,8 @@ fn rows_are_valid_on_both_sides(rt: HostRuntime) {
     let right = nullable_bools(alloc, &[None, None, Some(true), Some(true)]);
     let full = numbers(alloc, &[1i32, 2, 3, 4]);
     let other = nullable_bools(alloc, &[None, Some(true), Some(true), Some(false)]);
-    assert!(rt; rt.yes(joins(rt, left, right, [false, false, false, true])));
-    assert!(rt; rt.yes(joins(rt, full, other, [false, true, true, true])));
+    sure(&rt, joins(rt, left, right, [false, false, false, true]));
+    sure(&rt, joins(rt, full, other, [false, true, true, true]));
 }
 
 /// Whether a column of nullable i32 of three rows has these.
@@ -279,17 +295,20 @@ fn makes_lent_texts(alloc: Global, rows: [&str; 2]) -> VortexResult<bool> {
 #[test]
 fn columns_are_made_of_lent_texts(rt: HostRuntime) {
     let alloc = rt.alloc();
-    assert!(rt; rt.yes(makes_texts(alloc, [Some("hello"), None])));
-    assert!(rt; rt.yes(makes_texts(alloc, [Some("a text that is longer than a view"), Some("")])));
-    assert!(rt; rt.yes(makes_lent_texts(alloc, ["hello, world!", "\u{a3}"])));
+    sure(&rt, makes_texts(alloc, [Some("hello"), None]));
+    sure(
+        &rt,
+        makes_texts(alloc, [Some("a text that is longer than a view"), Some("")]),
+    );
+    sure(&rt, makes_lent_texts(alloc, ["hello, world!", "\u{a3}"]));
 }
 
 #[test]
 fn columns_are_made_of_options(rt: HostRuntime) {
     let alloc = rt.alloc();
-    assert!(rt; rt.yes(makes_ints(alloc, [Some(1), None, Some(-3)])));
-    assert!(rt; rt.yes(makes_ints(alloc, [Some(1), Some(2), Some(3)])));
+    sure(&rt, makes_ints(alloc, [Some(1), None, Some(-3)]));
+    sure(&rt, makes_ints(alloc, [Some(1), Some(2), Some(3)]));
     let rows = [Some(true), None, Some(false)];
     let bools = kept(alloc, Column::of_bools(alloc, &rows));
-    assert!(rt; rt.yes(has_rows(rt, bools, &rows)));
+    sure(&rt, has_rows(rt, bools, &rows));
 }

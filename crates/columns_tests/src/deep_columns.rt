@@ -1,7 +1,8 @@
 //! Columns of many levels, for which no calls stand within calls.
 
+use crate::questions::sure;
 use crate::taken::are_below;
-use fixtures::{Ask, Made, kept, names};
+use fixtures::{Made, kept, names};
 use std::alloc::Global;
 use vortex_columns::{Column, ExecutionCtx, Validity, VortexResult};
 
@@ -55,6 +56,6 @@ fn is_taken_twice(alloc: Global, column: Made) -> VortexResult<bool> {
 #[test]
 fn rows_of_deep_columns_are_taken(rt: HostRuntime) {
     let alloc = rt.alloc();
-    assert!(rt; rt.yes(is_taken_twice(alloc, singles(alloc))));
-    assert!(rt; rt.yes(is_taken_twice(alloc, records(alloc))));
+    sure(&rt, is_taken_twice(alloc, singles(alloc)));
+    sure(&rt, is_taken_twice(alloc, records(alloc)));
 }

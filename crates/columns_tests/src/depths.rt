@@ -1,6 +1,7 @@
 //! Types and values of many levels, for which no calls stand within calls.
 
 use crate::order::stand;
+use crate::questions::{must, sure};
 use fixtures::{Ask, boxed, fields, same};
 use std::alloc::Global;
 use std::cmp::Ordering;
@@ -257,87 +258,106 @@ fn begins(
 fn types_within_types_have_texts(rt: HostRuntime) {
     let alloc = rt.alloc();
     let wanted = "struct{x: map[struct{b: binary, a: list[utf8?; 3]?}?, list[null]], y: bool}";
-    assert!(rt; rt.yes(reads(rt, mixed(alloc), wanted)));
+    sure(&rt, reads(rt, mixed(alloc), wanted));
 }
 
 #[test]
 fn deep_types_have_texts(rt: HostRuntime) {
     let alloc = rt.alloc();
     // `null` has four bytes, and each level around it six to eleven
-    assert!(rt; rt.yes(begins(alloc, lists(alloc), 6 * LEVELS + 4, "list[list[")));
-    assert!(rt; rt.yes(begins(alloc, pairs(alloc), 9 * LEVELS + 4, "list[list[")));
-    assert!(rt; rt.yes(begins(alloc, maps_by_key(alloc), 11 * LEVELS + 4, "map[map[")));
-    assert!(rt; rt.yes(begins(alloc, maps_by_value(alloc), 11 * LEVELS + 4, "map[null, ")));
-    assert!(rt; rt.yes(begins(alloc, structs(alloc), 11 * LEVELS + 4, "struct{a: ")));
+    let begin = "list[list[";
+    sure(&rt, begins(alloc, lists(alloc), 6 * LEVELS + 4, begin));
+    sure(&rt, begins(alloc, pairs(alloc), 9 * LEVELS + 4, begin));
+    sure(
+        &rt,
+        begins(alloc, maps_by_key(alloc), 11 * LEVELS + 4, "map[map["),
+    );
+    sure(
+        &rt,
+        begins(alloc, maps_by_value(alloc), 11 * LEVELS + 4, "map[null, "),
+    );
+    sure(
+        &rt,
+        begins(alloc, structs(alloc), 11 * LEVELS + 4, "struct{a: "),
+    );
 }
 
 #[test]
 fn copies_equal_their_types(rt: HostRuntime) {
     let alloc = rt.alloc();
-    assert!(rt; rt.yes(copy_equals(alloc, mixed(alloc))));
+    sure(&rt, copy_equals(alloc, mixed(alloc)));
 }
 
 #[test]
 fn deep_types_are_copied(rt: HostRuntime) {
     let alloc = rt.alloc();
-    assert!(rt; rt.yes(has_a_copy(alloc, lists(alloc))));
-    assert!(rt; rt.yes(has_a_copy(alloc, pairs(alloc))));
-    assert!(rt; rt.yes(has_a_copy(alloc, maps_by_key(alloc))));
-    assert!(rt; rt.yes(has_a_copy(alloc, maps_by_value(alloc))));
-    assert!(rt; rt.yes(has_a_copy(alloc, structs(alloc))));
+    sure(&rt, has_a_copy(alloc, lists(alloc)));
+    sure(&rt, has_a_copy(alloc, pairs(alloc)));
+    sure(&rt, has_a_copy(alloc, maps_by_key(alloc)));
+    sure(&rt, has_a_copy(alloc, maps_by_value(alloc)));
+    sure(&rt, has_a_copy(alloc, structs(alloc)));
 }
 
 #[test]
 fn deep_types_are_equal(rt: HostRuntime) {
     let alloc = rt.alloc();
-    assert!(rt; rt.yes(are_equal_types(lists(alloc), lists(alloc))));
-    assert!(rt; rt.yes(are_equal_types(maps_by_key(alloc), maps_by_key(alloc))));
-    assert!(rt; rt.yes(are_equal_types(maps_by_value(alloc), maps_by_value(alloc))));
-    assert!(rt; rt.yes(are_equal_types(structs(alloc), structs(alloc))));
-    assert!(rt; rt.yes(are_equal_types(structs_by_first(alloc), structs_by_first(alloc))));
+    sure(&rt, are_equal_types(lists(alloc), lists(alloc)));
+    sure(&rt, are_equal_types(maps_by_key(alloc), maps_by_key(alloc)));
+    sure(
+        &rt,
+        are_equal_types(maps_by_value(alloc), maps_by_value(alloc)),
+    );
+    sure(&rt, are_equal_types(structs(alloc), structs(alloc)));
+    sure(
+        &rt,
+        are_equal_types(structs_by_first(alloc), structs_by_first(alloc)),
+    );
 }
 
 #[test]
 fn deep_types_are_told_apart(rt: HostRuntime) {
     let alloc = rt.alloc();
-    assert!(rt; rt.yes(differ(lists(alloc), lists_of(alloc, DType::Utf8(NO)))));
-    assert!(rt; rt.yes(differ(maps_by_key(alloc), maps_by_value(alloc))));
+    sure(&rt, differ(lists(alloc), lists_of(alloc, DType::Utf8(NO))));
+    sure(&rt, differ(maps_by_key(alloc), maps_by_value(alloc)));
     let one = lists_of(alloc, DType::Utf8(NO));
-    assert!(rt; rt.yes(differ_by_null(one, lists_of(alloc, DType::Utf8(YES)))));
+    sure(&rt, differ_by_null(one, lists_of(alloc, DType::Utf8(YES))));
 }
 
 #[test]
 fn deep_types_are_let_go(rt: HostRuntime) {
     let alloc = rt.alloc();
-    assert!(rt; rt.yes(was_made(lists(alloc))));
-    assert!(rt; rt.yes(was_made(pairs(alloc))));
-    assert!(rt; rt.yes(was_made(maps_by_key(alloc))));
-    assert!(rt; rt.yes(was_made(maps_by_value(alloc))));
-    assert!(rt; rt.yes(was_made(structs(alloc))));
+    sure(&rt, was_made(lists(alloc)));
+    sure(&rt, was_made(pairs(alloc)));
+    sure(&rt, was_made(maps_by_key(alloc)));
+    sure(&rt, was_made(maps_by_value(alloc)));
+    sure(&rt, was_made(structs(alloc)));
 }
 
 #[test]
 fn deep_literals_are_typed_and_compared(rt: HostRuntime) {
     let alloc = rt.alloc();
-    assert!(rt; rt.yes(are_equal(literal(alloc), literal(alloc))));
+    sure(&rt, are_equal(literal(alloc), literal(alloc)));
 }
 
 #[test]
 fn deep_literals_equal_their_copies(rt: HostRuntime) {
     let alloc = rt.alloc();
-    assert!(rt; rt.yes(are_equal(literal(alloc), copy_of(alloc, literal(alloc)))));
+    sure(
+        &rt,
+        are_equal(literal(alloc), copy_of(alloc, literal(alloc))),
+    );
 }
 
 #[test]
 fn deep_values_are_copied(rt: HostRuntime) {
     let alloc = rt.alloc();
-    assert!(rt; rt.yes(value_has_a_copy(alloc, values(alloc))));
+    sure(&rt, value_has_a_copy(alloc, values(alloc)));
 }
 
 #[test]
 fn deep_literals_are_written(rt: HostRuntime) {
     let alloc = rt.alloc();
-    assert!(rt; rt.yes(is_written_in(alloc, literal(alloc), 2 * LEVELS)));
+    sure(&rt, is_written_in(alloc, literal(alloc), 2 * LEVELS));
 }
 
 #[test]
@@ -349,25 +369,28 @@ fn deep_values_are_compared(rt: HostRuntime) {
         Ordering::Equal,
         first_values(alloc, 1),
     );
-    assert!(rt; rt.yes(same));
+    sure(&rt, same);
     let less = stand(
         rt,
         first_values(alloc, 1),
         Ordering::Less,
         first_values(alloc, 2),
     );
-    assert!(rt; rt.yes(less));
+    sure(&rt, less);
 }
 
 #[test]
 fn literals_that_nest_before_their_last_value_are_typed(rt: HostRuntime) {
     let alloc = rt.alloc();
-    assert!(rt; rt.yes(was_made(record(alloc, ScalarValue::Bool(true)))));
-    assert!(rt; rt.is_refused(record(alloc, ScalarValue::Int(1)), "InvalidColumn"));
-    assert!(rt; rt.yes(was_made(keyed(alloc))));
+    sure(&rt, was_made(record(alloc, ScalarValue::Bool(true))));
+    must(
+        &rt,
+        rt.is_refused(record(alloc, ScalarValue::Int(1)), "InvalidColumn"),
+    );
+    sure(&rt, was_made(keyed(alloc)));
 }
 
 #[test]
 fn deep_values_are_let_go(rt: HostRuntime) {
-    assert!(rt; rt.yes(was_made(values(rt.alloc()))));
+    sure(&rt, was_made(values(rt.alloc())));
 }

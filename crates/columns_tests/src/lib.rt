@@ -21,6 +21,8 @@ mod order;
 #[cfg(test)]
 mod parts;
 #[cfg(test)]
+mod questions;
+#[cfg(test)]
 mod rows;
 #[cfg(test)]
 mod scalars;

@@ -1,5 +1,6 @@
 //! The order of values.
 
+use crate::questions::sure;
 use crate::values::{bytes, entry, list};
 use fixtures::{Ask, same};
 use std::cmp::Ordering;
@@ -59,26 +60,31 @@ fn a_beginning_is_less(rt: HostRuntime) {
 fn maps_stand_by_their_entries(rt: HostRuntime) {
     let alloc = rt.alloc();
     let zero = Some(0);
-    assert!(rt;
-        rt.yes(stand(
+    sure(
+        &rt,
+        stand(
             rt,
             entry(alloc, 1, None),
             Ordering::Less,
-            entry(alloc, 1, zero)
-        ))
+            entry(alloc, 1, zero),
+        ),
     );
-    assert!(rt; rt.yes(stand(rt, list(alloc, &[]), Ordering::Less, entry(alloc, 1, zero))));
+    sure(
+        &rt,
+        stand(rt, list(alloc, &[]), Ordering::Less, entry(alloc, 1, zero)),
+    );
 }
 
 #[test]
 fn byte_strings_stand_by_their_bytes(rt: HostRuntime) {
     let alloc = rt.alloc();
-    assert!(rt;
-        rt.yes(stand(
+    sure(
+        &rt,
+        stand(
             rt,
             bytes(alloc, &[255]),
             Ordering::Greater,
-            bytes(alloc, &[0, 1])
-        ))
+            bytes(alloc, &[0, 1]),
+        ),
     );
 }

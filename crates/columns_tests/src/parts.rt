@@ -1,6 +1,7 @@
 //! Reads of each kind of column, and the parts that it lends.
 
 use crate::columns::{byte_lists, fixed, lists, maps, pair, records};
+use crate::questions::sure;
 use crate::values::{entry, list};
 use fixtures::{Ask, Made, constant, kept, same, texts};
 use std::alloc::Global;
@@ -83,25 +84,25 @@ fn two_texts(alloc: Global) -> Made {
 #[test]
 fn null_and_constants_lend_no_part(rt: HostRuntime) {
     let alloc = rt.alloc();
-    assert!(rt; rt.yes(lends(rt, nulls(alloc), NONE)));
-    assert!(rt; rt.yes(lends(rt, constant(alloc, PType::I32, 1, 2), NONE)));
+    sure(&rt, lends(rt, nulls(alloc), NONE));
+    sure(&rt, lends(rt, constant(alloc, PType::I32, 1, 2), NONE));
 }
 
 #[test]
 fn flat_columns_lend_their_values(rt: HostRuntime) {
     let alloc = rt.alloc();
-    assert!(rt; rt.yes(lends(rt, pair(alloc), INTS)));
-    assert!(rt; rt.yes(lends(rt, two_texts(alloc), BYTES)));
-    assert!(rt; rt.yes(lends(rt, byte_lists(alloc), BYTES)));
+    sure(&rt, lends(rt, pair(alloc), INTS));
+    sure(&rt, lends(rt, two_texts(alloc), BYTES));
+    sure(&rt, lends(rt, byte_lists(alloc), BYTES));
 }
 
 #[test]
 fn nested_columns_lend_their_parts(rt: HostRuntime) {
     let alloc = rt.alloc();
-    assert!(rt; rt.yes(lends(rt, records(alloc, "a", "b", 2), FIELD)));
-    assert!(rt; rt.yes(lends(rt, lists(alloc, [0, 0], [2, 1]), LISTS)));
-    assert!(rt; rt.yes(lends(rt, fixed(alloc), FIXED)));
-    assert!(rt; rt.yes(lends(rt, maps(alloc, &[5, 6]), MAPS)));
+    sure(&rt, lends(rt, records(alloc, "a", "b", 2), FIELD));
+    sure(&rt, lends(rt, lists(alloc, [0, 0], [2, 1]), LISTS));
+    sure(&rt, lends(rt, fixed(alloc), FIXED));
+    sure(&rt, lends(rt, maps(alloc, &[5, 6]), MAPS));
 }
 
 /// Whether a column is a constant one.
@@ -112,8 +113,8 @@ fn is_constant(column: Made) -> VortexResult<bool> {
 #[test]
 fn constants_alone_are_constants(rt: HostRuntime) {
     let alloc = rt.alloc();
-    assert!(rt; rt.yes(is_constant(constant(alloc, PType::I32, 1, 2))));
-    assert!(rt; rt.yes(is_constant(constant(alloc, PType::I32, 1, 0))));
+    sure(&rt, is_constant(constant(alloc, PType::I32, 1, 2)));
+    sure(&rt, is_constant(constant(alloc, PType::I32, 1, 0)));
     assert!(rt; !rt.yes(is_constant(nulls(alloc))));
     assert!(rt; !rt.yes(is_constant(pair(alloc))));
 }
@@ -134,7 +135,7 @@ fn integers_are(rt: HostRuntime, column: Made, wanted: &[i32]) -> VortexResult<b
 #[test]
 fn integers_are_lent(rt: HostRuntime) {
     let alloc = rt.alloc();
-    assert!(rt; rt.yes(integers_are(rt, pair(alloc), &[5, 6])));
+    sure(&rt, integers_are(rt, pair(alloc), &[5, 6]));
 }
 
 /// Whether row 1 of two texts is this, by either read.
@@ -157,7 +158,7 @@ fn second_text_is(rt: HostRuntime, column: Made, wanted: &str) -> VortexResult<b
 #[test]
 fn texts_are_lent(rt: HostRuntime) {
     let alloc = rt.alloc();
-    assert!(rt; rt.yes(second_text_is(rt, two_texts(alloc), "b")));
+    sure(&rt, second_text_is(rt, two_texts(alloc), "b"));
 }
 
 /// Whether there is a field at 1, and none at 2.
@@ -168,7 +169,7 @@ fn has_two_fields(column: Made) -> VortexResult<bool> {
 
 #[test]
 fn fields_end(rt: HostRuntime) {
-    assert!(rt; rt.yes(has_two_fields(records(rt.alloc(), "a", "b", 2))));
+    sure(&rt, has_two_fields(records(rt.alloc(), "a", "b", 2)));
 }
 
 /// Whether row `i` stands in that order to a value.
@@ -191,14 +192,23 @@ fn overlapping_lists_are_read(rt: HostRuntime) {
     let alloc = rt.alloc();
     let whole = [Some(5), Some(6)];
     let column = lists(alloc, [0, 0], [2, 1]);
-    assert!(rt; rt.yes(row_stands(column, 0, Ordering::Equal, list(alloc, &whole))));
+    sure(
+        &rt,
+        row_stands(column, 0, Ordering::Equal, list(alloc, &whole)),
+    );
     let column = lists(alloc, [0, 0], [2, 1]);
-    assert!(rt; rt.yes(row_stands(column, 1, Ordering::Less, list(alloc, &whole))));
+    sure(
+        &rt,
+        row_stands(column, 1, Ordering::Less, list(alloc, &whole)),
+    );
 }
 
 #[test]
 fn entries_of_maps_are_read(rt: HostRuntime) {
     let alloc = rt.alloc();
     let column = maps(alloc, &[5, 6]);
-    assert!(rt; rt.yes(row_stands(column, 0, Ordering::Equal, entry(alloc, 6, Some(6)))));
+    sure(
+        &rt,
+        row_stands(column, 0, Ordering::Equal, entry(alloc, 6, Some(6))),
+    );
 }

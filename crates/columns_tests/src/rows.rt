@@ -1,6 +1,7 @@
 //! Rows of columns as Rust's own values.
 
-use fixtures::{Ask, Made, bools, constant, nullable_bools, numbers, same};
+use crate::questions::sure;
+use fixtures::{Made, bools, constant, nullable_bools, numbers, same};
 use std::alloc::Global;
 use vortex_columns::{Column, DType, ExecutionCtx, Nullability, PType, Scalar, VortexResult};
 
@@ -36,10 +37,10 @@ fn reads_texts(alloc: Global, rows: &[Option<&str>]) -> VortexResult<bool> {
 #[test]
 fn rows_are_read_in_their_order(rt: HostRuntime) {
     let alloc = rt.alloc();
-    assert!(rt; rt.yes(reads_bools(alloc, &[Some(true), None, Some(false)])));
-    assert!(rt; rt.yes(reads_ints(alloc, &[None, Some(-3), Some(7)])));
-    assert!(rt; rt.yes(reads_texts(alloc, &[Some("new"), None, Some("")])));
-    assert!(rt; rt.yes(reads_ints(alloc, &[])));
+    sure(&rt, reads_bools(alloc, &[Some(true), None, Some(false)]));
+    sure(&rt, reads_ints(alloc, &[None, Some(-3), Some(7)]));
+    sure(&rt, reads_texts(alloc, &[Some("new"), None, Some("")]));
+    sure(&rt, reads_ints(alloc, &[]));
 }
 
 /// Whether a constant's value is read in each row.
@@ -57,7 +58,7 @@ fn reads_constant(alloc: Global) -> VortexResult<bool> {
 
 #[test]
 fn constants_are_read_row_by_row(rt: HostRuntime) {
-    assert!(rt; rt.yes(reads_constant(rt.alloc())));
+    sure(&rt, reads_constant(rt.alloc()));
 }
 
 /// Whether the rows of a column that are true have these numbers, and are taken by them.
@@ -77,9 +78,9 @@ fn true_rows_are_numbered(rt: HostRuntime) {
     let alloc = rt.alloc();
     let rows = [Some(false), Some(true), None, Some(true)];
     let constant = Column::constant(alloc, Scalar::from(true), 3);
-    assert!(rt; rt.yes(true_in(rt, Column::of_bools(alloc, &rows), &[1, 3])));
-    assert!(rt; rt.yes(true_in(rt, Column::of_bools(alloc, &[None]), &[])));
-    assert!(rt; rt.yes(true_in(rt, constant, &[0, 1, 2])));
+    sure(&rt, true_in(rt, Column::of_bools(alloc, &rows), &[1, 3]));
+    sure(&rt, true_in(rt, Column::of_bools(alloc, &[None]), &[]));
+    sure(&rt, true_in(rt, constant, &[0, 1, 2]));
 }
 
 /// Whether two columns are equal, from either side; both are dropped here.
@@ -104,23 +105,28 @@ fn fives(alloc: Global) -> Made {
 #[test]
 fn columns_are_equal_by_type_and_rows(rt: HostRuntime) {
     let alloc = rt.alloc();
-    assert!(rt; rt.yes(are_equal(numbers(alloc, &[5i32, 5, 5]), fives(alloc))));
-    assert!(rt; rt.yes(differ(numbers(alloc, &[5i32, 5]), fives(alloc))));
-    assert!(rt; rt.yes(differ(numbers(alloc, &[5i32, 5, 6]), fives(alloc))));
-    assert!(rt; rt.yes(differ(numbers(alloc, &[5i64, 5, 5]), fives(alloc))));
+    sure(&rt, are_equal(numbers(alloc, &[5i32, 5, 5]), fives(alloc)));
+    sure(&rt, differ(numbers(alloc, &[5i32, 5]), fives(alloc)));
+    sure(&rt, differ(numbers(alloc, &[5i32, 5, 6]), fives(alloc)));
+    sure(&rt, differ(numbers(alloc, &[5i64, 5, 5]), fives(alloc)));
     let yes_or_null = [Some(true), None];
     let yes_or_no = [Some(true), Some(false)];
-    assert!(rt;
-        rt.yes(are_equal(
+    sure(
+        &rt,
+        are_equal(
             nullable_bools(alloc, &yes_or_null),
-            nullable_bools(alloc, &yes_or_null)
-        ))
-    );
-    assert!(rt;
-        rt.yes(differ(
             nullable_bools(alloc, &yes_or_null),
-            nullable_bools(alloc, &yes_or_no)
-        ))
+        ),
     );
-    assert!(rt; rt.yes(differ(bools(alloc, &[true]), nullable_bools(alloc, &[Some(true)]))));
+    sure(
+        &rt,
+        differ(
+            nullable_bools(alloc, &yes_or_null),
+            nullable_bools(alloc, &yes_or_no),
+        ),
+    );
+    sure(
+        &rt,
+        differ(bools(alloc, &[true]), nullable_bools(alloc, &[Some(true)])),
+    );
 }

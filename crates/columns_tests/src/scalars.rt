@@ -1,5 +1,6 @@
 //! Scalars.
 
+use crate::questions::{must, sure};
 use crate::values::{bytes, entry, integers, list, typed};
 use fixtures::{Ask, boxed, fields, integer, same};
 use std::alloc::Global;
@@ -44,7 +45,7 @@ fn values_are_lent_by_their_kinds(rt: HostRuntime) {
     assert!(rt; Scalar::from(-7i32).as_int_opt() == Some(-7));
     assert!(rt; Scalar::from(true).as_int_opt().is_none());
     assert!(rt; null_integer().as_int_opt().is_none());
-    assert!(rt; rt.yes(are_lent(rt.alloc())));
+    sure(&rt, are_lent(rt.alloc()));
 }
 
 /// Whether a scalar is printed so for debugging.
@@ -60,11 +61,14 @@ fn scalars_and_types_are_printed_for_debugging(rt: HostRuntime) {
     let alloc = rt.alloc();
     let letters = typed(DType::Binary(NO), bytes(alloc, &[0, 255]));
     let items = list_type(alloc).and_then(|dtype| typed(dtype, list(alloc, &[Some(1)])));
-    assert!(rt; rt.yes(prints(rt, Ok(null_integer()), "null")));
-    assert!(rt; rt.yes(prints(rt, Ok(Scalar::from(-7i16)), "-7i16")));
-    assert!(rt; rt.yes(prints(rt, Scalar::try_from_str(alloc, "new"), "\"new\"")));
-    assert!(rt; rt.yes(prints(rt, letters, "0x00ff")));
-    assert!(rt; rt.yes(prints(rt, items, "[1u8]")));
+    sure(&rt, prints(rt, Ok(null_integer()), "null"));
+    sure(&rt, prints(rt, Ok(Scalar::from(-7i16)), "-7i16"));
+    sure(
+        &rt,
+        prints(rt, Scalar::try_from_str(alloc, "new"), "\"new\""),
+    );
+    sure(&rt, prints(rt, letters, "0x00ff"));
+    sure(&rt, prints(rt, items, "[1u8]"));
     assert_eq!(rt; *Scalar::from(true).dtype(), DType::Bool(NO));
     assert_eq!(rt; Scalar::from(true), Scalar::bool(true, NO));
 }
@@ -86,7 +90,7 @@ fn scalars_are_read(rt: HostRuntime) {
     assert!(rt; null.is_null() && no.as_bool_opt() == Some(false));
     assert!(rt; *null.dtype() != *no.dtype());
     assert!(rt; null.dtype().eq_ignore_nullability(no.dtype()));
-    assert!(rt; rt.yes(copies(rt.alloc(), &no)));
+    sure(&rt, copies(rt.alloc(), &no));
 }
 
 /// Whether 1 of i32 and 1 of nullable i32 are equal.
@@ -97,7 +101,7 @@ fn nullability_is_passed_over() -> VortexResult<bool> {
 
 #[test]
 fn integers_are_ordered_within_a_type(rt: HostRuntime) {
-    assert!(rt; rt.yes(nullability_is_passed_over()));
+    sure(&rt, nullability_is_passed_over());
     assert!(rt;
         Scalar::from(1i32)
             .partial_cmp(&Scalar::from(1i64))
@@ -133,7 +137,7 @@ fn text_is_less(alloc: Global, left: &str, right: &str) -> VortexResult<bool> {
 
 #[test]
 fn a_text_is_less_than_one_that_continues_it(rt: HostRuntime) {
-    assert!(rt; rt.yes(text_is_less(rt.alloc(), "a", "a\0")));
+    sure(&rt, text_is_less(rt.alloc(), "a", "a\0"));
 }
 
 fn list_type(alloc: Global) -> VortexResult<DType> {
@@ -171,27 +175,36 @@ fn takes(
 
 #[test]
 fn flat_values_have_their_type(rt: HostRuntime) {
-    assert!(rt; rt.is_refused(integer(PType::I8, 128), "InvalidColumn"));
-    assert!(rt; rt.is_refused(Scalar::try_new(DType::Bool(NO), None), "InvalidColumn"));
+    must(&rt, rt.is_refused(integer(PType::I8, 128), "InvalidColumn"));
+    must(
+        &rt,
+        rt.is_refused(Scalar::try_new(DType::Bool(NO), None), "InvalidColumn"),
+    );
 }
 
 #[test]
 fn lists_have_elements_of_their_type(rt: HostRuntime) {
     let alloc = rt.alloc();
     let (one, two) = ([Some(1), None], [Some(1), Some(2)]);
-    assert!(rt; rt.yes(takes(rt, list_type(alloc), list(alloc, &one), false)));
-    assert!(rt; rt.yes(takes(rt, list_type(alloc), list(alloc, &two), true)));
+    sure(&rt, takes(rt, list_type(alloc), list(alloc, &one), false));
+    sure(&rt, takes(rt, list_type(alloc), list(alloc, &two), true));
     let three = [Some(1), Some(2), Some(3)];
-    assert!(rt; rt.yes(takes(rt, pair_type(alloc), list(alloc, &three), false)));
-    assert!(rt; rt.yes(takes(rt, pair_type(alloc), list(alloc, &two), true)));
+    sure(&rt, takes(rt, pair_type(alloc), list(alloc, &three), false));
+    sure(&rt, takes(rt, pair_type(alloc), list(alloc, &two), true));
 }
 
 #[test]
 fn structs_and_maps_have_parts_of_their_types(rt: HostRuntime) {
     let alloc = rt.alloc();
-    assert!(rt; rt.yes(takes(rt, struct_type(alloc), list(alloc, &[None]), false)));
-    assert!(rt; rt.yes(takes(rt, map_type(alloc), list(alloc, &[Some(1)]), false)));
-    assert!(rt; rt.yes(takes(rt, map_type(alloc), entry(alloc, 1, None), true)));
+    sure(
+        &rt,
+        takes(rt, struct_type(alloc), list(alloc, &[None]), false),
+    );
+    sure(
+        &rt,
+        takes(rt, map_type(alloc), list(alloc, &[Some(1)]), false),
+    );
+    sure(&rt, takes(rt, map_type(alloc), entry(alloc, 1, None), true));
 }
 
 /// Whether a list's copy has two items, of which the first is null.
@@ -208,5 +221,5 @@ fn copies_nested(alloc: Global) -> VortexResult<bool> {
 
 #[test]
 fn nested_values_are_copied(rt: HostRuntime) {
-    assert!(rt; rt.yes(copies_nested(rt.alloc())));
+    sure(&rt, copies_nested(rt.alloc()));
 }

@@ -2,9 +2,8 @@
 ghost use Rattle.std.specs.Prelude.{◌<◌, ◌↔◌, IsTrue, All};
 
 use crate::columns::{byte_lists, lists};
-use fixtures::{
-    Ask, Made, constant, kept, names, nullable_bools, nullable_ints, numbers, same, texts,
-};
+use crate::questions::sure;
+use fixtures::{Made, constant, kept, names, nullable_bools, nullable_ints, numbers, same, texts};
 use std::alloc::Global;
 use vortex_columns::{Column, ExecutionCtx, PType, Validity, VortexResult};
 
@@ -41,14 +40,23 @@ fn gives(rt: HostRuntime, column: Made, codes: &[u32], wanted: Made) -> VortexRe
 fn integers_are_taken(rt: HostRuntime) {
     let alloc = rt.alloc();
     let wanted = numbers(alloc, &[30i32, 10, 30, 20]);
-    assert!(rt; rt.yes(gives(rt, numbers(alloc, &[10i32, 20, 30]), &[2, 0, 2, 1], wanted)));
+    sure(
+        &rt,
+        gives(rt, numbers(alloc, &[10i32, 20, 30]), &[2, 0, 2, 1], wanted),
+    );
     let wanted = numbers(alloc, &[0u64, u64::MAX]);
-    assert!(rt; rt.yes(gives(rt, numbers(alloc, &[u64::MAX, 0]), &[1, 0], wanted)));
+    sure(
+        &rt,
+        gives(rt, numbers(alloc, &[u64::MAX, 0]), &[1, 0], wanted),
+    );
     let wanted = numbers(alloc, &[-128i8]);
-    assert!(rt; rt.yes(gives(rt, numbers(alloc, &[127i8, -128]), &[1], wanted)));
+    sure(&rt, gives(rt, numbers(alloc, &[127i8, -128]), &[1], wanted));
     let rows = [Some(1), None, Some(3)];
     let wanted = nullable_ints(alloc, &[None, Some(3), None]);
-    assert!(rt; rt.yes(gives(rt, nullable_ints(alloc, &rows), &[1, 2, 1], wanted)));
+    sure(
+        &rt,
+        gives(rt, nullable_ints(alloc, &rows), &[1, 2, 1], wanted),
+    );
 }
 
 /// The codes 0, 1 and 2 in turn, so many of them, and the truth values that they name.
@@ -76,9 +84,9 @@ fn takes_in_turn(rt: HostRuntime, count: u32) -> VortexResult<bool> {
 
 #[test]
 fn truth_values_are_taken(rt: HostRuntime) {
-    assert!(rt; rt.yes(takes_in_turn(rt, 0)));
-    assert!(rt; rt.yes(takes_in_turn(rt, 64)));
-    assert!(rt; rt.yes(takes_in_turn(rt, 131)));
+    sure(&rt, takes_in_turn(rt, 0));
+    sure(&rt, takes_in_turn(rt, 64));
+    sure(&rt, takes_in_turn(rt, 131));
 }
 
 fn short_and_long(alloc: Global) -> Made {
@@ -102,11 +110,11 @@ fn texts_and_bytes_are_taken(rt: HostRuntime) {
     let alloc = rt.alloc();
     let words = ["hello, world, again", "", "a", "hello, world, again"];
     let wanted = texts(alloc, &words, Validity::AllValid);
-    assert!(rt; rt.yes(gives(rt, short_and_long(alloc), &[1, 2, 0, 1], wanted)));
+    sure(&rt, gives(rt, short_and_long(alloc), &[1, 2, 0, 1], wanted));
     let column = bytes(alloc, &[&[255], b"more than twelve bytes"]);
     let wanted = bytes(alloc, &[b"more than twelve bytes", &[255]]);
-    assert!(rt; rt.yes(gives(rt, column, &[1, 0], wanted)));
-    assert!(rt; rt.yes(gives(rt, byte_lists(alloc), &[0], byte_lists(alloc))));
+    sure(&rt, gives(rt, column, &[1, 0], wanted));
+    sure(&rt, gives(rt, byte_lists(alloc), &[0], byte_lists(alloc)));
 }
 
 /// Records of a number and a name.
@@ -146,18 +154,25 @@ fn identities(alloc: Global, offsets: &[usize], sizes: &[usize]) -> Made {
 fn records_lists_and_maps_are_taken(rt: HostRuntime) {
     let alloc = rt.alloc();
     let wanted = people(alloc, &[8, 9, 8], &["bo", "al", "bo"]);
-    assert!(rt;
-        rt.yes(gives(
+    sure(
+        &rt,
+        gives(
             rt,
             people(alloc, &[9, 8], &["al", "bo"]),
             &[1, 0, 1],
-            wanted
-        ))
+            wanted,
+        ),
     );
     let wanted = lists(alloc, [1, 0], [1, 2]);
-    assert!(rt; rt.yes(gives(rt, lists(alloc, [0, 1], [2, 1]), &[1, 0], wanted)));
+    sure(
+        &rt,
+        gives(rt, lists(alloc, [0, 1], [2, 1]), &[1, 0], wanted),
+    );
     let wanted = identities(alloc, &[0, 1, 0], &[1, 2, 1]);
-    assert!(rt; rt.yes(gives(rt, identities(alloc, &[1, 0], &[2, 1]), &[1, 0, 1], wanted)));
+    sure(
+        &rt,
+        gives(rt, identities(alloc, &[1, 0], &[2, 1]), &[1, 0, 1], wanted),
+    );
 }
 
 /// Lists of one size of these integers.
@@ -185,12 +200,15 @@ fn lists_of_one_size_are_taken(rt: HostRuntime) {
     let alloc = rt.alloc();
     let column = fixed_sizes(alloc, &[1, 2, 3, 4, 5, 6], 2, 3);
     let wanted = fixed_sizes(alloc, &[5, 6, 1, 2], 2, 2);
-    assert!(rt; rt.yes(gives(rt, column, &[2, 0], wanted)));
+    sure(&rt, gives(rt, column, &[2, 0], wanted));
     let column = pairs_of_pairs(alloc, &[1, 2, 3, 4, 5, 6, 7, 8], 2);
     let wanted = pairs_of_pairs(alloc, &[5, 6, 7, 8, 5, 6, 7, 8], 2);
-    assert!(rt; rt.yes(gives(rt, column, &[1, 1], wanted)));
+    sure(&rt, gives(rt, column, &[1, 1], wanted));
     let wanted = fixed_sizes(alloc, &[], 0, 4);
-    assert!(rt; rt.yes(gives(rt, fixed_sizes(alloc, &[], 0, 3), &[2, 2, 0, 1], wanted)));
+    sure(
+        &rt,
+        gives(rt, fixed_sizes(alloc, &[], 0, 3), &[2, 2, 0, 1], wanted),
+    );
 }
 
 fn nulls(alloc: Global, len: usize) -> Made {
@@ -200,20 +218,23 @@ fn nulls(alloc: Global, len: usize) -> Made {
 #[test]
 fn nulls_and_constants_are_taken(rt: HostRuntime) {
     let alloc = rt.alloc();
-    assert!(rt; rt.yes(gives(rt, nulls(alloc, 2), &[1, 1, 0], nulls(alloc, 3))));
+    sure(&rt, gives(rt, nulls(alloc, 2), &[1, 1, 0], nulls(alloc, 3)));
     let column = constant(alloc, PType::I32, 1, 2);
-    assert!(rt; rt.yes(gives(rt, column, &[0, 1, 1], constant(alloc, PType::I32, 1, 3))));
+    sure(
+        &rt,
+        gives(rt, column, &[0, 1, 1], constant(alloc, PType::I32, 1, 3)),
+    );
 }
 
 #[test]
 fn no_codes_take_no_rows(rt: HostRuntime) {
     let alloc = rt.alloc();
     let none = texts(alloc, &[], Validity::AllValid);
-    assert!(rt; rt.yes(gives(rt, short_and_long(alloc), &[], none)));
+    sure(&rt, gives(rt, short_and_long(alloc), &[], none));
     let none = people(alloc, &[], &[]);
-    assert!(rt; rt.yes(gives(rt, people(alloc, &[9], &["al"]), &[], none)));
+    sure(&rt, gives(rt, people(alloc, &[9], &["al"]), &[], none));
     let none = fixed_sizes(alloc, &[], 2, 0);
-    assert!(rt; rt.yes(gives(rt, fixed_sizes(alloc, &[1, 2], 2, 1), &[], none)));
+    sure(&rt, gives(rt, fixed_sizes(alloc, &[1, 2], 2, 1), &[], none));
     let none = constant(alloc, PType::I32, 1, 0);
-    assert!(rt; rt.yes(gives(rt, constant(alloc, PType::I32, 1, 2), &[], none)));
+    sure(&rt, gives(rt, constant(alloc, PType::I32, 1, 2), &[], none));
 }

@@ -1,10 +1,10 @@
 //! The texts of columns and of literals.
 
 use crate::columns::{byte_lists, fixed, lists, maps, records};
+use crate::questions::sure;
 use crate::values::{bytes, integers, list, typed};
 use fixtures::{
-    Ask, Made, bools, boxed, constant, fields, kept, nullable_bools, nullable_ints, numbers, same,
-    texts,
+    Made, bools, boxed, constant, fields, kept, nullable_bools, nullable_ints, numbers, same, texts,
 };
 use std::alloc::Global;
 use vortex_columns::{
@@ -24,19 +24,28 @@ fn reads(rt: HostRuntime, column: Made, wanted: &str) -> VortexResult<bool> {
 fn columns_of_numbers_have_texts(rt: HostRuntime) {
     let alloc = rt.alloc();
     let greatest = constant(alloc, PType::U64, 18446744073709551615, 1);
-    assert!(rt; rt.yes(reads(rt, numbers::<i32>(alloc, &[]), "i32:")));
-    assert!(rt; rt.yes(reads(rt, nullable_ints(alloc, &[Some(3), None]), "i32?: 3 null")));
-    assert!(rt; rt.yes(reads(rt, numbers(alloc, &[-128i8, 1]), "i8: -128 1")));
-    assert!(rt; rt.yes(reads(rt, greatest, "u64: 18446744073709551615")));
+    sure(&rt, reads(rt, numbers::<i32>(alloc, &[]), "i32:"));
+    sure(
+        &rt,
+        reads(rt, nullable_ints(alloc, &[Some(3), None]), "i32?: 3 null"),
+    );
+    sure(&rt, reads(rt, numbers(alloc, &[-128i8, 1]), "i8: -128 1"));
+    sure(&rt, reads(rt, greatest, "u64: 18446744073709551615"));
 }
 
 #[test]
 fn columns_of_truth_values_have_texts(rt: HostRuntime) {
     let alloc = rt.alloc();
     let unknown = nullable_bools(alloc, &[None, Some(true)]);
-    assert!(rt; rt.yes(reads(rt, bools(alloc, &[false, true]), "bool: false true")));
-    assert!(rt; rt.yes(reads(rt, unknown, "bool?: null true")));
-    assert!(rt; rt.yes(reads(rt, kept(alloc, Ok(Column::null(2))), "null: null null")));
+    sure(
+        &rt,
+        reads(rt, bools(alloc, &[false, true]), "bool: false true"),
+    );
+    sure(&rt, reads(rt, unknown, "bool?: null true"));
+    sure(
+        &rt,
+        reads(rt, kept(alloc, Ok(Column::null(2))), "null: null null"),
+    );
 }
 
 #[test]
@@ -44,9 +53,9 @@ fn columns_of_texts_and_bytes_have_texts(rt: HostRuntime) {
     let alloc = rt.alloc();
     let three = texts(alloc, &["aab", "100%", ""], Validity::NonNullable);
     let quoted = texts(alloc, &["\"a"], Validity::AllValid);
-    assert!(rt; rt.yes(reads(rt, three, "utf8: \"aab\" \"100%\" \"\"")));
-    assert!(rt; rt.yes(reads(rt, quoted, "utf8?: \"\"a\"")));
-    assert!(rt; rt.yes(reads(rt, byte_lists(alloc), "binary?: null")));
+    sure(&rt, reads(rt, three, "utf8: \"aab\" \"100%\" \"\""));
+    sure(&rt, reads(rt, quoted, "utf8?: \"\"a\""));
+    sure(&rt, reads(rt, byte_lists(alloc), "binary?: null"));
 }
 
 #[test]
@@ -54,10 +63,13 @@ fn columns_of_lists_and_records_have_texts(rt: HostRuntime) {
     let alloc = rt.alloc();
     let entries = "map[i32, i32]: [{key: 6, value: 6}] []";
     let pairs = "struct{a: i32, b: i32}: {a: 5, b: 5} {a: 6, b: 6}";
-    assert!(rt; rt.yes(reads(rt, lists(alloc, [0, 0], [2, 1]), "list[i32]: [5, 6] [5]")));
-    assert!(rt; rt.yes(reads(rt, fixed(alloc), "list[i32; 1]?: [5] [6]")));
-    assert!(rt; rt.yes(reads(rt, maps(alloc, &[5, 6]), entries)));
-    assert!(rt; rt.yes(reads(rt, records(alloc, "a", "b", 2), pairs)));
+    sure(
+        &rt,
+        reads(rt, lists(alloc, [0, 0], [2, 1]), "list[i32]: [5, 6] [5]"),
+    );
+    sure(&rt, reads(rt, fixed(alloc), "list[i32; 1]?: [5] [6]"));
+    sure(&rt, reads(rt, maps(alloc, &[5, 6]), entries));
+    sure(&rt, reads(rt, records(alloc, "a", "b", 2), pairs));
 }
 
 /// A number and a list of one number and null, in a record.
@@ -91,8 +103,11 @@ fn writes(rt: HostRuntime, scalar: VortexResult<Scalar>, wanted: &str) -> Vortex
 fn numbers_of_literals_have_types(rt: HostRuntime) {
     let alloc = rt.alloc();
     let all = "struct{n: u8, m: list[i32?]?}: {n: 1, m: [5, null]}";
-    assert!(rt; rt.yes(reads(rt, one(alloc, nested(alloc)), all)));
-    assert!(rt; rt.yes(writes(rt, nested(alloc), "= {n: 1u8, m: [5i32, null]}")));
+    sure(&rt, reads(rt, one(alloc, nested(alloc)), all));
+    sure(
+        &rt,
+        writes(rt, nested(alloc), "= {n: 1u8, m: [5i32, null]}"),
+    );
 }
 
 #[test]
@@ -100,5 +115,5 @@ fn bytes_are_hexadecimal(rt: HostRuntime) {
     let alloc = rt.alloc();
     let dtype = DType::Binary(Nullability::NonNullable);
     let two = one(alloc, typed(dtype, bytes(alloc, &[0, 255])));
-    assert!(rt; rt.yes(reads(rt, two, "binary: 0x00ff")));
+    sure(&rt, reads(rt, two, "binary: 0x00ff"));
 }

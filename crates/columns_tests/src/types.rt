@@ -1,5 +1,6 @@
 //! Types, their nullability, and fields.
 
+use crate::questions::{must, sure};
 use fixtures::{Ask, fields, names, same};
 use std::alloc::Global;
 use vortex_columns::{DType, Nullability, PType, StructFields, VortexResult};
@@ -53,9 +54,9 @@ fn count_is(
 #[test]
 fn fields_are_found_by_name(rt: HostRuntime) {
     let alloc = rt.alloc();
-    assert!(rt; rt.yes(stands_at(rt, named(alloc, &["a", "b"], 2), "b", 1)));
-    assert!(rt; rt.yes(lack(named(alloc, &["a", "b"], 2), "c")));
-    assert!(rt; rt.yes(count_is(rt, named(alloc, &["a", "b"], 2), 2)));
+    sure(&rt, stands_at(rt, named(alloc, &["a", "b"], 2), "b", 1));
+    sure(&rt, lack(named(alloc, &["a", "b"], 2), "c"));
+    sure(&rt, count_is(rt, named(alloc, &["a", "b"], 2), 2));
 }
 
 /// Fields that are listed: a price and what is nullable.
@@ -67,17 +68,23 @@ fn listed(alloc: Global, name: &str) -> VortexResult<StructFields> {
 #[test]
 fn fields_are_listed(rt: HostRuntime) {
     let alloc = rt.alloc();
-    assert!(rt; rt.yes(count_is(rt, listed(alloc, "sold"), 2)));
-    assert!(rt; rt.yes(stands_at(rt, listed(alloc, "sold"), "sold", 1)));
-    assert!(rt; rt.is_refused(listed(alloc, "price"), "InvalidColumn"));
+    sure(&rt, count_is(rt, listed(alloc, "sold"), 2));
+    sure(&rt, stands_at(rt, listed(alloc, "sold"), "sold", 1));
+    must(&rt, rt.is_refused(listed(alloc, "price"), "InvalidColumn"));
 }
 
 #[test]
 fn names_and_types_pair(rt: HostRuntime) {
     let alloc = rt.alloc();
-    assert!(rt; rt.yes(count_is(rt, named(alloc, &[], 0), 0)));
-    assert!(rt; rt.is_refused(named(alloc, &["a", "a"], 2), "InvalidColumn"));
-    assert!(rt; rt.is_refused(named(alloc, &["a", "b"], 1), "InvalidColumn"));
+    sure(&rt, count_is(rt, named(alloc, &[], 0), 0));
+    must(
+        &rt,
+        rt.is_refused(named(alloc, &["a", "a"], 2), "InvalidColumn"),
+    );
+    must(
+        &rt,
+        rt.is_refused(named(alloc, &["a", "b"], 1), "InvalidColumn"),
+    );
 }
 
 /// Adds a field of nullable Bool, unless its name stands already.
@@ -101,9 +108,9 @@ fn grown(alloc: Global) -> VortexResult<StructFields> {
 #[test]
 fn fields_are_added(rt: HostRuntime) {
     let alloc = rt.alloc();
-    assert!(rt; rt.yes(count_is(rt, grown(alloc), 2)));
-    assert!(rt; rt.yes(stands_at(rt, grown(alloc), "a", 0)));
-    assert!(rt; rt.yes(stands_at(rt, grown(alloc), "b", 1)));
+    sure(&rt, count_is(rt, grown(alloc), 2));
+    sure(&rt, stands_at(rt, grown(alloc), "a", 0));
+    sure(&rt, stands_at(rt, grown(alloc), "b", 1));
 }
 
 #[test]
@@ -122,8 +129,14 @@ fn loses_null(alloc: Global, dtype: DType) -> VortexResult<bool> {
 #[test]
 fn types_change_their_nullability(rt: HostRuntime) {
     let alloc = rt.alloc();
-    assert!(rt; rt.yes(loses_null(alloc, DType::Bool(NO).with_nullability(YES))));
-    assert!(rt; rt.yes(loses_null(alloc, DType::Utf8(NO).with_nullability(YES))));
+    sure(
+        &rt,
+        loses_null(alloc, DType::Bool(NO).with_nullability(YES)),
+    );
+    sure(
+        &rt,
+        loses_null(alloc, DType::Utf8(NO).with_nullability(YES)),
+    );
 }
 
 /// Whether a struct of nullable Bool is a copy of itself, and differs from one of plain Bool by
@@ -159,16 +172,16 @@ fn fields_are_equal(
 fn fields_are_compared_with_nullability(rt: HostRuntime) {
     let alloc = rt.alloc();
     let (left, right) = (two_truths(alloc, YES), two_truths(alloc, YES));
-    assert!(rt; rt.yes(fields_are_equal(rt, left, right, true)));
+    sure(&rt, fields_are_equal(rt, left, right, true));
     let (left, right) = (two_truths(alloc, YES), two_truths(alloc, NO));
-    assert!(rt; rt.yes(fields_are_equal(rt, left, right, false)));
+    sure(&rt, fields_are_equal(rt, left, right, false));
     let (left, right) = (two_truths(alloc, YES), named(alloc, &["a", "c"], 2));
-    assert!(rt; rt.yes(fields_are_equal(rt, left, right, false)));
+    sure(&rt, fields_are_equal(rt, left, right, false));
 }
 
 #[test]
 fn types_are_compared_with_and_without_nullability(rt: HostRuntime) {
-    assert!(rt; rt.yes(differ_by_null(rt.alloc())));
+    sure(&rt, differ_by_null(rt.alloc()));
 }
 
 /// Whether the type holds these two numbers, and not those beside them.

@@ -1,5 +1,6 @@
 //! Columns of texts whose views and buffers are handed in.
 
+use crate::questions::sure;
 use fixtures::{Ask, Made, copied, kept};
 use std::alloc::Global;
 use vortex_columns::{BinaryView, BitBuffer, Column, Scalar, Validity, VortexResult};
@@ -87,7 +88,10 @@ fn texts_are_utf8_where_they_are_valid(rt: HostRuntime) {
             beside_whole(alloc, BinaryView::new_inlined(&[0xFF]), true)
         )
     );
-    assert!(rt; rt.yes(has_two(beside_whole(alloc, BinaryView::new_inlined(&[0xFF]), false))));
+    sure(
+        &rt,
+        has_two(beside_whole(alloc, BinaryView::new_inlined(&[0xFF]), false)),
+    );
 }
 
 /// Two texts that overlap in one buffer.
@@ -124,13 +128,17 @@ fn has_texts(alloc: Global, column: Made, first: &str, second: &str) -> VortexRe
 #[test]
 fn views_may_overlap(rt: HostRuntime) {
     let alloc = rt.alloc();
-    assert!(rt; rt.yes(has_texts(alloc, overlapping(alloc), "hello, world!", "o, world! hel")));
-    assert!(rt;
-        rt.yes(has_texts(
+    sure(
+        &rt,
+        has_texts(alloc, overlapping(alloc), "hello, world!", "o, world! hel"),
+    );
+    sure(
+        &rt,
+        has_texts(
             alloc,
             copied(alloc, overlapping(alloc)),
             "hello, world!",
-            "o, world! hel"
-        ))
+            "o, world! hel",
+        ),
     );
 }

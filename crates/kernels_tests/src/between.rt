@@ -1,11 +1,9 @@
 //! Between, by the strictness of its bounds, its nulls, and the forms of its columns.
 
-use crate::questions::{
-    NO, NULL, YES, constant_of, null_integer, nullable_texts, plain_texts, says, says_or_null,
-};
-use fixtures::{Ask, Made, bools, constant, kept, nullable_ints, numbers};
+use crate::said::{is_case, is_said, said};
+use fixtures::{Made, kept};
 use std::alloc::Global;
-use vortex_columns::{Column, ExecutionCtx, PType, Scalar, VortexError};
+use vortex_columns::{Column, ExecutionCtx, VortexError};
 use vortex_kernels::{BetweenOptions, StrictComparison, execute_between};
 
 const STRICT: StrictComparison = StrictComparison::Strict;
@@ -46,116 +44,131 @@ pub(crate) fn between(
     bounded(alloc, &*array, (&*lower, &*upper), &options)
 }
 
-/// Five numbers beside their bounds.
-fn five(alloc: Global) -> (Made, Made, Made) {
-    (
-        numbers(alloc, &[0i32, 0, 0, 0, 2]),
-        numbers(alloc, &[1i32, 0, 1, 0, 1]),
-        numbers(alloc, &[2i32, 1, 1, 0, 0]),
-    )
+/// A lower bound, an array and an upper bound, which bounds are strict, and what is answered.
+type Bounded = (
+    &'static str,
+    &'static str,
+    &'static str,
+    Strictness,
+    &'static str,
+);
+
+type Strictness = (StrictComparison, StrictComparison);
+
+/// Whether each case answers so.
+fn each_lies_between(rt: HostRuntime, cases: &[Bounded]) -> bool {
+    let alloc = rt.alloc();
+    for (place, (lower, array, upper, strict, wanted)) in cases.iter().enumerate() {
+        let columns = (said(alloc, lower), said(alloc, array), said(alloc, upper));
+        let answer = between(alloc, columns, strict.0, strict.1);
+        if !is_case(rt, place, is_said(rt, answer, wanted)) {
+            return false;
+        }
+    }
+    true
 }
 
 #[test]
 fn bounds_are_left_out_where_they_are_strict(rt: HostRuntime) {
-    let alloc = rt.alloc();
-    let loose = between(alloc, five(alloc), LOOSE, LOOSE);
-    assert!(rt; rt.yes(says(rt, loose, &[true, true, true, true, false])));
-    let upper = between(alloc, five(alloc), LOOSE, STRICT);
-    assert!(rt; rt.yes(says(rt, upper, &[true, true, false, false, false])));
-    let lower = between(alloc, five(alloc), STRICT, LOOSE);
-    assert!(rt; rt.yes(says(rt, lower, &[true, false, true, false, false])));
-    let both = between(alloc, five(alloc), STRICT, STRICT);
-    assert!(rt; rt.yes(says(rt, both, &[true, false, false, false, false])));
-}
-
-/// Numbers beside lower bounds of which two are null.
-fn beside_nulls(alloc: Global) -> (Made, Made, Made) {
-    (
-        nullable_ints(alloc, &[None, None, Some(0)]),
-        numbers(alloc, &[10i32, 10, 1]),
-        numbers(alloc, &[5i32, 50, 5]),
-    )
-}
-
-/// Numbers whose upper bound is a null constant.
-fn below_null(alloc: Global) -> (Made, Made, Made) {
-    (
-        numbers(alloc, &[0i32, 0, 2, 0, 2]),
-        numbers(alloc, &[1i32, 0, 1, 0, 1]),
-        constant_of(alloc, null_integer(), 5),
-    )
+    const CASES: &[Bounded] = &[
+        (
+            "i32: 0 0 0 0 2",
+            "i32: 1 0 1 0 1",
+            "i32: 2 1 1 0 0",
+            (LOOSE, LOOSE),
+            "bool: true true true true false",
+        ),
+        (
+            "i32: 0 0 0 0 2",
+            "i32: 1 0 1 0 1",
+            "i32: 2 1 1 0 0",
+            (LOOSE, STRICT),
+            "bool: true true false false false",
+        ),
+        (
+            "i32: 0 0 0 0 2",
+            "i32: 1 0 1 0 1",
+            "i32: 2 1 1 0 0",
+            (STRICT, LOOSE),
+            "bool: true false true false false",
+        ),
+        (
+            "i32: 0 0 0 0 2",
+            "i32: 1 0 1 0 1",
+            "i32: 2 1 1 0 0",
+            (STRICT, STRICT),
+            "bool: true false false false false",
+        ),
+    ];
+    assert!(rt; each_lies_between(rt, CASES));
 }
 
 #[test]
 fn a_row_beside_one_null_can_be_false(rt: HostRuntime) {
-    let alloc = rt.alloc();
-    let lower = between(alloc, beside_nulls(alloc), LOOSE, LOOSE);
-    assert!(rt; rt.yes(says_or_null(rt, lower, &[NO, NULL, YES])));
-    let upper = between(alloc, below_null(alloc), LOOSE, LOOSE);
-    assert!(rt; rt.yes(says_or_null(rt, upper, &[NULL, NULL, NO, NULL, NO])));
-}
-
-/// Numbers and nulls beside a lower constant.
-fn above_three(alloc: Global) -> (Made, Made, Made) {
-    (
-        constant(alloc, PType::I32, 3, 3),
-        nullable_ints(alloc, &[Some(4), None, Some(3)]),
-        numbers(alloc, &[4i32, 4, 4]),
-    )
-}
-
-/// Five in each row, beside columns of bounds.
-fn fives(alloc: Global) -> (Made, Made, Made) {
-    (
-        numbers(alloc, &[5i32, 6]),
-        constant(alloc, PType::I32, 5, 2),
-        numbers(alloc, &[5i32, 7]),
-    )
-}
-
-/// Two beside one and three, in each row.
-fn twos(alloc: Global) -> (Made, Made, Made) {
-    (
-        constant(alloc, PType::U8, 1, 2),
-        constant(alloc, PType::U8, 2, 2),
-        constant(alloc, PType::U8, 3, 2),
-    )
+    const CASES: &[Bounded] = &[
+        (
+            "i32?: _ _ 0",
+            "i32: 10 10 1",
+            "i32: 5 50 5",
+            (LOOSE, LOOSE),
+            "bool?: false _ true",
+        ),
+        (
+            "i32: 0 0 2 0 2",
+            "i32: 1 0 1 0 1",
+            "5 of i32?: _",
+            (LOOSE, LOOSE),
+            "bool?: _ _ false _ false",
+        ),
+    ];
+    assert!(rt; each_lies_between(rt, CASES));
 }
 
 #[test]
 fn constants_stand_on_every_side(rt: HostRuntime) {
-    let alloc = rt.alloc();
-    let column = between(alloc, above_three(alloc), STRICT, LOOSE);
-    assert!(rt; rt.yes(says_or_null(rt, column, &[YES, NULL, NO])));
-    let array = between(alloc, fives(alloc), LOOSE, STRICT);
-    assert!(rt; rt.yes(says(rt, array, &[false, false])));
-    let all = between(alloc, twos(alloc), STRICT, STRICT);
-    assert!(rt; rt.yes(says(rt, all, &[true, true])));
-}
-
-/// Words beside the constant b and a column.
-fn words(alloc: Global) -> (Made, Made, Made) {
-    (
-        constant_of(alloc, Scalar::try_from_str(alloc, "b"), 3),
-        nullable_texts(alloc, &["b", "bb", "x"], &[true, true, false]),
-        plain_texts(alloc, &["b", "ba", "z"]),
-    )
-}
-
-/// Truth values beside truth values.
-fn truths(alloc: Global) -> (Made, Made, Made) {
-    (
-        bools(alloc, &[false, false]),
-        bools(alloc, &[true, true]),
-        bools(alloc, &[true, false]),
-    )
+    const CASES: &[Bounded] = &[
+        (
+            "3 of i32: 3",
+            "i32?: 4 _ 3",
+            "i32: 4 4 4",
+            (STRICT, LOOSE),
+            "bool?: true _ false",
+        ),
+        (
+            "i32: 5 6",
+            "2 of i32: 5",
+            "i32: 5 7",
+            (LOOSE, STRICT),
+            "bool: false false",
+        ),
+        (
+            "2 of u8: 1",
+            "2 of u8: 2",
+            "2 of u8: 3",
+            (STRICT, STRICT),
+            "bool: true true",
+        ),
+    ];
+    assert!(rt; each_lies_between(rt, CASES));
 }
 
 #[test]
 fn other_types_lie_between(rt: HostRuntime) {
-    let alloc = rt.alloc();
-    let texts = between(alloc, words(alloc), LOOSE, LOOSE);
-    assert!(rt; rt.yes(says_or_null(rt, texts, &[YES, NO, NULL])));
-    let bools = between(alloc, truths(alloc), STRICT, LOOSE);
-    assert!(rt; rt.yes(says(rt, bools, &[true, false])));
+    const CASES: &[Bounded] = &[
+        (
+            "3 of utf8: b",
+            "utf8?: b bb _",
+            "utf8: b ba z",
+            (LOOSE, LOOSE),
+            "bool?: true false _",
+        ),
+        (
+            "bool: false false",
+            "bool: true true",
+            "bool: true false",
+            (STRICT, LOOSE),
+            "bool: true false",
+        ),
+    ];
+    assert!(rt; each_lies_between(rt, CASES));
 }

@@ -2,7 +2,7 @@
 
 use crate::questions::{
     NO, NULL, NULLABLE, PLAIN, YES, combined, compared, constant_of, has_rows, negated, says,
-    says_or_null,
+    says_or_null, sure,
 };
 use fixtures::{Ask, Made, bools, kept, nullable_bools};
 use std::alloc::Global;
@@ -27,11 +27,14 @@ fn table(alloc: Global, operator: Operator) -> Made {
 fn follows_kleenes_tables(rt: HostRuntime) {
     let alloc = rt.alloc();
     let both = [YES, NO, NULL, NO, NO, NO, NULL, NO, NULL];
-    assert!(rt; rt.yes(says_or_null(rt, table(alloc, Operator::And), &both)));
+    sure(&rt, says_or_null(rt, table(alloc, Operator::And), &both));
     let either = [YES, YES, YES, YES, NO, NULL, YES, NULL, NULL];
-    assert!(rt; rt.yes(says_or_null(rt, table(alloc, Operator::Or), &either)));
+    sure(&rt, says_or_null(rt, table(alloc, Operator::Or), &either));
     let not_both = [NO, YES, NULL, YES, YES, YES, NULL, YES, NULL];
-    assert!(rt; rt.yes(says_or_null(rt, negated(alloc, table(alloc, Operator::And)), &not_both)));
+    sure(
+        &rt,
+        says_or_null(rt, negated(alloc, table(alloc, Operator::And)), &not_both),
+    );
 }
 
 /// Yes and No, beside a column of two rows.
@@ -43,11 +46,11 @@ fn yes_and_no(alloc: Global, operator: Operator, right: Made) -> Made {
 fn is_nullable_if_a_side_is(rt: HostRuntime) {
     let alloc = rt.alloc();
     let both = yes_and_no(alloc, Operator::And, bools(alloc, &[true, true]));
-    assert!(rt; rt.yes(says(rt, both, &[true, false])));
+    sure(&rt, says(rt, both, &[true, false]));
     let both = yes_and_no(alloc, Operator::And, bools(alloc, &[true, true]));
-    assert!(rt; rt.yes(says(rt, negated(alloc, both), &[false, true])));
+    sure(&rt, says(rt, negated(alloc, both), &[false, true]));
     let mixed = yes_and_no(alloc, Operator::Or, nullable_bools(alloc, &[NULL, NULL]));
-    assert!(rt; rt.yes(says_or_null(rt, mixed, &[YES, NULL])));
+    sure(&rt, says_or_null(rt, mixed, &[YES, NULL]));
 }
 
 /// A form in which a column of Bool lends its rows.
@@ -196,12 +199,12 @@ fn nots(rt: HostRuntime, form: Form) -> VortexResult<bool> {
 
 #[test]
 fn turns_each_form(rt: HostRuntime) {
-    assert!(rt; rt.yes(nots(rt, Form::Plain)));
-    assert!(rt; rt.yes(nots(rt, Form::AllValid)));
-    assert!(rt; rt.yes(nots(rt, Form::Masked)));
-    assert!(rt; rt.yes(nots(rt, Form::AllInvalid)));
-    assert!(rt; rt.yes(nots(rt, Form::OneTruth)));
-    assert!(rt; rt.yes(nots(rt, Form::OneNull)));
+    sure(&rt, nots(rt, Form::Plain));
+    sure(&rt, nots(rt, Form::AllValid));
+    sure(&rt, nots(rt, Form::Masked));
+    sure(&rt, nots(rt, Form::AllInvalid));
+    sure(&rt, nots(rt, Form::OneTruth));
+    sure(&rt, nots(rt, Form::OneNull));
 }
 
 /// No and Yes, both valid.
@@ -219,15 +222,15 @@ fn lists_no_valid_rows(answer: Made) -> VortexResult<bool> {
 fn lists_no_valid_rows_where_none_is_null(rt: HostRuntime) {
     let alloc = rt.alloc();
     let and = combined(alloc, all_valid(alloc), Operator::And, all_valid(alloc));
-    assert!(rt; rt.yes(lists_no_valid_rows(and)));
-    assert!(rt; rt.yes(lists_no_valid_rows(negated(alloc, all_valid(alloc)))));
+    sure(&rt, lists_no_valid_rows(and));
+    sure(&rt, lists_no_valid_rows(negated(alloc, all_valid(alloc))));
     let equal = compared(
         alloc,
         all_valid(alloc),
         CompareOperator::Eq,
         all_valid(alloc),
     );
-    assert!(rt; rt.yes(lists_no_valid_rows(equal)));
+    sure(&rt, lists_no_valid_rows(equal));
 }
 
 /// The same truth value or null in each of three rows.
@@ -265,12 +268,18 @@ fn answers_beside(
 #[test]
 fn constants_beside_bits_that_begin_within_a_byte(rt: HostRuntime) {
     let rows = [YES, NO, NULL];
-    assert!(rt; rt.yes(answers_beside(rt, Operator::And, YES, &rows)));
-    assert!(rt; rt.yes(answers_beside(rt, Operator::And, NO, &[NO, NO, NO])));
-    assert!(rt; rt.yes(answers_beside(rt, Operator::And, NULL, &[NULL, NO, NULL])));
-    assert!(rt; rt.yes(answers_beside(rt, Operator::Or, YES, &[YES, YES, YES])));
-    assert!(rt; rt.yes(answers_beside(rt, Operator::Or, NO, &rows)));
-    assert!(rt; rt.yes(answers_beside(rt, Operator::Or, NULL, &[YES, NULL, NULL])));
+    sure(&rt, answers_beside(rt, Operator::And, YES, &rows));
+    sure(&rt, answers_beside(rt, Operator::And, NO, &[NO, NO, NO]));
+    sure(
+        &rt,
+        answers_beside(rt, Operator::And, NULL, &[NULL, NO, NULL]),
+    );
+    sure(&rt, answers_beside(rt, Operator::Or, YES, &[YES, YES, YES]));
+    sure(&rt, answers_beside(rt, Operator::Or, NO, &rows));
+    sure(
+        &rt,
+        answers_beside(rt, Operator::Or, NULL, &[YES, NULL, NULL]),
+    );
 }
 
 /// Whether a constant beside bits answers a constant.
@@ -287,6 +296,6 @@ fn decides(rt: HostRuntime, operator: Operator, truth: bool) -> VortexResult<boo
 
 #[test]
 fn a_constant_that_decides_answers_a_constant(rt: HostRuntime) {
-    assert!(rt; rt.yes(decides(rt, Operator::And, false)));
-    assert!(rt; rt.yes(decides(rt, Operator::Or, true)));
+    sure(&rt, decides(rt, Operator::And, false));
+    sure(&rt, decides(rt, Operator::Or, true));
 }

@@ -1,7 +1,7 @@
 //! Columns of each integer type by columns, with results from outside. A row that has none is null
 //! in one call, which does not fault, and valid in another, which is refused.
 
-use crate::questions::{NULLABLE, PLAIN, calculated, has_numbers, nullable_numbers};
+use crate::questions::{NULLABLE, PLAIN, calculated, has_numbers, nullable_numbers, sure};
 use fixtures::{Ask, Made, kept};
 use std::alloc::Global;
 use vortex_columns::{Column, NativePType, NumericOperator, Validity, VortexResult};
@@ -91,9 +91,30 @@ fn answers_in_all_lengths<T: NativePType>(
     Ok(true)
 }
 
+/// A place among the cases, and the case that takes it.
+type Change<T> = (usize, Case<T>);
+
+/// Whether the cases answer so, and do so after each change.
+fn answers_changed<T: NativePType>(
+    rt: HostRuntime,
+    cases: &[Case<T>],
+    changes: &[Change<T>],
+) -> VortexResult<bool> {
+    let mut cases = cases.to_vec(rt.alloc())?;
+    let mut holds = answers_in_all_lengths(rt, &cases)?;
+    for (place, case) in changes {
+        let Some(changed) = cases.get_mut(*place) else {
+            return Ok(false);
+        };
+        *changed = *case;
+        holds = answers_in_all_lengths(rt, &cases)? && holds;
+    }
+    Ok(holds)
+}
+
 #[test]
 fn i8_over_i8(rt: HostRuntime) {
-    let mut cases: [Case<i8>; 24] = [
+    const CASES: &[Case<i8>] = &[
         (0, 1, Some(0)),
         (127, 127, Some(1)),
         (127, 1, Some(127)),
@@ -119,18 +140,13 @@ fn i8_over_i8(rt: HostRuntime) {
         (73, -2, Some(-36)),
         (-84, -6, Some(14)),
     ];
-    assert!(rt; rt.yes(answers_in_all_lengths(rt, &cases)));
-    cases[4] = (5, 0, None);
-    assert!(rt; rt.yes(answers_in_all_lengths(rt, &cases)));
-    cases[8] = (0, 0, None);
-    assert!(rt; rt.yes(answers_in_all_lengths(rt, &cases)));
-    cases[9] = (-128, -1, None);
-    assert!(rt; rt.yes(answers_in_all_lengths(rt, &cases)));
+    const CHANGES: &[Change<i8>] = &[(4, (5, 0, None)), (8, (0, 0, None)), (9, (-128, -1, None))];
+    sure(&rt, answers_changed(rt, CASES, CHANGES));
 }
 
 #[test]
 fn i16_over_i16(rt: HostRuntime) {
-    let mut cases: [Case<i16>; 24] = [
+    const CASES: &[Case<i16>] = &[
         (0, 1, Some(0)),
         (32767, 32767, Some(1)),
         (32767, 1, Some(32767)),
@@ -156,18 +172,17 @@ fn i16_over_i16(rt: HostRuntime) {
         (3169, 14, Some(226)),
         (-28252, -224, Some(126)),
     ];
-    assert!(rt; rt.yes(answers_in_all_lengths(rt, &cases)));
-    cases[10] = (5, 0, None);
-    assert!(rt; rt.yes(answers_in_all_lengths(rt, &cases)));
-    cases[19] = (0, 0, None);
-    assert!(rt; rt.yes(answers_in_all_lengths(rt, &cases)));
-    cases[8] = (-32768, -1, None);
-    assert!(rt; rt.yes(answers_in_all_lengths(rt, &cases)));
+    const CHANGES: &[Change<i16>] = &[
+        (10, (5, 0, None)),
+        (19, (0, 0, None)),
+        (8, (-32768, -1, None)),
+    ];
+    sure(&rt, answers_changed(rt, CASES, CHANGES));
 }
 
 #[test]
 fn i32_over_i32(rt: HostRuntime) {
-    let mut cases: [Case<i32>; 24] = [
+    const CASES: &[Case<i32>] = &[
         (0, 1, Some(0)),
         (2147483647, 2147483647, Some(1)),
         (2147483647, 1, Some(2147483647)),
@@ -193,18 +208,17 @@ fn i32_over_i32(rt: HostRuntime) {
         (741991924, -742, Some(-999989)),
         (-1805405843, -1791311535, Some(1)),
     ];
-    assert!(rt; rt.yes(answers_in_all_lengths(rt, &cases)));
-    cases[4] = (5, 0, None);
-    assert!(rt; rt.yes(answers_in_all_lengths(rt, &cases)));
-    cases[12] = (0, 0, None);
-    assert!(rt; rt.yes(answers_in_all_lengths(rt, &cases)));
-    cases[10] = (-2147483648, -1, None);
-    assert!(rt; rt.yes(answers_in_all_lengths(rt, &cases)));
+    const CHANGES: &[Change<i32>] = &[
+        (4, (5, 0, None)),
+        (12, (0, 0, None)),
+        (10, (-2147483648, -1, None)),
+    ];
+    sure(&rt, answers_changed(rt, CASES, CHANGES));
 }
 
 #[test]
 fn u8_over_u8(rt: HostRuntime) {
-    let mut cases: [Case<u8>; 24] = [
+    const CASES: &[Case<u8>] = &[
         (0, 1, Some(0)),
         (255, 255, Some(1)),
         (255, 1, Some(255)),
@@ -230,18 +244,13 @@ fn u8_over_u8(rt: HostRuntime) {
         (28, 7, Some(4)),
         (39, 17, Some(2)),
     ];
-    assert!(rt; rt.yes(answers_in_all_lengths(rt, &cases)));
-    cases[12] = (5, 0, None);
-    assert!(rt; rt.yes(answers_in_all_lengths(rt, &cases)));
-    cases[4] = (0, 0, None);
-    assert!(rt; rt.yes(answers_in_all_lengths(rt, &cases)));
-    cases[18] = (255, 0, None);
-    assert!(rt; rt.yes(answers_in_all_lengths(rt, &cases)));
+    const CHANGES: &[Change<u8>] = &[(12, (5, 0, None)), (4, (0, 0, None)), (18, (255, 0, None))];
+    sure(&rt, answers_changed(rt, CASES, CHANGES));
 }
 
 #[test]
 fn u16_over_u16(rt: HostRuntime) {
-    let mut cases: [Case<u16>; 24] = [
+    const CASES: &[Case<u16>] = &[
         (0, 1, Some(0)),
         (65535, 65535, Some(1)),
         (65535, 1, Some(65535)),
@@ -267,18 +276,17 @@ fn u16_over_u16(rt: HostRuntime) {
         (49185, 17513, Some(2)),
         (64553, 94, Some(686)),
     ];
-    assert!(rt; rt.yes(answers_in_all_lengths(rt, &cases)));
-    cases[12] = (5, 0, None);
-    assert!(rt; rt.yes(answers_in_all_lengths(rt, &cases)));
-    cases[10] = (0, 0, None);
-    assert!(rt; rt.yes(answers_in_all_lengths(rt, &cases)));
-    cases[10] = (65535, 0, None);
-    assert!(rt; rt.yes(answers_in_all_lengths(rt, &cases)));
+    const CHANGES: &[Change<u16>] = &[
+        (12, (5, 0, None)),
+        (10, (0, 0, None)),
+        (10, (65535, 0, None)),
+    ];
+    sure(&rt, answers_changed(rt, CASES, CHANGES));
 }
 
 #[test]
 fn u32_over_u32(rt: HostRuntime) {
-    let mut cases: [Case<u32>; 24] = [
+    const CASES: &[Case<u32>] = &[
         (0, 1, Some(0)),
         (4294967295, 4294967295, Some(1)),
         (4294967295, 1, Some(4294967295)),
@@ -304,11 +312,10 @@ fn u32_over_u32(rt: HostRuntime) {
         (4184420048, 306767407, Some(13)),
         (98789391, 146244, Some(675)),
     ];
-    assert!(rt; rt.yes(answers_in_all_lengths(rt, &cases)));
-    cases[18] = (5, 0, None);
-    assert!(rt; rt.yes(answers_in_all_lengths(rt, &cases)));
-    cases[10] = (0, 0, None);
-    assert!(rt; rt.yes(answers_in_all_lengths(rt, &cases)));
-    cases[20] = (4294967295, 0, None);
-    assert!(rt; rt.yes(answers_in_all_lengths(rt, &cases)));
+    const CHANGES: &[Change<u32>] = &[
+        (18, (5, 0, None)),
+        (10, (0, 0, None)),
+        (20, (4294967295, 0, None)),
+    ];
+    sure(&rt, answers_changed(rt, CASES, CHANGES));
 }

@@ -1,50 +1,51 @@
 //! Comparisons of truth values, numbers and texts, by rows.
 
 use crate::questions::{
-    COMPARISONS, NO, NULL, YES, compared, constant_of, has_rows, negated, null_integer,
-    nullable_texts, plain_texts, says, says_or_null,
+    COMPARISONS, NO, NULL, YES, compared, constant_of, must, negated, nullable_texts, plain_texts,
+    says, says_or_null, sure,
 };
-use fixtures::{
-    Ask, Made, bools, constant, kept, nullable_bools, nullable_ints, numbers, rows_of, same,
-};
+use crate::said::{Comparison, each_compares, said};
+use fixtures::{Ask, Made, kept, nullable_bools, nullable_ints, rows_of, same};
 use std::alloc::Global;
-use vortex_columns::{Column, ExecutionCtx, PType, Scalar, VortexResult};
+use vortex_columns::{Column, ExecutionCtx, Scalar, VortexResult};
 use vortex_kernels::{CompareOperator, execute_compare};
-
-/// The comparison of each pair of No and Yes.
-fn truths(alloc: Global, operator: CompareOperator) -> Made {
-    let left = bools(alloc, &[false, false, true, true]);
-    compared(
-        alloc,
-        left,
-        operator,
-        bools(alloc, &[false, true, false, true]),
-    )
-}
 
 #[test]
 fn compares_truth_values(rt: HostRuntime) {
-    let alloc = rt.alloc();
-    let less = truths(alloc, CompareOperator::Lt);
-    assert!(rt; rt.yes(says(rt, less, &[false, true, false, false])));
-    let not_less = truths(alloc, CompareOperator::Gte);
-    assert!(rt; rt.yes(says(rt, not_less, &[true, false, true, true])));
-}
-
-/// The least and the greatest i64.
-fn extremes(alloc: Global) -> Made {
-    numbers(alloc, &[-9223372036854775808i64, 9223372036854775807])
+    const CASES: &[Comparison] = &[
+        (
+            "bool: false false true true",
+            CompareOperator::Lt,
+            "bool: false true false true",
+            "bool: false true false false",
+        ),
+        (
+            "bool: false false true true",
+            CompareOperator::Gte,
+            "bool: false true false true",
+            "bool: true false true true",
+        ),
+    ];
+    assert!(rt; each_compares(rt, CASES));
 }
 
 #[test]
 fn compares_with_a_constant_on_either_side(rt: HostRuntime) {
-    let alloc = rt.alloc();
-    let zero = constant(alloc, PType::I64, 0, 2);
-    let greater = compared(alloc, extremes(alloc), CompareOperator::Gt, zero);
-    assert!(rt; rt.yes(says(rt, greater, &[false, true])));
-    let zero = constant(alloc, PType::I64, 0, 2);
-    let less = compared(alloc, zero, CompareOperator::Lt, extremes(alloc));
-    assert!(rt; rt.yes(says(rt, less, &[false, true])));
+    const CASES: &[Comparison] = &[
+        (
+            "i64: -9223372036854775808 9223372036854775807",
+            CompareOperator::Gt,
+            "2 of i64: 0",
+            "bool: false true",
+        ),
+        (
+            "2 of i64: 0",
+            CompareOperator::Lt,
+            "i64: -9223372036854775808 9223372036854775807",
+            "bool: false true",
+        ),
+    ];
+    assert!(rt; each_compares(rt, CASES));
 }
 
 /// Two rows of type Null.
@@ -61,136 +62,94 @@ fn compares_columns_of_null(rt: HostRuntime) {
         CompareOperator::Eq,
         null_column(alloc),
     );
-    assert!(rt; rt.yes(says_or_null(rt, equal, &[NULL, NULL])));
-}
-
-/// The texts a and b.
-fn words(alloc: Global) -> Made {
-    plain_texts(alloc, &["a", "b"])
-}
-
-/// Two nulls of i32, as a constant.
-fn nulls(alloc: Global) -> Made {
-    constant_of(alloc, null_integer(), 2)
+    sure(&rt, says_or_null(rt, equal, &[NULL, NULL]));
 }
 
 #[test]
 fn is_settled_before_the_types(rt: HostRuntime) {
-    let alloc = rt.alloc();
-    let no_numbers = numbers::<i32>(alloc, &[]);
-    let equal = compared(
-        alloc,
-        no_numbers,
-        CompareOperator::Eq,
-        plain_texts(alloc, &[]),
-    );
-    assert!(rt; rt.yes(says(rt, equal, &[])));
-    let equal = compared(alloc, nulls(alloc), CompareOperator::Eq, words(alloc));
-    assert!(rt; rt.yes(says_or_null(rt, equal, &[NULL, NULL])));
-    let less = compared(alloc, words(alloc), CompareOperator::Lt, nulls(alloc));
-    assert!(rt; rt.yes(says_or_null(rt, less, &[NULL, NULL])));
-}
-
-/// The number 1 twice, as a constant.
-fn ones(alloc: Global) -> Made {
-    kept(alloc, Column::constant(alloc, Scalar::from(1i32), 2))
-}
-
-/// The text a twice, as a constant.
-fn constant_texts(alloc: Global) -> Made {
-    constant_of(alloc, Scalar::try_from_str(alloc, "a"), 2)
-}
-
-/// Whether columns are refused there for their types.
-fn is_refused_at(rt: HostRuntime, left: Made, right: Made, place: &str) -> bool {
-    let alloc = rt.alloc();
-    rt.is_refused(compared(alloc, left, CompareOperator::Eq, right), place)
+    const CASES: &[Comparison] = &[
+        ("i32:", CompareOperator::Eq, "utf8:", "bool:"),
+        (
+            "2 of i32?: _",
+            CompareOperator::Eq,
+            "utf8: a b",
+            "bool?: _ _",
+        ),
+        (
+            "utf8: a b",
+            CompareOperator::Lt,
+            "2 of i32?: _",
+            "bool?: _ _",
+        ),
+    ];
+    assert!(rt; each_compares(rt, CASES));
 }
 
 #[test]
 fn refuses_other_types(rt: HostRuntime) {
-    let alloc = rt.alloc();
-    assert!(rt;
-        is_refused_at(
-            rt,
-            ones(alloc),
-            constant_texts(alloc),
-            "TypeMismatch.Scalars"
-        )
-    );
-    let one_and_two = numbers(alloc, &[1i32, 2]);
-    assert!(rt; is_refused_at(rt, one_and_two, words(alloc), "TypeMismatch.Compare"));
-    let one_and_two = numbers(alloc, &[1i32, 2]);
-    assert!(rt;
-        is_refused_at(
-            rt,
-            one_and_two,
-            constant_texts(alloc),
-            "TypeMismatch.Compare"
-        )
-    );
-    assert!(rt; is_refused_at(rt, ones(alloc), words(alloc), "TypeMismatch.Compare"));
+    const CASES: &[Comparison] = &[
+        (
+            "2 of i32: 1",
+            CompareOperator::Eq,
+            "2 of utf8: a",
+            "TypeMismatch.Scalars",
+        ),
+        (
+            "i32: 1 2",
+            CompareOperator::Eq,
+            "utf8: a b",
+            "TypeMismatch.Compare",
+        ),
+        (
+            "i32: 1 2",
+            CompareOperator::Eq,
+            "2 of utf8: a",
+            "TypeMismatch.Compare",
+        ),
+        (
+            "2 of i32: 1",
+            CompareOperator::Eq,
+            "utf8: a b",
+            "TypeMismatch.Compare",
+        ),
+    ];
+    assert!(rt; each_compares(rt, CASES));
 }
 
 #[test]
 fn refuses_two_lengths(rt: HostRuntime) {
     let alloc = rt.alloc();
-    let two = numbers(alloc, &[1i32, 2]);
-    let three = plain_texts(alloc, &["a", "b", "c"]);
-    assert!(rt; rt.is_uneven(compared(alloc, two, CompareOperator::Eq, three), (2, 3)));
-}
-
-/// The text a, twice.
-fn short_texts(alloc: Global) -> Made {
-    plain_texts(alloc, &["a", "a"])
-}
-
-/// The text a and a null.
-fn short_text_and_null(alloc: Global) -> Made {
-    nullable_texts(alloc, &["a", "a"], &[true, false])
-}
-
-/// The text of a and a zero byte, twice.
-fn long_texts(alloc: Global) -> Made {
-    plain_texts(alloc, &["a\0", "a\0"])
-}
-
-/// Whether a column is less than another in these rows.
-fn lessens(rt: HostRuntime, left: Made, right: Made, wanted: &[Option<bool>]) -> bool {
-    let alloc = rt.alloc();
-    rt.yes(says_or_null(
-        rt,
-        compared(alloc, left, CompareOperator::Lt, right),
-        wanted,
-    ))
+    let two = said(alloc, "i32: 1 2");
+    let three = said(alloc, "utf8: a b c");
+    must(
+        &rt,
+        rt.is_uneven(compared(alloc, two, CompareOperator::Eq, three), (2, 3)),
+    );
 }
 
 #[test]
 fn compares_texts(rt: HostRuntime) {
-    let alloc = rt.alloc();
-    let less = compared(
-        alloc,
-        short_texts(alloc),
-        CompareOperator::Lt,
-        long_texts(alloc),
-    );
-    assert!(rt; rt.yes(says(rt, less, &[true, true])));
-    assert!(rt;
-        lessens(
-            rt,
-            short_text_and_null(alloc),
-            long_texts(alloc),
-            &[YES, NULL]
-        )
-    );
-    assert!(rt;
-        lessens(
-            rt,
-            long_texts(alloc),
-            short_text_and_null(alloc),
-            &[NO, NULL]
-        )
-    );
+    const CASES: &[Comparison] = &[
+        (
+            "utf8: a a",
+            CompareOperator::Lt,
+            "utf8: a\0 a\0",
+            "bool: true true",
+        ),
+        (
+            "utf8?: a _",
+            CompareOperator::Lt,
+            "utf8: a\0 a\0",
+            "bool?: true _",
+        ),
+        (
+            "utf8: a\0 a\0",
+            CompareOperator::Lt,
+            "utf8?: a _",
+            "bool?: false _",
+        ),
+    ];
+    assert!(rt; each_compares(rt, CASES));
 }
 
 /// Whether a text is less than a constant one.
@@ -208,11 +167,16 @@ fn is_below(rt: HostRuntime, text: &str, constant: &str) -> bool {
 
 #[test]
 fn compares_texts_with_a_constant(rt: HostRuntime) {
-    assert!(rt; is_below(rt, "", "\0"));
-    assert!(rt; is_below(rt, "\0\0\0\0\0\0\0\0\0\0\0\0", "\0\0\0\0\0\0\0\0\0\0\0\0\0"));
-    assert!(rt; is_below(rt, "abcdefghijkl", "abcdefghijklm"));
-    assert!(rt; is_below(rt, "hello", "hello, world!"));
-    assert!(rt; is_below(rt, "hello, world!", "hello, worlds"));
+    const CASES: &[(&str, &str)] = &[
+        ("", "\0"),
+        ("\0\0\0\0\0\0\0\0\0\0\0\0", "\0\0\0\0\0\0\0\0\0\0\0\0\0"),
+        ("abcdefghijkl", "abcdefghijklm"),
+        ("hello", "hello, world!"),
+        ("hello, world!", "hello, worlds"),
+    ];
+    for (text, constant) in CASES {
+        assert!(rt; is_below(rt, text, constant));
+    }
 }
 
 /// The comparison of 1 and 2, of 2 and 1, of 2 and 2, and of pairs with nulls.
@@ -282,7 +246,7 @@ fn turns_comparisons_of_numbers(rt: HostRuntime) {
     let alloc = rt.alloc();
     let left = nullable_ints(alloc, &[Some(1), Some(2), Some(2), None, Some(1), None]);
     let right = nullable_ints(alloc, &[Some(2), Some(1), Some(2), Some(1), None, None]);
-    assert!(rt; rt.yes(all_turn(rt, left, right)));
+    sure(&rt, all_turn(rt, left, right));
 }
 
 #[test]
@@ -290,7 +254,7 @@ fn turns_comparisons_of_truth_values(rt: HostRuntime) {
     let alloc = rt.alloc();
     let left = nullable_bools(alloc, &[NO, YES, YES, NULL, NO, NULL]);
     let right = nullable_bools(alloc, &[YES, NO, YES, NO, NULL, NULL]);
-    assert!(rt; rt.yes(all_turn(rt, left, right)));
+    sure(&rt, all_turn(rt, left, right));
 }
 
 /// The texts 1, 2, 2, null, 1 and null.
@@ -308,5 +272,5 @@ fn right_texts(alloc: Global) -> Made {
 #[test]
 fn turns_comparisons_of_texts(rt: HostRuntime) {
     let alloc = rt.alloc();
-    assert!(rt; rt.yes(all_turn(rt, left_texts(alloc), right_texts(alloc))));
+    sure(&rt, all_turn(rt, left_texts(alloc), right_texts(alloc)));
 }

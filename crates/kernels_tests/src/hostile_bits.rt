@@ -1,7 +1,8 @@
 //! Truth values that begin anywhere in their bytes: And, Or, Not and the comparisons answer what a
 //! loop over the rows says, whatever bits stand under nulls and around the rows.
 
-use fixtures::{Ask, Made, kept, rows_of};
+use crate::questions::sure;
+use fixtures::{Made, kept, rows_of};
 use std::alloc::Global;
 use vortex_columns::{BitBuffer, Column, ExecutionCtx, Validity, VortexError, VortexResult};
 use vortex_kernels::{CompareOperator, Operator, execute_boolean, execute_compare, execute_not};
@@ -184,7 +185,7 @@ fn beside_any(alloc: Global, offset: usize, others: bool) -> VortexResult<bool> 
 fn truth_values_begin_in_any_bit(rt: HostRuntime) {
     let alloc = rt.alloc();
     for offset in 0..16usize {
-        assert!(rt; rt.yes(beside_any(alloc, offset, false)));
-        assert!(rt; rt.yes(beside_any(alloc, offset, true)));
+        sure(&rt, beside_any(alloc, offset, false));
+        sure(&rt, beside_any(alloc, offset, true));
     }
 }

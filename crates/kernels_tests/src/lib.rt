@@ -38,6 +38,8 @@ mod questions;
 #[cfg(test)]
 mod records;
 #[cfg(test)]
+mod said;
+#[cfg(test)]
 mod scalars;
 #[cfg(test)]
 mod spans;

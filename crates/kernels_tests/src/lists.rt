@@ -2,8 +2,10 @@
 //! of rows and nulls within them, words of rows, and lists of one size. What each row answers was
 //! written by hand.
 
-use crate::questions::{COMPARISONS, NO, NULL, YES, compared, says, says_or_null, valid_rows};
-use fixtures::{Ask, Made, kept, nullable_ints, numbers};
+use crate::questions::{
+    COMPARISONS, NO, NULL, YES, compared, says, says_or_null, sure, valid_rows,
+};
+use fixtures::{Made, kept, nullable_ints, numbers};
 use std::alloc::Global;
 use vortex_columns::{Column, Validity, VortexResult};
 use vortex_kernels::CompareOperator;
@@ -105,7 +107,7 @@ fn answers_all(
 #[test]
 fn the_first_elements_that_differ_decide(rt: HostRuntime) {
     for k in 0..6 {
-        assert!(rt; rt.yes(answers_all(rt, COMPARISONS[k], WANTED[k])));
+        sure(&rt, answers_all(rt, COMPARISONS[k], WANTED[k]));
     }
 }
 
@@ -152,7 +154,7 @@ fn a_null_element_is_least(rt: HostRuntime) {
             lists(alloc, right, &RIGHT_OF_NULLS, 7),
         );
         let answer = compared(alloc, left, COMPARISONS[k], right);
-        assert!(rt; rt.yes(says_or_null(rt, answer, &WANTED_OF_NULLS[k])));
+        sure(&rt, says_or_null(rt, answer, &WANTED_OF_NULLS[k]));
     }
 }
 
@@ -182,6 +184,6 @@ fn compares_lists_of_one_size(rt: HostRuntime) {
         let left = fixed(alloc, &[1, 2, 1, 200, 2, 0]);
         let right = fixed(alloc, &[1, 2, 1, 3, 255, 1]);
         let answer = compared(alloc, left, COMPARISONS[k], right);
-        assert!(rt; rt.yes(says(rt, answer, &WANTED_OF_FIXED[k])));
+        sure(&rt, says(rt, answer, &WANTED_OF_FIXED[k]));
     }
 }

@@ -1,6 +1,8 @@
 //! Comparisons of structs, lists and maps, by rows.
 
-use crate::questions::{NULL, PLAIN, YES, compared, constant_of, says, says_or_null, valid_rows};
+use crate::questions::{
+    NULL, PLAIN, YES, compared, constant_of, must, says, says_or_null, sure, valid_rows,
+};
 use fixtures::{Ask, Made, boxed, kept, names, nullable_ints, numbers};
 use std::alloc::Global;
 use vortex_columns::{Column, DType, PType, Scalar, ScalarValue, Validity, VortexResult};
@@ -157,7 +159,7 @@ fn compares_structs_with_nulls(rt: HostRuntime) {
         CompareOperator::Lt,
         zeros(alloc),
     );
-    assert!(rt; rt.yes(says_or_null(rt, less, &[NULL, YES])));
+    sure(&rt, says_or_null(rt, less, &[NULL, YES]));
 }
 
 #[test]
@@ -166,7 +168,7 @@ fn refuses_structs_of_other_names(rt: HostRuntime) {
     let left = pairs(alloc, &["a", "b"], &[1], &[2]);
     let right = pairs(alloc, &["b", "a"], &[1], &[2]);
     let equal = compared(alloc, left, CompareOperator::Eq, right);
-    assert!(rt; rt.is_refused(equal, "TypeMismatch.Compare"));
+    must(&rt, rt.is_refused(equal, "TypeMismatch.Compare"));
 }
 
 /// The lists [1, 2], [2], [null] and [].

@@ -1,7 +1,7 @@
 //! The null tests and Cast, by the forms in which a column tells its nulls.
 
-use crate::questions::{NO, NULL, YES, constant_of, null_integer, says, says_or_null};
-use fixtures::{Ask, Made, bools, kept, nullable_bools, nullable_ints, numbers};
+use crate::questions::{NO, NULL, YES, constant_of, null_integer, says, says_or_null, sure};
+use fixtures::{Made, bools, kept, nullable_bools, nullable_ints, numbers};
 use std::alloc::Global;
 use vortex_columns::{Column, ExecutionCtx, Scalar, VortexError, VortexResult};
 use vortex_kernels::{execute_cast, execute_is_not_null, execute_is_null};
@@ -62,38 +62,53 @@ fn true_twice(alloc: Global) -> Made {
 fn listed_nulls_are_told(rt: HostRuntime) {
     let alloc = rt.alloc();
     let nulls = [false, true, false, true, false];
-    assert!(rt; rt.yes(says(rt, are_null(alloc, some_nulls(alloc)), &nulls)));
+    sure(&rt, says(rt, are_null(alloc, some_nulls(alloc)), &nulls));
     let values = [true, false, true, false, true];
-    assert!(rt; rt.yes(says(rt, are_not_null(alloc, some_nulls(alloc)), &values)));
+    sure(
+        &rt,
+        says(rt, are_not_null(alloc, some_nulls(alloc)), &values),
+    );
 }
 
 #[test]
 fn rows_that_are_all_null_are_told(rt: HostRuntime) {
     let alloc = rt.alloc();
-    assert!(rt; rt.yes(says(rt, are_null(alloc, two_nulls(alloc)), &[true, true])));
-    assert!(rt; rt.yes(says(rt, are_not_null(alloc, null_twice(alloc)), &[false, false])));
+    sure(
+        &rt,
+        says(rt, are_null(alloc, two_nulls(alloc)), &[true, true]),
+    );
+    sure(
+        &rt,
+        says(rt, are_not_null(alloc, null_twice(alloc)), &[false, false]),
+    );
 }
 
 #[test]
 fn null_tests_of_one_answer_are_constants(rt: HostRuntime) {
     let alloc = rt.alloc();
-    assert!(rt; rt.yes(is_constant(are_null(alloc, numbers(alloc, &[1i32, 2])))));
-    assert!(rt; rt.yes(is_constant(are_not_null(alloc, two_nulls(alloc)))));
-    assert!(rt; rt.yes(is_constant(are_null(alloc, null_twice(alloc)))));
+    sure(
+        &rt,
+        is_constant(are_null(alloc, numbers(alloc, &[1i32, 2]))),
+    );
+    sure(&rt, is_constant(are_not_null(alloc, two_nulls(alloc))));
+    sure(&rt, is_constant(are_null(alloc, null_twice(alloc))));
 }
 
 #[test]
 fn cast_keeps_rows(rt: HostRuntime) {
     let alloc = rt.alloc();
     let plain = cast(alloc, bools(alloc, &[true, false]));
-    assert!(rt; rt.yes(says_or_null(rt, plain, &[YES, NO])));
+    sure(&rt, says_or_null(rt, plain, &[YES, NO]));
     let nullable = cast(alloc, nullable_bools(alloc, &[YES, NULL]));
-    assert!(rt; rt.yes(says_or_null(rt, nullable, &[YES, NULL])));
+    sure(&rt, says_or_null(rt, nullable, &[YES, NULL]));
 }
 
 #[test]
 fn cast_keeps_constants(rt: HostRuntime) {
     let alloc = rt.alloc();
-    assert!(rt; rt.yes(says_or_null(rt, cast(alloc, true_twice(alloc)), &[YES, YES])));
-    assert!(rt; rt.yes(is_constant(cast(alloc, true_twice(alloc)))));
+    sure(
+        &rt,
+        says_or_null(rt, cast(alloc, true_twice(alloc)), &[YES, YES]),
+    );
+    sure(&rt, is_constant(cast(alloc, true_twice(alloc))));
 }

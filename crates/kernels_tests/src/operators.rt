@@ -1,6 +1,6 @@
 //! The tables of the operators: their texts, their order, and what turns them.
 
-use crate::questions::combined;
+use crate::questions::{combined, sure};
 use fixtures::{Ask, bools, same};
 use vortex_columns::VortexResult;
 use vortex_kernels::{CompareOperator, Operator};
@@ -160,9 +160,12 @@ fn refuses_other_operators(rt: HostRuntime) {
         Operator::Eq,
         bools(alloc, &[true]),
     );
-    assert!(rt; rt.yes(is_refused_with(rt, equal, 4, "= is no boolean operator")));
+    sure(
+        &rt,
+        is_refused_with(rt, equal, 4, "= is no boolean operator"),
+    );
     let and = CompareOperator::try_from(Operator::And);
-    assert!(rt; rt.yes(is_refused_with(rt, and, 5, "and is no comparison")));
+    sure(&rt, is_refused_with(rt, and, 5, "and is no comparison"));
 }
 
 #[test]

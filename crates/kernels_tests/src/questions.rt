@@ -1,8 +1,9 @@
 //! One call of a kernel each, and short questions to its answer.
 ghost use Rattle.std.specs.Prelude.{◌<◌, length};
 
-use fixtures::{Made, kept, rows_of, same, texts};
+use fixtures::{Ask, Made, kept, rows_of, same, texts};
 use std::alloc::Global;
+use std::process::Abort;
 use vortex_columns::{
     BitBuffer, Cell, Column, DType, ExecutionCtx, NativePType, Nullability, NumericOperator, PType,
     Scalar, Validity, VortexError, VortexResult,
@@ -20,6 +21,17 @@ pub(crate) const NULL: Option<bool> = None;
 pub(crate) const PLAIN: Nullability = Nullability::NonNullable;
 
 pub(crate) const NULLABLE: Nullability = Nullability::Nullable;
+
+/// Ends the test unless that holds, which was printed if not. A call costs less to prove than an
+/// `assert!` with its branch.
+pub(crate) fn must(test: &impl Abort, holds: bool) {
+    assert!(test; holds);
+}
+
+/// Ends the test unless a question was answered with yes.
+pub(crate) fn sure<R: Abort + Ask>(test: &R, answer: VortexResult<bool>) {
+    assert!(test; test.yes(answer));
+}
 
 /// The six comparisons.
 pub(crate) const COMPARISONS: [CompareOperator; 6] = [

@@ -2,8 +2,8 @@
 //! begin anywhere, constants, and structs within structs. What each row answers was written by hand.
 
 use crate::hostile_bits::with_bit;
-use crate::questions::{COMPARISONS, NO, NULL, YES, compared, says_or_null};
-use fixtures::{Ask, Made, kept, names, nullable_ints};
+use crate::questions::{COMPARISONS, NO, NULL, YES, compared, says_or_null, sure};
+use fixtures::{Made, kept, names, nullable_ints};
 use std::alloc::Global;
 use vortex_columns::{BitBuffer, Column, Validity, VortexError, VortexResult};
 use vortex_kernels::CompareOperator;
@@ -136,7 +136,7 @@ fn answers_all(
 #[test]
 fn the_first_field_that_differs_decides(rt: HostRuntime) {
     for k in 0..6 {
-        assert!(rt; rt.yes(answers_all(rt, COMPARISONS[k], WANTED[k])));
+        sure(&rt, answers_all(rt, COMPARISONS[k], WANTED[k]));
     }
 }
 
@@ -181,7 +181,7 @@ fn a_null_within_is_a_value(rt: HostRuntime) {
     for k in 0..6 {
         let (left, right) = (nested_beside_null(alloc, &LEFT), nested(alloc, &RIGHT));
         let answer = compared(alloc, left, COMPARISONS[k], right);
-        assert!(rt; rt.yes(says_or_null(rt, answer, &WITHIN[k])));
+        sure(&rt, says_or_null(rt, answer, &WITHIN[k]));
     }
 }
 
@@ -210,6 +210,6 @@ fn compares_structs_with_a_constant(rt: HostRuntime) {
     for k in 0..6 {
         let (left, right) = (structs(alloc, &LEFT, 9, 3), constant_structs(alloc));
         let answer = compared(alloc, left, COMPARISONS[k], right);
-        assert!(rt; rt.yes(says_or_null(rt, answer, &BESIDE_FIRST[k])));
+        sure(&rt, says_or_null(rt, answer, &BESIDE_FIRST[k]));
     }
 }

@@ -1,6 +1,6 @@
 //! Comparisons of scalars.
 
-use crate::questions::{COMPARISONS, NO, NULL, NULLABLE, PLAIN, YES, null_integer};
+use crate::questions::{COMPARISONS, NO, NULL, NULLABLE, PLAIN, YES, null_integer, sure};
 use fixtures::{Ask, same};
 use std::alloc::Global;
 use vortex_columns::{DType, Nullability, PType, Scalar, ScalarValue, VortexResult};
@@ -87,9 +87,9 @@ fn compares_other_types_only_where_one_is_null(rt: HostRuntime) {
 #[test]
 fn answers_a_nullable_truth_value_if_a_side_is(rt: HostRuntime) {
     let differ = compared(one(), CompareOperator::NotEq, nullable_two());
-    assert!(rt; rt.yes(says(rt, differ, NULLABLE, YES)));
+    sure(&rt, says(rt, differ, NULLABLE, YES));
     let differ = compared(nullable_two(), CompareOperator::NotEq, one());
-    assert!(rt; rt.yes(says(rt, differ, NULLABLE, YES)));
+    sure(&rt, says(rt, differ, NULLABLE, YES));
     let differ = compared(one(), CompareOperator::NotEq, one());
-    assert!(rt; rt.yes(says(rt, differ, PLAIN, NO)));
+    sure(&rt, says(rt, differ, PLAIN, NO));
 }

@@ -4,7 +4,8 @@ ghost use Rattle.std.specs.Prelude.{◌≡◌, true};
 ghost use Rattle.vortex_operators.specs.Operators.{is_boolean};
 
 use crate::questions::{
-    COMPARISONS, NO, NULL, NULLABLE, YES, combined, compared, has_rows, negated, says, says_or_null,
+    COMPARISONS, NO, NULL, NULLABLE, YES, combined, compared, has_rows, must, negated, says,
+    says_or_null, sure,
 };
 use fixtures::{Ask, Made, kept};
 use std::alloc::Global;
@@ -202,16 +203,16 @@ fn agree_at_every_offset(rt: HostRuntime, len: usize) -> VortexResult<bool> {
 
 #[test]
 fn offsets_change_nothing_below_a_word(rt: HostRuntime) {
-    assert!(rt; rt.yes(agree_at_every_offset(rt, 0)));
-    assert!(rt; rt.yes(agree_at_every_offset(rt, 1)));
-    assert!(rt; rt.yes(agree_at_every_offset(rt, 63)));
+    sure(&rt, agree_at_every_offset(rt, 0));
+    sure(&rt, agree_at_every_offset(rt, 1));
+    sure(&rt, agree_at_every_offset(rt, 63));
 }
 
 #[test]
 fn offsets_change_nothing_from_a_word_on(rt: HostRuntime) {
-    assert!(rt; rt.yes(agree_at_every_offset(rt, 64)));
-    assert!(rt; rt.yes(agree_at_every_offset(rt, 65)));
-    assert!(rt; rt.yes(agree_at_every_offset(rt, 130)));
+    sure(&rt, agree_at_every_offset(rt, 64));
+    sure(&rt, agree_at_every_offset(rt, 65));
+    sure(&rt, agree_at_every_offset(rt, 130));
 }
 
 /// So many bytes that are alike, as bits at an offset.
@@ -243,8 +244,8 @@ fn even_rows(alloc: Global) -> VortexResult<Vec<bool>> {
 fn seventy_rows_at_two_offsets(rt: HostRuntime) {
     let alloc = rt.alloc();
     let even = even_rows(alloc).expect(&rt, "memory");
-    assert!(rt; rt.yes(says(rt, seventy(alloc, Operator::And), &even)));
-    assert!(rt; rt.yes(says(rt, seventy(alloc, Operator::Or), &[true; 70])));
+    sure(&rt, says(rt, seventy(alloc, Operator::And), &even));
+    sure(&rt, says(rt, seventy(alloc, Operator::Or), &[true; 70]));
 }
 
 /// The comparison of two rows, from bit 1 of byte 6 on, with two from the beginning of byte 2.
@@ -260,10 +261,22 @@ fn two_rows(alloc: Global, operator: CompareOperator) -> Made {
 #[test]
 fn compares_bits_at_two_offsets(rt: HostRuntime) {
     let alloc = rt.alloc();
-    assert!(rt; rt.yes(says(rt, two_rows(alloc, CompareOperator::Lt), &[false, false])));
-    assert!(rt; rt.yes(says(rt, two_rows(alloc, CompareOperator::Gte), &[true, true])));
-    assert!(rt; rt.yes(says(rt, two_rows(alloc, CompareOperator::Eq), &[false, true])));
-    assert!(rt; rt.yes(says(rt, two_rows(alloc, CompareOperator::Gt), &[true, false])));
+    sure(
+        &rt,
+        says(rt, two_rows(alloc, CompareOperator::Lt), &[false, false]),
+    );
+    sure(
+        &rt,
+        says(rt, two_rows(alloc, CompareOperator::Gte), &[true, true]),
+    );
+    sure(
+        &rt,
+        says(rt, two_rows(alloc, CompareOperator::Eq), &[false, true]),
+    );
+    sure(
+        &rt,
+        says(rt, two_rows(alloc, CompareOperator::Gt), &[true, false]),
+    );
 }
 
 /// Two rows of nulls over Yes, with No and Yes without nulls.
@@ -290,9 +303,18 @@ fn buffers(alloc: Global, operator: Operator) -> Made {
 #[test]
 fn buffers_follow_kleenes_tables(rt: HostRuntime) {
     let alloc = rt.alloc();
-    assert!(rt; rt.yes(says_or_null(rt, buffers(alloc, Operator::And), &[NO, NULL])));
-    assert!(rt; rt.yes(says_or_null(rt, buffers(alloc, Operator::Or), &[NULL, YES])));
-    assert!(rt; rt.is_refused(buffers(alloc, Operator::Eq), "NotBooleanOperator"));
+    sure(
+        &rt,
+        says_or_null(rt, buffers(alloc, Operator::And), &[NO, NULL]),
+    );
+    sure(
+        &rt,
+        says_or_null(rt, buffers(alloc, Operator::Or), &[NULL, YES]),
+    );
+    must(
+        &rt,
+        rt.is_refused(buffers(alloc, Operator::Eq), "NotBooleanOperator"),
+    );
 }
 
 /// Yes, No and null, three times each, with Yes, No and null in turn; a bit is set under each null.
@@ -337,7 +359,16 @@ fn with_null(alloc: Global, operator: Operator) -> Made {
 #[test]
 fn a_null_scalar_leaves_what_decides(rt: HostRuntime) {
     let alloc = rt.alloc();
-    assert!(rt; rt.yes(says_or_null(rt, with_null(alloc, Operator::And), &[NULL, NO, NULL])));
-    assert!(rt; rt.yes(says_or_null(rt, with_null(alloc, Operator::Or), &[YES, NULL, NULL])));
-    assert!(rt; rt.is_refused(with_null(alloc, Operator::Eq), "NotBooleanOperator"));
+    sure(
+        &rt,
+        says_or_null(rt, with_null(alloc, Operator::And), &[NULL, NO, NULL]),
+    );
+    sure(
+        &rt,
+        says_or_null(rt, with_null(alloc, Operator::Or), &[YES, NULL, NULL]),
+    );
+    must(
+        &rt,
+        rt.is_refused(with_null(alloc, Operator::Eq), "NotBooleanOperator"),
+    );
 }

@@ -1,6 +1,6 @@
 //! Answers in every row.
 
-use crate::cases::{Case, counts, gives, headless, plain};
+use crate::cases::{Case, Form, counts, each_gives, gives, headless, plain};
 
 const SUM: &str = "col a i64\ncol b i64\nget a\nget b\ncall +\nas sum\n";
 
@@ -12,36 +12,46 @@ const NUMBER: &str = "col n i32?\nget n\nas n\n";
 
 #[test]
 fn answers_are_written_under_their_names(rt: HostRuntime) {
-    assert!(rt; gives(rt, plain(SUM, "a,b\n1,2\n3,4\n"), "sum\n3\n7\n"));
-    let two = "col a i64\nget a\nlit i64 1\ncall +\nas next\nget a\n";
-    assert!(rt; gives(rt, plain(two, "a\n1\n"), "next,$.a\n2,1\n"));
-    let unnamed = "col a i64\nget a\nlit utf8 \"x, y\"\n";
-    assert!(rt;
-        gives(
-            rt,
-            plain(unnamed, "a\n1\n"),
-            "$.a,\"\"\"x, y\"\"\"\n1,\"x, y\"\n"
-        )
-    );
+    const CASES: &[(Form, &str, &str, &str)] = &[
+        (Form::Plain, SUM, "a,b\n1,2\n3,4\n", "sum\n3\n7\n"),
+        (
+            Form::Plain,
+            "col a i64\nget a\nlit i64 1\ncall +\nas next\nget a\n",
+            "a\n1\n",
+            "next,$.a\n2,1\n",
+        ),
+        (
+            Form::Plain,
+            "col a i64\nget a\nlit utf8 \"x, y\"\n",
+            "a\n1\n",
+            "$.a,\"\"\"x, y\"\"\"\n1,\"x, y\"\n",
+        ),
+    ];
+    assert!(rt; each_gives(rt, CASES));
 }
 
 #[test]
 fn columns_stand_in_any_order_among_others(rt: HostRuntime) {
-    assert!(rt; gives(rt, plain(SUM, "x,b,y,a\nu,2,v,1\n,4,,3\n"), "sum\n3\n7\n"));
-    assert!(rt;
-        gives(
-            rt,
-            plain("lit bool true\nas t\n", "a,b\n1,2\n"),
-            "t\ntrue\n"
-        )
-    );
+    const CASES: &[(Form, &str, &str, &str)] = &[
+        (Form::Plain, SUM, "x,b,y,a\nu,2,v,1\n,4,,3\n", "sum\n3\n7\n"),
+        (
+            Form::Plain,
+            "lit bool true\nas t\n",
+            "a,b\n1,2\n",
+            "t\ntrue\n",
+        ),
+    ];
+    assert!(rt; each_gives(rt, CASES));
 }
 
 #[test]
 fn without_a_header_columns_are_the_declared_ones(rt: HostRuntime) {
-    assert!(rt; gives(rt, headless(SUM, "1,2\n3,4\n"), "3\n7\n"));
-    assert!(rt; gives(rt, headless(SUM, ""), ""));
-    assert!(rt; gives(rt, plain(SUM, "a,b\n"), "sum\n"));
+    const CASES: &[(Form, &str, &str, &str)] = &[
+        (Form::Headless, SUM, "1,2\n3,4\n", "3\n7\n"),
+        (Form::Headless, SUM, "", ""),
+        (Form::Plain, SUM, "a,b\n", "sum\n"),
+    ];
+    assert!(rt; each_gives(rt, CASES));
 }
 
 #[test]
@@ -61,18 +71,35 @@ fn fields_are_parted_by_the_delimiter(rt: HostRuntime) {
 
 #[test]
 fn texts_are_quoted_where_needed(rt: HostRuntime) {
-    let input = "t\n\"a\"\n\"a,b\"\n\"a\"\"b\"\n\"a\nb\"\n\"a\r\nb\"\na\"b\n a \n";
-    let output = "t\na\n\"a,b\"\n\"a\"\"b\"\n\"a\nb\"\n\"a\r\nb\"\n\"a\"\"b\"\n a \n";
-    assert!(rt; gives(rt, plain(TEXT, input), output));
-    assert!(rt; gives(rt, plain(TEXT, "t\nπ\n"), "t\nπ\n"));
+    const CASES: &[(Form, &str, &str, &str)] = &[
+        (
+            Form::Plain,
+            TEXT,
+            "t\n\"a\"\n\"a,b\"\n\"a\"\"b\"\n\"a\nb\"\n\"a\r\nb\"\na\"b\n a \n",
+            "t\na\n\"a,b\"\n\"a\"\"b\"\n\"a\nb\"\n\"a\r\nb\"\n\"a\"\"b\"\n a \n",
+        ),
+        (Form::Plain, TEXT, "t\nπ\n", "t\nπ\n"),
+    ];
+    assert!(rt; each_gives(rt, CASES));
 }
 
 #[test]
 fn texts_that_others_mistake_are_quoted(rt: HostRuntime) {
-    let input = "t\n\\.\n\u{feff}a\n\\.a\n";
-    let output = "t\n\"\\.\"\n\"\u{feff}a\"\n\\.a\n";
-    assert!(rt; gives(rt, plain(TEXT, input), output));
-    assert!(rt; gives(rt, plain(TEXT, output), output));
+    const CASES: &[(Form, &str, &str, &str)] = &[
+        (
+            Form::Plain,
+            TEXT,
+            "t\n\\.\n\u{feff}a\n\\.a\n",
+            "t\n\"\\.\"\n\"\u{feff}a\"\n\\.a\n",
+        ),
+        (
+            Form::Plain,
+            TEXT,
+            "t\n\"\\.\"\n\"\u{feff}a\"\n\\.a\n",
+            "t\n\"\\.\"\n\"\u{feff}a\"\n\\.a\n",
+        ),
+    ];
+    assert!(rt; each_gives(rt, CASES));
 }
 
 #[test]
@@ -92,17 +119,27 @@ fn truth_values_are_quoted_where_needed(rt: HostRuntime) {
 
 #[test]
 fn null_is_the_empty_field_without_quotes(rt: HostRuntime) {
-    let two = "col t utf8?\ncol n i32?\nget t\nget n\n";
-    let rows = "a,1\n\"\",2\n,3\nb,\n,\n";
-    assert!(rt; gives(rt, headless(two, rows), rows));
-    assert!(rt; gives(rt, headless(two, "\"\",\n\"\",1\n"), "\"\",\n\"\",1\n"));
-    assert!(rt;
-        gives(
-            rt,
-            headless(two, "\"a,\"\"\",\n,\"1\"\n"),
-            "\"a,\"\"\",\n,1\n"
-        )
-    );
+    const CASES: &[(Form, &str, &str, &str)] = &[
+        (
+            Form::Headless,
+            "col t utf8?\ncol n i32?\nget t\nget n\n",
+            "a,1\n\"\",2\n,3\nb,\n,\n",
+            "a,1\n\"\",2\n,3\nb,\n,\n",
+        ),
+        (
+            Form::Headless,
+            "col t utf8?\ncol n i32?\nget t\nget n\n",
+            "\"\",\n\"\",1\n",
+            "\"\",\n\"\",1\n",
+        ),
+        (
+            Form::Headless,
+            "col t utf8?\ncol n i32?\nget t\nget n\n",
+            "\"a,\"\"\",\n,\"1\"\n",
+            "\"a,\"\"\",\n,1\n",
+        ),
+    ];
+    assert!(rt; each_gives(rt, CASES));
 }
 
 #[test]
@@ -154,23 +191,24 @@ fn lines_without_a_byte_may_be_rows(rt: HostRuntime) {
 
 #[test]
 fn lines_end_in_any_way(rt: HostRuntime) {
-    assert!(rt; gives(rt, plain(SUM, "a,b\r\n1,2\r\n3,4\r\n"), "sum\n3\n7\n"));
-    assert!(rt; gives(rt, plain(SUM, "a,b\r1,2\r3,4"), "sum\n3\n7\n"));
-    assert!(rt;
-        gives(
-            rt,
-            plain(SUM, "\n\na,b\n\n1,2\n\r\n\n3,4\n\n\n"),
-            "sum\n3\n7\n"
-        )
-    );
-    assert!(rt; gives(rt, plain(SUM, "\u{feff}a,b\n1,2\n3,4"), "sum\n3\n7\n"));
-    assert!(rt;
-        gives(
-            rt,
-            plain(SUM, "\u{feff}\"a\",b\n1,\"2\"\n3,4"),
-            "sum\n3\n7\n"
-        )
-    );
+    const CASES: &[(Form, &str, &str, &str)] = &[
+        (Form::Plain, SUM, "a,b\r\n1,2\r\n3,4\r\n", "sum\n3\n7\n"),
+        (Form::Plain, SUM, "a,b\r1,2\r3,4", "sum\n3\n7\n"),
+        (
+            Form::Plain,
+            SUM,
+            "\n\na,b\n\n1,2\n\r\n\n3,4\n\n\n",
+            "sum\n3\n7\n",
+        ),
+        (Form::Plain, SUM, "\u{feff}a,b\n1,2\n3,4", "sum\n3\n7\n"),
+        (
+            Form::Plain,
+            SUM,
+            "\u{feff}\"a\",b\n1,\"2\"\n3,4",
+            "sum\n3\n7\n",
+        ),
+    ];
+    assert!(rt; each_gives(rt, CASES));
 }
 
 #[test]

@@ -1,6 +1,6 @@
 //! What texts ask of rows.
 
-use crate::cases::{BATCHES, STEPS, ended_so};
+use crate::cases::{BATCHES, STEPS, ended_so, is_case};
 use crate::pipes::{Drips, Sink};
 use fixtures::same;
 use rowfn_batches::{Format, Refusals, Settings, StreamError, Summary, flow, flow_on};
@@ -70,6 +70,30 @@ pub fn answers_where<'a>(condition: &'a str, answers: &'a str, input: &'a str) -
     Asked {
         words: Words {
             condition: Some(condition),
+            ..plain.words
+        },
+        ..plain
+    }
+}
+
+/// The columns, the answers, the condition and the input of a case of a table; an empty text for
+/// columns that are not declared, no answers or no condition.
+pub type Texts = (&'static str, &'static str, &'static str, &'static str);
+
+/// A text, where there is one.
+fn said(text: &str) -> Option<&str> {
+    if text.is_empty() { None } else { Some(text) }
+}
+
+/// What a case of a table asks.
+fn asked_of(texts: Texts) -> Asked<'static> {
+    let (columns, answers, condition, input) = texts;
+    let plain = asks(answers, input);
+    Asked {
+        words: Words {
+            columns: said(columns),
+            answers: said(answers),
+            condition: said(condition),
             ..plain.words
         },
         ..plain
@@ -222,6 +246,30 @@ pub fn ends_so(rt: HostRuntime, asked: Asked<'_>, output: &str, status: u8, told
 /// Whether rows that are asked are read to their end, and that is written.
 pub fn answers_so(rt: HostRuntime, asked: Asked<'_>, output: &str) -> bool {
     ends_so(rt, asked, output, 0, "")
+}
+
+/// Whether each case of rows that are asked ends so.
+pub fn each_ends_so(rt: HostRuntime, cases: &[(Texts, &str, u8, &str)]) -> bool {
+    for (place, (texts, output, status, told)) in cases.iter().enumerate() {
+        if !is_case(
+            rt,
+            place,
+            ends_so(rt, asked_of(*texts), output, *status, told),
+        ) {
+            return false;
+        }
+    }
+    true
+}
+
+/// Whether each case of rows that are asked is read to its end, and that is written.
+pub fn each_answers(rt: HostRuntime, cases: &[(Texts, &str)]) -> bool {
+    for (place, (texts, output)) in cases.iter().enumerate() {
+        if !is_case(rt, place, answers_so(rt, asked_of(*texts), output)) {
+            return false;
+        }
+    }
+    true
 }
 
 /// Whether rows that are asked end with that status and that text, by batches and reads of the

@@ -58,6 +58,31 @@ pub fn headless<'a>(expression: &'a str, input: &'a str) -> Case<'a> {
     }
 }
 
+/// How a case of a table is read: as `plain`, `headless` or `pick` says.
+#[derive(Clone, Copy)]
+pub enum Form {
+    Plain,
+    Headless,
+    Pick,
+}
+
+/// A case of that form.
+fn case_of<'a>(form: Form, expression: &'a str, input: &'a str) -> Case<'a> {
+    Case {
+        header: !matches!(form, Form::Headless),
+        picks_rows: matches!(form, Form::Pick),
+        ..plain(expression, input)
+    }
+}
+
+/// Whether a case of a table holds. If not, its place is printed.
+pub fn is_case(rt: HostRuntime, place: usize, holds: bool) -> bool {
+    if !holds {
+        let _ = eprintln!(rt; "in case {place}, counted from 0");
+    }
+    holds
+}
+
 /// How the rows of a case are read, by batches of so many rows, or so many bytes of them.
 pub fn settings_of<'a>(case: &Case<'a>, batch: (usize, u64)) -> Settings<'a> {
     Settings {
@@ -171,6 +196,34 @@ pub fn ends(rt: HostRuntime, case: Case<'_>, output: &str, status: u8, told: &st
 /// Whether a stream is read to its end, and that is written.
 pub fn gives(rt: HostRuntime, case: Case<'_>, output: &str) -> bool {
     ends(rt, case, output, 0, "")
+}
+
+/// Whether each stream ends so.
+pub fn each_ends(rt: HostRuntime, cases: &[(Form, &str, &str, &str, u8, &str)]) -> bool {
+    for (place, (form, expression, input, output, status, told)) in cases.iter().enumerate() {
+        if !is_case(
+            rt,
+            place,
+            ends(rt, case_of(*form, expression, input), output, *status, told),
+        ) {
+            return false;
+        }
+    }
+    true
+}
+
+/// Whether each stream is read to its end, and that is written.
+pub fn each_gives(rt: HostRuntime, cases: &[(Form, &str, &str, &str)]) -> bool {
+    for (place, (form, expression, input, output)) in cases.iter().enumerate() {
+        if !is_case(
+            rt,
+            place,
+            gives(rt, case_of(*form, expression, input), output),
+        ) {
+            return false;
+        }
+    }
+    true
 }
 
 /// How many rows a stream reads and writes.

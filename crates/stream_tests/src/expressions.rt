@@ -1,6 +1,7 @@
 //! What is read of expressions.
 
-use crate::transcript::{is_refused, prints};
+use crate::cases::is_case;
+use crate::transcript::{are_refused, each_prints, is_refused};
 
 const A_LINE: &str =
     "expected a line of an expression: col, get, lit, call, optimize, as, or a comment";
@@ -20,35 +21,47 @@ fn is_no_line(rt: HostRuntime, text: &[u8], number: usize) -> bool {
     }
 }
 
+/// Whether so is each of these.
+fn are_no_lines(rt: HostRuntime, cases: &[(&[u8], usize)]) -> bool {
+    for (place, (text, number)) in cases.iter().enumerate() {
+        if !is_case(rt, place, is_no_line(rt, text, *number)) {
+            return false;
+        }
+    }
+    true
+}
+
 #[test]
 fn a_tree_is_left(rt: HostRuntime) {
-    assert!(rt;
-        is_refused(
-            rt,
-            b"",
-            "line 1: expected a tree, which get, lit or call makes"
-        )
-    );
-    let none = "line 2: expected a tree, which get, lit or call makes";
-    assert!(rt; is_refused(rt, b"col a i32", none));
-    assert!(rt; is_refused(rt, b"col a i32\n", none));
-    assert!(rt;
-        is_refused(
-            rt,
+    const CASES: &[(&[u8], &str)] = &[
+        (b"", "line 1: expected a tree, which get, lit or call makes"),
+        (
+            b"col a i32",
+            "line 2: expected a tree, which get, lit or call makes",
+        ),
+        (
+            b"col a i32\n",
+            "line 2: expected a tree, which get, lit or call makes",
+        ),
+        (
             b"# nothing\n   ",
-            "line 3: expected a tree, which get, lit or call makes"
-        )
-    );
+            "line 3: expected a tree, which get, lit or call makes",
+        ),
+    ];
+    assert!(rt; are_refused(rt, CASES));
 }
 
 #[test]
 fn lines_of_scripts_that_say_rows_or_print_are_none(rt: HostRuntime) {
-    assert!(rt; is_no_line(rt, b"rows 0\n", 1));
-    assert!(rt; is_no_line(rt, b"lit i8 1\nshow\n", 2));
-    assert!(rt; is_no_line(rt, b"lit i8 1\nrun", 2));
-    assert!(rt; is_no_line(rt, b"lit i8 1\nrun 3", 2));
-    assert!(rt; is_no_line(rt, b"xor", 1));
-    assert!(rt; is_no_line(rt, b"\n# \xFF", 2));
+    const CASES: &[(&[u8], usize)] = &[
+        (b"rows 0\n", 1),
+        (b"lit i8 1\nshow\n", 2),
+        (b"lit i8 1\nrun", 2),
+        (b"lit i8 1\nrun 3", 2),
+        (b"xor", 1),
+        (b"\n# \xFF", 2),
+    ];
+    assert!(rt; are_no_lines(rt, CASES));
 }
 
 /// Whether the line of that number is told to declare no column.
@@ -60,35 +73,68 @@ fn is_no_column(rt: HostRuntime, text: &[u8], number: usize) -> bool {
     }
 }
 
+/// Whether so is each of these.
+fn are_no_columns(rt: HostRuntime, cases: &[(&[u8], usize)]) -> bool {
+    for (place, (text, number)) in cases.iter().enumerate() {
+        if !is_case(rt, place, is_no_column(rt, text, *number)) {
+            return false;
+        }
+    }
+    true
+}
+
 #[test]
 fn columns_are_declared_once_and_without_cells(rt: HostRuntime) {
-    assert!(rt; is_no_column(rt, b"col a i32 1", 1));
-    assert!(rt; is_no_column(rt, b"col a int", 1));
-    assert!(rt; is_no_column(rt, b"col a- i32", 1));
-    assert!(rt; is_no_column(rt, b" col  a", 1));
-    assert!(rt; is_no_column(rt, b"col a i32\ncol a utf8", 2));
-    assert!(rt; is_no_column(rt, b"col \"a\"i32", 1));
-    assert!(rt; is_no_column(rt, b"col \"a\"\" i32", 1));
-    assert!(rt; is_no_column(rt, b"col 0 as a i32", 1));
-    assert!(rt; is_no_column(rt, b"col 3 as i32", 1));
-    assert!(rt; is_no_column(rt, b"col x as a i32", 1));
+    const CASES: &[(&[u8], usize)] = &[
+        (b"col a i32 1", 1),
+        (b"col a int", 1),
+        (b"col a- i32", 1),
+        (b" col  a", 1),
+        (b"col a i32\ncol a utf8", 2),
+        (b"col \"a\"i32", 1),
+        (b"col \"a\"\" i32", 1),
+        (b"col 0 as a i32", 1),
+        (b"col 3 as i32", 1),
+        (b"col x as a i32", 1),
+    ];
+    assert!(rt; are_no_columns(rt, CASES));
 }
 
 #[test]
 fn malformed_lines_tell_what_they_want(rt: HostRuntime) {
-    let wanted =
-        "line 1: expected get and the name of a column, in quotes unless it is of letters, \
-                  digits and _";
-    assert!(rt; is_refused(rt, b"get", wanted));
-    assert!(rt; is_refused(rt, b"get unit price", wanted));
-    let wanted = "line 1: expected lit, a type and a value of it";
-    assert!(rt; is_refused(rt, b"lit i8 300", wanted));
-    assert!(rt; is_refused(rt, b"lit utf8 \"a", wanted));
-    let wanted = "line 1: expected call and a function, behind as many trees as it takes";
-    assert!(rt; is_refused(rt, b"call xor", wanted));
-    assert!(rt; is_refused(rt, b"call not", wanted));
-    let wanted = "line 1: expected optimize alone, behind a tree";
-    assert!(rt; is_refused(rt, b"optimize", wanted));
+    const CASES: &[(&[u8], &str)] = &[
+        (
+            b"get",
+            "line 1: expected get and the name of a column, in quotes unless it is of letters, \
+                  digits and _",
+        ),
+        (
+            b"get unit price",
+            "line 1: expected get and the name of a column, in quotes unless it is of letters, \
+                  digits and _",
+        ),
+        (
+            b"lit i8 300",
+            "line 1: expected lit, a type and a value of it",
+        ),
+        (
+            b"lit utf8 \"a",
+            "line 1: expected lit, a type and a value of it",
+        ),
+        (
+            b"call xor",
+            "line 1: expected call and a function, behind as many trees as it takes",
+        ),
+        (
+            b"call not",
+            "line 1: expected call and a function, behind as many trees as it takes",
+        ),
+        (
+            b"optimize",
+            "line 1: expected optimize alone, behind a tree",
+        ),
+    ];
+    assert!(rt; are_refused(rt, CASES));
 }
 
 /// Whether the line of that number is told to name no tree.
@@ -100,26 +146,52 @@ fn is_no_name(rt: HostRuntime, text: &[u8], number: usize) -> bool {
     }
 }
 
+/// Whether so is each of these.
+fn are_no_names(rt: HostRuntime, cases: &[(&[u8], usize)]) -> bool {
+    for (place, (text, number)) in cases.iter().enumerate() {
+        if !is_case(rt, place, is_no_name(rt, text, *number)) {
+            return false;
+        }
+    }
+    true
+}
+
 #[test]
 fn names_are_given_to_trees(rt: HostRuntime) {
-    assert!(rt; is_no_name(rt, b"as x", 1));
-    assert!(rt; is_no_name(rt, b"lit i8 1\nas x y", 2));
-    assert!(rt; is_no_name(rt, b"lit i8 1\nas", 2));
-    assert!(rt; is_no_name(rt, b"lit i8 1\nas \"x", 2));
-    assert!(rt; is_no_name(rt, b"lit i8 1\nas x-1", 2));
+    const CASES: &[(&[u8], usize)] = &[
+        (b"as x", 1),
+        (b"lit i8 1\nas x y", 2),
+        (b"lit i8 1\nas", 2),
+        (b"lit i8 1\nas \"x", 2),
+        (b"lit i8 1\nas x-1", 2),
+    ];
+    assert!(rt; are_no_names(rt, CASES));
 }
 
 #[test]
 fn calls_are_refused_by_name(rt: HostRuntime) {
-    let unknown = "line 1: E11 ScopeMismatch";
-    assert!(rt; is_refused(rt, b"get a", unknown));
-    assert!(rt; is_refused(rt, b"lit i8 1\ncall not", "line 2: E3 TypeMismatch.Not"));
+    const CASES: &[(&[u8], &str)] = &[
+        (b"get a", "line 1: E11 ScopeMismatch"),
+        (b"lit i8 1\ncall not", "line 2: E3 TypeMismatch.Not"),
+    ];
+    assert!(rt; are_refused(rt, CASES));
 }
 
 #[test]
 fn headers_are_names_or_texts(rt: HostRuntime) {
-    let text = "col a i8\nget a\nlit i8 1\ncall +\nget a\nas b\n";
-    assert!(rt; prints(rt, text, b"1", 1, "($.a + 1i8),b,\n2,1,\n"));
-    let text = "col a bool\nget a\nas x\ncall not\nget a\nas y\nas z\noptimize";
-    assert!(rt; prints(rt, text, b"true", 1, "vortex.not($.a),z,\nfalse,true,\n"));
+    const CASES: &[(&str, &[u8], usize, &str)] = &[
+        (
+            "col a i8\nget a\nlit i8 1\ncall +\nget a\nas b\n",
+            b"1",
+            1,
+            "($.a + 1i8),b,\n2,1,\n",
+        ),
+        (
+            "col a bool\nget a\nas x\ncall not\nget a\nas y\nas z\noptimize",
+            b"true",
+            1,
+            "vortex.not($.a),z,\nfalse,true,\n",
+        ),
+    ];
+    assert!(rt; each_prints(rt, CASES));
 }

@@ -1,6 +1,7 @@
 //! Fields as the cells of columns.
 
-use crate::transcript::prints;
+use crate::cases::is_case;
+use crate::transcript::{each_prints, prints};
 
 /// Whether a column of that type has these fields and prints them so.
 fn has(rt: HostRuntime, dtype: &str, fields: &[u8], row_count: usize, out: &str) -> bool {
@@ -14,6 +15,16 @@ fn has(rt: HostRuntime, dtype: &str, fields: &[u8], row_count: usize, out: &str)
     }
 }
 
+/// Whether so has each of these.
+fn each_has(rt: HostRuntime, cases: &[(&str, &[u8], usize, &str)]) -> bool {
+    for (place, (dtype, fields, row_count, out)) in cases.iter().enumerate() {
+        if !is_case(rt, place, has(rt, dtype, fields, *row_count, out)) {
+            return false;
+        }
+    }
+    true
+}
+
 /// Whether the field of that row is told not to fit a column of that type.
 fn misfits(rt: HostRuntime, dtype: &str, fields: &[u8], row_count: usize, row: usize) -> bool {
     let alloc = rt.alloc();
@@ -23,119 +34,150 @@ fn misfits(rt: HostRuntime, dtype: &str, fields: &[u8], row_count: usize, row: u
     }
 }
 
+/// Whether so is each of these.
+fn each_misfits(rt: HostRuntime, cases: &[(&str, &[u8], usize, usize)]) -> bool {
+    for (place, (dtype, fields, row_count, row)) in cases.iter().enumerate() {
+        if !is_case(rt, place, misfits(rt, dtype, fields, *row_count, *row)) {
+            return false;
+        }
+    }
+    true
+}
+
 #[test]
 fn integers_reach_their_ends(rt: HostRuntime) {
-    assert!(rt; has(rt, "i8", b"-128,127", 2, "-128,\n127,\n"));
-    assert!(rt; has(rt, "i16", b"-32768,32767", 2, "-32768,\n32767,\n"));
-    assert!(rt;
-        has(
-            rt,
+    const CASES: &[(&str, &[u8], usize, &str)] = &[
+        ("i8", b"-128,127", 2, "-128,\n127,\n"),
+        ("i16", b"-32768,32767", 2, "-32768,\n32767,\n"),
+        (
             "i32",
             b"-2147483648,2147483647",
             2,
-            "-2147483648,\n2147483647,\n"
-        )
-    );
-    let ends = "-9223372036854775808,\n9223372036854775807,\n";
-    assert!(rt;
-        has(
-            rt,
+            "-2147483648,\n2147483647,\n",
+        ),
+        (
             "i64",
             b"-9223372036854775808,9223372036854775807",
             2,
-            ends
-        )
-    );
+            "-9223372036854775808,\n9223372036854775807,\n",
+        ),
+    ];
+    assert!(rt; each_has(rt, CASES));
 }
 
 #[test]
 fn unsigned_integers_reach_their_ends(rt: HostRuntime) {
-    assert!(rt; has(rt, "u8", b"0,255", 2, "0,\n255,\n"));
-    assert!(rt; has(rt, "u16", b"-0,65535", 2, "0,\n65535,\n"));
-    assert!(rt; has(rt, "u32", b"007,4294967295", 2, "7,\n4294967295,\n"));
-    assert!(rt;
-        has(
-            rt,
+    const CASES: &[(&str, &[u8], usize, &str)] = &[
+        ("u8", b"0,255", 2, "0,\n255,\n"),
+        ("u16", b"-0,65535", 2, "0,\n65535,\n"),
+        ("u32", b"007,4294967295", 2, "7,\n4294967295,\n"),
+        (
             "u64",
             b"0,18446744073709551615",
             2,
-            "0,\n18446744073709551615,\n"
-        )
-    );
+            "0,\n18446744073709551615,\n",
+        ),
+    ];
+    assert!(rt; each_has(rt, CASES));
 }
 
 #[test]
 fn fields_behind_the_ends_do_not_fit(rt: HostRuntime) {
-    assert!(rt; misfits(rt, "i8", b"-128,128", 2, 1));
-    assert!(rt; misfits(rt, "u8", b"-1,0", 2, 0));
-    assert!(rt; misfits(rt, "i64", b"0,0,9223372036854775808", 3, 2));
-    assert!(rt; misfits(rt, "u64", b"18446744073709551616", 1, 0));
-    assert!(rt; misfits(rt, "i32", b"1, 2", 2, 1));
-    assert!(rt; misfits(rt, "i32", b"+1", 1, 0));
-    assert!(rt; misfits(rt, "i32", b",1", 2, 0));
+    const CASES: &[(&str, &[u8], usize, usize)] = &[
+        ("i8", b"-128,128", 2, 1),
+        ("u8", b"-1,0", 2, 0),
+        ("i64", b"0,0,9223372036854775808", 3, 2),
+        ("u64", b"18446744073709551616", 1, 0),
+        ("i32", b"1, 2", 2, 1),
+        ("i32", b"+1", 1, 0),
+        ("i32", b",1", 2, 0),
+    ];
+    assert!(rt; each_misfits(rt, CASES));
 }
 
 #[test]
 fn truth_values_and_texts_fit(rt: HostRuntime) {
-    assert!(rt; has(rt, "bool", b"true,false", 2, "true,\nfalse,\n"));
-    assert!(rt; misfits(rt, "bool", b"true,True", 2, 1));
-    assert!(rt; misfits(rt, "bool", b"1", 1, 0));
-    assert!(rt; has(rt, "utf8", b"a \"b\",,null", 3, "a \"b\",\n,\nnull,\n"));
-    assert!(rt; has(rt, "utf8", b"caf\xC3\xA9", 1, "caf\u{e9},\n"));
+    const HAD: &[(&str, &[u8], usize, &str)] = &[
+        ("bool", b"true,false", 2, "true,\nfalse,\n"),
+        ("utf8", b"a \"b\",,null", 3, "a \"b\",\n,\nnull,\n"),
+        ("utf8", b"caf\xC3\xA9", 1, "caf\u{e9},\n"),
+    ];
+    const MISFITS: &[(&str, &[u8], usize, usize)] = &[
+        ("bool", b"true,True", 2, 1),
+        ("bool", b"1", 1, 0),
+    ];
+    assert!(rt; each_has(rt, HAD));
+    assert!(rt; each_misfits(rt, MISFITS));
 }
 
 #[test]
 fn null_fields_stand_in_nullable_columns(rt: HostRuntime) {
-    assert!(rt; has(rt, "i32?", b"~,1,~", 3, "~,\n1,\n~,\n"));
-    assert!(rt; has(rt, "utf8?", b"~,null", 2, "~,\nnull,\n"));
-    assert!(rt; has(rt, "bool?", b"~", 1, "~,\n"));
-    assert!(rt; misfits(rt, "i32", b"1,~", 2, 1));
-    assert!(rt; misfits(rt, "utf8", b"~", 1, 0));
-    assert!(rt; misfits(rt, "i32?", b"null", 1, 0));
-    assert!(rt; misfits(rt, "bool?", b"~,null", 2, 1));
+    const HAD: &[(&str, &[u8], usize, &str)] = &[
+        ("i32?", b"~,1,~", 3, "~,\n1,\n~,\n"),
+        ("utf8?", b"~,null", 2, "~,\nnull,\n"),
+        ("bool?", b"~", 1, "~,\n"),
+    ];
+    const MISFITS: &[(&str, &[u8], usize, usize)] = &[
+        ("i32", b"1,~", 2, 1),
+        ("utf8", b"~", 1, 0),
+        ("i32?", b"null", 1, 0),
+        ("bool?", b"~,null", 2, 1),
+    ];
+    assert!(rt; each_has(rt, HAD));
+    assert!(rt; each_misfits(rt, MISFITS));
 }
 
 #[test]
 fn bytes_that_are_no_text_do_not_fit(rt: HostRuntime) {
-    assert!(rt; misfits(rt, "utf8", b"a,\xFF", 2, 1));
-    assert!(rt; misfits(rt, "utf8?", b"\xC3", 1, 0));
-    assert!(rt; misfits(rt, "i32", b"1\xFF", 1, 0));
-    assert!(rt; misfits(rt, "bool?", b"\xFF", 1, 0));
+    const CASES: &[(&str, &[u8], usize, usize)] = &[
+        ("utf8", b"a,\xFF", 2, 1),
+        ("utf8?", b"\xC3", 1, 0),
+        ("i32", b"1\xFF", 1, 0),
+        ("bool?", b"\xFF", 1, 0),
+    ];
+    assert!(rt; each_misfits(rt, CASES));
 }
 
 #[test]
 fn letters_and_wrong_bytes_are_seen_at_each_place(rt: HostRuntime) {
+    const CASES: &[(&str, &[u8], usize, usize)] = &[
+        ("utf8", b"abcdefgh,abcdefg\xFF", 2, 1),
+        ("utf8", b"\xFFbcdefghi", 1, 0),
+        ("utf8", b"abcdefghijklmno\xFFq", 1, 0),
+    ];
     let letters = "abcdefgh\u{e9},\u{e9},abcdefghijklmnopqrstuvw\u{3c0}xyz";
     let printed = "abcdefgh\u{e9},\n\u{e9},\nabcdefghijklmnopqrstuvw\u{3c0}xyz,\n";
     assert!(rt; has(rt, "utf8", letters.as_bytes(), 3, printed));
-    assert!(rt; misfits(rt, "utf8", b"abcdefgh,abcdefg\xFF", 2, 1));
-    assert!(rt; misfits(rt, "utf8", b"\xFFbcdefghi", 1, 0));
-    assert!(rt; misfits(rt, "utf8", b"abcdefghijklmno\xFFq", 1, 0));
+    assert!(rt; each_misfits(rt, CASES));
 }
 
 #[test]
 fn the_first_misfit_goes_row_by_row(rt: HostRuntime) {
-    let text = "col a i8\ncol b bool\nget a\nas a";
-    let told = "a,\nthe field of row 0 and column 1 does not fit";
-    assert!(rt; prints(rt, text, b"1,x,y,true", 2, told));
-    let told = "a,\nthe field of row 1 and column 0 does not fit";
-    assert!(rt; prints(rt, text, b"1,true,y,x", 2, told));
-    assert!(rt;
-        prints(
-            rt,
-            text,
+    const CASES: &[(&str, &[u8], usize, &str)] = &[
+        (
+            "col a i8\ncol b bool\nget a\nas a",
+            b"1,x,y,true",
+            2,
+            "a,\nthe field of row 0 and column 1 does not fit",
+        ),
+        (
+            "col a i8\ncol b bool\nget a\nas a",
+            b"1,true,y,x",
+            2,
+            "a,\nthe field of row 1 and column 0 does not fit",
+        ),
+        (
+            "col a i8\ncol b bool\nget a\nas a",
             b"1,true,2",
             2,
-            "a,\nthe fields are not those of whole rows"
-        )
-    );
-    assert!(rt;
-        prints(
-            rt,
-            text,
+            "a,\nthe fields are not those of whole rows",
+        ),
+        (
+            "col a i8\ncol b bool\nget a\nas a",
             b"1,true",
             2,
-            "a,\nthe fields are not those of whole rows"
-        )
-    );
+            "a,\nthe fields are not those of whole rows",
+        ),
+    ];
+    assert!(rt; each_prints(rt, CASES));
 }

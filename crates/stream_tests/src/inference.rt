@@ -1,6 +1,7 @@
 //! Types that columns take from the first rows.
 
-use crate::asking::{Asked, answers_so, asks, ends_once, ends_so, rows_where};
+use crate::asking::{Asked, Texts, answers_so, asks, each_ends_so, ends_once, ends_so, rows_where};
+use crate::cases::is_case;
 use fixtures::same;
 use rowfn_queries::{SAMPLED_ROWS, Words, infer};
 use std::alloc::{AllocError, Global};
@@ -29,17 +30,30 @@ fn has_type(rt: HostRuntime, fields: &str, wanted: &str) -> bool {
     }
 }
 
+/// Whether so has each of these.
+fn each_has_type(rt: HostRuntime, cases: &[(&str, &str)]) -> bool {
+    for (place, (fields, wanted)) in cases.iter().enumerate() {
+        if !is_case(rt, place, has_type(rt, fields, wanted)) {
+            return false;
+        }
+    }
+    true
+}
+
 #[test]
 fn a_column_has_the_first_type_that_its_fields_fit(rt: HostRuntime) {
-    assert!(rt; has_type(rt, "true,false", "[bool]"));
-    assert!(rt; has_type(rt, "true,~", "[bool?]"));
-    assert!(rt; has_type(rt, "1,-9223372036854775808", "[i64]"));
-    assert!(rt; has_type(rt, "~,7", "[i64?]"));
-    assert!(rt; has_type(rt, "9223372036854775808", "[utf8]"));
-    assert!(rt; has_type(rt, "1,true", "[utf8]"));
-    assert!(rt; has_type(rt, "1,x,~", "[utf8?]"));
-    assert!(rt; has_type(rt, "~,~", "[utf8?]"));
-    assert!(rt; has_type(rt, "", "[utf8]"));
+    const CASES: &[(&str, &str)] = &[
+        ("true,false", "[bool]"),
+        ("true,~", "[bool?]"),
+        ("1,-9223372036854775808", "[i64]"),
+        ("~,7", "[i64?]"),
+        ("9223372036854775808", "[utf8]"),
+        ("1,true", "[utf8]"),
+        ("1,x,~", "[utf8?]"),
+        ("~,~", "[utf8?]"),
+        ("", "[utf8]"),
+    ];
+    assert!(rt; each_has_type(rt, CASES));
 }
 
 #[test]
@@ -120,16 +134,16 @@ fn reading_may_fail_in_the_first_rows(rt: HostRuntime) {
 
 #[test]
 fn a_header_that_is_none_is_told(rt: HostRuntime) {
-    assert!(rt; ends_so(rt, asks("a", ""), "", 2, "header: the input is empty"));
-    assert!(rt;
-        ends_so(
-            rt,
-            asks("a", "a,\"b\n1"),
+    const CASES: &[(Texts, &str, u8, &str)] = &[
+        (("", "a", "", ""), "", 2, "header: the input is empty"),
+        (
+            ("", "a", "", "a,\"b\n1"),
             "",
             2,
-            "header: a quote is not closed"
-        )
-    );
+            "header: a quote is not closed",
+        ),
+    ];
+    assert!(rt; each_ends_so(rt, CASES));
     let long = Asked {
         max_field: 2,
         ..asks("a", "a,bcd\n1,2\n")

@@ -27,6 +27,8 @@ mod inference;
 #[cfg(test)]
 mod line_errors;
 #[cfg(test)]
+mod long_fields;
+#[cfg(test)]
 mod naming;
 #[cfg(test)]
 mod options;

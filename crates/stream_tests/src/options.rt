@@ -1,5 +1,6 @@
 //! The words that a stream is called with.
 
+use crate::cases::is_case;
 use clap::error::ErrorKind;
 use fixtures::same;
 use rowfn_options::{Options, Source, read_options, status};
@@ -110,6 +111,16 @@ fn says(rt: HostRuntime, line: &str, wanted: &str) -> bool {
     }
 }
 
+/// Whether each of these words is taken, and says what is wanted.
+fn each_says(rt: HostRuntime, cases: &[(&str, &str)]) -> bool {
+    for (place, (line, wanted)) in cases.iter().enumerate() {
+        if !is_case(rt, place, says(rt, line, wanted)) {
+            return false;
+        }
+    }
+    true
+}
+
 /// Whether the words are refused so.
 fn is_refused(rt: HostRuntime, line: &str, wanted: ErrorKind) -> bool {
     let alloc = rt.alloc();
@@ -122,138 +133,193 @@ fn is_refused(rt: HostRuntime, line: &str, wanted: ErrorKind) -> bool {
     }
 }
 
+/// Whether each of these words is refused for that.
+fn are_refused(rt: HostRuntime, cases: &[(&str, ErrorKind)]) -> bool {
+    for (place, (line, wanted)) in cases.iter().enumerate() {
+        if !is_case(rt, place, is_refused(rt, line, *wanted)) {
+            return false;
+        }
+    }
+    true
+}
+
 #[test]
 fn the_expression_is_the_first_word_or_lines(rt: HostRuntime) {
-    let told = "44 true '' 2048 Answer false text a + b";
-    assert!(rt; says(rt, "p a|+|b", told));
-    let told = "44 true '' 2048 Answer false file sum.rows";
-    assert!(rt; says(rt, "p -f sum.rows", told));
-    let told = "44 true '' 2048 Answer false line get a line get b";
-    assert!(rt; says(rt, "p -e get|a -e get|b", told));
-    assert!(rt; is_refused(rt, "p", ErrorKind::MissingRequiredArgument));
-    assert!(rt; is_refused(rt, "p -e get|a -f sum.rows", ErrorKind::ArgumentConflict));
+    const SAID: &[(&str, &str)] = &[
+        ("p a|+|b", "44 true '' 2048 Answer false text a + b"),
+        (
+            "p -f sum.rows",
+            "44 true '' 2048 Answer false file sum.rows",
+        ),
+        (
+            "p -e get|a -e get|b",
+            "44 true '' 2048 Answer false line get a line get b",
+        ),
+    ];
+    const REFUSED: &[(&str, ErrorKind)] = &[
+        ("p", ErrorKind::MissingRequiredArgument),
+        ("p -e get|a -f sum.rows", ErrorKind::ArgumentConflict),
+    ];
+    assert!(rt; each_says(rt, SAID));
+    assert!(rt; are_refused(rt, REFUSED));
 }
 
 #[test]
 fn what_follows_is_the_file_of_the_rows(rt: HostRuntime) {
-    let told = "44 true '' 2048 Answer false text a from goods.csv";
-    assert!(rt; says(rt, "p a goods.csv", told));
-    assert!(rt; says(rt, "p a --input goods.csv", told));
-    let told = "44 true '' 2048 Answer false line get a from goods.csv";
-    assert!(rt; says(rt, "p -e get|a goods.csv", told));
-    assert!(rt; says(rt, "p --input goods.csv -e get|a", told));
-    let told = "44 true '' 2048 Answer false file sum.rows from goods.csv";
-    assert!(rt; says(rt, "p -f sum.rows goods.csv", told));
-    assert!(rt; says(rt, "p a -", "44 true '' 2048 Answer false text a"));
-    let told = "44 true '' 2048 Answer false where b from goods.csv";
-    assert!(rt; says(rt, "p --where b --input goods.csv", told));
-    assert!(rt; is_refused(rt, "p a b c", ErrorKind::UnknownArgument));
-    assert!(rt; is_refused(rt, "p -e get|a b c", ErrorKind::ArgumentConflict));
-    assert!(rt; is_refused(rt, "p a b --input c", ErrorKind::ArgumentConflict));
-    assert!(rt; is_refused(rt, "p -e get|a b --input c", ErrorKind::ArgumentConflict));
+    const SAID: &[(&str, &str)] = &[
+        (
+            "p a goods.csv",
+            "44 true '' 2048 Answer false text a from goods.csv",
+        ),
+        (
+            "p a --input goods.csv",
+            "44 true '' 2048 Answer false text a from goods.csv",
+        ),
+        (
+            "p -e get|a goods.csv",
+            "44 true '' 2048 Answer false line get a from goods.csv",
+        ),
+        (
+            "p --input goods.csv -e get|a",
+            "44 true '' 2048 Answer false line get a from goods.csv",
+        ),
+        (
+            "p -f sum.rows goods.csv",
+            "44 true '' 2048 Answer false file sum.rows from goods.csv",
+        ),
+        ("p a -", "44 true '' 2048 Answer false text a"),
+        (
+            "p --where b --input goods.csv",
+            "44 true '' 2048 Answer false where b from goods.csv",
+        ),
+    ];
+    const REFUSED: &[(&str, ErrorKind)] = &[
+        ("p a b c", ErrorKind::UnknownArgument),
+        ("p -e get|a b c", ErrorKind::ArgumentConflict),
+        ("p a b --input c", ErrorKind::ArgumentConflict),
+        ("p -e get|a b --input c", ErrorKind::ArgumentConflict),
+    ];
+    assert!(rt; each_says(rt, SAID));
+    assert!(rt; are_refused(rt, REFUSED));
 }
 
 #[test]
 fn columns_and_conditions_are_told(rt: HostRuntime) {
-    let told = "44 true '' 2048 Answer false columns a i32? where a > 1 text a";
-    assert!(rt; says(rt, "p a --columns a|i32? --where a|>|1", told));
-    let told = "44 true '' 2048 Answer false 1 false false text a";
-    assert!(rt; says(rt, "p a --no-infer", told));
-    let told = "44 true '' 2048 Answer false 5 true true text a";
-    assert!(rt; says(rt, "p a --append --first-row 5", told));
-    let told = "44 true '-' 2048 Answer false where -5 < a text -5 + a";
-    assert!(rt; says(rt, "p --where -5|<|a --null - -- -5|+|a", told));
-    assert!(rt; is_refused(rt, "p a --first-row 0", ErrorKind::ValueValidation));
-    assert!(rt;
-        is_refused(
-            rt,
-            "p -e get|a --columns a|i32",
-            ErrorKind::ArgumentConflict
-        )
-    );
-    assert!(rt; is_refused(rt, "p -f f --columns a|i32", ErrorKind::ArgumentConflict));
-    assert!(rt; is_refused(rt, "p a --pick --where a", ErrorKind::ArgumentConflict));
-    assert!(rt; is_refused(rt, "p a --pick --append", ErrorKind::ArgumentConflict));
+    const SAID: &[(&str, &str)] = &[
+        (
+            "p a --columns a|i32? --where a|>|1",
+            "44 true '' 2048 Answer false columns a i32? where a > 1 text a",
+        ),
+        (
+            "p a --no-infer",
+            "44 true '' 2048 Answer false 1 false false text a",
+        ),
+        (
+            "p a --append --first-row 5",
+            "44 true '' 2048 Answer false 5 true true text a",
+        ),
+        (
+            "p --where -5|<|a --null - -- -5|+|a",
+            "44 true '-' 2048 Answer false where -5 < a text -5 + a",
+        ),
+    ];
+    const REFUSED: &[(&str, ErrorKind)] = &[
+        ("p a --first-row 0", ErrorKind::ValueValidation),
+        ("p -e get|a --columns a|i32", ErrorKind::ArgumentConflict),
+        ("p -f f --columns a|i32", ErrorKind::ArgumentConflict),
+        ("p a --pick --where a", ErrorKind::ArgumentConflict),
+        ("p a --pick --append", ErrorKind::ArgumentConflict),
+    ];
+    assert!(rt; each_says(rt, SAID));
+    assert!(rt; are_refused(rt, REFUSED));
 }
 
 #[test]
 fn fields_are_told(rt: HostRuntime) {
-    assert!(rt;
-        says(
-            rt,
-            "p --delimiter ; f",
-            "59 true '' 2048 Answer false text f"
-        )
-    );
-    assert!(rt; says(rt, "p -d \\t f", "9 true '' 2048 Answer false text f"));
-    assert!(rt;
-        says(
-            rt,
-            "p --no-header f",
-            "44 false '' 2048 Answer false text f"
-        )
-    );
-    assert!(rt; says(rt, "p --header f", "44 true '' 2048 Answer false text f"));
-    assert!(rt; says(rt, "p -n NA f", "44 true 'NA' 2048 Answer false text f"));
-    assert!(rt; says(rt, "p --null= f", "44 true '' 2048 Answer false text f"));
-    assert!(rt; is_refused(rt, "p --delimiter ;; f", ErrorKind::InvalidValue));
-    assert!(rt; is_refused(rt, "p --delimiter \" f", ErrorKind::InvalidValue));
-    assert!(rt; is_refused(rt, "p --delimiter π f", ErrorKind::InvalidValue));
-    assert!(rt; is_refused(rt, "p --header --no-header f", ErrorKind::ArgumentConflict));
+    const SAID: &[(&str, &str)] = &[
+        ("p --delimiter ; f", "59 true '' 2048 Answer false text f"),
+        ("p -d \\t f", "9 true '' 2048 Answer false text f"),
+        ("p --no-header f", "44 false '' 2048 Answer false text f"),
+        ("p --header f", "44 true '' 2048 Answer false text f"),
+        ("p -n NA f", "44 true 'NA' 2048 Answer false text f"),
+        ("p --null= f", "44 true '' 2048 Answer false text f"),
+    ];
+    const REFUSED: &[(&str, ErrorKind)] = &[
+        ("p --delimiter ;; f", ErrorKind::InvalidValue),
+        ("p --delimiter \" f", ErrorKind::InvalidValue),
+        ("p --delimiter π f", ErrorKind::InvalidValue),
+        ("p --header --no-header f", ErrorKind::ArgumentConflict),
+    ];
+    assert!(rt; each_says(rt, SAID));
+    assert!(rt; are_refused(rt, REFUSED));
 }
 
 #[test]
 fn a_text_for_null_stands_bare(rt: HostRuntime) {
-    assert!(rt; is_refused(rt, "p --null a,b f", ErrorKind::InvalidValue));
-    assert!(rt; is_refused(rt, "p --null a;b --delimiter ; f", ErrorKind::InvalidValue));
-    assert!(rt; is_refused(rt, "p --null \" f", ErrorKind::InvalidValue));
-    assert!(rt; is_refused(rt, "p --null a\nb f", ErrorKind::InvalidValue));
-    assert!(rt; is_refused(rt, "p --null \u{feff} f", ErrorKind::InvalidValue));
+    const CASES: &[(&str, ErrorKind)] = &[
+        ("p --null a,b f", ErrorKind::InvalidValue),
+        ("p --null a;b --delimiter ; f", ErrorKind::InvalidValue),
+        ("p --null \" f", ErrorKind::InvalidValue),
+        ("p --null a\nb f", ErrorKind::InvalidValue),
+        ("p --null \u{feff} f", ErrorKind::InvalidValue),
+    ];
+    assert!(rt; are_refused(rt, CASES));
     let told = "59 true 'a,b' 2048 Answer false text f";
     assert!(rt; says(rt, "p --null a,b --delimiter ; f", told));
 }
 
 #[test]
 fn lines_without_a_byte_are_told(rt: HostRuntime) {
-    let told = "44 true '' 2048 Answer false blank rows text f";
-    assert!(rt; says(rt, "p --blank-lines null f", told));
-    let told = "44 true '' 2048 Answer false text f";
-    assert!(rt; says(rt, "p --blank-lines skip f", told));
+    const CASES: &[(&str, &str)] = &[
+        (
+            "p --blank-lines null f",
+            "44 true '' 2048 Answer false blank rows text f",
+        ),
+        (
+            "p --blank-lines skip f",
+            "44 true '' 2048 Answer false text f",
+        ),
+    ];
+    assert!(rt; each_says(rt, CASES));
     assert!(rt; is_refused(rt, "p --blank-lines none f", ErrorKind::InvalidValue));
 }
 
 #[test]
 fn spellings_of_truth_values_are_told(rt: HostRuntime) {
-    let told = "44 true '' 2048 Answer false any truths text f";
-    assert!(rt; says(rt, "p --bool any f", told));
-    assert!(rt;
-        says(
-            rt,
-            "p --bool plain f",
-            "44 true '' 2048 Answer false text f"
-        )
-    );
+    const CASES: &[(&str, &str)] = &[
+        (
+            "p --bool any f",
+            "44 true '' 2048 Answer false any truths text f",
+        ),
+        ("p --bool plain f", "44 true '' 2048 Answer false text f"),
+    ];
+    assert!(rt; each_says(rt, CASES));
     assert!(rt; is_refused(rt, "p --bool yes f", ErrorKind::InvalidValue));
 }
 
 #[test]
 fn what_refused_rows_do_is_told(rt: HostRuntime) {
-    let told = "44 true '' 2048 Answer false skips text f";
-    assert!(rt; says(rt, "p --errors skip f", told));
-    let told = "44 true '' 2048 Answer false text f";
-    assert!(rt; says(rt, "p --errors stop f", told));
-    let told = "44 true '' 2048 Answer false skips errors to e.csv text f from r.csv";
-    assert!(rt; says(rt, "p --errors skip --errors-to e.csv f r.csv", told));
-    let told = "44 true '' 2048 Answer false errors to e.csv text f";
-    assert!(rt; says(rt, "p --errors-to e.csv f", told));
-    assert!(rt; is_refused(rt, "p --errors pass f", ErrorKind::InvalidValue));
-    assert!(rt;
-        is_refused(
-            rt,
-            "p --errors-to r.csv f r.csv",
-            ErrorKind::ArgumentConflict
-        )
-    );
+    const SAID: &[(&str, &str)] = &[
+        (
+            "p --errors skip f",
+            "44 true '' 2048 Answer false skips text f",
+        ),
+        ("p --errors stop f", "44 true '' 2048 Answer false text f"),
+        (
+            "p --errors skip --errors-to e.csv f r.csv",
+            "44 true '' 2048 Answer false skips errors to e.csv text f from r.csv",
+        ),
+        (
+            "p --errors-to e.csv f",
+            "44 true '' 2048 Answer false errors to e.csv text f",
+        ),
+    ];
+    const REFUSED: &[(&str, ErrorKind)] = &[
+        ("p --errors pass f", ErrorKind::InvalidValue),
+        ("p --errors-to r.csv f r.csv", ErrorKind::ArgumentConflict),
+    ];
+    assert!(rt; each_says(rt, SAID));
+    assert!(rt; are_refused(rt, REFUSED));
     assert!(rt; ends_with(rt, "p --errors pass f", 64));
 }
 
@@ -269,40 +335,59 @@ fn ends_with(rt: HostRuntime, line: &str, wanted: u8) -> bool {
     }
 }
 
+/// Whether a program ends so with each of these words.
+fn each_ends_with(rt: HostRuntime, cases: &[(&str, u8)]) -> bool {
+    for (place, (line, wanted)) in cases.iter().enumerate() {
+        if !is_case(rt, place, ends_with(rt, line, *wanted)) {
+            return false;
+        }
+    }
+    true
+}
+
 #[test]
 fn wrong_words_have_a_status_of_their_own(rt: HostRuntime) {
-    assert!(rt; ends_with(rt, "p --other f", 64));
-    assert!(rt; ends_with(rt, "p --delimiter ;; f", 64));
-    assert!(rt; ends_with(rt, "p", 64));
-    assert!(rt; ends_with(rt, "p --help", 0));
-    assert!(rt; ends_with(rt, "p --version", 0));
+    const CASES: &[(&str, u8)] = &[
+        ("p --other f", 64),
+        ("p --delimiter ;; f", 64),
+        ("p", 64),
+        ("p --help", 0),
+        ("p --version", 0),
+    ];
+    assert!(rt; each_ends_with(rt, CASES));
 }
 
 #[test]
 fn what_is_done_is_told(rt: HostRuntime) {
-    assert!(rt; says(rt, "p --pick f", "44 true '' 2048 Pick false text f"));
-    assert!(rt; says(rt, "p --explain f", "44 true '' 2048 Explain false text f"));
-    assert!(rt; says(rt, "p --summary f", "44 true '' 2048 Answer true text f"));
-    assert!(rt;
-        says(
-            rt,
+    const SAID: &[(&str, &str)] = &[
+        ("p --pick f", "44 true '' 2048 Pick false text f"),
+        ("p --explain f", "44 true '' 2048 Explain false text f"),
+        ("p --summary f", "44 true '' 2048 Answer true text f"),
+        (
             "p --progress f",
-            "44 true '' 2048 Answer false progress text f"
-        )
-    );
-    assert!(rt; says(rt, "p --batch 7 f", "44 true '' 7 Answer false text f"));
-    let told = "44 true '' 2048 Answer false flushes text f";
-    assert!(rt; says(rt, "p --flush f", told));
-    assert!(rt; is_refused(rt, "p --batch 0 f", ErrorKind::ValueValidation));
-    assert!(rt; is_refused(rt, "p --batch x f", ErrorKind::ValueValidation));
-    let told = "44 true '' 2048 Answer false 7 268435456 text f";
-    assert!(rt; says(rt, "p --batch-bytes 7 f", told));
-    let told = "44 true '' 2048 Answer false 1048576 9 text f";
-    assert!(rt; says(rt, "p --max-field 9 f", told));
-    assert!(rt; is_refused(rt, "p --batch-bytes 0 f", ErrorKind::ValueValidation));
-    assert!(rt; is_refused(rt, "p --max-field 0 f", ErrorKind::ValueValidation));
-    assert!(rt; is_refused(rt, "p --pick --explain f", ErrorKind::ArgumentConflict));
-    assert!(rt; is_refused(rt, "p --other f", ErrorKind::UnknownArgument));
-    assert!(rt; is_refused(rt, "p --help", ErrorKind::DisplayHelp));
-    assert!(rt; is_refused(rt, "p --version", ErrorKind::DisplayVersion));
+            "44 true '' 2048 Answer false progress text f",
+        ),
+        ("p --batch 7 f", "44 true '' 7 Answer false text f"),
+        ("p --flush f", "44 true '' 2048 Answer false flushes text f"),
+        (
+            "p --batch-bytes 7 f",
+            "44 true '' 2048 Answer false 7 268435456 text f",
+        ),
+        (
+            "p --max-field 9 f",
+            "44 true '' 2048 Answer false 1048576 9 text f",
+        ),
+    ];
+    const REFUSED: &[(&str, ErrorKind)] = &[
+        ("p --batch 0 f", ErrorKind::ValueValidation),
+        ("p --batch x f", ErrorKind::ValueValidation),
+        ("p --batch-bytes 0 f", ErrorKind::ValueValidation),
+        ("p --max-field 0 f", ErrorKind::ValueValidation),
+        ("p --pick --explain f", ErrorKind::ArgumentConflict),
+        ("p --other f", ErrorKind::UnknownArgument),
+        ("p --help", ErrorKind::DisplayHelp),
+        ("p --version", ErrorKind::DisplayVersion),
+    ];
+    assert!(rt; each_says(rt, SAID));
+    assert!(rt; are_refused(rt, REFUSED));
 }

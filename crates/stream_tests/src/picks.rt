@@ -1,39 +1,68 @@
 //! Rows of the input that are written as they stand.
 
-use crate::cases::{Case, ends, gives, pick};
+use crate::cases::{Case, Form, each_gives, ends, gives, pick};
 
 const SMALL: &str = "col a i64?\nget a\nlit i64 4\ncall <\n";
 
 #[test]
 fn rows_are_picked_byte_for_byte(rt: HostRuntime) {
-    let input = "x,a\n\"u\"\"v\",1\nw,9\n \"q\",\"3\"\n";
-    assert!(rt; gives(rt, pick(SMALL, input), "x,a\n\"u\"\"v\",1\n \"q\",\"3\"\n"));
-    let spread = "x,a\n\"u\nv\",1\n\"w\n\",9\n,2\n";
-    assert!(rt; gives(rt, pick(SMALL, spread), "x,a\n\"u\nv\",1\n,2\n"));
+    const CASES: &[(Form, &str, &str, &str)] = &[
+        (
+            Form::Pick,
+            SMALL,
+            "x,a\n\"u\"\"v\",1\nw,9\n \"q\",\"3\"\n",
+            "x,a\n\"u\"\"v\",1\n \"q\",\"3\"\n",
+        ),
+        (
+            Form::Pick,
+            SMALL,
+            "x,a\n\"u\nv\",1\n\"w\n\",9\n,2\n",
+            "x,a\n\"u\nv\",1\n,2\n",
+        ),
+    ];
+    assert!(rt; each_gives(rt, CASES));
 }
 
 #[test]
 fn a_row_is_picked_where_the_top_is_true(rt: HostRuntime) {
-    assert!(rt;
-        gives(
-            rt,
-            pick(SMALL, "a,x\n1,u\n,v\n5,w\n3,x\n"),
-            "a,x\n1,u\n3,x\n"
-        )
-    );
-    let top = "col a i64?\nget a\nget a\nlit i64 4\ncall <\nas small\n";
-    assert!(rt; gives(rt, pick(top, "a\n1\n5\n3\n"), "a\n1\n3\n"));
-    assert!(rt; gives(rt, pick("lit bool? null\n", "a\n1\n5\n"), "a\n"));
-    assert!(rt; gives(rt, pick("lit bool true\n", "a\n1\n5\n"), "a\n1\n5\n"));
+    const CASES: &[(Form, &str, &str, &str)] = &[
+        (
+            Form::Pick,
+            SMALL,
+            "a,x\n1,u\n,v\n5,w\n3,x\n",
+            "a,x\n1,u\n3,x\n",
+        ),
+        (
+            Form::Pick,
+            "col a i64?\nget a\nget a\nlit i64 4\ncall <\nas small\n",
+            "a\n1\n5\n3\n",
+            "a\n1\n3\n",
+        ),
+        (Form::Pick, "lit bool? null\n", "a\n1\n5\n", "a\n"),
+        (Form::Pick, "lit bool true\n", "a\n1\n5\n", "a\n1\n5\n"),
+    ];
+    assert!(rt; each_gives(rt, CASES));
 }
 
 #[test]
 fn ends_of_lines_go_with_their_rows(rt: HostRuntime) {
-    let input = "x,a\r\nu,1\r\nv,9\r\nw,2\r\n";
-    assert!(rt; gives(rt, pick(SMALL, input), "x,a\r\nu,1\r\nw,2\r\n"));
-    assert!(rt; gives(rt, pick(SMALL, "a,x\n\n1,u\n\n\n9,v\n2,w"), "a,x\n1,u\n2,w"));
-    assert!(rt; gives(rt, pick(SMALL, "a,x\r1,u\r9,v\r2,w\r"), "a,x\r1,u\r2,w\r"));
-    assert!(rt; gives(rt, pick(SMALL, "\u{feff}a\n1\n"), "a\n1\n"));
+    const CASES: &[(Form, &str, &str, &str)] = &[
+        (
+            Form::Pick,
+            SMALL,
+            "x,a\r\nu,1\r\nv,9\r\nw,2\r\n",
+            "x,a\r\nu,1\r\nw,2\r\n",
+        ),
+        (
+            Form::Pick,
+            SMALL,
+            "a,x\n\n1,u\n\n\n9,v\n2,w",
+            "a,x\n1,u\n2,w",
+        ),
+        (Form::Pick, SMALL, "a,x\r1,u\r9,v\r2,w\r", "a,x\r1,u\r2,w\r"),
+        (Form::Pick, SMALL, "\u{feff}a\n1\n", "a\n1\n"),
+    ];
+    assert!(rt; each_gives(rt, CASES));
     let headless = Case {
         header: false,
         ..pick(SMALL, "\u{feff}1\r\n9\r\n\r\n2\r\n")

@@ -1,6 +1,9 @@
 //! Answers and conditions as texts.
 
-use crate::asking::{Asked, answers_so, answers_where, asks, declared, ends_so, rows_where};
+use crate::asking::{
+    Asked, Texts, answers_so, answers_where, asks, declared, each_answers, each_ends_so, ends_so,
+};
+use crate::cases::is_case;
 
 const GOODS: &str = "name,price,stock\nnut,3,7\nbolt,120,\nnail,5,0\n";
 
@@ -8,10 +11,22 @@ const TYPES: &str = "price i32, stock i32?";
 
 #[test]
 fn answers_have_names(rt: HostRuntime) {
-    let text = "price * stock as worth, price > 100 as dear";
-    let output = "worth,dear\n21,false\n,true\n0,false\n";
-    assert!(rt; answers_so(rt, declared(TYPES, text, GOODS), output));
-    assert!(rt; answers_so(rt, asks(text, GOODS), output));
+    const CASES: &[(Texts, &str)] = &[
+        (
+            (
+                TYPES,
+                "price * stock as worth, price > 100 as dear",
+                "",
+                GOODS,
+            ),
+            "worth,dear\n21,false\n,true\n0,false\n",
+        ),
+        (
+            ("", "price * stock as worth, price > 100 as dear", "", GOODS),
+            "worth,dear\n21,false\n,true\n0,false\n",
+        ),
+    ];
+    assert!(rt; each_answers(rt, CASES));
 }
 
 #[test]
@@ -26,20 +41,32 @@ fn an_answer_without_a_name_has_its_columns_or_its_text(rt: HostRuntime) {
 
 #[test]
 fn the_first_examples_answer_so(rt: HostRuntime) {
+    const CASES: &[(Texts, &str)] = &[
+        (
+            (
+                "",
+                "name, price * stock as worth",
+                "",
+                "name,price,stock\nnut,3,7\nbolt,12,\n",
+            ),
+            "name,worth\nnut,21\nbolt,\n",
+        ),
+        (
+            (
+                TYPES,
+                "price * stock as worth, price > 100 as dear",
+                "",
+                "name,price,stock\nnut,3,7\nbolt,120,\n",
+            ),
+            "worth,dear\n21,false\n,true\n",
+        ),
+    ];
     let input = "name,price,stock\nnut,3,7\nbolt,12,\n";
-    let output = "name,worth\nnut,21\nbolt,\n";
-    assert!(rt; answers_so(rt, asks("name, price * stock as worth", input), output));
+    assert!(rt; each_answers(rt, CASES));
     let taken = answers_where("stock > 0", "name, price * stock as worth", input);
     assert!(rt; answers_so(rt, taken, "name,worth\nnut,21\n"));
     let input = "name,price,stock\nnut,3,7\nbolt,120,\n";
     let answers = "price * stock as worth, price > 100 as dear";
-    assert!(rt;
-        answers_so(
-            rt,
-            declared(TYPES, answers, input),
-            "worth,dear\n21,false\n,true\n"
-        )
-    );
     let taken = answers_where("stock is not null", answers, input);
     assert!(rt; answers_so(rt, taken, "worth,dear\n21,false\n"));
 }
@@ -68,20 +95,47 @@ fn columns_are_declared(rt: HostRuntime) {
 
 #[test]
 fn texts_that_are_refused_are_told_by_their_place(rt: HostRuntime) {
-    let told = "expression: line 1, column 1: no column \"prcie\"; is \"price\" meant?";
-    assert!(rt; ends_so(rt, asks("prcie", GOODS), "", 4, told));
-    let told = "expression: line 1, column 7: found \"stock\", expected an operator, \
-                as and a name, a comma or the end";
-    assert!(rt; ends_so(rt, asks("price stock", GOODS), "", 4, told));
-    let told = "expression: line 1, column 6: E3 TypeMismatch.Arithmetic: \"+\" takes two whole \
-                numbers of one type, not utf8 and i64";
-    assert!(rt; ends_so(rt, asks("name + price", GOODS), "", 4, told));
-    let told = "expression: line 1, column 6: no word and no sign begins with \".\"";
-    assert!(rt; ends_so(rt, asks("goods.csv", ""), "", 4, told));
-    let told = "--where: line 1, column 7: found \"b\", expected an operator or the end";
-    assert!(rt; ends_so(rt, rows_where("a > 1 b", "a\n1\n"), "", 4, told));
-    let told = "--where: expected a truth value, not i64";
-    assert!(rt; ends_so(rt, rows_where("a", "a\n1\n"), "", 4, told));
+    const CASES: &[(Texts, &str, u8, &str)] = &[
+        (
+            ("", "prcie", "", GOODS),
+            "",
+            4,
+            "expression: line 1, column 1: no column \"prcie\"; is \"price\" meant?",
+        ),
+        (
+            ("", "price stock", "", GOODS),
+            "",
+            4,
+            "expression: line 1, column 7: found \"stock\", expected an operator, \
+                as and a name, a comma or the end",
+        ),
+        (
+            ("", "name + price", "", GOODS),
+            "",
+            4,
+            "expression: line 1, column 6: E3 TypeMismatch.Arithmetic: \"+\" takes two whole \
+                numbers of one type, not utf8 and i64",
+        ),
+        (
+            ("", "goods.csv", "", ""),
+            "",
+            4,
+            "expression: line 1, column 6: no word and no sign begins with \".\"",
+        ),
+        (
+            ("", "", "a > 1 b", "a\n1\n"),
+            "",
+            4,
+            "--where: line 1, column 7: found \"b\", expected an operator or the end",
+        ),
+        (
+            ("", "", "a", "a\n1\n"),
+            "",
+            4,
+            "--where: expected a truth value, not i64",
+        ),
+    ];
+    assert!(rt; each_ends_so(rt, CASES));
 }
 
 /// Whether columns that are declared are refused so.
@@ -89,39 +143,55 @@ fn is_no_scope(rt: HostRuntime, columns: &str, told: &str) -> bool {
     ends_so(rt, declared(columns, "a", "a\n1\n"), "", 4, told)
 }
 
+/// Whether so is each of these.
+fn are_no_scopes(rt: HostRuntime, cases: &[(&str, &str)]) -> bool {
+    for (place, (columns, told)) in cases.iter().enumerate() {
+        if !is_case(rt, place, is_no_scope(rt, columns, told)) {
+            return false;
+        }
+    }
+    true
+}
+
 #[test]
 fn columns_that_are_refused_are_told_by_their_place(rt: HostRuntime) {
-    let told = "--columns: line 1, column 3: no type \"int\"; types are bool, utf8, i8, i16, i32, \
-                i64, u8, u16, u32 and u64, with ? where they have null";
-    assert!(rt; is_no_scope(rt, "a int", told));
-    let told = "--columns: line 1, column 2: found the end, expected a type behind the name, \
-                as i64 or utf8?";
-    assert!(rt; is_no_scope(rt, "a", told));
-    let told = "--columns: line 1, column 6: found \"b\", expected a comma or the end";
-    assert!(rt; is_no_scope(rt, "a i8 b i8", told));
-    let told = "--columns: line 1, column 6: found the end, expected the name of a column";
-    assert!(rt; is_no_scope(rt, "a i8,", told));
-    let told = "--columns: line 1, column 7: column \"a\" is declared twice";
-    assert!(rt; is_no_scope(rt, "a i8, a i16", told));
+    const CASES: &[(&str, &str)] = &[
+        (
+            "a int",
+            "--columns: line 1, column 3: no type \"int\"; types are bool, utf8, i8, i16, i32, \
+                i64, u8, u16, u32 and u64, with ? where they have null",
+        ),
+        (
+            "a",
+            "--columns: line 1, column 2: found the end, expected a type behind the name, \
+                as i64 or utf8?",
+        ),
+        (
+            "a i8 b i8",
+            "--columns: line 1, column 6: found \"b\", expected a comma or the end",
+        ),
+        (
+            "a i8,",
+            "--columns: line 1, column 6: found the end, expected the name of a column",
+        ),
+        (
+            "a i8, a i16",
+            "--columns: line 1, column 7: column \"a\" is declared twice",
+        ),
+    ];
+    assert!(rt; are_no_scopes(rt, CASES));
 }
 
 #[test]
 fn rows_are_picked_by_a_condition(rt: HostRuntime) {
-    let output = "name,price,stock\nnut,3,7\nnail,5,0\n";
-    assert!(rt;
-        answers_so(
-            rt,
-            rows_where("stock is not null and name like 'n%'", GOODS),
-            output
-        )
-    );
-    assert!(rt;
-        answers_so(
-            rt,
-            rows_where("stock > 0", GOODS),
-            "name,price,stock\nnut,3,7\n"
-        )
-    );
+    const CASES: &[(Texts, &str)] = &[
+        (
+            ("", "", "stock is not null and name like 'n%'", GOODS),
+            "name,price,stock\nnut,3,7\nnail,5,0\n",
+        ),
+        (("", "", "stock > 0", GOODS), "name,price,stock\nnut,3,7\n"),
+    ];
+    assert!(rt; each_answers(rt, CASES));
 }
 
 #[test]

@@ -83,22 +83,42 @@ fn repeated(alloc: Global, text: &str, count: usize) -> Result<String, AllocErro
     Ok(all)
 }
 
-/// Whether a field of so many characters is told by its first 80.
-fn is_cut(rt: HostRuntime) -> Result<bool, AllocError> {
-    let alloc = rt.alloc();
-    let (long, cut) = (repeated(alloc, "π", 81)?, repeated(alloc, "π", 80)?);
-    let (long, cut) = (long.as_str(), cut.as_str());
-    let input = format!(in alloc; "a,b\n{long},1\n{cut},1\n\"{long},\",1\n")?;
-    let told = format!(in alloc;
+/// An input whose fields have these texts.
+fn input_of(alloc: Global, long: &str, cut: &str) -> Result<String, AllocError> {
+    format!(in alloc; "a,b\n{long},1\n{cut},1\n\"{long},\",1\n")
+}
+
+/// What is told of them, by a text of 80 characters.
+fn told_of(alloc: Global, cut: &str) -> Result<String, AllocError> {
+    format!(in alloc;
         "row,column,reason,field\n1,a,is no i8,{cut}..\n2,a,is no i8,{cut}\n3,a,is no i8,{cut}..\n"
-    )?;
-    let asked = declared(TYPES, SUM, input.as_str());
-    Ok(goes_on_once(rt, &asked, ((2, 1000), 5), told.as_str(), ("sum\n", 0, "")))
+    )
+}
+
+/// Whether of fields with these texts the second is told, which is the beginning of the first.
+fn tells_beginning(rt: HostRuntime, long: &str, cut: &str) -> bool {
+    let alloc = rt.alloc();
+    match (input_of(alloc, long, cut), told_of(alloc, cut)) {
+        (Ok(input), Ok(told)) => {
+            let asked = declared(TYPES, SUM, input.as_str());
+            goes_on_once(rt, &asked, ((2, 1000), 5), told.as_str(), ("sum\n", 0, ""))
+        }
+        _ => false,
+    }
+}
+
+/// Whether a field of so many characters is told by its first 80.
+fn is_cut(rt: HostRuntime) -> bool {
+    let alloc = rt.alloc();
+    match (repeated(alloc, "π", 81), repeated(alloc, "π", 80)) {
+        (Ok(long), Ok(cut)) => tells_beginning(rt, long.as_str(), cut.as_str()),
+        _ => false,
+    }
 }
 
 #[test]
 fn of_a_long_field_the_beginning_is_told(rt: HostRuntime) {
-    assert!(rt; is_cut(rt).unwrap_or(false));
+    assert!(rt; is_cut(rt));
 }
 
 #[test]
@@ -197,32 +217,72 @@ fn rows_that_are_refused_are_told_by_their_numbers(rt: HostRuntime) {
     assert!(rt; stops_behind(rt, late, "", ("a,b,sum\n1,2,3\n", 2, told)));
 }
 
-/// Whether of so many rows each that is one of so many is refused, in one batch.
-fn is_refused_often(rt: HostRuntime, count: usize, each: usize) -> Result<bool, AllocError> {
-    let alloc = rt.alloc();
-    let mut input = String::from_str(alloc, "a,b\n")?;
-    let mut output = String::from_str(alloc, "sum\n")?;
-    let mut told = String::from_str(alloc, "row,column,reason,field\n")?;
-    for row in 1..count {
-        if row % each.max(1) == 0 {
-            input.push_str("100,100\n")?;
-            told.push_str(format!(in alloc; "{row},,E7 Arithmetic.Add,\n")?.as_str())?;
-        } else {
-            input.push_str("1,2\n")?;
-            output.push_str("3\n")?;
-        }
+/// An input, what is written of it and what is told.
+#[derive(Drop)]
+struct Texts {
+    input: String,
+    output: String,
+    told: String,
+}
+
+/// The texts before any row.
+fn headers(alloc: Global) -> Result<Texts, AllocError> {
+    Ok(Texts {
+        input: String::from_str(alloc, "a,b\n")?,
+        output: String::from_str(alloc, "sum\n")?,
+        told: String::from_str(alloc, "row,column,reason,field\n")?,
+    })
+}
+
+/// Adds a row, which is refused or not.
+fn push_row(
+    alloc: Global,
+    texts: &mut Texts,
+    row: usize,
+    is_refused: bool,
+) -> Result<(), AllocError> {
+    if is_refused {
+        texts.input.push_str("100,100\n")?;
+        let line = format!(in alloc; "{row},,E7 Arithmetic.Add,\n")?;
+        texts.told.push_str(line.as_str())
+    } else {
+        texts.input.push_str("1,2\n")?;
+        texts.output.push_str("3\n")
     }
-    let asked = declared(TYPES, SUM, input.as_str());
-    let wanted = (output.as_str(), 0, "");
-    let form = ((1 << 20, 1 << 30), 8192);
-    Ok(goes_on_once(rt, &asked, form, told.as_str(), wanted))
+}
+
+/// So many rows, of which each that is one of so many is refused.
+fn often_refused(alloc: Global, count: usize, each: usize) -> Result<Texts, AllocError> {
+    let mut texts = headers(alloc)?;
+    for row in 1..count {
+        push_row(alloc, &mut texts, row, row % each.max(1) == 0)?;
+    }
+    Ok(texts)
+}
+
+/// Whether of so many rows each that is one of so many is refused, in one batch.
+fn is_refused_often(rt: HostRuntime, count: usize, each: usize) -> bool {
+    match often_refused(rt.alloc(), count, each) {
+        Ok(texts) => {
+            let asked = declared(TYPES, SUM, texts.input.as_str());
+            let wanted = (texts.output.as_str(), 0, "");
+            goes_on_once(
+                rt,
+                &asked,
+                ((1 << 20, 1 << 30), 8192),
+                texts.told.as_str(),
+                wanted,
+            )
+        }
+        Err(_) => false,
+    }
 }
 
 #[test]
 fn many_rows_of_a_batch_may_be_refused(rt: HostRuntime) {
-    assert!(rt; is_refused_often(rt, 20000, 1).unwrap_or(false));
-    assert!(rt; is_refused_often(rt, 20000, 2).unwrap_or(false));
-    assert!(rt; is_refused_often(rt, 20000, 5000).unwrap_or(false));
+    assert!(rt; is_refused_often(rt, 20000, 1));
+    assert!(rt; is_refused_often(rt, 20000, 2));
+    assert!(rt; is_refused_often(rt, 20000, 5000));
 }
 
 #[test]

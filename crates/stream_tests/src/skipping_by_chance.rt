@@ -88,47 +88,96 @@ fn new_sink(alloc: Global) -> Sink {
     }
 }
 
-/// Whether a stream that goes on writes what one writes whose input lacks the rows that are told.
-fn leaves_out(rt: HostRuntime, seed: u64) -> Result<bool, AllocError> {
-    let alloc = rt.alloc();
+/// A stream of chance: its rows, what is asked of them, and how many are read at once.
+#[derive(Drop)]
+struct Tried {
+    rows: Rows,
+    condition: &'static str,
+    batch: (usize, u64),
+    types: &'static str,
+    answers: &'static str,
+    appends: bool,
+}
+
+/// The stream that a number leads to.
+fn tried_of(alloc: Global, seed: u64) -> Result<Tried, AllocError> {
     let mut chance = Chance { state: seed };
-    let rows = rows_of(alloc, &mut chance)?;
-    let condition = match chance.word(CONDITIONS) {
+    Ok(Tried {
+        rows: rows_of(alloc, &mut chance)?,
+        condition: chance.word(CONDITIONS),
+        batch: (1 + (chance.next() % 9) as usize, 1000),
+        types: chance.word(TYPES),
+        answers: chance.word(ANSWERS),
+        appends: chance.is_one_of(3),
+    })
+}
+
+/// What a stream asks of an input.
+fn asked_of<'a>(tried: &Tried, input: &'a str) -> Asked<'a> {
+    let plain = asks(tried.answers, input);
+    let condition = match tried.condition {
         "" => None,
         text => Some(text),
     };
-    let batch = (1 + (chance.next() % 9) as usize, 1000);
-    let (types, answers) = (chance.word(TYPES), chance.word(ANSWERS));
-    let all = input_of(alloc, &rows, b"")?;
-    let words = Words {
-        columns: Some(types),
-        condition,
-        ..asks(answers, "").words
-    };
-    let asked = Asked {
-        words,
-        appends: chance.is_one_of(3),
-        ..asks("", all.as_str())
-    };
-    let (mut sink, mut told) = (new_sink(alloc), new_sink(alloc));
-    if ask_once(alloc, &asked, batch, 7, &mut sink, Some(&mut told)).is_err() {
-        return Ok(false);
+    Asked {
+        words: Words {
+            columns: Some(tried.types),
+            condition,
+            ..plain.words
+        },
+        appends: tried.appends,
+        ..plain
     }
-    let left = input_of(alloc, &rows, &told.taken)?;
-    let without = Asked {
-        input: left.as_str(),
-        ..asked
-    };
-    let mut plain = new_sink(alloc);
-    if ask_once(alloc, &without, (7, 1000), 7, &mut plain, None).is_err() {
-        return Ok(false);
+}
+
+/// What a stream writes of an input, if it comes to the input's end.
+fn written(
+    alloc: Global,
+    tried: &Tried,
+    input: &str,
+    batch: (usize, u64),
+    told: Option<&mut Sink>,
+) -> Option<Sink> {
+    let mut sink = new_sink(alloc);
+    match ask_once(alloc, &asked_of(tried, input), batch, 7, &mut sink, told) {
+        Ok(()) => Some(sink),
+        Err(_) => None,
     }
-    Ok(same(rt, sink.taken.as_slice(), plain.taken.as_slice()))
+}
+
+/// What it writes of its rows but for those that were told, in batches of another size.
+fn written_without(alloc: Global, tried: &Tried, told: &[u8]) -> Option<Sink> {
+    match input_of(alloc, &tried.rows, told) {
+        Ok(input) => written(alloc, tried, input.as_str(), (7, 1000), None),
+        Err(_) => None,
+    }
+}
+
+/// What it writes of its rows where it goes on behind those that are refused, which are told.
+fn written_on(alloc: Global, tried: &Tried, told: &mut Sink) -> Option<Sink> {
+    match input_of(alloc, &tried.rows, b"") {
+        Ok(input) => written(alloc, tried, input.as_str(), tried.batch, Some(told)),
+        Err(_) => None,
+    }
+}
+
+/// Whether a stream that goes on writes what one writes whose input lacks the rows that are told.
+fn leaves_out(rt: HostRuntime, tried: &Tried) -> bool {
+    let alloc = rt.alloc();
+    let mut told = new_sink(alloc);
+    let on = written_on(alloc, tried, &mut told);
+    match (on, written_without(alloc, tried, &told.taken)) {
+        (Some(on), Some(without)) => same(rt, on.taken.as_slice(), without.taken.as_slice()),
+        _ => false,
+    }
 }
 
 #[test]
 fn what_is_written_is_what_is_written_without_the_rows_left_out(rt: HostRuntime) {
     for seed in 0..COUNT {
-        assert!(rt; leaves_out(rt, seed).unwrap_or(false));
+        match tried_of(rt.alloc(), seed) {
+            Ok(tried) => assert!(rt; leaves_out(rt, &tried)),
+            Err(_) => assert!(rt; false),
+        }
     }
 }

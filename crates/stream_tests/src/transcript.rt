@@ -1,11 +1,12 @@
 //! What an expression prints over the rows of a batch.
 
+use crate::cases::is_case;
 use fixtures::same_text;
-use rowfn_batches::{BatchError, push_field, read_columns};
+use rowfn_batches::{push_field, read_columns};
 use rowfn_scripts::{Expression, execute_answers, first_fault, read_expression};
 use std::alloc::{AllocError, Global};
-use std::fmt::Write;
-use vortex_columns::{Column, VortexError, VortexResult};
+use std::fmt::Display;
+use vortex_columns::{Column, VortexResult};
 
 /// The fields of a text, which stand between commas; `~` is a null field, and an empty text has
 /// none.
@@ -81,11 +82,42 @@ fn push_answers(
     }
 }
 
-/// Why fields make no columns.
-fn push_misfit(alloc: Global, out: &mut Vec<u8>, error: &BatchError) -> VortexResult<()> {
+/// What is told of fields that make no columns, or of bytes that are no expression.
+fn push_told<E: Display>(alloc: Global, out: &mut Vec<u8>, error: &E) -> VortexResult<()> {
     let text = format!(in alloc; "{error}")?;
     out.extend_from_slice(text.as_bytes())?;
     Ok(())
+}
+
+/// The rows of the answers over fields, or why these make no columns.
+fn push_rows(
+    alloc: Global,
+    out: &mut Vec<u8>,
+    expression: &Expression,
+    fields: &[Option<&[u8]>],
+    row_count: usize,
+) -> VortexResult<()> {
+    match read_columns(alloc, &expression.columns, fields, row_count) {
+        Ok(columns) => push_answers(alloc, out, expression, &columns, row_count),
+        Err(error) => push_told(alloc, out, &error),
+    }
+}
+
+/// The header of an expression and its rows, or why there is no expression.
+fn push_all(
+    alloc: Global,
+    out: &mut Vec<u8>,
+    text: &[u8],
+    fields: &[Option<&[u8]>],
+    row_count: usize,
+) -> VortexResult<()> {
+    match read_expression(alloc, text) {
+        Ok(expression) => {
+            push_header(out, &expression)?;
+            push_rows(alloc, out, &expression, fields, row_count)
+        }
+        Err(error) => push_told(alloc, out, &error),
+    }
 }
 
 /// What is printed of an expression over that many rows: its header, and its answers or why there
@@ -96,21 +128,9 @@ fn transcript(
     fields: &[u8],
     row_count: usize,
 ) -> VortexResult<Vec<u8>> {
+    let fields = fields_of(alloc, fields)?;
     let mut out = Vec::new(alloc);
-    match read_expression(alloc, text) {
-        Ok(expression) => {
-            push_header(&mut out, &expression)?;
-            let fields = fields_of(alloc, fields)?;
-            match read_columns(alloc, &expression.columns, &fields, row_count) {
-                Ok(columns) => push_answers(alloc, &mut out, &expression, &columns, row_count)?,
-                Err(error) => push_misfit(alloc, &mut out, &error)?,
-            }
-        }
-        Err(error) => {
-            let text = format!(in alloc; "{error}")?;
-            out.extend_from_slice(text.as_bytes())?;
-        }
-    }
+    push_all(alloc, &mut out, text, &fields, row_count)?;
     Ok(out)
 }
 
@@ -123,6 +143,16 @@ pub fn prints(rt: HostRuntime, text: &str, fields: &[u8], row_count: usize, out:
     }
 }
 
+/// Whether each transcript is that.
+pub fn each_prints(rt: HostRuntime, cases: &[(&str, &[u8], usize, &str)]) -> bool {
+    for (place, (text, fields, row_count, out)) in cases.iter().enumerate() {
+        if !is_case(rt, place, prints(rt, text, fields, *row_count, out)) {
+            return false;
+        }
+    }
+    true
+}
+
 /// Whether bytes are no expression, which is told so.
 pub fn is_refused(rt: HostRuntime, text: &[u8], out: &str) -> bool {
     let alloc = rt.alloc();
@@ -130,4 +160,14 @@ pub fn is_refused(rt: HostRuntime, text: &[u8], out: &str) -> bool {
         Ok(printed) => same_text(rt, &printed, out),
         Err(_) => false,
     }
+}
+
+/// Whether each of these bytes is no expression, which is told so.
+pub fn are_refused(rt: HostRuntime, cases: &[(&[u8], &str)]) -> bool {
+    for (place, (text, out)) in cases.iter().enumerate() {
+        if !is_case(rt, place, is_refused(rt, text, out)) {
+            return false;
+        }
+    }
+    true
 }

@@ -1,7 +1,8 @@
 //! Columns copied into a caller's buffers.
 ghost use Rattle.std.specs.Prelude.{◌≤◌};
 
-use fixtures::{Ask, Made, bools, constant, kept, nullable_bools, numbers, same};
+use crate::questions::sure;
+use fixtures::{Made, bools, constant, kept, nullable_bools, numbers, same};
 use std::alloc::Global;
 use vortex_arrow::{
     CopyError, byte_count, copy_bools, copy_integers, copy_texts, copy_true_rows, true_count,
@@ -23,8 +24,8 @@ fn integers_are_copied(rt: HostRuntime) {
     let rows = [Some(1), None, Some(2), Some(4), Some(8)];
     let five = kept(alloc, Column::of_ints(alloc, &rows));
     let same = constant(alloc, PType::I32, -3, 2);
-    assert!(rt; rt.yes(copies_ints(rt, five, 0b00011101, [1, 0, 2, 4, 8, 7])));
-    assert!(rt; rt.yes(copies_ints(rt, same, 0b00000011, [-3, -3, 7, 7, 7, 7])));
+    sure(&rt, copies_ints(rt, five, 0b00011101, [1, 0, 2, 4, 8, 7]));
+    sure(&rt, copies_ints(rt, same, 0b00000011, [-3, -3, 7, 7, 7, 7]));
 }
 
 /// Whether a column of truth values is copied as these bits.
@@ -46,8 +47,8 @@ fn truth_values_are_copied(rt: HostRuntime) {
         alloc,
         &[true, false, false, false, false, false, false, false, true],
     );
-    assert!(rt; rt.yes(copies_bools(rt, three, ([0b101, 99], [0b101, 99]))));
-    assert!(rt; rt.yes(copies_bools(rt, nine, ([255, 1], [1, 1]))));
+    sure(&rt, copies_bools(rt, three, ([0b101, 99], [0b101, 99])));
+    sure(&rt, copies_bools(rt, nine, ([255, 1], [1, 1])));
 }
 
 /// Whether a column of texts is copied as this validity, these offsets and this data.
@@ -80,7 +81,7 @@ fn names(alloc: Global) -> Made {
 #[test]
 fn texts_are_copied(rt: HostRuntime) {
     let wanted = (0b00001001, [0, 3, 3, 3, 7], &b"joemark."[..]);
-    assert!(rt; rt.yes(copies_texts(rt, names(rt.alloc()), wanted)));
+    sure(&rt, copies_texts(rt, names(rt.alloc()), wanted));
 }
 
 /// Whether these rows are true, of which the numbers are copied, and an item behind them is kept.
@@ -99,8 +100,11 @@ fn selects(rt: HostRuntime, column: Made, count: usize, wanted: [u32; 4]) -> Vor
 fn true_rows_are_copied(rt: HostRuntime) {
     let alloc = rt.alloc();
     let rows = [Some(false), Some(true), None, Some(true)];
-    assert!(rt; rt.yes(selects(rt, nullable_bools(alloc, &rows), 2, [1, 3, 77, 77])));
-    assert!(rt; rt.yes(selects(rt, bools(alloc, &[]), 0, [77; 4])));
+    sure(
+        &rt,
+        selects(rt, nullable_bools(alloc, &rows), 2, [1, 3, 77, 77]),
+    );
+    sure(&rt, selects(rt, bools(alloc, &[]), 0, [77; 4]));
 }
 
 #[test]
@@ -110,9 +114,9 @@ fn true_rows_are_copied_across_words(rt: HostRuntime) {
     rows[63] = true;
     rows[64] = true;
     rows[129] = true;
-    assert!(rt; rt.yes(selects(rt, bools(alloc, &rows), 3, [63, 64, 129, 77])));
+    sure(&rt, selects(rt, bools(alloc, &rows), 3, [63, 64, 129, 77]));
     let yes = Column::constant(alloc, Scalar::bool(true, Nullability::NonNullable), 3);
-    assert!(rt; rt.yes(selects(rt, kept(alloc, yes), 3, [0, 1, 2, 77])));
+    sure(&rt, selects(rt, kept(alloc, yes), 3, [0, 1, 2, 77]));
 }
 
 /// How a copy into one byte of validity and that many others is refused.
@@ -156,20 +160,25 @@ fn short_buffers_and_other_types_are_refused(rt: HostRuntime) {
     let few = Some(CopyError::OffsetsTooShort);
     let short = Some(CopyError::DataTooShort);
     let texts = [other, other, few];
-    assert!(rt;
-        rt.yes(is_refused(
+    sure(
+        &rt,
+        is_refused(
             rt,
             refusals(two, 4, 8),
-            [other, Some(CopyError::ValuesTooShort), other]
-        ))
+            [other, Some(CopyError::ValuesTooShort), other],
+        ),
     );
-    assert!(rt;
-        rt.yes(is_refused(
+    sure(
+        &rt,
+        is_refused(
             rt,
             refusals(nine, 4, 8),
-            [Some(CopyError::ValidityTooShort), other, other]
-        ))
+            [Some(CopyError::ValidityTooShort), other, other],
+        ),
     );
-    assert!(rt; rt.yes(is_refused(rt, refusals(names(alloc), 4, 8), texts)));
-    assert!(rt; rt.yes(is_refused(rt, refusals(names(alloc), 5, 6), [other, other, short])));
+    sure(&rt, is_refused(rt, refusals(names(alloc), 4, 8), texts));
+    sure(
+        &rt,
+        is_refused(rt, refusals(names(alloc), 5, 6), [other, other, short]),
+    );
 }
