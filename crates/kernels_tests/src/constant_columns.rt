@@ -1,7 +1,7 @@
 //! Columns of each integer type by a constant, with results from outside. A row that has none is
 //! null in one call, which does not fault, and valid in another, which is refused.
 
-use crate::questions::{NULLABLE, PLAIN, calculated, has_numbers, nullable_numbers, sure};
+use crate::questions::{NULLABLE, PLAIN, calculated, has_numbers, nullable_numbers};
 use fixtures::{Ask, Made, constant, numbers};
 use std::alloc::Global;
 use vortex_columns::{NativePType, NumericOperator, PType, VortexResult};
@@ -82,31 +82,10 @@ fn answers_each<T: NativePType>(
     Ok(true)
 }
 
-/// Whether the products answer so, the constant on either side.
-fn multiplies<T: NativePType>(
-    rt: HostRuntime,
-    rows: &[T],
-    ptype: PType,
-    cases: &[Case],
-) -> VortexResult<bool> {
-    let by = NumericOperator::Mul;
-    let right = answers_each(rt, rows, by, Side::Right, ptype, cases)?;
-    Ok(answers_each(rt, rows, by, Side::Left, ptype, cases)? && right)
-}
-
-/// Whether the quotients by constants answer so.
-fn divides<T: NativePType>(
-    rt: HostRuntime,
-    rows: &[T],
-    ptype: PType,
-    cases: &[Case],
-) -> VortexResult<bool> {
-    answers_each(rt, rows, NumericOperator::Div, Side::Right, ptype, cases)
-}
-
 #[test]
 fn i8_times_constants(rt: HostRuntime) {
-    const CASES: &[Case] = &[
+    let rows = [-128i8, -7, 9, 127];
+    let cases: [Case; 7] = [
         (0, [Some(0), Some(0), Some(0), Some(0)]),
         (1, [Some(-128), Some(-7), Some(9), Some(127)]),
         (-1, [None, Some(7), Some(-9), Some(-127)]),
@@ -115,13 +94,15 @@ fn i8_times_constants(rt: HostRuntime) {
         (3, [None, Some(-21), Some(27), None]),
         (-3, [None, Some(21), Some(-27), None]),
     ];
-    let rows = [-128i8, -7, 9, 127];
-    sure(&rt, multiplies(rt, &rows, PType::I8, CASES));
+    let (operator, ptype) = (NumericOperator::Mul, PType::I8);
+    assert!(rt; rt.yes(answers_each(rt, &rows, operator, Side::Right, ptype, &cases)));
+    assert!(rt; rt.yes(answers_each(rt, &rows, operator, Side::Left, ptype, &cases)));
 }
 
 #[test]
 fn i8_over_constants(rt: HostRuntime) {
-    const CASES: &[Case] = &[
+    let rows = [-128i8, -7, 9, 127];
+    let cases: [Case; 7] = [
         (0, [None, None, None, None]),
         (1, [Some(-128), Some(-7), Some(9), Some(127)]),
         (-1, [None, Some(7), Some(-9), Some(-127)]),
@@ -130,13 +111,14 @@ fn i8_over_constants(rt: HostRuntime) {
         (3, [Some(-42), Some(-2), Some(3), Some(42)]),
         (-3, [Some(42), Some(2), Some(-3), Some(-42)]),
     ];
-    let rows = [-128i8, -7, 9, 127];
-    sure(&rt, divides(rt, &rows, PType::I8, CASES));
+    let (operator, ptype) = (NumericOperator::Div, PType::I8);
+    assert!(rt; rt.yes(answers_each(rt, &rows, operator, Side::Right, ptype, &cases)));
 }
 
 #[test]
 fn i16_times_constants(rt: HostRuntime) {
-    const CASES: &[Case] = &[
+    let rows = [-32768i16, -7, 9, 32767];
+    let cases: [Case; 7] = [
         (0, [Some(0), Some(0), Some(0), Some(0)]),
         (1, [Some(-32768), Some(-7), Some(9), Some(32767)]),
         (-1, [None, Some(7), Some(-9), Some(-32767)]),
@@ -145,13 +127,15 @@ fn i16_times_constants(rt: HostRuntime) {
         (3, [None, Some(-21), Some(27), None]),
         (-3, [None, Some(21), Some(-27), None]),
     ];
-    let rows = [-32768i16, -7, 9, 32767];
-    sure(&rt, multiplies(rt, &rows, PType::I16, CASES));
+    let (operator, ptype) = (NumericOperator::Mul, PType::I16);
+    assert!(rt; rt.yes(answers_each(rt, &rows, operator, Side::Right, ptype, &cases)));
+    assert!(rt; rt.yes(answers_each(rt, &rows, operator, Side::Left, ptype, &cases)));
 }
 
 #[test]
 fn i16_over_constants(rt: HostRuntime) {
-    const CASES: &[Case] = &[
+    let rows = [-32768i16, -7, 9, 32767];
+    let cases: [Case; 7] = [
         (0, [None, None, None, None]),
         (1, [Some(-32768), Some(-7), Some(9), Some(32767)]),
         (-1, [None, Some(7), Some(-9), Some(-32767)]),
@@ -160,13 +144,14 @@ fn i16_over_constants(rt: HostRuntime) {
         (3, [Some(-10922), Some(-2), Some(3), Some(10922)]),
         (-3, [Some(10922), Some(2), Some(-3), Some(-10922)]),
     ];
-    let rows = [-32768i16, -7, 9, 32767];
-    sure(&rt, divides(rt, &rows, PType::I16, CASES));
+    let (operator, ptype) = (NumericOperator::Div, PType::I16);
+    assert!(rt; rt.yes(answers_each(rt, &rows, operator, Side::Right, ptype, &cases)));
 }
 
 #[test]
 fn i32_times_constants(rt: HostRuntime) {
-    const CASES: &[Case] = &[
+    let rows = [-2147483648i32, -7, 9, 2147483647];
+    let cases: [Case; 7] = [
         (0, [Some(0), Some(0), Some(0), Some(0)]),
         (1, [Some(-2147483648), Some(-7), Some(9), Some(2147483647)]),
         (-1, [None, Some(7), Some(-9), Some(-2147483647)]),
@@ -175,13 +160,15 @@ fn i32_times_constants(rt: HostRuntime) {
         (3, [None, Some(-21), Some(27), None]),
         (-3, [None, Some(21), Some(-27), None]),
     ];
-    let rows = [-2147483648i32, -7, 9, 2147483647];
-    sure(&rt, multiplies(rt, &rows, PType::I32, CASES));
+    let (operator, ptype) = (NumericOperator::Mul, PType::I32);
+    assert!(rt; rt.yes(answers_each(rt, &rows, operator, Side::Right, ptype, &cases)));
+    assert!(rt; rt.yes(answers_each(rt, &rows, operator, Side::Left, ptype, &cases)));
 }
 
 #[test]
 fn i32_over_constants(rt: HostRuntime) {
-    const CASES: &[Case] = &[
+    let rows = [-2147483648i32, -7, 9, 2147483647];
+    let cases: [Case; 7] = [
         (0, [None, None, None, None]),
         (1, [Some(-2147483648), Some(-7), Some(9), Some(2147483647)]),
         (-1, [None, Some(7), Some(-9), Some(-2147483647)]),
@@ -190,13 +177,14 @@ fn i32_over_constants(rt: HostRuntime) {
         (3, [Some(-715827882), Some(-2), Some(3), Some(715827882)]),
         (-3, [Some(715827882), Some(2), Some(-3), Some(-715827882)]),
     ];
-    let rows = [-2147483648i32, -7, 9, 2147483647];
-    sure(&rt, divides(rt, &rows, PType::I32, CASES));
+    let (operator, ptype) = (NumericOperator::Div, PType::I32);
+    assert!(rt; rt.yes(answers_each(rt, &rows, operator, Side::Right, ptype, &cases)));
 }
 
 #[test]
 fn i64_times_constants(rt: HostRuntime) {
-    const CASES: &[Case] = &[
+    let rows = [-9223372036854775808i64, -7, 9, 9223372036854775807];
+    let cases: [Case; 7] = [
         (0, [Some(0), Some(0), Some(0), Some(0)]),
         (
             1,
@@ -213,13 +201,15 @@ fn i64_times_constants(rt: HostRuntime) {
         (3, [None, Some(-21), Some(27), None]),
         (-3, [None, Some(21), Some(-27), None]),
     ];
-    let rows = [-9223372036854775808i64, -7, 9, 9223372036854775807];
-    sure(&rt, multiplies(rt, &rows, PType::I64, CASES));
+    let (operator, ptype) = (NumericOperator::Mul, PType::I64);
+    assert!(rt; rt.yes(answers_each(rt, &rows, operator, Side::Right, ptype, &cases)));
+    assert!(rt; rt.yes(answers_each(rt, &rows, operator, Side::Left, ptype, &cases)));
 }
 
 #[test]
 fn i64_over_constants(rt: HostRuntime) {
-    const CASES: &[Case] = &[
+    let rows = [-9223372036854775808i64, -7, 9, 9223372036854775807];
+    let cases: [Case; 7] = [
         (0, [None, None, None, None]),
         (
             1,
@@ -252,110 +242,122 @@ fn i64_over_constants(rt: HostRuntime) {
             ],
         ),
     ];
-    let rows = [-9223372036854775808i64, -7, 9, 9223372036854775807];
-    sure(&rt, divides(rt, &rows, PType::I64, CASES));
+    let (operator, ptype) = (NumericOperator::Div, PType::I64);
+    assert!(rt; rt.yes(answers_each(rt, &rows, operator, Side::Right, ptype, &cases)));
 }
 
 #[test]
 fn u8_times_constants(rt: HostRuntime) {
-    const CASES: &[Case] = &[
+    let rows = [0u8, 7, 9, 255];
+    let cases: [Case; 5] = [
         (0, [Some(0), Some(0), Some(0), Some(0)]),
         (1, [Some(0), Some(7), Some(9), Some(255)]),
         (255, [Some(0), None, None, None]),
         (3, [Some(0), Some(21), Some(27), None]),
         (128, [Some(0), None, None, None]),
     ];
-    let rows = [0u8, 7, 9, 255];
-    sure(&rt, multiplies(rt, &rows, PType::U8, CASES));
+    let (operator, ptype) = (NumericOperator::Mul, PType::U8);
+    assert!(rt; rt.yes(answers_each(rt, &rows, operator, Side::Right, ptype, &cases)));
+    assert!(rt; rt.yes(answers_each(rt, &rows, operator, Side::Left, ptype, &cases)));
 }
 
 #[test]
 fn u8_over_constants(rt: HostRuntime) {
-    const CASES: &[Case] = &[
+    let rows = [0u8, 7, 9, 255];
+    let cases: [Case; 5] = [
         (0, [None, None, None, None]),
         (1, [Some(0), Some(7), Some(9), Some(255)]),
         (255, [Some(0), Some(0), Some(0), Some(1)]),
         (3, [Some(0), Some(2), Some(3), Some(85)]),
         (128, [Some(0), Some(0), Some(0), Some(1)]),
     ];
-    let rows = [0u8, 7, 9, 255];
-    sure(&rt, divides(rt, &rows, PType::U8, CASES));
+    let (operator, ptype) = (NumericOperator::Div, PType::U8);
+    assert!(rt; rt.yes(answers_each(rt, &rows, operator, Side::Right, ptype, &cases)));
 }
 
 #[test]
 fn u16_times_constants(rt: HostRuntime) {
-    const CASES: &[Case] = &[
+    let rows = [0u16, 7, 9, 65535];
+    let cases: [Case; 5] = [
         (0, [Some(0), Some(0), Some(0), Some(0)]),
         (1, [Some(0), Some(7), Some(9), Some(65535)]),
         (65535, [Some(0), None, None, None]),
         (3, [Some(0), Some(21), Some(27), None]),
         (32768, [Some(0), None, None, None]),
     ];
-    let rows = [0u16, 7, 9, 65535];
-    sure(&rt, multiplies(rt, &rows, PType::U16, CASES));
+    let (operator, ptype) = (NumericOperator::Mul, PType::U16);
+    assert!(rt; rt.yes(answers_each(rt, &rows, operator, Side::Right, ptype, &cases)));
+    assert!(rt; rt.yes(answers_each(rt, &rows, operator, Side::Left, ptype, &cases)));
 }
 
 #[test]
 fn u16_over_constants(rt: HostRuntime) {
-    const CASES: &[Case] = &[
+    let rows = [0u16, 7, 9, 65535];
+    let cases: [Case; 5] = [
         (0, [None, None, None, None]),
         (1, [Some(0), Some(7), Some(9), Some(65535)]),
         (65535, [Some(0), Some(0), Some(0), Some(1)]),
         (3, [Some(0), Some(2), Some(3), Some(21845)]),
         (32768, [Some(0), Some(0), Some(0), Some(1)]),
     ];
-    let rows = [0u16, 7, 9, 65535];
-    sure(&rt, divides(rt, &rows, PType::U16, CASES));
+    let (operator, ptype) = (NumericOperator::Div, PType::U16);
+    assert!(rt; rt.yes(answers_each(rt, &rows, operator, Side::Right, ptype, &cases)));
 }
 
 #[test]
 fn u32_times_constants(rt: HostRuntime) {
-    const CASES: &[Case] = &[
+    let rows = [0u32, 7, 9, 4294967295];
+    let cases: [Case; 5] = [
         (0, [Some(0), Some(0), Some(0), Some(0)]),
         (1, [Some(0), Some(7), Some(9), Some(4294967295)]),
         (4294967295, [Some(0), None, None, None]),
         (3, [Some(0), Some(21), Some(27), None]),
         (2147483648, [Some(0), None, None, None]),
     ];
-    let rows = [0u32, 7, 9, 4294967295];
-    sure(&rt, multiplies(rt, &rows, PType::U32, CASES));
+    let (operator, ptype) = (NumericOperator::Mul, PType::U32);
+    assert!(rt; rt.yes(answers_each(rt, &rows, operator, Side::Right, ptype, &cases)));
+    assert!(rt; rt.yes(answers_each(rt, &rows, operator, Side::Left, ptype, &cases)));
 }
 
 #[test]
 fn u32_over_constants(rt: HostRuntime) {
-    const CASES: &[Case] = &[
+    let rows = [0u32, 7, 9, 4294967295];
+    let cases: [Case; 5] = [
         (0, [None, None, None, None]),
         (1, [Some(0), Some(7), Some(9), Some(4294967295)]),
         (4294967295, [Some(0), Some(0), Some(0), Some(1)]),
         (3, [Some(0), Some(2), Some(3), Some(1431655765)]),
         (2147483648, [Some(0), Some(0), Some(0), Some(1)]),
     ];
-    let rows = [0u32, 7, 9, 4294967295];
-    sure(&rt, divides(rt, &rows, PType::U32, CASES));
+    let (operator, ptype) = (NumericOperator::Div, PType::U32);
+    assert!(rt; rt.yes(answers_each(rt, &rows, operator, Side::Right, ptype, &cases)));
 }
 
 #[test]
 fn u64_times_constants(rt: HostRuntime) {
-    const CASES: &[Case] = &[
+    let rows = [0u64, 7, 9, 18446744073709551615];
+    let cases: [Case; 5] = [
         (0, [Some(0), Some(0), Some(0), Some(0)]),
         (1, [Some(0), Some(7), Some(9), Some(18446744073709551615)]),
         (18446744073709551615, [Some(0), None, None, None]),
         (3, [Some(0), Some(21), Some(27), None]),
         (9223372036854775808, [Some(0), None, None, None]),
     ];
-    let rows = [0u64, 7, 9, 18446744073709551615];
-    sure(&rt, multiplies(rt, &rows, PType::U64, CASES));
+    let (operator, ptype) = (NumericOperator::Mul, PType::U64);
+    assert!(rt; rt.yes(answers_each(rt, &rows, operator, Side::Right, ptype, &cases)));
+    assert!(rt; rt.yes(answers_each(rt, &rows, operator, Side::Left, ptype, &cases)));
 }
 
 #[test]
 fn u64_over_constants(rt: HostRuntime) {
-    const CASES: &[Case] = &[
+    let rows = [0u64, 7, 9, 18446744073709551615];
+    let cases: [Case; 5] = [
         (0, [None, None, None, None]),
         (1, [Some(0), Some(7), Some(9), Some(18446744073709551615)]),
         (18446744073709551615, [Some(0), Some(0), Some(0), Some(1)]),
         (3, [Some(0), Some(2), Some(3), Some(6148914691236517205)]),
         (9223372036854775808, [Some(0), Some(0), Some(0), Some(1)]),
     ];
-    let rows = [0u64, 7, 9, 18446744073709551615];
-    sure(&rt, divides(rt, &rows, PType::U64, CASES));
+    let (operator, ptype) = (NumericOperator::Div, PType::U64);
+    assert!(rt; rt.yes(answers_each(rt, &rows, operator, Side::Right, ptype, &cases)));
 }
