@@ -153,29 +153,30 @@ impl<'a> WordsOfBytes for Row<'a> {
     }
 }
 
-/// The order of two byte strings: by their first four bytes, by their next eight, then by lengths
-/// where one of them has no more, else by words of eight bytes.
+/// The order of two byte strings: by their first four bytes; then, where both have more than
+/// twelve, by words of eight bytes, else by the next eight, then by lengths.
 #[inline]
 pub fn compare<A: WordsOfBytes, B: WordsOfBytes>(a: &A, b: &B) -> Ordering
     ensures { result ≡ compare_bytes (A.value a.now) (B.value b.now) }
 {
     words_order_values(a.value_bytes(), b.value_bytes());
+    words_tell_equal_values(a.value_bytes(), b.value_bytes());
     let left_prefix = a.order_prefix();
     let right_prefix = b.order_prefix();
     if left_prefix != right_prefix {
         return left_prefix.cmp(&right_prefix);
+    }
+    let left_len = a.value_len();
+    let right_len = b.value_len();
+    if left_len > 12 && right_len > 12 {
+        return compare_after(a.value_bytes(), b.value_bytes(), 4);
     }
     let left_tail = a.order_tail();
     let right_tail = b.order_tail();
     if left_tail != right_tail {
         return left_tail.cmp(&right_tail);
     }
-    let left_len = a.value_len();
-    let right_len = b.value_len();
-    if left_len <= 12 || right_len <= 12 {
-        return left_len.cmp(&right_len);
-    }
-    compare_after(a.value_bytes(), b.value_bytes(), 12)
+    left_len.cmp(&right_len)
 }
 
 /// Whether two byte strings are equal: by their lengths and first four bytes, then by their next
