@@ -32,6 +32,11 @@ abbrev pub AreAscii : ColumnView → List (List ℕ) → Type 0
 AreAscii c texts =
     (i : ℕ) → i < length c.rows → is_null (row c.rows i) ≡ false → IsAscii (text_at texts i)
 
+-- this text in each row that is not null
+abbrev pub IsRepeated : List ℕ → ColumnView → Type 0
+IsRepeated chars c =
+    (i : ℕ) → i < length c.rows → is_null (row c.rows i) ≡ false → row c.rows i ≡ text chars
+
 -- one text in each row, a text in each, or null in each
 abbrev pub IsTextColumn : ColumnView → TextColumn → Type 0
 IsTextColumn c (One chars) = IsConstantOf (text chars.now) c

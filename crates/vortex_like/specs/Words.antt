@@ -23,7 +23,7 @@ pub use Rattle.vortex_like.specs.Rows.{AreTold, IsSaid, turned, IsLikeBit, AreLi
 pub use Rattle.vortex_like.specs.Rows.{IsConstantOf, HasLikeRows}
 pub use Rattle.vortex_like.specs.Symbols.{symbol_token}
 pub use Rattle.vortex_like.specs.TextRows.{texts_of, text_at, IsTextOf, AreTexts, AreAscii}
-pub use Rattle.vortex_like.specs.TextRows.{IsTextColumn}
+pub use Rattle.vortex_like.specs.TextRows.{IsTextColumn, IsRepeated}
 pub use Rattle.vortex_like.specs.Tokens.{any, one, character, is_any, accepts, plain_token}
 pub use Rattle.vortex_like.specs.Tokens.{is_escape, backslash, tokens_of, Match, is_match}
 pub use Rattle.vortex_like.specs.Tokens.{TestDecidesMatch}

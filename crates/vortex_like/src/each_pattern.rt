@@ -7,12 +7,14 @@ ghost use Rattle.vortex_like.specs.Words.{AnswersUnlessMemory, is_null, row, is_
 ghost use Rattle.vortex_like.specs.Words.{AreLikeBits};
 ghost use Rattle.vortex_like.specs.Words.{IsTextOf, AreTexts, texts_of, IsCompiled, AreBothValid};
 ghost use Rattle.vortex_like.specs.Words.{IsKept, IsKeptAt};
+ghost use Rattle.vortex_views.specs.LentValue.{row_value};
 
 use crate::options::LikeOptions;
 use crate::pattern::LikePattern;
 use crate::texts::{RowTexts, Texts};
 use std::alloc::Global;
 use vortex_columns::{BitBuffer, Column, VortexResult};
+use vortex_views::{Row, WordsOfBytes, equal};
 
 /// Texts and patterns side by side, and what is asked of each pair.
 #[derive(Clone, Copy)]
@@ -108,8 +110,7 @@ fn keep(
     Ok(at)
 }
 
-/// The place of the pattern of these bytes, which is not the last that was asked for. Where one
-/// that is kept has the same it serves again.
+/// The place of the pattern of these bytes. Where one that is kept has the same it serves again.
 #[inline(never)]
 fn turn_further(
     alloc: Global,
@@ -126,7 +127,8 @@ fn turn_further(
         (λ _. All (IsCompiled options ascii) kept.new.items) }
     ensures place { AnswersUnlessMemory result (IsKeptAt bytes.now kept.new.items) }
 {
-    if let Some(at) = place_of(kept.as_slice(), last, bytes) {
+    let next = kept.len().min(last + 1);
+    if let Some(at) = place_of(kept.as_slice(), next, bytes) {
         return Ok(at);
     }
     let text = unsafe { str::from_utf8_unchecked(bytes) };
@@ -134,27 +136,33 @@ fn turn_further(
     keep(kept, last, pattern)
 }
 
-/// The same of any: the last that was asked for is looked at first.
+/// The place of the pattern of a row. Where the row has the same text as the last one, which two
+/// views tell, that one's serves again.
 #[inline(always)]
 fn turn_to(
     alloc: Global,
     kept: &mut Vec<CompiledPattern>,
-    last: usize,
-    bytes: &[u8],
+    last: (Option<Row<'_>>, usize),
+    row: Row<'_>,
     options: LikeOptions,
     ascii: bool,
 ) -> VortexResult<usize>
-    requires utf8 { IsUtf8 bytes.now }
-    requires last { last ≤ length kept.old.items }
+    requires utf8 { IsUtf8 (row_value row) }
+    requires last { last.1 ≤ length kept.old.items }
+    requires place { IfSome last.0 (λ own. IsKeptAt (row_value own) kept.old.items last.1) }
     requires patterns { All (IsCompiled options ascii) kept.old.items }
     ensures patterns { AnswersUnlessMemory result
         (λ _. All (IsCompiled options ascii) kept.new.items) }
-    ensures place { AnswersUnlessMemory result (IsKeptAt bytes.now kept.new.items) }
+    ensures place { AnswersUnlessMemory result
+        (IsKeptAt (row_value row.entry) kept.new.items) }
 {
-    if is_kept_at(kept.as_slice(), last, bytes) {
-        return Ok(last);
+    let (own, at) = last;
+    if let Some(own) = own {
+        if equal(&own, &row) {
+            return Ok(at);
+        }
     }
-    turn_further(alloc, kept, last, bytes, options, ascii)
+    turn_further(alloc, kept, at, row.value_bytes(), options, ascii)
 }
 
 /// The pattern at a place.
@@ -198,14 +206,16 @@ pub(crate) fn each_bits<R: RowTexts>(
     let len = columns.texts.len();
     let mut kept = Vec::with_capacity(alloc, KEPT)?;
     let mut at = 0;
+    let mut last = None;
     let mut bits = Vec::with_capacity(alloc, len)?;
     for i in 0..len {
         if !columns.are_both_valid(i) {
             bits.push_reserved(false);
             continue;
         }
-        let bytes = patterns.bytes(i);
-        at = turn_to(alloc, &mut kept, at, bytes, options, columns.ascii)?;
+        let row = patterns.row(i);
+        at = turn_to(alloc, &mut kept, (last, at), row, options, columns.ascii)?;
+        last = Some(row);
         let own = pattern_at(kept.as_slice(), at);
         bits.push_reserved(said(own, texts.bytes(i), options.negated));
     }

@@ -83,6 +83,27 @@ fn each_pattern_bits(
     each_bits(alloc, columns, &texts, patterns)
 }
 
+/// What LIKE says of the texts of a column and a column of patterns. Where these all say the same,
+/// they are one pattern.
+fn pattern_column_bits(
+    alloc: Global,
+    input: &Column,
+    texts: Texts<'_>,
+    pattern: &Column,
+    patterns: Texts<'_>,
+    options: LikeOptions,
+) -> VortexResult<BitBuffer>
+    requires lengths { length input.now.rows ≡ length pattern.now.rows }
+    requires texts { AreTexts input.now (texts_of texts) }
+    requires patterns { AreTexts pattern.now (texts_of patterns) }
+    ensures { AnswersUnlessMemory result (AreLikeBits options input.now pattern.now) }
+{
+    if let Some(chars) = patterns.repeated(pattern) {
+        return one_pattern_bits(alloc, input, texts, chars, options);
+    }
+    each_pattern_bits(alloc, input, texts, pattern, patterns, options)
+}
+
 /// What LIKE says of the same text in each row beside a pattern of its own.
 fn one_text_bits(
     alloc: Global,
@@ -124,7 +145,7 @@ fn like_bits(
             one_pattern_bits(alloc, input, texts, chars, options)
         }
         (TextColumn::Rows(texts), TextColumn::Rows(patterns)) => {
-            each_pattern_bits(alloc, input, texts, pattern, patterns, options)
+            pattern_column_bits(alloc, input, texts, pattern, patterns, options)
         }
         (TextColumn::One(text), TextColumn::Rows(patterns)) => {
             one_text_bits(alloc, input, text, pattern, patterns, options)

@@ -1,15 +1,16 @@
 //! The texts of columns, row by row.
 ghost use Rattle.std.specs.Prelude.{◌≡◌, ◌<◌, ◌≤◌, ◌+◌, ◌++◌, ℕ, List, true, false, length};
-ghost use Rattle.std.specs.Prelude.{slice_index, IsTrue};
+ghost use Rattle.std.specs.Prelude.{slice_index, IsTrue, IfSome};
 ghost use Rattle.std.specs.Str.{IsAscii};
 ghost use Rattle.vortex_like.specs.Words.{is_text_type, texts_of, text_at, AreTexts, AreAscii};
 ghost use Rattle.vortex_like.specs.Words.{IsTextColumn, is_null, row, AnswersUnlessMemory};
+ghost use Rattle.vortex_like.specs.Words.{IsRepeated};
 ghost use Rattle.std.specs.Int.{w64, to_le_bytes};
 ghost use Rattle.std.specs.Vec.{vec_len, vec_capacity};
 ghost use Rattle.vortex_views.specs.ViewBytes.{view_bytes, inlined_value, IsInlined};
 
 use vortex_columns::{Cell, Column, ResolvedViews, VortexResult};
-use vortex_views::{BinaryView, Row};
+use vortex_views::{BinaryView, Row, equal};
 
 /// The texts of a column that is no constant, each where it lies. Under a null lie any bytes.
 #[derive(Clone, Copy)]
@@ -186,6 +187,37 @@ impl<'a> Texts<'a> {
         }
         bytes.extend_from_slice(self.rows.bytes(i))?;
         Ok(())
+    }
+
+    /// The first row that is not null, if there is one.
+    fn first_valid(&self, column: &Column) -> Option<usize>
+        ensures valid { IfSome result (λ first. (first < length column.now.rows)
+            × (is_null (row column.now.rows first) ≡ false)) }
+        ensures before { IfSome result (λ first. (i : ℕ) → i < first
+            → is_null (row column.now.rows i) ≡ true) }
+    {
+        for i in 0..column.len() {
+            if column.is_valid(i) {
+                return Some(i);
+            }
+        }
+        None
+    }
+
+    /// The text that each row has which is not null, if these all have the same and there are some.
+    /// Takes no memory.
+    pub(crate) fn repeated(&self, column: &Column) -> Option<&'a str>
+        requires { AreTexts column.now (texts_of self.now) }
+        ensures { IfSome result (λ chars. IsRepeated chars.now column.now) }
+    {
+        let first = self.first_valid(column)?;
+        let own = self.row(first);
+        for i in first..column.len() {
+            if column.is_valid(i) && !equal(&own, &self.row(i)) {
+                return None;
+            }
+        }
+        Some(unsafe { str::from_utf8_unchecked(self.rows.bytes(first)) })
     }
 
     /// Whether the text of a row is ASCII, if the row is not null.

@@ -7,6 +7,7 @@ use Rattle.vortex_like.specs.EachPattern.{AreBothValid, IsCompiled}
 use Rattle.vortex_like.specs.Patterns.{PatternView}
 use Rattle.vortex_like.specs.Rows.{AreTold, IsLikeBit, AreLikeBits}
 use Rattle.vortex_like.specs.TextRows.{texts_of, text_at}
+use Rattle.vortex_views.specs.LentValue.{row_value}
 use Rattle.vortex_like.proofs.RowLemmas.{told_more}
 use Rattle.vortex_like.proofs.EachRow.{row_like}
 use Rattle.vortex_like.proofs.KeptPatterns.{kept_is}
@@ -40,7 +41,7 @@ said-requires-clause-ascii g c =
     let there : HoldsAt (λ p. p ≡ own) c.turn_to.new.kept.items c.in_ok-at.at =
     rw c.as_slice.ensures.value at c.pattern_at-own.ensures in
     let is =
-    kept_is (IsCompiled columns.options columns.ascii) own c.bytes-bytes.result.now c.in_ok-at.at
+    kept_is (IsCompiled columns.options columns.ascii) own (row_value c.row-row.result) c.in_ok-at.at
     c.turn_to.new.kept.items c.in_ok-at.ensures.patterns c.in_ok-at.ensures.place there in
     λ e.
     subst (λ (bs : List ℕ). IsAscii bs) (sym c.bytes.ensures)
@@ -57,7 +58,7 @@ loop-i-preserved g c =
     let there : HoldsAt (λ p. p ≡ own) c.turn_to.new.kept.items c.in_ok-at.at =
     rw c.as_slice.ensures.value at c.pattern_at-own.ensures in
     let is =
-    kept_is (IsCompiled columns.options columns.ascii) own c.bytes-bytes.result.now c.in_ok-at.at
+    kept_is (IsCompiled columns.options columns.ascii) own (row_value c.row-row.result) c.in_ok-at.at
     c.turn_to.new.kept.items c.in_ok-at.ensures.patterns c.in_ok-at.ensures.place there in (
       c.push_reserved-in-loop-i.ensures.capacity ∙ c.loop-i.invariant.0,
       rw c.push_reserved-in-loop-i.ensures.items
@@ -67,7 +68,8 @@ loop-i-preserved g c =
           (g.R.RowTexts.bytes_at c.args.texts.now i) _ columns.ascii c.said.result
           (c.requires.texts i lt) (c.requires.patterns.each i other) valid.0 valid.1
           c.said.ensures is.0 is.1
-          c.bytes-bytes.ensures c.bytes.ensures)),
+          c.row-row.ensures c.bytes.ensures)),
       c.in_ok-at.ensures.patterns,
       omega (arith, c.in_ok-at.ensures.place.0),
+      c.in_ok-at.ensures.place,
     )

@@ -1,8 +1,10 @@
 use Rattle.std.proofs.Common.{◌≡◌, ◌≤◌, length}
 use Rattle.std.specs.List.{All}
+use Rattle.std.specs.Option.{IfSome}
 use Rattle.std.specs.Vec.{vec_capacity}
 use Rattle.vortex_columns.specs.ColumnView.{row}
-use Rattle.vortex_like.specs.EachPattern.{IsCompiled}
+use Rattle.vortex_like.specs.EachPattern.{IsCompiled, IsKeptAt}
+use Rattle.vortex_views.specs.LentValue.{row_value}
 use Rattle.vortex_like.specs.Rows.{AreTold, IsLikeBit}
 use Rattle.vortex_like.proofs.each_pattern.each_bits.Given as goal
 
@@ -16,3 +18,4 @@ invariant-loop-i g l =
     (row l.columns.patterns.now.rows i) b) l.bits.items
     × All (IsCompiled l.columns.options l.columns.ascii) l.kept.items
     × (l.at ≤ length l.kept.items)
+    × IfSome l.last (λ own. IsKeptAt (row_value own) l.kept.items l.at)
