@@ -52,7 +52,7 @@ fn needed_front(
 }
 
 /// The tokens of a pattern, as a test.
-fn tokens_test(
+pub(crate) fn tokens_test(
     alloc: Global,
     pattern: &str,
     escape: Option<char>,
