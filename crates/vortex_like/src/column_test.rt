@@ -11,7 +11,7 @@ ghost use Rattle.vortex_like.specs.Words.{form_said, holds_inside};
 use crate::any_front::AnyFrontTest;
 use crate::first_byte::FirstByte;
 use crate::form_test::FormTest;
-use crate::fronted::said_behind;
+use crate::fronted::{said_behind, said_behind_ends};
 use crate::gathered::held_rows;
 use crate::small_inside::SmallInsideTest;
 use crate::text_tests::{ByBytes, EndTest, FrontTest, InsideTest, TextTest, WholeTest};
@@ -138,7 +138,7 @@ fn said_by_first<'a, T: ValueTest>(
 }
 
 /// What a test token by token says of them: behind a test by words of what each text begins with
-/// that passes, or else of its first byte.
+/// and ends with that passes, or else of its first byte.
 fn said_by_tokens<'a>(
     alloc: Global,
     column: &'a Column,
@@ -152,16 +152,15 @@ fn said_by_tokens<'a>(
         negated (row column.now.rows i) b)) }
 {
     let front = test.front.as_bytes();
-    let by_bytes = ByBytes { test };
-    if front.is_empty() {
-        return said_by_first(alloc, column, texts, (test, &by_bytes), negated);
+    if front.is_empty() && test.end.is_empty() {
+        return said_by_first(alloc, column, texts, (test, &ByBytes { test }), negated);
     }
     if front.len() <= 4 {
         let front = ShortFront::new(front);
-        return said_behind(alloc, column, texts, (&front, &by_bytes), negated);
+        return said_behind_ends(alloc, column, texts, (&front, test), negated);
     }
     let front = LongFront::new(front);
-    said_behind(alloc, column, texts, (&front, &by_bytes), negated)
+    said_behind_ends(alloc, column, texts, (&front, test), negated)
 }
 
 /// Which begin with a literal part past case, likewise.
