@@ -1,5 +1,6 @@
 //! Texts by their first byte: it tells of most that tokens do not match them.
-ghost use Rattle.std.specs.Prelude.{◌≡◌, ◌<◌, ◌≤◌, ℕ, List, true, length, slice_index, slice_index_or};
+ghost use Rattle.std.specs.Prelude.{◌≡◌, ◌<◌, ◌≤◌, ℕ, List, true, length};
+ghost use Rattle.std.specs.Prelude.{slice_index, slice_index_or};
 ghost use Rattle.vortex_errors.specs.Answers.{AnswersUnlessMemory};
 ghost use Rattle.vortex_like.specs.FirstBytes.{admits, AreFirstBytes};
 
@@ -19,8 +20,8 @@ fn admits(tokens: &[LikeToken], c: char, case_insensitive: bool) -> bool
     tokens[0].accepts(c, case_insensitive, &mut looks)
 }
 
-/// Whether a text may begin with that byte that tokens match. Of one that is no ASCII it is not told
-/// which character it begins, and so it may.
+/// Whether a text may begin with that byte that tokens match. Of one that is no ASCII it is not
+/// told which character it begins, and so it may.
 fn may_begin(tokens: &[LikeToken], b: usize, case_insensitive: bool) -> bool
     ensures ascii { b < 128 → result ≡ admits case_insensitive tokens.now b }
     ensures others { 128 ≤ b → result ≡ true }
