@@ -2,12 +2,14 @@
 use Rattle.std.proofs.Common.{◌≡◌, ℕ, suc, ◌+◌, ◌-◌, ◌<◌, ◌≤◌, true, false, List, [], ◌∷◌, ◌++◌}
 use Rattle.std.proofs.Common.{map, length, take}
 use Rattle.std.proofs.Common.{drop, refl, sym, ap, subst, ◌∙◌, arith, length-append, eq-eqb}
-use Rattle.std.specs.Prelude.{◌↔◌, IsTrue, ◌%◌}
+use Rattle.std.specs.Prelude.{◌↔◌, IsTrue, ◌%◌, IsUtf8}
 use Rattle.std.specs.Str.{chars, IsAscii}
 use Rattle.std.proofs.lemmas.Bool.{eqb-true, false_from_ne_true}
 use Rattle.std.proofs.lemmas.List.{append-nil, take-append-drop, take_at, drop_at, length-map}
+use Rattle.std.proofs.lemmas.List.{length-take}
 use Rattle.std.proofs.lemmas.Slice.Eq.{bytes_eq-Decides}
-use Rattle.std.proofs.lemmas.Str.{chars-IsAscii, IsAscii-take, IsAscii-drop}
+use Rattle.std.proofs.lemmas.Str.{chars-IsAscii, IsAscii-take, IsAscii-drop, chars-append}
+use Rattle.std.proofs.lemmas.Str.{IsUtf8-from_ascii}
 use Rattle.unicode.specs.CaseFolding.{simple_fold}
 use Rattle.vortex_like.specs.AsciiFolds.{folded}
 use Rattle.vortex_like.specs.ByteTests.{folded_bytes, folds_alike, front_folds_alike}
@@ -188,3 +190,24 @@ module _ (literal bytes : List ℕ) (ascii : IsAscii bytes) where
         λ m. told.1 (end_alone literal bytes m.0 m.1 m.2 ((whole_folds literal m.1).1 m.3)).1,
       )
       ∙ ap (λ (cs : List ℕ). is_match true (end_tokens literal) cs) (sym text_is)
+
+-- and, at the front, of a text whose first bytes are ASCII
+pub folded_any_front : (literal bytes : List ℕ) → IsUtf8 bytes → length literal ≤ length bytes
+    → IsAscii (take (length literal) bytes)
+    → front_folds_alike literal bytes ≡ is_match true (front_tokens literal) (chars bytes)
+folded_any_front literal bytes u fits ascii =
+    let n : ℕ = length literal in
+    let head : List ℕ = take n bytes in
+    let text : List ℕ = chars bytes in
+    let parts : text ≡ head ++ chars (drop n bytes) =
+    ap chars (sym (take-append-drop n bytes))
+    ∙ chars-append head (drop n bytes) (IsUtf8-from_ascii head ascii)
+    ∙ ap (λ (cs : List ℕ). cs ++ chars (drop n bytes)) (chars-IsAscii head ascii) in
+    let same : take n text ≡ head =
+    ap (λ (cs : List ℕ). take n cs) parts
+    ∙ take_at head (chars (drop n bytes)) n (omega (arith, length-take n bytes)) in
+    let told = alike_told literal head ascii in
+    answer_is true (front_folds_alike literal bytes) (front_tokens literal) text (
+      λ is. front_folds literal text (ap folded same ∙ told.0 is),
+      λ m. told.1 (ap folded (sym same) ∙ (folds_front literal text m).1),
+    )

@@ -8,6 +8,7 @@ pub mod Shapes
 pub mod Forming
 pub mod Literals
 pub mod Fronts
+pub mod FirstBytes
 pub mod LiteralAnswers
 pub mod Foldings
 pub mod SmallLetters

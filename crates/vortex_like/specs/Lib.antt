@@ -10,6 +10,7 @@ pub mod Variants
 pub mod UnescapedTexts
 pub mod Cuts
 pub mod Fronts
+pub mod FirstBytes
 pub mod Forms
 pub mod Shapes
 pub mod AsciiFolds

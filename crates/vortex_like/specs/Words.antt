@@ -11,7 +11,7 @@ pub use Rattle.vortex_like.specs.ByteTests.{end_folds_alike, holds_inside}
 pub use Rattle.vortex_like.specs.Cuts.{is_special, IsPassed, StartsSpecial, IsCutOf}
 pub use Rattle.vortex_like.specs.EachPattern.{IsCompiled, AreBothValid, IsKept, IsKeptAt}
 pub use Rattle.vortex_like.specs.Forms.{form_of, plain_form, folded_form, is_percent}
-pub use Rattle.vortex_like.specs.Fronts.{IsNeeded}
+pub use Rattle.vortex_like.specs.Fronts.{IsNeeded, IsNeededEnd, IsLastPart}
 pub use Rattle.vortex_like.specs.Gathered.{IsBatch, ArePlaces, IsNext, IsHeldAt, AreHeld}
 pub use Rattle.vortex_like.specs.FormTests.{test_form, test_tokens, test_folds, is_ascii_form}
 pub use Rattle.vortex_like.specs.FormTests.{form_said, IsTestOf}

@@ -8,7 +8,10 @@ ghost use Rattle.vortex_like.specs.Words.{IsSaid, turned, texts_of, text_at, Are
 ghost use Rattle.vortex_like.specs.Words.{test_form, test_tokens, test_folds, is_ascii_form};
 ghost use Rattle.vortex_like.specs.Words.{form_said, holds_inside};
 
+use crate::any_front::AnyFrontTest;
+use crate::first_byte::FirstByte;
 use crate::form_test::FormTest;
+use crate::fronted::{said_behind, said_behind_ends};
 use crate::gathered::held_rows;
 use crate::small_inside::SmallInsideTest;
 use crate::text_tests::{ByBytes, EndTest, FrontTest, InsideTest, TextTest, WholeTest};
@@ -109,52 +112,33 @@ fn said_of_texts<'a, T: ValueTest>(
     collect_rows(alloc, &rows, column.len())
 }
 
-/// A test token by token, behind a test by words of what each text begins with that passes: it
-/// leaves few rows to go over.
-#[derive(Drop)]
-struct Fronted<'a, F: ValueTest> {
-    front: &'a F,
-    test: &'a TokenTest,
-    ghost needed: { (bytes : List ℕ) → IsUtf8 bytes
-        → is_match test.now.case_insensitive test.now.tokens.items (chars bytes) ≡ true
-        → F.said front.now bytes ≡ true },
-}
-
-impl<F: ValueTest> ValueTest for Fronted<'_, F> {
-    ghost can_read = { λ t bytes. IsUtf8 bytes × F.can_read t.front.now bytes };
-
-    ghost said = { λ t bytes. is_match t.test.now.case_insensitive t.test.now.tokens.items
-        (chars bytes) };
-
-    #[inline(always)]
-    fn passes(&self, row: &Row<'_>) -> bool {
-        self.front.passes(row) && self.test.passes(row.value_bytes())
-    }
-}
-
-/// What a test token by token says of the texts of a column, behind a test of their fronts.
-fn said_behind_front<'a, F: ValueTest>(
+/// What a test that asks what tokens do says of the texts of a column: where there are many, and
+/// the tokens do not begin with any sequence, behind a test of the texts' first bytes.
+fn said_by_first<'a, T: ValueTest>(
     alloc: Global,
     column: &'a Column,
     texts: Texts<'a>,
-    front: &'a F,
-    test: &'a TokenTest,
+    tests: (&'a TokenTest, &'a T),
     negated: bool,
 ) -> VortexResult<BitBuffer>
     requires texts { AreTexts column.now (texts_of texts) }
-    requires reads { (bytes : List ℕ) → F.can_read front.now bytes }
-    requires needed { (bytes : List ℕ) → IsUtf8 bytes
-        → is_match test.now.case_insensitive test.now.tokens.items (chars bytes) ≡ true
-        → F.said front.now bytes ≡ true }
-    ensures { AnswersUnlessMemory result (AreTold (length column.now.rows) (λ i b. IsSaid
-        (λ bytes. is_match test.now.case_insensitive test.now.tokens.items (chars bytes))
-        negated (row column.now.rows i) b)) }
+    requires reads { (bytes : List ℕ) → IsUtf8 bytes → T.can_read tests.1.now bytes }
+    requires same { (bytes : List ℕ) → T.said tests.1.now bytes
+        ≡ is_match tests.0.now.case_insensitive tests.0.now.tokens.items (chars bytes) }
+    ensures { AnswersUnlessMemory result (AreTold (length column.now.rows)
+        (λ i b. IsSaid (T.said tests.entry.1.now) negated (row column.now.rows i) b)) }
 {
-    let fronted = Fronted { front, test };
-    said_of_texts(alloc, column, texts, &fronted, negated)
+    let (tokens, test) = tests;
+    let own = tokens.tokens.as_slice();
+    if column.len() < FEW || own.is_empty() || own[0].is_any() {
+        return said_of_texts(alloc, column, texts, test, negated);
+    }
+    let first = FirstByte::new(alloc, own, tokens.case_insensitive)?;
+    said_behind(alloc, column, texts, (&first, test), negated)
 }
 
-/// What a test token by token says of them.
+/// What a test token by token says of them: behind a test by words of what each text begins with
+/// and ends with that passes, or else of its first byte.
 fn said_by_tokens<'a>(
     alloc: Global,
     column: &'a Column,
@@ -168,15 +152,37 @@ fn said_by_tokens<'a>(
         negated (row column.now.rows i) b)) }
 {
     let front = test.front.as_bytes();
-    if front.is_empty() {
-        return said_of_texts(alloc, column, texts, &ByBytes { test }, negated);
+    if front.is_empty() && test.end.is_empty() {
+        return said_by_first(alloc, column, texts, (test, &ByBytes { test }), negated);
     }
     if front.len() <= 4 {
         let front = ShortFront::new(front);
-        return said_behind_front(alloc, column, texts, &front, test, negated);
+        return said_behind_ends(alloc, column, texts, (&front, test), negated);
     }
     let front = LongFront::new(front);
-    said_behind_front(alloc, column, texts, &front, test, negated)
+    said_behind_ends(alloc, column, texts, (&front, test), negated)
+}
+
+/// Which begin with a literal part past case, likewise.
+pub(crate) fn said_by_any_front(
+    alloc: Global,
+    column: &Column,
+    texts: Texts<'_>,
+    test: &AnyFrontTest,
+    negated: bool,
+) -> VortexResult<BitBuffer>
+    requires { AreTexts column.now (texts_of texts) }
+    ensures { AnswersUnlessMemory result (AreTold (length column.now.rows) (λ i b. IsSaid
+        (λ bytes. is_match test.now.tokens.case_insensitive test.now.tokens.tokens.items
+        (chars bytes)) negated (row column.now.rows i) b)) }
+{
+    said_by_first(
+        alloc,
+        column,
+        texts,
+        (&test.tokens, &ByBytes { test }),
+        negated,
+    )
 }
 
 /// Which texts of a column are this one, turned over where negated: by the words of their views,

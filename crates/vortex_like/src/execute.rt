@@ -3,9 +3,14 @@ ghost use Rattle.std.specs.Prelude.{◌≡◌, true, length};
 ghost use Rattle.vortex_like.specs.Words.{AnswersUnlessMemory, is_text_type, AreLikeBits, like};
 ghost use Rattle.vortex_like.specs.Words.{IsConstantOf, text, texts_of, AreTexts, HasLikeRows};
 ghost use Rattle.vortex_like.specs.Words.{AreTold, IsSaid, is_match, tokens_of, row, IsTextColumn};
+ghost use Rattle.vortex_like.specs.Words.{front_tokens};
 ghost use Rattle.std.specs.Str.{chars};
 
+use crate::any_front::AnyFrontTest;
+use crate::column_test::said_by_any_front;
 use crate::each_pattern::{SideBySide, each_bits};
+use crate::form::{Shape, shape_of};
+use crate::form_test::tokens_test;
 use crate::options::LikeOptions;
 use crate::pattern::LikePattern;
 use crate::texts::{OneText, TextColumn, Texts, text_column};
@@ -39,7 +44,30 @@ fn like_of_constants(
     Column::constant(alloc, Scalar::bool(found, nullability), input.len())
 }
 
-/// What LIKE says of the texts of a column and one pattern, compiled once.
+/// What ILIKE says of the texts of a column and a pattern that is this literal part and `%`.
+fn front_bits(
+    alloc: Global,
+    column: &Column,
+    texts: Texts<'_>,
+    both: (&str, &str),
+    options: LikeOptions,
+) -> VortexResult<BitBuffer>
+    requires texts { AreTexts column.now (texts_of texts) }
+    requires tokens { tokens_of options.escape (chars both.0.now)
+        ≡ front_tokens (chars both.1.now) }
+    ensures { AnswersUnlessMemory result (AreTold (length column.now.rows)
+        (λ i b. IsSaid (λ bytes. is_match true
+        (tokens_of options.escape (chars both.entry.0.now)) (chars bytes))
+        options.negated (row column.now.rows i) b)) }
+{
+    let tokens = tokens_test(alloc, both.0, options.escape, true)?;
+    let test = AnyFrontTest::new(alloc, tokens, both.1)?;
+    said_by_any_front(alloc, column, texts, &test, options.negated)
+}
+
+/// What LIKE says of the texts of a column and one pattern, compiled once. Of what they begin with
+/// past case the texts answer by their first bytes; else past case it is asked whether all are
+/// ASCII, where the pattern has a form for such texts.
 fn one_pattern_bits(
     alloc: Global,
     column: &Column,
@@ -53,7 +81,13 @@ fn one_pattern_bits(
         (tokens_of options.escape (chars pattern.now)) (chars bytes))
         options.negated (row column.now.rows i) b)) }
 {
-    let past_case = options.case_insensitive && pattern.is_ascii();
+    let shape = shape_of(pattern, options.escape);
+    if options.case_insensitive {
+        if let Shape::Front(literal) = shape {
+            return front_bits(alloc, column, texts, (pattern, literal), options);
+        }
+    }
+    let past_case = options.case_insensitive && pattern.is_ascii() && !shape.is_other();
     let ascii = texts.fold_as_ascii(column, past_case);
     let pattern = LikePattern::compile_with(alloc, pattern, options, ascii)?;
     pattern.matched_rows(alloc, column, texts, options.negated)

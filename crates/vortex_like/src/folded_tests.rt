@@ -85,14 +85,14 @@ impl FoldedText {
     }
 
     /// How many characters there are.
-    fn len(&self) -> usize
+    pub(crate) fn len(&self) -> usize
         ensures { result ≡ length self.now }
     {
         self.own.len()
     }
 
     /// Whether bytes have the same foldings.
-    fn equals(&self, bytes: &[u8]) -> bool
+    pub(crate) fn equals(&self, bytes: &[u8]) -> bool
         ensures { result ≡ folds_alike self.now bytes.now }
     {
         fold_to(self.folds.as_slice(), bytes, self.own.as_slice())

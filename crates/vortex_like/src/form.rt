@@ -1,5 +1,5 @@
 //! The forms of patterns: how each is matched.
-ghost use Rattle.std.specs.Prelude.{◌≡◌};
+ghost use Rattle.std.specs.Prelude.{◌≡◌, ◌↔◌, IsTrue};
 ghost use Rattle.std.specs.Str.{chars};
 ghost use Rattle.vortex_like.specs.Words.{is_percent, IsFrontOf, IsPercentOf, IsShapeOf};
 
@@ -36,6 +36,18 @@ pub(crate) enum Shape<'a> {
     End(&'a str),
     Inside(&'a str),
     Other,
+}
+
+impl Shape<'_> {
+    /// Whether the pattern has no literal part.
+    pub(crate) fn is_other(&self) -> bool
+        ensures { IsTrue result ↔ (self.now ≡ Shape.Other) }
+    {
+        match self {
+            Shape::Other => true,
+            _ => false,
+        }
+    }
 }
 
 /// Whether a character is a `%` that is not the escape.

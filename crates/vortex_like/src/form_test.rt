@@ -5,7 +5,7 @@ ghost use Rattle.std.specs.Str.{chars, IsAscii};
 ghost use Rattle.vortex_like.specs.Words.{AnswersUnlessMemory, is_match, asked, form_of};
 ghost use Rattle.vortex_like.specs.Words.{plain_form, folded_form, test_form, test_tokens};
 ghost use Rattle.vortex_like.specs.Words.{test_folds, is_ascii_form, form_said, IsTestOf};
-ghost use Rattle.vortex_like.specs.Words.{IsNeeded, tokens_of, inside_tokens};
+ghost use Rattle.vortex_like.specs.Words.{IsNeeded, IsNeededEnd, tokens_of, inside_tokens};
 
 use crate::cuts::cut_at_special;
 use crate::folded_tests::{FoldedEndTest, FoldedFrontTest, FoldedText, FoldedWholeTest};
@@ -13,7 +13,7 @@ use crate::form::{LikeForm, Shape, shape_of};
 use crate::small_inside::{SmallInsideTest, folds_to_small};
 use crate::text_tests::{EndTest, FrontTest, InsideTest, TextTest, WholeTest};
 use crate::token::Looks;
-use crate::token_reading::tokens_of;
+use crate::token_reading::{last_part, tokens_of};
 use crate::token_test::TokenTest;
 use std::alloc::Global;
 use vortex_types::VortexResult;
@@ -51,8 +51,26 @@ fn needed_front(
     Ok(String::from_str(alloc, cut.front)?)
 }
 
+/// What each text ends with that a pattern matches: its characters behind the last that is special;
+/// of a pattern past case nothing.
+fn needed_end(
+    alloc: Global,
+    pattern: &str,
+    escape: Option<char>,
+    case_insensitive: bool,
+) -> VortexResult<String>
+    ensures { AnswersUnlessMemory result (λ end. IsNeededEnd case_insensitive
+        (tokens_of escape (chars pattern.now)) (string_bytes end)) }
+{
+    if case_insensitive {
+        return Ok(String::new(alloc));
+    }
+    let part = last_part(pattern, escape);
+    Ok(String::from_str(alloc, part)?)
+}
+
 /// The tokens of a pattern, as a test.
-fn tokens_test(
+pub(crate) fn tokens_test(
     alloc: Global,
     pattern: &str,
     escape: Option<char>,
@@ -64,7 +82,8 @@ fn tokens_test(
 {
     let tokens = tokens_of(alloc, pattern, escape)?;
     let front = needed_front(alloc, pattern, escape, case_insensitive)?;
-    Ok(TokenTest::new(tokens, case_insensitive, front))
+    let end = needed_end(alloc, pattern, escape, case_insensitive)?;
+    Ok(TokenTest::new(tokens, case_insensitive, front, end))
 }
 
 /// The test of a pattern token by token.

@@ -1,14 +1,17 @@
 //! LIKE patterns over texts and over columns of texts.
 #![tactic(auto)]
 
+mod any_front;
 mod characters;
 mod column_test;
 mod cuts;
 mod each_pattern;
 pub mod execute;
+mod first_byte;
 mod folded_tests;
 pub mod form;
 mod form_test;
+mod fronted;
 mod gathered;
 pub mod laws;
 mod matching;

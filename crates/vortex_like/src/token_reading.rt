@@ -1,9 +1,10 @@
 //! The tokens of patterns.
 ghost use Rattle.std.specs.Prelude.{◌≡◌, ◌<◌, ◌∷◌, [], length, MatchOption};
 ghost use Rattle.std.specs.Str.{chars};
-ghost use Rattle.vortex_like.specs.Words.{AnswersUnlessMemory, plain_token, tokens_of};
+ghost use Rattle.vortex_like.specs.Words.{AnswersUnlessMemory, plain_token, tokens_of, IsLastPart};
 
 use crate::characters::{Symbol, first_symbol};
+use crate::cuts::cut_at_special;
 use crate::token::LikeToken;
 use std::alloc::Global;
 use vortex_types::VortexResult;
@@ -51,4 +52,18 @@ pub(crate) fn tokens_of(
         rest = behind;
     }
     Ok(tokens)
+}
+
+/// What stands behind the last special character of a pattern.
+pub(crate) fn last_part(pattern: &str, escape: Option<char>) -> &str
+    ensures { IsLastPart escape (chars pattern.now) (chars result.now) }
+{
+    let mut rest = pattern;
+    loop {
+        let cut = cut_at_special(rest, escape);
+        let Some((_, behind)) = first_token(cut.rest, escape) else {
+            return cut.front;
+        };
+        rest = behind;
+    }
 }

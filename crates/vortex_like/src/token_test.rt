@@ -4,7 +4,7 @@ ghost use Rattle.std.specs.Prelude.{IsUtf8, string_bytes};
 ghost use Rattle.std.specs.Str.{chars};
 ghost use Rattle.vortex_like.specs.Tokens.{is_match};
 ghost use Rattle.vortex_like.specs.Places.{asked};
-ghost use Rattle.vortex_like.specs.Fronts.{IsNeeded};
+ghost use Rattle.vortex_like.specs.Fronts.{IsNeeded, IsNeededEnd};
 
 use crate::matching::match_tokens;
 use crate::text_tests::TextTest;
@@ -18,11 +18,20 @@ pub(crate) struct TokenTest {
     /// What each text that passes begins with.
     pub(crate) front: String,
     ghost needed: { IsNeeded case_insensitive tokens.items (string_bytes front) },
+    /// What each text that passes ends with.
+    pub(crate) end: String,
+    ghost needed_end: { IsNeededEnd case_insensitive tokens.items (string_bytes end) },
 }
 
 impl TokenTest {
-    pub(crate) fn new(tokens: Vec<LikeToken>, case_insensitive: bool, front: String) -> TokenTest
-        requires { IsNeeded case_insensitive tokens.items (string_bytes front) }
+    pub(crate) fn new(
+        tokens: Vec<LikeToken>,
+        case_insensitive: bool,
+        front: String,
+        end: String,
+    ) -> TokenTest
+        requires front { IsNeeded case_insensitive tokens.items (string_bytes front) }
+        requires end { IsNeededEnd case_insensitive tokens.items (string_bytes end) }
         ensures tokens { result.tokens.items ≡ tokens.items }
         ensures folds { result.case_insensitive ≡ case_insensitive }
     {
@@ -30,6 +39,7 @@ impl TokenTest {
             tokens,
             case_insensitive,
             front,
+            end,
         }
     }
 
