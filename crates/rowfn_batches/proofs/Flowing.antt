@@ -42,7 +42,9 @@ module _ {R : Type 0} (first : Stream R) (begun : Option (List ℕ)) (was new : 
       (e : StreamError) (result : Result Summary StreamError) → HasBegun x asked before begun first
       → PassesNext was new held after (Err e) → result ≡ Err e
       → Flows reader x asked before after result
-  next_ends reader x asked before e result has (passed_on s behind more refilled passes now is) same =
+  next_ends reader x asked before e result has
+      (passed_on s behind more refilled passes now is) same =
       absurd (cc is)
   next_ends reader x asked before e result has (ended_there s behind told refilled passes is) same =
-      at_error first was s begun held behind told has before_it refilled passes (same ∙ same_error e told is)
+      at_error first was s begun held behind told has before_it refilled passes
+      (same ∙ same_error e told is)

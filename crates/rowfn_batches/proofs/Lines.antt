@@ -1,6 +1,7 @@
 -- Lines of rows, one more of them.
 use Rattle.std.proofs.Common.{◌≡◌, ℕ, zero, suc, ◌+◌, Bool, true, false, List, [], ◌∷◌, ◌++◌, refl}
-use Rattle.std.proofs.Common.{ap, sym, ◌∙◌, append_assoc, append-nil, arith, if◌then◌else◌, get_or, cond}
+use Rattle.std.proofs.Common.{ap, sym, ◌∙◌, append_assoc, append-nil, arith, if◌then◌else◌, get_or}
+use Rattle.std.proofs.Common.{cond}
 use Rattle.std.proofs.Common.{length, ◌<◌, ◌≤◌, map, add-one, zero-add, add-zero}
 use Rattle.std.specs.Prelude.{count_by, slice_index_or, Option}
 use Rattle.std.specs.List.{flat_map, range_with_len}
@@ -58,7 +59,8 @@ pub next_line : (old now last : Output) (answers : List ColumnView) (n : ℕ)
 next_line old now last answers n before added =
     next_bytes old now last (row_line old.format.delimiter old.format.null.now answers) n before (
       added.0
-          ∙ ap (λ (f : Format). now.bytes.items ++ row_line f.delimiter f.null.now answers n) before.1,
+          ∙ ap (λ (f : Format). now.bytes.items ++ row_line f.delimiter f.null.now answers n)
+          before.1,
       added.1,
     )
 

@@ -58,7 +58,8 @@ name_added old parted new index name (Err e) before added = added
 name_added old parted new index name (Ok u) before added =
     let field = text_field old.format.delimiter old.format.null.now name in (
       added.0
-          ∙ ap (λ (f : Format). parted.bytes.items ++ text_field f.delimiter f.null.now name) before.1
+          ∙ ap (λ (f : Format). parted.bytes.items ++ text_field f.delimiter f.null.now name)
+          before.1
           ∙ ap (λ bs. bs ++ field) before.0
           ∙ append_assoc old.bytes.items (separator_before (old.format.delimiter ∷ []) index) field,
       added.1 ∙ before.1,

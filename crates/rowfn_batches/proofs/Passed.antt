@@ -1,5 +1,6 @@
 -- A batch that was answered: it can be put down, and is passed on where that was written.
-use Rattle.std.proofs.Common.{◌≡◌, ◌∙◌, ℕ, ◌≤◌, ◌-◌, ◌++◌, List, Option, Some, None, Result, Ok, Err}
+use Rattle.std.proofs.Common.{◌≡◌, ◌∙◌, ℕ, ◌≤◌, ◌-◌, ◌++◌, List, Option, Some, None, Result, Ok}
+use Rattle.std.proofs.Common.{Err}
 use Rattle.std.proofs.Common.{Bool, true, false, map, sym, subst, ap, ap₂, refl, if◌then◌else◌}
 use Rattle.std.proofs.Common.{length, take, arith, ◌&&◌, not, is_some, option_map}
 use Rattle.std.specs.Prelude.{OnOk, IfOk, IfErr, MatchResult, slice_get}
@@ -21,7 +22,8 @@ use Rattle.rowfn_batches.specs.declared.taking.Condition.{Condition}
 use Rattle.rowfn_batches.specs.declared.taking.Taken.{Taken}
 use Rattle.rowfn_batches.specs.declared.errors.StreamError.TheVariants.{OutOfMemory}
 use Rattle.rowfn_batches.specs.Outputs.{Adds, HaveRows, picked_texts}
-use Rattle.rowfn_batches.specs.Passing.{IsAnswered, answer_text, batch_text, picked_lines, PassesUpTo}
+use Rattle.rowfn_batches.specs.Passing.{IsAnswered, answer_text, batch_text, picked_lines}
+use Rattle.rowfn_batches.specs.Passing.{PassesUpTo}
 use Rattle.rowfn_batches.specs.Passing.{answered}
 use Rattle.rowfn_batches.proofs.Within.{have_rows, within_batch}
 
@@ -36,7 +38,8 @@ module _ {R : Type 0} (s : Stream R) (rows : Option (List ℕ)) (answers : List 
     pub picked_text : s.settings.picks_rows ≡ true → rows ≡ None
         → picked_lines s (slice_get answers (length answers - 1)) n ≡ batch_text s rows answers n
     picked_text chosen whole =
-        sym (ap by_choice (ap₂ (λ (b : Bool) (o : Option (List ℕ)). b && not (is_some o)) chosen whole))
+        sym (ap by_choice
+        (ap₂ (λ (b : Bool) (o : Option (List ℕ)). b && not (is_some o)) chosen whole))
 
     pub plain_text : (s.settings.picks_rows && not (is_some rows)) ≡ false
         → answer_text s rows answers n ≡ batch_text s rows answers n

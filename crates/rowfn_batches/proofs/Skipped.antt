@@ -8,7 +8,8 @@ use Rattle.rowfn_batches.specs.declared.stream.Stream.{Stream}
 use Rattle.rowfn_batches.specs.declared.taking.Condition.{Condition}
 use Rattle.rowfn_batches.specs.Fields.{Field, field_in}
 use Rattle.rowfn_batches.specs.Passing.{IsRefilled}
-use Rattle.rowfn_batches.specs.Skipping.{fields_from, asked_width, width_asked, ReadsRows, AreLoaded}
+use Rattle.rowfn_batches.specs.Skipping.{fields_from, asked_width, width_asked, ReadsRows}
+use Rattle.rowfn_batches.specs.Skipping.{AreLoaded}
 use Rattle.rowfn_batches.specs.Skipping.{HasPart, PassesAll}
 use Rattle.rowfn_batches.proofs.TakenRows.{Fields, field_part}
 
@@ -34,13 +35,16 @@ pub has_part : {R : Type 0} (fields asked lent lent_asked : Fields) (spans part 
     → part ≡ take tried (drop first spans)
     → AreLoaded (map field_in lent) (map field_in lent_asked) part s
     → HasPart (map field_in fields) (map field_in asked) spans first tried s
-has_part fields asked lent lent_asked spans part first tried w v old s kept wide asks is is_asked lies h =
-    let wider : w ≡ length s.layout.places.items = wide ∙ sym (ap (λ (l : Layout). length l.places.items) kept.layout) in
+has_part fields asked lent lent_asked spans part first tried w v old s kept wide asks is is_asked
+    lies h =
+    let wider : w ≡ length s.layout.places.items = wide
+    ∙ sym (ap (λ (l : Layout). length l.places.items) kept.layout) in
     let wider_asked : v ≡ asked_width s.condition = asks ∙ sym (ap width_asked kept.condition) in
     record {
       fields = h.fields ∙ part_fields fields lent first tried w _ is wider;
       spans = h.spans ∙ lies;
-      asked = reads_same _ _ _ _ s.condition (part_fields asked lent_asked first tried v _ is_asked wider_asked) lies h.asked;
+      asked = reads_same _ _ _ _ s.condition
+          (part_fields asked lent_asked first tried v _ is_asked wider_asked) lies h.asked;
     }
 
 -- rows of a batch are passed on, by how they are lent

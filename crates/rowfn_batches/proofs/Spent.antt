@@ -16,7 +16,8 @@ pub record IsSpent (len first next count total : ℕ) : Type 0 where
 
 -- one part more is
 pub spent_more : (len first next count tried total : ℕ) (place : Option ℕ) → first ≤ next
-    → next < len → len < 2 ^ 63 → tried ≡ min (len - next) count → IsSpent len first next count total
+    → next < len → len < 2 ^ 63 → tried ≡ min (len - next) count
+    → IsSpent len first next count total
     → IsSpent len first (next_row len next tried place) (next_count count place) (total + tried)
 spent_more len first next count tried total None behind below fits is spent = record {
   some = omega (arith, spent.some);

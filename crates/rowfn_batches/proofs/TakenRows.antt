@@ -1,6 +1,8 @@
 -- Rows that are taken, one row more.
-use Rattle.std.proofs.Common.{◌≡◌, ◌∙◌, ℕ, ◌+◌, ◌*◌, ◌<◌, List, [], ◌∷◌, ◌++◌, map, take, drop, length}
-use Rattle.std.proofs.Common.{get_or, ap, ap₂, sym, refl, append-nil, Bool, if◌then◌else◌, Option, Bor}
+use Rattle.std.proofs.Common.{◌≡◌, ◌∙◌, ℕ, ◌+◌, ◌*◌, ◌<◌, List, [], ◌∷◌, ◌++◌, map, take, drop}
+use Rattle.std.proofs.Common.{length}
+use Rattle.std.proofs.Common.{get_or, ap, ap₂, sym, refl, append-nil, Bool, if◌then◌else◌, Option}
+use Rattle.std.proofs.Common.{Bor}
 use Rattle.std.specs.Prelude.{filter, IfOk, Result, Ok, Err}
 use Rattle.std.specs.List.{flat_map, range_with_len}
 use Rattle.std.proofs.lemmas.Grind.{flat_map-append}

@@ -1,5 +1,6 @@
 -- The field of a row of truth values.
-use Rattle.std.proofs.Common.{◌≡◌, ◌∙◌, ℕ, List, [], ◌∷◌, ◌++◌, Bool, true, false, not, sym, ap, refl}
+use Rattle.std.proofs.Common.{◌≡◌, ◌∙◌, ℕ, List, [], ◌∷◌, ◌++◌, Bool, true, false, not, sym, ap}
+use Rattle.std.proofs.Common.{refl}
 use Rattle.std.proofs.Common.{if◌then◌else◌, append_assoc, append-nil, Result, Ok, Err}
 use Rattle.std.specs.Prelude.{codes, OnOk}
 use Rattle.vortex_types.specs.Values.{Value, is_null, truth}
@@ -26,7 +27,8 @@ null_written d null v valid is gone =
     (ap (λ (b : Bool). if b then null else text_field d null (field_text v))
     (is_there (is_null v) valid is gone))
 
-module _ (format : Format) (truths : Truths) (v : Value) (valid : Bool) (known : AreTruths format truths)
+module _ (format : Format) (truths : Truths) (v : Value) (valid : Bool)
+    (known : AreTruths format truths)
     (is : valid ≡ not (is_null v)) (there : valid ≡ true)
   where
     true_written : (is_null v ≡ false → v ≡ truth true)
@@ -34,14 +36,16 @@ module _ (format : Format) (truths : Truths) (v : Value) (valid : Bool) (known :
     true_written same =
         known.yes
         ∙ sym
-        (ap (value_field format.delimiter format.null.now) (same (is_some (is_null v) valid is there)))
+        (ap (value_field format.delimiter format.null.now)
+        (same (is_some (is_null v) valid is there)))
 
     false_written : (is_null v ≡ false → v ≡ truth false)
         → truths.no.now ≡ value_field format.delimiter format.null.now v
     false_written same =
         known.no
         ∙ sym
-        (ap (value_field format.delimiter format.null.now) (same (is_some (is_null v) valid is there)))
+        (ap (value_field format.delimiter format.null.now)
+        (same (is_some (is_null v) valid is there)))
 
     pub truth_written : (b : Bool) → (is_null v ≡ false → v ≡ truth b)
         → (if b then truths.yes.now else truths.no.now)

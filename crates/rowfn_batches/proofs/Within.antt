@@ -12,7 +12,8 @@ use Rattle.vortex_functions.specs.Walks.{AllMean}
 use Rattle.rowfn_scripts.specs.declared.expression.Expression.{Expression}
 use Rattle.rowfn_batches.specs.Fields.{Field}
 use Rattle.rowfn_batches.specs.declared.errors.StreamError.{StreamError}
-use Rattle.rowfn_batches.specs.BatchAnswers.{AreAnswers, EndsAnswers, with_them, at_fault, trees_of, width_of}
+use Rattle.rowfn_batches.specs.BatchAnswers.{AreAnswers, EndsAnswers, with_them, at_fault, trees_of}
+use Rattle.rowfn_batches.specs.BatchAnswers.{width_of}
 use Rattle.rowfn_batches.specs.BatchAnswers.{EndsFitting, with_batch, at_misfit, EndsBatch}
 use Rattle.rowfn_batches.specs.Outputs.{HaveRows}
 
@@ -37,13 +38,15 @@ module _ (x : Expression) (fs : List Field) where
   have_rows n answers a =
       all_have fixed_meaning a.columns n (trees_of x) answers a.mean
 
-  within_answers : (number : ℕ → ℕ) (fit : ℕ) (other : Option StreamError) (n : ℕ) (e : Option StreamError)
+  within_answers : (number : ℕ → ℕ) (fit : ℕ) (other : Option StreamError) (n : ℕ)
+      (e : Option StreamError)
       → EndsAnswers x fs number fit other n e → n ≤ fit
   within_answers number fit other n e (with_them is ended) = omega (arith, is)
   within_answers number fit other n e (at_fault columns fault told is first faulty tells) =
       omega (arith, faulty.below)
 
-  within_fitting : (places : List ℕ) (number : ℕ → ℕ) (count : ℕ) (behind : Option StreamError) (n : ℕ)
+  within_fitting : (places : List ℕ) (number : ℕ → ℕ) (count : ℕ) (behind : Option StreamError)
+      (n : ℕ)
       (e : Option StreamError) → EndsFitting x fs places number count behind n e → n ≤ count
   within_fitting places number count behind n e (with_batch is ended) = omega (arith, is)
   within_fitting places number count behind n e (at_misfit column told is misfit tells) =
@@ -52,7 +55,8 @@ module _ (x : Expression) (fs : List Field) where
       misfit.within (omega (arith, length-take (width * count) fs)) in
       omega (arith, below)
 
-  pub within_batch : (places : List ℕ) (number : ℕ → ℕ) (count : ℕ) (behind : Option StreamError) (n : ℕ)
+  pub within_batch : (places : List ℕ) (number : ℕ → ℕ) (count : ℕ) (behind : Option StreamError)
+      (n : ℕ)
       (e : Option StreamError) → EndsBatch x fs places number count behind n e → n ≤ count
   within_batch places number count behind n e (fit, other, fitting, ends) =
       omega (

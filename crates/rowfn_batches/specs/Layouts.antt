@@ -28,7 +28,8 @@ StandsOnce fields name place =
 abbrev pub place_said : List (Option ℕ) → ℕ → Option ℕ
 place_said said k = get_or said k None
 
--- a column stands at the place that is said of it, which the header has; else where its name stands,
+-- a column stands at the place that is said of it, which the header has; else where its name
+-- stands,
 -- and nowhere else
 abbrev pub StandsWhere : List (List ℕ) → Option ℕ → List ℕ → ℕ → Type 0
 StandsWhere fields None name place = StandsOnce fields name place
@@ -79,12 +80,14 @@ pub data RefusesHeader (fields : List (List ℕ)) (ds : Fields) (said : List (Op
       → RefusesHeader fields ds said e
   without_memory : e ≡ end.OutOfMemory → RefusesHeader fields ds said e
 
--- without a header a column stands at the place that is said of it, else at its own among those that
+-- without a header a column stands at the place that is said of it, else at its own among those
+-- that
 -- are declared
 abbrev pub declared_place : List (Option ℕ) → ℕ → ℕ
 declared_place said k = unwrap_or (place_said said k) k
 
--- how many fields a row has, where the expression says it: as many as columns are declared, where it
+-- how many fields a row has, where the expression says it: as many as columns are declared, where
+-- it
 -- says no place of any
 abbrev pub declared_width : List (Option ℕ) → Fields → Option ℕ
 declared_width said ds = if list_any is_some said then None else Some (field_count ds)

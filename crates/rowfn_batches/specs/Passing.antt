@@ -1,6 +1,7 @@
 -- What is written of a batch, and what passing it on ends.
 use Rattle.std.specs.Prelude.{◌≡◌, ◌-◌, ℕ, List, [], Option, Some, None, Result, Ok, Err, ⊤, length}
-use Rattle.std.specs.Prelude.{◌&&◌, not, is_some, option_map, ◌++◌, ◌+◌, ◌^◌, map, take, slice_get, if◌then◌else◌, min, Bool}
+use Rattle.std.specs.Prelude.{◌&&◌, not, is_some, option_map, ◌++◌, ◌+◌, ◌^◌, map, take, slice_get}
+use Rattle.std.specs.Prelude.{if◌then◌else◌, min, Bool}
 use Rattle.std.specs.Io.KnownBytes.{Appends, Keeps}
 use Rattle.vortex_columns.specs.ColumnView.{ColumnView}
 use Rattle.rowfn_scripts.specs.declared.expression.Expression.{Expression}
@@ -159,7 +160,8 @@ pub record HasBegun {R : Type 0} (x : Expression) (asked : Option Expression)
 pub data Flows {R : Type 0} (reader : R) (x : Expression) (asked : Option Expression)
     (before after : Option (List ℕ)) (result : Result Summary StreamError) : Type 0 where
   at_end : (first now : Stream R) (begun : Option (List ℕ)) → HasBegun x asked before begun first
-      → Passed first begun now after → result ≡ Ok now.summary → Flows reader x asked before after result
+      → Passed first begun now after → result ≡ Ok now.summary
+      → Flows reader x asked before after result
   at_error : (first was s : Stream R) (begun held : Option (List ℕ)) (behind : Option StreamError)
       (e : StreamError) → HasBegun x asked before begun first → Passed first begun was held
       → IsRefilled was s → PassesOn s behind held after (Err e) → result ≡ Err e

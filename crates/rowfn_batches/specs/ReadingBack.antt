@@ -48,7 +48,8 @@ module _ (format : Format) where
   abbrev pub RefusesReadingBack : List Answer → StreamError → Type 0
   RefusesReadingBack answers e = RefusesNames (names_of answers) e ⊎ RefusesRows answers e
 
--- what is written of the answers reads back: no two have one name, and no row is lost, which none is
+-- what is written of the answers reads back: no two have one name, and no row is lost, which none
+-- is
 -- that has fields of its own before them
 pub record ReadsBack (settings : Settings) (answers : List Answer) : Type 0 where
   pub names : AreApart (names_of answers)

@@ -1,5 +1,6 @@
 -- How a stream goes on behind rows that are refused.
-use Rattle.std.specs.Prelude.{◌≡◌, ◌+◌, ◌*◌, ◌-◌, ◌^◌, ◌<◌, ◌≤◌, min, ℕ, List, [], length, take, drop}
+use Rattle.std.specs.Prelude.{◌≡◌, ◌+◌, ◌*◌, ◌-◌, ◌^◌, ◌<◌, ◌≤◌, min, ℕ, List, [], length, take}
+use Rattle.std.specs.Prelude.{drop}
 use Rattle.std.specs.Prelude.{Option, Some, None, Result, Ok, Err, Bool, ⊤, ◌⊎◌}
 use Rattle.rowfn_csv.specs.declared.records.Span.{Span}
 use Rattle.rowfn_scripts.specs.declared.expression.Expression.{Expression}
@@ -39,7 +40,8 @@ EndsTold (Err told) e = e ≡ told
 EndsTold (Ok (Some told)) e = (e ≡ told) ⊎ IsUntold e
 EndsTold (Ok None) e = ⊥
 
--- The rows of a batch are passed on: all of them, or those before one that is refused, whose refusal
+-- The rows of a batch are passed on: all of them, or those before one that is refused, whose
+-- refusal
 -- is counted, and whose place is answered. Or the stream ends there.
 pub data PassesTold {R : Type 0} (s now : Stream R) (before after : Option (List ℕ))
     (counted count : ℕ) (result : Result (Option ℕ) StreamError) : Type 0 where
@@ -105,13 +107,15 @@ module _ {R : Type 0} (fs gs : List Field) (lines : List Span) where
       : ℕ → Stream R → Option (List ℕ) → ℕ → ℕ → Type 0 where
     no_part : PassesParts first old before counted first old before counted 0
     one_part : (next tried : ℕ) (was now : Stream R) (held after : Option (List ℕ)) (some more : ℕ)
-        (place : Option ℕ) (total : ℕ) → PassesParts first old before counted next was held some total
+        (place : Option ℕ) (total : ℕ)
+        → PassesParts first old before counted next was held some total
         → tried + next ≤ length lines
         → PassesPart next tried was now held after some more (Ok place)
         → PassesParts first old before counted (next_row (length lines) next tried place) now after
         more (total + tried)
 
-  -- all of them are, from one on, where no more than twice as many are tried; or a part of them ends
+  -- all of them are, from one on, where no more than twice as many are tried; or a part of them
+  -- ends
   -- the stream
   pub data PassesAll (first : ℕ) (old now : Stream R) (before after : Option (List ℕ))
       (counted count : ℕ) (result : Result (Unit {0}) StreamError) : Type 0 where
@@ -165,7 +169,8 @@ PassesBehind old now None counted count result =
     (now ≡ old) × (count ≡ counted) × (result ≡ Ok tt)
 PassesBehind old now (Some e) counted count result = PassesMisshapen old now e counted count result
 
--- the next batch is read and passed on, but for the rows that are refused, and whether the input goes
+-- the next batch is read and passed on, but for the rows that are refused, and whether the input
+-- goes
 -- on is told; or what ends the stream there
 pub data PassesNextTold {R : Type 0} (old now : Stream R) (before after : Option (List ℕ))
     (counted count : ℕ) (result : Result Bool StreamError) : Type 0 where
@@ -196,7 +201,8 @@ pub data PassedBut {R : Type 0} (first : Stream R) (begun : Option (List ℕ)) (
       → PassedBut first begun counted now after more
 
 -- A stream of that reader flows on behind rows that are refused: its header is written, and then
--- batch by batch what is written of each without those rows, in their order; each of them is counted.
+-- batch by batch what is written of each without those rows, in their order; each of them is
+-- counted.
 -- Or what ends it in a batch is told, and nothing is written behind it.
 pub data FlowsOn {R : Type 0} (reader : R) (x : Expression) (asked : Option Expression)
     (before after : Option (List ℕ)) (counted count : ℕ) (result : Result Summary StreamError)

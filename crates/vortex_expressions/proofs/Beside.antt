@@ -1,11 +1,15 @@
 -- What stands beside a literal leaves it the type that it has alone.
-use Rattle.std.proofs.Common.{◌≡◌, Bool, true, false, ◌&&◌, ◌⊎◌, inl, inr, [], ◌∷◌, Option, Some, None, refl, ap, sym, subst, ◌∙◌, option_map}
+use Rattle.std.proofs.Common.{◌≡◌, Bool, true, false, ◌&&◌, ◌⊎◌, inl, inr, [], ◌∷◌, Option, Some}
+use Rattle.std.proofs.Common.{None, refl, ap, sym, subst, ◌∙◌, option_map}
 use Rattle.std.specs.Prelude.{map, ◌||◌, if◌then◌else◌, is_some}
 use Rattle.std.specs.Option.{option_or}
 use Rattle.std.proofs.lemmas.Bool.{false≢true}
 use Rattle.vortex_types.specs.declared.dtype.PType.{PType}
 use Rattle.vortex_types.specs.declared.dtype.PType.TheVariants.{I64}
-use Rattle.vortex_types.specs.LogicalTypes.{LogicalType, null_type, bool_type, integer_type, text_type, bytes_type, struct_type, list_type, fixed_size_list_type, map_type, is_integer_type, without_nullability}
+use Rattle.vortex_types.specs.LogicalTypes.{LogicalType, null_type, bool_type, integer_type}
+use Rattle.vortex_types.specs.LogicalTypes.{text_type, bytes_type, struct_type, list_type}
+use Rattle.vortex_types.specs.LogicalTypes.{fixed_size_list_type, map_type, is_integer_type}
+use Rattle.vortex_types.specs.LogicalTypes.{without_nullability}
 use Rattle.vortex_types.specs.TypeEquality.{alike_types, type_eq-decides, ptype_yes, ptype_eq}
 use Rattle.vortex_operators.specs.declared.operators.Operator.{Operator}
 use Rattle.vortex_operators.specs.declared.operators.Operator.TheVariants as operator
@@ -19,7 +23,9 @@ use Rattle.vortex_expressions.specs.Literals as literal
 use Rattle.vortex_expressions.specs.Literals.{Literal, own_type, number_type, type_beside}
 use Rattle.vortex_expressions.specs.Outcomes.{answers, and_then, or_refuses}
 use Rattle.vortex_expressions.specs.declared.refusal.Refusal.TheVariants.{UntypedNull}
-use Rattle.vortex_expressions.specs.Items.{Item, literal, bound, Tree, meaning, bound_type, literal_type, first_some, common_type, constant_at, settled}
+use Rattle.vortex_expressions.specs.Items.{Item, literal, bound, Tree, meaning, bound_type}
+use Rattle.vortex_expressions.specs.Items.{literal_type, first_some, common_type, constant_at}
+use Rattle.vortex_expressions.specs.Items.{settled}
 use Rattle.vortex_expressions.specs.Calls.{truth_type, operator_of, joined_type}
 use Rattle.vortex_expressions.specs.Writing.{written_operator}
 use Rattle.vortex_expressions.proofs.Options.{some_is}
@@ -33,7 +39,8 @@ alike t u = without_nullability t ≡ without_nullability u
 abbrev pub Beside : Option LogicalType → LogicalType → Type 0
 Beside o t = (u : LogicalType) → o ≡ Some u → is_integer_type u ≡ true → alike u t
 
-number_takes : (u : LogicalType) → (is_integer_type u ≡ true → alike u (integer_type I64 false)) → number_type u ≡ integer_type I64 false
+number_takes : (u : LogicalType) → (is_integer_type u ≡ true → alike u (integer_type I64 false))
+    → number_type u ≡ integer_type I64 false
 number_takes (integer_type p n) h = h refl
 number_takes null_type h = refl
 number_takes (bool_type n) h = refl
@@ -44,16 +51,19 @@ number_takes (list_type t n) h = refl
 number_takes (fixed_size_list_type t k n) h = refl
 number_takes (map_type k v n) h = refl
 
-takes_own : (o : Option LogicalType) (l : Literal) (t : LogicalType) → own_type l ≡ Some t → Beside o t → type_beside o l ≡ Some t
+takes_own : (o : Option LogicalType) (l : Literal) (t : LogicalType) → own_type l ≡ Some t
+    → Beside o t → type_beside o l ≡ Some t
 takes_own None l t e h = e
 takes_own (Some u) (literal.number w) t e h =
     let is : integer_type I64 false ≡ t = some_is (integer_type I64 false) t e in
-    ap (λ v. Some v) (number_takes u (λ i. subst (λ (v : LogicalType). alike u v) (sym is) (h u refl i))) ∙ e
+    ap (λ v. Some v)
+    (number_takes u (λ i. subst (λ (v : LogicalType). alike u v) (sym is) (h u refl i))) ∙ e
 takes_own (Some u) (literal.text bs) t e h = e
 takes_own (Some u) (literal.truth b) t e h = e
 takes_own (Some u) literal.null t e h = absurd cc
 
-pub settles : (o : Option LogicalType) (i : Item) (t : Tree) (ty : LogicalType) → Stands i t → tree_type meaning t ≡ Some ty → Beside o ty → settled o i ≡ answers t
+pub settles : (o : Option LogicalType) (i : Item) (t : Tree) (ty : LogicalType) → Stands i t
+    → tree_type meaning t ≡ Some ty → Beside o ty → settled o i ≡ answers t
 settles o (bound u) t ty st e h = ap (λ v. answers v) st
 settles o (literal l) t ty st e h =
     let s = st.0 in
@@ -63,16 +73,20 @@ settles o (literal l) t ty st e h =
     ∙ ap (constant_at l) (sym is) ∙ st.3 ∙ ap (λ v. answers v) st.1
 
 -- the type of an item, where it has one
-bound_is : (i : Item) (t : Tree) (ty u : LogicalType) → Stands i t → tree_type meaning t ≡ Some ty → bound_type i ≡ Some u → u ≡ ty
+bound_is : (i : Item) (t : Tree) (ty u : LogicalType) → Stands i t → tree_type meaning t ≡ Some ty
+    → bound_type i ≡ Some u → u ≡ ty
 bound_is (bound v) t ty u st e h = some_is u ty (sym h ∙ ap (tree_type meaning) st ∙ e)
 bound_is (literal l) t ty u st e h = absurd cc
 
-literal_type_is : (i : Item) (t : Tree) (ty u : LogicalType) → Stands i t → tree_type meaning t ≡ Some ty → literal_type i ≡ Some u → u ≡ ty
+literal_type_is : (i : Item) (t : Tree) (ty u : LogicalType) → Stands i t
+    → tree_type meaning t ≡ Some ty → literal_type i ≡ Some u → u ≡ ty
 literal_type_is (bound v) t ty u st e h = absurd cc
-literal_type_is (literal l) t ty u st e h = some_is u ty (sym h ∙ st.2 ∙ ap (tree_type meaning) st.1 ∙ e)
+literal_type_is (literal l) t ty u st e h =
+    some_is u ty (sym h ∙ st.2 ∙ ap (tree_type meaning) st.1 ∙ e)
 
 -- the type that literals take is that of one of the items
-or_is : (x y : Option LogicalType) (u : LogicalType) → option_or x y ≡ Some u → (x ≡ Some u) ⊎ (y ≡ Some u)
+or_is : (x y : Option LogicalType) (u : LogicalType) → option_or x y ≡ Some u
+    → (x ≡ Some u) ⊎ (y ≡ Some u)
 or_is None y u h = inr h
 or_is (Some t) y u h = inl h
 
@@ -93,18 +107,28 @@ module _ (P : Type 0) (u : LogicalType) where
   or_one : (x y : Option LogicalType) → Tells x → Tells y → Tells (option_or x y)
   or_one x y f g h = pick (or_is x y u h) f g
 
-  common_two : (i j : Item) → Tells (bound_type i) → Tells (literal_type i) → Tells (bound_type j) → Tells (literal_type j) → Tells (common_type (i ∷ j ∷ []))
+  common_two : (i j : Item) → Tells (bound_type i) → Tells (literal_type i) → Tells (bound_type j)
+      → Tells (literal_type j) → Tells (common_type (i ∷ j ∷ []))
   common_two i j bi li bj lj =
       or_one (first_some (map bound_type (i ∷ j ∷ []))) (first_some (map literal_type (i ∷ j ∷ [])))
-      (or_one (bound_type i) (first_some (bound_type j ∷ [])) bi (or_one (bound_type j) (first_some []) bj no_one))
-      (or_one (literal_type i) (first_some (literal_type j ∷ [])) li (or_one (literal_type j) (first_some []) lj no_one))
+      (or_one (bound_type i) (first_some (bound_type j ∷ [])) bi
+      (or_one (bound_type j) (first_some []) bj no_one))
+      (or_one (literal_type i) (first_some (literal_type j ∷ [])) li
+      (or_one (literal_type j) (first_some []) lj no_one))
 
-  common_three : (i j k : Item) → Tells (bound_type i) → Tells (literal_type i) → Tells (bound_type j) → Tells (literal_type j) → Tells (bound_type k) → Tells (literal_type k)
+  common_three : (i j k : Item) → Tells (bound_type i) → Tells (literal_type i)
+      → Tells (bound_type j) → Tells (literal_type j) → Tells (bound_type k)
+      → Tells (literal_type k)
       → Tells (common_type (i ∷ j ∷ k ∷ []))
   common_three i j k bi li bj lj bk lk =
-      or_one (first_some (map bound_type (i ∷ j ∷ k ∷ []))) (first_some (map literal_type (i ∷ j ∷ k ∷ [])))
-      (or_one (bound_type i) (first_some (bound_type j ∷ bound_type k ∷ [])) bi (or_one (bound_type j) (first_some (bound_type k ∷ [])) bj (or_one (bound_type k) (first_some []) bk no_one)))
-      (or_one (literal_type i) (first_some (literal_type j ∷ literal_type k ∷ [])) li (or_one (literal_type j) (first_some (literal_type k ∷ [])) lj (or_one (literal_type k) (first_some []) lk no_one)))
+      or_one (first_some (map bound_type (i ∷ j ∷ k ∷ [])))
+      (first_some (map literal_type (i ∷ j ∷ k ∷ [])))
+      (or_one (bound_type i) (first_some (bound_type j ∷ bound_type k ∷ [])) bi
+      (or_one (bound_type j) (first_some (bound_type k ∷ [])) bj
+      (or_one (bound_type k) (first_some []) bk no_one)))
+      (or_one (literal_type i) (first_some (literal_type j ∷ literal_type k ∷ [])) li
+      (or_one (literal_type j) (first_some (literal_type k ∷ [])) lj
+      (or_one (literal_type k) (first_some []) lk no_one)))
 
 -- an item with the tree that it stands for, and that tree's type
 pub record Operand (t : Tree) : Type 0 where
@@ -116,20 +140,28 @@ pub record Operand (t : Tree) : Type 0 where
 along : (u t v : LogicalType) → u ≡ t → alike t v → alike u v
 along u t v e h = ap without_nullability e ∙ h
 
-bound_along : {t : Tree} (x : Operand t) (u v : LogicalType) → alike x.dtype v → bound_type x.item ≡ Some u → alike u v
+bound_along : {t : Tree} (x : Operand t) (u v : LogicalType) → alike x.dtype v
+    → bound_type x.item ≡ Some u → alike u v
 bound_along {t} x u v h e = along u x.dtype v (bound_is x.item t x.dtype u x.stands x.typed e) h
 
-literal_along : {t : Tree} (x : Operand t) (u v : LogicalType) → alike x.dtype v → literal_type x.item ≡ Some u → alike u v
-literal_along {t} x u v h e = along u x.dtype v (literal_type_is x.item t x.dtype u x.stands x.typed e) h
+literal_along : {t : Tree} (x : Operand t) (u v : LogicalType) → alike x.dtype v
+    → literal_type x.item ≡ Some u → alike u v
+literal_along {t} x u v h e =
+    along u x.dtype v (literal_type_is x.item t x.dtype u x.stands x.typed e) h
 
-two_beside : {s t : Tree} (x : Operand s) (y : Operand t) (v : LogicalType) → alike x.dtype v → alike y.dtype v → Beside (common_type (x.item ∷ y.item ∷ [])) v
+two_beside : {s t : Tree} (x : Operand s) (y : Operand t) (v : LogicalType) → alike x.dtype v
+    → alike y.dtype v → Beside (common_type (x.item ∷ y.item ∷ [])) v
 two_beside x y v h k = λ u e i.
-    common_two (alike u v) u x.item y.item (bound_along x u v h) (literal_along x u v h) (bound_along y u v k) (literal_along y u v k) e
+    common_two (alike u v) u x.item y.item (bound_along x u v h) (literal_along x u v h)
+    (bound_along y u v k) (literal_along y u v k) e
 
-pub three_beside : {s t r : Tree} (x : Operand s) (y : Operand t) (z : Operand r) (v : LogicalType) → alike x.dtype v → alike y.dtype v → alike z.dtype v
+pub three_beside : {s t r : Tree} (x : Operand s) (y : Operand t) (z : Operand r) (v : LogicalType)
+    → alike x.dtype v → alike y.dtype v → alike z.dtype v
     → Beside (common_type (x.item ∷ y.item ∷ z.item ∷ [])) v
 three_beside x y z v h k j = λ u e i.
-    common_three (alike u v) u x.item y.item z.item (bound_along x u v h) (literal_along x u v h) (bound_along y u v k) (literal_along y u v k) (bound_along z u v j) (literal_along z u v j) e
+    common_three (alike u v) u x.item y.item z.item (bound_along x u v h) (literal_along x u v h)
+    (bound_along y u v k) (literal_along y u v k) (bound_along z u v j)
+    (literal_along z u v j) e
 
 pub none_beside : (v : LogicalType) → Beside None v
 none_beside v = λ u e i. absurd cc
@@ -137,7 +169,8 @@ none_beside v = λ u e i. absurd cc
 pub other_beside : (w v : LogicalType) → is_integer_type w ≡ false → Beside (Some w) v
 other_beside w v h = λ u e i. absurd (false≢true (sym h ∙ ap is_integer_type (some_is w u e) ∙ i))
 
-pub settled_operand : {t : Tree} (o : Option LogicalType) (x : Operand t) → Beside o x.dtype → settled o x.item ≡ answers t
+pub settled_operand : {t : Tree} (o : Option LogicalType) (x : Operand t) → Beside o x.dtype
+    → settled o x.item ≡ answers t
 settled_operand {t} o x h = settles o x.item t x.dtype x.stands x.typed h
 
 -- types that operators and BETWEEN take are alike
@@ -147,14 +180,19 @@ same_alike t u h = (type_eq-decides (without_nullability t) (without_nullability
 compared_alike : (t u : LogicalType) → is_some (compared_type (t ∷ u ∷ [])) ≡ true → alike t u
 compared_alike t u h = by (alike_types t u) refl h
   where
-    by : (b : Bool) → alike_types t u ≡ b → is_some (if b then Some (comparison_type t u) else None) ≡ true → alike t u
+    by : (b : Bool) → alike_types t u ≡ b → is_some (if b then Some (comparison_type t u) else None)
+        ≡ true → alike t u
     by true e g = same_alike t u e
     by false e g = absurd (false≢true g)
 
-integers_alike : (p q : PType) (n m : Bool) → is_some (option_map (λ r. integer_type r (n || m)) (if ptype_eq p q then Some p else None)) ≡ true → alike (integer_type p n) (integer_type q m)
+integers_alike : (p q : PType) (n m : Bool)
+    → is_some (option_map (λ r. integer_type r (n || m)) (if ptype_eq p q then Some p else None))
+    ≡ true → alike (integer_type p n) (integer_type q m)
 integers_alike p q n m h = by (ptype_eq p q) refl h
   where
-    by : (b : Bool) → ptype_eq p q ≡ b → is_some (option_map (λ r. integer_type r (n || m)) (if b then Some p else None)) ≡ true → alike (integer_type p n) (integer_type q m)
+    by : (b : Bool) → ptype_eq p q ≡ b
+        → is_some (option_map (λ r. integer_type r (n || m)) (if b then Some p else None)) ≡ true
+        → alike (integer_type p n) (integer_type q m)
     by true e g = ap (λ r. integer_type r false) (ptype_yes p q e)
     by false e g = absurd (false≢true g)
 
@@ -169,12 +207,20 @@ pub record Pair (o : Option LogicalType) (t u : LogicalType) : Type 0 where
   pub second : Beside o u
 
 truth_pair : (t u : LogicalType) → Pair truth_type t u
-truth_pair t u = record { first = other_beside (bool_type false) t refl; second = other_beside (bool_type false) u refl }
+truth_pair t u =
+    record {
+      first = other_beside (bool_type false) t refl;
+      second =
+          other_beside (bool_type false) u refl;
+    }
 
-common_pair : {s t : Tree} (x : Operand s) (y : Operand t) → alike x.dtype y.dtype → Pair (common_type (x.item ∷ y.item ∷ [])) x.dtype y.dtype
-common_pair x y h = record { first = two_beside x y x.dtype refl (sym h); second = two_beside x y y.dtype h refl }
+common_pair : {s t : Tree} (x : Operand s) (y : Operand t) → alike x.dtype y.dtype
+    → Pair (common_type (x.item ∷ y.item ∷ [])) x.dtype y.dtype
+common_pair x y h =
+    record { first = two_beside x y x.dtype refl (sym h); second = two_beside x y y.dtype h refl }
 
-pub operator_pair : {s t : Tree} (o : Operator) (x : Operand s) (y : Operand t) → is_some (operator_type o (x.dtype ∷ y.dtype ∷ [])) ≡ true
+pub operator_pair : {s t : Tree} (o : Operator) (x : Operand s) (y : Operand t)
+    → is_some (operator_type o (x.dtype ∷ y.dtype ∷ [])) ≡ true
     → Pair (joined_type (written_operator o) (x.item ∷ y.item ∷ [])) x.dtype y.dtype
 operator_pair operator.And x y h = truth_pair x.dtype y.dtype
 operator_pair operator.Or x y h = truth_pair x.dtype y.dtype
@@ -207,10 +253,12 @@ pub record Bounded (t u v : LogicalType) : Type 0 where
   pub lower : alike t u
   pub upper : alike t v
 
-pub bounded_alike : (t u v : LogicalType) → is_some (bounded_type (t ∷ u ∷ v ∷ [])) ≡ true → Bounded t u v
+pub bounded_alike : (t u v : LogicalType) → is_some (bounded_type (t ∷ u ∷ v ∷ [])) ≡ true
+    → Bounded t u v
 bounded_alike t u v h = by (alike_types t u) (alike_types t v) refl refl h
   where
-    by : (a b : Bool) → alike_types t u ≡ a → alike_types t v ≡ b → is_some (if a && b then Some (between_type t u v) else None) ≡ true → Bounded t u v
+    by : (a b : Bool) → alike_types t u ≡ a → alike_types t v ≡ b
+        → is_some (if a && b then Some (between_type t u v) else None) ≡ true → Bounded t u v
     by true true e g k = record { lower = same_alike t u e; upper = same_alike t v g }
     by true false e g k = absurd (false≢true k)
     by false b e g k = absurd (false≢true k)

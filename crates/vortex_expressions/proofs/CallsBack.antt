@@ -1,5 +1,6 @@
 -- The syntax of a tree stands for that tree.
-use Rattle.std.proofs.Common.{◌≡◌, ℕ, Bool, true, false, ◌==◌, ◌&&◌, [], ◌∷◌, length, Option, Some, None, refl, ap, sym, ◌∙◌}
+use Rattle.std.proofs.Common.{◌≡◌, ℕ, Bool, true, false, ◌==◌, ◌&&◌, [], ◌∷◌, length, Option, Some}
+use Rattle.std.proofs.Common.{None, refl, ap, sym, ◌∙◌}
 use Rattle.std.specs.Prelude.{codes, ⊤, MatchOption, if◌then◌else◌, is_some, IsUtf8, encode_utf8}
 use Rattle.std.specs.Str.{chars}
 use Rattle.std.specs.Char.{IsScalar}
@@ -29,19 +30,32 @@ use Rattle.vortex_expressions.specs.Outcomes.{answers, and_then, or_refuses}
 use Rattle.vortex_expressions.specs.declared.refusal.Refusal.TheVariants.{NoEscape}
 use Rattle.rowfn_lines.specs.Commands.{escape_of}
 use Rattle.vortex_expressions.specs.Items.{Item, Tree, meaning, common_type, settled, called}
-use Rattle.vortex_expressions.specs.Calls.{as_item, cast_to, cast_item, truth_type, joined_type, not_item, joined_item, tested_item, within_bounds, between_item, escape_said, liked_item, matched_item}
+use Rattle.vortex_expressions.specs.Calls.{as_item, cast_to, cast_item, truth_type, joined_type}
+use Rattle.vortex_expressions.specs.Calls.{not_item, joined_item, tested_item, within_bounds}
+use Rattle.vortex_expressions.specs.Calls.{between_item, escape_said, liked_item, matched_item}
 use Rattle.vortex_expressions.specs.Binding.{item_of, tree_of}
-use Rattle.vortex_expressions.specs.Writing.{at_level, joined_syntax, written_operator, is_non_strict, is_within, between_syntax, like_kind, escape_written, matched_syntax, all_three, shipped_syntax, syntax_of, syntaxes_of, IsOver, AllOver}
+use Rattle.vortex_expressions.specs.Writing.{at_level, joined_syntax, written_operator}
+use Rattle.vortex_expressions.specs.Writing.{is_non_strict, is_within, between_syntax, like_kind}
+use Rattle.vortex_expressions.specs.Writing.{escape_written, matched_syntax, all_three}
+use Rattle.vortex_expressions.specs.Writing.{shipped_syntax, syntax_of, syntaxes_of, IsOver}
+use Rattle.vortex_expressions.specs.Writing.{AllOver}
 use Rattle.vortex_expressions.proofs.Options.{some_is, both_is, three_is, mapped_is, where_is}
-use Rattle.vortex_expressions.proofs.LiteralsBack.{quoted_text, Standing, tree_standing, at_level_item, column_standing, bool_back, constant_standing}
-use Rattle.vortex_expressions.proofs.Beside.{settles, no_option, Operand, three_beside, none_beside, other_beside, settled_operand, operator_pair, operator_back, bounded_alike}
-use Rattle.vortex_expressions.proofs.TypedCalls.{arity_is, not_one, not_two, not_three, one_called, two_called, three_called, typed_one, typed_two, typed_three}
+use Rattle.vortex_expressions.proofs.LiteralsBack.{quoted_text, Standing, tree_standing}
+use Rattle.vortex_expressions.proofs.LiteralsBack.{at_level_item, column_standing, bool_back}
+use Rattle.vortex_expressions.proofs.LiteralsBack.{constant_standing}
+use Rattle.vortex_expressions.proofs.Beside.{settles, no_option, Operand, three_beside, none_beside}
+use Rattle.vortex_expressions.proofs.Beside.{other_beside, settled_operand, operator_pair}
+use Rattle.vortex_expressions.proofs.Beside.{operator_back, bounded_alike}
+use Rattle.vortex_expressions.proofs.TypedCalls.{arity_is, not_one, not_two, not_three, one_called}
+use Rattle.vortex_expressions.proofs.TypedCalls.{two_called, three_called, typed_one, typed_two}
+use Rattle.vortex_expressions.proofs.TypedCalls.{typed_three}
 
 abbrev Trees : Type 0
 Trees = trees.Trees NoCustom EmptyOptions
 
 -- the options of BETWEEN and of LIKE
-within_by : (x y : StrictComparison) → (is_non_strict x && is_non_strict y) ≡ true → within_bounds ≡ record { lower_strict = x; upper_strict = y }
+within_by : (x y : StrictComparison) → (is_non_strict x && is_non_strict y) ≡ true
+    → within_bounds ≡ record { lower_strict = x; upper_strict = y }
 within_by NonStrict NonStrict h = refl
 within_by NonStrict Strict h = absurd (false≢true h)
 within_by Strict y h = absurd (false≢true h)
@@ -49,9 +63,11 @@ within_by Strict y h = absurd (false≢true h)
 within_is : (o : BetweenOptions) → is_within o ≡ true → within_bounds ≡ o
 within_is o h = within_by o.lower_strict o.upper_strict h
 
-escape_back : (k : LikeKind) (e : Option ℕ) (a p : Item) → MatchOption e ⊤ IsScalar → matched_item k (escape_written e) a p ≡ liked_item k e a p
+escape_back : (k : LikeKind) (e : Option ℕ) (a p : Item) → MatchOption e ⊤ IsScalar
+    → matched_item k (escape_written e) a p ≡ liked_item k e a p
 escape_back k None a p h =
-    ap (λ v. and_then (and_then v escape_said) (λ c. liked_item k c a p)) (quoted_text 39 [] IsUtf8-nil)
+    ap (λ v. and_then (and_then v escape_said) (λ c. liked_item k c a p))
+    (quoted_text 39 [] IsUtf8-nil)
     ∙ ap (λ cs. and_then (or_refuses NoEscape (escape_of cs)) (λ c. liked_item k c a p)) chars-nil
 escape_back k (Some c) a p h = by (c == backslash) refl
   where
@@ -59,12 +75,16 @@ escape_back k (Some c) a p h = by (c == backslash) refl
     u = IsUtf8-encode c h
 
     one : chars (encode_utf8 c) ≡ c ∷ []
-    one = chars_past_char (encode_utf8 c) [] c u (sym (append-nil (encode_utf8 c))) ∙ ap (λ cs. c ∷ cs) chars-nil
+    one = chars_past_char (encode_utf8 c) [] c u (sym (append-nil (encode_utf8 c)))
+        ∙ ap (λ cs. c ∷ cs) chars-nil
 
-    by : (b : Bool) → (c == backslash) ≡ b → matched_item k (if b then None else Some (doubled 39 (encode_utf8 c))) a p ≡ liked_item k (Some c) a p
+    by : (b : Bool) → (c == backslash) ≡ b
+        → matched_item k (if b then None else Some (doubled 39 (encode_utf8 c))) a p
+        ≡ liked_item k (Some c) a p
     by true e = ap (λ v. liked_item k (Some v) a p) (sym (eqb-true c backslash e))
     by false e =
-        ap (λ v. and_then (and_then v escape_said) (λ v. liked_item k v a p)) (quoted_text 39 (encode_utf8 c) u)
+        ap (λ v. and_then (and_then v escape_said) (λ v. liked_item k v a p))
+        (quoted_text 39 (encode_utf8 c) u)
         ∙ ap (λ cs. and_then (or_refuses NoEscape (escape_of cs)) (λ v. liked_item k v a p)) one
 
 -- calls
@@ -76,15 +96,21 @@ module _ (scope : Fields) where
   EachStood no_trees = Unit {0}
   EachStood (trees.tree t ts) = Stood t × EachStood ts
 
-  placed : (l : ℕ) (a : Syntax) (t : Tree) (s : Standing scope a t) → item_of scope (at_level l a) ≡ answers s.item
+  placed : (l : ℕ) (a : Syntax) (t : Tree) (s : Standing scope a t)
+      → item_of scope (at_level l a) ≡ answers s.item
   placed l a t s = at_level_item scope l a ∙ s.is
 
-  abbrev operand_of : (a : Syntax) (t : Tree) (s : Standing scope a t) (ty : LogicalType) → tree_type meaning t ≡ Some ty → Operand t
+  abbrev operand_of : (a : Syntax) (t : Tree) (s : Standing scope a t) (ty : LogicalType)
+      → tree_type meaning t ≡ Some ty → Operand t
   operand_of a t s ty e = record { item = s.item; stands = s.stands; dtype = ty; typed = e }
 
-  not_stands : (ts : Trees) (a : Syntax) → is_some (tree_type meaning (call (ours Not) ts)) ≡ true → EachStood ts → shipped_syntax Not (syntaxes_of ts) ≡ Some a → Standing scope a (call (ours Not) ts)
+  not_stands : (ts : Trees) (a : Syntax) → is_some (tree_type meaning (call (ours Not) ts)) ≡ true
+      → EachStood ts → shipped_syntax Not (syntaxes_of ts) ≡ Some a
+      → Standing scope a (call (ours Not) ts)
   not_stands no_trees a h k e = absurd cc
-  not_stands (trees.tree x (trees.tree y ts)) a h k e = absurd (not_one (length (list_of ts)) (arity_is (ours Not) (trees.tree x (trees.tree y ts)) h))
+  not_stands (trees.tree x (trees.tree y ts)) a h k e =
+      absurd (not_one (length (list_of ts))
+      (arity_is (ours Not) (trees.tree x (trees.tree y ts)) h))
   not_stands (trees.tree x no_trees) a h k e =
       let m = mapped_is (λ b. negated (at_level not_level b)) (syntax_of x) a e in
       let s = k.0 m.a m.there in
@@ -93,12 +119,18 @@ module _ (scope : Fields) where
       tree_standing scope a (call (ours Not) (trees.tree x no_trees))
       (ap (item_of scope) (sym m.made)
       ∙ ap (λ i. and_then i not_item) (placed not_level m.a x s)
-      ∙ ap as_item (one_called (ours Not) truth_type p.item x (settled_operand truth_type p (other_beside (bool_type false) p.dtype refl)) h))
+      ∙ ap as_item
+      (one_called (ours Not) truth_type p.item x
+      (settled_operand truth_type p (other_beside (bool_type false) p.dtype refl)) h))
 
-  test_stands : (n : Bool) (ts : Trees) (a : Syntax) → is_some (tree_type meaning (call (ours (NullTest n)) ts)) ≡ true → EachStood ts → shipped_syntax (NullTest n) (syntaxes_of ts) ≡ Some a
+  test_stands : (n : Bool) (ts : Trees) (a : Syntax)
+      → is_some (tree_type meaning (call (ours (NullTest n)) ts)) ≡ true → EachStood ts
+      → shipped_syntax (NullTest n) (syntaxes_of ts) ≡ Some a
       → Standing scope a (call (ours (NullTest n)) ts)
   test_stands n no_trees a h k e = absurd cc
-  test_stands n (trees.tree x (trees.tree y ts)) a h k e = absurd (not_one (length (list_of ts)) (arity_is (ours (NullTest n)) (trees.tree x (trees.tree y ts)) h))
+  test_stands n (trees.tree x (trees.tree y ts)) a h k e =
+      absurd (not_one (length (list_of ts))
+      (arity_is (ours (NullTest n)) (trees.tree x (trees.tree y ts)) h))
   test_stands n (trees.tree x no_trees) a h k e =
       let m = mapped_is (λ b. tested n (at_level is_level b)) (syntax_of x) a e in
       let s = k.0 m.a m.there in
@@ -107,11 +139,17 @@ module _ (scope : Fields) where
       tree_standing scope a (call (ours (NullTest n)) (trees.tree x no_trees))
       (ap (item_of scope) (sym m.made)
       ∙ ap (λ i. and_then i (tested_item n)) (placed is_level m.a x s)
-      ∙ ap as_item (one_called (ours (NullTest n)) None p.item x (settled_operand None p (none_beside p.dtype)) h))
+      ∙ ap as_item
+      (one_called (ours (NullTest n)) None p.item x
+      (settled_operand None p (none_beside p.dtype)) h))
 
-  cast_stands : (ts : Trees) (a : Syntax) → is_some (tree_type meaning (call (ours Cast) ts)) ≡ true → EachStood ts → shipped_syntax Cast (syntaxes_of ts) ≡ Some a → Standing scope a (call (ours Cast) ts)
+  cast_stands : (ts : Trees) (a : Syntax) → is_some (tree_type meaning (call (ours Cast) ts)) ≡ true
+      → EachStood ts → shipped_syntax Cast (syntaxes_of ts) ≡ Some a
+      → Standing scope a (call (ours Cast) ts)
   cast_stands no_trees a h k e = absurd cc
-  cast_stands (trees.tree x (trees.tree y ts)) a h k e = absurd (not_one (length (list_of ts)) (arity_is (ours Cast) (trees.tree x (trees.tree y ts)) h))
+  cast_stands (trees.tree x (trees.tree y ts)) a h k e =
+      absurd (not_one (length (list_of ts))
+      (arity_is (ours Cast) (trees.tree x (trees.tree y ts)) h))
   cast_stands (trees.tree x no_trees) a h k e =
       let m = mapped_is (λ b. cast b (codes "bool") true) (syntax_of x) a e in
       let s = k.0 m.a m.there in
@@ -121,14 +159,22 @@ module _ (scope : Fields) where
       (ap (item_of scope) (sym m.made)
       ∙ ap (λ i. and_then i (cast_item (codes "bool") true)) s.is
       ∙ ap (λ v. as_item (and_then v (cast_to p.item))) (bool_back true)
-      ∙ ap as_item (one_called (ours Cast) (Some (bool_type true)) p.item x (settled_operand (Some (bool_type true)) p (other_beside (bool_type true) p.dtype refl)) h))
+      ∙ ap as_item
+      (one_called (ours Cast) (Some (bool_type true)) p.item x
+      (settled_operand (Some (bool_type true)) p (other_beside (bool_type true) p.dtype refl))
+      h))
 
-  binary_stands : (o : Operator) (ts : Trees) (a : Syntax) → is_some (tree_type meaning (call (ours (Binary o)) ts)) ≡ true → EachStood ts → shipped_syntax (Binary o) (syntaxes_of ts) ≡ Some a
+  binary_stands : (o : Operator) (ts : Trees) (a : Syntax)
+      → is_some (tree_type meaning (call (ours (Binary o)) ts)) ≡ true → EachStood ts
+      → shipped_syntax (Binary o) (syntaxes_of ts) ≡ Some a
       → Standing scope a (call (ours (Binary o)) ts)
   binary_stands o no_trees a h k e = absurd cc
-  binary_stands o (trees.tree x no_trees) a h k e = let m = both_is (joined_syntax (written_operator o)) (syntax_of x) None a e in absurd (no_option m.b m.second)
+  binary_stands o (trees.tree x no_trees) a h k e = let m =
+      both_is (joined_syntax (written_operator o)) (syntax_of x) None a e in
+      absurd (no_option m.b m.second)
   binary_stands o (trees.tree x (trees.tree y (trees.tree z ts))) a h k e =
-      absurd (not_two (length (list_of ts)) (arity_is (ours (Binary o)) (trees.tree x (trees.tree y (trees.tree z ts))) h))
+      absurd (not_two (length (list_of ts))
+      (arity_is (ours (Binary o)) (trees.tree x (trees.tree y (trees.tree z ts))) h))
   binary_stands o (trees.tree x (trees.tree y no_trees)) a h k e =
       let w = written_operator o in
       let m = both_is (joined_syntax w) (syntax_of x) (syntax_of y) a e in
@@ -141,17 +187,25 @@ module _ (scope : Fields) where
       let pair = operator_pair o p q t.taken in
       tree_standing scope a (call (ours (Binary o)) (trees.tree x (trees.tree y no_trees)))
       (ap (item_of scope) (sym m.made)
-      ∙ ap (λ i. and_then i (λ v. and_then (item_of scope (at_level (right w) m.b)) (joined_item w v))) (placed (left w) m.a x s)
+      ∙ ap (λ i. and_then i
+      (λ v. and_then (item_of scope (at_level (right w) m.b)) (joined_item w v)))
+      (placed (left w) m.a x s)
       ∙ ap (λ i. and_then i (joined_item w p.item)) (placed (right w) m.b y r)
       ∙ ap (λ v. as_item (called (ours (Binary v)) beside (p.item ∷ q.item ∷ []))) (operator_back o)
-      ∙ ap as_item (two_called (ours (Binary o)) beside p.item q.item x y (settled_operand beside p pair.first) (settled_operand beside q pair.second) h))
+      ∙ ap as_item
+      (two_called (ours (Binary o)) beside p.item q.item x y
+      (settled_operand beside p pair.first) (settled_operand beside q pair.second) h))
 
-  like_stands : (o : LikeOptions) (ts : Trees) (a : Syntax) → HasCharacters (Like o) → is_some (tree_type meaning (call (ours (Like o)) ts)) ≡ true → EachStood ts
-      → shipped_syntax (Like o) (syntaxes_of ts) ≡ Some a → Standing scope a (call (ours (Like o)) ts)
+  like_stands : (o : LikeOptions) (ts : Trees) (a : Syntax) → HasCharacters (Like o)
+      → is_some (tree_type meaning (call (ours (Like o)) ts)) ≡ true → EachStood ts
+      → shipped_syntax (Like o) (syntaxes_of ts) ≡ Some a
+      → Standing scope a (call (ours (Like o)) ts)
   like_stands o no_trees a c h k e = absurd cc
-  like_stands o (trees.tree x no_trees) a c h k e = let m = both_is (matched_syntax o) (syntax_of x) None a e in absurd (no_option m.b m.second)
+  like_stands o (trees.tree x no_trees) a c h k e = let m =
+      both_is (matched_syntax o) (syntax_of x) None a e in absurd (no_option m.b m.second)
   like_stands o (trees.tree x (trees.tree y (trees.tree z ts))) a c h k e =
-      absurd (not_two (length (list_of ts)) (arity_is (ours (Like o)) (trees.tree x (trees.tree y (trees.tree z ts))) h))
+      absurd (not_two (length (list_of ts))
+      (arity_is (ours (Like o)) (trees.tree x (trees.tree y (trees.tree z ts))) h))
   like_stands o (trees.tree x (trees.tree y no_trees)) a c h k e =
       let m = both_is (matched_syntax o) (syntax_of x) (syntax_of y) a e in
       let s = k.0 m.a m.first in
@@ -162,13 +216,20 @@ module _ (scope : Fields) where
       let beside = Some (text_type false) in
       tree_standing scope a (call (ours (Like o)) (trees.tree x (trees.tree y no_trees)))
       (ap (item_of scope) (sym m.made)
-      ∙ ap (λ i. and_then i (λ v. and_then (item_of scope (at_level sum_level m.b)) (matched_item (like_kind o) (escape_written o.escape) v))) (placed sum_level m.a x s)
-      ∙ ap (λ i. and_then i (matched_item (like_kind o) (escape_written o.escape) p.item)) (placed sum_level m.b y r)
+      ∙ ap (λ i. and_then i
+      (λ v. and_then (item_of scope (at_level sum_level m.b))
+      (matched_item (like_kind o) (escape_written o.escape) v))) (placed sum_level m.a x s)
+      ∙ ap (λ i. and_then i (matched_item (like_kind o) (escape_written o.escape) p.item))
+      (placed sum_level m.b y r)
       ∙ escape_back (like_kind o) o.escape p.item q.item c
       ∙ ap as_item
-      (two_called (ours (Like o)) beside p.item q.item x y (settled_operand beside p (other_beside (text_type false) p.dtype refl)) (settled_operand beside q (other_beside (text_type false) q.dtype refl)) h))
+      (two_called (ours (Like o)) beside p.item q.item x y
+      (settled_operand beside p (other_beside (text_type false) p.dtype refl))
+      (settled_operand beside q (other_beside (text_type false) q.dtype refl)) h))
 
-  between_stands : (o : BetweenOptions) (ts : Trees) (a : Syntax) → is_some (tree_type meaning (call (ours (Between o)) ts)) ≡ true → EachStood ts → shipped_syntax (Between o) (syntaxes_of ts) ≡ Some a
+  between_stands : (o : BetweenOptions) (ts : Trees) (a : Syntax)
+      → is_some (tree_type meaning (call (ours (Between o)) ts)) ≡ true → EachStood ts
+      → shipped_syntax (Between o) (syntaxes_of ts) ≡ Some a
       → Standing scope a (call (ours (Between o)) ts)
   between_stands o no_trees a h k e = absurd (no_option a (where_is (is_within o) None a e).there)
   between_stands o (trees.tree x no_trees) a h k e =
@@ -176,13 +237,17 @@ module _ (scope : Fields) where
       let m = three_is between_syntax (syntax_of x) None None a g.there in
       absurd (no_option m.b m.second)
   between_stands o (trees.tree x (trees.tree y no_trees)) a h k e =
-      let g = where_is (is_within o) (all_three between_syntax (syntax_of x) (syntax_of y) None) a e in
+      let g = where_is (is_within o)
+      (all_three between_syntax (syntax_of x) (syntax_of y) None) a e in
       let m = three_is between_syntax (syntax_of x) (syntax_of y) None a g.there in
       absurd (no_option m.c m.third)
   between_stands o (trees.tree x (trees.tree y (trees.tree z (trees.tree v ts)))) a h k e =
-      absurd (not_three (length (list_of ts)) (arity_is (ours (Between o)) (trees.tree x (trees.tree y (trees.tree z (trees.tree v ts)))) h))
+      absurd (not_three (length (list_of ts))
+      (arity_is (ours (Between o))
+      (trees.tree x (trees.tree y (trees.tree z (trees.tree v ts)))) h))
   between_stands o (trees.tree x (trees.tree y (trees.tree z no_trees))) a h k e =
-      let g = where_is (is_within o) (all_three between_syntax (syntax_of x) (syntax_of y) (syntax_of z)) a e in
+      let g = where_is (is_within o)
+      (all_three between_syntax (syntax_of x) (syntax_of y) (syntax_of z)) a e in
       let m = three_is between_syntax (syntax_of x) (syntax_of y) (syntax_of z) a g.there in
       let s = k.0 m.a m.first in
       let r = k.1.0 m.b m.second in
@@ -199,16 +264,25 @@ module _ (scope : Fields) where
       let first = three_beside p q w t.first refl (sym b.lower) (sym b.upper) in
       let second = three_beside p q w t.second b.lower refl (sym b.upper ∙ b.lower) in
       let third = three_beside p q w t.third b.upper (sym b.lower ∙ b.upper) refl in
-      tree_standing scope a (call (ours (Between o)) (trees.tree x (trees.tree y (trees.tree z no_trees))))
+      tree_standing scope a
+      (call (ours (Between o)) (trees.tree x (trees.tree y (trees.tree z no_trees))))
       (ap (item_of scope) (sym m.made)
-      ∙ ap (λ i. and_then i (λ v. and_then (item_of scope low) (λ l. and_then (item_of scope high) (between_item false v l)))) (placed sum_level m.a x s)
-      ∙ ap (λ i. and_then i (λ l. and_then (item_of scope high) (between_item false p.item l))) (placed sum_level m.b y r)
+      ∙ ap (λ i. and_then i
+      (λ v. and_then (item_of scope low)
+      (λ l. and_then (item_of scope high) (between_item false v l)))) (placed sum_level m.a x s)
+      ∙ ap (λ i. and_then i (λ l. and_then (item_of scope high) (between_item false p.item l)))
+      (placed sum_level m.b y r)
       ∙ ap (λ i. and_then i (between_item false p.item q.item)) (placed sum_level m.c z u)
-      ∙ ap (λ v. as_item (and_then (called (ours (Between v)) beside is) (λ t. answers t))) (within_is o g.so)
+      ∙ ap (λ v. as_item (and_then (called (ours (Between v)) beside is) (λ t. answers t)))
+      (within_is o g.so)
       ∙ ap (λ v. as_item (and_then v (λ t. answers t)))
-      (three_called (ours (Between o)) beside p.item q.item w.item x y z (settled_operand beside p first) (settled_operand beside q second) (settled_operand beside w third) h))
+      (three_called (ours (Between o)) beside p.item q.item w.item x y z
+      (settled_operand beside p first) (settled_operand beside q second)
+      (settled_operand beside w third) h))
 
-  call_stands : (s : Shipped) (ts : Trees) (a : Syntax) → HasCharacters s → is_some (tree_type meaning (call (ours s) ts)) ≡ true → EachStood ts → shipped_syntax s (syntaxes_of ts) ≡ Some a
+  call_stands : (s : Shipped) (ts : Trees) (a : Syntax) → HasCharacters s
+      → is_some (tree_type meaning (call (ours s) ts)) ≡ true → EachStood ts
+      → shipped_syntax s (syntaxes_of ts) ≡ Some a
       → Standing scope a (call (ours s) ts)
   call_stands (Binary o) ts a c h k e = binary_stands o ts a h k e
   call_stands Not ts a c h k e = not_stands ts a h k e
@@ -218,9 +292,12 @@ module _ (scope : Fields) where
   call_stands (Like o) ts a c h k e = like_stands o ts a c h k e
 
   mutual
-    pub standing_of : (t : Tree) (a : Syntax) → IsOver scope t → syntax_of t ≡ Some a → Standing scope a t
+    pub standing_of : (t : Tree) (a : Syntax) → IsOver scope t → syntax_of t ≡ Some a
+        → Standing scope a t
     standing_of (leaf (place p name t)) a o e =
-        tree_standing scope a (leaf (place p name t)) (ap (item_of scope) (sym (some_is (operand (name_token name)) a e)) ∙ column_standing scope p name t o.0 o.1)
+        tree_standing scope a (leaf (place p name t))
+        (ap (item_of scope) (sym (some_is (operand (name_token name)) a e))
+        ∙ column_standing scope p name t o.0 o.1)
     standing_of (leaf (held c)) a o e = absurd o
     standing_of (constant s) a o e = constant_standing scope s a o e
     standing_of (call (ours s) ts) a o e = call_stands s ts a o.0 o.1 (each_stood ts o.2) e
@@ -241,10 +318,13 @@ module _ (scope : Fields) where
   rooted : (t : Tree) → IsOver scope t → Rooted t
   rooted (leaf l) o = record { dtype = leaf_type l; typed = refl }
   rooted (constant s) o = record { dtype = s.dtype; typed = refl }
-  rooted (call f ts) o = let x = there_is (tree_type meaning (call f ts)) o.1 in record { dtype = x.0; typed = x.1 }
+  rooted (call f ts) o = let x = there_is (tree_type meaning (call f ts)) o.1 in
+      record { dtype = x.0; typed = x.1 }
 
-  pub tree_back : (t : Tree) (a : Syntax) → IsOver scope t → syntax_of t ≡ Some a → tree_of scope a ≡ answers t
+  pub tree_back : (t : Tree) (a : Syntax) → IsOver scope t → syntax_of t ≡ Some a
+      → tree_of scope a ≡ answers t
   tree_back t a o e =
       let s = standing_of t a o e in
       let r = rooted t o in
-      ap (λ i. and_then i (settled None)) s.is ∙ settles None s.item t r.dtype s.stands r.typed (none_beside r.dtype)
+      ap (λ i. and_then i (settled None)) s.is
+      ∙ settles None s.item t r.dtype s.stands r.typed (none_beside r.dtype)

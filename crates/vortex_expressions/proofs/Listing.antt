@@ -1,5 +1,6 @@
 -- What the steps of a list's trees leave is what the text says.
-use Rattle.std.proofs.Common.{◌≡◌, ℕ, ◌<◌, List, [], ◌∷◌, ◌++◌, length, map, drop, get_or, Result, Ok}
+use Rattle.std.proofs.Common.{◌≡◌, ℕ, ◌<◌, List, [], ◌∷◌, ◌++◌, length, map, drop, get_or, Result}
+use Rattle.std.proofs.Common.{Ok}
 use Rattle.std.proofs.Common.{Err, refl, ap, sym, ◌∙◌, subst}
 use Rattle.std.proofs.Math.Seq.{drop-cons}
 use Rattle.std.specs.Prelude.{IfOk}
@@ -11,7 +12,8 @@ use Rattle.vortex_syntax.proofs.AnswerSplits.{one_answers}
 use Rattle.vortex_expressions.specs.declared.error.ReadError.{ReadError}
 use Rattle.vortex_expressions.specs.declared.refusal.Refusal.{Refusal}
 use Rattle.vortex_expressions.specs.Outcomes.{Outcome, answers, refuses, and_then}
-use Rattle.vortex_expressions.specs.Answers.{Answer, with_name, with_first, answers_of, answers_left}
+use Rattle.vortex_expressions.specs.Answers.{Answer, with_name, with_first, answers_of}
+use Rattle.vortex_expressions.specs.Answers.{answers_left}
 use Rattle.vortex_expressions.specs.Answers.{answer_left}
 use Rattle.vortex_expressions.specs.Answers.{ExpressesAll, IsRefusedAll}
 use Rattle.vortex_expressions.specs.Reading.{Finds, ToldBy, ReadUnlessMemory, RefusesAs}

@@ -1,5 +1,7 @@
 -- The level of the syntax of a tree, and that it fits.
-use Rattle.std.proofs.Common.{◌≡◌, ℕ, zero, suc, ◌≤◌, Bool, true, false, List, [], ◌∷◌, Option, Some, None, refl, ap, sym, subst, ◌∙◌, arith, option_map, pos, negsuc, lit≤}
+use Rattle.std.proofs.Common.{◌≡◌, ℕ, zero, suc, ◌≤◌, Bool, true, false, List, [], ◌∷◌, Option}
+use Rattle.std.proofs.Common.{Some, None, refl, ap, sym, subst, ◌∙◌, arith, option_map, pos, negsuc}
+use Rattle.std.proofs.Common.{lit≤}
 use Rattle.std.specs.Prelude.{codes, nat_le, if◌then◌else◌}
 use Rattle.std.specs.Fmt.{decimal}
 use Rattle.std.specs.Option.{option_and_then}
@@ -19,10 +21,15 @@ use Rattle.vortex_syntax.specs.declared.token.Sign.TheVariants as sign
 use Rattle.vortex_syntax.specs.Tokens as token
 use Rattle.vortex_syntax.specs.Tokens.{quoted, sign}
 use Rattle.vortex_syntax.specs.Syntax.{Syntax, operand, negative, typed, negated, tested, cast}
-use Rattle.vortex_syntax.specs.Levels.{level, left, right, operand_level, is_operand, Fits, not_level, is_level, sum_level}
+use Rattle.vortex_syntax.specs.Levels.{level, left, right, operand_level, is_operand, Fits}
+use Rattle.vortex_syntax.specs.Levels.{not_level, is_level, sum_level}
 use Rattle.vortex_syntax.specs.Writing.{is_bare, name_token, text_token, doubled}
 use Rattle.vortex_expressions.specs.Items.{Tree}
-use Rattle.vortex_expressions.specs.Writing.{at_level, value_syntax, type_name, is_own_type, of_type, literal_syntax, joined_syntax, written_operator, is_within, between_syntax, matched_syntax, all_three, nth, shipped_syntax, syntax_of, syntaxes_of}
+use Rattle.vortex_expressions.specs.Writing.{at_level, value_syntax, type_name, is_own_type}
+use Rattle.vortex_expressions.specs.Writing.{of_type, literal_syntax, joined_syntax}
+use Rattle.vortex_expressions.specs.Writing.{written_operator, is_within, between_syntax}
+use Rattle.vortex_expressions.specs.Writing.{matched_syntax, all_three, nth, shipped_syntax}
+use Rattle.vortex_expressions.specs.Writing.{syntax_of, syntaxes_of}
 use Rattle.vortex_expressions.specs.WritingSteps.{tree_level}
 use Rattle.vortex_expressions.proofs.Options.{some_is, both_is, three_is, mapped_is, where_is}
 
@@ -40,7 +47,9 @@ pub record IsLiteral (s : ScalarView) (a : Syntax) : Type 0 where
 pub literal_is : (s : ScalarView) (a : Syntax) → literal_syntax s ≡ Some a → IsLiteral s a
 literal_is s a e = by (value_syntax s.value) refl e
   where
-    by : (o : Option Syntax) → value_syntax s.value ≡ o → option_and_then (λ b. option_map (of_type s.dtype b) (type_name s.dtype)) o ≡ Some a → IsLiteral s a
+    by : (o : Option Syntax) → value_syntax s.value ≡ o
+        → option_and_then (λ b. option_map (of_type s.dtype b) (type_name s.dtype)) o ≡ Some a
+        → IsLiteral s a
     by None h g = absurd cc
     by (Some v) h g =
         let m = mapped_is (of_type s.dtype v) (type_name s.dtype) a g in
@@ -64,30 +73,40 @@ value_level (text bs) a e = ap level (sym (some_is (operand (text_token bs)) a e
 value_level (bytes bs) a e = absurd cc
 value_level (list vs) a e = absurd cc
 
-literal_level_is : (t : LogicalType) (v : Syntax) (w : List ℕ) → level v ≡ 9 → level (of_type t v w) ≡ (if is_own_type t then 9 else 8)
+literal_level_is : (t : LogicalType) (v : Syntax) (w : List ℕ) → level v ≡ 9
+    → level (of_type t v w) ≡ (if is_own_type t then 9 else 8)
 literal_level_is t v w h = by (is_own_type t)
   where
     by : (b : Bool) → level (if b then v else typed v w (is_nullable t)) ≡ (if b then 9 else 8)
     by true = h
     by false = refl
 
-shipped_level_is : (s : Shipped) (os : List (Option Syntax)) (a : Syntax) → shipped_syntax s os ≡ Some a → level a ≡ tree_level (call (ours s) no_trees)
-shipped_level_is (Binary o) os a e = let m = both_is (joined_syntax (written_operator o)) (nth 0 os) (nth 1 os) a e in ap level (sym m.made)
-shipped_level_is Not os a e = let m = mapped_is (λ b. negated (at_level not_level b)) (nth 0 os) a e in ap level (sym m.made)
-shipped_level_is (NullTest n) os a e = let m = mapped_is (λ b. tested n (at_level is_level b)) (nth 0 os) a e in ap level (sym m.made)
-shipped_level_is Cast os a e = let m = mapped_is (λ b. cast b (codes "bool") true) (nth 0 os) a e in ap level (sym m.made)
+shipped_level_is : (s : Shipped) (os : List (Option Syntax)) (a : Syntax)
+    → shipped_syntax s os ≡ Some a → level a ≡ tree_level (call (ours s) no_trees)
+shipped_level_is (Binary o) os a e = let m =
+    both_is (joined_syntax (written_operator o)) (nth 0 os) (nth 1 os) a e in ap level (sym m.made)
+shipped_level_is Not os a e = let m =
+    mapped_is (λ b. negated (at_level not_level b)) (nth 0 os) a e in ap level (sym m.made)
+shipped_level_is (NullTest n) os a e = let m =
+    mapped_is (λ b. tested n (at_level is_level b)) (nth 0 os) a e in ap level (sym m.made)
+shipped_level_is Cast os a e = let m = mapped_is (λ b. cast b (codes "bool") true) (nth 0 os) a e in
+    ap level (sym m.made)
 shipped_level_is (Between o) os a e =
-    let h = where_is (is_within o) (all_three between_syntax (nth 0 os) (nth 1 os) (nth 2 os)) a e in
+    let h = where_is (is_within o)
+    (all_three between_syntax (nth 0 os) (nth 1 os) (nth 2 os)) a e in
     let m = three_is between_syntax (nth 0 os) (nth 1 os) (nth 2 os) a h.there in
     ap level (sym m.made)
-shipped_level_is (Like o) os a e = let m = both_is (matched_syntax o) (nth 0 os) (nth 1 os) a e in ap level (sym m.made)
+shipped_level_is (Like o) os a e = let m = both_is (matched_syntax o) (nth 0 os) (nth 1 os) a e in
+    ap level (sym m.made)
 
 pub level_is : (t : Tree) (a : Syntax) → syntax_of t ≡ Some a → level a ≡ tree_level t
-level_is (leaf (place p name t)) a e = ap level (sym (some_is (operand (name_token name)) a e)) ∙ name_level name
+level_is (leaf (place p name t)) a e = ap level (sym (some_is (operand (name_token name)) a e))
+    ∙ name_level name
 level_is (leaf (held c)) a e = absurd cc
 level_is (constant s) a e =
     let m = literal_is s a e in
-    ap level (sym m.made) ∙ literal_level_is s.dtype m.value m.word (value_level s.value m.value m.says)
+    ap level (sym m.made)
+    ∙ literal_level_is s.dtype m.value m.word (value_level s.value m.value m.says)
 level_is (call (ours s) ts) a e = shipped_level_is s (syntaxes_of ts) a e
 level_is (call (custom f o) ts) a e = absurd cc
 
@@ -148,7 +167,8 @@ name_fits w = by (is_bare w)
     by true = refl
     by false = refl
 
-of_type_fits : (t : LogicalType) (v : Syntax) (w : List ℕ) → level v ≡ 9 → Fits v → Fits (of_type t v w)
+of_type_fits : (t : LogicalType) (v : Syntax) (w : List ℕ) → level v ≡ 9 → Fits v
+    → Fits (of_type t v w)
 of_type_fits t v w h f = by (is_own_type t)
   where
     by : (b : Bool) → Fits (if b then v else typed v w (is_nullable t))
@@ -161,18 +181,21 @@ AllSyntax P [] = Unit {0}
 AllSyntax P (None ∷ os) = AllSyntax P os
 AllSyntax P (Some a ∷ os) = P a × AllSyntax P os
 
-pub at_place : (P : Syntax → Type 0) (k : ℕ) (os : List (Option Syntax)) (a : Syntax) → AllSyntax P os → nth k os ≡ Some a → P a
+pub at_place : (P : Syntax → Type 0) (k : ℕ) (os : List (Option Syntax)) (a : Syntax)
+    → AllSyntax P os → nth k os ≡ Some a → P a
 at_place P k [] a h e = absurd cc
 at_place P zero (None ∷ os) a h e = absurd cc
 at_place P (suc k) (None ∷ os) a h e = at_place P k os a h e
 at_place P zero (Some b ∷ os) a h e = subst P (some_is b a e) h.0
 at_place P (suc k) (Some b ∷ os) a h e = at_place P k os a h.1 e
 
-pub with_syntax : (P : Syntax → Type 0) (o : Option Syntax) (os : List (Option Syntax)) → ((a : Syntax) → o ≡ Some a → P a) → AllSyntax P os → AllSyntax P (o ∷ os)
+pub with_syntax : (P : Syntax → Type 0) (o : Option Syntax) (os : List (Option Syntax))
+    → ((a : Syntax) → o ≡ Some a → P a) → AllSyntax P os → AllSyntax P (o ∷ os)
 with_syntax P None os h k = k
 with_syntax P (Some a) os h k = (h a refl, k)
 
-shipped_fits : (s : Shipped) (os : List (Option Syntax)) (a : Syntax) → AllSyntax Fits os → shipped_syntax s os ≡ Some a → Fits a
+shipped_fits : (s : Shipped) (os : List (Option Syntax)) (a : Syntax) → AllSyntax Fits os
+    → shipped_syntax s os ≡ Some a → Fits a
 shipped_fits (Binary o) os a h e =
     let w = written_operator o in
     let m = both_is (joined_syntax w) (nth 0 os) (nth 1 os) a e in
@@ -191,7 +214,8 @@ shipped_fits Cast os a h e =
     let m = mapped_is (λ b. cast b (codes "bool") true) (nth 0 os) a e in
     subst Fits m.made (at_place Fits 0 os m.a h m.there)
 shipped_fits (Between o) os a h e =
-    let g = where_is (is_within o) (all_three between_syntax (nth 0 os) (nth 1 os) (nth 2 os)) a e in
+    let g = where_is (is_within o)
+    (all_three between_syntax (nth 0 os) (nth 1 os) (nth 2 os)) a e in
     let m = three_is between_syntax (nth 0 os) (nth 1 os) (nth 2 os) a g.there in
     let x = fits_at sum_level m.a (lit≤ tt) (at_place Fits 0 os m.a h m.first) in
     let y = fits_at sum_level m.b (lit≤ tt) (at_place Fits 1 os m.b h m.second) in
@@ -205,14 +229,18 @@ shipped_fits (Like o) os a h e =
 
 mutual
   pub fits_of : (t : Tree) (a : Syntax) → syntax_of t ≡ Some a → Fits a
-  fits_of (leaf (place p name t)) a e = subst Fits (some_is (operand (name_token name)) a e) (name_fits name)
+  fits_of (leaf (place p name t)) a e =
+      subst Fits (some_is (operand (name_token name)) a e) (name_fits name)
   fits_of (leaf (held c)) a e = absurd cc
   fits_of (constant s) a e =
       let m = literal_is s a e in
-      subst Fits m.made (of_type_fits s.dtype m.value m.word (value_level s.value m.value m.says) (value_fits s.value m.value m.says))
+      subst Fits m.made
+      (of_type_fits s.dtype m.value m.word (value_level s.value m.value m.says)
+      (value_fits s.value m.value m.says))
   fits_of (call (ours s) ts) a e = shipped_fits s (syntaxes_of ts) a (all_fit ts) e
   fits_of (call (custom f o) ts) a e = absurd cc
 
   all_fit : (ts : Trees) → AllSyntax Fits (syntaxes_of ts)
   all_fit no_trees = tt
-  all_fit (trees.tree t ts) = with_syntax Fits (syntax_of t) (syntaxes_of ts) (fits_of t) (all_fit ts)
+  all_fit (trees.tree t ts) =
+      with_syntax Fits (syntax_of t) (syntaxes_of ts) (fits_of t) (all_fit ts)

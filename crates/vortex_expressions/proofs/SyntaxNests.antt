@@ -1,5 +1,6 @@
 -- How deep brackets nest in what a tree is spelled with.
-use Rattle.std.proofs.Common.{◌≡◌, ℕ, suc, Bool, true, false, ◌&&◌, List, [], ◌∷◌, ◌++◌, Option, Some, None, refl, ap, sym, ◌∙◌, append_assoc, nat_lt}
+use Rattle.std.proofs.Common.{◌≡◌, ℕ, suc, Bool, true, false, ◌&&◌, List, [], ◌∷◌, ◌++◌, Option}
+use Rattle.std.proofs.Common.{Some, None, refl, ap, sym, ◌∙◌, append_assoc, nat_lt}
 use Rattle.std.proofs.lemmas.List.{append-nil}
 use Rattle.std.proofs.lemmas.Bool.{false≢true}
 use Rattle.vortex_syntax.specs.declared.nesting.TheConstants.{DEPTH}
@@ -8,9 +9,11 @@ use Rattle.vortex_syntax.specs.declared.step.Operator.TheVariants as written
 use Rattle.vortex_syntax.specs.declared.token.Sign.TheVariants as sign
 use Rattle.vortex_syntax.specs.Tokens as token
 use Rattle.vortex_syntax.specs.Tokens.{Token, nullable, quoted, sign}
-use Rattle.vortex_syntax.specs.Syntax.{Syntax, operand, negative, typed, grouped, negated, joined, tested, between, matched, cast}
+use Rattle.vortex_syntax.specs.Syntax.{Syntax, operand, negative, typed, grouped, negated, joined}
+use Rattle.vortex_syntax.specs.Syntax.{tested, between, matched, cast}
 use Rattle.vortex_syntax.specs.Levels.{is_operand, Fits}
-use Rattle.vortex_syntax.specs.Spelling.{spelling, operator_sign, type_token, with_not, null_test, like_sign, escape_tokens}
+use Rattle.vortex_syntax.specs.Spelling.{spelling, operator_sign, type_token, with_not, null_test}
+use Rattle.vortex_syntax.specs.Spelling.{like_sign, escape_tokens}
 use Rattle.vortex_syntax.specs.Nesting.{nests, nests_from}
 use Rattle.vortex_expressions.specs.WritingSteps.{nests_behind}
 
@@ -18,7 +21,8 @@ and_grouped : (a b c : Bool) → ((a && b) && c) ≡ (a && (b && c))
 and_grouped true b c = refl
 and_grouped false b c = refl
 
-operand_nests : (t : Token) (d : ℕ) (us : List Token) → is_operand t ≡ true → nests_from d (t ∷ us) ≡ nests_from d us
+operand_nests : (t : Token) (d : ℕ) (us : List Token) → is_operand t ≡ true
+    → nests_from d (t ∷ us) ≡ nests_from d us
 operand_nests (token.name w) d us h = refl
 operand_nests (nullable w) d us h = refl
 operand_nests (quoted w) d us h = refl
@@ -29,11 +33,13 @@ operand_nests (sign sign.False) d us h = refl
 operand_nests (sign sign.Null) d us h = refl
 operand_nests (sign s) d us h = absurd (false≢true h)
 
-type_nests : (w : List ℕ) (n : Bool) (d : ℕ) (us : List Token) → nests_from d (type_token w n ∷ us) ≡ nests_from d us
+type_nests : (w : List ℕ) (n : Bool) (d : ℕ) (us : List Token)
+    → nests_from d (type_token w n ∷ us) ≡ nests_from d us
 type_nests w true d us = refl
 type_nests w false d us = refl
 
-operator_nests : (o : syntax.Operator) (d : ℕ) (us : List Token) → nests_from d (sign (operator_sign o) ∷ us) ≡ nests_from d us
+operator_nests : (o : syntax.Operator) (d : ℕ) (us : List Token)
+    → nests_from d (sign (operator_sign o) ∷ us) ≡ nests_from d us
 operator_nests written.Or d us = refl
 operator_nests written.And d us = refl
 operator_nests written.Equal d us = refl
@@ -47,25 +53,31 @@ operator_nests written.Sub d us = refl
 operator_nests written.Mul d us = refl
 operator_nests written.Div d us = refl
 
-null_nests : (n : Bool) (d : ℕ) (us : List Token) → nests_from d (null_test n ++ us) ≡ nests_from d us
+null_nests : (n : Bool) (d : ℕ) (us : List Token)
+    → nests_from d (null_test n ++ us) ≡ nests_from d us
 null_nests true d us = refl
 null_nests false d us = refl
 
-between_nests : (n : Bool) (d : ℕ) (us : List Token) → nests_from d (with_not n sign.Between ++ us) ≡ nests_from d us
+between_nests : (n : Bool) (d : ℕ) (us : List Token)
+    → nests_from d (with_not n sign.Between ++ us) ≡ nests_from d us
 between_nests true d us = refl
 between_nests false d us = refl
 
-like_nests : (n i : Bool) (d : ℕ) (us : List Token) → nests_from d (like_sign (record { negated = n; case_insensitive = i }) ++ us) ≡ nests_from d us
+like_nests : (n i : Bool) (d : ℕ) (us : List Token)
+    → nests_from d (like_sign (record { negated = n; case_insensitive = i }) ++ us)
+    ≡ nests_from d us
 like_nests true true d us = refl
 like_nests true false d us = refl
 like_nests false true d us = refl
 like_nests false false d us = refl
 
-escape_nests : (e : Option (List ℕ)) (d : ℕ) (us : List Token) → nests_from d (escape_tokens e ++ us) ≡ nests_from d us
+escape_nests : (e : Option (List ℕ)) (d : ℕ) (us : List Token)
+    → nests_from d (escape_tokens e ++ us) ≡ nests_from d us
 escape_nests None d us = refl
 escape_nests (Some e) d us = refl
 
-pub nests_spelled : (a : Syntax) → Fits a → (d : ℕ) (us : List Token) → nests_from d (spelling a ++ us) ≡ (nests_behind d a && nests_from d us)
+pub nests_spelled : (a : Syntax) → Fits a → (d : ℕ) (us : List Token)
+    → nests_from d (spelling a ++ us) ≡ (nests_behind d a && nests_from d us)
 nests_spelled (operand t) f d us = operand_nests t d us f
 nests_spelled (negative ds) f d us = refl
 nests_spelled (typed a w n) f d us =
@@ -73,29 +85,39 @@ nests_spelled (typed a w n) f d us =
     ∙ nests_spelled a f.1 d (sign sign.Typed ∷ type_token w n ∷ us)
     ∙ ap (λ b. nests_behind d a && b) (type_nests w n d us)
 nests_spelled (grouped a) f d us =
-    ap (λ ts. nat_lt d DEPTH && nests_from (suc d) ts) (append_assoc (spelling a) (sign sign.Close ∷ []) us)
+    ap (λ ts. nat_lt d DEPTH && nests_from (suc d) ts)
+    (append_assoc (spelling a) (sign sign.Close ∷ []) us)
     ∙ ap (λ b. nat_lt d DEPTH && b) (nests_spelled a f (suc d) (sign sign.Close ∷ us))
     ∙ sym (and_grouped (nat_lt d DEPTH) (nests_behind (suc d) a) (nests_from d us))
 nests_spelled (negated a) f d us = nests_spelled a f.1 d us
 nests_spelled (joined o a b) f d us =
     ap (nests_from d) (append_assoc (spelling a) (sign (operator_sign o) ∷ spelling b) us)
     ∙ nests_spelled a f.2 d (sign (operator_sign o) ∷ (spelling b ++ us))
-    ∙ ap (λ v. nests_behind d a && v) (operator_nests o d (spelling b ++ us) ∙ nests_spelled b f.3 d us)
+    ∙ ap (λ v. nests_behind d a && v)
+    (operator_nests o d (spelling b ++ us) ∙ nests_spelled b f.3 d us)
     ∙ sym (and_grouped (nests_behind d a) (nests_behind d b) (nests_from d us))
 nests_spelled (tested n a) f d us =
-    ap (nests_from d) (append_assoc (spelling a) (null_test n) us) ∙ nests_spelled a f.1 d (null_test n ++ us) ∙ ap (λ v. nests_behind d a && v) (null_nests n d us)
+    ap (nests_from d) (append_assoc (spelling a) (null_test n) us)
+    ∙ nests_spelled a f.1 d (null_test n ++ us)
+    ∙ ap (λ v. nests_behind d a && v) (null_nests n d us)
 nests_spelled (between n a low high) f d us =
     let upper : List Token = spelling high ++ us in
     let lower : List Token = spelling low ++ (sign sign.And ∷ upper) in
     ap (nests_from d)
-    (append_assoc (spelling a) (with_not n sign.Between ++ (spelling low ++ (sign sign.And ∷ spelling high))) us
-    ∙ ap (λ ts. spelling a ++ ts) (append_assoc (with_not n sign.Between) (spelling low ++ (sign sign.And ∷ spelling high)) us)
-    ∙ ap (λ ts. spelling a ++ (with_not n sign.Between ++ ts)) (append_assoc (spelling low) (sign sign.And ∷ spelling high) us))
+    (append_assoc (spelling a)
+    (with_not n sign.Between ++ (spelling low ++ (sign sign.And ∷ spelling high))) us
+    ∙ ap (λ ts. spelling a ++ ts)
+    (append_assoc (with_not n sign.Between)
+    (spelling low ++ (sign sign.And ∷ spelling high)) us)
+    ∙ ap (λ ts. spelling a ++ (with_not n sign.Between ++ ts))
+    (append_assoc (spelling low) (sign sign.And ∷ spelling high) us))
     ∙ nests_spelled a f.3 d (with_not n sign.Between ++ lower)
     ∙ ap (λ v. nests_behind d a && v)
-    (between_nests n d lower ∙ nests_spelled low f.4 d (sign sign.And ∷ upper) ∙ ap (λ v. nests_behind d low && v) (nests_spelled high f.5 d us)
+    (between_nests n d lower ∙ nests_spelled low f.4 d (sign sign.And ∷ upper)
+    ∙ ap (λ v. nests_behind d low && v) (nests_spelled high f.5 d us)
     ∙ sym (and_grouped (nests_behind d low) (nests_behind d high) (nests_from d us)))
-    ∙ sym (and_grouped (nests_behind d a) (nests_behind d low && nests_behind d high) (nests_from d us))
+    ∙ sym (and_grouped (nests_behind d a) (nests_behind d low && nests_behind d high)
+    (nests_from d us))
 nests_spelled (matched k a p e) f d us =
     let last : List Token = escape_tokens e ++ us in
     ap (nests_from d)
@@ -104,12 +126,16 @@ nests_spelled (matched k a p e) f d us =
     ∙ ap (λ ts. spelling a ++ (like_sign k ++ ts)) (append_assoc (spelling p) (escape_tokens e) us))
     ∙ nests_spelled a f.2 d (like_sign k ++ (spelling p ++ last))
     ∙ ap (λ v. nests_behind d a && v)
-    (like_nests k.negated k.case_insensitive d (spelling p ++ last) ∙ nests_spelled p f.3 d last ∙ ap (λ v. nests_behind d p && v) (escape_nests e d us))
+    (like_nests k.negated k.case_insensitive d (spelling p ++ last) ∙ nests_spelled p f.3 d last
+    ∙ ap (λ v. nests_behind d p && v) (escape_nests e d us))
     ∙ sym (and_grouped (nests_behind d a) (nests_behind d p) (nests_from d us))
 nests_spelled (cast a w n) f d us =
     let last : List Token = sign sign.As ∷ type_token w n ∷ sign sign.Close ∷ us in
-    ap (λ ts. nat_lt d DEPTH && nests_from (suc d) ts) (append_assoc (spelling a) (sign sign.As ∷ type_token w n ∷ sign sign.Close ∷ []) us)
-    ∙ ap (λ b. nat_lt d DEPTH && b) (nests_spelled a f (suc d) last ∙ ap (λ v. nests_behind (suc d) a && v) (type_nests w n (suc d) (sign sign.Close ∷ us)))
+    ap (λ ts. nat_lt d DEPTH && nests_from (suc d) ts)
+    (append_assoc (spelling a) (sign sign.As ∷ type_token w n ∷ sign sign.Close ∷ []) us)
+    ∙ ap (λ b. nat_lt d DEPTH && b)
+    (nests_spelled a f (suc d) last
+    ∙ ap (λ v. nests_behind (suc d) a && v) (type_nests w n (suc d) (sign sign.Close ∷ us)))
     ∙ sym (and_grouped (nat_lt d DEPTH) (nests_behind (suc d) a) (nests_from d us))
 
 and_right : (b : Bool) → (b && true) ≡ b
@@ -117,4 +143,5 @@ and_right true = refl
 and_right false = refl
 
 pub nests_is : (a : Syntax) → Fits a → nests (spelling a) ≡ nests_behind 0 a
-nests_is a f = ap (nests_from 0) (sym (append-nil (spelling a))) ∙ nests_spelled a f 0 [] ∙ and_right (nests_behind 0 a)
+nests_is a f = ap (nests_from 0) (sym (append-nil (spelling a))) ∙ nests_spelled a f 0 []
+    ∙ and_right (nests_behind 0 a)

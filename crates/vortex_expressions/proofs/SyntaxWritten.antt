@@ -1,5 +1,6 @@
 -- The tokens of the syntax of a tree can be written.
-use Rattle.std.proofs.Common.{◌≡◌, ℕ, suc, ◌<◌, ◌^◌, Bool, true, false, List, [], ◌∷◌, ◌++◌, length, Option, Some, None, refl, subst, arith, ℤ, pos, negsuc}
+use Rattle.std.proofs.Common.{◌≡◌, ℕ, suc, ◌<◌, ◌^◌, Bool, true, false, List, [], ◌∷◌, ◌++◌, length}
+use Rattle.std.proofs.Common.{Option, Some, None, refl, subst, arith, ℤ, pos, negsuc}
 use Rattle.std.specs.Prelude.{codes, nat_le, if◌then◌else◌, ◌≤ℤ◌}
 use Rattle.std.specs.List.{list_all}
 use Rattle.std.specs.Char.{is_ascii_digit}
@@ -7,8 +8,11 @@ use Rattle.std.specs.Fmt.{decimal}
 use Rattle.std.proofs.lemmas.Fmt.{digits_decimal, decimal_nonempty}
 use Rattle.std.proofs.lemmas.Int.{ints}
 use Rattle.vortex_types.specs.declared.dtype.PType.{PType}
-use Rattle.vortex_types.specs.declared.dtype.PType.TheVariants.{I8, I16, I32, I64, U8, U16, U32, U64}
-use Rattle.vortex_types.specs.LogicalTypes.{Fields, LogicalType, null_type, bool_type, integer_type, text_type, bytes_type, struct_type, list_type, fixed_size_list_type, map_type, is_nullable}
+use Rattle.vortex_types.specs.declared.dtype.PType.TheVariants.{I8, I16, I32, I64, U8, U16, U32}
+use Rattle.vortex_types.specs.declared.dtype.PType.TheVariants.{U64}
+use Rattle.vortex_types.specs.LogicalTypes.{Fields, LogicalType, null_type, bool_type, integer_type}
+use Rattle.vortex_types.specs.LogicalTypes.{text_type, bytes_type, struct_type, list_type}
+use Rattle.vortex_types.specs.LogicalTypes.{fixed_size_list_type, map_type, is_nullable}
 use Rattle.vortex_types.specs.TypeTexts.{ptype_text}
 use Rattle.vortex_types.specs.Typing.{HasType, FitsPType, least_of, greatest_of}
 use Rattle.vortex_types.specs.Values.{Value, null, truth, number, text, bytes, list}
@@ -22,13 +26,21 @@ use Rattle.rowfn_lines.proofs.Numbers as numbers
 use Rattle.vortex_syntax.specs.declared.token.Sign.TheVariants as sign
 use Rattle.vortex_syntax.specs.Tokens as token
 use Rattle.vortex_syntax.specs.Tokens.{Token, nullable, quoted, sign}
-use Rattle.vortex_syntax.specs.Syntax.{Syntax, operand, negative, typed, grouped, negated, tested, cast}
+use Rattle.vortex_syntax.specs.Syntax.{Syntax, operand, negative, typed, grouped, negated, tested}
+use Rattle.vortex_syntax.specs.Syntax.{cast}
 use Rattle.vortex_syntax.specs.Levels.{level, left, right, not_level, is_level, sum_level}
-use Rattle.vortex_syntax.specs.Spelling.{spelling, operator_sign, type_token, null_test, like_sign, escape_tokens}
+use Rattle.vortex_syntax.specs.Spelling.{spelling, operator_sign, type_token, null_test, like_sign}
+use Rattle.vortex_syntax.specs.Spelling.{escape_tokens}
 use Rattle.vortex_syntax.specs.Keywords.{keyword_of}
-use Rattle.vortex_syntax.specs.Writing.{is_bare, is_word, are_digits, name_token, text_token, doubled, IsWritable, AllWritable}
+use Rattle.vortex_syntax.specs.Writing.{is_bare, is_word, are_digits, name_token, text_token}
+use Rattle.vortex_syntax.specs.Writing.{doubled, IsWritable, AllWritable}
 use Rattle.vortex_expressions.specs.Items.{Tree}
-use Rattle.vortex_expressions.specs.Writing.{at_level, value_syntax, type_name, is_own_type, of_type, joined_syntax, written_operator, is_within, between_syntax, like_kind, escape_text, is_own_escape, escape_written, matched_syntax, all_three, nth, shipped_syntax, syntax_of, syntaxes_of, IsOver, AllOver}
+use Rattle.vortex_expressions.specs.Writing.{at_level, value_syntax, type_name, is_own_type}
+use Rattle.vortex_expressions.specs.Writing.{of_type, joined_syntax, written_operator, is_within}
+use Rattle.vortex_expressions.specs.Writing.{between_syntax, like_kind, escape_text, is_own_escape}
+use Rattle.vortex_expressions.specs.Writing.{escape_written, matched_syntax, all_three, nth}
+use Rattle.vortex_expressions.specs.Writing.{shipped_syntax, syntax_of, syntaxes_of, IsOver}
+use Rattle.vortex_expressions.specs.Writing.{AllOver}
 use Rattle.vortex_expressions.proofs.Options.{some_is, both_is, three_is, mapped_is, where_is}
 use Rattle.vortex_expressions.proofs.SyntaxLevels.{literal_is, AllSyntax, at_place, with_syntax}
 
@@ -49,12 +61,14 @@ name_written w = by (is_bare w) refl
     by true h = h
     by false h = (w, refl)
 
-digits_written : (ds : List ℕ) → 0 < length ds → list_all is_ascii_digit ds ≡ true → are_digits ds ≡ true
+digits_written : (ds : List ℕ) → 0 < length ds → list_all is_ascii_digit ds ≡ true
+    → are_digits ds ≡ true
 digits_written [] some h = absurd (let k : ⊥ = omega (arith, some) in k)
 digits_written (d ∷ ds) some h = h
 
 pub decimal_written : (n : ℕ) → n < 2 ^ 64 → are_digits (decimal n) ≡ true
-decimal_written n h = digits_written (decimal n) (decimal_nonempty n h) (digits_decimal numbers.own n h)
+decimal_written n h =
+    digits_written (decimal n) (decimal_nonempty n h) (digits_decimal numbers.own n h)
 
 at_level_written : (l : ℕ) (a : Syntax) → Writes a → Writes (at_level l a)
 at_level_written l a h = by (nat_le l (level a))
@@ -76,12 +90,14 @@ like_written false false = (tt, tt)
 escape_written_is : (e : Option ℕ) → AllWritable (escape_tokens (escape_written e))
 escape_written_is e = by (is_own_escape e)
   where
-    by : (b : Bool) → AllWritable (escape_tokens (if b then None else Some (doubled 39 (escape_text e))))
+    by : (b : Bool)
+        → AllWritable (escape_tokens (if b then None else Some (doubled 39 (escape_text e))))
     by true = tt
     by false = (tt, ((escape_text e, refl), tt))
 
 -- the words of types
-word_written : (w : List ℕ) (n : Bool) → is_bare w ≡ true → is_word w ≡ true → IsWritable (type_token w n)
+word_written : (w : List ℕ) (n : Bool) → is_bare w ≡ true → is_word w ≡ true
+    → IsWritable (type_token w n)
 word_written w true b h = h
 word_written w false b h = b
 
@@ -104,10 +120,17 @@ ptype_written U16 n = word_written (codes "u16") n refl refl
 ptype_written U32 n = word_written (codes "u32") n refl refl
 ptype_written U64 n = word_written (codes "u64") n refl refl
 
-type_written : (t : LogicalType) (w : List ℕ) (n : Bool) → type_name t ≡ Some w → IsWritable (type_token w n)
-type_written (bool_type m) w n e = subst (λ (v : List ℕ). IsWritable (type_token v n)) (some_is (codes "bool") w e) (bool_written n)
-type_written (integer_type p m) w n e = subst (λ (v : List ℕ). IsWritable (type_token v n)) (some_is (ptype_text p) w e) (ptype_written p n)
-type_written (text_type m) w n e = subst (λ (v : List ℕ). IsWritable (type_token v n)) (some_is (codes "utf8") w e) (text_written n)
+type_written : (t : LogicalType) (w : List ℕ) (n : Bool) → type_name t ≡ Some w
+    → IsWritable (type_token w n)
+type_written (bool_type m) w n e =
+    subst (λ (v : List ℕ). IsWritable (type_token v n)) (some_is (codes "bool") w e)
+    (bool_written n)
+type_written (integer_type p m) w n e =
+    subst (λ (v : List ℕ). IsWritable (type_token v n)) (some_is (ptype_text p) w e)
+    (ptype_written p n)
+type_written (text_type m) w n e =
+    subst (λ (v : List ℕ). IsWritable (type_token v n)) (some_is (codes "utf8") w e)
+    (text_written n)
 type_written null_type w n e = absurd cc
 type_written (bytes_type m) w n e = absurd cc
 type_written (struct_type fs m) w n e = absurd cc
@@ -144,7 +167,8 @@ pub fits_small : (p : PType) (z : ℤ) → FitsPType p z → digits_in z < 2 ^ 6
 fits_small p (pos n) h = omega (arith, ints, h.1, greatest_high p)
 fits_small p (negsuc n) h = omega (arith, ints, h.0, least_low p)
 
-number_small : (t : LogicalType) (w : List ℕ) (z : ℤ) → type_name t ≡ Some w → HasType t (number z) → digits_in z < 2 ^ 64
+number_small : (t : LogicalType) (w : List ℕ) (z : ℤ) → type_name t ≡ Some w → HasType t (number z)
+    → digits_in z < 2 ^ 64
 number_small (integer_type p n) w z e h = fits_small p z h
 number_small (bool_type n) w z e h = absurd h
 number_small (text_type n) w z e h = absurd h
@@ -155,44 +179,66 @@ number_small (list_type t m) w z e h = absurd cc
 number_small (fixed_size_list_type t k m) w z e h = absurd cc
 number_small (map_type k v m) w z e h = absurd cc
 
-value_written : (t : LogicalType) (v : Value) (w : List ℕ) (a : Syntax) → type_name t ≡ Some w → HasType t v → value_syntax v ≡ Some a → Writes a
+value_written : (t : LogicalType) (v : Value) (w : List ℕ) (a : Syntax) → type_name t ≡ Some w
+    → HasType t v → value_syntax v ≡ Some a → Writes a
 value_written t null w a n h e = subst Writes (some_is (operand (sign sign.Null)) a e) (tt, tt)
-value_written t (truth true) w a n h e = subst Writes (some_is (operand (sign sign.True)) a e) (tt, tt)
-value_written t (truth false) w a n h e = subst Writes (some_is (operand (sign sign.False)) a e) (tt, tt)
-value_written t (number (pos m)) w a n h e = subst Writes (some_is (operand (token.number (decimal m))) a e) (decimal_written m (number_small t w (pos m) n h), tt)
-value_written t (number (negsuc m)) w a n h e = subst Writes (some_is (negative (decimal (suc m))) a e) (tt, (decimal_written (suc m) (number_small t w (negsuc m) n h), tt))
-value_written t (text bs) w a n h e = subst Writes (some_is (operand (text_token bs)) a e) ((bs, refl), tt)
+value_written t (truth true) w a n h e =
+    subst Writes (some_is (operand (sign sign.True)) a e) (tt, tt)
+value_written t (truth false) w a n h e =
+    subst Writes (some_is (operand (sign sign.False)) a e) (tt, tt)
+value_written t (number (pos m)) w a n h e =
+    subst Writes (some_is (operand (token.number (decimal m))) a e)
+    (decimal_written m (number_small t w (pos m) n h), tt)
+value_written t (number (negsuc m)) w a n h e =
+    subst Writes (some_is (negative (decimal (suc m))) a e)
+    (tt, (decimal_written (suc m) (number_small t w (negsuc m) n h), tt))
+value_written t (text bs) w a n h e =
+    subst Writes (some_is (operand (text_token bs)) a e) ((bs, refl), tt)
 value_written t (bytes bs) w a n h e = absurd cc
 value_written t (list vs) w a n h e = absurd cc
 
-of_type_written : (t : LogicalType) (v : Syntax) (w : List ℕ) → type_name t ≡ Some w → Writes v → Writes (of_type t v w)
+of_type_written : (t : LogicalType) (v : Syntax) (w : List ℕ) → type_name t ≡ Some w → Writes v
+    → Writes (of_type t v w)
 of_type_written t v w n h = by (is_own_type t)
   where
     by : (b : Bool) → Writes (if b then v else typed v w (is_nullable t))
     by true = h
-    by false = all_written (spelling v) (sign sign.Typed ∷ type_token w (is_nullable t) ∷ []) h (tt, (type_written t w (is_nullable t) n, tt))
+    by false = all_written (spelling v) (sign sign.Typed ∷ type_token w (is_nullable t) ∷ []) h
+        (tt, (type_written t w (is_nullable t) n, tt))
 
-shipped_written : (s : Shipped) (os : List (Option Syntax)) (a : Syntax) → AllSyntax Writes os → shipped_syntax s os ≡ Some a → Writes a
+shipped_written : (s : Shipped) (os : List (Option Syntax)) (a : Syntax) → AllSyntax Writes os
+    → shipped_syntax s os ≡ Some a → Writes a
 shipped_written (Binary o) os a h e =
     let w = written_operator o in
     let m = both_is (joined_syntax w) (nth 0 os) (nth 1 os) a e in
     let x = at_level_written (left w) m.a (at_place Writes 0 os m.a h m.first) in
     let y = at_level_written (right w) m.b (at_place Writes 1 os m.b h m.second) in
-    subst Writes m.made (all_written (spelling (at_level (left w) m.a)) (sign (operator_sign w) ∷ spelling (at_level (right w) m.b)) x (tt, y))
+    subst Writes m.made
+    (all_written (spelling (at_level (left w) m.a))
+    (sign (operator_sign w) ∷ spelling (at_level (right w) m.b)) x (tt, y))
 shipped_written Not os a h e =
     let m = mapped_is (λ b. negated (at_level not_level b)) (nth 0 os) a e in
     subst Writes m.made (tt, at_level_written not_level m.a (at_place Writes 0 os m.a h m.there))
 shipped_written (NullTest n) os a h e =
     let m = mapped_is (λ b. tested n (at_level is_level b)) (nth 0 os) a e in
     let x = at_level_written is_level m.a (at_place Writes 0 os m.a h m.there) in
-    subst Writes m.made (all_written (spelling (at_level is_level m.a)) (null_test n) x (null_written n))
+    subst Writes m.made
+    (all_written (spelling (at_level is_level m.a)) (null_test n) x (null_written n))
 shipped_written Cast os a h e =
     let m = mapped_is (λ b. cast b (codes "bool") true) (nth 0 os) a e in
     let x = at_place Writes 0 os m.a h m.there in
-    subst Writes m.made
-    (tt, (tt, all_written (spelling m.a) (sign sign.As ∷ nullable (codes "bool") ∷ sign sign.Close ∷ []) x (tt, (bool_written true, (tt, tt)))))
+    subst Writes m.made (
+      tt,
+      (
+        tt,
+        all_written (spelling m.a)
+            (sign sign.As ∷ nullable (codes "bool") ∷ sign sign.Close ∷ []) x
+            (tt, (bool_written true, (tt, tt))),
+      ),
+    )
 shipped_written (Between o) os a h e =
-    let g = where_is (is_within o) (all_three between_syntax (nth 0 os) (nth 1 os) (nth 2 os)) a e in
+    let g = where_is (is_within o)
+    (all_three between_syntax (nth 0 os) (nth 1 os) (nth 2 os)) a e in
     let m = three_is between_syntax (nth 0 os) (nth 1 os) (nth 2 os) a g.there in
     let x = at_level_written sum_level m.a (at_place Writes 0 os m.a h m.first) in
     let y = at_level_written sum_level m.b (at_place Writes 1 os m.b h m.second) in
@@ -200,7 +246,9 @@ shipped_written (Between o) os a h e =
     let low = at_level sum_level m.b in
     let high = at_level sum_level m.c in
     subst Writes m.made
-    (all_written (spelling (at_level sum_level m.a)) (sign sign.Between ∷ (spelling low ++ (sign sign.And ∷ spelling high))) x (tt, all_written (spelling low) (sign sign.And ∷ spelling high) y (tt, z)))
+    (all_written (spelling (at_level sum_level m.a))
+    (sign sign.Between ∷ (spelling low ++ (sign sign.And ∷ spelling high))) x
+    (tt, all_written (spelling low) (sign sign.And ∷ spelling high) y (tt, z)))
 shipped_written (Like o) os a h e =
     let m = both_is (matched_syntax o) (nth 0 os) (nth 1 os) a e in
     let x = at_level_written sum_level m.a (at_place Writes 0 os m.a h m.first) in
@@ -210,19 +258,26 @@ shipped_written (Like o) os a h e =
     let p = spelling (at_level sum_level m.b) in
     subst Writes m.made
     (all_written (spelling (at_level sum_level m.a)) (ls ++ (p ++ es)) x
-    (all_written ls (p ++ es) (like_written o.negated o.case_insensitive) (all_written p es y (escape_written_is o.escape))))
+    (all_written ls (p ++ es) (like_written o.negated o.case_insensitive)
+    (all_written p es y (escape_written_is o.escape))))
 
 module _ (scope : Fields) where
   mutual
     pub written_of : (t : Tree) (a : Syntax) → IsOver scope t → syntax_of t ≡ Some a → Writes a
-    written_of (leaf (place p name t)) a o e = subst Writes (some_is (operand (name_token name)) a e) (name_written name, tt)
+    written_of (leaf (place p name t)) a o e =
+        subst Writes (some_is (operand (name_token name)) a e) (name_written name, tt)
     written_of (leaf (held c)) a o e = absurd o
     written_of (constant s) a o e =
         let m = literal_is s a e in
-        subst Writes m.made (of_type_written s.dtype m.value m.word m.named (value_written s.dtype s.value m.word m.value m.named o m.says))
-    written_of (call (ours s) ts) a o e = shipped_written s (syntaxes_of ts) a (all_written_of ts o.2) e
+        subst Writes m.made
+        (of_type_written s.dtype m.value m.word m.named
+        (value_written s.dtype s.value m.word m.value m.named o m.says))
+    written_of (call (ours s) ts) a o e =
+        shipped_written s (syntaxes_of ts) a (all_written_of ts o.2) e
     written_of (call (custom f c) ts) a o e = absurd cc
 
     all_written_of : (ts : Trees) → AllOver scope ts → AllSyntax Writes (syntaxes_of ts)
     all_written_of no_trees o = tt
-    all_written_of (trees.tree t ts) o = with_syntax Writes (syntax_of t) (syntaxes_of ts) (λ a e. written_of t a o.0 e) (all_written_of ts o.1)
+    all_written_of (trees.tree t ts) o =
+        with_syntax Writes (syntax_of t) (syntaxes_of ts) (λ a e. written_of t a o.0 e)
+        (all_written_of ts o.1)

@@ -91,7 +91,8 @@ typed_item w n (literal l) = as_item (and_then (type_of_name w n) (constant_at l
 -- the one cast there is: of a truth value, to the nullable type
 abbrev pub cast_to : Item → LogicalType → Outcome Tree
 cast_to i t =
-    if is_bool_type t then (if is_nullable t then called (ours Cast) (Some t) (i ∷ []) else refuses NoCast)
+    if is_bool_type t then
+    (if is_nullable t then called (ours Cast) (Some t) (i ∷ []) else refuses NoCast)
     else refuses NoCast
 
 abbrev pub cast_item : List ℕ → Bool → Item → Outcome Item

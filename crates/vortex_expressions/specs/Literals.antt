@@ -36,7 +36,8 @@ own_type null = None
 abbrev pub number_type : LogicalType → LogicalType
 number_type t = if is_integer_type t then with_nullability t false else integer_type I64 false
 
--- the type of a literal beside a value of a type: a number takes an integer type, and null takes any
+-- the type of a literal beside a value of a type: a number takes an integer type, and null takes
+-- any
 abbrev pub type_beside : Option LogicalType → Literal → Option LogicalType
 type_beside (Some t) (number w) = Some (number_type t)
 type_beside (Some t) null = Some t

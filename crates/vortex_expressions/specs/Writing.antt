@@ -1,5 +1,6 @@
 -- The text of a tree: its syntax, with no brackets but those that are needed.
-use Rattle.std.specs.Prelude.{◌≡◌, ℕ, suc, ℤ, pos, negsuc, nat_le, ◌==◌, ◌&&◌, not, Bool, true, false}
+use Rattle.std.specs.Prelude.{◌≡◌, ℕ, suc, ℤ, pos, negsuc, nat_le, ◌==◌, ◌&&◌, not, Bool, true}
+use Rattle.std.specs.Prelude.{false}
 use Rattle.std.specs.Prelude.{List, [], ◌∷◌, Option, Some, None, codes, slice_get, encode_utf8}
 use Rattle.std.specs.Prelude.{if◌then◌else◌, is_some, ⊤, IsUtf8}
 use Rattle.std.specs.Option.{option_map, option_and_then}

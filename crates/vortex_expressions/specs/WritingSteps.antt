@@ -1,5 +1,6 @@
 -- Writing a tree from left to right: what is still to be written stands in a list.
-use Rattle.std.specs.Prelude.{◌≡◌, ℕ, zero, suc, ◌+◌, ◌<◌, nat_lt, ◌&&◌, Bool, true, false, List, []}
+use Rattle.std.specs.Prelude.{◌≡◌, ℕ, zero, suc, ◌+◌, ◌<◌, nat_lt, ◌&&◌, Bool, true, false, List}
+use Rattle.std.specs.Prelude.{[]}
 use Rattle.std.specs.Prelude.{◌∷◌, ◌++◌, map, reverse, Option, Some, None, codes, slice_get}
 use Rattle.std.specs.Prelude.{if◌then◌else◌}
 use Rattle.std.specs.Option.{option_map, option_and_then}
@@ -22,14 +23,16 @@ use Rattle.vortex_syntax.specs.Syntax.{Syntax, operand, negative, typed, grouped
 use Rattle.vortex_syntax.specs.Syntax.{tested, between, matched, cast}
 use Rattle.vortex_syntax.specs.Levels.{own, left, right, not_level, is_level, predicate_level}
 use Rattle.vortex_syntax.specs.Levels.{sum_level, atom_level, literal_level}
-use Rattle.vortex_syntax.specs.Spelling.{spelling, operator_sign, null_test, like_sign, escape_tokens}
+use Rattle.vortex_syntax.specs.Spelling.{spelling, operator_sign, null_test, like_sign}
+use Rattle.vortex_syntax.specs.Spelling.{escape_tokens}
 use Rattle.vortex_syntax.specs.Writing.{text_token, Holds}
 use Rattle.vortex_expressions.specs.declared.tasks.Task.{Task}
 use Rattle.vortex_expressions.specs.declared.tasks.Task.TheVariants as task
 use Rattle.vortex_expressions.specs.declared.tasks.TreeWriter.{TreeWriter}
 use Rattle.vortex_expressions.specs.Items.{Tree, Callable}
 use Rattle.vortex_expressions.specs.Writing.{at_level, is_own_type, written_operator, is_within}
-use Rattle.vortex_expressions.specs.Writing.{like_kind, escape_text, escape_written, both, all_three}
+use Rattle.vortex_expressions.specs.Writing.{like_kind, escape_text, escape_written, both}
+use Rattle.vortex_expressions.specs.Writing.{all_three}
 use Rattle.vortex_expressions.specs.Writing.{syntax_of, leaf_syntax, literal_syntax, value_syntax}
 
 -- the level of a tree's syntax
@@ -62,7 +65,8 @@ nests_behind d (grouped a) = nat_lt d DEPTH && nests_behind (suc d) a
 nests_behind d (negated a) = nests_behind d a
 nests_behind d (joined o a b) = nests_behind d a && nests_behind d b
 nests_behind d (tested n a) = nests_behind d a
-nests_behind d (between n a low high) = nests_behind d a && (nests_behind d low && nests_behind d high)
+nests_behind d (between n a low high) =
+    nests_behind d a && (nests_behind d low && nests_behind d high)
 nests_behind d (matched k a p e) = nests_behind d a && nests_behind d p
 nests_behind d (cast a w n) = nat_lt d DEPTH && nests_behind (suc d) a
 

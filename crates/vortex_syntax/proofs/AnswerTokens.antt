@@ -1,5 +1,6 @@
 -- No comma stands in a tree's tokens, and they do not end with `as` and a token.
-use Rattle.std.proofs.Common.{◌≡◌, ◌++◌, ◌∷◌, [], false, List, Option, Some, None, All, refl, ap, sym, subst, ◌∙◌}
+use Rattle.std.proofs.Common.{◌≡◌, ◌++◌, ◌∷◌, [], false, List, Option, Some, None, All, refl, ap}
+use Rattle.std.proofs.Common.{sym, subst, ◌∙◌}
 use Rattle.std.specs.Option.{option_and_then}
 use Rattle.std.proofs.lemmas.List.Elements.{All-nil, All-cons}
 use Rattle.vortex_syntax.specs.declared.token.Sign.TheVariants as sign
@@ -9,58 +10,77 @@ use Rattle.vortex_syntax.specs.declared.frame.Mode.{Mode}
 use Rattle.vortex_syntax.specs.declared.frame.Mode.TheVariants as mode
 use Rattle.vortex_syntax.specs.Tokens.{Token, name, nullable, sign}
 use Rattle.vortex_syntax.specs.Postfix.{Step}
-use Rattle.vortex_syntax.specs.Reading.{State, settled, as_behind, predicate, word_behind, cast_wanted, next, finish, run}
+use Rattle.vortex_syntax.specs.Reading.{State, settled, as_behind, predicate, word_behind}
+use Rattle.vortex_syntax.specs.Reading.{cast_wanted, next, finish, run}
 use Rattle.vortex_syntax.specs.AnswerParts.{is_comma}
 
 -- what is read of the first token, where all are read
-ran : (o : Option State) (ts : List Token) (xs : List Step) → option_and_then (λ r. run r ts) o ≡ Some xs → (r : State) × (o ≡ Some r) × (run r ts ≡ Some xs)
+ran : (o : Option State) (ts : List Token) (xs : List Step)
+    → option_and_then (λ r. run r ts) o ≡ Some xs
+    → (r : State) × (o ≡ Some r) × (run r ts ≡ Some xs)
 ran None ts xs e = absurd cc
 ran (Some r) ts xs e = (r, refl, e)
 
-comma_stops : (m : Mode) (fs : List Frame) (out : List Step) → next m fs out (sign sign.Comma) ≡ None
+comma_stops : (m : Mode) (fs : List Frame) (out : List Step)
+    → next m fs out (sign sign.Comma) ≡ None
 unfolding next word_behind predicate
 comma_stops mode.Want fs out = refl
 comma_stops m fs out = refl
 
-not_comma : (m : Mode) (fs : List Frame) (out : List Step) (t : Token) (r : State) → next m fs out t ≡ Some r → is_comma t ≡ false
-not_comma m fs out (sign sign.Comma) r e = absurd (let k : None ≡ Some r = sym (comma_stops m fs out) ∙ e in cc)
+not_comma : (m : Mode) (fs : List Frame) (out : List Step) (t : Token) (r : State)
+    → next m fs out t ≡ Some r → is_comma t ≡ false
+not_comma m fs out (sign sign.Comma) r e =
+    absurd (let k : None ≡ Some r = sym (comma_stops m fs out) ∙ e in cc)
 not_comma m fs out t r e = refl
 
-pub no_commas : (ts : List Token) (s : State) (xs : List Step) → run s ts ≡ Some xs → All (λ t. is_comma t ≡ false) ts
+pub no_commas : (ts : List Token) (s : State) (xs : List Step) → run s ts ≡ Some xs
+    → All (λ t. is_comma t ≡ false) ts
 unfolding run
 no_commas [] s xs e = All-nil (λ t. is_comma t ≡ false)
 no_commas (t ∷ ts) s xs e =
-    let r = ran (next s.mode s.frames s.steps t) ts xs e in All-cons (λ u. is_comma u ≡ false) t ts (not_comma s.mode s.frames s.steps t r.0 r.1) (no_commas ts r.0 xs r.2)
+    let r = ran (next s.mode s.frames s.steps t) ts xs e in
+    All-cons (λ u. is_comma u ≡ false) t ts (not_comma s.mode s.frames s.steps t r.0 r.1)
+    (no_commas ts r.0 xs r.2)
 
 -- `as` stands before the type of a cast alone, and no tree ends with that
 abbrev mode_of : Option State → Mode
 mode_of None = mode.Want
 mode_of (Some s) = s.mode
 
-cast_behind : (fs : List Frame) (out : List Step) (r : State) → as_behind fs out ≡ Some r → r.mode ≡ mode.CastType
+cast_behind : (fs : List Frame) (out : List Step) (r : State) → as_behind fs out ≡ Some r
+    → r.mode ≡ mode.CastType
 cast_behind (frame.Cast ∷ fs) out r e = sym (ap mode_of e)
 cast_behind fs out r e = absurd cc
 
-as_next : (m : Mode) (fs : List Frame) (out : List Step) (r : State) → next m fs out (sign sign.As) ≡ Some r → r.mode ≡ mode.CastType
+as_next : (m : Mode) (fs : List Frame) (out : List Step) (r : State)
+    → next m fs out (sign sign.As) ≡ Some r → r.mode ≡ mode.CastType
 unfolding next word_behind predicate
-as_next (mode.Have l) fs out r e = cast_behind (settled 0 l fs out).frames (settled 0 l fs out).steps r e
+as_next (mode.Have l) fs out r e =
+    cast_behind (settled 0 l fs out).frames (settled 0 l fs out).steps r e
 as_next m fs out r e = absurd cc
 
-type_next : (t : Token) (fs : List Frame) (out : List Step) (r : State) → cast_wanted fs out t ≡ Some r → r.mode ≡ mode.CastEnd
+type_next : (t : Token) (fs : List Frame) (out : List Step) (r : State)
+    → cast_wanted fs out t ≡ Some r → r.mode ≡ mode.CastEnd
 type_next (name w) fs out r e = sym (ap mode_of e)
 type_next (nullable w) fs out r e = sym (ap mode_of e)
 type_next t fs out r e = absurd cc
 
-no_end : (m : Mode) (fs : List Frame) (out xs : List Step) → m ≡ mode.CastEnd → finish m fs out ≡ Some xs → ⊥
+no_end : (m : Mode) (fs : List Frame) (out xs : List Step) → m ≡ mode.CastEnd
+    → finish m fs out ≡ Some xs → ⊥
 unfolding finish
-no_end m fs out xs h e = let k : finish mode.CastEnd fs out ≡ Some xs = subst (λ (v : Mode). finish v fs out ≡ Some xs) h e in cc
+no_end m fs out xs h e = let k : finish mode.CastEnd fs out ≡ Some xs =
+    subst (λ (v : Mode). finish v fs out ≡ Some xs) h e in cc
 
-pub no_name : (us : List Token) (s : State) (n : Token) (xs : List Step) → run s (us ++ (sign sign.As ∷ n ∷ [])) ≡ Some xs → ⊥
+pub no_name : (us : List Token) (s : State) (n : Token) (xs : List Step)
+    → run s (us ++ (sign sign.As ∷ n ∷ [])) ≡ Some xs → ⊥
 unfolding run next
 no_name [] s n xs e =
     let r = ran (next s.mode s.frames s.steps (sign sign.As)) (n ∷ []) xs e in
     let q = ran (next r.0.mode r.0.frames r.0.steps n) [] xs r.2 in
     let h : next mode.CastType r.0.frames r.0.steps n ≡ Some q.0 =
-    subst (λ (m : Mode). next m r.0.frames r.0.steps n ≡ Some q.0) (as_next s.mode s.frames s.steps r.0 r.1) q.1 in
+    subst (λ (m : Mode). next m r.0.frames r.0.steps n ≡ Some q.0)
+    (as_next s.mode s.frames s.steps r.0 r.1) q.1 in
     no_end q.0.mode q.0.frames q.0.steps xs (type_next n r.0.frames r.0.steps q.0 h) q.2
-no_name (t ∷ us) s n xs e = let r = ran (next s.mode s.frames s.steps t) (us ++ (sign sign.As ∷ n ∷ [])) xs e in no_name us r.0 n xs r.2
+no_name (t ∷ us) s n xs e = let r =
+    ran (next s.mode s.frames s.steps t) (us ++ (sign sign.As ∷ n ∷ [])) xs e in
+    no_name us r.0 n xs r.2

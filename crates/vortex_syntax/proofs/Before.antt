@@ -1,5 +1,6 @@
 -- What was read before a token: frames with what they hold, and an operand behind them.
-use Rattle.std.proofs.Common.{◌≡◌, ℕ, ◌≤◌, Bool, true, false, nat_le, ◌&&◌, cond, List, [], ◌∷◌, ◌++◌, Some, None, refl, ap, sym, subst, ◌∙◌, append_assoc, arith}
+use Rattle.std.proofs.Common.{◌≡◌, ℕ, ◌≤◌, Bool, true, false, nat_le, ◌&&◌, cond, List, [], ◌∷◌}
+use Rattle.std.proofs.Common.{◌++◌, Some, None, refl, ap, sym, subst, ◌∙◌, append_assoc, arith}
 use Rattle.std.proofs.lemmas.List.{append-nil}
 use Rattle.std.proofs.lemmas.Bool.Decides.{nat_tests}
 use Rattle.vortex_syntax.specs.declared.step.LikeKind.{LikeKind}
@@ -14,17 +15,21 @@ use Rattle.vortex_syntax.specs.Levels.{level, Fits}
 use Rattle.vortex_syntax.specs.Spelling.{spelling, type_token, like_sign}
 use Rattle.vortex_syntax.specs.Postfix.{Step, cast, postfix}
 use Rattle.vortex_syntax.specs.Reading.{State, top_hole, whole, Operand, settled}
-use Rattle.vortex_syntax.proofs.Held.{Held, opened, casting, negating, joining, lower, upper, matching, frame_of, written, held, IsSound, frames_of, all_written, all_held, Nested, Settles, settled_sound}
+use Rattle.vortex_syntax.proofs.Held.{Held, opened, casting, negating, joining, lower, upper}
+use Rattle.vortex_syntax.proofs.Held.{matching, frame_of, written, held, IsSound, frames_of}
+use Rattle.vortex_syntax.proofs.Held.{all_written, all_held, Nested, Settles, settled_sound}
 
 -- what was read before: what waits, and these steps and tokens behind it
-pub record Behind (fs : List Frame) (out : List Step) (before : List Token) (xs : List Step) (ts : List Token) : Type 0 where
+pub record Behind (fs : List Frame) (out : List Step) (before : List Token) (xs : List Step)
+    (ts : List Token) : Type 0 where
   pub hs : List Held
   pub frames : fs ≡ frames_of hs
   pub steps : out ≡ all_held hs ++ xs
   pub tokens : before ≡ all_written hs ++ ts
   pub nested : Nested hs
 
-pub more : (fs : List Frame) (out : List Step) (before : List Token) (xs : List Step) (ts : List Token) (ys : List Step) (us : List Token) → Behind fs out before xs ts
+pub more : (fs : List Frame) (out : List Step) (before : List Token) (xs : List Step)
+    (ts : List Token) (ys : List Step) (us : List Token) → Behind fs out before xs ts
     → Behind fs (out ++ ys) (before ++ us) (xs ++ ys) (ts ++ us)
 more fs out before xs ts ys us b = record {
   hs = b.hs;
@@ -34,7 +39,8 @@ more fs out before xs ts ys us b = record {
   nested = b.nested;
 }
 
-pub more_tokens : (fs : List Frame) (out : List Step) (before : List Token) (xs : List Step) (ts us : List Token) → Behind fs out before xs ts → Behind fs out (before ++ us) xs (ts ++ us)
+pub more_tokens : (fs : List Frame) (out : List Step) (before : List Token) (xs : List Step)
+    (ts us : List Token) → Behind fs out before xs ts → Behind fs out (before ++ us) xs (ts ++ us)
 more_tokens fs out before xs ts us b = record {
   hs = b.hs;
   frames = b.frames;
@@ -43,24 +49,32 @@ more_tokens fs out before xs ts us b = record {
   nested = b.nested;
 }
 
-pub as_tokens : (fs : List Frame) (out : List Step) (before : List Token) (xs : List Step) (ts us : List Token) → ts ≡ us → Behind fs out before xs ts → Behind fs out before xs us
+pub as_tokens : (fs : List Frame) (out : List Step) (before : List Token) (xs : List Step)
+    (ts us : List Token) → ts ≡ us → Behind fs out before xs ts → Behind fs out before xs us
 as_tokens fs out before xs ts us e b = subst (λ (zs : List Token). Behind fs out before xs zs) e b
 
-pub as_steps : (fs : List Frame) (out : List Step) (before : List Token) (xs ys : List Step) (ts : List Token) → xs ≡ ys → Behind fs out before xs ts → Behind fs out before ys ts
+pub as_steps : (fs : List Frame) (out : List Step) (before : List Token) (xs ys : List Step)
+    (ts : List Token) → xs ≡ ys → Behind fs out before xs ts → Behind fs out before ys ts
 as_steps fs out before xs ys ts e b = subst (λ (zs : List Step). Behind fs out before zs ts) e b
 
-pub pushed : (h : Held) (fs : List Frame) (out : List Step) (before : List Token) → Behind fs out before (held h) (written h) → IsSound h → top_hole fs ≤ whole (frame_of h)
+pub pushed : (h : Held) (fs : List Frame) (out : List Step) (before : List Token)
+    → Behind fs out before (held h) (written h) → IsSound h → top_hole fs ≤ whole (frame_of h)
     → Behind (frame_of h ∷ fs) out before [] []
 pushed h fs out before b s place = record {
   hs = h ∷ b.hs;
   frames = ap (λ gs. frame_of h ∷ gs) b.frames;
   steps = b.steps ∙ sym (append-nil (all_held b.hs ++ held h));
   tokens = b.tokens ∙ sym (append-nil (all_written b.hs ++ written h));
-  nested = (s, subst (λ (gs : List Frame). top_hole gs ≤ whole (frame_of h)) b.frames place, b.nested);
+  nested = (
+    s,
+    subst (λ (gs : List Frame). top_hole gs ≤ whole (frame_of h)) b.frames place,
+    b.nested,
+  );
 }
 
 -- the last frame with what it holds
-pub record Popped (f : Frame) (fs : List Frame) (out : List Step) (before : List Token) (xs : List Step) (ts : List Token) : Type 0 where
+pub record Popped (f : Frame) (fs : List Frame) (out : List Step) (before : List Token)
+    (xs : List Step) (ts : List Token) : Type 0 where
   pub h : Held
   pub is : f ≡ frame_of h
   pub sound : IsSound h
@@ -75,8 +89,10 @@ pub rest_frames : List Frame → List Frame
 rest_frames [] = []
 rest_frames (f ∷ fs) = fs
 
-pub popped_of : (f : Frame) (fs : List Frame) (out : List Step) (before : List Token) (xs : List Step) (ts : List Token) (hs : List Held) → f ∷ fs ≡ frames_of hs
-    → out ≡ all_held hs ++ xs → before ≡ all_written hs ++ ts → Nested hs → Popped f fs out before xs ts
+pub popped_of : (f : Frame) (fs : List Frame) (out : List Step) (before : List Token)
+    (xs : List Step) (ts : List Token) (hs : List Held) → f ∷ fs ≡ frames_of hs
+    → out ≡ all_held hs ++ xs → before ≡ all_written hs ++ ts → Nested hs
+    → Popped f fs out before xs ts
 unfolding head_frame rest_frames
 popped_of f fs out before xs ts [] e k j n = absurd cc
 popped_of f fs out before xs ts (h ∷ hs) e k j n =
@@ -86,7 +102,8 @@ popped_of f fs out before xs ts (h ∷ hs) e k j n =
       h = h;
       is = is;
       sound = n.0;
-      place = subst (λ (g : Frame). top_hole fs ≤ whole g) (sym is) (subst (λ (gs : List Frame). top_hole gs ≤ whole (frame_of h)) (sym rest) n.1);
+      place = subst (λ (g : Frame). top_hole fs ≤ whole g) (sym is)
+          (subst (λ (gs : List Frame). top_hole gs ≤ whole (frame_of h)) (sym rest) n.1);
       behind = record {
         hs = hs;
         frames = rest;
@@ -96,8 +113,10 @@ popped_of f fs out before xs ts (h ∷ hs) e k j n =
       };
     }
 
-pub popped : (f : Frame) (fs : List Frame) (out : List Step) (before : List Token) (xs : List Step) (ts : List Token) → Behind (f ∷ fs) out before xs ts → Popped f fs out before xs ts
-popped f fs out before xs ts b = popped_of f fs out before xs ts b.hs b.frames b.steps b.tokens b.nested
+pub popped : (f : Frame) (fs : List Frame) (out : List Step) (before : List Token) (xs : List Step)
+    (ts : List Token) → Behind (f ∷ fs) out before xs ts → Popped f fs out before xs ts
+popped f fs out before xs ts b =
+    popped_of f fs out before xs ts b.hs b.frames b.steps b.tokens b.nested
 
 pub open_is : (h : Held) → frame.Open ≡ frame_of h → h ≡ opened
 open_is opened e = refl
@@ -132,7 +151,8 @@ lower_is n (matching k a) e = absurd cc
 pub like_mark : (k j : LikeKind) → frame.Like k ≡ frame.Like j → k ≡ j
 like_mark k j e = cc
 
-pub like_is : (k : LikeKind) (h : Held) → frame.Like k ≡ frame_of h → (a : Syntax) × (h ≡ matching k a)
+pub like_is : (k : LikeKind) (h : Held) → frame.Like k ≡ frame_of h
+    → (a : Syntax) × (h ≡ matching k a)
 like_is k opened e = absurd cc
 like_is k casting e = absurd cc
 like_is k negating e = absurd cc
@@ -142,22 +162,29 @@ like_is k (upper m a b) e = absurd cc
 like_is k (matching j a) e = (a, ap (λ v. matching v a) (sym (like_mark k j e)))
 
 -- an operand behind what waits, and these tokens behind it
-pub record HasOperand (l : ℕ) (fs : List Frame) (out : List Step) (before ts : List Token) : Type 0 where
+pub record HasOperand (l : ℕ) (fs : List Frame) (out : List Step)
+    (before ts : List Token) : Type 0 where
   pub tree : Syntax
   pub fits : Fits tree
   pub level : l ≡ level tree
   pub place : top_hole fs ≤ l
   pub behind : Behind fs out before (postfix tree) (spelling tree ++ ts)
 
-pub settled_operand : (p l : ℕ) (fs : List Frame) (out : List Step) (before ts : List Token) → HasOperand l fs out before ts
-    → HasOperand (settled p l fs out).level (settled p l fs out).frames (settled p l fs out).steps before ts
+pub settled_operand : (p l : ℕ) (fs : List Frame) (out : List Step) (before ts : List Token)
+    → HasOperand l fs out before ts
+    → HasOperand (settled p l fs out).level (settled p l fs out).frames
+    (settled p l fs out).steps before ts
 settled_operand p l fs out before ts a =
     let b = a.behind in
-    let canonical : settled p l fs out ≡ settled p (level a.tree) (frames_of b.hs) (all_held b.hs ++ postfix a.tree) =
-    ap (λ m. settled p m fs out) a.level ∙ ap (λ gs. settled p (level a.tree) gs out) b.frames ∙ ap (λ xs. settled p (level a.tree) (frames_of b.hs) xs) b.steps in
+    let canonical : settled p l fs out ≡ settled p (level a.tree) (frames_of b.hs)
+    (all_held b.hs ++ postfix a.tree) =
+    ap (λ m. settled p m fs out) a.level ∙ ap (λ gs. settled p (level a.tree) gs out) b.frames
+    ∙ ap (λ xs. settled p (level a.tree) (frames_of b.hs) xs) b.steps in
     let s : Settles (settled p l fs out) (all_written b.hs ++ spelling a.tree) =
     subst (λ (v : Operand). Settles v (all_written b.hs ++ spelling a.tree)) (sym canonical)
-    (settled_sound p b.hs a.tree b.nested a.fits (subst (λ (m : ℕ). top_hole (frames_of b.hs) ≤ m) a.level (subst (λ (gs : List Frame). top_hole gs ≤ l) b.frames a.place))) in
+    (settled_sound p b.hs a.tree b.nested a.fits
+    (subst (λ (m : ℕ). top_hole (frames_of b.hs) ≤ m) a.level
+    (subst (λ (gs : List Frame). top_hole gs ≤ l) b.frames a.place))) in
     record {
       tree = s.tree;
       fits = s.fits;
@@ -168,7 +195,9 @@ settled_operand p l fs out before ts a =
         frames = s.frames;
         steps = s.steps;
         tokens =
-            b.tokens ∙ sym (append_assoc (all_written b.hs) (spelling a.tree) ts) ∙ ap (λ us. us ++ ts) s.tokens ∙ append_assoc (all_written s.hs) (spelling s.tree) ts;
+            b.tokens ∙ sym (append_assoc (all_written b.hs) (spelling a.tree) ts)
+            ∙ ap (λ us. us ++ ts) s.tokens
+            ∙ append_assoc (all_written s.hs) (spelling s.tree) ts;
         nested = s.nested;
       };
     }
@@ -178,19 +207,27 @@ abbrev pub Holds : Mode → List Frame → List Step → List Token → Type 0
 Holds mode.Want fs out before = Behind fs out before [] []
 Holds mode.Signed fs out before = Behind fs out before [] (sign sign.Minus ∷ [])
 Holds (mode.Have l) fs out before = HasOperand l fs out before []
-Holds mode.Typing fs out before = (l : ℕ) × HasOperand l fs out before (sign sign.Typed ∷ []) × (9 ≤ l)
-Holds mode.Is fs out before = (l : ℕ) × HasOperand l fs out before (sign sign.Is ∷ []) × (3 ≤ l) × (top_hole fs ≤ 3)
-Holds mode.IsNot fs out before = (l : ℕ) × HasOperand l fs out before (sign sign.Is ∷ sign sign.Not ∷ []) × (3 ≤ l) × (top_hole fs ≤ 3)
+Holds mode.Typing fs out before = (l : ℕ) × HasOperand l fs out before (sign sign.Typed ∷ [])
+    × (9 ≤ l)
+Holds mode.Is fs out before = (l : ℕ) × HasOperand l fs out before (sign sign.Is ∷ []) × (3 ≤ l)
+    × (top_hole fs ≤ 3)
+Holds mode.IsNot fs out before =
+    (l : ℕ) × HasOperand l fs out before (sign sign.Is ∷ sign sign.Not ∷ []) × (3 ≤ l)
+    × (top_hole fs ≤ 3)
 Holds (mode.Negating l) fs out before = HasOperand l fs out before (sign sign.Not ∷ [])
 Holds mode.Casting fs out before = Behind fs out before [] (sign sign.Cast ∷ [])
 Holds mode.CastType fs out before =
-    (a : Syntax) × Fits a × Behind fs out before (postfix a) (sign sign.Cast ∷ sign sign.Open ∷ (spelling a ++ (sign sign.As ∷ [])))
+    (a : Syntax) × Fits a × Behind fs out before (postfix a)
+    (sign sign.Cast ∷ sign sign.Open ∷ (spelling a ++ (sign sign.As ∷ [])))
 Holds mode.CastEnd fs out before =
     (a : Syntax) × (w : List ℕ) × (n : Bool) × Fits a
-    × Behind fs out before (postfix a ++ (cast w n ∷ [])) (sign sign.Cast ∷ sign sign.Open ∷ (spelling a ++ (sign sign.As ∷ type_token w n ∷ [])))
+    × Behind fs out before (postfix a ++ (cast w n ∷ []))
+    (sign sign.Cast ∷ sign sign.Open ∷ (spelling a ++ (sign sign.As ∷ type_token w n ∷ [])))
 Holds (mode.Escaping k) fs out before =
-    (a : Syntax) × (p : Syntax) × (6 ≤ level a) × (6 ≤ level p) × Fits a × Fits p × (top_hole fs ≤ 5)
-    × Behind fs out before (postfix a ++ postfix p) (spelling a ++ (like_sign k ++ (spelling p ++ (sign sign.Escape ∷ []))))
+    (a : Syntax) × (p : Syntax) × (6 ≤ level a) × (6 ≤ level p) × Fits a × Fits p
+    × (top_hole fs ≤ 5)
+    × Behind fs out before (postfix a ++ postfix p)
+    (spelling a ++ (like_sign k ++ (spelling p ++ (sign sign.Escape ∷ []))))
 
 abbrev pub HoldsIn : State → List Token → Type 0
 HoldsIn s before = Holds s.mode s.frames s.steps before
@@ -198,7 +235,8 @@ HoldsIn s before = Holds s.mode s.frames s.steps before
 pub some_is : (r s : State) → Some r ≡ Some s → r ≡ s
 some_is r s e = cc
 
-pub along : (r s : State) (before : List Token) → Some r ≡ Some s → HoldsIn r before → HoldsIn s before
+pub along : (r s : State) (before : List Token) → Some r ≡ Some s → HoldsIn r before
+    → HoldsIn s before
 along r s before e h = subst (λ (v : State). HoldsIn v before) (some_is r s e) h
 
 -- what is answered where a test says yes
@@ -207,30 +245,35 @@ both true true e = (refl, refl)
 both true false e = absurd cc
 both false c e = absurd cc
 
-pub chosen : (b : Bool) (r s : State) → cond b (Some r) None ≡ Some s → (b ≡ true) × (Some r ≡ Some s)
+pub chosen : (b : Bool) (r s : State) → cond b (Some r) None ≡ Some s
+    → (b ≡ true) × (Some r ≡ Some s)
 chosen true r s e = (refl, e)
 chosen false r s e = absurd cc
 
 pub fits_below : (m n : ℕ) → nat_le m n ≡ true → m ≤ n
 fits_below m n h = grind (arith, nat_tests)
 
-pub operand_more : (l : ℕ) (fs : List Frame) (out : List Step) (before ts us : List Token) → HasOperand l fs out before ts → HasOperand l fs out (before ++ us) (ts ++ us)
+pub operand_more : (l : ℕ) (fs : List Frame) (out : List Step) (before ts us : List Token)
+    → HasOperand l fs out before ts → HasOperand l fs out (before ++ us) (ts ++ us)
 operand_more l fs out before ts us a = record {
   tree = a.tree;
   fits = a.fits;
   level = a.level;
   place = a.place;
-  behind = as_tokens fs out (before ++ us) (postfix a.tree) ((spelling a.tree ++ ts) ++ us) (spelling a.tree ++ (ts ++ us)) (append_assoc (spelling a.tree) ts us)
+  behind = as_tokens fs out (before ++ us) (postfix a.tree) ((spelling a.tree ++ ts) ++ us)
+      (spelling a.tree ++ (ts ++ us)) (append_assoc (spelling a.tree) ts us)
       (more_tokens fs out before (postfix a.tree) (spelling a.tree ++ ts) us a.behind);
 }
 
 -- an operand that is whole
-pub operand_is : (t : Syntax) (fs : List Frame) (out : List Step) (before : List Token) → Fits t → top_hole fs ≤ level t → Behind fs out before (postfix t) (spelling t)
+pub operand_is : (t : Syntax) (fs : List Frame) (out : List Step) (before : List Token) → Fits t
+    → top_hole fs ≤ level t → Behind fs out before (postfix t) (spelling t)
     → HasOperand (level t) fs out before []
 operand_is t fs out before f place b = record {
   tree = t;
   fits = f;
   level = refl;
   place = place;
-  behind = as_tokens fs out before (postfix t) (spelling t) (spelling t ++ []) (sym (append-nil (spelling t))) b;
+  behind = as_tokens fs out before (postfix t) (spelling t) (spelling t ++ [])
+      (sym (append-nil (spelling t))) b;
 }

@@ -1,5 +1,6 @@
 -- Frames with the operands that they hold.
-use Rattle.std.proofs.Common.{◌≡◌, ℕ, ◌<◌, ◌≤◌, Bool, true, false, nat_lt, cond, List, [], ◌∷◌, ◌++◌, None, refl, ap, sym, subst, ◌∙◌, append_assoc, arith}
+use Rattle.std.proofs.Common.{◌≡◌, ℕ, ◌<◌, ◌≤◌, Bool, true, false, nat_lt, cond, List, [], ◌∷◌}
+use Rattle.std.proofs.Common.{◌++◌, None, refl, ap, sym, subst, ◌∙◌, append_assoc, arith}
 use Rattle.std.proofs.lemmas.List.{append-nil}
 use Rattle.std.proofs.lemmas.Bool.Decides.{nat_tests}
 use Rattle.vortex_syntax.specs.declared.step.Operator.{Operator}
@@ -14,7 +15,8 @@ use Rattle.vortex_syntax.specs.Syntax.{Syntax}
 use Rattle.vortex_syntax.specs.Levels.{left, level, Fits}
 use Rattle.vortex_syntax.specs.Spelling.{spelling, operator_sign, with_not, like_sign}
 use Rattle.vortex_syntax.specs.Postfix.{Step, called, postfix}
-use Rattle.vortex_syntax.specs.Reading.{hole, top_hole, guard, whole, closing, Operand, operand_of, settled}
+use Rattle.vortex_syntax.specs.Reading.{hole, top_hole, guard, whole, closing, Operand, operand_of}
+use Rattle.vortex_syntax.specs.Reading.{settled}
 
 pub data Held : Type 0 where
   opened : Held
@@ -40,7 +42,8 @@ written casting = sign sign.Cast ∷ sign sign.Open ∷ []
 written negating = sign sign.Not ∷ []
 written (joining o a) = spelling a ++ (sign (operator_sign o) ∷ [])
 written (lower n a) = spelling a ++ with_not n sign.Between
-written (upper n a b) = spelling a ++ (with_not n sign.Between ++ (spelling b ++ (sign sign.And ∷ [])))
+written (upper n a b) =
+    spelling a ++ (with_not n sign.Between ++ (spelling b ++ (sign sign.And ∷ [])))
 written (matching k a) = spelling a ++ like_sign k
 
 abbrev pub held : Held → List Step
@@ -85,10 +88,12 @@ pub record Plugged (h : Held) (e : Syntax) : Type 0 where
   pub steps : held h ++ (postfix e ++ (closing (frame_of h) ∷ [])) ≡ postfix tree
   pub tokens : written h ++ spelling e ≡ spelling tree
 
-pub plugged : (h : Held) (e : Syntax) → 0 < guard (frame_of h) → IsSound h → Fits e → hole (frame_of h) ≤ level e → Plugged h e
+pub plugged : (h : Held) (e : Syntax) → 0 < guard (frame_of h) → IsSound h → Fits e
+    → hole (frame_of h) ≤ level e → Plugged h e
 plugged opened e g s f le = absurd (let k : ⊥ = omega (arith, g) in k)
 plugged casting e g s f le = absurd (let k : ⊥ = omega (arith, g) in k)
-plugged negating e g s f le = record { tree = tree.negated e; fits = (le, f); level = refl; steps = refl; tokens = refl }
+plugged negating e g s f le =
+    record { tree = tree.negated e; fits = (le, f); level = refl; steps = refl; tokens = refl }
 plugged (joining o a) e g s f le = record {
   tree = tree.joined o a e;
   fits = (s.0, le, s.1, f);
@@ -103,16 +108,20 @@ plugged (upper n a b) e g s f le = record {
   level = refl;
   steps = append_assoc (postfix a) (postfix b) (postfix e ++ (called (call.Between n) ∷ []));
   tokens =
-      append_assoc (spelling a) (with_not n sign.Between ++ (spelling b ++ (sign sign.And ∷ []))) (spelling e)
-      ∙ ap (λ ts. spelling a ++ ts) (append_assoc (with_not n sign.Between) (spelling b ++ (sign sign.And ∷ [])) (spelling e))
-      ∙ ap (λ ts. spelling a ++ (with_not n sign.Between ++ ts)) (append_assoc (spelling b) (sign sign.And ∷ []) (spelling e));
+      append_assoc (spelling a) (with_not n sign.Between ++ (spelling b ++ (sign sign.And ∷ [])))
+      (spelling e)
+      ∙ ap (λ ts. spelling a ++ ts)
+      (append_assoc (with_not n sign.Between) (spelling b ++ (sign sign.And ∷ [])) (spelling e))
+      ∙ ap (λ ts. spelling a ++ (with_not n sign.Between ++ ts))
+      (append_assoc (spelling b) (sign sign.And ∷ []) (spelling e));
 }
 plugged (matching k a) e g s f le = record {
   tree = tree.matched k a e None;
   fits = (s.0, le, s.1, f);
   level = refl;
   steps = refl;
-  tokens = append_assoc (spelling a) (like_sign k) (spelling e) ∙ ap (λ ts. spelling a ++ (like_sign k ++ ts)) (sym (append-nil (spelling e)));
+  tokens = append_assoc (spelling a) (like_sign k) (spelling e)
+      ∙ ap (λ ts. spelling a ++ (like_sign k ++ ts)) (sym (append-nil (spelling e)));
 }
 
 -- an operand behind the frames that wait
@@ -128,29 +137,43 @@ pub record Settles (a : Operand) (ts : List Token) : Type 0 where
   pub place : top_hole a.frames ≤ a.level
 
 abbrev settled_if : Bool → ℕ → ℕ → Frame → List Frame → List Step → Operand
-settled_if b p l f fs out = cond b (settled p (whole f) fs (out ++ (closing f ∷ []))) (operand_of l (f ∷ fs) out)
+settled_if b p l f fs out =
+    cond b (settled p (whole f) fs (out ++ (closing f ∷ []))) (operand_of l (f ∷ fs) out)
 
 is_below : (m n : ℕ) → nat_lt m n ≡ true → 0 < n
 is_below m n h = grind (arith, nat_tests)
 
 -- what is closed, given what the frames below it settle to
 closed_sound : (p : ℕ) (h : Held) (hs : List Held) (e : Syntax) (r : Plugged h e)
-    → Settles (settled p (level r.tree) (frames_of hs) (all_held hs ++ postfix r.tree)) (all_written hs ++ spelling r.tree)
-    → Settles (settled p (whole (frame_of h)) (frames_of hs) ((all_held (h ∷ hs) ++ postfix e) ++ (closing (frame_of h) ∷ []))) (all_written (h ∷ hs) ++ spelling e)
+    → Settles (settled p (level r.tree) (frames_of hs) (all_held hs ++ postfix r.tree))
+    (all_written hs ++ spelling r.tree)
+    → Settles (settled p (whole (frame_of h)) (frames_of hs)
+    ((all_held (h ∷ hs) ++ postfix e) ++ (closing (frame_of h) ∷ [])))
+    (all_written (h ∷ hs) ++ spelling e)
 closed_sound p h hs e r s =
-    let steps : all_held hs ++ postfix r.tree ≡ (all_held (h ∷ hs) ++ postfix e) ++ (closing (frame_of h) ∷ []) =
+    let steps : all_held hs ++ postfix r.tree
+    ≡ (all_held (h ∷ hs) ++ postfix e) ++ (closing (frame_of h) ∷ []) =
     ap (λ xs. all_held hs ++ xs) (sym r.steps)
     ∙ sym (append_assoc (all_held hs) (held h) (postfix e ++ (closing (frame_of h) ∷ [])))
     ∙ sym (append_assoc (all_held hs ++ held h) (postfix e) (closing (frame_of h) ∷ [])) in
     let tokens : all_written hs ++ spelling r.tree ≡ all_written (h ∷ hs) ++ spelling e =
-    ap (λ ts. all_written hs ++ ts) (sym r.tokens) ∙ sym (append_assoc (all_written hs) (written h) (spelling e)) in
-    subst (λ (ts : List Token). Settles (settled p (whole (frame_of h)) (frames_of hs) ((all_held (h ∷ hs) ++ postfix e) ++ (closing (frame_of h) ∷ []))) ts) tokens
-    (subst (λ (xs : List Step). Settles (settled p (whole (frame_of h)) (frames_of hs) xs) (all_written hs ++ spelling r.tree)) steps
-    (subst (λ (l : ℕ). Settles (settled p l (frames_of hs) (all_held hs ++ postfix r.tree)) (all_written hs ++ spelling r.tree)) r.level s))
+    ap (λ ts. all_written hs ++ ts) (sym r.tokens)
+    ∙ sym (append_assoc (all_written hs) (written h) (spelling e)) in
+    subst (λ (ts : List Token). Settles
+    (settled p (whole (frame_of h)) (frames_of hs)
+    ((all_held (h ∷ hs) ++ postfix e) ++ (closing (frame_of h) ∷ []))) ts) tokens
+    (subst (λ (xs : List Step). Settles (settled p (whole (frame_of h)) (frames_of hs) xs)
+    (all_written hs ++ spelling r.tree)) steps
+    (subst (λ (l : ℕ). Settles (settled p l (frames_of hs) (all_held hs ++ postfix r.tree))
+    (all_written hs ++ spelling r.tree)) r.level s))
 
-either_sound : (p : ℕ) (h : Held) (hs : List Held) (e : Syntax) (b : Bool) → nat_lt p (guard (frame_of h)) ≡ b → Nested (h ∷ hs) → Fits e → hole (frame_of h) ≤ level e
-    → ((r : Plugged h e) → Settles (settled p (level r.tree) (frames_of hs) (all_held hs ++ postfix r.tree)) (all_written hs ++ spelling r.tree))
-    → Settles (settled_if b p (level e) (frame_of h) (frames_of hs) (all_held (h ∷ hs) ++ postfix e)) (all_written (h ∷ hs) ++ spelling e)
+either_sound : (p : ℕ) (h : Held) (hs : List Held) (e : Syntax) (b : Bool)
+    → nat_lt p (guard (frame_of h)) ≡ b → Nested (h ∷ hs) → Fits e → hole (frame_of h) ≤ level e
+    → ((r : Plugged h e)
+    → Settles (settled p (level r.tree) (frames_of hs) (all_held hs ++ postfix r.tree))
+    (all_written hs ++ spelling r.tree))
+    → Settles (settled_if b p (level e) (frame_of h) (frames_of hs)
+    (all_held (h ∷ hs) ++ postfix e)) (all_written (h ∷ hs) ++ spelling e)
 either_sound p h hs e true k nested fits place below =
     let r = plugged h e (is_below p (guard (frame_of h)) k) nested.0 fits place in
     closed_sound p h hs e r (below r)
@@ -166,10 +189,25 @@ either_sound p h hs e false k nested fits place below = record {
   place = place;
 }
 
-pub settled_sound : (p : ℕ) (hs : List Held) (e : Syntax) → Nested hs → Fits e → top_hole (frames_of hs) ≤ level e
-    → Settles (settled p (level e) (frames_of hs) (all_held hs ++ postfix e)) (all_written hs ++ spelling e)
+pub settled_sound : (p : ℕ) (hs : List Held) (e : Syntax) → Nested hs → Fits e
+    → top_hole (frames_of hs) ≤ level e
+    → Settles (settled p (level e) (frames_of hs) (all_held hs ++ postfix e))
+    (all_written hs ++ spelling e)
 unfolding settled
-settled_sound p [] e nested fits place = record { hs = []; tree = e; frames = refl; steps = refl; level = refl; tokens = refl; nested = tt; fits = fits; place = place }
+settled_sound p [] e nested fits place =
+    record {
+      hs = [];
+      tree = e;
+      frames = refl;
+      steps = refl;
+      level = refl;
+      tokens = refl;
+      nested =
+          tt;
+      fits = fits;
+      place = place;
+    }
 settled_sound p (h ∷ hs) e nested fits place =
     either_sound p h hs e (nat_lt p (guard (frame_of h))) refl nested fits place
-    (λ r. settled_sound p hs r.tree nested.2 r.fits (let k : top_hole (frames_of hs) ≤ level r.tree = omega (arith, nested.1, r.level) in k))
+    (λ r. settled_sound p hs r.tree nested.2 r.fits
+    (let k : top_hole (frames_of hs) ≤ level r.tree = omega (arith, nested.1, r.level) in k))

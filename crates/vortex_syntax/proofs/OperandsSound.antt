@@ -1,5 +1,6 @@
 -- What the other tokens make of what was read.
-use Rattle.std.proofs.Common.{◌≡◌, ℕ, ◌≤◌, Bool, true, false, nat_le, cond, List, [], ◌∷◌, ◌++◌, Some, None, refl, ap, subst, ◌∙◌, append_assoc, arith, lit≤}
+use Rattle.std.proofs.Common.{◌≡◌, ℕ, ◌≤◌, Bool, true, false, nat_le, cond, List, [], ◌∷◌, ◌++◌}
+use Rattle.std.proofs.Common.{Some, None, refl, ap, subst, ◌∙◌, append_assoc, arith, lit≤}
 use Rattle.vortex_syntax.specs.declared.step.LikeKind.{LikeKind}
 use Rattle.vortex_syntax.specs.declared.step.Call.TheVariants as call
 use Rattle.vortex_syntax.specs.declared.token.Sign.{Sign}
@@ -12,12 +13,19 @@ use Rattle.vortex_syntax.specs.Syntax as tree
 use Rattle.vortex_syntax.specs.Syntax.{Syntax}
 use Rattle.vortex_syntax.specs.Levels.{level, Fits, is_operand, operand_level}
 use Rattle.vortex_syntax.specs.Spelling.{spelling, type_token, null_test, like_sign}
-use Rattle.vortex_syntax.specs.Postfix.{Step, operand, negative, typed, cast, escaped, called, null_call, postfix}
+use Rattle.vortex_syntax.specs.Postfix.{Step, operand, negative, typed, cast, escaped, called}
+use Rattle.vortex_syntax.specs.Postfix.{null_call, postfix}
 use Rattle.vortex_syntax.specs.Reading as specs
-use Rattle.vortex_syntax.specs.Reading.{State, state, hole, top_hole, guard, whole, closing, Operand, operand_of, settled, waiting, shifted, operator_of, and_behind, is_behind, close_behind, as_behind, escape_behind, end_behind, predicate, word_behind, behind, next, finish, run, steps_of}
+use Rattle.vortex_syntax.specs.Reading.{State, state, hole, top_hole, guard, whole, closing}
+use Rattle.vortex_syntax.specs.Reading.{Operand, operand_of, settled, waiting, shifted, operator_of}
+use Rattle.vortex_syntax.specs.Reading.{and_behind, is_behind, close_behind, as_behind}
+use Rattle.vortex_syntax.specs.Reading.{escape_behind, end_behind, predicate, word_behind, behind}
+use Rattle.vortex_syntax.specs.Reading.{next, finish, run, steps_of}
 use Rattle.vortex_syntax.proofs.Tables.{top_atom}
 use Rattle.vortex_syntax.proofs.Held.{opened, casting, negating}
-use Rattle.vortex_syntax.proofs.Before.{Behind, more, more_tokens, as_tokens, as_steps, pushed, HasOperand, Holds, HoldsIn, along, chosen, fits_below, operand_more, operand_is}
+use Rattle.vortex_syntax.proofs.Before.{Behind, more, more_tokens, as_tokens, as_steps, pushed}
+use Rattle.vortex_syntax.proofs.Before.{HasOperand, Holds, HoldsIn, along, chosen, fits_below}
+use Rattle.vortex_syntax.proofs.Before.{operand_more, operand_is}
 
 pub operand_atom : (t : Token) → 8 ≤ operand_level t
 operand_atom (name w) = lit≤ tt
@@ -27,21 +35,30 @@ operand_atom (number w) = lit≤ tt
 operand_atom (text w) = lit≤ tt
 operand_atom (sign u) = lit≤ tt
 
-pub not_sound : (fs : List Frame) (out : List Step) (s : State) (before : List Token) → cond (nat_le (top_hole fs) 2) (Some (state mode.Want (frame.Not ∷ fs) out)) None ≡ Some s
+pub not_sound : (fs : List Frame) (out : List Step) (s : State) (before : List Token)
+    → cond (nat_le (top_hole fs) 2) (Some (state mode.Want (frame.Not ∷ fs) out)) None ≡ Some s
     → Behind fs out before [] [] → HoldsIn s (before ++ (sign sign.Not ∷ []))
 not_sound fs out s before e b =
     let c = chosen (nat_le (top_hole fs) 2) (state mode.Want (frame.Not ∷ fs) out) s e in
     along (state mode.Want (frame.Not ∷ fs) out) s (before ++ (sign sign.Not ∷ [])) c.1
-    (pushed negating fs out (before ++ (sign sign.Not ∷ [])) (more_tokens fs out before [] [] (sign sign.Not ∷ []) b) tt (fits_below (top_hole fs) 2 c.0))
+    (pushed negating fs out (before ++ (sign sign.Not ∷ []))
+    (more_tokens fs out before [] [] (sign sign.Not ∷ []) b) tt
+    (fits_below (top_hole fs) 2 c.0))
 
-pub sign_wanted_sound : (fs : List Frame) (out : List Step) (u : Sign) (s : State) (before : List Token) → specs.sign_wanted fs out u ≡ Some s → Behind fs out before [] []
+pub sign_wanted_sound : (fs : List Frame) (out : List Step) (u : Sign) (s : State)
+    (before : List Token) → specs.sign_wanted fs out u ≡ Some s → Behind fs out before [] []
     → HoldsIn s (before ++ (sign u ∷ []))
-sign_wanted_sound fs out sign.Minus s before e b = along (state mode.Signed fs out) s (before ++ (sign sign.Minus ∷ [])) e (more_tokens fs out before [] [] (sign sign.Minus ∷ []) b)
+sign_wanted_sound fs out sign.Minus s before e b =
+    along (state mode.Signed fs out) s (before ++ (sign sign.Minus ∷ [])) e
+    (more_tokens fs out before [] [] (sign sign.Minus ∷ []) b)
 sign_wanted_sound fs out sign.Not s before e b = not_sound fs out s before e b
 sign_wanted_sound fs out sign.Open s before e b =
     along (state mode.Want (frame.Open ∷ fs) out) s (before ++ (sign sign.Open ∷ [])) e
-    (pushed opened fs out (before ++ (sign sign.Open ∷ [])) (more_tokens fs out before [] [] (sign sign.Open ∷ []) b) tt (top_atom fs))
-sign_wanted_sound fs out sign.Cast s before e b = along (state mode.Casting fs out) s (before ++ (sign sign.Cast ∷ [])) e (more_tokens fs out before [] [] (sign sign.Cast ∷ []) b)
+    (pushed opened fs out (before ++ (sign sign.Open ∷ []))
+    (more_tokens fs out before [] [] (sign sign.Open ∷ []) b) tt (top_atom fs))
+sign_wanted_sound fs out sign.Cast s before e b =
+    along (state mode.Casting fs out) s (before ++ (sign sign.Cast ∷ [])) e
+    (more_tokens fs out before [] [] (sign sign.Cast ∷ []) b)
 sign_wanted_sound fs out sign.And s before e b = absurd cc
 sign_wanted_sound fs out sign.Or s before e b = absurd cc
 sign_wanted_sound fs out sign.Is s before e b = absurd cc
@@ -66,7 +83,8 @@ sign_wanted_sound fs out sign.Close s before e b = absurd cc
 sign_wanted_sound fs out sign.Comma s before e b = absurd cc
 sign_wanted_sound fs out sign.Typed s before e b = absurd cc
 
-pub other_wanted_sound : (fs : List Frame) (out : List Step) (t : Token) (s : State) (before : List Token) → specs.other_wanted fs out t ≡ Some s → Behind fs out before [] []
+pub other_wanted_sound : (fs : List Frame) (out : List Step) (t : Token) (s : State)
+    (before : List Token) → specs.other_wanted fs out t ≡ Some s → Behind fs out before [] []
     → HoldsIn s (before ++ (t ∷ []))
 other_wanted_sound fs out (sign u) s before e b = sign_wanted_sound fs out u s before e b
 other_wanted_sound fs out (name w) s before e b = absurd cc
@@ -75,18 +93,26 @@ other_wanted_sound fs out (quoted w) s before e b = absurd cc
 other_wanted_sound fs out (number w) s before e b = absurd cc
 other_wanted_sound fs out (text w) s before e b = absurd cc
 
-pub wanted_sound : (fs : List Frame) (out : List Step) (t : Token) (s : State) (before : List Token) (b : Bool) → is_operand t ≡ b
-    → cond b (Some (state (mode.Have (operand_level t)) fs (out ++ (operand t ∷ [])))) (specs.other_wanted fs out t) ≡ Some s → Behind fs out before [] [] → HoldsIn s (before ++ (t ∷ []))
+pub wanted_sound : (fs : List Frame) (out : List Step) (t : Token) (s : State) (before : List Token)
+    (b : Bool) → is_operand t ≡ b
+    → cond b (Some (state (mode.Have (operand_level t)) fs (out ++ (operand t ∷ []))))
+    (specs.other_wanted fs out t) ≡ Some s → Behind fs out before [] []
+    → HoldsIn s (before ++ (t ∷ []))
 wanted_sound fs out t s before true k e b =
-    along (state (mode.Have (operand_level t)) fs (out ++ (operand t ∷ []))) s (before ++ (t ∷ [])) e
-    (operand_is (tree.operand t) fs (out ++ (operand t ∷ [])) (before ++ (t ∷ [])) k (omega (arith, top_atom fs, operand_atom t)) (more fs out before [] [] (operand t ∷ []) (t ∷ []) b))
+    along (state (mode.Have (operand_level t)) fs (out ++ (operand t ∷ []))) s
+    (before ++ (t ∷ [])) e
+    (operand_is (tree.operand t) fs (out ++ (operand t ∷ [])) (before ++ (t ∷ [])) k
+    (omega (arith, top_atom fs, operand_atom t))
+    (more fs out before [] [] (operand t ∷ []) (t ∷ []) b))
 wanted_sound fs out t s before false k e b = other_wanted_sound fs out t s before e b
 
-pub digits_sound : (fs : List Frame) (out : List Step) (t : Token) (s : State) (before : List Token) → specs.digits_wanted fs out t ≡ Some s → Behind fs out before [] (sign sign.Minus ∷ [])
+pub digits_sound : (fs : List Frame) (out : List Step) (t : Token) (s : State) (before : List Token)
+    → specs.digits_wanted fs out t ≡ Some s → Behind fs out before [] (sign sign.Minus ∷ [])
     → HoldsIn s (before ++ (t ∷ []))
 digits_sound fs out (number ds) s before e b =
     along (state (mode.Have 9) fs (out ++ (negative ds ∷ []))) s (before ++ (number ds ∷ [])) e
-    (operand_is (tree.negative ds) fs (out ++ (negative ds ∷ [])) (before ++ (number ds ∷ [])) tt (omega (arith, top_atom fs))
+    (operand_is (tree.negative ds) fs (out ++ (negative ds ∷ [])) (before ++ (number ds ∷ [])) tt
+    (omega (arith, top_atom fs))
     (more fs out before [] (sign sign.Minus ∷ []) (negative ds ∷ []) (number ds ∷ []) b))
 digits_sound fs out (sign u) s before e b = absurd cc
 digits_sound fs out (name w) s before e b = absurd cc
@@ -94,39 +120,62 @@ digits_sound fs out (nullable w) s before e b = absurd cc
 digits_sound fs out (quoted w) s before e b = absurd cc
 digits_sound fs out (text w) s before e b = absurd cc
 
-pub typed_is : (l : ℕ) (fs : List Frame) (out : List Step) (before : List Token) (w : List ℕ) (n : Bool) → HasOperand l fs out before (sign sign.Typed ∷ []) → 9 ≤ l
+pub typed_is : (l : ℕ) (fs : List Frame) (out : List Step) (before : List Token) (w : List ℕ)
+    (n : Bool) → HasOperand l fs out before (sign sign.Typed ∷ []) → 9 ≤ l
     → HasOperand 8 fs (out ++ (typed w n ∷ [])) (before ++ (type_token w n ∷ [])) []
 typed_is l fs out before w n a le =
-    operand_is (tree.typed a.tree w n) fs (out ++ (typed w n ∷ [])) (before ++ (type_token w n ∷ [])) (subst (λ (m : ℕ). 9 ≤ m) a.level le, a.fits) (top_atom fs)
-    (as_tokens fs (out ++ (typed w n ∷ [])) (before ++ (type_token w n ∷ [])) (postfix a.tree ++ (typed w n ∷ [])) ((spelling a.tree ++ (sign sign.Typed ∷ [])) ++ (type_token w n ∷ []))
-    (spelling a.tree ++ (sign sign.Typed ∷ type_token w n ∷ [])) (append_assoc (spelling a.tree) (sign sign.Typed ∷ []) (type_token w n ∷ []))
-    (more fs out before (postfix a.tree) (spelling a.tree ++ (sign sign.Typed ∷ [])) (typed w n ∷ []) (type_token w n ∷ []) a.behind))
+    operand_is (tree.typed a.tree w n) fs (out ++ (typed w n ∷ []))
+    (before ++ (type_token w n ∷ [])) (subst (λ (m : ℕ). 9 ≤ m) a.level le, a.fits)
+    (top_atom fs)
+    (as_tokens fs (out ++ (typed w n ∷ [])) (before ++ (type_token w n ∷ []))
+    (postfix a.tree ++ (typed w n ∷ []))
+    ((spelling a.tree ++ (sign sign.Typed ∷ [])) ++ (type_token w n ∷ []))
+    (spelling a.tree ++ (sign sign.Typed ∷ type_token w n ∷ []))
+    (append_assoc (spelling a.tree) (sign sign.Typed ∷ []) (type_token w n ∷ []))
+    (more fs out before (postfix a.tree) (spelling a.tree ++ (sign sign.Typed ∷ []))
+    (typed w n ∷ []) (type_token w n ∷ []) a.behind))
 
-pub type_sound : (l : ℕ) (fs : List Frame) (out : List Step) (t : Token) (s : State) (before : List Token) → specs.type_wanted fs out t ≡ Some s
+pub type_sound : (l : ℕ) (fs : List Frame) (out : List Step) (t : Token) (s : State)
+    (before : List Token) → specs.type_wanted fs out t ≡ Some s
     → HasOperand l fs out before (sign sign.Typed ∷ []) → 9 ≤ l → HoldsIn s (before ++ (t ∷ []))
 type_sound l fs out (name w) s before e a le =
-    along (state (mode.Have 8) fs (out ++ (typed w false ∷ []))) s (before ++ (name w ∷ [])) e (typed_is l fs out before w false a le)
+    along (state (mode.Have 8) fs (out ++ (typed w false ∷ []))) s (before ++ (name w ∷ [])) e
+    (typed_is l fs out before w false a le)
 type_sound l fs out (nullable w) s before e a le =
-    along (state (mode.Have 8) fs (out ++ (typed w true ∷ []))) s (before ++ (nullable w ∷ [])) e (typed_is l fs out before w true a le)
+    along (state (mode.Have 8) fs (out ++ (typed w true ∷ []))) s (before ++ (nullable w ∷ [])) e
+    (typed_is l fs out before w true a le)
 type_sound l fs out (sign u) s before e a le = absurd cc
 type_sound l fs out (quoted w) s before e a le = absurd cc
 type_sound l fs out (number w) s before e a le = absurd cc
 type_sound l fs out (text w) s before e a le = absurd cc
 
-pub tested_is : (l : ℕ) (fs : List Frame) (out : List Step) (before us : List Token) (n : Bool) → us ++ (sign sign.Null ∷ []) ≡ null_test n → HasOperand l fs out before us → 3 ≤ l
-    → top_hole fs ≤ 3 → HasOperand 3 fs (out ++ (called (null_call n) ∷ [])) (before ++ (sign sign.Null ∷ [])) []
+pub tested_is : (l : ℕ) (fs : List Frame) (out : List Step) (before us : List Token) (n : Bool)
+    → us ++ (sign sign.Null ∷ []) ≡ null_test n → HasOperand l fs out before us → 3 ≤ l
+    → top_hole fs ≤ 3
+    → HasOperand 3 fs (out ++ (called (null_call n) ∷ [])) (before ++ (sign sign.Null ∷ [])) []
 tested_is l fs out before us n e a le place =
-    operand_is (tree.tested n a.tree) fs (out ++ (called (null_call n) ∷ [])) (before ++ (sign sign.Null ∷ [])) (subst (λ (m : ℕ). 3 ≤ m) a.level le, a.fits) place
-    (as_tokens fs (out ++ (called (null_call n) ∷ [])) (before ++ (sign sign.Null ∷ [])) (postfix a.tree ++ (called (null_call n) ∷ [])) ((spelling a.tree ++ us) ++ (sign sign.Null ∷ []))
-    (spelling a.tree ++ null_test n) (append_assoc (spelling a.tree) us (sign sign.Null ∷ []) ∙ ap (λ ts. spelling a.tree ++ ts) e)
-    (more fs out before (postfix a.tree) (spelling a.tree ++ us) (called (null_call n) ∷ []) (sign sign.Null ∷ []) a.behind))
+    operand_is (tree.tested n a.tree) fs (out ++ (called (null_call n) ∷ []))
+    (before ++ (sign sign.Null ∷ [])) (subst (λ (m : ℕ). 3 ≤ m) a.level le, a.fits) place
+    (as_tokens fs (out ++ (called (null_call n) ∷ [])) (before ++ (sign sign.Null ∷ []))
+    (postfix a.tree ++ (called (null_call n) ∷ []))
+    ((spelling a.tree ++ us) ++ (sign sign.Null ∷ []))
+    (spelling a.tree ++ null_test n)
+    (append_assoc (spelling a.tree) us (sign sign.Null ∷ [])
+    ∙ ap (λ ts. spelling a.tree ++ ts) e)
+    (more fs out before (postfix a.tree) (spelling a.tree ++ us) (called (null_call n) ∷ [])
+    (sign sign.Null ∷ []) a.behind))
 
-pub is_sign_sound : (l : ℕ) (fs : List Frame) (out : List Step) (u : Sign) (s : State) (before : List Token) → specs.behind_is fs out (sign u) ≡ Some s
-    → HasOperand l fs out before (sign sign.Is ∷ []) → 3 ≤ l → top_hole fs ≤ 3 → HoldsIn s (before ++ (sign u ∷ []))
+pub is_sign_sound : (l : ℕ) (fs : List Frame) (out : List Step) (u : Sign) (s : State)
+    (before : List Token) → specs.behind_is fs out (sign u) ≡ Some s
+    → HasOperand l fs out before (sign sign.Is ∷ []) → 3 ≤ l → top_hole fs ≤ 3
+    → HoldsIn s (before ++ (sign u ∷ []))
 is_sign_sound l fs out sign.Null s before e a le place =
-    along (state (mode.Have 3) fs (out ++ (called call.IsNull ∷ []))) s (before ++ (sign sign.Null ∷ [])) e (tested_is l fs out before (sign sign.Is ∷ []) false refl a le place)
+    along (state (mode.Have 3) fs (out ++ (called call.IsNull ∷ []))) s
+    (before ++ (sign sign.Null ∷ [])) e
+    (tested_is l fs out before (sign sign.Is ∷ []) false refl a le place)
 is_sign_sound l fs out sign.Not s before e a le place =
-    along (state mode.IsNot fs out) s (before ++ (sign sign.Not ∷ [])) e (l, operand_more l fs out before (sign sign.Is ∷ []) (sign sign.Not ∷ []) a, le, place)
+    along (state mode.IsNot fs out) s (before ++ (sign sign.Not ∷ [])) e
+    (l, operand_more l fs out before (sign sign.Is ∷ []) (sign sign.Not ∷ []) a, le, place)
 is_sign_sound l fs out sign.And s before e a le place = absurd cc
 is_sign_sound l fs out sign.Or s before e a le place = absurd cc
 is_sign_sound l fs out sign.Is s before e a le place = absurd cc
@@ -153,10 +202,13 @@ is_sign_sound l fs out sign.Close s before e a le place = absurd cc
 is_sign_sound l fs out sign.Comma s before e a le place = absurd cc
 is_sign_sound l fs out sign.Typed s before e a le place = absurd cc
 
-pub null_sign_sound : (l : ℕ) (fs : List Frame) (out : List Step) (u : Sign) (s : State) (before : List Token) → specs.behind_is_not fs out (sign u) ≡ Some s
-    → HasOperand l fs out before (sign sign.Is ∷ sign sign.Not ∷ []) → 3 ≤ l → top_hole fs ≤ 3 → HoldsIn s (before ++ (sign u ∷ []))
+pub null_sign_sound : (l : ℕ) (fs : List Frame) (out : List Step) (u : Sign) (s : State)
+    (before : List Token) → specs.behind_is_not fs out (sign u) ≡ Some s
+    → HasOperand l fs out before (sign sign.Is ∷ sign sign.Not ∷ []) → 3 ≤ l → top_hole fs ≤ 3
+    → HoldsIn s (before ++ (sign u ∷ []))
 null_sign_sound l fs out sign.Null s before e a le place =
-    along (state (mode.Have 3) fs (out ++ (called call.IsNotNull ∷ []))) s (before ++ (sign sign.Null ∷ [])) e
+    along (state (mode.Have 3) fs (out ++ (called call.IsNotNull ∷ []))) s
+    (before ++ (sign sign.Null ∷ [])) e
     (tested_is l fs out before (sign sign.Is ∷ sign sign.Not ∷ []) true refl a le place)
 null_sign_sound l fs out sign.And s before e a le place = absurd cc
 null_sign_sound l fs out sign.Or s before e a le place = absurd cc
@@ -185,8 +237,10 @@ null_sign_sound l fs out sign.Close s before e a le place = absurd cc
 null_sign_sound l fs out sign.Comma s before e a le place = absurd cc
 null_sign_sound l fs out sign.Typed s before e a le place = absurd cc
 
-pub is_follows : (l : ℕ) (fs : List Frame) (out : List Step) (t : Token) (s : State) (before : List Token) → specs.behind_is fs out t ≡ Some s
-    → HasOperand l fs out before (sign sign.Is ∷ []) → 3 ≤ l → top_hole fs ≤ 3 → HoldsIn s (before ++ (t ∷ []))
+pub is_follows : (l : ℕ) (fs : List Frame) (out : List Step) (t : Token) (s : State)
+    (before : List Token) → specs.behind_is fs out t ≡ Some s
+    → HasOperand l fs out before (sign sign.Is ∷ []) → 3 ≤ l → top_hole fs ≤ 3
+    → HoldsIn s (before ++ (t ∷ []))
 is_follows l fs out (sign u) s before e a le place = is_sign_sound l fs out u s before e a le place
 is_follows l fs out (name w) s before e a le place = absurd cc
 is_follows l fs out (nullable w) s before e a le place = absurd cc
@@ -194,20 +248,27 @@ is_follows l fs out (quoted w) s before e a le place = absurd cc
 is_follows l fs out (number w) s before e a le place = absurd cc
 is_follows l fs out (text w) s before e a le place = absurd cc
 
-pub is_not_follows : (l : ℕ) (fs : List Frame) (out : List Step) (t : Token) (s : State) (before : List Token) → specs.behind_is_not fs out t ≡ Some s
-    → HasOperand l fs out before (sign sign.Is ∷ sign sign.Not ∷ []) → 3 ≤ l → top_hole fs ≤ 3 → HoldsIn s (before ++ (t ∷ []))
-is_not_follows l fs out (sign u) s before e a le place = null_sign_sound l fs out u s before e a le place
+pub is_not_follows : (l : ℕ) (fs : List Frame) (out : List Step) (t : Token) (s : State)
+    (before : List Token) → specs.behind_is_not fs out t ≡ Some s
+    → HasOperand l fs out before (sign sign.Is ∷ sign sign.Not ∷ []) → 3 ≤ l → top_hole fs ≤ 3
+    → HoldsIn s (before ++ (t ∷ []))
+is_not_follows l fs out (sign u) s before e a le place =
+    null_sign_sound l fs out u s before e a le place
 is_not_follows l fs out (name w) s before e a le place = absurd cc
 is_not_follows l fs out (nullable w) s before e a le place = absurd cc
 is_not_follows l fs out (quoted w) s before e a le place = absurd cc
 is_not_follows l fs out (number w) s before e a le place = absurd cc
 is_not_follows l fs out (text w) s before e a le place = absurd cc
 
-pub cast_sign_sound : (fs : List Frame) (out : List Step) (u : Sign) (s : State) (before : List Token) → specs.behind_cast fs out (sign u) ≡ Some s → Behind fs out before [] (sign sign.Cast ∷ [])
+pub cast_sign_sound : (fs : List Frame) (out : List Step) (u : Sign) (s : State)
+    (before : List Token) → specs.behind_cast fs out (sign u) ≡ Some s
+    → Behind fs out before [] (sign sign.Cast ∷ [])
     → HoldsIn s (before ++ (sign u ∷ []))
 cast_sign_sound fs out sign.Open s before e b =
     along (state mode.Want (frame.Cast ∷ fs) out) s (before ++ (sign sign.Open ∷ [])) e
-    (pushed casting fs out (before ++ (sign sign.Open ∷ [])) (more_tokens fs out before [] (sign sign.Cast ∷ []) (sign sign.Open ∷ []) b) tt (top_atom fs))
+    (pushed casting fs out (before ++ (sign sign.Open ∷ []))
+    (more_tokens fs out before [] (sign sign.Cast ∷ []) (sign sign.Open ∷ []) b) tt
+    (top_atom fs))
 cast_sign_sound fs out sign.And s before e b = absurd cc
 cast_sign_sound fs out sign.Or s before e b = absurd cc
 cast_sign_sound fs out sign.Not s before e b = absurd cc
@@ -235,7 +296,8 @@ cast_sign_sound fs out sign.Close s before e b = absurd cc
 cast_sign_sound fs out sign.Comma s before e b = absurd cc
 cast_sign_sound fs out sign.Typed s before e b = absurd cc
 
-pub cast_follows : (fs : List Frame) (out : List Step) (t : Token) (s : State) (before : List Token) → specs.behind_cast fs out t ≡ Some s → Behind fs out before [] (sign sign.Cast ∷ [])
+pub cast_follows : (fs : List Frame) (out : List Step) (t : Token) (s : State) (before : List Token)
+    → specs.behind_cast fs out t ≡ Some s → Behind fs out before [] (sign sign.Cast ∷ [])
     → HoldsIn s (before ++ (t ∷ []))
 cast_follows fs out (sign u) s before e b = cast_sign_sound fs out u s before e b
 cast_follows fs out (name w) s before e b = absurd cc
@@ -244,39 +306,67 @@ cast_follows fs out (quoted w) s before e b = absurd cc
 cast_follows fs out (number w) s before e b = absurd cc
 cast_follows fs out (text w) s before e b = absurd cc
 
-pub cast_typed : (a : Syntax) (fs : List Frame) (out : List Step) (before : List Token) (w : List ℕ) (n : Bool)
-    → Behind fs out before (postfix a) (sign sign.Cast ∷ sign sign.Open ∷ (spelling a ++ (sign sign.As ∷ [])))
-    → Behind fs (out ++ (cast w n ∷ [])) (before ++ (type_token w n ∷ [])) (postfix a ++ (cast w n ∷ [])) (sign sign.Cast ∷ sign sign.Open ∷ (spelling a ++ (sign sign.As ∷ type_token w n ∷ [])))
+pub cast_typed : (a : Syntax) (fs : List Frame) (out : List Step) (before : List Token) (w : List ℕ)
+    (n : Bool)
+    → Behind fs out before (postfix a)
+    (sign sign.Cast ∷ sign sign.Open ∷ (spelling a ++ (sign sign.As ∷ [])))
+    → Behind fs (out ++ (cast w n ∷ [])) (before ++ (type_token w n ∷ []))
+    (postfix a ++ (cast w n ∷ []))
+    (sign sign.Cast ∷ sign sign.Open ∷ (spelling a ++ (sign sign.As ∷ type_token w n ∷ [])))
 cast_typed a fs out before w n b =
-    as_tokens fs (out ++ (cast w n ∷ [])) (before ++ (type_token w n ∷ [])) (postfix a ++ (cast w n ∷ []))
-    (sign sign.Cast ∷ sign sign.Open ∷ ((spelling a ++ (sign sign.As ∷ [])) ++ (type_token w n ∷ []))) (sign sign.Cast ∷ sign sign.Open ∷ (spelling a ++ (sign sign.As ∷ type_token w n ∷ [])))
-    (ap (λ ts. sign sign.Cast ∷ sign sign.Open ∷ ts) (append_assoc (spelling a) (sign sign.As ∷ []) (type_token w n ∷ [])))
-    (more fs out before (postfix a) (sign sign.Cast ∷ sign sign.Open ∷ (spelling a ++ (sign sign.As ∷ []))) (cast w n ∷ []) (type_token w n ∷ []) b)
+    as_tokens fs (out ++ (cast w n ∷ [])) (before ++ (type_token w n ∷ []))
+    (postfix a ++ (cast w n ∷ []))
+    (sign sign.Cast ∷ sign
+    sign.Open ∷ ((spelling a ++ (sign sign.As ∷ [])) ++ (type_token w n ∷ [])))
+    (sign sign.Cast ∷ sign sign.Open ∷ (spelling a ++ (sign sign.As ∷ type_token w n ∷ [])))
+    (ap (λ ts. sign sign.Cast ∷ sign sign.Open ∷ ts)
+    (append_assoc (spelling a) (sign sign.As ∷ []) (type_token w n ∷ [])))
+    (more fs out before (postfix a)
+    (sign sign.Cast ∷ sign sign.Open ∷ (spelling a ++ (sign sign.As ∷ []))) (cast w n ∷ [])
+    (type_token w n ∷ []) b)
 
-pub cast_type_sound : (a : Syntax) (fs : List Frame) (out : List Step) (t : Token) (s : State) (before : List Token) → specs.cast_wanted fs out t ≡ Some s → Fits a
-    → Behind fs out before (postfix a) (sign sign.Cast ∷ sign sign.Open ∷ (spelling a ++ (sign sign.As ∷ []))) → HoldsIn s (before ++ (t ∷ []))
+pub cast_type_sound : (a : Syntax) (fs : List Frame) (out : List Step) (t : Token) (s : State)
+    (before : List Token) → specs.cast_wanted fs out t ≡ Some s → Fits a
+    → Behind fs out before (postfix a)
+    (sign sign.Cast ∷ sign sign.Open ∷ (spelling a ++ (sign sign.As ∷ [])))
+    → HoldsIn s (before ++ (t ∷ []))
 cast_type_sound a fs out (name w) s before e f b =
-    along (state mode.CastEnd fs (out ++ (cast w false ∷ []))) s (before ++ (name w ∷ [])) e (a, w, false, f, cast_typed a fs out before w false b)
+    along (state mode.CastEnd fs (out ++ (cast w false ∷ []))) s (before ++ (name w ∷ [])) e
+    (a, w, false, f, cast_typed a fs out before w false b)
 cast_type_sound a fs out (nullable w) s before e f b =
-    along (state mode.CastEnd fs (out ++ (cast w true ∷ []))) s (before ++ (nullable w ∷ [])) e (a, w, true, f, cast_typed a fs out before w true b)
+    along (state mode.CastEnd fs (out ++ (cast w true ∷ []))) s (before ++ (nullable w ∷ [])) e
+    (a, w, true, f, cast_typed a fs out before w true b)
 cast_type_sound a fs out (sign u) s before e f b = absurd cc
 cast_type_sound a fs out (quoted w) s before e f b = absurd cc
 cast_type_sound a fs out (number w) s before e f b = absurd cc
 cast_type_sound a fs out (text w) s before e f b = absurd cc
 
-pub cast_is_whole : (a : Syntax) (w : List ℕ) (n : Bool) (fs : List Frame) (out : List Step) (before : List Token) → Fits a
-    → Behind fs out before (postfix a ++ (cast w n ∷ [])) (sign sign.Cast ∷ sign sign.Open ∷ (spelling a ++ (sign sign.As ∷ type_token w n ∷ [])))
+pub cast_is_whole : (a : Syntax) (w : List ℕ) (n : Bool) (fs : List Frame) (out : List Step)
+    (before : List Token) → Fits a
+    → Behind fs out before (postfix a ++ (cast w n ∷ []))
+    (sign sign.Cast ∷ sign sign.Open ∷ (spelling a ++ (sign sign.As ∷ type_token w n ∷ [])))
     → HasOperand 8 fs out (before ++ (sign sign.Close ∷ [])) []
 cast_is_whole a w n fs out before f b =
     operand_is (tree.cast a w n) fs out (before ++ (sign sign.Close ∷ [])) f (top_atom fs)
     (as_tokens fs out (before ++ (sign sign.Close ∷ [])) (postfix a ++ (cast w n ∷ []))
-    (sign sign.Cast ∷ sign sign.Open ∷ ((spelling a ++ (sign sign.As ∷ type_token w n ∷ [])) ++ (sign sign.Close ∷ []))) (spelling (tree.cast a w n))
-    (ap (λ ts. sign sign.Cast ∷ sign sign.Open ∷ ts) (append_assoc (spelling a) (sign sign.As ∷ type_token w n ∷ []) (sign sign.Close ∷ [])))
-    (more_tokens fs out before (postfix a ++ (cast w n ∷ [])) (sign sign.Cast ∷ sign sign.Open ∷ (spelling a ++ (sign sign.As ∷ type_token w n ∷ []))) (sign sign.Close ∷ []) b))
+    (sign sign.Cast ∷ sign
+    sign.Open ∷ ((spelling a ++ (sign sign.As ∷ type_token w n ∷ [])) ++
+    (sign sign.Close ∷ []))) (spelling (tree.cast a w n))
+    (ap (λ ts. sign sign.Cast ∷ sign sign.Open ∷ ts)
+    (append_assoc (spelling a) (sign sign.As ∷ type_token w n ∷ []) (sign sign.Close ∷ [])))
+    (more_tokens fs out before (postfix a ++ (cast w n ∷ []))
+    (sign sign.Cast ∷ sign sign.Open ∷ (spelling a ++ (sign sign.As ∷ type_token w n ∷ [])))
+    (sign sign.Close ∷ []) b))
 
-pub cast_end_sign : (a : Syntax) (w : List ℕ) (n : Bool) (fs : List Frame) (out : List Step) (u : Sign) (s : State) (before : List Token) → specs.behind_cast_type fs out (sign u) ≡ Some s → Fits a
-    → Behind fs out before (postfix a ++ (cast w n ∷ [])) (sign sign.Cast ∷ sign sign.Open ∷ (spelling a ++ (sign sign.As ∷ type_token w n ∷ []))) → HoldsIn s (before ++ (sign u ∷ []))
-cast_end_sign a w n fs out sign.Close s before e f b = along (state (mode.Have 8) fs out) s (before ++ (sign sign.Close ∷ [])) e (cast_is_whole a w n fs out before f b)
+pub cast_end_sign : (a : Syntax) (w : List ℕ) (n : Bool) (fs : List Frame) (out : List Step)
+    (u : Sign) (s : State) (before : List Token) → specs.behind_cast_type fs out (sign u) ≡ Some s
+    → Fits a
+    → Behind fs out before (postfix a ++ (cast w n ∷ []))
+    (sign sign.Cast ∷ sign sign.Open ∷ (spelling a ++ (sign sign.As ∷ type_token w n ∷ [])))
+    → HoldsIn s (before ++ (sign u ∷ []))
+cast_end_sign a w n fs out sign.Close s before e f b =
+    along (state (mode.Have 8) fs out) s (before ++ (sign sign.Close ∷ [])) e
+    (cast_is_whole a w n fs out before f b)
 cast_end_sign a w n fs out sign.And s before e f b = absurd cc
 cast_end_sign a w n fs out sign.Or s before e f b = absurd cc
 cast_end_sign a w n fs out sign.Not s before e f b = absurd cc
@@ -304,8 +394,12 @@ cast_end_sign a w n fs out sign.Open s before e f b = absurd cc
 cast_end_sign a w n fs out sign.Comma s before e f b = absurd cc
 cast_end_sign a w n fs out sign.Typed s before e f b = absurd cc
 
-pub cast_end_sound : (a : Syntax) (v : List ℕ) (n : Bool) (fs : List Frame) (out : List Step) (t : Token) (s : State) (before : List Token) → specs.behind_cast_type fs out t ≡ Some s → Fits a
-    → Behind fs out before (postfix a ++ (cast v n ∷ [])) (sign sign.Cast ∷ sign sign.Open ∷ (spelling a ++ (sign sign.As ∷ type_token v n ∷ []))) → HoldsIn s (before ++ (t ∷ []))
+pub cast_end_sound : (a : Syntax) (v : List ℕ) (n : Bool) (fs : List Frame) (out : List Step)
+    (t : Token) (s : State) (before : List Token) → specs.behind_cast_type fs out t ≡ Some s
+    → Fits a
+    → Behind fs out before (postfix a ++ (cast v n ∷ []))
+    (sign sign.Cast ∷ sign sign.Open ∷ (spelling a ++ (sign sign.As ∷ type_token v n ∷ [])))
+    → HoldsIn s (before ++ (t ∷ []))
 cast_end_sound a v n fs out (sign u) s before e f b = cast_end_sign a v n fs out u s before e f b
 cast_end_sound a v n fs out (name w) s before e f b = absurd cc
 cast_end_sound a v n fs out (nullable w) s before e f b = absurd cc
@@ -313,24 +407,41 @@ cast_end_sound a v n fs out (quoted w) s before e f b = absurd cc
 cast_end_sound a v n fs out (number w) s before e f b = absurd cc
 cast_end_sound a v n fs out (text w) s before e f b = absurd cc
 
-pub escaped_is : (k : LikeKind) (a p : Syntax) (fs : List Frame) (out : List Step) (before : List Token) (c : List ℕ) → 6 ≤ level a → 6 ≤ level p → Fits a → Fits p → top_hole fs ≤ 5
-    → Behind fs out before (postfix a ++ postfix p) (spelling a ++ (like_sign k ++ (spelling p ++ (sign sign.Escape ∷ []))))
+pub escaped_is : (k : LikeKind) (a p : Syntax) (fs : List Frame) (out : List Step)
+    (before : List Token) (c : List ℕ) → 6 ≤ level a → 6 ≤ level p → Fits a → Fits p
+    → top_hole fs ≤ 5
+    → Behind fs out before (postfix a ++ postfix p)
+    (spelling a ++ (like_sign k ++ (spelling p ++ (sign sign.Escape ∷ []))))
     → HasOperand 5 fs (out ++ (escaped k c ∷ [])) (before ++ (text c ∷ [])) []
 escaped_is k a p fs out before c ha hp fa fp place b =
-    operand_is (tree.matched k a p (Some c)) fs (out ++ (escaped k c ∷ [])) (before ++ (text c ∷ [])) (ha, hp, fa, fp) place
-    (as_steps fs (out ++ (escaped k c ∷ [])) (before ++ (text c ∷ [])) ((postfix a ++ postfix p) ++ (escaped k c ∷ [])) (postfix a ++ (postfix p ++ (escaped k c ∷ [])))
-    (spelling (tree.matched k a p (Some c))) (append_assoc (postfix a) (postfix p) (escaped k c ∷ []))
-    (as_tokens fs (out ++ (escaped k c ∷ [])) (before ++ (text c ∷ [])) ((postfix a ++ postfix p) ++ (escaped k c ∷ []))
-    ((spelling a ++ (like_sign k ++ (spelling p ++ (sign sign.Escape ∷ [])))) ++ (text c ∷ [])) (spelling (tree.matched k a p (Some c)))
-    (append_assoc (spelling a) (like_sign k ++ (spelling p ++ (sign sign.Escape ∷ []))) (text c ∷ [])
-    ∙ ap (λ ts. spelling a ++ ts) (append_assoc (like_sign k) (spelling p ++ (sign sign.Escape ∷ [])) (text c ∷ []))
-    ∙ ap (λ ts. spelling a ++ (like_sign k ++ ts)) (append_assoc (spelling p) (sign sign.Escape ∷ []) (text c ∷ [])))
-    (more fs out before (postfix a ++ postfix p) (spelling a ++ (like_sign k ++ (spelling p ++ (sign sign.Escape ∷ [])))) (escaped k c ∷ []) (text c ∷ []) b)))
+    operand_is (tree.matched k a p (Some c)) fs (out ++ (escaped k c ∷ []))
+    (before ++ (text c ∷ [])) (ha, hp, fa, fp) place
+    (as_steps fs (out ++ (escaped k c ∷ [])) (before ++ (text c ∷ []))
+    ((postfix a ++ postfix p) ++ (escaped k c ∷ []))
+    (postfix a ++ (postfix p ++ (escaped k c ∷ [])))
+    (spelling (tree.matched k a p (Some c)))
+    (append_assoc (postfix a) (postfix p) (escaped k c ∷ []))
+    (as_tokens fs (out ++ (escaped k c ∷ [])) (before ++ (text c ∷ []))
+    ((postfix a ++ postfix p) ++ (escaped k c ∷ []))
+    ((spelling a ++ (like_sign k ++ (spelling p ++ (sign sign.Escape ∷ [])))) ++ (text c ∷ []))
+    (spelling (tree.matched k a p (Some c)))
+    (append_assoc (spelling a) (like_sign k ++ (spelling p ++ (sign sign.Escape ∷ [])))
+    (text c ∷ [])
+    ∙ ap (λ ts. spelling a ++ ts)
+    (append_assoc (like_sign k) (spelling p ++ (sign sign.Escape ∷ [])) (text c ∷ []))
+    ∙ ap (λ ts. spelling a ++ (like_sign k ++ ts))
+    (append_assoc (spelling p) (sign sign.Escape ∷ []) (text c ∷ [])))
+    (more fs out before (postfix a ++ postfix p)
+    (spelling a ++ (like_sign k ++ (spelling p ++ (sign sign.Escape ∷ [])))) (escaped k c ∷ [])
+    (text c ∷ []) b)))
 
-pub escaping_sound : (k : LikeKind) (fs : List Frame) (out : List Step) (t : Token) (s : State) (before : List Token) → specs.behind_escape k fs out t ≡ Some s → Holds (mode.Escaping k) fs out before
+pub escaping_sound : (k : LikeKind) (fs : List Frame) (out : List Step) (t : Token) (s : State)
+    (before : List Token) → specs.behind_escape k fs out t ≡ Some s
+    → Holds (mode.Escaping k) fs out before
     → HoldsIn s (before ++ (t ∷ []))
 escaping_sound k fs out (text c) s before e (a, p, ha, hp, fa, fp, place, b) =
-    along (state (mode.Have 5) fs (out ++ (escaped k c ∷ []))) s (before ++ (text c ∷ [])) e (escaped_is k a p fs out before c ha hp fa fp place b)
+    along (state (mode.Have 5) fs (out ++ (escaped k c ∷ []))) s (before ++ (text c ∷ [])) e
+    (escaped_is k a p fs out before c ha hp fa fp place b)
 escaping_sound k fs out (sign u) s before e h = absurd cc
 escaping_sound k fs out (name w) s before e h = absurd cc
 escaping_sound k fs out (nullable w) s before e h = absurd cc

@@ -1,5 +1,6 @@
 -- What a sign behind an operand makes of what was read.
-use Rattle.std.proofs.Common.{◌≡◌, ℕ, ◌≤◌, Bool, true, false, nat_le, ◌&&◌, cond, List, [], ◌∷◌, ◌++◌, Some, None, refl, ap, sym, subst, ◌∙◌, append_assoc}
+use Rattle.std.proofs.Common.{◌≡◌, ℕ, ◌≤◌, Bool, true, false, nat_le, ◌&&◌, cond, List, [], ◌∷◌}
+use Rattle.std.proofs.Common.{◌++◌, Some, None, refl, ap, sym, subst, ◌∙◌, append_assoc}
 use Rattle.std.proofs.lemmas.List.{append-nil}
 use Rattle.vortex_syntax.specs.declared.step.Operator.{Operator}
 use Rattle.vortex_syntax.specs.declared.step.Operator.TheVariants as operator
@@ -16,41 +17,61 @@ use Rattle.vortex_syntax.specs.Levels.{own, left, level, Fits}
 use Rattle.vortex_syntax.specs.Spelling.{spelling, operator_sign, with_not, like_sign}
 use Rattle.vortex_syntax.specs.Postfix.{Step, postfix}
 use Rattle.vortex_syntax.specs.Reading as specs
-use Rattle.vortex_syntax.specs.Reading.{State, state, hole, top_hole, guard, whole, closing, Operand, operand_of, settled, waiting, shifted, operator_of, and_behind, is_behind, close_behind, as_behind, escape_behind, end_behind, predicate, word_behind, behind, next, finish, run, steps_of}
+use Rattle.vortex_syntax.specs.Reading.{State, state, hole, top_hole, guard, whole, closing}
+use Rattle.vortex_syntax.specs.Reading.{Operand, operand_of, settled, waiting, shifted, operator_of}
+use Rattle.vortex_syntax.specs.Reading.{and_behind, is_behind, close_behind, as_behind}
+use Rattle.vortex_syntax.specs.Reading.{escape_behind, end_behind, predicate, word_behind, behind}
+use Rattle.vortex_syntax.specs.Reading.{next, finish, run, steps_of}
 use Rattle.vortex_syntax.proofs.Tables.{top_atom}
-use Rattle.vortex_syntax.proofs.Held.{Held, opened, casting, joining, lower, upper, matching, frame_of, written, held, IsSound}
-use Rattle.vortex_syntax.proofs.Before.{Behind, more_tokens, as_tokens, as_steps, pushed, popped, open_is, cast_is, lower_is, like_is, HasOperand, settled_operand, Holds, HoldsIn, along, both, chosen, fits_below, operand_more, operand_is}
+use Rattle.vortex_syntax.proofs.Held.{Held, opened, casting, joining, lower, upper, matching}
+use Rattle.vortex_syntax.proofs.Held.{frame_of, written, held, IsSound}
+use Rattle.vortex_syntax.proofs.Before.{Behind, more_tokens, as_tokens, as_steps, pushed, popped}
+use Rattle.vortex_syntax.proofs.Before.{open_is, cast_is, lower_is, like_is, HasOperand}
+use Rattle.vortex_syntax.proofs.Before.{settled_operand, Holds, HoldsIn, along, both, chosen}
+use Rattle.vortex_syntax.proofs.Before.{fits_below, operand_more, operand_is}
 
 -- a frame that takes an operand
-pub waits : (p m : ℕ) (f : Frame) (l : ℕ) (fs : List Frame) (out : List Step) (s : State) (before : List Token) → waiting p m f (operand_of l fs out) ≡ Some s
+pub waits : (p m : ℕ) (f : Frame) (l : ℕ) (fs : List Frame) (out : List Step) (s : State)
+    (before : List Token) → waiting p m f (operand_of l fs out) ≡ Some s
     → (m ≤ l → top_hole fs ≤ p → Behind (f ∷ fs) out before [] []) → HoldsIn s before
 waits p m f l fs out s before e h =
     let c = chosen (nat_le m l && nat_le (top_hole fs) p) (state mode.Want (f ∷ fs) out) s e in
     let t = both (nat_le m l) (nat_le (top_hole fs) p) c.0 in
-    along (state mode.Want (f ∷ fs) out) s before c.1 (h (fits_below m l t.0) (fits_below (top_hole fs) p t.1))
+    along (state mode.Want (f ∷ fs) out) s before c.1
+    (h (fits_below m l t.0) (fits_below (top_hole fs) p t.1))
 
-pub joins : (o : Operator) (l : ℕ) (fs : List Frame) (out : List Step) (before : List Token) → HasOperand l fs out before [] → left o ≤ l → top_hole fs ≤ own o
+pub joins : (o : Operator) (l : ℕ) (fs : List Frame) (out : List Step) (before : List Token)
+    → HasOperand l fs out before [] → left o ≤ l → top_hole fs ≤ own o
     → Behind (frame.Join o ∷ fs) out (before ++ (sign (operator_sign o) ∷ [])) [] []
 joins o l fs out before a h k =
     pushed (joining o a.tree) fs out (before ++ (sign (operator_sign o) ∷ []))
-    (as_tokens fs out _ (postfix a.tree) ((spelling a.tree ++ []) ++ (sign (operator_sign o) ∷ [])) (spelling a.tree ++ (sign (operator_sign o) ∷ []))
+    (as_tokens fs out _ (postfix a.tree) ((spelling a.tree ++ []) ++ (sign (operator_sign o) ∷ []))
+    (spelling a.tree ++ (sign (operator_sign o) ∷ []))
     (ap (λ ts. ts ++ (sign (operator_sign o) ∷ [])) (append-nil (spelling a.tree)))
-    (more_tokens fs out before (postfix a.tree) (spelling a.tree ++ []) (sign (operator_sign o) ∷ []) a.behind))
+    (more_tokens fs out before (postfix a.tree) (spelling a.tree ++ [])
+    (sign (operator_sign o) ∷ []) a.behind))
     (subst (λ (m : ℕ). left o ≤ m) a.level h, a.fits) k
 
-pub joining_sound : (o : Operator) (l : ℕ) (fs : List Frame) (out : List Step) (s : State) (before : List Token) → specs.joining o l fs out ≡ Some s → HasOperand l fs out before []
+pub joining_sound : (o : Operator) (l : ℕ) (fs : List Frame) (out : List Step) (s : State)
+    (before : List Token) → specs.joining o l fs out ≡ Some s → HasOperand l fs out before []
     → HoldsIn s (before ++ (sign (operator_sign o) ∷ []))
 joining_sound o l fs out s before e a =
     let b = settled (own o) l fs out in
-    waits (own o) (left o) (frame.Join o) b.level b.frames b.steps s _ e (joins o b.level b.frames b.steps before (settled_operand (own o) l fs out before [] a))
+    waits (own o) (left o) (frame.Join o) b.level b.frames b.steps s _ e
+    (joins o b.level b.frames b.steps before (settled_operand (own o) l fs out before [] a))
 
 -- BETWEEN and LIKE, behind an operand and what stands between
-pub predicates : (h : Held) (ts : List Token) (l : ℕ) (fs : List Frame) (out : List Step) (before us : List Token) (a : HasOperand l fs out before us)
-    → held h ≡ postfix a.tree → written h ≡ spelling a.tree ++ (us ++ ts) → IsSound h → top_hole fs ≤ whole (frame_of h) → Behind (frame_of h ∷ fs) out (before ++ ts) [] []
+pub predicates : (h : Held) (ts : List Token) (l : ℕ) (fs : List Frame) (out : List Step)
+    (before us : List Token) (a : HasOperand l fs out before us)
+    → held h ≡ postfix a.tree → written h ≡ spelling a.tree ++ (us ++ ts) → IsSound h
+    → top_hole fs ≤ whole (frame_of h) → Behind (frame_of h ∷ fs) out (before ++ ts) [] []
 predicates h ts l fs out before us a e k s place =
     pushed h fs out (before ++ ts)
-    (as_tokens fs out (before ++ ts) (held h) ((spelling a.tree ++ us) ++ ts) (written h) (append_assoc (spelling a.tree) us ts ∙ sym k)
-    (as_steps fs out (before ++ ts) (postfix a.tree) (held h) ((spelling a.tree ++ us) ++ ts) (sym e) (more_tokens fs out before (postfix a.tree) (spelling a.tree ++ us) ts a.behind))) s place
+    (as_tokens fs out (before ++ ts) (held h) ((spelling a.tree ++ us) ++ ts) (written h)
+    (append_assoc (spelling a.tree) us ts ∙ sym k)
+    (as_steps fs out (before ++ ts) (postfix a.tree) (held h) ((spelling a.tree ++ us) ++ ts)
+    (sym e) (more_tokens fs out before (postfix a.tree) (spelling a.tree ++ us) ts a.behind))) s
+    place
 
 abbrev pub not_before : Bool → List Token
 not_before n = cond n (sign sign.Not ∷ []) []
@@ -59,30 +80,40 @@ pub not_joined : (n : Bool) (u : Sign) → with_not n u ≡ not_before n ++ (sig
 not_joined true u = refl
 not_joined false u = refl
 
-pub between_sound : (n : Bool) (l : ℕ) (fs : List Frame) (out : List Step) (s : State) (before : List Token) → shifted 5 6 (frame.Between n) l fs out ≡ Some s
+pub between_sound : (n : Bool) (l : ℕ) (fs : List Frame) (out : List Step) (s : State)
+    (before : List Token) → shifted 5 6 (frame.Between n) l fs out ≡ Some s
     → HasOperand l fs out before (not_before n) → HoldsIn s (before ++ (sign sign.Between ∷ []))
 between_sound n l fs out s before e a =
     let b = settled 5 l fs out in
     let r = settled_operand 5 l fs out before (not_before n) a in
     waits 5 6 (frame.Between n) b.level b.frames b.steps s (before ++ (sign sign.Between ∷ [])) e
-    (λ h k. predicates (lower n r.tree) (sign sign.Between ∷ []) b.level b.frames b.steps before (not_before n) r refl (ap (λ ts. spelling r.tree ++ ts) (not_joined n sign.Between))
+    (λ h k. predicates (lower n r.tree) (sign sign.Between ∷ []) b.level b.frames b.steps before
+    (not_before n) r refl (ap (λ ts. spelling r.tree ++ ts) (not_joined n sign.Between))
     (subst (λ (m : ℕ). 6 ≤ m) r.level h, r.fits) k)
 
-pub like_sound : (n i : Bool) (u : Sign) (l : ℕ) (fs : List Frame) (out : List Step) (s : State) (before : List Token) → like_sign (specs.like_kind n i) ≡ with_not n u
-    → shifted 5 6 (frame.Like (specs.like_kind n i)) l fs out ≡ Some s → HasOperand l fs out before (not_before n) → HoldsIn s (before ++ (sign u ∷ []))
+pub like_sound : (n i : Bool) (u : Sign) (l : ℕ) (fs : List Frame) (out : List Step) (s : State)
+    (before : List Token) → like_sign (specs.like_kind n i) ≡ with_not n u
+    → shifted 5 6 (frame.Like (specs.like_kind n i)) l fs out ≡ Some s
+    → HasOperand l fs out before (not_before n) → HoldsIn s (before ++ (sign u ∷ []))
 like_sound n i u l fs out s before k e a =
     let b = settled 5 l fs out in
     let r = settled_operand 5 l fs out before (not_before n) a in
-    waits 5 6 (frame.Like (specs.like_kind n i)) b.level b.frames b.steps s (before ++ (sign u ∷ [])) e
-    (λ h j. predicates (matching (specs.like_kind n i) r.tree) (sign u ∷ []) b.level b.frames b.steps before (not_before n) r refl
-    (ap (λ ts. spelling r.tree ++ ts) (k ∙ not_joined n u)) (subst (λ (m : ℕ). 6 ≤ m) r.level h, r.fits) j)
+    waits 5 6 (frame.Like (specs.like_kind n i)) b.level b.frames b.steps s
+    (before ++ (sign u ∷ [])) e
+    (λ h j. predicates (matching (specs.like_kind n i) r.tree)
+    (sign u ∷ []) b.level b.frames b.steps before (not_before n) r refl
+    (ap (λ ts. spelling r.tree ++ ts) (k ∙ not_joined n u))
+    (subst (λ (m : ℕ). 6 ≤ m) r.level h, r.fits) j)
 
-pub predicate_sound : (n : Bool) (l : ℕ) (fs : List Frame) (out : List Step) (u : Sign) (s : State) (before : List Token) → predicate n l fs out u ≡ Some s
+pub predicate_sound : (n : Bool) (l : ℕ) (fs : List Frame) (out : List Step) (u : Sign) (s : State)
+    (before : List Token) → predicate n l fs out u ≡ Some s
     → HasOperand l fs out before (not_before n) → HoldsIn s (before ++ (sign u ∷ []))
 unfolding predicate
 predicate_sound n l fs out sign.Between s before e a = between_sound n l fs out s before e a
-predicate_sound n l fs out sign.Like s before e a = like_sound n false sign.Like l fs out s before refl e a
-predicate_sound n l fs out sign.Ilike s before e a = like_sound n true sign.Ilike l fs out s before refl e a
+predicate_sound n l fs out sign.Like s before e a =
+    like_sound n false sign.Like l fs out s before refl e a
+predicate_sound n l fs out sign.Ilike s before e a =
+    like_sound n true sign.Ilike l fs out s before refl e a
 predicate_sound n l fs out sign.And s before e a = absurd cc
 predicate_sound n l fs out sign.Or s before e a = absurd cc
 predicate_sound n l fs out sign.Not s before e a = absurd cc
@@ -108,35 +139,51 @@ predicate_sound n l fs out sign.Close s before e a = absurd cc
 predicate_sound n l fs out sign.Comma s before e a = absurd cc
 predicate_sound n l fs out sign.Typed s before e a = absurd cc
 
-pub and_joined : (l : ℕ) (fs : List Frame) (out : List Step) (s : State) (before : List Token) → waiting 1 1 (frame.Join operator.And) (operand_of l fs out) ≡ Some s
+pub and_joined : (l : ℕ) (fs : List Frame) (out : List Step) (s : State) (before : List Token)
+    → waiting 1 1 (frame.Join operator.And) (operand_of l fs out) ≡ Some s
     → HasOperand l fs out before [] → HoldsIn s (before ++ (sign sign.And ∷ []))
-and_joined l fs out s before e a = waits 1 1 (frame.Join operator.And) l fs out s (before ++ (sign sign.And ∷ [])) e (joins operator.And l fs out before a)
+and_joined l fs out s before e a =
+    waits 1 1 (frame.Join operator.And) l fs out s (before ++ (sign sign.And ∷ [])) e
+    (joins operator.And l fs out before a)
 
-pub upper_written : (n : Bool) (a b : Syntax) → (written (lower n a) ++ (spelling b ++ [])) ++ (sign sign.And ∷ []) ≡ written (upper n a b)
+pub upper_written : (n : Bool) (a b : Syntax)
+    → (written (lower n a) ++ (spelling b ++ [])) ++ (sign sign.And ∷ []) ≡ written (upper n a b)
 upper_written n a b =
     ap (λ ts. (written (lower n a) ++ ts) ++ (sign sign.And ∷ [])) (append-nil (spelling b))
     ∙ append_assoc (written (lower n a)) (spelling b) (sign sign.And ∷ [])
     ∙ append_assoc (spelling a) (with_not n sign.Between) (spelling b ++ (sign sign.And ∷ []))
 
-pub bound_held : (n : Bool) (l : ℕ) (fs : List Frame) (out : List Step) (before : List Token) (b : Syntax) → Fits b → 6 ≤ level b → (h : Held) (a : Syntax) → h ≡ lower n a
-    → IsSound h → top_hole fs ≤ 5 → Behind fs out before (held h ++ postfix b) (written h ++ (spelling b ++ [])) → Behind (frame.Bounded n ∷ fs) out (before ++ (sign sign.And ∷ [])) [] []
+pub bound_held : (n : Bool) (l : ℕ) (fs : List Frame) (out : List Step) (before : List Token)
+    (b : Syntax) → Fits b → 6 ≤ level b → (h : Held) (a : Syntax) → h ≡ lower n a
+    → IsSound h → top_hole fs ≤ 5
+    → Behind fs out before (held h ++ postfix b) (written h ++ (spelling b ++ []))
+    → Behind (frame.Bounded n ∷ fs) out (before ++ (sign sign.And ∷ [])) [] []
 bound_held n l fs out before b f k h a e s place r =
     let sound : IsSound (lower n a) = subst (λ (v : Held). IsSound v) e s in
-    let behind : Behind fs out before (held (lower n a) ++ postfix b) (written (lower n a) ++ (spelling b ++ [])) =
-    subst (λ (v : Held). Behind fs out before (held v ++ postfix b) (written v ++ (spelling b ++ []))) e r in
+    let behind : Behind fs out before (held (lower n a) ++ postfix b)
+    (written (lower n a) ++ (spelling b ++ [])) =
+    subst (λ (v : Held). Behind fs out before (held v ++ postfix b)
+    (written v ++ (spelling b ++ []))) e r in
     pushed (upper n a b) fs out (before ++ (sign sign.And ∷ []))
-    (as_tokens fs out (before ++ (sign sign.And ∷ [])) (postfix a ++ postfix b) ((written (lower n a) ++ (spelling b ++ [])) ++ (sign sign.And ∷ [])) (written (upper n a b)) (upper_written n a b)
-    (more_tokens fs out before (postfix a ++ postfix b) (written (lower n a) ++ (spelling b ++ [])) (sign sign.And ∷ []) behind)) (sound.0, k, sound.1, f) place
+    (as_tokens fs out (before ++ (sign sign.And ∷ [])) (postfix a ++ postfix b)
+    ((written (lower n a) ++ (spelling b ++ [])) ++ (sign sign.And ∷ []))
+    (written (upper n a b)) (upper_written n a b)
+    (more_tokens fs out before (postfix a ++ postfix b) (written (lower n a) ++ (spelling b ++ []))
+    (sign sign.And ∷ []) behind)) (sound.0, k, sound.1, f) place
 
-pub and_bound : (n : Bool) (l : ℕ) (fs : List Frame) (out : List Step) (s : State) (before : List Token) → Some (state mode.Want (frame.Bounded n ∷ fs) out) ≡ Some s
+pub and_bound : (n : Bool) (l : ℕ) (fs : List Frame) (out : List Step) (s : State)
+    (before : List Token) → Some (state mode.Want (frame.Bounded n ∷ fs) out) ≡ Some s
     → HasOperand l (frame.Between n ∷ fs) out before [] → HoldsIn s (before ++ (sign sign.And ∷ []))
 and_bound n l fs out s before e a =
-    let r = popped (frame.Between n) fs out before (postfix a.tree) (spelling a.tree ++ []) a.behind in
+    let r = popped (frame.Between n) fs out before (postfix a.tree)
+    (spelling a.tree ++ []) a.behind in
     let i = lower_is n r.h r.is in
     along (state mode.Want (frame.Bounded n ∷ fs) out) s (before ++ (sign sign.And ∷ [])) e
-    (bound_held n l fs out before a.tree a.fits (subst (λ (m : ℕ). 6 ≤ m) a.level a.place) r.h i.0 i.1 r.sound r.place r.behind)
+    (bound_held n l fs out before a.tree a.fits
+    (subst (λ (m : ℕ). 6 ≤ m) a.level a.place) r.h i.0 i.1 r.sound r.place r.behind)
 
-pub and_sound : (l : ℕ) (fs : List Frame) (out : List Step) (s : State) (before : List Token) → and_behind l fs out ≡ Some s → HasOperand l fs out before []
+pub and_sound : (l : ℕ) (fs : List Frame) (out : List Step) (s : State) (before : List Token)
+    → and_behind l fs out ≡ Some s → HasOperand l fs out before []
     → HoldsIn s (before ++ (sign sign.And ∷ []))
 and_sound l [] out s before e a = and_joined l [] out s before e a
 and_sound l (frame.Between n ∷ fs) out s before e a = and_bound n l fs out s before e a
@@ -144,32 +191,47 @@ and_sound l (frame.Open ∷ fs) out s before e a = and_joined l (frame.Open ∷ 
 and_sound l (frame.Cast ∷ fs) out s before e a = and_joined l (frame.Cast ∷ fs) out s before e a
 and_sound l (frame.Not ∷ fs) out s before e a = and_joined l (frame.Not ∷ fs) out s before e a
 and_sound l (frame.Join o ∷ fs) out s before e a = and_joined l (frame.Join o ∷ fs) out s before e a
-and_sound l (frame.Bounded n ∷ fs) out s before e a = and_joined l (frame.Bounded n ∷ fs) out s before e a
+and_sound l (frame.Bounded n ∷ fs) out s before e a =
+    and_joined l (frame.Bounded n ∷ fs) out s before e a
 and_sound l (frame.Like k ∷ fs) out s before e a = and_joined l (frame.Like k ∷ fs) out s before e a
 
-pub is_sound : (l : ℕ) (fs : List Frame) (out : List Step) (s : State) (before : List Token) → is_behind l fs out ≡ Some s → HasOperand l fs out before [] → HoldsIn s (before ++ (sign sign.Is ∷ []))
+pub is_sound : (l : ℕ) (fs : List Frame) (out : List Step) (s : State) (before : List Token)
+    → is_behind l fs out ≡ Some s → HasOperand l fs out before []
+    → HoldsIn s (before ++ (sign sign.Is ∷ []))
 is_sound l fs out s before e a =
     let c = chosen (nat_le 3 l && nat_le (top_hole fs) 3) (state mode.Is fs out) s e in
     let t = both (nat_le 3 l) (nat_le (top_hole fs) 3) c.0 in
-    along (state mode.Is fs out) s (before ++ (sign sign.Is ∷ [])) c.1
-    (l, operand_more l fs out before [] (sign sign.Is ∷ []) a, fits_below 3 l t.0, fits_below (top_hole fs) 3 t.1)
+    along (state mode.Is fs out) s (before ++ (sign sign.Is ∷ [])) c.1 (
+      l,
+      operand_more l fs out before [] (sign sign.Is ∷ []) a,
+      fits_below 3 l t.0,
+      fits_below (top_hole fs) 3 t.1,
+    )
 
-pub grouped_is : (a : Syntax) (h : Held) (fs : List Frame) (out : List Step) (before : List Token) → Fits a → h ≡ opened → Behind fs out before (held h ++ postfix a) (written h ++ (spelling a ++ []))
+pub grouped_is : (a : Syntax) (h : Held) (fs : List Frame) (out : List Step) (before : List Token)
+    → Fits a → h ≡ opened
+    → Behind fs out before (held h ++ postfix a) (written h ++ (spelling a ++ []))
     → HasOperand 8 fs out (before ++ (sign sign.Close ∷ [])) []
 grouped_is a h fs out before f e r =
     let b : Behind fs out before (postfix a) (sign sign.Open ∷ (spelling a ++ [])) =
-    subst (λ (v : Held). Behind fs out before (held v ++ postfix a) (written v ++ (spelling a ++ []))) e r in
+    subst (λ (v : Held). Behind fs out before (held v ++ postfix a)
+    (written v ++ (spelling a ++ []))) e r in
     operand_is (tree.grouped a) fs out (before ++ (sign sign.Close ∷ [])) f (top_atom fs)
-    (as_tokens fs out (before ++ (sign sign.Close ∷ [])) (postfix a) (sign sign.Open ∷ ((spelling a ++ []) ++ (sign sign.Close ∷ []))) (spelling (tree.grouped a))
+    (as_tokens fs out (before ++ (sign sign.Close ∷ [])) (postfix a)
+    (sign sign.Open ∷ ((spelling a ++ []) ++ (sign sign.Close ∷ [])))
+    (spelling (tree.grouped a))
     (ap (λ ts. sign sign.Open ∷ (ts ++ (sign sign.Close ∷ []))) (append-nil (spelling a)))
-    (more_tokens fs out before (postfix a) (sign sign.Open ∷ (spelling a ++ [])) (sign sign.Close ∷ []) b))
+    (more_tokens fs out before (postfix a) (sign sign.Open ∷ (spelling a ++ []))
+    (sign sign.Close ∷ []) b))
 
-pub close_sound : (l : ℕ) (fs : List Frame) (out : List Step) (s : State) (before : List Token) → close_behind fs out ≡ Some s → HasOperand l fs out before []
+pub close_sound : (l : ℕ) (fs : List Frame) (out : List Step) (s : State) (before : List Token)
+    → close_behind fs out ≡ Some s → HasOperand l fs out before []
     → HoldsIn s (before ++ (sign sign.Close ∷ []))
 close_sound l [] out s before e a = absurd cc
 close_sound l (frame.Open ∷ fs) out s before e a =
     let r = popped frame.Open fs out before (postfix a.tree) (spelling a.tree ++ []) a.behind in
-    along (state (mode.Have 8) fs out) s (before ++ (sign sign.Close ∷ [])) e (grouped_is a.tree r.h fs out before a.fits (open_is r.h r.is) r.behind)
+    along (state (mode.Have 8) fs out) s (before ++ (sign sign.Close ∷ [])) e
+    (grouped_is a.tree r.h fs out before a.fits (open_is r.h r.is) r.behind)
 close_sound l (frame.Cast ∷ fs) out s before e a = absurd cc
 close_sound l (frame.Not ∷ fs) out s before e a = absurd cc
 close_sound l (frame.Join o ∷ fs) out s before e a = absurd cc
@@ -177,21 +239,31 @@ close_sound l (frame.Between n ∷ fs) out s before e a = absurd cc
 close_sound l (frame.Bounded n ∷ fs) out s before e a = absurd cc
 close_sound l (frame.Like k ∷ fs) out s before e a = absurd cc
 
-pub cast_begun : (a : Syntax) (h : Held) (fs : List Frame) (out : List Step) (before : List Token) → h ≡ casting → Behind fs out before (held h ++ postfix a) (written h ++ (spelling a ++ []))
-    → Behind fs out (before ++ (sign sign.As ∷ [])) (postfix a) (sign sign.Cast ∷ sign sign.Open ∷ (spelling a ++ (sign sign.As ∷ [])))
+pub cast_begun : (a : Syntax) (h : Held) (fs : List Frame) (out : List Step) (before : List Token)
+    → h ≡ casting → Behind fs out before (held h ++ postfix a) (written h ++ (spelling a ++ []))
+    → Behind fs out (before ++ (sign sign.As ∷ [])) (postfix a)
+    (sign sign.Cast ∷ sign sign.Open ∷ (spelling a ++ (sign sign.As ∷ [])))
 cast_begun a h fs out before e r =
-    let b : Behind fs out before (postfix a) (sign sign.Cast ∷ sign sign.Open ∷ (spelling a ++ [])) =
-    subst (λ (v : Held). Behind fs out before (held v ++ postfix a) (written v ++ (spelling a ++ []))) e r in
-    as_tokens fs out (before ++ (sign sign.As ∷ [])) (postfix a) (sign sign.Cast ∷ sign sign.Open ∷ ((spelling a ++ []) ++ (sign sign.As ∷ [])))
-    (sign sign.Cast ∷ sign sign.Open ∷ (spelling a ++ (sign sign.As ∷ []))) (ap (λ ts. sign sign.Cast ∷ sign sign.Open ∷ (ts ++ (sign sign.As ∷ []))) (append-nil (spelling a)))
-    (more_tokens fs out before (postfix a) (sign sign.Cast ∷ sign sign.Open ∷ (spelling a ++ [])) (sign sign.As ∷ []) b)
+    let b : Behind fs out before (postfix a)
+    (sign sign.Cast ∷ sign sign.Open ∷ (spelling a ++ [])) =
+    subst (λ (v : Held). Behind fs out before (held v ++ postfix a)
+    (written v ++ (spelling a ++ []))) e r in
+    as_tokens fs out (before ++ (sign sign.As ∷ [])) (postfix a)
+    (sign sign.Cast ∷ sign sign.Open ∷ ((spelling a ++ []) ++ (sign sign.As ∷ [])))
+    (sign sign.Cast ∷ sign sign.Open ∷ (spelling a ++ (sign sign.As ∷ [])))
+    (ap (λ ts. sign sign.Cast ∷ sign sign.Open ∷ (ts ++ (sign sign.As ∷ [])))
+    (append-nil (spelling a)))
+    (more_tokens fs out before (postfix a) (sign sign.Cast ∷ sign sign.Open ∷ (spelling a ++ []))
+    (sign sign.As ∷ []) b)
 
-pub as_sound : (l : ℕ) (fs : List Frame) (out : List Step) (s : State) (before : List Token) → as_behind fs out ≡ Some s → HasOperand l fs out before []
+pub as_sound : (l : ℕ) (fs : List Frame) (out : List Step) (s : State) (before : List Token)
+    → as_behind fs out ≡ Some s → HasOperand l fs out before []
     → HoldsIn s (before ++ (sign sign.As ∷ []))
 as_sound l [] out s before e a = absurd cc
 as_sound l (frame.Cast ∷ fs) out s before e a =
     let r = popped frame.Cast fs out before (postfix a.tree) (spelling a.tree ++ []) a.behind in
-    along (state mode.CastType fs out) s (before ++ (sign sign.As ∷ [])) e (a.tree, a.fits, cast_begun a.tree r.h fs out before (cast_is r.h r.is) r.behind)
+    along (state mode.CastType fs out) s (before ++ (sign sign.As ∷ [])) e
+    (a.tree, a.fits, cast_begun a.tree r.h fs out before (cast_is r.h r.is) r.behind)
 as_sound l (frame.Open ∷ fs) out s before e a = absurd cc
 as_sound l (frame.Not ∷ fs) out s before e a = absurd cc
 as_sound l (frame.Join o ∷ fs) out s before e a = absurd cc
@@ -199,19 +271,24 @@ as_sound l (frame.Between n ∷ fs) out s before e a = absurd cc
 as_sound l (frame.Bounded n ∷ fs) out s before e a = absurd cc
 as_sound l (frame.Like k ∷ fs) out s before e a = absurd cc
 
-pub pattern_written : (k : LikeKind) (a p : Syntax) → (written (matching k a) ++ (spelling p ++ [])) ++ (sign sign.Escape ∷ [])
+pub pattern_written : (k : LikeKind) (a p : Syntax)
+    → (written (matching k a) ++ (spelling p ++ [])) ++ (sign sign.Escape ∷ [])
     ≡ spelling a ++ (like_sign k ++ (spelling p ++ (sign sign.Escape ∷ [])))
 pattern_written k a p =
     ap (λ ts. (written (matching k a) ++ ts) ++ (sign sign.Escape ∷ [])) (append-nil (spelling p))
     ∙ append_assoc (written (matching k a)) (spelling p) (sign sign.Escape ∷ [])
     ∙ append_assoc (spelling a) (like_sign k) (spelling p ++ (sign sign.Escape ∷ []))
 
-pub escape_begun : (k : LikeKind) (p : Syntax) (h : Held) (a : Syntax) (fs : List Frame) (out : List Step) (before : List Token) → h ≡ matching k a → IsSound h → Fits p → 6 ≤ level p
-    → top_hole fs ≤ 5 → Behind fs out before (held h ++ postfix p) (written h ++ (spelling p ++ [])) → Holds (mode.Escaping k) fs out (before ++ (sign sign.Escape ∷ []))
+pub escape_begun : (k : LikeKind) (p : Syntax) (h : Held) (a : Syntax) (fs : List Frame)
+    (out : List Step) (before : List Token) → h ≡ matching k a → IsSound h → Fits p → 6 ≤ level p
+    → top_hole fs ≤ 5 → Behind fs out before (held h ++ postfix p) (written h ++ (spelling p ++ []))
+    → Holds (mode.Escaping k) fs out (before ++ (sign sign.Escape ∷ []))
 escape_begun k p h a fs out before e s f j place r =
     let sound : IsSound (matching k a) = subst (λ (v : Held). IsSound v) e s in
-    let b : Behind fs out before (held (matching k a) ++ postfix p) (written (matching k a) ++ (spelling p ++ [])) =
-    subst (λ (v : Held). Behind fs out before (held v ++ postfix p) (written v ++ (spelling p ++ []))) e r in (
+    let b : Behind fs out before (held (matching k a) ++ postfix p)
+    (written (matching k a) ++ (spelling p ++ [])) =
+    subst (λ (v : Held). Behind fs out before (held v ++ postfix p)
+    (written v ++ (spelling p ++ []))) e r in (
       a,
       p,
       sound.0,
@@ -219,19 +296,24 @@ escape_begun k p h a fs out before e s f j place r =
       sound.1,
       f,
       place,
-      as_tokens fs out (before ++ (sign sign.Escape ∷ [])) (postfix a ++ postfix p) ((written (matching k a) ++ (spelling p ++ [])) ++ (sign sign.Escape ∷ []))
-          (spelling a ++ (like_sign k ++ (spelling p ++ (sign sign.Escape ∷ [])))) (pattern_written k a p)
-          (more_tokens fs out before (postfix a ++ postfix p) (written (matching k a) ++ (spelling p ++ [])) (sign sign.Escape ∷ []) b),
+      as_tokens fs out (before ++ (sign sign.Escape ∷ [])) (postfix a ++ postfix p)
+          ((written (matching k a) ++ (spelling p ++ [])) ++ (sign sign.Escape ∷ []))
+          (spelling a ++ (like_sign k ++ (spelling p ++ (sign sign.Escape ∷ []))))
+          (pattern_written k a p)
+          (more_tokens fs out before (postfix a ++ postfix p)
+          (written (matching k a) ++ (spelling p ++ [])) (sign sign.Escape ∷ []) b),
     )
 
-pub escape_sound : (l : ℕ) (fs : List Frame) (out : List Step) (s : State) (before : List Token) → escape_behind fs out ≡ Some s → HasOperand l fs out before []
+pub escape_sound : (l : ℕ) (fs : List Frame) (out : List Step) (s : State) (before : List Token)
+    → escape_behind fs out ≡ Some s → HasOperand l fs out before []
     → HoldsIn s (before ++ (sign sign.Escape ∷ []))
 escape_sound l [] out s before e a = absurd cc
 escape_sound l (frame.Like k ∷ fs) out s before e a =
     let r = popped (frame.Like k) fs out before (postfix a.tree) (spelling a.tree ++ []) a.behind in
     let i = like_is k r.h r.is in
     along (state (mode.Escaping k) fs out) s (before ++ (sign sign.Escape ∷ [])) e
-    (escape_begun k a.tree r.h i.0 fs out before i.1 r.sound a.fits (subst (λ (m : ℕ). 6 ≤ m) a.level a.place) r.place r.behind)
+    (escape_begun k a.tree r.h i.0 fs out before i.1 r.sound a.fits
+    (subst (λ (m : ℕ). 6 ≤ m) a.level a.place) r.place r.behind)
 escape_sound l (frame.Open ∷ fs) out s before e a = absurd cc
 escape_sound l (frame.Cast ∷ fs) out s before e a = absurd cc
 escape_sound l (frame.Not ∷ fs) out s before e a = absurd cc
@@ -239,44 +321,61 @@ escape_sound l (frame.Join o ∷ fs) out s before e a = absurd cc
 escape_sound l (frame.Between n ∷ fs) out s before e a = absurd cc
 escape_sound l (frame.Bounded n ∷ fs) out s before e a = absurd cc
 
-pub typed_sound : (l : ℕ) (fs : List Frame) (out : List Step) (s : State) (before : List Token) → cond (nat_le 9 l) (Some (state mode.Typing fs out)) None ≡ Some s
+pub typed_sound : (l : ℕ) (fs : List Frame) (out : List Step) (s : State) (before : List Token)
+    → cond (nat_le 9 l) (Some (state mode.Typing fs out)) None ≡ Some s
     → HasOperand l fs out before [] → HoldsIn s (before ++ (sign sign.Typed ∷ []))
 typed_sound l fs out s before e a =
     let c = chosen (nat_le 9 l) (state mode.Typing fs out) s e in
-    along (state mode.Typing fs out) s (before ++ (sign sign.Typed ∷ [])) c.1 (l, operand_more l fs out before [] (sign sign.Typed ∷ []) a, fits_below 9 l c.0)
+    along (state mode.Typing fs out) s (before ++ (sign sign.Typed ∷ [])) c.1
+    (l, operand_more l fs out before [] (sign sign.Typed ∷ []) a, fits_below 9 l c.0)
 
-pub behind_sign : (l : ℕ) (fs : List Frame) (out : List Step) (u : Sign) (s : State) (before : List Token) → behind l fs out (sign u) ≡ Some s → HasOperand l fs out before []
+pub behind_sign : (l : ℕ) (fs : List Frame) (out : List Step) (u : Sign) (s : State)
+    (before : List Token) → behind l fs out (sign u) ≡ Some s → HasOperand l fs out before []
     → HoldsIn s (before ++ (sign u ∷ []))
 unfolding word_behind predicate
-behind_sign l fs out sign.And s before e a = let b = settled 1 l fs out in and_sound b.level b.frames b.steps s before e (settled_operand 1 l fs out before [] a)
+behind_sign l fs out sign.And s before e a = let b = settled 1 l fs out in
+    and_sound b.level b.frames b.steps s before e (settled_operand 1 l fs out before [] a)
 behind_sign l fs out sign.Or s before e a = joining_sound operator.Or l fs out s before e a
-behind_sign l fs out sign.Not s before e a = along (state (mode.Negating l) fs out) s (before ++ (sign sign.Not ∷ [])) e (operand_more l fs out before [] (sign sign.Not ∷ []) a)
-behind_sign l fs out sign.Is s before e a = let b = settled 3 l fs out in is_sound b.level b.frames b.steps s before e (settled_operand 3 l fs out before [] a)
+behind_sign l fs out sign.Not s before e a =
+    along (state (mode.Negating l) fs out) s (before ++ (sign sign.Not ∷ [])) e
+    (operand_more l fs out before [] (sign sign.Not ∷ []) a)
+behind_sign l fs out sign.Is s before e a = let b = settled 3 l fs out in
+    is_sound b.level b.frames b.steps s before e (settled_operand 3 l fs out before [] a)
 behind_sign l fs out sign.Null s before e a = absurd cc
 behind_sign l fs out sign.Between s before e a = between_sound false l fs out s before e a
-behind_sign l fs out sign.Like s before e a = like_sound false false sign.Like l fs out s before refl e a
-behind_sign l fs out sign.Ilike s before e a = like_sound false true sign.Ilike l fs out s before refl e a
-behind_sign l fs out sign.Escape s before e a = let b = settled 6 l fs out in escape_sound b.level b.frames b.steps s before e (settled_operand 6 l fs out before [] a)
+behind_sign l fs out sign.Like s before e a =
+    like_sound false false sign.Like l fs out s before refl e a
+behind_sign l fs out sign.Ilike s before e a =
+    like_sound false true sign.Ilike l fs out s before refl e a
+behind_sign l fs out sign.Escape s before e a = let b = settled 6 l fs out in
+    escape_sound b.level b.frames b.steps s before e (settled_operand 6 l fs out before [] a)
 behind_sign l fs out sign.True s before e a = absurd cc
 behind_sign l fs out sign.False s before e a = absurd cc
 behind_sign l fs out sign.Cast s before e a = absurd cc
-behind_sign l fs out sign.As s before e a = let b = settled 0 l fs out in as_sound b.level b.frames b.steps s before e (settled_operand 0 l fs out before [] a)
+behind_sign l fs out sign.As s before e a = let b = settled 0 l fs out in
+    as_sound b.level b.frames b.steps s before e (settled_operand 0 l fs out before [] a)
 behind_sign l fs out sign.Equal s before e a = joining_sound operator.Equal l fs out s before e a
-behind_sign l fs out sign.NotEqual s before e a = joining_sound operator.NotEqual l fs out s before e a
+behind_sign l fs out sign.NotEqual s before e a =
+    joining_sound operator.NotEqual l fs out s before e a
 behind_sign l fs out sign.Less s before e a = joining_sound operator.Less l fs out s before e a
-behind_sign l fs out sign.LessOrEqual s before e a = joining_sound operator.LessOrEqual l fs out s before e a
-behind_sign l fs out sign.Greater s before e a = joining_sound operator.Greater l fs out s before e a
-behind_sign l fs out sign.GreaterOrEqual s before e a = joining_sound operator.GreaterOrEqual l fs out s before e a
+behind_sign l fs out sign.LessOrEqual s before e a =
+    joining_sound operator.LessOrEqual l fs out s before e a
+behind_sign l fs out sign.Greater s before e a =
+    joining_sound operator.Greater l fs out s before e a
+behind_sign l fs out sign.GreaterOrEqual s before e a =
+    joining_sound operator.GreaterOrEqual l fs out s before e a
 behind_sign l fs out sign.Plus s before e a = joining_sound operator.Add l fs out s before e a
 behind_sign l fs out sign.Minus s before e a = joining_sound operator.Sub l fs out s before e a
 behind_sign l fs out sign.Times s before e a = joining_sound operator.Mul l fs out s before e a
 behind_sign l fs out sign.Divide s before e a = joining_sound operator.Div l fs out s before e a
 behind_sign l fs out sign.Open s before e a = absurd cc
-behind_sign l fs out sign.Close s before e a = let b = settled 0 l fs out in close_sound b.level b.frames b.steps s before e (settled_operand 0 l fs out before [] a)
+behind_sign l fs out sign.Close s before e a = let b = settled 0 l fs out in
+    close_sound b.level b.frames b.steps s before e (settled_operand 0 l fs out before [] a)
 behind_sign l fs out sign.Comma s before e a = absurd cc
 behind_sign l fs out sign.Typed s before e a = typed_sound l fs out s before e a
 
-pub behind_sound : (l : ℕ) (fs : List Frame) (out : List Step) (t : Token) (s : State) (before : List Token) → behind l fs out t ≡ Some s → HasOperand l fs out before []
+pub behind_sound : (l : ℕ) (fs : List Frame) (out : List Step) (t : Token) (s : State)
+    (before : List Token) → behind l fs out t ≡ Some s → HasOperand l fs out before []
     → HoldsIn s (before ++ (t ∷ []))
 behind_sound l fs out (sign u) s before e a = behind_sign l fs out u s before e a
 behind_sound l fs out (name w) s before e a = absurd cc
@@ -285,7 +384,8 @@ behind_sound l fs out (quoted w) s before e a = absurd cc
 behind_sound l fs out (number w) s before e a = absurd cc
 behind_sound l fs out (text w) s before e a = absurd cc
 
-pub negating_sound : (l : ℕ) (fs : List Frame) (out : List Step) (t : Token) (s : State) (before : List Token) → specs.negating l fs out t ≡ Some s
+pub negating_sound : (l : ℕ) (fs : List Frame) (out : List Step) (t : Token) (s : State)
+    (before : List Token) → specs.negating l fs out t ≡ Some s
     → HasOperand l fs out before (sign sign.Not ∷ []) → HoldsIn s (before ++ (t ∷ []))
 negating_sound l fs out (sign u) s before e a = predicate_sound true l fs out u s before e a
 negating_sound l fs out (name w) s before e a = absurd cc

@@ -1,5 +1,6 @@
 -- What the tables of levels say of one another.
-use Rattle.std.proofs.Common.{◌≡◌, ◌≢◌, ℕ, ◌<◌, ◌≤◌, true, false, nat_lt, nat_le, List, [], ◌∷◌, arith, lit<, lit≤}
+use Rattle.std.proofs.Common.{◌≡◌, ◌≢◌, ℕ, ◌<◌, ◌≤◌, true, false, nat_lt, nat_le, List, [], ◌∷◌}
+use Rattle.std.proofs.Common.{arith, lit<, lit≤}
 use Rattle.std.proofs.lemmas.Bool.Decides.{nat_tests}
 use Rattle.vortex_syntax.specs.declared.step.Operator.{Operator}
 use Rattle.vortex_syntax.specs.declared.step.Operator.TheVariants as operator

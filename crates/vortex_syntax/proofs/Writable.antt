@@ -1,5 +1,6 @@
 -- The tokens of a text can be written.
-use Rattle.std.proofs.Common.{◌≡◌, ℕ, Bool, true, false, cond, ◌==◌, List, [], ◌∷◌, Option, Some, None, refl, ap, sym, subst, ◌∙◌}
+use Rattle.std.proofs.Common.{◌≡◌, ℕ, Bool, true, false, cond, ◌==◌, List, [], ◌∷◌, Option, Some}
+use Rattle.std.proofs.Common.{None, refl, ap, sym, subst, ◌∙◌}
 use Rattle.std.specs.Prelude.{is_none}
 use Rattle.std.specs.List.{list_all}
 use Rattle.std.specs.Char.{is_ascii_digit}
@@ -10,13 +11,19 @@ use Rattle.vortex_syntax.specs.declared.pieces.Run.{Run}
 use Rattle.vortex_syntax.specs.declared.pieces.Run.TheVariants.{Word, Digits, Line}
 use Rattle.vortex_syntax.specs.Tokens.{Token, name, nullable, quoted, number, text, sign}
 use Rattle.vortex_syntax.specs.Keywords.{keyword_of}
-use Rattle.vortex_syntax.specs.Pieces.{Piece, gap, token, Cut, is_blank, begins_word, is_in, front, behind, keyword_or_name, word_before, number_before, with_front, closed, quoted_by, sign_of_two, sign_of_one, sign_before, or_else, longest_sign, minus_or_comment, first_piece}
+use Rattle.vortex_syntax.specs.Pieces.{Piece, gap, token, Cut, is_blank, begins_word, is_in, front}
+use Rattle.vortex_syntax.specs.Pieces.{behind, keyword_or_name, word_before, number_before}
+use Rattle.vortex_syntax.specs.Pieces.{with_front, closed, quoted_by, sign_of_two, sign_of_one}
+use Rattle.vortex_syntax.specs.Pieces.{sign_before, or_else, longest_sign, minus_or_comment}
+use Rattle.vortex_syntax.specs.Pieces.{first_piece}
 use Rattle.vortex_syntax.specs.Lexing.{Lexes, none, gap_first, token_first}
-use Rattle.vortex_syntax.specs.Writing.{doubled, is_word, are_digits, IsDoubled, IsWritable, AllWritable}
+use Rattle.vortex_syntax.specs.Writing.{doubled, is_word, are_digits, IsDoubled, IsWritable}
+use Rattle.vortex_syntax.specs.Writing.{AllWritable}
 use Rattle.vortex_syntax.proofs.Runs.{word_begun}
 
 -- runs
-front_step : (r : Run) (b : ℕ) (bs : List ℕ) → list_all (is_in r) (front r bs) ≡ true → (v : Bool) → is_in r b ≡ v → list_all (is_in r) (cond v (b ∷ front r bs) []) ≡ true
+front_step : (r : Run) (b : ℕ) (bs : List ℕ) → list_all (is_in r) (front r bs) ≡ true → (v : Bool)
+    → is_in r b ≡ v → list_all (is_in r) (cond v (b ∷ front r bs) []) ≡ true
 front_step r b bs ih true h = and_from (is_in r b) (list_all (is_in r) (front r bs)) h ih
 front_step r b bs ih false h = refl
 
@@ -29,8 +36,11 @@ word_is b bs h =
     let here = word_begun b h in
     rw here (and_from (begins_word b) (list_all (is_in Word) (front Word bs)) h (front_is Word bs))
 
-digits_are : (d : ℕ) (ds : List ℕ) → is_ascii_digit d ≡ true → are_digits (front Digits (d ∷ ds)) ≡ true
-digits_are d ds h = let here : is_in Digits d ≡ true = h in rw here (and_from (is_in Digits d) (list_all (is_in Digits) (front Digits ds)) h (front_is Digits ds))
+digits_are : (d : ℕ) (ds : List ℕ) → is_ascii_digit d ≡ true
+    → are_digits (front Digits (d ∷ ds)) ≡ true
+digits_are d ds h = let here : is_in Digits d ≡ true = h in
+    rw here (and_from (is_in Digits d) (list_all (is_in Digits) (front Digits ds)) h
+    (front_is Digits ds))
 
 -- texts between quotes
 abbrev Pair : Type 0
@@ -45,34 +55,43 @@ Doubles q o = (x : Pair) → o ≡ Some x → IsDoubled q x.0
 ends_doubled : (q : ℕ) (bs : List ℕ) → Doubles q (Some ([], bs))
 ends_doubled q bs x e = ([], ap (λ (p : Pair). p.0) (sym (some_is ([], bs) x e)))
 
-twice_doubled : (q b c : ℕ) → (b == q) ≡ true → (c == q) ≡ true → (o : Option Pair) → Doubles q o → Doubles q (with_front (b ∷ c ∷ []) o)
+twice_doubled : (q b c : ℕ) → (b == q) ≡ true → (c == q) ≡ true → (o : Option Pair) → Doubles q o
+    → Doubles q (with_front (b ∷ c ∷ []) o)
 twice_doubled q b c h k None f x e = absurd cc
 twice_doubled q b c h k (Some y) f x e =
     let d = f y refl in
     let same : c ≡ b = eqb-true c q k ∙ sym (eqb-true b q h) in
     let step : doubled q (b ∷ d.0) ≡ b ∷ b ∷ doubled q d.0 = rw h refl in (
       b ∷ d.0,
-      ap (λ (p : Pair). p.0) (sym (some_is (b ∷ c ∷ y.0, y.1) x e)) ∙ ap (λ v. b ∷ v ∷ y.0) same ∙ ap (λ ys. b ∷ b ∷ ys) d.1 ∙ sym step,
+      ap (λ (p : Pair). p.0) (sym (some_is (b ∷ c ∷ y.0, y.1) x e)) ∙ ap (λ v. b ∷ v ∷ y.0) same
+          ∙ ap (λ ys. b ∷ b ∷ ys) d.1 ∙ sym step,
     )
 
-other_doubled : (q b : ℕ) → (b == q) ≡ false → (o : Option Pair) → Doubles q o → Doubles q (with_front (b ∷ []) o)
+other_doubled : (q b : ℕ) → (b == q) ≡ false → (o : Option Pair) → Doubles q o
+    → Doubles q (with_front (b ∷ []) o)
 other_doubled q b h None f x e = absurd cc
 other_doubled q b h (Some y) f x e =
     let d = f y refl in
-    let step : doubled q (b ∷ d.0) ≡ b ∷ doubled q d.0 = rw h refl in
-    (b ∷ d.0, ap (λ (p : Pair). p.0) (sym (some_is (b ∷ y.0, y.1) x e)) ∙ ap (λ ys. b ∷ ys) d.1 ∙ sym step)
+    let step : doubled q (b ∷ d.0) ≡ b ∷ doubled q d.0 = rw h refl in (
+      b ∷ d.0,
+      ap (λ (p : Pair). p.0) (sym (some_is (b ∷ y.0, y.1) x e)) ∙ ap (λ ys. b ∷ ys) d.1
+          ∙ sym step,
+    )
 
 none_doubled : (q : ℕ) → Doubles q None
 none_doubled q x e = absurd cc
 
 closed_is : (q : ℕ) (bs : List ℕ) → Doubles q (closed q bs)
 closed_is q [] = none_doubled q
-closed_is q (b ∷ []) = cond_both (b == q) (Some ([], [])) None (Doubles q) (λ h. ends_doubled q []) (λ h. none_doubled q)
+closed_is q (b ∷ []) = cond_both (b == q) (Some ([], [])) None (Doubles q) (λ h. ends_doubled q [])
+    (λ h. none_doubled q)
 closed_is q (b ∷ c ∷ bs) =
     let twice = closed_is q bs in
     let other = closed_is q (c ∷ bs) in
-    cond_both (b == q) (cond (c == q) (with_front (b ∷ c ∷ []) (closed q bs)) (Some ([], c ∷ bs))) (with_front (b ∷ []) (closed q (c ∷ bs))) (Doubles q)
-    (λ h. cond_both (c == q) (with_front (b ∷ c ∷ []) (closed q bs)) (Some ([], c ∷ bs)) (Doubles q) (λ k. twice_doubled q b c h k (closed q bs) twice) (λ k. ends_doubled q (c ∷ bs)))
+    cond_both (b == q) (cond (c == q) (with_front (b ∷ c ∷ []) (closed q bs)) (Some ([], c ∷ bs)))
+    (with_front (b ∷ []) (closed q (c ∷ bs))) (Doubles q)
+    (λ h. cond_both (c == q) (with_front (b ∷ c ∷ []) (closed q bs)) (Some ([], c ∷ bs)) (Doubles q)
+    (λ k. twice_doubled q b c h k (closed q bs) twice) (λ k. ends_doubled q (c ∷ bs)))
     (λ h. other_doubled q b h (closed q (c ∷ bs)) other)
 
 -- pieces
@@ -99,23 +118,30 @@ module _ (t : Token) (rest : List ℕ) where
   minus_says : (bs : List ℕ) → Says (minus_or_comment bs)
   minus_says [] = token_says (sign sign.Minus) [] tt
   minus_says (c ∷ cs) =
-      cond_both (c == 45) (Some (gap, behind Line cs)) (Some (token (sign sign.Minus), c ∷ cs)) Says (λ h. gap_says (behind Line cs)) (λ h. token_says (sign sign.Minus) (c ∷ cs) tt)
+      cond_both (c == 45) (Some (gap, behind Line cs)) (Some (token (sign sign.Minus), c ∷ cs)) Says
+      (λ h. gap_says (behind Line cs)) (λ h. token_says (sign sign.Minus) (c ∷ cs) tt)
 
-  keyword_says : (w xs : List ℕ) (o : Option Sign) → is_word w ≡ true → keyword_of w ≡ o → Says (Some (token (keyword_or_name w o), xs))
-  keyword_says w xs None h e = token_says (name w) xs (and_from (is_word w) (is_none (keyword_of w)) h (ap is_none e))
+  keyword_says : (w xs : List ℕ) (o : Option Sign) → is_word w ≡ true → keyword_of w ≡ o
+      → Says (Some (token (keyword_or_name w o), xs))
+  keyword_says w xs None h e =
+      token_says (name w) xs (and_from (is_word w) (is_none (keyword_of w)) h (ap is_none e))
   keyword_says w xs (Some s) h e = token_says (sign s) xs tt
 
   word_says : (w xs : List ℕ) → is_word w ≡ true → Says (Some (word_before w xs))
   word_says w [] h = keyword_says w [] (keyword_of w) h refl
   word_says w (b ∷ bs) h =
-      cond_both (b == 63) (token (nullable w), bs) (token (keyword_or_name w (keyword_of w)), b ∷ bs) (λ p. Says (Some p))
+      cond_both (b == 63) (token (nullable w), bs)
+      (token (keyword_or_name w (keyword_of w)), b ∷ bs) (λ p. Says (Some p))
       (λ k. token_says (nullable w) bs h) (λ k. keyword_says w (b ∷ bs) (keyword_of w) h refl)
 
   number_says : (ds xs : List ℕ) → are_digits ds ≡ true → Says (number_before ds xs)
   number_says ds [] h = token_says (number ds) [] h
-  number_says ds (b ∷ bs) h = cond_both (is_in Word b) None (Some (token (number ds), b ∷ bs)) Says (λ k. none_says) (λ k. token_says (number ds) (b ∷ bs) h)
+  number_says ds (b ∷ bs) h =
+      cond_both (is_in Word b) None (Some (token (number ds), b ∷ bs)) Says (λ k. none_says)
+      (λ k. token_says (number ds) (b ∷ bs) h)
 
-  quoted_says : (make : List ℕ → Token) (o : Option Pair) → ((x : Pair) → o ≡ Some x → IsWritable (make x.0)) → Says (quoted_by make o)
+  quoted_says : (make : List ℕ → Token) (o : Option Pair)
+      → ((x : Pair) → o ≡ Some x → IsWritable (make x.0)) → Says (quoted_by make o)
   quoted_says make None f = none_says
   quoted_says make (Some x) f = token_says (make x.0) x.1 (f x refl)
 
@@ -129,7 +155,9 @@ module _ (t : Token) (rest : List ℕ) where
 
   longest_says : (b : ℕ) (xs : List ℕ) → Says (longest_sign b xs)
   longest_says b [] = sign_says [] (sign_of_one b)
-  longest_says b (c ∷ cs) = or_says (sign_before cs (sign_of_two b c)) (sign_before (c ∷ cs) (sign_of_one b)) (sign_says cs (sign_of_two b c)) (sign_says (c ∷ cs) (sign_of_one b))
+  longest_says b (c ∷ cs) =
+      or_says (sign_before cs (sign_of_two b c)) (sign_before (c ∷ cs) (sign_of_one b))
+      (sign_says cs (sign_of_two b c)) (sign_says (c ∷ cs) (sign_of_one b))
 
   piece_says : (bs : List ℕ) → Says (first_piece bs)
   unfolding first_piece
@@ -138,19 +166,27 @@ module _ (t : Token) (rest : List ℕ) where
       let marks = longest_sign b bs in
       let names = cond (b == 34) (quoted_by quoted (closed 34 bs)) marks in
       let texts = cond (b == 39) (quoted_by text (closed 39 bs)) names in
-      let numbers = cond (is_ascii_digit b) (number_before (front Digits (b ∷ bs)) (behind Digits (b ∷ bs))) texts in
-      let words = cond (begins_word b) (Some (word_before (front Word (b ∷ bs)) (behind Word (b ∷ bs)))) numbers in
+      let numbers =
+      cond (is_ascii_digit b)
+      (number_before (front Digits (b ∷ bs)) (behind Digits (b ∷ bs))) texts in
+      let words = cond (begins_word b)
+      (Some (word_before (front Word (b ∷ bs)) (behind Word (b ∷ bs)))) numbers in
       let minus = cond (b == 45) (minus_or_comment bs) words in
       cond_both (is_blank b) (Some (gap, bs)) minus Says (λ h. gap_says bs)
       (λ h. cond_both (b == 45) (minus_or_comment bs) words Says (λ h. minus_says bs)
-      (λ h. cond_both (begins_word b) (Some (word_before (front Word (b ∷ bs)) (behind Word (b ∷ bs)))) numbers Says
+      (λ h. cond_both (begins_word b)
+      (Some (word_before (front Word (b ∷ bs)) (behind Word (b ∷ bs)))) numbers Says
       (λ h. word_says (front Word (b ∷ bs)) (behind Word (b ∷ bs)) (word_is b bs h))
-      (λ h. cond_both (is_ascii_digit b) (number_before (front Digits (b ∷ bs)) (behind Digits (b ∷ bs))) texts Says
+      (λ h. cond_both (is_ascii_digit b)
+      (number_before (front Digits (b ∷ bs)) (behind Digits (b ∷ bs))) texts Says
       (λ h. number_says (front Digits (b ∷ bs)) (behind Digits (b ∷ bs)) (digits_are b bs h))
-      (λ h. cond_both (b == 39) (quoted_by text (closed 39 bs)) names Says (λ h. quoted_says text (closed 39 bs) (closed_is 39 bs))
-      (λ h. cond_both (b == 34) (quoted_by quoted (closed 34 bs)) marks Says (λ h. quoted_says quoted (closed 34 bs) (closed_is 34 bs)) (λ h. longest_says b bs))))))
+      (λ h. cond_both (b == 39) (quoted_by text (closed 39 bs)) names Says
+      (λ h. quoted_says text (closed 39 bs) (closed_is 39 bs))
+      (λ h. cond_both (b == 34) (quoted_by quoted (closed 34 bs)) marks Says
+      (λ h. quoted_says quoted (closed 34 bs) (closed_is 34 bs)) (λ h. longest_says b bs))))))
 
 pub all_writable : {bs : List ℕ} {ts : List Token} → Lexes bs ts → AllWritable ts
 all_writable none = tt
 all_writable (gap_first e l) = all_writable l
-all_writable (token_first {bs = bs} {rest = rest} {t = t} e l) = (piece_says t rest bs e, all_writable l)
+all_writable (token_first {bs = bs} {rest = rest} {t = t} e l) =
+    (piece_says t rest bs e, all_writable l)

@@ -112,6 +112,7 @@ Fits (negated a) = (not_level ≤ level a) × Fits a
 Fits (joined o a b) = (left o ≤ level a) × (right o ≤ level b) × Fits a × Fits b
 Fits (tested n a) = (is_level ≤ level a) × Fits a
 Fits (between n a low high) =
-    (sum_level ≤ level a) × (sum_level ≤ level low) × (sum_level ≤ level high) × Fits a × Fits low × Fits high
+    (sum_level ≤ level a) × (sum_level ≤ level low) × (sum_level ≤ level high) × Fits a × Fits low
+    × Fits high
 Fits (matched k a p e) = (sum_level ≤ level a) × (sum_level ≤ level p) × Fits a × Fits p
 Fits (cast a w n) = Fits a

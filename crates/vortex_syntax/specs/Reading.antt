@@ -232,7 +232,8 @@ digits_wanted fs out t = None
 
 abbrev pub type_wanted : List Frame → List Step → Token → Option State
 type_wanted fs out (name w) = Some (state (mode.Have atom_level) fs (out ++ (typed w false ∷ [])))
-type_wanted fs out (nullable w) = Some (state (mode.Have atom_level) fs (out ++ (typed w true ∷ [])))
+type_wanted fs out (nullable w) =
+    Some (state (mode.Have atom_level) fs (out ++ (typed w true ∷ [])))
 type_wanted fs out t = None
 
 abbrev pub cast_wanted : List Frame → List Step → Token → Option State

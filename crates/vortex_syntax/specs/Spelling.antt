@@ -33,7 +33,8 @@ with_not n s = if n then sign sign.Not ∷ sign s ∷ [] else sign s ∷ []
 
 abbrev pub null_test : Bool → List Token
 null_test n =
-    if n then sign sign.Is ∷ sign sign.Not ∷ sign sign.Null ∷ [] else sign sign.Is ∷ sign sign.Null ∷ []
+    if n then sign sign.Is ∷ sign sign.Not ∷ sign sign.Null ∷ [] else sign sign.Is ∷ sign
+    sign.Null ∷ []
 
 abbrev pub like_sign : LikeKind → List Token
 like_sign k = with_not k.negated (if k.case_insensitive then sign.Ilike else sign.Like)

@@ -11,7 +11,8 @@ use Rattle.yurkije_columns.specs.Scopes.{answers, scope_lent}
 use Rattle.yurkije_core.specs.declared.program.Program.{Program}
 use Rattle.yurkije_core.specs.declared.reading.ProgramError.{ProgramError}
 use Rattle.yurkije_core.specs.declared.report.Report.{Report}
-use Rattle.yurkije_core.specs.Programs.{trees_of, IsAsked, AreRewrites, IsWant, RefusesFor, IsNoText}
+use Rattle.yurkije_core.specs.Programs.{trees_of, IsAsked, AreRewrites, IsWant, RefusesFor}
+use Rattle.yurkije_core.specs.Programs.{IsNoText}
 use Rattle.yurkije_core.specs.Programs.{ReadsLines, RefusesLines}
 use Rattle.yurkije.specs.Views.{HeldView}
 use Rattle.yurkije.specs.Reading.{Reads, HoldsRead, HoldsLines}

@@ -25,7 +25,8 @@ use Rattle.yurkije_core.specs.Reports.{Tells, nowhere, lent_told, run_told}
 use Rattle.yurkije.specs.Views.{ProgramView, HeldView, answers_in}
 use Rattle.yurkije.specs.Reading.{Done, Wants}
 
--- The handle holds what the program answers over the columns that are lent, and 0 is answered; or it
+-- The handle holds what the program answers over the columns that are lent, and 0 is answered; or
+-- it
 -- holds nothing, and why is told: a column is wrong, or an answer faults, or memory ran out. Of a
 -- program that was read, what is run are rewrites of what was written.
 pub data HoldsAnswers (p : ProgramView) (lent : List LentColumn) (rows : ℕ) (held : Option HeldView)

@@ -1,6 +1,7 @@
 -- What fields make of a scope, one field more, and the first that is wrong.
 use Rattle.std.proofs.Common.{◌≡◌, ◌+◌, ◌<◌, ℕ, List, [], ◌∷◌, length, drop, get_or}
-use Rattle.std.proofs.Common.{refl, sym, ap, ◌∙◌, zero, suc, arith, add-one, Bool, true, false, Some}
+use Rattle.std.proofs.Common.{refl, sym, ap, ◌∙◌, zero, suc, arith, add-one, Bool, true, false}
+use Rattle.std.proofs.Common.{Some}
 use Rattle.std.specs.Prelude.{if◌then◌else◌}
 use Rattle.std.specs.Str.{is_utf8}
 use Rattle.vortex_types.specs.LogicalTypes.{Fields, find_field}

@@ -16,7 +16,8 @@ pub text_of_kind : (k j : Kind) (t : LogicalType) → k ≡ j → IsOfKind k t
 text_of_kind k j t e h = sym (ap is_text_type (subst (λ (i : Kind). IsOfKind i t) e h))
 
 pub texts_stand : {A E : Type 0} (r : Result A E) (k j : Kind) (c : ColumnView) (old new : Room)
-    (b : Bool) (os : List ℤ) (bs : List ℕ) (B C : Type 0) → k ≡ j → room_layout j new ≡ offsets b os bs
+    (b : Bool) (os : List ℤ) (bs : List ℕ) (B C : Type 0) → k ≡ j
+    → room_layout j new ≡ offsets b os bs
     → is_text_type c.dtype ≡ b
     → OnOk r (c.rows ≡ rows_of new.validity.now (offsets (is_text_type c.dtype) os bs)
     (length c.rows))

@@ -19,7 +19,8 @@ returns c =
     (field_is fields (row * c.len.result + column) _ (rw counted c.requires.place))
     ∙ ap (λ t. field_fits t (field_at (map field_in fields) (row * c.len.result + column)))
     c.dtype.ensures
-    ∙ ap (λ n. field_fits (field_type column ds) (field_at (map field_in fields) (row * n + column)))
+    ∙ ap (λ n. field_fits (field_type column ds)
+    (field_at (map field_in fields) (row * n + column)))
     counted
     ∙ ap (λ k. field_fits (field_type k ds)
     (field_at (map field_in fields) (row * field_count ds + column)))

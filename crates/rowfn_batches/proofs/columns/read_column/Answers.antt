@@ -25,7 +25,8 @@ returns c =
     let t = type_of c.dtype.result.now in
     let same : column_of_fields t apart ≡ column_at ds fs n j =
     column_of_their_cells t apart
-    ∙ ap (λ u. option_and_then (column_of_cells u) (all_some (map field_cell apart))) c.dtype.ensures
+    ∙ ap (λ u. option_and_then (column_of_cells u) (all_some (map field_cell apart)))
+    c.dtype.ensures
     ∙ ap (λ cells. option_and_then (column_of_cells (field_type j ds)) (all_some cells))
     (map-map field_cell (cell_apart fs c.len-width.result j) (range_with_len 0 n))
     ∙ ap (λ w. option_and_then (column_of_cells (field_type j ds)) (cells_at fs w n j))

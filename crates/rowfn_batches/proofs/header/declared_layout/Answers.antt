@@ -18,4 +18,5 @@ pub returns-clause-places : goal.returns-clause-places
 returns-clause-places c =
     c.loop-i.invariant
     ∙ ap (λ (n : ℕ). map (declared_place c.args.said.now) (range_with_len 0 n))
-    (let all : c.loop-i.i ≡ field_count (struct_fields c.args.declared.now) = omega (arith, c.loop-i-test.false, c.len-i-end.ensures) in all)
+    (let all : c.loop-i.i ≡ field_count (struct_fields c.args.declared.now) =
+    omega (arith, c.loop-i-test.false, c.len-i-end.ensures) in all)

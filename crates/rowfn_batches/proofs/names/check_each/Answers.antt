@@ -1,7 +1,8 @@
 use Rattle.std.proofs.Common.{List, ℕ, sym, arith, below_more, subst, string_bytes}
 use Rattle.std.proofs.lemmas.List.{length-map}
 use Rattle.std.proofs.lemmas.Result.{err_from_is_err_and}
-use Rattle.rowfn_batches.specs.Names.{names_of, StandsLast, TellsTwice, stands_twice, without_memory}
+use Rattle.rowfn_batches.specs.Names.{names_of, StandsLast, TellsTwice, stands_twice}
+use Rattle.rowfn_batches.specs.Names.{without_memory}
 use Rattle.rowfn_batches.proofs.NameOf.{name_at}
 use Rattle.rowfn_batches.proofs.names.check_each.Goals as goal
 

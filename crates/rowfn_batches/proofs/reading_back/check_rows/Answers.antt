@@ -25,4 +25,5 @@ returns c =
     let only = c.index-answers-0.result in
     is_lost only
     (only_one c.args.format.now c.args.answers.now only (omega (arith, c.if-answers-ne1.false))
-    c.index-answers-0.is) (sym c.may_be_lost.ensures ∙ c.if-not-may_be_lost.false) c.in_ok-lost.ensures
+    c.index-answers-0.is)
+    (sym c.may_be_lost.ensures ∙ c.if-not-may_be_lost.false) c.in_ok-lost.ensures

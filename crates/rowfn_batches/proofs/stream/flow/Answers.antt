@@ -37,9 +37,11 @@ returns-in_err-goes_on-clause-flows g c =
     c.args.expression.now (option_map (λ x. x.now) c.args.condition)
     (g.W.Write.contents c.args.writer.now) c.in_err-goes_on.field-0.0
     c.from_residual-in_err-goes_on.result
-    (has_begun c.args.expression.now (option_map (λ x. x.now) c.args.condition) (g.W.Write.contents c.args.writer.now)
+    (has_begun c.args.expression.now (option_map (λ x. x.now) c.args.condition)
+    (g.W.Write.contents c.args.writer.now)
     (g.W.Write.contents c.write.new.writer) c.in_ok-stream.stream c.write.new.self
-    head.expression head.condition head.none_read wrote.written wrote.kept wrote.cleared wrote.summary)
+    head.expression head.condition head.none_read wrote.written wrote.kept wrote.cleared
+    wrote.summary)
     c.in_err-goes_on.ensures (p.1 ∙ ap Err p.2)
 
 pub returns-then-not-goes_on-clause-flows : goal.returns-then-not-goes_on-clause-flows
@@ -47,9 +49,11 @@ returns-then-not-goes_on-clause-flows g c =
     let head = c.in_ok-stream.ensures in
     let wrote = c.in_ok-write.ensures in
     at_end c.write.new.self c.pass_next.new.self (g.W.Write.contents c.write.new.writer)
-    (has_begun c.args.expression.now (option_map (λ x. x.now) c.args.condition) (g.W.Write.contents c.args.writer.now)
+    (has_begun c.args.expression.now (option_map (λ x. x.now) c.args.condition)
+    (g.W.Write.contents c.args.writer.now)
     (g.W.Write.contents c.write.new.writer) c.in_ok-stream.stream c.write.new.self
-    head.expression head.condition head.none_read wrote.written wrote.kept wrote.cleared wrote.summary)
+    head.expression head.condition head.none_read wrote.written wrote.kept wrote.cleared
+    wrote.summary)
     (next_passed c.write.new.self (g.W.Write.contents c.write.new.writer) c.batches.stream
     c.pass_next.new.self (g.W.Write.contents c.batches.writer)
     (g.W.Write.contents c.pass_next.new.writer) c.batches.invariant _ c.in_ok-goes_on.ensures)
@@ -60,7 +64,9 @@ returns-clause-flows g c =
     let head = c.in_ok-stream.ensures in
     let wrote = c.in_ok-write.ensures in
     at_end c.write.new.self c.batches.stream (g.W.Write.contents c.write.new.writer)
-    (has_begun c.args.expression.now (option_map (λ x. x.now) c.args.condition) (g.W.Write.contents c.args.writer.now)
+    (has_begun c.args.expression.now (option_map (λ x. x.now) c.args.condition)
+    (g.W.Write.contents c.args.writer.now)
     (g.W.Write.contents c.write.new.writer) c.in_ok-stream.stream c.write.new.self
-    head.expression head.condition head.none_read wrote.written wrote.kept wrote.cleared wrote.summary)
+    head.expression head.condition head.none_read wrote.written wrote.kept wrote.cleared
+    wrote.summary)
     c.batches.invariant refl

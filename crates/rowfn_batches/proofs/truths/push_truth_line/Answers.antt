@@ -15,7 +15,8 @@ returns-then-not-truths c =
 pub returns-then-not-is_valid : goal.returns-then-not-is_valid
 returns-then-not-is_valid c =
     let v = row c.args.rows.now.rows c.args.place in
-    ended c.push_line_end-then-not-is_valid.result c.args.bytes.now.items c.extend_from_slice.new.self.items
+    ended c.push_line_end-then-not-is_valid.result c.args.bytes.now.items
+    c.extend_from_slice.new.self.items
     c.push_line_end-then-not-is_valid.new.bytes.items
     (value_field c.args.format.now.delimiter c.args.format.now.null.now v)
     (c.in_ok-extend_from_slice.ensures.items

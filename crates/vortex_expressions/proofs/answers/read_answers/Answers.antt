@@ -34,7 +34,8 @@ returns-in-Ok-clause-refused c =
     let read = subst (λ w. ReadsAnswers w b.0) c.as_bytes.ensures.value b.1 in
     let list : map syntax.answer_in c.deref.result.now ≡ map told b.0 =
     ap (map syntax.answer_in) c.deref.ensures.value ∙ b.2 in
-    refused (struct_fields c.args.scope.now) {A = Vec held.Answer Global} (λ v. map answer_in v.items)
+    refused (struct_fields c.args.scope.now) {A = Vec held.Answer Global}
+    (λ v. map answer_in v.items)
     c.args.text.now b.0 (map syntax.answer_in c.deref.result.now) read list c.bind_answers.result
     c.bind_answers.ensures
 

@@ -12,7 +12,8 @@ returns-in_err-tree c =
     item_in c.args.item ∷ item_in c.args.lower ∷ item_in c.args.upper ∷ [] in
     let listed : map item_in c.in_ok-vec.field-0.items ≡ is =
     ap (map item_in) c.in_ok-vec.ensures.items in
-    let h = subst (λ js. StopsBy (between_all js) c.in_err-tree.field-0.0) listed c.in_err-tree.ensures in
+    let h = subst
+    (λ js. StopsBy (between_all js) c.in_err-tree.field-0.0) listed c.in_err-tree.ensures in
     handed_on item_in _ _ _ c.from_residual-in_err-tree.ensures.1
     (stops_first (and_then (between_all is) (negated_if c.args.negated)) _ _
     (stops_first (between_all is) (negated_if c.args.negated) _ h))

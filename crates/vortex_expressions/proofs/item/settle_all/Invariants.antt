@@ -5,4 +5,5 @@ use Rattle.vortex_expressions.proofs.item.settle_all.Given as goal
 
 abbrev pub invariant-loop-item : goal.invariant-loop-item
 invariant-loop-item l =
-    SoFar (option_map (λ t. type_of t.now) l.beside) l.fn.items.items (length l.yielded) l.trees.items
+    SoFar (option_map (λ t. type_of t.now) l.beside) l.fn.items.items
+    (length l.yielded) l.trees.items

@@ -1,7 +1,8 @@
 use Rattle.std.proofs.Common.{subst}
 use Rattle.vortex_expressions.proofs.Quoting.{SoFar, passed_over, taken}
 use Rattle.vortex_expressions.proofs.quotes.unquoted.Goals as goal
-use Rattle.vortex_expressions.proofs.quotes.unquoted.Goals.{then-is_doubled, else-is_doubled+in_ok-push}
+use Rattle.vortex_expressions.proofs.quotes.unquoted.Goals.{then-is_doubled}
+use Rattle.vortex_expressions.proofs.quotes.unquoted.Goals.{else-is_doubled+in_ok-push}
 
 pub loop-byte-preserved : goal.loop-byte-preserved
 loop-byte-preserved c =

@@ -7,5 +7,8 @@ use Rattle.vortex_expressions.proofs.spelled.write_type.Goals as goal
 
 pub returns : goal.returns
 returns c =
-    pushes_both (sign sign.Typed ∷ []) (type_token c.args.name.now c.args.nullable ∷ []) c.args.writer.now c.push_sign.new.self c.push_type.new.self
-    (pushes_one _ c.args.writer.now c.push_sign.new.self c.in_ok-push_sign.ensures) (pushes_one _ c.push_sign.new.self c.push_type.new.self c.in_ok-push_type.ensures)
+    pushes_both (sign sign.Typed ∷ [])
+    (type_token c.args.name.now c.args.nullable ∷ []) c.args.writer.now c.push_sign.new.self
+    c.push_type.new.self
+    (pushes_one _ c.args.writer.now c.push_sign.new.self c.in_ok-push_sign.ensures)
+    (pushes_one _ c.push_sign.new.self c.push_type.new.self c.in_ok-push_type.ensures)

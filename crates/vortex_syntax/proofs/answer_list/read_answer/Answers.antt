@@ -5,8 +5,13 @@ use Rattle.vortex_syntax.proofs.answer_list.read_answer.Goals as goal
 
 pub returns-in-Some : goal.returns-in-Some
 unfolding answer_of
-returns-in-Some c = subst (Tells c.read_named.result) (ap (split_answer (map token_in c.args.tokens.now)) c.in-Some.ensures) c.read_named.ensures
+returns-in-Some c =
+    subst (Tells c.read_named.result)
+    (ap (split_answer (map token_in c.args.tokens.now)) c.in-Some.ensures) c.read_named.ensures
 
 pub returns-in-None : goal.returns-in-None
 unfolding answer_of
-returns-in-None c = subst (Tells c.read_named-in-None.result) (ap (split_answer (map token_in c.args.tokens.now)) c.in-None.ensures) c.read_named-in-None.ensures
+returns-in-None c =
+    subst (Tells c.read_named-in-None.result)
+    (ap (split_answer (map token_in c.args.tokens.now)) c.in-None.ensures)
+    c.read_named-in-None.ensures

@@ -10,12 +10,17 @@ use Rattle.vortex_syntax.proofs.answer_list.read_answer_list.Goals as goal
 pub returns-clause-found : goal.returns-clause-found
 returns-clause-found c =
     let ts = map token_in c.as_slice-tokens.result.now in
-    let lexed : Lexes c.args.text.now ts = rw c.as_slice-tokens.ensures.value c.in_ok-read.ensures.found in
-    found_of (λ v. map answer_in v.items) (all_answers ts) (λ xs. (bs : List Answer) × ReadsAnswers c.args.text.now bs × (xs ≡ map told bs))
-    (λ xs e. answers_in c.args.text.now ts xs lexed (sym c.in_default.ensures) e) c.read_parts.result c.read_parts.ensures
+    let lexed : Lexes c.args.text.now ts =
+    rw c.as_slice-tokens.ensures.value c.in_ok-read.ensures.found in
+    found_of (λ v. map answer_in v.items) (all_answers ts)
+    (λ xs. (bs : List Answer) × ReadsAnswers c.args.text.now bs × (xs ≡ map told bs))
+    (λ xs e. answers_in c.args.text.now ts xs lexed (sym c.in_default.ensures) e)
+    c.read_parts.result c.read_parts.ensures
 
 pub returns-clause-only : goal.returns-clause-only
 returns-clause-only c = λ bs r.
     let ts = map token_in c.as_slice-tokens.result.now in
-    let lexed : Lexes c.args.text.now ts = rw c.as_slice-tokens.ensures.value c.in_ok-read.ensures.found in
-    only_of (λ v. map answer_in v.items) (all_answers ts) (map told bs) (answers_read c.args.text.now ts bs lexed r) c.read_parts.result c.read_parts.ensures
+    let lexed : Lexes c.args.text.now ts =
+    rw c.as_slice-tokens.ensures.value c.in_ok-read.ensures.found in
+    only_of (λ v. map answer_in v.items) (all_answers ts) (map told bs)
+    (answers_read c.args.text.now ts bs lexed r) c.read_parts.result c.read_parts.ensures

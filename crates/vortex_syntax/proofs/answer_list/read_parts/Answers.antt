@@ -1,11 +1,13 @@
-use Rattle.std.proofs.Common.{◌≡◌, ◌+◌, ◌-◌, ◌∷◌, [], map, take, drop, length, None, Some, sym, ap, ◌∙◌, arith, rules, length-drop}
+use Rattle.std.proofs.Common.{◌≡◌, ◌+◌, ◌-◌, ◌∷◌, [], map, take, drop, length, None, Some, sym, ap}
+use Rattle.std.proofs.Common.{◌∙◌, arith, rules, length-drop}
 use Rattle.std.specs.List.{slice_split}
 use Rattle.std.proofs.lemmas.List.{map-append, take_rest}
 use Rattle.vortex_syntax.specs.Errors.{UnlessMemory}
 use Rattle.vortex_syntax.specs.Tokens.{token_in}
 use Rattle.vortex_syntax.specs.AnswerLists.{answer_in}
 use Rattle.vortex_syntax.specs.AnswerParts.{is_comma, all_answers}
-use Rattle.vortex_syntax.proofs.AnswerSplits.{after, part_is, last_is, goes_on, stops, finishes, unless_weaker}
+use Rattle.vortex_syntax.proofs.AnswerSplits.{after, part_is, last_is, goes_on, stops, finishes}
+use Rattle.vortex_syntax.proofs.AnswerSplits.{unless_weaker}
 use Rattle.vortex_syntax.proofs.answer_list.read_parts.Goals as goal
 
 pub returns-in_err-answer : goal.returns-in_err-answer
@@ -15,8 +17,10 @@ returns-in_err-answer c =
     let n = c.in-Some.count in
     let k : UnlessMemory (all_answers (map token_in ts) ≡ None) c.in_err-answer.field-0.0 =
     unless_weaker c.in_err-answer.field-0.0
-    (stops (all_answers (map token_in ts)) (map answer_in c.loop-count.answers.items) (map token_in (drop i ts)) (map token_in (take (i + n - i) (drop i ts)))
-    (slice_split is_comma (map token_in (drop (i + (n + 1)) ts))) c.loop-count.invariant.1 (part_is token_in ts i n c.in-Some.ensures.parts))
+    (stops (all_answers (map token_in ts)) (map answer_in c.loop-count.answers.items)
+    (map token_in (drop i ts)) (map token_in (take (i + n - i) (drop i ts)))
+    (slice_split is_comma (map token_in (drop (i + (n + 1)) ts))) c.loop-count.invariant.1
+    (part_is token_in ts i n c.in-Some.ensures.parts))
     c.in_err-answer.ensures in
     search rules
 
@@ -25,11 +29,20 @@ loop-count-preserved c =
     let ts = c.args.tokens.now in
     let i = c.loop-count.from in
     let n = c.in-Some.count in (
-      omega (arith, length-drop i ts, rw (take_rest ts i) at c.in-Some.ensures.within, c.loop-count.invariant.0),
-      goes_on (all_answers (map token_in ts)) (map answer_in c.loop-count.answers.items) (map token_in (drop i ts)) (map token_in (take (i + n - i) (drop i ts)))
-          (map token_in (drop (i + (n + 1)) ts)) (answer_in c.in_ok-answer.answer) c.loop-count.invariant.1 (part_is token_in ts i n c.in-Some.ensures.parts) c.in_ok-answer.ensures
+      omega (
+        arith,
+        length-drop i ts,
+        rw (take_rest ts i) at c.in-Some.ensures.within,
+        c.loop-count.invariant.0,
+      ),
+      goes_on (all_answers (map token_in ts)) (map answer_in c.loop-count.answers.items)
+          (map token_in (drop i ts)) (map token_in (take (i + n - i) (drop i ts)))
+          (map token_in (drop (i + (n + 1)) ts))
+          (answer_in c.in_ok-answer.answer) c.loop-count.invariant.1
+          (part_is token_in ts i n c.in-Some.ensures.parts) c.in_ok-answer.ensures
           ∙ ap (λ v. after v (all_answers (map token_in (drop (i + (n + 1)) ts))))
-          (sym (ap (map answer_in) c.in_ok-push.ensures.items ∙ map-append answer_in c.loop-count.answers.items (c.in_ok-answer.answer ∷ []))),
+          (sym (ap (map answer_in) c.in_ok-push.ensures.items
+          ∙ map-append answer_in c.loop-count.answers.items (c.in_ok-answer.answer ∷ []))),
     )
 
 pub returns-in_err-answer-2 : goal.returns-in_err-answer-2
@@ -38,14 +51,20 @@ returns-in_err-answer-2 c =
     let i = c.loop-count.from in
     let k : UnlessMemory (all_answers (map token_in ts) ≡ None) c.in_err-answer-2.field-0.0 =
     unless_weaker c.in_err-answer-2.field-0.0
-    (stops (all_answers (map token_in ts)) (map answer_in c.loop-count.answers.items) (map token_in (drop i ts)) (map token_in (take (length ts - i) (drop i ts))) []
-    c.loop-count.invariant.1 (last_is token_in ts i c.in_default.ensures.parts)) c.in_err-answer-2.ensures in
+    (stops (all_answers (map token_in ts)) (map answer_in c.loop-count.answers.items)
+    (map token_in (drop i ts)) (map token_in (take (length ts - i) (drop i ts))) []
+    c.loop-count.invariant.1 (last_is token_in ts i c.in_default.ensures.parts))
+    c.in_err-answer-2.ensures in
     search rules
 
 pub returns : goal.returns
 returns c =
     let ts = c.args.tokens.now in
     let i = c.loop-count.from in
-    finishes (all_answers (map token_in ts)) (map answer_in c.loop-count.answers.items) (map token_in (drop i ts)) (map token_in (take (length ts - i) (drop i ts)))
-    (answer_in c.in_ok-answer-2.answer) c.loop-count.invariant.1 (last_is token_in ts i c.in_default.ensures.parts) c.in_ok-answer-2.ensures
-    ∙ ap Some (sym (ap (map answer_in) c.in_ok-push-2.ensures.items ∙ map-append answer_in c.loop-count.answers.items (c.in_ok-answer-2.answer ∷ [])))
+    finishes (all_answers (map token_in ts)) (map answer_in c.loop-count.answers.items)
+    (map token_in (drop i ts)) (map token_in (take (length ts - i) (drop i ts)))
+    (answer_in c.in_ok-answer-2.answer) c.loop-count.invariant.1
+    (last_is token_in ts i c.in_default.ensures.parts) c.in_ok-answer-2.ensures
+    ∙ ap Some (sym
+    (ap (map answer_in) c.in_ok-push-2.ensures.items
+    ∙ map-append answer_in c.loop-count.answers.items (c.in_ok-answer-2.answer ∷ [])))

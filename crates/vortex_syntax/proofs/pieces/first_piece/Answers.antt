@@ -6,10 +6,15 @@ use Rattle.vortex_syntax.proofs.pieces.first_piece.Goals as goal
 
 pub returns-then-begins_word-clause-shorter : goal.returns-then-begins_word-clause-shorter
 returns-then-begins_word-clause-shorter c =
-    let h : length (behind Word c.args.text.now) < length c.args.text.now = behind_lt Word c.args.text.now _ _ c.in_ok-first.ensures.cases.0 (word_begun c.in_ok-first.first.now (sym c.if-begins_word.ensures)) in
+    let h : length (behind Word c.args.text.now) < length c.args.text.now =
+    behind_lt Word c.args.text.now _ _ c.in_ok-first.ensures.cases.0
+    (word_begun c.in_ok-first.first.now (sym c.if-begins_word.ensures)) in
     omega (arith, c.word_before.ensures.shorter, ap length c.split_run.ensures.behind, h)
 
 pub returns-then-is_ascii_digit-clause-shorter : goal.returns-then-is_ascii_digit-clause-shorter
 returns-then-is_ascii_digit-clause-shorter c =
-    let h : length (behind Digits c.args.text.now) < length c.args.text.now = behind_lt Digits c.args.text.now _ _ c.in_ok-first.ensures.cases.0 (sym c.if-is_ascii_digit.ensures.value) in
-    some_below _ _ c.number_before.result c.number_before.ensures.shorter (omega (arith, ap length c.split_run-then-is_ascii_digit.ensures.behind, h))
+    let h : length (behind Digits c.args.text.now) < length c.args.text.now =
+    behind_lt Digits c.args.text.now _ _ c.in_ok-first.ensures.cases.0
+    (sym c.if-is_ascii_digit.ensures.value) in
+    some_below _ _ c.number_before.result c.number_before.ensures.shorter
+    (omega (arith, ap length c.split_run-then-is_ascii_digit.ensures.behind, h))

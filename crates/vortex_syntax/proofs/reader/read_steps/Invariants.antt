@@ -4,4 +4,6 @@ use Rattle.vortex_syntax.specs.Reading.{seen, run, steps_of}
 use Rattle.vortex_syntax.proofs.reader.read_steps.Given as goal
 
 abbrev pub invariant-loop-i : goal.invariant-loop-i
-invariant-loop-i l = steps_of (map token_in l.tokens) ≡ run (seen l.reading l.mode) (map token_in (drop l.i l.tokens))
+invariant-loop-i l =
+    steps_of (map token_in l.tokens) ≡ run (seen l.reading l.mode)
+    (map token_in (drop l.i l.tokens))

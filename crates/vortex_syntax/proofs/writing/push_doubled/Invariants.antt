@@ -8,7 +8,8 @@ use Rattle.vortex_syntax.proofs.writing.push_doubled.Given as goal
 abbrev pub invariant-loop-before : goal.invariant-loop-before
 invariant-loop-before l =
     shadow (Utf8 l.rest)
-    × (string_bytes l.out ++ doubled l.quote l.rest ≡ string_bytes l.initial.out ++ doubled l.quote l.text)
+    × (string_bytes l.out ++ doubled l.quote l.rest
+    ≡ string_bytes l.initial.out ++ doubled l.quote l.text)
 
 abbrev pub decreases-loop-before : goal.decreases-loop-before
 decreases-loop-before l = length l.rest

@@ -22,7 +22,8 @@ pub loop-k-preserved : goal.loop-k-preserved
 loop-k-preserved c = record {
   count = omega (arith, c.push_reserved.ensures.len, c.loop-k.invariant.count);
   place = c.push_reserved.ensures.capacity ∙ c.loop-k.invariant.place;
-  serve = first_serve_more _ _ _ _ _ _ c.loop-k-test.true c.dtype.ensures c.in-Ok-read_field.ensures.0
+  serve = first_serve_more _ _ _ _ _ _ c.loop-k-test.true c.dtype.ensures
+      c.in-Ok-read_field.ensures.0
       c.loop-k.invariant.serve;
   columns = c.push_reserved.ensures.items
       ∙ read_more _ _ _ _ c.in-Ok-read_field.field c.loop-k-test.true c.loop-k.invariant.columns

@@ -14,5 +14,14 @@ returns-in_err-tell g c =
 pub returns : goal.returns
 returns g c =
     left_out c.in-Some._row (sym c.left_out.ensures ∙ c.in-Some.is)
-    (record { alloc = refl; settings = refl; expression = refl; condition = refl; records = refl; layout = refl; batch = refl })
+    (record {
+      alloc = refl;
+      settings = refl;
+      expression = refl;
+      condition = refl;
+      records =
+          refl;
+      layout = refl;
+      batch = refl;
+    })
     refl c.saturating_add-self.ensures c.in_ok-tell.ensures.count refl

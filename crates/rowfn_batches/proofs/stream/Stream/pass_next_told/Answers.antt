@@ -1,6 +1,7 @@
 use Rattle.std.proofs.Common.{◌∙◌, Err, ap, refl}
 use Rattle.std.proofs.lemmas.Result.{err_from_is_err_and}
-use Rattle.rowfn_batches.specs.Skipping.{batch_and_behind, ends_in_batch, ends_behind, lines_unwritten}
+use Rattle.rowfn_batches.specs.Skipping.{batch_and_behind, ends_in_batch, ends_behind}
+use Rattle.rowfn_batches.specs.Skipping.{lines_unwritten}
 use Rattle.rowfn_batches.proofs.stream.Stream.pass_next_told.Goals as goal
 
 pub returns-in_err-pass_batch : goal.returns-in_err-pass_batch

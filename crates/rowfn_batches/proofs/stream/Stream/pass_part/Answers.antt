@@ -17,5 +17,6 @@ returns g c =
     c.asked_width.result c.args.self.now c.load.new.self c.in_ok-load.ensures.refilled
     (c.len-width.ensures ∙ c.args.self.now.layout.places.ok.0) c.asked_width.ensures
     c.fields_from-fields.ensures c.fields_from-asked.ensures
-    (ap (λ (n : ℕ). take n (drop c.args.part.0 c.args.spans.now)) (omega arith)) c.in_ok-load.ensures.loaded)
+    (ap (λ (n : ℕ). take n (drop c.args.part.0 c.args.spans.now)) (omega arith))
+    c.in_ok-load.ensures.loaded)
     c.pass_told.ensures

@@ -5,8 +5,12 @@ use Rattle.rowfn_batches.proofs.Spent.{leads_on, spent_more, behind_more}
 use Rattle.rowfn_batches.proofs.stream.Stream.pass_parts.Goals as goal
 
 pub parts-init : goal.parts-init
-parts-init g c =
-    (0, no_part, record { some = omega arith; most = omega arith; left = λ below. omega arith }, omega arith)
+parts-init g c = (
+  0,
+  no_part,
+  record { some = omega arith; most = omega arith; left = λ below. omega arith },
+  omega arith,
+)
 
 pub returns-in_err-refused : goal.returns-in_err-refused
 returns-in_err-refused g c =
@@ -26,7 +30,8 @@ parts-preserved g c =
           (one_part c.parts.next tried c.parts.self c.pass_part.new.self _ _ _ _ place was.0 was.1
           (omega arith) c.in_ok-refused.ensures),
       rw (c.next_row-next.ensures, c.next_count-count.ensures)
-          (spent_more len c.args.first c.parts.next c.parts.count tried was.0 place was.3 (omega arith)
+          (spent_more len c.args.first c.parts.next c.parts.count tried was.0 place was.3
+          (omega arith)
           (omega arith) most was.2),
       rw c.next_row-next.ensures
           (behind_more len c.args.first c.parts.next tried place was.3 (omega arith) (omega arith)),

@@ -21,8 +21,10 @@ pub returns : goal.returns
 returns g c =
     let taken = c.take_rows-rows.ensures in
     rest c.take_rows-rows.new.self taken.refilled
-    (all_lent (map field_in c.deref.result.now) (map field_in c.deref-2.result.now) _ _ _ _ _ _ _ _ _ _ _ _
+    (all_lent (map field_in c.deref.result.now)
+    (map field_in c.deref-2.result.now) _ _ _ _ _ _ _ _ _ _ _ _
     (ap (λ xs. map field_in xs) (cc c.deref.ensures.value) ∙ c.in_ok-fields.ensures
     ∙ ap (λ (b : BatchView). b.fields) taken.rows)
-    (ap (λ xs. map field_in xs) (cc c.deref-2.ensures.value) ∙ c.in_ok-asked_fields.ensures ∙ taken.asked)
+    (ap (λ xs. map field_in xs) (cc c.deref-2.ensures.value) ∙ c.in_ok-asked_fields.ensures
+    ∙ taken.asked)
     (c.spans.ensures ∙ ap (λ (b : BatchView). b.spans) taken.rows) c.pass_parts.ensures)

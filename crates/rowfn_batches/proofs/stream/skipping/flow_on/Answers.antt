@@ -1,6 +1,7 @@
 use Rattle.std.proofs.Common.{◌∙◌, Err, ap, refl, option_map}
 use Rattle.std.proofs.lemmas.Result.{err_from_is_err_and}
-use Rattle.rowfn_batches.specs.Skipping.{none_yet, one_more, at_end, at_error, without_header, not_begun}
+use Rattle.rowfn_batches.specs.Skipping.{none_yet, one_more, at_end, at_error, without_header}
+use Rattle.rowfn_batches.specs.Skipping.{not_begun}
 use Rattle.rowfn_batches.proofs.Flowing.{has_begun}
 use Rattle.rowfn_batches.proofs.stream.skipping.flow_on.Goals as goal
 
@@ -30,11 +31,14 @@ returns-in_err-goes_on-clause-flows g c =
     let head = c.in_ok-stream.ensures in
     let wrote = c.in_ok-write.ensures in
     at_error c.write.new.self c.batches.stream c.pass_next_told.new.self
-    (g.W.Write.contents c.write.new.writer) (g.W.Write.contents c.batches.writer) c.batches.refusals.count
+    (g.W.Write.contents c.write.new.writer)
+    (g.W.Write.contents c.batches.writer) c.batches.refusals.count
     c.in_err-goes_on.field-0.0
-    (has_begun c.args.expression.now (option_map (λ x. x.now) c.args.condition) (g.W.Write.contents c.args.writer.now)
+    (has_begun c.args.expression.now (option_map (λ x. x.now) c.args.condition)
+    (g.W.Write.contents c.args.writer.now)
     (g.W.Write.contents c.write.new.writer) c.in_ok-stream.stream c.write.new.self
-    head.expression head.condition head.none_read wrote.written wrote.kept wrote.cleared wrote.summary)
+    head.expression head.condition head.none_read wrote.written wrote.kept wrote.cleared
+    wrote.summary)
     c.batches.invariant c.in_err-goes_on.ensures (p.1 ∙ ap Err p.2)
 
 pub returns-then-not-goes_on-clause-flows : goal.returns-then-not-goes_on-clause-flows
@@ -42,9 +46,11 @@ returns-then-not-goes_on-clause-flows g c =
     let head = c.in_ok-stream.ensures in
     let wrote = c.in_ok-write.ensures in
     at_end c.write.new.self c.pass_next_told.new.self (g.W.Write.contents c.write.new.writer)
-    (has_begun c.args.expression.now (option_map (λ x. x.now) c.args.condition) (g.W.Write.contents c.args.writer.now)
+    (has_begun c.args.expression.now (option_map (λ x. x.now) c.args.condition)
+    (g.W.Write.contents c.args.writer.now)
     (g.W.Write.contents c.write.new.writer) c.in_ok-stream.stream c.write.new.self
-    head.expression head.condition head.none_read wrote.written wrote.kept wrote.cleared wrote.summary)
+    head.expression head.condition head.none_read wrote.written wrote.kept wrote.cleared
+    wrote.summary)
     (one_more c.batches.stream c.pass_next_told.new.self _ _ _ _ _ c.batches.invariant
     c.in_ok-goes_on.ensures)
     refl
@@ -54,7 +60,9 @@ returns-clause-flows g c =
     let head = c.in_ok-stream.ensures in
     let wrote = c.in_ok-write.ensures in
     at_end c.write.new.self c.batches.stream (g.W.Write.contents c.write.new.writer)
-    (has_begun c.args.expression.now (option_map (λ x. x.now) c.args.condition) (g.W.Write.contents c.args.writer.now)
+    (has_begun c.args.expression.now (option_map (λ x. x.now) c.args.condition)
+    (g.W.Write.contents c.args.writer.now)
     (g.W.Write.contents c.write.new.writer) c.in_ok-stream.stream c.write.new.self
-    head.expression head.condition head.none_read wrote.written wrote.kept wrote.cleared wrote.summary)
+    head.expression head.condition head.none_read wrote.written wrote.kept wrote.cleared
+    wrote.summary)
     c.batches.invariant refl

@@ -6,4 +6,5 @@ use Rattle.vortex_expressions.proofs.tasks.TreeWriter.write_escape.Goals as goal
 pub returns-clause-written : goal.returns-clause-written
 returns-clause-written c =
     pushes_one _ c.args.self.now.writer c.push_text.new.self
-    (subst (λ (bs : List ℕ). Adds (text_token bs) c.args.self.now.writer c.push_text.new.self) (c.as_str.ensures.value ∙ c.in_ok-text.ensures) c.in_ok-push_text.ensures)
+    (subst (λ (bs : List ℕ). Adds (text_token bs) c.args.self.now.writer c.push_text.new.self)
+    (c.as_str.ensures.value ∙ c.in_ok-text.ensures) c.in_ok-push_text.ensures)
