@@ -25,6 +25,12 @@ const LINES: [&str; 12] = [
     "water, deionised and filtered", "carbon black, conductive, half compressed", "indium foil, 0.25 millimetres thick",
 ];
 
+/// Texts that are not ASCII, of 6 to 24 bytes: three have École past case, two begin with é.
+const NAMES: [&str; 12] = [
+    "École normale", "Émile Zola", "l’école du soir", "grande ÉCOLE", "Straße", "Ångström", "naïveté", "été indien",
+    "café crème", "Übergröße", "señor Peña", "déjà vu",
+];
+
 /// How long texts are: each of so many bytes, or of none to forty.
 #[derive(Clone, Copy)]
 pub enum Width {
@@ -109,6 +115,11 @@ impl Chance {
     pub fn words(&mut self, shape: &Shape, are_long: bool) -> Texts {
         let list = if are_long { LINES } else { WORDS };
         self.rows(shape, |chance| list[chance as usize % list.len()].into())
+    }
+
+    /// A text that is not ASCII in each row.
+    pub fn names(&mut self, shape: &Shape) -> Texts {
+        self.rows(shape, |chance| NAMES[chance as usize % NAMES.len()].into())
     }
 
     /// One of a hundred texts in each row; long ones begin alike.

@@ -250,6 +250,36 @@ pub fn folded_by_calls<T: ByteRows>(texts: &Rows<T>, pattern: &str) -> Bools {
     Rows { values, valid: texts.valid.clone() }
 }
 
+/// Whether a text begins with these characters past case.
+fn begins_past_case(text: &str, own: &[char]) -> bool {
+    let mut chars = text.chars();
+    own.iter().all(|c| chars.next().map(folded) == Some(*c))
+}
+
+/// ILIKE of texts that need not be ASCII: the pattern is folded once, and a text from each of its characters on.
+pub fn folded_by_small<T: ByteRows>(texts: &Rows<T>, pattern: &str) -> Bools {
+    let small: String = pattern.chars().map(folded).collect();
+    let rows = &texts.values;
+    let values = match Plan::of(&small) {
+        Plan::Prefix(own) => {
+            let own: Vec<char> = own.chars().collect();
+            rows.told(|text| begins_past_case(as_text(text), &own))
+        }
+        Plan::Contains(own) => {
+            let own: Vec<char> = own.chars().collect();
+            rows.told(|text| {
+                let text = as_text(text);
+                text.char_indices().any(|(at, _)| begins_past_case(&text[at..], &own))
+            })
+        }
+        _ => {
+            let tokens = tokens_of(&small);
+            rows.told(|text| matches(&tokens, as_text(text), folded))
+        }
+    };
+    Rows { values, valid: texts.valid.clone() }
+}
+
 // ---- words of bytes
 
 /// Up to eight bytes as a number, the last of them lowest, and what of a number they take.

@@ -111,7 +111,8 @@ fn like_cases_of(shape: &Shape, chance: &mut Chance, name: &str, are_long: bool)
     let texts = Rc::new(chance.words(shape, are_long));
     let views = Rc::new(views_of(&texts));
     let whole = if are_long { "xylene, mixed isomers" } else { "ion foci" };
-    let mut cases: Vec<Case> = ["x%", "%oxide", "%nitr%", "i%o_i", whole]
+    let escaped = if are_long { "xylene, mixed\\ isomers" } else { "ion\\ foci" };
+    let mut cases: Vec<Case> = ["x%", "%oxide", "%nitr%", "i%o_i", whole, "x_l%", "%i%o%", escaped]
         .map(|pattern| {
             case(&format!("{name} like {pattern}"), &texts, move |texts| project::like(texts, pattern, false), vec![
                 form("strings, walk over tokens", &texts, move |texts| like::by_walk(texts, pattern)),
@@ -141,6 +142,21 @@ fn like_cases_of(shape: &Shape, chance: &mut Chance, name: &str, are_long: bool)
     }));
     cases.push(patterns_in_turn(shape, &format!("{name} like eight patterns in turn"), &texts, whole));
     cases
+}
+
+/// ILIKE of texts that are not ASCII.
+fn name_cases(shape: &Shape, chance: &mut Chance) -> Vec<Case> {
+    let texts = Rc::new(chance.names(shape));
+    let views = Rc::new(views_of(&texts));
+    ["É%", "%ÉCOLE%"]
+        .map(|pattern| {
+            case(&format!("name ilike {pattern}"), &texts, move |texts| project::like(texts, pattern, true), vec![
+                form("strings, walk over tokens", &texts, move |texts| like::folded_by_walk(texts, pattern)),
+                form("strings, small letters", &texts, move |texts| like::folded_by_small(texts, pattern)),
+                form("views, small letters", &views, move |texts| like::folded_by_small(texts, pattern)),
+            ])
+        })
+        .into()
 }
 
 /// Another pattern in each row than in the one before, of eight.
@@ -221,7 +237,10 @@ pub fn text_cases(shape: &Shape, chance: &mut Chance) -> Vec<Case> {
 }
 
 pub fn like_cases(shape: &Shape, chance: &mut Chance) -> Vec<Case> {
-    [like_cases_of(shape, chance, "text", false), like_cases_of(shape, chance, "line", true)].into_iter().flatten().collect()
+    [like_cases_of(shape, chance, "text", false), like_cases_of(shape, chance, "line", true), name_cases(shape, chance)]
+        .into_iter()
+        .flatten()
+        .collect()
 }
 
 pub fn dictionary_cases(shape: &Shape, chance: &mut Chance) -> Vec<Case> {
