@@ -3,6 +3,7 @@ from __future__ import annotations
 
 import ctypes as c
 from collections.abc import Sequence
+from contextlib import suppress
 from itertools import repeat
 from operator import is_
 from typing import Any, Optional
@@ -108,6 +109,10 @@ def _of_texts(values: list[Optional[str]], has_null: bool) -> Borrowed:
 
 def _of_objects(name: str, values: list[Any], wanted: Optional[str]) -> Borrowed:
     """A list of one type and None, of which the first value that is not None tells the type where none is wanted."""
+    if wanted in (None, "utf8") and values and type(values[0]) is str:
+        # joining tells sooner than a look at each whether all are texts
+        with suppress(TypeError):
+            return _of_texts(values, False)
     classes = set(map(type, values))
     has_null = type(None) in classes
     classes.discard(type(None))
