@@ -89,6 +89,28 @@ fn what_is_held_past_case(rt: HostRuntime) {
 }
 
 #[test]
+fn what_texts_begin_with_past_case(rt: HostRuntime) {
+    let words = ["Kelvin", "\u{212a}elvin", "kELVIN", "elk", "", "\u{e9}k"];
+    let wanted = [true, true, true, false, false, false];
+    assert!(rt; rt.yes(says_of_texts(rt, ILIKE, "k%", &words, &wanted)));
+    assert!(rt; rt.yes(says_of_texts(rt, ILIKE, "keL%", &words, &wanted)));
+    let wanted = [false, false, false, false, false, true];
+    assert!(rt; rt.yes(says_of_texts(rt, ILIKE, "\u{c9}%", &words, &wanted)));
+    let words = ["song", "\u{17f}ong", "SO", "os"];
+    assert!(rt; rt.yes(says_of_texts(rt, ILIKE, "so_g", &words, &[true, true, false, false])));
+}
+
+#[test]
+fn what_texts_begin_and_end_with(rt: HostRuntime) {
+    let words = ["ion foci", "indium oxoid", "i", "ioni", "iooi", "xion foci"];
+    let wanted = [true, false, false, true, true, false];
+    assert!(rt; rt.yes(says_of_texts(rt, LIKE, "i%o_i", &words, &wanted)));
+    let words = ["\u{e9}cole", "\u{e9}\u{e9}ole", "ecole", "\u{e9}cole!"];
+    let wanted = [true, true, false, false];
+    assert!(rt; rt.yes(says_of_texts(rt, LIKE, "\u{e9}_o%e", &words, &wanted)));
+}
+
+#[test]
 fn a_needle_that_overlaps_itself(rt: HostRuntime) {
     let words = ["a", "aa", "aba", "ba", "abaa"];
     let wanted = [false, true, false, false, true];

@@ -98,15 +98,52 @@ pub(crate) fn says(rt: HostRuntime, answer: Made, wanted: &[bool]) -> VortexResu
 }
 
 /// The pattern in each row of a column that is no constant.
-fn repeated(alloc: Global, word: &str, len: usize) -> Made {
+fn repeated(alloc: Global, word: &str, len: usize) -> VortexResult<Vec<String>> {
     let mut words = Vec::new(alloc);
     for _ in 0..len {
         words.push(String::from_str(alloc, word)?)?;
     }
+    Ok(words)
+}
+
+/// The same, and `!` in one row more.
+fn repeated_and_mark(alloc: Global, word: &str, len: usize) -> Made {
+    let mut words = repeated(alloc, word, len)?;
+    words.push(String::from_str(alloc, "!")?)?;
     kept(alloc, Column::try_utf8(alloc, words, Validity::NonNullable))
 }
 
-/// Whether LIKE of each word and one pattern is this, as a constant and row by row.
+/// Words, and `!` behind them.
+fn and_mark(alloc: Global, words: &[&str]) -> Made {
+    let mut all = Vec::new(alloc);
+    all.extend_from_slice(words)?;
+    all.push("!")?;
+    plain(alloc, all.as_slice())
+}
+
+/// Whether LIKE of each word and the pattern in its row is this, where another row has another
+/// pattern.
+fn matches_each(
+    rt: HostRuntime,
+    options: LikeOptions,
+    pattern: &str,
+    words: &[&str],
+    wanted: &[bool],
+) -> VortexResult<bool> {
+    let alloc = rt.alloc();
+    let patterns = repeated_and_mark(alloc, pattern, words.len());
+    let mut all = Vec::new(alloc);
+    all.extend_from_slice(wanted)?;
+    all.push(!options.negated)?;
+    says(
+        rt,
+        like(alloc, and_mark(alloc, words), options, patterns),
+        all.as_slice(),
+    )
+}
+
+/// Whether LIKE of each word and one pattern is this, as a constant, as a column of that pattern
+/// alone, and row by row.
 pub(crate) fn matches(
     rt: HostRuntime,
     options: LikeOptions,
@@ -115,19 +152,19 @@ pub(crate) fn matches(
     wanted: &[bool],
 ) -> VortexResult<bool> {
     let alloc = rt.alloc();
-    let once = like(
+    let constant = one(alloc, pattern, words.len());
+    let patterns = repeated(alloc, pattern, words.len())?;
+    let column = kept(
         alloc,
-        plain(alloc, words),
-        options,
-        one(alloc, pattern, words.len()),
+        Column::try_utf8(alloc, patterns, Validity::NonNullable),
     );
-    let each = like(
-        alloc,
-        plain(alloc, words),
-        options,
-        repeated(alloc, pattern, words.len()),
-    );
-    Ok(says(rt, once, wanted)? && says(rt, each, wanted)?)
+    let once = like(alloc, plain(alloc, words), options, constant);
+    let same = like(alloc, plain(alloc, words), options, column);
+    Ok(
+        says(rt, once, wanted)?
+            && says(rt, same, wanted)?
+            && matches_each(rt, options, pattern, words, wanted)?,
+    )
 }
 
 /// Whether LIKE says yes to the first word and no to the second.
