@@ -1,4 +1,4 @@
 mod Dividing
 mod Ends
 mod Signs
-mod WideProduct
+pub mod WideProduct

@@ -1,7 +1,7 @@
 //! The signed types.
 
 ghost use Rattle.std.specs.Prelude.{◌≡◌, ◌*ℤ◌, ◌/◌, ◌^◌};
-ghost use Rattle.std.specs.Int.{w16, w32, w64, w128, cast_unsigned};
+ghost use Rattle.std.specs.Int.{w64, w128, cast_unsigned};
 ghost use Rattle.vortex_checked.specs.Exact.{sign_word};
 
 use crate::arithmetic::CheckedArithmetic;
@@ -19,36 +19,6 @@ fn sign_word(number: i64) -> u64
     ensures { result ≡ sign_word w64 number }
 {
     if number < 0 { u64::MAX } else { 0 }
-}
-
-/// The upper half of a product in 32 bits.
-fn upper_half_16(left: i16, right: i16) -> u16
-    ensures { result ≡ cast_unsigned w32 (left *ℤ right) / 2 ^ 16 }
-{
-    let product = i32::from(left) * i32::from(right);
-    (product.cast_unsigned() >> 16) as u16
-}
-
-/// Each bit the sign of a number of 16 bits.
-fn sign_word_16(number: i16) -> u16
-    ensures { result ≡ sign_word w16 number }
-{
-    if number < 0 { u16::MAX } else { 0 }
-}
-
-/// The upper half of a product in 64 bits.
-fn upper_half_32(left: i32, right: i32) -> u32
-    ensures { result ≡ cast_unsigned w64 (left *ℤ right) / 2 ^ 32 }
-{
-    let product = i64::from(left) * i64::from(right);
-    (product.cast_unsigned() >> 32) as u32
-}
-
-/// Each bit the sign of a number of 32 bits.
-fn sign_word_32(number: i32) -> u32
-    ensures { result ≡ sign_word w32 number }
-{
-    if number < 0 { u32::MAX } else { 0 }
 }
 
 impl CheckedArithmetic for i8 {
@@ -109,11 +79,11 @@ impl CheckedArithmetic for i8 {
 
 impl CheckedArithmetic for i16 {
     ghost use Rattle.std.specs.Prelude.{◌*ℤ◌, pos, negsuc};
-    ghost use Rattle.std.specs.Int.{w16, w32, int_wrap};
-    ghost use Rattle.vortex_checked.specs.Exact.{wide_evidence};
+    ghost use Rattle.std.specs.Int.{w16, int_wrap};
+    ghost use Rattle.vortex_checked.specs.Exact.{is_outside};
     ghost use Rattle.vortex_checked.specs.Kept.{signed_keeps};
 
-    type MulFailure = u16;
+    type MulFailure = bool;
 
     ghost number = { λ z. z };
 
@@ -123,7 +93,7 @@ impl CheckedArithmetic for i16 {
 
     ghost wrapped = { int_wrap w16 };
 
-    ghost mul_evidence = { λ a b. wide_evidence w16 w32 (a *ℤ b) };
+    ghost mul_evidence = { λ a b. is_outside (negsuc 32767) (pos 32767) (a *ℤ b) };
 
     fn add_value(self, rhs: i16) -> i16 {
         self.wrapping_add(rhs)
@@ -145,8 +115,9 @@ impl CheckedArithmetic for i16 {
         self.wrapping_mul(rhs)
     }
 
-    fn mul_failure(self, rhs: i16) -> u16 {
-        upper_half_16(self, rhs) ^ sign_word_16(self.wrapping_mul(rhs))
+    fn mul_failure(self, rhs: i16) -> bool {
+        let product = i32::from(self) * i32::from(rhs);
+        product < -32768 || product > 32767
     }
 
     fn div_value(self, rhs: i16) -> i16 {
@@ -164,11 +135,11 @@ impl CheckedArithmetic for i16 {
 
 impl CheckedArithmetic for i32 {
     ghost use Rattle.std.specs.Prelude.{◌*ℤ◌, pos, negsuc};
-    ghost use Rattle.std.specs.Int.{w32, w64, int_wrap};
-    ghost use Rattle.vortex_checked.specs.Exact.{wide_evidence};
+    ghost use Rattle.std.specs.Int.{w32, int_wrap};
+    ghost use Rattle.vortex_checked.specs.Exact.{is_outside};
     ghost use Rattle.vortex_checked.specs.Kept.{signed_keeps};
 
-    type MulFailure = u32;
+    type MulFailure = bool;
 
     ghost number = { λ z. z };
 
@@ -178,7 +149,7 @@ impl CheckedArithmetic for i32 {
 
     ghost wrapped = { int_wrap w32 };
 
-    ghost mul_evidence = { λ a b. wide_evidence w32 w64 (a *ℤ b) };
+    ghost mul_evidence = { λ a b. is_outside (negsuc 2147483647) (pos 2147483647) (a *ℤ b) };
 
     fn add_value(self, rhs: i32) -> i32 {
         self.wrapping_add(rhs)
@@ -200,8 +171,9 @@ impl CheckedArithmetic for i32 {
         self.wrapping_mul(rhs)
     }
 
-    fn mul_failure(self, rhs: i32) -> u32 {
-        upper_half_32(self, rhs) ^ sign_word_32(self.wrapping_mul(rhs))
+    fn mul_failure(self, rhs: i32) -> bool {
+        let product = i64::from(self) * i64::from(rhs);
+        product < -2147483648 || product > 2147483647
     }
 
     fn div_value(self, rhs: i32) -> i32 {

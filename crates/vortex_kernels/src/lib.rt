@@ -20,6 +20,7 @@ mod numbers;
 pub mod numeric;
 mod pairs;
 mod presence;
+mod products;
 mod quotients;
 mod records;
 mod row_operation;

@@ -16,6 +16,7 @@ use crate::integer_types::with_integer;
 use crate::numbers::{ListedNumbers, Numbers, OneNumber};
 use crate::pairs::constant_int;
 use crate::quotients::column_quotients;
+use crate::products::VectorMul;
 use crate::row_operation::{RowOperation, WideMul};
 use crate::settled::settled_rows;
 use std::alloc::Global;
@@ -333,7 +334,8 @@ fn numeric_in<T: ArithmeticInteger>(
     }
 }
 
-/// The same, the type being chosen too: products of 64 bits, and other quotients, have own forms.
+/// Dispatches on operator and integer type. Signed products of 16 to 64 bits, products of u64, and
+/// quotients of all types but u64 have their own loops.
 fn numeric_typed(
     ptype: PType,
     lhs: &Column,
@@ -348,6 +350,8 @@ fn numeric_typed(
     ensures constant { IfOk result (KeepsTwoConstants lhs.now rhs.now) }
 {
     match (operator, ptype) {
+        (NumericOperator::Mul, PType::I16) => numeric_products::<i16, VectorMul>(lhs, rhs, ctx),
+        (NumericOperator::Mul, PType::I32) => numeric_products::<i32, VectorMul>(lhs, rhs, ctx),
         (NumericOperator::Mul, PType::I64) => { numeric_products::<i64, WideMul>(lhs, rhs, ctx) }
         (NumericOperator::Mul, PType::U64) => { numeric_products::<u64, WideMul>(lhs, rhs, ctx) }
         (NumericOperator::Div, PType::I8) => guessed_or_quotients::<i8>(lhs, rhs, ctx),

@@ -1,6 +1,7 @@
 //! The operations as rows are calculated by them, and whether the rows end at a fault.
 
 use crate::arithmetic_integer::ArithmeticInteger;
+use crate::products::VectorMul;
 use vortex_checked::{CheckedAdd, CheckedDiv, CheckedMul, CheckedPrimitiveOp, CheckedSub};
 
 /// A checked operation, and the form of the loop that serves it best.
@@ -84,4 +85,12 @@ impl RowOperation<i64> for WideMul {
 
 impl RowOperation<u64> for WideMul {
     const ENDS_AT_FAULT: bool = true;
+}
+
+impl RowOperation<i16> for VectorMul {
+    const ENDS_AT_FAULT: bool = false;
+}
+
+impl RowOperation<i32> for VectorMul {
+    const ENDS_AT_FAULT: bool = false;
 }

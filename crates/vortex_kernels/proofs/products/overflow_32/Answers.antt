@@ -5,31 +5,25 @@ use Rattle.std.specs.Bool.{FalseIff}
 use Rattle.std.proofs.lemmas.Int.{ints, wrapping_mul_is}
 use mir.Val.{to_z, of_z}
 use Rattle.vortex_checked.specs.Evidence.{is_nonzero}
-use Rattle.vortex_checked.specs.Exact.{IsWithin, sign_word}
+use Rattle.vortex_checked.specs.Exact.{IsWithin, sign_word, wide_evidence}
 use Rattle.vortex_checked.proofs.WideProduct.{product_fits, wide_tells, twice_32}
-use Rattle.vortex_checked.proofs.signed.I32CheckedArithmetic.mul_failure.Goals as goal
+use Rattle.vortex_kernels.proofs.products.overflow_32.Goals as goal
 
-pub returns-clause-evidence : goal.returns-clause-evidence
-returns-clause-evidence c =
-    let a = c.args.self in
-    let b = c.args.rhs in
+pub returns : goal.returns
+returns c =
+    let a = c.args.left in
+    let b = c.args.right in
+    let z = a *ℤ b in
     let left : to_z w32 (of_z w32 a) ≡ a = grind (arith, to_z-of_z) in
     let right : to_z w32 (of_z w32 b) ≡ b = grind (arith, to_z-of_z) in
     let upper =
     c.upper_half_32.ensures ∙ (λ i. of_z w64 (left i *ℤ right i) / 4294967296) in
     let sign =
-    c.sign_word_32.ensures ∙ ap (sign_word w32) (wrapping_mul_is w32 a b c.ranges.self c.ranges.rhs) in
-    λ i. bit_xor (upper i) (sign i)
-
-pub returns-clause-fault : goal.returns-clause-fault
-returns-clause-fault c =
-    let z = c.args.self *ℤ c.args.rhs in
+    c.sign_word_32.ensures ∙ ap (sign_word w32) (wrapping_mul_is w32 a b c.ranges.left c.ranges.right) in
     subst
-    (λ e.
-    FalseIff (is_nonzero e)
-    (IsWithin (negsuc 2147483647) (pos 2147483647) z))
-    (sym (returns-clause-evidence c))
+    (λ e. FalseIff (is_nonzero e) (IsWithin (negsuc 2147483647) (pos 2147483647) z))
+    (sym (λ i. bit_xor (upper i) (sign i)))
     (wide_tells w32 w64 twice_32 z
-    (product_fits w32 w64 twice_32 c.args.self c.args.rhs c.ranges.self c.ranges.rhs)
+    (product_fits w32 w64 twice_32 a b c.ranges.left c.ranges.right)
     (λ f. (omega (arith, ints, f), omega (arith, ints, f)))
     (λ p. omega (arith, ints, p.0, p.1)))

@@ -2,7 +2,7 @@ use Rattle.std.proofs.Common.{◌≡◌, ap, ◌∙◌, ◌*ℤ◌, ◌/◌, ari
 use Rattle.std.specs.Int.{w32, w64}
 use mir.Val.{to_z, of_z}
 use Rattle.vortex_checked.proofs.WideProduct.{product_fits, twice_32}
-use Rattle.vortex_checked.proofs.signed.upper_half_32.Goals as goal
+use Rattle.vortex_kernels.proofs.products.upper_half_32.Goals as goal
 
 pub returns : goal.returns
 returns c =

@@ -2,7 +2,7 @@ use Rattle.std.proofs.Common.{◌≡◌, ap, ◌∙◌, ◌*ℤ◌, ◌/◌, ari
 use Rattle.std.specs.Int.{w16, w32}
 use mir.Val.{to_z, of_z}
 use Rattle.vortex_checked.proofs.WideProduct.{product_fits, twice_16}
-use Rattle.vortex_checked.proofs.signed.upper_half_16.Goals as goal
+use Rattle.vortex_kernels.proofs.products.upper_half_16.Goals as goal
 
 pub returns : goal.returns
 returns c =
