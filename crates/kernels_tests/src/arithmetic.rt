@@ -25,6 +25,8 @@ fn multiplies(rt: HostRuntime) {
     assert!(rt; evidence == 18446744073709551615);
     assert!(rt; CheckedMul::apply(-1i64, 1) == (-1, 0));
     assert!(rt; CheckedMul::apply(-128i8, -1) == (-128, true));
+    assert!(rt; CheckedMul::apply(300i16, 300) == (24464, true));
+    assert!(rt; CheckedMul::apply(65536i32, 65536) == (0, true));
 }
 
 #[test]

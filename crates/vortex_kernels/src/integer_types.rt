@@ -1,4 +1,18 @@
 //! The integer types, chosen before the rows.
+ghost use Rattle.std.specs.Prelude.{◌≡◌};
+ghost use Rattle.vortex_kernels.specs.Words.{integer_of_both, type_of};
+
+use vortex_columns::{DType, PType};
+
+/// The integer type of both types, where they agree apart from nullability.
+pub(crate) fn integer_of_both(lhs: &DType, rhs: &DType) -> Option<PType>
+    ensures { result ≡ integer_of_both (type_of lhs.now) (type_of rhs.now) }
+{
+    match (lhs, rhs) {
+        (DType::Primitive(left, _), DType::Primitive(right, _)) if left == right => Some(*left),
+        _ => None,
+    }
+}
 
 /// A call of a generic function at the integer type of a `PType`: the type stands for the `_`, the
 /// last of the type arguments.

@@ -6,17 +6,17 @@ ghost use Rattle.vortex_kernels.specs.Words.{Answers, AnswersUnlessMemory, integ
 ghost use Rattle.vortex_kernels.specs.Words.{AnswersNumeric, RefusesNumeric};
 ghost use Rattle.vortex_kernels.specs.Words.{IsExactOf, row_results, AreNumbers};
 ghost use Rattle.vortex_kernels.specs.Words.{AreResults, TellsFaults};
-ghost use Rattle.vortex_kernels.specs.Words.{HasScalarRows, IsConstantOf, null_of, number, type_of};
+ghost use Rattle.vortex_kernels.specs.Words.{HasScalarRows, IsConstantOf, null_of, number};
 ghost use Rattle.vortex_kernels.specs.Words.{KeepsTwoConstants, AreInts};
 ghost use Rattle.vortex_kernels.specs.Faults.{AreHeldResults};
 
 use crate::arithmetic_integer::{ArithmeticInteger, apply_checked};
 use crate::constant_operand::{products_by, products_of, quotients_by};
-use crate::integer_types::with_integer;
+use crate::integer_types::{integer_of_both, with_integer};
 use crate::numbers::{ListedNumbers, Numbers, OneNumber};
 use crate::pairs::constant_int;
-use crate::quotients::column_quotients;
 use crate::products::VectorMul;
+use crate::quotients::column_quotients;
 use crate::row_operation::{RowOperation, WideMul};
 use crate::settled::settled_rows;
 use std::alloc::Global;
@@ -24,8 +24,8 @@ use vortex_checked::{
     CheckedAdd, CheckedDiv, CheckedMul, CheckedSub, ConstantArithmetic, GuessedDivision,
 };
 use vortex_columns::{
-    Column, DType, ExecutionCtx, MismatchPlace, Nullability, NumericOperator, PType, Scalar,
-    ScalarValue, VortexError, VortexResult,
+    Column, ExecutionCtx, MismatchPlace, Nullability, NumericOperator, PType, Scalar, ScalarValue,
+    VortexError, VortexResult,
 };
 
 /// The value of each row, also where it lies under a null, and evidence that is joined over all
@@ -362,16 +362,6 @@ fn numeric_typed(
         (NumericOperator::Div, PType::U16) => guessed_or_quotients::<u16>(lhs, rhs, ctx),
         (NumericOperator::Div, PType::U32) => guessed_or_quotients::<u32>(lhs, rhs, ctx),
         _ => with_integer!(ptype, numeric_in::<_>(lhs, rhs, operator, ctx)),
-    }
-}
-
-/// The integer type of both types, where they agree apart from nullability.
-fn integer_of_both(lhs: &DType, rhs: &DType) -> Option<PType>
-    ensures { result ≡ integer_of_both (type_of lhs.now) (type_of rhs.now) }
-{
-    match (lhs, rhs) {
-        (DType::Primitive(left, _), DType::Primitive(right, _)) if left == right => Some(*left),
-        _ => None,
     }
 }
 
