@@ -16,7 +16,7 @@ fn number(nullability: Nullability) -> DType {
 }
 
 /// Prices, stock and orders: `price i32`, `stock i32?`, `ordered i32?`.
-pub fn scope(alloc: Global) -> VortexResult<StructFields> {
+pub(crate) fn scope(alloc: Global) -> VortexResult<StructFields> {
     let fields = [
         ("price", number(Nullability::NonNullable)),
         ("stock", number(Nullability::Nullable)),
@@ -44,7 +44,7 @@ fn goods(
 }
 
 /// In the first batch one of three goods is cheap and its stock known, in the second two.
-pub fn batches(alloc: Global) -> VortexResult<Vec<Batch>> {
+pub(crate) fn batches(alloc: Global) -> VortexResult<Vec<Batch>> {
     let mut batches = Vec::new(alloc);
     batches.push(goods(
         alloc,
