@@ -1,6 +1,7 @@
 -- An answer's name: its last token, where `as` stands before it.
 use Rattle.std.proofs.Common.{◌≡◌, ◌&&◌, ◌++◌, ◌∷◌, [], Bool, true, cond, List, length, map}
 use Rattle.std.proofs.Common.{reverse, Option, Some, None, IfSome, refl, ap, sym, ◌∙◌, arith}
+use Rattle.std.proofs.Common.{◌≤◌, length-append}
 use Rattle.std.proofs.lemmas.List.{append-nil, map-append, reverse-append, reverse-reverse}
 use Rattle.vortex_syntax.specs.declared.token.Sign.TheVariants as sign
 use Rattle.vortex_syntax.specs.declared.frame.Mode.TheVariants as mode
@@ -13,6 +14,7 @@ use Rattle.vortex_syntax.specs.Reading.{state, steps_of}
 use Rattle.vortex_syntax.specs.AnswerLists.{Answer, is_name, name_tokens, SpellsAnswer, Told, told}
 use Rattle.vortex_syntax.specs.AnswerParts.{is_as, name_back, split_name, told_as, split_answer}
 use Rattle.vortex_syntax.specs.AnswerParts.{answer_of}
+use Rattle.vortex_syntax.specs.Refusals.{unless_named, tree_tokens}
 use Rattle.vortex_syntax.proofs.Complete.{whole_read}
 use Rattle.vortex_syntax.proofs.Sound.{whole_found}
 use Rattle.vortex_syntax.proofs.AnswerTokens.{no_name}
@@ -86,6 +88,17 @@ named_by : (ts : List Token) (x : List Token × Token) → split_name ts ≡ Som
 unfolding split_name
 named_by ts x e = let n = named_back (reverse ts) x e in
     record { tokens = sym (reverse-reverse ts) ∙ n.tokens; is = n.is }
+
+-- an answer has no fewer tokens than its tree
+tree_shorter : (ts : List Token) (o : Option (List Token × Token)) → split_name ts ≡ o
+    → length (unless_named ts o) ≤ length ts
+tree_shorter ts None e = omega arith
+tree_shorter ts (Some x) e =
+    let n = named_by ts x e in
+    omega (arith, ap length n.tokens, length-append x.0 (sign sign.As ∷ x.1 ∷ []))
+
+pub tree_within : (ts : List Token) → length (tree_tokens ts) ≤ length ts
+tree_within ts = tree_shorter ts (split_name ts) refl
 
 -- an answer that is read is spelled so
 is_told : (x y : Told) → Some x ≡ Some y → y ≡ x

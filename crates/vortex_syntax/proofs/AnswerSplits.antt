@@ -29,7 +29,7 @@ use Rattle.vortex_syntax.proofs.AnswerTokens.{no_commas}
 use Rattle.vortex_syntax.proofs.AnswerNames.{answer_found, answer_read}
 
 -- a list that is read is spelled so
-data Parts : List Token → List (List Token) → Type 0 where
+pub data Parts : List Token → List (List Token) → Type 0 where
   whole : {ts : List Token} → Parts ts (ts ∷ [])
   first : {ts vs : List Token} {ps : List (List Token)} (us : List Token)
       → ts ≡ us ++ (sign sign.Comma ∷ vs) → Parts vs ps → Parts ts (us ∷ ps)
@@ -50,7 +50,7 @@ part_if : (t : Token) (ts : List Token) (b : Bool) → is_comma t ≡ b
 part_if t ts true h p = first [] (ap (λ u. u ∷ ts) (comma_is t h)) p
 part_if t ts false h p = onto t p
 
-parts_of : (ts : List Token) → Parts ts (slice_split is_comma ts)
+pub parts_of : (ts : List Token) → Parts ts (slice_split is_comma ts)
 parts_of [] = whole
 parts_of (t ∷ ts) = part_if t ts (is_comma t) refl (parts_of ts)
 

@@ -214,7 +214,8 @@ Holds mode.Is fs out before = (l : ℕ) × HasOperand l fs out before (sign sign
 Holds mode.IsNot fs out before =
     (l : ℕ) × HasOperand l fs out before (sign sign.Is ∷ sign sign.Not ∷ []) × (3 ≤ l)
     × (top_hole fs ≤ 3)
-Holds (mode.Negating l) fs out before = HasOperand l fs out before (sign sign.Not ∷ [])
+Holds (mode.Negating l) fs out before =
+    HasOperand l fs out before (sign sign.Not ∷ []) × (6 ≤ l) × (top_hole fs ≤ 5)
 Holds mode.Casting fs out before = Behind fs out before [] (sign sign.Cast ∷ [])
 Holds mode.CastType fs out before =
     (a : Syntax) × Fits a × Behind fs out before (postfix a)

@@ -59,53 +59,6 @@ abbrev pub closed : List Step → Frame → List Step
 closed out f = out ++ (closing f ∷ [])
 
 -- what closes a frame before a sign does so in whatever stands behind it
-predicate_closes : (n : Bool) (l : ℕ) (f : Frame) (fs : List Frame) (out : List Step) (s : Sign)
-    → 5 < guard f → predicate n l (f ∷ fs) out s ≡ predicate n (whole f) fs (closed out f) s
-unfolding predicate
-predicate_closes n l f fs out sign.Between h =
-    ap (waiting 5 6 (frame.Between n)) (settled_one 5 l f fs out h)
-predicate_closes n l f fs out sign.Like h =
-    ap (waiting 5 6 (frame.Like (specs.like_kind n false))) (settled_one 5 l f fs out h)
-predicate_closes n l f fs out sign.Ilike h =
-    ap (waiting 5 6 (frame.Like (specs.like_kind n true))) (settled_one 5 l f fs out h)
-predicate_closes n l f fs out sign.And h = refl
-predicate_closes n l f fs out sign.Or h = refl
-predicate_closes n l f fs out sign.Not h = refl
-predicate_closes n l f fs out sign.Is h = refl
-predicate_closes n l f fs out sign.Null h = refl
-predicate_closes n l f fs out sign.Escape h = refl
-predicate_closes n l f fs out sign.True h = refl
-predicate_closes n l f fs out sign.False h = refl
-predicate_closes n l f fs out sign.Cast h = refl
-predicate_closes n l f fs out sign.As h = refl
-predicate_closes n l f fs out sign.Equal h = refl
-predicate_closes n l f fs out sign.NotEqual h = refl
-predicate_closes n l f fs out sign.Less h = refl
-predicate_closes n l f fs out sign.LessOrEqual h = refl
-predicate_closes n l f fs out sign.Greater h = refl
-predicate_closes n l f fs out sign.GreaterOrEqual h = refl
-predicate_closes n l f fs out sign.Plus h = refl
-predicate_closes n l f fs out sign.Minus h = refl
-predicate_closes n l f fs out sign.Times h = refl
-predicate_closes n l f fs out sign.Divide h = refl
-predicate_closes n l f fs out sign.Open h = refl
-predicate_closes n l f fs out sign.Close h = refl
-predicate_closes n l f fs out sign.Comma h = refl
-predicate_closes n l f fs out sign.Typed h = refl
-
-negating_closes : (l : ℕ) (f : Frame) (fs : List Frame) (out : List Step) (ts : List Token)
-    → 5 < guard f
-    → run (state (mode.Negating l) (f ∷ fs) out) ts
-    ≡ run (state (mode.Negating (whole f)) fs (closed out f)) ts
-unfolding run next finish
-negating_closes l f fs out [] h = refl
-negating_closes l f fs out (sign s ∷ ts) h = ap (ran ts) (predicate_closes true l f fs out s h)
-negating_closes l f fs out (name w ∷ ts) h = refl
-negating_closes l f fs out (nullable w ∷ ts) h = refl
-negating_closes l f fs out (quoted w ∷ ts) h = refl
-negating_closes l f fs out (number w ∷ ts) h = refl
-negating_closes l f fs out (text w ∷ ts) h = refl
-
 sign_closes : (l : ℕ) (f : Frame) (fs : List Frame) (out : List Step) (s : Sign) (ts : List Token)
     → reach_of s < guard f
     → have l (f ∷ fs) out (sign s ∷ ts) ≡ have (whole f) fs (closed out f) (sign s ∷ ts)
@@ -115,7 +68,8 @@ sign_closes l f fs out sign.And ts h =
 sign_closes l f fs out sign.Or ts h =
     ap (λ a. ran ts (waiting (own operator.Or) (left operator.Or) (frame.Join operator.Or) a))
     (settled_one (own operator.Or) l f fs out h)
-sign_closes l f fs out sign.Not ts h = negating_closes l f fs out ts h
+sign_closes l f fs out sign.Not ts h =
+    ap (λ a. ran ts (specs.not_behind a.level a.frames a.steps)) (settled_one 5 l f fs out h)
 sign_closes l f fs out sign.Is ts h =
     ap (λ a. ran ts (specs.is_behind a.level a.frames a.steps)) (settled_one 3 l f fs out h)
 sign_closes l f fs out sign.Null ts h = refl
@@ -240,11 +194,20 @@ step_join operator.Div l fs out ts h k =
     ap (ran ts) (shifts (own operator.Div) (left operator.Div)
     (frame.Join operator.Div) l fs out h k)
 
+step_negating : (l : ℕ) (fs : List Frame) (out : List Step) (ts : List Token) → 6 ≤ l
+    → top_hole fs ≤ 5
+    → have l fs out (sign sign.Not ∷ ts) ≡ run (state (mode.Negating l) fs out) ts
+unfolding run next word_behind
+step_negating l fs out ts h k =
+    ap (λ a. ran ts (specs.not_behind a.level a.frames a.steps)) (settled_none 5 l fs out k)
+    ∙ rw (at_most 6 l h, at_most (top_hole fs) 5 k) refl
+
 step_between : (n : Bool) (l : ℕ) (fs : List Frame) (out : List Step) (ts : List Token) → 6 ≤ l
     → top_hole fs ≤ 5
     → have l fs out (with_not n sign.Between ++ ts) ≡ want (frame.Between n ∷ fs) out ts
 unfolding run next word_behind predicate
-step_between true l fs out ts h k = ap (ran ts) (shifts 5 6 (frame.Between true) l fs out h k)
+step_between true l fs out ts h k = step_negating l fs out (sign sign.Between ∷ ts) h k
+    ∙ ap (ran ts) (shifts 5 6 (frame.Between true) l fs out h k)
 step_between false l fs out ts h k = ap (ran ts) (shifts 5 6 (frame.Between false) l fs out h k)
 
 step_like : (n i : Bool) (l : ℕ) (fs : List Frame) (out : List Step) (ts : List Token) → 6 ≤ l
@@ -252,10 +215,10 @@ step_like : (n i : Bool) (l : ℕ) (fs : List Frame) (out : List Step) (ts : Lis
     → have l fs out (like_sign (specs.like_kind n i) ++ ts)
     ≡ want (frame.Like (specs.like_kind n i) ∷ fs) out ts
 unfolding run next word_behind predicate
-step_like true true l fs out ts h k =
-    ap (ran ts) (shifts 5 6 (frame.Like (specs.like_kind true true)) l fs out h k)
-step_like true false l fs out ts h k =
-    ap (ran ts) (shifts 5 6 (frame.Like (specs.like_kind true false)) l fs out h k)
+step_like true true l fs out ts h k = step_negating l fs out (sign sign.Ilike ∷ ts) h k
+    ∙ ap (ran ts) (shifts 5 6 (frame.Like (specs.like_kind true true)) l fs out h k)
+step_like true false l fs out ts h k = step_negating l fs out (sign sign.Like ∷ ts) h k
+    ∙ ap (ran ts) (shifts 5 6 (frame.Like (specs.like_kind true false)) l fs out h k)
 step_like false true l fs out ts h k =
     ap (ran ts) (shifts 5 6 (frame.Like (specs.like_kind false true)) l fs out h k)
 step_like false false l fs out ts h k =

@@ -20,7 +20,7 @@ abbrev rest_of : List ℕ → Cut → List ℕ
 rest_of xs None = xs
 rest_of xs (Some x) = x.1
 
-abbrev piece_of : Cut → Piece
+abbrev pub piece_of : Cut → Piece
 piece_of None = gap
 piece_of (Some x) = x.0
 
@@ -67,6 +67,12 @@ one_list none (token_first k l) = absurd cc
 one_list (gap_first k l) m = one_list l (after_gap m k)
 one_list (token_first {t = t} k l) m = let r = after_token m k in
     ap (λ (us : List Token). t ∷ us) (one_list l r.2) ∙ sym r.1
+
+-- no list is read where a piece is wanted that does not begin
+pub stuck : (text : List ℕ) (ts : List Token) (now : List ℕ) → SoFar text ts now
+    → 0 < length now → first_piece now ≡ None → (vs : List Token) → ¬ Lexes text vs
+stuck text ts [] s lt h vs l = omega (arith, lt)
+stuck text ts (b ∷ bs) s lt h vs l = no_piece b bs (s.only vs l).2 refl h
 
 pub to_gap : (text : List ℕ) (ts : List Token) (now rest : List ℕ)
     → first_piece now ≡ Some (gap, rest) → length rest < length now → SoFar text ts now

@@ -14,6 +14,12 @@ pub mod SignsSound
 pub mod OperandsSound
 pub mod Sound
 pub mod Whole
+pub mod Begun
+pub mod Stops
+pub mod Placed
+pub mod Deep
 pub mod AnswerTokens
 pub mod AnswerNames
 pub mod AnswerSplits
+pub mod AnswerStops
+pub mod Refused

@@ -19,7 +19,7 @@ use Rattle.vortex_syntax.specs.Postfix.{Step, postfix}
 use Rattle.vortex_syntax.specs.Reading as specs
 use Rattle.vortex_syntax.specs.Reading.{State, state, hole, top_hole, guard, whole, closing}
 use Rattle.vortex_syntax.specs.Reading.{Operand, operand_of, settled, waiting, shifted, operator_of}
-use Rattle.vortex_syntax.specs.Reading.{and_behind, is_behind, close_behind, as_behind}
+use Rattle.vortex_syntax.specs.Reading.{and_behind, is_behind, not_behind, close_behind, as_behind}
 use Rattle.vortex_syntax.specs.Reading.{escape_behind, end_behind, predicate, word_behind, behind}
 use Rattle.vortex_syntax.specs.Reading.{next, finish, run, steps_of}
 use Rattle.vortex_syntax.proofs.Tables.{top_atom}
@@ -208,6 +208,18 @@ is_sound l fs out s before e a =
       fits_below (top_hole fs) 3 t.1,
     )
 
+pub not_sound : (l : ℕ) (fs : List Frame) (out : List Step) (s : State) (before : List Token)
+    → not_behind l fs out ≡ Some s → HasOperand l fs out before []
+    → HoldsIn s (before ++ (sign sign.Not ∷ []))
+not_sound l fs out s before e a =
+    let c = chosen (nat_le 6 l && nat_le (top_hole fs) 5) (state (mode.Negating l) fs out) s e in
+    let t = both (nat_le 6 l) (nat_le (top_hole fs) 5) c.0 in
+    along (state (mode.Negating l) fs out) s (before ++ (sign sign.Not ∷ [])) c.1 (
+      operand_more l fs out before [] (sign sign.Not ∷ []) a,
+      fits_below 6 l t.0,
+      fits_below (top_hole fs) 5 t.1,
+    )
+
 pub grouped_is : (a : Syntax) (h : Held) (fs : List Frame) (out : List Step) (before : List Token)
     → Fits a → h ≡ opened
     → Behind fs out before (held h ++ postfix a) (written h ++ (spelling a ++ []))
@@ -336,9 +348,8 @@ unfolding word_behind predicate
 behind_sign l fs out sign.And s before e a = let b = settled 1 l fs out in
     and_sound b.level b.frames b.steps s before e (settled_operand 1 l fs out before [] a)
 behind_sign l fs out sign.Or s before e a = joining_sound operator.Or l fs out s before e a
-behind_sign l fs out sign.Not s before e a =
-    along (state (mode.Negating l) fs out) s (before ++ (sign sign.Not ∷ [])) e
-    (operand_more l fs out before [] (sign sign.Not ∷ []) a)
+behind_sign l fs out sign.Not s before e a = let b = settled 5 l fs out in
+    not_sound b.level b.frames b.steps s before e (settled_operand 5 l fs out before [] a)
 behind_sign l fs out sign.Is s before e a = let b = settled 3 l fs out in
     is_sound b.level b.frames b.steps s before e (settled_operand 3 l fs out before [] a)
 behind_sign l fs out sign.Null s before e a = absurd cc

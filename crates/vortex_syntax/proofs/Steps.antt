@@ -14,12 +14,12 @@ pub starts : (ts : List Token) (fs : List Frame) (out : List Step) → fs ≡ []
 unfolding steps_of
 starts ts fs out e k = rw (e, k) refl
 
-goes : (s : State) (t : Token) (ts : List Token) (r : State)
+pub goes : (s : State) (t : Token) (ts : List Token) (r : State)
     → next s.mode s.frames s.steps t ≡ Some r → run s (t ∷ ts) ≡ run r ts
 unfolding run
 goes s t ts r h = rw h refl
 
-fails : (s : State) (t : Token) (ts : List Token) → next s.mode s.frames s.steps t ≡ None
+pub fails : (s : State) (t : Token) (ts : List Token) → next s.mode s.frames s.steps t ≡ None
     → run s (t ∷ ts) ≡ None
 unfolding run
 fails s t ts h = rw h refl

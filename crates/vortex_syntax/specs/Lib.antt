@@ -13,4 +13,5 @@ pub mod Grammar
 pub mod Reading
 pub mod AnswerLists
 pub mod AnswerParts
+pub mod Refusals
 pub mod Writing

@@ -1,14 +1,17 @@
 -- How deep brackets nest.
 use Rattle.std.specs.Prelude.{ℕ, zero, suc, Bool, true, nat_lt, ◌&&◌, List, [], ◌∷◌}
-use Rattle.vortex_syntax.specs.declared.nesting.TheConstants.{DEPTH}
 use Rattle.vortex_syntax.specs.declared.token.Sign.TheVariants as sign
 use Rattle.vortex_syntax.specs.Tokens.{Token, sign}
 
--- Where d brackets are open, no more than DEPTH are at once. A bracket that closes none is refused
+-- so many brackets may be open at once
+abbrev pub nesting_limit : ℕ
+nesting_limit = 1000
+
+-- Where d brackets are open, no more than the limit are at once. A bracket that closes none is refused
 -- otherwise.
 abbrev pub nests_from : ℕ → List Token → Bool
 nests_from d [] = true
-nests_from d (sign sign.Open ∷ ts) = nat_lt d DEPTH && nests_from (suc d) ts
+nests_from d (sign sign.Open ∷ ts) = nat_lt d nesting_limit && nests_from (suc d) ts
 nests_from zero (sign sign.Close ∷ ts) = true
 nests_from (suc d) (sign sign.Close ∷ ts) = nests_from d ts
 nests_from d (t ∷ ts) = nests_from d ts

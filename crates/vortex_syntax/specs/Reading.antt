@@ -147,6 +147,12 @@ abbrev pub is_behind : ℕ → List Frame → List Step → Option State
 is_behind l fs out =
     if nat_le is_level l && nat_le (top_hole fs) is_level then Some (state mode.Is fs out) else None
 
+-- a `not` behind an operand, which BETWEEN or LIKE may follow
+abbrev pub not_behind : ℕ → List Frame → List Step → Option State
+not_behind l fs out =
+    if nat_le sum_level l && nat_le (top_hole fs) predicate_level
+    then Some (state (mode.Negating l) fs out) else None
+
 abbrev pub close_behind : List Frame → List Step → Option State
 close_behind [] out = None
 close_behind (frame.Open ∷ fs) out = Some (state (mode.Have atom_level) fs out)
@@ -184,7 +190,8 @@ word_behind level fs out sign.And =
     let a = settled and_level level fs out in and_behind a.level a.frames a.steps
 word_behind level fs out sign.Is =
     let a = settled is_level level fs out in is_behind a.level a.frames a.steps
-word_behind level fs out sign.Not = Some (state (mode.Negating level) fs out)
+word_behind level fs out sign.Not =
+    let a = settled predicate_level level fs out in not_behind a.level a.frames a.steps
 word_behind level fs out sign.Close =
     let a = settled or_level level fs out in close_behind a.frames a.steps
 word_behind level fs out sign.As =

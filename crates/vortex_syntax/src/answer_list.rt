@@ -1,6 +1,7 @@
 //! Lists of answers.
 ghost use Rattle.std.specs.Prelude.{◌≡◌, ◌+◌, ◌<◌, ◌&&◌, ◌∷◌, [], map, take, drop, length};
-ghost use Rattle.std.specs.Prelude.{List, option_map, IfOk, IfSome, MatchOption, MatchResult};
+ghost use Rattle.std.specs.Prelude.{List, option_map, IfOk, IfErr, IfSome, MatchOption};
+ghost use Rattle.std.specs.Prelude.{MatchResult};
 ghost use Rattle.std.specs.List.{slice_split};
 ghost use Rattle.vortex_syntax.specs.Tokens.{token_in};
 ghost use Rattle.vortex_syntax.specs.Errors.{UnlessMemory, AnswersUnlessMemory};
@@ -9,6 +10,8 @@ ghost use Rattle.vortex_syntax.specs.AnswerLists.{Answer, is_name, ReadsAnswers,
 ghost use Rattle.vortex_syntax.specs.AnswerParts as specs;
 ghost use Rattle.vortex_syntax.specs.AnswerParts.{is_comma, is_as, told_as, answer_of};
 ghost use Rattle.vortex_syntax.specs.AnswerParts.{all_answers, Tells};
+ghost use Rattle.vortex_syntax.specs.Refusals.{RefusesBy, TreeStopsAt, ListStopsAt, NamesPlace};
+ghost use Rattle.vortex_syntax.specs.Refusals.{tree_tokens};
 
 use crate::error::SyntaxError;
 use crate::expected::Expected;
@@ -77,8 +80,10 @@ fn read_named<'a>(
     places: Places<'_>,
     name: Option<Token<'a>>,
 ) -> Result<SyntaxAnswer<'a>, SyntaxError>
-    ensures { Tells result
+    ensures told { Tells result
         (told_as (option_map token_in name.entry) (steps_of (map token_in tokens.now))) }
+    ensures refused { IfErr result
+        (NamesPlace (TreeStopsAt (map token_in tokens.now)) places.entry) }
 {
     let tree = read_steps(alloc, tokens, places)?;
     Ok(SyntaxAnswer { tree, name })
@@ -90,7 +95,9 @@ fn read_answer<'a>(
     tokens: &[Token<'a>],
     places: Places<'_>,
 ) -> Result<SyntaxAnswer<'a>, SyntaxError>
-    ensures { Tells result (answer_of (map token_in tokens.now)) }
+    ensures told { Tells result (answer_of (map token_in tokens.now)) }
+    ensures refused { IfErr result
+        (NamesPlace (TreeStopsAt (tree_tokens (map token_in tokens.now))) places.entry) }
 {
     match split_name(tokens) {
         Some((tree, name)) => read_named(alloc, tree, places, Some(name)),
@@ -120,9 +127,11 @@ fn read_parts<'a>(
     tokens: &[Token<'a>],
     places: Places<'_>,
 ) -> Result<Vec<SyntaxAnswer<'a>>, SyntaxError>
-    ensures { MatchResult result
+    ensures read { MatchResult result
         (λ v. all_answers (map token_in tokens.now) ≡ Some (map answer_in v.items))
         (UnlessMemory (all_answers (map token_in tokens.now) ≡ None)) }
+    ensures refused { IfErr result
+        (NamesPlace (ListStopsAt (map token_in tokens.now)) places.entry) }
 {
     let mut answers = Vec::new(alloc);
     let mut from = 0;
@@ -146,6 +155,8 @@ pub fn read_answer_list(alloc: Global, text: &[u8]) -> Result<Vec<SyntaxAnswer<'
     // A list of the text is read.
     ensures only { (answers : List Answer) → ReadsAnswers text.now answers
         → AnswersUnlessMemory result (λ v. map answer_in v.items ≡ map told answers) }
+    // Where none is read, the refusal is the text's, with its byte.
+    ensures refused { IfErr result (RefusesBy ListStopsAt text.now) }
 {
     let read = read_tokens(alloc, text)?;
     let tokens = read.tokens.as_slice();

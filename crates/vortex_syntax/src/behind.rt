@@ -57,6 +57,18 @@ impl<'a> Reading<'a> {
         }
     }
 
+    /// `not`, which BETWEEN or LIKE may follow.
+    fn not_of(&mut self, level: u8) -> Option<Mode>
+        ensures { option_map (seen self.new) result
+            ≡ specs.not_behind level (frames_in self.old) (steps_in self.old) }
+    {
+        if level < SUM || PREDICATE < self.top_hole() {
+            None
+        } else {
+            Some(Mode::Negating(level))
+        }
+    }
+
     fn close_of(&mut self) -> Option<Mode>
         ensures { option_map (seen self.new) result
             ≡ specs.close_behind (frames_in self.old) (steps_in self.old) }
@@ -138,7 +150,10 @@ impl<'a> Reading<'a> {
                 let level = self.settle(IS, level)?;
                 Ok(self.is_of(level))
             }
-            Sign::Not => Ok(Some(Mode::Negating(level))),
+            Sign::Not => {
+                let level = self.settle(PREDICATE, level)?;
+                Ok(self.not_of(level))
+            }
             Sign::Close => {
                 let _level = self.settle(OR, level)?;
                 Ok(self.close_of())

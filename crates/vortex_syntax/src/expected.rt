@@ -23,7 +23,8 @@ pub enum Expected {
     OperatorOrAs,
     /// Behind an operand that stands behind `between`.
     OperatorOrAnd,
-    /// At a comparison, `between` or `like` whose left operand is none of its level.
+    /// At a comparison, `between`, `like`, or the `not` of one, behind what binds no tighter: a
+    /// comparison, a test for null, `between` or `like`.
     Brackets,
     /// At two colons behind what is no literal without a type.
     LiteralBeforeType,
@@ -59,7 +60,8 @@ impl Expected {
             Expected::OperatorOrClose => "an operator or )",
             Expected::OperatorOrAs => "an operator, or as and a type",
             Expected::OperatorOrAnd => "+, -, *, / or the and of between",
-            Expected::Brackets => "brackets (comparisons, between and like stand in no chains)",
+            Expected::Brackets =>
+                "brackets round the comparison, is null, between or like before it",
             Expected::LiteralBeforeType => "a literal before ::, or else cast(.. as ..)",
             Expected::TypeName => "the name of a type",
             Expected::NullOrNot => "null or not null",

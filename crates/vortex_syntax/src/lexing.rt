@@ -1,9 +1,11 @@
 //! The tokens of a text.
-ghost use Rattle.std.specs.Prelude.{◌≡◌, ◌++◌, ◌∷◌, [], List, map, length, IfOk, OnOk, vec_len};
+ghost use Rattle.std.specs.Prelude.{◌≡◌, ◌≤◌, ◌++◌, ◌∷◌, [], ℕ, List, map, vec_len};
+ghost use Rattle.std.specs.Prelude.{IfOk, IfErr, OnOk};
 ghost use Rattle.vortex_syntax.specs.Tokens as seen;
 ghost use Rattle.vortex_syntax.specs.Tokens.{token_in};
 ghost use Rattle.vortex_syntax.specs.Lexing.{Lexes};
 ghost use Rattle.vortex_syntax.specs.Errors.{AnswersUnlessMemory};
+ghost use Rattle.vortex_syntax.specs.Refusals.{StandsAt, HasNoTokens, byte_in, place_in};
 
 use crate::error::SyntaxError;
 use crate::expected::Expected;
@@ -22,7 +24,10 @@ pub struct Tokens<'a> {
 
 impl<'a> Tokens<'a> {
     fn push(&mut self, token: Token<'a>, place: usize) -> Result<(), AllocError>
-        ensures { OnOk result (self.new.tokens.items ≡ self.old.tokens.items ++ token.entry ∷ []) }
+        ensures tokens { OnOk result
+            (self.new.tokens.items ≡ self.old.tokens.items ++ token.entry ∷ []) }
+        ensures places { OnOk result (self.new.places.items ≡ self.old.places.items ++ place ∷ []) }
+        ensures end { self.new.end ≡ self.old.end }
     {
         self.places.push(place)?;
         self.tokens.push(token)?;
@@ -30,7 +35,9 @@ impl<'a> Tokens<'a> {
     }
 
     /// Where the tokens stand, and what may stand behind a tree of them.
-    pub(crate) fn placed(&self, behind: Expected) -> Places<'_> {
+    pub(crate) fn placed(&self, behind: Expected) -> Places<'_>
+        ensures { (n : ℕ) → place_in result n ≡ byte_in self.now n }
+    {
         Places {
             bytes: self.places.as_slice(),
             end: self.end,
@@ -39,7 +46,9 @@ impl<'a> Tokens<'a> {
     }
 
     /// The byte at which the token of that number begins, or the text ends.
-    pub fn byte(&self, number: usize) -> usize {
+    pub fn byte(&self, number: usize) -> usize
+        ensures { result ≡ byte_in self.now number }
+    {
         match self.places.get(number) {
             Some(place) => *place,
             None => self.end,
@@ -54,6 +63,10 @@ pub fn read_tokens(alloc: Global, text: &[u8]) -> Result<Tokens<'_>, SyntaxError
     // What the text is is read.
     ensures only { (ts : List seen.Token) → Lexes text.now ts
         → AnswersUnlessMemory result (λ t. map token_in t.tokens.items ≡ ts) }
+    // Each token stands at its byte, and the end of the text at that behind them.
+    ensures places { IfOk result (λ t. (n : ℕ) → n ≤ vec_len t.tokens
+        → StandsAt text.now n (byte_in t n)) }
+    ensures refused { IfErr result (HasNoTokens text.now) }
 {
     let mut read = Tokens {
         tokens: Vec::new(alloc),

@@ -1,4 +1,7 @@
 //! Where tokens stand in their text.
+ghost use Rattle.std.specs.Prelude.{◌≡◌, ◌+◌, ℕ};
+ghost use Rattle.vortex_syntax.specs.Refusals.{place_in};
+
 use crate::expected::Expected;
 
 /// The bytes at which tokens begin, further ones too, that at which the text ends, and what may
@@ -12,7 +15,9 @@ pub struct Places<'s> {
 
 impl<'s> Places<'s> {
     /// The byte at which the token of that number begins, or the text ends.
-    pub fn byte(&self, number: usize) -> usize {
+    pub fn byte(&self, number: usize) -> usize
+        ensures { result ≡ place_in self.now number }
+    {
         match self.bytes.get(number) {
             Some(byte) => *byte,
             None => self.end,
@@ -20,7 +25,9 @@ impl<'s> Places<'s> {
     }
 
     /// The places of the tokens behind the first ones.
-    pub fn after(&self, count: usize) -> Places<'s> {
+    pub fn after(&self, count: usize) -> Places<'s>
+        ensures { (n : ℕ) → place_in result n ≡ place_in self.now (count + n) }
+    {
         let bytes = self.bytes;
         Places {
             bytes: &bytes[count.min(bytes.len())..],

@@ -1,10 +1,12 @@
 //! Reading tokens from left to right.
-ghost use Rattle.std.specs.Prelude.{◌≡◌, map, option_map, IfOk, MatchResult, Some, None};
+ghost use Rattle.std.specs.Prelude.{◌≡◌, map, option_map, IfOk, IfErr, MatchResult, Some};
+ghost use Rattle.std.specs.Prelude.{None};
 ghost use Rattle.vortex_syntax.specs.Tokens.{token_in};
 ghost use Rattle.vortex_syntax.specs.Postfix.{step_in};
 ghost use Rattle.vortex_syntax.specs.Reading as specs;
 ghost use Rattle.vortex_syntax.specs.Reading.{frames_in, steps_in, Gives, steps_of};
 ghost use Rattle.vortex_syntax.specs.Errors.{UnlessMemory};
+ghost use Rattle.vortex_syntax.specs.Refusals.{TreeStopsAt, NamesPlace};
 
 use crate::error::SyntaxError;
 use crate::frame::Mode;
@@ -75,9 +77,11 @@ pub(crate) fn read_steps<'a>(
     tokens: &[Token<'a>],
     places: Places<'_>,
 ) -> Result<SyntaxTree<'a>, SyntaxError>
-    ensures { MatchResult result
+    ensures read { MatchResult result
         (λ v. steps_of (map token_in tokens.now) ≡ Some (map step_in v.steps.items))
         (UnlessMemory (steps_of (map token_in tokens.now) ≡ None)) }
+    ensures refused { IfErr result
+        (NamesPlace (TreeStopsAt (map token_in tokens.now)) places.entry) }
 {
     let mut reading = Reading::new(alloc);
     let mut mode = Mode::Want;

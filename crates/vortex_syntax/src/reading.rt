@@ -71,7 +71,7 @@ impl<'a> Reading<'a> {
     }
 
     /// The byte of the last frame's sign.
-    pub fn top_sign(&self) -> usize {
+    pub(crate) fn top_sign(&self) -> usize {
         match self.signs.last() {
             Some(place) => *place,
             None => self.at,

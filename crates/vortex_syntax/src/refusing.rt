@@ -5,7 +5,7 @@ use crate::levels::NOT;
 use crate::reading::Reading;
 use crate::token::{Sign, Token};
 
-/// Comparisons, `between` and `like`.
+/// Comparisons, `between` and `like`, and the `not` of one.
 fn is_unchained(sign: Sign) -> bool {
     matches!(
         sign,
@@ -18,6 +18,7 @@ fn is_unchained(sign: Sign) -> bool {
             | Sign::Between
             | Sign::Like
             | Sign::Ilike
+            | Sign::Not
     )
 }
 
@@ -34,14 +35,6 @@ fn in_place_of(sign: Sign, expected: Expected) -> Expected {
                 expected
             }
         }
-    }
-}
-
-/// What could have come in place of a sign behind an operand and `not`.
-fn in_place_behind_not(sign: Sign) -> Expected {
-    match sign {
-        Sign::Between | Sign::Like | Sign::Ilike => Expected::Brackets,
-        _ => Expected::PredicateWord,
     }
 }
 
@@ -69,7 +62,12 @@ impl<'a> Reading<'a> {
 
     /// What could have come in place of that token, or where none stands, of the end. Behind a
     /// whole tree it is what the caller says.
-    pub fn expected(&self, mode: Mode, found: Option<Token<'_>>, whole: Expected) -> Expected {
+    pub(crate) fn expected(
+        &self,
+        mode: Mode,
+        found: Option<Token<'_>>,
+        whole: Expected,
+    ) -> Expected {
         match (mode, found) {
             (Mode::Want, _) => self.operand_expected(),
             (Mode::Signed, _) => Expected::Digits,
@@ -80,7 +78,6 @@ impl<'a> Reading<'a> {
             (Mode::Typing | Mode::CastType, _) => Expected::TypeName,
             (Mode::Is, _) => Expected::NullOrNot,
             (Mode::IsNot, _) => Expected::Null,
-            (Mode::Negating(_), Some(Token::Sign(sign))) => in_place_behind_not(sign),
             (Mode::Negating(_), _) => Expected::PredicateWord,
             (Mode::Casting, _) => Expected::OpenBracket,
             (Mode::CastEnd, _) => Expected::CloseBracket,

@@ -1,9 +1,10 @@
 //! The tree of a text, in postfix order.
-ghost use Rattle.std.specs.Prelude.{◌≡◌, map, length, IfOk};
+ghost use Rattle.std.specs.Prelude.{◌≡◌, map, length, IfOk, IfErr};
 ghost use Rattle.vortex_syntax.specs.Syntax.{Syntax};
 ghost use Rattle.vortex_syntax.specs.Postfix.{step_in, postfix};
 ghost use Rattle.vortex_syntax.specs.Grammar.{Reads};
 ghost use Rattle.vortex_syntax.specs.Errors.{AnswersUnlessMemory};
+ghost use Rattle.vortex_syntax.specs.Refusals.{RefusesBy, TreeStopsAt};
 
 use crate::error::SyntaxError;
 use crate::expected::Expected;
@@ -22,6 +23,8 @@ pub fn read_syntax(alloc: Global, text: &[u8]) -> Result<SyntaxTree<'_>, SyntaxE
     // A tree of the text is read.
     ensures only { (t : Syntax) → Reads text.now t
         → AnswersUnlessMemory result (λ v. map step_in v.steps.items ≡ postfix t) }
+    // Where none is read, the refusal is the text's, with its byte.
+    ensures refused { IfErr result (RefusesBy TreeStopsAt text.now) }
     ensures paired { IfOk result (λ v. length v.places.items ≡ length v.steps.items) }
 {
     let read = read_tokens(alloc, text)?;

@@ -23,7 +23,8 @@ fn no_chains(rt: HostRuntime) {
     const CASES: &[(&str, usize, Expected)] = &[
         ("a < b < c", 6, Expected::Brackets),
         ("a like b like c", 9, Expected::Brackets),
-        ("a not like b not like c", 17, Expected::Brackets),
+        ("a not like b not like c", 13, Expected::Brackets),
+        ("a is null not between 1 and 2", 10, Expected::Brackets),
         ("a between 1 and 2 like b", 18, Expected::Brackets),
         ("a = not b", 4, Expected::TightOperand),
         ("a between b < c and d", 12, Expected::OperatorOrAnd),

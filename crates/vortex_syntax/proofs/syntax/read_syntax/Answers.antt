@@ -15,8 +15,8 @@ returns-clause-found c =
     rw c.as_slice-tokens.ensures.value c.in_ok-read.ensures.found in
     found_of (λ v. map step_in v.steps.items) (steps_of ts)
     (λ xs. (t : Syntax) × Reads c.args.text.now t × (xs ≡ postfix t))
-    (λ xs e. found_in c.args.text.now ts xs lexed (sym c.in_default.ensures) e) c.read_steps.result
-    c.read_steps.ensures
+    (λ xs e. found_in c.args.text.now ts xs lexed (sym c.in_default.ensures.nests) e) c.read_steps.result
+    c.read_steps.ensures.read
 
 pub returns-clause-only : goal.returns-clause-only
 returns-clause-only c = λ t r.
@@ -24,7 +24,7 @@ returns-clause-only c = λ t r.
     let lexed : Lexes c.args.text.now ts =
     rw c.as_slice-tokens.ensures.value c.in_ok-read.ensures.found in
     only_of (λ v. map step_in v.steps.items) (steps_of ts) (postfix t)
-    (steps_read c.args.text.now ts t lexed r) c.read_steps.result c.read_steps.ensures
+    (steps_read c.args.text.now ts t lexed r) c.read_steps.result c.read_steps.ensures.read
 
 pub returns-clause-paired : goal.returns-clause-paired
 returns-clause-paired c = is_paired c.read_steps.result

@@ -1,0 +1,181 @@
+-- What was read before a token begins an expression.
+use Rattle.std.proofs.Common.{◌≡◌, ℕ, ◌≤◌, List, [], ◌∷◌, ◌++◌, false, true, Some, refl, ap}
+use Rattle.std.proofs.Common.{subst, ◌∙◌, append_assoc, arith, lit<, lit≤}
+use Rattle.std.proofs.lemmas.List.{append-nil}
+use Rattle.vortex_syntax.specs.declared.token.Sign.TheVariants as sign
+use Rattle.vortex_syntax.specs.declared.frame.Frame.{Frame}
+use Rattle.vortex_syntax.specs.declared.frame.Mode.{Mode}
+use Rattle.vortex_syntax.specs.declared.frame.Mode.TheVariants as mode
+use Rattle.vortex_syntax.specs.Tokens.{Token, name, number, text, sign}
+use Rattle.vortex_syntax.specs.Syntax as tree
+use Rattle.vortex_syntax.specs.Syntax.{Syntax}
+use Rattle.vortex_syntax.specs.Levels.{level, Fits}
+use Rattle.vortex_syntax.specs.Spelling.{spelling, with_not, like_sign, type_token}
+use Rattle.vortex_syntax.specs.Postfix.{Step, postfix}
+use Rattle.vortex_syntax.specs.Reading.{hole, top_hole, whole}
+use Rattle.vortex_syntax.specs.Refusals.{Begins}
+use Rattle.vortex_syntax.proofs.Tables.{top_atom, own_right}
+use Rattle.vortex_syntax.proofs.Held.{Held, opened, casting, negating, joining, lower, upper}
+use Rattle.vortex_syntax.proofs.Held.{matching, frame_of, written, IsSound, frames_of}
+use Rattle.vortex_syntax.proofs.Held.{all_written, Nested, Plugged, plugged}
+use Rattle.vortex_syntax.proofs.Before.{Behind, HasOperand, Holds}
+
+-- a frame with its last operand, and what may be missing behind that
+record Filled (h : Held) (e : Syntax) : Type 0 where
+  tree : Syntax
+  fits : Fits tree
+  level : level tree ≡ whole (frame_of h)
+  more : List Token
+  tokens : (written h ++ spelling e) ++ more ≡ spelling tree
+
+closed : (h : Held) (e : Syntax) → Plugged h e → Filled h e
+closed h e r = record {
+  tree = r.tree;
+  fits = r.fits;
+  level = r.level;
+  more = [];
+  tokens = append-nil (written h ++ spelling e) ∙ r.tokens;
+}
+
+column : List ℕ
+column = 97 ∷ []
+
+bounded : (a b c d e : List Token) → ((a ++ b) ++ c) ++ (d ++ e) ≡ a ++ (b ++ (c ++ (d ++ e)))
+bounded a b c d e = simp append_assoc
+
+filled : (h : Held) (e : Syntax) → IsSound h → Fits e → hole (frame_of h) ≤ level e → Filled h e
+filled opened e s f le = record {
+  tree = tree.grouped e;
+  fits = f;
+  level = refl;
+  more = sign sign.Close ∷ [];
+  tokens = refl;
+}
+filled casting e s f le = record {
+  tree = tree.cast e column false;
+  fits = f;
+  level = refl;
+  more = sign sign.As ∷ name column ∷ sign sign.Close ∷ [];
+  tokens = refl;
+}
+filled negating e s f le = closed negating e (plugged negating e (lit< tt) s f le)
+filled (joining o a) e s f le =
+    closed (joining o a) e (plugged (joining o a) e (omega (arith, own_right o)) s f le)
+filled (lower n a) e s f le = record {
+  tree = tree.between n a e e;
+  fits = (s.0, le, le, s.1, f, f);
+  level = refl;
+  more = sign sign.And ∷ spelling e;
+  tokens = bounded (spelling a) (with_not n sign.Between) (spelling e) (sign sign.And ∷ [])
+      (spelling e);
+}
+filled (upper n a b) e s f le = closed (upper n a b) e (plugged (upper n a b) e (lit< tt) s f le)
+filled (matching k a) e s f le =
+    closed (matching k a) e (plugged (matching k a) e (lit< tt) s f le)
+
+regrouped : (a b c d e : List Token) → ((a ++ b) ++ c) ++ (d ++ e) ≡ (a ++ ((b ++ c) ++ d)) ++ e
+regrouped a b c d e = simp append_assoc
+
+begun : (hs : List Held) (e : Syntax) → Nested hs → Fits e → top_hole (frames_of hs) ≤ level e
+    → Begins (all_written hs ++ spelling e)
+begun [] e n f le =
+    record { tree = e; levels = f; more = []; tokens = append-nil (spelling e) }
+begun (h ∷ hs) e n f le =
+    let r = filled h e n.0 f le in
+    let b = begun hs r.tree n.2 r.fits
+    (let k : top_hole (frames_of hs) ≤ level r.tree = omega (arith, n.1, r.level) in k) in
+    record {
+      tree = b.tree;
+      levels = b.levels;
+      more = r.more ++ b.more;
+      tokens =
+          regrouped (all_written hs) (written h) (spelling e) r.more b.more
+          ∙ ap (λ ts. (all_written hs ++ ts) ++ b.more) r.tokens ∙ b.tokens;
+    }
+
+completed : (a ts us vs : List Token) → (a ++ ts) ++ (us ++ vs) ≡ (a ++ (ts ++ us)) ++ vs
+completed a ts us vs = simp append_assoc
+
+-- what waits, and tokens behind it that an operand begins with
+begun_by : (fs : List Frame) (out : List Step) (before : List Token) (xs : List Step)
+    (ts : List Token) → Behind fs out before xs ts → (e : Syntax) (more : List Token) → Fits e
+    → top_hole fs ≤ level e → ts ++ more ≡ spelling e → Begins before
+begun_by fs out before xs ts b e more f le k =
+    let r = begun b.hs e b.nested f (subst (λ gs. top_hole gs ≤ level e) b.frames le) in
+    record {
+      tree = r.tree;
+      levels = r.levels;
+      more = more ++ r.more;
+      tokens =
+          ap (λ us. us ++ (more ++ r.more)) b.tokens
+          ∙ completed (all_written b.hs) ts more r.more
+          ∙ ap (λ us. (all_written b.hs ++ us) ++ r.more) k ∙ r.tokens;
+    }
+
+operand_begun : (l : ℕ) (fs : List Frame) (out : List Step) (before ts : List Token)
+    → (a : HasOperand l fs out before ts) → (e : Syntax) (more : List Token) → Fits e
+    → top_hole fs ≤ level e → (spelling a.tree ++ ts) ++ more ≡ spelling e → Begins before
+operand_begun l fs out before ts a e more f le k =
+    begun_by fs out before (postfix a.tree) (spelling a.tree ++ ts) a.behind e more f le k
+
+patterned : (a b c d : List Token) → (a ++ (b ++ (c ++ (sign sign.Escape ∷ [])))) ++ d
+    ≡ a ++ (b ++ (c ++ (sign sign.Escape ∷ d)))
+patterned a b c d = simp append_assoc
+
+pub holds_begins : (m : Mode) (fs : List Frame) (out : List Step) (before : List Token)
+    → Holds m fs out before → Begins before
+holds_begins mode.Want fs out before h =
+    begun_by fs out before [] [] h (tree.operand (name column)) (name column ∷ []) refl
+    (top_atom fs) refl
+holds_begins mode.Signed fs out before h =
+    begun_by fs out before [] (sign sign.Minus ∷ []) h (tree.negative column) (number column ∷ [])
+    tt (let k : top_hole fs ≤ 9 = omega (arith, top_atom fs) in k) refl
+holds_begins (mode.Have l) fs out before h =
+    operand_begun l fs out before [] h h.tree [] h.fits
+    (subst (λ (m : ℕ). top_hole fs ≤ m) h.level h.place)
+    (append-nil (spelling h.tree ++ []) ∙ append-nil (spelling h.tree))
+holds_begins mode.Typing fs out before h =
+    let a = h.1 in
+    operand_begun h.0 fs out before (sign sign.Typed ∷ []) a (tree.typed a.tree column false)
+    (name column ∷ []) (subst (λ (m : ℕ). 9 ≤ m) a.level h.2, a.fits) (top_atom fs)
+    (append_assoc (spelling a.tree) (sign sign.Typed ∷ []) (name column ∷ []))
+holds_begins mode.Is fs out before h =
+    let a = h.1 in
+    operand_begun h.0 fs out before (sign sign.Is ∷ []) a (tree.tested false a.tree)
+    (sign sign.Null ∷ []) (subst (λ (m : ℕ). 3 ≤ m) a.level h.2, a.fits) h.3
+    (append_assoc (spelling a.tree) (sign sign.Is ∷ []) (sign sign.Null ∷ []))
+holds_begins mode.IsNot fs out before h =
+    let a = h.1 in
+    operand_begun h.0 fs out before (sign sign.Is ∷ sign sign.Not ∷ []) a (tree.tested true a.tree)
+    (sign sign.Null ∷ []) (subst (λ (m : ℕ). 3 ≤ m) a.level h.2, a.fits) h.3
+    (append_assoc (spelling a.tree) (sign sign.Is ∷ sign sign.Not ∷ []) (sign sign.Null ∷ []))
+holds_begins (mode.Negating l) fs out before h =
+    let a = h.0 in
+    let e : Syntax = tree.operand (name column) in
+    operand_begun l fs out before (sign sign.Not ∷ []) a (tree.between true a.tree e e)
+    (sign sign.Between ∷ name column ∷ sign sign.And ∷ name column ∷ [])
+    (subst (λ (m : ℕ). 6 ≤ m) a.level h.1, lit≤ tt, lit≤ tt, a.fits, refl, refl) h.2
+    (append_assoc (spelling a.tree) (sign sign.Not ∷ [])
+    (sign sign.Between ∷ name column ∷ sign sign.And ∷ name column ∷ []))
+holds_begins mode.Casting fs out before h =
+    begun_by fs out before [] (sign sign.Cast ∷ []) h
+    (tree.cast (tree.operand (name column)) column false)
+    (sign sign.Open ∷ name column ∷ sign sign.As ∷ name column ∷ sign sign.Close ∷ []) refl
+    (top_atom fs) refl
+holds_begins mode.CastType fs out before h =
+    begun_by fs out before (postfix h.0)
+    (sign sign.Cast ∷ sign sign.Open ∷ (spelling h.0 ++ (sign sign.As ∷ []))) h.2
+    (tree.cast h.0 column false) (name column ∷ sign sign.Close ∷ []) h.1 (top_atom fs)
+    (ap (λ ts. sign sign.Cast ∷ sign sign.Open ∷ ts)
+    (append_assoc (spelling h.0) (sign sign.As ∷ []) (name column ∷ sign sign.Close ∷ [])))
+holds_begins mode.CastEnd fs out before h =
+    begun_by fs out before _
+    (sign sign.Cast ∷ sign sign.Open ∷ (spelling h.0 ++ (sign sign.As ∷ type_token h.1 h.2 ∷ [])))
+    h.4 (tree.cast h.0 h.1 h.2) (sign sign.Close ∷ []) h.3 (top_atom fs)
+    (ap (λ ts. sign sign.Cast ∷ sign sign.Open ∷ ts)
+    (append_assoc (spelling h.0) (sign sign.As ∷ type_token h.1 h.2 ∷ []) (sign sign.Close ∷ [])))
+holds_begins (mode.Escaping k) fs out before h =
+    begun_by fs out before (postfix h.0 ++ postfix h.1)
+    (spelling h.0 ++ (like_sign k ++ (spelling h.1 ++ (sign sign.Escape ∷ [])))) h.7
+    (tree.matched k h.0 h.1 (Some column)) (text column ∷ []) (h.2, h.3, h.4, h.5) h.6
+    (patterned (spelling h.0) (like_sign k) (spelling h.1) (text column ∷ []))
