@@ -22,7 +22,7 @@ fn is_text(place: Place, byte: u8, delimiter: u8) -> bool {
 
 impl Growth {
     /// Nothing is gone over of a record that begins at that place of the input.
-    pub fn from(place: u64) -> Growth {
+    pub(crate) fn from(place: u64) -> Growth {
         Growth {
             place: Place::Start,
             seen: place,
@@ -31,7 +31,7 @@ impl Growth {
     }
 
     /// The place of the input up to which the record was gone over.
-    pub fn seen(&self) -> u64 {
+    pub(crate) fn seen(&self) -> u64 {
         self.seen
     }
 
@@ -55,7 +55,13 @@ impl Growth {
 
     /// Goes over bytes from an index on, up to the first with which a field is longer than a limit;
     /// answers whether there is one.
-    pub fn outgrows(&mut self, bytes: &[u8], from: usize, delimiter: u8, limit: usize) -> bool {
+    pub(crate) fn outgrows(
+        &mut self,
+        bytes: &[u8],
+        from: usize,
+        delimiter: u8,
+        limit: usize,
+    ) -> bool {
         let Some(bytes) = bytes.get(from..) else {
             return false;
         };

@@ -1,7 +1,9 @@
 //! What the bytes of a record tell beyond its fields: which fields stand in quotes, and whether the
 //! last quote is closed.
 ghost use Rattle.std.specs.Prelude.{◌≡◌, ◌≢◌, List, Bool, true, false, map, OnOk, IfOk};
+ghost use Rattle.std.specs.Prelude.{MatchBool};
 ghost use Rattle.std.specs.Str.{bytes_eq};
+ghost use Rattle.rowfn_csv.specs.Reads.{is_line_end, without_blank_lines, HasLineEnd};
 ghost use Rattle.rowfn_csv.specs.Records.{Field, SaysFields, is_quoted, quoted_at};
 ghost use Rattle.rowfn_csv.specs.Records.{without_line_end};
 ghost use Rattle.rowfn_csv.specs.Scanning.{place_behind, AreMarks, Knows};
@@ -22,7 +24,9 @@ pub enum Place {
 }
 
 /// Whether a byte ends a line.
-pub fn ends_line(byte: u8) -> bool {
+pub(crate) fn ends_line(byte: u8) -> bool
+    ensures { result ≡ is_line_end byte }
+{
     byte == b'\n' || byte == b'\r'
 }
 
@@ -51,16 +55,20 @@ pub fn is_text(field: &[u8], text: &[u8]) -> bool
 pub const MARK: &[u8] = b"\xEF\xBB\xBF";
 
 /// The bytes without a byte order mark before them.
-pub fn without_mark(bytes: &[u8]) -> &[u8] {
+pub(crate) fn without_mark(bytes: &[u8]) -> &[u8] {
     bytes.strip_prefix(MARK).unwrap_or(bytes)
 }
 
 /// The record without the ends of lines before it.
-pub fn without_blank_lines(raw: &[u8]) -> &[u8] {
-    match raw.iter().position(|byte| !ends_line(*byte)) {
-        Some(start) => &raw[start..],
-        None => &[],
+pub(crate) fn without_blank_lines(raw: &[u8]) -> &[u8]
+    ensures { result.now ≡ without_blank_lines raw.now }
+{
+    for (start, byte) in raw.iter().enumerate() {
+        if !ends_line(*byte) {
+            return &raw[start..];
+        }
     }
+    &[]
 }
 
 /// The record without the end of its line.
@@ -84,7 +92,9 @@ pub fn is_closed(raw: &[u8], delimiter: u8) -> bool
 }
 
 /// Whether a line ends in bytes which begin with a field, outside quotes.
-pub fn has_line_end(bytes: &[u8], delimiter: u8) -> bool {
+pub(crate) fn has_line_end(bytes: &[u8], delimiter: u8) -> bool
+    ensures { MatchBool result (HasLineEnd delimiter bytes.now) (¬ HasLineEnd delimiter bytes.now) }
+{
     let mut place = Place::Start;
     for byte in bytes {
         if place != Place::Quoted && ends_line(*byte) {

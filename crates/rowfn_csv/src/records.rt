@@ -1,8 +1,12 @@
 //! The records of the input, one at a time, each with its bytes.
-ghost use Rattle.std.specs.Prelude.{◌≡◌, ◌≢◌, ◌∷◌, [], ◌++◌, ◌&&◌, Bool, not, List, map, OnOk};
+ghost use Rattle.std.specs.Prelude.{◌≡◌, ◌≢◌, ◌≤◌, ◌∷◌, [], ◌++◌, ◌&&◌, Bool, not, List, map};
+ghost use Rattle.std.specs.Prelude.{OnOk, IsSome, None, true, false, unwrap_or, MatchBool};
 ghost use Rattle.csv.specs.Records.{fields_of};
+ghost use Rattle.csv.specs.Reading.{reader_source};
 ghost use Rattle.rowfn_csv.specs.KeptLines.{line_of, last_bytes, is_ended};
+ghost use Rattle.rowfn_csv.specs.Reads.{ReadsOne, KeepsFormat, HasLineEnd, bytes_behind};
 ghost use Rattle.rowfn_csv.specs.Records.{Field, SaysFields, field_taken, field_spelled};
+ghost use Rattle.rowfn_csv.specs.declared.records.ReadError.TheVariants.{OutOfMemory};
 
 use crate::batch::Batch;
 use crate::fields::add_fields;
@@ -66,7 +70,8 @@ struct Ahead {
     record: ByteRecord,
     /// Where it lies; an empty span at the end of the input where there is no record.
     span: Span,
-    found: Found,
+    /// Whether there is a record; else the input ends there.
+    is_record: bool,
     is_outgrown: bool,
     /// Whether it is yet to be given.
     is_held: bool,
@@ -82,15 +87,15 @@ fn read_error(error: Error) -> ReadError {
 
 /// Whether a field of a record is longer than a limit.
 #[inline(always)]
-fn is_outgrown(record: &ByteRecord, limit: usize) -> bool {
-    record.as_slice().len() > limit && has_longer(record, limit)
+fn is_outgrown(row: &ByteRecord, limit: usize) -> bool {
+    row.as_slice().len() > limit && has_longer(row, limit)
 }
 
 #[cold]
 #[inline(never)]
-fn has_longer(record: &ByteRecord, limit: usize) -> bool {
-    for place in 0..record.len() {
-        if record.get(place).is_some_and(|field| field.len() > limit) {
+fn has_longer(row: &ByteRecord, limit: usize) -> bool {
+    for place in 0..row.len() {
+        if row.get(place).is_some_and(|field| field.len() > limit) {
             return true;
         }
     }
@@ -99,7 +104,12 @@ fn has_longer(record: &ByteRecord, limit: usize) -> bool {
 
 impl<'a, R: Read> Records<'a, R> {
     /// The records of a reader, whose fields have so many bytes at most. Nothing is read yet.
-    pub fn new(alloc: Global, format: Format<'a>, limit: usize, reader: R) -> Records<'a, R> {
+    pub fn new(alloc: Global, format: Format<'a>, limit: usize, reader: R) -> Records<'a, R>
+        ensures format { (result.format ≡ format.entry) × (result.limit ≡ limit) }
+        ensures reader { (reader_source result.reader).inner ≡ reader }
+        ensures none_read { (fields_of result.last ≡ []) × (result.is_outgrown ≡ false)
+            × (result.span ≡ record { start = 0; end = 0 }) × (result.error ≡ None) }
+    {
         let reader = ReaderBuilder::new()
             .delimiter(format.delimiter)
             .has_headers(false)
@@ -114,7 +124,7 @@ impl<'a, R: Read> Records<'a, R> {
             ahead: Ahead {
                 record: ByteRecord::new(alloc),
                 span: Span { start: 0, end: 0 },
-                found: Found::End,
+                is_record: false,
                 is_outgrown: false,
                 is_held: false,
             },
@@ -126,7 +136,9 @@ impl<'a, R: Read> Records<'a, R> {
 
     /// Reads the next record, or the next line without a byte where that is one.
     #[inline(always)]
-    pub fn read(&mut self) -> Found {
+    pub fn read(&mut self) -> Found
+        ensures { ReadsOne self.old self.new result }
+    {
         if self.format.blank_rows {
             self.read_with_blank_lines()
         } else {
@@ -135,12 +147,18 @@ impl<'a, R: Read> Records<'a, R> {
     }
 
     /// Why the last read failed.
-    pub fn take_error(&mut self) -> ReadError {
+    pub fn take_error(&mut self) -> ReadError
+        ensures error { result ≡ unwrap_or self.old.error OutOfMemory }
+        ensures kept { self.new ≡ record self.old { error = None } }
+    {
         self.error.take().unwrap_or(ReadError::OutOfMemory)
     }
 
     /// Holds what was read behind lines without a byte, which stand behind a record.
-    fn hold(&mut self, given: Span, found: Found, place: u64) {
+    fn hold(&mut self, given: Span, found: Found, place: u64)
+        ensures kept { KeepsFormat self.old self.new }
+        ensures error { self.new.error ≡ self.old.error }
+    {
         mem::swap(&mut self.last, &mut self.ahead.record);
         self.ahead.span = match found {
             Found::Record => self.span,
@@ -149,7 +167,7 @@ impl<'a, R: Read> Records<'a, R> {
                 end: place,
             },
         };
-        self.ahead.found = found;
+        self.ahead.is_record = found == Found::Record;
         self.ahead.is_outgrown = self.is_outgrown;
         self.ahead.is_held = true;
         self.span = given;
@@ -157,17 +175,25 @@ impl<'a, R: Read> Records<'a, R> {
     }
 
     /// Gives what is held behind lines without a byte.
-    fn give_held(&mut self) -> Found {
+    fn give_held(&mut self) -> Found
+        ensures { ReadsOne self.old self.new result }
+    {
         mem::swap(&mut self.last, &mut self.ahead.record);
         self.span = self.ahead.span;
         self.is_outgrown = self.ahead.is_outgrown;
         self.ahead.is_held = false;
-        self.ahead.found
+        if self.ahead.is_record {
+            Found::Record
+        } else {
+            Found::End
+        }
     }
 
     /// Gives the next line without a byte, or else the record behind such lines.
     #[inline(always)]
-    fn read_with_blank_lines(&mut self) -> Found {
+    fn read_with_blank_lines(&mut self) -> Found
+        ensures { ReadsOne self.old self.new result }
+    {
         if !self.ahead.is_held {
             let given = self.span;
             let found = self.read_record();
@@ -189,7 +215,9 @@ impl<'a, R: Read> Records<'a, R> {
     }
 
     /// Gives the line without a byte that lies there, as a record of one empty field.
-    fn give_blank(&mut self, place: u64) -> Found {
+    fn give_blank(&mut self, place: u64) -> Found
+        ensures { ReadsOne self.old self.new result }
+    {
         let tee = self.reader.get_ref();
         let next = place.saturating_add(1);
         let is_pair = tee.byte_at(place) == Some(b'\r') && tee.byte_at(next) == Some(b'\n');
@@ -208,7 +236,9 @@ impl<'a, R: Read> Records<'a, R> {
     /// Reads the next record behind lines without a byte. One of which a field is too long is not
     /// read to its end.
     #[inline(always)]
-    pub fn read_record(&mut self) -> Found {
+    pub fn read_record(&mut self) -> Found
+        ensures { ReadsOne self.old self.new result }
+    {
         let start = self.reader.position().byte;
         self.reader.get_ref().begin_record(start);
         match self.reader.read_byte_record(&mut self.last) {
@@ -228,7 +258,11 @@ impl<'a, R: Read> Records<'a, R> {
     /// too long.
     #[cold]
     #[inline(never)]
-    fn note(&mut self, error: Error) -> bool {
+    fn note(&mut self, error: Error) -> bool
+        ensures kept { KeepsFormat self.old self.new }
+        ensures outgrown { result ≡ true → self.new.error ≡ self.old.error }
+        ensures failed { result ≡ false → IsSome self.new.error }
+    {
         if self.reader.get_ref().is_outgrown() {
             self.is_outgrown = true;
             return true;
@@ -238,7 +272,9 @@ impl<'a, R: Read> Records<'a, R> {
     }
 
     /// Whether a field of the last record is too long: the record is no row.
-    pub fn is_outgrown(&self) -> bool {
+    pub fn is_outgrown(&self) -> bool
+        ensures { result ≡ self.now.is_outgrown }
+    {
         self.is_outgrown
     }
 
@@ -277,7 +313,11 @@ impl<'a, R: Read> Records<'a, R> {
 
     /// Whether no record is there behind the last one, as far as the input was read: the next one is
     /// yet to come, or its end is.
-    pub fn is_drained(&self) -> bool {
+    pub fn is_drained(&self) -> bool
+        ensures { MatchBool result
+            (¬ HasLineEnd self.now.format.delimiter (bytes_behind self.now))
+            (HasLineEnd self.now.format.delimiter (bytes_behind self.now)) }
+    {
         let rest = self.reader.get_ref().from(self.span.end);
         !has_line_end(without_blank_lines(rest), self.format.delimiter)
     }
@@ -290,7 +330,9 @@ impl<'a, R: Read> Records<'a, R> {
     }
 
     /// Where the last record lies.
-    pub fn span(&self) -> Span {
+    pub fn span(&self) -> Span
+        ensures { result ≡ self.now.span }
+    {
         self.span
     }
 
@@ -303,7 +345,9 @@ impl<'a, R: Read> Records<'a, R> {
 
     /// The records that are given from here on are kept, and none before them. Answers where they
     /// begin in the input, counted in bytes.
-    pub fn keep_from_here(&self) -> u64 {
+    pub fn keep_from_here(&self) -> u64
+        ensures { result ≤ self.now.span.end }
+    {
         let place = self.reader.position().byte.min(self.span.end);
         self.reader.get_ref().keep_from(place);
         place

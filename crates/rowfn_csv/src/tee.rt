@@ -28,9 +28,12 @@ pub struct Tee<R> {
 impl<R: Read> Tee<R> {
     ghost use Rattle.std.specs.Prelude.{◌≡◌};
     ghost use Rattle.rowfn_csv.specs.KeptLines.{bytes_between};
+    ghost use Rattle.rowfn_csv.specs.Reads.{bytes_from};
 
     /// Nothing is read yet; takes no memory. `limit` is the greatest length of a field.
-    pub fn new(alloc: Global, inner: R, delimiter: u8, limit: usize) -> Tee<R> {
+    pub(crate) fn new(alloc: Global, inner: R, delimiter: u8, limit: usize) -> Tee<R>
+        ensures { result.inner ≡ inner }
+    {
         Tee {
             inner,
             kept: Vec::new(alloc),
@@ -48,19 +51,19 @@ impl<R: Read> Tee<R> {
 
     /// A record is read next, which begins at this place or behind the ends of lines there.
     #[inline(always)]
-    pub fn begin_record(&self, place: u64) {
+    pub(crate) fn begin_record(&self, place: u64) {
         self.record.set(place);
     }
 
     /// Whether a field of the record that was being read is longer than the limit: no read goes on
     /// behind it.
-    pub fn is_outgrown(&self) -> bool {
+    pub(crate) fn is_outgrown(&self) -> bool {
         self.outgrown
     }
 
     /// From here on nothing is asked for that lies before this place, counted in bytes of the
     /// input.
-    pub fn keep_from(&self, place: u64) {
+    pub(crate) fn keep_from(&self, place: u64) {
         self.wanted.set(place);
     }
 
@@ -82,19 +85,21 @@ impl<R: Read> Tee<R> {
     }
 
     /// The bytes from a place of the input on.
-    pub fn from(&self, start: u64) -> &[u8] {
+    pub(crate) fn from(&self, start: u64) -> &[u8]
+        ensures { result.now ≡ bytes_from self.now start }
+    {
         let start = start.saturating_sub(self.first) as usize;
         self.kept.as_slice().get(start..).unwrap_or(&[])
     }
 
     /// The byte at a place of the input, where it was read and is still kept.
-    pub fn byte_at(&self, place: u64) -> Option<u8> {
+    pub(crate) fn byte_at(&self, place: u64) -> Option<u8> {
         let index = place.checked_sub(self.first)?;
         self.kept.as_slice().get(index as usize).copied()
     }
 
     /// The place behind a byte order mark, where that is one's; else the same.
-    pub fn behind_mark(&self, place: u64) -> u64 {
+    pub(crate) fn behind_mark(&self, place: u64) -> u64 {
         if place == 0 && self.kept.as_slice().starts_with(MARK) {
             MARK.len() as u64
         } else {

@@ -1,0 +1,58 @@
+-- What a read of a record leaves as it was, and what is left behind the last record.
+use Rattle.std.specs.Prelude.{◌≡◌, ◌≢◌, ◌<◌, ◌-◌, ◌||◌, ◌==◌, ℕ, List, Bool, Option, true}
+use Rattle.std.specs.Prelude.{IsSome, length, drop, take, fold, slice_index, [], ◌∷◌}
+use Rattle.std.specs.Prelude.{if◌then◌else◌}
+use Rattle.csv.specs.Reading.{reader_source}
+use Rattle.rowfn_csv.specs.declared.raw.Place.{Place}
+use Rattle.rowfn_csv.specs.declared.raw.Place.TheVariants as at
+use Rattle.rowfn_csv.specs.declared.records.Records.{Records}
+use Rattle.rowfn_csv.specs.declared.records.Found.{Found}
+use Rattle.rowfn_csv.specs.declared.records.Found.TheVariants as found
+use Rattle.rowfn_csv.specs.declared.records.ReadError.{ReadError}
+use Rattle.rowfn_csv.specs.declared.tee.Tee.{Tee}
+use Rattle.rowfn_csv.specs.Scanning.{place_behind}
+
+-- how fields are parted, and how long one may be, stay
+pub record KeepsFormat {R : Type 0} (old now : Records R) : Type 0 where
+  pub format : now.format ≡ old.format
+  pub limit : now.limit ≡ old.limit
+
+-- why a read failed is there exactly where it failed: else what was there stays
+abbrev pub TellsWhy : Found → Option ReadError → Option ReadError → Type 0
+TellsWhy found.Failed old now = IsSome now
+TellsWhy found.Record old now = now ≡ old
+TellsWhy found.End old now = now ≡ old
+
+-- a read keeps how it reads, and tells why it failed
+pub record ReadsOne {R : Type 0} (old now : Records R) (result : Found) : Type 0 where
+  pub kept : KeepsFormat old now
+  pub why : TellsWhy result old.error now.error
+
+abbrev pub is_line_end : ℕ → Bool
+is_line_end byte = (byte == 10) || (byte == 13)
+
+-- where the byte behind these stands, of which the first begins a field
+abbrev pub place_after : ℕ → List ℕ → Place
+place_after delimiter bytes = fold (place_behind delimiter) at.Start bytes
+
+-- a line ends at that byte, outside quotes
+pub record EndsLineAt (delimiter : ℕ) (bytes : List ℕ) (i : ℕ) : Type 0 where
+  pub below : i < length bytes
+  pub ends : is_line_end (slice_index bytes i) ≡ true
+  pub bare : place_after delimiter (take i bytes) ≢ at.Quoted
+
+abbrev pub HasLineEnd : ℕ → List ℕ → Type 0
+HasLineEnd delimiter bytes = (i : ℕ) × EndsLineAt delimiter bytes i
+
+-- bytes from the first on that ends no line
+abbrev pub without_blank_lines : List ℕ → List ℕ
+without_blank_lines [] = []
+without_blank_lines (b ∷ bs) = if is_line_end b then without_blank_lines bs else b ∷ bs
+
+-- the bytes from a place of the input on, as far as they were read
+abbrev pub bytes_from : {R : Type 0} → Tee R → ℕ → List ℕ
+bytes_from tee start = drop (start - tee.first) tee.kept.items
+
+-- those behind the last record, from the first on that ends no line
+abbrev pub bytes_behind : {R : Type 0} → Records R → List ℕ
+bytes_behind rows = without_blank_lines (bytes_from (reader_source rows.reader) rows.span.end)
