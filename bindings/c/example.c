@@ -45,7 +45,7 @@ static uint32_t print_worth(struct yk_answers *answers) {
 
 static uint32_t print_chosen(struct yk_answers *answers) {
     uint64_t rows[3];
-    size_t count;
+    size_t count = 0;
     uint32_t status = yk_select(answers, 1, rows, 3, &count);
     for (size_t i = 0; !status && i < count; i++)
         printf("chosen: row %" PRIu64 "\n", rows[i]);

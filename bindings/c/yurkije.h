@@ -2,14 +2,21 @@
  * Yurkije: expressions over columns, for C and C++.
  *
  * An expression is a text over named fields, `price * stock as worth, name like 'a%'`. It is read
- * once, and then run over as many batches of columns as there are. Columns are borrowed where they
- * lie, in the layout of Apache Arrow; answers are columns, which are copied into buffers of the
- * caller in the same layout.
+ * once, and then run over as many batches of columns as there are. Columns are read where they lie,
+ * in the layout of Apache Arrow: each run copies each of them once, and keeps nothing of the
+ * caller's. Answers are columns, which are copied into buffers of the caller in the same layout.
  *
- *     struct yk_expression expression = {0};
- *     struct yk_answers answers = {0};
+ *     struct yk_expression expression;
+ *     struct yk_answers answers;
+ *     struct yk_error error;
+ *     struct yk_column columns[2];
  *     char message[200];
- *     struct yk_error error = {.message = {message, sizeof message}};
+ *     memset(&expression, 0, sizeof expression);
+ *     memset(&answers, 0, sizeof answers);
+ *     memset(&error, 0, sizeof error);
+ *     memset(columns, 0, sizeof columns);
+ *     error.message.at = message;
+ *     error.message.length = sizeof message;
  *
  *     const char text[] = "price * stock > 100";
  *     struct yk_field fields[] = {{{"price", 5}, YK_I64, false}, {{"stock", 5}, YK_I64, true}};
@@ -17,11 +24,16 @@
  *         fprintf(stderr, "%s\n", message);
  *         return 1;
  *     }
- *     struct yk_column columns[] = {
- *         {.kind = YK_I64, .rows = rows, .i64 = {prices, rows}},
- *         {.kind = YK_I64, .rows = rows, .nullable = true, .i64 = {stocks, rows},
- *          .validity = {valid, (rows + 7) / 8}},
- *     };
+ *     for (int k = 0; k < 2; k++) {
+ *         columns[k].kind = YK_I64;
+ *         columns[k].nullable = fields[k].nullable;
+ *         columns[k].rows = rows;
+ *         columns[k].i64.length = rows;
+ *     }
+ *     columns[0].i64.at = prices;
+ *     columns[1].i64.at = stocks;
+ *     columns[1].validity.at = valid;
+ *     columns[1].validity.length = (rows + 7) / 8;
  *     if (yk_run(&expression, columns, 2, rows, &answers, &error) == YK_OK)
  *         yk_select(&answers, 0, numbers, rows, &count);    // the rows in which it is true
  *     yk_answers_free(&answers);
@@ -35,7 +47,7 @@
  * 2. A pointer is not NULL, but for one to a slice of length 0 (`at` and `length` in structs, a
  *    pointer and a length beside one another in calls), and points to as many items as the length
  *    says, aligned for their type. Structs are zeroed where nothing is set. A `bool` is 0 or 1.
- * 3. What a call borrows is neither written by another thread nor freed while the call runs. What a
+ * 3. What a call reads is neither written by another thread nor freed while the call runs. What a
  *    call writes to (handles, `yk_error`, rooms, counts) overlaps nothing else that it is handed.
  *    Behind the call the library keeps no pointer to anything of the caller's.
  * 4. A handle is used by one thread at a time, and stays on the thread that filled it. Threads make
@@ -68,23 +80,24 @@ extern "C" {
 /* The version of this interface, which yk_abi_version answers. */
 #define YK_ABI_VERSION 1
 
-/* What a call answers. 1 to 13 are E1 to E13 of docs/REFUSALS.md. */
+/* What a call answers. 1 to 13 are E1 to E13 of docs/REFUSALS.md. Of these 1, 10 and 13 are of calls
+ * that this interface does not have: no expression leads to them. */
 enum yk_status {
     YK_OK = 0,
 
-    YK_INDEX_OUT_OF_BOUNDS = 1,
+    YK_INDEX_OUT_OF_BOUNDS = 1,  /* a function of a caller's asks for an operand past its last */
     YK_LENGTH_MISMATCH = 2,      /* a column has another number of rows than the batch */
     YK_TYPE_MISMATCH = 3,        /* a function does not take the types of its operands */
-    YK_NOT_BOOLEAN_OPERATOR = 4,
-    YK_NOT_COMPARE_OPERATOR = 5,
-    YK_ARITY_MISMATCH = 6,
+    YK_NOT_BOOLEAN_OPERATOR = 4, /* And and Or are handed another operator */
+    YK_NOT_COMPARE_OPERATOR = 5, /* a comparison is handed another operator */
+    YK_ARITY_MISMATCH = 6,       /* a function has too few or too many operands */
     YK_ARITHMETIC = 7,           /* in that row a result does not fit its type, or is divided by 0 */
-    YK_BAD_OPTIONS = 8,
-    YK_OUT_OF_MEMORY = 9,
-    YK_CUSTOM = 10,
+    YK_BAD_OPTIONS = 8,          /* bytes that are no options of a function */
+    YK_OUT_OF_MEMORY = 9,        /* malloc or realloc gave none */
+    YK_CUSTOM = 10,              /* a function of a caller's faults in a row */
     YK_SCOPE_MISMATCH = 11,      /* no field has that name; a column is missing, or is not as its field */
-    YK_INVALID_COLUMN = 12,
-    YK_NO_SUCH_PLACE = 13,
+    YK_INVALID_COLUMN = 12,      /* the parts of a column or a value do not fit one another */
+    YK_NO_SUCH_PLACE = 13,       /* a path of nodes leads out of an expression */
 
     /* Wrong use. */
     YK_EMPTY_HANDLE = 100,       /* the handle holds nothing */
@@ -199,10 +212,12 @@ struct yk_type {
     bool nullable;
 };
 
-/* A borrowed column. Row `i` is item `offset + i`: bit of the validity and of truth values, integer,
- * view, and text from its offset to the next. `kind` says which of the slices are read; the others
- * stay zeroed. No row is null where `validity` is empty. What lies under a null may be anything, but
- * for offsets, which may not fall there either. */
+/* A column, which is borrowed for a run and copied once. Row `i` is item `offset + i`: bit of the
+ * validity and of truth values, integer, view, and text from its offset to the next. `kind` says
+ * which of the slices are read; the others stay zeroed. No row is null where `validity` is empty.
+ * What lies under a null may be anything, but for offsets: there too they are not negative, do not
+ * fall, and do not pass the end of `data`. Of rows that are wrong the first is told. Texts that are
+ * too long are told where no row is wrong, byte strings that are too long in their row's turn. */
 struct yk_column {
     uint32_t kind;
     bool nullable;               /* as the field is */

@@ -34,10 +34,12 @@ static char *name_of_answer(struct yk_expression *expression, size_t answer) {
 }
 
 static uint32_t fill_child(struct yk_expression *expression, size_t answer, struct ArrowSchema *child, struct yk_error *error) {
-    struct yk_type type;
+    struct yk_type type = {0};
     uint32_t status = yk_answer_type(expression, answer, &type);
+    if (status)
+        return yk_refuse(error, status, YK_NONE, "answer %zu has no type", answer);
     const struct layout *layout = yk_layout_of_kind(type.kind);
-    if (status || !layout)
+    if (!layout)
         return yk_refuse(error, YK_OTHER_KIND, YK_NONE, "answer %zu is a list or a struct", answer);
     char *name = name_of_answer(expression, answer);
     if (!name)
@@ -175,7 +177,7 @@ static void shift_offsets(struct yk_room *room, size_t by) {
 /* Copies the answer of a batch behind those of the batches before it. */
 static uint32_t append(struct yk_answers *answers, size_t answer, uint32_t kind, size_t start, struct ArrowArray *array) {
     struct held *held = array->private_data;
-    struct yk_size size;
+    struct yk_size size = {0};
     uint32_t status = yk_answer_size(answers, answer, &size);
     if (status)
         return status;
@@ -327,7 +329,7 @@ static uint32_t append_all(void *to, struct yk_answers *answers, size_t start, s
 static uint32_t make_children(struct yk_expression *expression, size_t count, size_t rows, struct collected *collected) {
     struct ArrowArray *out = collected->array;
     for (size_t i = 0; i < count; i++) {
-        struct yk_type type;
+        struct yk_type type = {0};
         uint32_t status = yk_answer_type(expression, i, &type);
         if (status || !yk_layout_of_kind(type.kind))
             return status ? status : YK_OTHER_KIND;

@@ -4,6 +4,9 @@
 
 #include "yurkije_arrow.h"
 
+/* What follows is the library's own: the shared object does not export it. */
+#pragma GCC visibility push(hidden)
+
 /* How a kind lies in Arrow: its format, its number of buffers, and the bytes of a value or an offset,
  * 0 of bits. */
 struct layout {
@@ -38,5 +41,7 @@ uint32_t yk_run_batches(struct yk_expression *expression, const struct yk_column
     void *to, struct yk_error *error);
 
 struct ArrowArray yk_child_of(const struct ArrowArray *batch, int64_t child);
+
+#pragma GCC visibility pop
 
 #endif

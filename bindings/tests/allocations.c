@@ -64,7 +64,7 @@ static uint32_t copy_all(struct yk_answers *answers) {
     uint8_t validity[1], bits[1], bytes[25];
     int32_t offsets[5];
     uint64_t chosen[4];
-    size_t count;
+    size_t count = 0;
     struct yk_room rooms[] = {{.kind = YK_I64, .validity = {validity, 1}, .i64 = {values, 4}},
         {.kind = YK_BOOL, .validity = {validity, 1}, .bools = {bits, 1}},
         {.kind = YK_UTF8, .validity = {validity, 1}, .offsets32 = {offsets, 5}, .data = {bytes, 25}}};

@@ -75,7 +75,7 @@ static void each_kind(void) {
         struct yk_column in = column(kind);
         struct yk_answers answers = {0};
         struct yk_error error = new_error();
-        struct yk_type type;
+        struct yk_type type = {0};
         SAME(yk_answer_type(&expression, 0, &type), YK_OK);
         SAME(type.kind, kind >= YK_BINARY ? YK_BINARY : kind >= YK_UTF8 ? YK_UTF8 : kind);
         SAME(yk_run(&expression, &in, 1, 3, &answers, &error), YK_OK);
@@ -240,9 +240,9 @@ static void wrong_use(void) {
     struct yk_expression expression = {0}, other;
     struct yk_answers answers = {0};
     struct yk_error error = new_error();
-    struct yk_size size;
+    struct yk_size size = {0};
     struct yk_room room = {.kind = YK_I64};
-    size_t count;
+    size_t count = 0;
     uint64_t numbers[3];
     yk_expression_free(&expression);
     yk_answers_free(&answers);
@@ -283,7 +283,7 @@ static void nothing(void) {
     struct yk_column in[] = {{.kind = YK_I64, .nullable = true}, {.kind = YK_UTF8, .nullable = true}, {.kind = YK_UTF8_VIEW}};
     struct yk_answers answers = {0};
     struct yk_error error = new_error();
-    struct yk_size size;
+    struct yk_size size = {0};
     SAME(yk_run(&expression, in, 3, 0, &answers, &error), YK_OK);
     SAME(yk_answer_size(&answers, 1, &size), YK_OK);
     CHECK(size.rows == 0 && size.validity == 0 && size.offsets == 1 && size.data == 0);

@@ -144,7 +144,7 @@ static void make_column(struct fuzzed *made, const struct yk_field *field, struc
 
 /* Rooms that end at pages of no access, of exactly the size that is told. */
 static uint32_t copy_answer(struct yk_answers *answers, size_t answer, uint32_t kind, struct yk_room *room) {
-    struct yk_size size;
+    struct yk_size size = {0};
     uint32_t status = yk_answer_size(answers, answer, &size);
     if (status)
         return status;
@@ -207,7 +207,7 @@ static void again(struct yk_expression *expression, struct fuzzed *made, size_t 
     int before = taken;
     for (size_t k = 0; k < answers && k < 3; k++) {
         struct yk_room a, b;
-        struct yk_type type;
+        struct yk_type type = {0};
         taken = before;
         yk_answer_type(expression, k, &type);
         if (copy_answer(whole, k, type.kind, &a) || copy_answer(&part, k, type.kind, &b))
@@ -260,7 +260,7 @@ static uint32_t read_lines(struct given *given, struct asking *asking) {
     if (!status && asking->count > most_columns)
         return YK_NO_SUCH_NUMBER;
     for (size_t i = 0; !status && i < asking->count; i++) {
-        struct yk_type type;
+        struct yk_type type = {0};
         yk_field_type(&asking->expression, i, &type);
         asking->fields[i] = (struct yk_field){.kind = type.kind, .nullable = type.nullable};
         status = type.kind == YK_NO_KIND ? YK_OTHER_KIND : YK_OK;

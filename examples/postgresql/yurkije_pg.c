@@ -104,19 +104,25 @@ static void read_expression(struct place *place) {
     pfree(children);
 }
 
+/* Ends the query where a call is refused: what it was to fill is not read. */
+static void check(uint32_t status) {
+    if (status)
+        ereport(ERROR, (errmsg("yurkije: the library answers status %u", status)));
+}
+
 /* Finds the attribute of each field, and makes its column of one row. */
 static void make_columns(struct place *place) {
-    yk_field_count(&place->expression, &place->count);
-    place->attributes = MemoryContextAlloc(place->context, (place->count + 1) * sizeof *place->attributes);
+    check(yk_field_count(&place->expression, &place->count));
+    place->attributes = MemoryContextAllocZero(place->context, (place->count + 1) * sizeof *place->attributes);
     place->columns = MemoryContextAllocZero(place->context, (place->count + 1) * sizeof *place->columns);
     place->numbers = MemoryContextAlloc(place->context, (place->count + 1) * sizeof *place->numbers);
     for (size_t i = 0; i < place->count; i++) {
         char name[NAMEDATALEN];
-        size_t length;
-        struct yk_type type;
-        yk_field_name(&place->expression, i, name, sizeof name - 1, &length);
+        size_t length = 0;
+        struct yk_type type = {0};
+        check(yk_field_name(&place->expression, i, name, sizeof name - 1, &length));
         name[length] = 0;
-        yk_field_type(&place->expression, i, &type);
+        check(yk_field_type(&place->expression, i, &type));
         for (int k = 0; k < place->row->natts; k++)
             if (!TupleDescAttr(place->row, k)->attisdropped && strcmp(NameStr(TupleDescAttr(place->row, k)->attname), name) == 0)
                 place->attributes[i] = k;
@@ -124,7 +130,7 @@ static void make_columns(struct place *place) {
         place->columns[i].nullable = true;
         place->columns[i].rows = 1;
     }
-    yk_answer_type(&place->expression, 0, &place->answer);
+    check(yk_answer_type(&place->expression, 0, &place->answer));
 }
 
 /* Reads the expression, unless this place has read it over rows of that type. */
@@ -200,7 +206,7 @@ struct answer {
 
 static bool copy_answer(struct place *place, struct answer *answer) {
     struct yk_size size = {0};
-    uint32_t status = yk_answer_size(&place->answers, 0, &size);
+    check(yk_answer_size(&place->answers, 0, &size));
     answer->room = (struct yk_room){.kind = place->answer.kind, .validity = {answer->validity, 1}};
     switch (place->answer.kind) {
     case YK_BOOL: answer->room.bools = (struct yk_bytes_room){answer->bits, 1}; break;
@@ -214,8 +220,7 @@ static bool copy_answer(struct place *place, struct answer *answer) {
         break;
     default: ereport(ERROR, (errmsg("yurkije: the answer is of a type that PostgreSQL does not have")));
     }
-    if (status || (status = yk_answer_copy(&place->answers, 0, &answer->room)))
-        ereport(ERROR, (errmsg("yurkije: the answer is not copied, status %u", status)));
+    check(yk_answer_copy(&place->answers, 0, &answer->room));
     return answer->validity[0] & 1;
 }
 

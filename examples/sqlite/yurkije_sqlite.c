@@ -188,14 +188,18 @@ static void answer(sqlite3_context *context, struct place *place) {
     uint8_t validity[1];
     int32_t ends[2];
     struct yk_size size = {0};
-    uint32_t kind = place->answer.kind, status = yk_answer_size(&place->answers, 0, &size);
+    uint32_t kind = place->answer.kind;
+    if (yk_answer_size(&place->answers, 0, &size)) {
+        sqlite3_result_error(context, "yurkije: the answer has no size", -1);
+        return;
+    }
     char *bytes = sqlite3_malloc64(size.data + 1);
     if (!bytes) {
         sqlite3_result_error_nomem(context);
         return;
     }
     struct yk_room room = room_of(kind, validity, values, ends, (struct yk_bytes_room){(uint8_t *)bytes, size.data});
-    if (status || yk_answer_copy(&place->answers, 0, &room))
+    if (yk_answer_copy(&place->answers, 0, &room))
         sqlite3_result_error(context, "yurkije: the answer is not copied", -1);
     else if (!(validity[0] & 1))
         sqlite3_result_null(context);

@@ -10,3 +10,4 @@ pub mod Refuting
 pub mod Nulls
 pub mod Cells
 pub mod Answered
+pub mod Copies

@@ -17,10 +17,8 @@ use Rattle.vortex_columns.specs.ValidityView.{ValidityView, is_valid_row}
 use Rattle.vortex_columns.specs.Stored.{made_of, bool_column}
 use Rattle.vortex_columns.specs.Made.{int_column}
 use Rattle.vortex_columns.specs.ValidityView.{form_allows_null}
-use Rattle.vortex_columns.specs.ValidityView.{array}
-use Rattle.vortex_arrow.specs.Layouts.{Layout, bits, numbers, value_at}
+use Rattle.vortex_arrow.specs.Layouts.{bits, numbers}
 use Rattle.vortex_arrow.specs.Columns.{values_from, row_bytes, column_from}
-use Rattle.vortex_arrow.specs.Written.{rows_of}
 
 pub map_range_same : {X : Type 0} (d : X) (f g : ℕ → X) (n : ℕ) → ((i : ℕ) → i < n → f i ≡ g i)
     → map f (range_with_len 0 n) ≡ map g (range_with_len 0 n)
@@ -85,19 +83,6 @@ value_from item v from n i h valid =
 pub length_values : (item : ℕ → List ℕ) (v : ValidityView) (from n : ℕ)
     → length (values_from item v from n) ≡ n
 length_values item v from n = length-map-range_with_len (row_bytes item v from) 0 n
-
--- what stands in a layout behind its validity is read back
-pub read_back : (l : Layout) (validity : List ℕ) (n : ℕ)
-    → (column_from l (record { form = array; bits = bits_from validity 0 n }) 0 n).rows
-    ≡ rows_of validity l n
-read_back l validity n =
-    map_range_same null
-    (λ i. cond (slice_index_or (bits_from validity 0 n) i false) (value_at l (0 + i)) null)
-    (λ i. cond (bit_of validity i) (value_at l i) null) n
-    (λ i h.
-    let same : 0 + i ≡ i = omega arith in
-    (λ k. cond (row_of_bits validity 0 n i h k) (value_at l (same k)) null)
-    ∙ ap (λ p. cond (bit_of validity p) (value_at l i) null) same)
 
 -- columns of what was read are those of the layouts
 pub bools_from : (bs : List Bool) (bytes : List ℕ) (v : ValidityView) (from n : ℕ)

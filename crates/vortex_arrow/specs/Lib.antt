@@ -3,3 +3,5 @@ pub mod Layouts
 pub mod Columns
 pub mod Refusals
 pub mod Written
+pub mod Copies
+pub mod Texts

@@ -1,14 +1,16 @@
 -- What is written into a caller's buffers: the rows that they say by the layouts, and what stands
 -- behind them.
-use Rattle.std.specs.Prelude.{◌≡◌, ℕ, ◌+◌, ◌/◌, ◌<◌, ◌≤◌, Bool, true, if◌then◌else◌, List}
-use Rattle.std.specs.Prelude.{[], length, map, drop}
+use Rattle.std.specs.Prelude.{◌≡◌, ℕ, ◌+◌, ◌*◌, ◌/◌, ◌<◌, ◌≤◌, ℤ, pos, Bool, true}
+use Rattle.std.specs.Prelude.{if◌then◌else◌, List, [], length, map, take, drop, ⊤}
 use Rattle.std.specs.List.{range_with_len, filter, flat_map}
 use Rattle.vortex_types.specs.LogicalTypes.{is_bool_type}
 use Rattle.vortex_types.specs.Values.{Value, null, text, bytes}
 use Rattle.vortex_bits.specs.Bits.{bit_of}
 use Rattle.vortex_columns.specs.ColumnView.{ColumnView, is_bytes_like}
 use Rattle.vortex_columns.specs.TrueRows.{true_rows}
-use Rattle.vortex_arrow.specs.Layouts.{Layout, value_at}
+use Rattle.vortex_arrow.specs.Layouts.{Layout, value_at, HasItems}
+use Rattle.vortex_arrow.specs.Layouts.{offsets as by_offsets, views as by_views}
+use Rattle.vortex_arrow.specs.Values.{offset_at}
 use Rattle.vortex_arrow.specs.declared.error.CopyError.{CopyError}
 use Rattle.vortex_arrow.specs.declared.error.CopyError.TheVariants.{OtherType, ValidityTooShort}
 use Rattle.vortex_arrow.specs.declared.error.CopyError.TheVariants.{OffsetsTooShort, DataTooShort}
@@ -47,6 +49,26 @@ value_bytes v = []
 -- those of all rows, one behind another
 abbrev pub joined : List Value → List ℕ
 joined rows = flat_map value_bytes rows
+
+-- Texts and byte strings stand one behind another from the first byte on, and offset i says how many
+-- bytes the rows before row i have together. A null has none.
+pub record ArePacked (rows : List Value) (os : List ℤ) (bs : List ℕ) : Type 0 where
+  pub count : length rows < length os
+  pub places : (i : ℕ) → i ≤ length rows → offset_at os i ≡ pos (length (joined (take i rows)))
+  pub bytes : take (length (joined rows)) bs ≡ joined rows
+
+-- so do those of a copy, which has no views
+abbrev pub IsPacked : Layout → List Value → Type 0
+IsPacked (by_offsets t os bs) rows = ArePacked rows os bs
+IsPacked (by_views t vs bs) rows = ⊥
+IsPacked l rows = ⊤
+
+-- the rows stand in buffers, each from its first item on: they are long enough, and say the rows
+pub record AreCopied (rows : List Value) (validity : List ℕ) (l : Layout) : Type 0 where
+  pub bits : length rows ≤ 8 * length validity
+  pub items : HasItems l 0 (length rows)
+  pub said : rows ≡ rows_of validity l (length rows)
+  pub packed : IsPacked l rows
 
 -- likewise of texts, whose offsets tell no more bytes than the most
 abbrev pub RefusesTexts : ColumnView → ℕ → ℕ → ℕ → ℕ → CopyError → Type 0

@@ -10,7 +10,7 @@ ghost use Rattle.vortex_types.specs.TypeOf.{type_of};
 ghost use Rattle.vortex_types.specs.Values.{truth, number, is_null};
 ghost use Rattle.vortex_columns.specs.ColumnView.{row, IsUnlessNull, IsIntegerType, HasBits};
 ghost use Rattle.vortex_arrow.specs.Layouts.{bits, numbers};
-ghost use Rattle.vortex_arrow.specs.Written.{bytes_for, SameBehind, rows_of, RefusesValues};
+ghost use Rattle.vortex_arrow.specs.Written.{bytes_for, SameBehind, AreCopied, RefusesValues};
 
 use crate::bits_out::{bytes_for, write_bits, write_same};
 use crate::error::CopyError;
@@ -105,8 +105,7 @@ fn write_integers<T: NativePType>(column: &Column, out: &mut [T])
 /// truth values. `bytes_for` tells how many bytes each takes; what lies behind them stays as it was.
 /// All stays as it was where the copy is refused.
 pub fn copy_bools(column: &Column, validity: &mut [u8], values: &mut [u8]) -> Result<(), CopyError>
-    ensures copied { OnOk result (column.now.rows
-        ≡ rows_of validity.new (bits values.new) (length column.now.rows)) }
+    ensures copied { OnOk result (AreCopied column.now.rows validity.new (bits values.new)) }
     ensures behind { OnOk result (SameBehind (bytes_for (length column.now.rows)) validity.old
         validity.new × SameBehind (bytes_for (length column.now.rows)) values.old values.new) }
     ensures refused { let n = bytes_for (length column.now.rows) in MatchResult result (λ _. ⊤)
@@ -137,8 +136,8 @@ pub fn copy_integers<T: NativePType>(
     validity: &mut [u8],
     values: &mut [T],
 ) -> Result<(), CopyError>
-    ensures copied { OnOk result (column.now.rows ≡ rows_of validity.new
-        (numbers T.ptype (map T.number values.new)) (length column.now.rows)) }
+    ensures copied { OnOk result (AreCopied column.now.rows validity.new
+        (numbers T.ptype (map T.number values.new))) }
     ensures behind { OnOk result (SameBehind (bytes_for (length column.now.rows)) validity.old
         validity.new × SameBehind (length column.now.rows) values.old values.new) }
     ensures refused { let n = length column.now.rows in MatchResult result (λ _. ⊤)

@@ -1,14 +1,23 @@
 //! That what is copied is read back. These functions do nothing: their contracts are proved.
-ghost use Rattle.std.specs.Prelude.{◌≡◌};
-ghost use Rattle.vortex_bits.specs.Bits.{bits_from};
-ghost use Rattle.vortex_columns.specs.ValidityView.{ValidityView, array};
-ghost use Rattle.vortex_arrow.specs.Layouts.{Layout};
-ghost use Rattle.vortex_arrow.specs.Columns.{column_from};
-ghost use Rattle.vortex_arrow.specs.Written.{rows_of};
+ghost use Rattle.std.specs.Prelude.{◌≤◌, length, List, ℕ};
+ghost use Rattle.std.specs.Borrow.{Bor};
+ghost use Rattle.vortex_arrow.specs.declared.column.ArrowValues.{ArrowValues};
+ghost use Rattle.vortex_arrow.specs.Written.{joined};
+ghost use Rattle.vortex_arrow.specs.Copies.{copy_of, IsCopy, IsReadBack, RowsHaveRoom};
 
-/// The rows that a copy leaves in the buffers of any layout are those of the column that is read of
-/// them.
-pub fn copies_are_read_back(validity: &[u8], length: usize)
-    ensures { let v : ValidityView = record { form = array; bits = bits_from validity.now 0 length } in
-        (l : Layout) → (column_from l v 0 length).rows ≡ rows_of validity.now l length }
+use vortex_columns::Column;
+
+/// What a copy leaves in buffers is a column again: `to_column` answers the copied column's rows and
+/// type, if it can make views of its texts.
+pub fn copies_are_read_back(column: &Column)
+    ensures { (validity : Bor (List ℕ)) → (values : ArrowValues)
+        → IsCopy column.now validity values → RowsHaveRoom column.now
+        → IsReadBack column.now (copy_of column.now validity values) }
+{
+    let _typed = column.dtype();
+}
+
+/// It can of texts of at most 4,294,967,295 bytes together.
+pub fn short_texts_have_room(column: &Column)
+    ensures { length (joined column.now.rows) ≤ 4294967295 → RowsHaveRoom column.now }
 {}

@@ -241,11 +241,13 @@ fn read_values(
 }
 
 /// The column that a caller's buffers say, copied once: nothing of the caller's is kept. What lies
-/// under a null may be anything, but for offsets, which may not fall there either.
+/// under a null may be anything, but for offsets: there too they are not negative, do not fall, and
+/// do not pass the end of the data.
 ///
 /// Refuses what `ArrowError` names, and nothing else: of the validity and the values the first that
 /// is too short, then the first null in a column that is not nullable, then the first row whose
-/// bytes are not where its offsets or its view say or are no UTF-8, then what is too long.
+/// bytes are not where its offsets or its view say or are no UTF-8, then texts that are too long. A
+/// byte string that is too long is refused before what is wrong in a row behind it.
 pub fn to_column(alloc: Global, column: &ArrowColumn<'_>) -> Result<Column, ArrowError>
     ensures answer { MatchResult result
         (λ c. IsWellFormed column.now × (c ≡ arrow_column column.now))

@@ -7,8 +7,8 @@ ghost use Rattle.vortex_columns.specs.ColumnView.{is_bytes_like};
 ghost use Rattle.vortex_columns.specs.Words.{cell_value};
 ghost use Rattle.vortex_arrow.specs.Layouts.{offsets as by_offsets};
 ghost use Rattle.vortex_arrow.specs.Values.{offset_at};
-ghost use Rattle.vortex_arrow.specs.Written.{bytes_for, SameBehind, rows_of, RefusesTexts};
-ghost use Rattle.vortex_arrow.specs.Written.{value_bytes, joined};
+ghost use Rattle.vortex_arrow.specs.Written.{bytes_for, SameBehind, AreCopied, ArePacked};
+ghost use Rattle.vortex_arrow.specs.Written.{value_bytes, joined, RefusesTexts};
 
 use crate::bits_out::{bytes_for, write_at};
 use crate::copying::write_validity;
@@ -48,11 +48,8 @@ fn write_byte_strings<O: IndexType>(column: &Column, offsets: &mut [O], bytes: &
     requires offsets { length column.now.rows < length offsets.old }
     requires room { length (joined column.now.rows) ≤ length bytes.old }
     requires most { length (joined column.now.rows) ≤ O.most }
-    ensures bytes { take (length (joined column.now.rows)) bytes.new ≡ joined column.now.rows }
+    ensures packed { ArePacked column.now.rows (map O.number offsets.new) bytes.new }
     ensures bytes_behind { SameBehind (length (joined column.now.rows)) bytes.old bytes.new }
-    ensures offsets { (i : ℕ) → i ≤ length column.now.rows
-        → offset_at (map O.number offsets.new) i
-        ≡ pos (length (joined (take i column.now.rows))) }
     ensures offsets_behind { SameBehind (length column.now.rows + 1) offsets.old offsets.new }
 {
     offsets[0] = O::of_place(0);
@@ -77,7 +74,8 @@ fn is_bytes_like(dtype: &DType) -> bool
 
 /// Copies a column of texts or of byte strings: which rows are not null, as bits from the first on,
 /// an offset for each row and one more, and the bytes, of which `byte_count` tells how many there
-/// are. A row that is null has none. What lies behind them stays as it was, and all where the copy
+/// are. They stand one behind another: the first offset is 0, each row's bytes end where those of
+/// the next begin, and a row that is null has none. What lies behind them stays as it was, and all where the copy
 /// is refused.
 pub fn copy_texts<O: IndexType>(
     column: &Column,
@@ -85,9 +83,8 @@ pub fn copy_texts<O: IndexType>(
     offsets: &mut [O],
     bytes: &mut [u8],
 ) -> Result<(), CopyError>
-    ensures copied { OnOk result (column.now.rows ≡ rows_of validity.new
-        (by_offsets (is_text_type column.now.dtype) (map O.number offsets.new) bytes.new)
-        (length column.now.rows)) }
+    ensures copied { OnOk result (AreCopied column.now.rows validity.new
+        (by_offsets (is_text_type column.now.dtype) (map O.number offsets.new) bytes.new)) }
     ensures behind { OnOk result (SameBehind (bytes_for (length column.now.rows)) validity.old
         validity.new × SameBehind (length column.now.rows + 1) offsets.old offsets.new
         × SameBehind (length (joined column.now.rows)) bytes.old bytes.new) }

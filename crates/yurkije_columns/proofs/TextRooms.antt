@@ -4,7 +4,7 @@ use Rattle.std.specs.Prelude.{Result, Ok, Err, OnOk, OnErr}
 use Rattle.vortex_types.specs.LogicalTypes.{LogicalType, is_text_type, is_nullable}
 use Rattle.vortex_columns.specs.ColumnView.{ColumnView}
 use Rattle.vortex_arrow.specs.Layouts.{Layout, offsets}
-use Rattle.vortex_arrow.specs.Written.{bytes_for, SameBehind, rows_of}
+use Rattle.vortex_arrow.specs.Written.{bytes_for, SameBehind, AreCopied}
 use Rattle.yurkije_columns.specs.declared.kinds.Kind.{Kind}
 use Rattle.yurkije_columns.specs.declared.rooms.Room.{Room}
 use Rattle.yurkije_columns.specs.Kinds.{kind_type}
@@ -19,14 +19,13 @@ pub texts_stand : {A E : Type 0} (r : Result A E) (k j : Kind) (c : ColumnView) 
     (b : Bool) (os : List ℤ) (bs : List ℕ) (B C : Type 0) → k ≡ j
     → room_layout j new ≡ offsets b os bs
     → is_text_type c.dtype ≡ b
-    → OnOk r (c.rows ≡ rows_of new.validity.now (offsets (is_text_type c.dtype) os bs)
-    (length c.rows))
+    → OnOk r (AreCopied c.rows new.validity.now (offsets (is_text_type c.dtype) os bs))
     → OnOk r (SameBehind (bytes_for (length c.rows)) old.validity.now new.validity.now × B × C)
     → (B → C → KeepsBehind j c old new) → new ≡ with_buffers j old new
     → OnOk r (StandsIn k c old new)
 texts_stand (Ok x) k j c old new b os bs B C e l is rows behind both only =
     subst (λ (i : Kind). StandsIn i c old new) (sym e) (record {
-      rows = subst (λ (y : Layout). c.rows ≡ rows_of new.validity.now y (length c.rows))
+      rows = subst (λ (y : Layout). AreCopied c.rows new.validity.now y)
           (ap (λ (z : Bool). offsets z os bs) is ∙ sym l) rows;
       validity = behind.0;
       values = both behind.1 behind.2;

@@ -1,5 +1,5 @@
 -- What a column that C lends says.
-use Rattle.std.specs.Prelude.{◌≡◌, ℕ, pos, List, [], ◌∷◌, map, Option, Some, None, true, false}
+use Rattle.std.specs.Prelude.{◌≡◌, ◌≢◌, ◌<◌, ℕ, pos, List, [], ◌∷◌, map, Option, Some, None, true, false}
 use Rattle.std.specs.Prelude.{option_map, slice_get, ⊤}
 use Rattle.vortex_types.specs.declared.dtype.PType.TheVariants.{I8, I16, I32, I64, U8, U16, U32}
 use Rattle.vortex_types.specs.declared.dtype.PType.TheVariants.{U64}
@@ -52,8 +52,15 @@ AllSay [] (a ∷ rest) = ⊥
 AllSay (c ∷ cs) [] = ⊥
 AllSay (c ∷ cs) (a ∷ rest) = Says c a × AllSay cs rest
 
--- the kind of that column is none; or memory ran out
+-- that column is the first whose kind is none
+pub record IsFirstUnknown (cs : List LentColumn) (k : ℕ) : Type 0 where
+  pub column : LentColumn
+  pub there : slice_get cs k ≡ Some column
+  pub unknown : kind_numbered column.kind ≡ None
+  pub before : (i : ℕ) → i < k → (c : LentColumn) → slice_get cs i ≡ Some c
+      → kind_numbered c.kind ≢ None
+
+-- the first column whose kind is none; or memory ran out
 abbrev pub RefusesLent : List LentColumn → LentError → Type 0
-RefusesLent cs (error.UnknownKind k) =
-    (c : LentColumn) × (slice_get cs k ≡ Some c) × (kind_numbered c.kind ≡ None)
+RefusesLent cs (error.UnknownKind k) = IsFirstUnknown cs k
 RefusesLent cs error.OutOfMemory = ⊤

@@ -9,7 +9,7 @@ use Rattle.vortex_types.specs.LogicalTypes.{LogicalType, bool_type, integer_type
 use Rattle.vortex_types.specs.LogicalTypes.{bytes_type, is_nullable, is_bool_type}
 use Rattle.vortex_columns.specs.ColumnView.{ColumnView, IsIntegerType}
 use Rattle.vortex_arrow.specs.Layouts.{Layout, bits, numbers, offsets}
-use Rattle.vortex_arrow.specs.Written.{bytes_for, SameBehind, rows_of, joined, RefusesValues}
+use Rattle.vortex_arrow.specs.Written.{bytes_for, SameBehind, AreCopied, joined, RefusesValues}
 use Rattle.vortex_arrow.specs.Written.{RefusesTexts}
 use Rattle.vortex_arrow.specs.declared.error.CopyError.{CopyError}
 use Rattle.vortex_arrow.specs.declared.error.CopyError.TheVariants.{OtherType, TooLong}
@@ -153,9 +153,10 @@ pub record KeepsLoans (old new : Room) : Type 0 where
   pub offsets64 : new.offsets64.ghost_name ≡ old.offsets64.ghost_name
   pub bytes : new.data.ghost_name ≡ old.data.ghost_name
 
--- the rows of the column stand in the buffers of that kind, and nothing else has changed
+-- the rows of the column stand in the buffers of that kind, texts one behind another, and nothing
+-- else has changed
 pub record StandsIn (k : Kind) (c : ColumnView) (old new : Room) : Type 0 where
-  pub rows : c.rows ≡ rows_of new.validity.now (room_layout k new) (length c.rows)
+  pub rows : AreCopied c.rows new.validity.now (room_layout k new)
   pub validity : SameBehind (bytes_for (length c.rows)) old.validity.now new.validity.now
   pub values : KeepsBehind k c old new
   pub only : new ≡ with_buffers k old new

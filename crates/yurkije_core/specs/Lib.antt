@@ -2,3 +2,4 @@ pub mod Programs
 pub mod Running
 pub mod Statuses
 pub mod Reports
+pub mod Messages

@@ -1,12 +1,17 @@
 -- What a text asks: the answers that are held of it, and what rules make of them.
-use Rattle.std.specs.Prelude.{◌≡◌, ◌⊎◌, ℕ, List, map, Option, Some, None, IfSome, Result, MatchResult, ⊤}
+use Rattle.std.specs.Prelude.{◌≡◌, ◌⊎◌, ◌<◌, ℕ, List, map, Option, Some, None, IfSome, Result, MatchResult, ⊤}
 use Rattle.std.specs.Prelude.{string_bytes, IsTrue, IsUtf8, String, MatchOption}
 use Rattle.std.specs.declared.alloc.Global.{Global}
-use Rattle.vortex_types.specs.LogicalTypes.{Fields}
+use Rattle.vortex_types.specs.LogicalTypes.{Fields, field_count}
+use Rattle.vortex_types.specs.FieldNames.{field_name}
 use Rattle.vortex_interface.specs.Printing.{tree_text}
 use Rattle.vortex_interface.specs.Rewrites.{Rewrites}
+use Rattle.vortex_interface.specs.Driver.{RunsTo}
+use Rattle.vortex_interface.specs.Weights.{weight_told}
 use Rattle.vortex_interface.specs.ValidityRules.{default_rules}
 use Rattle.vortex_functions.specs.Walks.{AllMean}
+use Rattle.vortex_functions.specs.Binding.{IsLeafAt}
+use Rattle.vortex_rewriting.specs.Runs.{expression_step}
 use Rattle.vortex_expressions.specs.declared.error.ReadError.{ReadError}
 use Rattle.vortex_expressions.specs.declared.refusal.Refusal.{Refusal}
 use Rattle.vortex_expressions.specs.Items.{Tree, meaning}
@@ -21,16 +26,44 @@ use Rattle.yurkije_core.specs.declared.reading.ProgramError.TheVariants as progr
 abbrev pub trees_of : List held.Answer → List Tree
 trees_of answers = map (λ a. a.tree) answers
 
--- what is held of an answer: its tree, under the name that the text gives it, if it does
-pub record IsHeld (a : Answer) (h : held.Answer) : Type 0 where
+-- the text of a tree: as people write it, or else as it is printed
+abbrev pub IsTreeText : Tree → List ℕ → Type 0
+IsTreeText t words =
+    (text_of_tree t ≡ Some words)
+    ⊎ ((text_of_tree t ≡ None) × IfSome (tree_text t) (λ printed. words ≡ printed))
+
+-- the name of a tree that is given none: that of the field which it is, or else its text
+pub data IsNameOf (scope : Fields) (t : Tree) (name : List ℕ) : Type 0 where
+  of_field : (k : ℕ) → IsLeafAt k t → k < field_count scope → name ≡ field_name k scope
+      → IsNameOf scope t name
+  of_text : ((k : ℕ) → k < field_count scope → ¬ IsLeafAt k t) → IsTreeText t name
+      → IsNameOf scope t name
+
+-- the name that the text gives a tree, if it does
+abbrev pub IsNamed : Fields → Tree → Option (List ℕ) → List ℕ → Type 0
+IsNamed scope t None name = IsNameOf scope t name
+IsNamed scope t (Some given) name = name ≡ given
+
+-- what is held of an answer: its tree, under its name
+pub record IsHeld (scope : Fields) (a : Answer) (h : held.Answer) : Type 0 where
   pub tree : h.tree ≡ a.tree
-  pub name : IfSome a.name (λ w. string_bytes h.name ≡ w)
+  pub name : IsNamed scope a.tree a.name (string_bytes h.name)
 
 -- what the text asks over the fields of a scope is held
 pub record IsAsked (scope : Fields) (text : List ℕ) (answers : List held.Answer) : Type 0 where
   pub list : List Answer
   pub said : ExpressesAll scope text list
-  pub each : AllMean IsHeld list answers
+  pub each : AllMean (IsHeld scope) list answers
+
+-- what the rules make of a tree, within as many steps as it weighs: the one tree that their run leads
+-- to, which has the values of the first
+pub record IsOptimized (t u : Tree) : Type 0 where
+  pub run : RunsTo (expression_step meaning (default_rules meaning)) (weight_told meaning t) t u
+  pub kept : Rewrites meaning t u
+
+-- what is run is what the rules make of what was written
+abbrev pub AreOptimized : List held.Answer → List held.Answer → Type 0
+AreOptimized written optimized = AllMean IsOptimized (trees_of written) (trees_of optimized)
 
 -- what is run are rewrites of what was written
 abbrev pub AreRewrites : List held.Answer → List held.Answer → Type 0
@@ -65,18 +98,12 @@ RefusesLines lines (program.Lines e) =
 RefusesLines lines program.OutOfMemory = ⊤
 RefusesLines lines e = ⊥
 
--- the text of a tree: as people write it, or else as it is printed
-abbrev pub IsTreeText : Tree → List ℕ → Type 0
-IsTreeText t words =
-    (text_of_tree t ≡ Some words)
-    ⊎ ((text_of_tree t ≡ None) × IfSome (tree_text t) (λ printed. words ≡ printed))
-
--- that of the tree, if there is one
+-- the text of the tree, if there is one
 abbrev pub IsTextAt : Option Tree → Option (String Global) → Type 0
 IsTextAt None words = words ≡ None
 IsTextAt (Some t) words = MatchOption words ⊥ (λ w. IsTreeText t (string_bytes w))
 
--- the text is not UTF-8
+-- bytes that are no text are refused as such, and nothing else is
 abbrev pub IsNoText : List ℕ → ProgramError → Type 0
 IsNoText text program.NotUtf8 = ¬ IsUtf8 text
-IsNoText text e = ⊤
+IsNoText text e = IsUtf8 text

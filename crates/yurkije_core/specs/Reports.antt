@@ -1,5 +1,5 @@
--- What is told of a refusal, by its numbers, and in words within the caller's bytes.
-use Rattle.std.specs.Prelude.{◌≡◌, ◌≤◌, ◌<◌, ℕ, List, Bool, if◌then◌else◌, take, length, slice_index_or}
+-- What is told of a refusal by its numbers.
+use Rattle.std.specs.Prelude.{◌≡◌, ℕ, Bool, if◌then◌else◌}
 use Rattle.vortex_arrow.specs.declared.error.ArrowError.{ArrowError}
 use Rattle.vortex_arrow.specs.declared.error.ArrowError.TheVariants as arrow
 use Rattle.vortex_expressions.specs.declared.error.ReadError.{ReadError}
@@ -149,9 +149,3 @@ pub record Tells (r : Report) (t : Told) : Type 0 where
   pub byte : r.byte ≡ t.byte
   pub line : r.line ≡ t.line
   pub character : r.character ≡ t.character
-
--- so many bytes of the words stand in the caller's, and a zero behind them, if there is room for it
-pub record IsMessage (words message : List ℕ) (n : ℕ) : Type 0 where
-  pub within : n ≤ length message
-  pub said : take n message ≡ take n words
-  pub ended : 0 < length message → slice_index_or message n 1 ≡ 0

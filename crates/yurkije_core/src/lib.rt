@@ -8,8 +8,10 @@ pub mod reading;
 pub mod report;
 pub mod running;
 pub mod statuses;
+mod words;
 
 pub use program::Program;
 pub use reading::{ProgramError, read_lines, read_program};
-pub use report::{NONE, Report, Told, lent_words, program_words, run_words, scope_words};
+pub use report::{NONE, Report, Told};
 pub use running::{RunError, run_program};
+pub use words::{lent_words, program_words, run_words, scope_words};

@@ -1,9 +1,10 @@
 //! Names of answers that were given none.
-ghost use Rattle.std.specs.Prelude.{◌≡◌, map, string_bytes, ⊤};
+ghost use Rattle.std.specs.Prelude.{◌≡◌, map, string_bytes};
 ghost use Rattle.vortex_errors.specs.Answers.{AnswersUnlessMemory};
 ghost use Rattle.vortex_functions.specs.Walks.{AllMean};
 ghost use Rattle.vortex_expressions.specs.Answers.{answer_in};
-ghost use Rattle.yurkije_core.specs.Programs.{IsHeld, IsTreeText};
+ghost use Rattle.vortex_types.specs.TypeOf.{struct_fields};
+ghost use Rattle.yurkije_core.specs.Programs.{IsHeld, IsTreeText, IsNameOf};
 
 use rowfn_scripts::Answer;
 use std::alloc::Global;
@@ -27,7 +28,8 @@ fn name_of(
     scope: &StructFields,
     tree: &BoundExpression<NoCustom>,
 ) -> VortexResult<String>
-    ensures { AnswersUnlessMemory result (λ _. ⊤) }
+    ensures { AnswersUnlessMemory result
+        (λ name. IsNameOf (struct_fields scope.now) tree.now (string_bytes name)) }
 {
     match tree.as_column() {
         Some(place) if place < scope.len() => Ok(String::from_str(alloc, scope.name(place))?),
@@ -42,7 +44,8 @@ fn named(
     scope: &StructFields,
     answer: &vortex_expressions::Answer,
 ) -> VortexResult<Answer>
-    ensures { AnswersUnlessMemory result (IsHeld (answer_in answer.now)) }
+    ensures { AnswersUnlessMemory result
+        (IsHeld (struct_fields scope.now) (answer_in answer.now)) }
 {
     let name = match &answer.name {
         Some(name) => String::from_str(alloc, name.as_str())?,
@@ -59,7 +62,8 @@ pub(crate) fn all_named(
     list: &[vortex_expressions::Answer],
 ) -> VortexResult<Vec<Answer>>
     ensures { AnswersUnlessMemory result
-        (λ answers. AllMean IsHeld (map answer_in list.now) answers.items) }
+        (λ answers. AllMean (IsHeld (struct_fields scope.now)) (map answer_in list.now)
+        answers.items) }
 {
     let mut answers = Vec::new(alloc);
     for answer in list {

@@ -1,9 +1,7 @@
 //! Programs: expressions that were read, each tree as it was written and as it is run.
 ghost use Rattle.std.specs.Prelude.{◌≡◌, slice_get, if◌then◌else◌};
 ghost use Rattle.vortex_errors.specs.Answers.{AnswersUnlessMemory};
-ghost use Rattle.vortex_interface.specs.Rewrites.{Rewrites};
-ghost use Rattle.vortex_functions.specs.Fixed.{fixed_meaning};
-ghost use Rattle.yurkije_core.specs.Programs.{trees_of, AreRewrites, IsTextAt};
+ghost use Rattle.yurkije_core.specs.Programs.{trees_of, IsOptimized, AreOptimized, IsTextAt};
 
 use crate::naming::text_of;
 use rowfn_scripts::Answer;
@@ -27,7 +25,7 @@ fn optimized_tree(
     alloc: Global,
     tree: &BoundExpression<NoCustom>,
 ) -> VortexResult<BoundExpression<NoCustom>>
-    ensures { AnswersUnlessMemory result (λ made. Rewrites fixed_meaning tree.now made) }
+    ensures { AnswersUnlessMemory result (IsOptimized tree.now) }
 {
     let optimized = tree.optimize_recursive(alloc, tree.weight())?;
     Ok(optimized.tree)
@@ -35,7 +33,7 @@ fn optimized_tree(
 
 /// What rules make of each answer.
 fn optimized_answers(alloc: Global, written: &[Answer]) -> VortexResult<Vec<Answer>>
-    ensures { AnswersUnlessMemory result (λ made. AreRewrites written.now made.items) }
+    ensures { AnswersUnlessMemory result (λ made. AreOptimized written.now made.items) }
 {
     let mut answers = Vec::new(alloc);
     for answer in written {
@@ -60,7 +58,7 @@ impl Program {
     /// The program of answers over a scope. E9 where memory is refused.
     pub fn of(alloc: Global, scope: StructFields, written: Vec<Answer>) -> VortexResult<Program>
         ensures { AnswersUnlessMemory result (λ p. (p.scope ≡ scope) × (p.written ≡ written)
-            × AreRewrites p.written.items p.optimized.items) }
+            × AreOptimized p.written.items p.optimized.items) }
     {
         let optimized = optimized_answers(alloc, &written)?;
         Ok(Program {

@@ -9,7 +9,7 @@ ghost use Rattle.vortex_expressions.specs.Answers as specs;
 ghost use Rattle.vortex_expressions.specs.Answers.{ExpressesAll, IsRefusedAll};
 ghost use Rattle.rowfn_scripts.specs.Naming.{expression_lines};
 ghost use Rattle.rowfn_scripts.specs.Expressions.{Leaves, Stops, LeavesNone};
-ghost use Rattle.yurkije_core.specs.Programs.{trees_of, IsAsked, AreRewrites, IsWant, RefusesFor};
+ghost use Rattle.yurkije_core.specs.Programs.{trees_of, IsAsked, AreOptimized, IsWant, RefusesFor};
 ghost use Rattle.yurkije_core.specs.Programs.{IsNoText, ReadsLines, RefusesLines};
 
 use crate::naming::all_named;
@@ -50,7 +50,7 @@ fn read_text(alloc: Global, scope: StructFields, text: &str) -> Result<Program, 
     ensures scope { IfOk result (λ p. p.scope ≡ scope) }
     ensures found { IfOk result
         (λ p. IsAsked (struct_fields scope) text.now p.written.items) }
-    ensures kept { IfOk result (λ p. AreRewrites p.written.items p.optimized.items) }
+    ensures kept { IfOk result (λ p. AreOptimized p.written.items p.optimized.items) }
     ensures only { (list : List specs.Answer) → ExpressesAll (struct_fields scope) text.now list
         → MatchResult result (λ p. trees_of p.written.items ≡ map (λ a. a.tree) list) IsWant }
     ensures refused { (r : Refusal) → IsRefusedAll (struct_fields scope) text.now r
@@ -68,17 +68,17 @@ fn read_text(alloc: Global, scope: StructFields, text: &str) -> Result<Program, 
 
 /// Reads the answers of a text over the fields of a scope: `price * stock as worth, price > 100`.
 /// Ok exactly where the text is UTF-8 and a list of answers over the scope, where memory is not
-/// refused.
+/// refused. Bytes that are not UTF-8 are refused as such, whatever memory there is.
 pub fn read_program(
     alloc: Global,
     scope: StructFields,
     text: &[u8],
 ) -> Result<Program, ProgramError>
     ensures scope { IfOk result (λ p. p.scope ≡ scope) }
-    // What is held the text says, and what is run has its values.
+    // What is held the text says, and what is run the rules make of it.
     ensures found { IfOk result
         (λ p. IsAsked (struct_fields scope) text.now p.written.items) }
-    ensures kept { IfOk result (λ p. AreRewrites p.written.items p.optimized.items) }
+    ensures kept { IfOk result (λ p. AreOptimized p.written.items p.optimized.items) }
     // What the text says is held.
     ensures only { (list : List specs.Answer) → IsUtf8 text.now
         → ExpressesAll (struct_fields scope) text.now list
@@ -100,7 +100,7 @@ pub fn read_lines(alloc: Global, text: &[u8]) -> Result<Program, ProgramError>
     ensures read { MatchResult result
         (λ p. ReadsLines (expression_lines text.now) (struct_fields p.scope) p.written.items)
         (RefusesLines (expression_lines text.now)) }
-    ensures kept { IfOk result (λ p. AreRewrites p.written.items p.optimized.items) }
+    ensures kept { IfOk result (λ p. AreOptimized p.written.items p.optimized.items) }
 {
     match read_expression(alloc, text) {
         Ok(

@@ -1,16 +1,16 @@
-//! What is told of a refusal: numbers, and words in a caller's bytes.
-ghost use Rattle.std.specs.Prelude.{◌≡◌};
+//! What is told of a refusal: numbers, and a message in a caller's bytes.
+ghost use Rattle.std.specs.Prelude.{◌≡◌, [], MatchResult, string_bytes};
 ghost use Rattle.yurkije_core.specs.Reports.{nowhere, of_column, of_row, of_line, scope_told};
 ghost use Rattle.yurkije_core.specs.Reports.{text_told, lines_told, program_told, arrow_told};
-ghost use Rattle.yurkije_core.specs.Reports.{batch_told, lent_told, run_told, IsMessage, Tells};
+ghost use Rattle.yurkije_core.specs.Reports.{batch_told, lent_told, run_told, Tells};
+ghost use Rattle.yurkije_core.specs.Messages.{IsMessage, HasMessage, memory_words};
 
-use crate::program::Program;
 use crate::reading::ProgramError;
 use crate::running::RunError;
 use crate::statuses::{program_status, run_status};
 use rowfn_scripts::ExpressionError;
-use std::alloc::Global;
 use vortex_arrow::ArrowError;
+use vortex_columns::VortexResult;
 use vortex_expressions::ReadError;
 use yurkije_columns::statuses::{column_status, scope_status};
 use yurkije_columns::{BatchError, ColumnFault, LentError, ScopeError, ScopeFault, put_text};
@@ -199,93 +199,10 @@ impl Told {
     }
 }
 
-/// The words for a field that is wrong; no bytes where memory is refused.
-pub fn scope_words(alloc: Global, error: ScopeError) -> String {
-    let field = error.field;
-    let words = match error.fault {
-        ScopeFault::UnknownKind => format!(in alloc; "field {field}: no kind has that number"),
-        ScopeFault::NotUtf8 => format!(in alloc; "field {field}: its name is not UTF-8"),
-        ScopeFault::NameTwice => format!(in alloc; "field {field}: a field before it has its name"),
-        ScopeFault::OutOfMemory => String::from_str(alloc, "out of memory"),
-    };
-    words.unwrap_or(String::new(alloc))
-}
-
-/// The words for a text that is no program.
-pub fn program_words(alloc: Global, error: &ProgramError) -> String {
-    let words = match error {
-        ProgramError::NotUtf8 => String::from_str(alloc, "the text is not UTF-8"),
-        ProgramError::Text(error) => format!(in alloc; "{error}"),
-        ProgramError::Lines(error) => format!(in alloc; "{error}"),
-        ProgramError::OutOfMemory => String::from_str(alloc, "out of memory"),
-    };
-    words.unwrap_or(String::new(alloc))
-}
-
-/// The name of a field, or none where there is no such field.
-fn field_named(program: &Program, field: usize) -> &str {
-    if field < program.scope.len() {
-        program.scope.name(field)
-    } else {
-        ""
-    }
-}
-
-/// The words for a column that is wrong.
-fn batch_words(alloc: Global, program: &Program, error: BatchError, rows: usize) -> String {
-    let column = error.column;
-    let name = field_named(program, column);
-    let words = match error.fault {
-        ColumnFault::Missing => format!(in alloc; "column {column} ({name}): missing"),
-        ColumnFault::Unasked => format!(in alloc; "column {column}: there is no field for it"),
-        ColumnFault::OtherType => {
-            format!(in alloc; "column {column} ({name}): of another type than the field")
-        }
-        ColumnFault::OtherLength { rows: length } => {
-            format!(in alloc; "column {column} ({name}): {length} rows in a batch of {rows}")
-        }
-        ColumnFault::Unread(error) => format!(in alloc; "column {column} ({name}): {error}"),
-    };
-    words.unwrap_or(String::new(alloc))
-}
-
-/// The words for columns that are not taken.
-pub fn lent_words(alloc: Global, error: LentError) -> String {
-    let words = match error {
-        LentError::UnknownKind { column } => {
-            format!(in alloc; "column {column}: no kind has that number")
-        }
-        LentError::OutOfMemory => String::from_str(alloc, "out of memory"),
-    };
-    words.unwrap_or(String::new(alloc))
-}
-
-/// The name of an answer, or none where there is no such answer.
-fn answer_named(program: &Program, answer: usize) -> &str {
-    match program.written.get(answer) {
-        Some(answer) => answer.name.as_str(),
-        None => "",
-    }
-}
-
-/// The words for a run that answers nothing.
-pub fn run_words(alloc: Global, program: &Program, error: &RunError, rows: usize) -> String {
-    let words = match error {
-        RunError::Batch(error) => return batch_words(alloc, program, *error, rows),
-        RunError::Fault { row, answer, error } => {
-            let name = answer_named(program, *answer);
-            format!(in alloc; "row {row}, answer {answer} ({name}): {error}")
-        }
-        RunError::Refused(error) => format!(in alloc; "{error}"),
-        RunError::OutOfMemory => String::from_str(alloc, "out of memory"),
-    };
-    words.unwrap_or(String::new(alloc))
-}
-
-/// Writes the words into the caller's bytes, ended by a NUL where there is room for one, and tells
-/// how many bytes they take without it.
+/// Writes as many whole characters of the words into the caller's bytes as there is room for, ended
+/// by a NUL, and tells how many bytes they take without it. What lies behind stays as it was.
 fn put_message(words: &str, message: &mut [u8]) -> usize
-    ensures { IsMessage words.now message.new result }
+    ensures { IsMessage words.now message.old message.new result }
 {
     let Some(room) = message.len().checked_sub(1) else {
         return 0;
@@ -296,11 +213,11 @@ fn put_message(words: &str, message: &mut [u8]) -> usize
 }
 
 impl Report<'_> {
-    /// Tells a refusal, and answers its status.
+    /// Tells a refusal in those words, and answers its status.
     pub fn tell(&mut self, told: Told, words: &str) -> u32
         ensures status { result ≡ told.status }
         ensures told { Tells self.new told }
-        ensures message { IsMessage words.now self.new.message.now self.new.message_length }
+        ensures message { HasMessage words.now self.old self.new }
     {
         self.status = told.status;
         self.answer = told.answer;
@@ -313,10 +230,25 @@ impl Report<'_> {
         told.status
     }
 
-    /// Tells that nothing is refused.
+    /// The same in words for which memory may have been refused: then that is told.
+    pub fn tell_in(&mut self, told: Told, words: VortexResult<String>) -> u32
+        ensures status { result ≡ told.status }
+        ensures told { Tells self.new told }
+        ensures message { MatchResult words
+            (λ text. HasMessage (string_bytes text) self.old self.new)
+            (λ _. HasMessage memory_words self.old self.new) }
+    {
+        match words {
+            Ok(words) => self.tell(told, words.as_str()),
+            Err(_) => self.tell(told, "out of memory"),
+        }
+    }
+
+    /// Tells that nothing is refused, in no words.
     pub fn clear(&mut self) -> u32
         ensures status { result ≡ 0 }
         ensures told { Tells self.new (nowhere 0) }
+        ensures message { HasMessage [] self.old self.new }
     {
         self.tell(Told::of(0), "")
     }

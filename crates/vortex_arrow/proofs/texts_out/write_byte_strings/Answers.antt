@@ -1,9 +1,10 @@
-use Rattle.std.proofs.Common.{rules, ◌<◌, ◌+◌, refl, length, ap, ◌∙◌, arith, pos}
-use Rattle.std.proofs.lemmas.List.{drop-set-lt, length-set}
-use Rattle.vortex_arrow.specs.Written.{value_bytes}
+use Rattle.std.proofs.Common.{rules, ◌≡◌, ◌<◌, ◌≤◌, ◌+◌, refl, sym, length, take, ap, ◌∙◌, arith, pos}
+use Rattle.std.proofs.lemmas.List.{drop-set-lt, length-set, length-map}
+use Rattle.vortex_arrow.specs.Written.{value_bytes, joined}
 use Rattle.vortex_arrow.proofs.Cells.{behind_next}
 use Rattle.vortex_arrow.proofs.Parts.{drop_further}
 use Rattle.vortex_arrow.proofs.Joined.{end_more, end_within, bytes_more, offset_first, offset_more}
+use Rattle.vortex_arrow.proofs.Joined.{joined_all}
 use Rattle.vortex_arrow.proofs.texts_out.write_byte_strings.Goals as goal
 
 pub loop-i-init : goal.loop-i-init
@@ -71,4 +72,24 @@ loop-i-preserved g c =
           (c.of_place-in-loop-i.ensures ∙ ap (λ n. pos n) more);
       offsets_behind = behind_next g.O.IndexType.number c.loop-i.offsets (i + 1)
           c.of_place-in-loop-i.result place c.args.offsets.now c.loop-i.invariant.offsets_behind;
+    }
+
+pub returns-clause-packed : goal.returns-clause-packed
+returns-clause-packed g c =
+    let rows = c.args.column.now.rows in
+    let i = c.loop-i.i in
+    let end = c.loop-i.end in
+    let over : length rows ≤ i = search rules in
+    let all = joined_all rows i over in
+    let count : end ≡ length (joined rows) = c.loop-i.invariant.count ∙ ap length all in
+    record {
+      count = omega (
+        arith,
+        length-map c.loop-i.offsets g.O.IndexType.number,
+        c.requires.offsets,
+        c.loop-i.auto.offsets,
+        length-set c.args.offsets.now 0 c.of_place.result,
+      );
+      places = λ k le. c.loop-i.invariant.offsets k (omega (arith, over, le));
+      bytes = ap (λ n. take n c.loop-i.bytes) (sym count) ∙ c.loop-i.invariant.bytes ∙ all;
     }

@@ -1,10 +1,15 @@
 use Rattle.std.proofs.Common.{◌∙◌, arith, add-one}
 use Rattle.std.proofs.lemmas.Option.{slice_get-get_or}
-use Rattle.yurkije_columns.proofs.LentSoFar.{all_say_more}
+use Rattle.yurkije_columns.proofs.LentSoFar.{all_say_more, known_more}
 use Rattle.yurkije_columns.proofs.lent.arrow_columns.Goals as goal
 
 pub returns-in-None : goal.returns-in-None
-returns-in-None c = (_, slice_get-get_or _ _ _ c.loop-column-test.true, c.in-None.ensures)
+returns-in-None c = record {
+  column = _;
+  there = slice_get-get_or _ _ _ c.loop-column-test.true;
+  unknown = c.in-None.ensures;
+  before = c.loop-column.invariant.known;
+}
 
 pub loop-column-preserved : goal.loop-column-preserved
 loop-column-preserved c =
@@ -14,4 +19,6 @@ loop-column-preserved c =
       say = rw c.push_reserved.ensures.items
           (all_say_more _ _ k _ _ _ (add-one k) c.loop-column-test.true
           c.loop-column.invariant.say c.in-Some.ensures);
+      known = known_more _ k _ _ c.loop-column-test.true c.loop-column.invariant.known
+          c.in-Some.ensures;
     }
