@@ -5,7 +5,7 @@ from collections import Counter
 
 from engines import NOT_ASKED, STATES, Fault, Refused
 from spelling import Plain, Text, is_unchanged
-from trees import Maker, random_table
+from trees import FOLDED, Maker, random_table
 
 OTHERS = ["and", "or", "not", "is", "null", "between", "like", "ilike", "escape", "true", "false", "=", "<>", "<", "<=", ">", ">=",
           "+", "-", "*", "/", "(", ")", "7", "0", "'a'", "'!'", "''", "i64_a", "i32_b", "bool_a", "utf8_a", "i16_a", "::", "i64", "bool"]
@@ -14,13 +14,40 @@ CLASSES = [{"=", "<>", "<", "<=", ">", ">="}, {"+", "-", "*", "/"}, {"and", "or"
            {"i64_a", "i64_b", "i64_c"}, {"i32_a", "i32_b", "i32_c"}, {"bool_a", "bool_b", "bool_c"}, {"utf8_a", "utf8_b"}]
 # What PostgreSQL reads and we refuse, by how the refusal begins behind its place. Whatever else only PostgreSQL reads is told.
 REFUSED_HERE = {
-    "another order of words": r"found .*, expected ",
     "operands of two types": r"E3 TypeMismatch\.",
     "null without a type": r"null has no type here",
     "a number that its type does not hold": r"\S+ is no (bool|utf8|[iu]\d+)",
     "another type": r"no type ",
     "another cast": r"a cast leads from",
 }
+# Where a text is refused for its order of words, PostgreSQL refuses it at the same word, or the word is one of these, by how
+# the refusal goes on: here PostgreSQL reads on.
+ATOM = r"expected a column, a literal, (not, )?cast or \("
+READ_ON = {
+    "`not` behind a sign": r'found "not", ' + ATOM,
+    "`+` before a value": r'found "\+", ' + ATOM,
+    "`-` before what is no number": r"found .*, expected digits",
+    "a chain": r"found .*, expected brackets \(comparisons, between and like stand in no chains\)",
+    "a type behind what is no literal": r'found "::", expected a literal before ::',
+    "an escape that is no text in quotes": r"found .*, expected a text in single quotes",
+    "a keyword as a name": rf'found "(is|like|ilike|between|escape)", ({ATOM}|expected (the name of a type|a text in single quotes))',
+    "a call, or a text behind the name of a type": r"""found "[('][^"]*", expected (an operator|\+, -, \*)""",
+    "`is true`, `is false`": r'found "(true|false)", expected null',
+}
+
+
+def is_at_that_word(told, answers):
+    """Whether PostgreSQL refuses a text for its order of words too, and at the word that the refusal names."""
+    found = re.match(r'found (?:"(.*?)"|.*?), expected (.*)', told, re.DOTALL)
+    theirs = next((re.search(r'syntax error at or near "(.*)"', answer.told, re.DOTALL) for answer in answers
+                   if isinstance(answer, Fault) and answer.name == "42601"), None)
+    if not found or not theirs:
+        return False
+    ours, there = (found[1] or "").lower(), theirs[1].lower()
+    # the texts end with `as`, and PostgreSQL's with END; of a text in quotes we tell the first of these
+    same = ours == there or (ours, there) == ("as", "end") or ours == "'" == there[:1]
+    # a `not` that none of these follows is refused there itself
+    return same or there == "not" and found[2].startswith("between, like or ilike")
 
 
 def changed_text(rng, table):
@@ -80,7 +107,7 @@ class Changed:
             except Refused as refused:
                 self.beside_refusal(number, text, refused, answers)
             else:
-                self.beside_answers(number, text, ours, answers, self.program.is_rewritten(text, table))
+                self.beside_answers(number, text, ours, answers, table)
 
     def differ(self, number, text, ours, theirs):
         self.differences.append(f"changed text {number}: {text!r}\n    rowfn_stream: {ours}\n    PostgreSQL: {theirs}")
@@ -89,6 +116,8 @@ class Changed:
         told = re.fullmatch(r"rowfn_stream: (?:[^:]*: )?line \d+, column \d+: (.*)", refused.told, re.DOTALL)
         if refused.status != 4 or not told:
             return self.differ(number, text, refused, "whatever: that is no refusal of a text")
+        if told[1].startswith("found "):
+            return self.beside_order(number, text, refused, told[1], answers)
         if is_refused(answers):
             self.counts["changed texts that both refuse"] += 1
             return
@@ -99,12 +128,30 @@ class Changed:
                 return
         self.differ(number, text, refused, answers[0])
 
-    def beside_answers(self, number, text, ours, answers, is_rewritten):
+    def beside_order(self, number, text, refused, told, answers):
+        """Of a text that is refused for its order of words."""
+        if is_at_that_word(told, answers):
+            self.counts["changed texts that both refuse, at the same word"] += 1
+            return
+        kind = next((kind for kind, begins in READ_ON.items() if re.match(begins, told)), None)
+        if kind is None:
+            return self.differ(number, text, refused, answers[0])
+        if is_refused(answers):
+            self.counts[f"on purpose: refused at {kind}, and by PostgreSQL for what follows"] += 1
+        else:
+            self.counts[f"on purpose: refused at {kind}, where PostgreSQL answers"] += 1
+            self.examples.setdefault(kind, []).append(text)
+
+    def beside_answers(self, number, text, ours, answers, table):
         """Compares the rows of both. Of a tree that rules made another the call that faults may be gone."""
         self.counts["changed texts that both answer"] += 1
-        for one, other in zip(ours, answers):
+        is_rewritten = self.program.is_rewritten(text, table)
+        for row, one, other in zip(table.rows, ours, answers):
             if one is NOT_ASKED:
                 break
+            if "ilike" in text and any(letter > "\x7f" for letter in FOLDED.keys() & set(text + "".join(map(str, row)))):
+                self.counts["on purpose: letters past ASCII, in PostgreSQL's own ILIKE"] += one != other
+                continue
             if isinstance(other, Fault):
                 alike = other.name in STATES and (isinstance(one, Fault) or is_rewritten) or other.name == "22025" and "like" in text
             else:

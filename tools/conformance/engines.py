@@ -14,8 +14,8 @@ import tempfile
 import time
 from dataclasses import dataclass
 
-from spelling import POSTGRESQL_TYPES, postgresql_domains, quoted, sql_literal
-from trees import INTEGERS
+from spelling import POSTGRESQL_TYPES, postgresql_domains, quoted, sql_literal, whole
+from trees import INTEGERS, field, folded
 
 TOP = os.path.dirname(os.path.dirname(os.path.dirname(os.path.realpath(__file__))))
 PROGRAM = os.environ.get("ROWFN_STREAM", TOP + "/crates/rowfn_stream/out/rowfn_stream")
@@ -40,12 +40,10 @@ NOT_ASKED = ...
 
 
 def value_of(name, text):
-    """The value of a type that a text says, as the program and PostgreSQL write it."""
-    if text is None or name == "utf8":
-        return text
+    """The value of a type that a text says, as the program and PostgreSQL write it, or the text where it is none of that type."""
     if name == "bool":
-        return {"true": True, "false": False}[text]
-    return int(text)
+        return {"true": True, "false": False}.get(text, text)
+    return int(text) if name in INTEGERS and text is not None and re.fullmatch("-?[0-9]+", text) else text
 
 
 # -- the program ---------------------------------------------------------------------------------------------------------
@@ -53,9 +51,7 @@ def value_of(name, text):
 def csv_field(value):
     if value is None:
         return ""
-    if isinstance(value, bool):
-        return "true" if value else "false"
-    return quoted(value, '"') if isinstance(value, str) else str(value)
+    return quoted(value, '"') if isinstance(value, str) else field(value)
 
 
 def csv_rows(text):
@@ -107,8 +103,14 @@ class Program:
     @staticmethod
     def by_text(answers, table):
         """The arguments that ask for these texts, each with its name. A text may begin with a minus sign."""
-        columns = ", ".join(f"{quoted(column.name, chr(34))} {column.type}{'?' * column.nullable}" for column in table.columns)
-        return ["--columns", columns, "--", ", ".join(f"{text}\nas {name}" for name, text in answers)]
+        return [*Program.columns_of(table), "--", ", ".join(f"{text}\nas {name}" for name, text in answers)]
+
+    @staticmethod
+    def columns_of(table):
+        """The arguments that tell of a table's columns."""
+        declared = [column for column in table.columns if column.is_declared]
+        columns = ", ".join(f"{quoted(column.name, chr(34))} {column.type}{'?' * column.nullable}" for column in declared)
+        return ["--columns", columns] * bool(declared) + ["--no-header"] * (not table.has_header)
 
     @staticmethod
     def by_lines(answers, table):
@@ -117,12 +119,12 @@ class Program:
         said = [f"col {names[column.name]} {column.type}{'?' * column.nullable}" for column in table.columns]
         for name, lines in answers:
             said += [*lines, f"as {name}"]
-        return [word for line in said for word in ("-e", line)]
+        return [word for line in said for word in ("-e", line)] + ["--no-header"] * (not table.has_header)
 
     def csv(self, ask, table):
-        """A table as CSV, under the names by which it is asked for."""
+        """A table as CSV, under the names by which it is asked for, if it has a header."""
         names = line_names(table) if ask is self.by_lines else {column.name: column.name for column in table.columns}
-        rows = [list(names.values()), *table.rows]
+        rows = [list(names.values())] * table.has_header + table.rows
         return "".join(",".join(csv_field(value) for value in row) + "\n" for row in rows)
 
     def answers(self, ask, answers, table, types):
@@ -132,7 +134,7 @@ class Program:
         ran = self.run(["--blank-lines", "null", *arguments], self.csv(ask, table))
         if ran.returncode not in (0, 1):
             raise Refused(ran.returncode, ran.stderr.strip())
-        _, *rows = csv_rows(ran.stdout)
+        rows = csv_rows(ran.stdout)[table.has_header:]
         found = [[value_of(name, row[place]) for row in rows] for place, name in enumerate(types)]
         if ran.returncode == 1:
             told = re.fullmatch(r"rowfn_stream: row (\d+): E7 (Arithmetic\.\w+)\n", ran.stderr)
@@ -147,7 +149,7 @@ class Program:
     def picked(self, condition, table, *answers):
         """The rows that --where takes by a text, as they stand, below their header; behind each row what a text answers in
         it, named r, where one is there. Texts may begin with a minus sign."""
-        columns = self.by_text([], table)[:2]
+        columns = self.columns_of(table)
         behind = ["--append", "--", *(f"{answer}\nas r" for answer in answers)] if answers else []
         # a null in the only column is an empty line
         ran = self.run(["--blank-lines", "null", *columns, "--where=" + condition, *behind], self.csv(self.by_text, table))
@@ -178,26 +180,38 @@ ASK = r"""
 SET client_min_messages = warning;
 CREATE OR REPLACE FUNCTION ask(expression text) RETURNS json LANGUAGE plpgsql AS $body$
 DECLARE
-    answers text[] := '{}';
+    -- THEN and END leave the text no way to be two columns, or one and its name
+    asked text := 'SELECT array_agg(answer::text ORDER BY place) FROM (SELECT place, CASE WHEN true THEN ' || expression
+        || E'\n END AS answer FROM given WHERE place >= $1 AND place < $2) t';
+    answers text[];
     faults text[] := '{}';
-    one record;
-    answer text;
+    part text[];
+    last integer;
+    begins integer;
+    one integer;
 BEGIN
+    SELECT max(place) + 1 INTO last FROM given;
     BEGIN
-        EXECUTE 'SELECT array_agg(answer::text ORDER BY place) FROM (SELECT place, ' || expression
-            || E'\n AS answer FROM given) t' INTO answers;
+        EXECUTE asked INTO answers USING 0, last;
         RETURN json_build_array(answers, null);
     EXCEPTION WHEN OTHERS THEN answers := '{}';
     END;
-    FOR one IN SELECT place FROM given ORDER BY place LOOP
+    FOR begins IN SELECT generate_series(0, last - 1, 64) LOOP
         BEGIN
-            EXECUTE 'SELECT answer::text FROM (SELECT ' || expression || E'\n AS answer FROM given WHERE place = $1) t'
-                INTO answer USING one.place;
-            answers := answers || answer;
-            faults := faults || null::text;
+            EXECUTE asked INTO part USING begins, least(begins + 64, last);
+            answers := answers || part;
+            faults := faults || array_fill(null::text, ARRAY[cardinality(part)]);
         EXCEPTION WHEN OTHERS THEN
-            answers := answers || null::text;
-            faults := faults || (SQLSTATE || ' ' || SQLERRM);
+            FOR one IN begins .. least(begins + 64, last) - 1 LOOP
+                BEGIN
+                    EXECUTE asked INTO part USING one, one + 1;
+                    answers := answers || part;
+                    faults := faults || null::text;
+                EXCEPTION WHEN OTHERS THEN
+                    answers := answers || null::text;
+                    faults := faults || (SQLSTATE || ' ' || SQLERRM);
+                END;
+            END LOOP;
         END;
     END LOOP;
     RETURN json_build_array(answers, faults);
@@ -289,7 +303,7 @@ class Postgresql:
         """The statements that make a table the given one."""
         types = ", ".join(f"{quoted(column.name, chr(34))} {column.type}" for column in table.columns)
         rows = ",\n".join("(" + ", ".join(map(sql_literal, (place, *row))) + ")" for place, row in enumerate(table.rows))
-        return f"DROP TABLE IF EXISTS given;\nCREATE TABLE given (place integer{', ' * bool(types)}{types});\nINSERT INTO given VALUES {rows};\n"
+        return f"DROP TABLE IF EXISTS given;\nCREATE TABLE given (place integer PRIMARY KEY{', ' * bool(types)}{types});\nINSERT INTO given VALUES {rows};\n"
 
     def answers(self, texts, table):
         """What each text answers in each row: a text or None, or a fault with its SQLSTATE."""
@@ -354,6 +368,8 @@ class Sqlite:
         if self.table is not table:
             self.table = table
             self.connection = sqlite3.connect(":memory:")
+            self.connection.create_function("folded", 1, lambda text: None if text is None else folded(text), deterministic=True)
+            self.connection.create_function("whole", 2, whole, deterministic=True)
             self.connection.execute(f"PRAGMA case_sensitive_like = {'ON' if self.looks_at_case else 'OFF'}")
             types = ", ".join(f"{quoted(column.name, chr(34))} {'TEXT' if column.type == 'utf8' else 'INTEGER'}" for column in table.columns)
             self.connection.execute(f"CREATE TABLE given (place INTEGER{', ' * bool(types)}{types})")

@@ -73,7 +73,7 @@ def ends_with_escape(pattern, escape):
 
 
 def has_lone_escape(case, table, row):
-    """Whether in a row a LIKE's pattern ends with its escape: PostgreSQL refuses that, and SQLite matches nothing."""
+    """Whether in a row a LIKE's pattern ends with its escape: PostgreSQL's own LIKE refuses that."""
     for node in case.tree.nodes():
         if node.kind in LIKES:
             pattern = node.operands[1]
@@ -139,7 +139,8 @@ class Asker:
             rows = table.only({column.name for column in table.columns}, true)
             if self.program.picked(case.text, table) != self.program.csv(self.program.by_text, rows):
                 yield case, Difference(0, "--where takes other rows than", true, "")
-            both = Table(rows.columns + [Column("r", other.tree.type, True)], [(*row, others[place]) for row, place in zip(rows.rows, true)])
+            both = Table(rows.columns + [Column("r", other.tree.type, True)],
+                         [(*row, others[place]) for row, place in zip(rows.rows, true)], rows.has_header)
             picked = self.program.picked(case.text, table, other.text)
             if not same_rows(picked, self.program.csv(self.program.by_text, both)):
                 yield case, Difference(0, f"--where with --append of {other.text!r} takes other rows than", true, picked)
@@ -281,7 +282,7 @@ class Asker:
                 continue
             for who, text in ways:
                 theirs = asked[text][row]
-                if not self.is_same(case, table, row, answer, theirs, fault):
+                if not self.is_same(case, table, row, answer, theirs, fault, text == case.text):
                     yield Difference(row, who, answer, theirs)
 
     def is_dropped(self, case, table, answer):
@@ -297,23 +298,25 @@ class Asker:
         self.counts[f"refused for {why} in {kind}, as PostgreSQL does"] += 1
         return isinstance(answer, Fault) and answer.name == "Arithmetic." + ARITHMETIC[kind]
 
-    def is_same(self, case, table, row, answer, theirs, fault):
+    def is_same(self, case, table, row, answer, theirs, fault, as_it_stands):
+        """Whether PostgreSQL answers a row alike: of the text as it stands with its own LIKE and ILIKE, else with those that
+        `whole` and `folded` make like ours."""
         if fault:
             # a fault that stands beside what decides, or beside a null, is not met by PostgreSQL
             if not isinstance(theirs, Fault):
                 self.counts["on purpose: a fault that PostgreSQL passes over"] += 1
             return not isinstance(theirs, Fault) or theirs.name in STATES or theirs.name == "22025"
         if isinstance(theirs, Fault):
-            if theirs.name == "22025" and not isinstance(answer, Fault) and has_lone_escape(case, table, row):
-                self.counts["on purpose: a pattern that ends with its escape, in PostgreSQL"] += 1
+            if theirs.name == "22025" and as_it_stands and not isinstance(answer, Fault) and has_lone_escape(case, table, row):
+                self.counts["on purpose: a pattern that ends with its escape, in PostgreSQL's own LIKE"] += 1
                 return True
             return False
         if isinstance(answer, Fault):
             return False
         if answer == value_of(case.tree.type, theirs):
             return True
-        if folds_past_ascii(case, table, row):
-            self.counts["on purpose: ILIKE of letters past ASCII, in PostgreSQL"] += 1
+        if as_it_stands and folds_past_ascii(case, table, row):
+            self.counts["on purpose: letters past ASCII, in PostgreSQL's own ILIKE"] += 1
             return True
         return False
 
@@ -335,12 +338,7 @@ class Asker:
             theirs = bool(theirs) if case.tree.type == "bool" and theirs in (0, 1) else theirs
             if type(answer) is type(theirs) and answer == theirs:
                 continue
-            if not isinstance(answer, Fault) and has_lone_escape(case, table, row):
-                self.counts["on purpose: a pattern that ends with its escape, in SQLite"] += 1
-            elif not isinstance(answer, Fault) and folds_past_ascii(case, table, row):
-                self.counts["on purpose: ILIKE of letters past ASCII, in SQLite"] += 1
-            else:
-                yield Difference(row, "SQLite", answer, theirs)
+            yield Difference(row, "SQLite", answer, theirs)
 
 
 # -- making a difference small ---------------------------------------------------------------------------------------------
@@ -381,6 +379,12 @@ def shrunk(ask, tree, table, write):
     row = differs(tree, table)
     if row is None:
         return tree, table
+    if len(table.rows) > 100:
+        alone = table.only(tree.columns() or {table.columns[0].name}, [row])
+        if differs(tree, alone) is None:
+            # what differs rests on the rows before it, and to ask all of them takes long
+            return tree, table
+        table = alone
     for steps in range(400):
         alone = table.only(tree.columns() or {table.columns[0].name}, [row])
         if len(alone.rows) < len(table.rows) and differs(tree, alone) is not None:

@@ -78,7 +78,7 @@ class Library(Program):
                 expression = self.read(self.by_text, answers, rows)
                 values = self.ran(expression, self.by_text, rows, len(rows.rows))[0]
                 added = type(table.columns[0])("r", expression.answers[0].type.rstrip("?"), True)
-                rows = Table(rows.columns + [added], [(*row, value) for row, value in zip(rows.rows, values)])
+                rows = Table(rows.columns + [added], [(*row, value) for row, value in zip(rows.rows, values)], rows.has_header)
         except (Refused, self.module.Error) as refusal:
             return str(refusal)
         return self.csv(self.by_text, rows)

@@ -1,6 +1,6 @@
 """How a tree is written: as people write expressions, as lines of a script, in PostgreSQL and in SQLite."""
 import re
-from trees import ARITHMETIC, BETWEEN, COMPARISONS, INTEGERS, LEVEL, LIKES, OPERANDS, TESTS
+from trees import ARITHMETIC, BETWEEN, COMPARISONS, FOLDED, INTEGERS, LEVEL, LIKES, OPERANDS, TESTS
 
 KEYWORDS = "and or not is null between like ilike escape true false cast as".split()
 BARE_LEVEL = 9
@@ -251,6 +251,18 @@ def postgresql_domains():
         checked = "" if name in WHOLE_IN_POSTGRESQL else f" CHECK (VALUE BETWEEN {low} AND {high})"
         yield f"CREATE DOMAIN {name} AS {base}{checked};"
     yield 'CREATE DOMAIN utf8 AS text COLLATE "C";'
+    # ILIKE past ASCII, and a pattern that ends in its escape, as the program has them: see `folded` and `whole`
+    others = "".join(letter for letter, first in FOLDED.items() if letter != first)
+    firsts = "".join(FOLDED[letter] for letter in others)
+    yield f"CREATE FUNCTION folded(text) RETURNS text LANGUAGE sql IMMUTABLE AS $$ SELECT lower(translate($1, '{others}', '{firsts}')) $$;"
+    yield ("CREATE FUNCTION whole(text, text) RETURNS text LANGUAGE sql IMMUTABLE AS "
+           "$$ SELECT CASE WHEN (length($1) - length(rtrim($1, $2))) % 2 = 1 THEN $1 || $2 ELSE $1 END $$;")
+
+
+def whole(pattern, escape):
+    """A pattern whose last escape, if it escapes nothing, is doubled, so that it stands for itself as it does here."""
+    alone = pattern is not None and escape and (len(pattern) - len(pattern.rstrip(escape))) % 2
+    return pattern + escape if alone else pattern
 
 
 def sql_literal(value):
@@ -290,8 +302,10 @@ def postgresql(node):
         return f"({called}::{node.type})"
 
     def liked(node, text, pattern):
-        escape = "" if node.value is None else f" ESCAPE {quoted(node.value, chr(39))}"
-        return f"({text} {node.kind.upper()} {pattern}{escape})"
+        escape, word = quoted("\\" if node.value is None else node.value, "'"), node.kind.upper().replace("ILIKE", "LIKE")
+        if "ilike" not in node.kind:
+            return f"({text} {word} whole({pattern}, {escape}) ESCAPE {escape})"
+        return f"(folded({text}) {word} folded(like_escape(whole({pattern}, {escape}), {escape})))"
     return sql(node, leaf, calculated, liked, lambda operand: f"({operand}::bool)")
 
 
@@ -312,7 +326,8 @@ def sqlite(node):
         chosen = "\\" if node.value is None else node.value
         escape = f" ESCAPE {quoted(chosen, chr(39))}" if chosen else ""
         word = node.kind.upper().replace("ILIKE", "LIKE")
+        pattern = f"whole({pattern}, {quoted(chosen, chr(39))})"
         if "ilike" in node.kind:
-            text, pattern = f"lower({text})", f"lower({pattern})"
+            text, pattern = f"folded({text})", f"folded({pattern})"
         return f"({text} {word} {pattern}{escape})"
     return sql(node, leaf, calculated, liked, lambda operand: operand)

@@ -1,4 +1,5 @@
 """Trees of expressions, the tables that they stand over, and random ones of both."""
+import re
 from dataclasses import dataclass, replace
 
 INTEGERS = {f"{sign}{bits}": (-2 ** (bits - 1) if sign == "i" else 0, 2 ** (bits - (sign == "i")) - 1)
@@ -35,15 +36,18 @@ class Node:
 
 @dataclass(frozen=True)
 class Column:
+    """is_declared: whether the program is told its type, or takes it from the fields of the first rows."""
     name: str
     type: str
     nullable: bool
+    is_declared: bool = True
 
 
 @dataclass
 class Table:
     columns: list
     rows: list
+    has_header: bool = True
 
     def column(self, name):
         return next(column for column in self.columns if column.name == name)
@@ -52,40 +56,73 @@ class Table:
         return self.rows[place][[column.name for column in self.columns].index(name)]
 
     def only(self, names, places=None):
-        """The same table with these columns and rows alone."""
+        """The same table with these columns and rows alone. Where rows go, each column is declared: the others might say another
+        type."""
         kept = [place for place, column in enumerate(self.columns) if column.name in names]
         rows = self.rows if places is None else [self.rows[place] for place in places]
-        return Table([self.columns[place] for place in kept], [tuple(row[place] for place in kept) for row in rows])
+        columns = [self.columns[place] if places is None else replace(self.columns[place], is_declared=True) for place in kept]
+        return Table(columns, [tuple(row[place] for place in kept) for row in rows], self.has_header)
 
 
-# Letters whose case is looked past in one way alone, letters without case, signs of patterns, and what CSV and SQL quote.
+# Letters of ASCII, letters without case, signs of patterns, and what CSV and SQL quote.
 LETTERS = list("aabbABxyZ")
-OTHERS = list("%_\\!'\", \n\t-;#.0") + ["日", "€", "￥", "😀", "é"]
+OTHERS = list("%_\\!'\", \n\r\t-;#.0") + ["日", "€", "￥", "😀", "é"]
+# Letters past ASCII that ILIKE takes for one another, a word each: of two bytes, three and four, of three forms, and of which
+# one is of ASCII.
+CASES = ["éÉ", "äÄ", "ñÑ", "čČ", "żŻ", "яЯ", "жЖ", "ωΩ\u2126", "σΣς", "µμΜ", "ßẞ", "ǆǅǄ", "ⅷⅧ", "ꭰᎠ", "𐐨𐐀", "sSſ", "kK\u212a", "åÅ\u212b"]
+FOLDED = {letter: word[0] for word in CASES for letter in word}
+WORDS = [*"ab %_\\'\",!", "ab", "Ba", "xyz", "żółw", "ЖУК", "жук", "Straße", "日本", "😀", "\r", "\r\n", "\n", "0123456789", "Kelvin", *map("".join, CASES)]
+
+
+def folded(text):
+    """A text with each letter replaced by the first of those that ILIKE takes for it."""
+    return "".join(FOLDED.get(letter, letter.lower() if letter.isascii() else letter) for letter in text)
+
+
+def other_case(rng, letter):
+    """A letter that ILIKE takes for this one, or this one."""
+    if letter in FOLDED:
+        return rng.choice([other for other, first in FOLDED.items() if first == FOLDED[letter]])
+    return letter.swapcase() if letter.isascii() else letter
 
 
 def random_text(rng):
-    return "".join(rng.choice(LETTERS if rng.random() < 0.75 else OTHERS) for _ in range(rng.choice((0, 1, 1, 2, 2, 3, 4, 6))))
+    if rng.random() < 0.03:
+        return long_text(rng)
+    some = LETTERS if rng.random() < 0.9 else LETTERS + list("".join(CASES))
+    return "".join(rng.choice(some if rng.random() < 0.75 else OTHERS) for _ in range(rng.choice((0, 1, 1, 2, 2, 3, 4, 6))))
+
+
+def long_text(rng):
+    """A text of 200 characters or more, with ends of lines and letters past ASCII in it."""
+    text = ""
+    least = rng.choice((200, 201, 256, 300, 700))
+    while len(text) < least:
+        text += rng.choice(WORDS)
+    return text
 
 
 def random_pattern(rng):
-    parts = ["%", "%", "_", "_", "\\%", "\\_", "\\\\", "!%", "!!", "!_", "a", "b", "A", "%%", "\\a", "x", "é", "日"]
-    return "".join(rng.choice(parts) for _ in range(rng.choice((0, 1, 2, 2, 3, 3, 4, 5))))
+    parts = ["%", "%", "_", "_", "\\%", "\\_", "\\\\", "!%", "!!", "!_", "a", "b", "A", "%%", "\\a", "x", "é", "日", "É", "ω", "\r"]
+    pattern = "".join(rng.choice(parts) for _ in range(rng.choice((0, 1, 2, 2, 3, 3, 4, 5))))
+    # one that ends in its escape
+    return pattern + rng.choice("\\!") * (rng.random() < 0.1)
 
 
 def pattern_of(rng, text, escape):
-    """A pattern that matches a text, or nearly: signs in the place of characters, and the escape before signs."""
-    pattern = ""
+    """A pattern that matches a text, or nearly: signs in the place of characters, other cases, and the escape before signs."""
+    pattern, often = "", min(0.15, 3 / max(1, len(text)))
     for letter in text:
-        chance = rng.random()
-        if chance < 0.15:
+        chance = rng.random() / often
+        if chance < 1:
             pattern += "_"
-        elif chance < 0.3:
+        elif chance < 2:
             pattern += "%" * rng.choice((1, 1, 2))
-        elif chance < 0.35:
-            pattern += letter.swapcase() if letter.isascii() else "_"
+        elif chance < 2.5:
+            pattern += other_case(rng, letter)
         else:
             pattern += escape * (letter in ("%", "_", escape) or rng.random() < 0.1) + letter
-    return pattern + "%" * (rng.random() < 0.2)
+    return pattern + "%" * (rng.random() < 0.2) + escape * (rng.random() < 0.05)
 
 
 def random_integer(rng, name, edges):
@@ -108,9 +145,63 @@ def random_value(rng, name, edges):
     return random_integer(rng, name, edges)
 
 
+def field(value):
+    """A value as a field of CSV, without quotes."""
+    return str(value).lower() if isinstance(value, bool) else str(value)
+
+
+def type_of_fields(values):
+    """The type that a column takes of these values' fields, or None where the fields of all are digits of numbers that are
+    written otherwise, as 007: builds before 28 November 2026 took those for numbers too."""
+    fields = [field(value) for value in values if value is not None]
+    if fields and all(one in ("true", "false") for one in fields):
+        return "bool"
+    low, high = INTEGERS["i64"]
+    if fields and all(re.fullmatch("[-+]?[0-9]+", one) and low <= int(one) <= high for one in fields):
+        return "i64" if all(one == str(int(one)) for one in fields) else None
+    return "utf8"
+
+
+def with_shape(rng, columns, rows):
+    """A table of these columns and rows, as the program gets it: without a header, or some columns without a declared type."""
+    if rng.random() < 0.2:
+        return Table(columns, rows, has_header=False)
+    taken = rng.random() < 0.4
+    shaped = []
+    for place, column in enumerate(columns):
+        values = [row[place] for row in rows]
+        if taken and column.type in ("bool", "i64", "utf8") and rng.random() < 0.6 and type_of_fields(values) == column.type:
+            # whether it has nulls is taken from the fields too
+            column = replace(column, nullable=None in values, is_declared=False)
+        shaped.append(column)
+    return Table(shaped, rows)
+
+
+def large_table(rng):
+    """A column of each type or more, over thousands of rows: small numbers, and texts of which some are long. Some columns are
+    null in each row."""
+    columns = [Column("pattern", "utf8", True), Column("other", "utf8", True), Column("bool_b", "bool", True), Column("i64_b", "i64", True)]
+    columns += [Column(f"{name}_a", name, rng.random() < 0.3) for name in TYPES]
+    rng.shuffle(columns)
+    empty = {column.name for column in columns if column.nullable and rng.random() < 0.2}
+    texts = [random_text(rng) for _ in range(30)] + [long_text(rng) for _ in range(15)]
+    texts += ["".join(other_case(rng, letter) if rng.random() < 0.3 else letter for letter in text) for text in texts]
+    texts += [text + rng.choice("abé") for text in texts[:20]] + ["ω", "Ω", "aω", "AΩ"]
+    patterns = [pattern_of(rng, rng.choice(texts), "\\") for _ in range(40)] + [random_pattern(rng) for _ in range(20)]
+
+    def cell(column):
+        if column.name in empty or (column.nullable and rng.random() < 0.2):
+            return None
+        if column.type == "utf8":
+            return rng.choice(patterns if column.name == "pattern" else texts)
+        return random_value(rng, column.type, None)
+    rows = [tuple(map(cell, columns)) for _ in range(rng.randint(1400, 6000))]
+    return with_shape(rng, columns, rows)
+
+
 def random_table(rng, rows, small=False):
     """Two columns of each type or more, one of which has nulls, under names in and out of quotes. Where it is small, the
-    names stand in no quotes, and numbers are small."""
+    names stand in no quotes, and numbers are small. One column in ten with nulls is null in each row."""
     hard = ["two words", "and", 'a"b', "Upper", "né", "1st", "a,b", "_x1", "SELECT", "::", "--"]
     rng.shuffle(hard)
     quoted = rng.random() < 0.5 and not small
@@ -122,11 +213,12 @@ def random_table(rng, rows, small=False):
             columns.append(Column(f"{name}_c", name, True))
     rng.shuffle(columns)
     edges = None if small else rng.choice((0.0, 0.05, 0.05, 0.3))
+    empty = {column.name for column in columns if column.nullable and rng.random() < 0.1}
 
     def row():
         cells = {}
         for column in columns:
-            if column.nullable and rng.random() < 0.25:
+            if column.name in empty or column.nullable and rng.random() < 0.25:
                 cells[column.name] = None
             else:
                 cells[column.name] = random_value(rng, column.type, edges)
@@ -138,7 +230,7 @@ def random_table(rng, rows, small=False):
         if cells["pattern"] is not None and rng.random() < 0.7:
             cells["pattern"] = pattern_of(rng, cells[rng.choice(texts)], "\\")
         return tuple(cells[column.name] for column in columns)
-    return Table(columns, [row() for _ in range(rows)])
+    return with_shape(rng, columns, [row() for _ in range(rows)])
 
 
 # The levels of the language, and those that the operands of each node have at least.

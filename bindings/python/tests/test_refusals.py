@@ -4,7 +4,7 @@ import re
 import unittest
 
 import numpy as np
-from yurkije import ArithmeticRefusal, ColumnError, Error, Expression, ExpressionError, evaluate
+from yurkije import ArithmeticRefusal, ColumnError, Error, Expression, ExpressionError, evaluate, mask, select
 from yurkije._library import STATUSES
 
 # The headers as they were installed, or as they stand beside this package.
@@ -30,6 +30,59 @@ class Refusals(unittest.TestCase):
         self.refused(ExpressionError, lambda: Expression("a", {"a": "int"}), number=113, name="UnknownType", column="a")
         self.refused(ExpressionError, lambda: Expression.of_lines("col a i64\nget b\n"), line=2)
 
+    def test_a_text_that_is_wrong_is_told_before_any_column(self):
+        floats, twice = np.array([1.5]), np.zeros((1, 2))
+        for columns in ({"a": [1], "f": floats}, {"a": floats, "f": floats}, {"f": twice, "a": [object()]}, {"f": [], "a": [1]}):
+            for ask in (evaluate, select, mask):
+                self.refused(ExpressionError, lambda: ask("a == 1", columns), number=112, byte=3)
+                self.refused(ExpressionError, lambda: ask("f > 1 and a == 1", columns), number=112, byte=13)
+                self.refused(ExpressionError, lambda: ask("a + 1 > 2 and b = 1", columns), number=11, byte=14)
+                self.refused(ExpressionError, lambda: ask("a is null or null = null", columns), number=115)
+                self.refused(ExpressionError, lambda: ask("a is null or 300::u8 = 1", columns), number=114)
+                self.refused(ExpressionError, lambda: ask("a is null or 3::float = 1", columns), number=113)
+        # where the text may be right, the column is told
+        self.refused(ColumnError, lambda: select("a + 1 > 2 and f = 'x'", {"f": floats, "a": floats}), number=140, column="f")
+        self.refused(ColumnError, lambda: select("a = 1", {"f": floats, "a": [1.5]}), number=140, column="a")
+        self.refused(ExpressionError, lambda: Expression("a == 1", {"a": "int", "f": "float"}), number=112)
+        self.refused(ExpressionError, lambda: Expression("a = 1", {"a": "int", "f": "float"}), number=113, column="a")
+        # a near name is one of all columns, whatever their types
+        error = self.refused(ExpressionError, lambda: select("prcie > 1", {"price": floats}), number=11)
+        self.assertIn('is "price" meant?', error.message)
+        self.refused(ExpressionError, lambda: select("a + 1 > 'x'", {"a": [1], "f": floats}), number=3)
+
+    def test_answers_that_are_no_truth_values_take_no_rows(self):
+        made = Expression("a + 1, a > 1", {"a": "i64?"})
+        batch = evaluate("a", {"a": [1, None]})
+        for call in (lambda: select("a + 1", {"a": [1]}), lambda: mask("a + 1", {"a": np.arange(5)}), lambda: made.mask({"a": [1]}), lambda: made.select(batch)):
+            error = self.refused(Error, call, number=103, name="OtherKind")
+            self.assertRegex(error.message, r'^answer 0, "a \+ 1", is i64\??, and rows are taken where a bool is true$')
+        for number in (2, -1):
+            error = self.refused(Error, lambda: made.select({"a": [1]}, number), number=101, name="NoSuchNumber")
+            self.assertIn(f"no answer {number}", error.message)
+
+    def test_a_mismatch_names_both_types(self):
+        wide = Expression("a > 1", {"a": "i64", "f": "i8"})
+        cases = {
+            "i32": np.array([1], np.int32), "bool": [True], "utf8": ["x"], "u8": np.array([1], np.uint8), "float64": np.array([1.5]), "float": [1.5],
+            "object": [object()], "binary": np.array([b"x"]), "ndarray": [np.zeros(1)],
+        }  # fmt: skip
+        for found, values in cases.items():
+            error = self.refused(ColumnError, lambda: wide.mask({"a": values}), column="a")
+            self.assertRegex(error.message, rf'^column "a".*\b{found}\b' if found != "ndarray" else "ndarray")
+            self.assertIn("i64", error.message)
+        self.refused(ColumnError, lambda: wide.mask({"a": np.array([1], np.int32)}), number=11, name="ScopeMismatch")
+        self.refused(ColumnError, lambda: wide.mask({"a": [1, 2, "x"]}), number=140, row=2)
+
+    def test_numbers_that_a_type_does_not_hold(self):
+        for kind, wrong in (("u8", 256), ("u8", -1), ("i8", -129), ("u32", 2**32), ("u64", -1), ("u64", 2**64), ("i64", 2**63), ("i32", np.int64(2**40)), ("i64", np.uint64(2**63))):
+            made = Expression("x", {"x": kind + "?"})
+            error = self.refused(ColumnError, lambda: made.run({"x": [1, None, wrong]}), number=140, column="x", row=2)
+            self.assertIn(f"{wrong} is no {kind}", error.message)
+
+    def test_columns_that_are_no_mapping(self):
+        for columns in (np.arange(3), [1, 2], 5):
+            self.assertRaisesRegex(TypeError, "columns are a mapping", lambda: select("a > 1", columns))
+
     def test_the_first_row_that_faults(self):
         a = np.arange(30000)
         self.refused(ArithmeticRefusal, lambda: evaluate("a + 1, 7 / (a - 20000) as share", {"a": a}), number=7, name="Arithmetic", row=20000, answer=1)
@@ -47,12 +100,13 @@ class Refusals(unittest.TestCase):
     def test_types_that_are_not_taken_are_named(self):
         cases = {
             "float64": np.array([1.5]), "datetime64": np.array(["2026-11-27"], "datetime64[D]"), "float": [1.5], "complex128": np.array([1j]),
-            "2 dimensions": np.zeros((1, 1), np.int64), "no type is said": [None], "str": "text", "'x' is no i64": [1, "x"], "True is no i64": [1, True],
-            "9223372036854775808 is no i64": [2**63],
+            "2 dimensions": np.zeros((1, 1), np.int64), "every row is null, and no type is said": [None], "str": "text", "'x' is no i64, but utf8": [1, "x"],
+            "True is no i64, but bool": [1, True], "9223372036854775808 is no i64": [2**63], "there is no row, and no type is said": [], "1.5 is no i64, but float": [1, 1.5],
+            "timedelta64 is not taken": [np.timedelta64(5)], "no i64, but timedelta64": [1, np.timedelta64(5)], "Int64DType is not taken|dtype": np.dtype("i8"),
         }  # fmt: skip
         for words, values in cases.items():
             error = self.refused(ColumnError, lambda: evaluate("x", {"x": values}), number=140, name="UntakenFormat", column="x")
-            self.assertIn(words, error.message)
+            self.assertRegex(error.message, words)
 
     def test_a_text_with_a_lone_surrogate_is_no_utf8(self):
         with self.assertRaises(UnicodeEncodeError):

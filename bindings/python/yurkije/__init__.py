@@ -6,13 +6,15 @@
 masked_array(data=[21, --], mask=[False,  True], fill_value=999999)
 >>> yurkije.select("price > 10 and name like 'b%'", goods)
 array([1])
+>>> yurkije.mask("price > 10 and name like 'b%'", goods)
+array([False,  True])
 
 Expression is a text that is read once and run over many batches. SQL's three-valued logic, checked arithmetic, BETWEEN and
 LIKE are as docs/EXPRESSIONS.md says. A refusal is an exception with its number, name, column and row.
 """
 from ._answers import Answer, Answers
 from ._errors import ArithmeticRefusal, ColumnError, Error, ExpressionError, OutOfMemory
-from ._expression import Expression, Stream, evaluate, select
+from ._expression import Expression, Stream, evaluate, mask, select
 from ._library import version
 
 __version__ = version().split()[-1]
@@ -27,6 +29,7 @@ __all__ = [
     "OutOfMemory",
     "Stream",
     "evaluate",
+    "mask",
     "select",
     "version",
 ]

@@ -2,8 +2,9 @@
 from __future__ import annotations
 
 import ctypes as c
+import importlib
 from collections.abc import Iterator, Mapping
-from typing import Any, NamedTuple, Union
+from typing import TYPE_CHECKING, Any, NamedTuple, NoReturn, Union
 
 import numpy as np
 
@@ -60,13 +61,40 @@ def _texts(offsets: Any, data: bytes, is_text: bool, nulls: Any) -> Any:
     return made
 
 
-class Answers(Mapping[str, Any]):
+def _no_change(*_: Any, **__: Any) -> NoReturn:
+    raise TypeError("answers are not changed: dict(answers) is yours to change")
+
+
+if TYPE_CHECKING:
+    _Columns = Mapping[str, Any]
+else:
+
+    class _Columns(Mapping, dict):
+        """A mapping that is read alone, and passes for a dict: pandas makes frames of these by their names, and of no others.
+        The dict within stays empty, so whatever would read or change it goes by the names and columns."""
+
+        __setitem__ = __delitem__ = __ior__ = clear = pop = popitem = setdefault = update = _no_change
+
+        def copy(self):
+            return dict(self.items())
+
+        def __or__(self, other):
+            return self.copy() | other
+
+        def __ror__(self, other):
+            return other | self.copy()
+
+
+class Answers(_Columns):
     """What an expression answers over a batch: columns by their names, in the order in which they were asked for.
 
     `answers["worth"]` is a numpy array: of bool or a whole-number type, a masked one where the answer may be null; of
     objects for texts and byte strings, with None where one is null. Where two answers have one name the first has it;
     `column(1)` takes them by number. An object with `__arrow_c_array__`: other libraries take the answers as one struct
     array, over the same memory.
+
+    `pandas.DataFrame(answers)` has the answers, as pandas reads masked arrays: whole numbers beside a null become floats
+    there, and past 2**53 round. `to_pandas()` keeps the types.
     """
 
     def __init__(self, answers: tuple[Answer, ...], held: Held, schema: Any) -> None:
@@ -113,6 +141,23 @@ class Answers(Mapping[str, Any]):
         if self.answers[number].type.endswith("?"):
             return np.ma.MaskedArray(values, np.ma.nomask if nulls is None else nulls)
         return values
+
+    def to_pandas(self) -> Any:
+        """Returns the answers as a frame of pandas, each under its name: whole numbers and truth values that may be null are
+        of pandas' types with null, as Int64 and boolean, and texts are objects with None."""
+        pandas = importlib.import_module("pandas")
+        columns = {number: self._for_pandas(pandas, self.column(number)) for number in range(len(self.answers))}
+        frame = pandas.DataFrame(columns, index=range(self.rows))
+        frame.columns = [answer.name for answer in self.answers]
+        return frame
+
+    @staticmethod
+    def _for_pandas(pandas: Any, values: Any) -> Any:
+        """Returns a column as an array that pandas takes as it is."""
+        if not isinstance(values, np.ma.MaskedArray):
+            return values
+        made = pandas.arrays.BooleanArray if values.dtype == np.bool_ else pandas.arrays.IntegerArray
+        return made(values.data.copy(), np.ma.getmaskarray(values).copy())
 
     def __arrow_c_array__(self, requested_schema: object = None) -> tuple[object, object]:
         """Returns the answers as the capsules of a struct array; `requested_schema` is passed over, as Arrow allows."""

@@ -14,7 +14,7 @@ from . import _capsules as capsules
 from ._errors import ColumnError, ExpressionError, Told
 from ._library import KINDS, LARGE, NAMES, Column, Field, Slice, lib
 
-UNTAKEN, UNKNOWN_TYPE = 140, 113
+SCOPE_MISMATCH, NAME_TWICE, UNKNOWN_TYPE, UNTAKEN = 11, 111, 113, 140
 # The types of whole numbers by numpy's.
 INTEGERS: dict[Any, str] = {np.dtype(f"{kind}{size}"): f"{kind}{8 * size}" for kind in "iu" for size in (1, 2, 4, 8)}
 INTEGER_TYPES: dict[str, Any] = {name: dtype for dtype, name in INTEGERS.items()}
@@ -48,9 +48,14 @@ class Borrowed:
             self.lend("validity", np.packbits(~nulls, bitorder="little"))
 
 
-def refuse(name: str, words: str) -> ColumnError:
-    """Returns the refusal of a column of a type that is not taken."""
-    return ColumnError(UNTAKEN, f'column "{name}": {words}', name)
+def refuse(name: str, words: str, row: Optional[int] = None) -> ColumnError:
+    """Returns the refusal of a column, or of a row in it, of a type that is not taken."""
+    return ColumnError(UNTAKEN, f'column "{name}": {words}', name, row)
+
+
+def untaken(name: str, words: str, wanted: Optional[str]) -> ColumnError:
+    """Returns the refusal of a column of a type that is not taken, which names the type that the expression has for it."""
+    return refuse(name, f"{words} is not taken" + (f", and the expression has {wanted}" if wanted else ""))
 
 
 def _of_bools(values: Any, nulls: Optional[Any]) -> Borrowed:
@@ -107,59 +112,97 @@ def _of_texts(values: list[Optional[str]], has_null: bool) -> Borrowed:
     return _of_bytes([None if value is None else value.encode() for value in values], has_null, "utf8")
 
 
+# The types of single values by their classes, in the order in which they are asked; of numpy's whole numbers INTEGERS has them.
+CLASSES: tuple[tuple[Any, str], ...] = ((bool, "bool"), (np.bool_, "bool"), (int, "i64"), (str, "utf8"), (bytes, "binary"))
+
+
+def _type_of(cls: type) -> Optional[str]:
+    """Returns the type of the values of a class, or None where it is not taken."""
+    if issubclass(cls, np.integer):
+        return INTEGERS.get(np.dtype(cls))
+    return next((name for base, name in CLASSES if issubclass(cls, base)), None)
+
+
+def _is_of(cls: type, kind: str) -> bool:
+    """Whether values of a class may be of a type: whole numbers of each class may be of each integer type."""
+    found = _type_of(cls)
+    return found == kind or (kind in INTEGER_TYPES and found in INTEGER_TYPES)
+
+
+def _is_pandas_null(cls: type) -> bool:
+    """Whether a class is that of `pandas.NA`."""
+    return cls.__name__ == "NAType" and cls.__module__.startswith("pandas.")
+
+
+def _with_none(values: list[Any]) -> tuple[list[Any], set[type]]:
+    """Returns values with None in the place of NaN and of `pandas.NA`, and their classes."""
+    classes = set(map(type, values))
+    floats = {cls for cls in classes if issubclass(cls, (float, np.floating))}
+    nulls = {cls for cls in classes if _is_pandas_null(cls)}
+    if floats or nulls:
+        values = [None if type(it) in nulls or (type(it) in floats and it != it) else it for it in values]
+        classes = set(map(type, values))
+    return values, classes
+
+
 def _of_objects(name: str, values: list[Any], wanted: Optional[str]) -> Borrowed:
-    """A list of one type and None, of which the first value that is not None tells the type where none is wanted."""
+    """A list of one type and of nulls: None, NaN and `pandas.NA`. Where no type is wanted, the first value that is not null
+    has it."""
     if wanted in (None, "utf8") and values and type(values[0]) is str:
         # joining tells sooner than a look at each whether all are texts
         with suppress(TypeError):
             return _of_texts(values, False)
-    classes = set(map(type, values))
+    held, classes = _with_none(values)
     has_null = type(None) in classes
     classes.discard(type(None))
-    kind = wanted or (TYPES.get(min(classes, key=_place_in(values))) if classes else None)
-    if kind is None:
-        first = min(classes, key=_place_in(values)).__name__ if classes else ""
-        raise refuse(name, f"{first} is not taken" if classes else "every row is null, and no type is said")
-    allowed = CLASSES.get(kind, (int, np.integer))
-    if not all(issubclass(it, allowed) and not (it is bool and kind != "bool") for it in classes):
-        raise refuse(name, f"{_other_than(values, allowed, kind)!r} is no {kind}")
+    kind = wanted or _first_type(name, held)
+    if not all(_is_of(cls, kind) for cls in classes):
+        row = next(row for row, value in enumerate(held) if value is not None and not _is_of(type(value), kind))
+        raise refuse(name, f"{held[row]!r} is no {kind}, but {_words_of(type(held[row]))}", row)
     if kind == "utf8":
-        return _of_texts(values, has_null)
+        return _of_texts(held, has_null)
     if kind == "binary":
-        return _of_bytes(values, has_null, "binary")
-    return _of_numbers(name, [value or 0 for value in values] if has_null else values, _nulls_of(values) if has_null else None, kind)
-
-
-# The types of Python by their first value, and the classes that a type takes.
-TYPES: dict[Any, str] = {bool: "bool", int: "i64", str: "utf8", bytes: "binary"}
-CLASSES: dict[str, Any] = {"bool": (bool, np.bool_), "utf8": str, "binary": bytes}
-
-
-def _place_in(values: list[Any]) -> Any:
-    """Returns what tells where a class comes first."""
-    return lambda cls: next(place for place, value in enumerate(values) if type(value) is cls)
-
-
-def _other_than(values: list[Any], allowed: Any, kind: str) -> Any:
-    """Returns the first value that is of no such class."""
-    return next(v for v in values if v is not None and (not isinstance(v, allowed) or (type(v) is bool and kind != "bool")))
-
-
-def _of_numbers(name: str, held: list[Any], nulls: Optional[Any], kind: str) -> Borrowed:
-    """Truth values, or whole numbers, which have to be of their type."""
+        return _of_bytes(held, has_null, "binary")
+    nulls = _nulls_of(held) if has_null else None
     if kind == "bool":
-        return _of_bools(np.array(held, np.bool_), nulls)
-    try:
-        return _of_integers(np.array(held, INTEGER_TYPES[kind]), nulls, kind)
-    except OverflowError:
-        ends = np.iinfo(INTEGER_TYPES[kind])
-        raise refuse(name, f"{next(value for value in held if not ends.min <= value <= ends.max)} is no {kind}") from None
+        return _of_bools(np.array([value or 0 for value in held] if has_null else held, np.bool_), nulls)
+    if any(issubclass(cls, np.integer) for cls in classes):
+        # numpy makes one of its own numbers another without a look at whether it fits
+        held = [value if value is None else int(value) for value in held]
+    return _of_numbers(name, held, nulls, kind)
+
+
+def _words_of(cls: type) -> str:
+    """Returns the type of a class, or its name where it is not taken."""
+    return _type_of(cls) or cls.__name__
+
+
+def _first_type(name: str, values: list[Any]) -> str:
+    """Returns the type of the first value that is not null."""
+    first = next((value for value in values if value is not None), None)
+    if first is None:
+        words = "every row is null" if values else "there is no row"
+        raise refuse(name, f'{words}, and no type is said; say it, as Expression(text, {{"{name}": "i64?"}}), or hand over a numpy array')
+    found = _type_of(type(first))
+    if found is None:
+        raise refuse(name, f"{type(first).__name__} is not taken")
+    return found
+
+
+def _of_numbers(name: str, values: list[Any], nulls: Optional[Any], kind: str) -> Borrowed:
+    """Whole numbers, each of which has to be one of its type."""
+    held = values if nulls is None else [value or 0 for value in values]
+    ends = np.iinfo(INTEGER_TYPES[kind])
+    if held and not ends.min <= min(held) <= max(held) <= ends.max:
+        row = next(row for row, value in enumerate(held) if not ends.min <= value <= ends.max)
+        raise refuse(name, f"{held[row]} is no {kind}", row)
+    return _of_integers(np.array(held, INTEGER_TYPES[kind]), nulls, kind)
 
 
 def _of_array(name: str, array: Any, wanted: Optional[str]) -> Borrowed:
     """A numpy array, with a mask or none."""
     if array.ndim != 1:
-        raise refuse(name, f"an array of {array.ndim} dimensions is not taken")
+        raise untaken(name, f"an array of {array.ndim} dimensions", wanted)
     nulls = np.ma.getmaskarray(array) if isinstance(array, np.ma.MaskedArray) else None
     values = np.ma.getdata(array) if nulls is not None else array
     if values.dtype == np.bool_:
@@ -174,7 +217,7 @@ def _of_array(name: str, array: Any, wanted: Optional[str]) -> Borrowed:
         column = _of_objects(name, held, wanted)
         column.nullable = column.nullable or nulls is not None
         return column
-    raise refuse(name, f"numpy's {values.dtype} is not taken")
+    raise untaken(name, f"numpy's {values.dtype}", wanted)
 
 
 def _of_series(name: str, series: Any, wanted: Optional[str]) -> Borrowed:
@@ -187,7 +230,7 @@ def _of_series(name: str, series: Any, wanted: Optional[str]) -> Borrowed:
         values = series.to_numpy(dtype=numbers, na_value=0) if nulls.any() else series.to_numpy(dtype=numbers)
         return _of_array(name, np.ma.MaskedArray(values, nulls), wanted)
     if series.dtype != object and str(series.dtype) not in ("string", "str", "category"):
-        raise refuse(name, f"pandas' {series.dtype} is not taken")
+        raise untaken(name, f"pandas' {series.dtype}", wanted)
     held = series.to_numpy(dtype=object).tolist()
     if nulls.any():
         held = [None if null else value for value, null in zip(held, nulls.tolist())]
@@ -217,17 +260,42 @@ def _of_arrow(name: str, array: Any) -> Borrowed:
 def borrow(name: str, values: Any, wanted: Optional[str] = None) -> Borrowed:
     """Returns the column that values say: a numpy array, a pandas series, an array of Arrow, or a sequence.
 
-    `wanted` is the type that a sequence or an array of objects is read as, where one is said.
+    `wanted` is the type that the expression has for the column, where one is said: a sequence or an array of objects is read
+    as it, and columns of another type are refused.
     """
+    column = _borrowed(name, values, wanted)
+    if wanted not in (None, column.type):
+        raise ColumnError(SCOPE_MISMATCH, f'column "{name}" is {column.type}, and the expression has {wanted}', name)
+    return column
+
+
+def _borrowed(name: str, values: Any, wanted: Optional[str]) -> Borrowed:
     if isinstance(values, np.ndarray):
         return _of_array(name, values, wanted)
-    if hasattr(values, "isna") and hasattr(values, "to_numpy"):
+    if hasattr(values, "isna") and hasattr(values, "to_numpy") and getattr(values, "ndim", 1) == 1:
         return _of_series(name, values, wanted)
     if hasattr(values, "__arrow_c_array__"):
         return _of_arrow(name, values)
     if isinstance(values, Sequence) and not isinstance(values, (str, bytes)):
         return _of_objects(name, list(values), wanted)
-    raise refuse(name, f"{type(values).__name__} is not taken")
+    raise untaken(name, type(values).__name__, wanted)
+
+
+def name_of(label: Any) -> str:
+    """Returns the name by which a text calls the column of a label: as it is printed, where it is no text, as the 0 of a frame."""
+    return label if isinstance(label, str) else str(label)
+
+
+def column_of(columns: Any, name: str) -> Any:
+    """Returns the column of a name. The label that is this very text comes before others that are printed so."""
+    labels = [name] if name in columns.keys() else [label for label in columns.keys() if name_of(label) == name]
+    if not labels:
+        raise KeyError(name)
+    column = columns[labels[0]]
+    # of a frame in which two columns have one label, that label has a frame
+    if len(labels) > 1 or (getattr(columns, "ndim", 1) == 2 and getattr(column, "ndim", 1) == 2):
+        raise ExpressionError(NAME_TWICE, f'more than one column is named "{name}"', name)
+    return column
 
 
 def type_of(column: Borrowed) -> str:
@@ -235,17 +303,33 @@ def type_of(column: Borrowed) -> str:
     return column.type + "?" * column.nullable
 
 
+def type_said(name: str, said: Any) -> str:
+    """Returns the type that is said of a column: by its name, as `i64?`, or by a type of numpy or pandas, as `np.dtype("i8")`."""
+    found = said if isinstance(said, str) else _type_of_dtype(said)
+    if found is None or found.removesuffix("?") not in KINDS:
+        told = f'"{said}"' if isinstance(said, str) else repr(said)
+        words = f'column "{name}": no type {told}; types are {", ".join(KINDS)}, each with ? where a row may be null'
+        raise ExpressionError(UNKNOWN_TYPE, words, name)
+    return found
+
+
+def _type_of_dtype(said: Any) -> Optional[str]:
+    """Returns the type that a dtype of numpy or pandas is, or a class of single values."""
+    if hasattr(said, "numpy_dtype"):
+        # of pandas, which has null
+        found = _type_of_dtype(said.numpy_dtype)
+        return found and found + "?"
+    cls = said.type if isinstance(said, np.dtype) else said
+    return _type_of(cls) if isinstance(cls, type) else None
+
+
 def fields_of(types: Sequence[tuple[str, str]]) -> tuple[Any, list[Any]]:
     """Returns the fields of names and types, as `i64?`, and what their addresses point into."""
     fields, keeps = (Field * max(len(types), 1))(), []
     for field, (name, type_name) in zip(fields, types):
-        plain = type_name[:-1] if type_name.endswith("?") else type_name
-        if plain not in KINDS:
-            words = f'column "{name}": no type "{type_name}"; types are {", ".join(KINDS)}, each with ? where a row may be null'
-            raise ExpressionError(UNKNOWN_TYPE, words, name)
         encoded = name.encode()
         room = c.create_string_buffer(encoded, len(encoded) + 1)
         keeps.append(room)
         field.name.at, field.name.length = c.addressof(room), len(encoded)
-        field.kind, field.nullable = KINDS[plain], type_name.endswith("?")
+        field.kind, field.nullable = KINDS[type_name.removesuffix("?")], type_name.endswith("?")
     return fields, keeps

@@ -4,20 +4,27 @@ from __future__ import annotations
 import ctypes as c
 import re
 import threading
-from collections.abc import Iterator, Mapping
+from collections.abc import Iterable, Iterator, Mapping
 from functools import cached_property
-from typing import Any, Optional, Union
+from typing import Any, Callable, Optional, TypeVar, Union
 
 import numpy as np
 
 from . import _capsules as capsules
 from ._answers import Answer, Answers, Held
-from ._columns import Borrowed, borrow, fields_of, type_of
+from ._columns import Borrowed, borrow, column_of, fields_of, name_of, type_of, type_said
 from ._errors import Error, ExpressionError, Told, error_of
 from ._library import NAMES, Column, Handle, Type, lib, text_of
 
-# A token of an expression that can name a column, or hide one: a text, a comment, a word, a name in quotes.
-TOKEN = re.compile(r"""'[^']*'|--[^\n]*|(\w+)|"((?:[^"]|"")*)\"""", re.A)
+# A token of an expression that can name a column, or hide one: a text, a comment, `::`, a word, a name in quotes.
+TOKEN = re.compile(r"""'[^']*'|(--[^\n]*)|(::)|(\w+)|"((?:[^"]|"")*)\"""", re.A)
+KEYWORDS = frozenset("and or not is null between like ilike escape true false cast as".split())
+
+# Types that stand for the unknown ones of columns that are not taken, to see whether a text is wrong whatever they are.
+STAND_INS = ("i64", "utf8", "bool")
+# What no column's type has a part in: the text names no column, is not UTF-8, is not written as expressions are, names no type,
+# has a null beside nothing, or an escape of two characters.
+OF_TEXT_ALONE = (11, 110, 112, 113, 115, 116)
 
 
 class _Owner:
@@ -61,9 +68,44 @@ class _Programs(threading.local):
     program: Optional[_Program] = None
 
 
-def words_of(text: str) -> set[str]:
-    """Returns each name that a text may read as a column."""
-    return {(found[1] or found[2] or "").replace('""', '"') for found in TOKEN.finditer(text)} - {""}
+_Made = TypeVar("_Made")
+
+
+def _each(text: str, columns: Any, make: Callable[[str], _Made]) -> tuple[dict[str, Optional[_Made]], Optional[Error]]:
+    """Returns what is made of each column that a text names, or None where it is refused, and the first such refusal."""
+    named = names_in(text)
+    made: dict[str, Optional[_Made]] = {}
+    refused: Optional[Error] = None
+    for name in _names_of(columns):
+        if name in named:
+            try:
+                made[name] = make(name)
+            except Error as error:
+                made[name], refused = None, refused or error
+    return made, refused
+
+
+def names_in(text: str) -> set[str]:
+    """Returns each name that a text may read as a column: no keyword, no number, no type behind `::`, no name behind `as`."""
+    names, is_other = set(), False
+    for token in TOKEN.finditer(text):
+        comment, colons, word, quoted = token.groups()
+        if comment is not None:
+            continue
+        keyword = word.lower() if word else ""
+        if not is_other and quoted is not None:
+            names.add(quoted.replace('""', '"'))
+        elif not is_other and word and keyword not in KEYWORDS and not word[0].isdigit():
+            names.add(word)
+        is_other = colons is not None or keyword == "as"
+    return names
+
+
+def _names_of(columns: Any) -> list[str]:
+    """Returns the names of columns, each once."""
+    if not hasattr(columns, "keys"):
+        raise TypeError(f"columns are a mapping of columns by their names, a frame, or a batch of Arrow, and no {type(columns).__name__}")
+    return list(dict.fromkeys(map(name_of, columns.keys())))
 
 
 def _is_batch(source: Any) -> bool:
@@ -76,8 +118,8 @@ def _rows_of(columns: list[Borrowed], rows: Optional[int], source: Any) -> int:
         return rows
     if columns:
         return int(columns[0].raw.rows)
-    for name in source.keys():
-        return len(source[name])
+    for label in source.keys():
+        return len(source[label])
     raise ValueError("there is no column to tell how many rows there are: say rows")
 
 
@@ -94,24 +136,45 @@ class Expression:
     (Answer(name='worth', type='i64?'), Answer(name='price > 100', type='bool'))
 
     `columns` has the type of each column: bool, i8 to i64, u8 to u64, utf8 or binary, with a question mark where a row may
-    be null. Columns that no answer reads may be among them. docs/EXPRESSIONS.md has the language.
+    be null; or a type of numpy or pandas, as `np.dtype("i8")`. Columns that the text does not name may be among them, of any
+    type. docs/EXPRESSIONS.md has the language.
 
     Threads may share an Expression: the first call in each reads the text anew, since a handle of the library is of one
     thread. Calls of the library run beside Python's other threads.
     """
 
-    def __init__(self, text: str, columns: Mapping[str, str]) -> None:
-        named = words_of(text)
+    def __init__(self, text: str, columns: Mapping[str, Any]) -> None:
+        types, refused = _each(text, columns, lambda name: type_said(name, column_of(columns, name)))
+        self._read_text(text, types, _names_of(columns), refused)
+
+    def _read_text(self, text: str, types: Mapping[str, Optional[str]], names: Iterable[str], refused: Optional[Error]) -> None:
+        """Reads a text over the columns that it names, of their types, or None where a column is refused. Raises what is wrong
+        with the text, and else that refusal."""
         self.text: Optional[str] = text
-        self._encoded = text.encode()
-        self._read = [(name, columns[name]) for name in columns if name in named]
-        self._local = _Programs()
-        try:
-            self._begin()
-        except ExpressionError:
-            # again, over all columns: what is told then knows their names
-            self._read = list(columns.items())
-            self._begin()
+        self._encoded, self._local = text.encode(), _Programs()
+        if refused is None:
+            self._read = [(name, kind) for name, kind in types.items() if kind]
+            try:
+                self._begin()
+                return
+            except ExpressionError as error:
+                refused = error
+        raise self._wrong_text(types, names) or refused
+
+    def _wrong_text(self, types: Mapping[str, Optional[str]], names: Iterable[str]) -> Optional[Error]:
+        """Returns why the text is no expression, whatever type the columns have that have none here, or None. What is told
+        knows the names of all columns; those that the text does not name may be of any type."""
+        told: list[Error] = []
+        for stand_in in STAND_INS:
+            self._read = [(name, types.get(name) or stand_in) for name in names]
+            try:
+                self._begin()
+                return None
+            except ExpressionError as error:
+                if error.number in OF_TEXT_ALONE:
+                    return error
+                told.append(error)
+        return told[0] if len({(error.number, error.byte, error.message) for error in told}) == 1 else None
 
     @classmethod
     def of(cls, text: str, columns: Any) -> Expression:
@@ -123,16 +186,12 @@ class Expression:
 
     @classmethod
     def _over(cls, text: str, columns: Any) -> tuple[Expression, list[Borrowed]]:
-        """Returns the expression over the types that columns have, and the columns that it reads, borrowed."""
-        named = words_of(text)
-        names = [str(name) for name in columns.keys()]
-        borrowed = {name: borrow(name, columns[name]) for name in names if name in named}
-        try:
-            made = cls(text, {name: type_of(column) for name, column in borrowed.items()})
-        except ExpressionError:
-            borrowed = {name: borrowed[name] if name in borrowed else borrow(name, columns[name]) for name in names}
-            made = cls(text, {name: type_of(column) for name, column in borrowed.items()})
-        return made, [made._lent(borrowed[name], kind) for name, kind in made._read]
+        """Returns the expression over the types that columns have, and the columns that it reads, borrowed. No other is looked at."""
+        borrowed, refused = _each(text, columns, lambda name: borrow(name, column_of(columns, name)))
+        made = cls.__new__(cls)
+        types = {name: type_of(column) if column else None for name, column in borrowed.items()}
+        made._read_text(text, types, _names_of(columns), refused)
+        return made, [made._lent(column, type_of(column)) for column in borrowed.values() if column]
 
     @classmethod
     def of_lines(cls, lines: str) -> Expression:
@@ -200,7 +259,7 @@ class Expression:
         return column
 
     def _borrowed(self, source: Any) -> list[Borrowed]:
-        return [self._lent(borrow(name, source[name], kind.rstrip("?")), kind) for name, kind in self._read]
+        return [self._lent(borrow(name, column_of(source, name), kind.rstrip("?")), kind) for name, kind in self._read]
 
     def _schema_capsule(self) -> object:
         capsule, schema = capsules.new(b"arrow_schema")
@@ -212,7 +271,8 @@ class Expression:
         """Returns the answers over columns of one length: a mapping of them by name, a frame of pandas, or a batch with
         `__arrow_c_array__`.
 
-        A column is a numpy array (a masked one has nulls), a pandas series, a list with None for null, or an array of Arrow.
+        A column is a numpy array (a masked one has nulls), a pandas series, a list with None, NaN or pandas' NA for null, or an
+        array of Arrow.
         Raises what is refused, with the row in which an answer faults. `rows` is needed where there are no columns.
         """
         if not _is_batch(columns):
@@ -241,6 +301,7 @@ class Expression:
     def _select(self, borrowed: list[Borrowed], source: Any, answer: int, rows: Optional[int]) -> Any:
         told, count = Told(), _rows_of(borrowed, rows, source)
         numbers, selected = np.empty(count, np.int64), c.c_size_t()
+        self._check_truth(answer)
         status = lib.yk_arrow_select(
             self._handle(), answer, _raws(borrowed), len(borrowed), count, numbers.ctypes.data, c.byref(selected), told.raw
         )
@@ -249,20 +310,29 @@ class Expression:
         numbers.resize(selected.value, refcheck=False)
         return numbers
 
+    def _check_truth(self, answer: int) -> None:
+        """Raises where there is no such answer, or where it is no truth value."""
+        if not 0 <= answer < len(self.answers):
+            raise Error(101, f"there is no answer {answer}, of {len(self.answers)}, from 0 on")
+        name, kind = self.answers[answer]
+        if kind.rstrip("?") != "bool":
+            raise Error(103, f'answer {answer}, "{name}", is {kind}, and rows are taken where a bool is true')
+
     def _true(self, batch: Any, answer: int) -> Any:
         """Returns in which rows of a batch an answer is true."""
-        values = self.run(batch).column(answer)
-        if values.dtype != np.bool_:
-            raise Error(103, f"answer {answer} is no truth value")
-        return np.ma.filled(values, False)
+        self._check_truth(answer)
+        return np.ma.filled(self.run(batch).column(answer), False)
 
     def mask(self, columns: Any, answer: int = 0, rows: Optional[int] = None) -> Any:
         """Returns whether an answer, a truth value, is true in each row: an array of bool, False where it is null, as filters of
         numpy and pandas take it, `frame[wanted.mask(frame)]`."""
         if _is_batch(columns):
             return self._true(columns, answer)
-        told, borrowed = Told(), self._borrowed(columns)
-        count = _rows_of(borrowed, rows, columns)
+        return self._mask(self._borrowed(columns), columns, answer, rows)
+
+    def _mask(self, borrowed: list[Borrowed], source: Any, answer: int, rows: Optional[int]) -> Any:
+        told, count = Told(), _rows_of(borrowed, rows, source)
+        self._check_truth(answer)
         mask = np.empty(count, np.bool_)
         status = lib.yk_arrow_mask(self._handle(), answer, _raws(borrowed), len(borrowed), count, mask.ctypes.data, told.raw)
         told.check(status, self._names())
@@ -337,8 +407,22 @@ def evaluate(text: str, columns: Any, rows: Optional[int] = None) -> Union[Answe
 
 
 def select(text: str, columns: Any) -> Any:
-    """Returns the numbers of the rows in which a text is true, over columns whose types are taken as they are."""
+    """Returns the numbers of the rows in which a text is true, over columns whose types are taken as they are. Columns that it
+    does not name are not looked at."""
     if _is_batch(columns):
         return Expression.of(text, columns).select(columns)
     expression, borrowed = Expression._over(text, columns)
     return expression._select(borrowed, columns, 0, None)
+
+
+def mask(text: str, columns: Any) -> Any:
+    """Returns whether a text is true in each row, over columns whose types are taken as they are: an array of bool, False where
+    it is false or null, as `frame[yurkije.mask(text, frame)]` takes it.
+
+    >>> mask("a > 1", {"a": [1, None, 3]})
+    array([False, False,  True])
+    """
+    if _is_batch(columns):
+        return Expression.of(text, columns).mask(columns)
+    expression, borrowed = Expression._over(text, columns)
+    return expression._mask(borrowed, columns, 0, None)
