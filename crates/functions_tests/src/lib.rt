@@ -7,10 +7,6 @@ mod between;
 #[cfg(test)]
 mod binding;
 #[cfg(test)]
-mod bits;
-#[cfg(test)]
-mod bounds;
-#[cfg(test)]
 mod encoded;
 #[cfg(test)]
 mod function_values;
@@ -19,15 +15,7 @@ mod functions;
 #[cfg(test)]
 mod like;
 #[cfg(test)]
-mod like_rows;
-#[cfg(test)]
 mod literals;
-#[cfg(test)]
-mod nested;
-#[cfg(test)]
-mod null_tests;
-#[cfg(test)]
-mod numeric;
 #[cfg(test)]
 mod questions;
 #[cfg(test)]

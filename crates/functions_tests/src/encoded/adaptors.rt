@@ -93,11 +93,6 @@ fn combined(alloc: Global, array: Runs, op: Operator, other: Made, child_idx: us
     combine_beside(alloc, array, op, &*other, child_idx)
 }
 
-/// Whether nothing is answered.
-fn is_none(answer: Answer) -> VortexResult<bool> {
-    Ok(answer?.is_none())
-}
-
 /// Whether these rows of Bool are answered.
 fn has_rows(
     rt: HostRuntime,
@@ -142,21 +137,6 @@ fn a_kernel_is_asked_with_the_swapped_comparison(rt: HostRuntime) {
 }
 
 #[test]
-fn other_operators_and_children_are_not_answered(rt: HostRuntime) {
-    let alloc = rt.alloc();
-    let sum = compared(
-        alloc,
-        one_two_three(alloc),
-        Operator::Add,
-        twos(alloc, 3),
-        1,
-    );
-    sure(&rt, is_none(sum));
-    let third = compared(alloc, one_two_three(alloc), Operator::Lt, twos(alloc, 3), 2);
-    sure(&rt, is_none(third));
-}
-
-#[test]
 fn a_null_constant_and_no_rows_are_settled(rt: HostRuntime) {
     let alloc = rt.alloc();
     // neither is asked of the kernel, which answers beside other constants alone
@@ -186,14 +166,6 @@ fn constant_truth(alloc: Global, value: bool, nullability: Nullability) -> Made 
     )
 }
 
-/// A null of Bool in each of three rows.
-fn null_truths(alloc: Global) -> Made {
-    kept(
-        alloc,
-        Column::constant(alloc, Scalar::null(DType::Bool(NULLABLE)), 3),
-    )
-}
-
 #[test]
 fn a_constant_beside_and_is_settled(rt: HostRuntime) {
     let alloc = rt.alloc();
@@ -204,11 +176,4 @@ fn a_constant_beside_and_is_settled(rt: HostRuntime) {
     let other = constant_truth(alloc, true, NULLABLE);
     let decoded = combined(alloc, truths(alloc), Operator::And, other, 1);
     sure(&rt, has_rows(rt, decoded, NULLABLE, &[YES, NO, NO]));
-}
-
-#[test]
-fn a_null_constant_beside_and_is_asked_of_the_kernel(rt: HostRuntime) {
-    let alloc = rt.alloc();
-    let asked = combined(alloc, truths(alloc), Operator::And, null_truths(alloc), 0);
-    sure(&rt, has_rows(rt, asked, NULLABLE, &[NULL, NO, NO]));
 }

@@ -16,16 +16,6 @@ use vortex_kernels::{CompareOperator, Operator};
 type Answer = VortexResult<Option<Box<Column>>>;
 
 #[test]
-fn each_row_is_the_value_that_its_code_names(rt: HostRuntime) {
-    let alloc = rt.alloc();
-    let rows = rows_of(alloc, three_one_null_three(alloc));
-    sure(
-        &rt,
-        has_numbers(rt, rows, &[Some(3), Some(1), None, Some(3)]),
-    );
-}
-
-#[test]
 fn codes_are_below_the_count_of_values(rt: HostRuntime) {
     let alloc = rt.alloc();
     let empty = rows_of(alloc, dictionary(alloc, numbers::<u8>(alloc, &[]), &[]));

@@ -2,8 +2,8 @@
 
 use crate::encoded::questions::*;
 use crate::questions::{must, sure};
-use caller_functions::required::Required;
-use fixtures::{Ask, has_rows, integer, kept, numbers, texts};
+use caller_functions::must_be_true::MustBeTrue;
+use fixtures::{Ask, has_rows, integer, kept, numbers};
 use std::alloc::Global;
 use vortex_columns::*;
 use vortex_functions::*;
@@ -52,45 +52,6 @@ fn the_values_are_compared_and_the_codes_stay(rt: HostRuntime) {
     sure(&rt, stands_for(rt, greater(alloc, 1), &[NO, YES, NULL, NO]));
 }
 
-/// Not of what was made.
-fn turned(alloc: Global, answer: Pushed) -> Pushed {
-    let not = Not.bind::<NoCustom>(EmptyOptions);
-    pushed(alloc, made(answer), not, 0, none(alloc))
-}
-
-#[test]
-fn an_answer_is_pushed_down_again(rt: HostRuntime) {
-    let alloc = rt.alloc();
-    let again = turned(alloc, greater(alloc, 0));
-    sure(&rt, stands_for(rt, again, &[NO, YES, NULL, NO]));
-    let again = turned(alloc, greater(alloc, 0));
-    sure(&rt, has_codes(rt, made(again), &[2, 0, 1, 2]));
-}
-
-/// IsNull of the first dictionary.
-fn null_test(alloc: Global) -> Pushed {
-    let is_null = IsNull.bind::<NoCustom>(EmptyOptions);
-    pushed(alloc, three_one_null_three(alloc), is_null, 0, none(alloc))
-}
-
-/// Whether the first dictionary lies between 2 and 3, or at either.
-fn between(alloc: Global) -> Pushed {
-    let options = BetweenOptions {
-        lower_strict: StrictComparison::NonStrict,
-        upper_strict: StrictComparison::NonStrict,
-    };
-    let between = Between.bind::<NoCustom>(options);
-    let bounds = two(alloc, two_u8(), integer(PType::U8, 3));
-    pushed(alloc, three_one_null_three(alloc), between, 0, bounds)
-}
-
-#[test]
-fn functions_of_one_and_of_three_arguments(rt: HostRuntime) {
-    let alloc = rt.alloc();
-    sure(&rt, stands_for(rt, null_test(alloc), &[NO, NO, YES, NO]));
-    sure(&rt, stands_for(rt, between(alloc), &[YES, NO, NULL, YES]));
-}
-
 /// Gt of the first dictionary and others.
 fn greater_than(alloc: Global, others: Others) -> Pushed {
     let gt = Binary.bind::<NoCustom>(Operator::Gt);
@@ -115,16 +76,6 @@ fn eight_by(alloc: Global, values: &[i8], codes: &[u32]) -> Pushed {
 }
 
 #[test]
-fn a_fallible_function_over_values_that_are_not_all_used(rt: HostRuntime) {
-    let alloc = rt.alloc();
-    sure(&rt, is_none(eight_by(alloc, &[0, 4], &[1, 1])));
-    must(
-        &rt,
-        rt.is_refused(eight_by(alloc, &[0, 4], &[1, 0]), "Arithmetic.Div"),
-    );
-}
-
-#[test]
 fn a_fallible_function_over_values_that_are_all_used(rt: HostRuntime) {
     let alloc = rt.alloc();
     let quotients = values_of(alloc, made(eight_by(alloc, &[2, 4], &[1, 0, 1])));
@@ -135,47 +86,20 @@ fn a_fallible_function_over_values_that_are_all_used(rt: HostRuntime) {
     sure(&rt, codes);
 }
 
-/// LIKE of a dictionary of three texts and a pattern.
-fn like(alloc: Global, pattern: &str) -> Pushed {
-    let options = LikeOptions::default();
-    let words = texts(alloc, &["plum", "pear", "fig"], Validity::NonNullable);
-    let dictionary = dictionary(alloc, words, &[2, 1, 0, 1]);
-    let pattern = one(alloc, Scalar::try_from_str(alloc, pattern));
-    pushed(
-        alloc,
-        dictionary,
-        Like.bind::<NoCustom>(options),
-        0,
-        pattern,
-    )
-}
-
-#[test]
-fn like_over_the_values(rt: HostRuntime) {
-    let alloc = rt.alloc();
-    sure(&rt, stands_for(rt, like(alloc, "p%"), &[NO, YES, YES, YES]));
-    sure(&rt, stands_for(rt, like(alloc, "%r"), &[NO, YES, NO, YES]));
-}
-
-/// A caller's function over a dictionary of Bool, which faults at nulls.
-fn required(alloc: Global, values: &[Option<bool>], codes: &[u32]) -> Pushed {
-    let function = ScalarFnRef::custom(Required, EmptyOptions);
+/// A caller's function over a dictionary of Bool, which faults at false.
+fn must_be_true(alloc: Global, values: &[Option<bool>], codes: &[u32]) -> Pushed {
+    let function = ScalarFnRef::custom(MustBeTrue, EmptyOptions);
     let values = kept(alloc, Column::of_bools(alloc, values));
-    pushed(
-        alloc,
-        dictionary(alloc, values, codes),
-        function,
-        0,
-        none(alloc),
-    )
+    let dictionary = dictionary(alloc, values, codes);
+    pushed(alloc, dictionary, function, 0, none(alloc))
 }
 
 #[test]
 fn a_callers_fallible_function(rt: HostRuntime) {
     let alloc = rt.alloc();
-    let all = required(alloc, &[NO, YES], &[1, 0, 1]);
-    sure(&rt, stands_for(rt, all, &[YES, NO, YES]));
-    let null = required(alloc, &[NO, NULL], &[1, 0, 1]);
-    must(&rt, rt.is_refused(null, "Custom"));
-    sure(&rt, is_none(required(alloc, &[NO, NULL], &[0, 0])));
+    let all = must_be_true(alloc, &[NULL, YES], &[1, 0, 1]);
+    sure(&rt, stands_for(rt, all, &[YES, NULL, YES]));
+    let fault = must_be_true(alloc, &[YES, NO], &[1, 0, 1]);
+    must(&rt, rt.is_refused(fault, "Custom"));
+    sure(&rt, is_none(must_be_true(alloc, &[YES, NO], &[0, 0])));
 }
