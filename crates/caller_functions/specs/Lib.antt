@@ -1,12 +1,7 @@
-pub mod Blank
 pub mod First
 pub mod FirstRules
-pub mod Grow
-pub mod GrowRules
-pub mod Half
 pub mod LevelBytes
 pub mod LevelledRules
 pub mod MustBeTrue
-pub mod Required
 pub mod RunLength
 pub mod Words

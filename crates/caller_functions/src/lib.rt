@@ -1,13 +1,9 @@
-//! Callers' own: functions, with and without rules, options and faults, and a column in a form of
-//! its own, as tests ask of them.
+//! What callers bring, for tests: a function with options, one that faults, one with rules, and a
+//! column by its runs.
 #![tactic(auto)]
 
-pub mod blank;
 pub mod first;
-pub mod grow;
-pub mod half;
 pub mod levelled;
 pub mod must_be_true;
-pub mod required;
 pub mod run_length;
 mod runs;

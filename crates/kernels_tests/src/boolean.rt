@@ -1,57 +1,13 @@
 //! And, Or and Not by Kleene's tables, of each form in which a column of Bool lends its rows.
 
 use crate::questions::{
-    NO, NULL, NULLABLE, PLAIN, YES, combined, compared, constant_of, has_rows, negated, says,
+    NO, NULL, NULLABLE, PLAIN, YES, combined, compared, constant_of, has_rows, negated,
     says_or_null, sure,
 };
 use fixtures::{Ask, Made, bools, kept, nullable_bools};
 use std::alloc::Global;
 use vortex_columns::{BitBuffer, Column, DType, Nullability, Scalar, Validity, VortexResult};
 use vortex_kernels::{CompareOperator, Operator};
-
-const LEFT: [Option<bool>; 9] = [YES, YES, YES, NO, NO, NO, NULL, NULL, NULL];
-
-const RIGHT: [Option<bool>; 9] = [YES, NO, NULL, YES, NO, NULL, YES, NO, NULL];
-
-/// Each pair of Yes, No and null.
-fn table(alloc: Global, operator: Operator) -> Made {
-    combined(
-        alloc,
-        nullable_bools(alloc, &LEFT),
-        operator,
-        nullable_bools(alloc, &RIGHT),
-    )
-}
-
-#[test]
-fn follows_kleenes_tables(rt: HostRuntime) {
-    let alloc = rt.alloc();
-    let both = [YES, NO, NULL, NO, NO, NO, NULL, NO, NULL];
-    sure(&rt, says_or_null(rt, table(alloc, Operator::And), &both));
-    let either = [YES, YES, YES, YES, NO, NULL, YES, NULL, NULL];
-    sure(&rt, says_or_null(rt, table(alloc, Operator::Or), &either));
-    let not_both = [NO, YES, NULL, YES, YES, YES, NULL, YES, NULL];
-    sure(
-        &rt,
-        says_or_null(rt, negated(alloc, table(alloc, Operator::And)), &not_both),
-    );
-}
-
-/// Yes and No, beside a column of two rows.
-fn yes_and_no(alloc: Global, operator: Operator, right: Made) -> Made {
-    combined(alloc, bools(alloc, &[true, false]), operator, right)
-}
-
-#[test]
-fn is_nullable_if_a_side_is(rt: HostRuntime) {
-    let alloc = rt.alloc();
-    let both = yes_and_no(alloc, Operator::And, bools(alloc, &[true, true]));
-    sure(&rt, says(rt, both, &[true, false]));
-    let both = yes_and_no(alloc, Operator::And, bools(alloc, &[true, true]));
-    sure(&rt, says(rt, negated(alloc, both), &[false, true]));
-    let mixed = yes_and_no(alloc, Operator::Or, nullable_bools(alloc, &[NULL, NULL]));
-    sure(&rt, says_or_null(rt, mixed, &[YES, NULL]));
-}
 
 /// A form in which a column of Bool lends its rows.
 #[derive(Clone, Copy)]
@@ -131,14 +87,19 @@ fn both(left: Option<bool>, right: Option<bool>) -> Option<bool> {
     }
 }
 
-/// Not of a truth value.
-fn turned(value: Option<bool>) -> Option<bool> {
-    value.map(|b| !b)
+/// Whether Not of a form answers each row turned.
+fn nots(rt: HostRuntime, form: Form) -> bool {
+    let [a, b] = rows(form);
+    let turned = [a.map(|b| !b), b.map(|b| !b)];
+    let answer = negated(rt.alloc(), formed(rt.alloc(), form));
+    rt.yes(has_rows(rt, answer, nullability(form), &turned))
 }
 
-/// Or of two truth values.
-fn either(left: Option<bool>, right: Option<bool>) -> Option<bool> {
-    turned(both(turned(left), turned(right)))
+#[test]
+fn turns_each_form(rt: HostRuntime) {
+    for form in FORMS {
+        assert!(rt; nots(rt, form));
+    }
 }
 
 /// Whether And of two forms answers as Kleene's table does.
@@ -155,24 +116,10 @@ fn ands(rt: HostRuntime, left: Form, right: Form) -> VortexResult<bool> {
     has_rows(rt, answer, nullability, &[both(a, c), both(b, d)])
 }
 
-/// Whether Or of two forms answers as Kleene's table does.
-fn ors(rt: HostRuntime, left: Form, right: Form) -> VortexResult<bool> {
-    let alloc = rt.alloc();
-    let ([a, b], [c, d]) = (rows(left), rows(right));
-    let answer = combined(
-        alloc,
-        formed(alloc, left),
-        Operator::Or,
-        formed(alloc, right),
-    );
-    let nullability = nullability(left) | nullability(right);
-    has_rows(rt, answer, nullability, &[either(a, c), either(b, d)])
-}
-
-/// Whether a form answers beside each form as Kleene's tables do.
+/// Whether a form answers beside each form as Kleene's table does.
 fn answers_beside_each(rt: HostRuntime, left: Form) -> bool {
     for right in FORMS {
-        if !rt.yes(ands(rt, left, right)) || !rt.yes(ors(rt, left, right)) {
+        if !rt.yes(ands(rt, left, right)) {
             return false;
         }
     }
@@ -181,30 +128,9 @@ fn answers_beside_each(rt: HostRuntime, left: Form) -> bool {
 
 #[test]
 fn answers_each_pair_of_forms(rt: HostRuntime) {
-    assert!(rt; answers_beside_each(rt, Form::Plain));
-    assert!(rt; answers_beside_each(rt, Form::AllValid));
-    assert!(rt; answers_beside_each(rt, Form::Masked));
-    assert!(rt; answers_beside_each(rt, Form::AllInvalid));
-    assert!(rt; answers_beside_each(rt, Form::OneTruth));
-    assert!(rt; answers_beside_each(rt, Form::OneNull));
-}
-
-/// Whether Not of a form answers each row turned, in a column of the same nullability.
-fn nots(rt: HostRuntime, form: Form) -> VortexResult<bool> {
-    let alloc = rt.alloc();
-    let [a, b] = rows(form);
-    let answer = negated(alloc, formed(alloc, form));
-    has_rows(rt, answer, nullability(form), &[turned(a), turned(b)])
-}
-
-#[test]
-fn turns_each_form(rt: HostRuntime) {
-    sure(&rt, nots(rt, Form::Plain));
-    sure(&rt, nots(rt, Form::AllValid));
-    sure(&rt, nots(rt, Form::Masked));
-    sure(&rt, nots(rt, Form::AllInvalid));
-    sure(&rt, nots(rt, Form::OneTruth));
-    sure(&rt, nots(rt, Form::OneNull));
+    for left in FORMS {
+        assert!(rt; answers_beside_each(rt, left));
+    }
 }
 
 /// No and Yes, both valid.
@@ -223,13 +149,8 @@ fn lists_no_valid_rows_where_none_is_null(rt: HostRuntime) {
     let alloc = rt.alloc();
     let and = combined(alloc, all_valid(alloc), Operator::And, all_valid(alloc));
     sure(&rt, lists_no_valid_rows(and));
-    sure(&rt, lists_no_valid_rows(negated(alloc, all_valid(alloc))));
-    let equal = compared(
-        alloc,
-        all_valid(alloc),
-        CompareOperator::Eq,
-        all_valid(alloc),
-    );
+    let equal = CompareOperator::Eq;
+    let equal = compared(alloc, all_valid(alloc), equal, all_valid(alloc));
     sure(&rt, lists_no_valid_rows(equal));
 }
 
@@ -267,35 +188,20 @@ fn answers_beside(
 
 #[test]
 fn constants_beside_bits_that_begin_within_a_byte(rt: HostRuntime) {
-    let rows = [YES, NO, NULL];
-    sure(&rt, answers_beside(rt, Operator::And, YES, &rows));
-    sure(&rt, answers_beside(rt, Operator::And, NO, &[NO, NO, NO]));
-    sure(
-        &rt,
-        answers_beside(rt, Operator::And, NULL, &[NULL, NO, NULL]),
-    );
-    sure(&rt, answers_beside(rt, Operator::Or, YES, &[YES, YES, YES]));
-    sure(&rt, answers_beside(rt, Operator::Or, NO, &rows));
-    sure(
-        &rt,
-        answers_beside(rt, Operator::Or, NULL, &[YES, NULL, NULL]),
-    );
+    let wanted = [NULL, NO, NULL];
+    sure(&rt, answers_beside(rt, Operator::And, NULL, &wanted));
+    let wanted = [YES, NO, NULL];
+    sure(&rt, answers_beside(rt, Operator::Or, NO, &wanted));
 }
 
-/// Whether a constant beside bits answers a constant.
-fn decides(rt: HostRuntime, operator: Operator, truth: bool) -> VortexResult<bool> {
-    let alloc = rt.alloc();
-    let answer = combined(
-        alloc,
-        three_rows(alloc),
-        operator,
-        thrice(alloc, Some(truth)),
-    )?;
+/// Whether a constant that decides And answers a constant beside bits.
+fn decides(alloc: Global) -> VortexResult<bool> {
+    let no = thrice(alloc, NO);
+    let answer = combined(alloc, three_rows(alloc), Operator::And, no)?;
     Ok(answer.as_constant().is_some())
 }
 
 #[test]
 fn a_constant_that_decides_answers_a_constant(rt: HostRuntime) {
-    sure(&rt, decides(rt, Operator::And, false));
-    sure(&rt, decides(rt, Operator::Or, true));
+    sure(&rt, decides(rt.alloc()));
 }

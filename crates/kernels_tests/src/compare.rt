@@ -1,52 +1,11 @@
-//! Comparisons of truth values, numbers and texts, by rows.
+//! Comparisons that no script says: of columns of type Null, of other types and lengths, and of texts
+//! with zero bytes.
 
-use crate::questions::{
-    COMPARISONS, NO, NULL, YES, compared, constant_of, must, negated, nullable_texts, plain_texts,
-    says, says_or_null, sure,
-};
-use crate::said::{Comparison, each_compares, said};
-use fixtures::{Ask, Made, kept, nullable_bools, nullable_ints, rows_of, same};
+use crate::questions::{NULL, compared, constant_of, must, null_integer, says, says_or_null, sure};
+use fixtures::{Ask, Made, constant, kept, numbers, texts};
 use std::alloc::Global;
-use vortex_columns::{Column, ExecutionCtx, Scalar, VortexResult};
-use vortex_kernels::{CompareOperator, execute_compare};
-
-#[test]
-fn compares_truth_values(rt: HostRuntime) {
-    const CASES: &[Comparison] = &[
-        (
-            "bool: false false true true",
-            CompareOperator::Lt,
-            "bool: false true false true",
-            "bool: false true false false",
-        ),
-        (
-            "bool: false false true true",
-            CompareOperator::Gte,
-            "bool: false true false true",
-            "bool: true false true true",
-        ),
-    ];
-    assert!(rt; each_compares(rt, CASES));
-}
-
-#[test]
-fn compares_with_a_constant_on_either_side(rt: HostRuntime) {
-    const CASES: &[Comparison] = &[
-        (
-            "i64: -9223372036854775808 9223372036854775807",
-            CompareOperator::Gt,
-            "2 of i64: 0",
-            "bool: false true",
-        ),
-        (
-            "2 of i64: 0",
-            CompareOperator::Lt,
-            "i64: -9223372036854775808 9223372036854775807",
-            "bool: false true",
-        ),
-    ];
-    assert!(rt; each_compares(rt, CASES));
-}
+use vortex_columns::{Column, PType, Scalar, Validity};
+use vortex_kernels::CompareOperator;
 
 /// Two rows of type Null.
 fn null_column(alloc: Global) -> Made {
@@ -56,221 +15,46 @@ fn null_column(alloc: Global) -> Made {
 #[test]
 fn compares_columns_of_null(rt: HostRuntime) {
     let alloc = rt.alloc();
-    let equal = compared(
-        alloc,
-        null_column(alloc),
-        CompareOperator::Eq,
-        null_column(alloc),
-    );
+    let (left, right) = (null_column(alloc), null_column(alloc));
+    let equal = compared(alloc, left, CompareOperator::Eq, right);
     sure(&rt, says_or_null(rt, equal, &[NULL, NULL]));
+}
+
+/// Non-nullable texts.
+fn words(alloc: Global, words: &[&str]) -> Made {
+    texts(alloc, words, Validity::NonNullable)
 }
 
 #[test]
 fn is_settled_before_the_types(rt: HostRuntime) {
-    const CASES: &[Comparison] = &[
-        ("i32:", CompareOperator::Eq, "utf8:", "bool:"),
-        (
-            "2 of i32?: _",
-            CompareOperator::Eq,
-            "utf8: a b",
-            "bool?: _ _",
-        ),
-        (
-            "utf8: a b",
-            CompareOperator::Lt,
-            "2 of i32?: _",
-            "bool?: _ _",
-        ),
-    ];
-    assert!(rt; each_compares(rt, CASES));
+    let alloc = rt.alloc();
+    let (left, right) = (numbers::<i32>(alloc, &[]), words(alloc, &[]));
+    let equal = compared(alloc, left, CompareOperator::Eq, right);
+    sure(&rt, says(rt, equal, &[]));
+    let nulls = constant_of(alloc, null_integer(), 2);
+    let less = compared(alloc, words(alloc, &["a", "b"]), CompareOperator::Lt, nulls);
+    sure(&rt, says_or_null(rt, less, &[NULL, NULL]));
 }
 
 #[test]
-fn refuses_other_types(rt: HostRuntime) {
-    const CASES: &[Comparison] = &[
-        (
-            "2 of i32: 1",
-            CompareOperator::Eq,
-            "2 of utf8: a",
-            "TypeMismatch.Scalars",
-        ),
-        (
-            "i32: 1 2",
-            CompareOperator::Eq,
-            "utf8: a b",
-            "TypeMismatch.Compare",
-        ),
-        (
-            "i32: 1 2",
-            CompareOperator::Eq,
-            "2 of utf8: a",
-            "TypeMismatch.Compare",
-        ),
-        (
-            "2 of i32: 1",
-            CompareOperator::Eq,
-            "utf8: a b",
-            "TypeMismatch.Compare",
-        ),
-    ];
-    assert!(rt; each_compares(rt, CASES));
+fn refuses_other_types_and_lengths(rt: HostRuntime) {
+    let alloc = rt.alloc();
+    let ones = constant(alloc, PType::I32, 1, 2);
+    let text = constant_of(alloc, Scalar::try_from_str(alloc, "a"), 2);
+    let constants = compared(alloc, ones, CompareOperator::Eq, text);
+    must(&rt, rt.is_refused(constants, "TypeMismatch.Scalars"));
+    let (left, right) = (numbers(alloc, &[1i32, 2]), words(alloc, &["a", "b"]));
+    let columns = compared(alloc, left, CompareOperator::Eq, right);
+    must(&rt, rt.is_refused(columns, "TypeMismatch.Compare"));
+    let (left, right) = (numbers(alloc, &[1i32, 2]), words(alloc, &["a", "b", "c"]));
+    let uneven = compared(alloc, left, CompareOperator::Eq, right);
+    must(&rt, rt.is_uneven(uneven, (2, 3)));
 }
 
 #[test]
-fn refuses_two_lengths(rt: HostRuntime) {
+fn a_zero_byte_is_no_padding(rt: HostRuntime) {
     let alloc = rt.alloc();
-    let two = said(alloc, "i32: 1 2");
-    let three = said(alloc, "utf8: a b c");
-    must(
-        &rt,
-        rt.is_uneven(compared(alloc, two, CompareOperator::Eq, three), (2, 3)),
-    );
-}
-
-#[test]
-fn compares_texts(rt: HostRuntime) {
-    const CASES: &[Comparison] = &[
-        (
-            "utf8: a a",
-            CompareOperator::Lt,
-            "utf8: a\0 a\0",
-            "bool: true true",
-        ),
-        (
-            "utf8?: a _",
-            CompareOperator::Lt,
-            "utf8: a\0 a\0",
-            "bool?: true _",
-        ),
-        (
-            "utf8: a\0 a\0",
-            CompareOperator::Lt,
-            "utf8?: a _",
-            "bool?: false _",
-        ),
-    ];
-    assert!(rt; each_compares(rt, CASES));
-}
-
-/// Whether a text is less than a constant one.
-fn is_below(rt: HostRuntime, text: &str, constant: &str) -> bool {
-    let alloc = rt.alloc();
-    let right = constant_of(alloc, Scalar::try_from_str(alloc, constant), 1);
-    let less = compared(
-        alloc,
-        plain_texts(alloc, &[text]),
-        CompareOperator::Lt,
-        right,
-    );
-    rt.yes(says(rt, less, &[true]))
-}
-
-#[test]
-fn compares_texts_with_a_constant(rt: HostRuntime) {
-    const CASES: &[(&str, &str)] = &[
-        ("", "\0"),
-        ("\0\0\0\0\0\0\0\0\0\0\0\0", "\0\0\0\0\0\0\0\0\0\0\0\0\0"),
-        ("abcdefghijkl", "abcdefghijklm"),
-        ("hello", "hello, world!"),
-        ("hello, world!", "hello, worlds"),
-    ];
-    for (text, constant) in CASES {
-        assert!(rt; is_below(rt, text, constant));
-    }
-}
-
-/// The comparison of 1 and 2, of 2 and 1, of 2 and 2, and of pairs with nulls.
-fn rows_by(operator: CompareOperator) -> [Option<bool>; 6] {
-    match operator {
-        CompareOperator::Eq => [NO, NO, YES, NULL, NULL, NULL],
-        CompareOperator::NotEq => [YES, YES, NO, NULL, NULL, NULL],
-        CompareOperator::Gt => [NO, YES, NO, NULL, NULL, NULL],
-        CompareOperator::Gte => [NO, YES, YES, NULL, NULL, NULL],
-        CompareOperator::Lt => [YES, NO, NO, NULL, NULL, NULL],
-        CompareOperator::Lte => [YES, NO, YES, NULL, NULL, NULL],
-    }
-}
-
-/// The comparison of two columns that are borrowed.
-fn lent_compared(alloc: Global, left: &Column, operator: CompareOperator, right: &Column) -> Made {
-    kept(
-        alloc,
-        execute_compare(left, right, operator, &mut ExecutionCtx::new(alloc)),
-    )
-}
-
-/// Whether two answers have the same rows.
-fn have_same_rows(rt: HostRuntime, left: Made, right: Made) -> VortexResult<bool> {
-    let alloc = rt.alloc();
-    let (left, right) = (rows_of(alloc, &*left?)?, rows_of(alloc, &*right?)?);
-    Ok(same(rt, left.as_slice(), right.as_slice()))
-}
-
-/// Whether `not (left op right)` is `left inverse right`.
-fn is_inverse(rt: HostRuntime, left: &Column, operator: CompareOperator, right: &Column) -> bool {
-    let alloc = rt.alloc();
-    let not = negated(alloc, lent_compared(alloc, left, operator, right));
-    let inverse = lent_compared(alloc, left, operator.inverse(), right);
-    rt.yes(have_same_rows(rt, not, inverse))
-}
-
-/// Whether `left op right` and `right swap left` are the rows of the table.
-fn follows_the_table(
-    rt: HostRuntime,
-    left: &Column,
-    operator: CompareOperator,
-    right: &Column,
-) -> bool {
-    let alloc = rt.alloc();
-    let answer = lent_compared(alloc, left, operator, right);
-    let swapped = lent_compared(alloc, right, operator.swap(), left);
-    let wanted = rows_by(operator);
-    rt.yes(says_or_null(rt, answer, &wanted)) && rt.yes(says_or_null(rt, swapped, &wanted))
-}
-
-/// Whether the six comparisons of two columns follow the table, and turn as they should.
-fn all_turn(rt: HostRuntime, left: Made, right: Made) -> VortexResult<bool> {
-    let (left, right) = (left?, right?);
-    for operator in COMPARISONS {
-        if !follows_the_table(rt, &*left, operator, &*right)
-            || !is_inverse(rt, &*left, operator, &*right)
-        {
-            return Ok(false);
-        }
-    }
-    Ok(true)
-}
-
-#[test]
-fn turns_comparisons_of_numbers(rt: HostRuntime) {
-    let alloc = rt.alloc();
-    let left = nullable_ints(alloc, &[Some(1), Some(2), Some(2), None, Some(1), None]);
-    let right = nullable_ints(alloc, &[Some(2), Some(1), Some(2), Some(1), None, None]);
-    sure(&rt, all_turn(rt, left, right));
-}
-
-#[test]
-fn turns_comparisons_of_truth_values(rt: HostRuntime) {
-    let alloc = rt.alloc();
-    let left = nullable_bools(alloc, &[NO, YES, YES, NULL, NO, NULL]);
-    let right = nullable_bools(alloc, &[YES, NO, YES, NO, NULL, NULL]);
-    sure(&rt, all_turn(rt, left, right));
-}
-
-/// The texts 1, 2, 2, null, 1 and null.
-fn left_texts(alloc: Global) -> Made {
-    let words = ["1", "2", "2", "0", "1", "0"];
-    nullable_texts(alloc, &words, &[true, true, true, false, true, false])
-}
-
-/// The texts 2, 1, 2, 1, null and null.
-fn right_texts(alloc: Global) -> Made {
-    let words = ["2", "1", "2", "1", "0", "0"];
-    nullable_texts(alloc, &words, &[true, true, true, true, false, false])
-}
-
-#[test]
-fn turns_comparisons_of_texts(rt: HostRuntime) {
-    let alloc = rt.alloc();
-    sure(&rt, all_turn(rt, left_texts(alloc), right_texts(alloc)));
+    let (left, right) = (words(alloc, &["a", ""]), words(alloc, &["a\0", "\0"]));
+    let less = compared(alloc, left, CompareOperator::Lt, right);
+    sure(&rt, says(rt, less, &[true, true]));
 }

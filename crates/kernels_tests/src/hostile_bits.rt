@@ -7,8 +7,11 @@ use std::alloc::Global;
 use vortex_columns::{BitBuffer, Column, ExecutionCtx, Validity, VortexError, VortexResult};
 use vortex_kernels::{CompareOperator, Operator, execute_boolean, execute_compare, execute_not};
 
-/// How many rows there are: none, one, and about a word and two.
-const LENGTHS: [usize; 6] = [0, 1, 63, 64, 65, 130];
+/// How many rows there are: one, a word, and some more than two.
+const LENGTHS: [usize; 3] = [1, 64, 130];
+
+/// Bits in which the left side begins.
+const OFFSETS: [usize; 4] = [0, 3, 8, 13];
 
 /// What is asked of two columns.
 #[derive(Clone, Copy)]
@@ -184,7 +187,7 @@ fn beside_any(alloc: Global, offset: usize, others: bool) -> VortexResult<bool> 
 #[test]
 fn truth_values_begin_in_any_bit(rt: HostRuntime) {
     let alloc = rt.alloc();
-    for offset in 0..16usize {
+    for offset in OFFSETS {
         sure(&rt, beside_any(alloc, offset, false));
         sure(&rt, beside_any(alloc, offset, true));
     }

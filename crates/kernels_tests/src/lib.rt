@@ -10,17 +10,11 @@ mod between;
 #[cfg(test)]
 mod boolean;
 #[cfg(test)]
-mod column_quotients;
-#[cfg(test)]
 mod compare;
-#[cfg(test)]
-mod constant_columns;
 #[cfg(test)]
 mod constants;
 #[cfg(test)]
 mod hostile_bits;
-#[cfg(test)]
-mod integers;
 #[cfg(test)]
 mod like;
 #[cfg(test)]
@@ -38,12 +32,6 @@ mod questions;
 #[cfg(test)]
 mod records;
 #[cfg(test)]
-mod said;
-#[cfg(test)]
 mod scalars;
-#[cfg(test)]
-mod spans;
-#[cfg(test)]
-mod widths;
 #[cfg(test)]
 mod words;

@@ -1,11 +1,7 @@
-//! Tests of LIKE, with values from outside.
+//! Tests of LIKE that no script says: of what stands under nulls, of views, of compiled patterns and
+//! of their shapes.
 
 mod columns;
-mod escapes;
-mod folding;
-mod forms;
-mod many;
 mod patterns;
 mod questions;
 mod shapes;
-mod view_sizes;

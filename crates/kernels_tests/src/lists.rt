@@ -2,12 +2,10 @@
 //! of rows and nulls within them, words of rows, and lists of one size. What each row answers was
 //! written by hand.
 
-use crate::questions::{
-    COMPARISONS, NO, NULL, YES, compared, says, says_or_null, sure, valid_rows,
-};
+use crate::questions::{COMPARISONS, NO, NULL, YES, compared, says_or_null, sure, valid_rows};
 use fixtures::{Made, kept, nullable_ints, numbers};
 use std::alloc::Global;
-use vortex_columns::{Column, Validity, VortexResult};
+use vortex_columns::{Column, VortexResult};
 use vortex_kernels::CompareOperator;
 
 /// A list: from which element on, and how many; none is a null row.
@@ -155,35 +153,5 @@ fn a_null_element_is_least(rt: HostRuntime) {
         );
         let answer = compared(alloc, left, COMPARISONS[k], right);
         sure(&rt, says_or_null(rt, answer, &WANTED_OF_NULLS[k]));
-    }
-}
-
-/// Three lists of two integers each.
-fn fixed(alloc: Global, elements: &[u8; 6]) -> Made {
-    let elements = Box::into_inner(numbers(alloc, elements)?);
-    kept(
-        alloc,
-        Column::try_fixed_size_list(alloc, elements, 2, 3, Validity::NonNullable),
-    )
-}
-
-/// What each comparison says of [1, 2], [1, 200] and [2, 0] beside [1, 2], [1, 3] and [255, 1].
-const WANTED_OF_FIXED: [[bool; 3]; 6] = [
-    [true, false, false],
-    [false, true, true],
-    [false, true, false],
-    [true, true, false],
-    [false, false, true],
-    [true, false, true],
-];
-
-#[test]
-fn compares_lists_of_one_size(rt: HostRuntime) {
-    let alloc = rt.alloc();
-    for k in 0..6 {
-        let left = fixed(alloc, &[1, 2, 1, 200, 2, 0]);
-        let right = fixed(alloc, &[1, 2, 1, 3, 255, 1]);
-        let answer = compared(alloc, left, COMPARISONS[k], right);
-        sure(&rt, says(rt, answer, &WANTED_OF_FIXED[k]));
     }
 }

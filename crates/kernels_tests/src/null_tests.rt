@@ -1,7 +1,7 @@
 //! The null tests and Cast, by the forms in which a column tells its nulls.
 
-use crate::questions::{NO, NULL, YES, constant_of, null_integer, says, says_or_null, sure};
-use fixtures::{Made, bools, kept, nullable_bools, nullable_ints, numbers};
+use crate::questions::{YES, constant_of, null_integer, says, says_or_null, sure};
+use fixtures::{Made, kept, numbers};
 use std::alloc::Global;
 use vortex_columns::{Column, ExecutionCtx, Scalar, VortexError, VortexResult};
 use vortex_kernels::{execute_cast, execute_is_not_null, execute_is_null};
@@ -38,11 +38,6 @@ fn is_constant(answer: Made) -> VortexResult<bool> {
     Ok(answer?.as_constant().is_some())
 }
 
-/// 1, null, 2, null, 3.
-fn some_nulls(alloc: Global) -> Made {
-    nullable_ints(alloc, &[Some(1), None, Some(2), None, Some(3)])
-}
-
 /// Two rows of type Null.
 fn two_nulls(alloc: Global) -> Made {
     kept(alloc, Ok(Column::null(2)))
@@ -59,28 +54,10 @@ fn true_twice(alloc: Global) -> Made {
 }
 
 #[test]
-fn listed_nulls_are_told(rt: HostRuntime) {
+fn each_row_of_type_null_is_null(rt: HostRuntime) {
     let alloc = rt.alloc();
-    let nulls = [false, true, false, true, false];
-    sure(&rt, says(rt, are_null(alloc, some_nulls(alloc)), &nulls));
-    let values = [true, false, true, false, true];
-    sure(
-        &rt,
-        says(rt, are_not_null(alloc, some_nulls(alloc)), &values),
-    );
-}
-
-#[test]
-fn rows_that_are_all_null_are_told(rt: HostRuntime) {
-    let alloc = rt.alloc();
-    sure(
-        &rt,
-        says(rt, are_null(alloc, two_nulls(alloc)), &[true, true]),
-    );
-    sure(
-        &rt,
-        says(rt, are_not_null(alloc, null_twice(alloc)), &[false, false]),
-    );
+    let nulls = are_null(alloc, two_nulls(alloc));
+    sure(&rt, says(rt, nulls, &[true, true]));
 }
 
 #[test]
@@ -92,15 +69,6 @@ fn null_tests_of_one_answer_are_constants(rt: HostRuntime) {
     );
     sure(&rt, is_constant(are_not_null(alloc, two_nulls(alloc))));
     sure(&rt, is_constant(are_null(alloc, null_twice(alloc))));
-}
-
-#[test]
-fn cast_keeps_rows(rt: HostRuntime) {
-    let alloc = rt.alloc();
-    let plain = cast(alloc, bools(alloc, &[true, false]));
-    sure(&rt, says_or_null(rt, plain, &[YES, NO]));
-    let nullable = cast(alloc, nullable_bools(alloc, &[YES, NULL]));
-    sure(&rt, says_or_null(rt, nullable, &[YES, NULL]));
 }
 
 #[test]

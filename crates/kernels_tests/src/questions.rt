@@ -1,7 +1,8 @@
 //! One call of a kernel each, and short questions to its answer.
+
 ghost use Rattle.std.specs.Prelude.{◌<◌, length};
 
-use fixtures::{Ask, Made, kept, rows_of, same, texts};
+use fixtures::{Ask, Made, kept, rows_of, same};
 use std::alloc::Global;
 use std::process::Abort;
 use vortex_columns::{
@@ -173,16 +174,6 @@ pub(crate) fn nullable_numbers<T: NativePType>(alloc: Global, rows: &[T], valid:
     }
     let validity = valid_rows(alloc, valid)?;
     kept(alloc, Column::try_primitive(alloc, values, validity))
-}
-
-/// A column of non-nullable texts.
-pub(crate) fn plain_texts(alloc: Global, words: &[&str]) -> Made {
-    texts(alloc, words, Validity::NonNullable)
-}
-
-/// A column of nullable texts, those where `valid` is false under nulls.
-pub(crate) fn nullable_texts(alloc: Global, words: &[&str], valid: &[bool]) -> Made {
-    texts(alloc, words, valid_rows(alloc, valid)?)
 }
 
 /// The null of i32.

@@ -5,7 +5,7 @@ use crate::hostile_bits::with_bit;
 use crate::questions::{COMPARISONS, NO, NULL, YES, compared, says_or_null, sure};
 use fixtures::{Made, kept, names, nullable_ints};
 use std::alloc::Global;
-use vortex_columns::{BitBuffer, Column, Validity, VortexError, VortexResult};
+use vortex_columns::{BitBuffer, Column, Validity, VortexResult};
 use vortex_kernels::CompareOperator;
 
 /// A row of a struct of an integer and a truth value; none is a null row.
@@ -182,34 +182,5 @@ fn a_null_within_is_a_value(rt: HostRuntime) {
         let (left, right) = (nested_beside_null(alloc, &LEFT), nested(alloc, &RIGHT));
         let answer = compared(alloc, left, COMPARISONS[k], right);
         sure(&rt, says_or_null(rt, answer, &WITHIN[k]));
-    }
-}
-
-/// The first of the right rows in each of nine.
-fn constant_structs(alloc: Global) -> Made {
-    let rows = structs(alloc, &RIGHT, 9, 0)?;
-    if rows.len() == 0 {
-        return Err(VortexError::InvalidColumn);
-    }
-    kept(alloc, Column::constant(alloc, rows.scalar_at(alloc, 0)?, 9))
-}
-
-/// What is wanted of the left rows beside 1 and true.
-const BESIDE_FIRST: [[Option<bool>; 9]; 6] = [
-    [YES, NO, NO, NO, NULL, NO, NO, NO, NO],
-    [NO, YES, YES, YES, NULL, YES, YES, YES, YES],
-    [NO, NO, NO, YES, NULL, YES, NO, YES, NO],
-    [YES, NO, NO, YES, NULL, YES, NO, YES, NO],
-    [NO, YES, YES, NO, NULL, NO, YES, NO, YES],
-    [YES, YES, YES, NO, NULL, NO, YES, NO, YES],
-];
-
-#[test]
-fn compares_structs_with_a_constant(rt: HostRuntime) {
-    let alloc = rt.alloc();
-    for k in 0..6 {
-        let (left, right) = (structs(alloc, &LEFT, 9, 3), constant_structs(alloc));
-        let answer = compared(alloc, left, COMPARISONS[k], right);
-        sure(&rt, says_or_null(rt, answer, &BESIDE_FIRST[k]));
     }
 }

@@ -6,16 +6,6 @@ use std::alloc::Global;
 use tree_fixtures::array_makers::*;
 use vortex_row_fn::*;
 
-/// Whether the array of a column without rules at its root is left as it is, with its rows.
-fn column_stays(alloc: Global, rows: &[Option<bool>]) -> VortexResult<bool> {
-    let column = nullable_bools(alloc, rows)?;
-    let array = ArrayRef::<NoCustom>::column(alloc, Box::into_inner(column))?;
-    let array = Box::new(alloc, array)?;
-    let made = Box::new(alloc, array.optimize_recursive(alloc, 3)?)?;
-    let is_same = made.done && made.steps == 0 && made.tree.len() == rows.len();
-    Ok(is_same && made.tree.as_column().is_some())
-}
-
 /// Whether an array tests for null, optimized, answers these rows after so many steps.
 fn null_test_answers(
     rt: HostRuntime,
@@ -34,11 +24,8 @@ fn null_test_answers(
 
 #[test]
 fn array_trees_are_rewritten(rt: HostRuntime) {
-    let alloc = rt.alloc();
     let rows = [Some(true), Some(true), None];
-    sure(&rt, column_stays(alloc, &rows));
-    let missing = [Some(false), Some(false), Some(true)];
-    sure(&rt, null_test_answers(rt, &rows, &missing));
+    sure(&rt, null_test_answers(rt, &rows, &MISSING));
 }
 
 /// Whether And of `x` and `y` is null, as an array tree.
@@ -75,16 +62,6 @@ fn array_becomes<C: ScalarFnRules>(
     }
 }
 
-/// Whether a rule does not apply at a place of an array.
-fn array_stays<C: ScalarFnRules>(
-    alloc: Global,
-    array: Held<C>,
-    path: &[usize],
-    rule: Rule,
-) -> VortexResult<bool> {
-    Ok(array_at(alloc, array, path, rule)?.is_none())
-}
-
 /// Where `x` is null.
 const MISSING: [Option<bool>; 3] = [Some(false), Some(false), Some(true)];
 
@@ -93,10 +70,6 @@ fn a_rule_applies_at_a_place_of_an_array(rt: HostRuntime) {
     let alloc = rt.alloc();
     let missing = missing_both::<NoCustom>(alloc);
     sure(&rt, array_becomes(rt, missing, &[], Rule::Reduce, &MISSING));
-    let missing = missing_both::<NoCustom>(alloc);
-    sure(&rt, array_stays(alloc, missing, &[0], Rule::Reduce));
-    let missing = missing_both::<NoCustom>(alloc);
-    sure(&rt, array_stays(alloc, missing, &[], Rule::Simplify));
     let nowhere = array_at(alloc, missing_both::<NoCustom>(alloc), &[1], Rule::Reduce);
     must(&rt, rt.is_refused(nowhere, "NoSuchPlace"));
 }
@@ -127,15 +100,11 @@ fn array_lists_to<C: ScalarFnRules>(
 
 #[test]
 fn rules_apply_to_an_array_one_after_another(rt: HostRuntime) {
-    let alloc = rt.alloc();
     const STEPS: &[(&[usize], Rule)] = &[
         (&[], Rule::Reduce),
         (&[0], Rule::Reduce),
         (&[0], Rule::Simplify),
     ];
-    let missing = missing_both::<NoCustom>(alloc);
+    let missing = missing_both::<NoCustom>(rt.alloc());
     sure(&rt, array_lists_to(rt, missing, STEPS, &MISSING, 2));
-    const OUTSIDE: &[(&[usize], Rule)] = &[(&[], Rule::Reduce), (&[0, 5], Rule::Reduce)];
-    let refused = array_listed(alloc, missing_both::<NoCustom>(alloc), OUTSIDE);
-    must(&rt, rt.is_refused(refused, "NoSuchPlace"));
 }

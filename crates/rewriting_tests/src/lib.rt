@@ -7,12 +7,6 @@ mod array_places;
 #[cfg(test)]
 mod arrays;
 #[cfg(test)]
-mod blanks;
-#[cfg(test)]
-mod growing;
-#[cfg(test)]
-mod halves;
-#[cfg(test)]
 mod questions;
 #[cfg(test)]
 mod readme;

@@ -3,5 +3,4 @@
 mod array_rules;
 mod callers_rules;
 mod calls;
-mod expression_rules;
 mod shipped;

@@ -1,7 +1,7 @@
 //! Execution after a run of rules.
 
 use crate::questions::{must, sure};
-use fixtures::{Ask, are_rows, integer, kept, nullable_bools, rows_of, same};
+use fixtures::{Ask, are_rows, nullable_bools, rows_of};
 use std::alloc::Global;
 use std::borrow::Cow;
 use tree_fixtures::array_makers::*;
@@ -20,65 +20,6 @@ fn ran<C: ScalarFnRules>(
     let mut ctx = ExecutionCtx::new(alloc);
     let answer = Box::new(alloc, run(&*tree, &columns, row_count, limit, &mut ctx)?)?;
     rows_of(alloc, &**answer)
-}
-
-/// Whether a tree answers these rows after a run of at most ten steps.
-fn runs_to<C: ScalarFnRules>(
-    rt: HostRuntime,
-    tree: Bound<C>,
-    columns: VortexResult<Vec<Column>>,
-    wanted: &[Option<bool>],
-) -> VortexResult<bool> {
-    let alloc = rt.alloc();
-    Ok(same(
-        rt,
-        ran(alloc, tree, columns, wanted.len(), 10)?.as_slice(),
-        wanted,
-    ))
-}
-
-/// Whether `a + b` is null, of columns of u8, where `a` is nullable.
-fn unknown_sum<C: ScalarFnVTable>(alloc: Global) -> Bound<C> {
-    let types = (
-        DType::Primitive(PType::U8, YES),
-        DType::Primitive(PType::U8, NO),
-    );
-    let sum = call_of_columns(alloc, Binary.bind(Operator::Add), types);
-    call_of(alloc, IsNull.bind(EmptyOptions), sum)
-}
-
-/// 250, null; and 10, 1.
-fn bytes(alloc: Global) -> VortexResult<Vec<Column>> {
-    let valid = BitBuffer::from_bools(alloc, &[true, false])?;
-    let mut left = Vec::new(alloc);
-    left.extend_from_slice(&[250u8, 0])?;
-    let mut right = Vec::new(alloc);
-    right.extend_from_slice(&[10u8, 1])?;
-    two(
-        alloc,
-        kept(
-            alloc,
-            Column::try_primitive(alloc, left, Validity::Array(valid)),
-        ),
-        kept(
-            alloc,
-            Column::try_primitive(alloc, right, Validity::NonNullable),
-        ),
-    )
-}
-
-#[test]
-fn a_fault_goes_with_the_call_that_a_step_drops(rt: HostRuntime) {
-    let alloc = rt.alloc();
-    let executed = executed::<NoCustom>(alloc, unknown_sum(alloc), bytes(alloc), 2);
-    must(&rt, rt.is_refused(executed, "Arithmetic.Add"));
-    let wanted = [Some(false), Some(true)];
-    sure(
-        &rt,
-        runs_to::<NoCustom>(rt, unknown_sum(alloc), bytes(alloc), &wanted),
-    );
-    let unchanged = ran::<NoCustom>(alloc, unknown_sum(alloc), bytes(alloc), 2, 0);
-    must(&rt, rt.is_refused(unchanged, "Arithmetic.Add"));
 }
 
 /// Whether an answer is a borrowed column of these rows.
@@ -124,36 +65,8 @@ fn truths(alloc: Global) -> VortexResult<Vec<Column>> {
 fn a_run_that_leaves_a_column_lends_it(rt: HostRuntime) {
     let alloc = rt.alloc();
     let rows = [Some(true), Some(false), None];
-    sure(
-        &rt,
-        lends::<NoCustom>(rt, leaf(alloc, "a"), truths(alloc), &rows),
-    );
-    sure(
-        &rt,
-        lends::<NoCustom>(rt, true_and_a(alloc), truths(alloc), &rows),
-    );
-}
-
-/// False and whether 1 through 0 is 1.
-fn false_and_quotient<C: ScalarFnVTable>(alloc: Global) -> Bound<C> {
-    let dividend = literal(alloc, integer(PType::I32, 1));
-    let divisor = literal(alloc, integer(PType::I32, 0));
-    let quotient = between(alloc, dividend, Operator::Div, divisor);
-    let wanted = literal(alloc, integer(PType::I32, 1));
-    let equal = between(alloc, quotient, Operator::Eq, wanted);
-    let falsehood = literal(alloc, Ok(Scalar::from(false)));
-    between(alloc, falsehood, Operator::And, equal)
-}
-
-#[test]
-fn a_deciding_literal_leaves_no_fault(rt: HostRuntime) {
-    let alloc = rt.alloc();
-    let none = Ok(Vec::new(alloc));
-    let executed = executed::<NoCustom>(alloc, false_and_quotient(alloc), none, 1);
-    must(&rt, rt.is_refused(executed, "Arithmetic.Div"));
-    let none = Ok(Vec::new(alloc));
-    let tree = false_and_quotient::<NoCustom>(alloc);
-    sure(&rt, runs_to(rt, tree, none, &[Some(false)]));
+    let tree = true_and_a::<NoCustom>(alloc);
+    sure(&rt, lends(rt, tree, truths(alloc), &rows));
 }
 
 /// False and column `a`.
@@ -168,14 +81,6 @@ fn leaves_are_looked_at_before_a_step_drops_them(rt: HostRuntime) {
     let none = Ok(Vec::new(alloc));
     let refused = ran::<NoCustom>(alloc, false_and_a(alloc), none, 1, 10);
     must(&rt, rt.is_refused(refused, "ScopeMismatch"));
-    let given = one(alloc, nullable_bools(alloc, &[None]));
-    let refused = ran::<NoCustom>(alloc, false_and_a(alloc), given, 2, 10);
-    must(&rt, rt.is_refused(refused, "LengthMismatch"));
-    let given = one(alloc, nullable_bools(alloc, &[None]));
-    sure(
-        &rt,
-        runs_to::<NoCustom>(rt, false_and_a(alloc), given, &[Some(false)]),
-    );
 }
 
 /// Whether an array answers these rows after a run of at most ten steps.
@@ -204,9 +109,4 @@ fn arrays_are_executed_after_a_run(rt: HostRuntime) {
     let both = over_columns::<NoCustom>(alloc, x(alloc), Operator::And, y(alloc));
     let missing = [Some(false), Some(false), Some(true)];
     sure(&rt, array_runs_to(rt, test_of(alloc, both), &missing));
-    let rows = [Some(true), Some(true), None];
-    sure(
-        &rt,
-        array_runs_to::<NoCustom>(rt, held(alloc, x(alloc)), &rows),
-    );
 }

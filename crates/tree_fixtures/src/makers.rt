@@ -103,16 +103,6 @@ pub fn between<C: ScalarFnVTable>(
     planted(alloc, Binary.try_new_bound_expr(alloc, operator, children))
 }
 
-/// And of true and column `b`.
-pub fn true_and_b<C: ScalarFnVTable>(alloc: Global) -> Bound<C> {
-    between(
-        alloc,
-        literal(alloc, Ok(Scalar::from(true))),
-        Operator::And,
-        leaf(alloc, "b"),
-    )
-}
-
 /// A call over the first so many of the leaves `a`, `b`, `a`.
 pub fn call_of_leaves<C: ScalarFnVTable>(
     alloc: Global,
@@ -189,42 +179,6 @@ pub fn answers<C: ScalarFnVTable>(
     Ok(same(rt, rows.as_slice(), wanted))
 }
 
-/// The number in each row, where there is one.
-fn numbers_of(alloc: Global, column: &Column) -> VortexResult<Vec<Option<i128>>> {
-    let mut rows = Vec::new(alloc);
-    for i in 0..column.len() {
-        rows.push(match column.cell(i) {
-            Cell::Int(number) => Some(number),
-            _ => None,
-        })?;
-    }
-    Ok(rows)
-}
-
-/// The numbers that a tree answers.
-pub fn numbers_by<C: ScalarFnVTable>(
-    alloc: Global,
-    tree: &BoundExpression<C>,
-    columns: &[Column],
-    row_count: usize,
-) -> VortexResult<Vec<Option<i128>>> {
-    let mut ctx = ExecutionCtx::new(alloc);
-    let answer = Box::new(alloc, tree.execute(columns, row_count, &mut ctx)?)?;
-    numbers_of(alloc, &**answer)
-}
-
-/// Whether a tree answers these numbers over those columns.
-pub fn calculates<C: ScalarFnVTable>(
-    rt: HostRuntime,
-    tree: Bound<C>,
-    columns: VortexResult<Vec<Column>>,
-    wanted: &[Option<i128>],
-) -> VortexResult<bool> {
-    let (tree, columns) = (tree?, columns?);
-    let numbers = numbers_by(rt.alloc(), &*tree, &columns, wanted.len())?;
-    Ok(same(rt, numbers.as_slice(), wanted))
-}
-
 /// Whether `sql_text` gives that text.
 pub fn has_text<C: ScalarFnVTable>(
     rt: HostRuntime,
@@ -235,7 +189,7 @@ pub fn has_text<C: ScalarFnVTable>(
 }
 
 /// Whether Display writes that text.
-pub fn is_shown<C: ScalarFnVTable>(
+fn is_shown<C: ScalarFnVTable>(
     rt: HostRuntime,
     tree: &BoundExpression<C>,
     wanted: &str,

@@ -12,7 +12,7 @@ use vortex_rewriting::*;
 pub type Rewritten<C> = VortexResult<Option<Box<BoundExpression<C>>>>;
 
 /// What Reduce makes of a node, if a rule applies.
-pub fn reduced_node<'a, C: ScalarFnRules>(
+fn reduced_node<'a, C: ScalarFnRules>(
     alloc: Global,
     node: &ExpressionReduceNode<'a, C>,
 ) -> VortexResult<Option<ExpressionReduceNode<'a, C>>> {
@@ -23,7 +23,7 @@ pub fn reduced_node<'a, C: ScalarFnRules>(
 }
 
 /// What Simplify makes of an expression, if a rule applies.
-pub fn simplified_expression<C: ScalarFnRules>(
+fn simplified_expression<C: ScalarFnRules>(
     alloc: Global,
     expression: &BoundExpression<C>,
 ) -> VortexResult<Option<BoundExpression<C>>> {
@@ -51,18 +51,6 @@ pub fn simplified<C: ScalarFnRules>(alloc: Global, tree: Bound<C>) -> Rewritten<
     }
 }
 
-/// What says where a tree is not null, if a tree says it.
-pub fn validity_of<C: ScalarFnRules>(alloc: Global, tree: Bound<C>) -> Rewritten<C> {
-    let tree = tree?;
-    let node = ExpressionReduceNode::new(Cow::Borrowed(&*tree));
-    match node.validity(alloc)? {
-        ReduceNodeValidity::Reduced(made) => {
-            Ok(Some(planted(alloc, made.into_expression(alloc))?))
-        }
-        ReduceNodeValidity::Irreducible => Ok(None),
-    }
-}
-
 /// The union of the validities of a tree's children.
 pub fn united<C: ScalarFnRules>(alloc: Global, tree: Bound<C>) -> Rewritten<C> {
     let tree = tree?;
@@ -79,21 +67,6 @@ pub fn becomes<C: ScalarFnVTable>(
 ) -> VortexResult<bool> {
     match made? {
         Some(made) => has_text(rt, &*made, wanted),
-        None => Ok(same(rt, "no tree", wanted)),
-    }
-}
-
-/// Whether a rule made a literal of nullable Bool of that text.
-pub fn is_nullable_literal<C: ScalarFnVTable>(
-    rt: HostRuntime,
-    made: Rewritten<C>,
-    wanted: &str,
-) -> VortexResult<bool> {
-    match made? {
-        Some(made) => {
-            let is_literal = made.as_literal().is_some() && *made.dtype() == DType::Bool(YES);
-            Ok(same(rt, is_literal, true) && has_text(rt, &*made, wanted)?)
-        }
         None => Ok(same(rt, "no tree", wanted)),
     }
 }

@@ -1,37 +1,11 @@
-//! LIKE of columns with nulls, and with a pattern for each row.
+//! LIKE of columns whose texts stand in views: under nulls, and over one another.
 
-use crate::like::questions::{
-    LIKE, NO, NOT_LIKE, NULL, YES, like, nullable, one, plain, says, says_or_null,
-};
+use crate::like::questions::{LIKE, NULL, YES, like, one, plain, says, says_or_null};
 use fixtures::{Ask, Made, kept};
 use std::alloc::Global;
-use vortex_columns::{BinaryView, BitBuffer, Column, DType, Nullability, Scalar, Validity};
-use vortex_like::LikeOptions;
+use vortex_columns::{BinaryView, BitBuffer, Column, Nullability, Validity, VortexResult};
 
 const NULLABLE: Nullability = Nullability::Nullable;
-
-#[test]
-fn a_pattern_for_each_row(rt: HostRuntime) {
-    let alloc = rt.alloc();
-    let patterns = plain(alloc, &["he%", "%world", "h_llo"]);
-    let answer = like(alloc, one(alloc, "hello", 3), LIKE, patterns);
-    assert!(rt; rt.yes(says(rt, answer, &[true, false, true])));
-}
-
-/// LIKE of two equal texts, beside a null pattern with this under the null.
-fn beside_null(alloc: Global, under: &str) -> Made {
-    let patterns = nullable(alloc, &[under, "he%"], &[false, true]);
-    like(alloc, plain(alloc, &["hello", "hello"]), LIKE, patterns)
-}
-
-#[test]
-fn a_null_pattern_gives_null(rt: HostRuntime) {
-    let alloc = rt.alloc();
-    let wanted = [NULL, YES];
-    assert!(rt; rt.yes(says_or_null(rt, beside_null(alloc, ""), NULLABLE, &wanted)));
-    assert!(rt; rt.yes(says_or_null(rt, beside_null(alloc, "he%"), NULLABLE, &wanted)));
-    assert!(rt; rt.yes(says_or_null(rt, beside_null(alloc, "\\"), NULLABLE, &wanted)));
-}
 
 /// A null with the byte 0xFF under it, which is no UTF-8, and `he%`.
 fn no_text_under_a_null(alloc: Global) -> Made {
@@ -82,47 +56,67 @@ fn texts_that_overlap_are_tested(rt: HostRuntime) {
     let alloc = rt.alloc();
     let answer = like(alloc, overlapping(alloc), LIKE, one(alloc, "%world!", 2));
     assert!(rt; rt.yes(says(rt, answer, &[true, false])));
-    let answer = like(alloc, overlapping(alloc), LIKE, one(alloc, "o, w%", 2));
-    assert!(rt; rt.yes(says(rt, answer, &[false, true])));
 }
 
 #[test]
-fn a_null_text_gives_null(rt: HostRuntime) {
+fn zero_bytes_are_no_padding(rt: HostRuntime) {
     let alloc = rt.alloc();
-    let words = nullable(alloc, &["hello", "hello", "world"], &[true, false, true]);
-    let answer = like(alloc, words, NOT_LIKE, one(alloc, "he%", 3));
-    assert!(rt; rt.yes(says_or_null(rt, answer, NULLABLE, &[NO, NULL, YES])));
+    let texts = plain(alloc, &["a", "a\0", "a\0b", "ab"]);
+    let answer = like(alloc, texts, LIKE, one(alloc, "a\0%", 4));
+    assert!(rt; rt.yes(says(rt, answer, &[false, true, true, false])));
 }
 
-/// The null of a text in each of so many rows.
-fn null_texts(alloc: Global, len: usize) -> Made {
-    let null = Scalar::null(DType::Utf8(NULLABLE));
-    kept(alloc, Column::constant(alloc, null, len))
+/// So many times `a`, and then this.
+fn long_text(alloc: Global, len: usize, end: &str) -> VortexResult<String> {
+    let mut text = String::new(alloc);
+    for _ in 0..len {
+        text.push('a')?;
+    }
+    text.push_str(end)?;
+    Ok(text)
 }
 
-/// LIKE of two texts and of null.
-fn of_null(alloc: Global, options: LikeOptions) -> Made {
-    like(
-        alloc,
-        plain(alloc, &["a", "b"]),
-        options,
-        null_texts(alloc, 2),
-    )
+/// Seventy texts in turn: `nitr`, and two that are longer than what one search gathers, of which the
+/// second has it.
+fn long_texts(alloc: Global) -> Made {
+    let mut words = Vec::new(alloc);
+    for i in 0..70usize {
+        let len = if i % 3 == 0 { 0 } else { 70_000 };
+        let end = if i % 3 == 1 { "nit" } else { "nitr" };
+        words.push(long_text(alloc, len, end)?)?;
+    }
+    kept(alloc, Column::try_utf8(alloc, words, Validity::NonNullable))
+}
+
+/// Which of them have `nitr`.
+fn but_each_second(alloc: Global) -> VortexResult<Vec<bool>> {
+    let mut wanted = Vec::new(alloc);
+    for i in 0..70usize {
+        wanted.push(i % 3 != 1)?;
+    }
+    Ok(wanted)
+}
+
+/// Whether one search tells short and long texts apart.
+fn tells_long_texts_apart(rt: HostRuntime) -> VortexResult<bool> {
+    let alloc = rt.alloc();
+    let answer = like(alloc, long_texts(alloc), LIKE, one(alloc, "%nitr%", 70));
+    says(rt, answer, &but_each_second(alloc)?)
 }
 
 #[test]
-fn a_constant_null_gives_nulls(rt: HostRuntime) {
-    let alloc = rt.alloc();
-    let wanted = [NULL, NULL];
-    assert!(rt; rt.yes(says_or_null(rt, of_null(alloc, LIKE), NULLABLE, &wanted)));
-    assert!(rt; rt.yes(says_or_null(rt, of_null(alloc, NOT_LIKE), NULLABLE, &wanted)));
-    let answer = like(alloc, null_texts(alloc, 2), LIKE, one(alloc, "%", 2));
-    assert!(rt; rt.yes(says_or_null(rt, answer, NULLABLE, &wanted)));
+fn texts_longer_than_what_is_gathered(rt: HostRuntime) {
+    assert!(rt; rt.yes(tells_long_texts_apart(rt)));
+}
+
+/// Whether an answer is a constant column.
+fn is_constant(answer: Made) -> VortexResult<bool> {
+    Ok(answer?.as_constant().is_some())
 }
 
 #[test]
-fn no_rows(rt: HostRuntime) {
+fn a_constant_beside_a_constant_answers_a_constant(rt: HostRuntime) {
     let alloc = rt.alloc();
-    let answer = like(alloc, plain(alloc, &[]), LIKE, one(alloc, "he%", 0));
-    assert!(rt; rt.yes(says(rt, answer, &[])));
+    let answer = like(alloc, one(alloc, "hello", 3), LIKE, one(alloc, "%l%", 3));
+    assert!(rt; rt.yes(is_constant(answer)));
 }

@@ -34,11 +34,10 @@ fn first_of_two(alloc: Global) -> Bound<First> {
 #[test]
 fn a_callers_rules_apply(rt: HostRuntime) {
     let alloc = rt.alloc();
-    sure(&rt, becomes(rt, reduced(alloc, first_of_two(alloc)), "$.b"));
-    sure(
-        &rt,
-        becomes(rt, simplified(alloc, first_of_two(alloc)), "$.b"),
-    );
+    let made = reduced(alloc, first_of_two(alloc));
+    sure(&rt, becomes(rt, made, "$.b"));
+    let made = simplified(alloc, first_of_two(alloc));
+    sure(&rt, becomes(rt, made, "$.b"));
 }
 
 /// A caller's Not, of column `a` of nullable Bool.
@@ -49,23 +48,7 @@ fn levelled_a(alloc: Global) -> Bound<Levelled> {
 #[test]
 fn null_tests_ask_a_callers_validity(rt: HostRuntime) {
     let alloc = rt.alloc();
-    let there = reduced(alloc, is_not_null(alloc, levelled_a(alloc)));
-    sure(&rt, becomes(rt, there, "is_not_null($.a)"));
     let missing = reduced(alloc, is_null(alloc, levelled_a(alloc)));
     sure(&rt, becomes(rt, missing, "vortex.not(is_not_null($.a))"));
-    sure(&rt, stays(rt, reduced(alloc, levelled_a(alloc))));
     sure(&rt, stays(rt, simplified(alloc, levelled_a(alloc))));
-}
-
-/// The function that stands where a caller has none, without arguments.
-fn none(alloc: Global) -> Bound<NoCustom> {
-    call_of_leaves(alloc, ScalarFnRef::custom(NoCustom, EmptyOptions), 0)
-}
-
-#[test]
-fn a_function_without_arguments_is_never_null(rt: HostRuntime) {
-    let alloc = rt.alloc();
-    sure(&rt, stays(rt, reduced(alloc, none(alloc))));
-    sure(&rt, stays(rt, simplified(alloc, none(alloc))));
-    sure(&rt, becomes(rt, validity_of(alloc, none(alloc)), "true"));
 }

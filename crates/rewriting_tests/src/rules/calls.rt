@@ -13,20 +13,6 @@ fn must_be_true(alloc: Global) -> Bound<MustBeTrue> {
 }
 
 #[test]
-fn a_callers_function_answers(rt: HostRuntime) {
-    let alloc = rt.alloc();
-    sure(
-        &rt,
-        answers::<MustBeTrue>(
-            rt,
-            not_of(alloc, must_be_true(alloc)),
-            twice(alloc, &[Some(true), None]),
-            &[Some(false), None],
-        ),
-    );
-}
-
-#[test]
 fn a_callers_function_faults(rt: HostRuntime) {
     let alloc = rt.alloc();
     assert!(rt;
@@ -43,15 +29,17 @@ fn a_callers_function_faults(rt: HostRuntime) {
     );
 }
 
+/// A caller's Not, of column `a`.
+fn levelled_a(alloc: Global) -> Bound<Levelled> {
+    call_of_leaves(alloc, ScalarFnRef::custom(Levelled, Level { level: 3 }), 1)
+}
+
 #[test]
-fn the_text_of_a_call_has_its_options(rt: HostRuntime) {
+fn a_callers_function_answers_and_has_a_text(rt: HostRuntime) {
     let alloc = rt.alloc();
-    sure(
-        &rt,
-        prints(
-            rt,
-            call_of_leaves(alloc, ScalarFnRef::custom(Levelled, Level { level: 3 }), 1),
-            "test.levelled($.a, opts=level 3)",
-        ),
-    );
+    let columns = twice(alloc, &[Some(true), None]);
+    let wanted = [Some(false), None];
+    sure(&rt, answers(rt, levelled_a(alloc), columns, &wanted));
+    let text = "test.levelled($.a, opts=level 3)";
+    sure(&rt, prints(rt, levelled_a(alloc), text));
 }
