@@ -11,13 +11,13 @@ pub of_memory : {A : Type 0} (o : Outcome A) (e : ReadError) → IsTrue (is_want
     → ToldBy o e
 of_memory (answers a) e h = h
 of_memory (refuses r) e h = inr h
-of_memory missing e h = tt
+of_memory missing e h = inr h
 
 pub told_first : {A B : Type 0} (o : Outcome A) (f : A → Outcome B) (e : ReadError) → ToldBy o e
     → ToldBy (and_then o f) e
 told_first (answers a) f e h = of_memory (f a) e h
 told_first (refuses r) f e h = h
-told_first missing f e h = tt
+told_first missing f e h = h
 
 pub handed_on : {A B : Type 0} (view : A → B) (o : Outcome B) (r : Result A ReadError)
     (e : ReadError) → IsErrAnd r (λ x. x ≡ e) → ToldBy o e → Finds view r o

@@ -20,4 +20,8 @@ pub mod ReadBack
 pub mod ReadOver
 pub mod Saying
 pub mod Finding
+pub mod Sure
+pub mod Why
+pub mod Likened
+pub mod Counted
 pub mod Listing

@@ -3,11 +3,12 @@ use Rattle.std.proofs.Common.{◌≡◌, ℕ, ◌<◌, List, [], ◌∷◌, ◌+
 use Rattle.std.proofs.Common.{Ok}
 use Rattle.std.proofs.Common.{Err, refl, ap, sym, ◌∙◌, subst}
 use Rattle.std.proofs.Math.Seq.{drop-cons}
-use Rattle.std.specs.Prelude.{IfOk}
+use Rattle.std.specs.Prelude.{IfOk, IfErr}
 use Rattle.vortex_types.specs.LogicalTypes.{Fields}
 use Rattle.vortex_syntax.specs.declared.answer_list.SyntaxAnswer as held
 use Rattle.vortex_syntax.specs.AnswerLists as syntax
 use Rattle.vortex_syntax.specs.AnswerLists.{Told, told, ReadsAnswers}
+use Rattle.vortex_syntax.specs.Refusals.{ListStopsAt}
 use Rattle.vortex_syntax.proofs.AnswerSplits.{one_answers}
 use Rattle.vortex_expressions.specs.declared.error.ReadError.{ReadError}
 use Rattle.vortex_expressions.specs.declared.refusal.Refusal.{Refusal}
@@ -17,8 +18,11 @@ use Rattle.vortex_expressions.specs.Answers.{answers_left}
 use Rattle.vortex_expressions.specs.Answers.{answer_left}
 use Rattle.vortex_expressions.specs.Answers.{ExpressesAll, IsRefusedAll}
 use Rattle.vortex_expressions.specs.Reading.{Finds, ToldBy, ReadUnlessMemory, RefusesAs}
+use Rattle.vortex_expressions.specs.Reading.{TellsWhy}
 use Rattle.vortex_expressions.proofs.Finding.{told_first}
 use Rattle.vortex_expressions.proofs.Whole.{tree_left-is}
+use Rattle.vortex_expressions.proofs.Sure.{sure_answers}
+use Rattle.vortex_expressions.proofs.Why.{why}
 
 module _ (scope : Fields) where
   answers_left-is : (bs : List syntax.Answer)
@@ -46,6 +50,15 @@ module _ (scope : Fields) where
     only (Ok v) h list s =
         let e : answers (view v) ≡ answers list = sym h ∙ left_is s.syntax s.read ∙ s.bound in cc
     only (Err e) h list s = subst (λ o. ToldBy o e) (left_is s.syntax s.read ∙ s.bound) h
+
+    pub told_why : (r : Result A ReadError) → Finds view r (answers_left scope ts)
+        → IfErr r (TellsWhy ListStopsAt (IsRefusedAll scope text) text)
+    told_why (Ok v) h = tt
+    told_why (Err e) h =
+        why ListStopsAt (IsRefusedAll scope text) text _ (answers_of scope bs) e
+        (sure_answers scope read.spelled)
+        (λ r k. record { syntax = bs; read = read; refused = k })
+        (subst (λ o. ToldBy o e) (left_is bs read) h)
 
     pub refused : (r : Result A ReadError) → Finds view r (answers_left scope ts)
         → (why : Refusal) → IsRefusedAll scope text why → RefusesAs why r

@@ -13,7 +13,7 @@ use Rattle.vortex_interface.specs.Trees as trees
 use Rattle.vortex_interface.specs.Trees.{call, no_trees, list_of}
 use Rattle.vortex_interface.specs.declared.options.EmptyOptions.{EmptyOptions}
 use Rattle.vortex_functions.specs.declared.custom.NoCustom.{NoCustom}
-use Rattle.vortex_syntax.specs.declared.nesting.TheConstants.{DEPTH}
+use Rattle.vortex_syntax.specs.Nesting.{nesting_limit}
 use Rattle.vortex_syntax.specs.declared.step.Operator as syntax
 use Rattle.vortex_syntax.specs.declared.token.Sign.TheVariants as sign
 use Rattle.vortex_syntax.specs.Tokens.{Token, nullable, sign}
@@ -368,7 +368,7 @@ call_tokens d (ours Cast) ts =
     (nth_is ts 0)
     ∙ fused (tokens_behind d) (λ a. cast a (codes "bool") true)
     (option_and_then syntax_of (slice_get (list_of ts) 0))
-    ∙ cast_case (nat_lt d DEPTH) d (slice_get (list_of ts) 0)
+    ∙ cast_case (nat_lt d nesting_limit) d (slice_get (list_of ts) 0)
 call_tokens d (ours (Between o)) ts =
     ap (λ x. option_and_then (tokens_behind d)
     (if is_within o then all_three between_syntax x (nth 1 (syntaxes_of ts))
@@ -403,12 +403,12 @@ pub bracket_tokens : (d l : ℕ) (t : Tree)
     → ((a : Syntax) → syntax_of t ≡ Some a → nat_le l (level a) ≡ false)
     → part_tokens (tree d l t) ≡ option_and_then all_tokens (bracket_plan d t)
 bracket_tokens d l t h = by (syntax_of t) refl
-    ∙ enclosed_case (nat_lt d DEPTH) d open_only close_only t
+    ∙ enclosed_case (nat_lt d nesting_limit) d open_only close_only t
   where
     by : (o : Option Syntax) → syntax_of t ≡ o
         → operand_tokens d l o
         ≡ option_and_then
-        (λ a. if_so (nat_lt d DEPTH && nests_behind (suc d) a)
+        (λ a. if_so (nat_lt d nesting_limit && nests_behind (suc d) a)
         (open_only ++ (spelling a ++ close_only))) o
     by None e = refl
     by (Some a) e = let low = h a e in rw low refl

@@ -1,11 +1,12 @@
 -- What the steps of a text leave is what the text says.
 use Rattle.std.proofs.Common.{◌≡◌, ℕ, List, map, Result, Ok, Err, ap, sym, ◌∙◌, subst}
-use Rattle.std.specs.Prelude.{IfOk}
+use Rattle.std.specs.Prelude.{IfOk, IfErr}
 use Rattle.vortex_types.specs.LogicalTypes.{Fields}
 use Rattle.vortex_syntax.specs.declared.step.Step as written
 use Rattle.vortex_syntax.specs.Syntax.{Syntax}
 use Rattle.vortex_syntax.specs.Postfix.{step_in, postfix}
 use Rattle.vortex_syntax.specs.Grammar.{Reads}
+use Rattle.vortex_syntax.specs.Refusals.{TreeStopsAt}
 use Rattle.vortex_syntax.proofs.Whole.{one_tree}
 use Rattle.vortex_expressions.specs.declared.error.ReadError.{ReadError}
 use Rattle.vortex_expressions.specs.declared.refusal.Refusal.{Refusal}
@@ -14,7 +15,10 @@ use Rattle.vortex_expressions.specs.Items.{Tree}
 use Rattle.vortex_expressions.specs.Binding.{tree_of, Expresses, IsRefused}
 use Rattle.vortex_expressions.specs.Stacks.{tree_left}
 use Rattle.vortex_expressions.specs.Reading.{Bound, ToldBy, ReadUnlessMemory, RefusesAs}
+use Rattle.vortex_expressions.specs.Reading.{TellsWhy}
 use Rattle.vortex_expressions.proofs.Whole.{tree_left-is}
+use Rattle.vortex_expressions.proofs.Sure.{IsTyped, sure_tree}
+use Rattle.vortex_expressions.proofs.Why.{why}
 
 module _ (scope : Fields) (text : List ℕ) (t : Syntax) (steps : List written.Step)
     (read : Reads text t) (is : map step_in steps ≡ postfix t) where
@@ -31,6 +35,15 @@ module _ (scope : Fields) (text : List ℕ) (t : Syntax) (steps : List written.S
   only (Ok x) h tree s =
       let e : answers x ≡ answers tree = sym h ∙ left_is s.syntax s.read ∙ s.bound in cc
   only (Err e) h tree s = subst (λ o. ToldBy o e) (left_is s.syntax s.read ∙ s.bound) h
+
+  pub told : (r : Result Tree ReadError) → Bound scope steps r
+      → IfErr r (TellsWhy TreeStopsAt (IsRefused scope text) text)
+  told (Ok x) h = tt
+  told (Err e) h =
+      why TreeStopsAt (IsRefused scope text) text IsTyped (tree_of scope t) e
+      (sure_tree scope t read.spelled.levels)
+      (λ r k. record { syntax = t; read = read; refused = k })
+      (subst (λ o. ToldBy o e) (left_is t read) h)
 
   pub refused : (r : Result Tree ReadError) → Bound scope steps r → (why : Refusal)
       → IsRefused scope text why → RefusesAs why r

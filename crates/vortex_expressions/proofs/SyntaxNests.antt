@@ -3,7 +3,7 @@ use Rattle.std.proofs.Common.{◌≡◌, ℕ, suc, Bool, true, false, ◌&&◌, 
 use Rattle.std.proofs.Common.{Some, None, refl, ap, sym, ◌∙◌, append_assoc, nat_lt}
 use Rattle.std.proofs.lemmas.List.{append-nil}
 use Rattle.std.proofs.lemmas.Bool.{false≢true}
-use Rattle.vortex_syntax.specs.declared.nesting.TheConstants.{DEPTH}
+use Rattle.vortex_syntax.specs.Nesting.{nesting_limit}
 use Rattle.vortex_syntax.specs.declared.step.Operator as syntax
 use Rattle.vortex_syntax.specs.declared.step.Operator.TheVariants as written
 use Rattle.vortex_syntax.specs.declared.token.Sign.TheVariants as sign
@@ -85,10 +85,10 @@ nests_spelled (typed a w n) f d us =
     ∙ nests_spelled a f.1 d (sign sign.Typed ∷ type_token w n ∷ us)
     ∙ ap (λ b. nests_behind d a && b) (type_nests w n d us)
 nests_spelled (grouped a) f d us =
-    ap (λ ts. nat_lt d DEPTH && nests_from (suc d) ts)
+    ap (λ ts. nat_lt d nesting_limit && nests_from (suc d) ts)
     (append_assoc (spelling a) (sign sign.Close ∷ []) us)
-    ∙ ap (λ b. nat_lt d DEPTH && b) (nests_spelled a f (suc d) (sign sign.Close ∷ us))
-    ∙ sym (and_grouped (nat_lt d DEPTH) (nests_behind (suc d) a) (nests_from d us))
+    ∙ ap (λ b. nat_lt d nesting_limit && b) (nests_spelled a f (suc d) (sign sign.Close ∷ us))
+    ∙ sym (and_grouped (nat_lt d nesting_limit) (nests_behind (suc d) a) (nests_from d us))
 nests_spelled (negated a) f d us = nests_spelled a f.1 d us
 nests_spelled (joined o a b) f d us =
     ap (nests_from d) (append_assoc (spelling a) (sign (operator_sign o) ∷ spelling b) us)
@@ -131,12 +131,12 @@ nests_spelled (matched k a p e) f d us =
     ∙ sym (and_grouped (nests_behind d a) (nests_behind d p) (nests_from d us))
 nests_spelled (cast a w n) f d us =
     let last : List Token = sign sign.As ∷ type_token w n ∷ sign sign.Close ∷ us in
-    ap (λ ts. nat_lt d DEPTH && nests_from (suc d) ts)
+    ap (λ ts. nat_lt d nesting_limit && nests_from (suc d) ts)
     (append_assoc (spelling a) (sign sign.As ∷ type_token w n ∷ sign sign.Close ∷ []) us)
-    ∙ ap (λ b. nat_lt d DEPTH && b)
+    ∙ ap (λ b. nat_lt d nesting_limit && b)
     (nests_spelled a f (suc d) last
     ∙ ap (λ v. nests_behind (suc d) a && v) (type_nests w n (suc d) (sign sign.Close ∷ us)))
-    ∙ sym (and_grouped (nat_lt d DEPTH) (nests_behind (suc d) a) (nests_from d us))
+    ∙ sym (and_grouped (nat_lt d nesting_limit) (nests_behind (suc d) a) (nests_from d us))
 
 and_right : (b : Bool) → (b && true) ≡ b
 and_right true = refl

@@ -13,7 +13,7 @@ use Rattle.vortex_interface.specs.Trees as trees
 use Rattle.vortex_interface.specs.Trees.{leaf, constant, call, no_trees, list_of}
 use Rattle.vortex_interface.specs.declared.options.EmptyOptions.{EmptyOptions}
 use Rattle.vortex_functions.specs.declared.custom.NoCustom.{NoCustom}
-use Rattle.vortex_syntax.specs.declared.nesting.TheConstants.{DEPTH}
+use Rattle.vortex_syntax.specs.Nesting.{nesting_limit}
 use Rattle.vortex_syntax.specs.declared.writing.Writer.{Writer}
 use Rattle.vortex_syntax.specs.Tokens.{Token, sign}
 use Rattle.vortex_syntax.specs.declared.token.Sign.TheVariants as sign
@@ -139,7 +139,7 @@ plan_cost d (NullTest n) ts ps e =
       null_count n,
     )
 plan_cost d Cast ts ps e =
-    let g = where_is (nat_lt d DEPTH) (option_map (cast_parts d) (slice_get (list_of ts) 0)) ps e in
+    let g = where_is (nat_lt d nesting_limit) (option_map (cast_parts d) (slice_get (list_of ts) 0)) ps e in
     let m = mapped_is (cast_parts d) (slice_get (list_of ts) 0) ps g.there in
     let same = ap parts_cost m.made in
     omega (arith, same, first_cost ts m.a m.there)
@@ -233,7 +233,7 @@ bracket_cost : (d l : ℕ) (t : Tree) → 0 < l → (ps : List Part) → bracket
     → parts_cost ps < part_cost (tree d l t)
 bracket_cost d zero t h ps e = absurd (let k : ⊥ = omega (arith, h) in k)
 bracket_cost d (suc l) t h ps e =
-    let g = where_is (nat_lt d DEPTH) (Some (bracket_parts d t)) ps e in
+    let g = where_is (nat_lt d nesting_limit) (Some (bracket_parts d t)) ps e in
     let same = ap parts_cost (some_is (bracket_parts d t) ps g.there) in
     omega (arith, same)
 

@@ -10,3 +10,4 @@ pub mod Answers
 pub mod Writing
 pub mod WritingSteps
 pub mod Likeness
+pub mod Places

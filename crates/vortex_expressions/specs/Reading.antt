@@ -1,11 +1,14 @@
 -- What the readers of texts answer.
-use Rattle.std.specs.Prelude.{◌≡◌, ◌⊎◌, Result, MatchResult, ⊤, Bool, true, false, IsTrue, List}
+use Rattle.std.specs.Prelude.{◌≡◌, ◌⊎◌, ℕ, Result, MatchResult, Bool, true, false, IsTrue, List}
 use Rattle.std.specs.Prelude.{map}
 use Rattle.vortex_errors.specs.declared.error.VortexError.{VortexError}
 use Rattle.vortex_errors.specs.declared.error.VortexError.TheVariants.{OutOfMemory}
 use Rattle.vortex_types.specs.LogicalTypes.{Fields}
 use Rattle.vortex_syntax.specs.declared.step.Step.{Step}
+use Rattle.vortex_syntax.specs.declared.expected.Expected.{Expected}
+use Rattle.vortex_syntax.specs.Tokens.{Token}
 use Rattle.vortex_syntax.specs.Postfix.{step_in}
+use Rattle.vortex_syntax.specs.Refusals.{RefusesBy}
 use Rattle.vortex_syntax.specs.declared.error.SyntaxError.{SyntaxError}
 use Rattle.vortex_syntax.specs.declared.error.SyntaxError.TheVariants as syntax
 use Rattle.vortex_expressions.specs.declared.error.ReadError.{ReadError}
@@ -46,12 +49,15 @@ RefusedFor r e = (e.reason ≡ reason.Refused r) ⊎ IsTrue (is_want_of_memory e
 abbrev pub RefusesAs : {A : Type 0} → Refusal → Result A ReadError → Type 0
 RefusesAs r result = MatchResult result (λ _. ⊥) (RefusedFor r)
 
--- what is told of an outcome that is no answer, or of want of memory; nothing where parts are
--- missing, as in no expression
+-- that something could have come where a part is missing; or memory ran out
+abbrev pub LacksPart : ReadError → Type 0
+LacksPart e = ((x : Expected) × (e.reason ≡ reason.Unexpected x)) ⊎ IsTrue (is_want_of_memory e)
+
+-- what is told of an outcome that is no answer, or of want of memory
 abbrev pub ToldBy : {A : Type 0} → Outcome A → ReadError → Type 0
 ToldBy (answers a) e = IsTrue (is_want_of_memory e)
 ToldBy (refuses r) e = RefusedFor r e
-ToldBy missing e = ⊤
+ToldBy missing e = LacksPart e
 
 -- the outcome is found, by what is seen of it; or its refusal is told
 abbrev pub Finds : {A B : Type 0} → (A → B) → Result A ReadError → Outcome B → Type 0
@@ -60,15 +66,29 @@ Finds view result o = MatchResult result (λ a. o ≡ answers (view a)) (ToldBy 
 abbrev pub Bound : Fields → List Step → Result Tree ReadError → Type 0
 Bound scope ss result = Finds (λ t. t) result (tree_left scope (map step_in ss))
 
--- the reason is told, unless memory ran out
-abbrev pub ToldOf : Reason → ReadError → Type 0
-ToldOf r e = (e.reason ≡ r) ⊎ IsTrue (is_want_of_memory e)
+-- the reason is told, at that byte, unless memory ran out
+abbrev pub ToldAt : Reason → ℕ → ReadError → Type 0
+ToldAt r byte e = ((e.reason ≡ r) × (e.byte ≡ byte)) ⊎ IsTrue (is_want_of_memory e)
 
 abbrev pub UnreadBy : SyntaxError → ReadError → Type 0
+UnreadBy (syntax.NoToken byte) e = ToldAt reason.NoToken byte e
+UnreadBy (syntax.Unexpected byte x) e = ToldAt (reason.Unexpected x) byte e
+UnreadBy (syntax.TooDeep byte) e = ToldAt reason.TooDeep byte e
 UnreadBy syntax.OutOfMemory e = IsTrue (is_want_of_memory e)
-UnreadBy r e = ⊤
 
 -- what is told of why steps stop
 abbrev pub ToldStop : Stop → ReadError → Type 0
 ToldStop (Refused r) e = RefusedFor r e
-ToldStop Missing e = ⊤
+ToldStop Missing e = LacksPart e
+
+-- Why a text is refused, and at which byte: as its tokens are, which are to be what these stops are
+-- of, or else for that refusal; or memory ran out.
+abbrev pub ToldFor : (List Token → ℕ → Type 0) → (Refusal → Type 0) → List ℕ → Reason → ℕ → Type 0
+ToldFor Stops Refuses text reason.NoToken byte = RefusesBy Stops text (syntax.NoToken byte)
+ToldFor Stops Refuses text (reason.Unexpected x) byte =
+    RefusesBy Stops text (syntax.Unexpected byte x)
+ToldFor Stops Refuses text reason.TooDeep byte = RefusesBy Stops text (syntax.TooDeep byte)
+ToldFor Stops Refuses text (reason.Refused r) byte = Refuses r ⊎ IsTrue (is_memory_refusal r)
+
+abbrev pub TellsWhy : (List Token → ℕ → Type 0) → (Refusal → Type 0) → List ℕ → ReadError → Type 0
+TellsWhy Stops Refuses text e = ToldFor Stops Refuses text e.reason e.byte

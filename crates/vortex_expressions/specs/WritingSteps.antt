@@ -14,7 +14,7 @@ use Rattle.vortex_interface.specs.Trees as trees
 use Rattle.vortex_interface.specs.Trees.{leaf, constant, call, no_trees}
 use Rattle.vortex_interface.specs.declared.options.EmptyOptions.{EmptyOptions}
 use Rattle.vortex_functions.specs.declared.custom.NoCustom.{NoCustom}
-use Rattle.vortex_syntax.specs.declared.nesting.TheConstants.{DEPTH}
+use Rattle.vortex_syntax.specs.Nesting.{nesting_limit}
 use Rattle.vortex_syntax.specs.declared.step.Operator as syntax
 use Rattle.vortex_syntax.specs.declared.token.Sign.TheVariants as sign
 use Rattle.vortex_syntax.specs.declared.writing.Writer.{Writer}
@@ -61,14 +61,14 @@ abbrev pub nests_behind : ℕ → Syntax → Bool
 nests_behind d (operand t) = true
 nests_behind d (negative ds) = true
 nests_behind d (typed a w n) = nests_behind d a
-nests_behind d (grouped a) = nat_lt d DEPTH && nests_behind (suc d) a
+nests_behind d (grouped a) = nat_lt d nesting_limit && nests_behind (suc d) a
 nests_behind d (negated a) = nests_behind d a
 nests_behind d (joined o a b) = nests_behind d a && nests_behind d b
 nests_behind d (tested n a) = nests_behind d a
 nests_behind d (between n a low high) =
     nests_behind d a && (nests_behind d low && nests_behind d high)
 nests_behind d (matched k a p e) = nests_behind d a && nests_behind d p
-nests_behind d (cast a w n) = nat_lt d DEPTH && nests_behind (suc d) a
+nests_behind d (cast a w n) = nat_lt d nesting_limit && nests_behind (suc d) a
 
 abbrev pub tokens_behind : ℕ → Syntax → Option (List Token)
 tokens_behind d a = if nests_behind d a then Some (spelling a) else None
@@ -135,7 +135,7 @@ abbrev pub test_plan : ℕ → Bool → List Tree → Option (List Part)
 test_plan d n ts = option_map (λ t. tree d is_level t ∷ map token (null_test n)) (slice_get ts 0)
 
 abbrev pub cast_plan : ℕ → List Tree → Option (List Part)
-cast_plan d ts = if nat_lt d DEPTH then option_map (cast_parts d) (slice_get ts 0) else None
+cast_plan d ts = if nat_lt d nesting_limit then option_map (cast_parts d) (slice_get ts 0) else None
 
 abbrev pub between_plan : ℕ → BetweenOptions → List Tree → Option (List Part)
 between_plan d o ts =
@@ -158,7 +158,7 @@ call_plan d (ours s) ts = shipped_plan d s ts
 call_plan d (custom f o) ts = None
 
 abbrev pub bracket_plan : ℕ → Tree → Option (List Part)
-bracket_plan d t = if nat_lt d DEPTH then Some (bracket_parts d t) else None
+bracket_plan d t = if nat_lt d nesting_limit then Some (bracket_parts d t) else None
 
 -- these come next, where there are any; and nothing is written yet
 abbrev pub Plans : Option (List Part) → TreeWriter → TreeWriter → Bool → Type 0

@@ -1,15 +1,17 @@
 //! Lists of answers: `price * stock as worth, price > 100 as dear`.
-ghost use Rattle.std.specs.Prelude.{◌≡◌, map, option_map, MatchResult, IfOk};
+ghost use Rattle.std.specs.Prelude.{◌≡◌, map, option_map, MatchResult, IfOk, IfErr};
 ghost use Rattle.std.specs.Prelude.{string_bytes, List};
 ghost use Rattle.vortex_types.specs.TypeOf.{struct_fields};
 ghost use Rattle.vortex_syntax.specs.Tokens.{token_in};
 ghost use Rattle.vortex_syntax.specs.AnswerLists as syntax;
+ghost use Rattle.vortex_syntax.specs.Refusals.{ListStopsAt};
 ghost use Rattle.vortex_expressions.specs.declared.refusal.Refusal.{Refusal};
 ghost use Rattle.vortex_expressions.specs.Answers as specs;
 ghost use Rattle.vortex_expressions.specs.Answers.{answer_in, name_of, name_said, answer_left};
 ghost use Rattle.vortex_expressions.specs.Answers.{answers_left, ExpressesAll, IsRefusedAll};
 ghost use Rattle.vortex_expressions.specs.Answering.{Gives};
 ghost use Rattle.vortex_expressions.specs.Reading.{ReadUnlessMemory, RefusesAs, Finds};
+ghost use Rattle.vortex_expressions.specs.Reading.{TellsWhy};
 
 use crate::error::ReadError;
 use crate::quotes::{between_quotes, text_of};
@@ -103,6 +105,9 @@ pub fn read_answers(
     // A text that is refused is refused so.
     ensures refused { (r : Refusal) → IsRefusedAll (struct_fields scope.now) text.now r
         → RefusesAs r result }
+    // Why none is answered, and at which byte of a text that is no list.
+    ensures told { IfErr result
+        (TellsWhy ListStopsAt (IsRefusedAll (struct_fields scope.now) text.now) text.now) }
 {
     match read_answer_list(alloc, text.as_bytes()) {
         Ok(list) => bind_answers(alloc, scope, text, &list),

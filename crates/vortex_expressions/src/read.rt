@@ -1,10 +1,12 @@
 //! Texts to bound expressions.
-ghost use Rattle.std.specs.Prelude.{◌≡◌, IfOk};
+ghost use Rattle.std.specs.Prelude.{◌≡◌, IfOk, IfErr};
 ghost use Rattle.vortex_types.specs.TypeOf.{struct_fields};
+ghost use Rattle.vortex_syntax.specs.Refusals.{TreeStopsAt};
 ghost use Rattle.vortex_expressions.specs.declared.refusal.Refusal.{Refusal};
 ghost use Rattle.vortex_expressions.specs.Items.{Tree};
 ghost use Rattle.vortex_expressions.specs.Binding.{Expresses, IsRefused};
 ghost use Rattle.vortex_expressions.specs.Reading.{ReadUnlessMemory, RefusesAs, Bound};
+ghost use Rattle.vortex_expressions.specs.Reading.{TellsWhy};
 
 use crate::binder::bind;
 use crate::error::ReadError;
@@ -44,6 +46,9 @@ pub fn read_expression(
     // A text that is refused is refused so.
     ensures refused { (r : Refusal) → IsRefused (struct_fields scope.now) text.now r
         → RefusesAs r result }
+    // Why none is answered, and at which byte of a text that is none.
+    ensures told { IfErr result
+        (TellsWhy TreeStopsAt (IsRefused (struct_fields scope.now) text.now) text.now) }
 {
     match read_syntax(alloc, text.as_bytes()) {
         Ok(tree) => bind_steps(alloc, scope, text, &tree),

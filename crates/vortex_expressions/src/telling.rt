@@ -1,6 +1,6 @@
 //! What is told of a text that is no expression.
 ghost use Rattle.std.specs.Prelude.{IsTrue};
-ghost use Rattle.vortex_expressions.specs.Reading.{is_want_of_memory, ToldOf, UnreadBy, ToldStop};
+ghost use Rattle.vortex_expressions.specs.Reading.{is_want_of_memory, ToldAt, UnreadBy, ToldStop};
 
 use crate::binder::{Stopped, operands};
 use crate::error::{ReadError, Reason};
@@ -35,7 +35,7 @@ fn error_at(
     reason: Reason,
     told: VortexResult<String>,
 ) -> ReadError
-    ensures { ToldOf reason result }
+    ensures { ToldAt reason byte result }
 {
     let Ok(told) = told else {
         return out_of_memory(alloc);

@@ -109,3 +109,45 @@ fn of_what_begins_no_word(rt: HostRuntime) {
     ];
     assert!(rt; each_says(rt, CASES));
 }
+
+#[test]
+fn of_operands_that_bind_no_tighter(rt: HostRuntime) {
+    const CASES: &[(&str, &str)] = &[
+        (
+            "price is null = true",
+            "line 1, column 15: found \"=\", expected brackets round the comparison, is null, between or like before it",
+        ),
+        (
+            "name like 'a' not like 'b'",
+            "line 1, column 15: found \"not\", expected brackets round the comparison, is null, between or like before it",
+        ),
+        (
+            "price < 1 < 2",
+            "line 1, column 11: found \"<\", expected brackets round the comparison, is null, between or like before it",
+        ),
+    ];
+    assert!(rt; each_says(rt, CASES));
+}
+
+#[test]
+fn of_lines_and_characters(rt: HostRuntime) {
+    const CASES: &[(&str, &str)] = &[
+        (
+            "'é' = 'é' x",
+            "line 1, column 11: found \"x\", expected an operator or the end",
+        ),
+        (
+            "dear\r\n\n 'é' → 1",
+            "line 3, column 6: no word and no sign begins with \"→\"",
+        ),
+        (
+            "dear\r\n\n 'é' = 1",
+            "line 3, column 2: found \"'\", expected an operator or the end",
+        ),
+        (
+            "\"\" = 1",
+            "line 1, column 1: no column \"\"; a text stands in single quotes, as 'text'",
+        ),
+    ];
+    assert!(rt; each_says(rt, CASES));
+}

@@ -153,5 +153,5 @@ fn depth(rt: HostRuntime) {
 
 #[test]
 fn a_long_sum(rt: HostRuntime) {
-    assert!(rt; matches!(sum_is_written(rt.alloc(), 100000), Ok(true)));
+    assert!(rt; matches!(sum_is_written(rt.alloc(), 10000), Ok(true)));
 }
