@@ -1,7 +1,6 @@
 """Texts that are changed at random, most of which are refused: what the program reads, PostgreSQL reads alike."""
 import random
 import re
-from collections import Counter
 
 from engines import NOT_ASKED, STATES, Fault, Refused
 from spelling import Plain, Text, is_unchanged
@@ -92,11 +91,13 @@ def is_refused(answers):
 class Changed:
     """Asks changed texts of the program and of PostgreSQL."""
 
-    def __init__(self, program, server, seed, rows):
+    def __init__(self, program, server, seed, rows, counts):
         self.program, self.server, self.seed, self.rows = program, server, seed, rows
-        self.counts, self.differences, self.examples = Counter(), [], {}
+        self.counts, self.differences, self.examples = counts, [], {}
 
     def run(self, begin, end):
+        """Asks the texts of these numbers, and answers what differs in them."""
+        self.differences = []
         table = random_table(random.Random(f"changed table {self.seed} {begin}"), self.rows, small=True)
         texts = [changed_text(random.Random(f"changed {self.seed} {number}"), table) for number in range(begin, end)]
         theirs = self.server.answers(texts, table)
@@ -108,6 +109,7 @@ class Changed:
                 self.beside_refusal(number, text, refused, answers)
             else:
                 self.beside_answers(number, text, ours, answers, table)
+        return self.differences
 
     def differ(self, number, text, ours, theirs):
         self.differences.append(f"changed text {number}: {text!r}\n    rowfn_stream: {ours}\n    PostgreSQL: {theirs}")

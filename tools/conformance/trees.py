@@ -87,7 +87,7 @@ def other_case(rng, letter):
 
 
 def random_text(rng):
-    if rng.random() < 0.03:
+    if rng.random() < 0.05:
         return long_text(rng)
     some = LETTERS if rng.random() < 0.9 else LETTERS + list("".join(CASES))
     return "".join(rng.choice(some if rng.random() < 0.75 else OTHERS) for _ in range(rng.choice((0, 1, 1, 2, 2, 3, 4, 6))))
@@ -162,32 +162,39 @@ def type_of_fields(values):
     return "utf8"
 
 
-def with_shape(rng, columns, rows):
-    """A table of these columns and rows, as the program gets it: without a header, or some columns without a declared type."""
-    if rng.random() < 0.2:
-        return Table(columns, rows, has_header=False)
-    taken = rng.random() < 0.4
+# How a table goes in: each column declared; without a header; or with some columns that are not declared.
+SHAPES = ("declared", "without a header", "inferred")
+
+
+def with_shape(rng, columns, rows, shape):
+    """A table of these columns and rows, as the program gets it."""
+    if shape != "inferred":
+        return Table(columns, rows, shape == "declared")
     shaped = []
     for place, column in enumerate(columns):
         values = [row[place] for row in rows]
-        if taken and column.type in ("bool", "i64", "utf8") and rng.random() < 0.6 and type_of_fields(values) == column.type:
+        if column.type in ("bool", "i64", "utf8") and rng.random() < 0.6 and type_of_fields(values) == column.type:
             # whether it has nulls is taken from the fields too
             column = replace(column, nullable=None in values, is_declared=False)
         shaped.append(column)
     return Table(shaped, rows)
 
 
-def large_table(rng):
+def large_table(rng, shape):
     """A column of each type or more, over thousands of rows: small numbers, and texts of which some are long. Some columns are
     null in each row."""
     columns = [Column("pattern", "utf8", True), Column("other", "utf8", True), Column("bool_b", "bool", True), Column("i64_b", "i64", True)]
     columns += [Column(f"{name}_a", name, rng.random() < 0.3) for name in TYPES]
     rng.shuffle(columns)
     empty = {column.name for column in columns if column.nullable and rng.random() < 0.2}
-    texts = [random_text(rng) for _ in range(30)] + [long_text(rng) for _ in range(15)]
+    texts = [long_text(rng) for _ in range(15)] + [random_text(rng) for _ in range(15)] + ["ω", "aω"]
+    # some that differ in cases alone, and some at their ends
     texts += ["".join(other_case(rng, letter) if rng.random() < 0.3 else letter for letter in text) for text in texts]
-    texts += [text + rng.choice("abé") for text in texts[:20]] + ["ω", "Ω", "aω", "AΩ"]
-    patterns = [pattern_of(rng, rng.choice(texts), "\\") for _ in range(40)] + [random_pattern(rng) for _ in range(20)]
+    texts += [text + rng.choice("abé") for text in texts[:15]]
+    patterns = [pattern_of(rng, rng.choice(texts), "\\") for _ in range(40)] + [random_pattern(rng) for _ in range(10)]
+    # patterns that end in their escape, of texts that end so too and of others
+    texts += [text + "\\" for text in texts[15:25]]
+    patterns += [pattern_of(rng, text, "\\") + "\\" for text in texts[15:25]]
 
     def cell(column):
         if column.name in empty or (column.nullable and rng.random() < 0.2):
@@ -196,10 +203,10 @@ def large_table(rng):
             return rng.choice(patterns if column.name == "pattern" else texts)
         return random_value(rng, column.type, None)
     rows = [tuple(map(cell, columns)) for _ in range(rng.randint(1400, 6000))]
-    return with_shape(rng, columns, rows)
+    return with_shape(rng, columns, rows, shape)
 
 
-def random_table(rng, rows, small=False):
+def random_table(rng, rows, small=False, shape="declared"):
     """Two columns of each type or more, one of which has nulls, under names in and out of quotes. Where it is small, the
     names stand in no quotes, and numbers are small. One column in ten with nulls is null in each row."""
     hard = ["two words", "and", 'a"b', "Upper", "né", "1st", "a,b", "_x1", "SELECT", "::", "--"]
@@ -230,7 +237,7 @@ def random_table(rng, rows, small=False):
         if cells["pattern"] is not None and rng.random() < 0.7:
             cells["pattern"] = pattern_of(rng, cells[rng.choice(texts)], "\\")
         return tuple(cells[column.name] for column in columns)
-    return with_shape(rng, columns, [row() for _ in range(rows)])
+    return with_shape(rng, columns, [row() for _ in range(rows)], shape)
 
 
 # The levels of the language, and those that the operands of each node have at least.
@@ -255,6 +262,18 @@ class Maker:
         if self.rng.random() < 0.2:
             return self.integer(self.rng.choice(self.types), 0, size)
         return self.truth(0, size)
+
+    def of_texts(self):
+        """A LIKE or a comparison of texts alone."""
+        word = self.rng.choice(LIKES + COMPARISONS)
+        columns = [Node("column", "utf8", (), column.name) for column in self.table.columns if column.type == "utf8"]
+        if word not in LIKES:
+            return Node(word, "bool", (self.rng.choice(columns), self.rng.choice(columns)))
+        if self.rng.random() < 0.5:
+            pattern = next(column for column in columns if column.value == "pattern")
+            return Node(word, "bool", (self.rng.choice(columns), pattern), self.rng.choice((None, "\\")))
+        escape = self.rng.choice((None, None, "!"))
+        return Node(word, "bool", self.matched(escape), escape)
 
     def truth(self, level, size):
         """A truth value that needs no brackets at a level, or in trees that are not flat one that does."""
