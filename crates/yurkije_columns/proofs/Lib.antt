@@ -2,3 +2,4 @@ pub mod Serving
 pub mod ScopesSoFar
 pub mod LentSoFar
 pub mod TextRooms
+pub mod PutMessages

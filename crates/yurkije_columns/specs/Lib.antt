@@ -4,3 +4,4 @@ pub mod Scopes
 pub mod Batches
 pub mod Statuses
 pub mod Rooms
+pub mod Messages

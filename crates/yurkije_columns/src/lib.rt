@@ -9,10 +9,12 @@ pub mod lent;
 pub mod rooms;
 pub mod statuses;
 pub mod texts;
+mod words;
 
 pub use batch::{BatchError, ColumnFault, read_batch};
 pub use fields::{LentField, ScopeError, ScopeFault, read_fields};
 pub use kinds::{Kind, Type, kind_numbered, type_told};
 pub use lent::{LentColumn, LentError, arrow_columns, placed};
 pub use rooms::{Room, RoomError, Size, copy_answer, size_of};
-pub use texts::put_text;
+pub use texts::{put_message, put_text};
+pub use words::{batch_words, lent_words, scope_words};
