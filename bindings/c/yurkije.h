@@ -59,6 +59,8 @@
  *
  * - A call that fills a handle frees first what the handle held. Where the call is refused, the
  *   handle is empty. Other calls leave a handle as it was, refused or not.
+ * - Where a handle holds nothing, or nothing of that number, what a call was to write is as it was;
+ *   `yk_error` tells it.
  * - It frees what it allocated, when the handle is freed; it frees nothing of the caller's.
  * - Where memory is refused, a call answers YK_OUT_OF_MEMORY and leaks nothing. It never aborts.
  * - Calls read nothing outside of the slices that they are handed, whatever stands in them.
@@ -195,7 +197,8 @@ struct yk_error {
     size_t line;                 /* the line of the text, from 1 on, or 0 */
     size_t character;            /* the character in that line, from 1 on, or 0 */
     struct yk_text_room message; /* in words, one line of UTF-8 that ends with a NUL: as many whole
-                                    characters as there is room for */
+                                    characters as there is room for; `out of memory` where there is
+                                    none for the words, and empty where nothing is refused */
     size_t message_length;       /* its bytes, without the NUL */
 };
 
@@ -332,7 +335,7 @@ uint32_t yk_answer_size(struct yk_answers *answers, size_t answer, struct yk_siz
 
 /* Copies answer `answer` into the caller's buffers, each from its first item on: the bits of rows
  * that are not null, and the values. What lies behind stays as it was, and all where the copy is
- * refused. A null text has no bytes. */
+ * refused. Texts stand one behind another: the first offset is 0, and a null has no bytes. */
 uint32_t yk_answer_copy(struct yk_answers *answers, size_t answer, struct yk_room *room);
 
 /* The numbers of the rows in which answer `answer`, a truth value, is true, ascending from 0 on, and

@@ -13,11 +13,11 @@ use Rattle.yurkije.specs.Views.{ProgramView, HeldView}
 use Rattle.yurkije.specs.Answering.{HoldsAnswers, answered, without_memory, KeepsOrWants}
 
 pub run_holds : (p : ProgramView) (lent : List LentColumn) (rows : ℕ) (held : Option HeldView)
-    (result : ℕ) (report : Report) (columns : List ArrowColumn) (answers : List ColumnView)
+    (result : ℕ) (old report : Report) (columns : List ArrowColumn) (answers : List ColumnView)
     → AllSay lent columns
     → (AllMean (Rewrites meaning) p.written p.optimized
     → AnswersBatch p.scope rows columns p.written answers)
-    → KeepsOrWants answers held result report → HoldsAnswers p lent rows held result report
-run_holds p lent rows held result report columns answers say batch (inl h) =
+    → KeepsOrWants answers held result old report → HoldsAnswers p lent rows held result old report
+run_holds p lent rows held result old report columns answers say batch (inl h) =
     answered columns answers say batch h.0 h.1
-run_holds p lent rows held result report columns answers say batch (inr w) = without_memory w
+run_holds p lent rows held result old report columns answers say batch (inr w) = without_memory w

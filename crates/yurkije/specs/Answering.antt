@@ -1,6 +1,6 @@
 -- What a handle holds of a batch, and what is asked of answers.
 use Rattle.std.specs.Prelude.{◌≡◌, ◌⊎◌, ℕ, ℤ, pos, List, map, take, length}
-use Rattle.std.specs.Prelude.{Option, Some, None, slice_get}
+use Rattle.std.specs.Prelude.{Option, Some, None, slice_get, codes}
 use Rattle.vortex_interface.specs.Rewrites.{Rewrites}
 use Rattle.vortex_functions.specs.Walks.{AllMean}
 use Rattle.vortex_expressions.specs.Items.{meaning}
@@ -22,45 +22,49 @@ use Rattle.yurkije_core.specs.declared.running.RunError.{RunError}
 use Rattle.yurkije_core.specs.declared.report.Report.{Report}
 use Rattle.yurkije_core.specs.Running.{AnswersBatch, RefusesRun}
 use Rattle.yurkije_core.specs.Reports.{Tells, nowhere, lent_told, run_told}
+use Rattle.yurkije_core.specs.Messages.{HasMessage, IsRunWords}
+use Rattle.yurkije_columns.specs.Messages.{lent_words}
 use Rattle.yurkije.specs.Views.{ProgramView, HeldView, answers_in}
-use Rattle.yurkije.specs.Reading.{Done, Wants}
+use Rattle.yurkije.specs.Asking.{Asks}
+use Rattle.yurkije.specs.Reading.{Done, Wants, Refuses}
 
 -- The handle holds what the program answers over the columns that are lent, and 0 is answered; or
--- it
--- holds nothing, and why is told: a column is wrong, or an answer faults, or memory ran out. Of a
+-- it holds nothing, and why is told: a column is wrong, or an answer faults, or memory ran out. Of a
 -- program that was read, what is run are rewrites of what was written.
 pub data HoldsAnswers (p : ProgramView) (lent : List LentColumn) (rows : ℕ) (held : Option HeldView)
-    (result : ℕ) (report : Report) : Type 0 where
+    (result : ℕ) (old report : Report) : Type 0 where
   answered : (columns : List ArrowColumn) (answers : List ColumnView) → AllSay lent columns
       → (AllMean (Rewrites meaning) p.written p.optimized
       → AnswersBatch p.scope rows columns p.written answers)
-      → answers_in held ≡ Some answers → Done result report
-      → HoldsAnswers p lent rows held result report
-  no_kind : (e : LentError) → RefusesLent lent e → held ≡ None
-      → result ≡ (lent_told e).status → Tells report (lent_told e)
-      → HoldsAnswers p lent rows held result report
+      → answers_in held ≡ Some answers → Done result old report
+      → HoldsAnswers p lent rows held result old report
+  no_kind : (e : LentError) → RefusesLent lent e
+      → Refuses (λ w. w ≡ lent_words e) (lent_told e) held result old report
+      → HoldsAnswers p lent rows held result old report
   refused : (columns : List ArrowColumn) (e : RunError) → AllSay lent columns
       → (AllMean (Rewrites meaning) p.written p.optimized
       → RefusesRun p.scope rows columns p.written e)
-      → held ≡ None → result ≡ (run_told e).status → Tells report (run_told e)
-      → HoldsAnswers p lent rows held result report
-  without_memory : Wants held result report → HoldsAnswers p lent rows held result report
+      → Refuses (IsRunWords p.scope p.names rows e) (run_told e) held result old report
+      → HoldsAnswers p lent rows held result old report
+  without_memory : Wants held result old report → HoldsAnswers p lent rows held result old report
 
 -- there is no program to run
-pub record HoldsNothing (held : Option HeldView) (result : ℕ) (report : Report) : Type 0 where
+pub record HoldsNothing (held : Option HeldView) (result : ℕ) (old report : Report) : Type 0 where
   pub left : held ≡ None
   pub status : result ≡ 100
   pub told : Tells report (nowhere 100)
+  pub message : HasMessage (codes "the handle holds no expression") old report
 
-abbrev pub Runs : Option ProgramView → List LentColumn → ℕ → Option HeldView → ℕ → Report → Type 0
-Runs None lent rows held result report = HoldsNothing held result report
-Runs (Some p) lent rows held result report = HoldsAnswers p lent rows held result report
+abbrev pub Runs : Option ProgramView → List LentColumn → ℕ → Option HeldView → ℕ → Report → Report
+    → Type 0
+Runs None lent rows held result old report = HoldsNothing held result old report
+Runs (Some p) lent rows held result old report = HoldsAnswers p lent rows held result old report
 
--- how long the buffers have to be, or why that is not told
-abbrev pub Sizes : ColumnView → Size → ℕ → Type 0
-Sizes c s result =
-    ((result ≡ 0) × IsSize c s)
-    ⊎ ((e : CopyError) × RefusesSize c e × (result ≡ copy_status e))
+-- how long the buffers have to be, or why that is not told, and then nothing is
+abbrev pub Sizes : ColumnView → Size → Size → ℕ → Type 0
+Sizes c old new result =
+    ((result ≡ 0) × IsSize c new)
+    ⊎ ((e : CopyError) × RefusesSize c e × (new ≡ old) × (result ≡ copy_status e))
 
 abbrev pub room_status : RoomError → ℕ
 room_status room.UnknownKind = 102
@@ -85,11 +89,22 @@ abbrev pub Selects : ColumnView → ℕ → List ℕ → List ℕ → ℕ → �
 Selects = SelectsBy pos
 
 -- the answers are held, or memory ran out
-abbrev pub KeepsOrWants : List ColumnView → Option HeldView → ℕ → Report → Type 0
-KeepsOrWants columns held result report =
-    ((answers_in held ≡ Some columns) × Done result report) ⊎ Wants held result report
+abbrev pub KeepsOrWants : List ColumnView → Option HeldView → ℕ → Report → Report → Type 0
+KeepsOrWants columns held result old report =
+    ((answers_in held ≡ Some columns) × Done result old report) ⊎ Wants held result old report
+
+-- P of that answer; or there are no answers, or none of that number, and what was handed over is the
+-- same
+abbrev pub AsksAnswer : Option (List ColumnView) → ℕ → ℕ → Type 0 → (ColumnView → Type 0) → Type 0
+AsksAnswer answers k result same P =
+    Asks answers 100 result same (λ cs. Asks (slice_get cs k) 101 result same P)
 
 -- it is that answer
 abbrev pub FindsColumn : Option (List ColumnView) → ℕ → ColumnView → Type 0
 FindsColumn None k c = ⊥
 FindsColumn (Some cs) k c = slice_get cs k ≡ Some c
+
+-- there is none, which has that status
+abbrev pub FindsNone : Option (List ColumnView) → ℕ → ℕ → Type 0
+FindsNone None k status = status ≡ 100
+FindsNone (Some cs) k status = (status ≡ 101) × (slice_get cs k ≡ None)

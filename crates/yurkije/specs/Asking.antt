@@ -12,10 +12,14 @@ use Rattle.yurkije_columns.specs.declared.kinds.Type as told
 use Rattle.yurkije_core.specs.Programs.{IsTreeText}
 use Rattle.yurkije.specs.Views.{ProgramView}
 
--- P of what is there, which is answered with 0; or the status where nothing is
-abbrev pub Asks : {A : Type 0} → Option A → ℕ → ℕ → (A → Type 0) → Type 0
-Asks None status result P = result ≡ status
-Asks (Some a) status result P = P a
+-- P of what is there, or the status where nothing is: then what was handed over is the same
+abbrev pub Asks : {A : Type 0} → Option A → ℕ → ℕ → Type 0 → (A → Type 0) → Type 0
+Asks None status result same P = (result ≡ status) × same
+Asks (Some a) status result same P = P a
+
+-- a room and a length are as they were
+abbrev pub SameRoom : List ℕ → List ℕ → ℕ → ℕ → Type 0
+SameRoom old new len_old len = (new ≡ old) × (len ≡ len_old)
 
 -- a text is written into a room, of as many whole characters as there is room for, and how long it
 -- is is told
@@ -34,31 +38,33 @@ pub record IsType (t : LogicalType) (u : told.Type) : Type 0 where
   pub kind : u.kind ≡ type_number t
   pub nullable : u.nullable ≡ is_nullable t
 
--- the name and the type of a field; none has a number past the last
-abbrev pub TellsFieldName : ProgramView → ℕ → List ℕ → List ℕ → ℕ → ℕ → Type 0
-TellsFieldName p k old new len result =
+-- the name and the type of a field; none has a number past the last, and then nothing is written
+abbrev pub TellsFieldName : ProgramView → ℕ → List ℕ → List ℕ → ℕ → ℕ → ℕ → Type 0
+TellsFieldName p k old new len_old len result =
     (k < field_count p.scope → IsPut (field_name k p.scope) old new len result)
-    × (field_count p.scope ≤ k → result ≡ 101)
+    × (field_count p.scope ≤ k → (result ≡ 101) × SameRoom old new len_old len)
 
-abbrev pub TellsFieldType : ProgramView → ℕ → told.Type → ℕ → Type 0
-TellsFieldType p k t result =
+abbrev pub TellsFieldType : ProgramView → ℕ → told.Type → told.Type → ℕ → Type 0
+TellsFieldType p k old t result =
     (k < field_count p.scope → (result ≡ 0) × IsType (field_type k p.scope) t)
-    × (field_count p.scope ≤ k → result ≡ 101)
+    × (field_count p.scope ≤ k → (result ≡ 101) × (t ≡ old))
 
 -- those of an answer
-abbrev pub TellsAnswerName : ProgramView → ℕ → List ℕ → List ℕ → ℕ → ℕ → Type 0
-TellsAnswerName p k old new len result =
-    Asks (slice_get p.names k) 101 result (λ name. IsPut name old new len result)
+abbrev pub TellsAnswerName : ProgramView → ℕ → List ℕ → List ℕ → ℕ → ℕ → ℕ → Type 0
+TellsAnswerName p k old new len_old len result =
+    Asks (slice_get p.names k) 101 result (SameRoom old new len_old len)
+    (λ name. IsPut name old new len result)
 
-abbrev pub TellsAnswerType : ProgramView → ℕ → told.Type → ℕ → Type 0
-TellsAnswerType p k t result =
-    Asks (slice_get p.written k) 101 result
+abbrev pub TellsAnswerType : ProgramView → ℕ → told.Type → told.Type → ℕ → Type 0
+TellsAnswerType p k old t result =
+    Asks (slice_get p.written k) 101 result (t ≡ old)
     (λ tree. (result ≡ 0) × IfSome (tree_type meaning tree) (λ u. IsType u t))
 
 -- the text of an answer, as it was written or as it is run; or memory ran out, and nothing is
 -- written
 abbrev pub TellsAnswerText : ProgramView → ℕ → Bool → List ℕ → List ℕ → ℕ → ℕ → ℕ → Type 0
 TellsAnswerText p k optimized old new len_old len result =
-    ((result ≡ 9) × (new ≡ old) × (len ≡ len_old))
+    ((result ≡ 9) × SameRoom old new len_old len)
     ⊎ Asks (slice_get (if optimized then p.optimized else p.written) k) 101 result
+    (SameRoom old new len_old len)
     (λ tree. (words : List ℕ) × IsTreeText tree words × IsPut words old new len result)

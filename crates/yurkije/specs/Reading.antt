@@ -1,5 +1,6 @@
 -- What a handle holds of a text, and what is told of one that is refused.
-use Rattle.std.specs.Prelude.{◌≡◌, ◌≢◌, ◌⊎◌, ℕ, List, Option, Some, None, Result, Ok, Err, IsUtf8}
+use Rattle.std.specs.Prelude.{◌≡◌, ◌≢◌, ◌⊎◌, ℕ, List, [], Option, Some, None, Result, Ok, Err}
+use Rattle.std.specs.Prelude.{IsUtf8}
 use Rattle.vortex_types.specs.LogicalTypes.{Fields}
 use Rattle.vortex_types.specs.TypeOf.{struct_fields}
 use Rattle.vortex_expressions.specs.declared.refusal.Refusal.{Refusal}
@@ -11,10 +12,12 @@ use Rattle.yurkije_columns.specs.Scopes.{answers, refuses, scope_lent}
 use Rattle.yurkije_core.specs.declared.program.Program.{Program}
 use Rattle.yurkije_core.specs.declared.reading.ProgramError.{ProgramError}
 use Rattle.yurkije_core.specs.declared.report.Report.{Report}
-use Rattle.yurkije_core.specs.Programs.{IsAsked, AreRewrites, ReadsLines, RefusesLines}
+use Rattle.yurkije_core.specs.Programs.{IsAsked, AreOptimized, ReadsLines, RefusesLines}
 use Rattle.yurkije_core.specs.Programs.{IsNoText, IsWant}
 use Rattle.yurkije_core.specs.Programs.{Tells as TellsOf}
-use Rattle.yurkije_core.specs.Statuses.{program_status}
+use Rattle.yurkije_core.specs.declared.report.Told.{Told}
+use Rattle.yurkije_core.specs.Messages.{HasMessage, IsToldIn, IsProgramWords}
+use Rattle.yurkije_columns.specs.Messages.{memory_words, scope_words}
 use Rattle.yurkije_columns.specs.declared.fields.ScopeFault.TheVariants.{OutOfMemory}
 use Rattle.yurkije_core.specs.Reports.{Tells, nowhere, program_told, scope_told}
 use Rattle.yurkije.specs.Views.{HeldView, program_view, program_held}
@@ -23,23 +26,34 @@ use Rattle.yurkije.specs.Views.{HeldView, program_view, program_held}
 abbrev pub Holds : Option HeldView → Program → Type 0
 Holds held p = held ≡ Some (program_held (program_view p))
 
--- nothing is refused
-pub record Done (result : ℕ) (report : Report) : Type 0 where
+-- nothing is refused, in no words
+pub record Done (result : ℕ) (old report : Report) : Type 0 where
   pub status : result ≡ 0
   pub told : Tells report (nowhere 0)
+  pub message : HasMessage [] old report
 
 -- the handle holds nothing, and memory ran out
-pub record Wants (held : Option HeldView) (result : ℕ) (report : Report) : Type 0 where
+pub record Wants (held : Option HeldView) (result : ℕ) (old report : Report) : Type 0 where
   pub left : held ≡ None
   pub status : result ≡ 9
   pub told : Tells report (nowhere 9)
+  pub message : HasMessage memory_words old report
+
+-- the handle holds nothing, and that is told in words of P
+pub record Refuses (P : List ℕ → Type 0) (t : Told) (held : Option HeldView) (result : ℕ)
+    (old report : Report) : Type 0 where
+  pub left : held ≡ None
+  pub status : result ≡ t.status
+  pub told : Tells report t
+  pub message : IsToldIn P old report
 
 -- what becomes of a program that was read: it is held, or why there is none is told; or memory ran
 -- out
-abbrev pub Reads : Result Program ProgramError → Option HeldView → ℕ → Report → Type 0
-Reads (Ok p) held result report = (Holds held p × Done result report) ⊎ Wants held result report
-Reads (Err e) held result report =
-    (held ≡ None) × (result ≡ program_status e) × Tells report (program_told e)
+abbrev pub Reads : Result Program ProgramError → Option HeldView → ℕ → Report → Report → Type 0
+Reads (Ok p) held result old report =
+    (Holds held p × Done result old report) ⊎ Wants held result old report
+Reads (Err e) held result old report =
+    Refuses (IsProgramWords e) (program_told e) held result old report
 
 -- why a text is no program over the fields of a scope
 pub record IsRefusedText (scope : Fields) (text : List ℕ) (e : ProgramError) : Type 0 where
@@ -50,27 +64,28 @@ pub record IsRefusedText (scope : Fields) (text : List ℕ) (e : ProgramError) :
 -- the handle holds what the text asks over the fields, and 0 is answered; or it holds nothing, and
 -- why is told: a field is wrong, or the text, or memory ran out
 pub data HoldsRead (fields : List LentField) (text : List ℕ) (held : Option HeldView) (result : ℕ)
-    (report : Report) : Type 0 where
+    (old report : Report) : Type 0 where
   read : (p : Program) → scope_lent fields ≡ answers (struct_fields p.scope)
       → IsAsked (struct_fields p.scope) text p.written.items
-      → AreRewrites p.written.items p.optimized.items → Holds held p → Done result report
-      → HoldsRead fields text held result report
+      → AreOptimized p.written.items p.optimized.items → Holds held p → Done result old report
+      → HoldsRead fields text held result old report
   no_scope : (e : ScopeError) → (e.fault ≢ OutOfMemory → scope_lent fields ≡ refuses e)
-      → held ≡ None → result ≡ (scope_told e).status → Tells report (scope_told e)
-      → HoldsRead fields text held result report
+      → Refuses (λ w. w ≡ scope_words e.field e.fault) (scope_told e) held result old report
+      → HoldsRead fields text held result old report
   no_program : (scope : Fields) (e : ProgramError) → scope_lent fields ≡ answers scope
-      → IsRefusedText scope text e → held ≡ None → result ≡ program_status e
-      → Tells report (program_told e) → HoldsRead fields text held result report
-  without_memory : Wants held result report → HoldsRead fields text held result report
+      → IsRefusedText scope text e
+      → Refuses (IsProgramWords e) (program_told e) held result old report
+      → HoldsRead fields text held result old report
+  without_memory : Wants held result old report → HoldsRead fields text held result old report
 
 -- likewise of lines
-pub data HoldsLines (text : List ℕ) (held : Option HeldView) (result : ℕ) (report : Report)
+pub data HoldsLines (text : List ℕ) (held : Option HeldView) (result : ℕ) (old report : Report)
     : Type 0 where
   lines_read : (p : Program)
       → ReadsLines (expression_lines text) (struct_fields p.scope) p.written.items
-      → AreRewrites p.written.items p.optimized.items → Holds held p → Done result report
-      → HoldsLines text held result report
-  no_lines : (e : ProgramError) → RefusesLines (expression_lines text) e → held ≡ None
-      → result ≡ program_status e → Tells report (program_told e)
-      → HoldsLines text held result report
-  lines_without_memory : Wants held result report → HoldsLines text held result report
+      → AreOptimized p.written.items p.optimized.items → Holds held p → Done result old report
+      → HoldsLines text held result old report
+  no_lines : (e : ProgramError) → RefusesLines (expression_lines text) e
+      → Refuses (IsProgramWords e) (program_told e) held result old report
+      → HoldsLines text held result old report
+  lines_without_memory : Wants held result old report → HoldsLines text held result old report

@@ -1,8 +1,7 @@
 //! Answers: of a batch, asked, copied, and freed.
-ghost use Rattle.std.specs.Prelude.{◌≡◌, None, slice_get};
+ghost use Rattle.std.specs.Prelude.{◌≡◌, None};
 ghost use Rattle.yurkije.specs.Views.{program_in, answers_in};
-ghost use Rattle.yurkije.specs.Asking.{Asks};
-ghost use Rattle.yurkije.specs.Answering.{Runs, Sizes, Copies, Selects};
+ghost use Rattle.yurkije.specs.Answering.{Runs, AsksAnswer, Sizes, Copies, Selects};
 
 use crate::giving::{put_answer, put_size, put_true_rows, run_held};
 use crate::handle::Handle;
@@ -24,11 +23,11 @@ pub extern "C" fn yk_run(
 ) -> u32
     ensures kept { expression.new.held ≡ expression.old.held }
     ensures run { Runs (program_in expression.old.held) columns.now rows answers.new.held result
-        error.new }
+        error.old error.new }
 {
     answers.clear(alloc);
     let Some(held) = expression.open(alloc) else {
-        return error.tell(Told::of(EMPTY_HANDLE), "the handle holds nothing");
+        return error.tell(Told::of(EMPTY_HANDLE), "the handle holds no expression");
     };
     let status = run_held(alloc, &held, placed(columns), rows, answers, error);
     expression.close(held);
@@ -52,8 +51,8 @@ pub extern "C" fn yk_answer_size(
     size: &mut Size,
 ) -> u32
     ensures kept { answers.new.held ≡ answers.old.held }
-    ensures size { Asks (answers_in answers.old.held) 100 result (λ cs.
-        Asks (slice_get cs answer) 101 result (λ c. Sizes c size.new result)) }
+    ensures size { AsksAnswer (answers_in answers.old.held) answer result (size.new ≡ size.old)
+        (λ c. Sizes c size.old size.new result) }
 {
     let Some(held) = answers.open(alloc) else {
         return EMPTY_HANDLE;
@@ -72,8 +71,8 @@ pub extern "C" fn yk_answer_copy(
     room: &mut Room<'_>,
 ) -> u32
     ensures kept { answers.new.held ≡ answers.old.held }
-    ensures copied { Asks (answers_in answers.old.held) 100 result (λ cs.
-        Asks (slice_get cs answer) 101 result (λ c. Copies c room.old room.new result)) }
+    ensures copied { AsksAnswer (answers_in answers.old.held) answer result (room.new ≡ room.old)
+        (λ c. Copies c room.old room.new result) }
 {
     let Some(held) = answers.open(alloc) else {
         return EMPTY_HANDLE;
@@ -93,9 +92,9 @@ pub extern "C" fn yk_select(
     count: &mut usize,
 ) -> u32
     ensures kept { answers.new.held ≡ answers.old.held }
-    ensures selected { Asks (answers_in answers.old.held) 100 result (λ cs.
-        Asks (slice_get cs answer) 101 result
-        (λ c. Selects c 18446744073709551615 numbers.old numbers.new count.new result)) }
+    ensures selected { AsksAnswer (answers_in answers.old.held) answer result
+        ((numbers.new ≡ numbers.old) × (count.new ≡ count.old))
+        (λ c. Selects c 18446744073709551615 numbers.old numbers.new count.new result) }
 {
     let Some(held) = answers.open(alloc) else {
         return EMPTY_HANDLE;
@@ -115,9 +114,9 @@ pub extern "C" fn yk_select_u32(
     count: &mut usize,
 ) -> u32
     ensures kept { answers.new.held ≡ answers.old.held }
-    ensures selected { Asks (answers_in answers.old.held) 100 result (λ cs.
-        Asks (slice_get cs answer) 101 result
-        (λ c. Selects c 4294967295 numbers.old numbers.new count.new result)) }
+    ensures selected { AsksAnswer (answers_in answers.old.held) answer result
+        ((numbers.new ≡ numbers.old) × (count.new ≡ count.old))
+        (λ c. Selects c 4294967295 numbers.old numbers.new count.new result) }
 {
     let Some(held) = answers.open(alloc) else {
         return EMPTY_HANDLE;

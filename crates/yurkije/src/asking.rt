@@ -2,7 +2,7 @@
 ghost use Rattle.std.specs.Prelude.{◌≡◌, ◌<◌, length, string_bytes, slice_get, map};
 ghost use Rattle.vortex_types.specs.LogicalTypes.{field_count, field_type};
 ghost use Rattle.vortex_types.specs.FieldNames.{field_name};
-ghost use Rattle.yurkije.specs.Asking.{Asks, IsPut, TellsFieldName, TellsFieldType};
+ghost use Rattle.yurkije.specs.Asking.{Asks, SameRoom, IsPut, TellsFieldName, TellsFieldType};
 ghost use Rattle.yurkije.specs.Asking.{TellsAnswerName, TellsAnswerType, TellsAnswerText};
 
 use crate::held::Held;
@@ -23,8 +23,8 @@ pub(crate) fn put(text: &str, room: &mut [u8], len: &mut usize) -> u32
 }
 
 pub(crate) fn field_count(held: &Held, count: &mut usize) -> u32
-    ensures { Asks held.now.program 100 result (λ p. (result ≡ 0)
-        × (count.new ≡ field_count p.scope)) }
+    ensures { Asks held.now.program 100 result (count.new ≡ count.old)
+        (λ p. (result ≡ 0) × (count.new ≡ field_count p.scope)) }
 {
     match held.program() {
         Some(program) => {
@@ -37,7 +37,8 @@ pub(crate) fn field_count(held: &Held, count: &mut usize) -> u32
 
 pub(crate) fn field_name(held: &Held, field: usize, room: &mut [u8], len: &mut usize) -> u32
     ensures { Asks held.now.program 100 result
-        (λ p. TellsFieldName p field room.old room.new len.new result) }
+        (SameRoom room.old room.new len.old len.new)
+        (λ p. TellsFieldName p field room.old room.new len.old len.new result) }
 {
     match held.program() {
         Some(program) => {
@@ -52,8 +53,8 @@ pub(crate) fn field_name(held: &Held, field: usize, room: &mut [u8], len: &mut u
 }
 
 pub(crate) fn field_type(held: &Held, field: usize, dtype: &mut Type) -> u32
-    ensures { Asks held.now.program 100 result
-        (λ p. TellsFieldType p field dtype.new result) }
+    ensures { Asks held.now.program 100 result (dtype.new ≡ dtype.old)
+        (λ p. TellsFieldType p field dtype.old dtype.new result) }
 {
     match held.program() {
         Some(program) => {
@@ -69,8 +70,8 @@ pub(crate) fn field_type(held: &Held, field: usize, dtype: &mut Type) -> u32
 }
 
 pub(crate) fn answer_count(held: &Held, count: &mut usize) -> u32
-    ensures { Asks held.now.program 100 result (λ p. (result ≡ 0)
-        × (count.new ≡ length p.written)) }
+    ensures { Asks held.now.program 100 result (count.new ≡ count.old)
+        (λ p. (result ≡ 0) × (count.new ≡ length p.written)) }
 {
     match held.program() {
         Some(program) => {
@@ -83,7 +84,8 @@ pub(crate) fn answer_count(held: &Held, count: &mut usize) -> u32
 
 pub(crate) fn answer_name(held: &Held, answer: usize, room: &mut [u8], len: &mut usize) -> u32
     ensures { Asks held.now.program 100 result
-        (λ p. TellsAnswerName p answer room.old room.new len.new result) }
+        (SameRoom room.old room.new len.old len.new)
+        (λ p. TellsAnswerName p answer room.old room.new len.old len.new result) }
 {
     match held.program() {
         Some(program) => match program.written.get(answer) {
@@ -95,8 +97,8 @@ pub(crate) fn answer_name(held: &Held, answer: usize, room: &mut [u8], len: &mut
 }
 
 pub(crate) fn answer_type(held: &Held, answer: usize, dtype: &mut Type) -> u32
-    ensures { Asks held.now.program 100 result
-        (λ p. TellsAnswerType p answer dtype.new result) }
+    ensures { Asks held.now.program 100 result (dtype.new ≡ dtype.old)
+        (λ p. TellsAnswerType p answer dtype.old dtype.new result) }
 {
     match held.program() {
         Some(program) => match program.written.get(answer) {
@@ -118,8 +120,8 @@ pub(crate) fn answer_text(
     room: &mut [u8],
     len: &mut usize,
 ) -> u32
-    ensures { Asks held.now.program 100 result (λ p. TellsAnswerText p answer optimized room.old
-        room.new len.old len.new result) }
+    ensures { Asks held.now.program 100 result (SameRoom room.old room.new len.old len.new)
+        (λ p. TellsAnswerText p answer optimized room.old room.new len.old len.new result) }
 {
     match held.program() {
         Some(program) => match program.text(alloc, answer, optimized) {

@@ -2,7 +2,7 @@
 ghost use Rattle.std.specs.Prelude.{◌≡◌, None, length};
 ghost use Rattle.vortex_types.specs.LogicalTypes.{field_count};
 ghost use Rattle.yurkije.specs.Views.{program_in};
-ghost use Rattle.yurkije.specs.Asking.{Asks, TellsFieldName, TellsFieldType};
+ghost use Rattle.yurkije.specs.Asking.{Asks, SameRoom, TellsFieldName, TellsFieldType};
 ghost use Rattle.yurkije.specs.Asking.{TellsAnswerName, TellsAnswerType, TellsAnswerText};
 ghost use Rattle.yurkije.specs.Reading.{Reads, HoldsRead, HoldsLines};
 
@@ -13,10 +13,8 @@ use crate::handle::Handle;
 use crate::held::Held;
 use crate::statuses::{EMPTY_HANDLE, OUT_OF_MEMORY};
 use std::alloc::Global;
-use yurkije_columns::{LentField, Type, placed, read_fields};
-use yurkije_core::{
-    Program, ProgramError, Report, Told, program_words, read_lines, read_program, scope_words,
-};
+use yurkije_columns::{LentField, Type, placed, read_fields, scope_words};
+use yurkije_core::{Program, ProgramError, Report, Told, program_words, read_lines, read_program};
 
 /// Holds a program, or tells why there is none.
 fn hold(
@@ -26,13 +24,13 @@ fn hold(
     error: &mut Report<'_>,
 ) -> u32
     requires { expression.old.held ≡ None }
-    ensures { Reads read expression.new.held result error.new }
+    ensures { Reads read expression.new.held result error.old error.new }
 {
     let program = match read {
         Ok(program) => program,
         Err(wrong) => {
             let words = program_words(alloc, &wrong);
-            return error.tell(Told::of_program(&wrong), words.as_str());
+            return error.tell_in(Told::of_program(&wrong), words);
         }
     };
     match Box::new(alloc, Held::of_program(program)) {
@@ -54,7 +52,7 @@ pub extern "C" fn yk_expression_new(
     expression: &mut Handle,
     error: &mut Report<'_>,
 ) -> u32
-    ensures { HoldsRead fields.now text.now expression.new.held result error.new }
+    ensures { HoldsRead fields.now text.now expression.new.held result error.old error.new }
 {
     expression.clear(alloc);
     match read_fields(alloc, placed(fields)) {
@@ -64,7 +62,7 @@ pub extern "C" fn yk_expression_new(
         }
         Err(wrong) => {
             let words = scope_words(alloc, wrong);
-            error.tell(Told::of_scope(wrong), words.as_str())
+            error.tell_in(Told::of_scope(wrong), words)
         }
     }
 }
@@ -78,7 +76,7 @@ pub extern "C" fn yk_expression_of_lines(
     expression: &mut Handle,
     error: &mut Report<'_>,
 ) -> u32
-    ensures { HoldsLines text.now expression.new.held result error.new }
+    ensures { HoldsLines text.now expression.new.held result error.old error.new }
 {
     expression.clear(alloc);
     let read = read_lines(alloc, placed(text));
@@ -97,8 +95,8 @@ pub extern "C" fn yk_expression_free(alloc: Global, expression: &mut Handle)
 #[unsafe(no_mangle)]
 pub extern "C" fn yk_field_count(alloc: Global, expression: &mut Handle, count: &mut usize) -> u32
     ensures kept { expression.new.held ≡ expression.old.held }
-    ensures count { Asks (program_in expression.old.held) 100 result (λ p. (result ≡ 0)
-        × (count.new ≡ field_count p.scope)) }
+    ensures count { Asks (program_in expression.old.held) 100 result (count.new ≡ count.old)
+        (λ p. (result ≡ 0) × (count.new ≡ field_count p.scope)) }
 {
     let Some(held) = expression.open(alloc) else {
         return EMPTY_HANDLE;
@@ -119,7 +117,8 @@ pub extern "C" fn yk_field_name(
 ) -> u32
     ensures kept { expression.new.held ≡ expression.old.held }
     ensures name { Asks (program_in expression.old.held) 100 result
-        (λ p. TellsFieldName p field room.old room.new len.new result) }
+        (SameRoom room.old room.new len.old len.new)
+        (λ p. TellsFieldName p field room.old room.new len.old len.new result) }
 {
     let Some(held) = expression.open(alloc) else {
         return EMPTY_HANDLE;
@@ -138,8 +137,8 @@ pub extern "C" fn yk_field_type(
     dtype: &mut Type,
 ) -> u32
     ensures kept { expression.new.held ≡ expression.old.held }
-    ensures told { Asks (program_in expression.old.held) 100 result
-        (λ p. TellsFieldType p field dtype.new result) }
+    ensures told { Asks (program_in expression.old.held) 100 result (dtype.new ≡ dtype.old)
+        (λ p. TellsFieldType p field dtype.old dtype.new result) }
 {
     let Some(held) = expression.open(alloc) else {
         return EMPTY_HANDLE;
@@ -153,8 +152,8 @@ pub extern "C" fn yk_field_type(
 #[unsafe(no_mangle)]
 pub extern "C" fn yk_answer_count(alloc: Global, expression: &mut Handle, count: &mut usize) -> u32
     ensures kept { expression.new.held ≡ expression.old.held }
-    ensures count { Asks (program_in expression.old.held) 100 result (λ p. (result ≡ 0)
-        × (count.new ≡ length p.written)) }
+    ensures count { Asks (program_in expression.old.held) 100 result (count.new ≡ count.old)
+        (λ p. (result ≡ 0) × (count.new ≡ length p.written)) }
 {
     let Some(held) = expression.open(alloc) else {
         return EMPTY_HANDLE;
@@ -175,7 +174,8 @@ pub extern "C" fn yk_answer_name(
 ) -> u32
     ensures kept { expression.new.held ≡ expression.old.held }
     ensures name { Asks (program_in expression.old.held) 100 result
-        (λ p. TellsAnswerName p answer room.old room.new len.new result) }
+        (SameRoom room.old room.new len.old len.new)
+        (λ p. TellsAnswerName p answer room.old room.new len.old len.new result) }
 {
     let Some(held) = expression.open(alloc) else {
         return EMPTY_HANDLE;
@@ -194,8 +194,8 @@ pub extern "C" fn yk_answer_type(
     dtype: &mut Type,
 ) -> u32
     ensures kept { expression.new.held ≡ expression.old.held }
-    ensures told { Asks (program_in expression.old.held) 100 result
-        (λ p. TellsAnswerType p answer dtype.new result) }
+    ensures told { Asks (program_in expression.old.held) 100 result (dtype.new ≡ dtype.old)
+        (λ p. TellsAnswerType p answer dtype.old dtype.new result) }
 {
     let Some(held) = expression.open(alloc) else {
         return EMPTY_HANDLE;
@@ -218,6 +218,7 @@ pub extern "C" fn yk_answer_text(
 ) -> u32
     ensures kept { expression.new.held ≡ expression.old.held }
     ensures text { Asks (program_in expression.old.held) 100 result
+        (SameRoom room.old room.new len.old len.new)
         (λ p. TellsAnswerText p answer optimized room.old room.new len.old len.new result) }
 {
     let Some(held) = expression.open(alloc) else {

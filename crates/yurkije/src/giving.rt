@@ -1,10 +1,9 @@
 //! What is run and given of what is held.
-ghost use Rattle.std.specs.Prelude.{◌≡◌, None, Some, slice_get, MatchResult, pos, map, take, length};
+ghost use Rattle.std.specs.Prelude.{◌≡◌, None, Some, MatchResult, pos, map, take, length};
 ghost use Rattle.vortex_columns.specs.ColumnView.{ColumnView};
 ghost use Rattle.yurkije.specs.Views.{program_view};
-ghost use Rattle.yurkije.specs.Asking.{Asks};
 ghost use Rattle.yurkije.specs.Answering.{Runs, HoldsAnswers, Sizes, Copies, SelectsBy, FindsColumn};
-ghost use Rattle.yurkije.specs.Answering.{KeepsOrWants};
+ghost use Rattle.yurkije.specs.Answering.{KeepsOrWants, AsksAnswer, FindsNone};
 
 use crate::handle::Handle;
 use crate::held::Held;
@@ -13,13 +12,15 @@ use std::alloc::Global;
 use vortex_arrow::{IndexType, copy_true_rows, true_count};
 use vortex_columns::Column;
 use yurkije_columns::statuses::copy_status;
-use yurkije_columns::{LentColumn, Room, RoomError, Size, arrow_columns, copy_answer, size_of};
-use yurkije_core::{Program, Report, Told, lent_words, run_program, run_words};
+use yurkije_columns::{
+    LentColumn, Room, RoomError, Size, arrow_columns, copy_answer, lent_words, size_of,
+};
+use yurkije_core::{Program, Report, Told, run_program, run_words};
 
 /// Holds answers, or tells that memory ran out.
 fn hold(alloc: Global, columns: Vec<Column>, answers: &mut Handle, error: &mut Report<'_>) -> u32
     requires { answers.old.held ≡ None }
-    ensures { KeepsOrWants columns.items answers.new.held result error.new }
+    ensures { KeepsOrWants columns.items answers.new.held result error.old error.new }
 {
     match Box::new(alloc, Held::of_answers(columns)) {
         Ok(held) => {
@@ -40,20 +41,21 @@ fn run(
     error: &mut Report<'_>,
 ) -> u32
     requires { answers.old.held ≡ None }
-    ensures { HoldsAnswers (program_view program.now) columns.now rows answers.new.held result error.new }
+    ensures { HoldsAnswers (program_view program.now) columns.now rows answers.new.held result
+        error.old error.new }
 {
     let columns = match arrow_columns(alloc, columns) {
         Ok(columns) => columns,
         Err(wrong) => {
             let words = lent_words(alloc, wrong);
-            return error.tell(Told::of_lent(wrong), words.as_str());
+            return error.tell_in(Told::of_lent(wrong), words);
         }
     };
     match run_program(alloc, program, &columns, rows) {
         Ok(columns) => hold(alloc, columns, answers, error),
         Err(wrong) => {
             let words = run_words(alloc, program, &wrong, rows);
-            error.tell(Told::of_run(&wrong), words.as_str())
+            error.tell_in(Told::of_run(&wrong), words)
         }
     }
 }
@@ -68,7 +70,7 @@ pub(crate) fn run_held(
     error: &mut Report<'_>,
 ) -> u32
     requires { answers.old.held ≡ None }
-    ensures { Runs held.now.program columns.now rows answers.new.held result
+    ensures { Runs held.now.program columns.now rows answers.new.held result error.old
         error.new }
 {
     match held.program() {
@@ -80,8 +82,7 @@ pub(crate) fn run_held(
 /// The column of an answer, or the status where there is none.
 fn column_of(held: &Held, answer: usize) -> Result<&Column, u32>
     ensures { MatchResult result (λ c. FindsColumn held.now.answers answer c.now)
-        (λ status. Asks held.now.answers 100 status
-        (λ cs. (status ≡ 101) × (slice_get cs answer ≡ None))) }
+        (FindsNone held.now.answers answer) }
 {
     match held.columns() {
         Some(columns) => match columns.get(answer) {
@@ -94,7 +95,7 @@ fn column_of(held: &Held, answer: usize) -> Result<&Column, u32>
 
 /// How long the buffers of an answer have to be.
 fn size_told(column: &Column, size: &mut Size) -> u32
-    ensures { Sizes column.now size.new result }
+    ensures { Sizes column.now size.old size.new result }
 {
     match size_of(column) {
         Ok(found) => {
@@ -106,8 +107,8 @@ fn size_told(column: &Column, size: &mut Size) -> u32
 }
 
 pub(crate) fn put_size(held: &Held, answer: usize, size: &mut Size) -> u32
-    ensures { Asks held.now.answers 100 result (λ cs.
-        Asks (slice_get cs answer) 101 result (λ c. Sizes c size.new result)) }
+    ensures { AsksAnswer held.now.answers answer result (size.new ≡ size.old)
+        (λ c. Sizes c size.old size.new result) }
 {
     match column_of(held, answer) {
         Ok(column) => size_told(column, size),
@@ -127,8 +128,8 @@ fn answer_copied(column: &Column, room: &mut Room<'_>) -> u32
 }
 
 pub(crate) fn put_answer(held: &Held, answer: usize, room: &mut Room<'_>) -> u32
-    ensures { Asks held.now.answers 100 result (λ cs.
-        Asks (slice_get cs answer) 101 result (λ c. Copies c room.old room.new result)) }
+    ensures { AsksAnswer held.now.answers answer result (room.new ≡ room.old)
+        (λ c. Copies c room.old room.new result) }
 {
     match column_of(held, answer) {
         Ok(column) => answer_copied(column, room),
@@ -153,9 +154,9 @@ pub(crate) fn put_true_rows<I: IndexType>(
     numbers: &mut [I],
     count: &mut usize,
 ) -> u32
-    ensures { Asks held.now.answers 100 result (λ cs.
-        Asks (slice_get cs answer) 101 result
-        (λ c. SelectsBy I.number c I.most numbers.old numbers.new count.new result)) }
+    ensures { AsksAnswer held.now.answers answer result
+        ((numbers.new ≡ numbers.old) × (count.new ≡ count.old))
+        (λ c. SelectsBy I.number c I.most numbers.old numbers.new count.new result) }
 {
     match column_of(held, answer) {
         Ok(column) => true_rows_told(column, numbers, count),

@@ -1,7 +1,7 @@
 -- The trees so far that do not fault in a row, and the first that does.
 use Rattle.std.proofs.Common.{◌≡◌, ◌<◌, ◌∙◌, ℕ, List, [], ◌∷◌, refl, sym, ap, subst, zero, suc, arith}
-use Rattle.std.proofs.Common.{length, map, take, get_or, inl, inr}
-use Rattle.std.specs.Prelude.{slice_get, option_map}
+use Rattle.std.proofs.Common.{length, take, get_or}
+use Rattle.std.specs.Prelude.{option_map}
 use Rattle.std.proofs.lemmas.Option.{slice_get_read, slice_get-map}
 use Rattle.std.proofs.lemmas.List.{take-map}
 use Rattle.vortex_errors.specs.declared.error.VortexError.{VortexError}

@@ -1,13 +1,14 @@
 -- The trees of answers that are held are those that a text says.
 use Rattle.std.proofs.Common.{◌≡◌, List, [], ◌∷◌, refl, map}
+use Rattle.vortex_types.specs.LogicalTypes.{Fields}
 use Rattle.vortex_functions.specs.Walks.{AllMean}
 use Rattle.vortex_expressions.specs.Answers.{Answer}
 use Rattle.rowfn_scripts.specs.declared.expression.Answer as held
 use Rattle.yurkije_core.specs.Programs.{trees_of, IsHeld}
 
-pub held_trees : (said : List Answer) (held : List held.Answer) → AllMean IsHeld said held
-    → trees_of held ≡ map (λ a. a.tree) said
-held_trees [] [] h = refl
-held_trees [] (x ∷ held) h = absurd h
-held_trees (a ∷ said) [] h = absurd h
-held_trees (a ∷ said) (x ∷ held) h = λ i. h.0.tree i ∷ held_trees said held h.1 i
+pub held_trees : (scope : Fields) (said : List Answer) (held : List held.Answer)
+    → AllMean (IsHeld scope) said held → trees_of held ≡ map (λ a. a.tree) said
+held_trees scope [] [] h = refl
+held_trees scope [] (x ∷ held) h = absurd h
+held_trees scope (a ∷ said) [] h = absurd h
+held_trees scope (a ∷ said) (x ∷ held) h = λ i. h.0.tree i ∷ held_trees scope said held h.1 i

@@ -1,5 +1,5 @@
 -- What is run answers what was written.
-use Rattle.std.proofs.Common.{◌≡◌, ◌<◌, ◌∙◌, ℕ, List, [], ◌∷◌, Some, None, sym, ap}
+use Rattle.std.proofs.Common.{◌∙◌, ℕ, List, [], ◌∷◌, sym, ap}
 use Rattle.std.specs.Prelude.{All}
 use Rattle.vortex_types.specs.Values.{Value, null}
 use Rattle.vortex_columns.specs.ColumnView.{ColumnView}

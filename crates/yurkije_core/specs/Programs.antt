@@ -12,7 +12,6 @@ use Rattle.vortex_interface.specs.ValidityRules.{default_rules}
 use Rattle.vortex_functions.specs.Walks.{AllMean}
 use Rattle.vortex_functions.specs.Binding.{IsLeafAt}
 use Rattle.vortex_rewriting.specs.Runs.{expression_step}
-use Rattle.vortex_expressions.specs.declared.error.ReadError.{ReadError}
 use Rattle.vortex_expressions.specs.declared.refusal.Refusal.{Refusal}
 use Rattle.vortex_expressions.specs.Items.{Tree, meaning}
 use Rattle.vortex_expressions.specs.Answers.{Answer, ExpressesAll}

@@ -1,5 +1,5 @@
 -- What is told of a refusal by its numbers.
-use Rattle.std.specs.Prelude.{◌≡◌, ℕ, Bool, if◌then◌else◌}
+use Rattle.std.specs.Prelude.{◌≡◌, ℕ, if◌then◌else◌}
 use Rattle.vortex_arrow.specs.declared.error.ArrowError.{ArrowError}
 use Rattle.vortex_arrow.specs.declared.error.ArrowError.TheVariants as arrow
 use Rattle.vortex_expressions.specs.declared.error.ReadError.{ReadError}

@@ -1,7 +1,6 @@
 -- The numbers of what is refused.
 use Rattle.std.specs.Prelude.{ℕ}
 use Rattle.vortex_errors.specs.Errors.{number_of}
-use Rattle.vortex_expressions.specs.declared.error.ReadError.{ReadError}
 use Rattle.vortex_expressions.specs.declared.error.Reason.{Reason}
 use Rattle.vortex_expressions.specs.declared.error.Reason.TheVariants as reason
 use Rattle.vortex_expressions.specs.declared.refusal.Refusal.{Refusal}

@@ -14,4 +14,4 @@ pub use program::Program;
 pub use reading::{ProgramError, read_lines, read_program};
 pub use report::{NONE, Report, Told};
 pub use running::{RunError, run_program};
-pub use words::{lent_words, program_words, run_words, scope_words};
+pub use words::{program_words, run_words};

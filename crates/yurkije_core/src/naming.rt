@@ -31,9 +31,13 @@ fn name_of(
     ensures { AnswersUnlessMemory result
         (λ name. IsNameOf (struct_fields scope.now) tree.now (string_bytes name)) }
 {
-    match tree.as_column() {
-        Some(place) if place < scope.len() => Ok(String::from_str(alloc, scope.name(place))?),
-        _ => text_of(alloc, tree),
+    let Some(place) = tree.as_column() else {
+        return text_of(alloc, tree);
+    };
+    if place < scope.len() {
+        Ok(String::from_str(alloc, scope.name(place))?)
+    } else {
+        text_of(alloc, tree)
     }
 }
 

@@ -3,7 +3,8 @@ ghost use Rattle.std.specs.Prelude.{◌≡◌, [], MatchResult, string_bytes};
 ghost use Rattle.yurkije_core.specs.Reports.{nowhere, of_column, of_row, of_line, scope_told};
 ghost use Rattle.yurkije_core.specs.Reports.{text_told, lines_told, program_told, arrow_told};
 ghost use Rattle.yurkije_core.specs.Reports.{batch_told, lent_told, run_told, Tells};
-ghost use Rattle.yurkije_core.specs.Messages.{IsMessage, HasMessage, memory_words};
+ghost use Rattle.yurkije_columns.specs.Messages.{memory_words};
+ghost use Rattle.yurkije_core.specs.Messages.{HasMessage};
 
 use crate::reading::ProgramError;
 use crate::running::RunError;
@@ -13,7 +14,7 @@ use vortex_arrow::ArrowError;
 use vortex_columns::VortexResult;
 use vortex_expressions::ReadError;
 use yurkije_columns::statuses::{column_status, scope_status};
-use yurkije_columns::{BatchError, ColumnFault, LentError, ScopeError, ScopeFault, put_text};
+use yurkije_columns::{BatchError, ColumnFault, LentError, ScopeError, ScopeFault, put_message};
 
 /// Where there is no answer, column, row or byte to tell.
 pub const NONE: usize = usize::MAX;
@@ -197,19 +198,6 @@ impl Told {
             RunError::OutOfMemory => Told::of(status),
         }
     }
-}
-
-/// Writes as many whole characters of the words into the caller's bytes as there is room for, ended
-/// by a NUL, and tells how many bytes they take without it. What lies behind stays as it was.
-fn put_message(words: &str, message: &mut [u8]) -> usize
-    ensures { IsMessage words.now message.old message.new result }
-{
-    let Some(room) = message.len().checked_sub(1) else {
-        return 0;
-    };
-    let count = put_text(words, &mut message[..room]);
-    message[count] = 0;
-    count
 }
 
 impl Report<'_> {

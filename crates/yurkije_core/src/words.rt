@@ -1,32 +1,16 @@
 //! The words in which refusals are told.
-ghost use Rattle.std.specs.Prelude.{◌≡◌, string_bytes};
+ghost use Rattle.std.specs.Prelude.{◌≡◌, string_bytes, slice_get};
 ghost use Rattle.vortex_errors.specs.Answers.{AnswersUnlessMemory};
 ghost use Rattle.vortex_types.specs.TypeOf.{struct_fields};
-ghost use Rattle.yurkije_core.specs.Messages.{scope_words, lent_words, IsProgramWords, fault_words};
-ghost use Rattle.yurkije_core.specs.Messages.{name_of_field, name_of_answer, IsFaultWords, IsRunWords};
+ghost use Rattle.yurkije_core.specs.Messages.{IsProgramWords, names_of, name_in, IsFaultWords};
+ghost use Rattle.yurkije_core.specs.Messages.{IsRunWords};
 
 use crate::program::Program;
 use crate::reading::ProgramError;
 use crate::running::RunError;
 use std::alloc::Global;
-use vortex_columns::{StructFields, VortexError, VortexResult};
-use yurkije_columns::{BatchError, ColumnFault, LentError, ScopeError, ScopeFault};
-
-/// The words for a field that is wrong. E9 where memory is refused.
-pub fn scope_words(alloc: Global, error: ScopeError) -> VortexResult<String>
-    ensures { AnswersUnlessMemory result
-        (λ words. string_bytes words ≡ scope_words error.field error.fault) }
-{
-    let field = error.field;
-    match error.fault {
-        ScopeFault::UnknownKind => Ok(format!(in alloc; "field {field}: no kind has that number")?),
-        ScopeFault::NotUtf8 => Ok(format!(in alloc; "field {field}: its name is not UTF-8")?),
-        ScopeFault::NameTwice => {
-            Ok(format!(in alloc; "field {field}: a field before it has its name")?)
-        }
-        ScopeFault::OutOfMemory => Ok(String::from_str(alloc, "out of memory")?),
-    }
-}
+use vortex_columns::{VortexError, VortexResult};
+use yurkije_columns::batch_words;
 
 /// The words for a text that is no program: those that its error displays. E9 where memory is
 /// refused.
@@ -41,59 +25,9 @@ pub fn program_words(alloc: Global, error: &ProgramError) -> VortexResult<String
     }
 }
 
-/// The words for columns that are not taken. E9 where memory is refused.
-pub fn lent_words(alloc: Global, error: LentError) -> VortexResult<String>
-    ensures { AnswersUnlessMemory result (λ words. string_bytes words ≡ lent_words error) }
-{
-    match error {
-        LentError::UnknownKind { column } => {
-            Ok(format!(in alloc; "column {column}: no kind has that number")?)
-        }
-        LentError::OutOfMemory => Ok(String::from_str(alloc, "out of memory")?),
-    }
-}
-
-/// The name of a field, or none where there is no such field.
-fn field_named(scope: &StructFields, field: usize) -> &str
-    ensures { result.now ≡ name_of_field (struct_fields scope.now) field }
-{
-    if field < scope.len() {
-        scope.name(field)
-    } else {
-        ""
-    }
-}
-
-/// The words for a column that is wrong.
-fn batch_words(
-    alloc: Global,
-    scope: &StructFields,
-    error: BatchError,
-    rows: usize,
-) -> VortexResult<String>
-    ensures { AnswersUnlessMemory result (λ words. string_bytes words
-        ≡ fault_words (struct_fields scope.now) rows error.column error.fault) }
-{
-    let column = error.column;
-    let name = field_named(scope, column);
-    match error.fault {
-        ColumnFault::Missing => Ok(format!(in alloc; "column {column} ({name}): missing")?),
-        ColumnFault::Unasked => {
-            Ok(format!(in alloc; "column {column}: there is no field for it")?)
-        }
-        ColumnFault::OtherType => {
-            Ok(format!(in alloc; "column {column} ({name}): of another type than the field")?)
-        }
-        ColumnFault::OtherLength { rows: length } => Ok(
-            format!(in alloc; "column {column} ({name}): {length} rows in a batch of {rows}")?,
-        ),
-        ColumnFault::Unread(error) => Ok(format!(in alloc; "column {column} ({name}): {error}")?),
-    }
-}
-
 /// The name of an answer, or none where there is no such answer.
 fn answer_named(program: &Program, answer: usize) -> &str
-    ensures { result.now ≡ name_of_answer program.now.written.items answer }
+    ensures { result.now ≡ name_in (slice_get (names_of program.now.written.items) answer) }
 {
     match program.written.get(answer) {
         Some(answer) => answer.name.as_str(),
@@ -126,7 +60,7 @@ pub fn run_words(
     rows: usize,
 ) -> VortexResult<String>
     ensures { AnswersUnlessMemory result (λ words. IsRunWords (struct_fields program.now.scope)
-        program.now.written.items rows error.now (string_bytes words)) }
+        (names_of program.now.written.items) rows error.now (string_bytes words)) }
 {
     match error {
         RunError::Batch(error) => batch_words(alloc, &program.scope, *error, rows),

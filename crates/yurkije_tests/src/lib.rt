@@ -9,3 +9,5 @@ mod reading;
 mod rooms;
 #[cfg(test)]
 mod running;
+#[cfg(test)]
+mod words;

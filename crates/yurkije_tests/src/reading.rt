@@ -36,8 +36,10 @@ fn reads(rt: HostRuntime, text: &[u8], name: &str, optimized: &str) -> bool {
 fn is_told(rt: HostRuntime, error: ProgramError, place: [usize; 4], words: &str) -> bool {
     let told = Told::of_program(&error);
     let there = [told.status as usize, told.byte, told.line, told.character];
-    let said = program_words(rt.alloc(), &error);
-    there == place && same(rt, said.as_str(), words)
+    match program_words(rt.alloc(), &error) {
+        Ok(said) => there == place && same(rt, said.as_str(), words),
+        Err(_) => false,
+    }
 }
 
 fn refuses(rt: HostRuntime, text: &[u8], place: [usize; 4], words: &str) -> bool {
@@ -52,6 +54,12 @@ fn texts_are_read(rt: HostRuntime) {
     assert!(rt; reads(rt, b"number as n", "n", "number"));
     assert!(rt; reads(rt, b"name", "name", "name"));
     assert!(rt; reads(rt, b"(name)like'a%'", "name like 'a%'", "name like 'a%'"));
+}
+
+#[test]
+fn bytes_that_are_no_text_are_refused(rt: HostRuntime) {
+    let nowhere = [110, usize::MAX, 0, 0];
+    assert!(rt; refuses(rt, b"number\xff", nowhere, "the text is not UTF-8"));
 }
 
 #[test]

@@ -7,7 +7,7 @@ pub returns : goal.returns
 returns c =
     let held = c.hold.new.expression.held in
     let read = c.read_lines-read.ensures in
-    subst (λ (text : List ℕ). HoldsLines text held c.hold.result c.hold.new.error)
+    subst (λ (text : List ℕ). HoldsLines text held c.hold.result c.args.error.now c.hold.new.error)
     c.placed.ensures
-    (lines_hold held c.hold.result c.hold.new.error c.placed.result.now c.read_lines-read.result
+    (lines_hold held c.hold.result c.args.error.now c.hold.new.error c.placed.result.now c.read_lines-read.result
     read.read read.kept c.hold.ensures)

@@ -10,6 +10,7 @@ pub returns-in-Some : goal.returns-in-Some
 returns-in-Some c =
     subst
     (λ (o : Option ProgramView).
-    Runs o c.args.columns.now c.args.rows c.run.new.answers.held c.run.result c.run.new.error)
+    Runs o c.args.columns.now c.args.rows c.run.new.answers.held c.run.result
+    c.args.error.now c.run.new.error)
     (ap (option_map (λ (p : Bor Program). program_view p.now)) (sym c.in-Some.is)
     ∙ c.program.ensures) c.run.ensures

@@ -1,4 +1,5 @@
 use Rattle.std.proofs.Common.{map, take}
+use Rattle.vortex_types.specs.TypeOf.{struct_fields}
 use Rattle.vortex_functions.specs.Walks.{AllMean}
 use Rattle.vortex_expressions.specs.Answers.{answer_in}
 use Rattle.yurkije_core.specs.Programs.{IsHeld}
@@ -7,4 +8,5 @@ use Rattle.yurkije_core.proofs.naming.all_named.Given as goal
 -- the answers so far
 abbrev pub invariant-loop-answer : goal.invariant-loop-answer
 invariant-loop-answer l =
-    AllMean IsHeld (map answer_in (take l.answer-index l.list)) l.answers.items
+    AllMean (IsHeld (struct_fields l.scope)) (map answer_in (take l.answer-index l.list))
+    l.answers.items

@@ -1,9 +1,9 @@
-use Rattle.std.proofs.Common.{map, add-one}
+use Rattle.std.proofs.Common.{add-one}
 use Rattle.vortex_errors.proofs.Answering.{UnlessMemory-weaker}
 use Rattle.vortex_interface.specs.Execution.{RefusesColumns}
 use Rattle.vortex_rewriting.specs.Keeping.{RewritesKeepRows}
 use Rattle.vortex_expressions.specs.Items.{meaning}
-use Rattle.rowfn_scripts.specs.Executing.{AllFit, RefusesColumnsFirst}
+use Rattle.rowfn_scripts.specs.Executing.{RefusesColumnsFirst}
 use Rattle.rowfn_scripts.proofs.Answered.{answers_refusal, placed_more, fit_more}
 use Rattle.rowfn_scripts.proofs.Answered.{refuses_columns_at}
 use Rattle.yurkije_core.specs.Programs.{trees_of}
