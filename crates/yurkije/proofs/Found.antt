@@ -1,6 +1,5 @@
 -- What is asked of an answer that is there, or is not.
-use Rattle.std.proofs.Common.{◌≡◌, ℕ, List, Option, Some, None, sym, subst}
-use Rattle.std.specs.Prelude.{slice_get}
+use Rattle.std.proofs.Common.{ℕ, List, Option, Some, None, sym, subst}
 use Rattle.vortex_columns.specs.ColumnView.{ColumnView}
 use Rattle.yurkije.specs.Asking.{Asks}
 use Rattle.yurkije.specs.Answering.{AsksAnswer, FindsColumn, FindsNone}

@@ -1,4 +1,4 @@
-use Rattle.std.proofs.Common.{◌≡◌, refl}
+use Rattle.std.proofs.Common.{refl}
 use Rattle.yurkije.specs.Answering.{Copies}
 use Rattle.yurkije.proofs.Found.{asks_found, asks_none}
 use Rattle.yurkije.proofs.giving.put_answer.Goals as goal

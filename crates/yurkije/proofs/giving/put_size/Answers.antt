@@ -1,4 +1,4 @@
-use Rattle.std.proofs.Common.{◌≡◌, refl}
+use Rattle.std.proofs.Common.{refl}
 use Rattle.yurkije.specs.Answering.{Sizes}
 use Rattle.yurkije.proofs.Found.{asks_found, asks_none}
 use Rattle.yurkije.proofs.giving.put_size.Goals as goal

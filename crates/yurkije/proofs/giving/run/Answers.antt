@@ -1,4 +1,4 @@
-use Rattle.std.proofs.Common.{◌≡◌, List, subst, ap, sym, ◌∙◌}
+use Rattle.std.proofs.Common.{◌≡◌, List, subst, sym}
 use Rattle.vortex_arrow.specs.declared.column.ArrowColumn.{ArrowColumn}
 use Rattle.yurkije_columns.specs.Lent.{AllSay}
 use Rattle.yurkije_columns.specs.Messages.{lent_words}
