@@ -25,27 +25,8 @@ fn names(word: &str, wanted: Operator) -> bool {
     }
 }
 
-/// Whether a word of scripts names Not.
-fn names_not(word: &str) -> bool {
-    match ScalarFnRef::<NoCustom>::named(&[word]) {
-        Some(function) => function.is_not(),
-        None => false,
-    }
-}
-
-/// Whether a word of scripts names IsNull.
-fn names_is_null(word: &str) -> bool {
-    match ScalarFnRef::<NoCustom>::named(&[word]) {
-        Some(function) => function.is_is_null(),
-        None => false,
-    }
-}
-
 #[test]
 fn words_name_functions(rt: HostRuntime) {
-    assert!(rt; names("and", Operator::And));
     assert!(rt; names("<=", Operator::Lte));
-    assert!(rt; names_not("not"));
-    assert!(rt; names_is_null("is_null"));
     assert!(rt; ScalarFnRef::<NoCustom>::named(&["xor"]).is_none());
 }

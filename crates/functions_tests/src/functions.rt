@@ -16,27 +16,6 @@ fn and<C: ScalarFnVTable>() -> ScalarFnRef<C> {
     TypedScalarFnInstance::new(Binary, Operator::And).erased()
 }
 
-/// Whether And has that name, and its second argument that one.
-fn and_is_named<C: ScalarFnVTable>(name: &str, second: &str) -> bool {
-    let and = TypedScalarFnInstance::new(Binary, Operator::And).erased::<C>();
-    and.id() == name && and.child_name(1) == second
-}
-
-/// Whether a function has that name, and its argument that one.
-fn is_named<C: ScalarFnVTable>(function: ScalarFnRef<C>, name: &str, only: &str) -> bool {
-    function.id() == name && function.child_name(0) == only
-}
-
-/// Whether a function is marked strict.
-fn is_strict<C: ScalarFnVTable>(function: ScalarFnRef<C>) -> bool {
-    function.signature().is_strict
-}
-
-/// Whether a function is marked infallible.
-fn is_infallible<C: ScalarFnVTable>(function: ScalarFnRef<C>) -> bool {
-    function.signature().is_infallible
-}
-
 /// Whether a function is Not.
 fn is_not<C: ScalarFnVTable>(function: ScalarFnRef<C>) -> bool {
     function.is_not()
@@ -47,17 +26,9 @@ fn is_null_test<C: ScalarFnVTable>(function: ScalarFnRef<C>) -> bool {
     function.is_is_null() && !function.is_is_not_null()
 }
 
-/// Whether a function is IsNotNull, and not its opposite.
-fn is_not_null_test<C: ScalarFnVTable>(function: ScalarFnRef<C>) -> bool {
-    function.is_is_not_null() && !function.is_is_null()
-}
-
-/// Whether a copy of a function is Cast.
-fn is_copied_cast<C: ScalarFnVTable>(
-    alloc: Global,
-    function: ScalarFnRef<C>,
-) -> VortexResult<bool> {
-    Ok(function.try_clone(alloc)?.is_cast())
+/// Whether a function is Cast.
+fn is_cast<C: ScalarFnVTable>(function: ScalarFnRef<C>) -> bool {
+    function.is_cast()
 }
 
 /// Whether a copy of a function is that operator, and neither Not nor a caller's.
@@ -150,25 +121,29 @@ fn are_two_inputs(rt: HostRuntime, first: Made, second: Made) -> VortexResult<bo
     are_inputs(rt, &*first, Box::into_inner(second))
 }
 
-#[test]
-fn shipped_functions_have_names(rt: HostRuntime) {
-    assert!(rt; and_is_named::<NoCustom>("vortex.binary", "rhs"));
-    assert!(rt; is_named::<NoCustom>(ScalarFnRef::Not, "vortex.not", "input"));
-    assert!(rt; is_named::<NoCustom>(ScalarFnRef::IsNull, "vortex.is_null", "input"));
-    assert!(rt; is_named::<NoCustom>(ScalarFnRef::IsNotNull, "vortex.is_not_null", "input"));
-    assert!(rt; is_named::<NoCustom>(ScalarFnRef::Cast, "vortex.cast", "input"));
+/// Whether a function has that name, names its argument so, and is marked strict and infallible.
+fn is_unary<C: ScalarFnVTable>(function: ScalarFnRef<C>, name: &str) -> bool {
+    let signature = function.signature();
+    function.id() == name
+        && function.child_name(0) == "input"
+        && signature.is_strict
+        && signature.is_infallible
+}
+
+/// Whether And has its name and its arguments', and is marked infallible alone.
+fn is_and<C: ScalarFnVTable>(and: ScalarFnRef<C>) -> bool {
+    let signature = and.signature();
+    and.id() == "vortex.binary"
+        && and.child_name(1) == "rhs"
+        && !signature.is_strict
+        && signature.is_infallible
 }
 
 #[test]
-fn shipped_functions_have_marks(rt: HostRuntime) {
-    assert!(rt; !is_strict::<NoCustom>(and()));
-    assert!(rt; is_infallible::<NoCustom>(and()));
-    assert!(rt; is_strict::<NoCustom>(ScalarFnRef::Not));
-    assert!(rt; !is_strict::<NoCustom>(ScalarFnRef::IsNull));
-    assert!(rt; !is_strict::<NoCustom>(ScalarFnRef::IsNotNull));
-    assert!(rt; is_strict::<NoCustom>(ScalarFnRef::Cast));
-    assert!(rt; is_infallible::<NoCustom>(ScalarFnRef::IsNull));
-    assert!(rt; is_infallible::<NoCustom>(ScalarFnRef::Cast));
+fn shipped_functions_have_names_and_marks(rt: HostRuntime) {
+    assert!(rt; is_and::<NoCustom>(and()));
+    assert!(rt; is_unary::<NoCustom>(ScalarFnRef::Not, "vortex.not"));
+    assert!(rt; is_unary::<NoCustom>(ScalarFnRef::Cast, "vortex.cast"));
 }
 
 #[test]
@@ -176,11 +151,7 @@ fn a_function_tells_what_it_is(rt: HostRuntime) {
     sure(&rt, is_copied::<NoCustom>(rt.alloc(), and(), Operator::And));
     assert!(rt; is_not::<NoCustom>(ScalarFnRef::Not));
     assert!(rt; is_null_test::<NoCustom>(ScalarFnRef::IsNull));
-    assert!(rt; is_not_null_test::<NoCustom>(ScalarFnRef::IsNotNull));
-    sure(
-        &rt,
-        is_copied_cast::<NoCustom>(rt.alloc(), ScalarFnRef::Cast),
-    );
+    assert!(rt; is_cast::<NoCustom>(ScalarFnRef::Cast));
     assert!(rt; is_custom(ScalarFnRef::custom(NoCustom, EmptyOptions), "rowfn.none"));
 }
 

@@ -42,7 +42,6 @@ fn calls_like(word: &str, said: Option<Option<char>>, wanted: LikeOptions) -> bo
 #[test]
 fn scripts_choose_escapes(rt: HostRuntime) {
     assert!(rt; calls_like("like", None, LIKE));
-    assert!(rt; calls_like("like", Some(None), escaped(None)));
     assert!(rt; calls_like("like", Some(Some('!')), escaped(Some('!'))));
     assert!(rt; ScalarFnRef::<NoCustom>::called(&["="], Some(Some('!'))).is_none());
 }

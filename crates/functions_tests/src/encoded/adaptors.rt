@@ -5,9 +5,7 @@ use caller_functions::run_length::RunLength;
 use fixtures::{Made, are_rows, bools, constant, kept, numbers};
 use std::alloc::Global;
 use vortex_arrays::{BooleanExecuteAdaptor, CompareExecuteAdaptor, EncodedColumn};
-use vortex_columns::{
-    Column, DType, ExecutionCtx, Nullability, PType, Scalar, VortexError, VortexResult,
-};
+use vortex_columns::{Column, ExecutionCtx, Nullability, PType, Scalar, VortexError, VortexResult};
 use vortex_kernels::Operator;
 
 /// A run-length column on the heap.
@@ -19,8 +17,6 @@ type Answer = VortexResult<Option<Box<Column>>>;
 const YES: Option<bool> = Some(true);
 
 const NO: Option<bool> = Some(false);
-
-const NULL: Option<bool> = None;
 
 const PLAIN: Nullability = Nullability::NonNullable;
 
@@ -110,47 +106,13 @@ fn has_rows(
     }
 }
 
-/// The rows 1 2 3.
-fn one_two_three(alloc: Global) -> Runs {
-    runs(alloc, numbers(alloc, &[1i32, 2, 3]), &[1, 2], 3)
-}
-
-/// The number 2 in each of so many rows.
-fn twos(alloc: Global, len: usize) -> Made {
-    constant(alloc, PType::I32, 2, len)
-}
-
-/// A null of i32 in each of three rows.
-fn null_numbers(alloc: Global) -> Made {
-    let scalar = Scalar::null(DType::Primitive(PType::I32, NULLABLE));
-    kept(alloc, Column::constant(alloc, scalar, 3))
-}
-
 #[test]
 fn a_kernel_is_asked_with_the_swapped_comparison(rt: HostRuntime) {
     let alloc = rt.alloc();
-    let right = compared(alloc, one_two_three(alloc), Operator::Lt, twos(alloc, 3), 1);
-    sure(&rt, has_rows(rt, right, PLAIN, &[NO, NO, YES]));
     let rows = runs(alloc, numbers(alloc, &[1i32, 2, 3]), &[2, 3], 5);
-    let left = compared(alloc, rows, Operator::Lt, twos(alloc, 5), 0);
-    sure(&rt, has_rows(rt, left, PLAIN, &[YES, YES, NO, NO, NO]));
-}
-
-#[test]
-fn a_null_constant_and_no_rows_are_settled(rt: HostRuntime) {
-    let alloc = rt.alloc();
-    // neither is asked of the kernel, which answers beside other constants alone
-    let nulls = compared(
-        alloc,
-        one_two_three(alloc),
-        Operator::Lt,
-        null_numbers(alloc),
-        1,
-    );
-    sure(&rt, has_rows(rt, nulls, NULLABLE, &[NULL, NULL, NULL]));
-    let none = runs(alloc, numbers(alloc, &[1i32]), &[], 0);
-    let empty = compared(alloc, none, Operator::Lt, numbers::<i32>(alloc, &[]), 1);
-    sure(&rt, has_rows(rt, empty, PLAIN, &[]));
+    let twos = constant(alloc, PType::I32, 2, 5);
+    let right = compared(alloc, rows, Operator::Lt, twos, 1);
+    sure(&rt, has_rows(rt, right, PLAIN, &[NO, NO, NO, YES, YES]));
 }
 
 /// The rows true false false.
@@ -170,9 +132,6 @@ fn constant_truth(alloc: Global, value: bool, nullability: Nullability) -> Made 
 fn a_constant_beside_and_is_settled(rt: HostRuntime) {
     let alloc = rt.alloc();
     // the kernel answers beside null constants alone
-    let other = constant_truth(alloc, false, PLAIN);
-    let decided = combined(alloc, truths(alloc), Operator::And, other, 0);
-    sure(&rt, has_rows(rt, decided, PLAIN, &[NO, NO, NO]));
     let other = constant_truth(alloc, true, NULLABLE);
     let decoded = combined(alloc, truths(alloc), Operator::And, other, 1);
     sure(&rt, has_rows(rt, decoded, NULLABLE, &[YES, NO, NO]));

@@ -4,9 +4,7 @@ use crate::encoded::questions::*;
 use crate::questions::{must, sure};
 use fixtures::{Ask, Made, constant, has_rows, kept, numbers};
 use std::alloc::Global;
-use vortex_arrays::{
-    BooleanKernel, CompareExecuteAdaptor, CompareKernel, DictColumn, EncodedColumn,
-};
+use vortex_arrays::{BooleanKernel, CompareKernel, EncodedColumn};
 use vortex_columns::{
     Column, DType, ExecutionCtx, Nullability, PType, Scalar, VortexError, VortexResult,
 };
@@ -18,10 +16,6 @@ type Answer = VortexResult<Option<Box<Column>>>;
 #[test]
 fn codes_are_below_the_count_of_values(rt: HostRuntime) {
     let alloc = rt.alloc();
-    let empty = rows_of(alloc, dictionary(alloc, numbers::<u8>(alloc, &[]), &[]));
-    sure(&rt, has_numbers(rt, empty, &[]));
-    let past = dictionary(alloc, numbers::<u8>(alloc, &[]), &[0]);
-    must(&rt, rt.is_refused(past, "InvalidColumn"));
     let last = dictionary(alloc, numbers(alloc, &[1u8, 3]), &[1, 2]);
     must(&rt, rt.is_refused(last, "InvalidColumn"));
 }
@@ -42,44 +36,7 @@ fn answered(answer: Answer) -> Made {
     }
 }
 
-/// Whether nothing was.
-fn nothing(answer: Answer) -> VortexResult<bool> {
-    Ok(answer?.is_none())
-}
-
-/// The adaptor's answer for a call whose child of that index is the dictionary.
-fn compare_beside(
-    alloc: Global,
-    dictionary: Box<DictColumn>,
-    operator: Operator,
-    other: &Column,
-    child_idx: usize,
-) -> Answer {
-    if dictionary.len() != other.len() || !dictionary.dtype().eq_ignore_nullability(other.dtype()) {
-        return Err(VortexError::InvalidColumn);
-    }
-    let adaptor = CompareExecuteAdaptor(Box::into_inner(dictionary));
-    let ctx = &mut ExecutionCtx::new(alloc);
-    held(
-        alloc,
-        adaptor.execute_parent(&adaptor.0, operator, other, child_idx, ctx),
-    )
-}
-
-/// The same beside a constant u8 2.
-fn adapted(alloc: Global, dictionary: Dict, operator: Operator, child_idx: usize) -> Answer {
-    let (dictionary, other) = (dictionary?, constant(alloc, PType::U8, 2, 4)?);
-    compare_beside(alloc, dictionary, operator, &*other, child_idx)
-}
-
-#[test]
-fn the_adaptor_asks_the_kernel(rt: HostRuntime) {
-    let alloc = rt.alloc();
-    let less = adapted(alloc, three_one_null_three(alloc), Operator::Lt, 1);
-    sure(&rt, has_rows(rt, answered(less), &[YES, NO, NULL, YES]));
-}
-
-/// The kernel's comparison with a column that is no constant.
+/// The kernel's comparison with another column.
 fn compared(alloc: Global, dictionary: Dict, other: Made) -> Answer {
     let (dictionary, other) = (dictionary?, other?);
     if dictionary.len() != other.len() || !dictionary.dtype().eq_ignore_nullability(other.dtype()) {
@@ -115,15 +72,11 @@ fn nulls(alloc: Global) -> Made {
 }
 
 #[test]
-fn the_kernels_answer_beside_constants_alone(rt: HostRuntime) {
+fn the_kernels_answer_beside_constants(rt: HostRuntime) {
     let alloc = rt.alloc();
     let and = combined(alloc, truths(alloc), Operator::And, nulls(alloc));
     sure(&rt, has_rows(rt, answered(and), &[NULL, NO, NULL, NULL]));
-    let equal = combined(alloc, truths(alloc), Operator::Eq, nulls(alloc));
-    sure(&rt, nothing(equal));
-    let column = numbers(alloc, &[1u8, 2, 3, 4]);
-    sure(
-        &rt,
-        nothing(compared(alloc, three_one_null_three(alloc), column)),
-    );
+    let twos = constant(alloc, PType::U8, 2, 4);
+    let less = compared(alloc, three_one_null_three(alloc), twos);
+    sure(&rt, has_rows(rt, answered(less), &[NO, YES, NULL, NO]));
 }

@@ -26,12 +26,6 @@ fn greater(alloc: Global, child_idx: usize) -> Pushed {
     )
 }
 
-/// Whether these are the values.
-fn has_values(rt: HostRuntime, answer: Pushed, wanted: &[Option<bool>]) -> VortexResult<bool> {
-    let alloc = rt.alloc();
-    has_rows(rt, values_of(alloc, made(answer)), wanted)
-}
-
 /// Whether these are the rows.
 fn stands_for(rt: HostRuntime, answer: Pushed, wanted: &[Option<bool>]) -> VortexResult<bool> {
     let alloc = rt.alloc();
@@ -41,14 +35,11 @@ fn stands_for(rt: HostRuntime, answer: Pushed, wanted: &[Option<bool>]) -> Vorte
 #[test]
 fn the_values_are_compared_and_the_codes_stay(rt: HostRuntime) {
     let alloc = rt.alloc();
-    sure(&rt, has_values(rt, greater(alloc, 0), &[NO, NULL, YES]));
     sure(&rt, has_codes(rt, made(greater(alloc, 0)), &[2, 0, 1, 2]));
     sure(
         &rt,
         stands_for(rt, greater(alloc, 0), &[YES, NO, NULL, YES]),
     );
-    sure(&rt, has_values(rt, greater(alloc, 1), &[YES, NULL, NO]));
-    sure(&rt, has_codes(rt, made(greater(alloc, 1)), &[2, 0, 1, 2]));
     sure(&rt, stands_for(rt, greater(alloc, 1), &[NO, YES, NULL, NO]));
 }
 
@@ -63,8 +54,6 @@ fn what_binding_refuses(rt: HostRuntime) {
     let alloc = rt.alloc();
     let text = greater_than(alloc, one(alloc, Scalar::try_from_str(alloc, "a")));
     must(&rt, rt.is_refused(text, "TypeMismatch.Compare"));
-    let alone = greater_than(alloc, none(alloc));
-    must(&rt, rt.is_refused(alone, "ArityMismatch"));
 }
 
 /// 8 divided by a dictionary of i8.
@@ -78,12 +67,10 @@ fn eight_by(alloc: Global, values: &[i8], codes: &[u32]) -> Pushed {
 #[test]
 fn a_fallible_function_over_values_that_are_all_used(rt: HostRuntime) {
     let alloc = rt.alloc();
-    let quotients = values_of(alloc, made(eight_by(alloc, &[2, 4], &[1, 0, 1])));
-    sure(&rt, has_numbers(rt, quotients, &[Some(4), Some(2)]));
     let rows = rows_of(alloc, made(eight_by(alloc, &[2, 4], &[1, 0, 1])));
     sure(&rt, has_numbers(rt, rows, &[Some(2), Some(4), Some(2)]));
-    let codes = has_codes(rt, made(eight_by(alloc, &[2, 4], &[1, 0, 1])), &[1, 0, 1]);
-    sure(&rt, codes);
+    let fault = eight_by(alloc, &[0, 4], &[1, 0]);
+    must(&rt, rt.is_refused(fault, "Arithmetic.Div"));
 }
 
 /// A caller's function over a dictionary of Bool, which faults at false.

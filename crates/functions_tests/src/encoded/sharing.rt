@@ -20,12 +20,6 @@ fn a_shared_dictionary_has_the_same_values_and_codes(rt: HostRuntime) {
         &rt,
         has_numbers(rt, values_of(alloc, first(alloc)), &wanted),
     );
-    sure(&rt, has_codes(rt, first(alloc), &[2, 0, 1, 2]));
-    let rows = rows_of(alloc, first(alloc));
-    sure(
-        &rt,
-        has_numbers(rt, rows, &[Some(3), Some(1), None, Some(3)]),
-    );
     let again = shared(alloc, first(alloc));
     sure(&rt, has_codes(rt, again, &[2, 0, 1, 2]));
 }
