@@ -75,8 +75,8 @@ fn is_bytes_like(dtype: &DType) -> bool
 /// Copies a column of texts or of byte strings: which rows are not null, as bits from the first on,
 /// an offset for each row and one more, and the bytes, of which `byte_count` tells how many there
 /// are. They stand one behind another: the first offset is 0, each row's bytes end where those of
-/// the next begin, and a row that is null has none. What lies behind them stays as it was, and all where the copy
-/// is refused.
+/// the next begin, and a row that is null has none. What lies behind them stays as it was, and all
+/// where the copy is refused.
 pub fn copy_texts<O: IndexType>(
     column: &Column,
     validity: &mut [u8],

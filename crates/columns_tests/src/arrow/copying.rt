@@ -84,6 +84,23 @@ fn texts_are_copied(rt: HostRuntime) {
     sure(&rt, copies_texts(rt, names(rt.alloc()), wanted));
 }
 
+/// The first offset of a copy of no texts, where an item behind it is kept.
+fn first_offset(alloc: Global) -> VortexResult<[i32; 2]> {
+    let none: [Option<&str>; 0] = [];
+    let column = Column::of_texts(alloc, &none)?;
+    let mut offsets = [7, 9];
+    let _copied = copy_texts(&column, &mut [], &mut offsets, &mut []);
+    Ok(offsets)
+}
+
+#[test]
+fn a_copy_of_no_texts_has_an_offset(rt: HostRuntime) {
+    sure(
+        &rt,
+        first_offset(rt.alloc()).map(|offsets| offsets == [0, 9]),
+    );
+}
+
 /// Whether these rows are true, of which the numbers are copied, and an item behind them is kept.
 fn selects(rt: HostRuntime, column: Made, count: usize, wanted: [u32; 4]) -> VortexResult<bool> {
     let column = column?;

@@ -16,6 +16,25 @@ fn is_invalid(rt: HostRuntime, column: ArrowColumn<'_>, row: usize, fault: Value
     refuses(rt, column, ArrowError::InvalidValue { row, fault })
 }
 
+/// Whether the refusal is told in these words.
+fn is_told(rt: HostRuntime, error: ArrowError, words: &str) -> bool {
+    match format!(in rt.alloc(); "{error}") {
+        Ok(told) => same(rt, told.as_str(), words),
+        Err(_) => false,
+    }
+}
+
+#[test]
+fn refusals_are_told_with_their_rows(rt: HostRuntime) {
+    let null = ArrowError::UnexpectedNull { row: 12 };
+    let words = "row 12: null in a column that is not nullable";
+    assert!(rt; is_told(rt, null, words));
+    let fault = ValueFault::PastData;
+    let past = ArrowError::InvalidValue { row: 3, fault };
+    assert!(rt; is_told(rt, past, "row 3: an offset is past the end of the data"));
+    assert!(rt; is_told(rt, ArrowError::TooLong, "texts are too long"));
+}
+
 #[test]
 fn short_buffers_are_refused(rt: HostRuntime) {
     let values = ArrowValues::Int8(&[1, 2, 3, 4, 5, 6, 7, 8]);
