@@ -31,6 +31,7 @@ READ_ON = {
     "an escape that is no text in quotes": r"found .*, expected a text in single quotes",
     "a keyword as a name": rf'found "(is|like|ilike|between|escape)", ({ATOM}|expected (the name of a type|a text in single quotes))',
     "a call, or a text behind the name of a type": r"""found "[('][^"]*", expected (an operator|\+, -, \*)""",
+    "a comparison or `is` in the first bound of BETWEEN": r'found "(=|<>|!=|<|<=|>|>=|is)", expected \+, -, \*, / or the and of between',
     "`is true`, `is false`": r'found "(true|false)", expected null',
 }
 

@@ -166,6 +166,8 @@ class Expressions(unittest.TestCase):
         text = """"a b"+"a""b" as f,"and"*"as" as g,-- no "x"\n"i64"/f as "as",'--'as e,"--" + "'" as h"""
         answers = evaluate(text, columns)
         self.assertEqual([rows_of(answers[name])[0] for name in ("f", "g", "as", "e", "h")], [3, 12, 0, "--", 15])
+        for end in ("\r", "\n", "\r\n"):
+            self.assertEqual(rows_of(evaluate(f"f -- 'and (\"{end}+ i64 -- - f{end} as --{end} f", columns)["f"]), [11])
 
     def test_an_expression_runs_over_many_batches_and_is_pickled(self):
         made = pickle.loads(pickle.dumps(Expression("a + b", {"a": "i16", "b": "i16"})))

@@ -16,8 +16,9 @@ from ._columns import Borrowed, borrow, column_of, fields_of, name_of, type_of, 
 from ._errors import Error, ExpressionError, Told, error_of
 from ._library import NAMES, Column, Handle, Type, lib, text_of
 
-# A token of an expression that can name a column, or hide one: a text, a comment, `::`, a word, a name in quotes.
-TOKEN = re.compile(r"""'[^']*'|(--[^\n]*)|(::)|(\w+)|"((?:[^"]|"")*)\"""", re.A)
+# A token of an expression that can name a column, or hide one: a text, a comment, `::`, a word, a name in quotes. A comment ends
+# at a line feed or a carriage return.
+TOKEN = re.compile(r"""'[^']*'|(--[^\r\n]*)|(::)|(\w+)|"((?:[^"]|"")*)\"""", re.A)
 KEYWORDS = frozenset("and or not is null between like ilike escape true false cast as".split())
 
 # Types that stand for the unknown ones of columns that are not taken, to see whether a text is wrong whatever they are.
