@@ -44,12 +44,12 @@ pub record IsFaultWords (row k : ℕ) (name : List ℕ) (e : VortexError) (words
 
 -- why answers of those names over fields answer nothing of a batch of n rows
 abbrev pub IsRunWords : Fields → List (List ℕ) → ℕ → RunError → List ℕ → Type 0
-IsRunWords fields names n (run.Batch e) words =
-    words ≡ fault_words e.column (name_of_field fields e.column) n e.fault
-IsRunWords fields names n (run.Fault row k e) words =
+IsRunWords scope names n (run.Batch e) words =
+    words ≡ fault_words e.column (name_of_field scope e.column) n e.fault
+IsRunWords scope names n (run.Fault row k e) words =
     IsFaultWords row k (name_in (slice_get names k)) e words
-IsRunWords fields names n (run.Refused e) words = Displays (vortex.ghosts.output e) words
-IsRunWords fields names n run.OutOfMemory words = words ≡ memory_words
+IsRunWords scope names n (run.Refused e) words = Displays (vortex.ghosts.output e) words
+IsRunWords scope names n run.OutOfMemory words = words ≡ memory_words
 
 -- those words are the report's message
 abbrev pub HasMessage : List ℕ → Report → Report → Type 0
