@@ -49,7 +49,7 @@ fn run(rt: &(impl Input + Print + Eprint + Env + AllocGlobal)) -> io::Result<u8>
     match asked_for(rt)? {
         CalledFor::Script => run_script(rt),
         CalledFor::Version => {
-            println!(rt; "rowfn 0.1.0, proved with rattle-kit-13f")?;
+            println!(rt; "rowfn 0.1.0")?;
             Ok(0)
         }
         CalledFor::Other => {

@@ -354,13 +354,13 @@ fn expression<'a>(alloc: Global) -> Result<Arg<'a>, Error> {
 /// The command without its options.
 fn bare_command<'a>(alloc: Global) -> Command<'a> {
     Command::new(alloc, "rowfn_stream")
-        .version("0.1.0, proved with rattle-kit-13f")
+        .version("0.1.0")
         .about("Rows of CSV that flow through an expression")
         .after_help(AFTER_HELP)
 }
 
 /// The command with all its options, in the order of `--help`.
-pub fn command<'a>(alloc: Global) -> Result<Command<'a>, Error> {
+pub(crate) fn command<'a>(alloc: Global) -> Result<Command<'a>, Error> {
     let command = with(bare_command(alloc), expression(alloc))?;
     let command = with_sources(alloc, command)?;
     let command = with_actions(alloc, command)?;

@@ -1,6 +1,9 @@
 //! What the words ask for.
-ghost use Rattle.std.specs.Prelude.{◌≡◌};
+ghost use Rattle.std.specs.Prelude.{◌≡◌, IfOk, IfSome, IsTrue};
 ghost use Rattle.clap.specs.Values.{kind_of};
+ghost use Rattle.std.specs.List.{list_any};
+ghost use Rattle.rowfn_options.specs.Fields.{is_quote_or_end, MayPart, MayBeNull, AreFields};
+ghost use Rattle.rowfn_options.specs.Fields.{ends_field, has_mark};
 ghost use Rattle.rowfn_options.specs.Statuses.{status_of};
 
 use crate::command::command;
@@ -76,26 +79,56 @@ pub struct Options<'a> {
     pub input: Option<&'a str>,
 }
 
+/// Whether a byte is a quote, or ends a line.
+fn is_quote_or_end(byte: u8) -> bool
+    ensures { result ≡ is_quote_or_end byte }
+{
+    byte == b'"' || byte == b'\r' || byte == b'\n'
+}
+
 /// The byte that a word says: a byte of ASCII that is neither a quote nor the end of a line, or a
 /// tab as `\t`.
-fn read_delimiter(word: &str) -> Option<u8> {
+fn read_delimiter(word: &str) -> Option<u8>
+    ensures { IfSome result MayPart }
+{
     if word == "\\t" {
         return Some(b'\t');
     }
     match word.as_bytes() {
-        [byte] if byte.is_ascii() && !b"\"\r\n".contains(byte) => Some(*byte),
+        [byte] if byte.is_ascii() && !is_quote_or_end(*byte) => Some(*byte),
         _ => None,
     }
 }
 
+/// Whether a byte ends a field that stands in no quotes, or asks for quotes.
+fn ends_field(byte: u8, delimiter: u8) -> bool
+    ensures { result ≡ ends_field delimiter byte }
+{
+    byte == delimiter || is_quote_or_end(byte)
+}
+
+/// Whether such a byte stands in a text.
+fn has_end(text: &str, delimiter: u8) -> bool
+    ensures { result ≡ list_any (ends_field delimiter) text.now }
+{
+    text.as_bytes()
+        .iter()
+        .any(|byte| ends_field(*byte, delimiter))
+}
+
+/// Whether a text begins with a byte order mark.
+fn has_mark(text: &str) -> bool
+    ensures { result ≡ has_mark text.now }
+{
+    text.as_bytes().starts_with(b"\xef\xbb\xbf".as_slice())
+}
+
 /// Whether a text can stand for null: in no quotes it is read back as one field, also where it is
 /// the first of the input, whose byte order mark is passed over.
-fn is_bare(text: &str, delimiter: u8) -> bool {
-    !text.starts_with('\u{feff}')
-        && !text
-            .as_bytes()
-            .iter()
-            .any(|byte| *byte == delimiter || b"\"\r\n".contains(byte))
+fn is_bare(text: &str, delimiter: u8) -> bool
+    ensures { IsTrue result → MayBeNull delimiter text.now }
+{
+    !has_mark(text) && !has_end(text, delimiter)
 }
 
 /// Whether a word is the second of two; it may be no other.
@@ -220,7 +253,9 @@ struct Fields<'a> {
 fn asked_fields<'a>(
     matches: &ArgMatches<'a>,
     command: &mut Command<'_>,
-) -> Result<Fields<'a>, Error> {
+) -> Result<Fields<'a>, Error>
+    ensures { IfOk result (λ fields. AreFields fields.delimiter fields.null.now) }
+{
     let Some(delimiter) = read_delimiter(matches.get_str("delimiter").unwrap_or(",")) else {
         let message = "the delimiter is one byte of ASCII, no quote and no end of a line";
         return Err(refusal(command, ErrorKind::InvalidValue, message)?);
@@ -257,7 +292,10 @@ fn options_of<'a>(
     fields: Fields<'a>,
     input: Option<&'a str>,
     refused: Refused<'a>,
-) -> Result<Options<'a>, Error> {
+) -> Result<Options<'a>, Error>
+    ensures { IfOk result (λ options. (options.delimiter ≡ fields.entry.delimiter)
+        × (options.null ≡ fields.entry.null)) }
+{
     let source = asked_source(alloc, matches)?;
     Ok(Options {
         delimiter: fields.delimiter,
@@ -286,7 +324,10 @@ fn options_of<'a>(
 
 /// What the words after the program's name ask for; the first word is that name. Refused for wrong
 /// words, with the text to print; so are `--help` and `--version`.
-pub fn read_options<'a>(alloc: Global, words: &'a [String]) -> Result<Options<'a>, Error> {
+pub fn read_options<'a>(alloc: Global, words: &'a [String]) -> Result<Options<'a>, Error>
+    // Which options the words ask for is tested; what is answered can part fields and be read back.
+    ensures { IfOk result (λ options. AreFields options.delimiter options.null.now) }
+{
     let mut command = command(alloc)?;
     let matches = command.try_get_matches_from_mut(words)?;
     let fields = asked_fields(&matches, &mut command)?;

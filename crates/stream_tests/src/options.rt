@@ -357,6 +357,26 @@ fn wrong_words_have_a_status_of_their_own(rt: HostRuntime) {
     assert!(rt; each_ends_with(rt, CASES));
 }
 
+/// Whether the words are refused, and that is printed.
+fn is_printed(rt: HostRuntime, line: &str, wanted: &str) -> bool {
+    let alloc = rt.alloc();
+    let Ok(words) = words_of(alloc, line) else {
+        return false;
+    };
+    match read_options(alloc, &words) {
+        Ok(_) => false,
+        Err(error) => match format!(in alloc; "{error}") {
+            Ok(text) => same(rt, text.as_str().trim(), wanted),
+            Err(_) => false,
+        },
+    }
+}
+
+#[test]
+fn the_version_is_printed_with_the_name(rt: HostRuntime) {
+    assert!(rt; is_printed(rt, "p --version", "rowfn_stream 0.1.0"));
+}
+
 #[test]
 fn what_is_done_is_told(rt: HostRuntime) {
     const SAID: &[(&str, &str)] = &[
