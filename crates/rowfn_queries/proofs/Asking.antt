@@ -1,5 +1,5 @@
 -- The trees of a list that a text says.
-use Rattle.std.proofs.Common.{◌≡◌, ◌∙◌, ℕ, List, [], ◌∷◌, map, refl, sym}
+use Rattle.std.proofs.Common.{◌≡◌, ◌∙◌, ℕ, List, [], ◌∷◌, map, refl}
 use Rattle.vortex_types.specs.LogicalTypes.{Fields}
 use Rattle.vortex_expressions.specs.declared.answers.Answer as held
 use Rattle.vortex_expressions.specs.Items.{Tree}

@@ -2,14 +2,14 @@
 use Rattle.std.proofs.Common.{◌≡◌, ◌∙◌, ℕ, ◌+◌, ◌*◌, ◌<◌, ◌≤◌, List, [], ◌∷◌, ◌++◌, Bool, true, false, ◌&&◌}
 use Rattle.std.proofs.Common.{◌||◌, refl, ap, sym, map, arith, length, get_or, Option, None, Bor}
 use Rattle.std.proofs.Common.{option_map, not, is_some}
-use Rattle.std.specs.List.{list_any, range_with_len}
+use Rattle.std.specs.List.{list_all, list_any, range_with_len}
 use Rattle.std.proofs.lemmas.List.Folds.{list_all-append, list_any-append}
 use Rattle.std.proofs.lemmas.List.FromFn.{map-range_with_len_more}
 use Rattle.std.proofs.lemmas.List.{get_or-map, map-append}
 use Rattle.std.proofs.Math.Nat.{mul-le-mul_left}
-use Rattle.vortex_types.specs.declared.dtype.PType.TheVariants.{I64}
-use Rattle.vortex_types.specs.LogicalTypes.{LogicalType, bool_type, integer_type}
-use Rattle.rowfn_queries.specs.Inference.{Field, holds, hold, has_value, has_null, column_fields}
+use Rattle.vortex_types.specs.LogicalTypes.{bool_type}
+use Rattle.rowfn_queries.specs.Inference.{Field, holds, column_fields}
+use Rattle.rowfn_queries.specs.Inference.{is_number}
 use Rattle.rowfn_queries.specs.Seen.{seen, seen_with}
 
 and_true : (b : Bool) → (b && true) ≡ b
@@ -20,11 +20,10 @@ or_false : (b : Bool) → (b || false) ≡ b
 or_false true = refl
 or_false false = refl
 
-hold_more : (t : LogicalType) (fs : List Field) (f : Field)
-    → (hold t fs && holds t f) ≡ hold t (fs ++ f ∷ [])
-hold_more t fs f =
-    sym (list_all-append (holds t) fs (f ∷ [])
-    ∙ ap (λ (b : Bool). hold t fs && b) (and_true (holds t f)))
+all_more : (p : Field → Bool) (fs : List Field) (f : Field)
+    → (list_all p fs && p f) ≡ list_all p (fs ++ f ∷ [])
+all_more p fs f =
+    sym (list_all-append p fs (f ∷ []) ∙ ap (λ (b : Bool). list_all p fs && b) (and_true (p f)))
 
 any_more : (p : Field → Bool) (fs : List Field) (f : Field)
     → (list_any p fs || p f) ≡ list_any p (fs ++ f ∷ [])
@@ -33,8 +32,8 @@ any_more p fs f =
 
 pub seen_more : (fs : List Field) (f : Field) → seen_with (seen fs) f ≡ seen (fs ++ f ∷ [])
 seen_more fs f = λ i. record {
-  is_bool = hold_more (bool_type false) fs f i;
-  is_integer = hold_more (integer_type I64 false) fs f i;
+  is_bool = all_more (holds (bool_type false)) fs f i;
+  is_integer = all_more is_number fs f i;
   has_null = any_more (λ (f : Field). not (is_some f)) fs f i;
   has_value = any_more is_some fs f i;
 }

@@ -1,8 +1,10 @@
 -- The type that the fields of a column have.
-use Rattle.std.specs.Prelude.{ℕ, List, Bool, true, false, ◌&&◌, ◌+◌, ◌*◌, map, not}
-use Rattle.std.specs.Prelude.{Option, Some, None, is_some, if◌then◌else◌, slice_index_or}
+use Rattle.std.specs.Prelude.{ℕ, List, [], ◌∷◌, Bool, true, false, ◌&&◌, ◌||◌, ◌+◌, ◌*◌, ◌==◌}
+use Rattle.std.specs.Prelude.{Option, Some, None, is_some, if◌then◌else◌, slice_index_or, map, not}
+use Rattle.std.specs.Prelude.{codes}
 use Rattle.std.specs.List.{list_all, list_any, range_with_len}
-use Rattle.std.specs.Str.{is_utf8}
+use Rattle.std.specs.Char.{is_ascii_digit}
+use Rattle.std.specs.Str.{bytes_eq, is_utf8}
 use Rattle.vortex_types.specs.declared.dtype.PType.TheVariants.{I64}
 use Rattle.vortex_types.specs.LogicalTypes.{LogicalType, bool_type, integer_type, text_type}
 use Rattle.rowfn_lines.specs.Commands.{cell_fits}
@@ -19,6 +21,26 @@ holds t (Some bytes) = is_utf8 bytes && cell_fits t (Some bytes)
 abbrev pub hold : LogicalType → List Field → Bool
 hold t fs = list_all (holds t) fs
 
+-- a text begins with a digit that is not 0
+abbrev pub begins_number : List ℕ → Bool
+begins_number [] = false
+begins_number (b ∷ bs) = is_ascii_digit b && not (b == 48)
+
+-- digits, with a minus sign before them or without, are the decimal text of their number: no 0
+-- leads, and 0 itself has no sign
+abbrev pub is_decimal : List ℕ → Bool
+is_decimal [] = false
+is_decimal (b ∷ bs) =
+    if b == 45 then begins_number bs else bytes_eq (b ∷ bs) (codes "0") || begins_number (b ∷ bs)
+
+-- the field is null, or the decimal text of a number that i64 holds
+abbrev pub is_number : Field → Bool
+is_number None = true
+is_number (Some bytes) = is_decimal bytes && holds (integer_type I64 false) (Some bytes)
+
+abbrev pub are_numbers : List Field → Bool
+are_numbers fs = list_all is_number fs
+
 -- whether some field is not null, and whether some is
 abbrev pub has_value : List Field → Bool
 has_value fs = list_any is_some fs
@@ -26,14 +48,13 @@ has_value fs = list_any is_some fs
 abbrev pub has_null : List Field → Bool
 has_null fs = list_any (λ f. not (is_some f)) fs
 
--- of bool, i64 and utf8 the first that each field which is not null fits, and utf8 where none is;
--- with null where a field is null
+-- bool where each field that is not null says a truth value, i64 where each is the decimal text of
+-- its number, else utf8, and utf8 where none is; with null where a field is null
 abbrev pub inferred : List Field → LogicalType
 inferred fs =
     let n = has_null fs in
     if has_value fs && hold (bool_type false) fs then bool_type n
-    else (if has_value fs && hold (integer_type I64 false) fs then integer_type I64 n
-    else text_type n)
+    else (if has_value fs && are_numbers fs then integer_type I64 n else text_type n)
 
 -- the fields of column j, of the first n of rows of w fields
 abbrev pub column_fields : List Field → ℕ → ℕ → ℕ → List Field

@@ -2,3 +2,9 @@ pub mod Inference
 pub mod Seen
 pub mod Scopes
 pub mod Queries
+pub mod Columns
+pub mod Naming
+pub mod Reading
+pub mod Errors
+pub mod Names
+pub mod Bindings

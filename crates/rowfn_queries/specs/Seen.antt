@@ -1,14 +1,15 @@
 -- What is known of the fields of a column, field by field.
-use Rattle.std.specs.Prelude.{Bool, false, ◌&&◌, ◌||◌, not, List, is_some, if◌then◌else◌}
+use Rattle.std.specs.Prelude.{false, ◌&&◌, ◌||◌, not, List, is_some, if◌then◌else◌}
 use Rattle.vortex_types.specs.declared.dtype.PType.TheVariants.{I64}
 use Rattle.vortex_types.specs.LogicalTypes.{LogicalType, bool_type, integer_type, text_type}
 use Rattle.rowfn_queries.specs.declared.inference.Seen.{Seen}
-use Rattle.rowfn_queries.specs.Inference.{Field, holds, hold, has_value, has_null}
+use Rattle.rowfn_queries.specs.Inference.{Field, holds, hold, has_value, has_null, is_number}
+use Rattle.rowfn_queries.specs.Inference.{are_numbers}
 
 abbrev pub seen : List Field → Seen
 seen fs = record {
   is_bool = hold (bool_type false) fs;
-  is_integer = hold (integer_type I64 false) fs;
+  is_integer = are_numbers fs;
   has_null = has_null fs;
   has_value = has_value fs;
 }
@@ -17,7 +18,7 @@ seen fs = record {
 abbrev pub seen_with : Seen → Field → Seen
 seen_with s f = record {
   is_bool = s.is_bool && holds (bool_type false) f;
-  is_integer = s.is_integer && holds (integer_type I64 false) f;
+  is_integer = s.is_integer && is_number f;
   has_null = s.has_null || not (is_some f);
   has_value = s.has_value || is_some f;
 }

@@ -1,5 +1,5 @@
 //! A reader whose first bytes are read twice.
-ghost use Rattle.std.specs.Prelude.{◌≤◌, length};
+ghost use Rattle.std.specs.Prelude.{◌≡◌, ◌≤◌, [], length, take, drop, true, false, None};
 ghost use Rattle.std.specs.Io.{ReadsAtMost};
 
 use std::alloc::Global;
@@ -21,7 +21,10 @@ pub struct Again<R> {
 
 impl<R> Again<R> {
     /// Nothing is kept yet; takes no memory.
-    pub fn new(alloc: Global, inner: R) -> Again<R> {
+    pub fn new(alloc: Global, inner: R) -> Again<R>
+        ensures { (result.inner ≡ inner) × (result.kept.items ≡ []) × (result.keeps ≡ true)
+            × (result.ended ≡ false) × (result.failed ≡ None) }
+    {
         Again {
             inner,
             alloc,
@@ -35,7 +38,9 @@ impl<R> Again<R> {
 
     /// From here on what was kept is given, and no more is kept. Behind it comes the error by which
     /// reading failed, if it did.
-    pub fn rewind(&mut self, failed: Option<io::Error>) {
+    pub fn rewind(&mut self, failed: Option<io::Error>)
+        ensures { self.new ≡ record self.old { keeps = false; failed = failed } }
+    {
         self.keeps = false;
         self.failed = failed;
     }
@@ -43,7 +48,8 @@ impl<R> Again<R> {
 
 /// Copies bytes from a place on into a buffer; answers how many.
 fn copied(bytes: &[u8], from: usize, buf: &mut [u8]) -> usize
-    ensures { result ≤ length buf.new }
+    ensures bound { result ≤ length buf.new }
+    ensures copied { take result buf.new ≡ take result (drop from bytes.now) }
 {
     let Some(left) = bytes.get(from..) else {
         return 0;
@@ -56,7 +62,9 @@ fn copied(bytes: &[u8], from: usize, buf: &mut [u8]) -> usize
 impl<R: Read> Again<R> {
     /// Gives bytes that were kept, and lets go of all behind the last.
     fn give(&mut self, buf: &mut [u8]) -> usize
-        ensures { result ≤ length buf.new }
+        ensures bound { result ≤ length buf.new }
+        ensures given { take result buf.new
+            ≡ take result (drop self.old.given self.old.kept.items) }
     {
         let count = copied(&self.kept, self.given, buf);
         self.given = self.given.saturating_add(count);

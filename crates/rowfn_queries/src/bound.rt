@@ -1,8 +1,15 @@
 //! Texts over the columns of a scope.
-ghost use Rattle.std.specs.Prelude.{◌≡◌, ⊤, IfOk, map};
+ghost use Rattle.std.specs.Prelude.{◌≡◌, IfOk, IfErr, MatchResult, Some, map, false};
+ghost use Rattle.std.specs.Prelude.{string_bytes};
 ghost use Rattle.vortex_errors.specs.Answers.{AnswersUnlessMemory};
 ghost use Rattle.vortex_types.specs.TypeOf.{struct_fields};
+ghost use Rattle.vortex_expressions.specs.Writing.{text_of_tree};
+ghost use Rattle.rowfn_queries.specs.Names.{IsWrittenAs, IsNamedBy, IsNameOf};
 ghost use Rattle.rowfn_queries.specs.Queries.{trees_of, AreAsked, IsCondition};
+ghost use Rattle.vortex_types.specs.LogicalTypes.{no_fields};
+ghost use Rattle.rowfn_queries.specs.Reading.{RefusesScope, RefusesAnswers, RefusesCondition};
+ghost use Rattle.rowfn_queries.specs.Reading.{is_refusal, IsUnwritten, RefusesUnwritten};
+ghost use Rattle.rowfn_queries.specs.declared.error.QueryError.TheVariants.{Unread};
 ghost use Rattle.rowfn_queries.specs.Scopes.{Declares};
 
 use crate::error::{Place, QueryError};
@@ -15,7 +22,8 @@ use vortex_functions::{BoundExpression, NoCustom};
 
 /// The columns that a text declares.
 pub(crate) fn declared(alloc: Global, text: &str) -> Result<StructFields, QueryError>
-    ensures { IfOk result (λ columns. Declares text.now (struct_fields columns)) }
+    ensures { MatchResult result (λ columns. Declares text.now (struct_fields columns))
+        (RefusesScope text.now) }
 {
     match read_scope(alloc, text) {
         Ok(columns) => Ok(columns),
@@ -24,7 +32,10 @@ pub(crate) fn declared(alloc: Global, text: &str) -> Result<StructFields, QueryE
 }
 
 /// Refused where a text is badly written, whatever the columns are.
-fn unless_unwritten(place: Place, error: ReadError) -> Result<(), QueryError> {
+fn unless_unwritten(place: Place, error: ReadError) -> Result<(), QueryError>
+    ensures { IfErr result
+        (λ e. (e ≡ Unread place error) × (is_refusal error.reason ≡ false)) }
+{
     let is_written = matches!(&error.reason, Reason::Refused(_));
     if is_written {
         return Ok(());
@@ -33,7 +44,10 @@ fn unless_unwritten(place: Place, error: ReadError) -> Result<(), QueryError> {
 }
 
 /// Refused where the answers are badly written.
-fn check_answers(alloc: Global, text: &str) -> Result<(), QueryError> {
+fn check_answers(alloc: Global, text: &str) -> Result<(), QueryError>
+    ensures { IfErr result
+        (λ e. RefusesAnswers no_fields text.now e × IsUnwritten e) }
+{
     match read_answers(alloc, &StructFields::new(alloc), text) {
         Ok(_answers) => Ok(()),
         Err(error) => unless_unwritten(Place::Expression, error),
@@ -41,7 +55,10 @@ fn check_answers(alloc: Global, text: &str) -> Result<(), QueryError> {
 }
 
 /// Refused where the condition is badly written.
-fn check_condition(alloc: Global, text: &str) -> Result<(), QueryError> {
+fn check_condition(alloc: Global, text: &str) -> Result<(), QueryError>
+    ensures { IfErr result
+        (λ e. RefusesCondition no_fields text.now e × IsUnwritten e) }
+{
     match read_expression(alloc, &StructFields::new(alloc), text) {
         Ok(_tree) => Ok(()),
         Err(error) => unless_unwritten(Place::Where, error),
@@ -54,7 +71,9 @@ pub(crate) fn check_written(
     alloc: Global,
     answers: Option<&str>,
     condition: Option<&str>,
-) -> Result<(), QueryError> {
+) -> Result<(), QueryError>
+    ensures { IfErr result (RefusesUnwritten answers.entry condition.entry) }
+{
     if let Some(text) = answers {
         check_answers(alloc, text)?;
     }
@@ -66,11 +85,29 @@ pub(crate) fn check_written(
 
 /// The text of a tree: as it is written, or else as it is printed.
 fn text_of(alloc: Global, tree: &BoundExpression<NoCustom>) -> VortexResult<String>
-    ensures { AnswersUnlessMemory result (λ _. ⊤) }
+    ensures { AnswersUnlessMemory result
+        (λ name. IsWrittenAs tree.now (text_of_tree tree.now) (string_bytes name)) }
 {
     match write_expression(alloc, tree)? {
         Some(text) => Ok(text),
         None => tree.sql_text(alloc),
+    }
+}
+
+/// The name of a tree which is the column of that place, or else its text.
+fn name_at(
+    alloc: Global,
+    columns: &StructFields,
+    tree: &BoundExpression<NoCustom>,
+    place: usize,
+) -> VortexResult<String>
+    ensures { AnswersUnlessMemory result (λ name.
+        IsNamedBy (struct_fields columns.now) tree.now (Some place) (string_bytes name)) }
+{
+    if place < columns.len() {
+        Ok(String::from_str(alloc, columns.name(place))?)
+    } else {
+        text_of(alloc, tree)
     }
 }
 
@@ -80,11 +117,12 @@ fn name_of(
     columns: &StructFields,
     tree: &BoundExpression<NoCustom>,
 ) -> VortexResult<String>
-    ensures { AnswersUnlessMemory result (λ _. ⊤) }
+    ensures { AnswersUnlessMemory result
+        (λ name. IsNameOf (struct_fields columns.now) tree.now (string_bytes name)) }
 {
     match tree.as_column() {
-        Some(place) if place < columns.len() => Ok(String::from_str(alloc, columns.name(place))?),
-        _ => text_of(alloc, tree),
+        Some(place) => name_at(alloc, columns, tree, place),
+        None => text_of(alloc, tree),
     }
 }
 
@@ -127,8 +165,9 @@ pub(crate) fn answers_over(
     columns: &StructFields,
     text: &str,
 ) -> Result<Vec<Answer>, QueryError>
-    ensures { IfOk result
+    ensures asked { IfOk result
         (λ v. AreAsked (struct_fields columns.now) text.now (trees_of v.items)) }
+    ensures refused { IfErr result (RefusesAnswers (struct_fields columns.now) text.now) }
 {
     match read_answers(alloc, columns, text) {
         Ok(list) => Ok(all_named(alloc, columns, &list)?),
@@ -142,8 +181,9 @@ pub(crate) fn condition_over(
     columns: &StructFields,
     text: &str,
 ) -> Result<Vec<Answer>, QueryError>
-    ensures { IfOk result
+    ensures asked { IfOk result
         (λ v. IsCondition (struct_fields columns.now) text.now (trees_of v.items)) }
+    ensures refused { IfErr result (RefusesCondition (struct_fields columns.now) text.now) }
 {
     let tree = match read_expression(alloc, columns, text) {
         Ok(tree) => tree,

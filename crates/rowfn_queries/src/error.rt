@@ -1,4 +1,6 @@
 //! Why words ask nothing of rows.
+ghost use Rattle.std.specs.Prelude.{◌≡◌};
+ghost use Rattle.rowfn_queries.specs.Errors.{is_memory, is_out_of_memory, words_status, status_of};
 
 use crate::scope::{ScopeError, ScopeReason};
 use std::alloc::{AllocError, AllocFailed};
@@ -103,24 +105,43 @@ impl From<VortexError> for QueryError {
     }
 }
 
+/// Whether a reason is want of memory.
+fn is_memory(reason: ScopeReason) -> bool
+    ensures { result ≡ is_memory reason }
+{
+    matches!(reason, ScopeReason::OutOfMemory)
+}
+
+/// The status of words that are wrong, unless memory ran out.
+fn words_status(is_out_of_memory: bool) -> u8
+    ensures { result ≡ words_status is_out_of_memory }
+{
+    if is_out_of_memory { 3 } else { 4 }
+}
+
 impl QueryError {
     /// Whether memory ran out, and nothing is wrong with the words as far as is known.
-    pub fn is_out_of_memory(&self) -> bool {
+    pub fn is_out_of_memory(&self) -> bool
+        ensures { result ≡ is_out_of_memory self.now }
+    {
         match self {
             QueryError::Unread(_, error) => error.is_out_of_memory(),
-            QueryError::Columns(error) => error.reason == ScopeReason::OutOfMemory,
+            QueryError::Columns(error) => is_memory(error.reason),
             QueryError::OutOfMemory => true,
             QueryError::NoTruth(_) | QueryError::Header(_) | QueryError::Reading(_) => false,
         }
     }
 
     /// 2 for a header that is none, 3 for reading and want of memory, 4 for words that are wrong.
-    pub fn status(&self) -> u8 {
+    pub fn status(&self) -> u8
+        ensures { result ≡ status_of self.now }
+    {
         match self {
             QueryError::Header(_) => 2,
-            QueryError::Reading(_) => 3,
-            error if error.is_out_of_memory() => 3,
-            _ => 4,
+            QueryError::Reading(_) | QueryError::OutOfMemory => 3,
+            QueryError::Unread(_, error) => words_status(error.is_out_of_memory()),
+            QueryError::Columns(error) => words_status(is_memory(error.reason)),
+            QueryError::NoTruth(_) => 4,
         }
     }
 }

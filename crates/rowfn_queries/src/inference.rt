@@ -2,6 +2,7 @@
 ghost use Rattle.std.specs.Prelude.{◌≡◌, ◌<◌, ◌*◌, [], IfOk, map, length, option_map};
 ghost use Rattle.vortex_types.specs.TypeOf.{type_of};
 ghost use Rattle.rowfn_queries.specs.Inference.{holds, inferred, column_fields};
+ghost use Rattle.rowfn_queries.specs.Inference.{begins_number, is_decimal, is_number};
 ghost use Rattle.rowfn_queries.specs.Inference.{inferred_types};
 ghost use Rattle.rowfn_queries.specs.Seen.{seen, seen_with, type_seen};
 
@@ -23,12 +24,47 @@ fn holds(dtype: &DType, field: Option<&[u8]>) -> bool
     }
 }
 
+/// Whether a text begins with a digit that is not 0.
+fn begins_number(digits: &[u8]) -> bool
+    ensures { result ≡ begins_number digits.now }
+{
+    match digits.first() {
+        Some(first) => first.is_ascii_digit() && *first != b'0',
+        None => false,
+    }
+}
+
+/// Whether digits, with a minus sign before them or without, are the decimal text of their number:
+/// `02134`, `-0` and `00` are not.
+fn is_decimal(text: &[u8]) -> bool
+    ensures { result ≡ is_decimal text.now }
+{
+    match text.first() {
+        Some(b'-') => begins_number(&text[1..]),
+        Some(_) => text == b"0".as_slice() || begins_number(text),
+        None => false,
+    }
+}
+
+/// Whether a field is null or the decimal text of a number that `i64` holds.
+fn is_number(field: Option<&[u8]>) -> bool
+    ensures { result ≡ is_number (option_map (λ f. f.now) field.entry) }
+{
+    match field {
+        None => true,
+        Some(text) => {
+            let integer = DType::Primitive(PType::I64, Nullability::NonNullable);
+            is_decimal(text) && holds(&integer, Some(text))
+        }
+    }
+}
+
 /// What is known of the fields of a column.
 #[derive(Clone, Copy)]
 struct Seen {
     /// Each field that is not null fits `bool`.
     is_bool: bool,
-    /// Each field that is not null fits `i64`.
+    /// Each field that is not null is the decimal text of a number that `i64` holds.
     is_integer: bool,
     has_null: bool,
     has_value: bool,
@@ -51,10 +87,9 @@ impl Seen {
     fn with(self, field: Option<&[u8]>) -> Seen
         ensures { result ≡ seen_with self (option_map (λ f. f.now) field.entry) }
     {
-        let integer = DType::Primitive(PType::I64, Nullability::NonNullable);
         Seen {
             is_bool: self.is_bool && holds(&DType::Bool(Nullability::NonNullable), field),
-            is_integer: self.is_integer && holds(&integer, field),
+            is_integer: self.is_integer && is_number(field),
             has_null: self.has_null || field.is_none(),
             has_value: self.has_value || field.is_some(),
         }
@@ -93,9 +128,10 @@ fn infer_column(fields: &[Option<&[u8]>], width: usize, row_count: usize, column
     seen.dtype()
 }
 
-/// The types of columns by their fields, which stand row by row, one for each column: of `bool`,
-/// `i64` and `utf8` the first of which each field that is not null says a value, and `utf8` where
-/// none is; with null where a field is null.
+/// The types of columns by their fields, which stand row by row, one for each column: `bool` where
+/// each field that is not null says a truth value, `i64` where each is the decimal text of its number
+/// (`02134`, `-0` and `+1` are not), else `utf8`, and `utf8` where none is; with null where a field is
+/// null.
 pub fn infer(
     alloc: Global,
     fields: &[Option<&[u8]>],

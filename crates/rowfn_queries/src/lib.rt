@@ -7,6 +7,7 @@ mod bound;
 pub mod error;
 pub mod inference;
 mod named;
+mod placed;
 pub mod query;
 mod sample;
 pub mod scope;

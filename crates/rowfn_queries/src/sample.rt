@@ -1,9 +1,17 @@
 //! The first rows of an input, from which columns take their types.
+ghost use Rattle.std.specs.Prelude.{◌≡◌, ◌*◌, IfOk, IfErr, map, length, option_map};
+ghost use Rattle.std.specs.Prelude.{string_bytes};
+ghost use Rattle.vortex_errors.specs.Answers.{AnswersUnlessMemory};
+ghost use Rattle.vortex_types.specs.LogicalTypes.{no_fields};
+ghost use Rattle.vortex_types.specs.TypeOf.{struct_fields};
+ghost use Rattle.rowfn_queries.specs.Columns.{typed_columns};
+ghost use Rattle.rowfn_queries.specs.Inference.{inferred_types};
+ghost use Rattle.rowfn_queries.specs.Reading.{lettered, fields_seen, AreInferred, IsOfInput};
 
 use crate::again::Again;
 use crate::error::{HeaderFault, QueryError};
 use crate::inference::infer;
-use crate::scopes::add_column;
+use crate::scopes::{stands_in, typed_columns};
 use rowfn_csv::{Batch, ByteRecord, Format, Found, ReadError, Records, truth_spelled};
 use std::alloc::{AllocError, Global};
 use std::io::{self, Read};
@@ -27,19 +35,25 @@ pub(crate) struct Sample {
     pub(crate) failed: Option<io::Error>,
 }
 
+/// No columns, whose types no fields gave.
+fn no_columns(alloc: Global) -> StructFields
+    ensures none { struct_fields result ≡ no_fields }
+    ensures inferred { AreInferred (struct_fields result) }
+{
+    StructFields::new(alloc)
+}
+
 impl Sample {
-    pub(crate) fn none(alloc: Global) -> Sample {
+    pub(crate) fn none(alloc: Global) -> Sample
+        ensures none { struct_fields result.columns ≡ no_fields }
+        ensures inferred { AreInferred (struct_fields result.columns) }
+    {
         Sample {
             names: Vec::new(alloc),
-            columns: StructFields::new(alloc),
+            columns: no_columns(alloc),
             failed: None,
         }
     }
-}
-
-/// Whether a name stands in a list.
-pub(crate) fn stands_in(names: &[String], name: &str) -> bool {
-    names.iter().any(|other| other.as_str() == name)
 }
 
 /// Adds the names of a header, each once; answers where those stand that are wanted.
@@ -99,12 +113,40 @@ fn read_rows<R: Read>(
 }
 
 /// A field that spells a truth value in letters, as `true` or `false`; `1` and `0` are numbers here.
-fn lettered(field: &[u8]) -> &[u8] {
+fn lettered(field: &[u8]) -> &[u8]
+    ensures { result.now ≡ lettered field.now }
+{
     if field == b"1".as_slice() || field == b"0".as_slice() {
         field
     } else {
         truth_spelled(field)
     }
+}
+
+/// A field, which is `true` or `false` where it spells a truth value in letters.
+fn lettered_field(field: Option<&[u8]>) -> Option<&[u8]>
+    ensures { option_map (λ f. f.now) result
+        ≡ option_map lettered (option_map (λ f. f.now) field.entry) }
+{
+    match field {
+        Some(bytes) => Some(lettered(bytes)),
+        None => None,
+    }
+}
+
+/// The fields, of which those that spell a truth value in letters are `true` and `false`.
+fn all_lettered<'b>(
+    alloc: Global,
+    fields: &[Option<&'b [u8]>],
+) -> Result<Vec<Option<&'b [u8]>>, AllocError>
+    ensures { IfOk result (λ found. map (option_map (λ f. f.now)) found.items
+        ≡ map (option_map lettered) (map (option_map (λ f. f.now)) fields.now)) }
+{
+    let mut found = Vec::new(alloc);
+    for field in fields {
+        found.push(lettered_field(*field))?;
+    }
+    Ok(found)
 }
 
 /// The fields of a batch; truth values in letters as `true` and `false`, where they are read in any
@@ -113,36 +155,40 @@ fn fields_of(
     alloc: Global,
     batch: &Batch,
     any_truths: bool,
-) -> Result<Vec<Option<&[u8]>>, AllocError> {
-    let mut fields = batch.fields(alloc)?;
+) -> Result<Vec<Option<&[u8]>>, AllocError>
+    ensures { IfOk result (λ found. map (option_map (λ f. f.now)) found.items
+        ≡ fields_seen any_truths batch.now.fields) }
+{
+    let fields = batch.fields(alloc)?;
     if any_truths {
-        for field in fields.iter_mut() {
-            *field = field.map(|bytes| lettered(bytes));
-        }
+        return all_lettered(alloc, &fields);
     }
     Ok(fields)
 }
 
-/// The columns of a header at those places, with the types of their fields.
+/// The columns of a header of those names, with the types of their fields, of which each row has one
+/// for each; none where it has not.
 fn columns_of(
     alloc: Global,
-    header: &[String],
-    places: &[usize],
+    names: &[String],
     batch: &Batch,
     any_truths: bool,
-) -> VortexResult<StructFields> {
+) -> VortexResult<StructFields>
+    ensures types { AnswersUnlessMemory result (λ columns.
+        length batch.now.fields ≡ length names.now * length batch.now.spans
+        → struct_fields columns ≡ typed_columns (map string_bytes names.now)
+        (inferred_types (fields_seen any_truths batch.now.fields) (length names.now)
+        (length batch.now.spans))) }
+    ensures inferred { IfOk result (λ columns. AreInferred (struct_fields columns)) }
+{
     let fields = fields_of(alloc, batch, any_truths)?;
-    let mut columns = StructFields::new(alloc);
-    let (width, row_count) = (places.len(), batch.len());
+    let (width, row_count) = (names.len(), batch.len());
     // each row has a field for each place
     if width.checked_mul(row_count) != Some(fields.len()) {
-        return Ok(columns);
+        return Ok(no_columns(alloc));
     }
     let types = infer(alloc, &fields, width, row_count)?;
-    for (name, dtype) in header.iter().zip(types) {
-        add_column(alloc, &mut columns, name.as_str(), dtype)?;
-    }
-    Ok(columns)
+    typed_columns(alloc, names, &types)
 }
 
 /// The names at places of a header.
@@ -160,7 +206,9 @@ fn names_at(
 }
 
 /// Reads a header. Refused where there is none.
-fn read_header<R: Read>(records: &mut Records<'_, R>, max_field: usize) -> Result<(), QueryError> {
+fn read_header<R: Read>(records: &mut Records<'_, R>, max_field: usize) -> Result<(), QueryError>
+    ensures { IfErr result IsOfInput }
+{
     match records.read_record() {
         Found::End => Err(QueryError::Header(HeaderFault::Missing)),
         Found::Record if records.is_outgrown() => {
@@ -183,7 +231,10 @@ pub(crate) fn read_sample<R: Read>(
     max_field: usize,
     wanted: &[String],
     reader: &mut Again<R>,
-) -> Result<Sample, QueryError> {
+) -> Result<Sample, QueryError>
+    ensures inferred { IfOk result (λ sample. AreInferred (struct_fields sample.columns)) }
+    ensures refused { IfErr result IsOfInput }
+{
     let mut sample = Sample::none(alloc);
     let mut records = Records::new(alloc, format, max_field, reader);
     read_header(&mut records, max_field)?;
@@ -196,6 +247,6 @@ pub(crate) fn read_sample<R: Read>(
         Err(ReadError::Io(error)) => sample.failed = Some(error),
         Err(ReadError::OutOfMemory) => return Err(QueryError::OutOfMemory),
     }
-    sample.columns = columns_of(alloc, &names, &places, &batch, format.any_truths)?;
+    sample.columns = columns_of(alloc, &names, &batch, format.any_truths)?;
     Ok(sample)
 }

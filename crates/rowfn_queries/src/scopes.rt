@@ -1,8 +1,35 @@
 //! Scopes, column by column.
+ghost use Rattle.std.specs.Prelude.{◌≡◌, map, string_bytes};
+ghost use Rattle.std.specs.List.{list_any};
+ghost use Rattle.std.specs.Str.{bytes_eq};
+ghost use Rattle.vortex_errors.specs.Answers.{AnswersUnlessMemory};
+ghost use Rattle.vortex_types.specs.TypeOf.{struct_fields, type_of};
+ghost use Rattle.rowfn_queries.specs.Columns.{is_among, with_new, with_wanted, with_all};
+ghost use Rattle.rowfn_queries.specs.Columns.{typed_columns, with_texts};
 
-use crate::sample::stands_in;
 use std::alloc::Global;
 use vortex_columns::{DType, Nullability, StructFields, VortexResult};
+
+/// Whether a name is another.
+fn is_name(name: &String, other: &str) -> bool
+    ensures { result ≡ bytes_eq (string_bytes name.now) other.now }
+{
+    name.as_str() == other
+}
+
+/// Whether one of these names is that.
+fn has_name(names: &[String], name: &str) -> bool
+    ensures { result ≡ list_any (λ n. bytes_eq (string_bytes n) name.now) names.now }
+{
+    names.iter().any(|other| is_name(other, name))
+}
+
+/// Whether a name stands in a list.
+pub(crate) fn stands_in(names: &[String], name: &str) -> bool
+    ensures { result ≡ is_among (map string_bytes names.now) name.now }
+{
+    has_name(names, name)
+}
 
 /// One column more, where none has its name yet. E9 where memory is refused.
 pub(crate) fn add_column(
@@ -10,7 +37,10 @@ pub(crate) fn add_column(
     columns: &mut StructFields,
     name: &str,
     dtype: DType,
-) -> VortexResult<()> {
+) -> VortexResult<()>
+    ensures { AnswersUnlessMemory result (λ _. struct_fields columns.new
+        ≡ with_new (struct_fields columns.old) name.now (type_of dtype)) }
+{
     if columns.find(name).is_some() {
         return Ok(());
     }
@@ -23,7 +53,11 @@ pub(crate) fn add_wanted(
     columns: &mut StructFields,
     from: &StructFields,
     wanted: &[String],
-) -> VortexResult<()> {
+) -> VortexResult<()>
+    ensures { AnswersUnlessMemory result (λ _. struct_fields columns.new
+        ≡ with_wanted (is_among (map string_bytes wanted.now)) (struct_fields from.now)
+        (struct_fields columns.old)) }
+{
     for place in 0..from.len() {
         let name = from.name(place);
         if stands_in(wanted, name) {
@@ -38,7 +72,10 @@ pub(crate) fn add_all(
     alloc: Global,
     columns: &mut StructFields,
     from: &StructFields,
-) -> VortexResult<()> {
+) -> VortexResult<()>
+    ensures { AnswersUnlessMemory result (λ _. struct_fields columns.new
+        ≡ with_all (struct_fields from.now) (struct_fields columns.old)) }
+{
     for place in 0..from.len() {
         let dtype = from.dtype(place).try_clone(alloc)?;
         add_column(alloc, columns, from.name(place), dtype)?;
@@ -51,10 +88,31 @@ pub(crate) fn add_named(
     alloc: Global,
     columns: &mut StructFields,
     names: &[String],
-) -> VortexResult<()> {
+) -> VortexResult<()>
+    ensures { AnswersUnlessMemory result (λ _. struct_fields columns.new
+        ≡ with_texts names.now (struct_fields columns.old)) }
+{
     for name in names {
         let dtype = DType::Utf8(Nullability::Nullable);
         add_column(alloc, columns, name.as_str(), dtype)?;
     }
     Ok(())
+}
+
+/// Columns of these names and types, each name once.
+pub(crate) fn typed_columns(
+    alloc: Global,
+    names: &[String],
+    types: &[DType],
+) -> VortexResult<StructFields>
+    ensures { AnswersUnlessMemory result (λ columns. struct_fields columns
+        ≡ typed_columns (map string_bytes names.now) (map (λ t. type_of t) types.now)) }
+{
+    let mut columns = StructFields::new(alloc);
+    let count = names.len().min(types.len());
+    for place in 0..count {
+        let dtype = types[place].try_clone(alloc)?;
+        add_column(alloc, &mut columns, names[place].as_str(), dtype)?;
+    }
+    Ok(columns)
 }

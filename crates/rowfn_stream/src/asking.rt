@@ -34,7 +34,7 @@ fn file_text(rt: &(impl Files + AllocGlobal), name: &str) -> Result<Vec<u8>, Str
 }
 
 /// How fields are parted and truth values are read, with that text for null.
-pub fn format_with<'a>(options: &Options<'_>, null: &'a [u8]) -> Format<'a> {
+pub(crate) fn format_with<'a>(options: &Options<'_>, null: &'a [u8]) -> Format<'a> {
     Format {
         delimiter: options.delimiter,
         null,
@@ -47,7 +47,14 @@ pub fn format_with<'a>(options: &Options<'_>, null: &'a [u8]) -> Format<'a> {
 fn read_lines(alloc: Global, options: &Options<'_>, text: &[u8]) -> Result<Query, Failure> {
     let expression = read_told(alloc, text)?;
     let condition = match options.condition {
-        Some(text) => Some(read_condition(alloc, &expression.columns, text)?),
+        Some(text) => {
+            let Expression {
+                columns,
+                places,
+                ..
+            } = &expression;
+            Some(read_condition(alloc, columns, places, text)?)
+        }
         None => None,
     };
     Ok(Query {
@@ -112,7 +119,7 @@ fn picking(alloc: Global, query: Query) -> Result<Query, Failure> {
 }
 
 /// What is asked of the rows that a reader gives.
-pub fn ask<R: Read>(
+pub(crate) fn ask<R: Read>(
     rt: &(impl Files + AllocGlobal),
     options: &Options<'_>,
     reader: &mut Again<R>,

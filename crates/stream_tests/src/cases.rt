@@ -3,12 +3,16 @@
 use crate::pipes::{Drips, Sink};
 use fixtures::{same, same_text};
 use rowfn_batches::{Format, Settings, StreamError, Summary, flow, read_told, top_alone};
+use rowfn_queries::read_condition;
+use rowfn_scripts::Expression;
 use std::alloc::Global;
 
 /// An expression, an input, and how it is read.
 #[derive(Clone, Copy)]
 pub struct Case<'a> {
     pub expression: &'a str,
+    /// The condition over the columns that the expression declares; all rows are answered without.
+    pub condition: Option<&'a str>,
     pub input: &'a [u8],
     pub header: bool,
     pub delimiter: u8,
@@ -28,6 +32,7 @@ pub struct Case<'a> {
 pub fn plain<'a>(expression: &'a str, input: &'a str) -> Case<'a> {
     Case {
         expression,
+        condition: None,
         input: input.as_bytes(),
         header: true,
         delimiter: b',',
@@ -104,6 +109,21 @@ pub fn settings_of<'a>(case: &Case<'a>, batch: (usize, u64)) -> Settings<'a> {
     }
 }
 
+/// The condition of a case, over the columns of its expression.
+fn condition_of(
+    alloc: Global,
+    case: &Case<'_>,
+    expression: &Expression,
+) -> Result<Option<Expression>, StreamError> {
+    let Some(text) = case.condition else {
+        return Ok(None);
+    };
+    match read_condition(alloc, &expression.columns, &expression.places, text) {
+        Ok(condition) => Ok(Some(condition)),
+        Err(_) => Err(StreamError::OutOfMemory),
+    }
+}
+
 /// Runs a stream by batches of so many rows, or so many bytes of them, and reads of so many bytes.
 pub fn run_case(
     alloc: Global,
@@ -119,13 +139,15 @@ pub fn run_case(
     } else {
         expression
     };
+    let condition = condition_of(alloc, case, &expression)?;
     let reader = Drips {
         text: case.input,
         step,
         interrupted: false,
         fails: case.fails,
     };
-    flow(alloc, &settings, &expression, None, reader, sink)
+    let asked = condition.as_ref();
+    flow(alloc, &settings, &expression, asked, reader, sink)
 }
 
 /// Whether that was written, and that text told with that status, if anything was.

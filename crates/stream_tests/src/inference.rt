@@ -1,6 +1,8 @@
 //! Types that columns take from the first rows.
 
-use crate::asking::{Asked, Texts, answers_so, asks, each_ends_so, ends_once, ends_so, rows_where};
+use crate::asking::{
+    Asked, Texts, answers_so, asks, declared, each_ends_so, ends_once, ends_so, rows_where,
+};
 use crate::cases::is_case;
 use fixtures::same;
 use rowfn_queries::{SAMPLED_ROWS, Words, infer};
@@ -54,6 +56,27 @@ fn a_column_has_the_first_type_that_its_fields_fit(rt: HostRuntime) {
         ("", "[utf8]"),
     ];
     assert!(rt; each_has_type(rt, CASES));
+}
+
+#[test]
+fn a_column_of_numbers_has_their_decimal_texts(rt: HostRuntime) {
+    const CASES: &[(&str, &str)] = &[
+        ("0,10,-5", "[i64]"),
+        ("1,02134", "[utf8]"),
+        ("00", "[utf8]"),
+        ("-0", "[utf8]"),
+        ("-05,1", "[utf8]"),
+        ("+1", "[utf8]"),
+        ("-", "[utf8]"),
+        ("~,007", "[utf8?]"),
+        ("9223372036854775807,-9223372036854775808", "[i64]"),
+        ("-9223372036854775809", "[utf8]"),
+    ];
+    assert!(rt; each_has_type(rt, CASES));
+    let codes = "code\n02134\n\"00501\"\n-0\n";
+    assert!(rt; answers_so(rt, asks("code", codes), "code\n02134\n00501\n-0\n"));
+    let read = declared("code i64", "code", codes);
+    assert!(rt; answers_so(rt, read, "code\n2134\n501\n0\n"));
 }
 
 #[test]

@@ -67,6 +67,30 @@ fn columns_stand_at_the_places_that_are_said(rt: HostRuntime) {
     assert!(rt; ends(rt, broken, "p,n\n1,a\n", 2, told));
 }
 
+/// The rows of that form in which a condition is true.
+fn where_so<'a>(case: Case<'a>, condition: &'a str) -> Case<'a> {
+    Case {
+        condition: Some(condition),
+        ..case
+    }
+}
+
+#[test]
+fn a_condition_reads_columns_where_they_stand(rt: HostRuntime) {
+    let third = "col 3 as y i64\nget y\nas y\n";
+    let rows = "1,2,3\n4,5,6\n3,3,9\n";
+    assert!(rt; gives(rt, where_so(headless(third, rows), "y = 3"), "3\n"));
+    let headed = "a,b,c\n1,2,3\n4,5,6\n3,3,9\n";
+    assert!(rt; gives(rt, where_so(plain(third, headed), "y = 3"), "y\n3\n"));
+    let both = "col 3 as y i64\ncol b i64\nget b\nas b\nget y\nas y\n";
+    assert!(rt; gives(rt, where_so(plain(both, headed), "y > b and b < 4"), "b,y\n2,3\n3,9\n"));
+    // the column b stands in its turn, the second
+    assert!(rt; gives(rt, where_so(headless(both, rows), "y > b and b < 4"), "2,3\n3,9\n"));
+    let told = "row 2, column y: \"x\" is no i64";
+    let wrong = where_so(headless(third, "1,2,3\n4,5,x\n"), "y = 3");
+    assert!(rt; ends(rt, wrong, "3\n", 2, told));
+}
+
 #[test]
 fn without_a_header_the_first_row_tells_how_many_fields_there_are(rt: HostRuntime) {
     const GIVEN: &[(Form, &str, &str, &str)] = &[

@@ -1,4 +1,4 @@
-use Rattle.std.proofs.Common.{◌+◌, ◌*◌, ◌∷◌, [], ◌++◌, ap, ap₂, sym, map, option_map, ◌∙◌}
+use Rattle.std.proofs.Common.{◌+◌, ◌*◌, ap, ap₂, sym, map, option_map, ◌∙◌}
 use Rattle.rowfn_queries.specs.Inference.{column_fields}
 use Rattle.rowfn_queries.specs.Seen.{seen, seen_with}
 use Rattle.rowfn_queries.proofs.SeenMore.{seen_more, column_more, place_within, field_is}

@@ -1,4 +1,4 @@
-use Rattle.std.proofs.Common.{map, subst, sym, ap}
+use Rattle.std.proofs.Common.{map, subst, sym}
 use Rattle.vortex_syntax.specs.Tokens.{token_in}
 use Rattle.vortex_syntax.specs.Lexing.{Lexes}
 use Rattle.rowfn_queries.proofs.Refusing.{refused_so}
