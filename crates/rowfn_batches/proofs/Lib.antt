@@ -14,3 +14,4 @@ pub mod Spent
 pub mod ReadingBack
 pub mod Within
 pub mod TakenRows
+pub mod ToldRows

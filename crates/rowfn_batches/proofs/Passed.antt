@@ -1,5 +1,5 @@
 -- A batch that was answered: it can be put down, and is passed on where that was written.
-use Rattle.std.proofs.Common.{◌≡◌, ◌∙◌, ℕ, ◌≤◌, ◌-◌, ◌++◌, List, Option, Some, None, Result, Ok}
+use Rattle.std.proofs.Common.{◌≡◌, ◌∙◌, ℕ, ◌≤◌, ◌-◌, ◌+◌, ◌^◌, ◌++◌, List, Option, Some, None, Result, Ok, min}
 use Rattle.std.proofs.Common.{Err}
 use Rattle.std.proofs.Common.{Bool, true, false, map, sym, subst, ap, ap₂, refl, if◌then◌else◌}
 use Rattle.std.proofs.Common.{length, take, arith, ◌&&◌, not, is_some, option_map}
@@ -24,7 +24,7 @@ use Rattle.rowfn_batches.specs.declared.errors.StreamError.TheVariants.{OutOfMem
 use Rattle.rowfn_batches.specs.Outputs.{Adds, HaveRows, picked_texts}
 use Rattle.rowfn_batches.specs.Passing.{IsAnswered, answer_text, batch_text, picked_lines}
 use Rattle.rowfn_batches.specs.Passing.{PassesUpTo}
-use Rattle.rowfn_batches.specs.Passing.{answered}
+use Rattle.rowfn_batches.specs.Passing.{answered, CountsWritten, rows_put}
 use Rattle.rowfn_batches.proofs.Within.{have_rows, within_batch}
 
 -- what is written of a batch, by whether its rows are picked
@@ -88,6 +88,36 @@ module _ {R : Type 0} (s : Stream R) (behind : Option StreamError) (rows : Optio
       ++ batch_text s o cs n) rowed same)
       wrote)
       refl
+
+  -- and its rows are counted
+  pub counted : (lent_rows : Option (List ℕ)) → lent_rows ≡ rows → (now : Stream R) (some : ℕ)
+      → some ≡ rows_put s lent_rows lent n
+      → now.summary.rows_written ≡ min (s.summary.rows_written + some) (2 ^ 64 - 1)
+      → CountsWritten s now behind
+  counted lent_rows rowed now some put told = record {
+    rows = rows;
+    count = n;
+    answers = answers;
+    error = e;
+    answered = is;
+    counted =
+        told
+        ∙ ap (λ (k : ℕ). min (s.summary.rows_written + k) (2 ^ 64 - 1))
+        (put ∙ ap₂ (λ (o : Option (List ℕ)) (cs : List ColumnView). rows_put s o cs n) rowed same);
+  }
+
+-- what is counted of a stream is counted of another that has written as many rows
+pub counted_alike : {R : Type 0} {s now other : Stream R} {behind : Option StreamError}
+    → CountsWritten s now behind → other.summary.rows_written ≡ now.summary.rows_written
+    → CountsWritten s other behind
+counted_alike was same = record {
+  rows = was.rows;
+  count = was.count;
+  answers = was.answers;
+  error = was.error;
+  answered = was.answered;
+  counted = same ∙ was.counted;
+}
 
 -- what is written nothing to stays as it is
 pub kept_as_it_is : (held : Option (List ℕ)) → Keeps held held

@@ -1,10 +1,14 @@
 -- Where declared columns stand in a header, and what is told where one does not stand there once.
 use Rattle.std.specs.Prelude.{◌≡◌, ◌≢◌, ◌<◌, ◌≤◌, ℕ, List, Option, Some, None, ⊤, length, get_or}
-use Rattle.std.specs.Prelude.{string_bytes, is_some, unwrap_or, if◌then◌else◌}
+use Rattle.std.specs.Prelude.{string_bytes, is_some, unwrap_or, if◌then◌else◌, fold, max, min}
+use Rattle.std.specs.Prelude.{◌+◌, ◌-◌, ◌^◌}
+use Rattle.std.specs.Prelude.{All, Contains, String}
+use Rattle.std.specs.declared.alloc.Global.{Global}
 use Rattle.std.specs.List.{list_any}
 use Rattle.csv.specs.Records.{field_at}
 use Rattle.vortex_types.specs.FieldNames.{field_name}
 use Rattle.vortex_types.specs.LogicalTypes.{Fields, field_count}
+use Rattle.rowfn_scripts.specs.declared.expression.Answer.{Answer}
 use Rattle.rowfn_batches.specs.declared.errors.StreamError.{StreamError}
 use Rattle.rowfn_batches.specs.declared.errors.StreamError.TheVariants as end
 
@@ -91,3 +95,23 @@ declared_place said k = unwrap_or (place_said said k) k
 -- says no place of any
 abbrev pub declared_width : List (Option ℕ) → Fields → Option ℕ
 declared_width said ds = if list_any is_some said then None else Some (field_count ds)
+
+-- how many fields a first record has that tells the width: as many as are found, but none less than
+-- reach to each column
+abbrev pub width_by : List ℕ → ℕ → ℕ
+width_by places found =
+    fold (λ width place. max width (min (place + 1) (2 ^ 64 - 1))) found places
+
+-- no field of a header is the name of one of these answers
+abbrev pub AreApartFrom : List (List ℕ) → List Answer → Type 0
+AreApartFrom fields answers = All (λ a. LacksFrom fields (string_bytes a.name) 0) answers
+
+-- the name of an answer, which is that of a field of the header, is told; or memory ran out
+pub data TellsTaken (fields : List (List ℕ)) (name : List ℕ) (e : StreamError) : Type 0 where
+  is_taken : (place : ℕ) (told : String Global) → field_at fields place ≡ Some name
+      → string_bytes told ≡ name → e ≡ end.NameTaken told → TellsTaken fields name e
+  out_of_memory : e ≡ end.OutOfMemory → TellsTaken fields name e
+
+abbrev pub IsNameTaken : List (List ℕ) → List Answer → StreamError → Type 0
+IsNameTaken fields answers e =
+    (a : Answer) × Contains answers a × TellsTaken fields (string_bytes a.name) e

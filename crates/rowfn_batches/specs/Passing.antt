@@ -1,7 +1,7 @@
 -- What is written of a batch, and what passing it on ends.
 use Rattle.std.specs.Prelude.{◌≡◌, ◌-◌, ℕ, List, [], Option, Some, None, Result, Ok, Err, ⊤, length}
 use Rattle.std.specs.Prelude.{◌&&◌, not, is_some, option_map, ◌++◌, ◌+◌, ◌^◌, map, take, slice_get}
-use Rattle.std.specs.Prelude.{if◌then◌else◌, min, Bool}
+use Rattle.std.specs.Prelude.{if◌then◌else◌, min, Bool, true, false, suc}
 use Rattle.std.specs.Io.KnownBytes.{Appends, Keeps}
 use Rattle.vortex_columns.specs.ColumnView.{ColumnView}
 use Rattle.rowfn_scripts.specs.declared.expression.Expression.{Expression}
@@ -11,11 +11,13 @@ use Rattle.rowfn_batches.specs.declared.errors.StreamError.TheVariants as end
 use Rattle.rowfn_batches.specs.declared.output.Output.{Output}
 use Rattle.rowfn_batches.specs.declared.stream.Stream.{Stream}
 use Rattle.rowfn_batches.specs.declared.stream.Summary.{Summary}
+use Rattle.rowfn_batches.specs.declared.stream.filling.Filled.{Filled}
+use Rattle.rowfn_batches.specs.declared.stream.filling.Filled.TheVariants as filled
 use Rattle.rowfn_batches.specs.declared.taking.Condition.{Condition}
 use Rattle.rowfn_batches.specs.Fields.{Field}
 use Rattle.rowfn_batches.specs.BatchAnswers.{AreAnswers, EndsBatch, row_number, row_among}
 use Rattle.rowfn_batches.specs.Taking.{Takes, IsLeft, rows_before}
-use Rattle.rowfn_batches.specs.Outputs.{row_lines, picked_texts, appended_lines}
+use Rattle.rowfn_batches.specs.Outputs.{row_lines, picked_texts, picked_count, appended_lines}
 
 -- the lines of the input of those of the first rows in which the answer is true
 abbrev pub picked_lines : {R : Type 0} → Stream R → Option ColumnView → ℕ → List ℕ
@@ -117,30 +119,70 @@ pub record IsRefilled {R : Type 0} (old new : Stream R) : Type 0 where
   pub output : new.output ≡ old.output
   pub summary : new.summary ≡ old.summary
 
--- the stream behind a batch that was passed on
-pub record IsBehind {R : Type 0} (s now : Stream R) : Type 0 where
+-- how many rows are written of these rows: those that are picked where all are answered, else all
+abbrev pub count_where : Option ColumnView → ℕ → ℕ
+count_where None n = 0
+count_where (Some top) n = picked_count top n
+
+abbrev pub rows_put : {R : Type 0} → Stream R → Option (List ℕ) → List ColumnView → ℕ → ℕ
+rows_put s rows answers n =
+    if s.settings.picks_rows && not (is_some rows)
+    then count_where (slice_get answers (length answers - 1)) n else n
+
+-- the rows that are written of a batch are counted
+pub record CountsWritten {R : Type 0} (s now : Stream R) (behind : Option StreamError) : Type 0
+  where
+    pub rows : Option (List ℕ)
+    pub count : ℕ
+    pub answers : List ColumnView
+    pub error : Option StreamError
+    pub answered : IsAnswered s behind rows count answers error
+    pub counted : now.summary.rows_written
+        ≡ min (s.summary.rows_written + rows_put s rows answers count) (2 ^ 64 - 1)
+
+-- the stream behind a batch that was passed on, behind which an error ends it, if any does
+pub record IsBehind {R : Type 0} (s now : Stream R) (behind : Option StreamError) : Type 0 where
   pub kept : KeepsReading s now
   pub cleared : IsCleared s.output now.output
   pub rows_read : now.summary.rows_read ≡ rows_read_behind s
+  pub rows_written : CountsWritten s now behind
 
--- the next batch is read and passed on, and whether the input goes on is told; or what ends the
--- stream there
+-- by how the reading of a batch ended: what ends the stream behind it, if anything does, whether more
+-- rows may follow, and whether the input is at its end
+abbrev pub error_behind : Filled → Option StreamError
+error_behind (filled.Broken e) = Some e
+error_behind filled.Full = None
+error_behind filled.Ended = None
+
+abbrev pub is_full : Filled → Bool
+is_full filled.Full = true
+is_full filled.Ended = false
+is_full (filled.Broken e) = false
+
+abbrev pub is_end : Filled → Bool
+is_end filled.Ended = true
+is_end filled.Full = false
+is_end (filled.Broken e) = false
+
+-- the next batch is read and passed on, and the stream goes on where the batch is full; or what ends
+-- it there
 pub data PassesNext {R : Type 0} (old new : Stream R) (before after : Option (List ℕ))
     (result : Result Bool StreamError) : Type 0 where
-  passed_on : (s : Stream R) (behind : Option StreamError) (goes_on : Bool) → IsRefilled old s
-      → PassesOn s behind before after (Ok tt) → IsBehind s new → result ≡ Ok goes_on
-      → PassesNext old new before after result
-  ended_there : (s : Stream R) (behind : Option StreamError) (e : StreamError) → IsRefilled old s
-      → PassesOn s behind before after (Err e) → result ≡ Err e
+  passed_on : (s : Stream R) (how : Filled) → IsRefilled old s
+      → PassesOn s (error_behind how) before after (Ok tt) → IsBehind s new (error_behind how)
+      → result ≡ Ok (is_full how) → PassesNext old new before after result
+  ended_there : (s : Stream R) (how : Filled) (e : StreamError) → IsRefilled old s
+      → PassesOn s (error_behind how) before after (Err e) → result ≡ Err e
       → PassesNext old new before after result
 
--- batches of a stream that were passed on one behind the other, and what the writer then holds
+-- so many full batches of a stream that were passed on one behind the other, and what the writer then
+-- holds
 pub data Passed {R : Type 0} (first : Stream R) (begun : Option (List ℕ))
-    : Stream R → Option (List ℕ) → Type 0 where
-  none_yet : Passed first begun first begun
-  one_more : (was s now : Stream R) (behind : Option StreamError) (before after : Option (List ℕ))
-      → Passed first begun was before → IsRefilled was s → PassesOn s behind before after (Ok tt)
-      → IsBehind s now → Passed first begun now after
+    : ℕ → Stream R → Option (List ℕ) → Type 0 where
+  none_yet : Passed first begun 0 first begun
+  one_more : (n : ℕ) (was now : Stream R) (before after : Option (List ℕ))
+      → Passed first begun n was before → PassesNext was now before after (Ok true)
+      → Passed first begun (suc n) now after
 
 -- a stream of that expression and that condition behind its header, of whose rows none is read
 pub record HasBegun {R : Type 0} (x : Expression) (asked : Option Expression)
@@ -155,16 +197,21 @@ pub record HasBegun {R : Type 0} (x : Expression) (asked : Option Expression)
   pub summary : first.summary ≡ headed.summary
 
 -- A stream of that reader flows: its header is written, and then batch by batch what is written of
--- each, in their order and each once, up to the one that ends it, if any; that error is told, and
--- nothing is written behind it.
+-- each, in their order and each once, up to the last, which is not full, or to the one that ends it;
+-- that error is told, and nothing is written behind it. It is at its end, too, behind so many batches
+-- as nobody reads.
 pub data Flows {R : Type 0} (reader : R) (x : Expression) (asked : Option Expression)
     (before after : Option (List ℕ)) (result : Result Summary StreamError) : Type 0 where
-  at_end : (first now : Stream R) (begun : Option (List ℕ)) → HasBegun x asked before begun first
-      → Passed first begun now after → result ≡ Ok now.summary
+  at_end : (n : ℕ) (first was now : Stream R) (begun held : Option (List ℕ))
+      → HasBegun x asked before begun first → Passed first begun n was held
+      → PassesNext was now held after (Ok false) → result ≡ Ok now.summary
       → Flows reader x asked before after result
-  at_error : (first was s : Stream R) (begun held : Option (List ℕ)) (behind : Option StreamError)
-      (e : StreamError) → HasBegun x asked before begun first → Passed first begun was held
-      → IsRefilled was s → PassesOn s behind held after (Err e) → result ≡ Err e
+  at_last_turn : (first now : Stream R) (begun : Option (List ℕ))
+      → HasBegun x asked before begun first → Passed first begun (2 ^ 64 - 1) now after
+      → result ≡ Ok now.summary → Flows reader x asked before after result
+  at_error : (n : ℕ) (first was now : Stream R) (begun held : Option (List ℕ)) (e : StreamError)
+      → HasBegun x asked before begun first → Passed first begun n was held
+      → PassesNext was now held after (Err e) → result ≡ Err e
       → Flows reader x asked before after result
   without_header : (e : StreamError) → IsWriting e → result ≡ Err e
       → Flows reader x asked before after result

@@ -1,18 +1,21 @@
 -- How a stream goes on behind rows that are refused.
 use Rattle.std.specs.Prelude.{◌≡◌, ◌+◌, ◌*◌, ◌-◌, ◌^◌, ◌<◌, ◌≤◌, min, ℕ, List, [], length, take}
 use Rattle.std.specs.Prelude.{drop}
-use Rattle.std.specs.Prelude.{Option, Some, None, Result, Ok, Err, Bool, ⊤, ◌⊎◌}
+use Rattle.std.specs.Prelude.{Option, Some, None, Result, Ok, Err, Bool, true, false, not, ⊤, ◌⊎◌}
+use Rattle.std.specs.Prelude.{suc}
 use Rattle.rowfn_csv.specs.declared.records.Span.{Span}
 use Rattle.rowfn_scripts.specs.declared.expression.Expression.{Expression}
 use Rattle.rowfn_batches.specs.declared.errors.StreamError.{StreamError}
 use Rattle.rowfn_batches.specs.declared.errors.StreamError.TheVariants as end
 use Rattle.rowfn_batches.specs.declared.stream.Stream.{Stream}
 use Rattle.rowfn_batches.specs.declared.stream.Summary.{Summary}
+use Rattle.rowfn_batches.specs.declared.stream.filling.Filled.{Filled}
 use Rattle.rowfn_batches.specs.declared.taking.Condition.{Condition}
 use Rattle.rowfn_batches.specs.Endings.{row_left_out}
 use Rattle.rowfn_batches.specs.Fields.{Field}
 use Rattle.rowfn_batches.specs.Passing.{PassesUpTo, IsBehind, KeepsReading, IsCleared, IsRefilled}
-use Rattle.rowfn_batches.specs.Passing.{HasBegun, IsWriting, condition_asked}
+use Rattle.rowfn_batches.specs.Passing.{HasBegun, IsWriting, condition_asked, CountsWritten}
+use Rattle.rowfn_batches.specs.Passing.{error_behind, is_end}
 use Rattle.rowfn_batches.specs.Parts.{next_row}
 use Rattle.rowfn_batches.specs.Refusals.{one_more_counted, IsUntold}
 use Rattle.rowfn_batches.specs.Taking.{rows_before}
@@ -33,6 +36,7 @@ pub record IsPast {R : Type 0} (s now : Stream R) (place : ℕ) : Type 0 where
   pub kept : KeepsReading s now
   pub cleared : IsCleared s.output now.output
   pub rows_read : now.summary.rows_read ≡ rows_read_up_to s place
+  pub rows_written : CountsWritten s now None
 
 -- why a batch ends a stream that goes on behind rows that are refused
 abbrev pub EndsTold : Result (Option StreamError) StreamError → StreamError → Type 0
@@ -45,7 +49,7 @@ EndsTold (Ok None) e = ⊥
 -- is counted, and whose place is answered. Or the stream ends there.
 pub data PassesTold {R : Type 0} (s now : Stream R) (before after : Option (List ℕ))
     (counted count : ℕ) (result : Result (Option ℕ) StreamError) : Type 0 where
-  whole : PassesUpTo s None before after (Ok None) → IsBehind s now → count ≡ counted
+  whole : PassesUpTo s None before after (Ok None) → IsBehind s now None → count ≡ counted
       → result ≡ Ok None → PassesTold s now before after counted count result
   up_to_one : (e : StreamError) (place : ℕ) → PassesUpTo s None before after (Ok (Some e))
       → IsPlace (rows_before s) place e → IsPast s now place → count ≡ one_more_counted counted
@@ -169,49 +173,54 @@ PassesBehind old now None counted count result =
     (now ≡ old) × (count ≡ counted) × (result ≡ Ok tt)
 PassesBehind old now (Some e) counted count result = PassesMisshapen old now e counted count result
 
--- the next batch is read and passed on, but for the rows that are refused, and whether the input
--- goes
--- on is told; or what ends the stream there
+-- the next batch is read and passed on, but for the rows that are refused, and the stream goes on
+-- unless the input is at its end; or what ends it there
 pub data PassesNextTold {R : Type 0} (old now : Stream R) (before after : Option (List ℕ))
     (counted count : ℕ) (result : Result Bool StreamError) : Type 0 where
-  batch_and_behind : (s mid : Stream R) (behind : Option StreamError) (some : ℕ) (goes_on : Bool)
+  batch_and_behind : (s mid : Stream R) (how : Filled) (some : ℕ)
       → IsRefilled old s → PassesBatch s mid before after counted some (Ok tt)
-      → PassesBehind mid now behind some count (Ok tt) → result ≡ Ok goes_on
+      → PassesBehind mid now (error_behind how) some count (Ok tt) → result ≡ Ok (not (is_end how))
       → PassesNextTold old now before after counted count result
   ends_in_batch : (s : Stream R) (e : StreamError) → IsRefilled old s
       → PassesBatch s now before after counted count (Err e) → result ≡ Err e
       → PassesNextTold old now before after counted count result
-  ends_behind : (s mid : Stream R) (behind : Option StreamError) (some : ℕ) (e : StreamError)
+  ends_behind : (s mid : Stream R) (how : Filled) (some : ℕ) (e : StreamError)
       → IsRefilled old s → PassesBatch s mid before after counted some (Ok tt)
-      → PassesBehind mid now behind some count (Err e) → result ≡ Err e
+      → PassesBehind mid now (error_behind how) some count (Err e) → result ≡ Err e
       → PassesNextTold old now before after counted count result
-  lines_unwritten : (s mid : Stream R) (behind : Option StreamError) (some : ℕ) (e : StreamError)
+  lines_unwritten : (s mid : Stream R) (how : Filled) (some : ℕ) (e : StreamError)
       → IsRefilled old s → PassesBatch s mid before after counted some (Ok tt)
-      → PassesBehind mid now behind some count (Ok tt) → IsUntold e → result ≡ Err e
+      → PassesBehind mid now (error_behind how) some count (Ok tt) → IsUntold e → result ≡ Err e
       → PassesNextTold old now before after counted count result
 
--- batches of a stream that were passed on one behind the other, but for the rows that are refused,
--- what the writer then holds, and how many were refused
+-- so many batches of a stream that were passed on one behind the other, none of them the input's
+-- last, but for the rows that are refused, what the writer then holds, and how many were refused
 pub data PassedBut {R : Type 0} (first : Stream R) (begun : Option (List ℕ)) (counted : ℕ)
-    : Stream R → Option (List ℕ) → ℕ → Type 0 where
-  none_yet : PassedBut first begun counted first begun counted
-  one_more : (was now : Stream R) (held after : Option (List ℕ)) (some more : ℕ) (goes_on : Bool)
-      → PassedBut first begun counted was held some
-      → PassesNextTold was now held after some more (Ok goes_on)
-      → PassedBut first begun counted now after more
+    : ℕ → Stream R → Option (List ℕ) → ℕ → Type 0 where
+  none_yet : PassedBut first begun counted 0 first begun counted
+  one_more : (n : ℕ) (was now : Stream R) (held after : Option (List ℕ)) (some more : ℕ)
+      → PassedBut first begun counted n was held some
+      → PassesNextTold was now held after some more (Ok true)
+      → PassedBut first begun counted (suc n) now after more
 
 -- A stream of that reader flows on behind rows that are refused: its header is written, and then
--- batch by batch what is written of each without those rows, in their order; each of them is
--- counted.
--- Or what ends it in a batch is told, and nothing is written behind it.
+-- batch by batch, up to the input's last, what is written of each without those rows, in their order;
+-- each of them is counted. Or what ends it in a batch is told, and nothing is written behind it. It is
+-- at its end, too, behind so many batches as nobody reads.
 pub data FlowsOn {R : Type 0} (reader : R) (x : Expression) (asked : Option Expression)
     (before after : Option (List ℕ)) (counted count : ℕ) (result : Result Summary StreamError)
     : Type 0 where
-  at_end : (first now : Stream R) (begun : Option (List ℕ)) → HasBegun x asked before begun first
-      → PassedBut first begun counted now after count → result ≡ Ok now.summary
+  at_end : (n : ℕ) (first was now : Stream R) (begun held : Option (List ℕ)) (some : ℕ)
+      → HasBegun x asked before begun first → PassedBut first begun counted n was held some
+      → PassesNextTold was now held after some count (Ok false) → result ≡ Ok now.summary
       → FlowsOn reader x asked before after counted count result
-  at_error : (first was now : Stream R) (begun held : Option (List ℕ)) (some : ℕ) (e : StreamError)
-      → HasBegun x asked before begun first → PassedBut first begun counted was held some
+  at_last_turn : (first now : Stream R) (begun : Option (List ℕ))
+      → HasBegun x asked before begun first
+      → PassedBut first begun counted (2 ^ 64 - 1) now after count → result ≡ Ok now.summary
+      → FlowsOn reader x asked before after counted count result
+  at_error : (n : ℕ) (first was now : Stream R) (begun held : Option (List ℕ)) (some : ℕ)
+      (e : StreamError)
+      → HasBegun x asked before begun first → PassedBut first begun counted n was held some
       → PassesNextTold was now held after some count (Err e) → result ≡ Err e
       → FlowsOn reader x asked before after counted count result
   without_header : (e : StreamError) → IsWriting e → result ≡ Err e

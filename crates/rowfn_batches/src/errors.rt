@@ -192,7 +192,7 @@ impl StreamError {
     }
 
     /// Writes why a row is refused, without its number, its column and its field.
-    pub fn write_reason<W: fmt::Write>(&self, f: &mut fmt::Formatter<W>) -> fmt::Result {
+    pub(crate) fn write_reason<W: fmt::Write>(&self, f: &mut fmt::Formatter<W>) -> fmt::Result {
         match self {
             StreamError::Fault { error, .. } => {
                 let (number, name) = (error.number(), error.name());

@@ -8,7 +8,7 @@ ghost use Rattle.vortex_types.specs.TypeOf.{struct_fields};
 ghost use Rattle.rowfn_batches.specs.Layouts.{LacksFrom, IsFirstFrom, StandsOnce, StandAt};
 ghost use Rattle.rowfn_batches.specs.Layouts.{RefusesName, RefusesHeader, place_said, StandsWhere};
 ghost use Rattle.rowfn_batches.specs.Layouts.{RefusesPlace, RefusesColumn, declared_place};
-ghost use Rattle.rowfn_batches.specs.Layouts.{declared_width};
+ghost use Rattle.rowfn_batches.specs.Layouts.{declared_width, width_by};
 ghost use Rattle.rowfn_batches.specs.Spellings.{spelled_at, spelled_columns, spelled_where};
 
 use crate::errors::StreamError;
@@ -29,13 +29,22 @@ pub struct Layout {
 impl Layout {
     /// How many fields a first record has that tells the width: as many as are found, but none less
     /// than reach to each column.
-    pub fn width_by(&self, found: usize) -> usize {
-        let mut width = found;
-        for place in self.places.iter() {
-            width = width.max(place.saturating_add(1));
-        }
-        width
+    pub fn width_by(&self, found: usize) -> usize
+        ensures { result ≡ width_by self.now.places.items found }
+    {
+        width_by(&self.places, found)
     }
+}
+
+/// So many fields, but no less than reach to each of those places.
+fn width_by(places: &[usize], found: usize) -> usize
+    ensures { result ≡ width_by places.now found }
+{
+    let mut width = found;
+    for place in places {
+        width = width.max(place.saturating_add(1));
+    }
+    width
 }
 
 /// Whether that field is the name.
@@ -49,7 +58,7 @@ fn is_named(header: &ByteRecord, index: usize, name: &str) -> bool
 }
 
 /// The first field from that place on that is the name.
-fn find_from(header: &ByteRecord, name: &str, start: usize) -> Option<usize>
+pub(crate) fn find_from(header: &ByteRecord, name: &str, start: usize) -> Option<usize>
     ensures { MatchOption result (LacksFrom (fields_of header.now) name.now start)
         (λ place. IsFirstFrom (fields_of header.now) name.now start place) }
 {

@@ -1,8 +1,11 @@
 //! Rows that are refused, as lines of CSV.
-ghost use Rattle.std.specs.Prelude.{◌≡◌, OnOk, IfOk, IfErr, true};
-ghost use Rattle.rowfn_batches.specs.Refusals.{IsUntold, one_more_counted};
+ghost use Rattle.std.specs.Prelude.{◌≡◌, ◌++◌, [], OnOk, IfOk, IfErr, true, false, decimal};
+ghost use Rattle.std.specs.Io.KnownBytes.{Appends};
+ghost use Rattle.rowfn_batches.specs.Refusals.{IsUntold, one_more_counted, header_before, row_shown};
+ghost use Rattle.rowfn_batches.specs.Refusals.{AddsLine, TellsRow};
 
 use crate::errors::{StreamError, told_bytes, told_text, write_bytes};
+use itoa::Buffer;
 use std::alloc::{AllocError, AllocFailed, Global};
 use std::io::{self, Write};
 use std::rt::Files;
@@ -68,11 +71,10 @@ fn write_field<W: fmt::Write>(f: &mut fmt::Formatter<W>, field: Option<&[u8]>) -
     f.write_str("\"")
 }
 
-/// The row's number, the column by its name, the reason, and the beginning of the field.
+/// What stands behind the row's number: the column by its name, the reason, and the beginning of the
+/// field.
 impl fmt::Display for Line<'_> {
     fn fmt<W: fmt::Write>(&self, f: &mut fmt::Formatter<W>) -> fmt::Result {
-        let row = self.error.row().unwrap_or(0);
-        write!(f, "{row},")?;
         if let StreamError::Misfit { column, .. } = self.error {
             write_text(f, column.as_str(), "")?;
         }
@@ -106,7 +108,8 @@ pub struct Refusals<W> {
 impl<W> Refusals<W> {
     /// Nothing is told yet; takes no memory.
     pub fn new(alloc: Global, writer: W) -> Refusals<W>
-        ensures { result.count ≡ 0 }
+        ensures { (result.count ≡ 0) × (result.lines.items ≡ []) × (result.has_header ≡ false)
+            × (result.writer ≡ writer) }
     {
         Refusals {
             alloc,
@@ -136,7 +139,11 @@ impl<W> Refusals<W> {
 impl<W: Write> Refusals<W> {
     /// Tells the header, where it was not yet. Refused only for want of memory.
     pub fn tell_header(&mut self) -> Result<(), AllocError>
-        ensures { self.new.count ≡ self.old.count }
+        ensures count { self.new.count ≡ self.old.count }
+        ensures writer { self.new.writer ≡ self.old.writer }
+        ensures told { OnOk result (self.new.has_header ≡ true) }
+        ensures lines { OnOk result (self.new.lines.items
+            ≡ self.old.lines.items ++ header_before self.old.has_header) }
     {
         if !self.has_header {
             self.lines.extend_from_slice(HEADER)?;
@@ -145,19 +152,38 @@ impl<W: Write> Refusals<W> {
         Ok(())
     }
 
-    /// Adds the line of a row.
+    /// Adds the number of a row.
+    fn push_number(&mut self, row: u64) -> Result<(), AllocError>
+        ensures count { self.new.count ≡ self.old.count }
+        ensures writer { self.new.writer ≡ self.old.writer }
+        ensures lines { OnOk result (self.new.lines.items
+            ≡ self.old.lines.items ++ decimal row) }
+    {
+        let mut buffer = Buffer::new();
+        self.lines.extend_from_slice(buffer.format(row).as_bytes())
+    }
+
+    /// Adds the line of a row, behind the header.
     fn push_line(&mut self, error: &StreamError) -> Result<(), AllocError>
-        ensures { self.new.count ≡ self.old.count }
+        ensures count { self.new.count ≡ self.old.count }
+        ensures writer { self.new.writer ≡ self.old.writer }
+        ensures line { OnOk result (AddsLine self.old.has_header error.now self.old.lines.items
+            self.new.lines.items) }
     {
         self.tell_header()?;
+        self.push_number(error.row().unwrap_or(0))?;
+        self.lines.push(b',')?;
         let line = format!(in self.alloc; "{}", Line { error })?;
-        self.lines.extend_from_slice(line.as_bytes())
+        self.lines.extend_from_slice(line.as_bytes())?;
+        Ok(())
     }
 
     /// Tells a row that is refused, behind the header. Refused for want of memory, and where lines
     /// are written that the writer refuses.
     pub fn tell(&mut self, error: &StreamError) -> Result<(), StreamError>
         ensures count { OnOk result (self.new.count ≡ one_more_counted self.old.count) }
+        ensures told { OnOk result (TellsRow self.old.has_header error.now self.old.lines.items
+            self.new.lines.items (W.contents self.old.writer) (W.contents self.new.writer)) }
         ensures refused { IfErr result IsUntold }
     {
         self.push_line(error)?;
@@ -170,6 +196,8 @@ impl<W: Write> Refusals<W> {
 
     /// Writes the lines that are held.
     fn write_lines(&mut self) -> Result<(), StreamError>
+        ensures written { OnOk result (Appends (W.contents self.old.writer)
+            (W.contents self.new.writer) self.old.lines.items) }
         ensures count { self.new.count ≡ self.old.count }
         ensures refused { IfErr result IsUntold }
     {
@@ -184,6 +212,9 @@ impl<W: Write> Refusals<W> {
 
     /// Writes the lines that are held. Refused only where the writer refuses; then they are lost.
     pub fn flush(&mut self) -> Result<(), StreamError>
+        ensures written { OnOk result (Appends (W.contents self.old.writer)
+            (W.contents self.new.writer) self.old.lines.items) }
+        ensures none_held { self.new.lines.items ≡ [] }
         ensures count { self.new.count ≡ self.old.count }
         ensures refused { IfErr result IsUntold }
         ensures failed { IfErr result (λ _. self.new.failed ≡ true) }

@@ -81,7 +81,7 @@ pub fn flow<R: Read + Drop, W: Write>(
 {
     let mut stream = Stream::begin(alloc, settings, expression, condition, reader)?;
     stream.write(writer)?;
-    'batches: for _ in 0..u64::MAX {
+    'batches: for _turn in 0..u64::MAX {
         let goes_on = stream.pass_next(writer)?;
         if !goes_on {
             return Ok(stream.summary);

@@ -67,7 +67,7 @@ impl From<VortexError> for Failure {
 impl Failure {
     /// 1 for a fault of the expression, and where rows were left out, 2 for input that does not fit, 3 for reading, writing and
     /// memory, 4 for an expression that is wrong.
-    pub fn status(&self) -> u8 {
+    pub(crate) fn status(&self) -> u8 {
         match self {
             Failure::Query(error) | Failure::QueryOfFile(error, _) => error.status(),
             Failure::Stream(error) | Failure::Inferred(error) => error.status(),
@@ -77,7 +77,7 @@ impl Failure {
     }
 
     /// Whether nobody reads the output any more.
-    pub fn is_closed_pipe(&self) -> bool {
+    pub(crate) fn is_closed_pipe(&self) -> bool {
         match self {
             Failure::Stream(StreamError::Writing(error)) => {
                 error.kind() == io::ErrorKind::BrokenPipe

@@ -27,7 +27,7 @@ impl<P: Eprint> Write for Complaints<'_, P> {
 }
 
 /// Lets rows flow, up to the first that is refused, or but for those that are, which are told.
-pub fn flow_telling<R: Read + Drop, W: Write, E: Write>(
+pub(crate) fn flow_telling<R: Read + Drop, W: Write, E: Write>(
     alloc: Global,
     settings: &Settings<'_>,
     asked: (&Expression, Option<&Expression>),

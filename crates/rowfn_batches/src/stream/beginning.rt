@@ -1,17 +1,19 @@
 //! How a stream begins: with the header, which says where columns stand, and the header of the
 //! output.
-ghost use Rattle.std.specs.Prelude.{◌≡◌, IfOk, OnOk, false, option_map};
+ghost use Rattle.std.specs.Prelude.{◌≡◌, IfOk, OnOk, MatchResult, false, option_map};
+ghost use Rattle.csv.specs.Records.{fields_of};
+ghost use Rattle.rowfn_batches.specs.Layouts.{LacksFrom, TellsTaken, AreApartFrom, IsNameTaken};
 ghost use Rattle.rowfn_batches.specs.ReadingBack.{ReadsBack};
 
 use super::{Stream, Summary};
 use crate::errors::StreamError;
-use crate::header::{Layout, declared_layout, named_layout, with_spelling};
+use crate::header::{Layout, declared_layout, find_from, named_layout, with_spelling};
 use crate::output::Output;
 use crate::reading_back::check_reading_back;
 use crate::settings::Settings;
 use crate::taking::Condition;
 use rowfn_csv::{Batch, ByteRecord, Found, Records, without_line_end};
-use rowfn_scripts::Expression;
+use rowfn_scripts::{Answer, Expression};
 use std::alloc::Global;
 use std::io::Read;
 
@@ -92,18 +94,26 @@ fn begin_condition<'a, R: Read>(
     })
 }
 
+/// Refused where a name is that of a column of the input.
+fn check_name(alloc: Global, name: &str, header: &ByteRecord) -> Result<(), StreamError>
+    ensures { MatchResult result (λ _. LacksFrom (fields_of header.now) name.now 0)
+        (TellsTaken (fields_of header.now) name.now) }
+{
+    match find_from(header, name, 0) {
+        Some(_) => Err(StreamError::NameTaken(String::from_str(alloc, name)?)),
+        None => Ok(()),
+    }
+}
+
 /// Refused where an answer has the name of a column of the input.
-fn check_taken(
-    alloc: Global,
-    expression: &Expression,
-    header: &ByteRecord,
-) -> Result<(), StreamError> {
-    for answer in expression.answers.iter() {
-        for place in 0..header.len() {
-            if header.get(place) == Some(answer.name.as_bytes()) {
-                let name = String::from_str(alloc, answer.name.as_str())?;
-                return Err(StreamError::NameTaken(name));
-            }
+fn check_taken(alloc: Global, answers: &[Answer], header: &ByteRecord) -> Result<(), StreamError>
+    ensures { MatchResult result (λ _. AreApartFrom (fields_of header.now) answers.now)
+        (IsNameTaken (fields_of header.now) answers.now) }
+{
+    for answer in answers {
+        match check_name(alloc, answer.name.as_str(), header) {
+            Ok(()) => {}
+            Err(error) => return Err(error),
         }
     }
     Ok(())
@@ -119,7 +129,7 @@ fn push_header<'a, R: Read>(
     output: &mut Output<'a>,
 ) -> Result<(), StreamError> {
     if settings.appends {
-        check_taken(alloc, expression, records.record())?;
+        check_taken(alloc, &expression.answers, records.record())?;
         output.push_bytes(without_line_end(records.bytes(records.span())))?;
     }
     let first = usize::from(settings.appends);

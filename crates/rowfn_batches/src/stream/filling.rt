@@ -1,6 +1,6 @@
 //! How a stream reads the rows of a batch.
 ghost use Rattle.std.specs.Prelude.{◌≡◌};
-ghost use Rattle.rowfn_batches.specs.Passing.{IsRefilled};
+ghost use Rattle.rowfn_batches.specs.Passing.{IsRefilled, is_full, is_end, error_behind};
 ghost use Rattle.rowfn_batches.specs.Taking.{rows_before};
 
 use super::Stream;
@@ -24,17 +24,23 @@ pub(super) enum Filled {
 
 impl Filled {
     /// Whether more rows may follow.
-    pub(super) fn goes_on(&self) -> bool {
+    pub(super) fn goes_on(&self) -> bool
+        ensures { result ≡ is_full self.now }
+    {
         matches!(self, Filled::Full)
     }
 
     /// Whether the input is at its end.
-    pub(super) fn is_end(&self) -> bool {
+    pub(super) fn is_end(&self) -> bool
+        ensures { result ≡ is_end self.now }
+    {
         matches!(self, Filled::Ended)
     }
 
     /// What ends the stream behind the batch, if anything does.
-    pub(super) fn into_error(self) -> Option<StreamError> {
+    pub(super) fn into_error(self) -> Option<StreamError>
+        ensures { result ≡ error_behind self }
+    {
         match self {
             Filled::Broken(error) => Some(error),
             Filled::Full | Filled::Ended => None,

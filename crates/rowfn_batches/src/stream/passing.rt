@@ -86,7 +86,7 @@ impl<'a, R: Read + Drop> Stream<'a, R> {
     ) -> Result<Option<StreamError>, StreamError>
         ensures passes { PassesUpTo self.old error (W.contents writer.old) (W.contents writer.new)
             result }
-        ensures behind { OnOk result (IsBehind self.old self.new) }
+        ensures behind { OnOk result (IsBehind self.old self.new error) }
     {
         let (answered, rows) = self.answer(error)?;
         let Answered {
@@ -116,7 +116,7 @@ impl<'a, R: Read + Drop> Stream<'a, R> {
     ) -> Result<(), StreamError>
         ensures passes { PassesOn self.old error (W.contents writer.old) (W.contents writer.new)
             result }
-        ensures behind { OnOk result (IsBehind self.old self.new) }
+        ensures behind { OnOk result (IsBehind self.old self.new error) }
     {
         match self.pass_up_to(error, writer)? {
             Some(error) => Err(error),

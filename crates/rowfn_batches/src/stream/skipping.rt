@@ -269,7 +269,7 @@ pub fn flow_on<R: Read + Drop, W: Write, E: Write>(
 {
     let mut stream = Stream::begin(alloc, settings, expression, condition, reader)?;
     stream.write(writer)?;
-    'batches: for _ in 0..u64::MAX {
+    'batches: for _turn in 0..u64::MAX {
         let goes_on = stream.pass_next_told(writer, refusals)?;
         if !goes_on {
             return Ok(stream.summary);

@@ -1,9 +1,11 @@
 //! What a stream writes of a batch.
-ghost use Rattle.std.specs.Prelude.{◌≡◌, ◌≤◌, ◌-◌, IfErr, OnOk, None, length, option_map, slice_get};
+ghost use Rattle.std.specs.Prelude.{◌≡◌, ◌≤◌, ◌-◌, IfErr, IfOk, OnOk, None, length, option_map};
+ghost use Rattle.std.specs.Prelude.{slice_get};
 ghost use Rattle.std.specs.Io.KnownBytes.{Appends};
 ghost use Rattle.rowfn_batches.specs.Outputs.{Adds, HaveRows};
 ghost use Rattle.rowfn_batches.specs.Passing.{picked_lines, answer_text, batch_text};
 ghost use Rattle.rowfn_batches.specs.Passing.{KeepsReading, IsCleared, IsWriting};
+ghost use Rattle.rowfn_batches.specs.Passing.{count_where, rows_put};
 
 use super::Stream;
 use crate::errors::StreamError;
@@ -19,6 +21,8 @@ impl<'a, R: Read + Drop> Stream<'a, R> {
         requires spans { row_count ≤ length self.old.batch.spans }
         ensures text { OnOk result (Adds self.old.output self.new.output
             (picked_lines self.old (slice_get answers.now (length answers.now - 1)) row_count)) }
+        ensures count { IfOk result (λ count. count
+            ≡ count_where (slice_get answers.now (length answers.now - 1)) row_count) }
         ensures kept { KeepsReading self.old self.new }
         ensures summary { self.new.summary ≡ self.old.summary }
     {
@@ -64,6 +68,8 @@ impl<'a, R: Read + Drop> Stream<'a, R> {
         requires spans { rows ≡ None → row_count ≤ length self.old.batch.spans }
         ensures text { OnOk result (Adds self.old.output self.new.output
             (batch_text self.old (option_map (λ r. r.now) rows.entry) answers.now row_count)) }
+        ensures count { IfOk result (λ count. count
+            ≡ rows_put self.old (option_map (λ r. r.now) rows.entry) answers.now row_count) }
         ensures kept { KeepsReading self.old self.new }
         ensures summary { self.new.summary ≡ self.old.summary }
     {

@@ -1,7 +1,8 @@
-use Rattle.std.proofs.Common.{◌∙◌, Err, ap, refl, option_map}
+use Rattle.std.proofs.Common.{◌≡◌, ◌∙◌, Err, true, false, ap, refl, option_map, add-one, rules, arith}
 use Rattle.std.proofs.lemmas.Result.{err_from_is_err_and}
-use Rattle.rowfn_batches.specs.Passing.{none_yet, at_end, without_header, not_begun}
-use Rattle.rowfn_batches.proofs.Flowing.{has_begun, next_passed, next_ends}
+use Rattle.rowfn_batches.specs.Passing.{none_yet, one_more, at_end, at_last_turn, at_error}
+use Rattle.rowfn_batches.specs.Passing.{without_header, not_begun}
+use Rattle.rowfn_batches.proofs.Flowing.{has_begun}
 use Rattle.rowfn_batches.proofs.stream.flow.Goals as goal
 
 pub returns-in_err-stream-clause-flows : goal.returns-in_err-stream-clause-flows
@@ -21,9 +22,11 @@ batches-init g c = none_yet
 
 pub batches-preserved : goal.batches-preserved
 batches-preserved g c =
-    next_passed c.write.new.self (g.W.Write.contents c.write.new.writer) c.batches.stream
-    c.pass_next.new.self (g.W.Write.contents c.batches.writer)
-    (g.W.Write.contents c.pass_next.new.writer) c.batches.invariant _ c.in_ok-goes_on.ensures
+    let on : c.in_ok-goes_on.goes_on ≡ true = search rules in
+    rw add-one
+    (one_more c.batches._turn c.batches.stream c.pass_next.new.self
+    (g.W.Write.contents c.batches.writer) (g.W.Write.contents c.pass_next.new.writer)
+    c.batches.invariant (rw on at c.in_ok-goes_on.ensures))
 
 pub returns-in_err-goes_on-clause-flows : goal.returns-in_err-goes_on-clause-flows
 returns-in_err-goes_on-clause-flows g c =
@@ -31,42 +34,39 @@ returns-in_err-goes_on-clause-flows g c =
     c.from_residual-in_err-goes_on.ensures.1 in
     let head = c.in_ok-stream.ensures in
     let wrote = c.in_ok-write.ensures in
-    next_ends c.write.new.self (g.W.Write.contents c.write.new.writer) c.batches.stream
-    c.pass_next.new.self (g.W.Write.contents c.batches.writer)
-    (g.W.Write.contents c.pass_next.new.writer) c.batches.invariant c.args.reader
-    c.args.expression.now (option_map (λ x. x.now) c.args.condition)
-    (g.W.Write.contents c.args.writer.now) c.in_err-goes_on.field-0.0
-    c.from_residual-in_err-goes_on.result
+    at_error c.batches._turn c.write.new.self c.batches.stream c.pass_next.new.self
+    (g.W.Write.contents c.write.new.writer) (g.W.Write.contents c.batches.writer)
+    c.in_err-goes_on.field-0.0
     (has_begun c.args.expression.now (option_map (λ x. x.now) c.args.condition)
     (g.W.Write.contents c.args.writer.now)
     (g.W.Write.contents c.write.new.writer) c.in_ok-stream.stream c.write.new.self
     head.expression head.condition head.none_read wrote.written wrote.kept wrote.cleared
     wrote.summary)
-    c.in_err-goes_on.ensures (p.1 ∙ ap Err p.2)
+    c.batches.invariant c.in_err-goes_on.ensures (p.1 ∙ ap Err p.2)
 
 pub returns-then-not-goes_on-clause-flows : goal.returns-then-not-goes_on-clause-flows
 returns-then-not-goes_on-clause-flows g c =
     let head = c.in_ok-stream.ensures in
     let wrote = c.in_ok-write.ensures in
-    at_end c.write.new.self c.pass_next.new.self (g.W.Write.contents c.write.new.writer)
+    let off : c.in_ok-goes_on.goes_on ≡ false = search rules in
+    at_end c.batches._turn c.write.new.self c.batches.stream c.pass_next.new.self
+    (g.W.Write.contents c.write.new.writer) (g.W.Write.contents c.batches.writer)
     (has_begun c.args.expression.now (option_map (λ x. x.now) c.args.condition)
     (g.W.Write.contents c.args.writer.now)
     (g.W.Write.contents c.write.new.writer) c.in_ok-stream.stream c.write.new.self
     head.expression head.condition head.none_read wrote.written wrote.kept wrote.cleared
     wrote.summary)
-    (next_passed c.write.new.self (g.W.Write.contents c.write.new.writer) c.batches.stream
-    c.pass_next.new.self (g.W.Write.contents c.batches.writer)
-    (g.W.Write.contents c.pass_next.new.writer) c.batches.invariant _ c.in_ok-goes_on.ensures)
-    refl
+    c.batches.invariant (rw off at c.in_ok-goes_on.ensures) refl
 
 pub returns-clause-flows : goal.returns-clause-flows
 returns-clause-flows g c =
     let head = c.in_ok-stream.ensures in
     let wrote = c.in_ok-write.ensures in
-    at_end c.write.new.self c.batches.stream (g.W.Write.contents c.write.new.writer)
+    let last : c.batches._turn ≡ 18446744073709551615 = omega arith in
+    at_last_turn c.write.new.self c.batches.stream (g.W.Write.contents c.write.new.writer)
     (has_begun c.args.expression.now (option_map (λ x. x.now) c.args.condition)
     (g.W.Write.contents c.args.writer.now)
     (g.W.Write.contents c.write.new.writer) c.in_ok-stream.stream c.write.new.self
     head.expression head.condition head.none_read wrote.written wrote.kept wrote.cleared
     wrote.summary)
-    c.batches.invariant refl
+    (rw last at c.batches.invariant) refl

@@ -1,4 +1,4 @@
-use Rattle.std.proofs.Common.{◌∙◌, Err, ap, refl}
+use Rattle.std.proofs.Common.{◌∙◌, Ok, Err, Bool, ap, not}
 use Rattle.std.proofs.lemmas.Result.{err_from_is_err_and}
 use Rattle.rowfn_batches.specs.Skipping.{batch_and_behind, ends_in_batch, ends_behind}
 use Rattle.rowfn_batches.specs.Skipping.{lines_unwritten}
@@ -14,23 +14,25 @@ pub returns-in_err-pass_behind : goal.returns-in_err-pass_behind
 returns-in_err-pass_behind g c =
     let p = err_from_is_err_and c.from_residual-in_err-pass_behind.result
     c.from_residual-in_err-pass_behind.ensures.1 in
-    ends_behind c.fill-filled.new.self c.pass_batch.new.self c.into_error.result
+    ends_behind c.fill-filled.new.self c.pass_batch.new.self c.fill-filled.result
     c.pass_batch.new.refusals.count c.in_err-pass_behind.field-0.0 c.fill-filled.ensures
-    c.in_ok-pass_batch.ensures c.in_err-pass_behind.ensures (p.1 ∙ ap Err p.2)
+    c.in_ok-pass_batch.ensures (rw c.into_error.ensures at c.in_err-pass_behind.ensures)
+    (p.1 ∙ ap Err p.2)
 
 pub returns-in_err-flush : goal.returns-in_err-flush
 returns-in_err-flush g c =
     let p = err_from_is_err_and c.from_residual-in_err-flush.result
     c.from_residual-in_err-flush.ensures.1 in
-    lines_unwritten c.fill-filled.new.self c.pass_batch.new.self c.into_error.result
+    lines_unwritten c.fill-filled.new.self c.pass_batch.new.self c.fill-filled.result
     c.pass_batch.new.refusals.count c.in_err-flush.field-0.0 c.fill-filled.ensures
     c.in_ok-pass_batch.ensures
-    (rw c.in_err-flush.ensures.count c.in_ok-pass_behind.ensures)
+    (rw c.in_err-flush.ensures.count (rw c.into_error.ensures at c.in_ok-pass_behind.ensures))
     c.in_err-flush.ensures.refused (p.1 ∙ ap Err p.2)
 
 pub returns : goal.returns
 returns g c =
-    batch_and_behind c.fill-filled.new.self c.pass_batch.new.self c.into_error.result
-    c.pass_batch.new.refusals.count _ c.fill-filled.ensures
+    batch_and_behind c.fill-filled.new.self c.pass_batch.new.self c.fill-filled.result
+    c.pass_batch.new.refusals.count c.fill-filled.ensures
     c.in_ok-pass_batch.ensures
-    (rw c.in_ok-flush.ensures.count c.in_ok-pass_behind.ensures) refl
+    (rw c.in_ok-flush.ensures.count (rw c.into_error.ensures at c.in_ok-pass_behind.ensures))
+    (ap (λ (b : Bool). Ok (not b)) c.is_end-goes_on.ensures)

@@ -2,6 +2,7 @@ use Rattle.std.proofs.Common.{◌∙◌, Ok, Err, Some, ap, refl, inl, inr, arit
 use Rattle.std.proofs.lemmas.Grind.{common_steps}
 use Rattle.std.proofs.lemmas.Result.{err_from_is_err_and}
 use Rattle.rowfn_batches.specs.Skipping.{whole, up_to_one, ends}
+use Rattle.rowfn_batches.proofs.Passed.{counted_alike}
 use Rattle.rowfn_batches.proofs.stream.Stream.pass_told.Goals as goal
 
 pub returns-in_err-error : goal.returns-in_err-error
@@ -47,5 +48,6 @@ returns g c =
       };
       cleared = behind.cleared;
       rows_read = grind (arith, common_steps);
+      rows_written = counted_alike behind.rows_written refl;
     })
     c.in_ok-tell.ensures.count refl

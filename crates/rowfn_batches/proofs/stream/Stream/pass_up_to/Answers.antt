@@ -1,7 +1,8 @@
-use Rattle.std.proofs.Common.{◌∙◌, Err, ap, sym, option_map}
+use Rattle.std.proofs.Common.{◌∙◌, Err, ap, arith, sym, option_map, rules}
+use Rattle.std.proofs.lemmas.Grind.{common_steps}
 use Rattle.std.proofs.lemmas.Result.{err_from_is_err_and}
 use Rattle.rowfn_batches.specs.Passing.{unanswered, unwritten}
-use Rattle.rowfn_batches.proofs.Passed.{have, within, passed, kept_as_it_is}
+use Rattle.rowfn_batches.proofs.Passed.{have, within, passed, counted, kept_as_it_is}
 use Rattle.rowfn_batches.proofs.stream.Stream.pass_up_to.Goals as goal
 
 pub push_batch-requires-clause-rows : goal.push_batch-requires-clause-rows
@@ -35,3 +36,16 @@ returns-clause-passes g c =
     passed c.args.self.now c.args.error _ a.answered.row_count _ c.deref.result.now _ a.ensures
     (cc c.deref.ensures.value) _ c.slice_of.ensures
     c.push_batch.new.self _ _ c.in_ok-count.ensures.text c.in_ok-write.ensures.written
+
+pub returns-clause-behind : goal.returns-clause-behind
+returns-clause-behind g c =
+    let a = c.in_ok-answered in
+    record {
+      kept = search rules;
+      cleared = search rules;
+      rows_read = search rules;
+      rows_written =
+          counted c.args.self.now c.args.error _ a.answered.row_count _ c.deref.result.now _
+          a.ensures (cc c.deref.ensures.value) _ c.slice_of.ensures _ c.in_ok-count.count
+          c.in_ok-count.ensures.count (grind (arith, common_steps));
+    }

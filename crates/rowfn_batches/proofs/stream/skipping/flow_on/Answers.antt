@@ -1,7 +1,7 @@
-use Rattle.std.proofs.Common.{◌∙◌, Err, ap, refl, option_map}
+use Rattle.std.proofs.Common.{◌≡◌, ◌∙◌, Err, true, false, ap, refl, option_map, add-one, rules, arith}
 use Rattle.std.proofs.lemmas.Result.{err_from_is_err_and}
-use Rattle.rowfn_batches.specs.Skipping.{none_yet, one_more, at_end, at_error, without_header}
-use Rattle.rowfn_batches.specs.Skipping.{not_begun}
+use Rattle.rowfn_batches.specs.Skipping.{none_yet, one_more, at_end, at_last_turn, at_error}
+use Rattle.rowfn_batches.specs.Skipping.{without_header, not_begun}
 use Rattle.rowfn_batches.proofs.Flowing.{has_begun}
 use Rattle.rowfn_batches.proofs.stream.skipping.flow_on.Goals as goal
 
@@ -21,8 +21,10 @@ batches-init g c = none_yet
 
 pub batches-preserved : goal.batches-preserved
 batches-preserved g c =
-    one_more c.batches.stream c.pass_next_told.new.self _ _ _ _ _ c.batches.invariant
-    c.in_ok-goes_on.ensures
+    let on : c.in_ok-goes_on.goes_on ≡ true = search rules in
+    rw add-one
+    (one_more c.batches._turn c.batches.stream c.pass_next_told.new.self _ _ _ _
+    c.batches.invariant (rw on at c.in_ok-goes_on.ensures))
 
 pub returns-in_err-goes_on-clause-flows : goal.returns-in_err-goes_on-clause-flows
 returns-in_err-goes_on-clause-flows g c =
@@ -30,7 +32,7 @@ returns-in_err-goes_on-clause-flows g c =
     c.from_residual-in_err-goes_on.ensures.1 in
     let head = c.in_ok-stream.ensures in
     let wrote = c.in_ok-write.ensures in
-    at_error c.write.new.self c.batches.stream c.pass_next_told.new.self
+    at_error c.batches._turn c.write.new.self c.batches.stream c.pass_next_told.new.self
     (g.W.Write.contents c.write.new.writer)
     (g.W.Write.contents c.batches.writer) c.batches.refusals.count
     c.in_err-goes_on.field-0.0
@@ -45,24 +47,26 @@ pub returns-then-not-goes_on-clause-flows : goal.returns-then-not-goes_on-clause
 returns-then-not-goes_on-clause-flows g c =
     let head = c.in_ok-stream.ensures in
     let wrote = c.in_ok-write.ensures in
-    at_end c.write.new.self c.pass_next_told.new.self (g.W.Write.contents c.write.new.writer)
+    let off : c.in_ok-goes_on.goes_on ≡ false = search rules in
+    at_end c.batches._turn c.write.new.self c.batches.stream c.pass_next_told.new.self
+    (g.W.Write.contents c.write.new.writer) (g.W.Write.contents c.batches.writer)
+    c.batches.refusals.count
     (has_begun c.args.expression.now (option_map (λ x. x.now) c.args.condition)
     (g.W.Write.contents c.args.writer.now)
     (g.W.Write.contents c.write.new.writer) c.in_ok-stream.stream c.write.new.self
     head.expression head.condition head.none_read wrote.written wrote.kept wrote.cleared
     wrote.summary)
-    (one_more c.batches.stream c.pass_next_told.new.self _ _ _ _ _ c.batches.invariant
-    c.in_ok-goes_on.ensures)
-    refl
+    c.batches.invariant (rw off at c.in_ok-goes_on.ensures) refl
 
 pub returns-clause-flows : goal.returns-clause-flows
 returns-clause-flows g c =
     let head = c.in_ok-stream.ensures in
     let wrote = c.in_ok-write.ensures in
-    at_end c.write.new.self c.batches.stream (g.W.Write.contents c.write.new.writer)
+    let last : c.batches._turn ≡ 18446744073709551615 = omega arith in
+    at_last_turn c.write.new.self c.batches.stream (g.W.Write.contents c.write.new.writer)
     (has_begun c.args.expression.now (option_map (λ x. x.now) c.args.condition)
     (g.W.Write.contents c.args.writer.now)
     (g.W.Write.contents c.write.new.writer) c.in_ok-stream.stream c.write.new.self
     head.expression head.condition head.none_read wrote.written wrote.kept wrote.cleared
     wrote.summary)
-    c.batches.invariant refl
+    (rw last at c.batches.invariant) refl
