@@ -3,13 +3,27 @@
 use clap::{Arg, ArgAction, Command, Error, value_parser};
 use std::alloc::Global;
 
-/// What `--help` prints below the options.
-const AFTER_HELP: &str = "Rows are CSV. EXPRESSION is one answer or more: \
-'price * stock as worth, price > 100 as dear'.\nColumns that --columns does not declare take their \
-types from the first rows. With -e or -f the\nexpression is lines: `col NAME TYPE` declares a \
-column, `get`, `lit` and `call` make trees, `as NAME`\nnames the last one; the trees that are left \
-at the end are the answers.\n\nStatus: 1 a call faults in a row, or rows were left out, 2 input \
-that does not fit, 3 reading,\nwriting or memory, 4 a wrong expression, 64 wrong options.";
+/// What `--help` prints below the options: the language, and what the status means.
+const AFTER_HELP: &str = "Rows are CSV. EXPRESSION is one answer or more:
+  price * stock as worth, price      answers, each with a name if it has one
+  price, \"unit price\"                columns; in double quotes any name
+  7  -7  7::u8  'it''s'  true  null  literals; null::utf8? is a null of a type
+  + - * /                            whole numbers of one type
+  = <> != < <= > >=                  two values of one type; texts by their bytes
+  a between x and y                  both ends count; not between
+  a like 'b%', a ilike 'B_'          not like, not ilike; like p escape '!'
+  a is null, a is not null
+  and or not                         three-valued, as in SQL
+  cast(a as bool?)                   a truth value that may be null
+Types are bool, i8 to i64, u8 to u64 and utf8; a ? behind one allows null.
+There are no fractions, dates, functions, IN, CASE, || or %.
+
+Columns that --columns does not declare take their types from the first rows. With -e or -f the
+expression is lines: `col NAME TYPE` declares a column, `get`, `lit` and `call` make trees, `as NAME`
+names the last one; the trees that are left at the end are the answers.
+
+Status: 1 a call faults in a row, or rows were left out, 2 input that does not fit, 3 reading,
+writing or memory, 4 a wrong expression, 64 wrong options.";
 
 /// What an option takes behind its name.
 #[derive(Clone, Copy)]
