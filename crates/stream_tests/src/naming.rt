@@ -83,9 +83,21 @@ fn a_condition_reads_columns_where_they_stand(rt: HostRuntime) {
     let headed = "a,b,c\n1,2,3\n4,5,6\n3,3,9\n";
     assert!(rt; gives(rt, where_so(plain(third, headed), "y = 3"), "y\n3\n"));
     let both = "col 3 as y i64\ncol b i64\nget b\nas b\nget y\nas y\n";
-    assert!(rt; gives(rt, where_so(plain(both, headed), "y > b and b < 4"), "b,y\n2,3\n3,9\n"));
+    assert!(rt;
+        gives(
+            rt,
+            where_so(plain(both, headed), "y > b and b < 4"),
+            "b,y\n2,3\n3,9\n"
+        )
+    );
     // the column b stands in its turn, the second
-    assert!(rt; gives(rt, where_so(headless(both, rows), "y > b and b < 4"), "2,3\n3,9\n"));
+    assert!(rt;
+        gives(
+            rt,
+            where_so(headless(both, rows), "y > b and b < 4"),
+            "2,3\n3,9\n"
+        )
+    );
     let told = "row 2, column y: \"x\" is no i64";
     let wrong = where_so(headless(third, "1,2,3\n4,5,x\n"), "y = 3");
     assert!(rt; ends(rt, wrong, "3\n", 2, told));
