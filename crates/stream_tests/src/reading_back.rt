@@ -176,10 +176,10 @@ fn tried_of(alloc: Global, seed: u64) -> Result<Tried, AllocError> {
 }
 
 /// Runs the stream over an input.
-fn run(
+fn run<'a>(
     alloc: Global,
-    tried: &Tried,
-    input: &[u8],
+    tried: &'a Tried,
+    input: &'a [u8],
     sink: &mut Sink,
 ) -> Result<Summary, StreamError> {
     let case = Case {
