@@ -1,10 +1,11 @@
 pub mod Inference
 pub mod Seen
+pub mod DeclaredColumns
+pub mod Places
 pub mod Scopes
-pub mod Queries
 pub mod Columns
-pub mod Naming
 pub mod Reading
-pub mod Errors
-pub mod Names
+pub mod Queries
+pub mod Refusals
 pub mod Bindings
+pub mod Errors

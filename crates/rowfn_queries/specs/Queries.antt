@@ -1,35 +1,65 @@
 -- What is asked of rows: answers and a condition, over columns.
-use Rattle.std.specs.Prelude.{◌≡◌, ⊤, ℕ, List, [], ◌∷◌, map, Option, Some, None, IfSome, true}
+use Rattle.std.specs.Prelude.{◌≡◌, ⊤, ℕ, List, Option, Some, None, IfSome, true, All}
 use Rattle.std.specs.Borrow.{Bor}
 use Rattle.vortex_types.specs.LogicalTypes.{Fields, is_bool_type}
 use Rattle.vortex_types.specs.TypeOf.{struct_fields}
 use Rattle.vortex_interface.specs.Eval.{tree_type}
 use Rattle.vortex_expressions.specs.Items.{Tree, meaning}
-use Rattle.vortex_expressions.specs.Answers.{Answer, ExpressesAll}
-use Rattle.vortex_expressions.specs.Binding.{Expresses}
-use Rattle.rowfn_scripts.specs.declared.expression.Answer as held
-use Rattle.rowfn_scripts.specs.declared.expression.Expression.{Expression}
+use Rattle.vortex_program.specs.declared.form.Form.{Form}
+use Rattle.vortex_program.specs.declared.form.Form.TheVariants as form
+use Rattle.vortex_program.specs.Names.{AreNamesOf}
+use Rattle.vortex_program.specs.Programs.{trees_of, AreOptimized}
+use Rattle.vortex_program.specs.Texts.{AreAnswersOf}
+use Rattle.rowfn_queries.specs.declared.query.Question.{Question}
+use Rattle.rowfn_queries.specs.declared.query.Query.{Query}
+use Rattle.rowfn_queries.specs.declared.query.Words.{Words}
+use Rattle.rowfn_queries.specs.DeclaredColumns.{DeclaredColumns}
+use Rattle.rowfn_queries.specs.Places.{places_of}
+use Rattle.rowfn_queries.specs.Reading.{DeclaredBy, AreInferred, columns_read}
 
-abbrev pub trees_of : List held.Answer → List Tree
-trees_of answers = map (λ a. a.tree) answers
+-- the columns of a question, and its trees as they are written
+abbrev pub scope_of : Question → Fields
+scope_of q = struct_fields q.program.scope
 
--- the trees are those of the list that the text says over the columns
-pub record AreAsked (columns : Fields) (text : List ℕ) (trees : List Tree) : Type 0 where
-  pub list : List Answer
-  pub said : ExpressesAll columns text list
-  pub trees_said : trees ≡ map (λ a. a.tree) list
+abbrev pub written_trees : Question → List Tree
+written_trees q = trees_of q.program.written.items
 
--- the only tree is a truth value, which the text says over the columns
-pub record IsCondition (columns : Fields) (text : List ℕ) (trees : List Tree) : Type 0 where
-  pub tree : Tree
-  pub said : Expresses columns text tree
-  pub truth : IfSome (tree_type meaning tree) (λ t. is_bool_type t ≡ true)
-  pub alone : trees ≡ tree ∷ []
+abbrev pub IsTruth : Tree → Type 0
+IsTruth t = IfSome (tree_type meaning t) (λ u. is_bool_type u ≡ true)
 
--- an expression is there where a text is, and is what that asks of the expression's columns
-abbrev pub AskedBy : (Fields → List ℕ → List Tree → Type 0) → Option (Bor (List ℕ))
-    → Option Expression → Type 0
-AskedBy asks None None = ⊤
-AskedBy asks (Some text) (Some x) =
-    asks (struct_fields x.columns) text.now (trees_of x.answers.items)
-AskedBy asks o p = ⊥
+-- a condition is a truth value
+abbrev pub IsTruthFor : Form → List Tree → Type 0
+IsTruthFor form.Answers ts = ⊤
+IsTruthFor form.Condition ts = All IsTruth ts
+
+-- the question is what a text asks over the columns that it reads, by the names in it, each at its
+-- place; what runs is what the rules make of what is written
+pub record IsAsked (f : Form) (read : List (List ℕ) → Fields) (placed : Fields → List (Option ℕ))
+    (text : List ℕ) (q : Question) : Type 0 where
+  pub names : List (List ℕ)
+  pub named : AreNamesOf f text names
+  pub columns : scope_of q ≡ read names
+  pub asked : AreAnswersOf f (scope_of q) text q.program.written.items
+  pub truth : IsTruthFor f (written_trees q)
+  pub places : q.places.items ≡ placed (scope_of q)
+  pub optimized : AreOptimized q.program.written.items q.program.optimized.items
+
+-- a question is there where a text is
+abbrev pub AskedBy : Form → (List (List ℕ) → Fields) → (Fields → List (Option ℕ))
+    → Option (Bor (List ℕ)) → Option Question → Type 0
+AskedBy f read placed None None = ⊤
+AskedBy f read placed (Some text) (Some q) = IsAsked f read placed text.now q
+AskedBy f read placed o p = ⊥
+
+-- the words ask the query: its columns are those that are declared, with their types and places, and
+-- the others that the texts name, with the types that the first rows gave them
+pub record IsQuery (words : Words) (q : Query) : Type 0 where
+  pub declared : DeclaredColumns
+  pub declares : DeclaredBy words.columns declared
+  pub inferred : AreInferred (struct_fields q.inferred)
+  pub answers : AskedBy form.Answers
+      (columns_read declared.fields (struct_fields q.inferred) words form.Answers)
+      (places_of declared words.header) words.answers q.answers
+  pub condition : AskedBy form.Condition
+      (columns_read declared.fields (struct_fields q.inferred) words form.Condition)
+      (places_of declared words.header) words.condition q.condition

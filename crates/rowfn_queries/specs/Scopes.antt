@@ -1,17 +1,19 @@
--- Columns as they are declared: `price i32, stock i32?, "unit price" i64`.
+-- Columns as they are declared: `price i32, stock i32?, "unit price" i64, 7 as "note" utf8`.
 use Rattle.std.specs.Prelude.{◌≡◌, ◌≢◌, ℕ, List, [], ◌∷◌, Bool, true, false, Option, Some, None}
 use Rattle.std.specs.Prelude.{if◌then◌else◌, Result, MatchResult}
 use Rattle.std.specs.Str.{is_utf8}
-use Rattle.vortex_types.specs.LogicalTypes.{LogicalType, Fields, no_fields, with_field, find_field}
+use Rattle.vortex_types.specs.LogicalTypes.{LogicalType, Fields, find_field}
 use Rattle.vortex_syntax.specs.declared.token.Sign.TheVariants as sign
 use Rattle.vortex_syntax.specs.declared.error.SyntaxError.{SyntaxError}
 use Rattle.vortex_syntax.specs.declared.error.SyntaxError.TheVariants as syntax
-use Rattle.vortex_syntax.specs.Tokens.{Token, name, nullable, quoted, sign}
+use Rattle.vortex_syntax.specs.Tokens.{Token, name, nullable, quoted, number, text, sign}
 use Rattle.vortex_syntax.specs.Lexing.{Lexes}
 use Rattle.vortex_expressions.specs.Calls.{unquoted}
 use Rattle.vortex_cells.specs.TypeWords.{type_named}
 use Rattle.rowfn_queries.specs.declared.scope.ScopeReason.{ScopeReason}
 use Rattle.rowfn_queries.specs.declared.scope.ScopeReason.TheVariants as reason
+use Rattle.rowfn_queries.specs.DeclaredColumns.{DeclaredColumns, no_columns, with_column}
+use Rattle.rowfn_queries.specs.Places.{place_of_digits}
 
 -- what becomes of a part of a text: what it stands for, or why it stands for nothing
 pub data Outcome (A : Type 0) : Type 0 where
@@ -61,29 +63,60 @@ type_said (name w) = type_of_name false w
 type_said (nullable w) = type_of_name true w
 type_said t = refuses reason.NoType
 
+abbrev pub is_as : Token → Bool
+is_as (sign sign.As) = true
+is_as t = false
+
+abbrev pub if_place : Option ℕ → Outcome ℕ
+if_place None = refuses reason.NoPlace
+if_place (Some p) = answers p
+
+-- the place that digits say
+abbrev pub place_said : List ℕ → Outcome ℕ
+place_said digits = if_place (place_of_digits digits)
+
+abbrev pub if_as : {A : Type 0} → Token → Outcome A → Outcome A
+if_as c o = if is_as c then o else refuses reason.NoAs
+
 abbrev mutual
-  -- the columns that tokens declare behind others: a name, a type, and nothing or a comma and
-  -- further columns
-  pub columns_behind : Fields → List Token → Outcome Fields
-  columns_behind fs [] = refuses reason.NoName
-  columns_behind fs (n ∷ ts) = and_then (new_name fs n) (λ w. typed_behind fs w ts)
+  -- the columns that tokens declare behind others: a place and `as`, or neither; a name, a type, and
+  -- nothing or a comma and further columns
+  pub columns_behind : DeclaredColumns → List Token → Outcome DeclaredColumns
+  columns_behind d [] = refuses reason.NoName
+  columns_behind d (number digits ∷ ts) = placed_behind d (place_said digits) ts
+  columns_behind d (name w ∷ ts) = named_behind d None (name w ∷ ts)
+  columns_behind d (nullable w ∷ ts) = named_behind d None (nullable w ∷ ts)
+  columns_behind d (quoted w ∷ ts) = named_behind d None (quoted w ∷ ts)
+  columns_behind d (text w ∷ ts) = named_behind d None (text w ∷ ts)
+  columns_behind d (sign s ∷ ts) = named_behind d None (sign s ∷ ts)
 
-  pub typed_behind : Fields → List ℕ → List Token → Outcome Fields
-  typed_behind fs w [] = refuses reason.NoType
-  typed_behind fs w (t ∷ ts) = and_then (type_said t) (λ u. more_behind (with_field fs w u) ts)
+  pub placed_behind : DeclaredColumns → Outcome ℕ → List Token → Outcome DeclaredColumns
+  placed_behind d (refuses r) ts = refuses r
+  placed_behind d (answers p) [] = refuses reason.NoAs
+  placed_behind d (answers p) (c ∷ ts) = if_as c (named_behind d (Some p) ts)
 
-  pub more_behind : Fields → List Token → Outcome Fields
-  more_behind fs [] = answers fs
-  more_behind fs (c ∷ ts) = if is_comma c then columns_behind fs ts else refuses reason.NoComma
+  pub named_behind : DeclaredColumns → Option ℕ → List Token → Outcome DeclaredColumns
+  named_behind d place [] = refuses reason.NoName
+  named_behind d place (n ∷ ts) =
+      and_then (new_name d.fields n) (λ w. typed_behind d place w ts)
 
-abbrev pub columns_of : List Token → Outcome Fields
-columns_of ts = columns_behind no_fields ts
+  pub typed_behind : DeclaredColumns → Option ℕ → List ℕ → List Token → Outcome DeclaredColumns
+  typed_behind d place w [] = refuses reason.NoType
+  typed_behind d place w (t ∷ ts) =
+      and_then (type_said t) (λ u. more_behind (with_column d place w u) ts)
+
+  pub more_behind : DeclaredColumns → List Token → Outcome DeclaredColumns
+  more_behind d [] = answers d
+  more_behind d (c ∷ ts) = if is_comma c then columns_behind d ts else refuses reason.NoComma
+
+abbrev pub columns_of : List Token → Outcome DeclaredColumns
+columns_of ts = columns_behind no_columns ts
 
 -- the text declares the columns
-pub record Declares (text : List ℕ) (fs : Fields) : Type 0 where
+pub record Declares (text : List ℕ) (d : DeclaredColumns) : Type 0 where
   pub ts : List Token
   pub lexed : Lexes text ts
-  pub said : columns_of ts ≡ answers fs
+  pub said : columns_of ts ≡ answers d
 
 -- the text declares none for that reason: its tokens are refused so, or it has none; or memory ran
 -- out

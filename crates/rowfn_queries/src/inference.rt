@@ -25,7 +25,7 @@ fn holds(dtype: &DType, field: Option<&[u8]>) -> bool
 }
 
 /// Whether a text begins with a digit that is not 0.
-fn begins_number(digits: &[u8]) -> bool
+pub(crate) fn begins_number(digits: &[u8]) -> bool
     ensures { result ≡ begins_number digits.now }
 {
     match digits.first() {

@@ -3,19 +3,22 @@
 #![tactic(auto)]
 
 pub mod again;
-mod bound;
+mod binding;
+pub mod declared;
 pub mod error;
 pub mod inference;
-mod named;
-mod placed;
+mod places;
 pub mod query;
+mod rows;
 mod sample;
 pub mod scope;
 mod scopes;
+mod texts;
 
 pub use again::Again;
 pub use error::{HeaderFault, Place, QueryError};
 pub use inference::infer;
-pub use query::{Query, Words, read_condition, read_query};
-pub use sample::{SAMPLED_BYTES, SAMPLED_ROWS};
-pub use scope::{ScopeError, ScopeReason, read_scope};
+pub use query::{Query, Question, Words, read_query};
+pub use declared::{Declared, read_scope};
+pub use rows::{SAMPLED_BYTES, SAMPLED_ROWS};
+pub use scope::{ScopeError, ScopeReason};

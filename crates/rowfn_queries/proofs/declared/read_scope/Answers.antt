@@ -2,7 +2,7 @@ use Rattle.std.proofs.Common.{map, subst, sym}
 use Rattle.vortex_syntax.specs.Tokens.{token_in}
 use Rattle.vortex_syntax.specs.Lexing.{Lexes}
 use Rattle.rowfn_queries.proofs.Refusing.{refused_so}
-use Rattle.rowfn_queries.proofs.scope.read_scope.Goals as goal
+use Rattle.rowfn_queries.proofs.declared.read_scope.Goals as goal
 
 pub returns-clause-found : goal.returns-clause-found
 returns-clause-found c =

@@ -2,7 +2,7 @@ use Rattle.std.proofs.Common.{◌≡◌, length, map}
 use Rattle.vortex_types.specs.TypeOf.{struct_fields}
 use Rattle.vortex_syntax.specs.Tokens.{token_in}
 use Rattle.rowfn_queries.specs.Scopes.{columns_of, columns_behind}
-use Rattle.rowfn_queries.proofs.scope.read_columns.Given as goal
+use Rattle.rowfn_queries.proofs.declared.read_columns.Given as goal
 
 -- what is left is read behind the columns so far
 abbrev pub invariant-columns : goal.invariant-columns

@@ -1,0 +1,136 @@
+//! Parsed texts, bound over the columns that they read.
+ghost use Rattle.std.specs.Prelude.{◌≡◌, MatchResult, map, string_bytes};
+ghost use Rattle.vortex_errors.specs.Answers.{AnswersUnlessMemory};
+ghost use Rattle.vortex_types.specs.TypeOf.{struct_fields};
+ghost use Rattle.vortex_program.specs.Programs.{trees_of};
+ghost use Rattle.rowfn_queries.specs.Bindings.{all_in, named_in, read_in, IsAskedIn, RefusesIn};
+ghost use Rattle.rowfn_queries.specs.Bindings.{IsBoundIn, RefusesWhere, RefusesBound};
+ghost use Rattle.rowfn_queries.specs.Queries.{IsTruthFor};
+ghost use Rattle.rowfn_queries.specs.Refusals.{RefusesTruth};
+
+use crate::declared::Declared;
+use crate::error::QueryError;
+use crate::places::places_of;
+use crate::query::{Question, Words};
+use crate::scopes::{add_all, add_wanted};
+use crate::texts::{Texts, place_of};
+use std::alloc::Global;
+use vortex_columns::{StructFields, VortexResult};
+use vortex_program::{Answer, Form, Parsed, Program};
+
+/// The columns that texts may read: some are declared, others have the types of their fields.
+#[derive(Clone, Copy)]
+pub(crate) struct Binding<'a> {
+    pub(crate) alloc: Global,
+    pub(crate) words: Words<'a>,
+    pub(crate) declared: &'a Declared,
+    /// The declared columns, or more, where a text is refused over those.
+    pub(crate) columns: &'a StructFields,
+    pub(crate) sampled: &'a StructFields,
+}
+
+/// Fails where a condition is no truth value.
+fn check_truth(alloc: Global, form: Form, answers: &[Answer]) -> Result<(), QueryError>
+    ensures { MatchResult result (λ _. IsTruthFor form (trees_of answers.now))
+        (RefusesTruth form (trees_of answers.now)) }
+{
+    if form != Form::Condition {
+        return Ok(());
+    }
+    for answer in answers {
+        if !answer.tree.dtype().is_boolean() {
+            return Err(QueryError::NoTruth(answer.tree.dtype().try_clone(alloc)?));
+        }
+    }
+    Ok(())
+}
+
+impl Binding<'_> {
+    /// The declared columns, and those of these names.
+    fn all_columns(&self, names: &[String]) -> VortexResult<StructFields>
+        ensures { AnswersUnlessMemory result (λ columns. struct_fields columns
+            ≡ all_in self.now (map string_bytes names.now)) }
+    {
+        let mut columns = StructFields::new(self.alloc);
+        add_all(self.alloc, &mut columns, self.columns)?;
+        add_wanted(self.alloc, &mut columns, self.sampled, names)?;
+        Ok(columns)
+    }
+
+    /// The columns of these names.
+    fn named_columns(&self, names: &[String]) -> VortexResult<StructFields>
+        ensures { AnswersUnlessMemory result (λ columns. struct_fields columns
+            ≡ named_in self.now (map string_bytes names.now)) }
+    {
+        let mut columns = StructFields::new(self.alloc);
+        add_wanted(self.alloc, &mut columns, self.columns, names)?;
+        add_wanted(self.alloc, &mut columns, self.sampled, names)?;
+        Ok(columns)
+    }
+
+    /// The columns that a text of that form reads: answers next to a condition read those that they
+    /// name, else all that are declared are read too.
+    fn columns_read(&self, form: Form, names: &[String]) -> VortexResult<StructFields>
+        ensures { AnswersUnlessMemory result (λ columns. struct_fields columns
+            ≡ read_in self.now form (map string_bytes names.now)) }
+    {
+        if form == Form::Answers && self.words.condition.is_some() {
+            self.named_columns(names)
+        } else {
+            self.all_columns(names)
+        }
+    }
+
+    /// The question that a parsed text asks.
+    fn ask(&self, parsed: &Parsed<'_>) -> Result<Question, QueryError>
+        ensures { MatchResult result (IsAskedIn self.now parsed.now.form parsed.now.text.now)
+            (RefusesIn self.now parsed.now.form parsed.now.text.now) }
+    {
+        let form = parsed.form;
+        let names = parsed.names(self.alloc)?;
+        let columns = self.columns_read(form, &names)?;
+        let answers = match parsed.bind(self.alloc, &columns) {
+            Ok(answers) => answers,
+            Err(error) => return Err(QueryError::Unread(place_of(form), error)),
+        };
+        match check_truth(self.alloc, form, &answers) {
+            Ok(()) => {}
+            Err(error) => return Err(error),
+        }
+        let places = places_of(self.alloc, self.declared, self.words.header, &columns)?;
+        let program = Program::of(self.alloc, columns, answers)?;
+        Ok(Question { program, places })
+    }
+
+    /// The question that a parsed text asks, where there is one.
+    fn ask_where(&self, parsed: &Option<Parsed<'_>>) -> Result<Option<Question>, QueryError>
+        ensures { MatchResult result (IsBoundIn self.now parsed.now) (RefusesWhere self.now parsed.now) }
+    {
+        let Some(parsed) = parsed else {
+            return Ok(None);
+        };
+        match self.ask(parsed) {
+            Ok(question) => Ok(Some(question)),
+            Err(error) => Err(error),
+        }
+    }
+
+    /// The answers, and the condition, which is bound first.
+    pub(crate) fn bind(
+        &self,
+        texts: &Texts<'_>,
+    ) -> Result<(Option<Question>, Option<Question>), QueryError>
+        ensures { MatchResult result
+            (λ p. IsBoundIn self.now texts.now.answers p.0 × IsBoundIn self.now texts.now.condition p.1)
+            (RefusesBound self.now texts.now) }
+    {
+        let condition = match self.ask_where(&texts.condition) {
+            Ok(condition) => condition,
+            Err(error) => return Err(error),
+        };
+        match self.ask_where(&texts.answers) {
+            Ok(answers) => Ok((answers, condition)),
+            Err(error) => Err(error),
+        }
+    }
+}

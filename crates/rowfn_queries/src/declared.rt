@@ -1,0 +1,321 @@
+//! Columns as they are declared: `price i32, stock i32?, "unit price" i64, 7 as "note" utf8`.
+ghost use Rattle.std.specs.Prelude.{◌≡◌, ◌≢◌, ◌<◌, ◌≤◌, ◌⊎◌, map, drop, length, OnOk, MatchResult};
+ghost use Rattle.std.specs.Prelude.{string_bytes, IfOk, None};
+ghost use Rattle.vortex_types.specs.LogicalTypes.{find_field};
+ghost use Rattle.vortex_types.specs.TypeOf.{struct_fields, type_of, allows_null};
+ghost use Rattle.vortex_syntax.specs.Tokens.{token_in};
+ghost use Rattle.vortex_errors.specs.Answers.{AnswersUnlessMemory};
+ghost use Rattle.rowfn_queries.specs.declared.scope.ScopeReason.TheVariants.{OutOfMemory};
+ghost use Rattle.rowfn_queries.specs.Scopes.{Gives, answers, refuses, text_said, name_said};
+ghost use Rattle.rowfn_queries.specs.Scopes.{new_name, type_of_name, type_said, is_comma, is_as};
+ghost use Rattle.rowfn_queries.specs.Scopes.{place_said, named_behind, placed_behind};
+ghost use Rattle.rowfn_queries.specs.Scopes.{columns_behind, more_behind, columns_of};
+ghost use Rattle.rowfn_queries.specs.DeclaredColumns.{DeclaredColumns, declared_by, no_columns};
+ghost use Rattle.rowfn_queries.specs.DeclaredColumns.{with_column};
+ghost use Rattle.rowfn_queries.specs.Scopes.{Declares, IsRefusedScope, reason_of};
+
+use crate::places::place_of_digits;
+use crate::scope::{ScopeError, ScopeReason};
+use std::alloc::Global;
+use std::str;
+use vortex_cells::types::type_named;
+use vortex_columns::{DType, Nullability, StructFields, VortexResult};
+use vortex_expressions::quotes::unquoted;
+use vortex_expressions::words::{found_at, line_and_column};
+use vortex_syntax::{Sign, SyntaxError, Token, read_tokens};
+
+/// Columns that are declared, in their order.
+#[derive(Drop)]
+pub struct Declared {
+    pub columns: StructFields,
+    /// The place of each in a row of the input, counted from 0, where it is declared.
+    pub places: Vec<Option<usize>>,
+}
+
+impl Declared {
+    /// No columns. Takes no memory.
+    pub fn none(alloc: Global) -> Declared
+        ensures { declared_by result ≡ no_columns }
+    {
+        Declared {
+            columns: StructFields::new(alloc),
+            places: Vec::new(alloc),
+        }
+    }
+
+    /// One column more, whose name is new.
+    fn push(&mut self, name: String, dtype: DType, place: Option<usize>) -> VortexResult<()>
+        requires { find_field (string_bytes name) (struct_fields self.old.columns) ≡ None }
+        ensures { AnswersUnlessMemory result (λ _. declared_by self.new
+            ≡ with_column (declared_by self.old) place (string_bytes name) (type_of dtype)) }
+    {
+        self.columns.push(name, dtype)?;
+        self.places.push(place)?;
+        Ok(())
+    }
+}
+
+/// Why columns are not read, and how many tokens stand before the one that stops.
+#[derive(Clone, Copy)]
+struct Stopped {
+    before: usize,
+    reason: ScopeReason,
+}
+
+fn is_as(token: Token<'_>) -> bool
+    ensures { result ≡ is_as (token_in token.entry) }
+{
+    matches!(token, Token::Sign(Sign::As))
+}
+
+fn is_comma(token: Token<'_>) -> bool
+    ensures { result ≡ is_comma (token_in token.entry) }
+{
+    matches!(token, Token::Sign(Sign::Comma))
+}
+
+/// The bytes as a text.
+fn text_said(alloc: Global, bytes: &[u8]) -> Result<String, ScopeReason>
+    ensures { Gives string_bytes result (text_said bytes.now) }
+{
+    match str::from_utf8(bytes) {
+        Ok(text) => Ok(String::from_str(alloc, text)?),
+        Err(_) => Err(ScopeReason::NotUtf8),
+    }
+}
+
+/// The name that a token says, without its quotes.
+pub(crate) fn name_said(alloc: Global, token: Token<'_>) -> Result<String, ScopeReason>
+    ensures { Gives string_bytes result (name_said (token_in token.entry)) }
+{
+    match token {
+        Token::Name(name) => text_said(alloc, name),
+        Token::Quoted(name) => {
+            let name = unquoted(alloc, b'"', name)?;
+            text_said(alloc, &name)
+        }
+        _ => Err(ScopeReason::NoName),
+    }
+}
+
+/// The name that a token says, which no declared column has.
+fn new_name(alloc: Global, columns: &StructFields, token: Token<'_>) -> Result<String, ScopeReason>
+    ensures { Gives string_bytes result
+        (new_name (struct_fields columns.now) (token_in token.entry)) }
+{
+    let name = name_said(alloc, token)?;
+    match columns.find(name.as_str()) {
+        Some(_) => Err(ScopeReason::NameTwice),
+        None => Ok(name),
+    }
+}
+
+/// The type of that name.
+fn type_of_name(alloc: Global, name: &[u8], nullability: Nullability) -> Result<DType, ScopeReason>
+    ensures { Gives (λ t. type_of t) result (type_of_name (allows_null nullability) name.now) }
+{
+    let name = text_said(alloc, name)?;
+    match type_named(name.as_str(), nullability) {
+        Some(dtype) => Ok(dtype),
+        None => Err(ScopeReason::UnknownType),
+    }
+}
+
+/// The type that a token names.
+fn type_said(alloc: Global, token: Token<'_>) -> Result<DType, ScopeReason>
+    ensures { Gives (λ t. type_of t) result (type_said (token_in token.entry)) }
+{
+    match token {
+        Token::Name(name) => type_of_name(alloc, name, Nullability::NonNullable),
+        Token::Nullable(name) => type_of_name(alloc, name, Nullability::Nullable),
+        _ => Err(ScopeReason::NoType),
+    }
+}
+
+/// Why a column is not read, after so many of its tokens.
+fn stop_at(before: usize, reason: ScopeReason) -> Stopped
+    ensures { result.reason ≡ reason }
+{
+    Stopped { before, reason }
+}
+
+/// The place that digits say, counted from 0.
+fn place_said(digits: &[u8]) -> Result<usize, ScopeReason>
+    ensures { Gives (λ p. p) result (place_said digits.now) }
+{
+    match place_of_digits(digits) {
+        Some(place) => Ok(place),
+        None => Err(ScopeReason::NoPlace),
+    }
+}
+
+/// One column more, whose name is the first token and its type the second.
+fn read_named(
+    alloc: Global,
+    declared: &mut Declared,
+    place: Option<usize>,
+    tokens: &[Token<'_>],
+) -> Result<(), Stopped>
+    requires { 0 < length tokens.now }
+    ensures read { OnOk result (2 ≤ length tokens.now) }
+    ensures column { let columns = named_behind (declared_by declared.old) place
+        (map token_in tokens.now) in
+        MatchResult result
+        (λ _. columns ≡ more_behind (declared_by declared.new) (map token_in (drop 2 tokens.now)))
+        (λ e. e.reason ≢ OutOfMemory → columns ≡ refuses e.reason) }
+{
+    let name = match new_name(alloc, &declared.columns, tokens[0]) {
+        Ok(name) => name,
+        Err(reason) => return Err(stop_at(0, reason)),
+    };
+    let Some(token) = tokens.get(1) else {
+        return Err(stop_at(1, ScopeReason::NoType));
+    };
+    let dtype = match type_said(alloc, *token) {
+        Ok(dtype) => dtype,
+        Err(reason) => return Err(stop_at(1, reason)),
+    };
+    match declared.push(name, dtype, place) {
+        Ok(()) => Ok(()),
+        Err(error) => Err(stop_at(0, ScopeReason::from(error))),
+    }
+}
+
+/// One column more, whose place the digits say; `as`, its name and its type follow.
+fn read_placed(
+    alloc: Global,
+    declared: &mut Declared,
+    digits: &[u8],
+    tokens: &[Token<'_>],
+) -> Result<(), Stopped>
+    ensures read { OnOk result (3 ≤ length tokens.now) }
+    ensures column { let columns = placed_behind (declared_by declared.old) (place_said digits.now)
+        (map token_in tokens.now) in
+        MatchResult result
+        (λ _. columns ≡ more_behind (declared_by declared.new) (map token_in (drop 3 tokens.now)))
+        (λ e. e.reason ≢ OutOfMemory → columns ≡ refuses e.reason) }
+{
+    let place = match place_said(digits) {
+        Ok(place) => place,
+        Err(reason) => return Err(stop_at(0, reason)),
+    };
+    let Some(word) = tokens.first() else {
+        return Err(stop_at(1, ScopeReason::NoAs));
+    };
+    if !is_as(*word) {
+        return Err(stop_at(1, ScopeReason::NoAs));
+    }
+    let rest = &tokens[1..];
+    if rest.is_empty() {
+        return Err(stop_at(2, ScopeReason::NoName));
+    }
+    match read_named(alloc, declared, Some(place), rest) {
+        Ok(()) => Ok(()),
+        Err(stop) => Err(stop_at(stop.before.saturating_add(2), stop.reason)),
+    }
+}
+
+/// One column more, of the first tokens; returns how many these are.
+fn read_column(
+    alloc: Global,
+    declared: &mut Declared,
+    tokens: &[Token<'_>],
+) -> Result<usize, Stopped>
+    requires { 0 < length tokens.now }
+    ensures read { IfOk result (λ count. (0 < count) × (count ≤ length tokens.now)) }
+    ensures column { let columns = columns_behind (declared_by declared.old)
+        (map token_in tokens.now) in
+        MatchResult result
+        (λ count. columns
+        ≡ more_behind (declared_by declared.new) (map token_in (drop count tokens.now)))
+        (λ e. e.reason ≢ OutOfMemory → columns ≡ refuses e.reason) }
+{
+    if let Token::Number(digits) = tokens[0] {
+        read_placed(alloc, declared, digits, &tokens[1..])?;
+        return Ok(4);
+    }
+    read_named(alloc, declared, None, tokens)?;
+    Ok(2)
+}
+
+/// The columns that the tokens declare.
+fn read_columns(alloc: Global, tokens: &[Token<'_>]) -> Result<Declared, Stopped>
+    ensures { MatchResult result
+        (λ declared. columns_of (map token_in tokens.now) ≡ answers (declared_by declared))
+        (λ e. e.reason ≢ OutOfMemory
+        → columns_of (map token_in tokens.now) ≡ refuses e.reason) }
+{
+    let mut declared = Declared::none(alloc);
+    let mut rest = tokens;
+    'columns: while !rest.is_empty() {
+        let read = tokens.len().saturating_sub(rest.len());
+        let count = match read_column(alloc, &mut declared, rest) {
+            Ok(count) => count,
+            Err(stop) => return Err(stop_at(read.saturating_add(stop.before), stop.reason)),
+        };
+        let behind = &rest[count..];
+        let Some(comma) = behind.first() else {
+            return Ok(declared);
+        };
+        if !is_comma(*comma) {
+            return Err(stop_at(read.saturating_add(count), ScopeReason::NoComma));
+        }
+        rest = &behind[1..];
+    }
+    Err(stop_at(tokens.len(), ScopeReason::NoName))
+}
+
+/// That reason, at that byte of a text.
+fn error_at(alloc: Global, text: &str, byte: usize, reason: ScopeReason) -> ScopeError
+    ensures { (result.reason ≡ reason) ⊎ (result.reason ≡ OutOfMemory) }
+{
+    let found = found_at(text, byte);
+    let (line, column) = line_and_column(text, byte);
+    match format!(in alloc; "{found}") {
+        Ok(found) => ScopeError {
+            reason,
+            line,
+            column,
+            found,
+        },
+        Err(_) => ScopeError {
+            reason: ScopeReason::OutOfMemory,
+            line,
+            column,
+            found: String::new(alloc),
+        },
+    }
+}
+
+/// Why a text is no tokens.
+fn unread(alloc: Global, text: &str, error: SyntaxError) -> ScopeError
+    ensures { (result.reason ≡ reason_of error) ⊎ (result.reason ≡ OutOfMemory) }
+{
+    match error.byte() {
+        Some(byte) => error_at(alloc, text, byte, ScopeReason::NoToken),
+        None => error_at(alloc, text, text.len(), ScopeReason::OutOfMemory),
+    }
+}
+
+/// Reads a list of columns, each a name and a type with a comma before the next, as
+/// `price i32, stock i32?, "unit price" i64`; names and types are written as in expressions. A place,
+/// counted from 1, and `as` may stand before a name: `3 as category utf8`. Ok exactly where the text
+/// is such a list in which no name stands twice, and then the columns in their order, each with its
+/// place where it has one; else why it is none, the first reason from left to right.
+pub fn read_scope(alloc: Global, text: &str) -> Result<Declared, ScopeError>
+    // The text declares what is returned; what is reported of tokens is why they declare none.
+    ensures found { MatchResult result (λ declared. Declares text.now (declared_by declared))
+        (λ e. IsRefusedScope text.now e.reason) }
+    // What the text declares is returned.
+    ensures only { (columns : DeclaredColumns) → Declares text.now columns
+        → MatchResult result (λ d. declared_by d ≡ columns) (λ e. e.reason ≡ OutOfMemory) }
+{
+    let read = match read_tokens(alloc, text.as_bytes()) {
+        Ok(read) => read,
+        Err(error) => return Err(unread(alloc, text, error)),
+    };
+    match read_columns(alloc, &read.tokens) {
+        Ok(declared) => Ok(declared),
+        Err(stop) => Err(error_at(alloc, text, read.byte(stop.before), stop.reason)),
+    }
+}

@@ -1,0 +1,210 @@
+//! The first rows of an input, and the names of its columns.
+ghost use Rattle.std.specs.Prelude.{◌≡◌, IfErr};
+ghost use Rattle.rowfn_queries.specs.Refusals.{IsOfInput};
+
+use crate::error::{HeaderFault, QueryError};
+use crate::places::numbered_place;
+use crate::scopes::stands_in;
+use rowfn_csv::{Batch, ByteRecord, Found, ReadError, Records};
+use std::alloc::{AllocError, Global};
+use std::io::Read;
+use std::str;
+
+/// From how many rows types are taken, at most.
+pub const SAMPLED_ROWS: usize = 8192;
+
+/// With how many bytes of the input those rows are enough.
+pub const SAMPLED_BYTES: u64 = 1 << 23;
+
+/// Rows, and where the columns stand in them that are wanted.
+#[derive(Drop)]
+pub(crate) struct Rows {
+    /// The names of the wanted columns, each once.
+    pub(crate) names: Vec<String>,
+    pub(crate) places: Vec<usize>,
+    /// How many fields a row has.
+    pub(crate) width: usize,
+    /// The fields of the wanted columns.
+    pub(crate) batch: Batch,
+}
+
+impl Rows {
+    /// No columns and no rows. Takes no memory.
+    fn of_width(alloc: Global, width: usize) -> Rows {
+        Rows {
+            names: Vec::new(alloc),
+            places: Vec::new(alloc),
+            width,
+            batch: Batch::new(alloc),
+        }
+    }
+}
+
+/// What a read that failed ends.
+fn unread(error: ReadError) -> QueryError
+    ensures { IsOfInput result }
+{
+    match error {
+        ReadError::Io(error) => QueryError::Reading(error),
+        ReadError::OutOfMemory => QueryError::OutOfMemory,
+    }
+}
+
+/// Adds the names of a header, each once; returns where the wanted ones stand.
+fn push_header(
+    alloc: Global,
+    header: &ByteRecord,
+    wanted: &[String],
+    names: &mut Vec<String>,
+) -> Result<Vec<usize>, AllocError> {
+    let mut places = Vec::new(alloc);
+    for place in 0..header.len() {
+        let Some(field) = header.get(place) else {
+            continue;
+        };
+        let Ok(name) = str::from_utf8(field) else {
+            continue;
+        };
+        if stands_in(names, name) {
+            continue;
+        }
+        names.push(String::from_str(alloc, name)?)?;
+        if stands_in(wanted, name) {
+            places.push(place)?;
+        }
+    }
+    Ok(places)
+}
+
+/// The names at places of a header.
+fn names_at(
+    alloc: Global,
+    header: &ByteRecord,
+    places: &[usize],
+) -> Result<Vec<String>, AllocError> {
+    let mut names = Vec::new(alloc);
+    for place in places {
+        let field = header.get(*place).unwrap_or(&[]);
+        names.push(String::from_str(alloc, str::from_utf8(field).unwrap_or(""))?)?;
+    }
+    Ok(names)
+}
+
+/// Reads a header. Refused where there is none.
+fn read_header<R: Read>(records: &mut Records<'_, R>, max_field: usize) -> Result<(), QueryError>
+    ensures { IfErr result IsOfInput }
+{
+    match records.read_record() {
+        Found::End => Err(QueryError::Header(HeaderFault::Missing)),
+        Found::Record if records.is_outgrown() => {
+            Err(QueryError::Header(HeaderFault::TooLong(max_field)))
+        }
+        Found::Record if records.is_open() => Err(QueryError::Header(HeaderFault::Open)),
+        Found::Record => Ok(()),
+        Found::Failed => Err(unread(records.take_error())),
+    }
+}
+
+/// Reads the header; adds its names.
+pub(crate) fn read_named<R: Read>(
+    alloc: Global,
+    records: &mut Records<'_, R>,
+    max_field: usize,
+    wanted: &[String],
+    names: &mut Vec<String>,
+) -> Result<Rows, QueryError>
+    ensures { IfErr result IsOfInput }
+{
+    read_header(records, max_field)?;
+    let mut rows = Rows::of_width(alloc, records.record().len());
+    rows.places = push_header(alloc, records.record(), wanted, names)?;
+    rows.names = names_at(alloc, records.record(), &rows.places)?;
+    Ok(rows)
+}
+
+/// `c1` for the first column of an input without a header, `c2` for the second.
+fn numbered_name(alloc: Global, place: usize) -> Result<String, AllocError> {
+    let number = place.saturating_add(1);
+    format!(in alloc; "c{number}")
+}
+
+/// Adds the names `c1`, `c2`, .. of so many columns; the rows have those that are wanted.
+fn push_numbered(
+    alloc: Global,
+    width: usize,
+    wanted: &[String],
+    names: &mut Vec<String>,
+) -> Result<Rows, AllocError> {
+    let mut rows = Rows::of_width(alloc, width);
+    for place in 0..width {
+        let name = numbered_name(alloc, place)?;
+        if stands_in(wanted, name.as_str()) {
+            rows.places.push(place)?;
+            rows.names.push(String::from_str(alloc, name.as_str())?)?;
+        }
+        names.push(name)?;
+    }
+    Ok(rows)
+}
+
+/// The wanted columns `c1`, `c2`, .. of an input that begins with no row.
+fn wanted_numbered(alloc: Global, wanted: &[String]) -> Result<Rows, AllocError> {
+    let mut rows = Rows::of_width(alloc, 0);
+    for name in wanted {
+        if let Some(place) = numbered_place(name.as_str()) {
+            rows.places.push(place)?;
+            rows.names.push(String::from_str(alloc, name.as_str())?)?;
+        }
+    }
+    Ok(rows)
+}
+
+/// Reads the first row of an input without a header; adds the names `c1`, `c2`, .. of its columns.
+pub(crate) fn read_numbered<R: Read>(
+    alloc: Global,
+    records: &mut Records<'_, R>,
+    wanted: &[String],
+    names: &mut Vec<String>,
+) -> Result<Rows, QueryError>
+    ensures { IfErr result IsOfInput }
+{
+    let is_row = match records.read() {
+        Found::Failed => return Err(unread(records.take_error())),
+        Found::End => false,
+        Found::Record => !records.is_open() && !records.is_outgrown(),
+    };
+    if !is_row {
+        return Ok(wanted_numbered(alloc, wanted)?);
+    }
+    let mut rows = push_numbered(alloc, records.record().len(), wanted, names)?;
+    records.add_to(&mut rows.batch, &rows.places)?;
+    Ok(rows)
+}
+
+/// Adds the rows that follow: all up to the first record that is no row, at most so many, and no more
+/// after the one that ends with enough bytes.
+pub(crate) fn read_rows<R: Read>(
+    records: &mut Records<'_, R>,
+    rows: &mut Rows,
+) -> Result<(), ReadError> {
+    for _ in 0..SAMPLED_ROWS {
+        match records.read() {
+            Found::Record => {}
+            Found::End => return Ok(()),
+            Found::Failed => return Err(records.take_error()),
+        }
+        let is_row = records.record().len() == rows.width
+            && !records.is_open()
+            && !records.is_outgrown();
+        if !is_row {
+            return Ok(());
+        }
+        if records.add_to(&mut rows.batch, &rows.places).is_err() {
+            return Err(ReadError::OutOfMemory);
+        }
+        if records.span().end >= SAMPLED_BYTES {
+            return Ok(());
+        }
+    }
+    Ok(())
+}
