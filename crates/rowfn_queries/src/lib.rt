@@ -16,9 +16,9 @@ mod scopes;
 mod texts;
 
 pub use again::Again;
+pub use declared::{Declared, read_scope};
 pub use error::{HeaderFault, Place, QueryError};
 pub use inference::infer;
 pub use query::{Query, Question, Words, read_query};
-pub use declared::{Declared, read_scope};
 pub use rows::{SAMPLED_BYTES, SAMPLED_ROWS};
 pub use scope::{ScopeError, ScopeReason};

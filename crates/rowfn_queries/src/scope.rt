@@ -97,7 +97,10 @@ impl fmt::Display for ScopeError {
                 f.write_str("and u64, with ? where they have null")
             }
             ScopeReason::NoPlace => {
-                write!(f, "no column has the place {found}; the first is 1, the last {MOST_COLUMNS}")
+                write!(
+                    f,
+                    "no column has the place {found}; the first is 1, the last {MOST_COLUMNS}"
+                )
             }
             ScopeReason::NameTwice => write!(f, "column {found} is declared twice"),
             ScopeReason::NotUtf8 => f.write_str("a name is not UTF-8"),
