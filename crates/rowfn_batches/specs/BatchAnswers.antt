@@ -17,7 +17,7 @@ use Rattle.vortex_functions.specs.declared.custom.NoCustom.{NoCustom}
 use Rattle.rowfn_scripts.specs.declared.expression.Expression.{Expression}
 use Rattle.rowfn_batches.specs.Fields.{Field}
 use Rattle.rowfn_batches.specs.Batches.{field_at, AreEven, AreColumns, IsLeftmost, IsTooLong}
-use Rattle.rowfn_scripts.specs.Executing.{RefusesColumnsFirst, IsFirstFaultyRow}
+use Rattle.vortex_program.specs.Executing.{RefusesColumnsFirst, IsFirstFaultyRow}
 use Rattle.rowfn_batches.specs.declared.answering.Task.{Task}
 use Rattle.rowfn_batches.specs.declared.errors.StreamError.{StreamError}
 use Rattle.rowfn_batches.specs.declared.errors.StreamError.TheVariants as end

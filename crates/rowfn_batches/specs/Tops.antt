@@ -6,7 +6,7 @@ use Rattle.vortex_interface.specs.Trees.{Tree}
 use Rattle.vortex_interface.specs.Eval.{tree_type}
 use Rattle.vortex_functions.specs.Fixed.{fixed_meaning}
 use Rattle.vortex_functions.specs.declared.custom.NoCustom.{NoCustom}
-use Rattle.rowfn_scripts.specs.declared.expression.Answer.{Answer}
+use Rattle.vortex_program.specs.declared.answer.Answer.{Answer}
 use Rattle.rowfn_scripts.specs.declared.expression.Expression.{Expression}
 use Rattle.rowfn_batches.specs.declared.errors.StreamError.{StreamError}
 use Rattle.rowfn_batches.specs.declared.errors.StreamError.TheVariants as end

@@ -1,7 +1,7 @@
 use Rattle.std.proofs.Common.{ℕ, List, refl, sym, subst, map}
 use Rattle.vortex_functions.specs.Fixed.{fixed_meaning}
-use Rattle.rowfn_scripts.specs.declared.expression.Answer.{Answer}
-use Rattle.rowfn_scripts.specs.Executing.{IsFirstFaultyRow}
+use Rattle.vortex_program.specs.declared.answer.Answer.{Answer}
+use Rattle.vortex_program.specs.Executing.{IsFirstFaultyRow}
 use Rattle.rowfn_batches.specs.Fields.{field_in}
 use Rattle.rowfn_batches.specs.declared.errors.StreamError.TheVariants as end
 use Rattle.rowfn_batches.specs.BatchAnswers.{EndsAnswers, at_fault, number_of}
