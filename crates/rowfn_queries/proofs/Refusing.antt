@@ -13,6 +13,8 @@ module _ (text : List ℕ) (ts : List Token) (lexed : Lexes text ts) where
   told reason.OutOfMemory h = without_memory refl
   told reason.NoToken h = refused ts lexed (h (λ x. cc))
   told reason.NoName h = refused ts lexed (h (λ x. cc))
+  told reason.NoPlace h = refused ts lexed (h (λ x. cc))
+  told reason.NoAs h = refused ts lexed (h (λ x. cc))
   told reason.NoType h = refused ts lexed (h (λ x. cc))
   told reason.NoComma h = refused ts lexed (h (λ x. cc))
   told reason.UnknownType h = refused ts lexed (h (λ x. cc))
