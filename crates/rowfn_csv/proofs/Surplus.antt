@@ -1,12 +1,9 @@
--- The fields of a record past a width, and a field past its end.
-use Rattle.std.proofs.Common.{◌≡◌, ◌==◌, ◌||◌, Bool, true, false, ℕ, zero, suc, List, [], ◌∷◌, drop}
-use Rattle.std.proofs.Common.{Option, Some, None, option_map, refl, if◌then◌else◌, not, length, ◌≤◌}
-use Rattle.std.proofs.Common.{◌<◌, arith}
+-- The fields of a record past a width.
+use Rattle.std.proofs.Common.{◌≡◌, ◌||◌, Bool, true, false, ℕ, zero, suc, List, [], ◌∷◌, ◌+◌}
+use Rattle.std.proofs.Common.{Option, refl, sym, ap, ◌∙◌, length, ◌≤◌, add-one, arith}
 use Rattle.std.specs.Option.{option_map_or}
 use Rattle.csv.specs.Records.{field_at}
-use Rattle.rowfn_csv.specs.Batches.{field_said}
 use Rattle.rowfn_csv.specs.Records.{is_filled, has_surplus}
-use Rattle.rowfn_csv.specs.Truths.{respelled}
 
 -- the field at a place, and those past it
 pub surplus_at : (texts : List (List ℕ)) (i : ℕ)
@@ -24,14 +21,20 @@ none_past [] (suc i) h = refl
 none_past (x ∷ xs) zero h = absurd (omega arith)
 none_past (x ∷ xs) (suc i) h = none_past xs i (omega arith)
 
--- a field past a record's end, and one of its own, in a column whose truth values may be respelled
-pub absent_spelled : (fits is_truth : Bool)
-    → option_map (respelled is_truth) (if fits then None else Some []) ≡ field_said [] fits
-absent_spelled true is_truth = refl
-absent_spelled false true = refl
-absent_spelled false false = refl
+module _ (texts : List (List ℕ)) (i : ℕ) (field : Option (List ℕ)) (here : field ≡ field_at texts i)
+    (filled : Bool) (is : filled ≡ option_map_or is_filled field false)
+  where
+    rest : has_surplus texts i ≡ (filled || has_surplus texts (suc i))
+    rest =
+        surplus_at texts i
+        ∙ ap (λ (b : Bool). b || has_surplus texts (suc i))
+        (sym (is ∙ ap (λ (o : Option (List ℕ)). option_map_or is_filled o false) here))
 
-pub field_respelled : (is_null is_truth : Bool) (text : List ℕ)
-    → option_map (respelled is_truth) (field_said text is_null) ≡ field_said (respelled is_truth text) is_null
-field_respelled true is_truth text = refl
-field_respelled false is_truth text = refl
+    -- a field that is not empty, and one that is
+    pub filled_at : filled ≡ true → has_surplus texts i ≡ true
+    filled_at e = rest ∙ ap (λ (b : Bool). b || has_surplus texts (suc i)) e
+
+    pub empty_at : filled ≡ false → has_surplus texts (i + 1) ≡ has_surplus texts i
+    empty_at e =
+        ap (has_surplus texts) (add-one i)
+        ∙ sym (rest ∙ ap (λ (b : Bool). b || has_surplus texts (suc i)) e)
