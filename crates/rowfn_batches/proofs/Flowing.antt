@@ -1,13 +1,13 @@
 -- How a stream begins.
 use Rattle.std.proofs.Common.{◌≡◌, ℕ, List, Option, option_map}
 use Rattle.std.specs.Io.KnownBytes.{Appends}
-use Rattle.rowfn_scripts.specs.declared.expression.Expression.{Expression}
+use Rattle.rowfn_batches.specs.declared.asked.Asked.{Asked}
 use Rattle.rowfn_batches.specs.declared.stream.Stream.{Stream}
 use Rattle.rowfn_batches.specs.Passing.{HasBegun, KeepsReading, IsCleared}
 
-pub has_begun : {R : Type 0} (x : Expression) (asked : Option Expression)
-    (before begun : Option (List ℕ)) (headed first : Stream R) → headed.expression.now ≡ x
-    → option_map (λ c. c.expression.now) headed.condition ≡ asked
+pub has_begun : {R : Type 0} (x : Asked) (asked : Option Asked)
+    (before begun : Option (List ℕ)) (headed first : Stream R) → headed.asked ≡ x
+    → option_map (λ c. c.asked) headed.condition ≡ asked
     → headed.summary.rows_read ≡ 0 → Appends before begun headed.output.bytes.items
     → KeepsReading headed first → IsCleared headed.output first.output
     → first.summary ≡ headed.summary → HasBegun x asked before begun first

@@ -1,7 +1,7 @@
 -- The name of an answer by its place.
 use Rattle.std.proofs.Common.{◌≡◌, ◌<◌, ◌∙◌, ℕ, List, [], length, get_or, ap, sym, string_bytes}
 use Rattle.std.proofs.lemmas.List.{get_or-map}
-use Rattle.rowfn_scripts.specs.declared.expression.Answer.{Answer}
+use Rattle.vortex_program.specs.declared.answer.Answer.{Answer}
 use Rattle.rowfn_batches.specs.Names.{names_of}
 
 -- of the answer that stands at a place

@@ -7,7 +7,7 @@ use Rattle.std.specs.Prelude.{MatchResult}
 use Rattle.vortex_types.specs.Values.{Value, is_null}
 use Rattle.vortex_columns.specs.ColumnView.{ColumnView, row}
 use Rattle.vortex_interface.specs.CallTexts.{joined}
-use Rattle.rowfn_scripts.specs.declared.expression.Answer.{Answer}
+use Rattle.vortex_program.specs.declared.answer.Answer.{Answer}
 use Rattle.rowfn_csv.specs.declared.format.Format.{Format}
 use Rattle.rowfn_csv.specs.Fields.{text_field}
 use Rattle.rowfn_csv.specs.RoundTrip.{cell_field, fields_line, SaysCells}

@@ -8,7 +8,7 @@ use Rattle.std.specs.List.{list_any}
 use Rattle.csv.specs.Records.{field_at}
 use Rattle.vortex_types.specs.FieldNames.{field_name}
 use Rattle.vortex_types.specs.LogicalTypes.{Fields, field_count}
-use Rattle.rowfn_scripts.specs.declared.expression.Answer.{Answer}
+use Rattle.vortex_program.specs.declared.answer.Answer.{Answer}
 use Rattle.rowfn_batches.specs.declared.errors.StreamError.{StreamError}
 use Rattle.rowfn_batches.specs.declared.errors.StreamError.TheVariants as end
 

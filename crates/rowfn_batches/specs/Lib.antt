@@ -9,8 +9,9 @@ pub mod Names
 pub mod Outputs
 pub mod Taking
 pub mod Passing
-pub mod Tops
 pub mod Spellings
+pub mod Starts
+pub mod Explaining
 pub mod Truths
 pub mod Parts
 pub mod Refusals

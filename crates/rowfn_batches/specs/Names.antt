@@ -1,6 +1,6 @@
 -- The names of answers, of which no two are one.
 use Rattle.std.specs.Prelude.{◌≡◌, ◌≢◌, ◌<◌, ℕ, List, [], map, length, get_or, string_bytes}
-use Rattle.rowfn_scripts.specs.declared.expression.Answer.{Answer}
+use Rattle.vortex_program.specs.declared.answer.Answer.{Answer}
 use Rattle.rowfn_batches.specs.declared.errors.StreamError.{StreamError}
 use Rattle.rowfn_batches.specs.declared.errors.StreamError.TheVariants as end
 

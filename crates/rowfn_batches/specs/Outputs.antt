@@ -21,6 +21,11 @@ module _ (delimiter : ℕ) (null : List ℕ) where
   abbrev pub name_field : ℕ → List ℕ → List ℕ
   name_field index name = separator_before (delimiter ∷ []) index ++ text_field delimiter null name
 
+  -- names of answers as a line
+  abbrev pub names_line : List (List ℕ) → List ℕ
+  names_line names =
+      joined (delimiter ∷ []) (map (text_field delimiter null) names) ++ (10 ∷ [])
+
   -- a value as a field: null as what stands for it, any other in quotes where it needs them
   abbrev pub value_field : Value → List ℕ
   value_field v = if is_null v then null else text_field delimiter null (field_text v)

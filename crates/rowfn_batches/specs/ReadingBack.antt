@@ -7,7 +7,7 @@ use Rattle.vortex_types.specs.Values.{Value, is_null}
 use Rattle.vortex_columns.specs.ColumnView.{ColumnView, row}
 use Rattle.vortex_interface.specs.Eval.{tree_type}
 use Rattle.vortex_functions.specs.Fixed.{fixed_meaning}
-use Rattle.rowfn_scripts.specs.declared.expression.Answer.{Answer}
+use Rattle.vortex_program.specs.declared.answer.Answer.{Answer}
 use Rattle.rowfn_csv.specs.declared.format.Format.{Format}
 use Rattle.rowfn_batches.specs.declared.settings.Settings.{Settings}
 use Rattle.rowfn_csv.specs.RoundTrip.{MayBeNull, SaysCells}

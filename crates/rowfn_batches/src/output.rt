@@ -5,6 +5,8 @@ ghost use Rattle.vortex_columns.specs.ColumnView.{row};
 ghost use Rattle.vortex_interface.specs.CallTexts.{joined, separator_before};
 ghost use Rattle.rowfn_csv.specs.Fields.{text_field};
 ghost use Rattle.rowfn_csv.specs.KeptLines.{line_of};
+ghost use Rattle.rowfn_batches.specs.Names.{names_of};
+ghost use Rattle.rowfn_batches.specs.Outputs.{names_line};
 ghost use Rattle.rowfn_batches.specs.Outputs.{Adds, name_field, value_field, row_fields, row_line};
 ghost use Rattle.rowfn_batches.specs.Outputs.{HaveRows, row_lines, is_true, picked_texts};
 ghost use Rattle.rowfn_batches.specs.Outputs.{picked_count, appended_lines};
@@ -18,6 +20,7 @@ use rowfn_csv::{Format, Records, Span, quote_from, without_line_end};
 use std::alloc::{AllocError, Global};
 use std::io::Read;
 use vortex_columns::{Cell, Column};
+use vortex_program::Answer;
 
 /// The only answer, where it has truth values and is no constant.
 fn only_truths(answers: &[Column]) -> Option<TruthRows<'_>>
@@ -93,12 +96,30 @@ impl<'a> Output<'a> {
     }
 
     /// Adds a name of the header. Refused only for want of memory.
-    pub fn push_name(&mut self, index: usize, name: &str) -> Result<(), AllocError>
+    fn push_name(&mut self, index: usize, name: &str) -> Result<(), AllocError>
         ensures { OnOk result (Adds self.old self.new (name_field self.old.format.delimiter
             self.old.format.null.now index name.now)) }
     {
         self.begin_field(index)?;
         self.push_text(name)
+    }
+
+    /// Adds a delimiter. Fails only where memory runs out.
+    pub fn push_delimiter(&mut self) -> Result<(), AllocError>
+        ensures { OnOk result (Adds self.old self.new (self.old.format.delimiter ∷ [])) }
+    {
+        self.bytes.push(self.format.delimiter)
+    }
+
+    /// Adds the names of answers as a line. Fails only where memory runs out.
+    pub fn push_names(&mut self, answers: &[Answer]) -> Result<(), AllocError>
+        ensures { OnOk result (Adds self.old self.new (names_line self.old.format.delimiter
+            self.old.format.null.now (names_of answers.now))) }
+    {
+        for k in 0..answers.len() {
+            self.push_name(k, answers[k].name.as_str())?;
+        }
+        self.end_line()
     }
 
     /// Adds the value of a row, which is no truth value, as a field. Refused only for want of memory.

@@ -9,12 +9,12 @@ ghost use Rattle.rowfn_batches.specs.Skipping.{PassesBatch, PassesMisshapen, Pas
 ghost use Rattle.rowfn_batches.specs.Skipping.{PassesNextTold, FlowsOn};
 
 use super::{Stream, Summary};
+use crate::asked::Asked;
 use crate::errors::StreamError;
 use crate::parts::{fields_from, next_count, next_row, refill};
 use crate::refusals::Refusals;
 use crate::settings::Settings;
 use rowfn_csv::{Batch, Span};
-use rowfn_scripts::Expression;
 use std::alloc::{AllocError, Global};
 use std::io::{Read, Write};
 use std::mem;
@@ -252,22 +252,23 @@ impl<'a, R: Read + Drop> Stream<'a, R> {
 /// out among them, and how many written.
 ///
 /// No more than three times as many rows are tried as are read, however many are refused.
-pub fn flow_on<R: Read + Drop, W: Write, E: Write>(
+pub fn flow_on<'a, R: Read + Drop, W: Write, E: Write>(
     alloc: Global,
-    settings: &Settings<'_>,
-    expression: &Expression,
-    condition: Option<&Expression>,
+    settings: &Settings<'a>,
+    asked: &Asked<'a>,
+    condition: Option<&Asked<'a>>,
     reader: R,
     writer: &mut W,
     refusals: &mut Refusals<E>,
 ) -> Result<Summary, StreamError>
-    ensures flows { FlowsOn reader expression.now (option_map (λ c. c.now) condition.entry)
+    ensures flows { FlowsOn reader settings.now asked.now
+        (option_map (λ c. c.now) condition.entry)
         (W.contents writer.old) (W.contents writer.new) refusals.old.count refusals.new.count
         result }
     ensures reads_back { OnOk result (settings.now.picks_rows ≡ false
-        → ReadsBack settings.now expression.now.answers.items) }
+        → ReadsBack settings.now asked.now.program.now.written.items) }
 {
-    let mut stream = Stream::begin(alloc, settings, expression, condition, reader)?;
+    let mut stream = Stream::start(alloc, settings, asked, condition, reader)?;
     stream.write(writer)?;
     'batches: for _turn in 0..u64::MAX {
         let goes_on = stream.pass_next_told(writer, refusals)?;

@@ -37,7 +37,7 @@ returns-in_err-goes_on-clause-flows g c =
     at_error c.batches._turn c.write.new.self c.batches.stream c.pass_next.new.self
     (g.W.Write.contents c.write.new.writer) (g.W.Write.contents c.batches.writer)
     c.in_err-goes_on.field-0.0
-    (has_begun c.args.expression.now (option_map (λ x. x.now) c.args.condition)
+    (has_begun c.args.asked (option_map (λ x. x.now) c.args.condition)
     (g.W.Write.contents c.args.writer.now)
     (g.W.Write.contents c.write.new.writer) c.in_ok-stream.stream c.write.new.self
     head.expression head.condition head.none_read wrote.written wrote.kept wrote.cleared
@@ -51,7 +51,7 @@ returns-then-not-goes_on-clause-flows g c =
     let off : c.in_ok-goes_on.goes_on ≡ false = search rules in
     at_end c.batches._turn c.write.new.self c.batches.stream c.pass_next.new.self
     (g.W.Write.contents c.write.new.writer) (g.W.Write.contents c.batches.writer)
-    (has_begun c.args.expression.now (option_map (λ x. x.now) c.args.condition)
+    (has_begun c.args.asked (option_map (λ x. x.now) c.args.condition)
     (g.W.Write.contents c.args.writer.now)
     (g.W.Write.contents c.write.new.writer) c.in_ok-stream.stream c.write.new.self
     head.expression head.condition head.none_read wrote.written wrote.kept wrote.cleared
@@ -64,7 +64,7 @@ returns-clause-flows g c =
     let wrote = c.in_ok-write.ensures in
     let last : c.batches._turn ≡ 18446744073709551615 = omega arith in
     at_last_turn c.write.new.self c.batches.stream (g.W.Write.contents c.write.new.writer)
-    (has_begun c.args.expression.now (option_map (λ x. x.now) c.args.condition)
+    (has_begun c.args.asked (option_map (λ x. x.now) c.args.condition)
     (g.W.Write.contents c.args.writer.now)
     (g.W.Write.contents c.write.new.writer) c.in_ok-stream.stream c.write.new.self
     head.expression head.condition head.none_read wrote.written wrote.kept wrote.cleared

@@ -2,9 +2,9 @@ use Rattle.std.proofs.Common.{◌∙◌, ℕ, List, ap, arith, subst, sym, strin
 use Rattle.std.proofs.lemmas.List.{take_all}
 use Rattle.std.proofs.lemmas.List.Elements.{All-more}
 use Rattle.csv.specs.Records.{fields_of}
-use Rattle.rowfn_scripts.specs.declared.expression.Answer.{Answer}
+use Rattle.vortex_program.specs.declared.answer.Answer.{Answer}
 use Rattle.rowfn_batches.specs.Layouts.{LacksFrom, TellsTaken, AreApartFrom}
-use Rattle.rowfn_batches.proofs.stream.beginning.check_taken.Goals as goal
+use Rattle.rowfn_batches.proofs.stream.starting.check_taken.Goals as goal
 
 pub returns-in-Err : goal.returns-in-Err
 returns-in-Err c = (

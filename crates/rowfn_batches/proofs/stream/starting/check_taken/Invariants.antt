@@ -1,7 +1,7 @@
 use Rattle.std.proofs.Common.{take}
 use Rattle.csv.specs.Records.{fields_of}
 use Rattle.rowfn_batches.specs.Layouts.{AreApartFrom}
-use Rattle.rowfn_batches.proofs.stream.beginning.check_taken.Given as goal
+use Rattle.rowfn_batches.proofs.stream.starting.check_taken.Given as goal
 
 -- the names so far are no field's
 abbrev pub invariant-loop-answer : goal.invariant-loop-answer

@@ -1,6 +1,6 @@
 use Rattle.std.proofs.Common.{refl}
 use Rattle.rowfn_batches.specs.Layouts.{is_taken}
-use Rattle.rowfn_batches.proofs.stream.beginning.check_name.Goals as goal
+use Rattle.rowfn_batches.proofs.stream.starting.check_name.Goals as goal
 
 pub returns-in_ok-from_str-in-Some : goal.returns-in_ok-from_str-in-Some
 returns-in_ok-from_str-in-Some c =
