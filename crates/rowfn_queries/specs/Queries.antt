@@ -7,7 +7,7 @@ use Rattle.vortex_interface.specs.Eval.{tree_type}
 use Rattle.vortex_expressions.specs.Items.{Tree, meaning}
 use Rattle.vortex_expressions.specs.Answers.{Answer, ExpressesAll}
 use Rattle.vortex_expressions.specs.Binding.{Expresses}
-use Rattle.rowfn_scripts.specs.declared.expression.Answer as held
+use Rattle.vortex_program.specs.declared.answer.Answer as held
 use Rattle.rowfn_scripts.specs.declared.expression.Expression.{Expression}
 
 abbrev pub trees_of : List held.Answer → List Tree

@@ -12,5 +12,3 @@ pub mod EachOutcome
 pub mod OneOutcome
 pub mod Headers
 pub mod SplitNames
-pub mod Answered
-pub mod OneRow

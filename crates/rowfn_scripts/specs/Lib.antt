@@ -10,4 +10,3 @@ pub mod Fitting
 pub mod Telling
 pub mod Words
 pub mod Naming
-pub mod Executing

@@ -28,13 +28,7 @@ use thiserror::Error;
 use vortex_cells::cells::column_of_cells;
 use vortex_columns::{DType, StructFields, VortexError, VortexResult};
 use vortex_functions::{BoundExpression, NoCustom};
-
-/// A tree that the lines left, and its name in a header.
-#[derive(Drop)]
-pub struct Answer {
-    pub name: String,
-    pub tree: BoundExpression<NoCustom>,
-}
+use vortex_program::Answer;
 
 /// The columns that the lines declare, in their order, and the trees that they leave, in the order
 /// in which they were pushed.

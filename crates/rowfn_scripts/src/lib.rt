@@ -1,8 +1,7 @@
-//! Scripts over columns: what they print, and how they end; expressions, whose lines are lines of
-//! scripts; and what the trees that these leave answer over columns.
+//! Scripts over columns: what they print, and how they end; and expressions, whose lines are lines of
+//! scripts.
 #![tactic(auto)]
 
-pub mod answers;
 pub mod ending;
 pub mod expected;
 pub mod expression;
@@ -13,11 +12,11 @@ pub mod script;
 pub mod session;
 pub mod stop;
 
-pub use answers::{execute_answers, first_fault};
 pub use ending::{End, fault_line, status};
 pub use expected::Expected;
-pub use expression::{Answer, Expression, ExpressionError, read_expression};
+pub use expression::{Expression, ExpressionError, read_expression};
 pub use naming::{Said, expression_lines, said_of};
 pub use script::{Outcome, interpret};
 pub use session::Session;
 pub use stop::Stop;
+pub use vortex_program::{Answer, execute_answers, first_fault};

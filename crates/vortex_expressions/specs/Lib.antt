@@ -11,3 +11,4 @@ pub mod Writing
 pub mod WritingSteps
 pub mod Likeness
 pub mod Places
+pub mod Messages

@@ -68,8 +68,10 @@ fn bind_answer(
     }
 }
 
-/// All answers over the columns of a scope, from left to right.
-fn bind_answers(
+/// The answers of a list that was parsed from the text, over the columns of a scope: what the steps
+/// of its trees leave, from left to right, with their names. Fails as the first that is refused, at
+/// its place in the text.
+pub fn bind_answers(
     alloc: Global,
     scope: &StructFields,
     text: &str,

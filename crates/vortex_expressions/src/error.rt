@@ -1,8 +1,10 @@
 //! Why a text is no expression over a scope, and where.
 use crate::refusal::Refusal;
+use crate::telling::{out_of_memory, unread};
+use std::alloc::Global;
 use std::fmt;
 use vortex_columns::VortexError;
-use vortex_syntax::Expected;
+use vortex_syntax::{Expected, SyntaxError};
 
 /// Why a text is no expression over a scope.
 #[derive(Debug, Drop)]
@@ -30,8 +32,23 @@ pub struct ReadError {
 }
 
 impl ReadError {
-    ghost use Rattle.std.specs.Prelude.{◌≡◌};
-    ghost use Rattle.vortex_expressions.specs.Reading.{is_want_of_memory};
+    ghost use Rattle.std.specs.Prelude.{◌≡◌, IsTrue};
+    ghost use Rattle.vortex_expressions.specs.Reading.{is_want_of_memory, UnreadBy};
+
+    /// Memory was refused (E9), at no place.
+    pub fn out_of_memory(alloc: Global) -> ReadError
+        ensures { IsTrue (is_want_of_memory result) }
+    {
+        out_of_memory(alloc)
+    }
+
+    /// Why a text is parsed as none: the reason and the byte of what parsed it, with its line and
+    /// the words for it.
+    pub fn of_syntax(alloc: Global, text: &str, error: SyntaxError) -> ReadError
+        ensures { UnreadBy error result }
+    {
+        unread(alloc, text, error)
+    }
 
     /// Whether memory was refused (E9), and nothing is wrong with the text as far as is known.
     pub fn is_out_of_memory(&self) -> bool
@@ -46,6 +63,11 @@ impl ReadError {
 
 /// `line 1, column 9: ..`, and what was found and expected there, in one line.
 impl fmt::Display for ReadError {
+    ghost use Rattle.std.specs.Prelude.{Some};
+    ghost use Rattle.vortex_expressions.specs.Messages.{read_error_text};
+
+    ghost output = { λ error. Some (read_error_text error) };
+
     fn fmt<W: fmt::Write>(&self, f: &mut fmt::Formatter<W>) -> fmt::Result {
         if self.is_out_of_memory() {
             return f.write_str("out of memory");

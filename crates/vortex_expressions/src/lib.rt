@@ -17,7 +17,7 @@ mod telling;
 pub mod words;
 pub mod writing;
 
-pub use answers::{Answer, read_answers};
+pub use answers::{Answer, bind_answers, read_answers};
 pub use error::{ReadError, Reason};
 pub use read::read_expression;
 pub use refusal::Refusal;

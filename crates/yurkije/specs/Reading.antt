@@ -5,16 +5,16 @@ use Rattle.vortex_types.specs.LogicalTypes.{Fields}
 use Rattle.vortex_types.specs.TypeOf.{struct_fields}
 use Rattle.vortex_expressions.specs.declared.refusal.Refusal.{Refusal}
 use Rattle.vortex_expressions.specs.Answers.{Answer, ExpressesAll, IsRefusedAll}
-use Rattle.rowfn_scripts.specs.Naming.{expression_lines}
 use Rattle.yurkije_columns.specs.declared.fields.LentField.{LentField}
 use Rattle.yurkije_columns.specs.declared.fields.ScopeError.{ScopeError}
 use Rattle.yurkije_columns.specs.Scopes.{answers, refuses, scope_lent}
-use Rattle.yurkije_core.specs.declared.program.Program.{Program}
+use Rattle.vortex_program.specs.declared.form.Form.TheVariants as form
+use Rattle.vortex_program.specs.declared.program.Program.{Program}
+use Rattle.vortex_program.specs.Programs.{AreOptimized}
+use Rattle.vortex_program.specs.Texts.{AreAnswersOf}
 use Rattle.yurkije_core.specs.declared.reading.ProgramError.{ProgramError}
 use Rattle.yurkije_core.specs.declared.report.Report.{Report}
-use Rattle.yurkije_core.specs.Programs.{IsAsked, AreOptimized, ReadsLines, RefusesLines}
-use Rattle.yurkije_core.specs.Programs.{IsNoText, IsWant}
-use Rattle.yurkije_core.specs.Programs.{Tells as TellsOf}
+use Rattle.yurkije_core.specs.Programs.{IsNoText, IsOutOfMemory, IsFor}
 use Rattle.yurkije_core.specs.declared.report.Told.{Told}
 use Rattle.yurkije_core.specs.Messages.{HasMessage, IsToldIn, IsProgramWords}
 use Rattle.yurkije_columns.specs.Messages.{memory_words, scope_words}
@@ -58,15 +58,15 @@ Reads (Err e) held result old report =
 -- why a text is no program over the fields of a scope
 pub record IsRefusedText (scope : Fields) (text : List ℕ) (e : ProgramError) : Type 0 where
   pub utf8 : IsNoText text e
-  pub only : (list : List Answer) → IsUtf8 text → ExpressesAll scope text list → IsWant e
-  pub refused : (r : Refusal) → IsUtf8 text → IsRefusedAll scope text r → TellsOf r e
+  pub only : (list : List Answer) → IsUtf8 text → ExpressesAll scope text list → IsOutOfMemory e
+  pub refused : (r : Refusal) → IsUtf8 text → IsRefusedAll scope text r → IsFor r e
 
--- the handle holds what the text asks over the fields, and 0 is answered; or it holds nothing, and
+-- the handle holds what the text means over the fields, and 0 is returned; or it holds nothing, and
 -- why is told: a field is wrong, or the text, or memory ran out
 pub data HoldsRead (fields : List LentField) (text : List ℕ) (held : Option HeldView) (result : ℕ)
     (old report : Report) : Type 0 where
   read : (p : Program) → scope_lent fields ≡ answers (struct_fields p.scope)
-      → IsAsked (struct_fields p.scope) text p.written.items
+      → AreAnswersOf form.Answers (struct_fields p.scope) text p.written.items
       → AreOptimized p.written.items p.optimized.items → Holds held p → Done result old report
       → HoldsRead fields text held result old report
   no_scope : (e : ScopeError) → (e.fault ≢ OutOfMemory → scope_lent fields ≡ refuses e)
@@ -77,15 +77,3 @@ pub data HoldsRead (fields : List LentField) (text : List ℕ) (held : Option He
       → Refuses (IsProgramWords e) (program_told e) held result old report
       → HoldsRead fields text held result old report
   without_memory : Wants held result old report → HoldsRead fields text held result old report
-
--- likewise of lines
-pub data HoldsLines (text : List ℕ) (held : Option HeldView) (result : ℕ) (old report : Report)
-    : Type 0 where
-  lines_read : (p : Program)
-      → ReadsLines (expression_lines text) (struct_fields p.scope) p.written.items
-      → AreOptimized p.written.items p.optimized.items → Holds held p → Done result old report
-      → HoldsLines text held result old report
-  no_lines : (e : ProgramError) → RefusesLines (expression_lines text) e
-      → Refuses (IsProgramWords e) (program_told e) held result old report
-      → HoldsLines text held result old report
-  lines_without_memory : Wants held result old report → HoldsLines text held result old report

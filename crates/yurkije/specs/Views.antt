@@ -4,7 +4,7 @@ use Rattle.vortex_types.specs.LogicalTypes.{Fields}
 use Rattle.vortex_types.specs.TypeOf.{struct_fields}
 use Rattle.vortex_columns.specs.ColumnView.{ColumnView}
 use Rattle.vortex_expressions.specs.Items.{Tree}
-use Rattle.yurkije_core.specs.declared.program.Program.{Program}
+use Rattle.vortex_program.specs.declared.program.Program.{Program}
 use Rattle.yurkije.specs.declared.content.Content.{Content}
 use Rattle.yurkije.specs.declared.content.Content.TheVariants as content
 

@@ -4,7 +4,7 @@ ghost use Rattle.vortex_types.specs.LogicalTypes.{field_count};
 ghost use Rattle.yurkije.specs.Views.{program_in};
 ghost use Rattle.yurkije.specs.Asking.{Asks, SameRoom, TellsFieldName, TellsFieldType};
 ghost use Rattle.yurkije.specs.Asking.{TellsAnswerName, TellsAnswerType, TellsAnswerText};
-ghost use Rattle.yurkije.specs.Reading.{Reads, HoldsRead, HoldsLines};
+ghost use Rattle.yurkije.specs.Reading.{Reads, HoldsRead};
 
 use crate::asking::{
     answer_count, answer_name, answer_text, answer_type, field_count, field_name, field_type,
@@ -14,7 +14,7 @@ use crate::held::Held;
 use crate::statuses::{EMPTY_HANDLE, OUT_OF_MEMORY};
 use std::alloc::Global;
 use yurkije_columns::{LentField, Type, placed, read_fields, scope_words};
-use yurkije_core::{Program, ProgramError, Report, Told, program_words, read_lines, read_program};
+use yurkije_core::{Program, ProgramError, Report, Told, program_words, read_program};
 
 /// Holds a program, or tells why there is none.
 fn hold(
@@ -65,22 +65,6 @@ pub extern "C" fn yk_expression_new(
             error.tell_in(Told::of_scope(wrong), words)
         }
     }
-}
-
-/// Reads an expression from lines of scripts. 0 exactly where the handle then holds the expression;
-/// it is empty where the call is refused.
-#[unsafe(no_mangle)]
-pub extern "C" fn yk_expression_of_lines(
-    alloc: Global,
-    text: &[u8],
-    expression: &mut Handle,
-    error: &mut Report<'_>,
-) -> u32
-    ensures { HoldsLines text.now expression.new.held result error.old error.new }
-{
-    expression.clear(alloc);
-    let read = read_lines(alloc, placed(text));
-    hold(alloc, read, expression, error)
 }
 
 /// Frees what the handle holds, and leaves it empty.

@@ -19,7 +19,7 @@ pub use answers::{
 pub use content::Content;
 pub use expressions::{
     yk_answer_count, yk_answer_name, yk_answer_text, yk_answer_type, yk_expression_free,
-    yk_expression_new, yk_expression_of_lines, yk_field_count, yk_field_name, yk_field_type,
+    yk_expression_new, yk_field_count, yk_field_name, yk_field_type,
 };
 pub use handle::Handle;
 pub use held::Held;

@@ -4,8 +4,6 @@ use Rattle.vortex_arrow.specs.declared.error.ArrowError.{ArrowError}
 use Rattle.vortex_arrow.specs.declared.error.ArrowError.TheVariants as arrow
 use Rattle.vortex_expressions.specs.declared.error.ReadError.{ReadError}
 use Rattle.vortex_expressions.specs.Reading.{is_want_of_memory}
-use Rattle.rowfn_scripts.specs.declared.expression.ExpressionError.{ExpressionError}
-use Rattle.rowfn_scripts.specs.declared.expression.ExpressionError.TheVariants as line
 use Rattle.yurkije_columns.specs.declared.batch.ColumnFault.{ColumnFault}
 use Rattle.yurkije_columns.specs.declared.batch.ColumnFault.TheVariants as column
 use Rattle.yurkije_columns.specs.declared.batch.BatchError.{BatchError}
@@ -14,6 +12,8 @@ use Rattle.yurkije_columns.specs.declared.fields.ScopeFault.TheVariants as scope
 use Rattle.yurkije_columns.specs.declared.fields.ScopeError.{ScopeError}
 use Rattle.yurkije_columns.specs.declared.lent.LentError.{LentError}
 use Rattle.yurkije_columns.specs.declared.lent.LentError.TheVariants as lent
+use Rattle.vortex_program.specs.declared.running.RunError as fault
+use Rattle.vortex_program.specs.declared.running.RunError.TheVariants as fault_of
 use Rattle.yurkije_columns.specs.Statuses.{scope_status, column_status}
 use Rattle.yurkije_core.specs.declared.reading.ProgramError.{ProgramError}
 use Rattle.yurkije_core.specs.declared.reading.ProgramError.TheVariants as program
@@ -62,17 +62,6 @@ of_row k r s = record {
   character = 0;
 }
 
-abbrev pub of_line : ℕ → ℕ → Told
-of_line l s = record {
-  status = s;
-  answer = none;
-  column = none;
-  row = none;
-  byte = none;
-  line = l;
-  character = 0;
-}
-
 -- the field that is wrong
 abbrev pub field_told : ℕ → ScopeFault → Told
 field_told k scope.OutOfMemory = nowhere (scope_status scope.OutOfMemory)
@@ -95,17 +84,9 @@ text_told e s =
       character = e.column;
     }
 
--- the line
-abbrev pub lines_told : ExpressionError → ℕ → Told
-lines_told (line.Refused l e) s = of_line l s
-lines_told (line.Malformed l expected) s = of_line l s
-lines_told line.OutOfMemory s = nowhere s
-
 abbrev pub program_told : ProgramError → Told
 program_told program.NotUtf8 = nowhere (program_status program.NotUtf8)
 program_told (program.Text e) = text_told e (program_status (program.Text e))
-program_told (program.Lines e) = lines_told e (program_status (program.Lines e))
-program_told program.OutOfMemory = nowhere (program_status program.OutOfMemory)
 
 -- the column, and the row where one is wrong
 abbrev pub arrow_told : ℕ → ArrowError → ℕ → Told
@@ -115,22 +96,21 @@ arrow_told k (arrow.NotUtf8 r) s = of_row k r s
 arrow_told k arrow.OutOfMemory s = nowhere s
 arrow_told k e s = of_column k s
 
-abbrev pub fault_told : ℕ → ColumnFault → Told
-fault_told k (column.Unread e) = arrow_told k e (column_status (column.Unread e))
-fault_told k f = of_column k (column_status f)
+abbrev pub column_told : ℕ → ColumnFault → Told
+column_told k (column.Unread e) = arrow_told k e (column_status (column.Unread e))
+column_told k f = of_column k (column_status f)
 
 abbrev pub batch_told : BatchError → Told
-batch_told e = fault_told e.column e.fault
+batch_told e = column_told e.column e.fault
 
 abbrev pub lent_told : LentError → Told
 lent_told (lent.UnknownKind k) = of_column k 102
 lent_told lent.OutOfMemory = nowhere 9
 
 -- the row and the answer that faults in it
-abbrev pub run_told : RunError → Told
-run_told (run.Batch e) = batch_told e
-run_told (run.Fault r k e) = record {
-  status = run_status (run.Fault r k e);
+abbrev pub fault_told : fault.RunError → ℕ → Told
+fault_told (fault_of.Fault r k e) s = record {
+  status = s;
   answer = k;
   column = none;
   row = r;
@@ -138,7 +118,11 @@ run_told (run.Fault r k e) = record {
   line = 0;
   character = 0;
 }
-run_told e = nowhere (run_status e)
+fault_told e s = nowhere s
+
+abbrev pub run_told : RunError → Told
+run_told (run.Batch e) = batch_told e
+run_told (run.Program e) = fault_told e (run_status (run.Program e))
 
 -- the report has the numbers
 pub record Tells (r : Report) (t : Told) : Type 0 where

@@ -5,8 +5,8 @@ use Rattle.vortex_expressions.specs.declared.error.Reason.{Reason}
 use Rattle.vortex_expressions.specs.declared.error.Reason.TheVariants as reason
 use Rattle.vortex_expressions.specs.declared.refusal.Refusal.{Refusal}
 use Rattle.vortex_expressions.specs.declared.refusal.Refusal.TheVariants as refusal
-use Rattle.rowfn_scripts.specs.declared.expression.ExpressionError.{ExpressionError}
-use Rattle.rowfn_scripts.specs.declared.expression.ExpressionError.TheVariants as line
+use Rattle.vortex_program.specs.declared.running.RunError as fault
+use Rattle.vortex_program.specs.declared.running.RunError.TheVariants as fault_of
 use Rattle.yurkije_columns.specs.Statuses.{column_status}
 use Rattle.yurkije_core.specs.declared.reading.ProgramError.{ProgramError}
 use Rattle.yurkije_core.specs.declared.reading.ProgramError.TheVariants as program
@@ -26,19 +26,15 @@ abbrev pub reason_status : Reason → ℕ
 reason_status (reason.Refused r) = refusal_status r
 reason_status r = 112
 
-abbrev pub lines_status : ExpressionError → ℕ
-lines_status (line.Refused n e) = number_of e
-lines_status (line.Malformed n expected) = 112
-lines_status line.OutOfMemory = 9
-
 abbrev pub program_status : ProgramError → ℕ
 program_status program.NotUtf8 = 110
 program_status (program.Text e) = reason_status e.reason
-program_status (program.Lines e) = lines_status e
-program_status program.OutOfMemory = 9
+
+abbrev pub fault_status : fault.RunError → ℕ
+fault_status (fault_of.Fault row k e) = number_of e
+fault_status (fault_of.Refused e) = number_of e
+fault_status fault_of.OutOfMemory = 9
 
 abbrev pub run_status : RunError → ℕ
 run_status (run.Batch e) = column_status e.fault
-run_status (run.Fault row k e) = number_of e
-run_status (run.Refused e) = number_of e
-run_status run.OutOfMemory = 9
+run_status (run.Program e) = fault_status e

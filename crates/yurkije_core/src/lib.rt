@@ -1,17 +1,15 @@
-//! Expressions that are read once and run over batches of columns that a caller lends: what the C
-//! interface calls, without its handles.
+//! Programs over batches of columns that a caller lends: what the C interface calls, without its
+//! handles.
 #![tactic(auto)]
 
-mod naming;
-pub mod program;
 pub mod reading;
 pub mod report;
 pub mod running;
 pub mod statuses;
 mod words;
 
-pub use program::Program;
-pub use reading::{ProgramError, read_lines, read_program};
+pub use reading::{ProgramError, read_program};
 pub use report::{NONE, Report, Told};
 pub use running::{RunError, run_program};
+pub use vortex_program::Program;
 pub use words::{program_words, run_words};

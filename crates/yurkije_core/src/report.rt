@@ -1,15 +1,14 @@
 //! What is told of a refusal: numbers, and a message in a caller's bytes.
 ghost use Rattle.std.specs.Prelude.{◌≡◌, [], MatchResult, string_bytes};
-ghost use Rattle.yurkije_core.specs.Reports.{nowhere, of_column, of_row, of_line, scope_told};
-ghost use Rattle.yurkije_core.specs.Reports.{text_told, lines_told, program_told, arrow_told};
-ghost use Rattle.yurkije_core.specs.Reports.{batch_told, lent_told, run_told, Tells};
+ghost use Rattle.yurkije_core.specs.Reports.{nowhere, of_column, of_row, scope_told};
+ghost use Rattle.yurkije_core.specs.Reports.{text_told, program_told, arrow_told};
+ghost use Rattle.yurkije_core.specs.Reports.{batch_told, lent_told, fault_told, run_told, Tells};
 ghost use Rattle.yurkije_columns.specs.Messages.{memory_words};
 ghost use Rattle.yurkije_core.specs.Messages.{HasMessage};
 
 use crate::reading::ProgramError;
 use crate::running::RunError;
 use crate::statuses::{program_status, run_status};
-use rowfn_scripts::ExpressionError;
 use vortex_arrow::ArrowError;
 use vortex_columns::VortexResult;
 use vortex_expressions::ReadError;
@@ -84,16 +83,6 @@ impl Told {
         }
     }
 
-    /// A status of a line.
-    fn of_line(line: usize, status: u32) -> Told
-        ensures { result ≡ of_line line status }
-    {
-        Told {
-            line,
-            ..Told::of(status)
-        }
-    }
-
     /// What is told of fields that are no scope.
     pub fn of_scope(error: ScopeError) -> Told
         ensures { result ≡ scope_told error }
@@ -120,17 +109,6 @@ impl Told {
         }
     }
 
-    /// What is told of lines that are refused.
-    fn of_lines(error: &ExpressionError, status: u32) -> Told
-        ensures { result ≡ lines_told error.now status }
-    {
-        match error {
-            ExpressionError::Refused { line, error: _ } => Told::of_line(*line, status),
-            ExpressionError::Malformed { line, expected: _ } => Told::of_line(*line, status),
-            ExpressionError::OutOfMemory => Told::of(status),
-        }
-    }
-
     /// What is told of a text that is no program.
     pub fn of_program(error: &ProgramError) -> Told
         ensures { result ≡ program_told error.now }
@@ -138,9 +116,7 @@ impl Told {
         let status = program_status(error);
         match error {
             ProgramError::Text(error) => Told::of_text(error, status),
-            ProgramError::Lines(error) => Told::of_lines(error, status),
             ProgramError::NotUtf8 => Told::of(status),
-            ProgramError::OutOfMemory => Told::of(status),
         }
     }
 
@@ -178,14 +154,12 @@ impl Told {
         }
     }
 
-    /// What is told of a run that answers nothing.
-    pub fn of_run(error: &RunError) -> Told
-        ensures { result ≡ run_told error.now }
+    /// What is told of a program that returns nothing: the row and the answer that faults in it.
+    fn of_fault(error: &vortex_program::RunError, status: u32) -> Told
+        ensures { result ≡ fault_told error.now status }
     {
-        let status = run_status(error);
         match error {
-            RunError::Batch(error) => Told::of_batch(*error),
-            RunError::Fault {
+            vortex_program::RunError::Fault {
                 row,
                 answer,
                 error: _,
@@ -194,8 +168,18 @@ impl Told {
                 answer: *answer,
                 ..Told::of(status)
             },
-            RunError::Refused(_) => Told::of(status),
-            RunError::OutOfMemory => Told::of(status),
+            vortex_program::RunError::Refused(_) => Told::of(status),
+            vortex_program::RunError::OutOfMemory => Told::of(status),
+        }
+    }
+
+    /// What is told of a run that answers nothing.
+    pub fn of_run(error: &RunError) -> Told
+        ensures { result ≡ run_told error.now }
+    {
+        match error {
+            RunError::Batch(error) => Told::of_batch(*error),
+            RunError::Program(fault) => Told::of_fault(fault, run_status(error)),
         }
     }
 }

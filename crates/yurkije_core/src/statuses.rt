@@ -1,12 +1,11 @@
 //! The numbers that the C interface has for what is refused.
 ghost use Rattle.std.specs.Prelude.{◌≡◌};
 ghost use Rattle.vortex_errors.specs.Errors.{number_of};
-ghost use Rattle.yurkije_core.specs.Statuses.{refusal_status, reason_status, lines_status};
-ghost use Rattle.yurkije_core.specs.Statuses.{program_status, run_status};
+ghost use Rattle.yurkije_core.specs.Statuses.{refusal_status, reason_status};
+ghost use Rattle.yurkije_core.specs.Statuses.{program_status, fault_status, run_status};
 
 use crate::reading::ProgramError;
 use crate::running::RunError;
-use rowfn_scripts::ExpressionError;
 use vortex_columns::VortexError;
 use vortex_expressions::{Reason, Refusal};
 use yurkije_columns::statuses::column_status;
@@ -45,20 +44,6 @@ fn reason_status(reason: &Reason) -> u32
     }
 }
 
-/// The number of lines that are no expression.
-fn lines_status(error: &ExpressionError) -> u32
-    ensures { result ≡ lines_status error.now }
-{
-    match error {
-        ExpressionError::Refused { line: _, error } => error_status(error),
-        ExpressionError::Malformed {
-            line: _,
-            expected: _,
-        } => 112,
-        ExpressionError::OutOfMemory => 9,
-    }
-}
-
 /// The number of a text that is no program.
 pub fn program_status(error: &ProgramError) -> u32
     ensures { result ≡ program_status error.now }
@@ -66,23 +51,30 @@ pub fn program_status(error: &ProgramError) -> u32
     match error {
         ProgramError::NotUtf8 => 110,
         ProgramError::Text(error) => reason_status(&error.reason),
-        ProgramError::Lines(error) => lines_status(error),
-        ProgramError::OutOfMemory => 9,
     }
 }
 
-/// The number of a run that answers nothing.
+/// The number of a run of a program that returns nothing.
+fn fault_status(error: &vortex_program::RunError) -> u32
+    ensures { result ≡ fault_status error.now }
+{
+    match error {
+        vortex_program::RunError::Fault {
+            row: _,
+            answer: _,
+            error,
+        } => error_status(error),
+        vortex_program::RunError::Refused(error) => error_status(error),
+        vortex_program::RunError::OutOfMemory => 9,
+    }
+}
+
+/// The number of a run over a batch that returns nothing.
 pub fn run_status(error: &RunError) -> u32
     ensures { result ≡ run_status error.now }
 {
     match error {
         RunError::Batch(error) => column_status(error.fault),
-        RunError::Fault {
-            row: _,
-            answer: _,
-            error,
-        } => error_status(error),
-        RunError::Refused(error) => error_status(error),
-        RunError::OutOfMemory => 9,
+        RunError::Program(error) => fault_status(error),
     }
 }

@@ -2,14 +2,14 @@
 ghost use Rattle.std.specs.Prelude.{◌≡◌, string_bytes, slice_get};
 ghost use Rattle.vortex_errors.specs.Answers.{AnswersUnlessMemory};
 ghost use Rattle.vortex_types.specs.TypeOf.{struct_fields};
-ghost use Rattle.yurkije_core.specs.Messages.{IsProgramWords, names_of, name_in, IsFaultWords};
-ghost use Rattle.yurkije_core.specs.Messages.{IsRunWords};
+ghost use Rattle.yurkije_core.specs.Messages.{IsProgramWords, names_of, name_in};
+ghost use Rattle.yurkije_core.specs.Messages.{faulty_words, IsFaultWords, IsRunWords};
 
-use crate::program::Program;
 use crate::reading::ProgramError;
 use crate::running::RunError;
 use std::alloc::Global;
 use vortex_columns::{VortexError, VortexResult};
+use vortex_program::Program;
 use yurkije_columns::batch_words;
 
 /// The words for a text that is no program: those that its error displays. E9 where memory is
@@ -20,8 +20,6 @@ pub fn program_words(alloc: Global, error: &ProgramError) -> VortexResult<String
     match error {
         ProgramError::NotUtf8 => Ok(String::from_str(alloc, "the text is not UTF-8")?),
         ProgramError::Text(error) => Ok(format!(in alloc; "{error}")?),
-        ProgramError::Lines(error) => Ok(format!(in alloc; "{error}")?),
-        ProgramError::OutOfMemory => Ok(String::from_str(alloc, "out of memory")?),
     }
 }
 
@@ -44,15 +42,31 @@ fn faulty_words(
     error: &VortexError,
 ) -> VortexResult<String>
     ensures { AnswersUnlessMemory result
-        (λ words. IsFaultWords row answer name.now error.now (string_bytes words)) }
+        (λ words. string_bytes words ≡ faulty_words row answer name.now error.now) }
 {
-    let told = format!(in alloc; "{error}")?;
-    let told = told.as_str();
-    Ok(format!(in alloc; "row {row}, answer {answer} ({name}): {told}")?)
+    Ok(format!(in alloc; "row {row}, answer {answer} ({name}): {error}")?)
 }
 
-/// The words for a run over a batch of so many rows that answers nothing. E9 where memory is
-/// refused.
+/// The words for a program that returns nothing.
+fn fault_words(
+    alloc: Global,
+    program: &Program,
+    error: &vortex_program::RunError,
+) -> VortexResult<String>
+    ensures { AnswersUnlessMemory result (λ words.
+        IsFaultWords (names_of program.now.written.items) error.now (string_bytes words)) }
+{
+    match error {
+        vortex_program::RunError::Fault { row, answer, error } => {
+            faulty_words(alloc, *row, *answer, answer_named(program, *answer), error)
+        }
+        vortex_program::RunError::Refused(error) => Ok(format!(in alloc; "{error}")?),
+        vortex_program::RunError::OutOfMemory => Ok(String::from_str(alloc, "out of memory")?),
+    }
+}
+
+/// The words for a run over a batch of so many rows that returns nothing. E9 where an allocation
+/// fails.
 pub fn run_words(
     alloc: Global,
     program: &Program,
@@ -64,10 +78,6 @@ pub fn run_words(
 {
     match error {
         RunError::Batch(error) => batch_words(alloc, &program.scope, *error, rows),
-        RunError::Fault { row, answer, error } => {
-            faulty_words(alloc, *row, *answer, answer_named(program, *answer), error)
-        }
-        RunError::Refused(error) => Ok(format!(in alloc; "{error}")?),
-        RunError::OutOfMemory => Ok(String::from_str(alloc, "out of memory")?),
+        RunError::Program(error) => fault_words(alloc, program, error),
     }
 }

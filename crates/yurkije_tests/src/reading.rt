@@ -4,13 +4,13 @@ use crate::lending::fields;
 use fixtures::same;
 use std::alloc::Global;
 use yurkije_columns::{LentField, ScopeError, ScopeFault, read_fields};
-use yurkije_core::{Program, ProgramError, Told, program_words, read_lines, read_program};
+use yurkije_core::{Program, ProgramError, Told, program_words, read_program};
 
 /// The program of a text over the fields.
 pub fn program_of(alloc: Global, text: &[u8]) -> Result<Program, ProgramError> {
     match read_fields(alloc, &fields()) {
         Ok(scope) => read_program(alloc, scope, text),
-        Err(_) => Err(ProgramError::OutOfMemory),
+        Err(_) => Err(ProgramError::NotUtf8),
     }
 }
 
@@ -75,22 +75,6 @@ fn texts_are_refused_with_their_place(rt: HostRuntime) {
             words
         )
     );
-}
-
-fn refuses_lines(rt: HostRuntime, text: &[u8], status: u32, line: usize) -> bool {
-    match read_lines(rt.alloc(), text) {
-        Ok(_) => false,
-        Err(error) => {
-            let told = Told::of_program(&error);
-            same(rt, (told.status, told.line), (status, line))
-        }
-    }
-}
-
-#[test]
-fn lines_are_refused_with_their_number(rt: HostRuntime) {
-    assert!(rt; refuses_lines(rt, b"col a i64\nget b\n", 11, 2));
-    assert!(rt; refuses_lines(rt, b"col a i64\nnothing\n", 112, 2));
 }
 
 fn refuses_fields(rt: HostRuntime, fields: &[LentField<'_>], wanted: ScopeError) -> bool {

@@ -15,11 +15,11 @@ pub fn answers_of(
     columns: &[LentColumn<'_>],
 ) -> Result<Vec<Column>, RunError> {
     let Ok(program) = program_of(alloc, text) else {
-        return Err(RunError::OutOfMemory);
+        return Err(RunError::Program(vortex_program::RunError::OutOfMemory));
     };
     match arrow_columns(alloc, columns) {
         Ok(columns) => run_program(alloc, &program, &columns, 5),
-        Err(_) => Err(RunError::OutOfMemory),
+        Err(_) => Err(RunError::Program(vortex_program::RunError::OutOfMemory)),
     }
 }
 
@@ -66,11 +66,11 @@ fn columns_are_answered(rt: HostRuntime) {
 fn faults(rt: HostRuntime, text: &[u8], wanted: (usize, usize)) -> bool {
     match answers_of(rt.alloc(), text, &[numbers(), names()]) {
         Err(
-            RunError::Fault {
+            RunError::Program(vortex_program::RunError::Fault {
                 row,
                 answer,
                 error: VortexError::Arithmetic(_),
-            },
+            }),
         ) => same(rt, (row, answer), wanted),
         _ => false,
     }

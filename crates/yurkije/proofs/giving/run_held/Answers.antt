@@ -1,7 +1,7 @@
 use Rattle.std.specs.Borrow.{Bor}
 use Rattle.std.proofs.Common.{Option, subst, ap, sym, ◌∙◌}
 use Rattle.std.specs.Prelude.{option_map}
-use Rattle.yurkije_core.specs.declared.program.Program.{Program}
+use Rattle.vortex_program.specs.declared.program.Program.{Program}
 use Rattle.yurkije.specs.Views.{ProgramView, program_view}
 use Rattle.yurkije.specs.Answering.{Runs}
 use Rattle.yurkije.proofs.giving.run_held.Goals as goal

@@ -1,0 +1,12 @@
+-- The text of an error of a text.
+use Rattle.std.specs.Prelude.{ℕ, List, ◌++◌, codes, string_bytes, if◌then◌else◌}
+use Rattle.std.specs.Fmt.{decimal}
+use Rattle.vortex_expressions.specs.declared.error.ReadError.{ReadError}
+use Rattle.vortex_expressions.specs.Reading.{is_want_of_memory}
+
+-- the place, and the words that the error carries; at no place that memory ran out
+abbrev pub read_error_text : ReadError → List ℕ
+read_error_text e =
+    if is_want_of_memory e then codes "out of memory"
+    else codes "line " ++ (decimal e.line ++ (codes ", column " ++ (decimal e.column
+    ++ (codes ": " ++ string_bytes e.told))))

@@ -1,0 +1,60 @@
+-- The trees so far that do not fault in a row, and the first that does.
+use Rattle.std.proofs.Common.{◌≡◌, ◌<◌, ◌∙◌, ℕ, List, [], ◌∷◌, refl, sym, ap, subst, zero, suc, arith}
+use Rattle.std.proofs.Common.{length, take, get_or}
+use Rattle.std.specs.Prelude.{option_map}
+use Rattle.std.proofs.lemmas.Option.{slice_get_read, slice_get-map}
+use Rattle.std.proofs.lemmas.List.{take-map}
+use Rattle.vortex_errors.specs.declared.error.VortexError.{VortexError}
+use Rattle.vortex_columns.specs.ColumnView.{ColumnView}
+use Rattle.vortex_interface.specs.Eval.{eval}
+use Rattle.vortex_interface.specs.Outcomes.{GivesValue}
+use Rattle.vortex_functions.specs.Executing.{Fits}
+use Rattle.vortex_expressions.specs.Items.{Tree, meaning}
+use Rattle.vortex_program.specs.Executing.{AllFit, AllGive, FaultsAt, FaultsFirst}
+use Rattle.vortex_program.specs.declared.answer.Answer as held
+use Rattle.vortex_program.specs.Programs.{trees_of}
+use Rattle.vortex_program.specs.Running.{FaultsThere}
+
+-- a tree of those that the columns serve
+pub fit_at : (cs : List ColumnView) (n : ℕ) (xs : List held.Answer) (k : ℕ) (x : held.Answer)
+    → k < length xs → x ≡ get_or xs k x → AllFit cs n (trees_of xs) → Fits cs n x.tree
+fit_at cs n [] k x below at fits = absurd (omega (arith, below))
+fit_at cs n (y ∷ xs) zero x below at fits =
+    subst (λ (z : held.Answer). Fits cs n z.tree) (sym at) fits.0
+fit_at cs n (y ∷ xs) (suc k) x below at fits =
+    fit_at cs n xs k x (omega (arith, below)) at fits.1
+
+-- trees of which the first faults are not none
+pub some_fault : (cs : List ColumnView) (row : ℕ) (ts : List Tree) (e : VortexError)
+    → FaultsFirst meaning cs row ts e → 0 < length ts
+some_fault cs row [] e h = absurd h
+some_fault cs row (t ∷ ts) e h = omega arith
+
+module _ (cs : List ColumnView) (row : ℕ) where
+  pub give_more : (xs : List held.Answer) (k j : ℕ) (x : held.Answer) → j ≡ suc k → k < length xs
+      → x ≡ get_or xs k x → AllGive meaning cs row (trees_of (take k xs))
+      → GivesValue (eval meaning cs x.tree row)
+      → AllGive meaning cs row (trees_of (take j xs))
+  give_more xs k j x next lt at give here =
+      subst (λ (n : ℕ). AllGive meaning cs row (trees_of (take n xs))) (sym next)
+      (go xs k lt at give)
+    where
+      go : (ys : List held.Answer) (l : ℕ) → l < length ys → x ≡ get_or ys l x
+          → AllGive meaning cs row (trees_of (take l ys))
+          → AllGive meaning cs row (trees_of (take (suc l) ys))
+      go [] l below is g = absurd (omega (arith, below))
+      go (y ∷ ys) zero below is g =
+          (subst (λ (z : held.Answer). GivesValue (eval meaning cs z.tree row)) is here, tt)
+      go (y ∷ ys) (suc l) below is g = (g.0, go ys l (omega (arith, below)) is g.1)
+
+  pub faults_there_at : (xs : List held.Answer) (k : ℕ) (x : held.Answer) (e : VortexError)
+      → k < length xs → x ≡ get_or xs k x → AllGive meaning cs row (trees_of (take k xs))
+      → FaultsAt meaning cs row x.tree e → FaultsThere cs row (trees_of xs) k e
+  faults_there_at xs k x e below at give here = record {
+    tree = x.tree;
+    there = slice_get-map (λ a. a.tree) xs k
+        ∙ ap (option_map (λ a. a.tree)) (slice_get_read xs (length xs) k x refl below at);
+    here = here;
+    before = subst (λ (ts : List Tree). AllGive meaning cs row ts)
+        (sym (take-map (λ a. a.tree) k xs)) give;
+  }

@@ -1,0 +1,44 @@
+use Rattle.std.proofs.Common.{map, add-one, sym, subst}
+use Rattle.std.specs.Cow.{cow_value}
+use Rattle.vortex_errors.proofs.Answering.{UnlessMemory-weaker}
+use Rattle.vortex_columns.specs.ColumnView.{ColumnView}
+use Rattle.vortex_interface.specs.Execution.{Executes, RefusesExecution}
+use Rattle.vortex_functions.specs.Walks.{AllMean}
+use Rattle.vortex_program.specs.Executing.{RefusesFirst}
+use Rattle.vortex_program.proofs.Answered.{all_more, answers_refusal, owned_is, refuses_at}
+use Rattle.vortex_functions.specs.Fixed.{fixed_meaning}
+use Rattle.vortex_program.proofs.executing.execute_all.Goals as goal
+
+pub returns-in_err-column : goal.returns-in_err-column
+returns-in_err-column c =
+    let m = fixed_meaning in
+    let cs = c.args.columns.now in
+    let n = c.args.row_count in
+    let answers = c.args.answers.now in
+    let answer = c.answer-item.result in
+    let trees = map (λ a. a.tree) answers in
+    let refuses = RefusesFirst m cs n trees in
+    answers_refusal (λ ds. AllMean (Executes m cs n) trees ds.items) refuses
+    c.from_residual.result c.in_err-column.field-0.0 c.from_residual.ensures.1
+    (UnlessMemory-weaker (RefusesExecution m cs n answer.tree) refuses
+    (λ e h.
+    refuses_at m cs n (λ a. a.tree) answers c.loop-answer.executed.items
+    c.loop-answer.answer-index answer e c.loop-answer-test.true c.answer-item.is
+    c.loop-answer.invariant h)
+    c.in_err-column.field-0.0 c.in_err-column.ensures.answer)
+
+pub loop-answer-preserved : goal.loop-answer-preserved
+loop-answer-preserved c =
+    let m = fixed_meaning in
+    let cs = c.args.columns.now in
+    let n = c.args.row_count in
+    let k = c.loop-answer.answer-index in
+    let answers = c.args.answers.now in
+    let answer = c.answer-item.result in
+    let owned = c.in_ok-into_owned.field-0 in
+    let same = owned_is owned (cow_value c.in_ok-column.column) c.in_ok-into_owned.ensures.ok in
+    rw c.in_ok-push.ensures.items
+    (all_more (Executes m cs n) (λ a. a.tree) answers c.loop-answer.executed.items k _ answer owned
+    (add-one k) c.loop-answer-test.true c.answer-item.is c.loop-answer.invariant
+    (subst (λ (d : ColumnView). Executes m cs n answer.tree d) (sym same)
+    c.in_ok-column.ensures.answer))

@@ -1,0 +1,49 @@
+-- What a program answers over a batch.
+use Rattle.std.specs.Prelude.{◌≡◌, ◌<◌, ℕ, List, take, length, Some, None, slice_get, ⊤}
+use Rattle.vortex_errors.specs.declared.error.VortexError.{VortexError}
+use Rattle.vortex_errors.specs.Answers.{UnlessMemory}
+use Rattle.vortex_columns.specs.ColumnView.{ColumnView}
+use Rattle.vortex_interface.specs.Eval.{tree_type}
+use Rattle.vortex_interface.specs.Execution.{LeavesFit, other_length}
+use Rattle.vortex_interface.specs.Running.{KeepsRows}
+use Rattle.vortex_functions.specs.Walks.{AllMean}
+use Rattle.vortex_expressions.specs.Items.{Tree, meaning}
+use Rattle.vortex_program.specs.Executing.{AllGive, FaultsAt, RefusesColumnsFirst}
+use Rattle.vortex_program.specs.declared.running.RunError.{RunError}
+use Rattle.vortex_program.specs.declared.running.RunError.TheVariants as run
+
+module _ (cs : List ColumnView) (n : ℕ) where
+  -- the column has the type of the tree, so many rows, and the tree's value in each row in which the
+  -- tree has one
+  pub record AnswersTree (t : Tree) (c : ColumnView) : Type 0 where
+    pub fit : LeavesFit cs t
+    pub lengths : other_length n cs ≡ None
+    pub dtype : tree_type meaning t ≡ Some c.dtype
+    pub count : length c.rows ≡ n
+    pub kept : KeepsRows meaning cs n t c
+
+  -- a column for each tree
+  abbrev pub AnswersTrees : List Tree → List ColumnView → Type 0
+  AnswersTrees = AllMean AnswersTree
+
+-- of several trees that of this number faults in a row, and none before it does
+pub record FaultsThere (cs : List ColumnView) (row : ℕ) (ts : List Tree) (k : ℕ) (e : VortexError)
+    : Type 0 where
+  pub tree : Tree
+  pub there : slice_get ts k ≡ Some tree
+  pub here : FaultsAt meaning cs row tree e
+  pub before : AllGive meaning cs row (take k ts)
+
+module _ (cs : List ColumnView) (n : ℕ) (ts : List Tree) where
+  -- it is the first row in which a tree faults
+  pub record FaultsFirstThere (row k : ℕ) (e : VortexError) : Type 0 where
+    pub below : row < n
+    pub before : (i : ℕ) → i < row → AllGive meaning cs i ts
+    pub there : FaultsThere cs row ts k e
+
+  -- why trees answer nothing over columns: a row faults, or the columns do not serve; or memory ran
+  -- out
+  abbrev pub RefusesTrees : RunError → Type 0
+  RefusesTrees (run.Fault row k e) = FaultsFirstThere row k e
+  RefusesTrees (run.Refused e) = UnlessMemory (RefusesColumnsFirst cs n ts) e
+  RefusesTrees run.OutOfMemory = ⊤

@@ -1,0 +1,9 @@
+//! Answers: trees under their names.
+use vortex_functions::{BoundExpression, NoCustom};
+
+/// A tree, and its name in a header.
+#[derive(Drop)]
+pub struct Answer {
+    pub name: String,
+    pub tree: BoundExpression<NoCustom>,
+}

@@ -1,0 +1,211 @@
+//! The first row in which an answer faults, found by halving.
+ghost use Rattle.std.specs.Prelude.{◌≡◌, ◌≢◌, ◌+◌, ◌^◌, ◌<◌, ◌≤◌, ◌⊎◌, ℕ, All, IfOk, length, map};
+ghost use Rattle.std.specs.Prelude.{None, true, false, MatchOption};
+ghost use Rattle.vortex_errors.specs.declared.error.VortexError.TheVariants.{OutOfMemory};
+ghost use Rattle.vortex_errors.specs.Answers.{Answers, AnswersUnlessMemory};
+ghost use Rattle.vortex_interface.specs.Bound.{IsBound};
+ghost use Rattle.vortex_interface.specs.Execution.{other_length};
+ghost use Rattle.vortex_functions.specs.Fixed.{fixed_meaning};
+ghost use Rattle.vortex_rewriting.specs.Keeping.{RewritesKeepRows};
+ghost use Rattle.vortex_program.specs.Programs.{trees_of};
+ghost use Rattle.vortex_program.specs.Executing.{AllFit, AllGive, AllGiveWithin};
+ghost use Rattle.vortex_program.specs.Executing.{AnswersFirstFault, RefusesColumnsFirst};
+ghost use Rattle.vortex_program.specs.Executing.{IsSuspect};
+ghost use Rattle.vortex_program.specs.Running.{FaultsThere, FaultsFirstThere};
+
+use crate::answer::Answer;
+use crate::executing::execute_all;
+use crate::rows::{NUMBERED, rows_of};
+use std::alloc::Global;
+use vortex_columns::{Column, ExecutionCtx, VortexError, VortexResult};
+use vortex_rewriting::laws::rewrites_keep_rows;
+
+/// A row in which an answer faults, the number of the answer, and its fault.
+#[derive(Drop)]
+pub(crate) struct RowFault {
+    pub(crate) row: usize,
+    pub(crate) answer: usize,
+    pub(crate) error: VortexError,
+}
+
+/// Whether the columns are valid for each tree. It says too that each tree's leaves are places in a
+/// scope, and what each rewrite of it keeps.
+pub(crate) fn check_answers(
+    alloc: Global,
+    answers: &[Answer],
+    columns: &[Column],
+    row_count: usize,
+) -> VortexResult<()>
+    ensures bound { IfOk result (λ _. All IsBound (trees_of answers.now)) }
+    ensures kept { IfOk result
+        (λ _. All (RewritesKeepRows fixed_meaning columns.now row_count) (trees_of answers.now)) }
+    ensures fit { Answers result
+        (λ _. AllFit columns.now row_count (trees_of answers.now))
+        (RefusesColumnsFirst columns.now row_count (trees_of answers.now)) }
+{
+    let mut ctx = ExecutionCtx::new(alloc);
+    for answer in answers {
+        let _typed = answer.tree.dtype();
+        answer.tree.check_columns(columns, row_count, &mut ctx)?;
+        rewrites_keep_rows(&answer.tree, columns, row_count);
+    }
+    Ok(())
+}
+
+/// The error, unless memory ran out.
+fn but_for_memory(error: VortexError) -> VortexResult<VortexError>
+    ensures { AnswersUnlessMemory result (λ e. (e ≡ error) × (e ≢ OutOfMemory)) }
+{
+    match error {
+        VortexError::OutOfMemory => Err(VortexError::OutOfMemory),
+        error => Ok(error),
+    }
+}
+
+/// Whether an answer faults in one of so many rows, from the first on. E9 where an allocation
+/// fails.
+fn faults_within(
+    alloc: Global,
+    answers: &[Answer],
+    columns: &[Column],
+    row_count: usize,
+    first: usize,
+    count: usize,
+) -> VortexResult<bool>
+    requires numbered { (count ≡ 1) ⊎ (first + count ≤ 2 ^ 32) }
+    requires within { first + count ≤ row_count }
+    requires even { other_length row_count columns.now ≡ None }
+    requires bound { All IsBound (trees_of answers.now) }
+    requires fit { AllFit columns.now row_count (trees_of answers.now) }
+    ensures none { AnswersUnlessMemory result (λ faults. faults ≡ false
+        → AllGiveWithin fixed_meaning columns.now first (first + count) (trees_of answers.now)) }
+    ensures some { IfOk result (λ faults. faults ≡ true
+        → ¬ AllGiveWithin fixed_meaning columns.now first (first + count)
+        (trees_of answers.now)) }
+{
+    let mut ctx = ExecutionCtx::new(alloc);
+    let taken = rows_of(alloc, columns, first, count, &mut ctx)?;
+    match execute_all(alloc, answers, &taken, count, &mut ctx) {
+        Ok(_) => Ok(false),
+        Err(error) => {
+            but_for_memory(error)?;
+            Ok(true)
+        }
+    }
+}
+
+/// The first answer that faults in that row, and its fault; none where none does. E9 where an
+/// allocation fails.
+fn faulty_answer(
+    alloc: Global,
+    answers: &[Answer],
+    columns: &[Column],
+    row_count: usize,
+    row: usize,
+) -> VortexResult<Option<(usize, VortexError)>>
+    requires within { row < row_count }
+    requires even { other_length row_count columns.now ≡ None }
+    requires fit { AllFit columns.now row_count (trees_of answers.now) }
+    ensures { AnswersUnlessMemory result (λ found. MatchOption found
+        (AllGive fixed_meaning columns.now row (trees_of answers.now))
+        (λ p. FaultsThere columns.now row (trees_of answers.now) p.0 p.1)) }
+{
+    let mut ctx = ExecutionCtx::new(alloc);
+    let taken = rows_of(alloc, columns, row, 1, &mut ctx)?;
+    for (k, answer) in answers.iter().enumerate() {
+        let _typed = answer.tree.dtype();
+        match answer.tree.execute(&taken, 1, &mut ctx) {
+            Ok(_) => {}
+            Err(error) => return Ok(Some((k, but_for_memory(error)?))),
+        }
+    }
+    Ok(None)
+}
+
+/// A row between the two, which halves them as far as rows have numbers.
+fn middle(from: usize, to: usize) -> usize
+    requires { from + 1 < to }
+    ensures after { from < result }
+    ensures before { result < to }
+    ensures numbered { (result ≡ from + 1) ⊎ (result ≤ 2 ^ 32) }
+{
+    if from + 1 >= NUMBERED {
+        return from + 1;
+    }
+    let half = from + (to - from) / 2;
+    half.min(NUMBERED)
+}
+
+/// The one row in which an answer may be the first to fault: none faults in a row before it, and
+/// where none faults in it, none does at all. Executes each row about once, however many calls the
+/// answers have.
+fn suspect_row(
+    alloc: Global,
+    answers: &[Answer],
+    columns: &[Column],
+    row_count: usize,
+) -> VortexResult<usize>
+    requires some { 0 < row_count }
+    requires even { other_length row_count columns.now ≡ None }
+    requires bound { All IsBound (trees_of answers.now) }
+    requires fit { AllFit columns.now row_count (trees_of answers.now) }
+    ensures { AnswersUnlessMemory result
+        (IsSuspect fixed_meaning columns.now row_count (trees_of answers.now)) }
+{
+    let mut from = 0;
+    let mut to = row_count;
+    'halves: while to - from > 1 {
+        let half = middle(from, to);
+        if faults_within(alloc, answers, columns, row_count, from, half - from)? {
+            to = half;
+        } else {
+            from = half;
+        }
+    }
+    Ok(from)
+}
+
+/// The first row in which an answer faults, the first answer that does there, and its fault; none
+/// where none faults. E9 where an allocation fails.
+pub(crate) fn first_row_fault(
+    alloc: Global,
+    answers: &[Answer],
+    columns: &[Column],
+    row_count: usize,
+) -> VortexResult<Option<RowFault>>
+    requires bound { All IsBound (trees_of answers.now) }
+    requires fit { AllFit columns.now row_count (trees_of answers.now) }
+    ensures { AnswersUnlessMemory result (λ found. MatchOption found
+        (AllGiveWithin fixed_meaning columns.now 0 row_count (trees_of answers.now))
+        (λ f. FaultsFirstThere columns.now row_count (trees_of answers.now) f.row f.answer
+        f.error)) }
+{
+    if row_count == 0 || answers.is_empty() {
+        return Ok(None);
+    }
+    let row = suspect_row(alloc, answers, columns, row_count)?;
+    match faulty_answer(alloc, answers, columns, row_count, row)? {
+        Some((answer, error)) => Ok(Some(RowFault { row, answer, error })),
+        None => Ok(None),
+    }
+}
+
+/// The first row in which an answer faults, and the fault of the first answer that does; none
+/// where no row faults. Costs about one run over the rows.
+///
+/// Fails where the columns are not valid for an answer, as `execute_answers` does.
+pub fn first_fault(
+    alloc: Global,
+    answers: &[Answer],
+    columns: &[Column],
+    row_count: usize,
+) -> VortexResult<Option<(usize, VortexError)>>
+    ensures { AnswersFirstFault fixed_meaning columns.now row_count (trees_of answers.now)
+        result }
+{
+    check_answers(alloc, answers, columns, row_count)?;
+    match first_row_fault(alloc, answers, columns, row_count)? {
+        Some(fault) => Ok(Some((fault.row, fault.error))),
+        None => Ok(None),
+    }
+}

@@ -1,0 +1,21 @@
+//! Programs: answers and conditions that are read once and run over batches of columns.
+#![tactic(auto)]
+
+pub mod answer;
+pub mod executing;
+pub mod faults;
+pub mod form;
+mod names;
+mod naming;
+pub mod parsed;
+pub mod program;
+mod rows;
+pub mod running;
+
+pub use answer::Answer;
+pub use executing::execute_answers;
+pub use faults::first_fault;
+pub use form::Form;
+pub use parsed::{Parsed, parse_answers, parse_condition};
+pub use program::Program;
+pub use running::RunError;

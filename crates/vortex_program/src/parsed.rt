@@ -1,0 +1,115 @@
+//! Texts that were parsed once, before the columns that they name are known.
+ghost use Rattle.std.specs.Prelude.{◌≡◌, ◌∷◌, [], None, List, map, IfOk, IfErr};
+ghost use Rattle.vortex_types.specs.TypeOf.{struct_fields};
+ghost use Rattle.vortex_syntax.specs.Syntax.{Syntax};
+ghost use Rattle.vortex_syntax.specs.Grammar.{Reads};
+ghost use Rattle.vortex_syntax.specs.AnswerLists as syntax;
+ghost use Rattle.vortex_syntax.specs.AnswerLists.{answer_in, told, ReadsAnswers};
+ghost use Rattle.vortex_syntax.specs.Refusals.{ListStopsAt, TreeStopsAt};
+ghost use Rattle.vortex_expressions.specs.declared.refusal.Refusal.{Refusal};
+ghost use Rattle.vortex_expressions.specs.Answers as specs;
+ghost use Rattle.vortex_expressions.specs.Reading.{ReadUnlessMemory, RefusesAs, TellsWhy};
+ghost use Rattle.vortex_program.specs.declared.form.Form.TheVariants as form;
+ghost use Rattle.vortex_program.specs.Texts.{IsParsed, unnamed, Means, IsRefusedOver, StopsAt};
+ghost use Rattle.vortex_program.specs.Texts.{AreAnswersOf};
+ghost use Rattle.vortex_program.specs.Programs.{trees_of};
+
+use crate::answer::Answer;
+use crate::form::Form;
+use crate::naming::all_named;
+use std::alloc::Global;
+use vortex_columns::StructFields;
+use vortex_expressions::{ReadError, bind_answers};
+use vortex_syntax::{SyntaxAnswer, SyntaxTree, read_answer_list, read_syntax};
+
+/// A text that was parsed, with what it says: answers or a condition, whose columns are not yet
+/// known.
+#[derive(Drop)]
+pub struct Parsed<'t> {
+    pub text: &'t str,
+    pub form: Form,
+    /// The answers in their order; a condition is one answer without a name.
+    pub answers: Vec<SyntaxAnswer<'t>>,
+    pub ghost read: { IsParsed form text.now (map answer_in answers.items) },
+}
+
+/// Parses a list of answers, each with a name after `as` or without one:
+/// `price * stock as worth, price > 100`. Ok exactly where the text is such a list, whatever columns
+/// there are.
+pub fn parse_answers(alloc: Global, text: &str) -> Result<Parsed<'_>, ReadError>
+    ensures text { IfOk result (λ p. p.text.now ≡ text.now) }
+    ensures form { IfOk result (λ p. p.form ≡ form.Answers) }
+    ensures only { (list : List syntax.Answer) → ReadsAnswers text.now list
+        → ReadUnlessMemory result (λ p. map answer_in p.answers.items ≡ map told list) }
+    ensures why { IfErr result (TellsWhy ListStopsAt (λ _. ⊥) text.now) }
+{
+    match read_answer_list(alloc, text.as_bytes()) {
+        Ok(answers) => Ok(Parsed {
+            text,
+            form: Form::Answers,
+            answers,
+        }),
+        Err(error) => Err(ReadError::of_syntax(alloc, text, error)),
+    }
+}
+
+/// A tree as the one answer of a condition.
+fn one_answer<'t>(
+    alloc: Global,
+    tree: SyntaxTree<'t>,
+) -> Result<Vec<SyntaxAnswer<'t>>, ReadError>
+    ensures { ReadUnlessMemory result
+        (λ answers. map answer_in answers.items ≡ unnamed tree) }
+{
+    let mut answers = Vec::new(alloc);
+    match answers.push(SyntaxAnswer { tree, name: None }) {
+        Ok(()) => Ok(answers),
+        Err(_) => Err(ReadError::out_of_memory(alloc)),
+    }
+}
+
+/// Parses one expression without a name: `price > 100 and stock is not null`. Ok exactly where the
+/// text is one, whatever columns there are.
+pub fn parse_condition(alloc: Global, text: &str) -> Result<Parsed<'_>, ReadError>
+    ensures text { IfOk result (λ p. p.text.now ≡ text.now) }
+    ensures form { IfOk result (λ p. p.form ≡ form.Condition) }
+    ensures only { (tree : Syntax) → Reads text.now tree → ReadUnlessMemory result
+        (λ p. map answer_in p.answers.items ≡ told (record { tree = tree; name = None }) ∷ []) }
+    ensures why { IfErr result (TellsWhy TreeStopsAt (λ _. ⊥) text.now) }
+{
+    let tree = match read_syntax(alloc, text.as_bytes()) {
+        Ok(tree) => tree,
+        Err(error) => return Err(ReadError::of_syntax(alloc, text, error)),
+    };
+    let answers = one_answer(alloc, tree)?;
+    Ok(Parsed {
+        text,
+        form: Form::Condition,
+        answers,
+    })
+}
+
+impl Parsed<'_> {
+    /// The answers over the columns of a scope, each with its name: the one after its `as`, else
+    /// that of the column which it is, else its text. Together with parsing it finds the answers
+    /// that the text means over the scope, and fails as the text is refused over it.
+    pub fn bind(&self, alloc: Global, scope: &StructFields) -> Result<Vec<Answer>, ReadError>
+        ensures found { IfOk result (λ v.
+            AreAnswersOf self.now.form (struct_fields scope.now) self.now.text.now v.items) }
+        ensures only { (list : List specs.Answer)
+            → Means self.now.form (struct_fields scope.now) self.now.text.now list
+            → ReadUnlessMemory result (λ v. trees_of v.items ≡ map (λ a. a.tree) list) }
+        ensures refused { (r : Refusal)
+            → IsRefusedOver self.now.form (struct_fields scope.now) self.now.text.now r
+            → RefusesAs r result }
+        ensures why { IfErr result (TellsWhy (StopsAt self.now.form)
+            (IsRefusedOver self.now.form (struct_fields scope.now) self.now.text.now)
+            self.now.text.now) }
+    {
+        let list = bind_answers(alloc, scope, self.text, &self.answers)?;
+        match all_named(alloc, scope, &list) {
+            Ok(answers) => Ok(answers),
+            Err(_) => Err(ReadError::out_of_memory(alloc)),
+        }
+    }
+}

@@ -1,0 +1,77 @@
+//! A program run over a batch of columns.
+ghost use Rattle.std.specs.Prelude.{MatchResult};
+ghost use Rattle.vortex_interface.specs.Bound.{IsBound};
+ghost use Rattle.std.specs.Prelude.{All};
+ghost use Rattle.vortex_program.specs.Executing.{AllFit};
+ghost use Rattle.vortex_program.specs.Programs.{trees_of, AreRewrites};
+ghost use Rattle.vortex_program.specs.Running.{AnswersTrees, RefusesTrees};
+
+use crate::answer::Answer;
+use crate::executing::execute_answers;
+use crate::faults::{check_answers, first_row_fault};
+use crate::program::Program;
+use std::alloc::Global;
+use vortex_columns::{Column, VortexError};
+
+/// Why a program returns no columns.
+#[derive(Debug, Drop)]
+pub enum RunError {
+    /// The first row in which an answer faults, the number of the first answer that does there, and
+    /// its fault.
+    Fault {
+        row: usize,
+        answer: usize,
+        error: VortexError,
+    },
+    /// The columns are not valid for an answer: E11 or E2.
+    Refused(VortexError),
+    /// E9: memory ran out.
+    OutOfMemory,
+}
+
+/// The first row in which an answer faults; or that memory ran out.
+fn fault_of(alloc: Global, answers: &[Answer], columns: &[Column], rows: usize) -> RunError
+    requires bound { All IsBound (trees_of answers.now) }
+    requires fit { AllFit columns.now rows (trees_of answers.now) }
+    ensures { RefusesTrees columns.now rows (trees_of answers.now) result }
+{
+    match first_row_fault(alloc, answers, columns, rows) {
+        Ok(Some(fault)) => RunError::Fault {
+            row: fault.row,
+            answer: fault.answer,
+            error: fault.error,
+        },
+        _ => RunError::OutOfMemory,
+    }
+}
+
+impl Program {
+    /// What the program answers over columns of so many rows: a column for each answer, which has
+    /// its value in each row in which it has one. So says each program that is made by `of`: the
+    /// trees that run are rewrites of those that were written.
+    ///
+    /// Fails where the columns are not valid for an answer, as it was written; then with the first
+    /// row in which one faults. Rules may drop a fault: then there is an answer, of any value in
+    /// that row.
+    pub fn run(
+        &self,
+        alloc: Global,
+        columns: &[Column],
+        rows: usize,
+    ) -> Result<Vec<Column>, RunError>
+        ensures { AreRewrites self.now.written.items self.now.optimized.items
+            → MatchResult result
+            (λ answers. AnswersTrees columns.now rows (trees_of self.now.written.items)
+            answers.items)
+            (RefusesTrees columns.now rows (trees_of self.now.written.items)) }
+    {
+        if let Err(error) = check_answers(alloc, &self.written, columns, rows) {
+            return Err(RunError::Refused(error));
+        }
+        match execute_answers(alloc, &self.optimized, columns, rows) {
+            Ok(answers) => Ok(answers),
+            Err(VortexError::OutOfMemory) => Err(RunError::OutOfMemory),
+            Err(_) => Err(fault_of(alloc, &self.written, columns, rows)),
+        }
+    }
+}

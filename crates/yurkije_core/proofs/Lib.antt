@@ -1,4 +1,0 @@
-pub mod Keeping
-pub mod Faulty
-pub mod Optimized
-pub mod HeldTrees
