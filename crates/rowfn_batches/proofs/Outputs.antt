@@ -1,9 +1,9 @@
 -- One more name or value of a row that is put down.
-use Rattle.std.proofs.Common.{◌≡◌, ℕ, ◌+◌, ◌<◌, List, [], ◌∷◌, ◌++◌, length, take, get_or}
-use Rattle.std.proofs.Common.{ap, sym, ◌∙◌, arith, append_assoc}
+use Rattle.std.proofs.Common.{◌≡◌, ℕ, ◌+◌, ◌<◌, ◌≤◌, List, [], ◌∷◌, ◌++◌, length, take, get_or}
+use Rattle.std.proofs.Common.{ap, sym, ◌∙◌, arith, append_assoc, map, refl, string_bytes}
 use Rattle.std.specs.Prelude.{OnOk, Result, Ok, Err}
 use Rattle.std.specs.declared.alloc.AllocError.{AllocError}
-use Rattle.std.proofs.lemmas.List.{get_or-map, length-map}
+use Rattle.std.proofs.lemmas.List.{get_or-map, length-map, take_all}
 use Rattle.vortex_columns.specs.ColumnView.{ColumnView, row}
 use Rattle.vortex_interface.specs.CallTexts.{joined, separator_before}
 use Rattle.vortex_types.proofs.JoinedTexts.{joined_more}
@@ -11,7 +11,10 @@ use Rattle.rowfn_csv.specs.Fields.{text_field}
 use Rattle.rowfn_csv.specs.declared.format.Format.{Format}
 use Rattle.rowfn_batches.specs.declared.output.Output.{Output}
 use Rattle.rowfn_csv.specs.Records.{without_line_end}
+use Rattle.vortex_program.specs.declared.answer.Answer.{Answer}
+use Rattle.rowfn_batches.specs.Names.{names_of}
 use Rattle.rowfn_batches.specs.Outputs.{Adds, name_field, value_field, row_fields, row_line}
+use Rattle.rowfn_batches.specs.Outputs.{names_line}
 
 -- the first values of a row stand behind what stood there before, in the same format
 abbrev pub HasFirst : Output → Output → List ColumnView → ℕ → ℕ → Type 0
@@ -88,4 +91,60 @@ behind_line old put parted new line bare answers place (Ok u) is first second th
           ∙ append_assoc (old.bytes.items ++ without_line_end line) (old.format.delimiter ∷ []) row
           ∙ append_assoc old.bytes.items (without_line_end line) (old.format.delimiter ∷ row),
       third.1 ∙ same,
+    )
+
+-- the first names stand behind what stood there before, in the same format
+abbrev pub HasNames : Output → Output → List (List ℕ) → ℕ → Type 0
+HasNames old now names k =
+    (now.format ≡ old.format)
+    × (now.bytes.items ≡ old.bytes.items ++ joined (old.format.delimiter ∷ [])
+    (take k (map (text_field old.format.delimiter old.format.null.now) names)))
+
+-- a turn of a loop over answers whose names are added
+pub next_name : (old now last : Output) (answers : List Answer) (k : ℕ) (a : Answer)
+    (name : List ℕ) → k < length answers → a ≡ get_or answers k a → name ≡ string_bytes a.name
+    → HasNames old now (names_of answers) k
+    → Adds now last (name_field now.format.delimiter now.format.null.now k name)
+    → HasNames old last (names_of answers) (k + 1)
+next_name old now last answers k a name h is named before added = (
+  added.1 ∙ before.0,
+  joined_more sep (map field (names_of answers)) k (field (name_in a)) old.bytes.items
+      now.bytes.items (now.bytes.items ++ separator_before sep k) last.bytes.items
+      (omega (arith, h, length-map (names_of answers) field, length-map answers name_in))
+      (sym (get_or-map field (names_of answers) k (name_in a) (field (name_in a))
+      (omega (arith, h, length-map answers name_in))
+      ∙ ap field (get_or-map name_in answers k a (name_in a) h ∙ ap name_in (sym is))))
+      before.1 refl
+      (added.0
+      ∙ ap (λ (f : Format). now.bytes.items ++ name_field f.delimiter f.null.now k name) before.0
+      ∙ ap (λ (n : List ℕ). now.bytes.items ++ (separator_before sep k ++ field n)) named
+      ∙ sym (append_assoc now.bytes.items (separator_before sep k) (field (name_in a)))),
+)
+  where
+    sep : List ℕ
+    sep = old.format.delimiter ∷ []
+
+    field : List ℕ → List ℕ
+    field text = text_field old.format.delimiter old.format.null.now text
+
+    name_in : Answer → List ℕ
+    name_in b = string_bytes b.name
+
+-- the end of their line
+pub names_ended : (old now last : Output) (names : List (List ℕ)) (k : ℕ)
+    (r : Result (Unit {0}) AllocError) → length names ≤ k → HasNames old now names k
+    → OnOk r (Adds now last (10 ∷ []))
+    → OnOk r (Adds old last (names_line old.format.delimiter old.format.null.now names))
+names_ended old now last names k (Err e) all before added = added
+names_ended old now last names k (Ok u) all before added =
+    let fields = map (text_field old.format.delimiter old.format.null.now) names in
+    let whole = take_all k fields (omega (arith, all,
+    length-map names (text_field old.format.delimiter old.format.null.now))) in (
+      added.0
+          ∙ ap (λ bs. bs ++ 10 ∷ [])
+          (before.1
+          ∙ ap (λ (ts : List (List ℕ)). old.bytes.items ++ joined (old.format.delimiter ∷ []) ts)
+          whole)
+          ∙ append_assoc old.bytes.items (joined (old.format.delimiter ∷ []) fields) (10 ∷ []),
+      added.1 ∙ before.0,
     )

@@ -1,7 +1,8 @@
--- What is printed of a program: each answer as it was written and, where that prints otherwise, as
--- rules make it.
-use Rattle.std.specs.Prelude.{◌≡◌, ◌≢◌, ◌⊎◌, ◌++◌, ◌∷◌, [], ℕ, suc, List, Option, Some, None}
-use Rattle.std.specs.Prelude.{slice_get, codes, decimal, unwrap_or, string_bytes, IfSome}
+-- What is printed of a program: each answer as it was written and, where that prints itself otherwise,
+-- as rules make it.
+use Rattle.std.specs.Prelude.{◌≡◌, ◌≢◌, ◌++◌, ◌∷◌, ◌<◌, [], ℕ, suc, List, Option, Some, None}
+use Rattle.std.specs.Prelude.{slice_get, get_or, length, codes, decimal, unwrap_or, string_bytes}
+use Rattle.std.specs.Prelude.{IfSome}
 use Rattle.vortex_types.specs.DTypeTexts.{type_text}
 use Rattle.vortex_types.specs.LogicalTypes.{LogicalType}
 use Rattle.vortex_interface.specs.Eval.{tree_type}
@@ -11,42 +12,47 @@ use Rattle.vortex_expressions.specs.Items.{Tree, meaning}
 use Rattle.vortex_expressions.specs.Writing.{text_of_tree}
 use Rattle.vortex_program.specs.declared.answer.Answer.{Answer}
 
--- the lines of a tree under a title: its text, as it prints itself, its type and its weight
-abbrev pub tree_lines : List ℕ → List ℕ → List ℕ → List ℕ → ℕ → List ℕ
-tree_lines title words printed type weight =
-    codes "  " ++ (title ++ (codes ": " ++ (words ++ (10 ∷ (codes "    printed "
-    ++ (printed ++ (10 ∷ (codes "    type " ++ (type ++ (codes ", weight " ++ (decimal weight
-    ++ (10 ∷ []))))))))))))
+-- a tree's title, its text, and how it prints itself
+abbrev pub tree_head : List ℕ → List ℕ → List ℕ → List ℕ
+tree_head title words printed =
+    codes "  " ++ (title ++ (codes ": " ++ (words ++ ((10 ∷ codes "    printed ")
+    ++ (printed ++ (10 ∷ codes "    type "))))))
 
--- those lines tell of that tree, which prints itself so
-pub record AreTreeLines (title : List ℕ) (t : Tree) (printed lines : List ℕ) : Type 0 where
+-- its weight, after its type
+abbrev pub weight_end : ℕ → List ℕ
+weight_end weight = codes ", weight " ++ (decimal weight ++ (10 ∷ []))
+
+-- the lines of a tree, which prints itself so, are added under a title
+pub record AddsTree (title : List ℕ) (t : Tree) (printed old new : List ℕ) : Type 0 where
   pub dtype : LogicalType
   pub typed : tree_type meaning t ≡ Some dtype
   pub prints : IfSome (tree_text t) (λ words. printed ≡ words)
-  pub lines_of : lines ≡ tree_lines title (unwrap_or (text_of_tree t) (codes "no expression"))
-      printed (type_text dtype) (weight_told meaning t)
+  pub added : new ≡ old ++ (tree_head title
+      (unwrap_or (text_of_tree t) (codes "no expression")) printed
+      ++ (type_text dtype ++ weight_end (weight_told meaning t)))
 
--- lines tell of what rules make of a tree, if it prints itself otherwise than the tree does
-pub data AreRuleLines (printed : List ℕ) : Option Answer → List ℕ → Type 0 where
-  no_tree : (lines : List ℕ) → lines ≡ [] → AreRuleLines printed None lines
-  same : (o : Answer) (other lines : List ℕ) → IfSome (tree_text o.tree) (λ words. other ≡ words)
-      → other ≡ printed → lines ≡ [] → AreRuleLines printed (Some o) lines
-  different : (o : Answer) (other lines : List ℕ) → other ≢ printed
-      → AreTreeLines (codes "optimized") o.tree other lines → AreRuleLines printed (Some o) lines
+-- those of what rules make of a tree are added, if it prints itself otherwise than the tree does
+pub data AddsRules (printed : List ℕ) (optimized : Option Answer) (old new : List ℕ) : Type 0 where
+  no_tree : optimized ≡ None → new ≡ old → AddsRules printed optimized old new
+  prints_so : (o : Answer) → optimized ≡ Some o
+      → IfSome (tree_text o.tree) (λ words. printed ≡ words) → new ≡ old
+      → AddsRules printed optimized old new
+  prints_otherwise : (o : Answer) (other : List ℕ) → optimized ≡ Some o → other ≢ printed
+      → AddsTree (codes "optimized") o.tree other old new → AddsRules printed optimized old new
 
--- lines tell of an answer
-pub record AreAnswerLines (a : Answer) (optimized : Option Answer) (lines : List ℕ) : Type 0 where
+-- the lines of an answer are added: its name, its tree, and what rules make of that
+pub record AddsAnswer (a : Answer) (optimized : Option Answer) (old new : List ℕ) : Type 0 where
   pub printed : List ℕ
+  pub named : List ℕ
   pub written : List ℕ
-  pub ruled : List ℕ
-  pub tree : AreTreeLines (codes "tree") a.tree printed written
-  pub rules : AreRuleLines printed optimized ruled
-  pub lines_of : lines ≡ string_bytes a.name ++ (10 ∷ (written ++ ruled))
+  pub name : named ≡ old ++ (string_bytes a.name ++ (10 ∷ []))
+  pub tree : AddsTree (codes "tree") a.tree printed named written
+  pub rules : AddsRules printed optimized written new
 
--- lines tell of the first answers, in their order
+-- a text has the lines of the first answers, in their order
 pub data AreExplained (written optimized : List Answer) : ℕ → List ℕ → Type 0 where
-  none_yet : (lines : List ℕ) → lines ≡ [] → AreExplained written optimized 0 lines
-  one_more : (k : ℕ) (a : Answer) (lines more all : List ℕ)
-      → AreExplained written optimized k lines → slice_get written k ≡ Some a
-      → AreAnswerLines a (slice_get optimized k) more → all ≡ lines ++ more
-      → AreExplained written optimized (suc k) all
+  none_yet : (text : List ℕ) → text ≡ [] → AreExplained written optimized 0 text
+  one_more : (k : ℕ) (a : Answer) (text more : List ℕ) → AreExplained written optimized k text
+      → k < length written → a ≡ get_or written k a
+      → AddsAnswer a (slice_get optimized k) text more
+      → AreExplained written optimized (suc k) more

@@ -83,8 +83,12 @@ pub record AreDeclared (x : Asked) (layout : Layout) : Type 0 where
 
 module _ (settings : Settings) (fields : List (List ℕ)) where
   -- columns are where the header says, if there is one
+  abbrev pub HasColumns : Asked → Layout → Type 0
+  HasColumns x layout = MatchBool settings.header (AreNamed fields x layout) (AreDeclared x layout)
+
+  -- the same, with the columns whose truth values are read in any spelling
   pub record IsLaidOut (x : Asked) (layout : Layout) : Type 0 where
-    pub columns : MatchBool settings.header (AreNamed fields x layout) (AreDeclared x layout)
+    pub columns : HasColumns x layout
     pub spelled : option_map (λ columns. columns.items) layout.spelled
         ≡ spelled_where settings.format.any_truths (struct_fields x.program.now.scope)
         layout.places.items

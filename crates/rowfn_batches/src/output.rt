@@ -104,13 +104,6 @@ impl<'a> Output<'a> {
         self.push_text(name)
     }
 
-    /// Adds a delimiter. Fails only where memory runs out.
-    pub fn push_delimiter(&mut self) -> Result<(), AllocError>
-        ensures { OnOk result (Adds self.old self.new (self.old.format.delimiter ∷ [])) }
-    {
-        self.bytes.push(self.format.delimiter)
-    }
-
     /// Adds the names of answers as a line. Fails only where memory runs out.
     pub fn push_names(&mut self, answers: &[Answer]) -> Result<(), AllocError>
         ensures { OnOk result (Adds self.old self.new (names_line self.old.format.delimiter
@@ -238,8 +231,8 @@ impl<'a> Output<'a> {
         Ok(())
     }
 
-    /// Adds a delimiter. Refused only for want of memory.
-    fn push_delimiter(&mut self) -> Result<(), AllocError>
+    /// Adds a delimiter. Fails only where memory runs out.
+    pub fn push_delimiter(&mut self) -> Result<(), AllocError>
         ensures { OnOk result (Adds self.old self.new (self.old.format.delimiter ∷ [])) }
     {
         self.bytes.push(self.format.delimiter)?;

@@ -11,7 +11,8 @@ ghost use Rattle.rowfn_batches.specs.Layouts.{LacksFrom, TellsTaken, AreApartFro
 ghost use Rattle.rowfn_batches.specs.Layouts.{StandAt};
 ghost use Rattle.rowfn_batches.specs.Outputs.{Adds};
 ghost use Rattle.rowfn_batches.specs.ReadingBack.{ReadsBack};
-ghost use Rattle.rowfn_batches.specs.Starts.{ReadsHeader, IsLaidOut, RefusesLayout, HasCondition};
+ghost use Rattle.rowfn_batches.specs.Starts.{ReadsHeader, HasColumns, IsLaidOut};
+ghost use Rattle.rowfn_batches.specs.Starts.{RefusesLayout, HasCondition};
 ghost use Rattle.rowfn_batches.specs.Starts.{RefusesCondition, own_names, PushesHeader};
 ghost use Rattle.rowfn_batches.specs.Starts.{RefusesNamesBeside, IsHeaded, DoesNotStart};
 
@@ -97,7 +98,42 @@ fn read_header<R: Read>(
 }
 
 /// Where columns are: where the header says, or, where the input has none, in the order in which
-/// they are declared. Fields of the header that no column names are accepted, and change nothing.
+/// they are declared.
+fn columns_of(
+    alloc: Global,
+    settings: &Settings<'_>,
+    asked: &Asked<'_>,
+    header: &ByteRecord,
+) -> Result<Layout, StreamError>
+    ensures { MatchResult result
+        (HasColumns settings.now (fields_of header.now) asked.now)
+        (RefusesLayout settings.now (fields_of header.now) asked.now) }
+{
+    let declared = &asked.program.scope;
+    if settings.header {
+        return named_layout(alloc, declared, asked.places, header);
+    }
+    Ok(declared_layout(alloc, declared, asked.places)?)
+}
+
+/// The same, with the columns whose truth values are read in any spelling.
+fn spelled_layout(
+    alloc: Global,
+    settings: &Settings<'_>,
+    asked: &Asked<'_>,
+    header: &ByteRecord,
+) -> Result<Layout, StreamError>
+    ensures { MatchResult result
+        (IsLaidOut settings.now (fields_of header.now) asked.now)
+        (RefusesLayout settings.now (fields_of header.now) asked.now) }
+{
+    let layout = columns_of(alloc, settings, asked, header)?;
+    let declared = &asked.program.scope;
+    Ok(with_spelling(alloc, declared, settings.format.any_truths, layout)?)
+}
+
+/// The same. A header with further fields, which no column names, is accepted, and they change
+/// nothing: the places of the columns are the only ones at which their names are.
 fn layout_of(
     alloc: Global,
     settings: &Settings<'_>,
@@ -113,13 +149,7 @@ fn layout_of(
         → MatchResult result (λ layout. layout.places.items ≡ places)
         (λ e. e ≡ end.OutOfMemory) }
 {
-    let declared = &asked.program.scope;
-    let layout = if settings.header {
-        named_layout(alloc, declared, asked.places, header)?
-    } else {
-        declared_layout(alloc, declared, asked.places)?
-    };
-    Ok(with_spelling(alloc, declared, settings.format.any_truths, layout)?)
+    spelled_layout(alloc, settings, asked, header)
 }
 
 /// The condition, if there is one, and where its columns are.

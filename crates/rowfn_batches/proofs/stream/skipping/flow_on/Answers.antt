@@ -8,13 +8,14 @@ use Rattle.rowfn_batches.proofs.stream.skipping.flow_on.Goals as goal
 pub returns-in_err-stream-clause-flows : goal.returns-in_err-stream-clause-flows
 returns-in_err-stream-clause-flows g c =
     let p = err_from_is_err_and c.from_residual.result c.from_residual.ensures.1 in
-    not_begun c.in_err-stream.field-0.0 refl refl (p.1 ∙ ap Err p.2)
+    not_begun c.in_err-stream.field-0.0 c.in_err-stream.ensures.starts refl refl (p.1 ∙ ap Err p.2)
 
 pub returns-in_err-write-clause-flows : goal.returns-in_err-write-clause-flows
 returns-in_err-write-clause-flows g c =
     let p = err_from_is_err_and c.from_residual-in_err-write.result
     c.from_residual-in_err-write.ensures.1 in
-    without_header c.in_err-write.field-0.0 c.in_err-write.ensures.refused (p.1 ∙ ap Err p.2)
+    without_header c.in_ok-stream.stream c.in_err-write.field-0.0 c.in_ok-stream.ensures.starts
+    c.in_err-write.ensures.refused refl (p.1 ∙ ap Err p.2)
 
 pub batches-init : goal.batches-init
 batches-init g c = none_yet
@@ -36,11 +37,11 @@ returns-in_err-goes_on-clause-flows g c =
     (g.W.Write.contents c.write.new.writer)
     (g.W.Write.contents c.batches.writer) c.batches.refusals.count
     c.in_err-goes_on.field-0.0
-    (has_begun c.args.asked (option_map (λ x. x.now) c.args.condition)
+    (has_begun c.args.reader c.args.settings.now c.args.asked.now
+    (option_map (λ x. x.now) c.args.condition)
     (g.W.Write.contents c.args.writer.now)
     (g.W.Write.contents c.write.new.writer) c.in_ok-stream.stream c.write.new.self
-    head.expression head.condition head.none_read wrote.written wrote.kept wrote.cleared
-    wrote.summary)
+    head.starts wrote.written wrote.kept wrote.cleared wrote.summary)
     c.batches.invariant c.in_err-goes_on.ensures (p.1 ∙ ap Err p.2)
 
 pub returns-then-not-goes_on-clause-flows : goal.returns-then-not-goes_on-clause-flows
@@ -51,11 +52,11 @@ returns-then-not-goes_on-clause-flows g c =
     at_end c.batches._turn c.write.new.self c.batches.stream c.pass_next_told.new.self
     (g.W.Write.contents c.write.new.writer) (g.W.Write.contents c.batches.writer)
     c.batches.refusals.count
-    (has_begun c.args.asked (option_map (λ x. x.now) c.args.condition)
+    (has_begun c.args.reader c.args.settings.now c.args.asked.now
+    (option_map (λ x. x.now) c.args.condition)
     (g.W.Write.contents c.args.writer.now)
     (g.W.Write.contents c.write.new.writer) c.in_ok-stream.stream c.write.new.self
-    head.expression head.condition head.none_read wrote.written wrote.kept wrote.cleared
-    wrote.summary)
+    head.starts wrote.written wrote.kept wrote.cleared wrote.summary)
     c.batches.invariant (rw off at c.in_ok-goes_on.ensures) refl
 
 pub returns-clause-flows : goal.returns-clause-flows
@@ -64,9 +65,9 @@ returns-clause-flows g c =
     let wrote = c.in_ok-write.ensures in
     let last : c.batches._turn ≡ 18446744073709551615 = omega arith in
     at_last_turn c.write.new.self c.batches.stream (g.W.Write.contents c.write.new.writer)
-    (has_begun c.args.asked (option_map (λ x. x.now) c.args.condition)
+    (has_begun c.args.reader c.args.settings.now c.args.asked.now
+    (option_map (λ x. x.now) c.args.condition)
     (g.W.Write.contents c.args.writer.now)
     (g.W.Write.contents c.write.new.writer) c.in_ok-stream.stream c.write.new.self
-    head.expression head.condition head.none_read wrote.written wrote.kept wrote.cleared
-    wrote.summary)
+    head.starts wrote.written wrote.kept wrote.cleared wrote.summary)
     (rw last at c.batches.invariant) refl
