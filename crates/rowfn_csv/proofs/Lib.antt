@@ -2,3 +2,4 @@ pub mod Parts
 pub mod RoundTrip
 pub mod Said
 pub mod Scanning
+pub mod Surplus

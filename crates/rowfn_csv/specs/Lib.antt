@@ -1,5 +1,6 @@
 pub mod Batches
 pub mod Fields
+pub mod Formats
 pub mod KeptLines
 pub mod Reads
 pub mod Records

@@ -2,13 +2,15 @@
 -- quotes.
 use Rattle.std.specs.Prelude.{◌≡◌, ◌≢◌, ⊤, Bool, true, false, ℕ, List, [], ◌∷◌, ◌++◌}
 use Rattle.std.specs.Prelude.{Option, Some, None, ◌&&◌, not, map, if◌then◌else◌, get_or}
-use Rattle.std.specs.Prelude.{unwrap_or, length, take, drop, ◌-◌}
-use Rattle.std.specs.List.{flat_map}
+use Rattle.std.specs.Prelude.{option_map, length, take, drop, ◌-◌, ◌==◌}
+use Rattle.std.specs.List.{flat_map, list_any}
 use Rattle.std.specs.Str.{bytes_eq}
 use Rattle.csv.specs.Records.{field_at}
 use Rattle.rowfn_csv.specs.Fields.{doubled, quoted}
 use Rattle.rowfn_csv.specs.Batches.{field_said}
+use Rattle.rowfn_csv.specs.Formats.{is_null_text}
 use Rattle.rowfn_csv.specs.Truths.{respelled}
+use Rattle.rowfn_csv.specs.declared.format.Format.{Format}
 use Rattle.rowfn_csv.specs.declared.truths.Spelled.{Spelled}
 
 -- a field by its text, as it stands
@@ -54,23 +56,30 @@ is_quoted (in_quotes text) = true
 abbrev pub quoted_at : List Field → ℕ → Bool
 quoted_at said i = get_or (map is_quoted said) i false
 
--- whether the text of a field is the one that stands for null
-abbrev pub reads_null : List ℕ → Option (List ℕ) → Bool
-reads_null null None = false
-reads_null null (Some text) = bytes_eq text null
+-- what a row takes of a field, by its text, if the record has it, and whether it is in quotes:
+-- nothing for null, which is a text for null in no quotes. A field past the record's end is null where
+-- records are fitted, and else an empty text.
+abbrev pub field_by : Format → Option (List ℕ) → Bool → Option (List ℕ)
+field_by format None is_in_quotes = if format.fits then None else Some []
+field_by format (Some text) is_in_quotes =
+    field_said text (is_null_text format text && not is_in_quotes)
 
--- The field at a place of a record, by the texts of its fields and how they stand: nothing for
--- null, which is the text that stands for it, bare; an empty text where the record has no such field.
-abbrev pub field_taken : List ℕ → List (List ℕ) → List Field → ℕ → Option (List ℕ)
-field_taken null texts said i =
-    field_said (unwrap_or (field_at texts i) [])
-    (reads_null null (field_at texts i) && not (quoted_at said i))
+-- what a row takes of the field at a place of a record, by the texts of its fields and how they are
+-- written
+abbrev pub field_taken : Format → List (List ℕ) → List Field → ℕ → Option (List ℕ)
+field_taken format texts said i = field_by format (field_at texts i) (quoted_at said i)
 
--- the same, in a column whose truth values may stand in any spelling
-abbrev pub field_spelled : List ℕ → List (List ℕ) → List Field → Spelled → Option (List ℕ)
-field_spelled null texts said s =
-    field_said (respelled s.is_truth (unwrap_or (field_at texts s.place) []))
-    (reads_null null (field_at texts s.place) && not (quoted_at said s.place))
+-- the same, in a column whose truth values may be in any spelling
+abbrev pub field_spelled : Format → List (List ℕ) → List Field → Spelled → Option (List ℕ)
+field_spelled format texts said s =
+    option_map (respelled s.is_truth) (field_taken format texts said s.place)
+
+-- a field past that many is not empty
+abbrev pub is_filled : List ℕ → Bool
+is_filled text = not (length text == 0)
+
+abbrev pub has_surplus : List (List ℕ) → ℕ → Bool
+has_surplus texts width = list_any is_filled (drop width texts)
 
 -- whether bytes end with one, and what is left without it
 abbrev pub ends_in : List ℕ → ℕ → Bool

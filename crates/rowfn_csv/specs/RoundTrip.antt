@@ -1,20 +1,21 @@
 -- Cells that are written as a line, and the fields that the line says.
-use Rattle.std.specs.Prelude.{◌≡◌, ◌≢◌, ⊤, true, ℕ, List, [], ◌∷◌, Option, Some, None, map}
+use Rattle.std.specs.Prelude.{◌≡◌, ◌≢◌, ⊤, true, false, ℕ, List, [], ◌∷◌, Option, Some, None, map}
 use Rattle.std.specs.Prelude.{if◌then◌else◌}
 use Rattle.std.specs.List.{join_by}
-use Rattle.std.specs.Str.{bytes_eq}
+use Rattle.rowfn_csv.specs.declared.format.Format.{Format}
+use Rattle.rowfn_csv.specs.Formats.{is_null_text, begins_comment, is_comment_line}
 use Rattle.rowfn_csv.specs.Fields.{text_field}
 use Rattle.rowfn_csv.specs.Records.{Field, bare, in_quotes, Lacks, BeginsBare, SaysFields}
 
--- a cell as a field: nothing is written as what stands for null
-abbrev pub cell_field : ℕ → List ℕ → Option (List ℕ) → List ℕ
-cell_field delimiter null None = null
-cell_field delimiter null (Some text) = text_field delimiter null text
+-- a cell as a field: nothing is written as the text for null
+abbrev pub cell_field : Format → Option (List ℕ) → List ℕ
+cell_field format None = format.null.now
+cell_field format (Some text) = text_field format text
 
 -- the cell that a field says
-abbrev pub cell_said : List ℕ → Field → Option (List ℕ)
-cell_said null (bare text) = if bytes_eq text null then None else Some text
-cell_said null (in_quotes text) = Some text
+abbrev pub cell_said : Format → Field → Option (List ℕ)
+cell_said format (bare text) = if is_null_text format text then None else Some text
+cell_said format (in_quotes text) = Some text
 
 -- fields with a delimiter between each two
 abbrev pub fields_line : ℕ → List (List ℕ) → List ℕ
@@ -25,27 +26,40 @@ abbrev pub StandsInLine : Field → Type 0
 StandsInLine (bare text) = Lacks 10 text × Lacks 13 text
 StandsInLine (in_quotes text) = ⊤
 
--- a text that may stand for null: a field of its own where it stands bare
-pub record MayBeNull (delimiter : ℕ) (null : List ℕ) : Type 0 where
-  pub whole : Lacks delimiter null
-  pub begins : BeginsBare null
-  pub lines : StandsInLine (bare null)
-
 abbrev pub AllStandInLine : List Field → Type 0
 AllStandInLine [] = ⊤
 AllStandInLine (f ∷ fs) = StandsInLine f × AllStandInLine fs
 
--- the line says fields, none of which ends within it, and those say the cells
-pub record SaysCells (delimiter : ℕ) (null line : List ℕ) (cells : List (Option (List ℕ)))
-    : Type 0 where
-  pub fields : List Field
-  pub said : SaysFields delimiter true line fields
-  pub in_line : AllStandInLine fields
-  pub cells_said : map (cell_said null) fields ≡ cells
+module _ (format : Format) where
+  -- the text that is written for null is a field of its own where it stands bare, and no comment
+  pub record MayBeNull : Type 0 where
+    pub whole : Lacks format.output_delimiter format.null.now
+    pub begins : BeginsBare format.null.now
+    pub lines : StandsInLine (bare format.null.now)
+    pub no_comment : is_comment_line format.comment format.null.now ≡ false
+
+  -- what is written in that format can be read: the delimiter is no quote, null may be written so, and
+  -- neither a quote nor the delimiter begins a comment
+  pub record CanReadBack : Type 0 where
+    pub delimiter : format.output_delimiter ≢ 34
+    pub null : MayBeNull
+    pub quote_begins_none : begins_comment format.comment 34 ≡ false
+    pub delimiter_begins_none : begins_comment format.comment format.output_delimiter ≡ false
+
+  -- the line is no comment and says fields, none of which ends within it, and those say the cells
+  pub record SaysCells (line : List ℕ) (cells : List (Option (List ℕ))) : Type 0 where
+    pub fields : List Field
+    pub said : SaysFields format.output_delimiter true line fields
+    pub in_line : AllStandInLine fields
+    pub cells_said : map (cell_said format) fields ≡ cells
+    pub no_comment : is_comment_line format.comment line ≡ false
+
+  -- the line of cells
+  abbrev pub cells_line : List (Option (List ℕ)) → List ℕ
+  cells_line cells = fields_line format.output_delimiter (map (cell_field format) cells)
 
 -- cells that are written say themselves
 abbrev pub CellsReadBack : Type 0
 CellsReadBack =
-    (delimiter : ℕ) (null : List ℕ) (cells : List (Option (List ℕ))) → delimiter ≢ 34
-    → MayBeNull delimiter null → cells ≢ []
-    → SaysCells delimiter null (fields_line delimiter (map (cell_field delimiter null) cells)) cells
+    (format : Format) (cells : List (Option (List ℕ))) → CanReadBack format → cells ≢ []
+    → SaysCells format (cells_line format cells) cells

@@ -1,15 +1,17 @@
 //! The fields of a record as a batch takes them.
 ghost use Rattle.std.specs.Prelude.{◌≡◌, ◌≢◌, ◌++◌, ◌∷◌, [], ◌&&◌, Bool, not, List, map, OnOk, IfOk};
-ghost use Rattle.std.specs.Prelude.{option_map};
+ghost use Rattle.std.specs.Prelude.{option_map, false};
+ghost use Rattle.std.specs.Option.{option_map_or};
 ghost use Rattle.csv.specs.Records.{fields_of};
-ghost use Rattle.rowfn_csv.specs.Records.{Field, SaysFields, quoted_at, reads_null};
+ghost use Rattle.rowfn_csv.specs.Records.{Field, SaysFields, quoted_at, is_filled, has_surplus};
+ghost use Rattle.rowfn_csv.specs.Formats.{is_null_text};
 ghost use Rattle.rowfn_csv.specs.Records.{without_line_end, field_spelled};
 ghost use Rattle.rowfn_csv.specs.KeptLines.{bytes_between};
 ghost use Rattle.rowfn_csv.specs.Scanning.{Knows};
 
 use crate::batch::Batch;
 use crate::format::Format;
-use crate::raw::{Quotes, is_text};
+use crate::raw::Quotes;
 use crate::records::Span;
 use crate::tee::Tee;
 use crate::truths::{Chosen, Spelled, respelled};
@@ -17,22 +19,11 @@ use csv::ByteRecord;
 use std::alloc::AllocError;
 use std::io::Read;
 
-/// Whether a field, if there is one, is the text that stands for null.
-#[inline(always)]
-fn reads_null(field: Option<&[u8]>, null: &[u8]) -> bool
-    ensures { result ≡ reads_null null.now (option_map (λ f. f.now) field.entry) }
-{
-    match field {
-        Some(field) => is_text(field, null),
-        None => false,
-    }
-}
-
-/// Whether a field of a record, at that index, says null: the text that stands for null, in no
-/// quotes. The record lies at that span of what is kept.
+/// Whether the field of a record at that index is null: a text for null in no quotes. The record has
+/// that span of what is kept.
 #[inline(always)]
 fn is_null<R: Read>(
-    field: Option<&[u8]>,
+    field: &[u8],
     kept: &Tee<R>,
     span: Span,
     format: &Format<'_>,
@@ -45,19 +36,41 @@ fn is_null<R: Read>(
     ensures null { (closed : Bool) → (said : List Field) → format.now.delimiter ≢ 34
         → SaysFields format.now.delimiter closed
         (without_line_end (bytes_between kept.now span.start span.end)) said
-        → IfOk result (λ is_null. is_null ≡ (reads_null format.now.null.now
-        (option_map (λ f. f.now) field.entry) && not (quoted_at said index))) }
+        → IfOk result (λ is_null. is_null
+        ≡ (is_null_text format.now field.now && not (quoted_at said index))) }
 {
     // nearly no field needs its line
-    if !reads_null(field, format.null) {
+    if !format.is_null_text(field) {
         return Ok(false);
     }
     let line = kept.between(span.start, span.end);
     Ok(!quotes.is_quoted(line, format.delimiter, index)?)
 }
 
-/// Adds the field of a record in a column to the batch; an empty one where the record has none. The
-/// record lies at that span of what is kept.
+/// Whether there is a field, and it is not empty.
+fn is_filled(field: Option<&[u8]>) -> bool
+    ensures { result ≡ option_map_or is_filled (option_map (λ f. f.now) field.entry) false }
+{
+    match field {
+        Some(field) => !field.is_empty(),
+        None => false,
+    }
+}
+
+/// Whether a field of a record past that many is not empty.
+pub fn has_surplus(fields: &ByteRecord, width: usize) -> bool
+    ensures { result ≡ has_surplus (fields_of fields.now) width }
+{
+    for index in width..fields.len() {
+        if is_filled(fields.get(index)) {
+            return true;
+        }
+    }
+    false
+}
+
+/// Adds the field of a record in a column to the batch; null or an empty text where the record has
+/// none, as the format says. The record has that span of what is kept.
 #[inline(always)]
 fn add_field<R: Read>(
     fields: &ByteRecord,
@@ -75,16 +88,19 @@ fn add_field<R: Read>(
         → SaysFields format.now.delimiter closed
         (without_line_end (bytes_between kept.now span.start span.end)) said
         → OnOk result (batch.new.fields ≡ batch.old.fields
-        ++ (field_spelled format.now.null.now (fields_of fields.now) said column ∷ [])) }
+        ++ (field_spelled format.now (fields_of fields.now) said column ∷ [])) }
     ensures spans { batch.new.spans ≡ batch.old.spans }
 {
-    let field = fields.get(column.place);
+    let Some(field) = fields.get(column.place) else {
+        return batch.push_field(&[], format.fits);
+    };
     let is_null = is_null(field, kept, span, format, quotes, column.place)?;
-    batch.push_field(respelled(field.unwrap_or(&[]), column.is_truth), is_null)
+    batch.push_field(respelled(field, column.is_truth), is_null)
 }
 
-/// Adds the fields of a record in those columns to the batch; an empty one where the record has
-/// none. The record lies at that span of what is kept. Refused only for want of memory.
+/// Adds the fields of a record in those columns to the batch; null or an empty text where the record
+/// has none, as the format says. The record has that span of what is kept. Fails only where an
+/// allocation fails.
 #[inline(always)]
 pub fn add_fields<C: Chosen, R: Read>(
     fields: &ByteRecord,
@@ -100,7 +116,7 @@ pub fn add_fields<C: Chosen, R: Read>(
         → SaysFields format.now.delimiter closed
         (without_line_end (bytes_between kept.now span.start span.end)) said
         → OnOk result (batch.new.fields ≡ batch.old.fields
-        ++ map (λ c. field_spelled format.now.null.now (fields_of fields.now) said (C.spelled c))
+        ++ map (λ c. field_spelled format.now (fields_of fields.now) said (C.spelled c))
         columns.now) }
     ensures spans { batch.new.spans ≡ batch.old.spans }
 {

@@ -9,8 +9,8 @@ pub fn each_says_fields()
     ensures { EachSaysFields }
 {}
 
-/// Cells that are written as a line, in quotes where they need them, and null as a text that may
-/// stand for it, say fields that are those cells, and no line ends within a field that stands bare.
+/// Cells that are written as a line, in quotes where they need them, and null as its first text, say
+/// fields that are those cells. The line is no comment, and no line ends within a bare field.
 pub fn cells_read_back()
     ensures { CellsReadBack }
 {}

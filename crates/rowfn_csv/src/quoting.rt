@@ -2,6 +2,7 @@
 ghost use Rattle.std.specs.Prelude.{◌≡◌, ◌++◌, ◌≤◌, length, take, drop, OnOk};
 ghost use Rattle.rowfn_csv.specs.Fields.{is_special, is_mistaken, needs_quotes, doubled, quoted};
 ghost use Rattle.rowfn_csv.specs.Fields.{text_field};
+ghost use Rattle.rowfn_csv.specs.Formats.{is_comment_line};
 ghost use Rattle.std.specs.List.{list_any, flat_map};
 
 use crate::format::Format;
@@ -29,15 +30,25 @@ fn is_mistaken(field: &[u8]) -> bool
     field == b"\\.".as_slice() || field.starts_with(b"\xef\xbb\xbf".as_slice())
 }
 
-/// Whether a text that is not null is written in quotes: an empty one, one that holds a quote, a
-/// delimiter or the end of a line, one that says null where it stands in no quotes, and one that is
-/// mistaken there.
+/// Whether a field at the start of a line makes the line a comment.
+fn is_comment_line(field: &[u8], format: &Format<'_>) -> bool
+    ensures { result ≡ is_comment_line format.now.comment field.now }
+{
+    match field {
+        [first, ..] => format.begins_comment(*first),
+        [] => false,
+    }
+}
+
+/// Whether a text is written in quotes: an empty one, one that holds a quote, the output's delimiter or
+/// the end of a line, and one that in no quotes is null, begins a comment or is mistaken.
 fn needs_quotes(field: &[u8], format: &Format<'_>) -> bool
-    ensures { result ≡ needs_quotes format.now.delimiter format.now.null.now field.now }
+    ensures { result ≡ needs_quotes format.now field.now }
 {
     field.is_empty()
-        || holds_special(field, format.delimiter)
-        || field == format.null
+        || holds_special(field, format.output_delimiter)
+        || format.is_null_text(field)
+        || is_comment_line(field, format)
         || is_mistaken(field)
 }
 
@@ -81,8 +92,8 @@ pub fn quote_from(
     spare: &mut Vec<u8>,
 ) -> Result<(), AllocError>
     requires { start ≤ length bytes.old.items }
-    ensures { OnOk result (bytes.new.items ≡ take start bytes.old.items
-        ++ text_field format.now.delimiter format.now.null.now (drop start bytes.old.items)) }
+    ensures { OnOk result (bytes.new.items
+        ≡ take start bytes.old.items ++ text_field format.now (drop start bytes.old.items)) }
 {
     let field = &bytes.as_slice()[start..];
     if !needs_quotes(field, format) {
@@ -98,7 +109,7 @@ pub fn quote_from(
 /// quotes.
 pub fn field_of<'t>(text: &'t [u8], in_quotes: &'t [u8], format: &Format<'_>) -> &'t [u8]
     requires { in_quotes.now ≡ quoted text.now }
-    ensures { result.now ≡ text_field format.now.delimiter format.now.null.now text.now }
+    ensures { result.now ≡ text_field format.now text.now }
 {
     if needs_quotes(text, format) {
         in_quotes

@@ -5,21 +5,22 @@ ghost use Rattle.csv.specs.Records.{fields_of};
 ghost use Rattle.csv.specs.Reading.{reader_source};
 ghost use Rattle.rowfn_csv.specs.KeptLines.{line_of, last_bytes, is_ended};
 ghost use Rattle.rowfn_csv.specs.Reads.{ReadsOne, KeepsFormat, HasLineEnd, bytes_behind};
-ghost use Rattle.rowfn_csv.specs.Records.{Field, SaysFields, field_taken, field_spelled};
+ghost use Rattle.rowfn_csv.specs.Records.{Field, SaysFields, field_taken, field_spelled, has_surplus};
 ghost use Rattle.rowfn_csv.specs.declared.records.ReadError.TheVariants.{OutOfMemory};
 
+mod blank_lines;
+mod spans;
+
+use self::blank_lines::Ahead;
 use crate::batch::Batch;
-use crate::fields::add_fields;
+use crate::fields::{add_fields, has_surplus};
 use crate::format::Format;
-use crate::raw::{
-    Quotes, ends_line, has_line_end, is_closed, without_blank_lines, without_line_end, without_mark,
-};
+use crate::raw::{Quotes, has_line_end, is_closed, without_blank_lines, without_line_end};
 use crate::tee::Tee;
 use crate::truths::{Chosen, Spelled};
 use csv::{ByteRecord, Error, ErrorKind, Reader, ReaderBuilder};
 use std::alloc::{AllocError, Global};
 use std::io::{self, Read};
-use std::mem;
 
 /// Where a record lies in the input, counted in bytes: from its first field up to the end of its
 /// line.
@@ -62,19 +63,6 @@ pub struct Records<'a, R> {
     limit: usize,
     is_outgrown: bool,
     error: Option<ReadError>,
-}
-
-/// What was read behind lines without a byte which are rows, and are given before it.
-#[derive(Drop)]
-struct Ahead {
-    record: ByteRecord,
-    /// Where it lies; an empty span at the end of the input where there is no record.
-    span: Span,
-    /// Whether there is a record; else the input ends there.
-    is_record: bool,
-    is_outgrown: bool,
-    /// Whether it is yet to be given.
-    is_held: bool,
 }
 
 /// Why a read failed.
@@ -121,13 +109,7 @@ impl<'a, R: Read> Records<'a, R> {
             span: Span { start: 0, end: 0 },
             format,
             quotes: Quotes::new(alloc),
-            ahead: Ahead {
-                record: ByteRecord::new(alloc),
-                span: Span { start: 0, end: 0 },
-                is_record: false,
-                is_outgrown: false,
-                is_held: false,
-            },
+            ahead: Ahead::new(alloc),
             limit,
             is_outgrown: false,
             error: None,
@@ -152,85 +134,6 @@ impl<'a, R: Read> Records<'a, R> {
         ensures kept { self.new ≡ record self.old { error = None } }
     {
         self.error.take().unwrap_or(ReadError::OutOfMemory)
-    }
-
-    /// Holds what was read behind lines without a byte, which stand behind a record.
-    fn hold(&mut self, given: Span, found: Found, place: u64)
-        ensures kept { KeepsFormat self.old self.new }
-        ensures error { self.new.error ≡ self.old.error }
-    {
-        mem::swap(&mut self.last, &mut self.ahead.record);
-        self.ahead.span = match found {
-            Found::Record => self.span,
-            Found::End | Found::Failed => Span {
-                start: place,
-                end: place,
-            },
-        };
-        self.ahead.is_record = found == Found::Record;
-        self.ahead.is_outgrown = self.is_outgrown;
-        self.ahead.is_held = true;
-        self.span = given;
-        self.is_outgrown = false;
-    }
-
-    /// Gives what is held behind lines without a byte.
-    fn give_held(&mut self) -> Found
-        ensures { ReadsOne self.old self.new result }
-    {
-        mem::swap(&mut self.last, &mut self.ahead.record);
-        self.span = self.ahead.span;
-        self.is_outgrown = self.ahead.is_outgrown;
-        self.ahead.is_held = false;
-        if self.ahead.is_record {
-            Found::Record
-        } else {
-            Found::End
-        }
-    }
-
-    /// Gives the next line without a byte, or else the record behind such lines.
-    #[inline(always)]
-    fn read_with_blank_lines(&mut self) -> Found
-        ensures { ReadsOne self.old self.new result }
-    {
-        if !self.ahead.is_held {
-            let given = self.span;
-            let found = self.read_record();
-            let place = match found {
-                Found::Record => self.span.start,
-                Found::End => self.reader.position().byte,
-                Found::Failed => return Found::Failed,
-            };
-            if place <= self.reader.get_ref().behind_mark(given.end) {
-                return found;
-            }
-            self.hold(given, found, place);
-        }
-        let place = self.reader.get_ref().behind_mark(self.span.end);
-        if place < self.ahead.span.start {
-            return self.give_blank(place);
-        }
-        self.give_held()
-    }
-
-    /// Gives the line without a byte that lies there, as a record of one empty field.
-    fn give_blank(&mut self, place: u64) -> Found
-        ensures { ReadsOne self.old self.new result }
-    {
-        let tee = self.reader.get_ref();
-        let next = place.saturating_add(1);
-        let is_pair = tee.byte_at(place) == Some(b'\r') && tee.byte_at(next) == Some(b'\n');
-        self.span = Span {
-            start: place,
-            end: next.saturating_add(u64::from(is_pair)),
-        };
-        self.last.clear();
-        if self.last.push_field(&[]).is_err() {
-            self.error = Some(ReadError::OutOfMemory);
-            return Found::Failed;
-        }
-        Found::Record
     }
 
     /// Reads the next record behind lines without a byte. One of which a field is too long is not
@@ -276,39 +179,6 @@ impl<'a, R: Read> Records<'a, R> {
         ensures { result ≡ self.now.is_outgrown }
     {
         self.is_outgrown
-    }
-
-    /// Where a record lies that was read between two places: behind a byte order mark and the ends
-    /// of lines before it, and with a line feed behind its carriage return.
-    #[inline(always)]
-    fn span_of(&self, start: u64, end: u64) -> Span {
-        let span = Span { start, end };
-        match self.bytes(span) {
-            // so do nearly all records lie
-            [first, .., b'\n'] if start != 0 && !ends_line(*first) => span,
-            bytes => self.trimmed(bytes, span),
-        }
-    }
-
-    /// The same of a record that has those bytes.
-    #[inline(never)]
-    fn trimmed(&self, bytes: &[u8], span: Span) -> Span {
-        let Span { start, end } = span;
-        let bytes = if start == 0 {
-            without_mark(bytes)
-        } else {
-            bytes
-        };
-        let record = without_blank_lines(bytes);
-        let start = end.saturating_sub(record.len() as u64);
-        let tee = self.reader.get_ref();
-        if record.last() == Some(&b'\r') && tee.byte_at(end) == Some(b'\n') {
-            return Span {
-                start,
-                end: end.saturating_add(1),
-            };
-        }
-        Span { start, end }
     }
 
     /// Whether no record is there behind the last one, as far as the input was read: the next one is
@@ -368,15 +238,22 @@ impl<'a, R: Read> Records<'a, R> {
         !is_closed(raw, self.format.delimiter)
     }
 
-    /// Adds the fields of the last record at those places to the batch, as a row; an empty one
-    /// where the record has none. Refused only for want of memory.
+    /// Whether the last record has a field past that many which is not empty.
+    pub fn has_surplus(&self, width: usize) -> bool
+        ensures { result ≡ has_surplus (fields_of self.now.last) width }
+    {
+        has_surplus(&self.last, width)
+    }
+
+    /// Adds the fields of the last record at those places to the batch, as a row. A field past the
+    /// record's end is null where records are fitted, and else an empty text. Fails only where an
+    /// allocation fails.
     #[inline(always)]
     pub fn add_to(&mut self, batch: &mut Batch, places: &[usize]) -> Result<(), AllocError>
         ensures fields { (closed : Bool) → (said : List Field) → self.old.format.delimiter ≢ 34
             → SaysFields self.old.format.delimiter closed (last_bytes self.old) said
             → OnOk result (batch.new.fields ≡ batch.old.fields
-            ++ map (field_taken self.old.format.null.now (fields_of self.old.last) said)
-            places.now) }
+            ++ map (field_taken self.old.format (fields_of self.old.last) said) places.now) }
         ensures spans { OnOk result (batch.new.spans ≡ batch.old.spans ++ (self.old.span ∷ [])) }
     {
         self.add_columns_to(batch, places)
@@ -392,8 +269,7 @@ impl<'a, R: Read> Records<'a, R> {
         ensures fields { (closed : Bool) → (said : List Field) → self.old.format.delimiter ≢ 34
             → SaysFields self.old.format.delimiter closed (last_bytes self.old) said
             → OnOk result (batch.new.fields ≡ batch.old.fields
-            ++ map (field_spelled self.old.format.null.now (fields_of self.old.last) said)
-            columns.now) }
+            ++ map (field_spelled self.old.format (fields_of self.old.last) said) columns.now) }
         ensures spans { OnOk result (batch.new.spans ≡ batch.old.spans ++ (self.old.span ∷ [])) }
     {
         self.add_columns_to(batch, columns)
@@ -409,7 +285,7 @@ impl<'a, R: Read> Records<'a, R> {
         ensures fields { (closed : Bool) → (said : List Field) → self.old.format.delimiter ≢ 34
             → SaysFields self.old.format.delimiter closed (last_bytes self.old) said
             → OnOk result (batch.new.fields ≡ batch.old.fields
-            ++ map (λ c. field_spelled self.old.format.null.now (fields_of self.old.last) said
+            ++ map (λ c. field_spelled self.old.format (fields_of self.old.last) said
             (C.spelled c)) columns.now) }
         ensures spans { OnOk result (batch.new.spans ≡ batch.old.spans ++ (self.old.span ∷ [])) }
     {

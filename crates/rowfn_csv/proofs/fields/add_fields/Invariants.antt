@@ -11,7 +11,7 @@ invariant-loop-column g l = record {
   fields : (closed : Bool) → (said : List Field) → l.format.delimiter ≢ 34
       → SaysFields l.format.delimiter closed (without_line_end (bytes_between l.kept l.span.start l.span.end)) said
       → l.batch.fields ≡ l.initial.batch.fields
-      ++ map (λ c. field_spelled l.format.null.now (fields_of l.fields) said (g.C.Chosen.spelled c))
+      ++ map (λ c. field_spelled l.format (fields_of l.fields) said (g.C.Chosen.spelled c))
       (take l.column-index l.columns);
   spans : l.batch.spans ≡ l.initial.batch.spans;
   knows : Knows l.format.delimiter (bytes_between l.kept l.span.start l.span.end) l.quotes;
