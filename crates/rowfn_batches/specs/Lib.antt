@@ -17,3 +17,4 @@ pub mod Parts
 pub mod Refusals
 pub mod Skipping
 pub mod Watching
+pub mod Widths

@@ -31,9 +31,9 @@ picked_lines s (Some top) n = picked_texts top (map (line_of s.records) (take n 
 abbrev pub answer_text : {R : Type 0} → Stream R → Option (List ℕ) → List ColumnView → ℕ → List ℕ
 answer_text s rows answers n =
     if s.settings.appends
-    then appended_lines s.output.format.delimiter s.output.format.null.now
+    then appended_lines s.output.format
     (map (line_of s.records) s.batch.spans) rows answers n
-    else row_lines s.output.format.delimiter s.output.format.null.now answers n
+    else row_lines s.output.format answers n
 
 -- what is written of these rows: that, or the lines that are picked where all are answered
 abbrev pub batch_text : {R : Type 0} → Stream R → Option (List ℕ) → List ColumnView → ℕ → List ℕ

@@ -15,8 +15,11 @@ use Rattle.rowfn_batches.specs.declared.taking.Condition.{Condition}
 use Rattle.rowfn_batches.specs.Endings.{row_left_out}
 use Rattle.rowfn_batches.specs.Fields.{Field}
 use Rattle.rowfn_batches.specs.Passing.{PassesUpTo, IsBehind, KeepsReading, IsCleared, IsRefilled}
+use Rattle.rowfn_batches.specs.Passing.{Flows}
 use Rattle.rowfn_batches.specs.Passing.{HasBegun, IsWriting, condition_asked, CountsWritten}
 use Rattle.rowfn_batches.specs.Passing.{error_behind, is_end}
+use Rattle.rowfn_batches.specs.declared.refusals.RefusedRows.{RefusedRows}
+use Rattle.rowfn_batches.specs.declared.refusals.RefusedRows.TheVariants as refused
 use Rattle.rowfn_batches.specs.Parts.{next_row}
 use Rattle.rowfn_batches.specs.Refusals.{one_more_counted, IsUntold}
 use Rattle.rowfn_batches.specs.Starts.{IsHeaded, DoesNotStart}
@@ -235,3 +238,14 @@ pub data FlowsOn {R : Type 0} (reader : R) (settings : Settings) (x : Asked)
   not_begun : (e : StreamError) → DoesNotStart reader settings x condition e → after ≡ before
       → count ≡ counted → result ≡ Err e
       → FlowsOn reader settings x condition before after counted count result
+
+-- A stream runs, up to the first row that is refused, or past those that are, as they are to end it or
+-- to be skipped.
+abbrev pub Runs : {R E : Type 0} → R → Settings → Asked → Option Asked → Option (List ℕ)
+    → Option (List ℕ) → RefusedRows E → RefusedRows E → Result Summary StreamError → Type 0
+Runs reader settings x condition before after refused.End refused.End result =
+    Flows reader settings x condition before after result
+Runs reader settings x condition before after (refused.Skip old) (refused.Skip new) result =
+    FlowsOn reader settings x condition before after old.count new.count result
+Runs reader settings x condition before after refused.End (refused.Skip new) result = ⊥
+Runs reader settings x condition before after (refused.Skip old) refused.End result = ⊥

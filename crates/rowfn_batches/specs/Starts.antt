@@ -135,8 +135,8 @@ abbrev pub header_text : {R : Type 0} → Settings → Bool → Records R → Fo
 header_text settings is_there rows format answers =
     if settings.header
     then (if settings.picks_rows then (if is_there then line_of rows rows.span else [])
-    else own_names settings rows format.delimiter
-    ++ names_line format.delimiter format.null.now (names_of answers))
+    else own_names settings rows format.output_delimiter
+    ++ names_line format (names_of answers))
     else []
 
 -- it is pushed

@@ -245,14 +245,8 @@ impl<'a, R: Read + Drop> Stream<'a, R> {
     }
 }
 
-/// Lets rows flow as `flow` does, but goes on behind a row that is refused: one that is no row, with
-/// a field that does not fit, or in which a call faults. Each such row is told, in their order, and
-/// left out; what is written is what `flow` writes of the other rows. A field that is too long ends
-/// the stream, and so does what is no row's. Answers how many rows were read, those that were left
-/// out among them, and how many written.
-///
-/// No more than three times as many rows are tried as are read, however many are refused.
-pub fn flow_on<'a, R: Read + Drop, W: Write, E: Write>(
+/// Runs a stream, and goes on after each row that is refused, which is reported and skipped.
+pub(super) fn run_past_refused<'a, R: Read + Drop, W: Write, E: Write>(
     alloc: Global,
     settings: &Settings<'a>,
     asked: &Asked<'a>,

@@ -208,7 +208,7 @@ fn push_own_names<'a, R: Read>(
     output: &mut Output<'a>,
 ) -> Result<(), AllocError>
     ensures { OnOk result (Adds output.old output.new
-        (own_names settings.now records.now output.old.format.delimiter)) }
+        (own_names settings.now records.now output.old.format.output_delimiter)) }
 {
     if !settings.appends {
         return Ok(());

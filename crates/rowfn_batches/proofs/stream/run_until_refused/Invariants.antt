@@ -1,5 +1,5 @@
 use Rattle.rowfn_batches.specs.Passing.{Passed}
-use Rattle.rowfn_batches.proofs.stream.flow.Given as goal
+use Rattle.rowfn_batches.proofs.stream.run_until_refused.Given as goal
 
 -- the batches so far were passed on
 abbrev pub invariant-batches : goal.invariant-batches

@@ -3,7 +3,7 @@ use Rattle.std.proofs.lemmas.Result.{err_from_is_err_and}
 use Rattle.rowfn_batches.specs.Skipping.{none_yet, one_more, at_end, at_last_turn, at_error}
 use Rattle.rowfn_batches.specs.Skipping.{without_header, not_begun}
 use Rattle.rowfn_batches.proofs.Flowing.{has_begun}
-use Rattle.rowfn_batches.proofs.stream.skipping.flow_on.Goals as goal
+use Rattle.rowfn_batches.proofs.stream.skipping.run_past_refused.Goals as goal
 
 pub returns-in_err-stream-clause-flows : goal.returns-in_err-stream-clause-flows
 returns-in_err-stream-clause-flows g c =

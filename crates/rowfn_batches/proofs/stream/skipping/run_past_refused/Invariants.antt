@@ -1,5 +1,5 @@
 use Rattle.rowfn_batches.specs.Skipping.{PassedBut}
-use Rattle.rowfn_batches.proofs.stream.skipping.flow_on.Given as goal
+use Rattle.rowfn_batches.proofs.stream.skipping.run_past_refused.Given as goal
 
 -- the batches so far were passed on, but for the rows that are refused
 abbrev pub invariant-batches : goal.invariant-batches
