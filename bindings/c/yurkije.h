@@ -111,7 +111,7 @@ enum yk_status {
     /* Why a text is no expression. */
     YK_NOT_A_TEXT = 110,         /* the text, or the name of a field, is not UTF-8 */
     YK_NAME_TWICE = 111,         /* two fields have one name */
-    YK_NO_EXPRESSION = 112,      /* it is not written as expressions are, or lines as lines are */
+    YK_NO_EXPRESSION = 112,      /* it is not written as expressions are */
     YK_UNKNOWN_TYPE = 113,       /* no type has that name */
     YK_NOT_HELD = 114,           /* a literal is no value of its type */
     YK_UNTYPED_NULL = 115,       /* a null stands beside nothing that has a type */
@@ -285,12 +285,6 @@ uint32_t yk_version(char *room, size_t room_length, size_t *length);
 uint32_t yk_expression_new(const char *text, size_t length,
                            const struct yk_field *fields, size_t count,
                            struct yk_expression *expression, struct yk_error *error);
-
-/* Reads an expression from lines of scripts, which declare its fields themselves (docs/STREAM.md):
- * column `k` of a batch is that of the `k`-th line that declares one, whatever place it says.
- * Refused with the line that is wrong. */
-uint32_t yk_expression_of_lines(const char *text, size_t length,
-                                struct yk_expression *expression, struct yk_error *error);
 
 /* Frees what the handle holds, if anything, and leaves it empty. */
 void yk_expression_free(struct yk_expression *expression);

@@ -53,7 +53,6 @@ static void hash(const void *bytes, size_t length) {
 /* What is asked: reads an expression, runs it, and copies each answer out. Answers the first status that is not 0. */
 static const char text[] =
     "n * 2 as twice, t like '%o_t' and n > 1 as found, t, n between 2 and 7 or t ilike 'N%', cast(n > 3 as bool?), n is null";
-static const char script[] = "col n i64?\nget n\nlit i64 3\ncall +\noptimize\nas more\n";
 static const int64_t numbers[] = {1, 2, 3, 4};
 static const uint8_t valid[] = {0x0d};
 static const int32_t ends[] = {0, 3, 22, 22, 25};
@@ -113,11 +112,6 @@ static uint32_t plain_calls(void) {
     if (!status)
         status = names(&expression);
     yk_answers_free(&answers);
-    yk_expression_free(&expression);
-    if (!status)
-        status = yk_expression_of_lines(script, sizeof script - 1, &expression, &error);
-    if (!status)
-        status = names(&expression);
     yk_expression_free(&expression);
     return status;
 }

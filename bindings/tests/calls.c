@@ -178,26 +178,6 @@ static void refused_texts(void) {
     SAME(error.column, 1);
 }
 
-/* Lines of scripts declare their fields themselves. */
-static void lines(void) {
-    static const char good[] = "col a i64\nget a\nlit i64 2\ncall *\nas twice\n", bad[] = "col a i64\nget b\n";
-    struct yk_expression expression = {0};
-    struct yk_answers answers = {0};
-    struct yk_error error = new_error();
-    SAME(yk_expression_of_lines(good, sizeof good - 1, &expression, &error), YK_OK);
-    struct yk_column in = {.kind = YK_I64, .rows = 3, .i64 = {(const int64_t[]){4, 5, 6}, 3}};
-    SAME(yk_run(&expression, &in, 1, 3, &answers, &error), YK_OK);
-    int64_t values[3];
-    uint8_t validity[1];
-    struct yk_room room = {.kind = YK_I64, .validity = {validity, 1}, .i64 = {values, 3}};
-    SAME(yk_answer_copy(&answers, 0, &room), YK_OK);
-    CHECK(values[0] == 8 && values[1] == 10 && values[2] == 12);
-    CHECK(yk_expression_of_lines(bad, sizeof bad - 1, &expression, &error) != YK_OK);
-    SAME(error.line, 2);
-    CHECK(!expression.live);
-    yk_answers_free(&answers);
-}
-
 /* Columns that are refused tell which, and the row. */
 static void refused_columns(void) {
     struct yk_field fields[] = {field("a", YK_I64, false), field("t", YK_UTF8, true)};
@@ -302,7 +282,6 @@ int main(void) {
     each_kind();
     told();
     refused_texts();
-    lines();
     refused_columns();
     wrong_use();
     nothing();

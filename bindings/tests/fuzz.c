@@ -2,7 +2,7 @@
  * may touch, so that a byte past its end is a fault, also in code that no sanitizer knows. What is answered is asked again over the same
  * rows at another offset and in another layout, and compared. */
 #define _DEFAULT_SOURCE
-#include "fuzz_lines.h"
+#include "fuzz_texts.h"
 
 #include <stdio.h>
 #include <stdlib.h>
@@ -249,25 +249,6 @@ static uint32_t read_text(struct given *given, struct asking *asking) {
         guarded_copy(text, writing.length), writing.length, asking->fields, asking->count, &asking->expression, &asking->error);
 }
 
-/* An expression of lines, which declare the fields themselves. Of one whose fields have no kind no batch is run. */
-static uint32_t read_lines(struct given *given, struct asking *asking) {
-    char text[700];
-    struct writing writing = {text, 0, sizeof text, NULL, 0};
-    (next(given) % 8 == 0 ? write_bytes : write_script)(given, &writing);
-    uint32_t status = yk_expression_of_lines(guarded_copy(text, writing.length), writing.length, &asking->expression, &asking->error);
-    if (!status)
-        status = yk_field_count(&asking->expression, &asking->count);
-    if (!status && asking->count > most_columns)
-        return YK_NO_SUCH_NUMBER;
-    for (size_t i = 0; !status && i < asking->count; i++) {
-        struct yk_type type = {0};
-        yk_field_type(&asking->expression, i, &type);
-        asking->fields[i] = (struct yk_field){.kind = type.kind, .nullable = type.nullable};
-        status = type.kind == YK_NO_KIND ? YK_OTHER_KIND : YK_OK;
-    }
-    return status;
-}
-
 /* Runs the expression over columns of the input, and compares what it answers. */
 static void run(struct given *given, struct asking *asking) {
     static struct fuzzed made[most_columns];
@@ -295,7 +276,7 @@ int LLVMFuzzerTestOneInput(const uint8_t *bytes, size_t size) {
     if (!slot_end[0])
         make_slots();
     taken = 0;
-    uint32_t status = next(&given) % 4 == 0 ? read_lines(&given, &asking) : read_text(&given, &asking);
+    uint32_t status = read_text(&given, &asking);
     asked++;
     readable += status == YK_OK;
     if (!status)

@@ -148,6 +148,8 @@ class Asker:
     def explained_otherwise(self, cases, table):
         """The cases of which --explain tells another tree, type or weight by their texts than by their lines. Asked where
         both have the columns' own names."""
+        if not self.program.by_lines:
+            return
         names = line_names(table)
         both = [(case, lines(case.tree, names)) for case in cases if all(name == own for own, name in names.items())]
         both = [(case, said) for case, said in both if said is not None]
@@ -176,6 +178,8 @@ class Asker:
             said = lines(case.tree, names)
             return None if said is None else [said, [*said, "optimize"]]
         ways = [(("text",), self.program.by_text, lambda case: [case.text])] if self.texts else []
+        if not self.program.by_lines:
+            return ways
         return ways + [(("lines", "optimized"), self.program.by_lines, by_lines)]
 
     def ask_program(self, cases, table, asked):

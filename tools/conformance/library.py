@@ -2,7 +2,7 @@
 import os
 import sys
 
-from engines import NOT_ASKED, TOP, Fault, Missing, Program, Refused, line_names
+from engines import NOT_ASKED, TOP, Fault, Missing, Program, Refused
 from trees import Table
 
 # what the library says of a refusal, by the name that the program has for it
@@ -17,7 +17,9 @@ def spelled(value):
 
 
 class Library(Program):
-    """Expressions of the library over the columns of a table. Both ways of asking tell how one is read."""
+    """Expressions of the library over the columns of a table, which it reads from texts alone."""
+
+    by_lines = None
 
     def __init__(self, prefix):
         os.environ["YURKIJE_PREFIX"] = os.path.abspath(prefix)
@@ -33,14 +35,6 @@ class Library(Program):
         types = {column.name: column.type + "?" * column.nullable for column in table.columns}
         return lambda module: module.Expression(", ".join(f"{text}\nas {name}" for name, text in answers), types)
 
-    @staticmethod
-    def by_lines(answers, table):
-        names = line_names(table)
-        said = [f"col {names[column.name]} {column.type}{'?' * column.nullable}" for column in table.columns]
-        for name, lines in answers:
-            said += [*lines, f"as {name}"]
-        return lambda module: module.Expression.of_lines("\n".join(said))
-
     def read(self, ask, answers, table):
         self.runs += 1
         try:
@@ -49,8 +43,7 @@ class Library(Program):
             raise Refused(4, f"rowfn_stream: {refusal.message}") from None
 
     def columns(self, ask, table, rows):
-        names = line_names(table) if ask is self.by_lines else {column.name: column.name for column in table.columns}
-        return {names[column.name]: [row[place] for row in table.rows[:rows]] for place, column in enumerate(table.columns)}
+        return {column.name: [row[place] for row in table.rows[:rows]] for place, column in enumerate(table.columns)}
 
     def ran(self, expression, ask, table, rows):
         """The answers over the first rows of a table, each a list of values."""

@@ -175,12 +175,6 @@ class Expressions(unittest.TestCase):
             a = np.arange(size, dtype=np.int16)
             np.testing.assert_array_equal(made.run({"a": a, "b": -a})["a + b"], np.zeros(size, np.int16))
 
-    def test_lines(self):
-        made = Expression.of_lines("col a i64?\nget a\nlit i64 2\ncall *\nas twice\n")
-        self.assertEqual(made.columns, {"a": "i64?"})
-        self.assertEqual(rows_of(made.run({"a": [4, None]})["twice"]), [8, None])
-        self.assertEqual(pickle.loads(pickle.dumps(made)).answers, made.answers)
-
     def test_answers_outlive_what_they_came_of(self):
         values = evaluate("a + 1 as more", {"a": np.arange(100000)})["more"]
         np.testing.assert_array_equal(values, np.arange(1, 100001))

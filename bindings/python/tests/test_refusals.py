@@ -28,7 +28,6 @@ class Refusals(unittest.TestCase):
         self.refused(ExpressionError, lambda: evaluate("price +", columns), number=112, name="NoExpression", byte=7)
         self.refused(ExpressionError, lambda: evaluate("price = 'a'", columns), number=3, name="TypeMismatch")
         self.refused(ExpressionError, lambda: Expression("a", {"a": "int"}), number=113, name="UnknownType", column="a")
-        self.refused(ExpressionError, lambda: Expression.of_lines("col a i64\nget b\n"), line=2)
 
     def test_a_text_that_is_wrong_is_told_before_any_column(self):
         floats, twice = np.array([1.5]), np.zeros((1, 2))

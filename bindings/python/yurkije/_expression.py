@@ -151,7 +151,7 @@ class Expression:
     def _read_text(self, text: str, types: Mapping[str, Optional[str]], names: Iterable[str], refused: Optional[Error]) -> None:
         """Reads a text over the columns that it names, of their types, or None where a column is refused. Raises what is wrong
         with the text, and else that refusal."""
-        self.text: Optional[str] = text
+        self.text = text
         self._encoded, self._local = text.encode(), _Programs()
         if refused is None:
             self._read = [(name, kind) for name, kind in types.items() if kind]
@@ -195,15 +195,6 @@ class Expression:
         return made, [made._lent(column, type_of(column)) for column in borrowed.values() if column]
 
     @classmethod
-    def of_lines(cls, lines: str) -> Expression:
-        """Returns the expression that lines of scripts say, which declare its columns (docs/STREAM.md)."""
-        made = cls.__new__(cls)
-        made.text, made._encoded, made._local = None, lines.encode(), _Programs()
-        made._begin()
-        made._read = made._fields()
-        return made
-
-    @classmethod
     def _of_schema(cls, text: str, schema: Any) -> Expression:
         made = cls.__new__(cls)
         made.text, made._encoded, made._local = text, text.encode(), _Programs()
@@ -216,12 +207,9 @@ class Expression:
     def _begin(self) -> _Program:
         """Reads the text in this thread."""
         program, told = _Program(), Told()
-        if self.text is None:
-            told.check(lib.yk_expression_of_lines(self._encoded, len(self._encoded), program.raw, told.raw))
-        else:
-            fields, _keeps = fields_of(self._read)
-            status = lib.yk_expression_new(self._encoded, len(self._encoded), fields, len(self._read), program.raw, told.raw)
-            told.check(status, [name for name, _ in self._read])
+        fields, _keeps = fields_of(self._read)
+        status = lib.yk_expression_new(self._encoded, len(self._encoded), fields, len(self._read), program.raw, told.raw)
+        told.check(status, [name for name, _ in self._read])
         self._local.program = program
         return program
 
@@ -341,8 +329,6 @@ class Expression:
 
     def __reduce__(self) -> Any:
         """Pickles as its text, and is read anew where it arrives."""
-        if self.text is None:
-            return Expression.of_lines, (self._encoded.decode(),)
         return Expression, (self.text, dict(self._read))
 
     def __repr__(self) -> str:

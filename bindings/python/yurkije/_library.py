@@ -146,7 +146,6 @@ _CALLS: dict[str, list[Any]] = {
     "yk_abi_version": [],
     "yk_version": [c.c_void_p, c.c_size_t, _SIZE],
     "yk_expression_new": [c.c_char_p, c.c_size_t, c.POINTER(Field), c.c_size_t, _HANDLE, _ERROR],
-    "yk_expression_of_lines": [c.c_char_p, c.c_size_t, _HANDLE, _ERROR],
     "yk_expression_free": [_HANDLE],
     "yk_field_count": [_HANDLE, _SIZE],
     "yk_field_name": [_HANDLE, c.c_size_t, c.c_void_p, c.c_size_t, _SIZE],

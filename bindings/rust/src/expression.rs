@@ -40,16 +40,6 @@ impl Expression {
         Ok(expression)
     }
 
-    /// Reads an expression from lines of scripts, which declare its fields themselves (`docs/STREAM.md`).
-    pub fn of_lines(lines: &str) -> Result<Expression, Error> {
-        let expression = Expression { raw: UnsafeCell::new(Handle::EMPTY) };
-        told(|told| {
-            // SAFETY: the handle is empty, and the text is a slice of Rust.
-            unsafe { raw::yk_expression_of_lines(lines.as_ptr(), lines.len(), expression.handle(), told) }
-        })?;
-        Ok(expression)
-    }
-
     fn handle(&self) -> *mut Handle {
         self.raw.get()
     }

@@ -158,7 +158,6 @@ extern "C" {
         expression: *mut Handle,
         error: &mut Told<'_>,
     ) -> u32;
-    pub fn yk_expression_of_lines(text: *const u8, length: usize, expression: *mut Handle, error: &mut Told<'_>) -> u32;
     pub fn yk_expression_free(expression: *mut Handle);
     pub fn yk_field_count(expression: *mut Handle, count: &mut usize) -> u32;
     pub fn yk_field_name(expression: *mut Handle, field: usize, room: *mut u8, room_length: usize, length: &mut usize) -> u32;

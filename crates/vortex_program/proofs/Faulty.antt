@@ -11,16 +11,16 @@ use Rattle.vortex_interface.specs.Outcomes.{GivesValue}
 use Rattle.vortex_functions.specs.Executing.{Fits}
 use Rattle.vortex_expressions.specs.Items.{Tree, meaning}
 use Rattle.vortex_program.specs.Executing.{AllFit, AllGive, FaultsAt, FaultsFirst}
-use Rattle.vortex_program.specs.declared.answer.Answer as held
+use Rattle.vortex_program.specs.declared.answer.Answer as bound
 use Rattle.vortex_program.specs.Programs.{trees_of}
 use Rattle.vortex_program.specs.Running.{FaultsThere}
 
 -- a tree of those that the columns serve
-pub fit_at : (cs : List ColumnView) (n : ℕ) (xs : List held.Answer) (k : ℕ) (x : held.Answer)
+pub fit_at : (cs : List ColumnView) (n : ℕ) (xs : List bound.Answer) (k : ℕ) (x : bound.Answer)
     → k < length xs → x ≡ get_or xs k x → AllFit cs n (trees_of xs) → Fits cs n x.tree
 fit_at cs n [] k x below at fits = absurd (omega (arith, below))
 fit_at cs n (y ∷ xs) zero x below at fits =
-    subst (λ (z : held.Answer). Fits cs n z.tree) (sym at) fits.0
+    subst (λ (z : bound.Answer). Fits cs n z.tree) (sym at) fits.0
 fit_at cs n (y ∷ xs) (suc k) x below at fits =
     fit_at cs n xs k x (omega (arith, below)) at fits.1
 
@@ -31,7 +31,7 @@ some_fault cs row [] e h = absurd h
 some_fault cs row (t ∷ ts) e h = omega arith
 
 module _ (cs : List ColumnView) (row : ℕ) where
-  pub give_more : (xs : List held.Answer) (k j : ℕ) (x : held.Answer) → j ≡ suc k → k < length xs
+  pub give_more : (xs : List bound.Answer) (k j : ℕ) (x : bound.Answer) → j ≡ suc k → k < length xs
       → x ≡ get_or xs k x → AllGive meaning cs row (trees_of (take k xs))
       → GivesValue (eval meaning cs x.tree row)
       → AllGive meaning cs row (trees_of (take j xs))
@@ -39,15 +39,15 @@ module _ (cs : List ColumnView) (row : ℕ) where
       subst (λ (n : ℕ). AllGive meaning cs row (trees_of (take n xs))) (sym next)
       (go xs k lt at give)
     where
-      go : (ys : List held.Answer) (l : ℕ) → l < length ys → x ≡ get_or ys l x
+      go : (ys : List bound.Answer) (l : ℕ) → l < length ys → x ≡ get_or ys l x
           → AllGive meaning cs row (trees_of (take l ys))
           → AllGive meaning cs row (trees_of (take (suc l) ys))
       go [] l below is g = absurd (omega (arith, below))
       go (y ∷ ys) zero below is g =
-          (subst (λ (z : held.Answer). GivesValue (eval meaning cs z.tree row)) is here, tt)
+          (subst (λ (z : bound.Answer). GivesValue (eval meaning cs z.tree row)) is here, tt)
       go (y ∷ ys) (suc l) below is g = (g.0, go ys l (omega (arith, below)) is g.1)
 
-  pub faults_there_at : (xs : List held.Answer) (k : ℕ) (x : held.Answer) (e : VortexError)
+  pub faults_there_at : (xs : List bound.Answer) (k : ℕ) (x : bound.Answer) (e : VortexError)
       → k < length xs → x ≡ get_or xs k x → AllGive meaning cs row (trees_of (take k xs))
       → FaultsAt meaning cs row x.tree e → FaultsThere cs row (trees_of xs) k e
   faults_there_at xs k x e below at give here = record {

@@ -8,7 +8,7 @@ use Rattle.vortex_interface.specs.Weights.{weight_told}
 use Rattle.vortex_interface.specs.ValidityRules.{default_rules}
 use Rattle.vortex_rewriting.specs.Runs.{expression_step}
 use Rattle.vortex_expressions.specs.Items.{Tree, meaning}
-use Rattle.vortex_program.specs.declared.answer.Answer as held
+use Rattle.vortex_program.specs.declared.answer.Answer as bound
 use Rattle.vortex_program.specs.Programs.{IsOptimized, AreOptimized}
 
 -- what a run that is over, or has taken all its steps, leads to
@@ -25,17 +25,17 @@ optimized_by t u steps limit false most run within over stopped kept = record {
   kept = kept;
 }
 
-pub optimized_more : (xs os : List held.Answer) (k j : ℕ) (x o : held.Answer) → j ≡ suc k
+pub optimized_more : (xs os : List bound.Answer) (k j : ℕ) (x o : bound.Answer) → j ≡ suc k
     → k < length xs → x ≡ get_or xs k x → AreOptimized (take k xs) os
     → IsOptimized x.tree o.tree → AreOptimized (take j xs) (os ++ o ∷ [])
 optimized_more xs os k j x o next lt at h r =
     subst (λ (n : ℕ). AreOptimized (take n xs) (os ++ o ∷ [])) (sym next) (go xs os k lt at h)
   where
-    go : (ys ps : List held.Answer) (l : ℕ) → l < length ys → x ≡ get_or ys l x
+    go : (ys ps : List bound.Answer) (l : ℕ) → l < length ys → x ≡ get_or ys l x
         → AreOptimized (take l ys) ps → AreOptimized (take (suc l) ys) (ps ++ o ∷ [])
     go [] ps l below at h = absurd (omega (arith, below))
     go (y ∷ ys) [] zero below at h =
-        (subst (λ (z : held.Answer). IsOptimized z.tree o.tree) at r, tt)
+        (subst (λ (z : bound.Answer). IsOptimized z.tree o.tree) at r, tt)
     go (y ∷ ys) (p ∷ ps) zero below at h = absurd h
     go (y ∷ ys) [] (suc l) below at h = absurd h
     go (y ∷ ys) (p ∷ ps) (suc l) below at h = (h.0, go ys ps l (omega (arith, below)) at h.1)

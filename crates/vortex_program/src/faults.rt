@@ -1,4 +1,4 @@
-//! The first row in which an answer faults, found by halving.
+//! The first row in which an answer faults, found by parts of the rows.
 ghost use Rattle.std.specs.Prelude.{◌≡◌, ◌≢◌, ◌+◌, ◌^◌, ◌<◌, ◌≤◌, ◌⊎◌, ℕ, All, IfOk, length, map};
 ghost use Rattle.std.specs.Prelude.{None, true, false, MatchOption};
 ghost use Rattle.vortex_errors.specs.declared.error.VortexError.TheVariants.{OutOfMemory};
@@ -19,6 +19,9 @@ use crate::rows::{NUMBERED, rows_of};
 use std::alloc::Global;
 use vortex_columns::{Column, ExecutionCtx, VortexError, VortexResult};
 use vortex_rewriting::laws::rewrites_keep_rows;
+
+/// How many rows are executed first.
+const FIRST_PART: usize = 64;
 
 /// A row in which an answer faults, the number of the answer, and its fault.
 #[derive(Drop)]
@@ -122,8 +125,8 @@ fn faulty_answer(
     Ok(None)
 }
 
-/// A row between the two, which halves them as far as rows have numbers.
-fn middle(from: usize, to: usize) -> usize
+/// A row between the two: so many rows after the first, or half the way where that is less.
+fn row_between(from: usize, to: usize, count: usize) -> usize
     requires { from + 1 < to }
     ensures after { from < result }
     ensures before { result < to }
@@ -132,13 +135,17 @@ fn middle(from: usize, to: usize) -> usize
     if from + 1 >= NUMBERED {
         return from + 1;
     }
-    let half = from + (to - from) / 2;
-    half.min(NUMBERED)
+    let half = (to - from) / 2;
+    let row = from + half.min(count.max(1));
+    row.min(NUMBERED)
 }
 
 /// The one row in which an answer may be the first to fault: none faults in a row before it, and
-/// where none faults in it, none does at all. Executes each row about once, however many calls the
-/// answers have.
+/// where none faults in it, none does at all.
+///
+/// Executes the answers over parts of the rows, each twice as long as the one before it, and then
+/// over halves of the one with the fault: over no more rows in all than there are, and over few
+/// where the row is one of the first.
 fn suspect_row(
     alloc: Global,
     answers: &[Answer],
@@ -154,12 +161,14 @@ fn suspect_row(
 {
     let mut from = 0;
     let mut to = row_count;
-    'halves: while to - from > 1 {
-        let half = middle(from, to);
-        if faults_within(alloc, answers, columns, row_count, from, half - from)? {
-            to = half;
+    let mut count = FIRST_PART;
+    'parts: while to - from > 1 {
+        let end = row_between(from, to, count);
+        if faults_within(alloc, answers, columns, row_count, from, end - from)? {
+            to = end;
         } else {
-            from = half;
+            from = end;
+            count = count.saturating_mul(2);
         }
     }
     Ok(from)
@@ -191,7 +200,8 @@ pub(crate) fn first_row_fault(
 }
 
 /// The first row in which an answer faults, and the fault of the first answer that does; none
-/// where no row faults. Costs about one run over the rows.
+/// where no row faults. Costs no more than one run over the rows, and less where the row is one of
+/// the first.
 ///
 /// Fails where the columns are not valid for an answer, as `execute_answers` does.
 pub fn first_fault(

@@ -12,6 +12,8 @@ ghost use Rattle.vortex_expressions.specs.Reading.{ReadUnlessMemory, RefusesAs, 
 ghost use Rattle.vortex_program.specs.declared.form.Form.TheVariants as form;
 ghost use Rattle.vortex_program.specs.Texts.{IsParsed, unnamed, Means, IsRefusedOver, StopsAt};
 ghost use Rattle.vortex_program.specs.Texts.{AreAnswersOf};
+ghost use Rattle.vortex_program.specs.Naming.{IsNamedAnswer};
+ghost use Rattle.vortex_functions.specs.Walks.{AllMean};
 ghost use Rattle.vortex_program.specs.Programs.{trees_of};
 
 use crate::answer::Answer;
@@ -81,12 +83,30 @@ pub fn parse_condition(alloc: Global, text: &str) -> Result<Parsed<'_>, ReadErro
         Ok(tree) => tree,
         Err(error) => return Err(ReadError::of_syntax(alloc, text, error)),
     };
-    let answers = one_answer(alloc, tree)?;
-    Ok(Parsed {
-        text,
-        form: Form::Condition,
-        answers,
-    })
+    match one_answer(alloc, tree) {
+        Ok(answers) => Ok(Parsed {
+            text,
+            form: Form::Condition,
+            answers,
+        }),
+        Err(error) => Err(error),
+    }
+}
+
+/// Each answer with its name; or that memory ran out.
+fn name_all(
+    alloc: Global,
+    scope: &StructFields,
+    list: &[vortex_expressions::Answer],
+) -> Result<Vec<Answer>, ReadError>
+    ensures { ReadUnlessMemory result (λ answers.
+        AllMean (IsNamedAnswer (struct_fields scope.now)) (map specs.answer_in list.now)
+        answers.items) }
+{
+    match all_named(alloc, scope, list) {
+        Ok(answers) => Ok(answers),
+        Err(_) => Err(ReadError::out_of_memory(alloc)),
+    }
 }
 
 impl Parsed<'_> {
@@ -106,10 +126,9 @@ impl Parsed<'_> {
             (IsRefusedOver self.now.form (struct_fields scope.now) self.now.text.now)
             self.now.text.now) }
     {
-        let list = bind_answers(alloc, scope, self.text, &self.answers)?;
-        match all_named(alloc, scope, &list) {
-            Ok(answers) => Ok(answers),
-            Err(_) => Err(ReadError::out_of_memory(alloc)),
+        match bind_answers(alloc, scope, self.text, &self.answers) {
+            Ok(list) => name_all(alloc, scope, &list),
+            Err(error) => Err(error),
         }
     }
 }

@@ -82,8 +82,14 @@ impl Program {
         ensures why { IfErr result (TellsWhy ListStopsAt
             (IsRefusedAll (struct_fields scope) text.now) text.now) }
     {
-        let parsed = parse_answers(alloc, text)?;
-        let written = parsed.bind(alloc, &scope)?;
+        let parsed = match parse_answers(alloc, text) {
+            Ok(parsed) => parsed,
+            Err(error) => return Err(error),
+        };
+        let written = match parsed.bind(alloc, &scope) {
+            Ok(written) => written,
+            Err(error) => return Err(error),
+        };
         match Program::of(alloc, scope, written) {
             Ok(program) => Ok(program),
             Err(_) => Err(ReadError::out_of_memory(alloc)),

@@ -2,7 +2,7 @@ use Rattle.std.proofs.Common.{rules, ◌≡◌, ◌<◌, string_bytes, arith}
 use Rattle.vortex_types.specs.LogicalTypes.{field_count}
 use Rattle.vortex_types.specs.FieldNames.{field_name}
 use Rattle.vortex_types.specs.TypeOf.{struct_fields}
-use Rattle.vortex_program.specs.Programs.{of_field}
+use Rattle.vortex_program.specs.Naming.{of_field}
 use Rattle.vortex_program.proofs.naming.name_of.Goals as goal
 
 pub returns-in_ok-from_str : goal.returns-in_ok-from_str

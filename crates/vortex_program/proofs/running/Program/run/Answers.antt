@@ -4,7 +4,7 @@ use Rattle.vortex_interface.specs.Execution.{Executes}
 use Rattle.vortex_functions.specs.Walks.{AllMean}
 use Rattle.vortex_rewriting.specs.Keeping.{RewritesKeepRows}
 use Rattle.vortex_expressions.specs.Items.{meaning}
-use Rattle.vortex_program.specs.declared.answer.Answer as held
+use Rattle.vortex_program.specs.declared.answer.Answer as bound
 use Rattle.vortex_program.specs.Executing.{AllFit}
 use Rattle.vortex_program.specs.Programs.{trees_of}
 use Rattle.vortex_program.proofs.Keeping.{kept_answers}
@@ -18,9 +18,9 @@ returns-in-Ok c rewrites =
     let written = c.args.program.now.written.items in
     let optimized = c.args.program.now.optimized.items in
     kept_answers cs n (trees_of written) (trees_of optimized) answers rewrites
-    (subst (λ (xs : List held.Answer). AllFit cs n (trees_of xs)) c.deref.ensures.value
+    (subst (λ (xs : List bound.Answer). AllFit cs n (trees_of xs)) c.deref.ensures.value
     c.in_default.ensures.0)
-    (subst (λ (xs : List held.Answer). All (RewritesKeepRows meaning cs n) (trees_of xs))
+    (subst (λ (xs : List bound.Answer). All (RewritesKeepRows meaning cs n) (trees_of xs))
     c.deref.ensures.value c.in_default.ensures.1)
-    (subst (λ (xs : List held.Answer). AllMean (Executes meaning cs n) (trees_of xs) answers)
+    (subst (λ (xs : List bound.Answer). AllMean (Executes meaning cs n) (trees_of xs) answers)
     c.deref-2.ensures.value c.in-Ok.ensures)

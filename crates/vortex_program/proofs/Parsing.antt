@@ -1,0 +1,126 @@
+-- What a parsed text leaves over a scope is what the text means there.
+use Rattle.std.proofs.Common.{◌≡◌, ℕ, List, [], ◌∷◌, map, Result, Ok, Err, None, ap, sym, ◌∙◌, subst, refl}
+use Rattle.std.specs.Prelude.{IfOk, IfErr}
+use Rattle.vortex_types.specs.LogicalTypes.{Fields}
+use Rattle.vortex_syntax.specs.Syntax.{Syntax}
+use Rattle.vortex_syntax.specs.Postfix.{Step, postfix}
+use Rattle.vortex_syntax.specs.Grammar.{Reads}
+use Rattle.vortex_syntax.specs.Refusals.{TreeStopsAt}
+use Rattle.vortex_syntax.specs.AnswerLists.{Told}
+use Rattle.vortex_syntax.proofs.Whole.{one_tree}
+use Rattle.vortex_expressions.specs.declared.error.ReadError.{ReadError}
+use Rattle.vortex_expressions.specs.declared.refusal.Refusal.{Refusal}
+use Rattle.vortex_expressions.specs.Outcomes.{Outcome, answers, refuses, missing, and_then}
+use Rattle.vortex_expressions.specs.Items.{Tree}
+use Rattle.vortex_expressions.specs.Stacks.{tree_left}
+use Rattle.vortex_expressions.specs.Binding.{tree_of, IsRefused}
+use Rattle.vortex_expressions.specs.Answers.{Answer, with_name, with_first, answers_left}
+use Rattle.vortex_expressions.specs.Reading.{Finds, ToldBy, ReadUnlessMemory, RefusesAs, TellsWhy}
+use Rattle.vortex_expressions.proofs.Whole.{tree_left-is}
+use Rattle.vortex_expressions.proofs.Sure.{IsTyped, sure_tree}
+use Rattle.vortex_expressions.proofs.Why.{why}
+use Rattle.vortex_expressions.proofs.Listing as listed
+use Rattle.vortex_program.specs.declared.form.Form.{Form}
+use Rattle.vortex_program.specs.declared.form.Form.TheVariants as form
+use Rattle.vortex_program.specs.Texts.{IsParsed, ReadsOne, MeansOne, Means, IsRefusedOver, StopsAt}
+
+-- one tree without a name
+abbrev one : Tree → List Answer
+one t = record { tree = t; name = None } ∷ []
+
+abbrev alone : Outcome Tree → Outcome (List Answer)
+alone o = and_then o (λ t. answers (one t))
+
+one_left : (o : Outcome Tree)
+    → with_first (and_then o (with_name None)) (answers []) ≡ alone o
+one_left (answers t) = refl
+one_left (refuses r) = refl
+one_left missing = refl
+
+told_of : (o : Outcome Tree) (e : ReadError) → ToldBy (alone o) e → ToldBy o e
+told_of (answers t) e h = h
+told_of (refuses r) e h = h
+told_of missing e h = h
+
+module _ (scope : Fields) (text : List ℕ) (ts : List Told) (parsed : ReadsOne text ts) where
+  left_is : (u : Syntax) → Reads text u → answers_left scope ts ≡ alone (tree_of scope u)
+  left_is u s =
+      ap (answers_left scope) parsed.is
+      ∙ ap (λ (ss : List Step).
+      with_first (and_then (tree_left scope ss) (with_name None)) (answers []))
+      (one_tree text parsed.tree u parsed.read s)
+      ∙ ap (λ o. with_first (and_then o (with_name None)) (answers [])) (tree_left-is scope u)
+      ∙ one_left (tree_of scope u)
+
+  meant : (o : Outcome Tree) (list : List Answer) → tree_of scope parsed.tree ≡ o
+      → alone o ≡ answers list → MeansOne scope text list
+  meant (answers t) list e h =
+      let same : list ≡ one t = cc in
+      record {
+        tree = t;
+        said = record { syntax = parsed.tree; read = parsed.read; bound = e };
+        is = same;
+      }
+  meant (refuses r) list e h = cc
+  meant missing list e h = cc
+
+  module _ {A : Type 0} (view : A → List Answer) where
+    found_one : (r : Result A ReadError) → Finds view r (answers_left scope ts)
+        → IfOk r (λ v. MeansOne scope text (view v))
+    found_one (Ok v) h =
+        meant (tree_of scope parsed.tree) (view v) refl (sym (left_is parsed.tree parsed.read) ∙ h)
+    found_one (Err e) h = tt
+
+    only_one : (r : Result A ReadError) → Finds view r (answers_left scope ts)
+        → (list : List Answer) → MeansOne scope text list
+        → ReadUnlessMemory r (λ v. view v ≡ list)
+    only_one (Ok v) h list s =
+        let e : answers (view v) ≡ answers (one s.tree) =
+        sym h ∙ left_is s.said.syntax s.said.read ∙ ap alone s.said.bound in
+        let same : view v ≡ one s.tree = cc in
+        same ∙ sym s.is
+    only_one (Err e) h list s =
+        subst (λ o. ToldBy o e) (left_is s.said.syntax s.said.read ∙ ap alone s.said.bound) h
+
+    refused_one : (r : Result A ReadError) → Finds view r (answers_left scope ts)
+        → (w : Refusal) → IsRefused scope text w → RefusesAs w r
+    refused_one (Ok v) h w s =
+        let e : answers (view v) ≡ refuses w =
+        sym h ∙ left_is s.syntax s.read ∙ ap alone s.refused in cc
+    refused_one (Err e) h w s =
+        subst (λ o. ToldBy o e) (left_is s.syntax s.read ∙ ap alone s.refused) h
+
+    why_one : (r : Result A ReadError) → Finds view r (answers_left scope ts)
+        → IfErr r (TellsWhy TreeStopsAt (IsRefused scope text) text)
+    why_one (Ok v) h = tt
+    why_one (Err e) h =
+        why TreeStopsAt (IsRefused scope text) text IsTyped (tree_of scope parsed.tree) e
+        (sure_tree scope parsed.tree parsed.read.spelled.levels)
+        (λ r k. record { syntax = parsed.tree; read = parsed.read; refused = k })
+        (told_of (tree_of scope parsed.tree) e
+        (subst (λ o. ToldBy o e) (left_is parsed.tree parsed.read) h))
+
+module _ (scope : Fields) (text : List ℕ) (ts : List Told) {A : Type 0} (view : A → List Answer)
+  where
+    pub found : (f : Form) → IsParsed f text ts → (r : Result A ReadError)
+        → Finds view r (answers_left scope ts) → IfOk r (λ v. Means f scope text (view v))
+    found form.Answers p r h = listed.found scope view text p.list ts p.read p.is r h
+    found form.Condition p r h = found_one scope text ts p view r h
+
+    pub only : (f : Form) → IsParsed f text ts → (r : Result A ReadError)
+        → Finds view r (answers_left scope ts) → (list : List Answer) → Means f scope text list
+        → ReadUnlessMemory r (λ v. view v ≡ list)
+    only form.Answers p r h = listed.only scope view text p.list ts p.read p.is r h
+    only form.Condition p r h = only_one scope text ts p view r h
+
+    pub refused : (f : Form) → IsParsed f text ts → (r : Result A ReadError)
+        → Finds view r (answers_left scope ts) → (w : Refusal) → IsRefusedOver f scope text w
+        → RefusesAs w r
+    refused form.Answers p r h = listed.refused scope view text p.list ts p.read p.is r h
+    refused form.Condition p r h = refused_one scope text ts p view r h
+
+    pub told_why : (f : Form) → IsParsed f text ts → (r : Result A ReadError)
+        → Finds view r (answers_left scope ts)
+        → IfErr r (TellsWhy (StopsAt f) (IsRefusedOver f scope text) text)
+    told_why form.Answers p r h = listed.told_why scope view text p.list ts p.read p.is r h
+    told_why form.Condition p r h = why_one scope text ts p view r h
