@@ -6,7 +6,7 @@ use Rattle.std.specs.Borrow.{Bor}
 use Rattle.std.proofs.lemmas.List.{take-map}
 use Rattle.vortex_columns.specs.ColumnView.{ColumnView}
 use Rattle.vortex_types.specs.TypeOf.{struct_fields}
-use Rattle.rowfn_scripts.specs.declared.expression.Expression.{Expression}
+use Rattle.rowfn_batches.specs.declared.asked.Asked.{Asked}
 use Rattle.rowfn_batches.specs.Fields.{Field, field_in}
 use Rattle.rowfn_batches.specs.Batches.{AreEven, AreColumns}
 use Rattle.rowfn_batches.specs.BatchAnswers.{width_of, first_fields, AreFirst}
@@ -16,7 +16,7 @@ pub if_ok-weaker : {A E : Type 0} (r : Result A E) (P Q : A → Type 0) → ((a 
 if_ok-weaker (Ok a) P Q f h = f a h
 if_ok-weaker (Err e) P Q f h = tt
 
-module _ (x : Expression) (fs : List (Option (Bor (List ℕ)))) (n w : ℕ) (counted : w ≡ width_of x)
+module _ (x : Asked) (fs : List (Option (Bor (List ℕ)))) (n w : ℕ) (counted : w ≡ width_of x)
     (whole : List (Option (Bor (List ℕ)))) (taken : whole ≡ take (w * n) fs) where
   -- what holds of the borrowed fields holds of the first fields
   pub of_first : (P : List Field → Type 0) → P (map field_in whole)
@@ -28,10 +28,10 @@ module _ (x : Expression) (fs : List (Option (Bor (List ℕ)))) (n w : ℕ) (cou
       subst P same h
 
   pub are_first : (cs : List ColumnView)
-      → AreEven (struct_fields x.columns) (map field_in whole) n
-      × AreColumns (struct_fields x.columns) (map field_in whole) n (width_of x) cs
+      → AreEven (struct_fields x.program.now.scope) (map field_in whole) n
+      × AreColumns (struct_fields x.program.now.scope) (map field_in whole) n (width_of x) cs
       → AreFirst x (map field_in fs) n cs
   are_first cs h =
-      let ds = struct_fields x.columns in
+      let ds = struct_fields x.program.now.scope in
       let here = of_first (λ f. AreEven ds f n × AreColumns ds f n (width_of x) cs) h in
       record { even = here.0; said = here.1 }

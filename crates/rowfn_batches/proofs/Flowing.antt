@@ -1,23 +1,24 @@
 -- How a stream begins.
-use Rattle.std.proofs.Common.{◌≡◌, ℕ, List, Option, option_map}
+use Rattle.std.proofs.Common.{◌≡◌, ℕ, List, Option}
 use Rattle.std.specs.Io.KnownBytes.{Appends}
-use Rattle.rowfn_scripts.specs.declared.expression.Expression.{Expression}
+use Rattle.rowfn_batches.specs.declared.asked.Asked.{Asked}
+use Rattle.rowfn_batches.specs.declared.settings.Settings.{Settings}
 use Rattle.rowfn_batches.specs.declared.stream.Stream.{Stream}
 use Rattle.rowfn_batches.specs.Passing.{HasBegun, KeepsReading, IsCleared}
+use Rattle.rowfn_batches.specs.Starts.{IsHeaded}
 
-pub has_begun : {R : Type 0} (x : Expression) (asked : Option Expression)
-    (before begun : Option (List ℕ)) (headed first : Stream R) → headed.expression.now ≡ x
-    → option_map (λ c. c.expression.now) headed.condition ≡ asked
-    → headed.summary.rows_read ≡ 0 → Appends before begun headed.output.bytes.items
-    → KeepsReading headed first → IsCleared headed.output first.output
-    → first.summary ≡ headed.summary → HasBegun x asked before begun first
-has_begun x asked before begun headed first of_it by_it none wrote kept cleared same = record {
-  headed = headed;
-  expression = of_it;
-  condition = by_it;
-  none_read = none;
-  header = wrote;
-  kept = kept;
-  cleared = cleared;
-  summary = same;
-}
+pub has_begun : {R : Type 0} (reader : R) (settings : Settings) (x : Asked)
+    (condition : Option Asked) (before begun : Option (List ℕ)) (headed first : Stream R)
+    → IsHeaded reader settings x condition headed
+    → Appends before begun headed.output.bytes.items → KeepsReading headed first
+    → IsCleared headed.output first.output → first.summary ≡ headed.summary
+    → HasBegun reader settings x condition before begun first
+has_begun reader settings x condition before begun headed first start wrote kept cleared same =
+    record {
+      headed = headed;
+      start = start;
+      header = wrote;
+      kept = kept;
+      cleared = cleared;
+      summary = same;
+    }

@@ -1,13 +1,16 @@
 -- One more column that stands in a header.
 use Rattle.std.proofs.Common.{◌≡◌, ◌≢◌, ℕ, ◌<◌, ◌≤◌, ◌+◌, suc, List, [], ◌∷◌, ◌++◌, length}
-use Rattle.std.proofs.Common.{ap, sym, get_or, zero, Option, Some, arith}
+use Rattle.std.proofs.Common.{ap, sym, get_or, zero, Option, Some, None, arith, ◌∙◌, refl}
 use Rattle.std.proofs.Common.{subst}
 use Rattle.csv.specs.Records.{field_at}
-use Rattle.std.proofs.lemmas.List.{length-append}
+use Rattle.std.proofs.lemmas.List.{length-append, ext_get_or}
 use Rattle.vortex_types.specs.FieldNames.{field_name}
 use Rattle.vortex_types.specs.LogicalTypes.{Fields}
 use Rattle.rowfn_batches.specs.Layouts.{LacksFrom, IsFirstFrom, StandsOnce, FirstStandAt}
-use Rattle.rowfn_batches.specs.Layouts.{StandsWhere, place_said}
+use Rattle.rowfn_batches.specs.Layouts.{StandsWhere, place_said, StandAt, RefusesName, RefusesPlace}
+use Rattle.rowfn_batches.specs.Layouts.{RefusesColumn, RefusesHeader, at_column, without_memory}
+use Rattle.rowfn_batches.specs.declared.errors.StreamError.{StreamError}
+use Rattle.rowfn_batches.specs.declared.errors.StreamError.TheVariants as end
 
 -- a field that is there lies among the fields
 within : (fields : List (List ℕ)) (q : ℕ) (x : List ℕ) → field_at fields q ≡ Some x
@@ -64,3 +67,53 @@ next_column fields ds said k ps now p before once pushed =
           (subst (λ (n : ℕ). Here n p) (sym before.count) once) i
           (omega (arith, lt, before.count, length-append ps (p ∷ [])));
     })
+
+-- a name that is at one place and no other
+one_place : (fields : List (List ℕ)) (at : Option ℕ) (name : List ℕ) (p q : ℕ)
+    → StandsWhere fields at name p → StandsWhere fields at name q → p ≡ q
+one_place fields None name p q here there = there.1 p here.0
+one_place fields (Some at) name p q here there = here.0 ∙ sym there.0
+
+-- the places of columns are the only ones at which they are
+pub same_places : (fields : List (List ℕ)) (ds : Fields) (said : List (Option ℕ)) (n : ℕ)
+    (ps qs : List ℕ) → FirstStandAt fields ds said n ps → FirstStandAt fields ds said n qs
+    → ps ≡ qs
+same_places fields ds said n ps qs here there =
+    ext_get_or 0 ps qs (here.count ∙ sym there.count)
+    (λ k lt.
+    let below : k < n = omega (arith, lt, here.count) in
+    one_place fields (place_said said k) (field_name k ds) (get_or ps k 0) (get_or qs k 0)
+    (here.each k below) (there.each k below))
+
+-- a column that has its place is refused only where memory runs out
+refused_name : (fields : List (List ℕ)) (name : List ℕ) (p : ℕ) (e : StreamError)
+    → StandsOnce fields name p → RefusesName fields name e → e ≡ end.OutOfMemory
+refused_name fields name p (end.ColumnMissing told) here (is, none) =
+    absurd (none p (omega arith) here.0)
+refused_name fields name p (end.ColumnTwice told) here (is, q, r, below, at_q, at_r) =
+    let one = here.1 q at_q in
+    let two = here.1 r at_r in
+    absurd (omega (arith, below, one, two))
+refused_name fields name p end.OutOfMemory here h = refl
+refused_name fields name p e here h = absurd h
+
+refused_place : (fields : List (List ℕ)) (at : ℕ) (name : List ℕ) (p : ℕ) (e : StreamError)
+    → StandsWhere fields (Some at) name p → RefusesPlace fields at name e → e ≡ end.OutOfMemory
+refused_place fields at name p (end.PlaceMissing told place found) here h =
+    absurd (omega (arith, here.1, h.3))
+refused_place fields at name p end.OutOfMemory here h = refl
+refused_place fields at name p e here h = absurd h
+
+refused_column : (fields : List (List ℕ)) (at : Option ℕ) (name : List ℕ) (p : ℕ)
+    (e : StreamError) → StandsWhere fields at name p → RefusesColumn fields at name e
+    → e ≡ end.OutOfMemory
+refused_column fields None name p e here h = refused_name fields name p e here h
+refused_column fields (Some at) name p e here h = refused_place fields at name p e here h
+
+pub refused_header : (fields : List (List ℕ)) (ds : Fields) (said : List (Option ℕ))
+    (ps : List ℕ) (e : StreamError) → StandAt fields ds said ps → RefusesHeader fields ds said e
+    → e ≡ end.OutOfMemory
+refused_header fields ds said ps e here (at_column k before below first refused) =
+    refused_column fields (place_said said k) (field_name k ds) (get_or ps k 0) e
+    (here.each k below) refused
+refused_header fields ds said ps e here (without_memory is) = is

@@ -2,7 +2,8 @@ pub mod FieldPlaces
 pub mod TruthFields
 pub mod FirstRows
 pub mod Flowing
-pub mod LastAlone
+pub mod Optimized
+pub mod Starting
 pub mod Leftmost
 pub mod Layouts
 pub mod Lines

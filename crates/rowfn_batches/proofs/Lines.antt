@@ -53,13 +53,13 @@ next_bytes old now last f n before added = (
 )
 
 pub next_line : (old now last : Output) (answers : List ColumnView) (n : ℕ)
-    → Adds old now (row_lines old.format.delimiter old.format.null.now answers n)
-    → Adds now last (row_line now.format.delimiter now.format.null.now answers n)
-    → Adds old last (row_lines old.format.delimiter old.format.null.now answers (n + 1))
+    → Adds old now (row_lines old.format answers n)
+    → Adds now last (row_line now.format answers n)
+    → Adds old last (row_lines old.format answers (n + 1))
 next_line old now last answers n before added =
-    next_bytes old now last (row_line old.format.delimiter old.format.null.now answers) n before (
+    next_bytes old now last (row_line old.format answers) n before (
       added.0
-          ∙ ap (λ (f : Format). now.bytes.items ++ row_line f.delimiter f.null.now answers n)
+          ∙ ap (λ (f : Format). now.bytes.items ++ row_line f answers n)
           before.1,
       added.1,
     )
@@ -108,19 +108,19 @@ one_at_most x false e = omega arith
 pub next_appended : (old now last : Output) (lines : List (List ℕ)) (rows : Option (List ℕ))
     (answers : List ColumnView) (k at : ℕ) (line : List ℕ) → at ≡ row_among rows k
     → line ≡ slice_index_or lines at []
-    → Adds old now (appended_lines old.format.delimiter old.format.null.now lines rows answers k)
-    → Adds now last (without_line_end line ++ (now.format.delimiter
-    ∷ row_line now.format.delimiter now.format.null.now answers k))
+    → Adds old now (appended_lines old.format lines rows answers k)
+    → Adds now last (without_line_end line ++ (now.format.output_delimiter
+    ∷ row_line now.format answers k))
     → Adds old last
-    (appended_lines old.format.delimiter old.format.null.now lines rows answers (k + 1))
+    (appended_lines old.format lines rows answers (k + 1))
 next_appended old now last lines rows answers k at line among is before added =
     next_bytes old now last
-    (appended_line old.format.delimiter old.format.null.now lines rows answers) k before (
+    (appended_line old.format lines rows answers) k before (
       added.0
-          ∙ ap (λ (f : Format). now.bytes.items ++ (without_line_end line ++ (f.delimiter
-          ∷ row_line f.delimiter f.null.now answers k))) before.1
-          ∙ ap (λ (t : List ℕ). now.bytes.items ++ (without_line_end t ++ (old.format.delimiter
-          ∷ row_line old.format.delimiter old.format.null.now answers k)))
+          ∙ ap (λ (f : Format). now.bytes.items ++ (without_line_end line ++ (f.output_delimiter
+          ∷ row_line f answers k))) before.1
+          ∙ ap (λ (t : List ℕ). now.bytes.items ++ (without_line_end t ++ (old.format.output_delimiter
+          ∷ row_line old.format answers k)))
           (is ∙ ap (λ (m : ℕ). slice_index_or lines m []) among),
       added.1,
     )

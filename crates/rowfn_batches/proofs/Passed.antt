@@ -9,7 +9,7 @@ use Rattle.vortex_columns.specs.ColumnView.{ColumnView}
 use Rattle.rowfn_batches.specs.Fields.{Field, field_in}
 use Rattle.rowfn_csv.specs.declared.records.Span.{Span}
 use Rattle.rowfn_csv.specs.KeptLines.{line_of}
-use Rattle.rowfn_scripts.specs.declared.expression.Expression.{Expression}
+use Rattle.rowfn_batches.specs.declared.asked.Asked.{Asked}
 use Rattle.rowfn_batches.specs.declared.answering.Answered.{Answered}
 use Rattle.rowfn_batches.specs.declared.errors.StreamError.{StreamError}
 use Rattle.rowfn_batches.specs.declared.output.Output.{Output}
@@ -62,11 +62,11 @@ module _ {R : Type 0} (s : Stream R) (behind : Option StreamError) (rows : Optio
   pub have : HaveRows n lent
   have =
       subst (λ (cs : List ColumnView). HaveRows n cs) (sym same)
-      (have_rows s.expression.now is.fields n answers is.answered)
+      (have_rows s.asked is.fields n answers is.answered)
 
   most : n ≤ is.count
   most =
-      within_batch s.expression.now is.fields s.layout.places.items
+      within_batch s.asked is.fields s.layout.places.items
       (λ k. row_number (rows_before s) (row_among rows k)) is.count is.ended n e is.ends
 
   pub within : rows ≡ None → n ≤ length s.batch.spans
@@ -127,7 +127,7 @@ kept_as_it_is (Some xs) = refl
 -- what is answered of rows that are taken, by what a task is asked
 module _ {R : Type 0} (s : Stream R) (behind ended : Option StreamError) (fs : List Field)
     (rows : Option (List ℕ)) (count : ℕ) (taken : Takes s behind fs rows count ended)
-    (x : Expression) (asked : x ≡ s.expression.now) (given : List Field) (same : given ≡ fs)
+    (x : Asked) (asked : x ≡ s.asked) (given : List Field) (same : given ≡ fs)
     (places : List ℕ) (placed : places ≡ s.layout.places.items) (before : ℕ)
     (counted : before ≡ rows_before s) (these : Option (List ℕ)) (rowed : these ≡ rows) where
   pub is_answered : (a : Answered) → AreAnswers x given a.row_count a.answers.items

@@ -13,7 +13,7 @@ use Rattle.rowfn_csv.specs.Fields.{text_field}
 use Rattle.rowfn_csv.specs.RoundTrip.{cell_field, fields_line, SaysCells}
 use Rattle.rowfn_csv.proofs.RoundTrip.{cells_read_back}
 use Rattle.rowfn_batches.specs.Names.{names_of, AreApart}
-use Rattle.rowfn_batches.specs.Outputs.{row_fields, value_field}
+use Rattle.rowfn_batches.specs.Outputs.{row_fields, value_field, separator}
 use Rattle.rowfn_batches.specs.Printing.{field_text}
 use Rattle.rowfn_batches.specs.ReadingBack.{may_be_lost, KeepsRows, RefusesRows, ReadsBack}
 use Rattle.rowfn_batches.specs.ReadingBack.{RefusesReadingBack, cell_of, row_cells, RowsReadBack}
@@ -60,18 +60,18 @@ module _ (settings : Settings) (answers : List Answer) (written : settings.picks
   read_back lent (Err e) same h =
       (written, inr (subst (λ (xs : List Answer). RefusesRows settings.format xs e) same h))
 
-module _ (d : ℕ) (null : List ℕ) (i : ℕ) where
-  value_is : (v : Value) → value_field d null v ≡ cell_field d null (cell_of v)
+module _ (format : Format) (i : ℕ) where
+  value_is : (v : Value) → value_field format v ≡ cell_field format (cell_of v)
   value_is v = by_null (is_null v)
     where
       by_null : (b : Bool)
-          → (if b then null else text_field d null (field_text v))
-          ≡ cell_field d null (if b then None else Some (field_text v))
+          → (if b then format.null.now else text_field format (field_text v))
+          ≡ cell_field format (if b then None else Some (field_text v))
       by_null true = refl
       by_null false = refl
 
   fields_are : (answers : List ColumnView)
-      → row_fields d null answers i ≡ map (cell_field d null) (row_cells answers i)
+      → row_fields format answers i ≡ map (cell_field format) (row_cells answers i)
   fields_are [] = refl
   fields_are (c ∷ cs) =
       ap₂ (λ (f : List ℕ) (fs : List (List ℕ)). f ∷ fs) (value_is (row c.rows i)) (fields_are cs)
@@ -81,13 +81,12 @@ module _ (d : ℕ) (null : List ℕ) (i : ℕ) where
   some_cells (c ∷ cs) some = λ e. cc
 
 pub rows_read_back : RowsReadBack
-rows_read_back d null answers i no_quote may some =
+rows_read_back format answers i can some =
     record {
-      line = joined (d ∷ []) (row_fields d null answers i);
+      line = joined (separator format) (row_fields format answers i);
       ended = refl;
       says = subst
-          (λ (fs : List (List ℕ)). SaysCells d null (fields_line d fs) (row_cells answers i))
-          (sym (fields_are d null i answers))
-          (cells_read_back d null (row_cells answers i) no_quote may
-          (some_cells d null i answers some));
+          (λ (fs : List (List ℕ)). SaysCells format (fields_line format.output_delimiter fs) (row_cells answers i))
+          (sym (fields_are format i answers))
+          (cells_read_back format (row_cells answers i) can (some_cells format i answers some));
     }

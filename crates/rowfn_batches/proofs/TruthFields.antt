@@ -20,11 +20,11 @@ is_some : (null valid : Bool) → valid ≡ not null → valid ≡ true → null
 is_some true valid is there = let both : false ≡ true = sym is ∙ there in cc
 is_some false valid is there = refl
 
-pub null_written : (d : ℕ) (null : List ℕ) (v : Value) (valid : Bool) → valid ≡ not (is_null v)
-    → valid ≡ false → null ≡ value_field d null v
-null_written d null v valid is gone =
+pub null_written : (format : Format) (v : Value) (valid : Bool) → valid ≡ not (is_null v)
+    → valid ≡ false → format.null.now ≡ value_field format v
+null_written format v valid is gone =
     sym
-    (ap (λ (b : Bool). if b then null else text_field d null (field_text v))
+    (ap (λ (b : Bool). if b then format.null.now else text_field format (field_text v))
     (is_there (is_null v) valid is gone))
 
 module _ (format : Format) (truths : Truths) (v : Value) (valid : Bool)
@@ -32,24 +32,24 @@ module _ (format : Format) (truths : Truths) (v : Value) (valid : Bool)
     (is : valid ≡ not (is_null v)) (there : valid ≡ true)
   where
     true_written : (is_null v ≡ false → v ≡ truth true)
-        → truths.yes.now ≡ value_field format.delimiter format.null.now v
+        → truths.yes.now ≡ value_field format v
     true_written same =
         known.yes
         ∙ sym
-        (ap (value_field format.delimiter format.null.now)
+        (ap (value_field format)
         (same (is_some (is_null v) valid is there)))
 
     false_written : (is_null v ≡ false → v ≡ truth false)
-        → truths.no.now ≡ value_field format.delimiter format.null.now v
+        → truths.no.now ≡ value_field format v
     false_written same =
         known.no
         ∙ sym
-        (ap (value_field format.delimiter format.null.now)
+        (ap (value_field format)
         (same (is_some (is_null v) valid is there)))
 
     pub truth_written : (b : Bool) → (is_null v ≡ false → v ≡ truth b)
         → (if b then truths.yes.now else truths.no.now)
-        ≡ value_field format.delimiter format.null.now v
+        ≡ value_field format v
     truth_written true same = true_written same
     truth_written false same = false_written same
 
@@ -58,7 +58,7 @@ pub bare_written : (format : Format) (truths : Truths) (v : Value) (valid : Bool
     → AreTruths format truths → truths.are_bare ≡ true → valid ≡ not (is_null v) → valid ≡ true
     → (b : Bool) → (is_null v ≡ false → v ≡ truth b)
     → (if b then codes "true" else codes "false")
-    ≡ value_field format.delimiter format.null.now v
+    ≡ value_field format v
 bare_written format truths v valid known bare is there true same =
     sym (known.bare_yes bare) ∙ truth_written format truths v valid known is there true same
 bare_written format truths v valid known bare is there false same =
@@ -72,7 +72,7 @@ ended (Ok x) old mid new field e h =
 ended (Err x) old mid new field e h = h
 
 -- the line of a row of one answer
-pub one_line : (d : ℕ) (null : List ℕ) (c : ColumnView) (i : ℕ)
-    → value_field d null (row c.rows i) ++ (10 ∷ []) ≡ row_line d null (c ∷ []) i
-one_line d null c i =
-    sym (ap (λ (t : List ℕ). t ++ (10 ∷ [])) (append-nil (value_field d null (row c.rows i))))
+pub one_line : (format : Format) (c : ColumnView) (i : ℕ)
+    → value_field format (row c.rows i) ++ (10 ∷ []) ≡ row_line format (c ∷ []) i
+one_line format c i =
+    sym (ap (λ (t : List ℕ). t ++ (10 ∷ [])) (append-nil (value_field format (row c.rows i))))

@@ -4,27 +4,24 @@ use Rattle.std.proofs.Common.{take, arith}
 use Rattle.std.proofs.Common.{mul-le-mul_left, mul_comm, lt_of_not-le}
 use Rattle.std.proofs.lemmas.List.{length-take}
 use Rattle.vortex_columns.specs.ColumnView.{ColumnView}
-use Rattle.vortex_interface.specs.Meaning.{Meaning}
-use Rattle.vortex_interface.specs.Trees.{Tree}
-use Rattle.vortex_interface.specs.Execution.{Executes}
-use Rattle.vortex_functions.specs.Fixed.{fixed_meaning}
-use Rattle.vortex_functions.specs.Walks.{AllMean}
-use Rattle.rowfn_scripts.specs.declared.expression.Expression.{Expression}
+use Rattle.vortex_expressions.specs.Items.{Tree}
+use Rattle.vortex_program.specs.Running.{AnswersTrees}
+use Rattle.rowfn_batches.specs.declared.asked.Asked.{Asked}
 use Rattle.rowfn_batches.specs.Fields.{Field}
 use Rattle.rowfn_batches.specs.declared.errors.StreamError.{StreamError}
-use Rattle.rowfn_batches.specs.BatchAnswers.{AreAnswers, EndsAnswers, with_them, at_fault, trees_of}
-use Rattle.rowfn_batches.specs.BatchAnswers.{width_of}
+use Rattle.rowfn_batches.specs.BatchAnswers.{AreAnswers, EndsAnswers, with_them, at_fault}
+use Rattle.rowfn_batches.specs.BatchAnswers.{width_of, trees_asked}
 use Rattle.rowfn_batches.specs.BatchAnswers.{EndsFitting, with_batch, at_misfit, EndsBatch}
 use Rattle.rowfn_batches.specs.Outputs.{HaveRows}
 
-all_have : {V O : Type 0} (m : Meaning V O) (cs : List ColumnView) (n : ℕ) (ts : List (Tree V O))
-    (answers : List ColumnView) → AllMean (Executes m cs n) ts answers → HaveRows n answers
-all_have m cs n [] [] h k d lt = absurd (omega (arith, lt))
-all_have m cs n [] (c ∷ answers) h k d lt = absurd h
-all_have m cs n (t ∷ ts) [] h k d lt = absurd h
-all_have m cs n (t ∷ ts) (c ∷ answers) h zero d lt = omega (arith, h.0.rows.count)
-all_have m cs n (t ∷ ts) (c ∷ answers) h (suc k) d lt =
-    all_have m cs n ts answers h.1 k d (omega (arith, lt))
+all_have : (cs : List ColumnView) (n : ℕ) (ts : List Tree) (answers : List ColumnView)
+    → AnswersTrees cs n ts answers → HaveRows n answers
+all_have cs n [] [] h k d lt = absurd (omega (arith, lt))
+all_have cs n [] (c ∷ answers) h k d lt = absurd h
+all_have cs n (t ∷ ts) [] h k d lt = absurd h
+all_have cs n (t ∷ ts) (c ∷ answers) h zero d lt = omega (arith, h.0.count)
+all_have cs n (t ∷ ts) (c ∷ answers) h (suc k) d lt =
+    all_have cs n ts answers h.1 k d (omega (arith, lt))
 
 -- a field of a row among those of so many rows
 below_row : (w count n column l : ℕ) → n * w + column < l → l ≤ w * count → n < count
@@ -32,17 +29,17 @@ below_row w count n column l h most =
     let same : n * w ≡ w * n = mul_comm n w in
     lt_of_not-le (λ le. let up : w * count ≤ w * n = mul-le-mul_left w le in omega arith)
 
-module _ (x : Expression) (fs : List Field) where
+module _ (x : Asked) (fs : List Field) where
   pub have_rows : (n : ℕ) (answers : List ColumnView) → AreAnswers x fs n answers
       → HaveRows n answers
   have_rows n answers a =
-      all_have fixed_meaning a.columns n (trees_of x) answers a.mean
+      all_have a.columns n (trees_asked x) answers a.mean
 
   within_answers : (number : ℕ → ℕ) (fit : ℕ) (other : Option StreamError) (n : ℕ)
       (e : Option StreamError)
       → EndsAnswers x fs number fit other n e → n ≤ fit
   within_answers number fit other n e (with_them is ended) = omega (arith, is)
-  within_answers number fit other n e (at_fault columns fault told is first faulty tells) =
+  within_answers number fit other n e (at_fault columns k fault told is first faulty tells) =
       omega (arith, faulty.below)
 
   within_fitting : (places : List ℕ) (number : ℕ → ℕ) (count : ℕ) (behind : Option StreamError)

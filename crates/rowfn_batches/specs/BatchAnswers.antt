@@ -8,16 +8,13 @@ use Rattle.vortex_types.specs.FieldNames.{field_name}
 use Rattle.vortex_types.specs.LogicalTypes.{Fields, field_count, field_type}
 use Rattle.vortex_types.specs.TypeOf.{struct_fields, type_of}
 use Rattle.vortex_columns.specs.ColumnView.{ColumnView}
-use Rattle.vortex_interface.specs.declared.options.EmptyOptions.{EmptyOptions}
-use Rattle.vortex_interface.specs.Trees.{Tree}
-use Rattle.vortex_interface.specs.Execution.{Executes}
-use Rattle.vortex_functions.specs.Fixed.{fixed_meaning}
-use Rattle.vortex_functions.specs.Walks.{AllMean}
-use Rattle.vortex_functions.specs.declared.custom.NoCustom.{NoCustom}
-use Rattle.rowfn_scripts.specs.declared.expression.Expression.{Expression}
+use Rattle.vortex_expressions.specs.Items.{Tree}
+use Rattle.vortex_program.specs.Executing.{RefusesColumnsFirst}
+use Rattle.vortex_program.specs.Programs.{trees_of}
+use Rattle.vortex_program.specs.Running.{AnswersTrees, FaultsFirstThere}
+use Rattle.rowfn_batches.specs.declared.asked.Asked.{Asked}
 use Rattle.rowfn_batches.specs.Fields.{Field}
 use Rattle.rowfn_batches.specs.Batches.{field_at, AreEven, AreColumns, IsLeftmost, IsTooLong}
-use Rattle.vortex_program.specs.Executing.{RefusesColumnsFirst, IsFirstFaultyRow}
 use Rattle.rowfn_batches.specs.declared.answering.Task.{Task}
 use Rattle.rowfn_batches.specs.declared.errors.StreamError.{StreamError}
 use Rattle.rowfn_batches.specs.declared.errors.StreamError.TheVariants as end
@@ -59,37 +56,39 @@ abbrev pub TellsName : Fields → ℕ → StreamError → Type 0
 TellsName ds j (end.TextsTooLong name) = string_bytes name ≡ field_name j ds
 TellsName ds j e = ⊥
 
-abbrev pub trees_of : Expression → List (Tree NoCustom EmptyOptions)
-trees_of x = map (λ a. a.tree) x.answers.items
+-- the trees that are asked, as they were written
+abbrev pub trees_asked : Asked → List Tree
+trees_asked x = trees_of x.program.now.written.items
 
 -- how many columns are declared
-abbrev pub width_of : Expression → ℕ
-width_of x = field_count (struct_fields x.columns)
+abbrev pub width_of : Asked → ℕ
+width_of x = field_count (struct_fields x.program.now.scope)
 
-module _ (x : Expression) (fs : List Field) where
+module _ (x : Asked) (fs : List Field) where
   -- the fields of the first n rows
   abbrev pub first_fields : ℕ → List Field
   first_fields n = take (width_of x * n) fs
 
   -- the columns of the first n rows
   pub record AreFirst (n : ℕ) (cs : List ColumnView) : Type 0 where
-    pub even : AreEven (struct_fields x.columns) (first_fields n) n
-    pub said : AreColumns (struct_fields x.columns) (first_fields n) n (width_of x) cs
+    pub even : AreEven (struct_fields x.program.now.scope) (first_fields n) n
+    pub said : AreColumns (struct_fields x.program.now.scope) (first_fields n) n (width_of x) cs
 
-  -- each answer has the values of its tree in the first n rows
+  -- each answer has the value of its tree in each of the first n rows in which the tree has one: what
+  -- rules make of trees may drop a fault
   pub record AreAnswers (n : ℕ) (answers : List ColumnView) : Type 0 where
     pub columns : List ColumnView
     pub first : AreFirst n columns
-    pub mean : AllMean (Executes fixed_meaning columns n) (trees_of x) answers
+    pub mean : AnswersTrees columns n (trees_asked x) answers
 
   -- of so many rows whose fields fit all are answered, and what ends them does; or those before the
-  -- first that faults, which is told
+  -- first in which a tree faults as it was written, which is reported
   pub data EndsAnswers (number : ℕ → ℕ) (fit : ℕ) (other : Option StreamError) (n : ℕ)
       (e : Option StreamError) : Type 0 where
     with_them : n ≡ fit → e ≡ other → EndsAnswers number fit other n e
-    at_fault : (columns : List ColumnView) (fault : VortexError) (told : StreamError)
+    at_fault : (columns : List ColumnView) (k : ℕ) (fault : VortexError) (told : StreamError)
         → e ≡ Some told → AreFirst fit columns
-        → IsFirstFaultyRow fixed_meaning columns fit (trees_of x) n fault
+        → FaultsFirstThere columns fit (trees_asked x) n k fault
         → TellsFault number n fault told
         → EndsAnswers number fit other n e
 
@@ -98,7 +97,7 @@ module _ (x : Expression) (fs : List Field) where
   IsUnserved (end.Refused e) =
       UnlessMemory
       (λ e. (n : ℕ) × (columns : List ColumnView) × AreFirst n columns
-      × RefusesColumnsFirst columns n (trees_of x) e)
+      × RefusesColumnsFirst columns n (trees_asked x) e)
       e
   IsUnserved end.OutOfMemory = ⊤
   IsUnserved e = ⊥
@@ -106,8 +105,8 @@ module _ (x : Expression) (fs : List Field) where
   -- why nothing is answered of a batch of so many rows: the texts of a column are too long, the
   -- columns do not serve a tree, or memory ran out
   pub data IsUnanswered (count : ℕ) (e : StreamError) : Type 0 where
-    too_long : (column : ℕ) → IsTooLong (struct_fields x.columns) (first_fields count) count column
-        → TellsName (struct_fields x.columns) column e → IsUnanswered count e
+    too_long : (column : ℕ) → IsTooLong (struct_fields x.program.now.scope) (first_fields count) count column
+        → TellsName (struct_fields x.program.now.scope) column e → IsUnanswered count e
     unserved : IsUnserved e → IsUnanswered count e
 
   -- each column has its place in a row of the input
@@ -117,8 +116,8 @@ module _ (x : Expression) (fs : List Field) where
     pub data EndsFitting (n : ℕ) (e : Option StreamError) : Type 0 where
       with_batch : n ≡ count → e ≡ behind → EndsFitting n e
       at_misfit : (column : ℕ) (told : StreamError) → e ≡ Some told
-          → IsLeftmost (struct_fields x.columns) (first_fields count) places n column
-          → TellsMisfit number n (struct_fields x.columns) column
+          → IsLeftmost (struct_fields x.program.now.scope) (first_fields count) places n column
+          → TellsMisfit number n (struct_fields x.program.now.scope) column
           (field_at fs (n * width_of x + column)) told
           → EndsFitting n e
 

@@ -2,8 +2,6 @@
 use Rattle.std.specs.Prelude.{ℕ, Option, Some, None}
 use Rattle.rowfn_csv.specs.declared.records.ReadError.{ReadError}
 use Rattle.rowfn_csv.specs.declared.records.ReadError.TheVariants as read
-use Rattle.rowfn_scripts.specs.declared.expression.ExpressionError.{ExpressionError}
-use Rattle.rowfn_scripts.specs.declared.expression.ExpressionError.TheVariants as line
 use Rattle.rowfn_batches.specs.declared.errors.StreamError.{StreamError}
 use Rattle.rowfn_batches.specs.declared.errors.StreamError.TheVariants as end
 
@@ -11,13 +9,8 @@ abbrev pub read_ending : ReadError → StreamError
 read_ending (read.Io e) = end.Reading e
 read_ending read.OutOfMemory = end.OutOfMemory
 
--- 4 for an expression that is wrong, but for want of memory
-abbrev pub expression_status : ExpressionError → ℕ
-expression_status (line.Refused n e) = 4
-expression_status (line.Malformed n expected) = 4
-expression_status line.OutOfMemory = 3
-
--- 1 for a fault of the expression, 2 for input that does not fit, 3 for reading, writing and memory
+-- 1 for a fault of an answer, 2 for input that does not fit, 3 for reading, writing and memory, 4 for
+-- names or answers that cannot be written
 abbrev pub status_of : StreamError → ℕ
 status_of (end.Fault row e) = 1
 status_of (end.Refused e) = 1
@@ -33,13 +26,9 @@ status_of (end.FieldTooLong row limit) = 2
 status_of (end.HeaderTooLong limit) = 2
 status_of (end.Reading e) = 3
 status_of (end.Writing e) = 3
-status_of (end.ReadingExpression name e) = 3
-status_of (end.Expression e) = expression_status e
-status_of (end.Line line e) = 4
 status_of (end.AnswerTwice name) = 4
 status_of (end.RowsLost name) = 4
 status_of (end.NameTaken name) = 4
-status_of (end.NoTruth name) = 4
 status_of end.OutOfMemory = 3
 
 -- the number of the row that is refused, where one is

@@ -9,10 +9,12 @@ pub mod Names
 pub mod Outputs
 pub mod Taking
 pub mod Passing
-pub mod Tops
 pub mod Spellings
+pub mod Starts
+pub mod Explaining
 pub mod Truths
 pub mod Parts
 pub mod Refusals
 pub mod Skipping
 pub mod Watching
+pub mod Widths

@@ -4,11 +4,12 @@ use Rattle.std.specs.Prelude.{◌&&◌, not, is_some, option_map, ◌++◌, ◌+
 use Rattle.std.specs.Prelude.{if◌then◌else◌, min, Bool, true, false, suc}
 use Rattle.std.specs.Io.KnownBytes.{Appends, Keeps}
 use Rattle.vortex_columns.specs.ColumnView.{ColumnView}
-use Rattle.rowfn_scripts.specs.declared.expression.Expression.{Expression}
+use Rattle.rowfn_batches.specs.declared.asked.Asked.{Asked}
 use Rattle.rowfn_csv.specs.KeptLines.{line_of}
 use Rattle.rowfn_batches.specs.declared.errors.StreamError.{StreamError}
 use Rattle.rowfn_batches.specs.declared.errors.StreamError.TheVariants as end
 use Rattle.rowfn_batches.specs.declared.output.Output.{Output}
+use Rattle.rowfn_batches.specs.declared.settings.Settings.{Settings}
 use Rattle.rowfn_batches.specs.declared.stream.Stream.{Stream}
 use Rattle.rowfn_batches.specs.declared.stream.Summary.{Summary}
 use Rattle.rowfn_batches.specs.declared.stream.filling.Filled.{Filled}
@@ -16,6 +17,7 @@ use Rattle.rowfn_batches.specs.declared.stream.filling.Filled.TheVariants as fil
 use Rattle.rowfn_batches.specs.declared.taking.Condition.{Condition}
 use Rattle.rowfn_batches.specs.Fields.{Field}
 use Rattle.rowfn_batches.specs.BatchAnswers.{AreAnswers, EndsBatch, row_number, row_among}
+use Rattle.rowfn_batches.specs.Starts.{IsHeaded, DoesNotStart}
 use Rattle.rowfn_batches.specs.Taking.{Takes, IsLeft, rows_before}
 use Rattle.rowfn_batches.specs.Outputs.{row_lines, picked_texts, picked_count, appended_lines}
 
@@ -29,9 +31,9 @@ picked_lines s (Some top) n = picked_texts top (map (line_of s.records) (take n 
 abbrev pub answer_text : {R : Type 0} → Stream R → Option (List ℕ) → List ColumnView → ℕ → List ℕ
 answer_text s rows answers n =
     if s.settings.appends
-    then appended_lines s.output.format.delimiter s.output.format.null.now
+    then appended_lines s.output.format
     (map (line_of s.records) s.batch.spans) rows answers n
-    else row_lines s.output.format.delimiter s.output.format.null.now answers n
+    else row_lines s.output.format answers n
 
 -- what is written of these rows: that, or the lines that are picked where all are answered
 abbrev pub batch_text : {R : Type 0} → Stream R → Option (List ℕ) → List ColumnView → ℕ → List ℕ
@@ -48,15 +50,15 @@ pub record IsAnswered {R : Type 0} (s : Stream R) (behind : Option StreamError)
   pub count : ℕ
   pub ended : Option StreamError
   pub taken : Takes s behind fields rows count ended
-  pub answered : AreAnswers s.expression.now fields n answers
-  pub ends : EndsBatch s.expression.now fields s.layout.places.items
+  pub answered : AreAnswers s.asked fields n answers
+  pub ends : EndsBatch s.asked fields s.layout.places.items
       (λ k. row_number (rows_before s) (row_among rows k)) count ended n e
 
 -- what is read, and how, stays
 pub record KeepsReading {R : Type 0} (old new : Stream R) : Type 0 where
   pub alloc : new.alloc ≡ old.alloc
   pub settings : new.settings ≡ old.settings
-  pub expression : new.expression ≡ old.expression
+  pub asked : new.asked ≡ old.asked
   pub condition : new.condition ≡ old.condition
   pub records : new.records ≡ old.records
   pub layout : new.layout ≡ old.layout
@@ -107,13 +109,13 @@ abbrev pub rows_read_behind : {R : Type 0} → Stream R → ℕ
 rows_read_behind s = min (s.summary.rows_read + length s.batch.spans) (2 ^ 64 - 1)
 
 -- what is asked by a condition, and where its columns stand
-abbrev pub condition_asked : Option Condition → Option (Expression × List ℕ)
-condition_asked = option_map (λ c. (c.expression.now, c.layout.places.items))
+abbrev pub condition_asked : Option Condition → Option (Asked × List ℕ)
+condition_asked = option_map (λ c. (c.asked, c.layout.places.items))
 
 -- another batch of the stream was read; all but what reads it stays
 pub record IsRefilled {R : Type 0} (old new : Stream R) : Type 0 where
   pub settings : new.settings ≡ old.settings
-  pub expression : new.expression ≡ old.expression
+  pub asked : new.asked ≡ old.asked
   pub condition : condition_asked new.condition ≡ condition_asked old.condition
   pub layout : new.layout ≡ old.layout
   pub output : new.output ≡ old.output
@@ -184,36 +186,38 @@ pub data Passed {R : Type 0} (first : Stream R) (begun : Option (List ℕ))
       → Passed first begun n was before → PassesNext was now before after (Ok true)
       → Passed first begun (suc n) now after
 
--- a stream of that expression and that condition behind its header, of whose rows none is read
-pub record HasBegun {R : Type 0} (x : Expression) (asked : Option Expression)
-    (before begun : Option (List ℕ)) (first : Stream R) : Type 0 where
+-- a stream of that reader whose header is written, of whose rows none is read
+pub record HasBegun {R : Type 0} (reader : R) (settings : Settings) (x : Asked)
+    (condition : Option Asked) (before begun : Option (List ℕ)) (first : Stream R) : Type 0 where
   pub headed : Stream R
-  pub expression : headed.expression.now ≡ x
-  pub condition : option_map (λ c. c.expression.now) headed.condition ≡ asked
-  pub none_read : headed.summary.rows_read ≡ 0
+  pub start : IsHeaded reader settings x condition headed
   pub header : Appends before begun headed.output.bytes.items
   pub kept : KeepsReading headed first
   pub cleared : IsCleared headed.output first.output
   pub summary : first.summary ≡ headed.summary
 
--- A stream of that reader flows: its header is written, and then batch by batch what is written of
--- each, in their order and each once, up to the last, which is not full, or to the one that ends it;
--- that error is told, and nothing is written behind it. It is at its end, too, behind so many batches
--- as nobody reads.
-pub data Flows {R : Type 0} (reader : R) (x : Expression) (asked : Option Expression)
-    (before after : Option (List ℕ)) (result : Result Summary StreamError) : Type 0 where
+-- A stream of that reader runs: the header of the output is written, by the header that the reader
+-- gives, and then batch by batch what is written of each, in their order and each once, up to the
+-- last, which is not full, or to the one that ends it; that error is returned, and nothing is written
+-- after it. It is at its end, too, after as many batches as nobody reads. Where it does not start,
+-- nothing is written.
+pub data Flows {R : Type 0} (reader : R) (settings : Settings) (x : Asked)
+    (condition : Option Asked) (before after : Option (List ℕ))
+    (result : Result Summary StreamError) : Type 0 where
   at_end : (n : ℕ) (first was now : Stream R) (begun held : Option (List ℕ))
-      → HasBegun x asked before begun first → Passed first begun n was held
+      → HasBegun reader settings x condition before begun first → Passed first begun n was held
       → PassesNext was now held after (Ok false) → result ≡ Ok now.summary
-      → Flows reader x asked before after result
+      → Flows reader settings x condition before after result
   at_last_turn : (first now : Stream R) (begun : Option (List ℕ))
-      → HasBegun x asked before begun first → Passed first begun (2 ^ 64 - 1) now after
-      → result ≡ Ok now.summary → Flows reader x asked before after result
+      → HasBegun reader settings x condition before begun first → Passed first begun (2 ^ 64 - 1) now after
+      → result ≡ Ok now.summary → Flows reader settings x condition before after result
   at_error : (n : ℕ) (first was now : Stream R) (begun held : Option (List ℕ)) (e : StreamError)
-      → HasBegun x asked before begun first → Passed first begun n was held
+      → HasBegun reader settings x condition before begun first → Passed first begun n was held
       → PassesNext was now held after (Err e) → result ≡ Err e
-      → Flows reader x asked before after result
-  without_header : (e : StreamError) → IsWriting e → result ≡ Err e
-      → Flows reader x asked before after result
-  not_begun : (e : StreamError) → after ≡ before → result ≡ Err e
-      → Flows reader x asked before after result
+      → Flows reader settings x condition before after result
+  without_header : (headed : Stream R) (e : StreamError)
+      → IsHeaded reader settings x condition headed → IsWriting e → result ≡ Err e
+      → Flows reader settings x condition before after result
+  not_begun : (e : StreamError) → DoesNotStart reader settings x condition e → after ≡ before
+      → result ≡ Err e
+      → Flows reader settings x condition before after result

@@ -1,4 +1,4 @@
--- Whether what an expression writes reads back, and that the rows of its answers do.
+-- Whether the output of a program reads back, and that the rows of its answers do.
 use Rattle.std.specs.Prelude.{◌≡◌, ◌≢◌, ◌==◌, ◌&&◌, ◌∷◌, ◌++◌, [], ℕ, List, Bool, true, false, not}
 use Rattle.std.specs.Prelude.{Option, Some, None, map, length, if◌then◌else◌, ◌⊎◌}
 use Rattle.std.specs.Prelude.{string_bytes}
@@ -10,7 +10,7 @@ use Rattle.vortex_functions.specs.Fixed.{fixed_meaning}
 use Rattle.vortex_program.specs.declared.answer.Answer.{Answer}
 use Rattle.rowfn_csv.specs.declared.format.Format.{Format}
 use Rattle.rowfn_batches.specs.declared.settings.Settings.{Settings}
-use Rattle.rowfn_csv.specs.RoundTrip.{MayBeNull, SaysCells}
+use Rattle.rowfn_csv.specs.RoundTrip.{CanReadBack, SaysCells}
 use Rattle.rowfn_batches.specs.Names.{names_of, AreApart, RefusesNames}
 use Rattle.rowfn_batches.specs.Outputs.{row_line}
 use Rattle.rowfn_batches.specs.Printing.{field_text}
@@ -64,14 +64,13 @@ abbrev pub row_cells : List ColumnView → ℕ → List (Option (List ℕ))
 row_cells answers i = map (λ c. cell_of (row c.rows i)) answers
 
 -- the line of a row, without its end, says the row's cells
-pub record RowSaysCells (delimiter : ℕ) (null : List ℕ) (answers : List ColumnView) (i : ℕ)
-    : Type 0 where
+pub record RowSaysCells (format : Format) (answers : List ColumnView) (i : ℕ) : Type 0 where
   pub line : List ℕ
-  pub ended : row_line delimiter null answers i ≡ line ++ (10 ∷ [])
-  pub says : SaysCells delimiter null line (row_cells answers i)
+  pub ended : row_line format answers i ≡ line ++ (10 ∷ [])
+  pub says : SaysCells format line (row_cells answers i)
 
 -- rows that are written say their cells
 abbrev pub RowsReadBack : Type 0
 RowsReadBack =
-    (delimiter : ℕ) (null : List ℕ) (answers : List ColumnView) (i : ℕ) → delimiter ≢ 34
-    → MayBeNull delimiter null → answers ≢ [] → RowSaysCells delimiter null answers i
+    (format : Format) (answers : List ColumnView) (i : ℕ) → CanReadBack format → answers ≢ []
+    → RowSaysCells format answers i

@@ -4,9 +4,10 @@ use Rattle.std.specs.Prelude.{drop}
 use Rattle.std.specs.Prelude.{Option, Some, None, Result, Ok, Err, Bool, true, false, not, ⊤, ◌⊎◌}
 use Rattle.std.specs.Prelude.{suc}
 use Rattle.rowfn_csv.specs.declared.records.Span.{Span}
-use Rattle.rowfn_scripts.specs.declared.expression.Expression.{Expression}
+use Rattle.rowfn_batches.specs.declared.asked.Asked.{Asked}
 use Rattle.rowfn_batches.specs.declared.errors.StreamError.{StreamError}
 use Rattle.rowfn_batches.specs.declared.errors.StreamError.TheVariants as end
+use Rattle.rowfn_batches.specs.declared.settings.Settings.{Settings}
 use Rattle.rowfn_batches.specs.declared.stream.Stream.{Stream}
 use Rattle.rowfn_batches.specs.declared.stream.Summary.{Summary}
 use Rattle.rowfn_batches.specs.declared.stream.filling.Filled.{Filled}
@@ -14,10 +15,14 @@ use Rattle.rowfn_batches.specs.declared.taking.Condition.{Condition}
 use Rattle.rowfn_batches.specs.Endings.{row_left_out}
 use Rattle.rowfn_batches.specs.Fields.{Field}
 use Rattle.rowfn_batches.specs.Passing.{PassesUpTo, IsBehind, KeepsReading, IsCleared, IsRefilled}
+use Rattle.rowfn_batches.specs.Passing.{Flows}
 use Rattle.rowfn_batches.specs.Passing.{HasBegun, IsWriting, condition_asked, CountsWritten}
 use Rattle.rowfn_batches.specs.Passing.{error_behind, is_end}
+use Rattle.rowfn_batches.specs.declared.refusals.RefusedRows.{RefusedRows}
+use Rattle.rowfn_batches.specs.declared.refusals.RefusedRows.TheVariants as refused
 use Rattle.rowfn_batches.specs.Parts.{next_row}
 use Rattle.rowfn_batches.specs.Refusals.{one_more_counted, IsUntold}
+use Rattle.rowfn_batches.specs.Starts.{IsHeaded, DoesNotStart}
 use Rattle.rowfn_batches.specs.Taking.{rows_before}
 
 -- the row at that place, behind so many rows, is refused, and no other row has its number
@@ -68,7 +73,7 @@ fields_asked None = []
 fields_asked (Some c) = c.batch.fields
 
 -- how many of a row those are, by what is asked by the condition
-abbrev pub width_asked : Option (Expression × List ℕ) → ℕ
+abbrev pub width_asked : Option (Asked × List ℕ) → ℕ
 width_asked None = 0
 width_asked (Some asked) = length asked.1
 
@@ -203,27 +208,44 @@ pub data PassedBut {R : Type 0} (first : Stream R) (begun : Option (List ℕ)) (
       → PassesNextTold was now held after some more (Ok true)
       → PassedBut first begun counted (suc n) now after more
 
--- A stream of that reader flows on behind rows that are refused: its header is written, and then
--- batch by batch, up to the input's last, what is written of each without those rows, in their order;
--- each of them is counted. Or what ends it in a batch is told, and nothing is written behind it. It is
--- at its end, too, behind so many batches as nobody reads.
-pub data FlowsOn {R : Type 0} (reader : R) (x : Expression) (asked : Option Expression)
-    (before after : Option (List ℕ)) (counted count : ℕ) (result : Result Summary StreamError)
-    : Type 0 where
+-- A stream of that reader runs, and skips rows that are refused: the header of the output is written,
+-- by the header that the reader gives, and then batch by batch, up to the input's last, what is
+-- written of each without those rows, in their order; each of them is counted. Or what ends it in a
+-- batch is returned, and nothing is written after it. It is at its end, too, after as many batches as
+-- nobody reads. Where it does not start, nothing is written, and none is counted.
+pub data FlowsOn {R : Type 0} (reader : R) (settings : Settings) (x : Asked)
+    (condition : Option Asked) (before after : Option (List ℕ)) (counted count : ℕ)
+    (result : Result Summary StreamError) : Type 0 where
   at_end : (n : ℕ) (first was now : Stream R) (begun held : Option (List ℕ)) (some : ℕ)
-      → HasBegun x asked before begun first → PassedBut first begun counted n was held some
+      → HasBegun reader settings x condition before begun first
+      → PassedBut first begun counted n was held some
       → PassesNextTold was now held after some count (Ok false) → result ≡ Ok now.summary
-      → FlowsOn reader x asked before after counted count result
+      → FlowsOn reader settings x condition before after counted count result
   at_last_turn : (first now : Stream R) (begun : Option (List ℕ))
-      → HasBegun x asked before begun first
+      → HasBegun reader settings x condition before begun first
       → PassedBut first begun counted (2 ^ 64 - 1) now after count → result ≡ Ok now.summary
-      → FlowsOn reader x asked before after counted count result
+      → FlowsOn reader settings x condition before after counted count result
   at_error : (n : ℕ) (first was now : Stream R) (begun held : Option (List ℕ)) (some : ℕ)
       (e : StreamError)
-      → HasBegun x asked before begun first → PassedBut first begun counted n was held some
+      → HasBegun reader settings x condition before begun first
+      → PassedBut first begun counted n was held some
       → PassesNextTold was now held after some count (Err e) → result ≡ Err e
-      → FlowsOn reader x asked before after counted count result
-  without_header : (e : StreamError) → IsWriting e → result ≡ Err e
-      → FlowsOn reader x asked before after counted count result
-  not_begun : (e : StreamError) → after ≡ before → count ≡ counted → result ≡ Err e
-      → FlowsOn reader x asked before after counted count result
+      → FlowsOn reader settings x condition before after counted count result
+  without_header : (headed : Stream R) (e : StreamError)
+      → IsHeaded reader settings x condition headed → IsWriting e → count ≡ counted
+      → result ≡ Err e
+      → FlowsOn reader settings x condition before after counted count result
+  not_begun : (e : StreamError) → DoesNotStart reader settings x condition e → after ≡ before
+      → count ≡ counted → result ≡ Err e
+      → FlowsOn reader settings x condition before after counted count result
+
+-- A stream runs, up to the first row that is refused, or past those that are, as they are to end it or
+-- to be skipped.
+abbrev pub Runs : {R E : Type 0} → R → Settings → Asked → Option Asked → Option (List ℕ)
+    → Option (List ℕ) → RefusedRows E → RefusedRows E → Result Summary StreamError → Type 0
+Runs reader settings x condition before after refused.End refused.End result =
+    Flows reader settings x condition before after result
+Runs reader settings x condition before after (refused.Skip old) (refused.Skip new) result =
+    FlowsOn reader settings x condition before after old.count new.count result
+Runs reader settings x condition before after refused.End (refused.Skip new) result = ⊥
+Runs reader settings x condition before after (refused.Skip old) refused.End result = ⊥

@@ -30,8 +30,8 @@ pub record Sifts (c : Condition) (before : ℕ) (behind : Option StreamError) (r
     (e : Option StreamError) : Type 0 where
   pub count : ℕ
   pub truths : List ColumnView
-  pub answered : AreAnswers c.expression.now c.batch.fields count truths
-  pub ends : EndsBatch c.expression.now c.batch.fields c.layout.places.items (row_number before)
+  pub answered : AreAnswers c.asked c.batch.fields count truths
+  pub ends : EndsBatch c.asked c.batch.fields c.layout.places.items (row_number before)
       (length c.batch.spans) behind count e
   pub picked : rows ≡ rows_picked truths count
 
@@ -55,8 +55,8 @@ pub data Takes {R : Type 0} (s : Stream R) (behind : Option StreamError) (fs : L
 pub data IsLeft {R : Type 0} (s : Stream R) (behind : Option StreamError) (e : StreamError)
     : Type 0 where
   by_condition : (c : Condition) → s.condition ≡ Some c
-      → IsUnanswered c.expression.now c.batch.fields (length c.batch.spans) e → IsLeft s behind e
+      → IsUnanswered c.asked c.batch.fields (length c.batch.spans) e → IsLeft s behind e
   by_answers : (fs : List Field) (rows : Option (List ℕ)) (count : ℕ) (ended : Option StreamError)
-      → Takes s behind fs rows count ended → IsUnanswered s.expression.now fs count e
+      → Takes s behind fs rows count ended → IsUnanswered s.asked fs count e
       → IsLeft s behind e
   without_memory : e ≡ end.OutOfMemory → IsLeft s behind e

@@ -10,11 +10,12 @@ ghost use Rattle.rowfn_batches.specs.BatchAnswers.{TellsMisfit, TellsName, AreFi
 ghost use Rattle.rowfn_batches.specs.BatchAnswers.{AreAnswers, EndsAnswers, EndsBatch};
 ghost use Rattle.rowfn_batches.specs.BatchAnswers.{IsUnserved, IsUnanswered, width_of};
 
+use crate::asked::Asked;
 use crate::columns::{BatchError, leftmost_misfit, read_columns};
 use crate::errors::StreamError;
-use rowfn_scripts::{Expression, execute_answers, first_fault};
 use std::alloc::Global;
 use vortex_columns::Column;
+use vortex_program::RunError;
 
 /// What the first rows of a batch answer, and what ends the stream behind them, if anything does.
 #[derive(Drop)]
@@ -28,7 +29,7 @@ pub struct Answered {
 #[derive(Clone, Copy)]
 pub struct Task<'a> {
     pub alloc: Global,
-    pub expression: &'a Expression,
+    pub asked: Asked<'a>,
     /// Where each declared column stands in a row of the input.
     pub places: &'a [usize],
     /// How many rows were read before the batch.
@@ -90,11 +91,11 @@ impl Task<'_> {
         row_count: usize,
     ) -> Result<Vec<Column>, StreamError>
         ensures { MatchResult result
-            (λ columns. AreFirst self.now.expression.now (map field_in fields.now) row_count
+            (λ columns. AreFirst self.now.asked (map field_in fields.now) row_count
             columns.items)
             (λ e. e ≡ OutOfMemory) }
     {
-        let declared = &self.expression.columns;
+        let declared = &self.asked.program.scope;
         let fields = first_rows(fields, declared.len(), row_count);
         match read_columns(self.alloc, declared, fields, row_count) {
             Ok(columns) => Ok(columns),
@@ -109,16 +110,16 @@ impl Task<'_> {
         row: usize,
         column: usize,
     ) -> Result<StreamError, StreamError>
-        requires column { column < width_of self.now.expression.now }
-        requires place { row * width_of self.now.expression.now + column < length fields.now }
-        ensures { let width = width_of self.now.expression.now in
+        requires column { column < width_of self.now.asked }
+        requires place { row * width_of self.now.asked + column < length fields.now }
+        ensures { let width = width_of self.now.asked in
             MatchResult result
             (TellsMisfit (number_of self.now) row
-            (struct_fields self.now.expression.now.columns) column
+            (struct_fields self.now.asked.program.now.scope) column
             (field_at (map field_in fields.now) (row * width + column)))
             (λ e. e ≡ OutOfMemory) }
     {
-        let declared = &self.expression.columns;
+        let declared = &self.asked.program.scope;
         let field = match fields[row * declared.len() + column] {
             Some(bytes) => Some(bytes.to_vec(self.alloc)?),
             None => None,
@@ -133,12 +134,12 @@ impl Task<'_> {
 
     /// The error for a column whose texts are too long. E9 where memory is refused.
     fn too_long(&self, column: usize) -> Result<StreamError, StreamError>
-        requires { column < width_of self.now.expression.now }
+        requires { column < width_of self.now.asked }
         ensures { MatchResult result
-            (TellsName (struct_fields self.now.expression.now.columns) column)
+            (TellsName (struct_fields self.now.asked.program.now.scope) column)
             (λ e. e ≡ OutOfMemory) }
     {
-        let name = self.expression.columns.name(column);
+        let name = self.asked.program.scope.name(column);
         Ok(StreamError::TextsTooLong(String::from_str(self.alloc, name)?))
     }
 
@@ -150,19 +151,19 @@ impl Task<'_> {
         row_count: usize,
         error: Option<StreamError>,
     ) -> Result<Answered, StreamError>
-        ensures rows { IfOk result (λ a. AreAnswers self.now.expression.now
+        ensures rows { IfOk result (λ a. AreAnswers self.now.asked
             (map field_in fields.now) a.row_count a.answers.items) }
         ensures ends { IfOk result (λ a. (a.row_count ≡ row_count) × (a.error ≡ error)) }
         ensures refused { IfErr result (λ e. e ≡ OutOfMemory) }
     {
         let columns = self.columns(fields, row_count)?;
-        match execute_answers(self.alloc, &self.expression.answers, &columns, row_count) {
+        match self.asked.program.run(self.alloc, &columns, row_count) {
             Ok(answers) => Ok(Answered {
                 answers,
                 row_count,
                 error,
             }),
-            // the columns serve the trees, and no row faults
+            // the columns are valid for the trees, and no row faults
             Err(_) => Err(StreamError::OutOfMemory),
         }
     }
@@ -175,38 +176,30 @@ impl Task<'_> {
         row_count: usize,
         error: Option<StreamError>,
     ) -> Result<Answered, StreamError>
-        requires { AreFirst self.now.expression.now (map field_in fields.now) row_count
+        requires { AreFirst self.now.asked (map field_in fields.now) row_count
             columns.now }
-        ensures rows { IfOk result (λ a. AreAnswers self.now.expression.now
+        ensures rows { IfOk result (λ a. AreAnswers self.now.asked
             (map field_in fields.now) a.row_count a.answers.items) }
-        ensures ends { IfOk result (λ a. EndsAnswers self.now.expression.now
+        ensures ends { IfOk result (λ a. EndsAnswers self.now.asked
             (map field_in fields.now) (number_of self.now) row_count error a.row_count a.error) }
         ensures refused { IfErr result
-            (IsUnserved self.now.expression.now (map field_in fields.now)) }
+            (IsUnserved self.now.asked (map field_in fields.now)) }
     {
-        if let Ok(answers) = execute_answers(
-            self.alloc,
-            &self.expression.answers,
-            columns,
-            row_count,
-        ) {
-            return Ok(Answered {
+        match self.asked.program.run(self.alloc, columns, row_count) {
+            Ok(answers) => Ok(Answered {
                 answers,
                 row_count,
                 error,
-            });
-        }
-        match first_fault(self.alloc, &self.expression.answers, columns, row_count) {
-            Ok(Some((row, fault))) => {
-                let told = StreamError::Fault {
+            }),
+            Err(RunError::Fault { row, error, .. }) => {
+                let fault = StreamError::Fault {
                     row: self.number_of(row),
-                    error: fault,
+                    error,
                 };
-                self.answer_faultless(fields, row, Some(told))
+                self.answer_faultless(fields, row, Some(fault))
             }
-            // the columns serve the trees and no row faults, so memory ran out
-            Ok(None) => Err(StreamError::OutOfMemory),
-            Err(refusal) => Err(StreamError::Refused(refusal)),
+            Err(RunError::Refused(refusal)) => Err(StreamError::Refused(refusal)),
+            Err(RunError::OutOfMemory) => Err(StreamError::OutOfMemory),
         }
     }
 
@@ -222,15 +215,15 @@ impl Task<'_> {
         row_count: usize,
         error: Option<StreamError>,
     ) -> Result<Answered, StreamError>
-        ensures rows { IfOk result (λ a. AreAnswers self.now.expression.now
+        ensures rows { IfOk result (λ a. AreAnswers self.now.asked
             (map field_in fields.now) a.row_count a.answers.items) }
-        ensures ends { IfOk result (λ a. EndsBatch self.now.expression.now
+        ensures ends { IfOk result (λ a. EndsBatch self.now.asked
             (map field_in fields.now) self.now.places.now (number_of self.now) row_count error
             a.row_count a.error) }
-        ensures refused { IfErr result (IsUnanswered self.now.expression.now
+        ensures refused { IfErr result (IsUnanswered self.now.asked
             (map field_in fields.now) row_count) }
     {
-        let declared = &self.expression.columns;
+        let declared = &self.asked.program.scope;
         let whole = first_rows(fields, declared.len(), row_count);
         match read_columns(self.alloc, declared, whole, row_count) {
             Ok(columns) => self.answer_fitting(fields, &columns, row_count, error),

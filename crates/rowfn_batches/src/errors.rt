@@ -1,8 +1,6 @@
 //! What ends a stream, with its status and its text.
 
-use crate::line_errors::LineError;
 use rowfn_csv::ReadError;
-use rowfn_scripts::ExpressionError;
 use std::alloc::{AllocError, AllocFailed};
 use std::fmt::{self, Write};
 use std::{io, str};
@@ -11,12 +9,12 @@ use vortex_columns::{DType, VortexError};
 /// What ends a stream before the end of its input. Records are counted from 1, without the header.
 #[derive(Drop)]
 pub enum StreamError {
-    /// A call of the expression faults in a row.
+    /// A call of an answer faults in a row.
     Fault {
         row: u64,
         error: VortexError,
     },
-    /// A call of the expression is refused, whatever the row.
+    /// A call of an answer is refused, whatever the row.
     Refused(VortexError),
     /// A field that its column does not hold; nothing where it is a null.
     Misfit {
@@ -61,15 +59,6 @@ pub enum StreamError {
     Reading(io::Error),
     /// The output could not be written.
     Writing(io::Error),
-    /// The file of the expression, by its name, could not be read.
-    ReadingExpression(String, io::Error),
-    /// A line of the expression is refused or malformed.
-    Expression(ExpressionError),
-    /// A line of the expression is refused or malformed, in words.
-    Line {
-        line: usize,
-        error: LineError,
-    },
     /// Two answers have that name.
     AnswerTwice(String),
     /// The only answer, of that name, may be null, and the line of such a row would be passed over
@@ -78,9 +67,7 @@ pub enum StreamError {
     /// An answer has the name of a column of the input, before whose answers the input's fields are
     /// written.
     NameTaken(String),
-    /// Records are to be picked by an answer that is no truth value.
-    NoTruth(String),
-    /// Memory ran out, but in a call of the expression.
+    /// Memory ran out.
     OutOfMemory,
 }
 
@@ -95,17 +82,6 @@ impl From<ReadError> for StreamError {
             ReadError::Io(error) => StreamError::Reading(error),
             ReadError::OutOfMemory => StreamError::OutOfMemory,
         }
-    }
-}
-
-impl From<ExpressionError> for StreamError {
-    ghost use Rattle.rowfn_batches.specs.declared.errors.StreamError.TheVariants.{Expression};
-    ghost use Rattle.std.specs.Prelude.{◌≡◌};
-
-    ghost from_gives = { λ error e. e ≡ Expression error };
-
-    fn from(error: ExpressionError) -> StreamError {
-        StreamError::Expression(error)
     }
 }
 
@@ -135,8 +111,8 @@ impl StreamError {
     ghost use Rattle.rowfn_batches.specs.Endings.{status_of, row_told, row_left_out};
     ghost use Rattle.std.specs.Prelude.{◌≡◌};
 
-    /// 1 for a fault of the expression, 2 for input that does not fit, 3 for reading, writing and
-    /// memory, 4 for an expression that is wrong.
+    /// 1 for a fault of an answer, 2 for input that does not fit, 3 for reading, writing and memory, 4
+    /// for names or answers that cannot be written.
     pub fn status(&self) -> u8
         ensures { result ≡ status_of self.now }
     {
@@ -154,15 +130,8 @@ impl StreamError {
             | StreamError::HeaderTooLong(_) => 2,
             StreamError::Reading(_)
             | StreamError::Writing(_)
-            | StreamError::ReadingExpression(_, _)
-            | StreamError::Expression(ExpressionError::OutOfMemory)
             | StreamError::OutOfMemory => 3,
-            StreamError::Expression(_)
-            | StreamError::Line { .. }
-            | StreamError::AnswerTwice(_)
-            | StreamError::RowsLost(_)
-            | StreamError::NameTaken(_)
-            | StreamError::NoTruth(_) => 4,
+            StreamError::AnswerTwice(_) | StreamError::RowsLost(_) | StreamError::NameTaken(_) => 4,
         }
     }
 
@@ -310,7 +279,7 @@ fn write_input<W: fmt::Write>(f: &mut fmt::Formatter<W>, error: &StreamError) ->
     }
 }
 
-/// Writes what is wrong with the answers of an expression.
+/// Writes what is wrong with the answers.
 fn write_answers<W: fmt::Write>(f: &mut fmt::Formatter<W>, error: &StreamError) -> fmt::Result {
     match error {
         StreamError::AnswerTwice(name) => {
@@ -332,10 +301,6 @@ fn write_answers<W: fmt::Write>(f: &mut fmt::Formatter<W>, error: &StreamError) 
                 "--append: a column is named {name}: expected another name, by as"
             )
         }
-        StreamError::NoTruth(name) => {
-            let name = name.as_str();
-            write!(f, "--pick: {name} is no truth value")
-        }
         error => write_input(f, error),
     }
 }
@@ -350,13 +315,7 @@ impl fmt::Display for StreamError {
             }
             StreamError::Reading(error) => write!(f, "reading: {error}"),
             StreamError::Writing(error) => write!(f, "writing: {error}"),
-            StreamError::ReadingExpression(path, error) => {
-                let path = path.as_str();
-                write!(f, "reading {path}: {error}")
-            }
-            StreamError::Expression(error) => write!(f, "{error}"),
             StreamError::OutOfMemory => f.write_str("out of memory"),
-            StreamError::Line { line, error } => write!(f, "line {line}: {error}"),
             error => write_answers(f, error),
         }
     }

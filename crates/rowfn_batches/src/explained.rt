@@ -1,48 +1,134 @@
-//! What an expression answers, in words.
+//! What a program answers, in words: each answer as it was written and as rules make it.
+ghost use Rattle.std.specs.Prelude.{◌≡◌, ◌≢◌, ◌++◌, ◌∷◌, [], ℕ, List, OnOk, IfSome, MatchBool};
+ghost use Rattle.std.specs.Prelude.{length, slice_get, string_bytes, codes, decimal, unwrap_or};
+ghost use Rattle.std.specs.Prelude.{option_map};
+ghost use Rattle.vortex_errors.specs.Answers.{AnswersUnlessMemory};
+ghost use Rattle.vortex_interface.specs.Printing.{tree_text};
+ghost use Rattle.vortex_expressions.specs.Writing.{text_of_tree};
+ghost use Rattle.rowfn_batches.specs.Explaining.{tree_head, weight_end, AddsTree, AddsRules};
+ghost use Rattle.rowfn_batches.specs.Explaining.{AddsAnswer, AreExplained};
 
-use rowfn_scripts::{Answer, Expression};
-use std::alloc::Global;
-use std::fmt::Write;
+use itoa::Buffer;
+use std::alloc::{AllocError, Global};
 use vortex_columns::VortexResult;
 use vortex_expressions::write_expression;
 use vortex_functions::{BoundExpression, NoCustom};
-use vortex_rewriting::Rewrite;
+use vortex_program::{Answer, Program};
 
-/// A tree as an expression, where it has such a text, as a tree prints itself, and its type and
-/// weight, a line each.
+/// The text of a tree as people write it, where it has one. E9 where an allocation fails.
+fn text_of(alloc: Global, tree: &BoundExpression<NoCustom>) -> VortexResult<String>
+    ensures { AnswersUnlessMemory result (λ text. string_bytes text
+        ≡ unwrap_or (text_of_tree tree.now) (codes "no expression")) }
+{
+    match write_expression(alloc, tree)? {
+        Some(text) => Ok(text),
+        None => Ok(String::from_str(alloc, "no expression")?),
+    }
+}
+
+/// Adds a tree's title and its texts. Fails only where memory runs out.
+fn push_head(
+    out: &mut String,
+    title: &str,
+    words: &str,
+    printed: &str,
+) -> Result<(), AllocError>
+    ensures { OnOk result (string_bytes out.new
+        ≡ string_bytes out.old ++ tree_head title.now words.now printed.now) }
+{
+    out.push_str("  ")?;
+    out.push_str(title)?;
+    out.push_str(": ")?;
+    out.push_str(words)?;
+    out.push_str("\n    printed ")?;
+    out.push_str(printed)?;
+    out.push_str("\n    type ")
+}
+
+/// Adds a weight, behind a type. Fails only where memory runs out.
+fn push_weight(out: &mut String, weight: u64) -> Result<(), AllocError>
+    ensures { OnOk result (string_bytes out.new ≡ string_bytes out.old ++ weight_end weight) }
+{
+    let mut buffer = Buffer::new();
+    out.push_str(", weight ")?;
+    out.push_str(buffer.format(weight))?;
+    out.push_str("\n")
+}
+
+/// Adds the lines of a tree under a title. E9 where an allocation fails.
 fn push_tree(
     out: &mut String,
     alloc: Global,
     title: &str,
     tree: &BoundExpression<NoCustom>,
-) -> VortexResult<()> {
-    let text = match write_expression(alloc, tree)? {
-        Some(text) => text,
-        None => String::from_str(alloc, "no expression")?,
-    };
-    let printed = tree.sql_text(alloc)?;
-    write!(out, "  {title}: {text}\n    printed {printed}\n    type ")?;
+    printed: &str,
+) -> VortexResult<()>
+    requires { IfSome (tree_text tree.now) (λ words. printed.now ≡ words) }
+    ensures { AnswersUnlessMemory result (λ _. AddsTree title.now tree.now printed.now
+        (string_bytes out.old) (string_bytes out.new)) }
+{
+    let words = text_of(alloc, tree)?;
+    push_head(out, title, words.as_str(), printed)?;
     tree.dtype().write_text(out)?;
-    let weight = tree.weight();
-    write!(out, ", weight {weight}\n")?;
+    push_weight(out, tree.weight())?;
     Ok(())
 }
 
-/// An answer as it stands, and after a run of rules.
-fn push_answer(out: &mut String, alloc: Global, answer: &Answer) -> VortexResult<()> {
-    out.push_str(answer.name.as_str())?;
-    out.push_str("\n")?;
-    push_tree(out, alloc, "tree", &answer.tree)?;
-    let optimized = answer.tree.optimize_recursive(alloc, answer.tree.weight())?;
-    push_tree(out, alloc, "optimized", &optimized.tree)
+/// Whether two texts are one.
+fn are_one(text: &str, other: &str) -> bool
+    ensures { MatchBool result (text.now ≡ other.now) (text.now ≢ other.now) }
+{
+    text.as_bytes() == other.as_bytes()
 }
 
-/// Of each answer its name, its texts, type and weight, and those of the tree that `optimize` makes
-/// of it. E9 where memory is refused.
-pub fn explain(alloc: Global, expression: &Expression) -> VortexResult<String> {
+/// Adds what rules make of an answer, where that prints itself otherwise than the answer does. E9
+/// where an allocation fails.
+fn push_rules(
+    out: &mut String,
+    alloc: Global,
+    printed: &str,
+    optimized: Option<&Answer>,
+) -> VortexResult<()>
+    ensures { AnswersUnlessMemory result (λ _. AddsRules printed.now
+        (option_map (λ o. o.now) optimized.entry) (string_bytes out.old) (string_bytes out.new)) }
+{
+    let Some(optimized) = optimized else {
+        return Ok(());
+    };
+    let other = optimized.tree.sql_text(alloc)?;
+    if are_one(other.as_str(), printed) {
+        return Ok(());
+    }
+    push_tree(out, alloc, "optimized", &optimized.tree, other.as_str())
+}
+
+/// Adds the lines of an answer. E9 where an allocation fails.
+fn push_answer(
+    out: &mut String,
+    alloc: Global,
+    answer: &Answer,
+    optimized: Option<&Answer>,
+) -> VortexResult<()>
+    ensures { AnswersUnlessMemory result (λ _. AddsAnswer answer.now
+        (option_map (λ o. o.now) optimized.entry) (string_bytes out.old) (string_bytes out.new)) }
+{
+    out.push_str(answer.name.as_str())?;
+    out.push_str("\n")?;
+    let printed = answer.tree.sql_text(alloc)?;
+    push_tree(out, alloc, "tree", &answer.tree, printed.as_str())?;
+    push_rules(out, alloc, printed.as_str(), optimized)
+}
+
+/// Of each answer its name, its texts, type and weight; and those of the tree that rules make of it,
+/// where that prints itself otherwise. E9 where an allocation fails.
+pub fn explain(alloc: Global, program: &Program) -> VortexResult<String>
+    ensures { AnswersUnlessMemory result (λ text. AreExplained program.now.written.items
+        program.now.optimized.items (length program.now.written.items) (string_bytes text)) }
+{
     let mut out = String::new(alloc);
-    for answer in expression.answers.iter() {
-        push_answer(&mut out, alloc, answer)?;
+    for k in 0..program.written.len() {
+        let optimized = program.optimized.get(k);
+        push_answer(&mut out, alloc, &program.written[k], optimized)?;
     }
     Ok(out)
 }

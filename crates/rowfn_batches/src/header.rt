@@ -86,7 +86,7 @@ fn place_of(alloc: Global, header: &ByteRecord, name: &str) -> Result<usize, Str
     }
 }
 
-/// The place that the expression says of a column.
+/// The place that is given for a column.
 fn place_said(said: &[Option<usize>], column: usize) -> Option<usize>
     ensures { result ≡ place_said said.now column }
 {

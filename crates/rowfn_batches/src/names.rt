@@ -5,8 +5,8 @@ ghost use Rattle.rowfn_batches.specs.Names.{names_of, StandsAgain, StandsLast, A
 ghost use Rattle.rowfn_batches.specs.Names.{TellsTwice, RefusesNames};
 
 use crate::errors::StreamError;
-use rowfn_scripts::{Answer, Expression};
 use std::alloc::{AllocError, Global};
+use vortex_program::{Answer, Program};
 
 /// Whether two answers have one name.
 fn have_one_name(first: &Answer, second: &Answer) -> bool
@@ -51,9 +51,9 @@ fn check_each(alloc: Global, answers: &[Answer]) -> Result<(), StreamError>
 }
 
 /// Refused where two answers have one name, with that name, and where memory runs out.
-pub fn check_names(alloc: Global, expression: &Expression) -> Result<(), StreamError>
-    ensures { MatchResult result (λ _. AreApart (names_of expression.now.answers.items))
-        (RefusesNames (names_of expression.now.answers.items)) }
+pub fn check_names(alloc: Global, program: &Program) -> Result<(), StreamError>
+    ensures { MatchResult result (λ _. AreApart (names_of program.now.written.items))
+        (RefusesNames (names_of program.now.written.items)) }
 {
-    check_each(alloc, &expression.answers)
+    check_each(alloc, &program.written)
 }

@@ -5,6 +5,8 @@ ghost use Rattle.vortex_columns.specs.ColumnView.{row};
 ghost use Rattle.vortex_interface.specs.CallTexts.{joined, separator_before};
 ghost use Rattle.rowfn_csv.specs.Fields.{text_field};
 ghost use Rattle.rowfn_csv.specs.KeptLines.{line_of};
+ghost use Rattle.rowfn_batches.specs.Names.{names_of};
+ghost use Rattle.rowfn_batches.specs.Outputs.{names_line};
 ghost use Rattle.rowfn_batches.specs.Outputs.{Adds, name_field, value_field, row_fields, row_line};
 ghost use Rattle.rowfn_batches.specs.Outputs.{HaveRows, row_lines, is_true, picked_texts};
 ghost use Rattle.rowfn_batches.specs.Outputs.{picked_count, appended_lines};
@@ -18,6 +20,7 @@ use rowfn_csv::{Format, Records, Span, quote_from, without_line_end};
 use std::alloc::{AllocError, Global};
 use std::io::Read;
 use vortex_columns::{Cell, Column};
+use vortex_program::Answer;
 
 /// The only answer, where it has truth values and is no constant.
 fn only_truths(answers: &[Column]) -> Option<TruthRows<'_>>
@@ -74,10 +77,10 @@ impl<'a> Output<'a> {
     #[inline(always)]
     fn begin_field(&mut self, index: usize) -> Result<(), AllocError>
         ensures { OnOk result (Adds self.old self.new
-            (separator_before (self.old.format.delimiter ∷ []) index)) }
+            (separator_before (self.old.format.output_delimiter ∷ []) index)) }
     {
         if index != 0 {
-            self.bytes.push(self.format.delimiter)?;
+            self.bytes.push(self.format.output_delimiter)?;
         }
         Ok(())
     }
@@ -85,7 +88,7 @@ impl<'a> Output<'a> {
     /// Adds a text as a field, in quotes where it needs them. Refused only for want of memory.
     fn push_text(&mut self, text: &str) -> Result<(), AllocError>
         ensures { OnOk result (Adds self.old self.new
-            (text_field self.old.format.delimiter self.old.format.null.now text.now)) }
+            (text_field self.old.format text.now)) }
     {
         let start = self.bytes.len();
         self.bytes.extend_from_slice(text.as_bytes())?;
@@ -93,19 +96,28 @@ impl<'a> Output<'a> {
     }
 
     /// Adds a name of the header. Refused only for want of memory.
-    pub fn push_name(&mut self, index: usize, name: &str) -> Result<(), AllocError>
-        ensures { OnOk result (Adds self.old self.new (name_field self.old.format.delimiter
-            self.old.format.null.now index name.now)) }
+    fn push_name(&mut self, index: usize, name: &str) -> Result<(), AllocError>
+        ensures { OnOk result (Adds self.old self.new (name_field self.old.format index name.now)) }
     {
         self.begin_field(index)?;
         self.push_text(name)
+    }
+
+    /// Adds the names of answers as a line. Fails only where memory runs out.
+    pub fn push_names(&mut self, answers: &[Answer]) -> Result<(), AllocError>
+        ensures { OnOk result (Adds self.old self.new (names_line self.old.format (names_of answers.now))) }
+    {
+        for k in 0..answers.len() {
+            self.push_name(k, answers[k].name.as_str())?;
+        }
+        self.end_line()
     }
 
     /// Adds the value of a row, which is no truth value, as a field. Refused only for want of memory.
     fn push_other(&mut self, column: &Column, place: usize) -> Result<(), AllocError>
         requires { place < length column.now.rows }
         ensures { OnOk result (Adds self.old self.new
-            (value_field self.old.format.delimiter self.old.format.null.now
+            (value_field self.old.format
             (row column.now.rows place))) }
     {
         let start = self.bytes.len();
@@ -128,7 +140,7 @@ impl<'a> Output<'a> {
         requires place { place < length column.now.rows }
         requires truths { AreTruths self.old.format truths }
         ensures { OnOk result (Adds self.old self.new
-            (value_field self.old.format.delimiter self.old.format.null.now
+            (value_field self.old.format
             (row column.now.rows place))) }
     {
         let Some(rows) = TruthRows::of(column) else {
@@ -156,8 +168,7 @@ impl<'a> Output<'a> {
         requires rows { HaveRows (place + 1) answers.now }
         requires truths { AreTruths self.old.format truths }
         ensures { OnOk result (Adds self.old self.new
-            (joined (self.old.format.delimiter ∷ []) (row_fields self.old.format.delimiter
-            self.old.format.null.now answers.now place))) }
+            (joined (self.old.format.output_delimiter ∷ []) (row_fields self.old.format answers.now place))) }
     {
         for k in 0..answers.len() {
             self.begin_field(k)?;
@@ -177,7 +188,7 @@ impl<'a> Output<'a> {
         requires rows { HaveRows (place + 1) answers.now }
         requires truths { AreTruths self.old.format truths }
         ensures { OnOk result (Adds self.old self.new
-            (row_line self.old.format.delimiter self.old.format.null.now answers.now place)) }
+            (row_line self.old.format answers.now place)) }
     {
         self.push_values(answers, place, truths)?;
         self.end_line()
@@ -192,8 +203,7 @@ impl<'a> Output<'a> {
     ) -> Result<(), AllocError>
         requires rows { row_count ≤ length rows.now.rows }
         requires truths { AreTruths self.old.format truths }
-        ensures { OnOk result (Adds self.old self.new (row_lines self.old.format.delimiter
-            self.old.format.null.now (rows.now ∷ []) row_count)) }
+        ensures { OnOk result (Adds self.old self.new (row_lines self.old.format (rows.now ∷ []) row_count)) }
     {
         for row in 0..row_count {
             push_truth_line(&mut self.bytes, rows, row, truths, &self.format)?;
@@ -205,7 +215,7 @@ impl<'a> Output<'a> {
     pub fn push_rows(&mut self, answers: &[Column], row_count: usize) -> Result<(), AllocError>
         requires { HaveRows row_count answers.now }
         ensures { OnOk result (Adds self.old self.new
-            (row_lines self.old.format.delimiter self.old.format.null.now answers.now row_count)) }
+            (row_lines self.old.format answers.now row_count)) }
     {
         let truths = truths_of(&self.format);
         if let Some(rows) = only_truths(answers) {
@@ -217,11 +227,11 @@ impl<'a> Output<'a> {
         Ok(())
     }
 
-    /// Adds a delimiter. Refused only for want of memory.
-    fn push_delimiter(&mut self) -> Result<(), AllocError>
-        ensures { OnOk result (Adds self.old self.new (self.old.format.delimiter ∷ [])) }
+    /// Adds a delimiter. Fails only where memory runs out.
+    pub fn push_delimiter(&mut self) -> Result<(), AllocError>
+        ensures { OnOk result (Adds self.old self.new (self.old.format.output_delimiter ∷ [])) }
     {
-        self.bytes.push(self.format.delimiter)?;
+        self.bytes.push(self.format.output_delimiter)?;
         Ok(())
     }
 
@@ -237,8 +247,8 @@ impl<'a> Output<'a> {
         requires rows { HaveRows (place + 1) answers.now }
         requires truths { AreTruths self.old.format truths }
         ensures { OnOk result (Adds self.old self.new (without_line_end line.now
-            ++ (self.old.format.delimiter
-            ∷ row_line self.old.format.delimiter self.old.format.null.now answers.now place))) }
+            ++ (self.old.format.output_delimiter
+            ∷ row_line self.old.format answers.now place))) }
     {
         self.push_bytes(without_line_end(line))?;
         self.push_delimiter()?;
@@ -256,8 +266,7 @@ impl<'a> Output<'a> {
         row_count: usize,
     ) -> Result<(), AllocError>
         requires { HaveRows row_count answers.now }
-        ensures { OnOk result (Adds self.old self.new (appended_lines self.old.format.delimiter
-            self.old.format.null.now (map (line_of records.now) spans.now)
+        ensures { OnOk result (Adds self.old self.new (appended_lines self.old.format (map (line_of records.now) spans.now)
             (option_map (λ r. r.now) rows.entry) answers.now row_count)) }
     {
         let truths = truths_of(&self.format);

@@ -1,4 +1,4 @@
-//! Whether what an expression writes reads back.
+//! Whether the output of a program reads back.
 ghost use Rattle.std.specs.Prelude.{◌≡◌, false, IfOk, MatchResult, string_bytes};
 ghost use Rattle.rowfn_batches.specs.ReadingBack.{may_be_lost, loses_nulls, KeepsRows, RefusesRows};
 ghost use Rattle.rowfn_batches.specs.ReadingBack.{ReadsBack, RefusesReadingBack, TellsLost};
@@ -7,8 +7,8 @@ use crate::errors::StreamError;
 use crate::names::check_names;
 use crate::settings::Settings;
 use rowfn_csv::Format;
-use rowfn_scripts::{Answer, Expression};
 use std::alloc::{AllocError, Global};
+use vortex_program::{Answer, Program};
 
 /// Whether a null that stands alone in a line is lost where the line is read.
 fn loses_nulls(format: &Format<'_>) -> bool
@@ -53,9 +53,9 @@ fn check_rows(alloc: Global, format: &Format<'_>, answers: &[Answer]) -> Result<
 pub fn check_reading_back(
     alloc: Global,
     settings: &Settings<'_>,
-    expression: &Expression,
+    program: &Program,
 ) -> Result<(), StreamError>
-    ensures { let answers = expression.now.answers.items in
+    ensures { let answers = program.now.written.items in
         MatchResult result
         (λ _. settings.now.picks_rows ≡ false → ReadsBack settings.now answers)
         (λ e. (settings.now.picks_rows ≡ false)
@@ -64,9 +64,9 @@ pub fn check_reading_back(
     if settings.picks_rows {
         return Ok(());
     }
-    check_names(alloc, expression)?;
+    check_names(alloc, program)?;
     if settings.appends {
         return Ok(());
     }
-    check_rows(alloc, &settings.format, &expression.answers)
+    check_rows(alloc, &settings.format, &program.written)
 }

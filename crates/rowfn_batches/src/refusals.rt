@@ -229,6 +229,15 @@ impl<W: Write> Refusals<W> {
     }
 }
 
+/// What becomes of rows that are refused.
+#[derive(Drop)]
+pub enum RefusedRows<W> {
+    /// The first one ends the stream.
+    End,
+    /// They are reported there, and skipped.
+    Skip(Refusals<W>),
+}
+
 /// Why there is no file in which rows that are refused are told.
 #[derive(Drop)]
 pub enum NoRefusals {

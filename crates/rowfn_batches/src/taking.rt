@@ -9,18 +9,18 @@ ghost use Rattle.rowfn_batches.specs.Taking.{true_rows, rows_picked, fields_pick
 ghost use Rattle.rowfn_batches.specs.Outputs.{HaveRows};
 
 use crate::answering::{Answered, Task};
+use crate::asked::Asked;
 use crate::errors::StreamError;
 use crate::header::Layout;
 use crate::output::is_true;
 use rowfn_csv::Batch;
-use rowfn_scripts::Expression;
 use std::alloc::{AllocError, Global};
 use vortex_columns::Column;
 
 /// The condition of the rows that are answered, over columns of its own, with their fields.
 #[derive(Drop)]
 pub struct Condition<'a> {
-    pub expression: &'a Expression,
+    pub asked: Asked<'a>,
     pub layout: Layout,
     pub batch: Batch,
 }
@@ -150,18 +150,18 @@ impl Condition<'_> {
         rows_before: u64,
         error: Option<StreamError>,
     ) -> Result<Answered, StreamError>
-        ensures rows { IfOk result (λ a. AreAnswers self.now.expression.now self.now.batch.fields
+        ensures rows { IfOk result (λ a. AreAnswers self.now.asked self.now.batch.fields
             a.row_count a.answers.items) }
-        ensures ends { IfOk result (λ a. EndsBatch self.now.expression.now self.now.batch.fields
+        ensures ends { IfOk result (λ a. EndsBatch self.now.asked self.now.batch.fields
             self.now.layout.places.items (row_number rows_before) (length self.now.batch.spans)
             error a.row_count a.error) }
-        ensures refused { IfErr result (IsUnanswered self.now.expression.now self.now.batch.fields
+        ensures refused { IfErr result (IsUnanswered self.now.asked self.now.batch.fields
             (length self.now.batch.spans)) }
     {
         let fields = self.batch.fields(alloc)?;
         let task = Task {
             alloc,
-            expression: self.expression,
+            asked: self.asked,
             places: &self.layout.places,
             rows_before,
             rows: None,
@@ -178,7 +178,7 @@ impl Condition<'_> {
         error: Option<StreamError>,
     ) -> Result<(Vec<usize>, Option<StreamError>), StreamError>
         ensures sifts { IfOk result (λ s. Sifts self.now rows_before error s.0.items s.1) }
-        ensures refused { IfErr result (IsUnanswered self.now.expression.now self.now.batch.fields
+        ensures refused { IfErr result (IsUnanswered self.now.asked self.now.batch.fields
             (length self.now.batch.spans)) }
     {
         let Answered {

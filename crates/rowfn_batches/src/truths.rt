@@ -152,7 +152,7 @@ pub fn push_truth_in(
     requires place { place < length rows.now.rows }
     requires truths { AreTruths format.now truths }
     ensures { OnOk result (bytes.new.items ≡ bytes.old.items
-        ++ value_field format.now.delimiter format.now.null.now (row rows.now.rows place)) }
+        ++ value_field format.now (row rows.now.rows place)) }
 {
     if !rows.is_valid(place) {
         return bytes.extend_from_slice(format.null);
@@ -185,7 +185,7 @@ pub fn push_truth_line(
     requires place { place < length rows.now.rows }
     requires truths { AreTruths format.now truths }
     ensures { OnOk result (bytes.new.items ≡ bytes.old.items
-        ++ (value_field format.now.delimiter format.now.null.now (row rows.now.rows place)
+        ++ (value_field format.now (row rows.now.rows place)
         ++ (10 ∷ []))) }
 {
     if !truths.are_bare {

@@ -2,6 +2,7 @@
 ghost use Rattle.std.specs.Prelude.{◌≡◌, ◌⊎◌, IfOk, IfErr, MatchResult, true, false};
 ghost use Rattle.vortex_types.specs.LogicalTypes.{no_fields};
 ghost use Rattle.vortex_types.specs.TypeOf.{struct_fields};
+ghost use Rattle.vortex_program.specs.Programs.{AreOptimized};
 ghost use Rattle.rowfn_queries.specs.Bindings.{RefusesWidened, columns_in, sampled_in};
 ghost use Rattle.rowfn_queries.specs.Columns.{with_all, with_texts};
 ghost use Rattle.rowfn_queries.specs.DeclaredColumns.{declared_by};
@@ -44,6 +45,7 @@ pub struct Question {
     pub program: Program,
     /// The place of each column, counted from 0; none where the header says it.
     pub places: Vec<Option<usize>>,
+    pub ghost optimized: { AreOptimized program.written.items program.optimized.items },
 }
 
 /// What is asked of rows: the answers, and the condition, each over the columns that it reads.

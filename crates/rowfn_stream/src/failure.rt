@@ -17,8 +17,10 @@ pub enum Failure {
     Stream(StreamError),
     /// The rows end at a field that is none of its column's type, which the first rows gave it.
     Inferred(StreamError),
-    /// The file of the rows, by its name, cannot be read.
+    /// The file of that name, of the rows or of the expression, cannot be read.
     Input(String, io::Error),
+    /// The file of the expression is not UTF-8.
+    NoText(String),
     /// There is no file in which rows that are refused are told.
     NoRefusals(NoRefusals),
     /// Rows that are refused cannot be told there, in the file of that name or on standard error.
@@ -65,13 +67,14 @@ impl From<VortexError> for Failure {
 }
 
 impl Failure {
-    /// 1 for a fault of the expression, and where rows were left out, 2 for input that does not fit, 3 for reading, writing and
-    /// memory, 4 for an expression that is wrong.
+    /// 1 for a fault of the expression, and where rows were left out, 2 for input that does not fit,
+    /// 3 for reading, writing and memory, 4 for an expression that is wrong.
     pub(crate) fn status(&self) -> u8 {
         match self {
             Failure::Query(error) | Failure::QueryOfFile(error, _) => error.status(),
             Failure::Stream(error) | Failure::Inferred(error) => error.status(),
             Failure::Input(_, _) | Failure::NoRefusals(_) | Failure::Telling(_, _) => 3,
+            Failure::NoText(_) => 4,
             Failure::LeftOut(_) => 1,
         }
     }
@@ -94,7 +97,7 @@ impl fmt::Display for Failure {
             Failure::Query(error) => write!(f, "{error}"),
             Failure::QueryOfFile(error, name) => {
                 let name = name.as_str();
-                write!(f, "{error}; {name} is a file: expected it behind --input")
+                write!(f, "{error}; {name} is a file: expected it after --input")
             }
             Failure::Stream(error) => write!(f, "{error}"),
             Failure::Inferred(error) => {
@@ -106,6 +109,10 @@ impl fmt::Display for Failure {
             Failure::Input(name, error) => {
                 let name = name.as_str();
                 write!(f, "reading {name}: {error}")
+            }
+            Failure::NoText(name) => {
+                let name = name.as_str();
+                write!(f, "{name}: the expression is not UTF-8")
             }
             Failure::NoRefusals(error) => write!(f, "{error}"),
             Failure::Telling(name, error) => {

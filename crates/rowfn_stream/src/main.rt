@@ -4,18 +4,19 @@
 mod asking;
 mod failure;
 mod progress;
-mod telling;
+mod standard_error;
 
 use crate::asking::{ask, format_with};
 use crate::failure::Failure;
-use crate::progress::{TOLD_BYTES, Teller};
-use crate::telling::{Complaints, flow_telling};
+use crate::progress::{PRINTED_BYTES, Progress};
+use crate::standard_error::StandardError;
 use rowfn_batches::{
-    Refusals, Settings, StreamError, Summary, Watched, check_names, explain, refusals_in,
+    Asked, Refusals, RefusedRows, Settings, StreamError, Summary, Watched, check_names, explain,
+    refusals_in, run,
 };
+use rowfn_csv::Format;
 use rowfn_options::{Action, Options, read_options, status};
-use rowfn_queries::{Again, Query};
-use rowfn_scripts::Expression;
+use rowfn_queries::{Again, Query, Question};
 use std::cell::Cell;
 use std::io::{Read, Write};
 use std::process::ExitCode;
@@ -23,12 +24,9 @@ use std::rt::{Env, Files};
 use std::{env, fs, io};
 use vortex_columns::StructFields;
 
-/// Prints an expression on standard output.
-fn print_expression(
-    rt: &(impl Print + AllocGlobal),
-    expression: &Expression,
-) -> Result<(), StreamError> {
-    match explain(rt.alloc(), expression) {
+/// Prints a program on standard output: each tree as it is written, and as rules make it.
+fn print_program(rt: &(impl Print + AllocGlobal), question: &Question) -> Result<(), StreamError> {
+    match explain(rt.alloc(), &question.program) {
         Ok(text) => match print!(rt; "{text}") {
             Ok(()) => Ok(()),
             Err(error) => Err(StreamError::Writing(error)),
@@ -37,22 +35,22 @@ fn print_expression(
     }
 }
 
-/// Prints what is asked: the answers, and behind them the condition.
+/// Prints what is asked: the answers, and after them the condition.
 fn print_query(rt: &(impl Print + AllocGlobal), query: &Query) -> Result<(), StreamError> {
     if let Some(answers) = &query.answers {
-        check_names(rt.alloc(), answers)?;
-        print_expression(rt, answers)?;
+        check_names(rt.alloc(), &answers.program)?;
+        print_program(rt, answers)?;
     }
     if let Some(condition) = &query.condition {
-        print_expression(rt, condition)?;
+        print_program(rt, condition)?;
     }
     Ok(())
 }
 
 /// How rows are read and written; those that were passed on are counted in a cell.
-fn settings_of<'a>(options: &Options<'_>, null: &'a [u8], rows: &'a Cell<u64>) -> Settings<'a> {
+fn settings_of<'a>(options: &Options<'_>, format: Format<'a>, rows: &'a Cell<u64>) -> Settings<'a> {
     Settings {
-        format: format_with(options, null),
+        format,
         header: options.header,
         batch: options.batch as usize,
         batch_bytes: options.batch_bytes,
@@ -65,14 +63,21 @@ fn settings_of<'a>(options: &Options<'_>, null: &'a [u8], rows: &'a Cell<u64>) -
     }
 }
 
-/// Lets the rows flow, and tells how many they were. Those that are refused are told where they are
-/// to be left out.
-fn pass_rows<R: Read + Drop, E: Write>(
+/// A question, as a stream takes it.
+fn asked(question: &Question) -> Asked<'_> {
+    Asked {
+        program: &question.program,
+        places: &question.places,
+    }
+}
+
+/// Runs the stream of a query, and returns how many rows it read and wrote.
+fn run_query<R: Read + Drop, E: Write>(
     rt: &(impl Print + AllocGlobal),
     settings: Settings<'_>,
     query: &Query,
     reader: R,
-    refusals: Option<&mut Refusals<E>>,
+    refused: &mut RefusedRows<E>,
 ) -> Result<Summary, StreamError> {
     let alloc = rt.alloc();
     let picking = Settings {
@@ -80,47 +85,46 @@ fn pass_rows<R: Read + Drop, E: Write>(
         ..settings
     };
     let mut out = io::writer(rt);
-    match (&query.answers, &query.condition) {
-        (Some(answers), condition) => {
-            let asked = (answers, condition.as_ref());
-            flow_telling(alloc, &settings, asked, reader, &mut out, refusals)
+    let (settings, answers, condition) = match (&query.answers, &query.condition) {
+        (Some(answers), Some(condition)) => (settings, asked(answers), Some(asked(condition))),
+        (Some(answers), None) => (settings, asked(answers), None),
+        (None, Some(condition)) => (picking, asked(condition), None),
+        (None, None) => {
+            return Ok(Summary {
+                rows_read: 0,
+                rows_written: 0,
+            });
         }
-        (None, Some(condition)) => {
-            flow_telling(
-                alloc,
-                &picking,
-                (condition, None),
-                reader,
-                &mut out,
-                refusals,
-            )
-        }
-        (None, None) => Ok(Summary {
-            rows_read: 0,
-            rows_written: 0,
-        }),
-    }
+    };
+    run(
+        alloc,
+        &settings,
+        &answers,
+        condition.as_ref(),
+        reader,
+        &mut out,
+        refused,
+    )
 }
 
-/// The same, and tells on standard error how far they have come, where that is asked. What counts
-/// them lives as long as this call, and so does the text for null that stands beside it.
-fn pass_watched<R: Read + Drop, E: Write>(
+/// The same, with the rows counted on standard error while they are read, where that is asked. `rows`
+/// and `null` must outlive `settings`, so they are locals here.
+fn run_watched<R: Read + Drop, E: Write>(
     rt: &(impl Print + Eprint + AllocGlobal),
     options: &Options<'_>,
     query: &Query,
     reader: R,
-    refusals: &mut Refusals<E>,
+    refused: &mut RefusedRows<E>,
 ) -> Result<Summary, StreamError> {
     let null = String::from_str(rt.alloc(), options.null)?;
-    let null = null.as_bytes();
     let rows = Cell::new(0);
-    let settings = settings_of(options, null, &rows);
-    let refusals = if options.skips { Some(refusals) } else { None };
+    let format = format_with(options, null.as_bytes(), &options.more_nulls);
+    let settings = settings_of(options, format, &rows);
     if !options.progress {
-        return pass_rows(rt, settings, query, reader, refusals);
+        return run_query(rt, settings, query, reader, refused);
     }
-    let watched = Watched::new(reader, Teller { rt }, &rows, TOLD_BYTES);
-    let passed = pass_rows(rt, settings, query, watched, refusals);
+    let watched = Watched::new(reader, Progress { rt }, &rows, PRINTED_BYTES);
+    let passed = run_query(rt, settings, query, watched, refused);
     let _ = eprintln!(rt; "\rrows {}", rows.get());
     passed
 }
@@ -138,9 +142,9 @@ fn advised(inferred: &StructFields, error: StreamError) -> Failure {
     }
 }
 
-/// Tells the row whose refusal ended the stream, where a file is to tell it, and writes what was not
-/// yet.
-fn tell_last<E: Write>(
+/// Writes the reports that were not yet written, and before them that of the row whose error ended the
+/// stream, where a file has the reports.
+fn report_last<E: Write>(
     options: &Options<'_>,
     passed: &Result<Summary, StreamError>,
     refusals: &mut Refusals<E>,
@@ -153,8 +157,8 @@ fn tell_last<E: Write>(
     refusals.flush()
 }
 
-/// What went wrong where rows that are refused could not be told.
-fn untold(rt: &impl AllocGlobal, options: &Options<'_>, error: StreamError) -> Failure {
+/// The error, where reports of bad rows could not be written.
+fn unreported(rt: &impl AllocGlobal, options: &Options<'_>, error: StreamError) -> Failure {
     let name = options.errors_to.unwrap_or("standard error");
     match (error, String::from_str(rt.alloc(), name)) {
         (StreamError::Writing(error), Ok(name)) => Failure::Telling(name, error),
@@ -162,36 +166,63 @@ fn untold(rt: &impl AllocGlobal, options: &Options<'_>, error: StreamError) -> F
     }
 }
 
-/// Lets the rows flow, and tells those that are refused; answers how many were left out.
-fn pass_told<R: Read + Drop, E: Write>(
-    rt: &(impl Print + Eprint + AllocGlobal),
+/// How a stream ended, with its last reports written.
+fn ended<E: Write>(
+    rt: &impl AllocGlobal,
     options: &Options<'_>,
     query: &Query,
-    reader: R,
+    passed: Result<Summary, StreamError>,
     refusals: &mut Refusals<E>,
-) -> (u64, Result<Summary, Failure>) {
-    let passed = pass_watched(rt, options, query, reader, refusals);
-    let left_out = refusals.count();
-    let passed = match tell_last(options, &passed, refusals) {
+) -> Result<Summary, Failure> {
+    let passed = match report_last(options, &passed, refusals) {
         Ok(()) => passed,
         Err(error) => Err(error),
     };
     match passed {
-        Ok(summary) => (left_out, Ok(summary)),
-        Err(error) if refusals.has_failed() => (left_out, Err(untold(rt, options, error))),
-        Err(error) => (left_out, Err(advised(&query.inferred, error))),
+        Ok(summary) => Ok(summary),
+        Err(error) if refusals.has_failed() => Err(unreported(rt, options, error)),
+        Err(error) => Err(advised(&query.inferred, error)),
     }
 }
 
-/// Lets the rows flow, tells those that are refused, and counts them at the end.
-fn pass_counted<R: Read + Drop, E: Write>(
+/// Runs the stream, with bad rows reported and skipped or up to the first, as the options say. Returns
+/// how many were skipped, and how it ended.
+fn run_reported<R: Read + Drop, E: Write>(
     rt: &(impl Print + Eprint + AllocGlobal),
     options: &Options<'_>,
     query: &Query,
     reader: R,
-    refusals: &mut Refusals<E>,
+    refusals: Refusals<E>,
+) -> (u64, Result<Summary, Failure>) {
+    if !options.skips {
+        let mut refused: RefusedRows<E> = RefusedRows::End;
+        let passed = run_watched(rt, options, query, reader, &mut refused);
+        let mut refusals = refusals;
+        return (0, ended(rt, options, query, passed, &mut refusals));
+    }
+    let mut refused = RefusedRows::Skip(refusals);
+    let passed = run_watched(rt, options, query, reader, &mut refused);
+    match &mut refused {
+        RefusedRows::Skip(refusals) => {
+            let skipped = refusals.count();
+            (skipped, ended(rt, options, query, passed, refusals))
+        }
+        RefusedRows::End => match passed {
+            Ok(summary) => (0, Ok(summary)),
+            Err(error) => (0, Err(Failure::Stream(error))),
+        },
+    }
+}
+
+/// Runs the stream, and prints its counts, where they are asked. Fails where rows were skipped.
+fn run_counted<R: Read + Drop, E: Write>(
+    rt: &(impl Print + Eprint + AllocGlobal),
+    options: &Options<'_>,
+    query: &Query,
+    reader: R,
+    refusals: Refusals<E>,
 ) -> Result<(), Failure> {
-    let (left_out, passed) = pass_told(rt, options, query, reader, refusals);
+    let (skipped, passed) = run_reported(rt, options, query, reader, refusals);
     match passed {
         Ok(
             Summary {
@@ -202,15 +233,15 @@ fn pass_counted<R: Read + Drop, E: Write>(
             if options.summary {
                 let _ = eprintln!(rt; "rows read {rows_read}, rows written {rows_written}");
             }
-            if left_out == 0 {
+            if skipped == 0 {
                 Ok(())
             } else {
-                Err(Failure::LeftOut(left_out))
+                Err(Failure::LeftOut(skipped))
             }
         }
         Err(failure) => {
-            if left_out != 0 && !failure.is_closed_pipe() {
-                let _ = eprintln!(rt; "rowfn_stream: {}", Failure::LeftOut(left_out));
+            if skipped != 0 && !failure.is_closed_pipe() {
+                let _ = eprintln!(rt; "rowfn_stream: {}", Failure::LeftOut(skipped));
             }
             Err(failure)
         }
@@ -229,12 +260,13 @@ fn perform_on<R: Read + Drop>(
     if options.action == Action::Explain {
         return Ok(print_query(rt, &query)?);
     }
-    let Some(name) = options.errors_to else {
-        let mut refusals = Refusals::new(alloc, Complaints { rt });
-        return pass_counted(rt, options, &query, reader, &mut refusals);
-    };
-    let mut refusals = refusals_in(rt, name)?;
-    pass_counted(rt, options, &query, reader, &mut refusals)
+    match options.errors_to {
+        Some(name) => run_counted(rt, options, &query, reader, refusals_in(rt, name)?),
+        None => {
+            let refusals = Refusals::new(alloc, StandardError { rt });
+            run_counted(rt, options, &query, reader, refusals)
+        }
+    }
 }
 
 /// Does what the options ask for.
@@ -284,7 +316,7 @@ const PIPE_CLOSED: u8 = 141;
 
 /// Reads the options and does what they ask for; prints what went wrong on standard error. The
 /// status is 0 where nothing did.
-fn run(rt: &(impl Input + Print + Eprint + Env + Files + AllocGlobal)) -> u8 {
+fn run_words(rt: &(impl Input + Print + Eprint + Env + Files + AllocGlobal)) -> u8 {
     let words = match words_of(rt) {
         Ok(words) => words,
         Err(error) => return print_no_words(rt, &error),
@@ -304,5 +336,5 @@ fn run(rt: &(impl Input + Print + Eprint + Env + Files + AllocGlobal)) -> u8 {
 }
 
 fn main(rt: HostRuntime) -> ExitCode {
-    ExitCode::from(run(&rt))
+    ExitCode::from(run_words(&rt))
 }

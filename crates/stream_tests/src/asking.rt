@@ -2,9 +2,11 @@
 
 use crate::cases::{BATCHES, STEPS, ended_so, is_case};
 use crate::pipes::{Drips, Sink};
+use crate::programs::{Placed, placed};
 use fixtures::same;
-use rowfn_batches::{Format, Refusals, Settings, StreamError, Summary, flow, flow_on};
+use rowfn_batches::{Format, RefusedRows, Refusals, Settings, StreamError, Summary, run};
 use rowfn_queries::{Again, Query, Words, read_query};
+use rowfn_scripts::Expression;
 use std::alloc::Global;
 
 /// What is asked, and of which rows.
@@ -104,7 +106,11 @@ fn settings_of<'a>(asked: &Asked<'a>, batch: (usize, u64)) -> Settings<'a> {
     Settings {
         format: Format {
             delimiter: b',',
+            output_delimiter: b',',
             null: b"",
+            more_nulls: &[],
+            comment: None,
+            fits: false,
             blank_rows: false,
             any_truths: asked.any_truths,
         },
@@ -120,60 +126,77 @@ fn settings_of<'a>(asked: &Asked<'a>, batch: (usize, u64)) -> Settings<'a> {
     }
 }
 
-/// Lets rows flow through a query.
+/// A program of an expression, if there is one.
+fn placed_if(
+    alloc: Global,
+    expression: Option<Expression>,
+) -> Result<Option<Placed>, StreamError> {
+    let Some(expression) = expression else {
+        return Ok(None);
+    };
+    match placed(alloc, expression, false) {
+        Some(placed) => Ok(Some(placed)),
+        None => Err(StreamError::OutOfMemory),
+    }
+}
+
+/// Runs a stream of answers, under a condition if there is one.
+fn run_answers(
+    alloc: Global,
+    settings: &Settings<'_>,
+    asked: (&Placed, Option<&Placed>),
+    reader: Again<Drips<'_>>,
+    sink: &mut Sink,
+    refused: &mut RefusedRows<&mut Sink>,
+) -> Result<Summary, StreamError> {
+    let answers = asked.0.asked();
+    match asked.1 {
+        Some(condition) => {
+            let condition = condition.asked();
+            let condition = Some(&condition);
+            run(alloc, settings, &answers, condition, reader, sink, refused)
+        }
+        None => run(alloc, settings, &answers, None, reader, sink, refused),
+    }
+}
+
+/// Runs a stream of a query.
 fn pass(
     alloc: Global,
     settings: &Settings<'_>,
-    query: &Query,
+    query: Query,
     reader: Again<Drips<'_>>,
     sink: &mut Sink,
+    refused: &mut RefusedRows<&mut Sink>,
 ) -> Result<Summary, StreamError> {
-    match (&query.answers, &query.condition) {
+    let answers = placed_if(alloc, query.answers)?;
+    let condition = placed_if(alloc, query.condition)?;
+    match (&answers, &condition) {
         (Some(answers), condition) => {
-            flow(alloc, settings, answers, condition.as_ref(), reader, sink)
+            let asked = (answers, condition.as_ref());
+            run_answers(alloc, settings, asked, reader, sink, refused)
         }
-        (None, Some(condition)) => flow(alloc, settings, condition, None, reader, sink),
+        (None, Some(condition)) => {
+            run_answers(alloc, settings, (condition, None), reader, sink, refused)
+        }
         (None, None) => Err(StreamError::OutOfMemory),
     }
 }
 
-/// Lets rows flow through a query, but for those that are refused, which are told.
+/// The same; rows that are refused are reported and skipped.
 fn pass_on(
     alloc: Global,
     settings: &Settings<'_>,
-    query: &Query,
+    query: Query,
     reader: Again<Drips<'_>>,
     sink: &mut Sink,
     told: &mut Sink,
 ) -> Result<Summary, StreamError> {
-    let mut refusals = Refusals::new(alloc, told);
-    let passed = match (&query.answers, &query.condition) {
-        (Some(answers), condition) => {
-            let condition = condition.as_ref();
-            flow_on(
-                alloc,
-                settings,
-                answers,
-                condition,
-                reader,
-                sink,
-                &mut refusals,
-            )
-        }
-        (None, Some(condition)) => {
-            flow_on(
-                alloc,
-                settings,
-                condition,
-                None,
-                reader,
-                sink,
-                &mut refusals,
-            )
-        }
-        (None, None) => Err(StreamError::OutOfMemory),
-    };
-    refusals.flush()?;
+    let mut refused = RefusedRows::Skip(Refusals::new(alloc, told));
+    let passed = pass(alloc, settings, query, reader, sink, &mut refused);
+    if let RefusedRows::Skip(refusals) = &mut refused {
+        refusals.flush()?;
+    }
     passed
 }
 
@@ -213,8 +236,8 @@ pub fn ask_once(
     let mut reader = Again::new(alloc, drips);
     let query = query_of(alloc, asked, &settings, &mut reader)?;
     let passed = match told {
-        Some(told) => pass_on(alloc, &settings, &query, reader, sink, told),
-        None => pass(alloc, &settings, &query, reader, sink),
+        Some(told) => pass_on(alloc, &settings, query, reader, sink, told),
+        None => pass(alloc, &settings, query, reader, sink, &mut RefusedRows::End),
     };
     match passed {
         Ok(_) => Ok(()),

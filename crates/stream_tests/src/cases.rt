@@ -1,10 +1,10 @@
 //! Questions to streams.
 
 use crate::pipes::{Drips, Sink};
+use crate::programs::{Placed, placed, read_lines};
 use fixtures::{same, same_text};
-use rowfn_batches::{Format, Settings, StreamError, Summary, flow, read_told, top_alone};
+use rowfn_batches::{Format, RefusedRows, Settings, StreamError, Summary, run};
 use rowfn_queries::read_condition;
-use rowfn_scripts::Expression;
 use std::alloc::Global;
 
 /// An expression, an input, and how it is read.
@@ -93,7 +93,11 @@ pub fn settings_of<'a>(case: &Case<'a>, batch: (usize, u64)) -> Settings<'a> {
     Settings {
         format: Format {
             delimiter: case.delimiter,
+            output_delimiter: case.delimiter,
             null: case.null.as_bytes(),
+            more_nulls: &[],
+            comment: None,
+            fits: false,
             blank_rows: case.blank_rows,
             any_truths: case.any_truths,
         },
@@ -113,13 +117,13 @@ pub fn settings_of<'a>(case: &Case<'a>, batch: (usize, u64)) -> Settings<'a> {
 fn condition_of(
     alloc: Global,
     case: &Case<'_>,
-    expression: &Expression,
-) -> Result<Option<Expression>, StreamError> {
+    answers: &Placed,
+) -> Result<Option<Placed>, StreamError> {
     let Some(text) = case.condition else {
         return Ok(None);
     };
-    match read_condition(alloc, &expression.columns, &expression.places, text) {
-        Ok(condition) => Ok(Some(condition)),
+    match read_condition(alloc, &answers.program.scope, &answers.places, text) {
+        Ok(condition) => Ok(placed(alloc, condition, false)),
         Err(_) => Err(StreamError::OutOfMemory),
     }
 }
@@ -133,21 +137,26 @@ pub fn run_case(
     sink: &mut Sink,
 ) -> Result<Summary, StreamError> {
     let settings = settings_of(case, batch);
-    let expression = read_told(alloc, case.expression.as_bytes())?;
-    let expression = if case.picks_rows {
-        top_alone(alloc, expression)?
-    } else {
-        expression
+    let Some(answers) = read_lines(alloc, case.expression, case.picks_rows) else {
+        return Err(StreamError::OutOfMemory);
     };
-    let condition = condition_of(alloc, case, &expression)?;
+    let condition = condition_of(alloc, case, &answers)?;
     let reader = Drips {
         text: case.input,
         step,
         interrupted: false,
         fails: case.fails,
     };
-    let asked = condition.as_ref();
-    flow(alloc, &settings, &expression, asked, reader, sink)
+    let mut refused = RefusedRows::<Sink>::End;
+    let asked = answers.asked();
+    match &condition {
+        Some(condition) => {
+            let condition = condition.asked();
+            let condition = Some(&condition);
+            run(alloc, &settings, &asked, condition, reader, sink, &mut refused)
+        }
+        None => run(alloc, &settings, &asked, None, reader, sink, &mut refused),
+    }
 }
 
 /// Whether that was written, and that text told with that status, if anything was.

@@ -1,17 +1,17 @@
 //! What is told of an expression.
 
+use crate::programs::read_lines;
 use fixtures::same;
 use rowfn_batches::explain;
-use rowfn_scripts::read_expression;
 
 fn explains(rt: HostRuntime, expression: &str, wanted: &str) -> bool {
     let alloc = rt.alloc();
-    match read_expression(alloc, expression.as_bytes()) {
-        Ok(expression) => match explain(alloc, &expression) {
+    match read_lines(alloc, expression, false) {
+        Some(answers) => match explain(alloc, &answers.program) {
             Ok(text) => same(rt, text.as_str(), wanted),
             Err(_) => false,
         },
-        Err(_) => false,
+        None => false,
     }
 }
 
@@ -24,9 +24,6 @@ const WANTED: &str = "known
     type bool, weight 8
 $.a
   tree: a
-    printed $.a
-    type i32?, weight 1
-  optimized: a
     printed $.a
     type i32?, weight 1
 ";

@@ -1,7 +1,9 @@
 //! Streams whose reader gives more only behind what it has heard.
 
 use crate::cases::{Case, plain, settings_of};
-use rowfn_batches::{flow, read_told};
+use crate::pipes::Sink;
+use crate::programs::read_lines;
+use rowfn_batches::{RefusedRows, run};
 use std::alloc::Global;
 use std::cell::Cell;
 use std::io::{self, Read, Write};
@@ -67,11 +69,13 @@ fn is_heard(alloc: Global, case: &Case<'_>, parts: &[(&str, usize)]) -> bool {
         written: &written,
     };
     let mut listener = Listener { written: &written };
-    let Ok(expression) = read_told(alloc, case.expression.as_bytes()) else {
+    let Some(answers) = read_lines(alloc, case.expression, false) else {
         return false;
     };
     let settings = settings_of(case, (1000, 1000));
-    flow(alloc, &settings, &expression, None, reader, &mut listener).is_ok()
+    let mut refused = RefusedRows::<Sink>::End;
+    let asked = answers.asked();
+    run(alloc, &settings, &asked, None, reader, &mut listener, &mut refused).is_ok()
 }
 
 const SUM: &str = "col a i64\ncol b i64\nget a\nget b\ncall +\nas sum\n";

@@ -25,8 +25,6 @@ mod flushing;
 #[cfg(test)]
 mod inference;
 #[cfg(test)]
-mod line_errors;
-#[cfg(test)]
 mod long_fields;
 #[cfg(test)]
 mod naming;
@@ -36,6 +34,8 @@ mod options;
 mod picks;
 #[cfg(test)]
 mod pipes;
+#[cfg(test)]
+mod programs;
 #[cfg(test)]
 mod queries;
 #[cfg(test)]

@@ -2,8 +2,9 @@
 
 use crate::cases::{plain, settings_of};
 use crate::pipes::{Drips, Sink};
+use crate::programs::read_lines;
 use fixtures::same;
-use rowfn_batches::{Settings, Watched, Watcher, flow, read_told};
+use rowfn_batches::{RefusedRows, Settings, Watched, Watcher, run};
 use std::alloc::Global;
 use std::cell::Cell;
 
@@ -25,9 +26,7 @@ impl Watcher for Diary<'_> {
 fn watched(alloc: Global, input: &str, every: u64) -> Option<((u64, u64, u64), u64)> {
     let case = plain("col a i64\nget a\n", input);
     let (last, rows) = (Cell::new((0, 0, 0)), Cell::new(0));
-    let Ok(expression) = read_told(alloc, case.expression.as_bytes()) else {
-        return None;
-    };
+    let answers = read_lines(alloc, case.expression, false)?;
     let settings = Settings {
         rows_passed: Some(&rows),
         ..settings_of(&case, (1, 1000))
@@ -43,7 +42,9 @@ fn watched(alloc: Global, input: &str, every: u64) -> Option<((u64, u64, u64), u
         taken: Vec::new(alloc),
         limit: usize::MAX,
     };
-    match flow(alloc, &settings, &expression, None, reader, &mut sink) {
+    let mut refused = RefusedRows::<Sink>::End;
+    let asked = answers.asked();
+    match run(alloc, &settings, &asked, None, reader, &mut sink, &mut refused) {
         Ok(_) => Some((last.get(), rows.get())),
         Err(_) => None,
     }

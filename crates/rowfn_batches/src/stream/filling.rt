@@ -1,7 +1,11 @@
 //! How a stream reads the rows of a batch.
-ghost use Rattle.std.specs.Prelude.{◌≡◌};
+ghost use Rattle.std.specs.Prelude.{◌≡◌, ◌≢◌, ◌&&◌, not, Bool, List};
+ghost use Rattle.csv.specs.Records.{fields_of};
+ghost use Rattle.rowfn_csv.specs.KeptLines.{last_bytes, is_ended};
+ghost use Rattle.rowfn_csv.specs.Records.{Field, SaysFields};
 ghost use Rattle.rowfn_batches.specs.Passing.{IsRefilled, is_full, is_end, error_behind};
 ghost use Rattle.rowfn_batches.specs.Taking.{rows_before};
+ghost use Rattle.rowfn_batches.specs.Widths.{has_width, is_whole};
 
 use super::Stream;
 use crate::answering::row_number;
@@ -88,13 +92,33 @@ impl<'a, R: Read + Drop> Stream<'a, R> {
             .saturating_add(self.summary.rows_read)
     }
 
-    /// Whether the last record is a row: closed, and of as many fields as are wanted, none of which
+    /// Whether the last record has as many fields as are expected: so many; or, where records are
+    /// fitted, fewer, or more of which those past that many are empty.
+    #[inline(always)]
+    fn has_width(&self) -> bool
+        ensures { result ≡ has_width self.now.settings.format.fits self.now.width
+            (fields_of self.now.records.last) }
+    {
+        let Some(width) = self.width else {
+            return false;
+        };
+        let found = self.records.record().len();
+        found == width || self.settings.format.fits && !self.records.has_surplus(width)
+    }
+
+    /// Whether the last record is a row: closed, and of as many fields as are expected, none of which
     /// is too long.
     #[inline(always)]
-    fn is_whole(&self) -> bool {
-        self.width == Some(self.records.record().len())
-            && !self.records.is_open()
-            && !self.records.is_outgrown()
+    fn is_whole(&self) -> bool
+        ensures { (closed : Bool) → (said : List Field)
+            → self.now.records.format.delimiter ≢ 34
+            → SaysFields self.now.records.format.delimiter closed (last_bytes self.now.records)
+            said
+            → result ≡ is_whole (has_width self.now.settings.format.fits self.now.width
+            (fields_of self.now.records.last)) (is_ended self.now.records && not closed)
+            self.now.records.is_outgrown }
+    {
+        self.has_width() && !self.records.is_open() && !self.records.is_outgrown()
     }
 
     /// Why the last record is no row.

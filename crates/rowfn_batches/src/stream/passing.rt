@@ -34,14 +34,14 @@ impl<'a, R: Read + Drop> Stream<'a, R> {
 
     /// What is asked of rows of the batch: of these, or of all.
     fn task<'r>(&'r self, rows: Option<&'r [usize]>) -> Task<'r>
-        ensures asked { (result.expression.now ≡ self.now.expression.now)
+        ensures asked { (result.asked ≡ self.now.asked)
             × (result.places.now ≡ self.now.layout.places.items) }
         ensures numbers { (result.rows_before ≡ rows_before self.now)
             × (result.rows ≡ rows.entry) }
     {
         Task {
             alloc: self.alloc,
-            expression: self.expression,
+            asked: self.asked,
             places: &self.layout.places,
             rows_before: self.rows_before(),
             rows,

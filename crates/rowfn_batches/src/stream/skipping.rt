@@ -9,12 +9,12 @@ ghost use Rattle.rowfn_batches.specs.Skipping.{PassesBatch, PassesMisshapen, Pas
 ghost use Rattle.rowfn_batches.specs.Skipping.{PassesNextTold, FlowsOn};
 
 use super::{Stream, Summary};
+use crate::asked::Asked;
 use crate::errors::StreamError;
 use crate::parts::{fields_from, next_count, next_row, refill};
 use crate::refusals::Refusals;
 use crate::settings::Settings;
 use rowfn_csv::{Batch, Span};
-use rowfn_scripts::Expression;
 use std::alloc::{AllocError, Global};
 use std::io::{Read, Write};
 use std::mem;
@@ -245,29 +245,24 @@ impl<'a, R: Read + Drop> Stream<'a, R> {
     }
 }
 
-/// Lets rows flow as `flow` does, but goes on behind a row that is refused: one that is no row, with
-/// a field that does not fit, or in which a call faults. Each such row is told, in their order, and
-/// left out; what is written is what `flow` writes of the other rows. A field that is too long ends
-/// the stream, and so does what is no row's. Answers how many rows were read, those that were left
-/// out among them, and how many written.
-///
-/// No more than three times as many rows are tried as are read, however many are refused.
-pub fn flow_on<R: Read + Drop, W: Write, E: Write>(
+/// Runs a stream, and goes on after each row that is refused, which is reported and skipped.
+pub(super) fn run_past_refused<'a, R: Read + Drop, W: Write, E: Write>(
     alloc: Global,
-    settings: &Settings<'_>,
-    expression: &Expression,
-    condition: Option<&Expression>,
+    settings: &Settings<'a>,
+    asked: &Asked<'a>,
+    condition: Option<&Asked<'a>>,
     reader: R,
     writer: &mut W,
     refusals: &mut Refusals<E>,
 ) -> Result<Summary, StreamError>
-    ensures flows { FlowsOn reader expression.now (option_map (λ c. c.now) condition.entry)
+    ensures flows { FlowsOn reader settings.now asked.now
+        (option_map (λ c. c.now) condition.entry)
         (W.contents writer.old) (W.contents writer.new) refusals.old.count refusals.new.count
         result }
     ensures reads_back { OnOk result (settings.now.picks_rows ≡ false
-        → ReadsBack settings.now expression.now.answers.items) }
+        → ReadsBack settings.now asked.now.program.now.written.items) }
 {
-    let mut stream = Stream::begin(alloc, settings, expression, condition, reader)?;
+    let mut stream = Stream::start(alloc, settings, asked, condition, reader)?;
     stream.write(writer)?;
     'batches: for _turn in 0..u64::MAX {
         let goes_on = stream.pass_next_told(writer, refusals)?;

@@ -7,7 +7,7 @@ pub returns-then-not-is_valid : goal.returns-then-not-is_valid
 returns-then-not-is_valid c =
     rw
     (sym
-    (null_written c.args.format.now.delimiter c.args.format.now.null.now
+    (null_written c.args.format.now
     (row c.args.rows.now.rows c.args.place) c.is_valid.result c.is_valid.ensures
     c.if-not-is_valid.true))
     (search rules)

@@ -8,7 +8,7 @@ pub returns-then-not-truths : goal.returns-then-not-truths
 returns-then-not-truths c =
     ended c.push_line_end.result c.args.bytes.now.items c.push_truth_in.new.bytes.items
     c.push_line_end.new.bytes.items
-    (value_field c.args.format.now.delimiter c.args.format.now.null.now
+    (value_field c.args.format.now
     (row c.args.rows.now.rows c.args.place))
     c.in_ok-push_truth_in.ensures c.push_line_end.ensures
 
@@ -18,10 +18,10 @@ returns-then-not-is_valid c =
     ended c.push_line_end-then-not-is_valid.result c.args.bytes.now.items
     c.extend_from_slice.new.self.items
     c.push_line_end-then-not-is_valid.new.bytes.items
-    (value_field c.args.format.now.delimiter c.args.format.now.null.now v)
+    (value_field c.args.format.now v)
     (c.in_ok-extend_from_slice.ensures.items
     ∙ ap (λ (t : List ℕ). c.args.bytes.now.items ++ t)
-    (null_written c.args.format.now.delimiter c.args.format.now.null.now v c.is_valid.result
+    (null_written c.args.format.now v c.is_valid.result
     c.is_valid.ensures c.if-not-is_valid.true))
     c.push_line_end-then-not-is_valid.ensures
 

@@ -7,5 +7,5 @@ use Rattle.rowfn_batches.proofs.output.Output.push_appended.Given as goal
 abbrev pub invariant-loop-place : goal.invariant-loop-place
 invariant-loop-place g l =
     Adds l.initial.self l.self
-    (appended_lines l.initial.self.format.delimiter l.initial.self.format.null.now
+    (appended_lines l.initial.self.format
     (map (line_of l.records) l.spans) (option_map (λ r. r.now) l.rows) l.answers l.place)

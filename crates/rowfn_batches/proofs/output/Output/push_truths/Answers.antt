@@ -12,7 +12,7 @@ loop-row-preserved c =
     c.loop-row.row c.loop-row.invariant (
       c.in_ok-push_truth_line.ensures
           ∙ ap (λ (t : List ℕ). c.loop-row.self.bytes.items ++ t)
-          (one_line c.loop-row.self.format.delimiter c.loop-row.self.format.null.now c.args.rows.now
+          (one_line c.loop-row.self.format c.args.rows.now
           c.loop-row.row),
       refl,
     )

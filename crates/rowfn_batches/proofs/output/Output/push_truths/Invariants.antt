@@ -6,4 +6,4 @@ use Rattle.rowfn_batches.proofs.output.Output.push_truths.Given as goal
 abbrev pub invariant-loop-row : goal.invariant-loop-row
 invariant-loop-row l =
     Adds l.initial.self l.self
-    (row_lines l.initial.self.format.delimiter l.initial.self.format.null.now (l.rows ∷ []) l.row)
+    (row_lines l.initial.self.format (l.rows ∷ []) l.row)

@@ -11,7 +11,7 @@ returns-in_err-answered g c =
     c.from_residual-in_err-answered.ensures.1 in
     rw (p.1, p.2)
     (is_left c.args.self.now c.args.error t.error (map field_in t.fields.items) _ t.row_count
-    c.in_ok-fields.ensures c.task-task.result.expression.now c.task-task.ensures.asked.0
+    c.in_ok-fields.ensures c.task-task.result.asked c.task-task.ensures.asked.0
     (map field_in c.deref.result.now) (ap (λ xs. map field_in xs) (cc c.deref.ensures.value))
     c.task-task.result.places.now c.task-task.ensures.asked.1 c.task-task.result.rows_before
     c.task-task.ensures.numbers.0 (option_map (λ r. r.now) c.task-task.result.rows)
@@ -22,7 +22,7 @@ pub returns : goal.returns
 returns g c =
     let t = c.in_ok-fields.field-0 in
     is_answered c.args.self.now c.args.error t.error (map field_in t.fields.items) _ t.row_count
-    c.in_ok-fields.ensures c.task-task.result.expression.now c.task-task.ensures.asked.0
+    c.in_ok-fields.ensures c.task-task.result.asked c.task-task.ensures.asked.0
     (map field_in c.deref.result.now) (ap (λ xs. map field_in xs) (cc c.deref.ensures.value))
     c.task-task.result.places.now c.task-task.ensures.asked.1 c.task-task.result.rows_before
     c.task-task.ensures.numbers.0 (option_map (λ r. r.now) c.task-task.result.rows)

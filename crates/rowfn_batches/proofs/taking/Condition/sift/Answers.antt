@@ -9,5 +9,5 @@ rows_picked-requires c =
     let a = c.in_ok-answers in
     let same : c.deref.result.now ≡ a.field-0.answers.items = cc c.deref.ensures.value in
     subst (λ (cs : List ColumnView). HaveRows a.field-0.row_count cs) (sym same)
-    (have_rows c.args.self.now.expression.now c.args.self.now.batch.fields a.field-0.row_count
+    (have_rows c.args.self.now.asked c.args.self.now.batch.fields a.field-0.row_count
     a.field-0.answers.items a.ensures.rows)
