@@ -72,7 +72,7 @@ fn asked(question: &Question) -> Asked<'_> {
 }
 
 /// Runs the stream of a query, and returns how many rows it read and wrote.
-fn run_query<R: Read + Drop, E: Write>(
+fn run_query<R: Read + Drop, E: Write + Drop>(
     rt: &(impl Print + AllocGlobal),
     settings: Settings<'_>,
     query: &Query,
@@ -109,7 +109,7 @@ fn run_query<R: Read + Drop, E: Write>(
 
 /// The same, with the rows counted on standard error while they are read, where that is asked. `rows`
 /// and `null` must outlive `settings`, so they are locals here.
-fn run_watched<R: Read + Drop, E: Write>(
+fn run_watched<R: Read + Drop, E: Write + Drop>(
     rt: &(impl Print + Eprint + AllocGlobal),
     options: &Options<'_>,
     query: &Query,
@@ -144,7 +144,7 @@ fn advised(inferred: &StructFields, error: StreamError) -> Failure {
 
 /// Writes the reports that were not yet written, and before them that of the row whose error ended the
 /// stream, where a file has the reports.
-fn report_last<E: Write>(
+fn report_last<E: Write + Drop>(
     options: &Options<'_>,
     passed: &Result<Summary, StreamError>,
     refusals: &mut Refusals<E>,
@@ -167,7 +167,7 @@ fn unreported(rt: &impl AllocGlobal, options: &Options<'_>, error: StreamError) 
 }
 
 /// How a stream ended, with its last reports written.
-fn ended<E: Write>(
+fn ended<E: Write + Drop>(
     rt: &impl AllocGlobal,
     options: &Options<'_>,
     query: &Query,
@@ -187,7 +187,7 @@ fn ended<E: Write>(
 
 /// Runs the stream, with bad rows reported and skipped or up to the first, as the options say. Returns
 /// how many were skipped, and how it ended.
-fn run_reported<R: Read + Drop, E: Write>(
+fn run_reported<R: Read + Drop, E: Write + Drop>(
     rt: &(impl Print + Eprint + AllocGlobal),
     options: &Options<'_>,
     query: &Query,
@@ -215,7 +215,7 @@ fn run_reported<R: Read + Drop, E: Write>(
 }
 
 /// Runs the stream, and prints its counts, where they are asked. Fails where rows were skipped.
-fn run_counted<R: Read + Drop, E: Write>(
+fn run_counted<R: Read + Drop, E: Write + Drop>(
     rt: &(impl Print + Eprint + AllocGlobal),
     options: &Options<'_>,
     query: &Query,
