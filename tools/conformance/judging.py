@@ -80,8 +80,8 @@ def faults_in_sqlite(case, values, row):
 
 
 def fault_names(case, table, faults):
-    """The names of the faults of a row that the tree may end with where rules make another of it: that of the first call that
-    no rule drops, and of those before it. Next to them the rules that drop the others, where all may go."""
+    """The faults that a row may have in the tree that rules make: that of the first call that no rule drops, and those of the
+    calls before it. Where rules may drop all of them, the rules too, and else None."""
     names, rules = [], []
     for node, _ in faults:
         names.append("Arithmetic." + ARITHMETIC[node.kind])
@@ -244,8 +244,8 @@ class Asker:
         return found
 
     def ask_scripts(self, cases, table, ours):
-        """What rowfn answers to each case by lines, as the tree is written and as rules make it: those that PostgreSQL refuses in
-        no row together; of the others these rows, those in which the program dropped a fault, and one or each of the rest."""
+        """The results of rowfn for each case, as its tree is written and as rules make it: of those that PostgreSQL refuses in no row
+        together; of the others in these rows, in those where the program has dropped a fault, and in one or each of the rest."""
         together, alone = self.parted(cases)
         found = {case.number: {way: [NOT_ASKED] * len(table.rows) for way in WAYS} for case in cases}
         for part in together:
@@ -298,8 +298,8 @@ class Asker:
                 self.counts[f"rows answered: {name}"] += 1
 
     def beside_lines(self, case, ours, theirs):
-        """rowfn runs the tree as it is written: it faults where PostgreSQL refuses a call, by the first one, and elsewhere its
-        answers are the program's."""
+        """rowfn runs the tree as it is written: where PostgreSQL refuses a call, it has the fault of the first one, and elsewhere the
+        program's value."""
         for row, (faults, one, other) in enumerate(zip(case.faults, ours, theirs)):
             wanted = Fault("Arithmetic." + ARITHMETIC[faults[0][0].kind]) if faults else one
             if NOT_ASKED not in (wanted, other):
@@ -308,7 +308,7 @@ class Asker:
                     yield Difference(row, "rowfn, by lines", wanted, other)
 
     def beside_rules(self, ours, theirs):
-        """The program runs what rules make of a tree, as rowfn does behind `optimize`."""
+        """The program runs what rules make of a tree, as rowfn does after `optimize`."""
         for row, (one, other) in enumerate(zip(ours, theirs)):
             if NOT_ASKED not in (one, other) and one != other:
                 yield Difference(row, "rowfn, by lines and rules", one, other)
@@ -331,8 +331,8 @@ class Asker:
                     yield Difference(row, who, answer, theirs)
 
     def is_allowed(self, case, table, answer, faults, whom):
-        """Whether a row in which calls fault may be answered so: by the fault of one, or, where rules drop each, by any value,
-        which rowfn has to answer too."""
+        """Whether a row in which calls fault may have this result: the fault of one, or, where rules drop each, any value, which
+        `beside_rules` compares."""
         names, rules = fault_names(case, table, faults)
         if any(why not in (OVERFLOW, ZERO) or why == ZERO and node.kind != "/" for node, why in faults):
             return False

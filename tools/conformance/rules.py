@@ -1,6 +1,6 @@
 """Which rule may drop a call that faults. docs/DEFINITIONS.md has the table of rules, `vortex_interface/specs/ReduceRules.antt` and
 `SimplifyRules.antt`, and what a rewrite keeps, `KeepsRows` of `vortex_rewriting/specs/Keeping.antt`: each value, and no fault that
-was not there. A tree that is run as rules make it may so lack a fault of the tree as it is written."""
+was not there. docs/DIFFERENCES.md says of `run` that a fault goes with a dropped call, and no value with it."""
 from trees import BETWEEN, COMPARISONS, JOINTS, TESTS
 
 DECIDED = "a constant decides and, or (reduce_boolean, simplify_boolean)"
@@ -62,8 +62,11 @@ def is_dropped_by_test(node, call, table):
     inner = next(one for one in node.operands if holds(one, call))
     if node.kind in (*BETWEEN, "cast"):
         return False
-    if node.kind in JOINTS and (not is_nullable(inner, table) or all(is_nullable(one, table) for one in node.operands)):
-        return False
+    if node.kind in JOINTS:
+        other = next(one for one in node.operands if one is not inner)
+        # a constant goes before the test does, else the test goes on in the one operand that has null
+        if constant(other, table) is UNKNOWN and is_nullable(other, table) >= is_nullable(inner, table):
+            return False
     return is_dropped_by_test(inner, call, table)
 
 

@@ -50,8 +50,7 @@ class Scripts:
         return ran.stdout.decode().split("\n")[:-1], fault and Fault(fault[1])
 
     def answers(self, trees, table, ways=tuple(WAYS)):
-        """What each tree answers in each row, by each of these ways: a list of values, or of one fault, after which nothing is
-        run."""
+        """The values of each tree in each row, by each of these ways; or the fault that ends the script, in each row."""
         names, count = line_names(table), len(table.rows)
         said = [line for tree in trees for line in [*lines(tree, names), *(word for way in ways for word in WAYS[way])]]
         printed, fault = self.printed(table, said)
@@ -61,7 +60,7 @@ class Scripts:
         return found + [[fault or Fault("not run")] * count] * (len(asked) - len(found))
 
     def shown(self, trees, table):
-        """The texts that each tree prints itself as: as it is written, and as rules make it."""
+        """How each tree prints itself, as it is written and as rules make it."""
         names, empty = line_names(table), type(table)(table.columns, [])
         said = [line for tree in trees for line in [*lines(tree, names), "show", "optimize", "show"]]
         printed = [line for line in self.printed(empty, said)[0] if not line.startswith("steps ")]

@@ -1,4 +1,4 @@
-"""How a table is written as CSV for rowfn_stream, and how its answers are read."""
+"""A table as CSV for rowfn_stream, with the options that it is read by; and CSV that is read back."""
 import random
 from dataclasses import dataclass
 
@@ -23,7 +23,7 @@ def declared(column, place):
 
 
 def words(table, for_rows=False):
-    """The options that a table is read by. `for_rows`: its rows are written as they are, and no other delimiter."""
+    """The options that a table is read by. `for_rows`: with no delimiter of the output, whose rows are those of the input."""
     layout = table.layout
     columns = ", ".join(declared(column, place) for place, column in enumerate(table.columns) if column.is_declared)
     said = ["--columns", columns] * bool(columns) + ["--no-header"] * (not layout.header)
@@ -62,7 +62,7 @@ def ragged(rng, row, fields):
 
 
 def written(table):
-    """A table as CSV. What is chance in a row is the same wherever the row goes."""
+    """A table as CSV. A row is written alike in each table that has it."""
     layout, often = table.layout, min(0.2, 20 / max(1, len(table.rows)))
     names = [f"h{place}" if column.by_place else column.name for place, column in enumerate(table.columns)]
     begin = comment_lines(random.Random(f"{layout.seed} header"), layout, 0.5)
