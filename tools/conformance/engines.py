@@ -67,7 +67,7 @@ class Told:
 
 
 TREE = r": (.*?)\n    printed (.*?)\n    type (\S+), weight \d+\n"
-EXPLAINED = re.compile(f"  tree{TREE}  optimized{TREE}", re.DOTALL)
+EXPLAINED = re.compile(f"  tree{TREE}(?:  optimized{TREE})?", re.DOTALL)
 
 
 class Program:
@@ -143,7 +143,8 @@ class Program:
             file.write(self.list_of(texts))
             file.flush()
             ran = self.run(["--explain", *words(table), "-f", file.name], written(table).text())
-        found = [Told(*parts) for parts in EXPLAINED.findall(ran.stdout)]
+        # a tree that no rule changes is printed once
+        found = [Told(*parts[:3], *(parts[3:] if parts[4] else parts[:3])) for parts in EXPLAINED.findall(ran.stdout)]
         if ran.returncode != 0 or len(found) != len(texts):
             raise Refused(ran.returncode, f"--explain says of {len(texts)} answers: {ran.stdout}{ran.stderr}")
         return found

@@ -87,16 +87,17 @@ def layout_of(rng, shape):
     def has(one):
         return shape == one or rng.random() < 0.25
     delimiter = rng.choice((",", ",", ",", ";", "\t", "|"))
+    output_delimiter = rng.choice((delimiter, ",", ";", "\t"))
     return Layout(
         seed=str(rng.random()),
         header=shape not in ("without a header", "numbered") and (shape == "inferred" or rng.random() < 0.8),
         is_numbered=shape == "numbered",
         nulls=rng.choice((("", "NA"), ("NA", ""), ("\\N", "NA", ""), ("null", "-"))) if has("nulls") else ("",),
-        comment=rng.choice([byte for byte in "#;%!/" if byte != delimiter]) if has("comments") else "",
+        comment=rng.choice([byte for byte in "#;%!/" if byte not in (delimiter, output_delimiter)]) if has("comments") else "",
         # where a record is short or long, the first rows may end, from which types are taken
         ragged=shape not in ("inferred", "numbered") and has("ragged"),
         delimiter=delimiter,
-        output_delimiter=rng.choice((delimiter, ",", ";", "\t")))
+        output_delimiter=output_delimiter)
 
 
 def shaped_column(rng, column, place, values, shape):
