@@ -3,7 +3,7 @@ import os
 import re
 
 from engines import TOP, Fault, Refused
-from trees import Column, Table
+from tables import Column, Table
 
 PAGE = os.path.join(TOP, "docs", "EXPRESSIONS.md")
 TABLE = Table([Column("one", "i64", False), Column("zero", "i64", False), Column("small", "i32", False),
@@ -45,7 +45,7 @@ def cell(answer):
 
 def ours(program, text):
     try:
-        return program.answers(program.by_text, [text], TABLE, ["utf8"])[0][0]
+        return program.answers([text], TABLE, ["utf8"])[0][0]
     except Refused as refused:
         return re.sub(r"^rowfn_stream: (?:[^:]*: )?line \d+, column \d+: ", "", refused.told)
 

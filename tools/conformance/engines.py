@@ -14,8 +14,10 @@ import tempfile
 import time
 from dataclasses import dataclass
 
-from spelling import POSTGRESQL_TYPES, postgresql_domains, quoted, sql_literal, whole
-from trees import INTEGERS, field, folded
+from spelling import postgresql_domains, quoted, sql_literal, whole
+from streams import OPTIONS, read_rows, spelled, words, written
+from tables import INTEGERS
+from trees import folded
 
 TOP = os.path.dirname(os.path.dirname(os.path.dirname(os.path.realpath(__file__))))
 PROGRAM = os.environ.get("ROWFN_STREAM", TOP + "/crates/rowfn_stream/out/rowfn_stream")
@@ -35,7 +37,7 @@ class Fault:
         return f"{self.name} {self.told}".strip()
 
 
-# what the program says of the rows behind one that it refuses
+# what the program says of the rows after one that it refuses
 NOT_ASKED = ...
 
 
@@ -48,51 +50,38 @@ def value_of(name, text):
 
 # -- the program ---------------------------------------------------------------------------------------------------------
 
-def csv_field(value):
-    if value is None:
-        return ""
-    return quoted(value, '"') if isinstance(value, str) else field(value)
+@dataclass(frozen=True)
+class Told:
+    """What --explain says of an answer: the text and the type of its tree, and how that prints itself, as it is written and as
+    rules make it."""
+    text: str
+    printed: str
+    type: str
+    text_by_rules: str
+    printed_by_rules: str
+    type_by_rules: str
+
+    @property
+    def is_rewritten(self):
+        return (self.text, self.printed) != (self.text_by_rules, self.printed_by_rules)
 
 
-def csv_rows(text):
-    """The rows of a CSV text; a field is a text, or None where it is empty and stands in no quotes."""
-    rows, row, place = [], [], 0
-    while place < len(text):
-        if text[place] == '"':
-            field, place = "", place + 1
-            while True:
-                end = text.index('"', place)
-                field += text[place:end]
-                place = end + 1
-                if text[place:place + 1] != '"':
-                    break
-                field, place = field + '"', place + 1
-        else:
-            end = re.compile(r"[,\n]").search(text, place).start()
-            field, place = text[place:end] or None, end
-        row.append(field)
-        if text[place] == "\n":
-            rows.append(row)
-            row = []
-        place += 1
-    return rows
-
-
-def line_names(table):
-    """The names of the columns in lines of scripts: their own, or c0, c1 and so on where one is no word there."""
-    names = [column.name for column in table.columns]
-    are_words = all(re.fullmatch(r"\w+", name, re.ASCII) for name in names)
-    return {name: name if are_words else f"c{place}" for place, name in enumerate(names)}
+TREE = r": (.*?)\n    printed (.*?)\n    type (\S+), weight \d+\n"
+EXPLAINED = re.compile(f"  tree{TREE}(?:  optimized{TREE})?", re.DOTALL)
 
 
 class Program:
-    """rowfn_stream over tables, asked by texts of expressions or by lines of scripts."""
+    """rowfn_stream over tables, asked by texts of expressions. It runs what rules make of them."""
 
     def __init__(self, path):
         self.path, self.runs = path, 0
         if not os.access(path, os.X_OK):
             raise Missing(f"no program at {path}: say `rt run` in crates/rowfn_stream, or set ROWFN_STREAM")
         self.version = self.run(["--version"], "").stdout.strip()
+        page = self.run(["--help"], "").stdout
+        lacking = [option for option in OPTIONS if option not in page]
+        if lacking:
+            raise Missing(f"the program at {path} has no {', '.join(lacking)}: build it from today's sources")
 
     def run(self, arguments, rows):
         self.runs += 1
@@ -101,40 +90,19 @@ class Program:
         return ran
 
     @staticmethod
-    def by_text(answers, table):
-        """The arguments that ask for these texts, each with its name. A text may begin with a minus sign."""
-        return [*Program.columns_of(table), "--", ", ".join(f"{text}\nas {name}" for name, text in answers)]
+    def list_of(texts):
+        """These texts as one expression, each with its name."""
+        return ", ".join(f"{text}\nas r{place}" for place, text in enumerate(texts))
 
-    @staticmethod
-    def columns_of(table):
-        """The arguments that tell of a table's columns."""
-        declared = [column for column in table.columns if column.is_declared]
-        columns = ", ".join(f"{quoted(column.name, chr(34))} {column.type}{'?' * column.nullable}" for column in declared)
-        return ["--columns", columns] * bool(declared) + ["--no-header"] * (not table.has_header)
-
-    @staticmethod
-    def by_lines(answers, table):
-        """The arguments that ask for these lines of scripts, each list with its name."""
-        names = line_names(table)
-        said = [f"col {names[column.name]} {column.type}{'?' * column.nullable}" for column in table.columns]
-        for name, lines in answers:
-            said += [*lines, f"as {name}"]
-        return [word for line in said for word in ("-e", line)] + ["--no-header"] * (not table.has_header)
-
-    def csv(self, ask, table):
-        """A table as CSV, under the names by which it is asked for, if it has a header."""
-        names = line_names(table) if ask is self.by_lines else {column.name: column.name for column in table.columns}
-        rows = [list(names.values())] * table.has_header + table.rows
-        return "".join(",".join(csv_field(value) for value in row) + "\n" for row in rows)
-
-    def answers(self, ask, answers, table, types):
-        """What each of these texts or lists of lines answers in each row: a value, or a fault, behind which the rows are
-        NOT_ASKED. `ask` is one of by_text and by_lines."""
-        arguments = ask([(f"r{place}", answer) for place, answer in enumerate(answers)], table)
-        ran = self.run(["--blank-lines", "null", *arguments], self.csv(ask, table))
+    def answers(self, texts, table, types):
+        """What each of these texts answers in each row: a value, or a fault, after which the rows are NOT_ASKED. A text may begin
+        with a minus sign."""
+        ran = self.run(["--blank-lines", "null", *words(table), "--", self.list_of(texts)], written(table).text())
         if ran.returncode not in (0, 1):
             raise Refused(ran.returncode, ran.stderr.strip())
-        rows = csv_rows(ran.stdout)[table.has_header:]
+        rows = read_rows(ran.stdout, table.layout.output_delimiter, table.layout.nulls[0])[table.layout.header:]
+        if any(len(row) != len(types) for row in rows):
+            raise Refused(ran.returncode, f"{len(types)} answers are written as {rows[:1]}")
         found = [[value_of(name, row[place]) for row in rows] for place, name in enumerate(types)]
         if ran.returncode == 1:
             told = re.fullmatch(r"rowfn_stream: row (\d+): E7 (Arithmetic\.\w+)\n", ran.stderr)
@@ -147,23 +115,47 @@ class Program:
         return found
 
     def picked(self, condition, table, *answers):
-        """The rows that --where takes by a text, as they stand, below their header; behind each row what a text answers in
-        it, named r, where one is there. Texts may begin with a minus sign."""
-        columns = self.columns_of(table)
-        behind = ["--append", "--", *(f"{answer}\nas r" for answer in answers)] if answers else []
+        """What --where writes of the rows that a text takes: as they are; or with what a text answers in each, named r."""
+        appended = ["--append", "--", *(f"{answer}\nas r" for answer in answers)] if answers else []
         # a null in the only column is an empty line
-        ran = self.run(["--blank-lines", "null", *columns, "--where=" + condition, *behind], self.csv(self.by_text, table))
+        ran = self.run(["--blank-lines", "null", *words(table, True), "--where=" + condition, *appended], written(table).text())
         return ran.stdout + ran.stderr
 
-    def is_rewritten(self, text, table):
-        """Whether a text is run as another tree than it says: the program runs what is written."""
+    def differ_in_picked(self, condition, true, other, values, table):
+        """How --where writes other rows than the true ones; and with --append, than these with the values of another text."""
+        lines = written(table)
+        header = lines.header.split("\n")[-2] + "\n" if table.layout.header else ""
+        picked = self.picked(condition, table)
+        if picked != header + "".join(lines.rows[row] for row in true):
+            yield "--where writes other rows than", picked
+        # a record that is short or long has no answer at the place of its name, and one delimiter is for both sides
+        if table.layout.ragged or table.layout.delimiter != ",":
+            return
+        null = table.layout.nulls[0]
+        both = [lines.rows[row][:-1] + "," + spelled(values[row], null) + "\n" for row in true]
+        picked = self.picked(condition, table, other)
+        if not same_rows(picked, header.replace("\n", ",r\n") + "".join(both), null):
+            yield f"--where with --append of {other!r} writes other rows than", picked
+
+    def explained(self, texts, table):
+        """What --explain says of these texts, which it reads from a file."""
+        with tempfile.NamedTemporaryFile("w", prefix="conformance.", encoding="utf-8", newline="") as file:
+            file.write(self.list_of(texts))
+            file.flush()
+            ran = self.run(["--explain", *words(table), "-f", file.name], written(table).text())
+        # a tree that no rule changes is printed once
+        found = [Told(*parts[:3], *(parts[3:] if parts[4] else parts[:3])) for parts in EXPLAINED.findall(ran.stdout)]
+        if ran.returncode != 0 or len(found) != len(texts):
+            raise Refused(ran.returncode, f"--explain says of {len(texts)} answers: {ran.stdout}{ran.stderr}")
+        return found
+
+
+def same_rows(one, other, null):
+    """Whether two texts are the same rows of CSV, whatever is in quotes."""
+    try:
+        return read_rows(one, null=null) == read_rows(other, null=null)
+    except ValueError:
         return False
-
-    def explained(self, ask, answers, table):
-        """What --explain tells of these."""
-        arguments = ask([(f"r{place}", answer) for place, answer in enumerate(answers)], table)
-        ran = self.run(["--explain", *arguments], self.csv(ask, table))
-        return ran.stdout + ran.stderr
 
 
 class Refused(Exception):

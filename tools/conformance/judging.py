@@ -1,27 +1,32 @@
-"""Whether the program, PostgreSQL and SQLite answer an expression alike, and what they do otherwise on purpose."""
+"""Whether the program, rowfn, PostgreSQL and SQLite answer an expression alike, and what they do otherwise on purpose."""
 from collections import Counter
 from dataclasses import dataclass
 
-from engines import NOT_ASKED, OVERFLOW, STATES, ZERO, Fault, Refused, csv_rows, line_names, value_of
-from spelling import Noisy, Plain, Text, is_in_sqlite, is_unchanged, lines, postgresql, sqlite
-from trees import ARITHMETIC, INTEGERS, LIKES, Column, Table
+from engines import NOT_ASKED, OVERFLOW, STATES, ZERO, Fault, Refused, value_of
+from rules import rule_that_drops
+from scripts import WAYS, line_names
+from spelling import STANDS_IN, Noisy, Plain, Text, is_in_sqlite, is_unchanged, postgresql, sqlite
+from tables import INTEGERS
+from trees import ARITHMETIC, LIKES
 
 # what is counted, in the order in which it is told; refusals and what is on purpose follow by their kinds
-COUNTED = ["expressions", "of those, asked of SQLite too", "of those, refused in some row", "of those, by text and by script lines",
-           "of those, plain and optimised", "of those, told alike by --explain", "of those, rows picked by --where",
+COUNTED = ["expressions", "of those, asked of SQLite too", "of those, refused in some row",
+           "of those, without a text, of rowfn alone", "of those, told by --explain as rowfn shows them", "of those, rows picked by --where",
            "of those, texts that PostgreSQL reads as they stand", "of these, without brackets",
            "rows answered: true", "rows answered: false", "rows answered: null", "rows answered: numbers and texts",
-           "rows refused", "rows compared with PostgreSQL", "rows compared with SQLite"]
+           "rows refused", "rows compared with rowfn", "rows compared with PostgreSQL", "rows compared with SQLite"]
 
 
 @dataclass
 class Case:
-    """An expression over a table, by its text and its lines, and what everyone answers."""
+    """An expression over a table, and its text, or None where it has none."""
     number: int
     tree: object
-    text: str
+    text: str | None
 
     def __post_init__(self):
+        # of each row the calls that fault in PostgreSQL, once that is asked
+        self.faults = []
         self.calculations = [node for node in self.tree.nodes() if node.kind in ARITHMETIC]
         self.is_unchanged = is_unchanged(self.tree)
         self.is_in_sqlite = is_in_sqlite(self.tree)
@@ -35,29 +40,55 @@ class Difference:
     theirs: object
 
 
+def text_of(tree, rng=None, brackets=True):
+    style = Plain() if rng is None else Noisy(rng, brackets)
+    return Text(style).text(tree) if tree.has_text() else None
+
+
+def is_value(answer):
+    return answer is not NOT_ASKED and not isinstance(answer, Fault)
+
+
 # -- what is told of each row ------------------------------------------------------------------------------------------------
 
-def fault_in_postgresql(case, asked, row):
-    """The first call of arithmetic that PostgreSQL refuses in a row, when each is asked alone: its operator and why."""
-    for node in case.calculations:
-        answer = asked[postgresql(node)][row]
-        if isinstance(answer, Fault):
-            return node.kind, STATES.get(answer.name, answer)
-    return None
+def first_ones(faults):
+    """The calls that fault, without those that do because one below them does."""
+    nodes = [node for node, _ in faults]
+    return [(node, why) for node, why in faults if not any(below in nodes for below in node.nodes() if below is not node)]
 
 
-def fault_in_sqlite(case, values, row):
+def faults_in_postgresql(case, asked, rows):
+    """Of each row the calls of arithmetic that PostgreSQL refuses, when each is asked alone, and why."""
+    columns = [(node, asked[postgresql(node)]) for node in case.calculations]
+    found = [[(node, answers[row]) for node, answers in columns if isinstance(answers[row], Fault)] for row in range(rows)]
+    return [first_ones([(node, STATES.get(answer.name, answer)) for node, answer in faults]) for faults in found]
+
+
+def faults_in_sqlite(case, values, row):
     """The same of SQLite, which refuses nothing: a number that its type does not hold, or that is no integer, is an
     overflow, and a null of two numbers a zero divisor."""
+    found = []
     for node in case.calculations:
         if any(values[operand][row] is None for operand in node.operands):
             continue
         value, (low, high) = values[node][row], INTEGERS[node.type]
         if value is None:
-            return node.kind, ZERO
-        if isinstance(value, float) or not low <= value <= high:
-            return node.kind, OVERFLOW
-    return None
+            found.append((node, ZERO))
+        elif isinstance(value, float) or not low <= value <= high:
+            found.append((node, OVERFLOW))
+    return first_ones(found)
+
+
+def fault_names(case, table, faults):
+    """The faults that a row may have in the tree that rules make: that of the first call that no rule drops, and those of the
+    calls before it. Where rules may drop all of them, the rules too, and else None."""
+    names, rules = [], []
+    for node, _ in faults:
+        names.append("Arithmetic." + ARITHMETIC[node.kind])
+        rules.append(rule_that_drops(case.tree, node, table))
+        if rules[-1] is None:
+            return names, None
+    return names, rules
 
 
 def ends_with_escape(pattern, escape):
@@ -95,159 +126,157 @@ def folds_past_ascii(case, table, row):
     return False
 
 
-def same_rows(one, other):
-    """Whether two texts are the same rows of CSV, whatever stands in quotes."""
-    try:
-        return csv_rows(one) == csv_rows(other)
-    except (AttributeError, ValueError):
-        return False
-
-
 # -- asking everyone -----------------------------------------------------------------------------------------------------
 
 class Asker:
     """Asks cases over one table of everyone, and compares what they answer."""
 
-    def __init__(self, program, server, file, texts=True, every=False):
-        self.program, self.server, self.file = program, server, file
-        # whether the program is asked by texts too, and for each row that it refuses
-        self.texts, self.every = texts, every
+    def __init__(self, program, scripts, server, file, every=False):
+        self.program, self.scripts, self.server, self.file = program, scripts, server, file
+        # whether each row is asked that PostgreSQL refuses
+        self.every = every
         self.counts, self.calls = Counter(dict.fromkeys(COUNTED, 0)), Counter()
 
     def compare(self, cases, table):
         """The differences of each case that has any, by its number."""
         asked = self.ask_postgresql(cases, table)
-        ours = self.ask_program(cases, table, asked)
-        found = {case.number: list(self.judge(case, table, asked, ours[case.number])) for case in cases}
-        if self.texts:
-            for case in self.explained_otherwise(cases, table):
-                found[case.number].append(Difference(0, "what --explain tells of its script lines", "another tree", "or type"))
-            for case, difference in self.picked_otherwise(cases, table, ours):
-                found[case.number].append(difference)
+        with_text = [case for case in cases if case.text is not None]
+        ours = self.ask_program(with_text, table)
+        theirs = self.ask_scripts(cases, table, ours)
+        # of a tree without a text rowfn alone is judged
+        found = {case.number: list(self.judge(case, table, asked, ours.get(case.number, theirs[case.number]["lines"]), theirs[case.number]))
+                 for case in cases}
+        for case, difference in [*self.explained_otherwise(with_text, table), *self.picked_otherwise(with_text, table, ours)]:
+            found[case.number].append(difference)
         return {number: differences for number, differences in found.items() if differences}
 
     def picked_otherwise(self, cases, table, ours):
-        """Whether --where takes other rows than those in which a text is true, as they stand or with what the next text
-        answers in them. Asked of one in twenty, of those that are refused in no row."""
-        calm = [(case, ours[case.number].get("text", [NOT_ASKED])) for case in cases]
-        calm = [(case, answers) for case, answers in calm if not any(isinstance(one, Fault) or one is NOT_ASKED for one in answers)]
+        """Whether --where takes other rows than those in which a text is true, as they are or with what the next text answers in
+        them. Asked of one in twenty, of those that are refused in no row."""
+        calm = [(case, ours[case.number]) for case in cases if all(map(is_value, ours[case.number]))]
         for (case, answers), (other, others) in zip(calm, calm[1:] + calm[:1]):
             if case.number % 20 or case.tree.type != "bool":
                 continue
             self.counts["of those, rows picked by --where"] += 1
             true = [row for row, answer in enumerate(answers) if answer is True]
-            rows = table.only({column.name for column in table.columns}, true)
-            if self.program.picked(case.text, table) != self.program.csv(self.program.by_text, rows):
-                yield case, Difference(0, "--where takes other rows than", true, "")
-            both = Table(rows.columns + [Column("r", other.tree.type, True)],
-                         [(*row, others[place]) for row, place in zip(rows.rows, true)], rows.has_header)
-            picked = self.program.picked(case.text, table, other.text)
-            if not same_rows(picked, self.program.csv(self.program.by_text, both)):
-                yield case, Difference(0, f"--where with --append of {other.text!r} takes other rows than", true, picked)
+            for who, picked in self.program.differ_in_picked(case.text, true, other.text, others, table):
+                yield case, Difference(0, who, true, picked)
 
     def explained_otherwise(self, cases, table):
-        """The cases of which --explain tells another tree, type or weight by their texts than by their lines. Asked where
-        both have the columns' own names."""
-        if not self.program.by_lines:
-            return
-        names = line_names(table)
-        both = [(case, lines(case.tree, names)) for case in cases if all(name == own for own, name in names.items())]
-        both = [(case, said) for case, said in both if said is not None]
+        """The cases of which --explain tells another tree than rowfn shows, as it is written or as rules make it, or another type.
+        Asked where both have the columns' own names, and where no character of a literal stands in for another."""
+        def are_as_they_are(case):
+            texts = [node.value for node in case.tree.nodes() if isinstance(node.value, str)]
+            return all(text == text.translate(STANDS_IN) for text in texts)
+        if all(name == own for own, name in line_names(table).items()):
+            asked = [case for case in cases if are_as_they_are(case)]
+            self.counts["of those, told by --explain as rowfn shows them"] += len(asked)
+            for begin in range(0, len(asked), 25):
+                yield from self.told_otherwise(asked[begin:begin + 25], table)
 
-        def differs(part):
-            told = self.program.explained(self.program.by_text, [case.text for case, _ in part], table)
-            return told != self.program.explained(self.program.by_lines, [said for _, said in part], table)
-        self.counts["of those, told alike by --explain"] += len(both)
-        for begin in range(0, len(both), 25):
-            part = both[begin:begin + 25]
-            if differs(part):
-                yield from (case for case, said in part if differs([(case, said)]))
+    def told_otherwise(self, part, table):
+        try:
+            shown = self.scripts.shown([case.tree for case in part], table)
+            found = self.program.explained([case.text for case in part], table)
+        except Refused as refused:
+            if len(part) > 1:
+                for case in part:
+                    yield from self.told_otherwise([case], table)
+            else:
+                yield part[0], Difference(0, "rowfn, which shows the tree", f"--explain: {refused}", "")
+            return
+        for case, told, trees in zip(part, found, shown):
+            if {told.type.rstrip("?"), told.type_by_rules.rstrip("?")} != {case.tree.type}:
+                yield case, Difference(0, "--explain, of the type", (told.type, told.type_by_rules), case.tree.type)
+            if told.printed is not None and (told.printed, told.printed_by_rules) != trees:
+                yield case, Difference(0, "--explain, beside rowfn", (told.printed, told.printed_by_rules), trees)
 
     def ask_postgresql(self, cases, table):
         texts = {}
         for case in cases:
             for text in [postgresql(case.tree), *map(postgresql, case.calculations), *[case.text] * case.is_unchanged]:
                 texts[text] = None
-        return dict(zip(texts, self.server.answers(list(texts), table)))
+        asked = dict(zip(texts, self.server.answers(list(texts), table)))
+        for case in cases:
+            case.faults = faults_in_postgresql(case, asked, len(table.rows))
+        return asked
 
-    def ways(self, table):
-        """How the program is asked: by texts; by lines and by lines that have the tree optimised, together."""
-        names = line_names(table)
+    @staticmethod
+    def parted(cases):
+        """Those that PostgreSQL refuses in no row, 25 together; and the others, each with these rows."""
+        faulty = [(case, [row for row, faults in enumerate(case.faults) if faults]) for case in cases]
+        calm = [case for case, rows in faulty if not rows]
+        return [calm[begin:begin + 25] for begin in range(0, len(calm), 25)], [(case, rows) for case, rows in faulty if rows]
 
-        def by_lines(case):
-            said = lines(case.tree, names)
-            return None if said is None else [said, [*said, "optimize"]]
-        ways = [(("text",), self.program.by_text, lambda case: [case.text])] if self.texts else []
-        if not self.program.by_lines:
-            return ways
-        return ways + [(("lines", "optimized"), self.program.by_lines, by_lines)]
+    def chosen(self, case, faulty):
+        """The rows that are asked alone, of those that PostgreSQL refuses."""
+        return faulty if self.every else [faulty[case.number % len(faulty)]]
 
-    def ask_program(self, cases, table, asked):
-        """What the program answers to each case, by each way. Those that PostgreSQL refuses in no row go together."""
-        found = {case.number: {} for case in cases}
-        for names, ask, write in self.ways(table):
-            together = []
-            for case in cases:
-                answers = write(case)
-                faulty = [row for row in range(len(table.rows)) if fault_in_postgresql(case, asked, row)]
-                if answers is None:
-                    continue
-                if faulty:
-                    found[case.number].update(zip(names, self.ask_around(ask, answers, table, case, faulty)))
-                else:
-                    together.append((case, answers))
-            for begin in range(0, len(together), 25):
-                self.ask_together(ask, together[begin:begin + 25], table, names, found)
+    def ask_program(self, cases, table):
+        """What the program answers to each case by its text."""
+        together, alone = self.parted(cases)
+        found = {case.number: self.ask_around(table, case, faulty) for case, faulty in alone}
+        for part in together:
+            try:
+                got = self.program.answers([case.text for case in part], table, [case.tree.type for case in part])
+            except Refused:
+                got = None
+            if got is None or any(isinstance(answer, Fault) for answer in got[0]):
+                got = [self.ask_alone(table, case) for case in part]
+            found.update(zip([case.number for case in part], got))
         return found
 
-    def ask_together(self, ask, part, table, names, found):
-        every = [answer for _, answers in part for answer in answers]
-        types = [case.tree.type for case, answers in part for _ in answers]
+    def ask_alone(self, table, case):
         try:
-            got = self.program.answers(ask, every, table, types)
-        except Refused:
-            got = None
-        if got is None or any(isinstance(answer, Fault) for answer in got[0]):
-            got = [one for case, answers in part for one in self.ask_alone(ask, answers, table, case)]
-        for place, (case, _) in enumerate(part):
-            found[case.number].update(zip(names, got[place * len(names):]))
-
-    def ask_alone(self, ask, answers, table, case):
-        try:
-            return self.program.answers(ask, answers, table, [case.tree.type] * len(answers))
+            return self.program.answers([case.text], table, [case.tree.type])[0]
         except Refused as refused:
-            return [[Fault(str(refused))] * len(table.rows)] * len(answers)
+            return [Fault(str(refused))] * len(table.rows)
 
-    def ask_around(self, ask, answers, table, case, faulty):
+    def ask_around(self, table, case, faulty):
         """Asks for the whole table, of which the program answers the rows before one that it refuses; for the rows that
-        PostgreSQL does not refuse; and for one or each of those that it does, alone. Of lines with and without rules the
-        first and the last are asked of the lines without, as rules may drop a fault."""
-        calm = [row for row in range(len(table.rows)) if row not in faulty]
-        found = [self.ask_alone(ask, answers[:1], table, case)[0]] + [[NOT_ASKED] * len(table.rows) for _ in answers[1:]]
-        chosen = faulty if self.every else [faulty[case.number % len(faulty)]]
-        for rows in ([calm] if calm else []) + [[row] for row in chosen if row != faulty[0]]:
-            asked = answers if rows is calm else answers[:1]
-            part = table.only({column.name for column in table.columns}, rows)
-            for column, answer in zip(found, self.ask_alone(ask, asked, part, case)):
-                for row, one in zip(rows, answer):
-                    # a row that was answered before is answered so again
-                    column[row] = one if column[row] in (NOT_ASKED, one) else Fault(f"{column[row]}, and then {one}")
+        PostgreSQL does not refuse; and for one or each of those that it does, alone."""
+        calm, names = [row for row in range(len(table.rows)) if row not in faulty], {column.name for column in table.columns}
+        found = self.ask_alone(table, case)
+        for rows in [calm] * bool(calm) + [[row] for row in self.chosen(case, faulty) if row != faulty[0]]:
+            for row, one in zip(rows, self.ask_alone(table.only(names, rows), case)):
+                # a row that was answered before is answered so again
+                found[row] = one if found[row] in (NOT_ASKED, one) else Fault(f"{found[row]}, and then {one}")
         return found
+
+    def ask_scripts(self, cases, table, ours):
+        """The results of rowfn for each case, as its tree is written and as rules make it: of those that PostgreSQL refuses in no row
+        together; of the others in these rows, in those where the program has dropped a fault, and in one or each of the rest."""
+        together, alone = self.parted(cases)
+        found = {case.number: {way: [NOT_ASKED] * len(table.rows) for way in WAYS} for case in cases}
+        for part in together:
+            got = self.ask_lines([case.tree for case in part], table, WAYS)
+            for place, case in enumerate(part):
+                found[case.number] = dict(zip(WAYS, got[place * len(WAYS):]))
+        for case, faulty in alone:
+            calm = [row for row in range(len(table.rows)) if row not in faulty]
+            dropped = [row for row in faulty if case.number in ours and is_value(ours[case.number][row])]
+            chosen = self.chosen(case, faulty)
+            asks = [(calm, tuple(WAYS)), (dropped, ("optimized",)), *[([row], ("lines",)) for row in chosen]]
+            asks += [([row], ("optimized",)) for row in chosen if row not in dropped]
+            for rows, ways in asks:
+                part = table.only(case.tree.columns(), rows)
+                for way, answers in zip(ways, self.ask_lines([case.tree], part, ways) if rows else []):
+                    for row, answer in zip(rows, answers):
+                        found[case.number][way][row] = answer
+        return found
+
+    def ask_lines(self, trees, table, ways):
+        try:
+            return self.scripts.answers(trees, table, ways)
+        except Refused as refused:
+            return [[Fault(str(refused))] * len(table.rows)] * (len(trees) * len(ways))
 
     # -- judging -----------------------------------------------------------------------------------------------------------
 
-    def judge(self, case, table, asked, found):
-        way = "text" if "text" in found else "lines"
-        if way not in found:
-            return
-        ours = found[way]
+    def judge(self, case, table, asked, ours, theirs):
         self.count(case, ours)
-        if way == "text" and "lines" in found:
-            self.counts["of those, by text and by script lines"] += 1
-            yield from self.beside_itself("its script lines", ours, found["lines"])
-        if "optimized" in found:
-            self.counts["of those, plain and optimised"] += 1
-            yield from self.beside_itself("its optimised tree", ours, found["optimized"])
+        yield from self.beside_lines(case, ours, theirs["lines"])
+        yield from self.beside_rules(ours, theirs["optimized"])
         yield from self.beside_postgresql(case, table, asked, ours)
         if case.is_in_sqlite:
             yield from self.beside_sqlite(case, table, ours)
@@ -255,6 +284,7 @@ class Asker:
     def count(self, case, ours):
         self.calls.update(node.kind for node in case.tree.nodes())
         self.counts["expressions"] += 1
+        self.counts["of those, without a text, of rowfn alone"] += case.text is None
         self.counts["of those, asked of SQLite too"] += case.is_in_sqlite
         self.counts["of those, refused in some row"] += any(isinstance(answer, Fault) for answer in ours)
         self.counts["of those, texts that PostgreSQL reads as they stand"] += case.is_unchanged
@@ -267,46 +297,60 @@ class Asker:
                 name = str(answer).lower().replace("none", "null") if is_word else "numbers and texts"
                 self.counts[f"rows answered: {name}"] += 1
 
-    def beside_itself(self, who, ours, theirs):
+    def beside_lines(self, case, ours, theirs):
+        """rowfn runs the tree as it is written: where PostgreSQL refuses a call, it has the fault of the first one, and elsewhere the
+        program's value."""
+        for row, (faults, one, other) in enumerate(zip(case.faults, ours, theirs)):
+            wanted = Fault("Arithmetic." + ARITHMETIC[faults[0][0].kind]) if faults else one
+            if NOT_ASKED not in (wanted, other):
+                self.counts["rows compared with rowfn"] += 1
+                if other != wanted:
+                    yield Difference(row, "rowfn, by lines", wanted, other)
+
+    def beside_rules(self, ours, theirs):
+        """The program runs what rules make of a tree, as rowfn does after `optimize`."""
         for row, (one, other) in enumerate(zip(ours, theirs)):
             if NOT_ASKED not in (one, other) and one != other:
-                yield Difference(row, who, one, other)
+                yield Difference(row, "rowfn, by lines and rules", one, other)
 
     def beside_postgresql(self, case, table, asked, ours):
         ways = [("PostgreSQL", postgresql(case.tree))] + [("PostgreSQL, of the same text", case.text)] * case.is_unchanged
         for row, answer in enumerate(ours):
             if answer is NOT_ASKED:
                 continue
-            fault = fault_in_postgresql(case, asked, row)
+            faults = case.faults[row]
             self.counts["rows compared with PostgreSQL"] += 1
-            if fault and self.is_dropped(case, table, answer):
+            if faults and not self.is_allowed(case, table, answer, faults, "PostgreSQL"):
+                yield Difference(row, "PostgreSQL, and no rule drops that call", answer, "; ".join(f"{why} in {node.kind}" for node, why in faults))
                 continue
-            if fault and not self.is_fault(answer, fault):
-                yield Difference(row, "PostgreSQL", answer, f"{fault[1]} in {fault[0]}")
+            if faults and is_value(answer):
                 continue
             for who, text in ways:
                 theirs = asked[text][row]
-                if not self.is_same(case, table, row, answer, theirs, fault, text == case.text):
+                if not self.is_same(case, table, row, answer, theirs, faults, text == case.text):
                     yield Difference(row, who, answer, theirs)
 
-    def is_dropped(self, case, table, answer):
-        """Whether a row is answered because rules dropped the call that faults in it: then any answer will do."""
-        dropped = not isinstance(answer, Fault) and self.program.is_rewritten(case.text, table)
-        self.counts["on purpose: a row, beside PostgreSQL or SQLite, whose fault rules drop"] += dropped
-        return dropped
-
-    def is_fault(self, answer, fault):
-        kind, why = fault
-        if why == ZERO and kind != "/":
+    def is_allowed(self, case, table, answer, faults, whom):
+        """Whether a row in which calls fault may have this result: the fault of one, or, where rules drop each, any value, which
+        `beside_rules` compares."""
+        names, rules = fault_names(case, table, faults)
+        if any(why not in (OVERFLOW, ZERO) or why == ZERO and node.kind != "/" for node, why in faults):
             return False
-        self.counts[f"refused for {why} in {kind}, as PostgreSQL does"] += 1
-        return isinstance(answer, Fault) and answer.name == "Arithmetic." + ARITHMETIC[kind]
+        if is_value(answer):
+            for rule in set(rules or []):
+                self.counts[f"on purpose: a fault, as {whom} has, that goes where {rule}"] += 1
+            return rules is not None
+        if answer.name in names[1:] and answer.name != names[0]:
+            self.counts[f"on purpose: another fault than the first, which rules drop, beside {whom}"] += 1
+        elif answer.name == names[0]:
+            self.counts[f"refused for {faults[0][1]} in {faults[0][0].kind}, as {whom} does"] += whom == "PostgreSQL"
+        return answer.name in names
 
-    def is_same(self, case, table, row, answer, theirs, fault, as_it_stands):
+    def is_same(self, case, table, row, answer, theirs, faults, as_it_stands):
         """Whether PostgreSQL answers a row alike: of the text as it stands with its own LIKE and ILIKE, else with those that
         `whole` and `folded` make like ours."""
-        if fault:
-            # a fault that stands beside what decides, or beside a null, is not met by PostgreSQL
+        if faults:
+            # a fault next to what decides, or next to a null, is not met by PostgreSQL
             if not isinstance(theirs, Fault):
                 self.counts["on purpose: a fault that PostgreSQL passes over"] += 1
             return not isinstance(theirs, Fault) or theirs.name in STATES or theirs.name == "22025"
@@ -330,78 +374,16 @@ class Asker:
         for row, answer in enumerate(ours):
             if answer is NOT_ASKED:
                 continue
-            fault = fault_in_sqlite(case, values, row)
+            faults = faults_in_sqlite(case, values, row)
             self.counts["rows compared with SQLite"] += 1
-            if fault:
-                if isinstance(answer, Fault) and answer.name == "Arithmetic." + ARITHMETIC[fault[0]]:
-                    self.counts[f"on purpose: {fault[1]} is no refusal in SQLite"] += 1
-                elif not self.is_dropped(case, table, answer):
-                    yield Difference(row, "SQLite", answer, f"{fault[1]} in {fault[0]}")
+            if faults:
+                if not self.is_allowed(case, table, answer, faults, "SQLite"):
+                    yield Difference(row, "SQLite, and no rule drops that call", answer, f"{faults[0][1]} in {faults[0][0].kind}")
+                elif isinstance(answer, Fault):
+                    self.counts[f"on purpose: {faults[0][1]} is no refusal in SQLite"] += 1
                 continue
             theirs = values[case.tree][row]
             theirs = bool(theirs) if case.tree.type == "bool" and theirs in (0, 1) else theirs
             if type(answer) is type(theirs) and answer == theirs:
                 continue
             yield Difference(row, "SQLite", answer, theirs)
-
-
-# -- making a difference small ---------------------------------------------------------------------------------------------
-
-def smaller_trees(tree):
-    """Trees like this one with less in them, the smallest first: a part of it, or a part in the place of a larger one."""
-    for operand in tree.operands:
-        yield operand
-    for place, operand in enumerate(tree.operands):
-        for part in operand.operands:
-            if part.type == operand.type:
-                yield with_operand(tree, place, part)
-        for smaller in smaller_trees(operand):
-            if smaller.type == operand.type:
-                yield with_operand(tree, place, smaller)
-    if tree.kind == "literal":
-        simple = {"bool": [True], "utf8": ["", "a"]}.get(tree.type, [0, 1])
-        for value in simple:
-            if tree.value not in (*simple[:simple.index(value) + 1], None):
-                yield type(tree)("literal", tree.type, (), value, tree.form)
-        if tree.type == "utf8" and tree.value:
-            for place in range(len(tree.value)):
-                yield type(tree)("literal", tree.type, (), tree.value[:place] + tree.value[place + 1:], tree.form)
-
-
-def with_operand(tree, place, operand):
-    operands = list(tree.operands)
-    operands[place] = operand
-    return type(tree)(tree.kind, tree.type, tuple(operands), tree.value, tree.form)
-
-
-def shrunk(ask, tree, table, write):
-    """A smaller tree over one row of a table that still differs, and that table. `ask` answers the differences of a case,
-    `write` the text of a tree."""
-    def differs(tree, table):
-        found = ask(Case(0, tree, write(tree)), table)
-        return min((one.row for one in found), default=None)
-    row = differs(tree, table)
-    if row is None:
-        return tree, table
-    if len(table.rows) > 100:
-        alone = table.only(tree.columns() or {table.columns[0].name}, [row])
-        if differs(tree, alone) is None:
-            # what differs rests on the rows before it, and to ask all of them takes long
-            return tree, table
-        table = alone
-    for steps in range(400):
-        alone = table.only(tree.columns() or {table.columns[0].name}, [row])
-        if len(alone.rows) < len(table.rows) and differs(tree, alone) is not None:
-            table, row = alone, 0
-        for smaller in smaller_trees(tree):
-            again = differs(smaller, table)
-            if again is not None:
-                tree, row = smaller, again
-                break
-        else:
-            break
-    return tree, table.only(tree.columns() or {table.columns[0].name})
-
-
-def text_of(tree, rng=None, brackets=True):
-    return Text(Plain() if rng is None else Noisy(rng, brackets)).text(tree)

@@ -1,6 +1,8 @@
 """How a tree is written: as people write expressions, as lines of a script, in PostgreSQL and in SQLite."""
 import re
-from trees import ARITHMETIC, BETWEEN, COMPARISONS, FOLDED, INTEGERS, LEVEL, LIKES, OPERANDS, TESTS
+
+from tables import INTEGERS
+from trees import ARITHMETIC, BETWEEN, FOLDED, LEVEL, LIKES, OPERANDS, TESTS
 
 KEYWORDS = "and or not is null between like ilike escape true false cast as".split()
 BARE_LEVEL = 9
@@ -204,7 +206,7 @@ def is_unchanged(tree):
         node = operands[place]
         if node.kind == "literal":
             return literal(kind, operands, place, form)
-        if node.kind == "cast" or node.kind in ARITHMETIC and node.type not in ("i16", "i32", "i64"):
+        if node.kind == "cast" or node.kind in BETWEEN and node.value or node.kind in ARITHMETIC and node.type not in ("i16", "i32", "i64"):
             return False
         forms = literal_forms(node.kind, node.operands)
         return all(node_is(node.kind, node.operands, one, forms[one]) for one in range(len(forms)))
@@ -212,20 +214,24 @@ def is_unchanged(tree):
     return node_is("", (tree,), 0, forms[0])
 
 
+# A text of a script has no quote and no end of a line. Other characters stand in for them, in columns and literals alike: no text
+# here has \v or $, and the order of texts stays.
+STANDS_IN = str.maketrans('\n"#', "\v#$")
+BACK = str.maketrans("\v#$", '\n"#')
+
+
 def lines(tree, names):
-    """The lines of a script that push a tree, or None where a literal has no cell. `names` are the columns' names there."""
+    """The lines of a script that push a tree. `names` are the columns' names there."""
     said = []
     for node in tree.nodes():
         if node.kind == "column":
             said.append(f"get {names[node.value]}")
         elif node.kind == "literal":
-            if node.type == "utf8" and node.value is not None and re.search(r'["\n]', node.value):
-                return None
             said.append(f"lit {node.type}{'?' if node.value is None or node.form == 'nullable' else ''} {cell(node.value)}")
         elif node.kind in BETWEEN:
-            said += ["call between <= <="] + ["call not"] * (node.kind == "not between")
+            said += [f"call between {node.value or '<= <='}"] + ["call not"] * (node.kind == "not between")
         elif node.kind in LIKES:
-            said.append(f"call {node.kind.replace(' ', '_')}" + ("" if node.value is None else f' escape "{node.value}"'))
+            said.append(f"call {node.kind.replace(' ', '_')}" + ("" if node.value is None else f" escape {cell(node.value)}"))
         else:
             said.append("call " + {"<>": "!="}.get(node.kind, node.kind.replace(" ", "_")))
     return said
@@ -234,7 +240,7 @@ def lines(tree, names):
 def cell(value):
     if value is None or isinstance(value, bool):
         return str(value).lower().replace("none", "null")
-    return f'"{value}"' if isinstance(value, str) else str(value)
+    return f'"{value.translate(STANDS_IN)}"' if isinstance(value, str) else str(value)
 
 
 # PostgreSQL: our types are domains over its own, whose CHECK refuses what they do not hold.
@@ -286,6 +292,10 @@ def sql(node, leaf, calculated, liked, cast):
         return f"(NOT {operands[0]})"
     if node.kind in TESTS:
         return f"({operands[0]} {node.kind.upper()})"
+    if node.kind in BETWEEN and node.value:
+        low, high = node.value.split()
+        word = "NOT " * (node.kind == "not between")
+        return f"({word}({operands[1]} {low} {operands[0]} AND {operands[0]} {high} {operands[2]}))"
     if node.kind in BETWEEN:
         return f"({operands[0]} {node.kind.upper()} {operands[1]} AND {operands[2]})"
     return f"({operands[0]} {node.kind.upper()} {operands[1]})"

@@ -1,14 +1,15 @@
-"""Trees of expressions, the tables that they stand over, and random ones of both."""
-import re
+"""Trees of expressions, and random ones over random tables."""
 from dataclasses import dataclass, replace
 
-INTEGERS = {f"{sign}{bits}": (-2 ** (bits - 1) if sign == "i" else 0, 2 ** (bits - (sign == "i")) - 1)
-            for sign in "iu" for bits in (8, 16, 32, 64)}
+from tables import INTEGERS, Column, with_shape
+
 TYPES = ["bool", *INTEGERS, "utf8"]
 JOINTS = ["and", "or"]
 COMPARISONS = ["=", "<>", "<", "<=", ">", ">="]
 ARITHMETIC = {"+": "Add", "-": "Sub", "*": "Mul", "/": "Div"}
 BETWEEN = ["between", "not between"]
+# bounds of a BETWEEN that no text has: the lower one, the upper one or both are outside
+OUTSIDE = ["< <", "< <=", "<= <"]
 LIKES = ["like", "not like", "ilike", "not ilike"]
 TESTS = ["is null", "is not null"]
 
@@ -16,7 +17,8 @@ TESTS = ["is null", "is not null"]
 @dataclass(frozen=True)
 class Node:
     """kind: column, literal, cast, not, or one of the words above.
-    value: of a column its name, of a literal its value, of a LIKE its escape (None where none is written).
+    value: of a column its name, of a literal its value, of a LIKE its escape (None where none is written), of a BETWEEN None or
+    what is OUTSIDE.
     form: of a literal how it is written, where its place allows that: `bare`, `typed`, or `nullable` (a type with `?`)."""
     kind: str
     type: str
@@ -30,38 +32,12 @@ class Node:
             yield from operand.nodes()
         yield self
 
+    def has_text(self):
+        """Whether a text says the tree: else rowfn alone is asked."""
+        return not any(node.kind in BETWEEN and node.value for node in self.nodes())
+
     def columns(self):
         return {node.value for node in self.nodes() if node.kind == "column"}
-
-
-@dataclass(frozen=True)
-class Column:
-    """is_declared: whether the program is told its type, or takes it from the fields of the first rows."""
-    name: str
-    type: str
-    nullable: bool
-    is_declared: bool = True
-
-
-@dataclass
-class Table:
-    columns: list
-    rows: list
-    has_header: bool = True
-
-    def column(self, name):
-        return next(column for column in self.columns if column.name == name)
-
-    def cell(self, name, place):
-        return self.rows[place][[column.name for column in self.columns].index(name)]
-
-    def only(self, names, places=None):
-        """The same table with these columns and rows alone. Where rows go, each column is declared: the others might say another
-        type."""
-        kept = [place for place, column in enumerate(self.columns) if column.name in names]
-        rows = self.rows if places is None else [self.rows[place] for place in places]
-        columns = [self.columns[place] if places is None else replace(self.columns[place], is_declared=True) for place in kept]
-        return Table(columns, [tuple(row[place] for place in kept) for row in rows], self.has_header)
 
 
 # Letters of ASCII, letters without case, signs of patterns, and what CSV and SQL quote.
@@ -143,41 +119,6 @@ def random_value(rng, name, edges):
     if name == "utf8":
         return random_pattern(rng) if rng.random() < 0.3 else random_text(rng)
     return random_integer(rng, name, edges)
-
-
-def field(value):
-    """A value as a field of CSV, without quotes."""
-    return str(value).lower() if isinstance(value, bool) else str(value)
-
-
-def type_of_fields(values):
-    """The type that a column takes of these values' fields, or None where the fields of all are digits of numbers that are
-    written otherwise, as 007: builds before 28 November 2026 took those for numbers too."""
-    fields = [field(value) for value in values if value is not None]
-    if fields and all(one in ("true", "false") for one in fields):
-        return "bool"
-    low, high = INTEGERS["i64"]
-    if fields and all(re.fullmatch("[-+]?[0-9]+", one) and low <= int(one) <= high for one in fields):
-        return "i64" if all(one == str(int(one)) for one in fields) else None
-    return "utf8"
-
-
-# How a table goes in: each column declared; without a header; or with some columns that are not declared.
-SHAPES = ("declared", "without a header", "inferred")
-
-
-def with_shape(rng, columns, rows, shape):
-    """A table of these columns and rows, as the program gets it."""
-    if shape != "inferred":
-        return Table(columns, rows, shape == "declared")
-    shaped = []
-    for place, column in enumerate(columns):
-        values = [row[place] for row in rows]
-        if column.type in ("bool", "i64", "utf8") and rng.random() < 0.6 and type_of_fields(values) == column.type:
-            # whether it has nulls is taken from the fields too
-            column = replace(column, nullable=None in values, is_declared=False)
-        shaped.append(column)
-    return Table(shaped, rows)
 
 
 def large_table(rng, shape):
@@ -270,7 +211,7 @@ class Maker:
         if word not in LIKES:
             return Node(word, "bool", (self.rng.choice(columns), self.rng.choice(columns)))
         if self.rng.random() < 0.5:
-            pattern = next(column for column in columns if column.value == "pattern")
+            pattern = next(column for column in columns if column.value == self.table.pattern)
             return Node(word, "bool", (self.rng.choice(columns), pattern), self.rng.choice((None, "\\")))
         escape = self.rng.choice((None, None, "!"))
         return Node(word, "bool", self.matched(escape), escape)
@@ -290,10 +231,10 @@ class Maker:
     def call(self, word, size):
         rng, levels = self.rng, OPERANDS[word]
         sizes = self.shares(size, len(levels))
-        escape = None
+        value = rng.choice(OUTSIDE) if word in BETWEEN and not self.flat and rng.random() < 0.05 else None
         if word in LIKES:
-            escape = rng.choice((None, None, "!", "\\", "", "%", "_", "a", "'", "é", "!", None))
-            operands = self.matched(escape)
+            value = rng.choice((None, None, "!", "\\", "", "%", "_", "a", "'", "é", "!", None))
+            operands = self.matched(value)
         elif word in (*JOINTS, "not", "cast"):
             operands = tuple(self.truth(level, one) for level, one in zip(levels, sizes))
         else:
@@ -301,7 +242,7 @@ class Maker:
             # what is compared is mostly small, so that more of a tree is logic
             sizes = [min(one, rng.choice((1, 1, 2, 3, 5))) for one in sizes]
             operands = tuple(self.of(name, level, one) for level, one in zip(levels, sizes))
-        return Node(word, "bool", operands, escape)
+        return Node(word, "bool", operands, value)
 
     def matched(self, escape):
         """A text and a pattern, which often matches it in some row."""
