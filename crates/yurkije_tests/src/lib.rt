@@ -9,5 +9,3 @@ mod reading;
 mod rooms;
 #[cfg(test)]
 mod running;
-#[cfg(test)]
-mod words;
