@@ -10,7 +10,7 @@ use Rattle.std.proofs.Math.Nat.{mul-le-mul_left, mod-lt}
 use Rattle.std.proofs.Common.{get_or, Bor, Option, None}
 use Rattle.std.proofs.lemmas.List.{get_or-map}
 use Rattle.vortex_types.specs.LogicalTypes.{Fields, field_count}
-pub use Rattle.rowfn_lines.proofs.Apart.{place_within}
+pub use Rattle.vortex_cells.proofs.Apart.{place_within}
 use Rattle.rowfn_batches.specs.Fields.{Field, field_in}
 use Rattle.rowfn_batches.specs.Batches.{field_at, IsFirstMisfit, IsMisfit}
 

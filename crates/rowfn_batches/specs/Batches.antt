@@ -8,11 +8,11 @@ use Rattle.std.specs.List.{range_with_len}
 use Rattle.std.specs.Option.{option_and_then}
 use Rattle.vortex_types.specs.LogicalTypes.{Fields, field_count, field_type}
 use Rattle.vortex_columns.specs.ColumnView.{ColumnView}
-use Rattle.rowfn_lines.specs.Commands.{all_some, column_of_cells}
+use Rattle.vortex_cells.specs.CellValues.{all_some, column_of_cells}
 use Rattle.rowfn_batches.specs.declared.columns.BatchError.{BatchError}
 use Rattle.rowfn_batches.specs.declared.columns.BatchError.TheVariants.{Misfit, TextsTooLong}
 use Rattle.rowfn_batches.specs.declared.columns.BatchError.TheVariants.{Uneven, OutOfMemory}
-use Rattle.rowfn_lines.specs.Fields.{field_cell}
+use Rattle.vortex_cells.specs.Fields.{field_cell}
 use Rattle.rowfn_batches.specs.Fields.{Field, field_fits}
 
 abbrev pub field_at : List Field → ℕ → Field

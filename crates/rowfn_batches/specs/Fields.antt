@@ -2,8 +2,8 @@
 use Rattle.std.specs.Prelude.{ℕ, List, Bool, false, Option, Some, None, option_map}
 use Rattle.std.specs.Borrow.{Bor}
 use Rattle.vortex_types.specs.LogicalTypes.{LogicalType}
-use Rattle.rowfn_lines.specs.Commands.{cell_fits}
-use Rattle.rowfn_lines.specs.Fields.{field_cell}
+use Rattle.vortex_cells.specs.CellValues.{cell_fits}
+use Rattle.vortex_cells.specs.Fields.{field_cell}
 
 -- the bytes of a field, and none of a null field
 abbrev pub Field : Type 0

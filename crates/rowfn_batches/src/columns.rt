@@ -11,9 +11,9 @@ ghost use Rattle.rowfn_batches.specs.Batches.{AreColumns, fits_in, IsMisfit, IsL
 ghost use Rattle.rowfn_batches.specs.Batches.{AreEven, RefusesBatch, ReadsColumns};
 
 use crate::fields::field_fits;
-use rowfn_lines::fields::column_of_fields;
 use std::alloc::{AllocFailed, Global};
 use thiserror::Error;
+use vortex_cells::fields::column_of_fields;
 use vortex_columns::{Column, StructFields, VortexError, VortexResult};
 
 /// Why the fields of a batch make no columns. Records and columns are counted from 0.

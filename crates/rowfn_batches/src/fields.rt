@@ -1,12 +1,12 @@
 //! A field as a cell, and whether it fits its column.
 ghost use Rattle.std.specs.Prelude.{◌≡◌, option_map};
 ghost use Rattle.vortex_types.specs.TypeOf.{type_of};
-ghost use Rattle.rowfn_lines.specs.Cells.{cell_in};
-ghost use Rattle.rowfn_lines.specs.Fields.{field_cell};
+ghost use Rattle.vortex_cells.specs.Cells.{cell_in};
+ghost use Rattle.vortex_cells.specs.Fields.{field_cell};
 ghost use Rattle.rowfn_batches.specs.Fields.{field_in, field_fits};
 
-use rowfn_lines::cells::cell_fits;
-use rowfn_lines::fields::text_of;
+use vortex_cells::cells::cell_fits;
+use vortex_cells::fields::text_of;
 use vortex_columns::DType;
 
 /// The cell that a field is; nothing for bytes that are not UTF-8.

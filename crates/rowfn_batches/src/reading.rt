@@ -14,12 +14,12 @@ use crate::errors::StreamError;
 use crate::line_errors::LineError;
 use rowfn_lines::Line;
 use rowfn_lines::text::{Word, without_spaces, words};
-use rowfn_lines::types::read_type;
 use rowfn_scripts::{
     Answer, Expected, Expression, ExpressionError, Said, expression_lines, read_expression, said_of,
 };
 use std::alloc::Global;
 use std::str;
+use vortex_cells::types::read_type;
 use vortex_columns::{DType, VortexError, VortexResult};
 use vortex_errors::Arity;
 use vortex_expressions::nearest;

@@ -1,11 +1,4 @@
-pub mod AllSome
-pub mod CellRows
-pub mod FieldRows
-pub mod Numbers
-pub mod ShortNumbers
-pub mod IntegerTexts
-pub mod Apart
-pub mod Marks
 pub mod Words
 pub mod WordsSaid
+pub mod Limits
 pub mod SaidTyped

@@ -17,20 +17,25 @@ use Rattle.vortex_types.specs.Values.{Value, null, truth, number, text}
 use Rattle.vortex_types.specs.Typing.{HasType}
 use Rattle.vortex_types.specs.ScalarView.{ScalarView}
 use Rattle.vortex_columns.specs.ColumnView.{ColumnView, AreTyped}
-use Rattle.rowfn_lines.specs.Ranges.{in_range}
+use Rattle.vortex_cells.specs.Ranges.{in_range}
 use Rattle.rowfn_lines.specs.Lines.{Word, plain, quoted, with_word, words_of, in_word, in_quotes}
 use Rattle.rowfn_lines.specs.Lines.{after_quotes, after_spaces}
 use Rattle.rowfn_lines.specs.Commands.{Command, nothing, malformed, rows, column, get, literal}
-use Rattle.rowfn_lines.specs.Commands.{call, show, optimize, run_after, begins_comment, escape_of}
-use Rattle.rowfn_lines.specs.Commands.{is_name, number_where, integer_of, value_of_text, cell_value}
-use Rattle.rowfn_lines.specs.Commands.{cell_values, if_cells, with_first, cell_of, cells_of}
-use Rattle.rowfn_lines.specs.Commands.{fit_column, column_of, column_of_cells, literal_of_cell}
-use Rattle.rowfn_lines.specs.Commands.{column_where, column_said, literal_said, only_word}
+use Rattle.rowfn_lines.specs.Commands.{call, show, optimize, run_after, begins_comment}
+use Rattle.vortex_cells.specs.Escapes.{escape_of}
+use Rattle.rowfn_lines.specs.Commands.{is_name}
+use Rattle.vortex_cells.specs.CellValues.{number_where, integer_of, value_of_text, cell_value}
+use Rattle.vortex_cells.specs.CellValues.{cell_values, if_cells, with_first}
+use Rattle.rowfn_lines.specs.Commands.{cell_of, cells_of}
+use Rattle.vortex_cells.specs.CellValues.{fit_column, column_of, column_of_cells, literal_of_cell}
+use Rattle.vortex_cells.specs.CellValues.{column_where}
+use Rattle.rowfn_lines.specs.Commands.{column_said, literal_said, only_word}
 use Rattle.rowfn_lines.specs.Commands.{or_malformed, rows_command, count_of, limit_of, name_of}
-use Rattle.rowfn_lines.specs.Commands.{type_of_word, column_command, literal_command, get_command}
+use Rattle.vortex_cells.specs.TypeWords.{type_of_word}
+use Rattle.rowfn_lines.specs.Commands.{column_command, literal_command, get_command}
 use Rattle.rowfn_lines.specs.Commands.{call_of, call_command, alone, run_command, command_by}
 use Rattle.rowfn_lines.specs.Commands.{command_of_words, command_of_text, command_of}
-use Rattle.rowfn_lines.proofs.Numbers.{fits}
+use Rattle.vortex_cells.proofs.Numbers.{fits}
 
 -- what stands between two quotes is a text
 abbrev IsTextIn : Word → Type 0

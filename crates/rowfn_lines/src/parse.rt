@@ -6,7 +6,7 @@ ghost use Rattle.rowfn_lines.specs.Lines.{word_in};
 ghost use Rattle.rowfn_lines.specs.Commands.{begins_comment, is_name, count_of, limit_of};
 ghost use Rattle.rowfn_lines.specs.Commands.{only_word, alone, run_command};
 ghost use Rattle.rowfn_lines.specs.Commands.{rows_command, column_command, get_command};
-ghost use Rattle.rowfn_lines.specs.Commands.{literal_command, escape_of, escaped_call};
+ghost use Rattle.rowfn_lines.specs.Commands.{literal_command, escaped_call};
 ghost use Rattle.rowfn_lines.specs.Commands.{call_of};
 ghost use Rattle.rowfn_lines.specs.Commands.{call_command};
 ghost use Rattle.rowfn_lines.specs.Commands.{command_by};
@@ -15,12 +15,13 @@ ghost use Rattle.rowfn_lines.specs.Commands.{command_in};
 ghost use Rattle.rowfn_lines.specs.Answering.{AnswersCommand};
 
 use crate::command::Line;
-use crate::digits::are_digits;
 use crate::said::{column_said, literal_said};
 use crate::text::{Word, without_spaces, words};
-use crate::types::read_type;
 use std::alloc::Global;
 use std::str;
+use vortex_cells::digits::are_digits;
+use vortex_cells::escapes::escape_of;
+use vortex_cells::types::read_type;
 use vortex_columns::VortexResult;
 
 fn begins_comment(word: &str) -> bool
@@ -119,30 +120,6 @@ fn get_line<'a>(words: &[Word<'a>]) -> Line<'a>
     match only(words) {
         Some(name) if is_name(name) => Line::Get(name),
         _ => Line::Malformed,
-    }
-}
-
-/// The first character of a text, and the text behind it.
-fn split_first(text: &str) -> Option<(char, &str)>
-    ensures { MatchOption result (chars text.now ≡ [])
-        (λ parts. chars text.now ≡ parts.0 ∷ chars parts.1.now) }
-{
-    let mut rest = text.chars();
-    let first = rest.next()?;
-    Some((first, rest.as_str()))
-}
-
-/// The escape that a text says: its one character, or none where it is empty; nothing where it has
-/// more.
-pub fn escape_of(text: &str) -> Option<Option<char>>
-    ensures { result ≡ escape_of (chars text.now) }
-{
-    match split_first(text) {
-        None => Some(None),
-        Some((c, behind)) => match split_first(behind) {
-            None => Some(Some(c)),
-            Some(_) => None,
-        },
     }
 }
 

@@ -4,11 +4,11 @@ ghost use Rattle.vortex_errors.specs.Answers.{AnswersUnlessMemory};
 ghost use Rattle.vortex_types.specs.TypeOf.{type_of};
 ghost use Rattle.rowfn_lines.specs.Lines.{word_in};
 ghost use Rattle.rowfn_lines.specs.Commands.{cell_of, cells_of, column_said, literal_said};
-ghost use Rattle.rowfn_lines.specs.Cells.{cell_in};
+ghost use Rattle.vortex_cells.specs.Cells.{cell_in};
 
-use crate::cells::{column_of_cells, literal_of_cell};
 use crate::text::Word;
 use std::alloc::{AllocError, Global};
+use vortex_cells::cells::{column_of_cells, literal_of_cell};
 use vortex_columns::{Column, DType, Scalar, VortexResult};
 
 /// The cell that a word of a script is: texts stand in quotes, all else without, and null as

@@ -7,7 +7,7 @@ use Rattle.std.specs.Char.{is_ascii_digit}
 use Rattle.std.specs.Str.{bytes_eq, is_utf8}
 use Rattle.vortex_types.specs.declared.dtype.PType.TheVariants.{I64}
 use Rattle.vortex_types.specs.LogicalTypes.{LogicalType, bool_type, integer_type, text_type}
-use Rattle.rowfn_lines.specs.Commands.{cell_fits}
+use Rattle.vortex_cells.specs.CellValues.{cell_fits}
 
 -- the bytes of a field, and none of a null field
 abbrev pub Field : Type 0

@@ -9,7 +9,7 @@ use Rattle.vortex_syntax.specs.declared.error.SyntaxError.TheVariants as syntax
 use Rattle.vortex_syntax.specs.Tokens.{Token, name, nullable, quoted, sign}
 use Rattle.vortex_syntax.specs.Lexing.{Lexes}
 use Rattle.vortex_expressions.specs.Calls.{unquoted}
-use Rattle.rowfn_lines.specs.Commands.{type_named}
+use Rattle.vortex_cells.specs.TypeWords.{type_named}
 use Rattle.rowfn_queries.specs.declared.scope.ScopeReason.{ScopeReason}
 use Rattle.rowfn_queries.specs.declared.scope.ScopeReason.TheVariants as reason
 

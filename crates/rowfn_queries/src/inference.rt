@@ -6,9 +6,9 @@ ghost use Rattle.rowfn_queries.specs.Inference.{begins_number, is_decimal, is_nu
 ghost use Rattle.rowfn_queries.specs.Inference.{inferred_types};
 ghost use Rattle.rowfn_queries.specs.Seen.{seen, seen_with, type_seen};
 
-use rowfn_lines::cells::cell_fits;
 use std::alloc::{AllocError, Global};
 use std::str;
+use vortex_cells::cells::cell_fits;
 use vortex_columns::{DType, Nullability, PType};
 
 /// Whether a field is null or says a value of the type.

@@ -10,9 +10,9 @@ ghost use Rattle.rowfn_queries.specs.Scopes.{new_name, type_of_name, type_said, 
 ghost use Rattle.rowfn_queries.specs.Scopes.{columns_behind, more_behind, columns_of};
 ghost use Rattle.rowfn_queries.specs.Scopes.{Declares, IsRefusedScope, reason_of};
 
-use rowfn_lines::types::type_named;
 use std::alloc::{AllocError, AllocFailed, Global};
 use std::{fmt, str};
+use vortex_cells::types::type_named;
 use vortex_columns::{DType, Nullability, StructFields, VortexError};
 use vortex_expressions::quotes::unquoted;
 use vortex_expressions::words::{found_at, line_and_column};

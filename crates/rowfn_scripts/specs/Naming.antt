@@ -11,7 +11,9 @@ use Rattle.vortex_types.specs.LogicalTypes.{LogicalType}
 use Rattle.vortex_types.specs.TypeOf.{type_of}
 use Rattle.rowfn_lines.specs.Lines.{after_spaces, lines_of}
 use Rattle.rowfn_lines.specs.Commands.{Command, malformed, column, get, is_name, count_of}
-use Rattle.rowfn_lines.specs.Commands.{type_of_word, column_of_cells, command_of_text, or_malformed}
+use Rattle.vortex_cells.specs.TypeWords.{type_of_word}
+use Rattle.vortex_cells.specs.CellValues.{column_of_cells}
+use Rattle.rowfn_lines.specs.Commands.{command_of_text, or_malformed}
 use Rattle.rowfn_lines.specs.Commands.{command_in}
 use Rattle.rowfn_scripts.specs.declared.naming.Said as read
 use Rattle.rowfn_scripts.specs.declared.naming.Said.TheVariants as variant

@@ -23,9 +23,9 @@ use crate::naming::{Said, expression_lines, said_of};
 use crate::session::Session;
 use crate::stop::Stop;
 use rowfn_lines::Line;
-use rowfn_lines::cells::column_of_cells;
 use std::alloc::{AllocError, Global};
 use thiserror::Error;
+use vortex_cells::cells::column_of_cells;
 use vortex_columns::{DType, StructFields, VortexError, VortexResult};
 use vortex_functions::{BoundExpression, NoCustom};
 

@@ -14,10 +14,10 @@ ghost use Rattle.rowfn_scripts.specs.Naming.{said_by, said_in, said_of};
 
 use rowfn_lines::parse::{count, is_name, text_line};
 use rowfn_lines::text::without_spaces;
-use rowfn_lines::types::read_type;
 use rowfn_lines::{Line, lines};
 use std::alloc::{AllocError, Global};
 use std::str;
+use vortex_cells::types::read_type;
 use vortex_columns::{DType, VortexResult};
 
 /// What a line of an expression says.

@@ -28,7 +28,7 @@ use Rattle.vortex_syntax.specs.Levels.{left, right, not_level, is_level, sum_lev
 use Rattle.vortex_syntax.specs.Writing.{name_token, doubled}
 use Rattle.vortex_expressions.specs.Outcomes.{answers, and_then, or_refuses}
 use Rattle.vortex_expressions.specs.declared.refusal.Refusal.TheVariants.{NoEscape}
-use Rattle.rowfn_lines.specs.Commands.{escape_of}
+use Rattle.vortex_cells.specs.Escapes.{escape_of}
 use Rattle.vortex_expressions.specs.Items.{Item, Tree, meaning, common_type, settled, called}
 use Rattle.vortex_expressions.specs.Calls.{as_item, cast_to, cast_item, truth_type, joined_type}
 use Rattle.vortex_expressions.specs.Calls.{not_item, joined_item, tested_item, within_bounds}

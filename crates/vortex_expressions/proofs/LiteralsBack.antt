@@ -28,10 +28,11 @@ use Rattle.vortex_types.specs.Typing.{HasType, FitsPType, least_of, greatest_of}
 use Rattle.vortex_types.specs.Values as value
 use Rattle.vortex_types.specs.Values.{Value}
 use Rattle.vortex_interface.specs.Trees.{place, leaf, constant}
-use Rattle.rowfn_lines.specs.Ranges.{in_range}
-use Rattle.rowfn_lines.specs.Commands.{type_named, decimal_from, digits_of, integer_of}
-use Rattle.rowfn_lines.specs.Commands as commands
-use Rattle.rowfn_lines.proofs.Numbers as numbers
+use Rattle.vortex_cells.specs.Ranges.{in_range}
+use Rattle.vortex_cells.specs.TypeWords.{type_named}
+use Rattle.vortex_cells.specs.CellValues.{decimal_from, digits_of, integer_of}
+use Rattle.vortex_cells.specs.CellValues as cells
+use Rattle.vortex_cells.proofs.Numbers as numbers
 use Rattle.vortex_syntax.specs.declared.token.Sign.TheVariants as sign
 use Rattle.vortex_syntax.specs.Tokens as token
 use Rattle.vortex_syntax.specs.Syntax.{Syntax, operand, negative, typed, grouped}
@@ -129,7 +130,7 @@ pos_back n h = integer_digits (decimal n) n (decimal_nonempty n h) (digits_decim
 pub negsuc_back : (n : ℕ) → suc n < 2 ^ 64 → integer_of (45 ∷ decimal (suc n)) ≡ Some (negsuc n)
 negsuc_back n h =
     let ds = decimal (suc n) in
-    ap (option_map commands.negative)
+    ap (option_map cells.negative)
     (digits_are ds (decimal_nonempty (suc n) h) (digits_decimal numbers.own (suc n) h)
     ∙ ap (λ m. Some m) (digits_value-decimal numbers.own (suc n) h))
 

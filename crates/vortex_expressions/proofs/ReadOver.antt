@@ -24,9 +24,10 @@ use Rattle.vortex_interface.specs.Meaning.{fits}
 use Rattle.vortex_interface.specs.Functions.{ours, function_arity}
 use Rattle.vortex_interface.specs.Eval.{tree_type, tree_types, types_or_none}
 use Rattle.vortex_interface.specs.Trees.{place, leaf, constant, call, trees_of}
-use Rattle.rowfn_lines.specs.Ranges.{in_range}
-use Rattle.rowfn_lines.specs.Commands.{integer_of, number_of, number_where, escape_of}
-use Rattle.rowfn_lines.proofs.Numbers as numbers
+use Rattle.vortex_cells.specs.Ranges.{in_range}
+use Rattle.vortex_cells.specs.CellValues.{integer_of, number_of, number_where}
+use Rattle.vortex_cells.specs.Escapes.{escape_of}
+use Rattle.vortex_cells.proofs.Numbers as numbers
 use Rattle.vortex_syntax.specs.declared.step.Operator as syntax
 use Rattle.vortex_syntax.specs.declared.step.LikeKind.{LikeKind}
 use Rattle.vortex_syntax.specs.declared.token.Sign.{Sign}

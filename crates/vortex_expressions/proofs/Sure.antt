@@ -12,7 +12,8 @@ use Rattle.vortex_interface.specs.Shipped.{shipped_place}
 use Rattle.vortex_interface.specs.Functions.{ours, function_arity}
 use Rattle.vortex_interface.specs.Trees.{call, trees_of}
 use Rattle.vortex_interface.specs.Eval.{tree_type, tree_types, types_or_none}
-use Rattle.rowfn_lines.specs.Commands.{type_named, escape_of}
+use Rattle.vortex_cells.specs.TypeWords.{type_named}
+use Rattle.vortex_cells.specs.Escapes.{escape_of}
 use Rattle.vortex_syntax.specs.declared.step.Operator as written
 use Rattle.vortex_syntax.specs.declared.step.LikeKind.{LikeKind}
 use Rattle.vortex_syntax.specs.declared.token.Sign.{Sign}

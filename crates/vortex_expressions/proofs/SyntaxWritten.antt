@@ -22,7 +22,7 @@ use Rattle.vortex_interface.specs.Trees as trees
 use Rattle.vortex_interface.specs.Trees.{place, held, leaf, constant, call, no_trees}
 use Rattle.vortex_interface.specs.declared.options.EmptyOptions.{EmptyOptions}
 use Rattle.vortex_functions.specs.declared.custom.NoCustom.{NoCustom}
-use Rattle.rowfn_lines.proofs.Numbers as numbers
+use Rattle.vortex_cells.proofs.Numbers as numbers
 use Rattle.vortex_syntax.specs.declared.token.Sign.TheVariants as sign
 use Rattle.vortex_syntax.specs.Tokens as token
 use Rattle.vortex_syntax.specs.Tokens.{Token, nullable, quoted, sign}

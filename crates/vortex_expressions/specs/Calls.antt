@@ -14,7 +14,8 @@ use Rattle.vortex_like.specs.Tokens.{backslash}
 use Rattle.vortex_interface.specs.Shipped.{Binary, Not, NullTest, Cast, Between, Like}
 use Rattle.vortex_interface.specs.Functions.{ours}
 use Rattle.vortex_interface.specs.Trees.{leaf, place}
-use Rattle.rowfn_lines.specs.Commands.{type_named, escape_of}
+use Rattle.vortex_cells.specs.TypeWords.{type_named}
+use Rattle.vortex_cells.specs.Escapes.{escape_of}
 use Rattle.vortex_syntax.specs.declared.step.Operator as syntax
 use Rattle.vortex_syntax.specs.declared.step.Operator.TheVariants as written
 use Rattle.vortex_syntax.specs.declared.step.LikeKind.{LikeKind}

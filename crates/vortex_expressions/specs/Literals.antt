@@ -7,7 +7,7 @@ use Rattle.vortex_types.specs.LogicalTypes.{with_nullability, is_bool_type, is_i
 use Rattle.vortex_types.specs.LogicalTypes.{is_text_type}
 use Rattle.vortex_types.specs.ScalarView.{ScalarView}
 use Rattle.vortex_types.specs.Values as value
-use Rattle.rowfn_lines.specs.Commands.{literal_of_cell}
+use Rattle.vortex_cells.specs.CellValues.{literal_of_cell}
 use Rattle.vortex_expressions.specs.declared.literal.Literal as held
 use Rattle.vortex_expressions.specs.declared.literal.Literal.TheVariants as variant
 

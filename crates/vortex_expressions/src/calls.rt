@@ -12,9 +12,9 @@ use crate::item::{Item, called, common_type, constant_at};
 use crate::literal::Literal;
 use crate::quotes::{between_quotes, text_of};
 use crate::refusal::{Refusal, Stop};
-use rowfn_lines::parse;
-use rowfn_lines::types::type_named;
 use std::alloc::Global;
+use vortex_cells::escapes;
+use vortex_cells::types::type_named;
 use vortex_columns::{DType, Nullability, StructFields, VortexResult};
 use vortex_functions::{BoundExpression, LikeOptions, NoCustom, ScalarFnRef};
 use vortex_operators::{BetweenOptions, Operator, StrictComparison};
@@ -252,7 +252,7 @@ fn escape_in(alloc: Global, written: &[u8]) -> Result<Option<char>, Stop>
     ensures { Gives (λ c. c) result (specs.escape_in written.now) }
 {
     let text = between_quotes(alloc, b'\'', written)?;
-    match parse::escape_of(text.as_str()) {
+    match escapes::escape_of(text.as_str()) {
         Some(escape) => Ok(escape),
         None => Err(Stop::Refused(Refusal::NoEscape)),
     }

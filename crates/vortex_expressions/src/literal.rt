@@ -5,8 +5,8 @@ ghost use Rattle.vortex_types.specs.TypeOf.{type_of};
 ghost use Rattle.vortex_expressions.specs.Literals.{literal_in, own_type, number_type};
 ghost use Rattle.vortex_expressions.specs.Literals.{type_beside, value_at, truth_word};
 
-use rowfn_lines::cells::literal_of_cell;
 use std::alloc::Global;
+use vortex_cells::cells::literal_of_cell;
 use vortex_columns::{DType, Nullability, PType, Scalar, VortexResult};
 
 /// A literal whose type is not said.

@@ -7,10 +7,10 @@ use Rattle.vortex_errors.specs.Answers.{AnswersUnlessMemory}
 use Rattle.vortex_types.specs.LogicalTypes.{field_type}
 use Rattle.vortex_types.specs.TypeOf.{struct_fields, type_of}
 use Rattle.vortex_columns.specs.ColumnView.{ColumnView}
-use Rattle.rowfn_lines.specs.Cells.{cell_apart, cells_apart}
-use Rattle.rowfn_lines.specs.Commands.{column_of_cells, all_some}
-use Rattle.rowfn_lines.specs.Fields.{field_cell, column_of_fields}
-use Rattle.rowfn_lines.proofs.FieldRows.{column_of_their_cells}
+use Rattle.vortex_cells.specs.Cells.{cell_apart, cells_apart}
+use Rattle.vortex_cells.specs.CellValues.{column_of_cells, all_some}
+use Rattle.vortex_cells.specs.Fields.{field_cell, column_of_fields}
+use Rattle.vortex_cells.proofs.FieldRows.{column_of_their_cells}
 use Rattle.rowfn_batches.specs.Fields.{field_in}
 use Rattle.rowfn_batches.specs.Batches.{cells_at, column_at}
 use Rattle.rowfn_batches.proofs.columns.read_column.Goals as goal

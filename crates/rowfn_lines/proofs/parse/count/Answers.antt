@@ -3,8 +3,8 @@ use Rattle.std.proofs.Common.{nat_le, ◌&&◌, if◌then◌else◌}
 use Rattle.std.specs.Prelude.{Some, None}
 use Rattle.std.specs.Result.{result_ok}
 use Rattle.std.proofs.lemmas.Str.Parse.{parse_gives, digits_value_short}
-use Rattle.rowfn_lines.specs.Commands.{decimal_from}
-use Rattle.rowfn_lines.proofs.Numbers.{own, are_digits}
+use Rattle.vortex_cells.specs.CellValues.{decimal_from}
+use Rattle.vortex_cells.proofs.Numbers.{own, are_digits}
 use Rattle.rowfn_lines.proofs.parse.count.Goals as goal
 
 pub returns : goal.returns

@@ -1,5 +1,6 @@
 use Rattle.std.proofs.Common.{sym, ◌∙◌}
-use Rattle.rowfn_lines.proofs.Numbers.{are_digits, limit_read, no_limit}
+use Rattle.vortex_cells.proofs.Numbers.{are_digits}
+use Rattle.rowfn_lines.proofs.Limits.{limit_read, no_limit}
 use Rattle.rowfn_lines.proofs.parse.limit.Goals as goal
 
 pub returns-then-not-are_digits : goal.returns-then-not-are_digits

@@ -3,8 +3,8 @@ use Rattle.std.proofs.lemmas.List.{map-append}
 use Rattle.vortex_types.specs.TypeOf.{type_of}
 use Rattle.rowfn_lines.specs.Lines.{word_in}
 use Rattle.rowfn_lines.specs.Commands.{cell_of}
-use Rattle.rowfn_lines.specs.Cells.{cell_in}
-use Rattle.rowfn_lines.proofs.AllSome.{next_some, some_missing}
+use Rattle.vortex_cells.specs.Cells.{cell_in}
+use Rattle.vortex_cells.proofs.AllSome.{next_some, some_missing}
 use Rattle.rowfn_lines.proofs.said.cells_of.Goals as goal
 
 pub returns-in_default : goal.returns-in_default

@@ -2,7 +2,7 @@ use Rattle.std.proofs.Common.{◌≡◌, map, take, Some}
 use Rattle.vortex_types.specs.TypeOf.{type_of}
 use Rattle.rowfn_lines.specs.Lines.{word_in}
 use Rattle.rowfn_lines.specs.Commands.{cells_of}
-use Rattle.rowfn_lines.specs.Cells.{cell_in}
+use Rattle.vortex_cells.specs.Cells.{cell_in}
 use Rattle.rowfn_lines.proofs.said.cells_of.Given as goal
 
 -- the cells so far

@@ -3,7 +3,7 @@ use Rattle.std.specs.Str.{is_utf8}
 use Rattle.std.proofs.lemmas.Str.{IsUtf8-from_is_utf8, is_utf8-from_IsUtf8}
 use Rattle.std.proofs.lemmas.Bool.{false_from_ne_true}
 use Rattle.vortex_types.specs.TypeOf.{type_of}
-use Rattle.rowfn_lines.specs.Commands.{cell_fits}
+use Rattle.vortex_cells.specs.CellValues.{cell_fits}
 use Rattle.rowfn_queries.specs.Inference.{holds}
 use Rattle.rowfn_queries.proofs.inference.holds.Goals as goal
 

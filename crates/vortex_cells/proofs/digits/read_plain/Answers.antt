@@ -1,0 +1,20 @@
+use Rattle.std.proofs.Common.{◌≡◌, arith, to_z-of_z, Some, sym, ap, ◌∙◌, pos, List, ℕ}
+use Rattle.std.specs.Prelude.{option_map}
+use Rattle.std.specs.Int.{w128}
+use mir.Val.{to_z, of_z}
+use Rattle.vortex_cells.specs.CellValues.{digits_of}
+use Rattle.vortex_cells.proofs.Numbers.{are_digits, plain_read}
+use Rattle.vortex_cells.proofs.digits.read_plain.Goals as goal
+
+pub returns-in-Some : goal.returns-in-Some
+returns-in-Some c =
+    let back : to_z w128 (of_z w128 c.in-Some.number) ≡ c.in-Some.number = grind (arith, to_z-of_z) in
+    ap (λ (bs : List ℕ). option_map pos (digits_of bs)) (sym c.as_bytes.ensures.value)
+    ∙ c.in-Some.ensures ∙ ap Some (sym back)
+
+pub returns : goal.returns
+returns c =
+    rw c.ok.ensures.value
+    (plain_read c.args.word.now c.parse.result
+    (are_digits c.args.word.now (sym c.are_digits.ensures ∙ c.if-not-are_digits.false))
+    c.parse.ensures.value.0)

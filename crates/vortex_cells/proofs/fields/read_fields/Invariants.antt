@@ -1,0 +1,22 @@
+use Rattle.std.proofs.Common.{◌≡◌, map, take}
+use Rattle.std.specs.Vec.{vec_len, vec_capacity}
+use Rattle.std.specs.List.{range_with_len}
+use Rattle.vortex_types.specs.TypeOf.{allows_null}
+use Rattle.vortex_cells.specs.Cells.{cell_in, cell_apart, AreCells}
+use Rattle.vortex_cells.specs.Fields.{field_values}
+use Rattle.vortex_cells.proofs.fields.read_fields.Given as goal
+
+-- what the fields of the rows so far say, and that there is room for all
+abbrev pub invariant-loop-row : goal.invariant-loop-row
+invariant-loop-row g l =
+    let n = allows_null l.nullability in
+    record {
+      said : AreCells n (map g.K.CellKind.value l.items.items) l.valid.items
+          (field_values (g.K.CellTypes.kind n)
+          (map (cell_apart (map cell_in l.fields) l.width l.column)
+          (take l.row (range_with_len 0 l.row_count))));
+      items : vec_len l.items ≡ l.row;
+      items_room : vec_capacity l.items ≡ l.row_count;
+      valid : vec_len l.valid ≡ l.row;
+      valid_room : vec_capacity l.valid ≡ l.row_count;
+    }

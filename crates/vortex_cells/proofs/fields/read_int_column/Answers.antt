@@ -1,0 +1,25 @@
+use Rattle.vortex_cells.proofs.fields.read_int_column.Goals as goal
+
+pub returns-in-I8 : goal.returns-in-I8
+returns-in-I8 c = rw c.in-I8.is c.read_column.ensures
+
+pub returns-in-I16 : goal.returns-in-I16
+returns-in-I16 c = rw c.in-I16.is c.read_column-in-I16.ensures
+
+pub returns-in-I32 : goal.returns-in-I32
+returns-in-I32 c = rw c.in-I32.is c.read_column-in-I32.ensures
+
+pub returns-in-I64 : goal.returns-in-I64
+returns-in-I64 c = rw c.in-I64.is c.read_column-in-I64.ensures
+
+pub returns-in-U8 : goal.returns-in-U8
+returns-in-U8 c = rw c.in-U8.is c.read_column-in-U8.ensures
+
+pub returns-in-U16 : goal.returns-in-U16
+returns-in-U16 c = rw c.in-U16.is c.read_column-in-U16.ensures
+
+pub returns-in-U32 : goal.returns-in-U32
+returns-in-U32 c = rw c.in-U32.is c.read_column-in-U32.ensures
+
+pub returns-in-U64 : goal.returns-in-U64
+returns-in-U64 c = rw c.in-U64.is c.read_column-in-U64.ensures

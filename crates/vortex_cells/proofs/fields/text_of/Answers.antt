@@ -1,0 +1,11 @@
+use Rattle.std.proofs.lemmas.Str.{IsUtf8-from_ascii}
+use Rattle.vortex_cells.proofs.fields.text_of.Goals as goal
+
+pub from_utf8_unchecked-requires : goal.from_utf8_unchecked-requires
+from_utf8_unchecked-requires c = IsUtf8-from_ascii c.args.bytes.now c.if-is_ascii.ensures.cases
+
+pub returns-then-is_ascii : goal.returns-then-is_ascii
+returns-then-is_ascii c = (
+  c.from_utf8_unchecked.ensures,
+  IsUtf8-from_ascii c.args.bytes.now c.if-is_ascii.ensures.cases,
+)
