@@ -51,7 +51,10 @@ pub fn expression_case(script: &str) -> Option<ExpressionCase<'_>> {
 
 /// Adds a column that has the row count, under a name that no other has.
 fn add_column(alloc: Global, batch: &mut Batch, name: &str, column: Column) -> VortexResult<()> {
-    if batch.scope.find(name).is_some() || column.len() != batch.row_count {
+    if column.len() != batch.row_count {
+        return Err(VortexError::InvalidColumn);
+    }
+    if batch.scope.find(name).is_some() {
         return Err(VortexError::InvalidColumn);
     }
     let dtype = column.dtype().try_clone(alloc)?;

@@ -111,7 +111,7 @@ fn joins(rt: HostRuntime, left: Made, right: Made, wanted: [bool; 2]) -> VortexR
     if left.len() != 2 || right.len() != 2 {
         return Ok(false);
     }
-    let valid = both_valid(rt.alloc(), &left, &right)?;
+    let valid = both_valid(rt.alloc(), &*left, &*right)?;
     if !valid.fits(2) {
         return Ok(false);
     }

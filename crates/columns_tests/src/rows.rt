@@ -30,6 +30,14 @@ fn reads_texts(column: Made, rows: &[Option<&str>]) -> VortexResult<bool> {
     })
 }
 
+/// A column of texts, none of which is null.
+fn lent(alloc: Global, texts: &[&str]) -> Made {
+    kept(
+        alloc,
+        Column::try_texts(alloc, texts, Validity::NonNullable),
+    )
+}
+
 #[test]
 fn rows_are_read_in_their_order(rt: HostRuntime) {
     let alloc = rt.alloc();
@@ -46,10 +54,12 @@ fn rows_are_read_in_their_order(rt: HostRuntime) {
         &rt,
         reads_texts(kept(alloc, Column::of_texts(alloc, &rows)), &rows),
     );
-    let lent = Column::try_texts(alloc, &["new", "\u{a3}"], Validity::NonNullable);
     sure(
         &rt,
-        reads_texts(kept(alloc, lent), &[Some("new"), Some("\u{a3}")]),
+        reads_texts(
+            lent(alloc, &["new", "\u{a3}"]),
+            &[Some("new"), Some("\u{a3}")],
+        ),
     );
 }
 

@@ -64,10 +64,13 @@ fn nested(alloc: Global) -> VortexResult<Scalar> {
     Scalar::try_new(dtype, Some(ScalarValue::List(values)))
 }
 
+/// One row of that value.
+fn one(alloc: Global) -> Made {
+    kept(alloc, Column::constant(alloc, nested(alloc)?, 1))
+}
+
 #[test]
 fn values_within_values_have_texts(rt: HostRuntime) {
-    let alloc = rt.alloc();
     let all = "struct{n: binary, m: list[i32?]?}: {n: 0x00ff, m: [5, null]}";
-    let one = nested(alloc).and_then(|scalar| Column::constant(alloc, scalar, 1));
-    sure(&rt, reads(rt, kept(alloc, one), all));
+    sure(&rt, reads(rt, one(rt.alloc()), all));
 }
