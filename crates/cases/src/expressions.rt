@@ -94,7 +94,7 @@ fn tree_text(alloc: Global, scope: &StructFields, text: &str) -> VortexResult<St
     }
 }
 
-/// The text that the tree of a text is written as, and behind it the tree of that text where this is
+/// The text that the tree of a text is written as, followed by the tree of that text where it is
 /// another.
 fn written_text(alloc: Global, scope: &StructFields, text: &str) -> VortexResult<String> {
     let Ok(tree) = read_expression(alloc, scope, text) else {

@@ -29,7 +29,7 @@
 //! are what the script prints, and last the line that it ends with on standard error, if there is
 //! one. Blank lines at the end of a case are no part of it.
 //!
-//! An expression stands behind a line that asks for its `tree`, for the text that this is `written`
+//! An expression follows a line that asks for its `tree`, for the text that this is `written`
 //! as, or for the columns of its `answers`. The lines before it are `rows` and `col` lines.
 #![tactic(auto)]
 
@@ -117,7 +117,7 @@ fn run_file(
         let is_good = match case_of(part) {
             Some(case) => holds(rt, case)?,
             None => {
-                println!(rt; "== {part}\nhas no line -- behind its script")?;
+                println!(rt; "== {part}\nhas no line -- after its script")?;
                 false
             }
         };

@@ -33,18 +33,18 @@ fn words_begin_anywhere_and_end_with_the_range(rt: HostRuntime) {
     sure(&rt, is_word(rt, word(alloc, 17, 2), 0b11));
 }
 
-/// Whether a copy of the validity of rows that are valid and not, fits them alone, lends the bits
+/// Whether a copy of the validity of rows that are valid and not, fits them alone, has the bits
 /// and is nullable.
 fn is_listed(rt: HostRuntime) -> VortexResult<bool> {
     let alloc = rt.alloc();
     let validity = Validity::Array(BitBuffer::from_bools(alloc, &[true, false])?);
     let copy = validity.try_clone(alloc)?;
-    let lent = match copy.bits() {
+    let listed = match copy.bits() {
         Some(bits) if bits.len() == 2 => same(rt, (bits.value(0), bits.value(1)), (true, false)),
         _ => false,
     };
     let fits = validity.fits(2) && !validity.fits(3);
-    Ok(lent && fits && copy.nullability() == Nullability::Nullable)
+    Ok(listed && fits && copy.nullability() == Nullability::Nullable)
 }
 
 #[test]

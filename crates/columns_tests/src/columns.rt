@@ -88,13 +88,13 @@ fn a_product_past_usize_is_refused(rt: HostRuntime) {
     assert!(rt; rt.is_refused(past_usize(rt.alloc()), "InvalidColumn"));
 }
 
-/// Whether three truth values and their validity are lent as three bits each, the second not valid.
-fn lends_bits(rt: HostRuntime, column: Made) -> VortexResult<bool> {
+/// Whether three truth values and their validity are borrowed as three bits each, the second not valid.
+fn has_bits(rt: HostRuntime, column: Made) -> VortexResult<bool> {
     let column = column?;
     if column.len() != 3 {
         return Ok(false);
     }
-    let lent = match (column.bits(), column.valid_bits()) {
+    let borrowed = match (column.bits(), column.valid_bits()) {
         (Some(bits), Some(valid)) => same(rt, (bits.len(), valid.len()), (3, 3)),
         _ => false,
     };
@@ -102,7 +102,7 @@ fn lends_bits(rt: HostRuntime, column: Made) -> VortexResult<bool> {
         ValidRows::Listed(bits) => same(rt, bits.len(), 3),
         _ => false,
     };
-    Ok(lent && listed && column.is_valid(0) && !column.is_valid(1))
+    Ok(borrowed && listed && column.is_valid(0) && !column.is_valid(1))
 }
 
 /// Whether these of two rows are valid on both sides.
@@ -119,10 +119,10 @@ fn joins(rt: HostRuntime, left: Made, right: Made, wanted: [bool; 2]) -> VortexR
 }
 
 #[test]
-fn valid_rows_are_lent(rt: HostRuntime) {
+fn valid_rows_are_borrowed(rt: HostRuntime) {
     let alloc = rt.alloc();
     let rows = nullable_bools(alloc, &[Some(true), None, Some(false)]);
-    sure(&rt, lends_bits(rt, rows));
+    sure(&rt, has_bits(rt, rows));
     let right = nullable_bools(alloc, &[None, Some(true)]);
     sure(&rt, joins(rt, pair(alloc), right, [false, true]));
 }

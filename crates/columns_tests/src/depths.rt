@@ -121,7 +121,7 @@ fn deep_types_differ_at_their_last_level(rt: HostRuntime) {
     );
 }
 
-/// A value and another behind it.
+/// A value and another after it.
 fn pair(
     alloc: Global,
     first: Option<ScalarValue>,
@@ -144,8 +144,8 @@ fn literal(alloc: Global) -> VortexResult<Scalar> {
     Scalar::try_new(lists(alloc, DType::Null)?, Some(value))
 }
 
-/// A struct of two fields that nests in the first, as a literal; with that truth value, or what
-/// stands for one, last of all.
+/// A struct of two fields that nests in the first, as a literal; with that truth value, or
+/// another value, last of all.
 fn record(alloc: Global, last: ScalarValue) -> VortexResult<Scalar> {
     let mut value = None;
     for _ in 1..LEVELS {

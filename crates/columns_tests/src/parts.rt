@@ -1,4 +1,4 @@
-//! Reads of each kind of column, and the parts that it lends.
+//! Reads of each kind of column, and the parts that are borrowed of it.
 
 use crate::columns::{byte_lists, fixed, lists, maps, pair, records};
 use crate::questions::sure;
@@ -47,8 +47,8 @@ fn rows_read(alloc: Global, copy: &Column, column: &Column) -> VortexResult<bool
     Ok(copy.validity(alloc)?.fits(column.len()) && *copy.dtype() == *column.dtype())
 }
 
-/// Whether the column's copy reads as it does, and it lends these parts alone.
-fn lends(rt: HostRuntime, column: Made, wanted: [bool; 8]) -> VortexResult<bool> {
+/// Whether the column's copy reads as it does, and these parts alone are borrowed of it.
+fn has_parts(rt: HostRuntime, column: Made, wanted: [bool; 8]) -> VortexResult<bool> {
     let alloc = rt.alloc();
     let column = column?;
     let copy = kept(alloc, column.try_clone(alloc))?;
@@ -69,18 +69,21 @@ fn two_texts(alloc: Global) -> Made {
 }
 
 #[test]
-fn columns_lend_their_parts(rt: HostRuntime) {
+fn columns_have_their_parts(rt: HostRuntime) {
     let alloc = rt.alloc();
     let null = kept(alloc, Ok(Column::null(2)));
-    sure(&rt, lends(rt, null, [false; 8]));
-    sure(&rt, lends(rt, pair(alloc), only(1)));
-    sure(&rt, lends(rt, two_texts(alloc), only(2)));
-    sure(&rt, lends(rt, byte_lists(alloc), only(2)));
-    sure(&rt, lends(rt, records(alloc), only(3)));
-    sure(&rt, lends(rt, lists(alloc, [0, 0], [2, 1]), only(4)));
-    sure(&rt, lends(rt, fixed(alloc), only(5)));
-    sure(&rt, lends(rt, maps(alloc, [1, 0], [1, 0]), only(6)));
-    sure(&rt, lends(rt, constant(alloc, PType::I32, 1, 2), only(7)));
+    sure(&rt, has_parts(rt, null, [false; 8]));
+    sure(&rt, has_parts(rt, pair(alloc), only(1)));
+    sure(&rt, has_parts(rt, two_texts(alloc), only(2)));
+    sure(&rt, has_parts(rt, byte_lists(alloc), only(2)));
+    sure(&rt, has_parts(rt, records(alloc), only(3)));
+    sure(&rt, has_parts(rt, lists(alloc, [0, 0], [2, 1]), only(4)));
+    sure(&rt, has_parts(rt, fixed(alloc), only(5)));
+    sure(&rt, has_parts(rt, maps(alloc, [1, 0], [1, 0]), only(6)));
+    sure(
+        &rt,
+        has_parts(rt, constant(alloc, PType::I32, 1, 2), only(7)),
+    );
 }
 
 /// Whether these integers are borrowed.
@@ -106,14 +109,14 @@ fn second_text_is(rt: HostRuntime, column: Made, wanted: &[u8]) -> VortexResult<
 }
 
 #[test]
-fn values_are_lent(rt: HostRuntime) {
+fn values_are_borrowed(rt: HostRuntime) {
     let alloc = rt.alloc();
     sure(&rt, integers_are(rt, pair(alloc), &[5, 6]));
     sure(&rt, second_text_is(rt, two_texts(alloc), b"b"));
 }
 
-/// Whether row 0 stands in that order to a value.
-fn row_stands(
+/// Whether row 0 and a value are in that order.
+fn is_ordered(
     column: Made,
     order: Ordering,
     value: VortexResult<ScalarValue>,
@@ -130,19 +133,19 @@ fn nested_rows_are_ordered(rt: HostRuntime) {
     let null = list(alloc, &[None, Some(9)]);
     sure(
         &rt,
-        row_stands(lists(alloc, [0, 0], [2, 1]), Ordering::Equal, two),
+        is_ordered(lists(alloc, [0, 0], [2, 1]), Ordering::Equal, two),
     );
     sure(
         &rt,
-        row_stands(lists(alloc, [0, 0], [2, 1]), Ordering::Greater, one),
+        is_ordered(lists(alloc, [0, 0], [2, 1]), Ordering::Greater, one),
     );
     sure(
         &rt,
-        row_stands(lists(alloc, [0, 0], [2, 1]), Ordering::Greater, null),
+        is_ordered(lists(alloc, [0, 0], [2, 1]), Ordering::Greater, null),
     );
     let map = maps(alloc, [1, 0], [1, 0]);
     sure(
         &rt,
-        row_stands(map, Ordering::Equal, entry(alloc, 6, Some(6))),
+        is_ordered(map, Ordering::Equal, entry(alloc, 6, Some(6))),
     );
 }

@@ -31,7 +31,7 @@ fn reads_texts(column: Made, rows: &[Option<&str>]) -> VortexResult<bool> {
 }
 
 /// A column of texts, none of which is null.
-fn lent(alloc: Global, texts: &[&str]) -> Made {
+fn plain_texts(alloc: Global, texts: &[&str]) -> Made {
     kept(
         alloc,
         Column::try_texts(alloc, texts, Validity::NonNullable),
@@ -57,7 +57,7 @@ fn rows_are_read_in_their_order(rt: HostRuntime) {
     sure(
         &rt,
         reads_texts(
-            lent(alloc, &["new", "\u{a3}"]),
+            plain_texts(alloc, &["new", "\u{a3}"]),
             &[Some("new"), Some("\u{a3}")],
         ),
     );

@@ -28,7 +28,7 @@ fn listed(alloc: Global) -> VortexResult<StructFields> {
     StructFields::of(alloc, &[("price", price()), ("sold", DType::Bool(YES))])
 }
 
-/// Adds a field, unless its name stands already.
+/// Adds a field, unless there is one of its name.
 fn add(alloc: Global, fields: &mut StructFields, name: &str, dtype: DType) -> VortexResult<()> {
     if fields.find(name).is_some() {
         return Ok(());

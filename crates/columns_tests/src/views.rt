@@ -45,24 +45,24 @@ fn views_have_the_words_of_their_values(rt: HostRuntime) {
 }
 
 /// Whether the one value, `hello, world!` in a buffer, is above `hello` and equal to its own bytes.
-fn lies_above(alloc: Global, view: BinaryView) -> VortexResult<bool> {
+fn is_above(alloc: Global, view: BinaryView) -> VortexResult<bool> {
     let mut buffers = Vec::new(alloc);
     buffers.push(b"hello, world!".to_vec(alloc)?)?;
     let views = [view];
     if !check_views(&views, &buffers) {
         return Ok(false);
     }
-    let lent = ResolvedViews::new(&views, &buffers);
-    let row = lent.row(0);
+    let rows = ResolvedViews::new(&views, &buffers);
+    let row = rows.row(0);
     Ok(
         compare(&ConstantBytes::new(b"hello"), &row) == Ordering::Less
             && equal(&row, &ConstantBytes::new(b"hello, world!"))
-            && lent.bytes(0).len() == 13
-            && lent.view(0).len() == 13,
+            && rows.bytes(0).len() == 13
+            && rows.view(0).len() == 13,
     )
 }
 
-/// Whether a builder holds these two values, one behind the other.
+/// Whether a builder holds these two values, one after the other.
 fn builds(alloc: Global, first: &[u8], second: &[u8]) -> VortexResult<bool> {
     let mut builder = ViewsBuilder::new(alloc);
     builder.push(first)?;
@@ -73,11 +73,11 @@ fn builds(alloc: Global, first: &[u8], second: &[u8]) -> VortexResult<bool> {
 }
 
 #[test]
-fn values_lie_in_buffers(rt: HostRuntime) {
+fn values_are_in_buffers(rt: HostRuntime) {
     let alloc = rt.alloc();
     sure(
         &rt,
-        lies_above(alloc, BinaryView::new_long(13, *b"hell", 0, 0)),
+        is_above(alloc, BinaryView::new_long(13, *b"hell", 0, 0)),
     );
     sure(&rt, builds(alloc, b"hello", b"hello, world!"));
 }

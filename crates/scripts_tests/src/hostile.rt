@@ -26,7 +26,7 @@ vortex.not(((is_not_null($.a) and is_not_null($.b)) and is_not_null($.c)))
 bool: false true
 ";
 
-/// In which line a script's last byte stands, or would.
+/// The number of the line of a script's last byte, or of the one after it.
 fn last_line(script: &[u8]) -> usize {
     let mut line = 1usize;
     for byte in script {

@@ -1,4 +1,4 @@
-//! Programs that are run over columns that are lent, and refusals in words.
+//! Programs that are run over borrowed columns, and refusals in words.
 
 use crate::lending::{names, numbers};
 use crate::reading::program_of;

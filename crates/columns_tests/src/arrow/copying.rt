@@ -15,7 +15,7 @@ fn five(alloc: Global) -> Made {
 }
 
 /// Whether a column of 32-bit integers is copied as this validity and these values, and an item
-/// behind them is kept.
+/// after them is kept.
 fn copies_ints(rt: HostRuntime, column: Made, valid: u8, wanted: [i32; 6]) -> VortexResult<bool> {
     let mut validity = [99, 99];
     let mut values = [7; 6];
@@ -61,7 +61,7 @@ fn columns_are_copied(rt: HostRuntime) {
     sure(&rt, copies_texts(rt, names(alloc), [0, 3, 3, 3, 7]));
 }
 
-/// Whether these rows are true, of which the numbers are copied, and an item behind them is kept.
+/// Whether these rows are true, of which the numbers are copied, and an item after them is kept.
 fn selects(rt: HostRuntime, column: Made, count: usize, wanted: [u32; 4]) -> VortexResult<bool> {
     let column = column?;
     let mut numbers = [77; 4];
